@@ -1,11 +1,10 @@
--- What a module has by name, texts among words, and modules among those before them.
-use Rattle.std.proofs.Common.{◌≡◌, ℕ, zero, suc, ◌+◌, ◌<◌, ◌≤◌, Bool, true, false, cond}
-use Rattle.std.proofs.Common.{◌||◌, nat_lt, List, [], ◌∷◌, length, take, get_or, drop, Option, Some, None}
-use Rattle.std.proofs.Common.{is_some, refl, arith, drop-cons, add-one, Bor}
-use Rattle.std.specs.Prelude.{map, option_map}
-use Rattle.std.specs.List.{list_any, find, position_from}
+-- What a module has by name, and modules among those before them.
+use Rattle.std.proofs.Common.{◌≡◌, ℕ, zero, suc, ◌+◌, ◌≤◌, Bool, true, false, cond}
+use Rattle.std.proofs.Common.{◌||◌, nat_lt, List, [], ◌∷◌, take, Option, Some, None}
+use Rattle.std.proofs.Common.{is_some, refl, arith}
+use Rattle.std.specs.Prelude.{option_map}
+use Rattle.std.specs.List.{find, position_from}
 use Rattle.std.specs.Option.{option_and_then}
-use Rattle.std.proofs.lemmas.List.{drop_all}
 use Rattle.std.proofs.lemmas.Bool.{lt-ltb, le-ltb}
 use Rattle.smi_text.specs.trees.Mark.{same_text}
 use Rattle.smi_text.specs.trees.Lookup.{definition_of, import_of}
@@ -33,16 +32,6 @@ pub defines_or_imports-by : (o : Option Module) (x : List ℕ) (r : Option Decis
     → is_stated_some r ≡ defines_or_imports o x
 defines_or_imports-by None x r e = rw e refl
 defines_or_imports-by (Some m) x r e = rw e (stated (definition_of m x) (import_of m x) (root_arc x))
-
-abbrev pub is_one_of : List ℕ → List (Bor (List ℕ)) → Bool
-is_one_of x ws = list_any (same_text x) (map (λ w. w.now) ws)
-
-pub is_one_of-drop : (x : List ℕ) (ws : List (Bor (List ℕ))) (i : ℕ) (d : Bor (List ℕ)) (b : Bool) → i < length ws → b ≡ same_text x (get_or ws i d).now
-    → is_one_of x (drop i ws) ≡ (b || is_one_of x (drop (i + 1) ws))
-is_one_of-drop x ws i d b h e = rw (add-one, drop-cons ws i d, e) refl
-
-pub is_one_of-none : (x : List ℕ) (ws : List (Bor (List ℕ))) (i : ℕ) → length ws ≤ i → is_one_of x (drop i ws) ≡ false
-is_one_of-none x ws i h = rw (drop_all i ws h) refl
 
 not_below : (j i : ℕ) → i ≤ j → nat_lt j i ≡ false
 not_below j i h = le-ltb j i h

@@ -1,3 +1,4 @@
+pub mod Base
 pub mod Meaning
 pub mod Scopes
 pub mod Names

@@ -2,6 +2,7 @@
 //!
 //! Depends on module trees and on chains. The nodes are made from what is resolved here.
 
+mod base;
 mod directory;
 mod entries;
 mod entry;
@@ -9,8 +10,9 @@ mod laws;
 mod names;
 mod scope;
 
+pub use base::TypeBase;
 pub use entries::Entries;
 pub use entry::{Decider, Entry};
 pub use laws::{one_identifier, one_resolution};
 pub use names::Names;
-pub use scope::import_clauses;
+pub use scope::{import_clauses, root_arc, root_label};

@@ -2,15 +2,13 @@
 use Rattle.std.proofs.Common.{◌≡◌, ◌≢◌, ℕ, zero, suc, ◌<◌, ◌≤◌, Bool, true, false, cond, ◌&&◌, List, [], ◌∷◌, ◌++◌, length, take, get_or, slice_index_or}
 use Rattle.std.proofs.Common.{Option, Some, None, refl, sym, ap, arith, nat_eq}
 use Rattle.std.proofs.lemmas.Bool.{ne_eqb}
-use Rattle.std.specs.Prelude.{codes}
 use Rattle.std.specs.List.{slice_get}
 use Rattle.std.specs.Option.{option_and_then}
 use Rattle.smi_text.specs.trees.Mark.{same_text}
 use Rattle.smi_tree.specs.branches.Standing.{place_of, IsDeepestAt, HasNoBeginning}
-use Rattle.smi_names.specs.meaning.Meaning.{or_else}
+use Rattle.smi_names.specs.meaning.Meaning.{or_else, root_label}
 use Rattle.smi_show.specs.name.Naming.{LabelLeadsTo, IsSound}
 use Rattle.smi_names.specs.nodes.Nodes.{Node, roots, none_yet}
-use Rattle.smi_names.specs.nodes.Gathered.{root_label}
 use Rattle.smi_tree.specs.types.Types.{Facts}
 use Rattle.smi_show.specs.declared.index.part.IndexPart.{IndexPart}
 use Rattle.smi_tree.specs.columns.Index.{IsIndex, IsObjectType}
@@ -74,7 +72,7 @@ longer-by x (y ∷ xs) n = longer x y (xs ++ n ∷ [])
 -- the children of the identifier of no numbers are the roots
 pub child-roots : (label : List ℕ) → oid_of roots (place_anywhere roots label) ≡ oid_of roots (child_of roots [] label)
 unfolding of_lowest
-child-roots label = by (same_text (codes "ccitt") label) (same_text (codes "iso") label) (same_text (codes "joint-iso-ccitt") label)
+child-roots label = by (same_text (root_label 0) label) (same_text (root_label 1) label) (same_text (root_label 2) label)
   where
     by : (a b d : Bool) → oid_of roots (cond a (Some 0) (cond b (Some 1) (cond d (Some 2) None)))
         ≡ oid_of roots (or_else (or_else (or_else None (cond a (Some 0) None)) (cond b (Some 1) None)) (cond d (Some 2) None))

@@ -4,7 +4,7 @@ use Rattle.smi_text.specs.declared.trees.tree.Module.{Module}
 use Rattle.smi_names.specs.meaning.Meaning.{QualifiedName}
 use Rattle.smi_tree.specs.types.Chain.{Layer, TypeOrigin, TypeChain, at_end, on_type}
 use Rattle.smi_tree.specs.types.Types.{Facts, HasSyntax, type_origin}
-use Rattle.smi_tree.specs.declared.types.base.TypeBase.{TypeBase}
+use Rattle.smi_names.specs.declared.meaning.base.TypeBase.{TypeBase}
 
 module _ {A : Type 0} (origin : A → TypeOrigin A) where
   pub one_chain : {o : TypeOrigin A} {ls : List Layer} {b : TypeBase} → TypeChain origin o ls b

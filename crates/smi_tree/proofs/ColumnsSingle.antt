@@ -13,8 +13,8 @@ use Rattle.smi_text.specs.declared.trees.tree.IndexParts.{IndexParts}
 use Rattle.smi_names.specs.meaning.Meaning.{QualifiedName}
 use Rattle.smi_tree.specs.types.Chain.{TypeOrigin}
 use Rattle.smi_tree.specs.types.Types.{Facts, HasSyntax, origin_of_object}
-use Rattle.smi_tree.specs.declared.types.base.TypeBase.{TypeBase}
-use Rattle.smi_tree.specs.declared.types.base.TypeBase.TheVariants as T
+use Rattle.smi_names.specs.declared.meaning.base.TypeBase.{TypeBase}
+use Rattle.smi_names.specs.declared.meaning.base.TypeBase.TheVariants as T
 use Rattle.smi_names.specs.nodes.Nodes.{Node}
 use Rattle.smi_tree.specs.columns.Parts.{IsFixedSize, HasExtent, IsPartOf}
 use Rattle.smi_tree.specs.columns.Index.{IsIndexPart, AreParts, IsIndexed, IsIndexOf, IsIndex, AreIndexesOf, index_at, is_implied}

@@ -1,29 +1,6 @@
 -- Chains of types followed by places: their ends, and the nearest place that states a field.
-use Rattle.std.proofs.Common.{
-  ◌≡◌,
-  ℕ,
-  zero,
-  suc,
-  ◌<◌,
-  ◌≤◌,
-  Bool,
-  true,
-  false,
-  cond,
-  is_some,
-  List,
-  [],
-  ◌∷◌,
-  length,
-  Option,
-  Some,
-  None,
-  refl,
-  sym,
-  ap,
-  ◌∙◌,
-  arith,
-}
+use Rattle.std.proofs.Common.{◌≡◌, ℕ, zero, suc, ◌≤◌, Bool, true, false, cond, is_some, List, [], ◌∷◌, length, Option, Some, None, refl, sym, ap, ◌∙◌}
+use Rattle.std.proofs.Common.{arith}
 use Rattle.std.proofs.lemmas.List.{get_or_past}
 use Rattle.std.proofs.lemmas.Slice.Eq.{bytes_eq-Decides}
 use Rattle.std.specs.List.{slice_get, find}
@@ -39,7 +16,7 @@ use Rattle.smi_names.specs.meaning.Known.{KnownNames, content_named}
 use Rattle.smi_tree.specs.types.Chain.{Layer, TypeOrigin, at_base, on_name, no_type, TypeChain, at_end, on_type, nearest}
 use Rattle.smi_tree.specs.types.Types.{type_origin, type_origin_in, type_origin_by}
 use Rattle.smi_tree.specs.types.Leads.{content_origin, LeadsTo, AreLeads, at_place, states, AreNextUntil}
-use Rattle.smi_tree.specs.declared.types.base.TypeBase.{TypeBase}
+use Rattle.smi_names.specs.declared.meaning.base.TypeBase.{TypeBase}
 use Rattle.smi_tree.specs.declared.types.leads.Field.{Field}
 
 abbrev pub slot_origin : Option Content → TypeOrigin QualifiedName
@@ -62,11 +39,6 @@ pub past_get : {X : Type 0} (xs : List X) (i : ℕ) → slice_get xs i ≡ None 
 past_get [] i e = omega arith
 past_get (x ∷ xs) zero e = absurd (cc)
 past_get (x ∷ xs) (suc i) e = omega (arith, past_get xs i e)
-
-pub within_get : {X : Type 0} (xs : List X) (i : ℕ) (x : X) → slice_get xs i ≡ Some x → i < length xs
-within_get [] i x e = absurd (cc)
-within_get (y ∷ xs) zero x e = omega arith
-within_get (y ∷ xs) (suc i) x e = omega (arith, within_get xs i x e)
 
 module _ (k : KnownNames) where
   -- the place of a name has the origin of the type that the name means

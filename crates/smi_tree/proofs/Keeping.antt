@@ -1,6 +1,7 @@
 -- What is kept for the place of a name is the syntax of the type that the name means.
 use Rattle.std.proofs.Common.{◌≡◌, ℕ, ◌<◌, is_some, List, length, Option, Some, None, MatchOption, Vec, subst, refl, sym, ap, arith}
 use Rattle.std.proofs.lemmas.List.{get_or_past, get_or_default}
+use Rattle.std.proofs.lemmas.Option.{slice_get_within}
 use Rattle.std.specs.List.{slice_get}
 use Rattle.std.specs.Global.{Global}
 use Rattle.std.specs.Option.{option_and_then}
@@ -17,11 +18,11 @@ use Rattle.smi_tree.specs.types.Types.{type_origin, object_origin, object_in, ty
 use Rattle.smi_tree.specs.types.Leads.{LeadsTo, AreLeads, AreSources, at_place, states}
 use Rattle.smi_tree.specs.types.Nearest.{AreEndsOfChains, AreNearest, AreLeadsOf, AreObjectLeads}
 use Rattle.smi_tree.specs.types.Kept.{type_in, type_base, type_names, type_sizes, found_by, kept_base, kept_facts, AreTypesOf}
-use Rattle.smi_tree.specs.declared.types.base.TypeBase.{TypeBase}
+use Rattle.smi_names.specs.declared.meaning.base.TypeBase.{TypeBase}
 use Rattle.smi_tree.specs.declared.types.leads.Field.{Field}
 use Rattle.smi_tree.specs.declared.types.leads.Field.TheVariants as F
 use Rattle.smi_tree.specs.declared.types.types.Types.{Types}
-use Rattle.smi_tree.proofs.Following.{origin_at, slot_origin, placed, past_get, within_get, has_end, base_at_end, chain_to, nearest_is}
+use Rattle.smi_tree.proofs.Following.{origin_at, slot_origin, placed, past_get, has_end, base_at_end, chain_to, nearest_is}
 use Rattle.smi_tree.proofs.Reading.{read_at, base_of_origin, reads_type_base, reads_field}
 
 -- what no chain begins with has no syntax
@@ -44,8 +45,8 @@ objects_right k ms os are i j = by (slice_get ms i) (slice_get os i) refl refl
     by : (m : Option Module) (v : Option (Vec (Option ℕ) Global)) → slice_get ms i ≡ m → slice_get os i ≡ v
         → LeadsTo k (object_in m (option_and_then (λ n. slice_get n.defs j) m)) (option_and_then (λ w. at_place w.items j) v)
     by None None e f = refl
-    by None (Some v) e f = absurd (omega (arith, are.long, past_get ms i e, within_get os i v f))
-    by (Some m) None e f = absurd (omega (arith, are.long, within_get ms i m e, past_get os i f))
+    by None (Some v) e f = absurd (omega (arith, are.long, past_get ms i e, slice_get_within os i v f))
+    by (Some m) None e f = absurd (omega (arith, are.long, slice_get_within ms i m e, past_get os i f))
     by (Some m) (Some v) e f = of m v.items (are.each i m v e f) (slice_get m.defs j) refl
 
 module _ (k : KnownNames) (t : Types) (leads : List (Option ℕ)) (are : AreLeads k leads) (sourced : AreSources k t.sources.items)
@@ -106,7 +107,7 @@ module _ (k : KnownNames) (t : Types) (leads : List (Option ℕ)) (are : AreLead
             let past : at_place t.ends.items p ≡ None =
             get_or_past t.ends.items p None (omega (arith, past_get k.names p h, ended.long, are.long)) in
             rw past (no_syntax_of k.modules (origin_at k p) (ap (λ s. slot_origin s) h))
-        by (Some c) h = let l = within_get k.names p c h in by_end p l (at_place t.ends.items p) (end_is p l)
+        by (Some c) h = let l = slice_get_within k.names p c h in by_end p l (at_place t.ends.items p) (end_is p l)
 
     -- what is kept for a place of a name is right
     pub kept_right : (a : QualifiedName) (p : ℕ) → slice_get k.names p ≡ content_named k.modules a

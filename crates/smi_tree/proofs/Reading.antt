@@ -15,7 +15,7 @@ use Rattle.smi_tree.specs.types.Chain.{Layer, TypeOrigin, at_base, on_name, no_t
 use Rattle.smi_tree.specs.types.Types.{base_in, origin_of_base, origin_of_simple, layer, no_layer, type_hint, def_at}
 use Rattle.smi_tree.specs.types.Leads.{content_origin, at_place, AreSources}
 use Rattle.smi_tree.specs.types.Kept.{type_in, type_base}
-use Rattle.smi_tree.specs.declared.types.base.TypeBase.{TypeBase}
+use Rattle.smi_names.specs.declared.meaning.base.TypeBase.{TypeBase}
 use Rattle.smi_tree.proofs.Following.{slot_origin, origin_at, past_get}
 
 -- what a definition states that decides the name at a place

@@ -11,28 +11,13 @@ use Rattle.smi_text.specs.declared.trees.tree.Refinement.{Refinement}
 use Rattle.smi_names.specs.meaning.Meaning.{QualifiedName, or_else}
 use Rattle.smi_names.specs.meaning.Known.{KnownNames, content_named}
 use Rattle.smi_tree.specs.types.Chain.{Layer, at_base, on_name, no_type, TypeChain, at_end, on_type, nearest}
-use Rattle.smi_tree.specs.types.Types.{
-  type_origin,
-  base_in,
-  names_in,
-  sizes_in,
-  simple_in,
-  layer,
-  origin_of_base,
-  origin_of_object,
-  object_syntax,
-  object_in,
-  object_origin,
-  def_at,
-  Facts,
-  HasSyntax,
-  HasNoSyntax,
-}
+use Rattle.smi_tree.specs.types.Types.{type_origin, base_in, names_in, sizes_in, simple_in, layer, origin_of_base, origin_of_object, object_syntax}
+use Rattle.smi_tree.specs.types.Types.{object_in, object_origin, def_at, Facts, HasSyntax, HasNoSyntax}
 use Rattle.smi_tree.specs.types.Leads.{LeadsTo}
 use Rattle.smi_tree.specs.types.Nearest.{refined_facts}
 use Rattle.smi_tree.specs.types.Kept.{facts_of, kept_base, kept_facts, kept_of, kept_syntax, object_lead, AreTypesOf}
 use Rattle.smi_tree.specs.declared.types.types.Types.{Types}
-use Rattle.smi_tree.specs.declared.types.base.TypeBase.{TypeBase}
+use Rattle.smi_names.specs.declared.meaning.base.TypeBase.{TypeBase}
 use Rattle.smi_tree.specs.declared.types.syntax.TypeSyntax.{TypeSyntax}
 
 or_else_none : {X : Type 0} (v : Option X) → v ≡ or_else v None

@@ -1,7 +1,7 @@
 -- Names of nodes are sound: labels are words, and lead to the nodes that they are shown for.
 use Rattle.std.proofs.Common.{◌≡◌, ℕ, zero, suc, ◌+◌, ◌≤◌, ◌⊎◌, inl, inr, Bool, true, false, cond, ◌&&◌, List, [], ◌∷◌, ◌++◌, length, take}
 use Rattle.std.proofs.Common.{Option, Some, None, refl, sym, ap, subst, ◌∙◌, arith, nat_eq}
-use Rattle.std.specs.Prelude.{codes, slice_index_or}
+use Rattle.std.specs.Prelude.{slice_index_or}
 use Rattle.std.specs.List.{slice_get, position_from}
 use Rattle.std.specs.Option.{option_and_then}
 use Rattle.std.specs.Cmp.Lexicographic.{pointwise}
@@ -9,7 +9,7 @@ use Rattle.std.proofs.lemmas.Slice.Eq.{bytes_eq-Decides}
 use Rattle.smi_text.specs.trees.Mark.{same_text}
 use Rattle.smi_text.specs.trees.Word.{is_word}
 use Rattle.smi_text.specs.declared.trees.tree.Module.{Module}
-use Rattle.smi_names.specs.meaning.Meaning.{Means, QualifiedName, or_else}
+use Rattle.smi_names.specs.meaning.Meaning.{Means, QualifiedName, or_else, root_label}
 use Rattle.smi_tree.specs.branches.Standing.{place_of}
 use Rattle.smi_show.specs.name.Naming.{Naming, Standing, LabelLeadsTo, IsSound}
 use Rattle.smi_names.specs.nodes.Nodes.{Node, node_of_root, roots, Loads}
@@ -112,11 +112,11 @@ first-passing t b (suc i) (y ∷ xs) x e p = by (t y) refl (first-passing t (b +
     by false f r = let more : b + 1 + r.0 ≡ b + suc r.0 = omega arith in (suc r.0, r.1, rw f (r.2 ∙ ap (λ k. Some k) more), r.3, r.4)
 
 -- the roots
-pub root-case : (P : Node → Type 0) → P (node_of_root (codes "ccitt") 0) → P (node_of_root (codes "iso") 1) → P (node_of_root (codes "joint-iso-ccitt") 2)
+pub root-case : (P : Node → Type 0) → P (node_of_root 0) → P (node_of_root 1) → P (node_of_root 2)
     → (k : ℕ) (n : Node) → slice_get roots k ≡ Some n → P n
-root-case P c i j zero n e = let is : node_of_root (codes "ccitt") 0 ≡ n = cc in subst P is c
-root-case P c i j (suc zero) n e = let is : node_of_root (codes "iso") 1 ≡ n = cc in subst P is i
-root-case P c i j (suc (suc zero)) n e = let is : node_of_root (codes "joint-iso-ccitt") 2 ≡ n = cc in subst P is j
+root-case P c i j zero n e = let is : node_of_root 0 ≡ n = cc in subst P is c
+root-case P c i j (suc zero) n e = let is : node_of_root 1 ≡ n = cc in subst P is i
+root-case P c i j (suc (suc zero)) n e = let is : node_of_root 2 ≡ n = cc in subst P is j
 root-case P c i j (suc (suc (suc k))) n e = cc
 
 root-leads : (ns : List Node) (k : ℕ) (n : Node) → slice_get roots k ≡ Some n
@@ -132,7 +132,7 @@ root-home = root-case (λ n. n.home ≡ None) refl refl refl
 -- a root by its place
 pub among-roots : (ns : List Node) (x : List ℕ) (k : ℕ) → Some k ≡ place_anywhere roots x
     → oid_of (roots ++ ns) (Some k) ≡ oid_of roots (place_anywhere roots x)
-among-roots ns x k e = rw (sym e) (by (same_text (codes "ccitt") x) (same_text (codes "iso") x) (same_text (codes "joint-iso-ccitt") x) e)
+among-roots ns x k e = rw (sym e) (by (same_text (root_label 0) x) (same_text (root_label 1) x) (same_text (root_label 2) x) e)
   where
     by : (a b d : Bool) → Some k ≡ cond a (Some 0) (cond b (Some 1) (cond d (Some 2) None)) → oid_of (roots ++ ns) (Some k) ≡ oid_of roots (Some k)
     by true b d f = let at : k ≡ 0 = cc in rw at refl

@@ -15,7 +15,7 @@ use Rattle.smi_names.specs.declared.meaning.entry.Decider.TheVariants as D
 use Rattle.smi_tree.specs.types.Chain.{Layer}
 use Rattle.smi_tree.specs.types.Types.{base_in, name_in_base, name_in, origin_of_base, origin_of_simple, simple_in, layer, type_hint, type_syntax}
 use Rattle.smi_tree.specs.types.Leads.{content_origin, LeadsTo, states, StatesIf}
-use Rattle.smi_tree.specs.declared.types.base.TypeBase.{TypeBase}
+use Rattle.smi_names.specs.declared.meaning.base.TypeBase.{TypeBase}
 use Rattle.smi_tree.specs.declared.types.leads.Field.{Field}
 
 pub named : (b : Base) (x : Name) → b ≡ B.Named x → is_some (base_in b) ≡ false → Some x.octets ≡ name_in b

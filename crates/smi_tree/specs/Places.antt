@@ -10,7 +10,8 @@ use Rattle.smi_text.specs.declared.trees.tree.Module.{Module}
 use Rattle.smi_text.specs.declared.trees.tree.Def.{Def}
 use Rattle.smi_names.specs.meaning.Meaning.{or_else}
 use Rattle.smi_names.specs.meaning.Names.{module_place}
-use Rattle.smi_names.specs.nodes.Gathered.{root_label, def_of_module}
+use Rattle.smi_names.specs.meaning.Meaning.{root_label}
+use Rattle.smi_names.specs.nodes.Gathered.{def_of_module}
 use Rattle.smi_names.specs.declared.hash.NameHash.{NameHash}
 use Rattle.smi_names.specs.declared.nodes.source.Source.{Source}
 use Rattle.smi_names.specs.declared.nodes.source.Source.TheVariants as S

@@ -27,8 +27,8 @@ use Rattle.smi_names.specs.declared.nodes.source.Source.{Source}
 use Rattle.smi_names.specs.declared.nodes.source.Source.TheVariants as S
 use Rattle.smi_tree.specs.types.Types.{Facts, HasSyntax, HasNoSyntax, object_in}
 use Rattle.smi_tree.specs.types.Kept.{kept_syntax}
-use Rattle.smi_tree.specs.declared.types.base.TypeBase.{TypeBase}
-use Rattle.smi_tree.specs.declared.types.base.TypeBase.TheVariants as T
+use Rattle.smi_names.specs.declared.meaning.base.TypeBase.{TypeBase}
+use Rattle.smi_names.specs.declared.meaning.base.TypeBase.TheVariants as T
 use Rattle.smi_tree.specs.declared.types.types.Types.{Types}
 use Rattle.smi_value.specs.Syntax.{ObjectSyntax}
 use Rattle.smi_value.specs.declared.base.ValueBase.{ValueBase}

@@ -34,9 +34,9 @@ mod types;
 
 pub use crate::branches::{Children, Deepest, Identifiers};
 pub use crate::columns::Indexes;
-pub use crate::types::{TypeBase, TypeSyntax, Types};
+pub use crate::types::{TypeSyntax, Types};
 pub use laws::{bare_tree, one_tree};
 pub use node::Node;
 pub use roots::Roots;
-pub use smi_names::{NameHash, Warning};
+pub use smi_names::{NameHash, TypeBase, Warning};
 pub use tree::{NodeId, Tree};

@@ -9,7 +9,7 @@ ghost use Rattle.smi_tree.specs.Standing.{longest_of};
 
 use crate::branches::Deepest;
 use crate::tree::Tree;
-use smi_names::one_identifier;
+use smi_names::{one_identifier, root_arc};
 use smi_show::{NameTree, Node};
 use smi_text::Module;
 use snmp_oid::Oid;
@@ -34,14 +34,9 @@ impl Tree {
 pub(crate) fn root_place(label: &[u8]) -> Option<usize>
     ensures { result ≡ place_anywhere roots label.now }
 {
-    if &b"ccitt"[..] == label {
-        Some(0)
-    } else if &b"iso"[..] == label {
-        Some(1)
-    } else if &b"joint-iso-ccitt"[..] == label {
-        Some(2)
-    } else {
-        None
+    match root_arc(label) {
+        Some(number) => Some(number as usize),
+        None => None,
     }
 }
 

@@ -1,11 +1,10 @@
 //! The nodes of a tree, by where each comes from.
-ghost use Rattle.std.specs.Prelude.{◌≡◌, ℕ, List};
+ghost use Rattle.std.specs.Prelude.{◌≡◌};
 ghost use Rattle.std.specs.List.{slice_get};
 ghost use Rattle.std.specs.Option.{option_copied};
-ghost use Rattle.smi_names.specs.nodes.Gathered.{root_label};
 ghost use Rattle.smi_tree.specs.Places.{home_from, label_from, definition_from};
 
-use smi_names::Source;
+use smi_names::{Source, root_label};
 use smi_text::{Def, Module};
 use snmp_oid::Oid;
 
@@ -49,17 +48,6 @@ pub(crate) fn definition(modules: &[Module], source: Source) -> Option<&Def>
             Some(module) => module.defs.as_slice().get(k),
             None => None,
         },
-    }
-}
-
-/// The label of the root with a number (RFC 2578, section 2).
-pub(crate) fn root_label(number: u32) -> &'static [u8]
-    ensures { result.now ≡ root_label number }
-{
-    match number {
-        0 => b"ccitt",
-        1 => b"iso",
-        _ => b"joint-iso-ccitt",
     }
 }
 

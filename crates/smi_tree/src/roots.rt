@@ -6,7 +6,7 @@ ghost use Rattle.smi_tree.specs.Bare.{bare};
 ghost use Rattle.smi_tree.specs.Naming.{oid_of};
 
 use crate::naming::root_place;
-use crate::node::root_label;
+use smi_names::root_label;
 use smi_show::{DetailTree, NameTree, Node, ShowTree};
 use smi_text::Def;
 use smi_value::ValueSyntax;

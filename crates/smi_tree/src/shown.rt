@@ -11,8 +11,8 @@ ghost use Rattle.smi_tree.specs.Shown.{AreSyntaxesOf, syntax_from, syntaxes_from
 ghost use Rattle.smi_tree.specs.Shown.{value_base, between_quotes, units_of, shown_syntax};
 
 use crate::node::definition;
-use crate::types::{TypeBase, TypeSyntax, Types, kept_is_right};
-use smi_names::Source;
+use crate::types::{TypeSyntax, Types, kept_is_right};
+use smi_names::{Source, TypeBase};
 use smi_text::{DefKind, Module, Text};
 use smi_value::{ValueBase, ValueSyntax};
 

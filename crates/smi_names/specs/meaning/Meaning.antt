@@ -1,6 +1,7 @@
 -- What names mean in modules (RFC 2578, sections 3.1, 3.2 and 7.10).
 use Rattle.std.specs.Prelude.{
   ℕ,
+  ◌==◌,
   List,
   [],
   ◌∷◌,
@@ -27,12 +28,17 @@ pub record QualifiedName : Type 0 where
   pub home : List ℕ
   pub name : List ℕ
 
--- the names at the top, which have no definition (RFC 2578, section 2)
+-- the names at the top, which have no definition, by their numbers 0 to 2 (RFC 2578, section 2)
+abbrev pub root_label : ℕ → List ℕ
+root_label n = if n == 0 then codes "ccitt" else
+    (if n == 1 then codes "iso" else codes "joint-iso-ccitt")
+
+-- the number of the root of this name
 abbrev pub root_arc : List ℕ → Option ℕ
 root_arc x =
-    if same_text (codes "ccitt") x then Some 0 else
-    (if same_text (codes "iso") x then Some 1 else
-    (if same_text (codes "joint-iso-ccitt") x then Some 2 else None))
+    if same_text (root_label 0) x then Some 0 else
+    (if same_text (root_label 1) x then Some 1 else
+    (if same_text (root_label 2) x then Some 2 else None))
 
 -- what decides what a name means in a module
 pub data Decision : Type 0 where

@@ -2,7 +2,6 @@
 use Rattle.std.specs.Prelude.{
   ◌≡◌,
   ℕ,
-  ◌==◌,
   List,
   [],
   ◌∷◌,
@@ -11,24 +10,19 @@ use Rattle.std.specs.Prelude.{
   Option,
   Some,
   None,
-  codes,
-  if◌then◌else◌,
 }
 use Rattle.std.specs.List.{slice_get}
 use Rattle.smi_names.specs.declared.links.basis.Resolution.{Resolution}
 use Rattle.smi_names.specs.declared.links.basis.Resolution.TheVariants as R
 use Rattle.smi_text.specs.declared.trees.tree.Module.{Module}
 use Rattle.smi_text.specs.declared.trees.tree.Def.{Def}
+use Rattle.smi_names.specs.meaning.Meaning.{root_label}
 use Rattle.smi_names.specs.nodes.Nodes.{Node, node_of, warnings_by, roots, GivesNodes, Gathers}
 use Rattle.smi_names.specs.nodes.Nodes.{Brings, Loads}
 use Rattle.smi_names.specs.declared.nodes.warning.Warning.{Warning}
 use Rattle.smi_names.specs.declared.nodes.source.Source.{Source}
 use Rattle.smi_names.specs.declared.nodes.source.Source.TheVariants as S
 use Rattle.smi_names.specs.declared.nodes.gather.Gathered.{Gathered}
-
-abbrev pub root_label : ℕ → List ℕ
-root_label n = if n == 0 then codes "ccitt" else
-    (if n == 1 then codes "iso" else codes "joint-iso-ccitt")
 
 abbrev pub node_from_def : Option Module → Option Def → List ℕ → Node
 node_from_def (Some m) (Some d) o = node_of m d o

@@ -12,32 +12,22 @@ use Rattle.std.specs.Prelude.{
   Some,
   None,
   is_some,
-  codes,
   if◌then◌else◌,
 }
-use Rattle.std.specs.List.{list_any, flat_map}
-use Rattle.smi_text.specs.trees.Mark.{same_text}
+use Rattle.std.specs.List.{flat_map}
 use Rattle.smi_text.specs.trees.Number.{is_macro}
 use Rattle.smi_text.specs.trees.Lookup.{definition_of, import_of, import_clauses}
 use Rattle.smi_text.specs.declared.trees.tree.Module.{Module}
 use Rattle.smi_text.specs.declared.trees.tree.Import.{Import}
 use Rattle.smi_text.specs.declared.trees.tree.TokenText.{TokenText}
+use Rattle.smi_names.specs.meaning.Base.{base_named}
 use Rattle.smi_names.specs.meaning.Meaning.{Decision, defined, imported, root, module_named}
 use Rattle.smi_names.specs.declared.nodes.warning.Warning.{Warning}
 use Rattle.smi_names.specs.declared.nodes.warning.Warning.TheVariants as W
 
--- the base types that a name stands for in every module (RFC 2578, section 7.1)
-abbrev pub base_types : List (List ℕ)
-base_types =
-    codes "Integer32" ∷ codes "Counter32" ∷ codes "Gauge32" ∷ codes "Unsigned32" ∷
-    codes "TimeTicks" ∷ codes "IpAddress" ∷ codes "Opaque" ∷ codes "Counter64" ∷ []
-
-unfoldable pub is_base_type : List ℕ → Bool
-is_base_type x = list_any (same_text x) base_types
-
 -- the names of macros and of base types need no definition
 abbrev pub needs_no_definition : List ℕ → Bool
-needs_no_definition x = is_macro x || is_base_type x
+needs_no_definition x = is_macro x || is_some (base_named x)
 
 -- a definition or an import of the module decides, and not the list of roots
 abbrev pub is_stated : Decision → Bool

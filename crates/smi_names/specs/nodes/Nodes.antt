@@ -13,7 +13,6 @@ use Rattle.std.specs.Prelude.{
   Some,
   None,
   is_some,
-  codes,
 }
 use Rattle.smi_names.specs.links.Basis.{ComesTo}
 use Rattle.smi_names.specs.declared.links.basis.Resolution.{Resolution}
@@ -22,7 +21,7 @@ use Rattle.smi_text.specs.declared.trees.tree.Module.{Module}
 use Rattle.smi_text.specs.declared.trees.tree.Def.{Def}
 use Rattle.smi_text.specs.declared.trees.tree.Part.{Part}
 use Rattle.smi_text.specs.trees.Lookup.{identifier_value_of}
-use Rattle.smi_names.specs.meaning.Meaning.{origin, module_named}
+use Rattle.smi_names.specs.meaning.Meaning.{origin, module_named, root_label}
 use Rattle.smi_names.specs.nodes.Imports.{import_warnings}
 use Rattle.smi_names.specs.declared.nodes.warning.Warning.{Warning}
 use Rattle.smi_names.specs.declared.nodes.warning.Warning.TheVariants as W
@@ -35,14 +34,12 @@ pub record Node : Type 0 where
   pub oid : List ℕ
   pub definition : Option Def
 
-abbrev pub node_of_root : List ℕ → ℕ → Node
-node_of_root label n = record { home = None; label = label; oid = n ∷ []; definition = None }
+abbrev pub node_of_root : ℕ → Node
+node_of_root n = record { home = None; label = root_label n; oid = n ∷ []; definition = None }
 
 -- the roots count as loaded before every module
 abbrev pub roots : List Node
-roots =
-    node_of_root (codes "ccitt") 0 ∷ (node_of_root (codes "iso") 1 ∷ (node_of_root
-    (codes "joint-iso-ccitt") 2 ∷ []))
+roots = node_of_root 0 ∷ node_of_root 1 ∷ node_of_root 2 ∷ []
 
 abbrev pub node_of : Module → Def → List ℕ → Node
 node_of m d o = record { home = Some m; label = d.label.octets; oid = o; definition = Some d }

@@ -4,8 +4,8 @@ ghost use Rattle.std.specs.Prelude.{IfOk, All, if◌then◌else◌, unwrap_or};
 ghost use Rattle.smi_text.specs.trees.Lookup.{first_definition, first_import};
 ghost use Rattle.smi_text.specs.trees.Lookup as lookup;
 ghost use Rattle.smi_text.specs.trees.Mark.{same_text};
-ghost use Rattle.smi_names.specs.meaning.Meaning.{defined, imported, root, root_arc, decision};
-ghost use Rattle.smi_names.specs.meaning.Meaning.{or_else};
+ghost use Rattle.smi_names.specs.meaning.Meaning.{defined, imported, root, decision, or_else};
+ghost use Rattle.smi_names.specs.meaning.Meaning as meaning;
 ghost use Rattle.smi_names.specs.declared.meaning.entry.Entry.{Entry};
 ghost use Rattle.smi_names.specs.meaning.Scopes.{decision_of, decided_as, known, IsWithin, IsDefinedAt};
 ghost use Rattle.smi_names.specs.meaning.Scopes.{IsEntryOf, KnowsMore, place_in};
@@ -125,15 +125,42 @@ fn enter_imports<'a>(
     Ok(())
 }
 
+/// The label of the root with a number from 0 to 2 (RFC 2578, section 2).
+pub fn root_label(number: u32) -> &'static [u8]
+    ensures { result.now ≡ meaning.root_label number }
+{
+    match number {
+        0 => b"ccitt",
+        1 => b"iso",
+        _ => b"joint-iso-ccitt",
+    }
+}
+
+/// The number of the root of a label (RFC 2578, section 2).
+pub fn root_arc(label: &[u8]) -> Option<u32>
+    ensures { result ≡ meaning.root_arc label.now }
+{
+    if root_label(0) == label {
+        Some(0)
+    } else if root_label(1) == label {
+        Some(1)
+    } else if root_label(2) == label {
+        Some(2)
+    } else {
+        None
+    }
+}
+
 /// The entry of a root.
-fn root_entry<'a>(module: &'a Module, place: usize, name: &'a [u8], number: u32) -> Entry<'a>
-    ensures entry { (result.«module».now ≡ «module».now) × (result.name.now ≡ name.now)
+fn root_entry<'a>(module: &'a Module, place: usize, number: u32) -> Entry<'a>
+    ensures entry { (result.«module».now ≡ «module».now)
+        × (result.name.now ≡ meaning.root_label number)
         × (decision_of result.decider ≡ root number) × (result.source.0 ≡ place) }
     ensures found { IsDefinedAt result }
 {
     Entry {
         module,
-        name,
+        name: root_label(number),
         decider: Decider::Root(number),
         source: (place, 0),
     }
@@ -149,15 +176,11 @@ fn enter_roots<'a>(
     requires { IsWithin entries.old.items scope.old }
     ensures entered { OnOk result (KnowsMore entries.old.items scope.old entries.new.items
         scope.new «module».now place
-        (λ x. option_map root (root_arc x))) }
+        (λ x. option_map root (meaning.root_arc x))) }
 {
-    enter(entries, scope, root_entry(module, place, b"ccitt", 0))?;
-    enter(entries, scope, root_entry(module, place, b"iso", 1))?;
-    enter(
-        entries,
-        scope,
-        root_entry(module, place, b"joint-iso-ccitt", 2),
-    )?;
+    enter(entries, scope, root_entry(module, place, 0))?;
+    enter(entries, scope, root_entry(module, place, 1))?;
+    enter(entries, scope, root_entry(module, place, 2))?;
     Ok(())
 }
 

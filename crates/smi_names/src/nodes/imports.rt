@@ -1,48 +1,15 @@
 //! The warnings that the imports of a module give.
-ghost use Rattle.std.specs.Prelude.{◌≡◌, ◌++◌, map, OnOk};
-ghost use Rattle.std.specs.List.{list_any, flat_map};
-ghost use Rattle.smi_text.specs.trees.Mark.{same_text};
+ghost use Rattle.std.specs.Prelude.{◌≡◌, ◌++◌, OnOk};
+ghost use Rattle.std.specs.List.{flat_map};
 ghost use Rattle.smi_names.specs.meaning.Meaning.{module_named};
 ghost use Rattle.smi_names.specs.meaning.Scopes.{decision_of};
 ghost use Rattle.smi_names.specs.nodes.Imports as imports;
 
-use crate::meaning::{Decider, Names, import_clauses};
+use crate::meaning::{Decider, Names, TypeBase, import_clauses};
 use crate::nodes::gather::text;
 use crate::nodes::warning::Warning;
 use smi_text::{Import, Module, TokenText, is_macro};
 use std::alloc::{AllocError, Global};
-
-/// The base types that a name stands for in every module (RFC 2578, section 7.1).
-const BASE_TYPES: [&[u8]; 8] = [
-    b"Integer32",
-    b"Counter32",
-    b"Gauge32",
-    b"Unsigned32",
-    b"TimeTicks",
-    b"IpAddress",
-    b"Opaque",
-    b"Counter64",
-];
-
-/// Whether a text is one of these words.
-fn is_among(words: &[&[u8]], text: &[u8]) -> bool
-    ensures { result ≡ list_any (same_text text.now) (map (λ word. word.now) words.now) }
-{
-    for word in words {
-        if text == *word {
-            return true;
-        }
-    }
-    false
-}
-
-/// Whether a name is that of a base type.
-#[tactic(auto, unfolding(crate::specs::nodes::Imports::is_base_type))]
-fn is_base_type(text: &[u8]) -> bool
-    ensures { result ≡ imports.is_base_type text.now }
-{
-    is_among(&BASE_TYPES, text)
-}
 
 /// Whether a module's own text decides what a name means in it, and not the list of roots.
 fn is_stated(decider: Decider<'_>) -> bool
@@ -80,7 +47,7 @@ fn add_symbol_warnings<'a>(
 {
     let from = import.source.as_bytes();
     let name = symbol.text.as_bytes();
-    if is_macro(name) || is_base_type(name) || has_name(names, from, name) {
+    if is_macro(name) || TypeBase::named(name).is_some() || has_name(names, from, name) {
         return Ok(());
     }
     let home = text(alloc, module.name.as_bytes())?;

@@ -21,8 +21,8 @@ use Rattle.smi_show.specs.declared.index.part.IndexPart.TheVariants as P
 use Rattle.smi_text.specs.declared.trees.tree.Range.{Range}
 use Rattle.smi_text.specs.declared.trees.tree.TokenText.{TokenText}
 use Rattle.smi_text.specs.trees.Number.{bound_in}
-use Rattle.smi_tree.specs.declared.types.base.TypeBase.{TypeBase}
-use Rattle.smi_tree.specs.declared.types.base.TypeBase.TheVariants as T
+use Rattle.smi_names.specs.declared.meaning.base.TypeBase.{TypeBase}
+use Rattle.smi_names.specs.declared.meaning.base.TypeBase.TheVariants as T
 
 -- the token stands for this number
 abbrev pub StatesBound : TokenText → ℕ → Type 0

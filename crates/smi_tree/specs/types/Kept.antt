@@ -28,7 +28,7 @@ use Rattle.smi_tree.specs.types.Types.{
 }
 use Rattle.smi_tree.specs.types.Leads.{LeadsTo, at_place}
 use Rattle.smi_tree.specs.types.Nearest.{refined_facts}
-use Rattle.smi_tree.specs.declared.types.base.TypeBase.{TypeBase}
+use Rattle.smi_names.specs.declared.meaning.base.TypeBase.{TypeBase}
 use Rattle.smi_tree.specs.declared.types.syntax.TypeSyntax.{TypeSyntax}
 use Rattle.smi_tree.specs.declared.types.types.Types.{Types}
 

@@ -1,9 +1,8 @@
 -- The types of modules, and the syntax of objects (RFC 2578, sections 7.1 and 9; RFC 2579, section
 -- 3).
-use Rattle.std.specs.Prelude.{◌≡◌, ℕ, List, Option, Some, None, codes, if◌then◌else◌}
+use Rattle.std.specs.Prelude.{◌≡◌, ℕ, List, Option, Some, None}
 use Rattle.std.specs.List.{slice_get}
 use Rattle.std.specs.Option.{option_and_then}
-use Rattle.smi_text.specs.trees.Mark.{same_text}
 use Rattle.smi_text.specs.declared.trees.tree.Module.{Module}
 use Rattle.smi_text.specs.declared.trees.tree.Def.{Def}
 use Rattle.smi_text.specs.declared.trees.tree.DefKind.{DefKind}
@@ -26,8 +25,9 @@ use Rattle.smi_names.specs.meaning.Meaning.{
   decision,
   module_named,
 }
-use Rattle.smi_tree.specs.declared.types.base.TypeBase.{TypeBase}
-use Rattle.smi_tree.specs.declared.types.base.TypeBase.TheVariants as T
+use Rattle.smi_names.specs.declared.meaning.base.TypeBase.{TypeBase}
+use Rattle.smi_names.specs.declared.meaning.base.TypeBase.TheVariants as T
+use Rattle.smi_names.specs.meaning.Base.{base_named}
 use Rattle.smi_tree.specs.types.Chain.{
   Layer,
   TypeOrigin,
@@ -37,18 +37,6 @@ use Rattle.smi_tree.specs.types.Chain.{
   TypeChain,
   nearest,
 }
-
--- the types that are base types by their name, whatever a module defines (RFC 2578, section 7.1)
-abbrev pub base_named : List ℕ → Option TypeBase
-base_named x =
-    if same_text x (codes "Integer32") then Some T.Integer else
-    (if same_text x (codes "Counter32") then Some T.Counter32 else
-    (if same_text x (codes "Gauge32") then Some T.Gauge32 else
-    (if same_text x (codes "Unsigned32") then Some T.Unsigned32 else
-    (if same_text x (codes "TimeTicks") then Some T.TimeTicks else
-    (if same_text x (codes "IpAddress") then Some T.IpAddress else
-    (if same_text x (codes "Opaque") then Some T.Opaque else
-    (if same_text x (codes "Counter64") then Some T.Counter64 else None)))))))
 
 abbrev pub names_in : Option Refinement → Option (List NamedNumber)
 names_in None = None

@@ -5,7 +5,7 @@ ghost use Rattle.smi_show.specs.declared.index.part.IndexPart.{IndexPart};
 ghost use Rattle.smi_tree.specs.columns.Parts.{StatesBound, IsSingleBound, IsFixedSize, HasExtent};
 ghost use Rattle.smi_tree.specs.columns.Parts.{HasNoFixedSize, IsPartOf};
 
-use crate::types::TypeBase;
+use smi_names::TypeBase;
 use smi_show::{Extent, IndexPart};
 use smi_text::{Range, TokenText, bound};
 

@@ -5,7 +5,7 @@ ghost use Rattle.smi_tree.specs.types.Types.{names_in, sizes_in, simple_in, type
 ghost use Rattle.smi_tree.specs.types.Types.{object_syntax, base_in};
 ghost use Rattle.smi_tree.specs.types.Kept.{type_base, type_names, type_sizes};
 
-use crate::types::base::TypeBase;
+use smi_names::TypeBase;
 use smi_text::{Base, Def, DefKind, NamedNumber, Range, Refinement, SimpleType, Syntax, Text};
 
 /// The syntax of an object: what its chain of types gives. It borrows its texts from the modules.

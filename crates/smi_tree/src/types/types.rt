@@ -9,13 +9,12 @@ ghost use Rattle.smi_tree.specs.types.Kept.{AreTypesOf, facts_of, def_by, found_
 ghost use Rattle.smi_tree.specs.types.Kept.{kept_facts};
 ghost use Rattle.smi_tree.specs.types.Kept.{object_lead, kept_syntax, type_names, type_sizes};
 
-use crate::types::base::TypeBase;
 use crate::types::leads::{Field, lead_of_type, leads, leads_until, sources};
 use crate::types::syntax::{
     TypeSyntax, base_in_definition, base_of, hint_of, names_in_definition, names_of,
     object_type_of, sizes_in_definition, sizes_of,
 };
-use smi_names::{Entries, Names, ends};
+use smi_names::{Entries, Names, TypeBase, ends};
 use smi_text::{Def, Module, NamedNumber, Range, SimpleType, Text};
 use std::alloc::{AllocError, Global};
 

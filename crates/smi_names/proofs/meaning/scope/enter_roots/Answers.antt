@@ -1,8 +1,8 @@
 -- The three roots.
-use Rattle.std.proofs.Common.{◌≡◌, Bool, true, false, cond, Some, None, refl, codes}
+use Rattle.std.proofs.Common.{◌≡◌, Bool, true, false, cond, Some, None, refl}
 use Rattle.std.specs.Option.{option_map}
 use Rattle.smi_text.specs.trees.Mark.{same_text}
-use Rattle.smi_names.specs.meaning.Meaning.{root, or_else}
+use Rattle.smi_names.specs.meaning.Meaning.{root, root_label, or_else}
 use Rattle.smi_names.proofs.Knowing.{KnowsMore-then, KnowsMore-same}
 use Rattle.smi_names.proofs.meaning.scope.enter_roots.Goals as goal
 
@@ -24,5 +24,5 @@ returns c =
     record {
       entered = KnowsMore-same _ _ _ _ _ _ _ _
           (KnowsMore-then _ _ _ _ _ _ _ _ _ _ (KnowsMore-then _ _ _ _ _ _ _ _ _ _ first second) third)
-          (λ x. three (same_text (codes "ccitt") x) (same_text (codes "iso") x) (same_text (codes "joint-iso-ccitt") x));
+          (λ x. three (same_text (root_label 0) x) (same_text (root_label 1) x) (same_text (root_label 2) x));
     }

@@ -1,6 +1,6 @@
-//! Base types.
+//! Base types, which their names stand for in every module.
 ghost use Rattle.std.specs.Prelude.{◌≡◌};
-ghost use Rattle.smi_tree.specs.types.Types.{base_named};
+ghost use Rattle.smi_names.specs.meaning.Base.{base_named};
 
 /// The base type of an object's values (RFC 2578, section 7.1).
 #[derive(Clone, Copy, Debug, PartialEq, Eq)]
@@ -31,6 +31,7 @@ pub enum TypeBase {
 
 impl TypeBase {
     /// The base type of this name, whatever a module defines (RFC 2578, section 7.1).
+    #[tactic(auto, unfolding(crate::specs::meaning::Base::base_named))]
     pub fn named(name: &[u8]) -> Option<TypeBase>
         ensures { result ≡ base_named name.now }
     {

@@ -1,9 +1,0 @@
-use Rattle.std.proofs.Common.{◌≡◌, drop}
-use Rattle.std.specs.Prelude.{map}
-use Rattle.std.specs.List.{list_any}
-use Rattle.smi_text.specs.trees.Mark.{same_text}
-use Rattle.smi_names.proofs.nodes.imports.is_among.Given as goal
-
-abbrev pub invariant-loop-word : goal.invariant-loop-word
-invariant-loop-word l =
-    list_any (same_text l.text) (map (λ word. word.now) (drop l.word-index l.words)) ≡ list_any (same_text l.text) (map (λ word. word.now) l.words)
