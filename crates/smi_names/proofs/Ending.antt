@@ -1,34 +1,6 @@
 -- Ends of chains are filled in along the order of places.
-use Rattle.std.proofs.Common.{
-  ◌≡◌,
-  ℕ,
-  zero,
-  suc,
-  ◌+◌,
-  ◌<◌,
-  ◌⊎◌,
-  inl,
-  inr,
-  List,
-  [],
-  ◌∷◌,
-  ◌++◌,
-  length,
-  set,
-  get_or,
-  take,
-  replicate,
-  Option,
-  Some,
-  None,
-  Contains,
-  refl,
-  sym,
-  ap,
-  ◌∙◌,
-  subst,
-  arith,
-}
+use Rattle.std.proofs.Common.{◌≡◌, ℕ, zero, suc, ◌+◌, ◌<◌, ◌⊎◌, inl, inr, List, [], ◌∷◌, ◌++◌, length, set, get_or, take, replicate, Option, Some, None}
+use Rattle.std.proofs.Common.{Contains, refl, sym, ap, ◌∙◌, subst, arith}
 use Rattle.std.proofs.lemmas.List.{get_or-set_same, get_or-set_other, length-set, get_or_past, take_more}
 use Rattle.std.proofs.lemmas.List.Elements.{Contains-push_cases}
 use Rattle.std.proofs.lemmas.Bool.{cases_lt, cases_eq}
