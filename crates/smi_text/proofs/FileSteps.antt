@@ -12,19 +12,8 @@ use Rattle.smi_text.specs.Grammar.{definition, head, module_text, file}
 use Rattle.smi_text.specs.trees.Spelling.{of_def, of_head, of_module, spelling}
 use Rattle.smi_text.specs.Text.{HasNoDoubles}
 use Rattle.smi_text.specs.trees.Lookup.{labels, are_distinct}
-use Rattle.smi_text.specs.Returned.{
-  RepeatsIn,
-  is_memory,
-  error_of,
-  text_ahead,
-  NewDefinitionFault,
-  ReadsDefinitions,
-  DefinitionsFault,
-  ReadsModule,
-  ModuleFault,
-  ReadsModules,
-  ModulesFault,
-}
+use Rattle.smi_text.specs.Returned.{RepeatsIn, is_memory, error_of, text_ahead, NewDefinitionFault, ReadsDefinitions, DefinitionsFault, ReadsModule}
+use Rattle.smi_text.specs.Returned.{ModuleFault, ReadsModules, ModulesFault}
 use Rattle.smi_text.specs.declared.stop.Stop.{Stop}
 use Rattle.smi_text.specs.declared.stop.Stop.TheVariants as S
 use Rattle.smi_text.specs.declared.error.ParseError.{ParseError}
@@ -33,17 +22,8 @@ use Rattle.smi_text.specs.declared.modules.Head.{Head}
 use Rattle.smi_text.specs.declared.trees.tree.Def.{Def}
 use Rattle.smi_text.specs.declared.trees.tree.Module.{Module}
 use Rattle.smi_text.proofs.Marks.{StandsAhead-append}
-use Rattle.smi_text.proofs.Many.{
-  reading-shorter,
-  next-many,
-  stuck-many,
-  end-many,
-  many-starts_with,
-  with_front-append,
-  with_front-none,
-  with_front-end,
-  with_front-nil,
-}
+use Rattle.smi_text.proofs.Many.{reading-shorter, next-many, stuck-many, end-many, many-starts_with, with_front-append, with_front-none, with_front-end}
+use Rattle.smi_text.proofs.Many.{with_front-nil}
 use Rattle.smi_text.proofs.Laws.{starts-with, some-inj}
 use Rattle.smi_text.proofs.DefinitionLaws.{definition-law}
 use Rattle.smi_text.proofs.ModuleLaws.{head-law, module_text-law}

@@ -1,61 +1,13 @@
 -- Marks, kinds and texts: what the tests of tokens mean.
-use Rattle.std.proofs.Common.{
-  ◌≡◌,
-  ℕ,
-  Bool,
-  true,
-  false,
-  ◌&&◌,
-  ◌||◌,
-  not,
-  List,
-  [],
-  ◌∷◌,
-  ◌++◌,
-  Option,
-  Some,
-  None,
-  Ok,
-  Err,
-  refl,
-  sym,
-  ◌∙◌,
-  ap,
-  subst,
-  arith,
-  inl,
-  inr,
-  get_or,
-  eq-eqb,
-}
+use Rattle.std.proofs.Common.{◌≡◌, ℕ, Bool, true, false, ◌&&◌, ◌||◌, not, List, [], ◌∷◌, ◌++◌, Option, Some, None, Ok, Err, refl, sym, ◌∙◌, ap, subst}
+use Rattle.std.proofs.Common.{arith, inl, inr, get_or, eq-eqb}
 use Rattle.std.specs.Prelude.{option_map, option_and_then, ◌==◌}
 use Rattle.std.specs.List.{list_any, list_all}
 use Rattle.std.proofs.lemmas.Bool.{or_cases}
 use Rattle.smi_text.specs.declared.lexer.token.TokenKind.{TokenKind}
-use Rattle.smi_text.specs.declared.lexer.token.TokenKind.TheVariants.{
-  Lower,
-  Upper,
-  Number,
-  Text,
-  Hex,
-  Binary,
-  Assign,
-  Range,
-  OpenBrace,
-  CloseBrace,
-  OpenParen,
-  CloseParen,
-  OpenBracket,
-  CloseBracket,
-  Less,
-  Greater,
-  Comma,
-  Semicolon,
-  Colon,
-  Bar,
-  Dot,
-  Equals,
-}
+use Rattle.smi_text.specs.declared.lexer.token.TokenKind.TheVariants.{Lower, Upper, Number, Text, Hex, Binary, Assign, Range, OpenBrace, CloseBrace}
+use Rattle.smi_text.specs.declared.lexer.token.TokenKind.TheVariants.{OpenParen, CloseParen, OpenBracket, CloseBracket, Less, Greater, Comma, Semicolon}
+use Rattle.smi_text.specs.declared.lexer.token.TokenKind.TheVariants.{Colon, Bar, Dot, Equals}
 use Rattle.smi_text.specs.lexer.Token.{Lexeme, Item}
 use Rattle.smi_text.specs.trees.Mark.{Mark, kind_number, same_kind, same_text}
 use Rattle.smi_text.specs.Format.{StandsAhead}

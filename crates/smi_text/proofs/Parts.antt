@@ -1,45 +1,6 @@
 -- The parts that the scans find, behind their first octet.
-use Rattle.std.proofs.Common.{
-  ◌≡◌,
-  ℕ,
-  zero,
-  suc,
-  ◌+◌,
-  ◌-◌,
-  ◌<◌,
-  ◌≤◌,
-  Bool,
-  true,
-  false,
-  cond,
-  if◌then◌else◌,
-  not,
-  ◌&&◌,
-  ◌⊎◌,
-  Option,
-  Some,
-  None,
-  List,
-  [],
-  ◌∷◌,
-  ◌++◌,
-  length,
-  get_or,
-  take,
-  drop,
-  refl,
-  sym,
-  ap,
-  ◌∙◌,
-  subst,
-  inl,
-  inr,
-  ⊎_elim,
-  arith,
-  eqb,
-  add-one,
-  length-drop,
-}
+use Rattle.std.proofs.Common.{◌≡◌, ℕ, zero, suc, ◌+◌, ◌-◌, ◌<◌, ◌≤◌, Bool, true, false, cond, if◌then◌else◌, not, ◌&&◌, ◌⊎◌, Option, Some, None, List, []}
+use Rattle.std.proofs.Common.{◌∷◌, ◌++◌, length, get_or, take, drop, refl, sym, ap, ◌∙◌, subst, inl, inr, ⊎_elim, arith, eqb, add-one, length-drop}
 use Rattle.std.specs.List.{list_all}
 use Rattle.std.specs.Bool.{then_some}
 use Rattle.std.proofs.Math.Bool.{and-false, and-true, and_assoc}
@@ -51,26 +12,9 @@ use Rattle.std.proofs.lemmas.List.{drop_all}
 use Rattle.smi_text.specs.declared.lexer.token.TokenKind.{TokenKind}
 use Rattle.smi_text.specs.declared.lexer.token.TokenKind.TheVariants.{Text, Hex, Binary}
 use Rattle.smi_text.specs.lexer.Lexeme.{Part, lexeme, is_binary_digit}
-use Rattle.smi_text.specs.lexer.Reading.{
-  HasNoLexeme,
-  IsFirstPlace,
-  IsLexemeFront,
-  IsLongestPassing,
-  IsPartFront,
-  is_other,
-  is_nothing,
-  is_sole,
-  is_string_rest,
-  is_literal_rest,
-  string_part,
-  literal_part,
-  literal_of,
-  is_hex_letter,
-  is_binary_letter,
-  class_of,
-  part_in,
-  part_of,
-}
+use Rattle.smi_text.specs.lexer.Reading.{HasNoLexeme, IsFirstPlace, IsLexemeFront, IsLongestPassing, IsPartFront, is_other, is_nothing, is_sole}
+use Rattle.smi_text.specs.lexer.Reading.{is_string_rest, is_literal_rest, string_part, literal_part, literal_of, is_hex_letter, is_binary_letter, class_of}
+use Rattle.smi_text.specs.lexer.Reading.{part_in, part_of}
 use Rattle.smi_text.proofs.LexerFronts.{rest_at, and_true, longest_behind, goes_on_past}
 
 -- a front that a test decides

@@ -6,92 +6,16 @@ use Rattle.smi_text.specs.declared.lexer.token.TokenKind.TheVariants as K
 use Rattle.smi_text.specs.trees.Mark.{Mark, sign, spelled, on_line}
 use Rattle.smi_text.specs.trees.Reserved.{is_reserved}
 use Rattle.smi_text.specs.trees.Number.{is_macro}
-use Rattle.smi_text.specs.Format.{
-  never,
-  spell_option,
-  spell_some,
-  before,
-  behind,
-  either,
-  lined,
-  many,
-  maybe,
-  name,
-  pair,
-  separated,
-  shaped,
-  some_of,
-  text,
-  text_where,
-  token,
-  word,
-  lower,
-}
+use Rattle.smi_text.specs.Format.{never, spell_option, spell_some, before, behind, either, lined, many, maybe, name, pair, separated, shaped, some_of, text}
+use Rattle.smi_text.specs.Format.{text_where, token, word, lower}
 use Rattle.smi_text.specs.trees.Spelling.{put_line}
-use Rattle.smi_text.specs.Grammar.{
-  Labelled,
-  raw_marks,
-  index_marks,
-  arc,
-  assigned,
-  balanced,
-  base,
-  before_assign,
-  before_end,
-  bound,
-  braced,
-  choice,
-  clause,
-  default_value,
-  definition,
-  field,
-  file,
-  group,
-  head,
-  heading,
-  identifier,
-  import_clause,
-  imports,
-  index,
-  index_names,
-  later_part,
-  lower_definition,
-  macro_body,
-  macro_definition,
-  macro_name,
-  module_identity,
-  module_text,
-  named_number,
-  names,
-  notification_type,
-  object_identifier,
-  object_identifier_words,
-  object_identity,
-  object_type,
-  objects,
-  octet_string_words,
-  of_row,
-  opening,
-  parenthesized,
-  part,
-  range,
-  ranges,
-  raw_definition,
-  refinement,
-  revision,
-  sequence,
-  simple_type,
-  size,
-  status,
-  imported_symbol,
-  syntax_clause,
-  syntax_type,
-  tag,
-  tagged,
-  textual_convention,
-  upper_definition,
-  value,
-}
+use Rattle.smi_text.specs.Grammar.{Labelled, raw_marks, index_marks, arc, assigned, balanced, base, before_assign, before_end, bound, braced, choice}
+use Rattle.smi_text.specs.Grammar.{clause, default_value, definition, field, file, group, head, heading, identifier, import_clause, imports, index}
+use Rattle.smi_text.specs.Grammar.{index_names, later_part, lower_definition, macro_body, macro_definition, macro_name, module_identity, module_text}
+use Rattle.smi_text.specs.Grammar.{named_number, names, notification_type, object_identifier, object_identifier_words, object_identity, object_type}
+use Rattle.smi_text.specs.Grammar.{objects, octet_string_words, of_row, opening, parenthesized, part, range, ranges, raw_definition, refinement, revision}
+use Rattle.smi_text.specs.Grammar.{sequence, simple_type, size, status, imported_symbol, syntax_clause, syntax_type, tag, tagged, textual_convention}
+use Rattle.smi_text.specs.Grammar.{upper_definition, value}
 use Rattle.smi_text.specs.trees.Spelling as say
 use Rattle.smi_text.specs.declared.trees.tree.Module.{Module}
 use Rattle.smi_text.specs.declared.trees.names.Name.{Name}
