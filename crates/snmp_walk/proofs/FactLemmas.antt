@@ -1,5 +1,5 @@
 -- Over one table the facts of a run are about its rows.
-use Rattle.std.proofs.Common.{◌≡◌, ◌⊎◌, inl, inr, ℕ, ◌+◌, ◌<◌, List, [], ◌∷◌, ◌++◌, length, refl, sym, ◌∙◌, ap, subst, arith, length-append, Option}
+use Rattle.std.proofs.Common.{◌≡◌, ◌≢◌, ◌⊎◌, inl, inr, ℕ, ◌+◌, ◌<◌, List, [], ◌∷◌, ◌++◌, length, refl, sym, ◌∙◌, ap, subst, arith, length-append, Option}
 use Rattle.snmp_wire.specs.Message.{VarBind}
 use Rattle.snmp_agent.specs.table.Table.{MibView, IsMibView, IsGet, IsNext}
 use Rattle.snmp_agent.specs.table.Listing.{variables}
@@ -20,7 +20,7 @@ use Rattle.snmp_walk.proofs.FullLemmas.{AreRoomy, IsFast, fast_few}
 use Rattle.snmp_walk.specs.Walk.{rest_of}
 use Rattle.snmp_walk.specs.Room.{HasRoomForEach}
 use Rattle.snmp_walk.proofs.SendLemmas.{Sends, AreUsed}
-use Rattle.snmp_walk.specs.Run.{Try, sent_by}
+use Rattle.snmp_walk.specs.Run.{IsEachSent, Try, sent_by}
 use Rattle.snmp_walk.specs.Request.{request_of}
 use Rattle.snmp_wire.specs.Canon.{canon}
 use Rattle.snmp_walk.specs.Traffic.{Traffic, Lost}
@@ -154,9 +154,11 @@ pub send_facts : Codec → (agents : Agents) (honest Roomy : Type 0) (tries : �
     → (honest → AreUsed old new × AreViews agents.tables × Reaches (IsNextFrom agents) (IsGotFrom agents) first w given
     × IsFast (IsNextFrom agents) (IsGotFrom agents) Roomy first given w.id w.phase)
     → (AreRoomy agents h.requests → Roomy)
+    → (before : List Try) × (last : Try) × (h.requests ≡ before ++ last ∷ []) × IsEachSent before × (end ≢ ending.Link → 0 < last.times)
     → (end ≡ ending.NoResponse → (before : List Try) × (last : Try) × (h.requests ≡ before ++ last ∷ []) × (last.times ≡ tries))
     → SendFacts agents honest tries old first rows end new
-send_facts codec agents honest Roomy tries old new first w rows given end fresh good h honestly less quiet = record {
+send_facts codec agents honest Roomy tries old new first w rows given end fresh good h honestly less each quiet = record {
+  each_sent = each;
   all_tries = quiet;
   requests = h.requests;
   sent = h.sent;

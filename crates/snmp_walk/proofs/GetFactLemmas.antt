@@ -67,10 +67,10 @@ use Rattle.snmp_walk.proofs.ViewLemmas.{view_of, only_one, get_name, get_value}
 use Rattle.snmp_walk.proofs.JoinLemmas.{get_one}
 use Rattle.snmp_walk.proofs.GotLemmas.{asked_alone}
 use Rattle.snmp_walk.proofs.GetEndLemmas.{GetEnds, gives, is_refused, fails, is_too_long, is_silent, is_cut, for_names, for_none, reason_of, took}
-use Rattle.snmp_walk.proofs.MoveLemmas.{moves_as, moves_none}
+use Rattle.snmp_walk.proofs.MoveLemmas.{moves_as, moves_none, tries_as}
 use Rattle.snmp_walk.specs.Link.{ComesOver}
 use Rattle.snmp_walk.specs.Missed.{AreMissed, IsNotAwaited}
-use Rattle.snmp_walk.specs.Moved.{IsMoved}
+use Rattle.snmp_walk.specs.Moved.{IsMoved, IsMovedByTries}
 use Rattle.snmp_walk.specs.Ran.{IsFreshAndHonest, IsGotOver, IsRun}
 use Rattle.snmp_walk.specs.declared.link.Link.{Ghosts as LinkFacts}
 
@@ -478,8 +478,17 @@ module _ {W S : Type 0} (facts : LinkFacts W) (link : W) (tries : ℕ) (communit
       let x = exchanged keeps in
       (x.times, x.few, subst (λ (t : List ℕ). (facts.traffic after).sent ≡ (facts.traffic link).sent ++ replicate x.times t) is x.sent, λ s. x.all (quiet s))
 
-  pub moved_none : (end : WalkEnd) → (end ≡ ending.Link → ⊥) → (tried : List (List ℕ)) × IsMoved facts link tried (end ≡ ending.Link) link
-  moved_none end fine = ([], moves_as facts (λ f. absurd f) fine (moves_none facts link))
+  abbrev HasMoved : W → WalkEnd → Type 0
+  HasMoved after end = (times : ℕ) × (times ≤ tries) × IsMoved facts link (replicate times (canon Asked)) (end ≡ ending.Link) after
+
+  pub moved_none : (end : WalkEnd) → (end ≡ ending.Link → ⊥) → HasMoved link end
+  moved_none end fine = (0, omega arith, moves_as facts (λ f. absurd f) fine (moves_none facts link))
+
+  -- the exchange of the request moved the link so
+  pub moved_so : (after : W) (end : WalkEnd) (q : List ℕ) (failed : Type 0) → q ≡ canon Asked → (failed → end ≡ ending.Link) → (end ≡ ending.Link → failed)
+      → IsMovedByTries facts link q tries failed after → HasMoved after end
+  moved_so after end q failed is there back moves =
+      let m = tries_as facts is there back moves in (m.0, m.1, m.3)
 
   -- without names
   pub got_none : names ≡ [] → IsRun takes before (ending.Done 0) before
@@ -510,7 +519,7 @@ module _ {W S : Type 0} (facts : LinkFacts W) (link : W) (tries : ℕ) (communit
       → (end ≡ ending.NoResponse → IsFreshAndHonest facts link → IsLostGet (facts.agents link) tries (facts.traffic link) (canon Asked) (facts.traffic after))
       → (65507 < length (canon Asked) → end ≡ ending.RequestTooLong)
       → (end ≡ ending.NoResponse → AreMissed facts.sends facts.brings facts.is_silent (IsNotAwaited community id) (canon Asked) tries link after)
-      → Sent after end → (tried : List (List ℕ)) × IsMoved facts link tried (end ≡ ending.Link) after
+      → Sent after end → HasMoved after end
       → IsRun takes before end sunk (λ given refused. IsGotOver facts link after tries community id names given refused end)
   got_over codec lawful some named own after sunk rows refused end ends lost long missed sent moved = record {
     rows = rows;

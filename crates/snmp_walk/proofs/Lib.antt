@@ -30,6 +30,7 @@ pub mod ArenaLemmas
 pub mod MemoryLemmas
 pub mod HearLemmas
 mod MissedLemmas
+pub mod TriedLemmas
 pub mod GetLemmas
 pub mod GotLemmas
 pub mod LawLemmas

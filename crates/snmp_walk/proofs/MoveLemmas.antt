@@ -1,9 +1,8 @@
 -- Moves of a link, one after another.
-use Rattle.std.proofs.Common.{◌≡◌, ℕ, zero, suc, ◌+◌, ◌-◌, ◌*◌, ◌≤◌, List, [], ◌∷◌, ◌++◌, length, replicate, refl, sym, ◌∙◌, ap, subst, arith}
+use Rattle.std.proofs.Common.{◌≡◌, ℕ, zero, suc, ◌+◌, ◌*◌, ◌≤◌, List, [], ◌∷◌, ◌++◌, length, replicate, refl, sym, ◌∙◌, ap, subst, arith}
 use Rattle.std.proofs.Common.{append-nil, append_assoc, length-append}
-use Rattle.std.proofs.Math.Nat.{suc-mul, mul-le-mul_left, mul-le-mul_right, add-mul}
+use Rattle.std.proofs.Math.Nat.{suc-mul}
 use Rattle.std.proofs.lemmas.Grind.{replicate_next}
-use Rattle.std.proofs.lemmas.List.{length-replicate}
 use Rattle.std.specs.Prelude.{Result, Ok, Err, IsErr, false, true}
 use Rattle.snmp_io.specs.Count.{HasRisen}
 use Rattle.snmp_walk.specs.Moves.{AreSent, Moves, octets_in}
@@ -12,11 +11,11 @@ use Rattle.snmp_walk.specs.declared.link.Link.{Ghosts as LinkFacts}
 
 -- ---- what was sent
 
-octets-append : (xs ys : List (List ℕ)) → octets_in (xs ++ ys) ≡ octets_in xs + octets_in ys
+pub octets-append : (xs ys : List (List ℕ)) → octets_in (xs ++ ys) ≡ octets_in xs + octets_in ys
 octets-append [] ys = omega arith
 octets-append (x ∷ xs) ys = let rest = octets-append xs ys in omega (arith, rest)
 
-octets-replicate : (n : ℕ) (q : List ℕ) → octets_in (replicate n q) ≡ n * length q
+pub octets-replicate : (n : ℕ) (q : List ℕ) → octets_in (replicate n q) ≡ n * length q
 octets-replicate zero q = omega arith
 octets-replicate (suc n) q = let rest = octets-replicate n q in let one = suc-mul n (length q) in omega (arith, rest, one)
 
@@ -59,7 +58,7 @@ ok_fine e = cc
 
 -- ---- how the link moved
 
-by_equal : (R : ℕ → ℕ → Type 0) (s t o p : ℕ) → s ≡ t → o ≡ p → R s o → R t p
+pub by_equal : (R : ℕ → ℕ → Type 0) (s t o p : ℕ) → s ≡ t → o ≡ p → R s o → R t p
 by_equal R s t o p e f h = subst (λ (x : ℕ). R x p) e (subst (R s) f h)
 
 module _ {W : Type 0} (facts : LinkFacts W) where
@@ -138,43 +137,4 @@ module _ {W : Type 0} (facts : LinkFacts W) where
   pub tries_as : {old new : W} {q r : List ℕ} {tries : ℕ} {failed other : Type 0} → q ≡ r → (failed → other) → (other → failed)
       → IsMovedByTries facts old q tries failed new → IsMovedByTries facts old r tries other new
   tries_as {old} {new} {q} {r} {tries} {failed} {other} e there back h =
-      (h.0, h.1, subst (λ (d : List ℕ). IsMoved facts old (replicate h.0 d) other new) e (moves_as there back h.2))
-
-  -- Requests of ids that rise by one, each tried so often at most and of at most 1,000 octets, moved the link: `to` is the id of the next.
-  pub record HasMoved (old : W) (tries from to : ℕ) (failed : Type 0) (now : W) : Type 0 where
-    pub tried : List (List ℕ)
-    pub moved : IsMoved facts old tried failed now
-    pub requests : ℕ
-    pub ids : to ≡ from + requests
-    pub few : length tried ≤ requests * tries
-    pub short : octets_in tried ≤ requests * tries * 1000
-
-  pub moved_first : (link : W) (tries from : ℕ) → HasMoved link tries from from ⊥ link
-  moved_first link tries from =
-      record { tried = []; moved = moves_none link; requests = 0; ids = omega arith; few = omega arith; short = omega arith }
-
-  pub moved_more : {old now new : W} {q : List ℕ} {tries from to : ℕ} {failed : Type 0} → HasMoved old tries from to ⊥ now
-      → IsMovedByTries facts now q tries failed new → length q ≤ 1000 → HasMoved old tries from (to + 1) failed new
-  moved_more {old} {now} {new} {q} {tries} h t size =
-      let n = h.requests in
-      let more : (n + 1) * tries ≡ n * tries + tries = add-mul n 1 tries ∙ (let one : n * tries + 1 * tries ≡ n * tries + tries = omega arith in one) in
-      let octets : (n + 1) * tries * 1000 ≡ n * tries * 1000 + tries * 1000 = ap (λ (k : ℕ). k * 1000) more ∙ add-mul (n * tries) tries 1000 in
-      let own : t.0 * length q ≤ t.0 * 1000 = mul-le-mul_left t.0 size in
-      let all : t.0 * 1000 ≤ tries * 1000 = mul-le-mul_right 1000 t.1 in
-      record {
-        tried = h.tried ++ replicate t.0 q;
-        moved = moves_on h.moved t.2;
-        requests = n + 1;
-        ids = omega (arith, h.ids);
-        few = omega (arith, more, h.few, t.1, length-append h.tried (replicate t.0 q), length-replicate t.0 q);
-        short = omega (arith, octets, own, all, h.short, octets-append h.tried (replicate t.0 q), octets-replicate t.0 q);
-      }
-
-  -- where it was ready for as many requests and one more, it didn't fail
-  pub moved_fine : {old new : W} {tries from to : ℕ} {failed : Type 0} → HasMoved old tries from to failed new → (k : ℕ) → to ≤ from + k + 2
-      → facts.ready old ((k + 3) * tries) ((k + 3) * tries * 1000) → failed → ⊥
-  moved_fine {old} {new} {tries} h k few_ids ready =
-      let most : h.requests * tries ≤ (k + 3) * tries = mul-le-mul_right tries (let least : h.requests ≤ k + 3 = omega (arith, h.ids, few_ids) in least) in
-      let octets : h.requests * tries * 1000 ≤ (k + 3) * tries * 1000 = mul-le-mul_right 1000 most in
-      (h.moved.ready ((k + 3) * tries - length h.tried) ((k + 3) * tries * 1000 - octets_in h.tried)
-      (by_equal (facts.ready old) ((k + 3) * tries) _ ((k + 3) * tries * 1000) _ (omega (arith, most, h.few)) (omega (arith, octets, h.short)) ready)).0
+      (h.0, h.1, h.2, subst (λ (d : List ℕ). IsMoved facts old (replicate h.0 d) other new) e (moves_as there back h.3))

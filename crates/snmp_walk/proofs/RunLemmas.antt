@@ -60,6 +60,7 @@ use Rattle.snmp_walk.proofs.SendLemmas.{
   sends_first,
   sends_at,
   sends_more,
+  each_push,
   one_left,
   one_right,
   AreUsed,
@@ -73,7 +74,7 @@ use Rattle.snmp_walk.proofs.RisingLemmas.{end_facts, read_end}
 use Rattle.snmp_walk.proofs.PartLemmas.{part_front}
 use Rattle.snmp_walk.proofs.FullLemmas.{AreRoomy, IsFast, fast_first, fast_on}
 use Rattle.snmp_walk.specs.Room.{HasRoomForAll}
-use Rattle.snmp_walk.specs.Run.{Try}
+use Rattle.snmp_walk.specs.Run.{IsEachSent, Try}
 use Rattle.snmp_wire.specs.Spelling.{Spells}
 use Rattle.snmp_walk.proofs.SinkLemmas.{given-append}
 use Rattle.snmp_walk.proofs.StandingLemmas.{taken, part_of_stage}
@@ -427,6 +428,7 @@ pub record Runs {S : Type 0} (takes : S → VarBind → Result (Unit {0}) SinkFa
   pub honestly : honest → AreViews agents.tables → old.sent ≡ [] → Reaches (IsNextFrom agents) (IsGotFrom agents) first w given
   pub earlier : keeps → old.sent ≡ [] → IsEarlier now.sent w
   pub sends : keeps → Sends tries first given old w.id now
+  pub each_sent : (k : keeps) → IsEachSent (sends k).requests
   pub used : honest → old.sent ≡ [] → AreUsed old now
   pub fast : (k : keeps) → honest → AreViews agents.tables → old.sent ≡ []
       → IsFast (IsNextFrom agents) (IsGotFrom agents) (AreRoomy agents (sends k).requests) first given w.id w.phase
@@ -443,6 +445,7 @@ runs_first takes Comes agents keeps honest tries first before old fresh = record
   honestly = λ h views none. fresh_stands (IsNextFrom agents) (IsGotFrom agents) first fresh;
   earlier = λ k none. earlier_first old.sent first none;
   sends = λ k. sends_first tries first old;
+  each_sent = λ k t one. absurd one;
   used = λ h none. used_first old;
   fast = λ k h views none. fast_first (IsNextFrom agents) (IsGotFrom agents) (AreRoomy agents []) first fresh;
 }
@@ -455,16 +458,18 @@ module _ {S : Type 0} (takes : S → VarBind → Result (Unit {0}) SinkFault →
   -- one more turn
   pub record RunsOn (v : Walker) (t : S) (later : Traffic) : Type 0 where
     pub runs : Runs takes Comes agents keeps honest tries first before old v t later
+    pub more : List VarBind
+    pub given : runs.given ≡ r.given ++ more
     pub id : v.id ≡ w.id + 1
     pub low : v.id < 2 ^ 31
 
   waits : is_over w.phase ≡ false
   waits = stands_waits Rises Named first w r.given r.stands
 
-  pub runs_on : Codec → (rows : List VarBind) (v : Walker) (t : S) (later : Traffic) (silent failed : Type 0)
+  pub runs_on : Codec → (rows : List VarBind) (v : Walker) (t : S) (later : Traffic) (silent failed : Type 0) → (failed → ⊥)
       → Turns takes Comes agents (here × IsEarlier now.sent w) w s rows None v t
       → (keeps → Exchanges agents (here × IsEarlier now.sent w) tries (canon (request_of w)) now silent failed later) → RunsOn v t later
-  runs_on codec rows v t later silent failed turn x =
+  runs_on codec rows v t later silent failed fine turn x =
       let gone = turned codec takes Comes agents (HasNone agents) (λ end u. Unit {0}) (here × IsEarlier now.sent w) first w before s t r.given r.sunk r.stands
       good r.later r.read rows v turn in
       record {
@@ -478,6 +483,7 @@ module _ {S : Type 0} (takes : S → VarBind → Result (Unit {0}) SinkFault →
           earlier = λ k none. earlier_more w v now.sent later.sent (x k).times good waits (omega (arith, gone.id)) (x k).sent (r.earlier k none);
           sends = λ k. sends_at tries first (r.given ++ rows) old (w.id + 1) v.id later (sym gone.id)
               (sends_more agents (here × IsEarlier now.sent w) silent failed tries first w r.given rows old now later good r.stands (r.sends k) (x k));
+          each_sent = λ k. each_push (r.sends k).requests (record { by = w; times = (x k).times }) (r.each_sent k) ((x k).some fine);
           fast = λ k h views none.
               let last : Try = record { by = w; times = (x k).times } in
               let before = r.honestly h views none in
@@ -490,6 +496,8 @@ module _ {S : Type 0} (takes : S → VarBind → Result (Unit {0}) SinkFault →
               × IsEarlier now.sent w) silent failed tries (canon (request_of w)) old now later (here_honest h, r.earlier (keeping h) none) (r.used h none) (x
               (keeping h));
         };
+        more = rows;
+        given = refl;
         id = gone.id;
         low = gone.low;
       }
@@ -542,12 +550,13 @@ module _ {S : Type 0} (takes : S → VarBind → Result (Unit {0}) SinkFault →
       → Turns takes Comes agents (here × IsEarlier now.sent w) w s rows (Some end) v t
       → (keeps → Exchanges agents (here × IsEarlier now.sent w) tries (canon (request_of w)) now (Some end ≡ Some ending.NoResponse)
       (Some end ≡ Some ending.Link) later)
-      → (Unheard : Walker → Type 0) → (end ≡ ending.NoResponse → Unheard w)
+      → (Unheard : List VarBind → Walker → Type 0) → (end ≡ ending.NoResponse → Unheard (r.given ++ rows) w)
+      → (Tried : List VarBind → Type 0) → Tried (r.given ++ rows)
       → (all : List VarBind) × (refused : List VarBind) × Took takes before all refused end t × IsPartOfWalk Rises Named first (all ++ refused)
       × (honest → old.sent ≡ [] → WalkFacts agents tries old first all refused end later)
       × (keeps → SendFacts agents (honest × (old.sent ≡ [])) tries old first all end later)
-      × EndFacts Comes (λ u. (keeps → IsLastSent tries end later u) × (end ≡ ending.NoResponse → Unheard u)) first all refused end
-  ran codec rows v t later end fresh some views turn x Unheard unheard =
+      × EndFacts Comes (λ u. (keeps → IsLastSent tries end later u) × (end ≡ ending.NoResponse → Unheard all u)) first all refused end × Tried all
+  ran codec rows v t later end fresh some views turn x Unheard unheard Tried tried =
       let sent : keeps → IsLastSent tries end later w = λ k. record {
         earlier = now.sent;
         times = (x k).times;
@@ -556,7 +565,7 @@ module _ {S : Type 0} (takes : S → VarBind → Result (Unit {0}) SinkFault →
         all = λ silent. (x k).all (ap Some silent);
       } in
       let done = over codec takes Comes agents (IsQuiet later)
-      (λ why u. (keeps → IsLastSent tries why later u) × (why ≡ ending.NoResponse → Unheard u)) (here × IsEarlier now.sent w)
+      (λ why u. (keeps → IsLastSent tries why later u) × (why ≡ ending.NoResponse → Unheard (r.given ++ rows) u)) (here × IsEarlier now.sent w)
       first w before s t r.given r.sunk r.stands good r.later r.read rows v end (sent, unheard)
       (λ silent k. λ h none. no_reply (Some end ≡ Some ending.NoResponse) (Some end ≡ Some ending.Link) later (ap Some silent) h none (x (keeping h))) turn in (
         r.given ++ rows,
@@ -580,8 +589,16 @@ module _ {S : Type 0} (takes : S → VarBind → Result (Unit {0}) SinkFault →
               r.honestly h.0 (views h.0) h.1,
               r.fast k h.0 (views h.0) h.1,
             )) (λ all u one. all u (one_left (r.sends k).requests (record { by = w; times = (x k).times } ∷ []) u one))
+            (let last : Try = record { by = w; times = (x k).times } in (
+              (r.sends k).requests,
+              last,
+              refl,
+              r.each_sent k,
+              λ other. (x k).some (λ e. other (same_some end ending.Link e)),
+            ))
             (λ silent. let last : Try = record { by = w; times = (x k).times } in ((r.sends k).requests, last, refl, (x k).all (ap Some silent))),
         done.ending,
+        tried,
       )
 
 -- a run over a link that is ready for all its requests has no fault of the link

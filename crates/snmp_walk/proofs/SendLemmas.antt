@@ -14,7 +14,7 @@ use Rattle.snmp_walk.specs.Standing.{IsStage, IsPaced, Reaches, Rises, Named}
 use Rattle.snmp_walk.specs.Link.{Agents, OneOf}
 use Rattle.snmp_walk.specs.Traffic.{Traffic}
 use Rattle.snmp_walk.specs.Heard.{Exchanges, IsSentBefore, IsEarlier}
-use Rattle.snmp_walk.specs.Run.{Try, sent_by, IsNameIn, AsksFor, Asks, AreTries}
+use Rattle.snmp_walk.specs.Run.{Try, sent_by, IsNameIn, AsksFor, Asks, AreTries, IsEachSent}
 use Rattle.snmp_walk.proofs.HearLemmas.{one_append, one_same}
 
 -- ---- names
@@ -99,6 +99,12 @@ sent_push [] t = append-nil (replicate t.times (canon (request_of t.by)))
 sent_push (u ∷ requests) t =
     ap (λ (s : List (List ℕ)). replicate u.times (canon (request_of u.by)) ++ s) (sent_push requests t)
     ∙ sym (append_assoc (replicate u.times (canon (request_of u.by))) (sent_by requests) (replicate t.times (canon (request_of t.by))))
+
+pub each_push : (requests : List Try) (t : Try) → IsEachSent requests → 0 < t.times → IsEachSent (requests ++ t ∷ [])
+each_push [] t each some u (inl same) = subst (λ (v : Try). 0 < v.times) (sym same) some
+each_push [] t each some u (inr never) = absurd never
+each_push (v ∷ requests) t each some u (inl same) = each u (inl same)
+each_push (v ∷ requests) t each some u (inr one) = each_push requests t (λ x o. each x (inr o)) some u one
 
 -- the requests before the waiting one
 pub record Sends (tries : ℕ) (first : Walker) (given : List VarBind) (old : Traffic) (next : ℕ) (now : Traffic) : Type 0 where

@@ -20,7 +20,7 @@ use Rattle.std.specs.Prelude.{
 use Rattle.snmp_walk.specs.declared.mode.Mode.{Mode}
 use Rattle.snmp_walk.specs.declared.mode.Mode.TheVariants as mode
 use Rattle.snmp_walk.specs.Traffic.{Traffic, Lost}
-use Rattle.snmp_walk.specs.Run.{Try, sent_by, AreTries}
+use Rattle.snmp_walk.specs.Run.{Try, sent_by, AreTries, IsEachSent}
 use Rattle.snmp_wire.specs.Message.{VarBind}
 use Rattle.snmp_wire.specs.Canon.{canon}
 use Rattle.snmp_walk.specs.declared.end.WalkEnd.{WalkEnd}
@@ -317,7 +317,10 @@ pub record SendFacts (agents : Agents) (honest : Type 0) (tries : ℕ) (old : Tr
   -- ids rise by one, and each request is sent at most this many times
   pub are_tries : AreTries tries first rows first.id requests
   pub few : first.id + length requests ≤ 2147483648
-  -- where no reply came, the last request was sent just as many times
+  -- each was sent at least once, unless the link failed at the first send of the last,
+  pub each_sent : (before : List Try) × (last : Try) × (requests ≡ before ++ last ∷ [])
+      × IsEachSent before × (end ≢ ending.Link → 0 < last.times)
+  -- and where no reply came, the last was sent just as many times
   pub all_tries : end ≡ ending.NoResponse → (before : List Try) × (last : Try)
       × (requests ≡ before ++ last ∷ []) × (last.times ≡ tries)
   -- at most 64 deliveries are used for each datagram sent

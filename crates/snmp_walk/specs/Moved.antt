@@ -1,6 +1,9 @@
 -- How a run moves its link.
-use Rattle.std.specs.Prelude.{◌≤◌, ℕ, List, replicate}
+use Rattle.std.specs.Prelude.{◌≤◌, ◌<◌, ℕ, List, replicate}
+use Rattle.snmp_wire.specs.Message.{VarBind}
 use Rattle.snmp_walk.specs.Moves.{Moves}
+use Rattle.snmp_walk.specs.Run.{AreTries, IsEachSent, Try, sent_by}
+use Rattle.snmp_walk.specs.Walker.{Walker}
 use Rattle.snmp_walk.specs.declared.link.Link.{Ghosts as LinkFacts}
 
 -- sends of these datagrams in turn, and receives, took the link from one state to the other, and
@@ -10,8 +13,18 @@ abbrev pub IsMoved : {W : Type 0} → LinkFacts W → W → (tried : List (List 
 IsMoved {W} facts old tried failed new = Moves facts.keeps facts.honest facts.agents facts.traffic
     facts.fault_count facts.ready old tried failed new
 
--- so did tries of this datagram, as many as `tries` at most
+-- so did tries of this datagram, one at least and as many as `tries` at most
 abbrev pub IsMovedByTries : {W : Type 0} → LinkFacts W → W → List ℕ → (tries : ℕ)
     → (failed : Type 0) → W → Type 0
 IsMovedByTries {W} facts old datagram tries failed new =
-    (times : ℕ) × (times ≤ tries) × IsMoved facts old (replicate times datagram) failed new
+    (times : ℕ) × (times ≤ tries) × (0 < times)
+    × IsMoved facts old (replicate times datagram) failed new
+
+-- so did requests of the walk that began as `first` and gave these rows: ids rise by one, and each
+-- was tried once at least and as many times as `tries` at most
+pub record IsMovedByRequests {W : Type 0} (facts : LinkFacts W) (tries : ℕ) (first : Walker)
+    (given : List VarBind) (old : W) (failed : Type 0) (new : W) : Type 0 where
+  pub requests : List Try
+  pub are_tries : AreTries tries first given first.id requests
+  pub each_tried : IsEachSent requests
+  pub moved : IsMoved facts old (sent_by requests) failed new

@@ -10,7 +10,7 @@ use Rattle.snmp_walk.specs.Facts.{EndFacts, IsLastSent, ReadyFacts, SendFacts, W
 use Rattle.snmp_walk.specs.Get.{AreForNames, GetFacts, IsBrought, IsReasonOfGet, get_request}
 use Rattle.snmp_walk.specs.Link.{ComesOver}
 use Rattle.snmp_walk.specs.Missed.{AreMissed, IsNotAwaited, MissesReply}
-use Rattle.snmp_walk.specs.Moved.{IsMoved}
+use Rattle.snmp_walk.specs.Moved.{IsMoved, IsMovedByRequests}
 use Rattle.snmp_walk.specs.Sink.{Took}
 use Rattle.snmp_walk.specs.Standing.{IsPartOfWalk, Named, Rises}
 use Rattle.snmp_walk.specs.Walker.{Walker}
@@ -39,7 +39,7 @@ pub record IsWalkedOver {W : Type 0} (facts : LinkFacts W) (link after : W) (tri
   pub ends : EndFacts (ComesOver facts.brings) (λ w.
       (facts.keeps link → IsLastSent tries end (facts.traffic after) w)
       × (end ≡ ending.NoResponse
-      → MissesReply facts tries first link after w)) first given refused end
+      → MissesReply facts tries first given link after w)) first given refused end
   -- over a link that keeps what is sent: which requests were sent, and how many times
   pub sent : facts.keeps link → SendFacts (facts.agents link) (IsFreshAndHonest facts link) tries
       (facts.traffic link) first given end (facts.traffic after)
@@ -50,8 +50,8 @@ pub record IsWalkedOver {W : Type 0} (facts : LinkFacts W) (link after : W) (tri
   -- and that it doesn't fail where it is ready for all that is sent
   pub ready : ReadyFacts (facts.agents link) (IsFreshAndHonest facts link) (facts.ready link) tries
       first end
-  -- the link moved, and failed where the walk ends because of it
-  pub moved : (tried : List (List ℕ)) × IsMoved facts link tried (end ≡ ending.Link) after
+  -- its requests moved the link, which failed where the walk ends because of it
+  pub moved : IsMovedByRequests facts tries first given link (end ≡ ending.Link) after
 
 -- What is known of a Get of names over a link, which was `link` before the Get and is `after` then.
 pub record IsGotOver {W : Type 0} (facts : LinkFacts W) (link after : W) (tries : ℕ)
@@ -73,5 +73,7 @@ pub record IsGotOver {W : Type 0} (facts : LinkFacts W) (link after : W) (tries 
   pub judged : IsFreshAndHonest facts link → GetFacts (facts.agents link) tries
       (facts.traffic link) (get_request community id names) names given refused end
       (facts.traffic after)
-  -- the link moved, and failed where the Get ends because of it
-  pub moved : (tried : List (List ℕ)) × IsMoved facts link tried (end ≡ ending.Link) after
+  -- tries of the request moved the link, which failed where the Get ends because of it
+  pub moved : (times : ℕ) × (times ≤ tries)
+      × IsMoved facts link (replicate times (canon (get_request community id names)))
+      (end ≡ ending.Link) after

@@ -41,7 +41,7 @@ use Rattle.snmp_walk.specs.Taken.{is_awaited, take_of, asked_for}
 use Rattle.snmp_walk.specs.Room.{HasRoomForAll}
 use Rattle.std.specs.List.{list_any}
 use Rattle.snmp_walk.specs.Standing.{IsReplyTo}
-use Rattle.snmp_walk.specs.Link.{Agents, IsNextFrom, IsGotFrom, IsTooLarge}
+use Rattle.snmp_walk.specs.Link.{Agents, OneOf, IsNextFrom, IsGotFrom, IsTooLarge}
 
 -- as many bindings as were asked for, or endOfMibView among them
 abbrev pub IsFull : Method → List VarBind → Type 0
@@ -104,6 +104,10 @@ pub record Try : Type 0 where
 abbrev pub sent_by : List Try → List (List ℕ)
 sent_by [] = []
 sent_by (t ∷ more) = replicate t.times (canon (request_of t.by)) ++ sent_by more
+
+-- each of these requests was sent at least once
+abbrev pub IsEachSent : List Try → Type 0
+IsEachSent requests = (t : Try) → OneOf requests t → 0 < t.times
 
 -- one of these rows has the name
 abbrev pub IsNameIn : List VarBind → List ℕ → Type 0

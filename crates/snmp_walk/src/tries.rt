@@ -126,8 +126,9 @@ fn hear<L: Link, W: Waiter, S: Sink>(
         (heard_of h end.new) waiter.new sink.new)) }
     ensures silent { IfOk result (λ course. IfNone course
         ((waiter.new ≡ waiter.old) × (sink.new ≡ sink.old))) }
-    ensures unanswered { IfOk result (λ course. IfNone course (IsMissed L.brings L.is_silent
-        (IsNotAwaited (W.community waiter.old) (W.id waiter.old)) 64 link.old link.new)) }
+    ensures unanswered { IfOk result (λ course. IfNone course ((received : List (List ℕ))
+        × IsMissed L.brings L.is_silent (IsNotAwaited (W.community waiter.old) (W.id waiter.old))
+        link.old received link.new)) }
     ensures cut_off { OnErr result ((waiter.new ≡ waiter.old) × (sink.new ≡ sink.old)) }
     ensures heard { (q : List ℕ) → L.honest link.old → latest (L.traffic link.old).sent ≡ Some q
         → IsAsked (L.agents link.old) (W.community waiter.old) (W.id waiter.old) q

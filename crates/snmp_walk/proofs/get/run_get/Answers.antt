@@ -5,10 +5,10 @@ use Rattle.snmp_walk.specs.Course.{heard_of}
 use Rattle.snmp_walk.specs.Missed.{IsNotAwaited, AreMissed}
 use Rattle.snmp_walk.specs.Ran.{IsFreshAndHonest}
 use Rattle.snmp_walk.proofs.GotLemmas.{brought, own}
-use Rattle.snmp_walk.proofs.MoveLemmas.{is_bad, moves_as, never_bad}
+use Rattle.snmp_walk.proofs.MoveLemmas.{is_bad, never_bad}
 use Rattle.snmp_walk.proofs.TurnLemmas.{if_some, if_silent, if_cut}
 use Rattle.snmp_walk.proofs.GetEndLemmas.{is_too_long, is_silent, is_cut, no_names, some_names}
-use Rattle.snmp_walk.proofs.GetFactLemmas.{got_none, got_over, lost_exchange, moved_none, sent_none, sent_so, short_enough, got_ends, got_ends_always}
+use Rattle.snmp_walk.proofs.GetFactLemmas.{got_none, got_over, lost_exchange, moved_none, moved_so, sent_none, sent_so, short_enough, got_ends, got_ends_always}
 use Rattle.snmp_walk.proofs.get.run_get.Goals as goal
 
 pub returns-then-is_empty : goal.returns-then-is_empty
@@ -43,7 +43,8 @@ returns-in-Ok-None g c =
     (if_silent c.exchange.result c.in-Ok-None.field-0 _ c.in-Ok-None.is c.in-Ok-None.field-0-is c.exchange.ensures.unanswered))
     (sent_so g.L.Link c.args.link.now (c.args.retries + 1) c.args.community.now c.args.id c.args.names.now g.S.Sink.takes c.args.sink.now
     c.exchange.new.link _ _ _ _ _ c.in-Some.ensures.some.1 (λ _. ap Ok c.in-Ok-None.field-0-is) c.in-Ok-None.ensures.exchanged)
-    (_, moves_as g.L.Link (λ bad. absurd (never_bad _ _ c.in-Ok-None.is bad)) (λ e. let no : ⊥ = cc in absurd no) c.exchange.ensures.moves.2)
+    (moved_so g.L.Link c.args.link.now (c.args.retries + 1) c.args.community.now c.args.id c.args.names.now g.S.Sink.takes c.args.sink.now c.exchange.new.link
+    _ _ _ c.in-Some.ensures.some.1 (λ bad. absurd (never_bad _ _ c.in-Ok-None.is bad)) (λ e. let no : ⊥ = cc in absurd no) c.exchange.ensures.moves)
 
 pub returns-in-Err : goal.returns-in-Err
 returns-in-Err g c =
@@ -54,7 +55,8 @@ returns-in-Err g c =
     (λ long. absurd (short_enough _ _ _ c.in-Some.ensures.some.0 c.in-Some.ensures.some.1 long)) (λ silent. let no : ⊥ = cc in absurd no)
     (sent_so g.L.Link c.args.link.now (c.args.retries + 1) c.args.community.now c.args.id c.args.names.now g.S.Sink.takes c.args.sink.now
     c.exchange.new.link _ _ _ _ _ c.in-Some.ensures.some.1 (λ silent. let no : ⊥ = cc in absurd no) c.exchange.ensures.exchanged)
-    (_, moves_as g.L.Link (λ _. refl) (λ _. is_bad _ _ c.in-Err.is) c.exchange.ensures.moves.2)
+    (moved_so g.L.Link c.args.link.now (c.args.retries + 1) c.args.community.now c.args.id c.args.names.now g.S.Sink.takes c.args.sink.now c.exchange.new.link
+    _ _ _ c.in-Some.ensures.some.1 (λ _. refl) (λ _. is_bad _ _ c.in-Err.is) c.exchange.ensures.moves)
 
 pub unreachable-requires : goal.unreachable-requires
 unreachable-requires g c =
@@ -90,4 +92,5 @@ returns g c =
     (λ long. absurd (short_enough _ _ _ c.in-Some.ensures.some.0 c.in-Some.ensures.some.1 long)) (λ silent. absurd (e.no_silence silent))
     (sent_so g.L.Link c.args.link.now (c.args.retries + 1) c.args.community.now c.args.id c.args.names.now g.S.Sink.takes c.args.sink.now
     c.exchange.new.link _ _ _ _ _ c.in-Some.ensures.some.1 (λ silent. absurd (e.no_silence silent)) c.exchange.ensures.exchanged)
-    (_, moves_as g.L.Link (λ bad. absurd (never_bad _ _ c.in-Ok-Some.is bad)) (λ link. absurd (e.no_link link)) c.exchange.ensures.moves.2)
+    (moved_so g.L.Link c.args.link.now (c.args.retries + 1) c.args.community.now c.args.id c.args.names.now g.S.Sink.takes c.args.sink.now c.exchange.new.link
+    _ _ _ c.in-Some.ensures.some.1 (λ bad. absurd (never_bad _ _ c.in-Ok-Some.is bad)) (λ link. absurd (e.no_link link)) c.exchange.ensures.moves)

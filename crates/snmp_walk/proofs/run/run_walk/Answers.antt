@@ -1,4 +1,4 @@
-use Rattle.std.proofs.Common.{◌≡◌, ◌≤◌, length, ◌+◌, ◌-◌, ◌*◌, ap, subst, sym, refl, ℕ, arith, Some, None}
+use Rattle.std.proofs.Common.{◌≡◌, ◌+◌, ◌++◌, List, ap, subst, sym, refl, ℕ, arith, Some, None}
 use Rattle.snmp_wire.specs.Canon.{canon}
 use Rattle.snmp_walk.specs.Request.{request_of}
 use Rattle.snmp_walk.specs.Link.{Agents, ComesOver}
@@ -7,21 +7,19 @@ use Rattle.snmp_walk.specs.Run.{Turns}
 use Rattle.snmp_walk.specs.Missed.{MissesReply}
 use Rattle.snmp_walk.specs.declared.end.WalkEnd.TheVariants as ending
 use Rattle.snmp_walk.proofs.RunLemmas.{runs_first, runs_on, ran, ready_facts}
-use Rattle.snmp_walk.proofs.MoveLemmas.{HasMoved, moved_first, moved_more, moved_fine, moves_as, tries_as}
+use Rattle.snmp_walk.specs.Moved.{IsMovedByRequests}
+use Rattle.snmp_walk.proofs.MoveLemmas.{tries_as}
+use Rattle.snmp_walk.proofs.TriedLemmas.{HasMoved, moved_first, moved_given, moved_more, moved_fine, requests_as}
+use Rattle.snmp_wire.specs.Message.{VarBind}
 use Rattle.snmp_walk.proofs.RequestLemmas.{request_short}
 use Rattle.snmp_walk.proofs.TurnLemmas.{no_link_end, same_end}
 use Rattle.snmp_walk.proofs.run.run_walk.Goals as goal
-
-few_before : (count requests tries from to : ℕ) → to ≡ from + requests → count ≤ requests * tries → count ≤ (to - from) * tries
-few_before count requests tries from to ids few =
-    let same : requests ≡ to - from = omega (arith, ids) in
-    subst (λ (n : ℕ). count ≤ n * tries) same few
 
 pub turns-init : goal.turns-init
 turns-init g c = record {
   runs = runs_first g.S.Sink.takes (ComesOver g.L.Link.brings) _ _ _ (c.args.retries + 1) c.args.core c.args.sink.now (g.L.Link.traffic c.args.link.now)
       c.requires;
-  has_moved = moved_first g.L.Link c.args.link.now (c.args.retries + 1) c.args.core.id;
+  has_moved = moved_first g.L.Link c.args.link.now (c.args.retries + 1) c.args.core _;
 }
 
 pub returns-in-Ends : goal.returns-in-Ends
@@ -32,28 +30,28 @@ returns-in-Ends g c =
     let same = subst (λ (a : Agents). Turns g.S.Sink.takes (ComesOver g.L.Link.brings) a (g.L.Link.honest c.turns.link
     × IsEarlier (g.L.Link.traffic c.turns.link).sent c.turns.core) c.turns.core c.turns.sink t.0
     (Some c.turn.new.end) c.turn.new.core c.turn.new.sink)
-    inv.has_moved.moved.agents t.1 in
+    inv.has_moved.by.moved.agents t.1 in
+    let moved = moved_more g.L.Link (c.args.retries + 1) c.args.core c.turns.core inv.runs.given t.0 c.turn.ensures.walker inv.runs.stands inv.has_moved
+    c.in-Ends.ensures.moves (request_short c.turns.core c.turn.ensures.walker.community c.turn.ensures.walker.identifier.short) in
     let r = ran g.S.Sink.takes (ComesOver g.L.Link.brings) agents (g.L.Link.keeps c.args.link.now) (g.L.Link.honest c.args.link.now)
     (g.met.L.Link.keeping c.args.link.now)
     (c.args.retries + 1) c.args.core c.args.sink.now
     (g.L.Link.traffic c.args.link.now) c.turns.core c.turns.sink (g.L.Link.traffic c.turns.link) inv.runs c.turn.ensures.walker
-    (g.L.Link.honest c.turns.link) inv.has_moved.moved.honest c.codec.ensures t.0 c.turn.new.core c.turn.new.sink
+    (g.L.Link.honest c.turns.link) inv.has_moved.by.moved.honest c.codec.ensures t.0 c.turn.new.core c.turn.new.sink
     (g.L.Link.traffic c.turn.new.link) c.turn.new.end c.requires (omega arith) (λ h. (g.met.L.Link.lawful c.args.link.now h).views) same
     (λ k. subst (λ (a : Agents). Exchanges a (g.L.Link.honest c.turns.link
     × IsEarlier (g.L.Link.traffic c.turns.link).sent c.turns.core) (c.args.retries + 1) (canon (request_of c.turns.core)) (g.L.Link.traffic c.turns.link)
-    (Some c.turn.new.end ≡ Some ending.NoResponse) (Some c.turn.new.end ≡ Some ending.Link) (g.L.Link.traffic c.turn.new.link)) inv.has_moved.moved.agents
-    (c.in-Ends.ensures.exchanged (inv.has_moved.moved.keeps k)))
-    (MissesReply g.L.Link (c.args.retries + 1) c.args.core c.args.link.now c.turn.new.link)
+    (Some c.turn.new.end ≡ Some ending.NoResponse) (Some c.turn.new.end ≡ Some ending.Link) (g.L.Link.traffic c.turn.new.link)) inv.has_moved.by.moved.agents
+    (c.in-Ends.ensures.exchanged (inv.has_moved.by.moved.keeps k)))
+    (λ given w. MissesReply g.L.Link (c.args.retries + 1) c.args.core given c.args.link.now c.turn.new.link w)
     (λ silent. record {
       before = c.turns.link;
-      tried = inv.has_moved.tried;
-      moved = inv.has_moved.moved;
-      few = few_before (length inv.has_moved.tried) inv.has_moved.requests (c.args.retries + 1) c.args.core.id c.turns.core.id inv.has_moved.ids
-          inv.has_moved.few;
+      moved = moved_given g.L.Link (c.args.retries + 1) c.args.core inv.runs.given t.0 inv.has_moved.by;
+      next = inv.has_moved.ids;
       missed = c.in-Ends.ensures.unanswered (ap Some silent);
-    }) in
-    let moved = moved_more g.L.Link inv.has_moved c.in-Ends.ensures.moves
-    (request_short c.turns.core c.turn.ensures.walker.community c.turn.ensures.walker.identifier.short) in
+    })
+    (λ given. IsMovedByRequests g.L.Link (c.args.retries + 1) c.args.core given c.args.link.now (Some c.turn.new.end ≡ Some ending.Link) c.turn.new.link)
+    moved.by in
     record {
       rows = r.0;
       refused = r.1;
@@ -66,8 +64,10 @@ returns-in-Ends g c =
         ready = ready_facts c.codec.ensures g.S.Sink.takes (ComesOver g.L.Link.brings) agents (g.L.Link.keeps c.args.link.now)
             (g.L.Link.honest c.args.link.now) (c.args.retries + 1) c.args.core c.args.sink.now (g.L.Link.traffic c.args.link.now) c.turns.core c.turns.sink
             (g.L.Link.traffic c.turns.link) inv.runs c.requires (λ h. (g.met.L.Link.lawful c.args.link.now h).views) (g.L.Link.ready c.args.link.now)
-            c.turn.new.end (λ k few ready link. moved_fine g.L.Link moved k (omega (arith, few)) ready (ap Some link));
-        moved = (moved.tried, moves_as g.L.Link (same_end c.turn.new.end ending.Link) (ap Some) moved.moved);
+            c.turn.new.end
+            (λ k few ready link. moved_fine g.L.Link (c.args.retries + 1) c.args.core (inv.runs.given ++ t.0) (c.turns.core.id + 1) moved k
+            (omega (arith, few)) ready (ap Some link));
+        moved = requests_as g.L.Link (same_end c.turn.new.end ending.Link) (ap Some) r.7;
       };
     }
 
@@ -78,17 +78,17 @@ turns-smaller g c =
     let t = c.in-GoesOn.ensures.turns in
     let same = subst (λ (a : Agents). Turns g.S.Sink.takes (ComesOver g.L.Link.brings) a (g.L.Link.honest c.turns.link
     × IsEarlier (g.L.Link.traffic c.turns.link).sent c.turns.core) c.turns.core c.turns.sink t.0 None c.turn.new.core c.turn.new.sink)
-    inv.has_moved.moved.agents t.1 in
+    inv.has_moved.by.moved.agents t.1 in
     let on = runs_on g.S.Sink.takes (ComesOver g.L.Link.brings) agents (g.L.Link.keeps c.args.link.now) (g.L.Link.honest c.args.link.now)
     (g.met.L.Link.keeping c.args.link.now)
     (c.args.retries + 1) c.args.core c.args.sink.now
     (g.L.Link.traffic c.args.link.now) c.turns.core c.turns.sink (g.L.Link.traffic c.turns.link) inv.runs c.turn.ensures.walker
-    (g.L.Link.honest c.turns.link) inv.has_moved.moved.honest c.codec.ensures t.0 c.turn.new.core c.turn.new.sink
-    (g.L.Link.traffic c.turn.new.link) (None ≡ Some ending.NoResponse) (None ≡ Some ending.Link) same
+    (g.L.Link.honest c.turns.link) inv.has_moved.by.moved.honest c.codec.ensures t.0 c.turn.new.core c.turn.new.sink
+    (g.L.Link.traffic c.turn.new.link) (None ≡ Some ending.NoResponse) (None ≡ Some ending.Link) no_link_end same
     (λ k. subst (λ (a : Agents). Exchanges a (g.L.Link.honest c.turns.link
     × IsEarlier (g.L.Link.traffic c.turns.link).sent c.turns.core) (c.args.retries + 1) (canon (request_of c.turns.core)) (g.L.Link.traffic c.turns.link)
-    (None ≡ Some ending.NoResponse) (None ≡ Some ending.Link) (g.L.Link.traffic c.turn.new.link)) inv.has_moved.moved.agents
-    (c.in-GoesOn.ensures.exchanged (inv.has_moved.moved.keeps k))) in
+    (None ≡ Some ending.NoResponse) (None ≡ Some ending.Link) (g.L.Link.traffic c.turn.new.link)) inv.has_moved.by.moved.agents
+    (c.in-GoesOn.ensures.exchanged (inv.has_moved.by.moved.keeps k))) in
     let id = on.id in
     let low = on.low in
     omega (arith, id, low)
@@ -100,20 +100,23 @@ turns-preserved g c =
     let t = c.in-GoesOn.ensures.turns in
     let same = subst (λ (a : Agents). Turns g.S.Sink.takes (ComesOver g.L.Link.brings) a (g.L.Link.honest c.turns.link
     × IsEarlier (g.L.Link.traffic c.turns.link).sent c.turns.core) c.turns.core c.turns.sink t.0 None c.turn.new.core c.turn.new.sink)
-    inv.has_moved.moved.agents t.1 in
+    inv.has_moved.by.moved.agents t.1 in
     let on = runs_on g.S.Sink.takes (ComesOver g.L.Link.brings) agents (g.L.Link.keeps c.args.link.now) (g.L.Link.honest c.args.link.now)
     (g.met.L.Link.keeping c.args.link.now)
     (c.args.retries + 1) c.args.core c.args.sink.now
     (g.L.Link.traffic c.args.link.now) c.turns.core c.turns.sink (g.L.Link.traffic c.turns.link) inv.runs c.turn.ensures.walker
-    (g.L.Link.honest c.turns.link) inv.has_moved.moved.honest c.codec.ensures t.0 c.turn.new.core c.turn.new.sink
-    (g.L.Link.traffic c.turn.new.link) (None ≡ Some ending.NoResponse) (None ≡ Some ending.Link) same
+    (g.L.Link.honest c.turns.link) inv.has_moved.by.moved.honest c.codec.ensures t.0 c.turn.new.core c.turn.new.sink
+    (g.L.Link.traffic c.turn.new.link) (None ≡ Some ending.NoResponse) (None ≡ Some ending.Link) no_link_end same
     (λ k. subst (λ (a : Agents). Exchanges a (g.L.Link.honest c.turns.link
     × IsEarlier (g.L.Link.traffic c.turns.link).sent c.turns.core) (c.args.retries + 1) (canon (request_of c.turns.core)) (g.L.Link.traffic c.turns.link)
-    (None ≡ Some ending.NoResponse) (None ≡ Some ending.Link) (g.L.Link.traffic c.turn.new.link)) inv.has_moved.moved.agents
-    (c.in-GoesOn.ensures.exchanged (inv.has_moved.moved.keeps k))) in
+    (None ≡ Some ending.NoResponse) (None ≡ Some ending.Link) (g.L.Link.traffic c.turn.new.link)) inv.has_moved.by.moved.agents
+    (c.in-GoesOn.ensures.exchanged (inv.has_moved.by.moved.keeps k))) in
     record {
       runs = on.runs;
-      has_moved = subst (λ (n : ℕ). HasMoved g.L.Link c.args.link.now (c.args.retries + 1) c.args.core.id n ⊥ c.turn.new.link) (sym on.id)
-          (moved_more g.L.Link inv.has_moved (tries_as g.L.Link refl no_link_end (λ f. absurd f) c.in-GoesOn.ensures.moves)
-          (request_short c.turns.core c.turn.ensures.walker.community c.turn.ensures.walker.identifier.short));
+      has_moved = subst (λ (n : ℕ). HasMoved g.L.Link c.args.link.now (c.args.retries + 1) c.args.core on.runs.given n ⊥ c.turn.new.link) (sym on.id)
+          (subst (λ (rows : List VarBind). HasMoved g.L.Link c.args.link.now (c.args.retries + 1) c.args.core rows (c.turns.core.id + 1) ⊥ c.turn.new.link)
+          (sym on.given)
+          (moved_more g.L.Link (c.args.retries + 1) c.args.core c.turns.core inv.runs.given on.more c.turn.ensures.walker inv.runs.stands inv.has_moved
+          (tries_as g.L.Link refl no_link_end (λ f. absurd f) c.in-GoesOn.ensures.moves)
+          (request_short c.turns.core c.turn.ensures.walker.community c.turn.ensures.walker.identifier.short)));
     }

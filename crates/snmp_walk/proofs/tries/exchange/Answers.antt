@@ -14,8 +14,8 @@ use Rattle.snmp_walk.specs.Heard.{IsAsked, Hears, Exchanges}
 use Rattle.snmp_walk.specs.Moved.{IsMoved}
 use Rattle.snmp_walk.proofs.HearLemmas.{Missing, missing_first, missing_more, missing_all, missing_used, heard_more, try_sent, tries_sent, shown}
 use Rattle.snmp_walk.proofs.MoveLemmas.{is_bad, never_bad, ok_fine, sent_all, sent_none, moves_none, moves_on, moves_as, went, tries_on}
-use Rattle.snmp_walk.specs.Missed.{IsNotAwaited, IsMissed}
-use Rattle.snmp_walk.proofs.MissedLemmas.{tries_first, tries_more, tries_all}
+use Rattle.snmp_walk.specs.Missed.{AreMissed, IsNotAwaited, IsMissed}
+use Rattle.snmp_walk.proofs.MissedLemmas.{tries_first, tries_more}
 use Rattle.snmp_walk.proofs.TurnLemmas.{if_some, if_silent, if_cut}
 use Rattle.snmp_walk.proofs.tries.exchange.Goals as goal
 
@@ -40,10 +40,10 @@ read_now Comes Of Reply community id reads takes v w s t new after o h end e f i
     }
 
 not_awaited : {L W : Type 0} (brings : L → List ℕ → L → Type 0) (is_silent : L → L → Type 0) (community : W → List ℕ) (id : W → ℕ) (v w : W) (sent heard : L)
-    → v ≡ w → IsMissed brings is_silent (IsNotAwaited (community v) (id v)) 64 sent heard
-    → IsMissed brings is_silent (IsNotAwaited (community w) (id w)) 64 sent heard
+    → v ≡ w → (received : List (List ℕ)) × IsMissed brings is_silent (IsNotAwaited (community v) (id v)) sent received heard
+    → (received : List (List ℕ)) × IsMissed brings is_silent (IsNotAwaited (community w) (id w)) sent received heard
 not_awaited brings is_silent community id v w sent heard e h =
-    subst (λ x. IsMissed brings is_silent (IsNotAwaited (community x) (id x)) 64 sent heard) e h
+    (h.0, subst (λ x. IsMissed brings is_silent (IsNotAwaited (community x) (id x)) sent h.0 heard) e h.1)
 
 -- the request was sent once more, and then the link moved without sending: a reply came, or the link failed
 module _ {L W : Type 0} (facts : LinkFacts L) (keeping : (link : L) → facts.honest link → facts.keeps link) (community : W → List ℕ) (id : W → ℕ) (v w : W)
@@ -109,8 +109,9 @@ tries-preserved g c =
 pub returns-clause-unanswered : goal.returns-clause-unanswered
 returns-clause-unanswered g c =
     let all : c.tries.counter ≡ c.args.retries + 1 = omega arith in
-    tries_all g.L.Link.sends g.L.Link.brings g.L.Link.is_silent (IsNotAwaited (g.W.Waiter.community c.args.waiter.now) (g.W.Waiter.id c.args.waiter.now))
-    c.args.request.now c.tries.counter (c.args.retries + 1) c.args.link.now c.tries.link all c.tries.invariant.missing
+    subst (λ (n : ℕ). AreMissed g.L.Link.sends g.L.Link.brings g.L.Link.is_silent
+    (IsNotAwaited (g.W.Waiter.community c.args.waiter.now) (g.W.Waiter.id c.args.waiter.now)) c.args.request.now n c.args.link.now c.tries.link) all
+    c.tries.invariant.missing
 
 pub returns-in-Some-clause-read : goal.returns-in-Some-clause-read
 returns-in-Some-clause-read g c =
@@ -127,6 +128,7 @@ pub returns-in_err-send-clause-moves : goal.returns-in_err-send-clause-moves
 returns-in_err-send-clause-moves g c = (
   c.tries.counter + 1,
   omega arith,
+  omega arith,
   tries_on g.L.Link c.tries.counter c.tries.invariant.moved
       (moves_as g.L.Link (λ f. c.from_residual.ensures.0) (λ f. is_bad _ _ c.in_err-send.was) c.send.ensures.moves),
 )
@@ -135,6 +137,7 @@ pub returns-in_err-course-clause-moves : goal.returns-in_err-course-clause-moves
 returns-in_err-course-clause-moves g c =
     let sent = went g.L.Link (never_bad _ _ c.in_ok-send.was) c.send.ensures.moves in (
       c.tries.counter + 1,
+      omega arith,
       omega arith,
       tries_on g.L.Link c.tries.counter c.tries.invariant.moved (moves_on g.L.Link sent
           (moves_as g.L.Link (λ f. c.from_residual-in_err-course.ensures.0) (λ f. is_bad _ _ c.in_err-course.was) c.hear.ensures.moves)),
@@ -145,12 +148,13 @@ returns-in-Some-clause-moves g c =
     let sent = went g.L.Link (never_bad _ _ c.in_ok-send.was) c.send.ensures.moves in (
       c.tries.counter + 1,
       omega arith,
+      omega arith,
       tries_on g.L.Link c.tries.counter c.tries.invariant.moved (moves_on g.L.Link sent
           (moves_as g.L.Link (λ f. absurd (never_bad _ _ c.in_ok-course.was f)) (λ f. absurd (ok_fine f)) c.hear.ensures.moves)),
     )
 
 pub returns-clause-moves : goal.returns-clause-moves
-returns-clause-moves g c = (c.tries.counter, omega arith, moves_as g.L.Link (λ f. absurd f) (λ f. absurd (ok_fine f)) c.tries.invariant.moved)
+returns-clause-moves g c = (c.tries.counter, omega arith, omega arith, moves_as g.L.Link (λ f. absurd f) (λ f. absurd (ok_fine f)) c.tries.invariant.moved)
 
 pub returns-in_err-send-clause-exchanged : goal.returns-in_err-send-clause-exchanged
 returns-in_err-send-clause-exchanged g c = λ keeps.
