@@ -42,67 +42,60 @@ use Rattle.snmp_walk.specs.declared.end.WalkEnd.TheVariants as ending
 use Rattle.snmp_walk.specs.declared.rows.Step.{Step}
 use Rattle.snmp_walk.specs.declared.rows.Step.TheVariants as step
 use Rattle.snmp_walk.specs.Names.{is_inside, is_end, is_missing, comes_after}
-use Rattle.snmp_walk.specs.Trail.{last_name, IsTrail, IsAtEnd, AreLawfulReplies}
+use Rattle.snmp_walk.specs.Trail.{last_name, IsTrail, IsAtEnd}
 use Rattle.snmp_walk.specs.Walker.{Walker}
-use Rattle.snmp_walk.specs.Taken.{
-  is_awaited,
-  is_plain,
-  inside_front,
-  rising_front,
-  name_at,
-  asked_for,
-  stops,
-  goes_on,
-  closes,
-  reads,
-  reads_next,
-  got,
-  if_present,
-  reads_first,
-  reads_last,
-  reads_for,
-  reads_reply,
-  take_of,
-}
+use Rattle.snmp_walk.specs.Taken.{is_awaited, is_plain, inside_front, rising_front, name_at, stops, goes_on, closes, reads, reads_next, got, if_present, reads_first, reads_last, reads_for, reads_reply, take_of}
 use Rattle.snmp_walk.specs.Standing.{IsGiven, IsPartOfWalk, IsStage, IsPaced, Reaches, Advances, Rises, Named, IsReplyEnd, CountsAll, AdvancesAnyhow}
 use Rattle.snmp_walk.proofs.StandingLemmas.{part_of_stage, closed, given_more, more_pace, reads_root, reads_alone, root_is}
+use Rattle.snmp_walk.specs.Request.{asked_for}
+use Rattle.snmp_walk.proofs.RowLemmas.{AreLawfulReplies}
+use Rattle.snmp_oid.specs.Identifier.{Precedes}
+use Rattle.snmp_walk.proofs.TestLemmas.{after_test, end_test, inside_decided, miss_test, no_end, no_miss}
 
 -- no binding is said to be large here
 abbrev Small : ℕ → VarBind → Type 0
 Small id p = Unit {0}
 
 pub rising_answers : AreLawfulReplies Rises Named
-rising_answers = record { rises = λ o p h. h.0; is_value = λ o p h. h.1; same_name = λ o p h. h.0; is_answer = λ o p h. h.1 }
+rising_answers = record {
+  rises = λ o p h e. after_test o p.name (h.0 (no_end p.value e));
+  is_value = λ o p h. miss_test p h.1;
+  same_name = λ o p h. h.0;
+  is_answer = λ o p h. end_test p.value h.1;
+}
 
 -- the rows of any reply are a trail of rising names
-trail_first : (root o : List ℕ) (p : VarBind) (inside : List VarBind) (is_in up : Bool) → is_inside root p ≡ is_in → comes_after o p.name ≡ up
-    → is_missing p.value ≡ false
-    → IsTrail Rises root p.name (rising_front p.name inside)
-    → IsTrail Rises root o (cond is_in (cond up (p ∷ rising_front p.name inside) []) [])
-trail_first root o p inside true true e u v h = (((λ _. u), v), e, h)
-trail_first root o p inside true false e u v h = tt
-trail_first root o p inside false up e u v h = tt
+module _ (precedes : (o p : List ℕ) → comes_after o p ≡ true → Precedes o p) where
+  trail_first : (root o : List ℕ) (p : VarBind) (inside : List VarBind) (is_in up : Bool) → is_inside root p ≡ is_in → comes_after o p.name ≡ up
+      → is_missing p.value ≡ false
+      → IsTrail Rises root p.name (rising_front p.name inside)
+      → IsTrail Rises root o (cond is_in (cond up (p ∷ rising_front p.name inside) []) [])
+  trail_first root o p inside true true e u v h = (((λ _. precedes o p.name u), no_miss p v), (inside_decided root p).0 e, h)
+  trail_first root o p inside true false e u v h = tt
+  trail_first root o p inside false up e u v h = tt
 
-rising_first : (o : List ℕ) (p : VarBind) (inside : List VarBind) (is_in : Bool)
-    → cond is_in (cond (comes_after o p.name) (p ∷ rising_front p.name inside) []) [] ≡ rising_front o (cond is_in (p ∷ inside) [])
-rising_first o p inside true = refl
-rising_first o p inside false = refl
+  rising_first : (o : List ℕ) (p : VarBind) (inside : List VarBind) (is_in : Bool)
+      → cond is_in (cond (comes_after o p.name) (p ∷ rising_front p.name inside) []) [] ≡ rising_front o (cond is_in (p ∷ inside) [])
+  rising_first o p inside true = refl
+  rising_first o p inside false = refl
 
-pub rising_trail : (root o : List ℕ) (bindings : List VarBind) → list_any (λ p. is_missing p.value) bindings ≡ false
-    → IsTrail Rises root o (rising_front o (inside_front root bindings))
-rising_trail root o [] v = tt
-rising_trail root o (p ∷ more) v =
-    let parts = or_parts (is_missing p.value) (list_any (λ q. is_missing q.value) more) v in
-    let first = trail_first root o p (inside_front root more) (is_inside root p) (comes_after o p.name) refl refl parts.0
-    (rising_trail root p.name more parts.1) in
-    let Q : List VarBind → Type 0 = λ inside. IsTrail Rises root o (rising_front o inside) in
-    subst Q (sym (take_while-cons (is_inside root) p more)) (subst (IsTrail Rises root o) (rising_first o p (inside_front root more) (is_inside root p)) first)
+  pub rising_trail : (root o : List ℕ) (bindings : List VarBind) → list_any (λ p. is_missing p.value) bindings ≡ false
+      → IsTrail Rises root o (rising_front o (inside_front root bindings))
+  rising_trail root o [] v = tt
+  rising_trail root o (p ∷ more) v =
+      let parts = or_parts (is_missing p.value) (list_any (λ q. is_missing q.value) more) v in
+      let first = trail_first root o p (inside_front root more) (is_inside root p) (comes_after o p.name) refl refl parts.0
+      (rising_trail root p.name more parts.1) in
+      let Q : List VarBind → Type 0 = λ inside. IsTrail Rises root o (rising_front o inside) in
+      subst Q (sym (take_while-cons (is_inside root) p more)) (subst (IsTrail Rises root o) (rising_first o p (inside_front root more) (is_inside root p)) first)
 
 -- any name is at the end of what might be answered
 anywhere : (root o : List ℕ) → IsAtEnd Rises root o
-anywhere root o = (record { name = o; value = end_of_mib_view }, ((λ e. let no : ⊥ = cc in absurd no), refl), refl)
+anywhere root o =
+    let last : VarBind = record { name = o; value = end_of_mib_view } in
+    (last, ((λ value. absurd (value refl)), no_miss last refl), (λ inside. inside.value refl))
 
-module _ (first : Walker) where
+module _ (precedes : (o p : List ℕ) → comes_after o p ≡ true → Precedes o p) (first : Walker) where
   abbrev Advances_anyhow : Walker → List VarBind → Step × Walker → Type 0
   Advances_anyhow old given s = AdvancesAnyhow first old given s.0 s.1
 
@@ -173,7 +166,7 @@ module _ (first : Walker) where
       let rows = rising_front old.asked (inside_front old.root bindings) in
       let trail : IsTrail Rises first.root old.asked rows =
       subst (λ (r : List ℕ). IsTrail Rises r old.asked rows) (root_is Rises Named Small rising_answers first old given h)
-      (rising_trail old.root old.asked bindings v) in
+      (rising_trail precedes old.root old.asked bindings v) in
       let after : IsGiven Rises Named first (given ++ rows)
       (last_name old.asked rows) = given_more Rises Named Small rising_answers first given rows old.asked before trail in
       let falls : WalkEnd = ending.NotIncreasing (last_name old.asked rows) (name_at (inside_front old.root bindings) (length rows)) in
@@ -204,7 +197,7 @@ module _ (first : Walker) where
   got_by o b true p e h =
       let parts = and_parts (pointwise nat_eq b.name o) (not (is_end b.value)) (sym e) in
       let same : b ≡ p = cc in
-      subst (Named o) same (same_text b.name o (sym parts.0), not-true _ parts.1)
+      subst (Named o) same (same_text b.name o (sym parts.0), no_end b.value (not-true _ parts.1))
   got_by o b false p e h = let no : ⊥ = cc in absurd no
 
   got_named : (o : List ℕ) (bindings : List VarBind) (p : VarBind) → got o bindings ≡ Some p → Named o p

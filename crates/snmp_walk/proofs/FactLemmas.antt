@@ -6,11 +6,11 @@ use Rattle.snmp_agent.specs.table.Listing.{variables}
 use Rattle.snmp_walk.specs.declared.end.WalkEnd.{WalkEnd}
 use Rattle.snmp_walk.specs.declared.end.WalkEnd.TheVariants as ending
 use Rattle.snmp_walk.specs.Walker.{Walker, IsWalker}
-use Rattle.snmp_walk.specs.Standing.{Reaches, IsPartOfWalk, IsWholeWalk, IsOneTable}
+use Rattle.snmp_walk.specs.Standing.{Reaches, IsPartOfWalk, IsWholeWalk}
 use Rattle.snmp_walk.specs.Link.{Agents, OneOf, IsNextFrom, IsGotFrom, AreViews, IsUnanswered}
 use Rattle.snmp_walk.specs.Facts.{IsFresh, IsLastSent, IsEndedBy, IsLawfulEnd, HasNoReply, HasNone, IsDone, TableFacts, WalkFacts, SendFacts}
 use Rattle.snmp_walk.specs.Codec.{Codec}
-use Rattle.snmp_walk.proofs.JoinLemmas.{variables_rise, variables_are, next_first, get_one, get_row}
+use Rattle.snmp_walk.proofs.JoinLemmas.{variables_rise, variables_are, next_first, get_one, get_row, after_precedes}
 use Rattle.snmp_walk.proofs.TableLemmas.{part_is, whole_is}
 use Rattle.snmp_walk.proofs.ViewLemmas.{only_one}
 use Rattle.snmp_walk.proofs.SwiftLemmas.{left_end, swift_end, few_in, trail_in_rest}
@@ -24,6 +24,9 @@ use Rattle.snmp_walk.specs.Run.{IsEachSent, Try, sent_by}
 use Rattle.snmp_walk.specs.Request.{request_of}
 use Rattle.snmp_wire.specs.Canon.{canon}
 use Rattle.snmp_walk.specs.Traffic.{Traffic, Lost}
+use Rattle.snmp_walk.proofs.RowLemmas.{IsOneTable}
+use Rattle.snmp_walk.specs.Names.{comes_after}
+use Rattle.std.proofs.lemmas.Bool.{false_from_ne_true}
 
 pub one_table : Codec → (agents : Agents) (first : Walker) (view : MibView) (got : VarBind) → AreViews agents.tables → agents.tables ≡ view ∷ []
     → IsGet view first.asked got
@@ -102,7 +105,8 @@ table_facts codec agents tries old new first rows refused end some fresh views p
     record {
       from_tables = part_from codec agents views first s begins (rows ++ refused) part;
       common_names = λ name of each front last e passed. once rows name rising
-          (common_in codec agents views first s begins rows given name of each front last e passed);
+          (common_in codec agents views first s begins rows given name of each front last e
+          (false_from_ne_true (comes_after last.name name) (λ after. passed (after_precedes codec last.name name after))));
       common_at_done = λ done name of each.
           once rows name rising (common_in_whole codec agents views first s begins rows (lawful_whole agents
           (HasNoReply agents tries old new) first rows end done

@@ -17,27 +17,10 @@ use Rattle.snmp_walk.specs.declared.end.WalkEnd.TheVariants as ending
 use Rattle.snmp_walk.specs.declared.rows.Step.{Step}
 use Rattle.snmp_walk.specs.declared.rows.Step.TheVariants as step
 use Rattle.snmp_walk.specs.Names.{is_inside, is_end, is_missing, is_below, comes_after}
-use Rattle.snmp_walk.specs.Trail.{last_name, IsTrail, AreLawfulReplies}
+use Rattle.snmp_walk.specs.Trail.{last_name, IsTrail}
 use Rattle.snmp_walk.specs.Walker.{Walker}
-use Rattle.snmp_walk.specs.Request.{first_phase}
-use Rattle.snmp_walk.specs.Taken.{
-  is_awaited,
-  is_plain,
-  inside_front,
-  rising_front,
-  name_at,
-  asked_for,
-  stops,
-  goes_on,
-  closes,
-  reads,
-  reads_next,
-  got,
-  reads_last,
-  reads_for,
-  reads_reply,
-  take_of,
-}
+use Rattle.snmp_walk.specs.Request.{first_phase, asked_for}
+use Rattle.snmp_walk.specs.Taken.{is_awaited, is_plain, inside_front, rising_front, name_at, stops, goes_on, closes, reads, reads_next, got, reads_last, reads_for, reads_reply, take_of}
 use Rattle.snmp_walk.specs.Standing.{IsOpening, IsStage, IsPaced, opening_gets, Reaches, IsReplyTo, IsReplyContent}
 use Rattle.snmp_walk.specs.Link.{Agents, OneOf, IsNextFrom, IsGotFrom, IsTooLarge}
 use Rattle.snmp_walk.specs.Room.{HasRoomForAll}
@@ -46,6 +29,7 @@ use Rattle.snmp_walk.specs.Facts.{IsFresh, gets}
 use Rattle.snmp_walk.proofs.TrailLemmas.{trail-append, chain_front}
 use Rattle.snmp_walk.proofs.StandingLemmas.{asked_last, root_is}
 use Rattle.snmp_walk.proofs.SwiftLemmas.{opening_is_get}
+use Rattle.snmp_walk.proofs.RowLemmas.{AreLawfulReplies}
 
 -- ---- a walk that goes on
 

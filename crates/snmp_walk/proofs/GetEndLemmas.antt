@@ -15,11 +15,11 @@ use Rattle.snmp_walk.specs.Facts.{IsDone}
 use Rattle.snmp_walk.specs.Get.{AreFor, AreForNames, IsEndOfGet, IsReasonOfGet, MeansToGet, answers_of, are_for}
 use Rattle.snmp_walk.specs.Link.{OneOf}
 use Rattle.snmp_walk.specs.Names.{is_end}
-use Rattle.snmp_walk.proofs.JudgedLemmas.{end_decided}
 use Rattle.snmp_walk.specs.Sink.{Given, Took}
 use Rattle.snmp_walk.specs.declared.end.SinkFault.{SinkFault}
 use Rattle.snmp_walk.specs.declared.end.WalkEnd.{WalkEnd}
 use Rattle.snmp_walk.specs.declared.end.WalkEnd.TheVariants as ending
+use Rattle.snmp_walk.proofs.TestLemmas.{end_decided}
 
 -- how a Get ends: which bindings the sink was given, and then refused, if it did. `From` says of a
 -- message that the link brought it.

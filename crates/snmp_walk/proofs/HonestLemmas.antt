@@ -64,8 +64,8 @@ use Rattle.snmp_walk.specs.declared.mode.Method.TheVariants as method
 use Rattle.snmp_walk.specs.declared.phase.Phase.{Phase}
 use Rattle.snmp_walk.specs.declared.phase.Phase.TheVariants as phase
 use Rattle.snmp_walk.specs.Walker.{Walker, HasRange, IsMethod, IsWalker}
-use Rattle.snmp_walk.specs.Request.{request_of, request_kind, request_repetitions}
-use Rattle.snmp_walk.specs.Taken.{is_over, asked_for}
+use Rattle.snmp_walk.specs.Request.{request_of, request_kind, request_repetitions, asked_for}
+use Rattle.snmp_walk.specs.Taken.{is_over}
 use Rattle.snmp_walk.specs.Standing.{IsChain, IsLarge, IsReplyContent, IsReplyTo}
 use Rattle.snmp_walk.specs.Link.{Agents, OneOf, AreLawful, IsNextFrom, IsGotFrom, IsTooLarge, IsReplyFrom}
 use Rattle.snmp_walk.proofs.RequestLemmas.{name_short}

@@ -25,12 +25,13 @@ use Rattle.snmp_agent.specs.table.Table.{
 }
 use Rattle.snmp_agent.specs.table.Listing.{variables}
 use Rattle.snmp_walk.specs.Names.{is_missing, comes_after}
-use Rattle.snmp_walk.specs.Walk.{rows_after, rows_named, AreAfter, AreRising, AreInstances, or_end}
-use Rattle.snmp_walk.proofs.OrderLemmas.{less_from_after, after-irrefl}
+use Rattle.snmp_walk.specs.Walk.{rows_after, rows_named}
+use Rattle.snmp_walk.proofs.OrderLemmas.{less_from_after, after-irrefl, less_precedes}
 use Rattle.snmp_walk.specs.Taken.{if_present}
 use Rattle.snmp_walk.specs.Codec.{Codec}
 use Rattle.snmp_walk.proofs.TableLemmas.{first_of_rows}
-use Rattle.snmp_walk.proofs.ViewLemmas.{less_precedes, value_no_end, value_no_miss}
+use Rattle.snmp_walk.proofs.ViewLemmas.{value_no_end, value_no_miss}
+use Rattle.snmp_walk.proofs.RowLemmas.{AreAfter, AreRising, AreInstances, or_end}
 
 abbrev binding_of : List ℕ × Datum → VarBind
 binding_of e = record { name = e.0; value = e.1 }

@@ -13,24 +13,7 @@ use Rattle.std.specs.declared.cmp.Ordering.TheVariants.{Less}
 use Rattle.snmp_oid.specs.Identifier.{Precedes}
 use Rattle.snmp_wire.specs.declared.kind.Kind.{Kind}
 use Rattle.snmp_wire.specs.declared.kind.Kind.TheVariants as kind
-use Rattle.snmp_wire.specs.Message.{
-  Datum,
-  VarBind,
-  Message,
-  integer_value,
-  octet_string,
-  null_value,
-  object_id,
-  ip_address,
-  counter32,
-  gauge32,
-  time_ticks,
-  opaque_octets,
-  counter64,
-  no_such_object,
-  no_such_instance,
-  end_of_mib_view,
-}
+use Rattle.snmp_wire.specs.Message.{VarBind, Message}
 use Rattle.snmp_wire.specs.Spelling.{Spells}
 use Rattle.snmp_walk.specs.declared.mode.Mode.{Mode}
 use Rattle.snmp_walk.specs.declared.mode.Mode.TheVariants as mode
@@ -40,60 +23,17 @@ use Rattle.snmp_walk.specs.declared.end.WalkEnd.TheVariants as ending
 use Rattle.snmp_walk.specs.declared.rows.Step.{Step}
 use Rattle.snmp_walk.specs.declared.rows.Step.TheVariants as step
 use Rattle.snmp_walk.specs.Link.{OneOf}
-use Rattle.snmp_walk.specs.Names.{is_below, is_end, is_missing, is_inside, comes_after}
+use Rattle.snmp_walk.specs.Names.{is_end, is_missing, is_inside, comes_after}
 use Rattle.snmp_walk.specs.Reading.{After, EndsAs, nothing, leaving, falling}
 use Rattle.snmp_walk.specs.Trail.{last_name}
 use Rattle.snmp_walk.specs.Walker.{Walker}
-use Rattle.snmp_walk.specs.Taken.{
-  is_over,
-  is_response,
-  awaits,
-  is_awaited,
-  is_plain,
-  inside_front,
-  rising_front,
-  name_at,
-  asked_for,
-  stops,
-  goes_on,
-  closes,
-  reads,
-  reads_next,
-  got,
-  if_present,
-  reads_first,
-  reads_last,
-  reads_for,
-  reads_reply,
-  take_of,
-}
-use Rattle.snmp_walk.specs.Judged.{
-  IsResponseTo,
-  IsAwaitedReply,
-  EndsBy,
-  AsksOn,
-  GoesOn,
-  GivesNothing,
-  Closes,
-  IsInside,
-  AreRowsFrom,
-  IsMissing,
-  AreMisplaced,
-  FollowsBy,
-  ReadsRows,
-  MeansNext,
-  IsGot,
-  MeansGot,
-  MeansRoot,
-  MeansFor,
-  MeansReply,
-  Means,
-  MeansBy,
-}
-use Rattle.snmp_walk.proofs.NameLemmas.{below_decided}
-use Rattle.snmp_walk.proofs.OrderLemmas.{less_from_after}
-use Rattle.snmp_walk.proofs.ViewLemmas.{less_precedes}
+use Rattle.snmp_walk.specs.Taken.{is_over, is_response, awaits, is_awaited, is_plain, inside_front, rising_front, name_at, stops, goes_on, closes, reads, reads_next, got, if_present, reads_first, reads_last, reads_for, reads_reply, take_of}
+use Rattle.snmp_walk.specs.Judged.{IsResponseTo, IsAwaitedReply, EndsBy, AsksOn, GoesOn, GivesNothing, Closes, AreRowsFrom, AreMisplaced, FollowsBy, ReadsRows, MeansNext, IsGot, MeansGot, MeansRoot, MeansFor, MeansReply, Means, MeansBy}
+use Rattle.snmp_walk.proofs.OrderLemmas.{less_from_after, less_precedes}
 use Rattle.snmp_walk.proofs.FrontLemmas.{reads_as, reads_by}
+use Rattle.snmp_walk.specs.Request.{asked_for}
+use Rattle.snmp_walk.specs.Instances.{IsInside, IsMissing}
+use Rattle.snmp_walk.proofs.TestLemmas.{end_decided, missing_decided, inside_decided}
 
 -- What each test decides.
 
@@ -118,43 +58,6 @@ plain_decided mode.Plain = ((λ _. refl), (λ _. refl))
 plain_decided mode.Include = ((λ e. absurd (false≢true e)), (λ e. let no : ⊥ = cc in absurd no))
 plain_decided mode.NoLast = ((λ e. absurd (false≢true e)), (λ e. let no : ⊥ = cc in absurd no))
 
-pub end_decided : (v : Datum) → Decides (is_end v) (v ≡ end_of_mib_view)
-end_decided (integer_value n) = ((λ e. absurd (false≢true e)), (λ e. let no : ⊥ = cc in absurd no))
-end_decided (octet_string s) = ((λ e. absurd (false≢true e)), (λ e. let no : ⊥ = cc in absurd no))
-end_decided null_value = ((λ e. absurd (false≢true e)), (λ e. let no : ⊥ = cc in absurd no))
-end_decided (object_id o) = ((λ e. absurd (false≢true e)), (λ e. let no : ⊥ = cc in absurd no))
-end_decided (ip_address a) = ((λ e. absurd (false≢true e)), (λ e. let no : ⊥ = cc in absurd no))
-end_decided (counter32 n) = ((λ e. absurd (false≢true e)), (λ e. let no : ⊥ = cc in absurd no))
-end_decided (gauge32 n) = ((λ e. absurd (false≢true e)), (λ e. let no : ⊥ = cc in absurd no))
-end_decided (time_ticks n) = ((λ e. absurd (false≢true e)), (λ e. let no : ⊥ = cc in absurd no))
-end_decided (opaque_octets s) = ((λ e. absurd (false≢true e)), (λ e. let no : ⊥ = cc in absurd no))
-end_decided (counter64 n) = ((λ e. absurd (false≢true e)), (λ e. let no : ⊥ = cc in absurd no))
-end_decided no_such_object = ((λ e. absurd (false≢true e)), (λ e. let no : ⊥ = cc in absurd no))
-end_decided no_such_instance = ((λ e. absurd (false≢true e)), (λ e. let no : ⊥ = cc in absurd no))
-end_decided end_of_mib_view = ((λ _. refl), (λ _. refl))
-
-missing_from : (v : Datum) → (v ≡ no_such_object) ⊎ (v ≡ no_such_instance) → is_missing v ≡ true
-missing_from v (inl e) = ap is_missing e
-missing_from v (inr e) = ap is_missing e
-
-missing_tells : (v : Datum) → is_missing v ≡ true → (v ≡ no_such_object) ⊎ (v ≡ no_such_instance)
-missing_tells (integer_value n) e = absurd (false≢true e)
-missing_tells (octet_string s) e = absurd (false≢true e)
-missing_tells null_value e = absurd (false≢true e)
-missing_tells (object_id o) e = absurd (false≢true e)
-missing_tells (ip_address a) e = absurd (false≢true e)
-missing_tells (counter32 n) e = absurd (false≢true e)
-missing_tells (gauge32 n) e = absurd (false≢true e)
-missing_tells (time_ticks n) e = absurd (false≢true e)
-missing_tells (opaque_octets s) e = absurd (false≢true e)
-missing_tells (counter64 n) e = absurd (false≢true e)
-missing_tells no_such_object e = inl refl
-missing_tells no_such_instance e = inr refl
-missing_tells end_of_mib_view e = absurd (false≢true e)
-
-missing_decided : (b : VarBind) → Decides (is_missing b.value) (IsMissing b)
-missing_decided b = (missing_tells b.value, missing_from b.value)
-
 pub response_to_decided : (community : List ℕ) (id : ℕ) (m : Message) → Decides (awaits community id m) (IsResponseTo community id m)
 response_to_decided community id m =
     let parts = Decides-and _ (int_eq m.id (pos id))
@@ -173,12 +76,6 @@ awaited_decided : (w : Walker) (m : Message) → Decides (is_awaited w m) (IsAwa
 awaited_decided w m =
     let parts = Decides-and (not (is_over w.phase)) (awaits w.community w.id m) (waits_decided w.phase) (response_to_decided w.community w.id m) in
     ((λ e. let h = parts.0 e in record { waits = h.0; response = h.1 }), (λ h. parts.1 (h.waits, h.response)))
-
-inside_decided : (root : List ℕ) (b : VarBind) → Decides (is_inside root b) (IsInside root b)
-inside_decided root b =
-    let parts = Decides-and (not (is_end b.value)) (is_below b.name root) (Decides-not (is_end b.value) (end_decided b.value))
-    (below_decided root b.name) in
-    ((λ e. let h = parts.0 e in record { below = h.1; value = h.0 }), (λ h. parts.1 (h.value, h.below)))
 
 any_first : (b : VarBind) (more : List VarBind)
     → IsMissing b ⊎ ((p : VarBind) × OneOf more p × IsMissing p) → (p : VarBind) × OneOf (b ∷ more) p × IsMissing p

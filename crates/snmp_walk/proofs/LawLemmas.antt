@@ -12,14 +12,15 @@ use Rattle.snmp_agent.specs.table.Listing.{variables}
 use Rattle.snmp_walk.specs.declared.mode.Mode.{Mode}
 use Rattle.snmp_walk.specs.declared.mode.Mode.TheVariants as mode
 use Rattle.snmp_walk.specs.Names.{is_below, is_missing, comes_after}
-use Rattle.snmp_walk.specs.Walk.{rows_below, rows_after, or_only, walk_of, rest_of, AreAfter, AreRising}
+use Rattle.snmp_walk.specs.Walk.{rows_below, rows_after, or_only, walk_of, rest_of}
 use Rattle.snmp_walk.specs.Ordered.{AreOrdered, IsAtOrBelow, IsResumable}
 use Rattle.snmp_walk.specs.Link.{OneOf}
 use Rattle.snmp_walk.proofs.NameLemmas.{below_from_test, test_from_below}
-use Rattle.snmp_walk.proofs.OrderLemmas.{less_from_after, after-trans, after-irrefl}
-use Rattle.snmp_walk.proofs.ViewLemmas.{less_precedes, get_name}
+use Rattle.snmp_walk.proofs.OrderLemmas.{less_from_after, after-trans, after-irrefl, less_precedes}
+use Rattle.snmp_walk.proofs.ViewLemmas.{get_name}
 use Rattle.snmp_walk.proofs.TableLemmas.{all_after, rest_from_wire}
 use Rattle.snmp_walk.proofs.JoinLemmas.{IsIn, row_in, in_row, variables_rise, variables_are, get_row}
+use Rattle.snmp_walk.proofs.RowLemmas.{AreAfter, AreRising}
 
 -- membership in a filtered list
 kept_by : (test : VarBind → Bool) (p q : VarBind) (rows : List VarBind) (b : Bool) → b ≡ test q

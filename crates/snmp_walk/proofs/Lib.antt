@@ -1,4 +1,6 @@
 pub mod NameLemmas
+mod RowLemmas
+mod TestLemmas
 pub mod RequestLemmas
 pub mod FrontLemmas
 pub mod TrailLemmas

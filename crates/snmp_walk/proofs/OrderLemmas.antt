@@ -9,6 +9,7 @@ use Rattle.std.proofs.Common.{
   ℕ,
   zero,
   suc,
+  ◌<◌,
   ◌≤◌,
   true,
   false,
@@ -30,7 +31,7 @@ use Rattle.std.specs.Cmp.{ranked, nat_cmp_is, tied_itself}
 use Rattle.std.specs.Cmp.Lexicographic.{slice_cmp, nat_list_cmp_total}
 use Rattle.std.specs.declared.cmp.Ordering.{Ordering}
 use Rattle.std.specs.declared.cmp.Ordering.TheVariants.{Less, Equal, Greater}
-use Rattle.snmp_oid.specs.Identifier.{IsBelow, wire}
+use Rattle.snmp_oid.specs.Identifier.{IsBelow, Precedes, wire}
 use Rattle.snmp_walk.specs.Names.{is_below, comes_after}
 use Rattle.snmp_walk.proofs.NameLemmas.{test_from_below, below_from_test}
 
@@ -62,6 +63,19 @@ pub less_longer : (o rest : List ℕ) → (rest ≡ [] → ⊥) → slice_cmp na
 less_longer [] [] some = absurd (some refl)
 less_longer [] (m ∷ rest) some = refl
 less_longer (n ∷ o) rest some = same_first n o (o ++ rest) ∙ less_longer o rest some
+
+less_parts : (front : List ℕ) (n m : ℕ) (after behind : List ℕ) → n < m → slice_cmp nat_cmp (front ++ n ∷ after) (front ++ m ∷ behind) ≡ Less
+less_parts [] n m after behind h =
+    let first : Less ≡ nat_cmp n m = nat_cmp_is n m Less h in
+    ap (λ (r : Ordering). ordering_then r (slice_cmp nat_cmp after behind)) (sym first)
+less_parts (k ∷ front) n m after behind h = same_first k (front ++ n ∷ after) (front ++ m ∷ behind) ∙ less_parts front n m after behind h
+
+pub less_precedes : (o p : List ℕ) → Precedes o p → slice_cmp nat_cmp o p ≡ Less
+less_precedes o p (inl h) = subst (λ (q : List ℕ). slice_cmp nat_cmp o q ≡ Less) (sym h.2) (less_longer o h.0 h.1)
+less_precedes o p (inr h) =
+    subst (λ (q : List ℕ). slice_cmp nat_cmp q p ≡ Less) (sym h.this)
+    (subst (λ (q : List ℕ). slice_cmp nat_cmp (h.front ++ h.smaller ∷ h.after) q ≡ Less) (sym h.that)
+    (less_parts h.front h.smaller h.larger h.after h.behind h.is_smaller))
 
 not_less_none : (o : List ℕ) → slice_cmp nat_cmp o [] ≡ Less → ⊥
 not_less_none [] e = cc

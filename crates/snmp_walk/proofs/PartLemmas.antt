@@ -7,6 +7,7 @@ use Rattle.snmp_walk.specs.Names.{is_missing}
 use Rattle.snmp_walk.specs.Trail.{last_name, IsTrail}
 use Rattle.snmp_walk.specs.Walker.{Walker}
 use Rattle.snmp_walk.specs.Standing.{IsOpening, IsGiven, IsAlone, IsPartOfWalk}
+use Rattle.snmp_walk.proofs.TestLemmas.{present_is}
 
 -- a list of one at most has itself and nothing as fronts
 short_front : (b : Bool) (p : VarBind) (xs ys : List VarBind) → cond b [] (p ∷ []) ≡ xs ++ ys → (xs ≡ []) ⊎ (xs ≡ cond b [] (p ∷ []))
@@ -44,7 +45,8 @@ module _ (Next Got : List ℕ → VarBind → Type 0) (first : Walker) where
   opening_front mode.NoLast xs rest front h e = inl (none_front xs rest (sym h ∙ e))
   opening_front mode.Include xs rest front h e =
       let P : List VarBind → Type 0 = λ f. (xs ≡ []) ⊎ (xs ≡ f) in
-      subst P (sym h.2) (short_front (is_missing h.0.value) h.0 xs rest (sym h.2 ∙ e))
+      let is = present_is h.0 front h.2 in
+      subst P (sym is) (short_front (is_missing h.0.value) h.0 xs rest (sym is ∙ e))
 
   -- a front of what was given is a beginning too
   given_front : (xs ys : List VarBind) (o : List ℕ) (g : IsGiven Next Got first (xs ++ ys) o)

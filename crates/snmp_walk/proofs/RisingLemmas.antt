@@ -1,27 +1,28 @@
 -- What is given of any walk rises, and why a run ends whatever its link brings.
 use Rattle.std.proofs.Common.{◌≡◌, inl, inr, ℕ, Bool, true, false, cond, List, [], ◌∷◌, ◌++◌, sym, subst}
-use Rattle.std.proofs.lemmas.Bool.{and_parts, not-true}
-use Rattle.std.specs.Prelude.{not}
+use Rattle.snmp_oid.specs.Identifier.{Precedes}
 use Rattle.snmp_wire.specs.Message.{VarBind}
 use Rattle.snmp_walk.specs.declared.mode.Mode.{Mode}
 use Rattle.snmp_walk.specs.declared.mode.Mode.TheVariants as mode
 use Rattle.snmp_walk.specs.declared.end.WalkEnd.{WalkEnd}
 use Rattle.snmp_walk.specs.declared.end.WalkEnd.TheVariants as ending
-use Rattle.snmp_walk.specs.Names.{is_below, is_end, is_missing, comes_after}
-use Rattle.snmp_walk.specs.Walk.{AreAfter, AreRising}
+use Rattle.snmp_walk.specs.Names.{is_end, is_missing, comes_after}
 use Rattle.snmp_walk.specs.Walker.{Walker}
-use Rattle.snmp_walk.specs.Trail.{IsTrail, AreLawfulReplies}
+use Rattle.snmp_walk.specs.Trail.{IsTrail}
 use Rattle.snmp_walk.specs.Standing.{IsOpening, IsPartOfWalk, Rises, Named, IsReplyEnd, CountsAll}
 use Rattle.snmp_walk.specs.Facts.{IsReadSo, IsEndOfRun, EndFacts}
 use Rattle.snmp_walk.proofs.TableLemmas.{after_more}
 use Rattle.snmp_walk.proofs.AnyLemmas.{rising_answers}
+use Rattle.snmp_walk.proofs.RowLemmas.{AreAfter, AreRising, AreLawfulReplies}
+use Rattle.snmp_walk.proofs.TestLemmas.{end_test, present_is}
+use Rattle.snmp_walk.proofs.LawLemmas.{ordered_from_rising}
 
 module _ (Next Got : List ℕ → VarBind → Type 0) (laws : AreLawfulReplies Next Got) (root : List ℕ) where
   -- a trail rises from the name before it
   pub trail_rises : (o : List ℕ) (trail : List VarBind) → IsTrail Next root o trail → AreAfter o trail × AreRising trail
   trail_rises o [] h = (tt, tt)
   trail_rises o (p ∷ trail) h =
-      let value : is_end p.value ≡ false = not-true (is_end p.value) (and_parts (not (is_end p.value)) (is_below p.name root) h.1).0 in
+      let value : is_end p.value ≡ false = end_test p.value h.1.value in
       let comes : comes_after o p.name ≡ true = laws.rises o p h.0 value in
       let rest = trail_rises p.name trail h.2 in
       ((comes, after_more o p trail comes rest.0), rest)
@@ -35,7 +36,7 @@ module _ (Next Got : List ℕ → VarBind → Type 0) (laws : AreLawfulReplies N
       → AreRising (front ++ trail)
   opening_rises mode.Plain o front trail opening h = subst (λ (f : List VarBind). AreRising (f ++ trail)) (sym opening) h.1
   opening_rises mode.Include o front trail opening h =
-      subst (λ (f : List VarBind). AreRising (f ++ trail)) (sym opening.2)
+      subst (λ (f : List VarBind). AreRising (f ++ trail)) (sym (present_is opening.0 front opening.2))
       (present_rises o opening.0 (is_missing opening.0.value) trail (laws.same_name o opening.0 opening.1) h)
   opening_rises mode.NoLast o front trail opening h = subst (λ (f : List VarBind). AreRising (f ++ trail)) (sym opening) h.1
 
@@ -61,11 +62,11 @@ read_end Comes Sent first rows refused ending.NoResponse own h = absurd own
 read_end Comes Sent first rows refused ending.Link own h = absurd own
 read_end Comes Sent first rows refused (ending.Sink fault) own h = absurd own
 
-pub end_facts : (Comes : List ℕ → Type 0) (Sent : Walker → Type 0) (first : Walker) (rows refused : List VarBind) (end : WalkEnd)
+pub end_facts : ((o p : List ℕ) → comes_after o p ≡ true → Precedes o p) → (Comes : List ℕ → Type 0) (Sent : Walker → Type 0) (first : Walker) (rows refused : List VarBind) (end : WalkEnd)
     → IsPartOfWalk Rises Named first (rows ++ refused) → CountsAll end rows
     → IsEndOfRun Comes Sent first rows refused end → EndFacts Comes Sent first rows refused end
-end_facts Comes Sent first rows refused end part counts reason = record {
-  rising = part_rises Rises Named rising_answers first (rows ++ refused) part;
+end_facts precedes Comes Sent first rows refused end part counts reason = record {
+  rising = ordered_from_rising precedes (rows ++ refused) (part_rises Rises Named rising_answers first (rows ++ refused) part);
   counted = counts;
   reason = reason;
 }

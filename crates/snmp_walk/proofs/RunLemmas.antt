@@ -12,7 +12,6 @@ use Rattle.snmp_walk.specs.declared.end.WalkEnd.TheVariants as ending
 use Rattle.snmp_walk.specs.declared.end.SinkFault.{SinkFault}
 use Rattle.snmp_walk.specs.declared.rows.Step.{Step}
 use Rattle.snmp_walk.specs.declared.rows.Step.TheVariants as step
-use Rattle.snmp_walk.specs.Trail.{AreLawfulReplies}
 use Rattle.snmp_walk.specs.Walker.{Walker, IsWalker}
 use Rattle.snmp_walk.specs.Request.{first_phase}
 use Rattle.snmp_walk.specs.Judged.{MeansBy}
@@ -79,6 +78,8 @@ use Rattle.snmp_wire.specs.Spelling.{Spells}
 use Rattle.snmp_walk.proofs.SinkLemmas.{given-append}
 use Rattle.snmp_walk.proofs.StandingLemmas.{taken, part_of_stage}
 use Rattle.snmp_walk.proofs.AnyLemmas.{taken_any, rising_answers}
+use Rattle.snmp_walk.proofs.RowLemmas.{AreLawfulReplies}
+use Rattle.snmp_walk.proofs.JoinLemmas.{after_precedes}
 
 module _ (Next Got : List ℕ → VarBind → Type 0) (first : Walker) where
   -- before the first request
@@ -218,7 +219,7 @@ module _ {S : Type 0} (codec : Codec) (takes : S → VarBind → Result (Unit {0
 
   pub turned : (rows : List VarBind) (new : Walker) → Turns takes Comes agents honest w s rows None new t → GoesOn rows new
   turned rows new (goes_on m datagram from comes spelt e f sink en) =
-      let any = subst (λ (st : Step). AdvancesAnyhow first w given st (take_of w m).1) e (taken_any first w given m stands) in
+      let any = subst (λ (st : Step). AdvancesAnyhow first w given st (take_of w m).1) e (taken_any (after_precedes codec) first w given m stands) in
       let here = subst (λ (v : Walker). AdvancesAnyhow first w given (step.Rows rows) v) (sym f) any in
       record {
         sink = given-append S takes given rows before s t sunk sink;
@@ -269,12 +270,12 @@ module _ {S : Type 0} (codec : Codec) (takes : S → VarBind → Result (Unit {0
       → Spells m datagram → (take_of w m).0 ≡ step.Last rows why → Given takes s rows t
       → IsOver rows why
   over_reply rows m datagram why sent from comes spelt e sink =
-      let any = subst (λ (st : Step). AdvancesAnyhow first w given st (take_of w m).1) e (taken_any first w given m stands) in
+      let any = subst (λ (st : Step). AdvancesAnyhow first w given st (take_of w m).1) e (taken_any (after_precedes codec) first w given m stands) in
       record {
         refused = [];
         sink = took_reply takes before t (given ++ rows) why any.0 (given-append S takes given rows before s t sunk sink);
         part = subst (IsPartOfWalk Rises Named first) (sym (append-nil (given ++ rows))) any.1;
-        ending = end_facts Comes (Sent why) first (given ++ rows) [] why (subst (IsPartOfWalk Rises Named first) (sym (append-nil (given ++ rows))) any.1) any.2
+        ending = end_facts (after_precedes codec) Comes (Sent why) first (given ++ rows) [] why (subst (IsPartOfWalk Rises Named first) (sym (append-nil (given ++ rows))) any.1) any.2
             (read_end Comes (Sent why) first (given ++ rows) [] why any.0 (record {
               w = w;
               given = given;
@@ -305,12 +306,12 @@ module _ {S : Type 0} (codec : Codec) (takes : S → VarBind → Result (Unit {0
       let cut : given ++ rows_in (take_of w m).0 ≡ ((given ++ rows) ++ p ∷ []) ++ left =
       ap (λ (r : List VarBind). given ++ r) e ∙ sym (append_assoc given rows (p ∷ left)) ∙ sym (append_assoc (given ++ rows) (p ∷ []) left) in
       let any = subst (IsPartOfWalk Rises Named first) cut (keeps_part first w (take_of w m).1 given (take_of w m).0 stands
-      (taken_any first w given m stands)) in
+      (taken_any (after_precedes codec) first w given m stands)) in
       record {
         refused = p ∷ [];
         sink = (between, given-append S takes given rows before s between sunk sink, (p, refl, refused));
         part = part_front Rises Named first ((given ++ rows) ++ p ∷ []) left any;
-        ending = end_facts Comes (Sent (ending.Sink fault)) first (given ++ rows) (p ∷ []) (ending.Sink fault)
+        ending = end_facts (after_precedes codec) Comes (Sent (ending.Sink fault)) first (given ++ rows) (p ∷ []) (ending.Sink fault)
             (part_front Rises Named first ((given ++ rows) ++ p ∷ []) left any) tt (record {
               w = w;
               given = given;
@@ -344,7 +345,7 @@ module _ {S : Type 0} (codec : Codec) (takes : S → VarBind → Result (Unit {0
   over_none why sent none counts reason sink no_rows silent lawful = record {
     refused = [];
     ending = subst (λ (r : List VarBind). EndFacts Comes (Sent why) first r [] why) (sym (append-nil given))
-        (end_facts Comes (Sent why) first given [] why (subst (IsPartOfWalk Rises Named first) (sym (append-nil given))
+        (end_facts (after_precedes codec) Comes (Sent why) first given [] why (subst (IsPartOfWalk Rises Named first) (sym (append-nil given))
         (part_of_stage Rises Named AllSmall rising_answers first given w.asked w.phase stands.stage)) counts reason);
     sink = subst (λ (r : List VarBind). Took takes before r [] why t) (sym (append-nil given)) sink;
     part = subst (λ (r : List VarBind). IsPartOfWalk Rises Named first (r ++ [])) (sym (append-nil given))

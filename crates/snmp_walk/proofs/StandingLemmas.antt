@@ -44,10 +44,10 @@ use Rattle.snmp_walk.specs.declared.rows.Step.{Step}
 use Rattle.snmp_walk.specs.declared.rows.Step.TheVariants as step
 use Rattle.snmp_walk.proofs.JudgedLemmas.{response_to_decided}
 use Rattle.snmp_walk.specs.Names.{is_missing}
-use Rattle.snmp_walk.specs.Trail.{last_name, IsTrail, IsAtEnd, AreLawfulReplies}
+use Rattle.snmp_walk.specs.Trail.{last_name, IsTrail, IsAtEnd}
 use Rattle.snmp_walk.specs.Walker.{Walker}
 use Rattle.std.specs.Ordering.{int_eq}
-use Rattle.snmp_walk.specs.Taken.{is_over, is_awaited, is_plain, inside_front, rising_front, asked_for, stops, goes_on, closes, reads_next, got, if_present, reads_first, reads_last, reads_for, take_of}
+use Rattle.snmp_walk.specs.Taken.{is_over, is_awaited, is_plain, inside_front, rising_front, stops, goes_on, closes, reads_next, got, if_present, reads_first, reads_last, reads_for, take_of}
 use Rattle.snmp_walk.specs.Standing.{
   IsChain,
   IsLarge,
@@ -65,6 +65,9 @@ use Rattle.snmp_walk.specs.Standing.{
   Advances,
 }
 use Rattle.snmp_walk.proofs.TrailLemmas.{last_name-append, trail-append, IsFront, chain_front, chain_has_values}
+use Rattle.snmp_walk.specs.Request.{asked_for}
+use Rattle.snmp_walk.proofs.RowLemmas.{AreLawfulReplies}
+use Rattle.snmp_walk.proofs.TestLemmas.{present, present_is}
 
 module _ (Next Got : List ℕ → VarBind → Type 0) (Large : ℕ → VarBind → Type 0) (laws : AreLawfulReplies Next Got) (first : Walker) where
   -- a step as a pair
@@ -85,7 +88,7 @@ module _ (Next Got : List ℕ → VarBind → Type 0) (Large : ℕ → VarBind �
   pub opening_last : (m : Mode) (o : List ℕ) (front trail : List VarBind) → IsOpening Got m o front → last_name o (front ++ trail) ≡ last_name o trail
   opening_last mode.Plain o front trail h = ap (λ (f : List VarBind). last_name o (f ++ trail)) h
   opening_last mode.Include o front trail h =
-      ap (λ (f : List VarBind). last_name o (f ++ trail)) h.2
+      ap (λ (f : List VarBind). last_name o (f ++ trail)) (present_is h.0 front h.2)
       ∙ present_last o h.0 (is_missing h.0.value) trail (laws.same_name o h.0 h.1)
   opening_last mode.NoLast o front trail h = ap (λ (f : List VarBind). last_name o (f ++ trail)) h
 
@@ -251,7 +254,7 @@ module _ (Next Got : List ℕ → VarBind → Type 0) (Large : ℕ → VarBind �
   present_name o p false e = e
 
   pub include_opening : (m : Mode) (o : List ℕ) (p : VarBind) → m ≡ mode.Include → Got o p → IsOpening Got m o (if_present p)
-  include_opening m o p e h = let P : Mode → Type 0 = λ n. IsOpening Got n o (if_present p) in subst P (sym e) (p, h, refl)
+  include_opening m o p e h = let P : Mode → Type 0 = λ n. IsOpening Got n o (if_present p) in subst P (sym e) (p, h, present p)
 
   -- the reply to the Get with which a walk begins
   pub reads_root : (given : List VarBind) (w : Walker) (p : VarBind) → w.phase ≡ phase.First → Reaches Next Got first w given

@@ -1,33 +1,5 @@
 -- Where each single binding has room and ids are enough, a walk over one table ends for no other reason than its own, the link's or the sink's.
-use Rattle.std.proofs.Common.{
-  ◌≡◌,
-  ◌≢◌,
-  ◌⊎◌,
-  ◌≤ℤ◌,
-  ℤ,
-  inl,
-  inr,
-  ℕ,
-  ◌+◌,
-  ◌<◌,
-  ◌≤◌,
-  false,
-  true,
-  List,
-  [],
-  ◌∷◌,
-  ◌++◌,
-  length,
-  refl,
-  sym,
-  ◌∙◌,
-  ap,
-  subst,
-  arith,
-  pos,
-  length-append,
-}
-use Rattle.std.proofs.lemmas.Bool.{false≢true}
+use Rattle.std.proofs.Common.{◌≡◌, ◌≢◌, ◌⊎◌, ◌≤ℤ◌, ℤ, inl, inr, ℕ, ◌+◌, ◌<◌, ◌≤◌, false, List, [], ◌∷◌, ◌++◌, length, refl, sym, ◌∙◌, ap, subst, arith, pos, length-append}
 use Rattle.snmp_wire.specs.declared.kind.Kind.TheVariants as kind
 use Rattle.snmp_wire.specs.Message.{VarBind, Message, end_of_mib_view}
 use Rattle.snmp_wire.specs.Spelling.{Spells}
@@ -61,13 +33,13 @@ use Rattle.snmp_walk.specs.declared.phase.Phase.{Phase}
 use Rattle.snmp_walk.specs.declared.phase.Phase.TheVariants as phase
 use Rattle.snmp_walk.specs.declared.end.WalkEnd.{WalkEnd}
 use Rattle.snmp_walk.specs.declared.end.WalkEnd.TheVariants as ending
-use Rattle.snmp_walk.specs.Names.{is_inside}
+use Rattle.snmp_walk.specs.Instances.{IsInside}
 use Rattle.snmp_walk.specs.Trail.{last_name, IsTrail}
 use Rattle.snmp_walk.specs.Walker.{Walker, IsMethod, IsWalker}
 use Rattle.snmp_walk.specs.Walk.{rest_of}
 use Rattle.snmp_walk.specs.Request.{request_of, request_kind, request_repetitions}
 use Rattle.snmp_walk.specs.Taken.{is_over}
-use Rattle.snmp_walk.specs.Standing.{IsChain, IsLarge, IsStage, IsReplyTooLarge, IsPaced, opening_gets, Reaches, IsOneTable}
+use Rattle.snmp_walk.specs.Standing.{IsChain, IsLarge, IsStage, IsReplyTooLarge, IsPaced, opening_gets, Reaches}
 use Rattle.snmp_walk.specs.Link.{Agents, OneOf, agent_in, IsNextFrom, IsGotFrom, IsTooLarge, IsUnanswered, AreViews}
 use Rattle.snmp_walk.specs.Room.{HasRoom, HasRoomForEach}
 use Rattle.snmp_walk.specs.Facts.{IsLawfulEnd, HasNone, IsDoneOrStopped, IsDoneOrCutOff, gets}
@@ -76,6 +48,7 @@ use Rattle.snmp_walk.proofs.BulkLemmas.{IsOneBulk, one_bulk}
 use Rattle.snmp_walk.proofs.RoomLemmas.{room_fits, room_small, room_exception}
 use Rattle.snmp_walk.proofs.TableLemmas.{trail_rest}
 use Rattle.snmp_walk.proofs.ViewLemmas.{view_of}
+use Rattle.snmp_walk.proofs.RowLemmas.{IsOneTable}
 
 pub gets_one : (m : Mode) → gets m ≤ 1
 gets_one mode.Plain = omega arith
@@ -136,10 +109,9 @@ module _ (codec : Codec) (agents : Agents) (first : Walker) (good_views : AreVie
   get_room p view one (unknown_instance none has is) = subst (HasRoom agents) (sym is) ((rooms view one).exceptions _ tt)
 
   -- a row below the root
-  inside_room : (root o : List ℕ) (p : VarBind) → is_inside root p ≡ true → (view : MibView) → OneOf agents.tables view → IsNext view o p → HasRoom agents p
+  inside_room : (root o : List ℕ) (p : VarBind) → IsInside root p → (view : MibView) → OneOf agents.tables view → IsNext view o p → HasRoom agents p
   inside_room root o p inside view one (successor s) = (rooms view one).rows p s.row
-  inside_room root o p inside view one (end_of_view none is) =
-      let outside : is_inside root p ≡ false = ap (is_inside root) is in absurd (false≢true (sym outside ∙ inside))
+  inside_room root o p inside view one (end_of_view none is) = absurd (inside.value (ap (λ (b : VarBind). b.value) is))
 
   trail_room : (o : List ℕ) (trail : List VarBind) → EndRoom o → IsTrail (IsNextFrom agents) first.root o trail → EndRoom (last_name o trail)
   trail_room o [] end h = end

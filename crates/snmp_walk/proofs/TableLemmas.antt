@@ -7,13 +7,14 @@ use Rattle.snmp_wire.specs.Message.{VarBind}
 use Rattle.snmp_walk.specs.declared.mode.Mode.{Mode}
 use Rattle.snmp_walk.specs.declared.mode.Mode.TheVariants as mode
 use Rattle.snmp_walk.specs.Names.{is_below, is_inside, is_end, comes_after}
-use Rattle.snmp_walk.specs.Walk.{rows_below, rows_after, rows_named, or_only, walk_of, rest_of, AreAfter, AreRising, AreInstances, or_end, walk_from}
+use Rattle.snmp_walk.specs.Walk.{rows_below, rows_after, rows_named, or_only, walk_of, rest_of, walk_from}
 use Rattle.snmp_walk.specs.Trail.{last_name, IsTrail, IsAtEnd}
 use Rattle.snmp_walk.specs.Taken.{if_present}
 use Rattle.snmp_walk.specs.Walker.{Walker}
-use Rattle.snmp_walk.specs.Standing.{IsOpening, IsAlone, IsPartOfWalk, IsWholeWalk, IsOneTable}
+use Rattle.snmp_walk.specs.Standing.{IsOpening, IsAlone, IsPartOfWalk, IsWholeWalk}
 use Rattle.snmp_walk.proofs.OrderLemmas.{after-irrefl, not_after, after-trans, outside_after, below_after_wire}
-use Rattle.snmp_walk.proofs.NameLemmas.{below_from_test}
+use Rattle.snmp_walk.proofs.RowLemmas.{AreAfter, AreRising, AreInstances, or_end, IsOneTable}
+use Rattle.snmp_walk.proofs.TestLemmas.{inside_decided, outside_test, present_is}
 
 -- two filters in either order
 filter_both : (p q : VarBind → Bool) (x : VarBind) (xs ys : List VarBind) (b c : Bool) → b ≡ p x → c ≡ q x → filter p xs ≡ filter q ys
@@ -132,7 +133,8 @@ module _ (rows : List VarBind) (got : VarBind) (Next Got : List ℕ → VarBind 
       → rest_of first.root o rows ≡ trail ++ rest_of first.root (last_name o trail) rows
   trail_rest o [] h = refl
   trail_rest o (p ∷ trail) h =
-      rest_next rows table.rising table.instances first.root o p (rows_after o rows) refl (table.next o p h.0) h.1
+      rest_next rows table.rising table.instances first.root o p (rows_after o rows) refl (table.next o p h.0)
+      ((inside_decided first.root p).1 h.1)
       ∙ ap (λ (t : List VarBind). p ∷ t) (trail_rest p.name trail h.2)
 
   -- each name of a trail begins with the root
@@ -140,8 +142,7 @@ module _ (rows : List VarBind) (got : VarBind) (Next Got : List ℕ → VarBind 
       → (u : List ℕ) × (last_name o trail ≡ first.root ++ u)
   trail_begins o t [] at h = (t, at)
   trail_begins o t (p ∷ trail) at h =
-      let below = below_from_test first.root p.name (and_parts (not (is_end p.value)) (is_below p.name first.root) h.1).1 in
-      trail_begins p.name below.0 trail below.2 h.2
+      trail_begins p.name h.1.below.0 trail h.1.below.2 h.2
 
   -- a trail that is at its end is the rest
   trail_ends : (trail : List VarBind) → IsTrail Next first.root first.asked trail → IsAtEnd Next first.root (last_name first.asked trail)
@@ -149,7 +150,7 @@ module _ (rows : List VarBind) (got : VarBind) (Next Got : List ℕ → VarBind 
   trail_ends trail h end =
       let at = trail_begins first.asked s trail begins h in
       let none = rest_ends rows table.rising table.instances first.root (last_name first.asked trail) at.0 end.0 (rows_after
-      (last_name first.asked trail) rows) at.1 refl (table.next _ _ end.1) end.2 in
+      (last_name first.asked trail) rows) at.1 refl (table.next _ _ end.1) (outside_test first.root end.0 end.2) in
       trail_rest first.asked trail h ∙ ap (λ (t : List VarBind). trail ++ t) none ∙ append-nil trail
 
   abbrev All : List VarBind
@@ -169,7 +170,7 @@ module _ (rows : List VarBind) (got : VarBind) (Next Got : List ℕ → VarBind 
   part_given mode.Include front trail opening h =
       let rest = rest_of first.root (last_name first.asked trail) rows in (
         rest,
-        ap (λ (f : List VarBind). f ++ rest_of first.root first.asked rows) (sym (row_of opening.0 opening.1) ∙ sym opening.2)
+        ap (λ (f : List VarBind). f ++ rest_of first.root first.asked rows) (sym (row_of opening.0 opening.1) ∙ sym (present_is opening.0 front opening.2))
             ∙ ap (λ (t : List VarBind). front ++ t) (trail_rest first.asked trail h) ∙ sym (append_assoc front trail rest),
       )
   part_given mode.NoLast front trail opening h =
@@ -187,7 +188,7 @@ module _ (rows : List VarBind) (got : VarBind) (Next Got : List ℕ → VarBind 
       let same : front ++ trail ≡ trail = ap (λ (f : List VarBind). f ++ trail) opening in
       ap (or_only got) (trail_ends trail h end) ∙ or_only_some got trail (λ none. some refl (same ∙ none)) ∙ sym same
   whole_given mode.Include front trail opening h end some =
-      ap (λ (f : List VarBind). f ++ rest_of first.root first.asked rows) (sym (row_of opening.0 opening.1) ∙ sym opening.2)
+      ap (λ (f : List VarBind). f ++ rest_of first.root first.asked rows) (sym (row_of opening.0 opening.1) ∙ sym (present_is opening.0 front opening.2))
       ∙ ap (λ (t : List VarBind). front ++ t) (trail_ends trail h end)
   whole_given mode.NoLast front trail opening h end some =
       trail_ends trail h end ∙ ap (λ (f : List VarBind). f ++ trail) (sym opening)

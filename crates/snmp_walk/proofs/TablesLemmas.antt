@@ -1,14 +1,14 @@
 -- Where each reply is that of one of several tables: what is given is theirs, and no name that all of them have is passed over.
 use Rattle.std.proofs.Common.{◌≡◌, ◌⊎◌, inl, inr, ℕ, ◌≤◌, Bool, true, false, cond, List, [], ◌∷◌, ◌++◌, length, refl, sym, ◌∙◌, ap, subst, arith, length-append}
 use Rattle.std.proofs.Common.{Some, None}
-use Rattle.std.proofs.lemmas.Bool.{and_parts, not-true, false≢true, false_from_ne_true}
+use Rattle.std.proofs.lemmas.Bool.{false≢true, false_from_ne_true}
 use Rattle.std.specs.Prelude.{not, ◌&&◌, ◌≢◌}
 use Rattle.std.specs.Ordering.{nat_cmp, is_lt, is_eq, ordering_reverse}
 use Rattle.std.specs.Cmp.Lexicographic.{slice_cmp, nat_list_cmp_total}
 use Rattle.std.specs.FinMap.{get}
 use Rattle.std.specs.declared.cmp.Ordering.{Ordering}
 use Rattle.std.specs.declared.cmp.Ordering.TheVariants.{Less, Equal, Greater}
-use Rattle.snmp_oid.specs.Identifier.{Precedes}
+use Rattle.snmp_oid.specs.Identifier.{IsBelow, Precedes}
 use Rattle.snmp_wire.specs.Message.{VarBind}
 use Rattle.snmp_agent.specs.table.Table.{
   MibView,
@@ -25,22 +25,23 @@ use Rattle.snmp_agent.specs.table.Table.{
 }
 use Rattle.snmp_walk.specs.declared.mode.Mode.{Mode}
 use Rattle.snmp_walk.specs.declared.mode.Mode.TheVariants as mode
-use Rattle.snmp_walk.specs.Names.{is_below, is_inside, is_end, is_missing, comes_after}
-use Rattle.snmp_walk.specs.Walk.{AreAfter, AreRising}
-use Rattle.snmp_walk.specs.Trail.{last_name, IsTrail, IsAtEnd, AreLawfulReplies}
+use Rattle.snmp_walk.specs.Names.{is_below, is_end, is_missing, comes_after}
+use Rattle.snmp_walk.specs.Trail.{last_name, IsTrail, IsAtEnd}
 use Rattle.snmp_walk.specs.Walker.{Walker}
 use Rattle.snmp_walk.specs.Run.{IsNameIn}
 use Rattle.snmp_walk.specs.Standing.{IsOpening, IsGiven, IsPartOfWalk, IsWholeWalk}
 use Rattle.snmp_walk.specs.Link.{Agents, OneOf, IsNextFrom, IsGotFrom, IsTooLarge, AreViews}
 use Rattle.snmp_walk.specs.Tables.{IsBelowRoot, IsOfWalk, IsFromTable, AreFromTables, HasName, IsInEach, IsGivenOnce, HoldsNames}
 use Rattle.snmp_walk.proofs.OrderLemmas.{after-irrefl, outside_after}
-use Rattle.snmp_walk.proofs.NameLemmas.{below_from_test}
+use Rattle.snmp_walk.proofs.NameLemmas.{test_from_below}
 use Rattle.snmp_walk.proofs.ViewLemmas.{views_answer, view_of, value_no_end, value_no_miss}
 use Rattle.snmp_walk.specs.Codec.{Codec}
 use Rattle.snmp_walk.proofs.JoinLemmas.{after_precedes, tie_is}
 use Rattle.snmp_walk.proofs.StandingLemmas.{opening_last}
 use Rattle.snmp_walk.proofs.SendLemmas.{named_more, named_after}
 use Rattle.snmp_walk.proofs.RisingLemmas.{trail_rises, part_rises}
+use Rattle.snmp_walk.proofs.RowLemmas.{AreAfter, AreRising, AreLawfulReplies}
+use Rattle.snmp_walk.proofs.TestLemmas.{after_test, end_test, outside_test, present_is}
 
 -- ---- lists of names
 
@@ -186,21 +187,15 @@ module _ (codec : Codec) (agents : Agents) (views : AreViews agents.tables) (fir
   laws : AreLawfulReplies (IsNextFrom agents) (IsGotFrom agents)
   laws = views_answer agents views
 
-  inside_value : (p : VarBind) → is_inside first.root p ≡ true → is_end p.value ≡ false
-  inside_value p h = not-true (is_end p.value) (and_parts (not (is_end p.value)) (is_below p.name first.root) h).0
-
-  inside_below : (p : VarBind) → is_inside first.root p ≡ true → is_below p.name first.root ≡ true
-  inside_below p h = (and_parts (not (is_end p.value)) (is_below p.name first.root) h).1
-
   -- ---- what is given is a table's
 
   abbrev IsTablesRow : VarBind → Type 0
-  IsTablesRow p = (view : MibView) × OneOf agents.tables view × IsRow view p × (is_below p.name first.root ≡ true)
+  IsTablesRow p = (view : MibView) × OneOf agents.tables view × IsRow view p × IsBelow p.name first.root
 
   trail_rows : (o : List ℕ) (trail : List VarBind) → IsTrail (IsNextFrom agents) first.root o trail → (p : VarBind) → OneOf trail p → IsTablesRow p
   trail_rows o [] h p one = absurd one
   trail_rows o (q ∷ trail) h p (inl e) =
-      subst IsTablesRow (sym e) (h.0.0, h.0.1, row_of_next h.0.0 o q h.0.2 (inside_value q h.1), inside_below q h.1)
+      subst IsTablesRow (sym e) (h.0.0, h.0.1, row_of_next h.0.0 o q h.0.2 (end_test q.value h.1.value), h.1.below)
   trail_rows o (q ∷ trail) h p (inr one) = trail_rows q.name trail h.2 p one
 
   trail_from : (trail : List VarBind) → IsTrail (IsNextFrom agents) first.root first.asked trail → (p : VarBind) → OneOf trail p
@@ -208,7 +203,7 @@ module _ (codec : Codec) (agents : Agents) (views : AreViews agents.tables) (fir
   trail_from trail h p one =
       let row = trail_rows first.asked trail h p one in
       let rises = trail_rises (IsNextFrom agents) (IsGotFrom agents) laws first.root first.asked trail h in
-      (row.0, row.1, row.2, inl (row.3, one_after first.asked trail p rises.0 one))
+      (row.0, row.1, row.2, inl (row.3, after_precedes codec first.asked p.name (one_after first.asked trail p rises.0 one)))
 
   present_from : (q : VarBind) (b : Bool) → is_missing q.value ≡ b → IsGotFrom agents first.asked q → first.mode ≡ mode.Include → (p : VarBind)
       → OneOf (cond b [] (q ∷ [])) p → IsFromTable agents first p
@@ -221,7 +216,7 @@ module _ (codec : Codec) (agents : Agents) (views : AreViews agents.tables) (fir
       → IsFromTable agents first p
   opening_from mode.Plain is front h p one = absurd (subst (λ (f : List VarBind). OneOf f p) h one)
   opening_from mode.Include is front h p one =
-      present_from h.0 (is_missing h.0.value) refl h.1 is p (subst (λ (f : List VarBind). OneOf f p) h.2 one)
+      present_from h.0 (is_missing h.0.value) refl h.1 is p (subst (λ (f : List VarBind). OneOf f p) (present_is h.0 front h.2) one)
   opening_from mode.NoLast is front h p one = absurd (subst (λ (f : List VarBind). OneOf f p) h one)
 
   pub part_from : (given : List VarBind) → IsPartOfWalk (IsNextFrom agents) (IsGotFrom agents) first given → AreFromTables agents first given
@@ -241,7 +236,7 @@ module _ (codec : Codec) (agents : Agents) (views : AreViews agents.tables) (fir
       let rises = trail_rises (IsNextFrom agents) (IsGotFrom agents) laws first.root first.asked trail h in
       few_names trail names rises.1 (λ p one.
       let row = trail_rows first.asked trail h p one in
-      all row.0 row.1 p row.2 (row.3, one_after first.asked trail p rises.0 one))
+      all row.0 row.1 p row.2 (row.3, after_precedes codec first.asked p.name (one_after first.asked trail p rises.0 one)))
 
   -- ---- no name that all have is passed over
 
@@ -259,11 +254,10 @@ module _ (codec : Codec) (agents : Agents) (views : AreViews agents.tables) (fir
       → (u : List ℕ) × (last_name o trail ≡ first.root ++ u)
   trail_begins o t [] at h = (t, at)
   trail_begins o t (p ∷ trail) at h =
-      let below = below_from_test first.root p.name (inside_below p h.1) in
-      trail_begins p.name below.0 trail below.2 h.2
+      trail_begins p.name h.1.below.0 trail h.1.below.2 h.2
 
   -- nothing below the root that all have stands behind the end
-  end_before : (o u : List ℕ) → o ≡ first.root ++ u → IsAtEnd (IsNextFrom agents) first.root o → (n : List ℕ) → is_below n first.root ≡ true
+  end_before : (o u : List ℕ) → o ≡ first.root ++ u → IsAtEnd (IsNextFrom agents) first.root o → (n : List ℕ) → IsBelow n first.root
       → IsInEach agents n → comes_after o n ≡ false
   end_before o u at end n below each =
       false_from_ne_true (comes_after o n) (λ a.
@@ -273,14 +267,14 @@ module _ (codec : Codec) (agents : Agents) (views : AreViews agents.tables) (fir
       let s = successor_of codec next.0 o n p next.2 has a in
       let value : is_end p.value ≡ false = value_no_end p.value ((view_of agents.tables views next.0 next.1).values p s.row) in
       let out : is_below p.name first.root ≡ false =
-      sym (ap (λ (b : Bool). not b && is_below p.name first.root) value) ∙ end.2 in
+      sym (ap (λ (b : Bool). not b && is_below p.name first.root) value) ∙ outside_test first.root p end.2 in
       let comes : comes_after (first.root ++ u) p.name ≡ true = ap (λ (x : List ℕ). comes_after x p.name) (sym at) ∙ laws.rises o p next value in
       by_place p out comes (up_to codec next.0 o n p next.2 has a))
     where
       by_place : (p : VarBind) → is_below p.name first.root ≡ false → comes_after (first.root ++ u) p.name ≡ true
           → (n ≡ p.name) ⊎ (comes_after p.name n ≡ true) → ⊥
-      by_place p out comes (inl e) = false≢true (sym (ap (λ (x : List ℕ). is_below x first.root) e ∙ out) ∙ below)
-      by_place p out comes (inr c) = false≢true (sym (outside_after first.root u p.name n comes out c) ∙ below)
+      by_place p out comes (inl e) = false≢true (sym (ap (λ (x : List ℕ). is_below x first.root) e ∙ out) ∙ test_from_below first.root n below)
+      by_place p out comes (inr c) = false≢true (sym (outside_after first.root u p.name n comes out c) ∙ test_from_below first.root n below)
 
   -- a walk that includes its root gives it where all have it
   opening_has : (m : Mode) (front : List VarBind) → m ≡ mode.Include → IsOpening (IsGotFrom agents) m first.asked front → IsInEach agents first.asked
@@ -290,7 +284,7 @@ module _ (codec : Codec) (agents : Agents) (views : AreViews agents.tables) (fir
       let got = h.1 in
       let present : is_missing h.0.value ≡ false =
       present_of_get got.0 (view_of agents.tables views got.0 got.1) first.asked h.0 got.2 (each got.0 got.1) in
-      let one : front ≡ h.0 ∷ [] = h.2 ∙ ap (λ (b : Bool). cond b [] (h.0 ∷ [])) present in
+      let one : front ≡ h.0 ∷ [] = present_is h.0 front h.2 ∙ ap (λ (b : Bool). cond b [] (h.0 ∷ [])) present in
       subst (λ (f : List VarBind). IsNameIn f first.asked) (sym one) (inl (sym (laws.same_name first.asked h.0 got)))
   opening_has mode.NoLast front is h each = let never : ⊥ = cc in absurd never
 
@@ -299,7 +293,7 @@ module _ (codec : Codec) (agents : Agents) (views : AreViews agents.tables) (fir
   given_has given o g name (inl below) passed each =
       let last : comes_after (last_name first.asked g.trail) name ≡ false = ap (λ (x : List ℕ). comes_after x name) (sym g.last) ∙ passed below in
       subst (λ (f : List VarBind). IsNameIn f name) (sym g.parts)
-      (named_after g.front g.trail name (trail_has first.asked name g.trail g.is_trail below.1 last each))
+      (named_after g.front g.trail name (trail_has first.asked name g.trail g.is_trail (after_test first.asked name below.1) last each))
   given_has given o g name (inr root) passed each =
       let own = opening_has first.mode g.front root.0 g.opening (subst (IsInEach agents) root.1 each) in
       subst (λ (f : List VarBind). IsNameIn f name) (sym g.parts)
@@ -319,7 +313,7 @@ module _ (codec : Codec) (agents : Agents) (views : AreViews agents.tables) (fir
       let at : last.name ≡ first.asked =
       sym (ap (last_name first.asked) e ∙ last_of first.asked front last) ∙ ap (last_name first.asked) a.only
       ∙ laws.same_name first.asked a.answer a.is_answer in
-      absurd (false≢true (sym (ap (λ (x : List ℕ). comes_after x name) (sym at) ∙ passed) ∙ below.1))
+      absurd (false≢true (sym (ap (λ (x : List ℕ). comes_after x name) (sym at) ∙ passed) ∙ after_test first.asked name below.1))
   common_in given (inr (inr a)) name (inr root) each front last e passed = absurd (include≢plain (sym root.0 ∙ a.plain))
 
   pub common_in_whole : (given : List VarBind) → IsWholeWalk (IsNextFrom agents) (IsGotFrom agents) first given → (name : List ℕ) → IsOfWalk first name
@@ -329,7 +323,7 @@ module _ (codec : Codec) (agents : Agents) (views : AreViews agents.tables) (fir
       let begin = trail_begins first.asked s g.trail begins g.is_trail in
       given_has given w.0 g name of (λ below. end_before w.0 begin.0 (g.last ∙ begin.1) w.2 name below.0 each) each
   common_in_whole given (inr a) name (inl below) each =
-      absurd (false≢true (sym (end_before first.asked s begins a.none name below.0 each) ∙ below.1))
+      absurd (false≢true (sym (end_before first.asked s begins a.none name below.0 each) ∙ after_test first.asked name below.1))
   common_in_whole given (inr a) name (inr root) each = absurd (include≢plain (sym root.0 ∙ a.plain))
 
   pub rises : (given : List VarBind) → IsPartOfWalk (IsNextFrom agents) (IsGotFrom agents) first given → AreRising given

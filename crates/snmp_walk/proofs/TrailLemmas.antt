@@ -6,9 +6,11 @@ use Rattle.std.specs.Prelude.{not}
 use Rattle.std.specs.List.{list_any}
 use Rattle.snmp_wire.specs.Message.{VarBind}
 use Rattle.snmp_walk.specs.Names.{is_inside, is_end, is_missing, is_below, comes_after}
-use Rattle.snmp_walk.specs.Trail.{last_name, IsTrail, IsAtEnd, AreLawfulReplies}
+use Rattle.snmp_walk.specs.Trail.{last_name, IsTrail, IsAtEnd}
 use Rattle.snmp_walk.specs.Taken.{inside_front, rising_front}
 use Rattle.snmp_walk.specs.Standing.{IsChain}
+use Rattle.snmp_walk.proofs.RowLemmas.{AreLawfulReplies}
+use Rattle.snmp_walk.proofs.TestLemmas.{inside_decided, outside}
 
 pub last_name-append : (o : List ℕ) (xs ys : List VarBind) → last_name o (xs ++ ys) ≡ last_name (last_name o xs) ys
 last_name-append o [] ys = refl
@@ -37,11 +39,11 @@ module _ (Next Got : List ℕ → VarBind → Type 0) (laws : AreLawfulReplies N
       let rises : comes_after o p.name ≡ true = inside_rises o p n e in
       record {
         rising = rw rises (ap (λ (s : List VarBind). p ∷ s) h.rising);
-        is_trail = (n, e, h.is_trail);
+        is_trail = (n, (inside_decided root p).0 e, h.is_trail);
         leaves = λ l. h.leaves (omega (arith, l));
         short = omega (arith, h.short);
       }
-  front_first o p more inside rows false e n h = record { rising = refl; is_trail = tt; leaves = λ _. (p, n, e); short = omega arith }
+  front_first o p more inside rows false e n h = record { rising = refl; is_trail = tt; leaves = λ _. (p, n, outside root p e); short = omega arith }
 
   rising_first : (o : List ℕ) (p : VarBind) (inside : List VarBind) (is_in : Bool)
       → cond is_in (cond (comes_after o p.name) (p ∷ rising_front p.name inside) []) [] ≡ rising_front o (cond is_in (p ∷ inside) [])

@@ -1,5 +1,5 @@
 -- What was heard is taken, and isn't passed over.
-use Rattle.std.proofs.Common.{◌≡◌, ℕ, Bool, true, false, cond, List, [], ◌∷◌, sym, ◌∙◌, ap, subst, Option, Some, None}
+use Rattle.std.proofs.Common.{◌≡◌, ◌≢◌, ℕ, Bool, true, false, cond, List, [], ◌∷◌, sym, ◌∙◌, ap, subst, Option, Some, None}
 use Rattle.std.proofs.lemmas.Bool.{false≢true}
 use Rattle.std.specs.Prelude.{IfSome, IfNone, IfOk, OnErr, Result, Ok, Err}
 use Rattle.snmp_wire.specs.Message.{VarBind, Message}
@@ -26,6 +26,9 @@ use Rattle.snmp_walk.specs.Read.{
   ends as delivered_last,
   is_refused as delivered_part,
 }
+
+pub still_waits : (p : Phase) → is_over p ≡ false → p ≢ phase.Over
+still_waits p e over = false≢true (sym e ∙ ap is_over over)
 
 -- no stray, and an end that replies lead to
 abbrev pub HasNews : Step → Type 0

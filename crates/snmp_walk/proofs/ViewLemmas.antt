@@ -1,12 +1,7 @@
 -- What tables answer rises, and is what agents answer.
-use Rattle.std.proofs.Common.{◌≡◌, inl, inr, ℕ, ◌<◌, true, false, List, [], ◌∷◌, ◌++◌, refl, sym, ◌∙◌, ap, subst}
+use Rattle.std.proofs.Common.{◌≡◌, inl, inr, ℕ, true, false, List, [], ◌∷◌, refl, sym, ◌∙◌, ap, subst}
 use Rattle.std.proofs.lemmas.Bool.{false≢true}
-use Rattle.std.specs.Ordering.{nat_cmp, is_lt, ordering_then}
-use Rattle.std.specs.Cmp.{nat_cmp_is}
-use Rattle.std.specs.Cmp.Lexicographic.{slice_cmp}
-use Rattle.std.specs.declared.cmp.Ordering.{Ordering}
-use Rattle.std.specs.declared.cmp.Ordering.TheVariants.{Less}
-use Rattle.snmp_oid.specs.Identifier.{Precedes}
+use Rattle.std.specs.Ordering.{is_lt}
 use Rattle.snmp_wire.specs.Message.{
   Datum,
   VarBind,
@@ -26,22 +21,9 @@ use Rattle.snmp_wire.specs.Message.{
 }
 use Rattle.snmp_agent.specs.table.Table.{MibView, IsInstanceValue, IsMibView, IsGet, variable, unknown_object, unknown_instance, IsNext, successor, end_of_view}
 use Rattle.snmp_walk.specs.Names.{is_end, is_missing, comes_after}
-use Rattle.snmp_walk.specs.Trail.{AreLawfulReplies}
 use Rattle.snmp_walk.specs.Link.{Agents, OneOf, IsNextFrom, IsGotFrom, AreViews}
-use Rattle.snmp_walk.proofs.OrderLemmas.{less_longer, same_first}
-
-less_parts : (front : List ℕ) (n m : ℕ) (after behind : List ℕ) → n < m → slice_cmp nat_cmp (front ++ n ∷ after) (front ++ m ∷ behind) ≡ Less
-less_parts [] n m after behind h =
-    let first : Less ≡ nat_cmp n m = nat_cmp_is n m Less h in
-    ap (λ (r : Ordering). ordering_then r (slice_cmp nat_cmp after behind)) (sym first)
-less_parts (k ∷ front) n m after behind h = same_first k (front ++ n ∷ after) (front ++ m ∷ behind) ∙ less_parts front n m after behind h
-
-pub less_precedes : (o p : List ℕ) → Precedes o p → slice_cmp nat_cmp o p ≡ Less
-less_precedes o p (inl h) = subst (λ (q : List ℕ). slice_cmp nat_cmp o q ≡ Less) (sym h.2) (less_longer o h.0 h.1)
-less_precedes o p (inr h) =
-    subst (λ (q : List ℕ). slice_cmp nat_cmp q p ≡ Less) (sym h.this)
-    (subst (λ (q : List ℕ). slice_cmp nat_cmp (h.front ++ h.smaller ∷ h.after) q ≡ Less) (sym h.that)
-    (less_parts h.front h.smaller h.larger h.after h.behind h.is_smaller))
+use Rattle.snmp_walk.proofs.OrderLemmas.{less_precedes}
+use Rattle.snmp_walk.proofs.RowLemmas.{AreLawfulReplies}
 
 pub value_no_end : (v : Datum) → IsInstanceValue v → is_end v ≡ false
 value_no_end (integer_value n) h = refl

@@ -7,7 +7,6 @@ use Rattle.std.specs.Prelude.{
   ◌≤◌,
   ◌<◌,
   ◌≢◌,
-  false,
   ◌⊎◌,
   List,
   [],
@@ -21,6 +20,7 @@ use Rattle.snmp_walk.specs.declared.mode.Mode.{Mode}
 use Rattle.snmp_walk.specs.declared.mode.Mode.TheVariants as mode
 use Rattle.snmp_walk.specs.Traffic.{Traffic, Lost}
 use Rattle.snmp_walk.specs.Run.{Try, sent_by, AreTries, IsEachSent}
+use Rattle.snmp_oid.specs.Identifier.{Precedes}
 use Rattle.snmp_wire.specs.Message.{VarBind}
 use Rattle.snmp_wire.specs.Canon.{canon}
 use Rattle.snmp_walk.specs.declared.end.WalkEnd.{WalkEnd}
@@ -30,12 +30,12 @@ use Rattle.snmp_agent.specs.table.Listing.{variables}
 use Rattle.snmp_walk.specs.declared.rows.Step.{Step}
 use Rattle.snmp_walk.specs.declared.rows.Step.TheVariants as step
 use Rattle.snmp_walk.specs.Read.{rows_in}
-use Rattle.snmp_walk.specs.Walk.{walk_from, rest_of, AreRising}
+use Rattle.snmp_walk.specs.Ordered.{AreOrdered}
+use Rattle.snmp_walk.specs.Walk.{walk_from, rest_of}
 use Rattle.snmp_walk.specs.Judged.{MeansBy}
-use Rattle.snmp_walk.specs.Taken.{asked_for}
 use Rattle.snmp_walk.specs.declared.phase.Phase.TheVariants as phase
 use Rattle.snmp_walk.specs.Walker.{Walker, IsWalker}
-use Rattle.snmp_walk.specs.Request.{request_of, first_phase}
+use Rattle.snmp_walk.specs.Request.{asked_for, request_of, first_phase}
 use Rattle.snmp_walk.specs.Standing.{
   Reaches,
   IsPartOfWalk,
@@ -47,7 +47,6 @@ use Rattle.snmp_walk.specs.Standing.{
 }
 use Rattle.snmp_walk.specs.Link.{Agents, OneOf, IsNextFrom, IsGotFrom, IsTooLarge, IsUnanswered}
 use Rattle.snmp_walk.specs.Room.{HasRoomForEach, HasRoomForAll, HasIds}
-use Rattle.snmp_walk.specs.Names.{comes_after}
 use Rattle.snmp_walk.specs.Tables.{
   IsOfWalk,
   AreFromTables,
@@ -160,7 +159,7 @@ IsEndOfRun Comes Sent first rows refused why = IsReadSo Comes Sent first rows wh
 -- the walk that waited last that its request was sent last.
 pub record EndFacts (Comes : List ℕ → Type 0) (Sent : Walker → Type 0) (first : Walker)
     (rows refused : List VarBind) (end : WalkEnd) : Type 0 where
-  pub rising : AreRising (rows ++ refused)
+  pub rising : AreOrdered (rows ++ refused)
   pub counted : CountsAll end rows
   pub reason : IsEndOfRun Comes Sent first rows refused end
 
@@ -257,7 +256,7 @@ pub record TableFacts (agents : Agents) (old : Traffic) (first : Walker)
   -- given once,
   pub common_names : (name : List ℕ) → IsOfWalk first name → IsInEach agents name
       → (front : List VarBind) (last : VarBind) → rows ≡ front ++ last ∷ []
-      → comes_after last.name name ≡ false → IsGivenOnce rows name
+      → (Precedes last.name name → ⊥) → IsGivenOnce rows name
   -- and where the walk is done each of them is
   pub common_at_done : IsDone end → (name : List ℕ) → IsOfWalk first name → IsInEach agents name
       → IsGivenOnce rows name

@@ -1,4 +1,4 @@
--- What is received after a request was sent.
+-- What is received after a request was sent, for private clauses.
 use Rattle.std.specs.Prelude.{◌≡◌, ℕ, ◌+◌, ◌*◌, ◌≤◌, ◌<◌, ◌⊎◌, true, false}
 use Rattle.std.specs.Prelude.{List, [], ◌∷◌, ◌++◌, length, replicate, Option}
 use Rattle.snmp_wire.specs.Message.{Message}

@@ -1,6 +1,5 @@
 -- What a message means to a walk, rule by rule (RFC 3416, sections 3 and 4.2, and docs/PROFILE.md).
--- The rules are said of the message alone, in words of names and bindings; `Taken` computes what
--- they name.
+-- The rules are said of the message alone, in words of names and bindings.
 use Rattle.std.specs.Prelude.{
   ◌≡◌,
   ◌≢◌,
@@ -16,10 +15,9 @@ use Rattle.std.specs.Prelude.{
   ◌++◌,
   length,
 }
-use Rattle.snmp_oid.specs.Identifier.{IsBelow, Precedes}
+use Rattle.snmp_oid.specs.Identifier.{Precedes}
 use Rattle.snmp_wire.specs.declared.kind.Kind.TheVariants as kind
-use Rattle.snmp_wire.specs.Message.{VarBind, Message}
-use Rattle.snmp_wire.specs.Message.{no_such_object, no_such_instance, end_of_mib_view}
+use Rattle.snmp_wire.specs.Message.{VarBind, Message, end_of_mib_view}
 use Rattle.snmp_wire.specs.Spelling.{Spells}
 use Rattle.snmp_walk.specs.declared.mode.Mode.TheVariants as mode
 use Rattle.snmp_walk.specs.declared.phase.Phase.{Phase}
@@ -29,7 +27,8 @@ use Rattle.snmp_walk.specs.declared.end.WalkEnd.TheVariants as ending
 use Rattle.snmp_walk.specs.declared.rows.Step.{Step}
 use Rattle.snmp_walk.specs.declared.rows.Step.TheVariants as step
 use Rattle.snmp_walk.specs.Link.{OneOf}
-use Rattle.snmp_walk.specs.Taken.{asked_for}
+use Rattle.snmp_walk.specs.Instances.{IsInside, IsMissing}
+use Rattle.snmp_walk.specs.Request.{asked_for}
 use Rattle.snmp_walk.specs.Trail.{last_name}
 use Rattle.snmp_walk.specs.Walker.{Walker}
 
@@ -82,20 +81,11 @@ Closes w rows given new =
     (GivesNothing w rows × GoesOn w phase.Last [] given new)
     ⊎ ((GivesNothing w rows → ⊥) × EndsBy w rows (ending.Done (w.count + length rows)) given new)
 
--- the binding is an instance below the root
-pub record IsInside (root : List ℕ) (b : VarBind) : Type 0 where
-  pub below : IsBelow b.name root
-  pub value : b.value ≢ end_of_mib_view
-
 -- the bindings are instances below the root, and each name comes after the one before it, the first
 -- after o
 abbrev pub AreRowsFrom : (root o : List ℕ) → List VarBind → Type 0
 AreRowsFrom root o [] = Unit {0}
 AreRowsFrom root o (b ∷ more) = IsInside root b × Precedes o b.name × AreRowsFrom root b.name more
-
--- noSuchObject or noSuchInstance stands in place of a value
-abbrev pub IsMissing : VarBind → Type 0
-IsMissing b = (b.value ≡ no_such_object) ⊎ (b.value ≡ no_such_instance)
 
 -- there are more bindings than were asked for, or one of them has no value
 abbrev pub AreMisplaced : Walker → List VarBind → Type 0

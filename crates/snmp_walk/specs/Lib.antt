@@ -1,5 +1,6 @@
 pub mod Codec
 pub mod Names
+pub mod Instances
 pub mod Walk
 pub mod Ordered
 pub mod Trail

@@ -1,5 +1,6 @@
 -- Tests of names in a walk: which are below its root, and which come after another (RFC 3416,
--- section 4.2.2).
+-- section 4.2.2). By these two `Walk` picks rows of a table, as its laws say in words of names; the
+-- others, of values, are for private clauses.
 use Rattle.std.specs.Prelude.{ℕ, Bool, true, false, ◌&&◌, not, nat_lt, List, length}
 use Rattle.std.specs.List.{starts_with}
 use Rattle.std.specs.Bool.{nat_eq}

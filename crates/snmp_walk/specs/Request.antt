@@ -1,5 +1,5 @@
 -- Where a walk begins, and which request it sends (RFC 3416, section 4.2).
-use Rattle.std.specs.Prelude.{ℕ, ℤ, pos, List, [], ◌∷◌}
+use Rattle.std.specs.Prelude.{ℕ, ℤ, pos, unsigned_abs, List, [], ◌∷◌}
 use Rattle.snmp_oid.specs.Identifier.{wire}
 use Rattle.snmp_wire.specs.declared.kind.Kind.{Kind}
 use Rattle.snmp_wire.specs.declared.kind.Kind.TheVariants as kind
@@ -52,6 +52,11 @@ next_kind (method.Bulk repetitions) = kind.GetBulkRequest
 abbrev pub repetitions_of : Method → ℤ
 repetitions_of method.Next = pos 0
 repetitions_of (method.Bulk repetitions) = repetitions
+
+-- how many bindings a request for the next instances asks for
+abbrev pub asked_for : Method → ℕ
+asked_for method.Next = 1
+asked_for (method.Bulk repetitions) = unsigned_abs repetitions
 
 abbrev pub request_kind : Phase → Method → Kind
 request_kind phase.Rows method = next_kind method

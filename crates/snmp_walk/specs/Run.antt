@@ -1,4 +1,5 @@
--- What a run of a walk receives and gives.
+-- The requests of a walk, and what each turn of a run receives and gives; all of turns is for private
+-- clauses.
 use Rattle.std.specs.Prelude.{
   ◌≡◌,
   ℕ,
@@ -32,12 +33,12 @@ use Rattle.snmp_walk.specs.declared.end.WalkEnd.{WalkEnd}
 use Rattle.snmp_walk.specs.declared.end.WalkEnd.TheVariants as ending
 use Rattle.snmp_walk.specs.declared.rows.Step.TheVariants as step
 use Rattle.snmp_walk.specs.Walker.{Walker}
-use Rattle.snmp_walk.specs.Request.{request_of}
+use Rattle.snmp_walk.specs.Request.{asked_for, request_of}
 use Rattle.snmp_walk.specs.Sink.{Given}
 use Rattle.snmp_walk.specs.Read.{rows_in}
 use Rattle.snmp_walk.specs.declared.mode.Method.{Method}
 use Rattle.snmp_walk.specs.Names.{is_end}
-use Rattle.snmp_walk.specs.Taken.{is_awaited, take_of, asked_for}
+use Rattle.snmp_walk.specs.Taken.{is_awaited, take_of}
 use Rattle.snmp_walk.specs.Room.{HasRoomForAll}
 use Rattle.std.specs.List.{list_any}
 use Rattle.snmp_walk.specs.Standing.{IsReplyTo}

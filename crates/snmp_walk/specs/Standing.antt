@@ -12,15 +12,14 @@ use Rattle.std.specs.Prelude.{
   pos,
   ◌≤◌,
   ◌⊎◌,
-  true,
-  false,
   List,
   [],
   ◌∷◌,
   ◌++◌,
   length,
 }
-use Rattle.snmp_wire.specs.Message.{VarBind, Message}
+use Rattle.snmp_oid.specs.Identifier.{Precedes}
+use Rattle.snmp_wire.specs.Message.{VarBind, Message, end_of_mib_view}
 use Rattle.snmp_walk.specs.declared.mode.Mode.{Mode}
 use Rattle.snmp_walk.specs.declared.mode.Mode.TheVariants as mode
 use Rattle.snmp_walk.specs.declared.phase.Phase.{Phase}
@@ -30,11 +29,10 @@ use Rattle.snmp_walk.specs.declared.end.WalkEnd.TheVariants as ending
 use Rattle.snmp_walk.specs.declared.rows.Step.{Step}
 use Rattle.snmp_walk.specs.declared.rows.Step.TheVariants as step
 use Rattle.snmp_walk.specs.Judged.{IsResponseTo}
-use Rattle.snmp_walk.specs.Names.{is_end, is_missing, comes_after}
+use Rattle.snmp_walk.specs.Instances.{IsMissing}
 use Rattle.snmp_walk.specs.Trail.{last_name, IsTrail, IsAtEnd}
-use Rattle.snmp_walk.specs.Taken.{asked_for, if_present}
+use Rattle.snmp_walk.specs.Request.{asked_for}
 use Rattle.snmp_walk.specs.Walker.{Walker}
-use Rattle.snmp_walk.specs.Walk.{AreRising, AreInstances, or_end, rows_after, rows_named}
 
 -- each binding is one that a GetNext of the name before it gives
 abbrev pub IsChain : (List ℕ → VarBind → Type 0) → List ℕ → List VarBind → Type 0
@@ -72,9 +70,14 @@ pub record IsReplyTo (Next Got : List ℕ → VarBind → Type 0) (Large : ℕ �
   pub response : IsResponseTo w.community w.id m
   pub content : IsReplyContent Next Got Large w.phase w m
 
+-- these are the binding alone, where it has a value, and else none
+abbrev pub IsGivenIfPresent : VarBind → List VarBind → Type 0
+IsGivenIfPresent p front =
+    (IsMissing p × (front ≡ [])) ⊎ ((IsMissing p → ⊥) × (front ≡ p ∷ []))
+
 -- what a walk gives before the instances below its root: the root's own, in a walk that includes it
 abbrev pub IsOpening : (List ℕ → VarBind → Type 0) → Mode → List ℕ → List VarBind → Type 0
-IsOpening Got mode.Include o front = (p : VarBind) × Got o p × (front ≡ if_present p)
+IsOpening Got mode.Include o front = (p : VarBind) × Got o p × IsGivenIfPresent p front
 IsOpening Got _ o front = front ≡ []
 
 -- these were given, and the walk asks after the name o
@@ -173,23 +176,13 @@ Advances Next Got Large first old given (step.Rows more) w = Reaches Next Got fi
 Advances Next Got Large first old given (step.Last more why) w = IsPartOfWalk Next Got first
     (given ++ more) × Ends Next Got Large first old (given ++ more) why
 
--- The agents are one table: its rows by rising names, what it gives for a GetNext, and `got` for a
--- Get of the name that the walk begins from.
-pub record IsOneTable (rows : List VarBind) (got : VarBind)
-    (Next Got : List ℕ → VarBind → Type 0) (first : Walker) : Type 0 where
-  pub rising : AreRising rows
-  pub instances : AreInstances rows
-  pub next : (o : List ℕ) (p : VarBind) → Next o p → p ≡ or_end o (rows_after o rows)
-  pub answer : (p : VarBind) → Got first.asked p → p ≡ got
-  pub row : if_present got ≡ rows_named first.asked rows
-
 -- What may be said of any replies at all: a name that is given for an instance comes after the one
 -- before it, and what is given for the root has its name.
 abbrev pub Rises : List ℕ → VarBind → Type 0
-Rises o p = (is_end p.value ≡ false → comes_after o p.name ≡ true) × (is_missing p.value ≡ false)
+Rises o p = (p.value ≢ end_of_mib_view → Precedes o p.name) × (IsMissing p → ⊥)
 
 abbrev pub Named : List ℕ → VarBind → Type 0
-Named o p = (p.name ≡ o) × (is_end p.value ≡ false)
+Named o p = (p.name ≡ o) × (p.value ≢ end_of_mib_view)
 
 -- the ends that a reply may lead to
 abbrev pub IsReplyEnd : WalkEnd → Type 0

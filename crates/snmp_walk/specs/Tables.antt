@@ -1,9 +1,9 @@
 -- What a walk gives where the agent's table changes: each reply is that of one of several tables.
-use Rattle.std.specs.Prelude.{◌≡◌, ℕ, ◌+◌, ◌≤◌, ◌⊎◌, true, List, [], ◌∷◌, ◌++◌, length}
+use Rattle.std.specs.Prelude.{◌≡◌, ℕ, ◌+◌, ◌≤◌, ◌⊎◌, List, [], ◌∷◌, ◌++◌, length}
+use Rattle.snmp_oid.specs.Identifier.{IsBelow, Precedes}
 use Rattle.snmp_wire.specs.Message.{VarBind}
 use Rattle.snmp_agent.specs.table.Table.{MibView, IsRow}
 use Rattle.snmp_walk.specs.declared.mode.Mode.TheVariants as mode
-use Rattle.snmp_walk.specs.Names.{is_below, comes_after}
 use Rattle.snmp_walk.specs.Run.{IsNameIn}
 use Rattle.snmp_walk.specs.Walker.{Walker}
 use Rattle.snmp_walk.specs.Link.{Agents, OneOf, IsGotFrom}
@@ -11,7 +11,7 @@ use Rattle.snmp_walk.specs.Room.{HasRoomForEach}
 
 -- the name is below the root of the walk, and comes after the name that the walk begins from
 abbrev pub IsBelowRoot : Walker → List ℕ → Type 0
-IsBelowRoot first name = (is_below name first.root ≡ true) × (comes_after first.asked name ≡ true)
+IsBelowRoot first name = IsBelow name first.root × Precedes first.asked name
 
 -- the walk gives variables of this name: one below its root or, where it includes the root, that of
 -- the root

@@ -1,10 +1,9 @@
--- What a message means to a walk, computed, for private clauses: `Judged` has the rules by which a
--- reply is judged, and `messages_mean` says that they name what is computed here.
+-- What a message means to a walk, computed, for private clauses alone: public ones are stated by the
+-- rules of `Judged`, which name just what is computed here.
 use Rattle.std.specs.Prelude.{
   ℕ,
   zero,
   suc,
-  unsigned_abs,
   pos,
   Bool,
   true,
@@ -34,8 +33,6 @@ use Rattle.snmp_wire.specs.declared.kind.Kind.TheVariants as kind
 use Rattle.snmp_wire.specs.Message.{VarBind, Message}
 use Rattle.snmp_walk.specs.declared.mode.Mode.{Mode}
 use Rattle.snmp_walk.specs.declared.mode.Mode.TheVariants as mode
-use Rattle.snmp_walk.specs.declared.mode.Method.{Method}
-use Rattle.snmp_walk.specs.declared.mode.Method.TheVariants as method
 use Rattle.snmp_walk.specs.declared.phase.Phase.{Phase}
 use Rattle.snmp_walk.specs.declared.phase.Phase.TheVariants as phase
 use Rattle.snmp_walk.specs.declared.end.WalkEnd.{WalkEnd}
@@ -43,6 +40,7 @@ use Rattle.snmp_walk.specs.declared.end.WalkEnd.TheVariants as ending
 use Rattle.snmp_walk.specs.declared.rows.Step.{Step}
 use Rattle.snmp_walk.specs.declared.rows.Step.TheVariants as step
 use Rattle.snmp_walk.specs.Names.{is_inside, is_end, is_missing, comes_after}
+use Rattle.snmp_walk.specs.Request.{asked_for}
 use Rattle.snmp_walk.specs.Trail.{last_name}
 use Rattle.snmp_walk.specs.Walker.{Walker}
 
@@ -78,11 +76,6 @@ abbrev pub name_at : List VarBind → ℕ → List ℕ
 name_at [] k = []
 name_at (b ∷ more) zero = b.name
 name_at (b ∷ more) (suc k) = name_at more k
-
--- how many bindings a request for the next instances asks for
-abbrev pub asked_for : Method → ℕ
-asked_for method.Next = 1
-asked_for (method.Bulk repetitions) = unsigned_abs repetitions
 
 -- the walk ends, after these bindings
 abbrev pub stops : Walker → List VarBind → WalkEnd → Step × Walker

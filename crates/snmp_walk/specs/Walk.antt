@@ -1,12 +1,12 @@
 -- What a walk gives of the rows of a table, in the order of their names.
-use Rattle.std.specs.Prelude.{◌≡◌, ℕ, ◌≤◌, true, false, List, [], ◌∷◌, ◌++◌, length, filter}
+use Rattle.std.specs.Prelude.{ℕ, List, [], ◌∷◌, ◌++◌, filter}
 use Rattle.std.specs.Bool.{nat_eq}
 use Rattle.std.specs.Cmp.Lexicographic.{pointwise}
 use Rattle.snmp_oid.specs.Identifier.{wire}
-use Rattle.snmp_wire.specs.Message.{VarBind, end_of_mib_view}
+use Rattle.snmp_wire.specs.Message.{VarBind}
 use Rattle.snmp_walk.specs.declared.mode.Mode.{Mode}
 use Rattle.snmp_walk.specs.declared.mode.Mode.TheVariants.{Plain, Include, NoLast}
-use Rattle.snmp_walk.specs.Names.{is_below, is_end, is_missing, comes_after}
+use Rattle.snmp_walk.specs.Names.{is_below, comes_after}
 
 -- the rows below the root
 abbrev pub rows_below : List ℕ → List VarBind → List VarBind
@@ -36,27 +36,6 @@ walk_of NoLast root got rows = rows_below root rows
 -- what is left of it after a name
 abbrev pub rest_of : List ℕ → List ℕ → List VarBind → List VarBind
 rest_of root o rows = rows_after o (rows_below root rows)
-
--- each name comes after o
-abbrev pub AreAfter : List ℕ → List VarBind → Type 0
-AreAfter o [] = Unit {0}
-AreAfter o (row ∷ rows) = (comes_after o row.name ≡ true) × AreAfter o rows
-
--- each name comes after those before it
-abbrev pub AreRising : List VarBind → Type 0
-AreRising [] = Unit {0}
-AreRising (row ∷ rows) = AreAfter row.name rows × AreRising rows
-
--- each is an instance that an agent may have: a name of three numbers at least, and a value
-abbrev pub AreInstances : List VarBind → Type 0
-AreInstances [] = Unit {0}
-AreInstances (row ∷ rows) = (3 ≤ length row.name) × (is_end row.value ≡ false)
-    × (is_missing row.value ≡ false) × AreInstances rows
-
--- the first of the bindings, else the name with endOfMibView
-abbrev pub or_end : List ℕ → List VarBind → VarBind
-or_end o [] = record { name = o; value = end_of_mib_view }
-or_end o (p ∷ more) = p
 
 -- What a walk gives that begins after the name o, which is the root as it is sent or, where a walk
 -- is resumed, a name below it.

@@ -7,7 +7,6 @@ ghost use Rattle.snmp_agent.specs.table.Listing.{variables};
 ghost use Rattle.snmp_walk.specs.declared.mode.Mode.{Mode};
 ghost use Rattle.snmp_walk.specs.declared.rows.Step.{Step};
 ghost use Rattle.snmp_walk.specs.Judged.{Means};
-ghost use Rattle.snmp_walk.specs.Taken.{take_of};
 ghost use Rattle.snmp_walk.specs.Walk.{rows_below, walk_of, rest_of};
 ghost use Rattle.snmp_walk.specs.Codec.{Codec};
 ghost use Rattle.snmp_walk.specs.Link.{Agents, OneOf};
@@ -63,12 +62,13 @@ pub fn short_rows_have_room()
         → ((p : VarBind) → IsRow view p → IsShort p.value) → HasRoomForEach agents view first }
 {}
 
-/// A message means one thing to a walk by the rules, said one by one in words of its names and
-/// bindings (`specs/Judged.antt`): what `take_of` computes.
+/// Each message means one thing to a walk by the rules, said one by one in words of its names and
+/// bindings (`specs/Judged.antt`).
 pub fn messages_mean()
-    ensures found { (w : Walker) (m : Message) → Means w m (take_of w m).0 (take_of w m).1 }
-    ensures only { (w : Walker) (m : Message) (given : Step) (new : Walker)
-        → Means w m given new → (given ≡ (take_of w m).0) × (new ≡ (take_of w m).1) }
+    ensures found { (w : Walker) (m : Message) → (given : Step) × (new : Walker)
+        × Means w m given new }
+    ensures only { (w : Walker) (m : Message) (given other : Step) (new after : Walker)
+        → Means w m given new → Means w m other after → (given ≡ other) × (new ≡ after) }
 {
     order();
 }

@@ -62,7 +62,7 @@ impl Model for WalkCore {
 }
 
 impl WalkCore {
-    ghost use Rattle.std.specs.Prelude.{◌≡◌, ◌<◌, ◌≤◌, ◌⊎◌, ℕ, length, take, All, IsOk, IfOk};
+    ghost use Rattle.std.specs.Prelude.{◌≡◌, ◌≢◌, ◌<◌, ◌≤◌, ◌⊎◌, ℕ, length, take, All, IsOk, IfOk};
     ghost use Rattle.std.specs.Prelude.{IfErr, ◌↔◌, ◌^◌, true, false, IsTrue, Err};
     ghost use Rattle.snmp_oid.specs.Identifier.{IsIdentifier, IsWire, IsBelow, wire};
     ghost use Rattle.snmp_wire.specs.Canon.{canon};
@@ -75,10 +75,10 @@ impl WalkCore {
     ghost use Rattle.snmp_agent.specs.table.Listing.{variables};
     ghost use Rattle.snmp_walk.specs.Request.{started, resumed, request_of, request_kind};
     ghost use Rattle.snmp_walk.specs.Request.{request_repetitions};
-    ghost use Rattle.snmp_walk.specs.Taken.{is_over, is_awaited, stops, goes_on, closes};
+    ghost use Rattle.snmp_walk.specs.Taken.{is_awaited, stops, goes_on, closes};
     ghost use Rattle.snmp_walk.specs.Taken.{reads_next, reads_first, reads_last, got, take_of};
     ghost use Rattle.snmp_walk.specs.Judged.{MeansBy};
-    ghost use Rattle.snmp_walk.specs.Taken.{asked_for};
+    ghost use Rattle.snmp_walk.specs.Request.{asked_for};
     ghost use Rattle.snmp_walk.specs.Course.{step_of};
     ghost use Rattle.std.specs.Option.{option_map};
     ghost use Rattle.snmp_walk.specs.Reading.{IsFrontOf, is_misplaced, read_front};
@@ -175,10 +175,10 @@ impl WalkCore {
     /// The octets of the waiting request (RFC 3416, section 3), at the front of `out`, and how many
     /// there are; 0 after the end of the walk.
     pub fn request(&self, out: &mut [u8; 65507]) -> usize
-        ensures waiting { is_over self.now.phase ≡ false
+        ensures waiting { self.now.phase ≢ Phase.Over
             → (result ≡ length (canon (request_of self.now)))
             × (take result out.new ≡ canon (request_of self.now)) }
-        ensures over { is_over self.now.phase ≡ true → (result ≡ 0) × (out.new ≡ out.old) }
+        ensures over { self.now.phase ≡ Phase.Over → (result ≡ 0) × (out.new ≡ out.old) }
         ensures walker { IsWalker self.now }
     {
         if let Phase::Over = self.phase {

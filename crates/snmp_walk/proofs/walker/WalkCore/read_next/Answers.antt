@@ -1,11 +1,12 @@
 use Rattle.std.proofs.Common.{◌≡◌, false, sym, ◌∙◌, ap, subst, List, [], take}
 use Rattle.snmp_wire.specs.Message.{VarBind}
-use Rattle.snmp_walk.specs.Taken.{closes, asked_for}
+use Rattle.snmp_walk.specs.Taken.{closes}
 use Rattle.snmp_walk.specs.Walker.{Walker}
 use Rattle.snmp_walk.specs.Reading.{ReadFront, IsFrontOf, is_misplaced, after_of, name_or, read_front}
 use Rattle.snmp_walk.specs.declared.walker.Ending.{Ending}
 use Rattle.snmp_walk.proofs.FrontLemmas.{read_leaving}
 use Rattle.snmp_walk.proofs.walker.WalkCore.read_next.Goals as goal
+use Rattle.snmp_walk.specs.Request.{asked_for}
 
 pub returns-in-Leaves : goal.returns-in-Leaves
 returns-in-Leaves c =
