@@ -31,18 +31,16 @@ use Rattle.std.proofs.Common.{
   None,
 }
 use Rattle.std.specs.Prelude.{unwrap_or, IfSome, IfNone}
-use Rattle.std.specs.List.{slice_get}
-use Rattle.std.proofs.lemmas.List.{get_or_default, drop_all, take_all, take_more, take-append-le}
+use Rattle.std.proofs.lemmas.List.{drop_all, take_all, take_more, take-append-le}
 use Rattle.snmp_agent.specs.table.Table.{MibView, IsMibView}
 use Rattle.snmp_agent.specs.Reply.{agent_of, IsReply, IsDropped}
 use Rattle.snmp_agent.specs.declared.config.Config.{Config}
 use Rattle.snmp_agent.specs.declared.config.Why.{Why}
 use Rattle.snmp_walk.specs.Link.{Agents, OneOf, AreViews}
 use Rattle.snmp_walk.specs.Traffic.{datagram_at, latest, received, Gives, Receives}
-use Rattle.snmp_walk.specs.Memory.{agents_over, IsNextNumber}
+use Rattle.snmp_walk.specs.Memory.{agents_over, IsNextNumber, IsTableFor}
 use Rattle.snmp_walk.specs.Arena.{Store}
 use Rattle.std.proofs.lemmas.Option.{slice_get-get_or}
-use Rattle.std.proofs.Math.ListN.{get_or-eq_default}
 
 pub one_got : (views : List MibView) (place : ℕ) (d : MibView) → place < length views → OneOf views (get_or views place d)
 one_got [] place d h = absurd (omega (arith, h))
@@ -71,10 +69,26 @@ latest_found (d ∷ e ∷ sent) = latest_found (e ∷ sent)
 pub received_at : (agents : Agents) (sent : List (List ℕ)) (ahead : List (Option ℕ)) (number : ℕ) (left : List (Option ℕ)) (reply : Option (List ℕ))
     → IsNextNumber sent ahead number left
     → Gives agents (datagram_at sent number) reply → Receives agents sent ahead reply left
-received_at agents sent [] number left reply h given =
-    (h.0, subst (λ (d : Option (List ℕ)). Gives agents d reply) (ap (datagram_at sent) h.1 ∙ latest_found sent) given)
-received_at agents sent (None ∷ next) number left reply h given = (h.0, subst (λ (n : ℕ). Gives agents (datagram_at sent n) reply) h.1 given)
-received_at agents sent (Some k ∷ next) number left reply h given = (h.0, subst (λ (n : ℕ). Gives agents (datagram_at sent n) reply) h.1 given)
+received_at agents sent [] number left reply (inl e) given = let no : ⊥ = cc in absurd no
+received_at agents sent [] number left reply (inr (inl h)) given = let e = h.0 in let no : ⊥ = cc in absurd no
+received_at agents sent [] number left reply (inr (inr h)) given =
+    (h.1, subst (λ (d : Option (List ℕ)). Gives agents d reply) (ap (datagram_at sent) h.2 ∙ latest_found sent) given)
+received_at agents sent (None ∷ next) number left reply (inl e) given = let no : ⊥ = cc in absurd no
+received_at agents sent (None ∷ next) number left reply (inr (inl h)) given =
+    let e = h.0 in
+    let same : left ≡ next = cc in
+    (same, subst (λ (n : ℕ). Gives agents (datagram_at sent n) reply) h.1 given)
+received_at agents sent (None ∷ next) number left reply (inr (inr h)) given = let e = h.0 in let no : ⊥ = cc in absurd no
+received_at agents sent (Some k ∷ next) number left reply (inl e) given =
+    let same : left ≡ next = cc in
+    let own : number ≡ k = cc in
+    (same, subst (λ (n : ℕ). Gives agents (datagram_at sent n) reply) own given)
+received_at agents sent (Some k ∷ next) number left reply (inr (inl h)) given = let e = h.0 in let no : ⊥ = cc in absurd no
+received_at agents sent (Some k ∷ next) number left reply (inr (inr h)) given = let e = h.0 in let no : ⊥ = cc in absurd no
+
+number_of : (sent : List (List ℕ)) (e : Option ℕ) (left : List (Option ℕ)) → IsNextNumber sent (e ∷ left) (unwrap_or e 0) left
+number_of sent None left = inr (inl (refl, refl))
+number_of sent (Some k) left = inl refl
 
 pub number_in : (sent : List (List ℕ)) (deliveries : List (Option ℕ)) (used : ℕ) (e : Option ℕ) → used < length deliveries → e ≡ get_or deliveries used e
     → IsNextNumber sent (drop used deliveries) (unwrap_or e 0) (drop (used + 1) deliveries)
@@ -82,13 +96,14 @@ number_in sent deliveries used e h is =
     let here : drop used deliveries ≡ e ∷ drop (used + 1) deliveries =
     drop-cons deliveries used e h ∙ ap (λ (x : Option ℕ). x ∷ drop (suc used) deliveries) (sym is)
     ∙ ap (λ (n : ℕ). e ∷ drop n deliveries) (sym (add-one used)) in
-    subst (λ (ahead : List (Option ℕ)). IsNextNumber sent ahead (unwrap_or e 0) (drop (used + 1) deliveries)) (sym here) (refl, refl)
+    subst (λ (ahead : List (Option ℕ)). IsNextNumber sent ahead (unwrap_or e 0) (drop (used + 1) deliveries)) (sym here)
+    (number_of sent e (drop (used + 1) deliveries))
 
 pub number_past : (sent : List (List ℕ)) (deliveries : List (Option ℕ)) (used : ℕ) → length deliveries ≤ used
     → IsNextNumber sent (drop used deliveries) (length sent) (drop used deliveries)
 number_past sent deliveries used h =
     let none : drop used deliveries ≡ [] = drop_all used deliveries h in
-    subst (λ (ahead : List (Option ℕ)). IsNextNumber sent ahead (length sent) ahead) (sym none) (refl, refl)
+    subst (λ (ahead : List (Option ℕ)). IsNextNumber sent ahead (length sent) ahead) (sym none) (inr (inr (refl, refl, refl)))
 
 -- what the agent of one of the tables does with the datagram is what the agents make of it
 pub given_reply : (tables : List MibView) (config : Config) (view : MibView) (d reply : List ℕ) (found : Option (List ℕ)) → OneOf tables view → found ≡ Some d
@@ -130,14 +145,34 @@ as_before P agents a uses u store s e f g h =
     subst (λ (x : Agents). P x uses store.datagrams) e
     (subst (λ (x : List ℕ). P a x store.datagrams) f (subst (λ (x : Store). P a u x.datagrams) g h))
 
--- the table at a place of `uses`, and the last one past them
-pub table_found : (tables : List MibView) (uses : List ℕ) (i place : ℕ) (d : MibView) → i < length uses → place ≡ get_or uses i place
-    → place < length tables → slice_get tables (get_or uses i (length tables - 1)) ≡ Some (get_or tables place d)
-table_found tables uses i place d within is low =
-    let e : get_or uses i (length tables - 1) ≡ place = get_or_default uses i (length tables - 1) place within ∙ sym is in
-    ap (slice_get tables) e ∙ slice_get-get_or tables place d low
+-- the table at a place of `uses`,
+pub table_found : (tables : List MibView) (uses : List ℕ) (number i place : ℕ) (d : MibView) → 0 < number → i ≡ number - 1 → i < length uses
+    → place ≡ get_or uses i place → place < length tables → IsTableFor tables uses number (get_or tables place d)
+table_found tables uses number i place d some at within is low = inl (
+  i,
+  place,
+  omega (arith, some, at),
+  slice_get-get_or uses i place within ∙ ap Some (sym is),
+  slice_get-get_or tables place d low,
+)
 
-pub table_last : (tables : List MibView) (uses : List ℕ) (i : ℕ) (d : MibView) → length uses ≤ i → 0 < length tables
-    → slice_get tables (get_or uses i (length tables - 1)) ≡ Some (get_or tables (length tables - 1) d)
-table_last tables uses i d past some =
-    ap (slice_get tables) (get_or-eq_default uses (length tables - 1) past) ∙ slice_get-get_or tables (length tables - 1) d (omega (arith, some))
+-- and the last one past them
+last_at : (views : List MibView) (n : ℕ) (d : MibView) → length views ≡ n + 1 → (front : List MibView) × (views ≡ front ++ get_or views n d ∷ [])
+last_at [] n d e = absurd (omega (arith, e))
+last_at (view ∷ []) n d e =
+    let none : n ≡ 0 = omega (arith, e) in
+    ([], ap (λ (k : ℕ). get_or (view ∷ []) k d ∷ []) (sym none))
+last_at (view ∷ next ∷ views) zero d e = absurd (omega (arith, e))
+last_at (view ∷ next ∷ views) (suc n) d e =
+    let rest = last_at (next ∷ views) n d (omega (arith, e)) in
+    (view ∷ rest.0, ap (λ (s : List MibView). view ∷ s) rest.1)
+
+pub table_last : (tables : List MibView) (uses : List ℕ) (number i : ℕ) (d : MibView) → 0 < number → i ≡ number - 1 → length uses ≤ i → 0 < length tables
+    → IsTableFor tables uses number (get_or tables (length tables - 1) d)
+table_last tables uses number i d some at past served =
+    inr (omega (arith, some, at, past), last_at tables (length tables - 1) d (omega (arith, served)))
+
+-- a datagram that was sent has a number
+pub counted : (sent : List (List ℕ)) (number : ℕ) (d : List ℕ) → datagram_at sent number ≡ Some d → 0 < number
+counted sent zero d e = let no : ⊥ = cc in absurd no
+counted sent (suc k) d e = omega arith

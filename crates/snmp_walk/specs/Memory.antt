@@ -1,6 +1,6 @@
 -- What is kept of a link to an agent in memory.
-use Rattle.std.specs.Prelude.{◌≡◌, ℕ, ◌≤◌, ◌-◌, ◌⊎◌, List, [], ◌∷◌, ◌++◌, length, drop, get_or}
-use Rattle.std.specs.Prelude.{Option, Some, None, unwrap_or}
+use Rattle.std.specs.Prelude.{◌≡◌, ℕ, ◌+◌, ◌<◌, ◌≤◌, ◌⊎◌, List, [], ◌∷◌, ◌++◌, length, drop}
+use Rattle.std.specs.Prelude.{Option, Some, None}
 use Rattle.std.specs.List.{slice_get}
 use Rattle.snmp_agent.specs.table.Table.{MibView}
 use Rattle.snmp_agent.specs.declared.config.Config.{Config}
@@ -37,18 +37,24 @@ pub record IsReadyFor (link : MemoryLink) (sends octets : ℕ) : Type 0 where
   pub places : sends ≤ link.arena.places
   pub room : octets ≤ link.arena.room
 
--- the number of the datagram whose reply the next delivery gives, 0 where it gives nothing, and
--- the deliveries left after it
+-- The next delivery is the reply to the datagram of this number, or nothing, and then the number is
+-- 0; after the last of them it is the reply to the latest datagram. `left` are those after it.
 abbrev pub IsNextNumber : List (List ℕ) → (ahead : List (Option ℕ)) → ℕ
     → (left : List (Option ℕ)) → Type 0
-IsNextNumber sent [] number left = (left ≡ []) × (number ≡ length sent)
-IsNextNumber sent (e ∷ next) number left = (left ≡ next) × (number ≡ unwrap_or e 0)
+IsNextNumber sent ahead number left =
+    (ahead ≡ Some number ∷ left)
+    ⊎ (((ahead ≡ None ∷ left) × (number ≡ 0))
+    ⊎ ((ahead ≡ []) × (left ≡ []) × (number ≡ length sent)))
 
--- The table whose agent replies to the i-th datagram sent is at the i-th place of `uses`, and past
--- these it is the last. Places count from 0.
+-- The agent's table for the datagram of this number, which counts from 1, is the one whose place
+-- `uses` has for it: where this many datagrams were sent before, the place that stands behind as
+-- many others there. Past the end of `uses` it is the last table. Places count from 0.
 abbrev pub IsTableFor : List MibView → (uses : List ℕ) → (number : ℕ) → MibView → Type 0
 IsTableFor tables uses number view =
-    slice_get tables (get_or uses (number - 1) (length tables - 1)) ≡ Some view
+    ((before : ℕ) × (place : ℕ) × (number ≡ before + 1) × (slice_get uses before ≡ Some place)
+    × (slice_get tables place ≡ Some view))
+    ⊎ ((length uses < number)
+    × ((front : List MibView) × (tables ≡ front ++ view ∷ [])))
 
 -- the octets are the reply to the datagram of this number, by the agent of the table for it
 pub record IsReplyOf (agents : Agents) (uses : List ℕ) (sent : List (List ℕ)) (number : ℕ)

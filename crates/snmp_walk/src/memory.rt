@@ -122,7 +122,8 @@ impl<'a> MemoryLink<'a> {
     /// The table that the agent serves where it replies to the datagram of this number.
     fn table_for(&self, number: usize) -> &'a Table
         ensures one { OneOf self.now.tables.now result.now }
-        ensures place { IsTableFor self.now.tables.now self.now.uses.now number result.now }
+        ensures place { 0 < number
+            → IsTableFor self.now.tables.now self.now.uses.now number result.now }
     {
         match self.uses.get(number.saturating_sub(1)) {
             Some(place) => &self.tables[*place],

@@ -1,5 +1,5 @@
 use Rattle.std.proofs.Common.{inr}
-use Rattle.snmp_walk.proofs.MemoryLemmas.{given_reply, given_none}
+use Rattle.snmp_walk.proofs.MemoryLemmas.{counted, given_reply, given_none}
 use Rattle.snmp_walk.proofs.memory.MemoryLink.reply_to.Goals as goal
 
 pub returns-in-Reply-clause-reply : goal.returns-in-Reply-clause-reply
@@ -19,7 +19,7 @@ returns-in-Reply-clause-table c = record {
   datagram = c.in_ok-datagram.datagram.now;
   found = c.in_ok-datagram.ensures.some;
   view = c.table_for.result.now;
-  serves = c.table_for.ensures.place;
+  serves = c.table_for.ensures.place (counted _ _ _ c.in_ok-datagram.ensures.some);
   reply = c.answer.ensures.reply c.in-Reply.length c.in-Reply.is;
 }
 
@@ -29,6 +29,6 @@ returns-in-Dropped-clause-none c = inr (
   c.table_for.result.now,
   _,
   c.in_ok-datagram.ensures.some,
-  c.table_for.ensures.place,
+  c.table_for.ensures.place (counted _ _ _ c.in_ok-datagram.ensures.some),
   c.answer.ensures.dropped _ c.in-Dropped.is,
 )

@@ -1,6 +1,4 @@
-use Rattle.std.proofs.Common.{◌≡◌, ◌<◌, ◌-◌, length, get_or, List, ℕ, Some, sym, subst, arith}
-use Rattle.std.specs.List.{slice_get}
-use Rattle.snmp_agent.specs.table.Table.{MibView}
+use Rattle.std.proofs.Common.{◌<◌, ◌-◌, length, ℕ, sym, subst, arith}
 use Rattle.std.proofs.lemmas.Bool.{ltb-true}
 use Rattle.snmp_walk.proofs.MemoryLemmas.{one_got, table_found}
 use Rattle.snmp_walk.proofs.memory.MemoryLink.table_for.Goals as goal
@@ -16,13 +14,9 @@ pub returns-in-None-clause-one : goal.returns-in-None-clause-one
 returns-in-None-clause-one c = one_got c.args.self.now.tables.now _ _ (omega arith)
 
 pub returns-in-Some-clause-place : goal.returns-in-Some-clause-place
-returns-in-Some-clause-place c =
+returns-in-Some-clause-place c = λ some.
     let self = c.args.self.now in
-    let tables : List MibView = self.tables.now in
-    let uses : List ℕ = self.uses.now in
-    let at : c.saturating_sub.result ≡ c.args.number - 1 = omega arith in
-    let within : c.saturating_sub.result < length uses = ltb-true _ _ (sym c.in-Some.ensures.lookup.0) in
+    let within : c.saturating_sub.result < length self.uses.now = ltb-true _ _ (sym c.in-Some.ensures.lookup.0) in
     let place = self.are_tables c.saturating_sub.result c.in-Some.place.now within in
-    subst (λ (i : ℕ). slice_get tables (get_or uses i (length tables - 1)) ≡ Some (get_or tables c.in-Some.place.now c.index-self-place.result)) at
-    (table_found tables uses c.saturating_sub.result c.in-Some.place.now c.index-self-place.result within c.in-Some.ensures.lookup.1
-    (subst (λ (n : ℕ). n < length tables) (sym c.in-Some.ensures.lookup.1) place))
+    table_found self.tables.now self.uses.now c.args.number c.saturating_sub.result c.in-Some.place.now c.index-self-place.result some (omega arith) within
+    c.in-Some.ensures.lookup.1 (subst (λ (n : ℕ). n < length self.tables.now) (sym c.in-Some.ensures.lookup.1) place)
