@@ -140,13 +140,15 @@ facts codec agents tries old new first rows refused end some fresh views part la
       whole_is (variables view) got (IsNextFrom agents) (IsGotFrom agents) first
       (one_table codec agents first view got views e answer) fresh.begins.0 fresh.begins.1 rows
       (lawful_whole agents (HasNoReply agents tries old new) first rows end done lawful);
-  done_unless_lost = λ view got e answer rooms ids.
+  done_unless_lost = λ view e rooms ids.
+      let got = codec.got view first.asked in
       left_end codec agents first views (only_room agents first view e rooms) (length (rest_of first.root first.asked (variables view)))
-      (trail_in_rest agents first view got (one_table codec agents first view got views e answer) fresh.begins.0 fresh.begins.1) ids
+      (trail_in_rest agents first view got.0 (one_table codec agents first view got.0 views e got.1) fresh.begins.0 fresh.begins.1) ids
       (HasNoReply agents tries old new) rows end lawful;
-  done_unless_stopped = λ view got e answer rooms ids none.
+  done_unless_stopped = λ view e rooms ids none.
+      let got = codec.got view first.asked in
       swift_end codec agents first views (only_room agents first view e rooms) (length (rest_of first.root first.asked (variables view)))
-      (trail_in_rest agents first view got (one_table codec agents first view got views e answer) fresh.begins.0 fresh.begins.1) ids rows end
+      (trail_in_rest agents first view got.0 (one_table codec agents first view got.0 views e got.1) fresh.begins.0 fresh.begins.1) ids rows end
       (lawful_by agents (HasNoReply agents tries old new) (HasNone agents) first rows end (λ w h. none_lost agents tries old new w some none h) lawful);
   of_tables = table_facts codec agents tries old new first rows refused end some fresh views part lawful;
 }
@@ -171,10 +173,11 @@ send_facts codec agents honest Roomy tries old new first w rows given end fresh 
   used = λ k.
       let u = (honestly k).0 in
       (u.used, u.parts, omega (arith, u.few, ap length h.sent, length-append old.sent (sent_by h.requests)));
-  few_of_table = λ k view got e answer.
+  few_of_table = λ k view e.
       let f = honestly k in
+      let got = codec.got view first.asked in
       let ids = few_in (IsNextFrom agents) (IsGotFrom agents) first (length (rest_of first.root first.asked (variables view)))
-      (trail_in_rest agents first view got (one_table codec agents first view got f.1 e answer) fresh.begins.0 fresh.begins.1) w given w.phase f.2.stage
+      (trail_in_rest agents first view got.0 (one_table codec agents first view got.0 f.1 e got.1) fresh.begins.0 fresh.begins.1) w given w.phase f.2.stage
       f.2.paced in
       omega (arith, h.ids, ids);
   few_of_tables = λ k names all.
@@ -182,10 +185,11 @@ send_facts codec agents honest Roomy tries old new first w rows given end fresh 
       let ids = few_in (IsNextFrom agents) (IsGotFrom agents) first (length names)
       (few_rows codec agents f.1 first fresh.begins.0 fresh.begins.1 names all) w given w.phase f.2.stage f.2.paced in
       omega (arith, h.ids, ids);
-  few_of_table_where_all_fit = λ k room view got e answer.
+  few_of_table_where_all_fit = λ k room view e.
       let f = honestly k in
+      let got = codec.got view first.asked in
       let few = fast_few (IsNextFrom agents) (IsGotFrom agents) Roomy first w given (length (rest_of first.root first.asked (variables view)))
-      (trail_in_rest agents first view got (one_table codec agents first view got f.1 e answer) fresh.begins.0 fresh.begins.1) w.phase f.2.stage f.2.paced f.3
+      (trail_in_rest agents first view got.0 (one_table codec agents first view got.0 f.1 e got.1) fresh.begins.0 fresh.begins.1) w.phase f.2.stage f.2.paced f.3
       (less room) in
       (few.0, few.1, omega (arith, h.ids, few.2));
   few_of_tables_where_all_fit = λ k room names all.

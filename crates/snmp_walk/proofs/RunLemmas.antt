@@ -610,11 +610,12 @@ pub ready_facts : {S : Type 0} → Codec → (takes : S → VarBind → Result (
     (end : WalkEnd) → ((k : ℕ) → w.id ≤ first.id + k + 1 → IsReadyForAll Ready tries k → end ≢ ending.Link)
     → ReadyFacts agents (honest × (old.sent ≡ [])) Ready tries first end
 ready_facts codec takes Comes agents keeps honest tries first before old w s now r fresh views Ready end fine = record {
-  over_table = λ h view got one answer ready.
+  over_table = λ h view one ready.
       let good = views h.0 in
+      let got = codec.got view first.asked in
       let f = r.honestly h.0 good h.1 in
       let few = few_in (IsNextFrom agents) (IsGotFrom agents) first (length (rest_of first.root first.asked (variables view)))
-      (trail_in_rest agents first view got (one_table codec agents first view got good one answer) fresh.begins.0 fresh.begins.1) w r.given w.phase
+      (trail_in_rest agents first view got.0 (one_table codec agents first view got.0 good one got.1) fresh.begins.0 fresh.begins.1) w r.given w.phase
       f.stage f.paced in
       fine (length (rest_of first.root first.asked (variables view))) (omega (arith, few, gets_one first.mode)) ready;
   over_tables = λ h names all ready.

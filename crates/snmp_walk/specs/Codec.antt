@@ -1,4 +1,4 @@
--- What the crates below state, as laws, of names and of messages and their encodings.
+-- What the crates below state, as laws, of names, of messages and their encodings, and of tables.
 use Rattle.std.specs.Prelude.{◌≡◌, ℕ, List}
 use Rattle.std.specs.Ordering.{nat_cmp}
 use Rattle.std.specs.Cmp.Lexicographic.{slice_cmp}
@@ -6,6 +6,8 @@ use Rattle.std.specs.declared.cmp.Ordering.TheVariants.{Less}
 use Rattle.snmp_oid.specs.Identifier.{Precedes}
 use Rattle.snmp_wire.specs.ber.Sizes.{ElementSizes}
 use Rattle.snmp_wire.specs.Sizes.{MessageSizes}
+use Rattle.snmp_agent.specs.table.Table.{IsGet, MibView}
+use Rattle.snmp_wire.specs.Message.{VarBind}
 use Rattle.snmp_wire.specs.Laws.{OneMessage, StrictIsRead, EncodingIsStrict, HasPieces}
 
 pub record Codec : Type 0 where
@@ -22,3 +24,5 @@ pub record Codec : Type 0 where
   pub elements : ElementSizes
   -- a name that is less precedes
   pub less : (o p : List ℕ) → slice_cmp nat_cmp o p ≡ Less → Precedes o p
+  -- each name has a value in a reply to a Get
+  pub got : (view : MibView) (o : List ℕ) → (p : VarBind) × IsGet view o p

@@ -292,12 +292,10 @@ pub record WalkFacts (agents : Agents) (tries : ℕ) (old : Traffic) (first : Wa
       → rows ≡ walk_at first view got
   -- Over one table, where there is room for each single binding and there are enough ids, a walk is
   -- done unless the link or the sink stops it or no reply comes,
-  pub done_unless_lost : (view : MibView) (got : VarBind) → agents.tables ≡ view ∷ []
-      → IsGet view first.asked got
+  pub done_unless_lost : (view : MibView) → agents.tables ≡ view ∷ []
       → HasRoomForEach agents view first → HasIds first view → IsDoneOrCutOff end
   -- which it does where each receive gives the reply to the latest datagram
-  pub done_unless_stopped : (view : MibView) (got : VarBind) → agents.tables ≡ view ∷ []
-      → IsGet view first.asked got
+  pub done_unless_stopped : (view : MibView) → agents.tables ≡ view ∷ []
       → HasRoomForEach agents view first → HasIds first view → old.ahead ≡ [] → IsDoneOrStopped end
   -- over several tables
   pub of_tables : TableFacts agents old first rows refused end
@@ -326,8 +324,7 @@ pub record SendFacts (agents : Agents) (honest : Type 0) (tries : ℕ) (old : Tr
   pub used : honest → (used : List (Option ℕ)) × (old.ahead ≡ used ++ new.ahead)
       × (length used ≤ 64 * length (sent_by requests))
   -- over one table there is at most one request for each row below the root, one more, and a Get
-  pub few_of_table : honest → (view : MibView) (got : VarBind) → agents.tables ≡ view ∷ []
-      → IsGet view first.asked got
+  pub few_of_table : honest → (view : MibView) → agents.tables ≡ view ∷ []
       → length requests
       ≤ length (rest_of first.root first.asked (variables view)) + 1 + gets first.mode
   -- over several tables there is at most one request for each name that they have together below
@@ -339,8 +336,8 @@ pub record SendFacts (agents : Agents) (honest : Type 0) (tries : ℕ) (old : Tr
   -- of rows below the root,
   pub few_of_table_where_all_fit : honest
       → ((t : Try) → OneOf requests t → t.by.phase ≡ phase.Rows → HasRoomForAll agents t.by)
-      → (view : MibView) (got : VarBind) → agents.tables ≡ view ∷ []
-      → IsGet view first.asked got → (n : ℕ) × (asked_for first.method * n
+      → (view : MibView) → agents.tables ≡ view ∷ []
+      → (n : ℕ) × (asked_for first.method * n
       ≤ length (rest_of first.root first.asked (variables view)))
       × (length requests ≤ n + 1 + gets first.mode)
   -- and over several tables, k being the number of names that they have together
@@ -360,8 +357,7 @@ IsReadyForAll Ready tries k = Ready ((k + 3) * tries) ((k + 3) * tries * 1000)
 pub record ReadyFacts (agents : Agents) (honest : Type 0) (Ready : ℕ → ℕ → Type 0) (tries : ℕ)
     (first : Walker) (end : WalkEnd) : Type 0 where
   -- over one table, k being the number of rows below the root,
-  pub over_table : honest → (view : MibView) (got : VarBind) → agents.tables ≡ view ∷ []
-      → IsGet view first.asked got
+  pub over_table : honest → (view : MibView) → agents.tables ≡ view ∷ []
       → IsReadyForAll Ready tries (length (rest_of first.root first.asked (variables view)))
       → end ≢ ending.Link
   -- and over several tables, k being the number of names that they have together

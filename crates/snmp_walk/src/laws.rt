@@ -14,6 +14,7 @@ ghost use Rattle.snmp_walk.specs.Ordered.{AreOrdered, IsResumable};
 ghost use Rattle.snmp_walk.specs.Room.{HasRoomForEach, IsShort};
 ghost use Rattle.snmp_walk.specs.Walker.{Walker};
 
+use snmp_agent::one_answer;
 use snmp_oid::order;
 use snmp_wire::{
     element_sizes, encoding_is_strict, message_sizes, one_spelling, pieces, strict_is_read,
@@ -73,7 +74,7 @@ pub fn messages_mean()
     order();
 }
 
-/// What the crates below state of names, and of messages and their encodings.
+/// What the crates below state of names, of messages and their encodings, and of tables.
 #[inline]
 pub(crate) fn codec()
     ensures { Codec }
@@ -85,4 +86,5 @@ pub(crate) fn codec()
     message_sizes();
     element_sizes();
     order();
+    one_answer();
 }

@@ -9,4 +9,5 @@ returns c = record {
   sizes = c.message_sizes.ensures;
   elements = c.element_sizes.ensures;
   less = λ o p. (c.order.ensures.less o p).0;
+  got = λ view o. let one = c.one_answer.ensures.get view o in (one.0, one.1);
 }
