@@ -467,28 +467,36 @@ module _ {W S : Type 0} (facts : LinkFacts W) (link : W) (tries : ℕ) (communit
   abbrev Sent : W → WalkEnd → Type 0
   Sent after end = facts.keeps link → (times : ℕ) × (times ≤ tries)
       × ((facts.traffic after).sent ≡ (facts.traffic link).sent ++ replicate times (canon Asked)) × (end ≡ ending.NoResponse → times ≡ tries)
+      × (names ≢ [] → end ≢ ending.RequestTooLong → end ≢ ending.Link → 0 < times)
 
-  pub sent_none : (end : WalkEnd) → (end ≡ ending.NoResponse → ⊥) → Sent link end
-  sent_none end heard keeps = (0, omega arith, sym (append-nil (facts.traffic link).sent), λ silent. absurd (heard silent))
+  pub sent_none : (end : WalkEnd) → (end ≡ ending.NoResponse → ⊥) → (names ≢ [] → end ≢ ending.RequestTooLong → ⊥) → Sent link end
+  sent_none end heard unsent keeps =
+      (0, omega arith, sym (append-nil (facts.traffic link).sent), λ silent. absurd (heard silent), λ named fits fine. absurd (unsent named fits))
 
   -- the exchange of the request sent it so
   pub sent_so : (after : W) (end : WalkEnd) (q : List ℕ) (honest silent failed : Type 0) → q ≡ canon Asked → (end ≡ ending.NoResponse → silent)
-      → (facts.keeps link → Exchanges (facts.agents link) honest tries q (facts.traffic link) silent failed (facts.traffic after)) → Sent after end
-  sent_so after end q honest silent failed is quiet exchanged keeps =
-      let x = exchanged keeps in
-      (x.times, x.few, subst (λ (t : List ℕ). (facts.traffic after).sent ≡ (facts.traffic link).sent ++ replicate x.times t) is x.sent, λ s. x.all (quiet s))
+      → (failed → end ≡ ending.Link) → (facts.keeps link → Exchanges (facts.agents link) honest tries q (facts.traffic link) silent failed (facts.traffic after)) → Sent after end
+  sent_so after end q honest silent failed is quiet there exchanged keeps =
+      let x = exchanged keeps in (
+        x.times,
+        x.few,
+        subst (λ (t : List ℕ). (facts.traffic after).sent ≡ (facts.traffic link).sent ++ replicate x.times t) is x.sent,
+        λ s. x.all (quiet s),
+        λ named fits fine. x.some (λ f. fine (there f)),
+      )
 
   abbrev HasMoved : W → WalkEnd → Type 0
-  HasMoved after end = (times : ℕ) × (times ≤ tries) × IsMoved facts link (replicate times (canon Asked)) (end ≡ ending.Link) after
+  HasMoved after end = (times : ℕ) × (times ≤ tries) × (names ≢ [] → end ≢ ending.RequestTooLong → 0 < times)
+      × IsMoved facts link (replicate times (canon Asked)) (end ≡ ending.Link) after
 
-  pub moved_none : (end : WalkEnd) → (end ≡ ending.Link → ⊥) → HasMoved link end
-  moved_none end fine = (0, omega arith, moves_as facts (λ f. absurd f) fine (moves_none facts link))
+  pub moved_none : (end : WalkEnd) → (end ≡ ending.Link → ⊥) → (names ≢ [] → end ≢ ending.RequestTooLong → ⊥) → HasMoved link end
+  moved_none end fine unsent = (0, omega arith, λ named fits. absurd (unsent named fits), moves_as facts (λ f. absurd f) fine (moves_none facts link))
 
   -- the exchange of the request moved the link so
   pub moved_so : (after : W) (end : WalkEnd) (q : List ℕ) (failed : Type 0) → q ≡ canon Asked → (failed → end ≡ ending.Link) → (end ≡ ending.Link → failed)
       → IsMovedByTries facts link q tries failed after → HasMoved after end
   moved_so after end q failed is there back moves =
-      let m = tries_as facts is there back moves in (m.0, m.1, m.3)
+      let m = tries_as facts is there back moves in (m.0, m.1, λ named fits. m.2, m.3)
 
   -- without names
   pub got_none : names ≡ [] → IsRun takes before (ending.Done 0) before
@@ -501,7 +509,7 @@ module _ {W S : Type 0} (facts : LinkFacts W) (link : W) (tries : ℕ) (communit
       named = for_none Asked names none;
       reason = λ some. absurd (some none);
       missed = λ silent. let no : ⊥ = cc in absurd no;
-      sent = sent_none (ending.Done 0) (λ silent. cc);
+      sent = sent_none (ending.Done 0) (λ silent. cc) (λ some. absurd (some none));
       judged = λ fresh. record {
         beginning = λ view all one are. ([], none_got view names all none are);
         all_at_done = λ view all one are done. sym (none_got view names all none are);
@@ -509,7 +517,7 @@ module _ {W S : Type 0} (facts : LinkFacts W) (link : W) (tries : ℕ) (communit
         lost_without_response = λ silent. let no : ⊥ = cc in absurd no;
         done_unless_stopped = λ room ahead. tt;
       };
-      moved = moved_none (ending.Done 0) (λ e. cc);
+      moved = moved_none (ending.Done 0) (λ e. cc) (λ some. absurd (some none));
     };
   }
 

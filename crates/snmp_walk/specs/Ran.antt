@@ -1,5 +1,5 @@
 -- What is known of a run over a link: of a walk, and of a Get of names.
-use Rattle.std.specs.Prelude.{◌≡◌, ◌≢◌, ◌≤◌, ◌++◌, ℕ, List, [], Result, replicate}
+use Rattle.std.specs.Prelude.{◌≡◌, ◌≢◌, ◌<◌, ◌≤◌, ◌++◌, ℕ, List, [], Result, replicate}
 use Rattle.snmp_wire.specs.Canon.{canon}
 use Rattle.snmp_wire.specs.Message.{VarBind}
 use Rattle.snmp_walk.specs.declared.end.SinkFault.{SinkFault}
@@ -64,16 +64,20 @@ pub record IsGotOver {W : Type 0} (facts : LinkFacts W) (link after : W) (tries 
       (IsFreshAndHonest facts link) community id names) names given refused end
   pub missed : end ≡ ending.NoResponse → AreMissed facts.sends facts.brings facts.is_silent
       (IsNotAwaited community id) (canon (get_request community id names)) tries link after
-  -- over a link that keeps what is sent: the request alone, at most once for each try
+  -- over a link that keeps what is sent: the request alone, at most once for each try, and once at
+  -- least where it is sent and the link didn't fail
   pub sent : facts.keeps link → (times : ℕ) × (times ≤ tries)
       × ((facts.traffic after).sent ≡ (facts.traffic link).sent
       ++ replicate times (canon (get_request community id names)))
       × (end ≡ ending.NoResponse → times ≡ tries)
+      × (names ≢ [] → end ≢ ending.RequestTooLong → end ≢ ending.Link → 0 < times)
   -- over an honest link over which nothing was sent before: what its agents gave
   pub judged : IsFreshAndHonest facts link → GetFacts (facts.agents link) tries
       (facts.traffic link) (get_request community id names) names given refused end
       (facts.traffic after)
-  -- tries of the request moved the link, which failed where the Get ends because of it
+  -- tries of the request moved the link, one at least where it is sent, and the link failed where
+  -- the Get ends because of it
   pub moved : (times : ℕ) × (times ≤ tries)
+      × (names ≢ [] → end ≢ ending.RequestTooLong → 0 < times)
       × IsMoved facts link (replicate times (canon (get_request community id names)))
       (end ≡ ending.Link) after

@@ -5,7 +5,7 @@ use Rattle.snmp_walk.specs.Course.{heard_of}
 use Rattle.snmp_walk.specs.Missed.{IsNotAwaited, AreMissed}
 use Rattle.snmp_walk.specs.Ran.{IsFreshAndHonest}
 use Rattle.snmp_walk.proofs.GotLemmas.{brought, own}
-use Rattle.snmp_walk.proofs.MoveLemmas.{is_bad, never_bad}
+use Rattle.snmp_walk.proofs.MoveLemmas.{is_bad, never_bad, ok_fine}
 use Rattle.snmp_walk.proofs.TurnLemmas.{if_some, if_silent, if_cut}
 use Rattle.snmp_walk.proofs.GetEndLemmas.{is_too_long, is_silent, is_cut, no_names, some_names}
 use Rattle.snmp_walk.proofs.GetFactLemmas.{got_none, got_over, lost_exchange, moved_none, moved_so, sent_none, sent_so, short_enough, got_ends, got_ends_always}
@@ -23,8 +23,8 @@ returns-in_default g c =
     (λ fits. absurd (omega (arith, fits, c.in_default.ensures.none))) c.args.link.now c.args.sink.now [] [] _
     (is_too_long c.in_default.ensures.none refl refl refl refl) (λ silent. let no : ⊥ = cc in absurd no) (λ _. refl)
     (λ silent. let no : ⊥ = cc in absurd no)
-    (sent_none g.L.Link c.args.link.now (c.args.retries + 1) c.args.community.now c.args.id c.args.names.now g.S.Sink.takes c.args.sink.now _ (λ silent. cc))
-    (moved_none g.L.Link c.args.link.now (c.args.retries + 1) c.args.community.now c.args.id c.args.names.now g.S.Sink.takes c.args.sink.now _ (λ e. cc))
+    (sent_none g.L.Link c.args.link.now (c.args.retries + 1) c.args.community.now c.args.id c.args.names.now g.S.Sink.takes c.args.sink.now _ (λ silent. cc) (λ named fits. fits refl))
+    (moved_none g.L.Link c.args.link.now (c.args.retries + 1) c.args.community.now c.args.id c.args.names.now g.S.Sink.takes c.args.sink.now _ (λ e. cc) (λ named fits. fits refl))
 
 pub returns-in-Ok-None : goal.returns-in-Ok-None
 returns-in-Ok-None g c =
@@ -42,7 +42,8 @@ returns-in-Ok-None g c =
     (c.args.retries + 1) c.args.link.now c.exchange.new.link) c.in-Some.ensures.some.1
     (if_silent c.exchange.result c.in-Ok-None.field-0 _ c.in-Ok-None.is c.in-Ok-None.field-0-is c.exchange.ensures.unanswered))
     (sent_so g.L.Link c.args.link.now (c.args.retries + 1) c.args.community.now c.args.id c.args.names.now g.S.Sink.takes c.args.sink.now
-    c.exchange.new.link _ _ _ _ _ c.in-Some.ensures.some.1 (λ _. ap Ok c.in-Ok-None.field-0-is) c.in-Ok-None.ensures.exchanged)
+    c.exchange.new.link _ _ _ _ _ c.in-Some.ensures.some.1 (λ _. ap Ok c.in-Ok-None.field-0-is)
+    (λ bad. absurd (ok_fine bad)) c.in-Ok-None.ensures.exchanged)
     (moved_so g.L.Link c.args.link.now (c.args.retries + 1) c.args.community.now c.args.id c.args.names.now g.S.Sink.takes c.args.sink.now c.exchange.new.link
     _ _ _ c.in-Some.ensures.some.1 (λ bad. absurd (never_bad _ _ c.in-Ok-None.is bad)) (λ e. let no : ⊥ = cc in absurd no) c.exchange.ensures.moves)
 
@@ -54,7 +55,7 @@ returns-in-Err g c =
     (is_cut refl refl refl (if_cut c.exchange.result _ _ c.in-Err.is c.exchange.ensures.cut_off).1) (λ silent. let no : ⊥ = cc in absurd no)
     (λ long. absurd (short_enough _ _ _ c.in-Some.ensures.some.0 c.in-Some.ensures.some.1 long)) (λ silent. let no : ⊥ = cc in absurd no)
     (sent_so g.L.Link c.args.link.now (c.args.retries + 1) c.args.community.now c.args.id c.args.names.now g.S.Sink.takes c.args.sink.now
-    c.exchange.new.link _ _ _ _ _ c.in-Some.ensures.some.1 (λ silent. let no : ⊥ = cc in absurd no) c.exchange.ensures.exchanged)
+    c.exchange.new.link _ _ _ _ _ c.in-Some.ensures.some.1 (λ silent. let no : ⊥ = cc in absurd no) (λ _. refl) c.exchange.ensures.exchanged)
     (moved_so g.L.Link c.args.link.now (c.args.retries + 1) c.args.community.now c.args.id c.args.names.now g.S.Sink.takes c.args.sink.now c.exchange.new.link
     _ _ _ c.in-Some.ensures.some.1 (λ _. refl) (λ _. is_bad _ _ c.in-Err.is) c.exchange.ensures.moves)
 
@@ -91,6 +92,7 @@ returns g c =
     e.rows e.refused _ e.ends (λ silent. absurd (e.no_silence silent))
     (λ long. absurd (short_enough _ _ _ c.in-Some.ensures.some.0 c.in-Some.ensures.some.1 long)) (λ silent. absurd (e.no_silence silent))
     (sent_so g.L.Link c.args.link.now (c.args.retries + 1) c.args.community.now c.args.id c.args.names.now g.S.Sink.takes c.args.sink.now
-    c.exchange.new.link _ _ _ _ _ c.in-Some.ensures.some.1 (λ silent. absurd (e.no_silence silent)) c.exchange.ensures.exchanged)
+    c.exchange.new.link _ _ _ _ _ c.in-Some.ensures.some.1 (λ silent. absurd (e.no_silence silent))
+    (λ bad. absurd (never_bad _ _ c.in-Ok-Some.is bad)) c.exchange.ensures.exchanged)
     (moved_so g.L.Link c.args.link.now (c.args.retries + 1) c.args.community.now c.args.id c.args.names.now g.S.Sink.takes c.args.sink.now c.exchange.new.link
     _ _ _ c.in-Some.ensures.some.1 (λ bad. absurd (never_bad _ _ c.in-Ok-Some.is bad)) (λ link. absurd (e.no_link link)) c.exchange.ensures.moves)
