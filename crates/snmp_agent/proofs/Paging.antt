@@ -1,5 +1,5 @@
 -- Pages of rows: what a change of one of them does to all rows, and where it is divided.
-use Rattle.std.proofs.Common.{◌≡◌, ℕ, zero, suc, ◌+◌, ◌≤◌, ◌<◌, false, List, [], ◌∷◌, ◌++◌, length, take, drop, Some, slice_set, slice_index_or, refl, sym, ◌∙◌, ap, subst}
+use Rattle.std.proofs.Common.{◌≡◌, ℕ, zero, suc, ◌+◌, ◌-◌, ◌≤◌, ◌<◌, false, List, [], ◌∷◌, ◌++◌, length, take, drop, Some, slice_set, slice_index_or, refl, sym, ◌∙◌, ap, subst}
 use Rattle.std.proofs.Common.{arith, append_assoc, length-append, add-one, true, is_some, inl, Less}
 use Rattle.std.specs.Ordering.{nat_cmp}
 use Rattle.std.specs.Cmp.Lexicographic.{slice_cmp, nat_list_cmp_total}
@@ -14,7 +14,7 @@ use Rattle.snmp_agent.specs.table.Places.{IsAfterAll, IsBeforeAll, IsBeforeNone,
 use Rattle.snmp_agent.specs.table.Pages.{ArePages, IsPageOf, IsPageWithRoom, IsRising, IsSorted, StandsApart, begins_up_to, entries_in, entries_of, has_name}
 use Rattle.snmp_agent.proofs.Changing.{around, set_around, at_low, put_past, put_in, without_past, without_in, past_front, find_in}
 use Rattle.snmp_agent.proofs.Partition.{before_both, after_both, after_none, none_both, rows_ahead, rows_passed}
-use Rattle.snmp_agent.proofs.Rising.{before_all, before_listed, first_of_both, listed_in_second, rising_first, rising_rest, second_of_both, turned}
+use Rattle.snmp_agent.proofs.Rising.{before_all, before_later, before_listed, before_no_earlier, first_of_both, listed_in_second, rising_first, rising_rest, second_of_both, turned}
 
 abbrev Entries : Type 0
 Entries = List (List ℕ × Datum)
@@ -281,6 +281,55 @@ module _ (pages : List Page) (place : ℕ) (long : length pages ≡ place + 1) w
       ∙ ap (λ (es : Entries). front ++ es) (append-nil (entries_of new.rows.items) ∙ ap entries_of same ∙ rows-append found.rows.items (row ∷ []))
       ∙ sym (append_assoc front held (entry_of row ∷ []))
       ∙ ap (λ (es : Entries). es ++ entry_of row ∷ []) (sym (last_parts found (read_at pages place found low read)))
+
+-- ---- the rows behind one
+
+last_of : {A : Type 0} (xs : List A) (x : A) → 0 < length xs → slice_get xs (length xs - 1) ≡ Some x → xs ≡ take (length xs - 1) xs ++ x ∷ []
+last_of xs x some at =
+    around xs (length xs - 1) x at ∙ ap (λ rest. take (length xs - 1) xs ++ x ∷ rest) (none_past xs (length xs - 1) (omega (arith, some)))
+
+regrouped : (before init late more : Entries) (e : List ℕ × Datum) → (before ++ (init ++ e ∷ late)) ++ more ≡ (before ++ init) ++ e ∷ (late ++ more)
+regrouped before init late more e =
+    append_assoc before (init ++ e ∷ late) more ∙ ap (λ (es : Entries). before ++ es) (append_assoc init (e ∷ late) more)
+    ∙ sym (append_assoc before init (e ∷ (late ++ more)))
+
+-- what stands behind the row that is the last of the first k of its page, the last of the first n pages
+pub apart_behind : (o : List ℕ) (pages : List Page) (n : ℕ) (page : Page) (k : ℕ) (row : VarBind) → ArePages pages
+    → 0 < length (take n pages) → slice_get (take n pages) (length (take n pages) - 1) ≡ Some page
+    → 0 < length (take k page.rows.items) → slice_get (take k page.rows.items) (length (take k page.rows.items) - 1) ≡ Some row → row.name ≡ o
+    → (front : List (List ℕ × Datum))
+    × StandsApart (from_sorted (entries_in pages)) o front (entries_of (drop k page.rows.items) ++ entries_in (drop n pages))
+apart_behind o pages n page k row rising some at row_some row_at name =
+    let front_pages : List Page = take n pages in
+    let before : List Page = take (length front_pages - 1) front_pages in
+    let front_rows : List VarBind = take k page.rows.items in
+    let init : List VarBind = take (length front_rows - 1) front_rows in
+    let rows_behind : Entries = entries_of (drop k page.rows.items) in
+    let behind : Entries = entries_in (drop n pages) in
+    let e : List ℕ × Datum = entry_of row in
+    let early : Entries = entries_in before ++ entries_of init in
+    let late : Entries = rows_behind ++ behind in
+    let rows : entries_of page.rows.items ≡ entries_of init ++ e ∷ rows_behind =
+    ap entries_of (sym (take-append-drop k page.rows.items)) ∙ rows-append front_rows (drop k page.rows.items)
+    ∙ ap (λ (rs : List VarBind). entries_of rs ++ rows_behind) (last_of front_rows row row_some row_at)
+    ∙ ap (λ (es : Entries). es ++ rows_behind) (rows-append init (row ∷ []))
+    ∙ append_assoc (entries_of init) (e ∷ []) rows_behind in
+    let whole : entries_in pages ≡ early ++ e ∷ late =
+    ap entries_in (sym (take-append-drop n pages)) ∙ pages-append front_pages (drop n pages)
+    ∙ ap (λ (ps : List Page). entries_in ps ++ behind) (last_of front_pages page some at)
+    ∙ ap (λ (es : Entries). es ++ behind) (pages-append before (page ∷ []))
+    ∙ ap (λ (es : Entries). (entries_in before ++ es) ++ behind) (append-nil (entries_of page.rows.items) ∙ rows)
+    ∙ regrouped (entries_in before) (entries_of init) rows_behind behind e in
+    let joined : entries_in pages ≡ (early ++ e ∷ []) ++ late = whole ∙ sym (append_assoc early (e ∷ []) late) in
+    let sorted : IsSorted (early ++ e ∷ late) = subst IsSorted whole rising in (
+      early ++ e ∷ [],
+      record {
+        found = λ q. get-from_sorted (slice_cmp nat_cmp) (entries_in pages) q rising ∙ ap (find (slice_cmp nat_cmp) q) joined;
+        rising = subst IsSorted joined rising;
+        passed = subst (λ (p : List ℕ). IsBeforeNone p (early ++ e ∷ [])) name (before_no_earlier early late e sorted);
+        ahead = subst (λ (p : List ℕ). IsBeforeAll p late) name (before_later early late e sorted);
+      },
+    )
 
 -- a page of one row appended
 pub appended_page : (old new : List Page) (page : Page) (row : VarBind) → new ≡ old ++ page ∷ [] → page.rows.items ≡ row ∷ []

@@ -13,7 +13,7 @@ ghost use Rattle.snmp_agent.specs.Answering.{IsResponseTooLong, whole_status, wh
 use crate::bulk::append_bulk;
 use crate::config::{Config, Outcome, Why};
 use crate::draft::{Draft, append_answers, room_for_bindings};
-use crate::table::{Table, one_answer};
+use crate::table::{Hint, Table, one_answer};
 use snmp_wire::{
     Kind, MAX_DATAGRAM, MessageRef, Parts, decode, encode_head, head_size, message_sizes, pieces,
     seal,
@@ -47,8 +47,28 @@ pub fn answer(
     ensures dropped { (why : Why) → result ≡ Outcome.Dropped why
         → IsDropped (agent_of table.now config.now) request.now why }
 {
+    answer_near(table, config, request, out, &mut Hint::default())
+}
+
+/// [`answer`] for an agent that is asked in turn. It finds the row of a GetNext without a search
+/// where the hint says where the row is that is asked from, and leaves one of the row that it gave.
+///
+/// No hint changes a reply: any may be handed in, also that of another table.
+pub fn answer_near(
+    table: &Table,
+    config: &Config<'_>,
+    request: &[u8],
+    out: &mut [u8; MAX_DATAGRAM],
+    hint: &mut Hint,
+) -> Outcome
+    ensures reply { (n : ℕ) → result ≡ Outcome.Reply n
+        → IsReply (agent_of table.now config.now) request.now (take n out.new) }
+    ensures length { (n : ℕ) → result ≡ Outcome.Reply n → n ≤ config.now.max_size }
+    ensures dropped { (why : Why) → result ≡ Outcome.Dropped why
+        → IsDropped (agent_of table.now config.now) request.now why }
+{
     match accepted(config.community, request) {
-        Ok(message) => match reply(table, config, &message, out) {
+        Ok(message) => match reply(table, config, &message, out, hint) {
             Some(size) => Outcome::Reply(size),
             None => Outcome::Dropped(Why::TooLong),
         },
@@ -86,6 +106,7 @@ fn reply(
     config: &Config<'_>,
     request: &MessageRef<'_>,
     out: &mut [u8; MAX_DATAGRAM],
+    hint: &mut Hint,
 ) -> Option<usize>
     requires served { IsServed request.now.kind }
     requires community { length request.now.community ≤ 255 }
@@ -95,8 +116,8 @@ fn reply(
     ensures none { IfNone result (IsResponseTooLong table.now config.now.max_size request.now) }
 {
     match request.kind() {
-        Kind::GetBulkRequest => bulk_reply(table, config, request, out),
-        _ => paired_reply(table, config, request, out),
+        Kind::GetBulkRequest => bulk_reply(table, config, request, out, hint),
+        _ => paired_reply(table, config, request, out, hint),
     }
 }
 
@@ -106,6 +127,7 @@ fn bulk_reply<'a>(
     config: &Config<'_>,
     request: &MessageRef<'a>,
     out: &mut [u8; MAX_DATAGRAM],
+    hint: &mut Hint,
 ) -> Option<usize>
     requires bulk { request.now.kind ≡ kind.GetBulkRequest }
     requires community { length request.now.community ≤ 255 }
@@ -121,7 +143,7 @@ fn bulk_reply<'a>(
     match room_for_bindings(&parts, config.max_size) {
         Some(room) => {
             let draft = Draft { room, total: 0 };
-            let total = append_bulk(table, request, draft, out);
+            let total = append_bulk(table, request, draft, out, hint);
             seal(&parts, 0, total, &mut out[..])
         }
         None => None,
@@ -135,6 +157,7 @@ fn paired_reply(
     config: &Config<'_>,
     request: &MessageRef<'_>,
     out: &mut [u8; MAX_DATAGRAM],
+    hint: &mut Hint,
 ) -> Option<usize>
     requires paired { IsPaired request.now.kind }
     requires community { length request.now.community ≤ 255 }
@@ -153,6 +176,7 @@ fn paired_reply(
         &parts,
         config,
         out,
+        hint,
     ) {
         Some(total) => seal(&parts, 0, total, &mut out[..]),
         None => shortened(request, config, out),

@@ -14,7 +14,7 @@ ghost use Rattle.snmp_agent.specs.Standing.{AreMoved, next_at};
 
 use crate::draft::{Draft, append_next, blank};
 use crate::place::Place;
-use crate::table::{Table, one_answer};
+use crate::table::{Hint, Table, one_answer};
 use arrayvec::ArrayVec;
 use snmp_oid::order;
 use snmp_wire::{BindingRef, Bindings, MAX_DATAGRAM, MessageRef, ValueRef};
@@ -37,6 +37,7 @@ pub fn append_bulk<'a>(
     request: &MessageRef<'a>,
     draft: Draft,
     out: &mut [u8; MAX_DATAGRAM],
+    hint: &mut Hint,
 ) -> usize
     requires { AreWritable request.now.bindings }
     ensures { (all : List VarBind) × IsBulk table.now request.now all
@@ -45,7 +46,7 @@ pub fn append_bulk<'a>(
     one_answer();
     let mut bindings = request.bindings();
     let count = or_zero(request.a());
-    match append_singles(table, count, &mut bindings, draft, out) {
+    match append_singles(table, count, &mut bindings, draft, out, hint) {
         Progress::Closed(total) => total,
         Progress::Open(total) => {
             let repetitions = or_zero(request.b());
@@ -73,6 +74,7 @@ fn append_singles<'a>(
     bindings: &mut Bindings<'a>,
     draft: Draft,
     out: &mut [u8; MAX_DATAGRAM],
+    hint: &mut Hint,
 ) -> Progress
     requires { AreWritable bindings.old }
     ensures progress { IsProgress (AreGiven table.now 0 (take count bindings.old))
@@ -89,7 +91,7 @@ fn append_singles<'a>(
             room: draft.room,
             total,
         };
-        match append_next(table, &asked, written, out) {
+        match append_next(table, &asked, written, out, hint) {
             Some(end) => total = end,
             None => return Progress::Closed(total),
         }

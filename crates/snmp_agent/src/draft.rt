@@ -13,7 +13,7 @@ ghost use Rattle.snmp_agent.specs.table.Table.{IsGet, IsNext};
 
 use crate::config::Config;
 use crate::place::{Given, append_end};
-use crate::table::{Table, one_answer};
+use crate::table::{Hint, Table, one_answer};
 use snmp_oid::order;
 use snmp_wire::{
     Binding, BindingRef, Bindings, EncodedBinding, EncodedName, Kind, MAX_DATAGRAM, Oid, Parts,
@@ -30,6 +30,7 @@ pub fn append_answers<'a>(
     parts: &Parts<'_>,
     config: &Config<'_>,
     out: &mut [u8; MAX_DATAGRAM],
+    hint: &mut Hint,
 ) -> Option<usize>
     requires paired { IsPaired kind }
     requires writable { AreWritable bindings }
@@ -47,7 +48,7 @@ pub fn append_answers<'a>(
     let mut total = 0;
     'bindings: while let Some(asked) = bindings.next_ref() {
         let draft = Draft { room, total };
-        total = append_answer(table, kind, &asked, draft, out)?;
+        total = append_answer(table, kind, &asked, draft, out, hint)?;
     }
     Some(total)
 }
@@ -72,6 +73,7 @@ fn append_answer(
     asked: &BindingRef<'_>,
     draft: Draft,
     out: &mut [u8; MAX_DATAGRAM],
+    hint: &mut Hint,
 ) -> Option<usize>
     requires paired { IsPaired kind }
     requires writable { IsWritable asked.now }
@@ -82,7 +84,7 @@ fn append_answer(
 {
     match kind {
         Kind::GetRequest => append_get(table, asked, draft, out),
-        Kind::GetNextRequest => append_next(table, asked, draft, out),
+        Kind::GetNextRequest => append_next(table, asked, draft, out, hint),
         _ => append_same(asked, draft, out),
     }
 }
@@ -127,12 +129,14 @@ fn append_got(
     draft.append(out, &binding)
 }
 
-/// Writes what a GetNext of a binding's name gives, as [`append_answer`] does.
+/// Writes what a GetNext of a binding's name gives, as [`append_answer`] does. The hint becomes that
+/// of the row.
 pub fn append_next(
     table: &Table,
     asked: &BindingRef<'_>,
     draft: Draft,
     out: &mut [u8; MAX_DATAGRAM],
+    hint: &mut Hint,
 ) -> Option<usize>
     requires { IsWritable asked.now }
     ensures written { IfSome result (λ n. (p : VarBind) × IsNext table.now asked.now.name p
@@ -143,8 +147,12 @@ pub fn append_next(
 {
     order();
     let name = asked.name();
-    match table.after(&name).next_row() {
-        Some(row) => draft.append_row(out, row),
+    let mut rows = table.after_near(&name, *hint);
+    match rows.next_row() {
+        Some(row) => {
+            *hint = rows.hint();
+            draft.append_row(out, row)
+        }
         None => append_end(&Given::Asked(name), draft, out),
     }
 }

@@ -33,12 +33,12 @@ mod place;
 mod server;
 mod table;
 
-pub use agent::answer;
+pub use agent::{answer, answer_near};
 pub use config::{Config, Outcome, Why};
 pub use endpoint::{Endpoint, EndpointFault};
 pub use laws::one_reply;
 pub use server::{Served, serve, serve_at};
 pub use table::{
-    NumericNames, PutError, Resolver, Successors, Table, TableError, no_fault, one_answer,
+    Hint, NumericNames, PutError, Resolver, Successors, Table, TableError, no_fault, one_answer,
     one_table, table_of_lines, unmarked_table,
 };

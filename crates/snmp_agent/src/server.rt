@@ -3,10 +3,10 @@ ghost use Rattle.std.specs.Prelude.{◌≡◌, ℕ, ◌+◌, List, length};
 ghost use Rattle.snmp_agent.specs.Reply.{agent_of};
 ghost use Rattle.snmp_agent.specs.Serving.{Event, logged, IsTurn, AreTurns, tally};
 
-use crate::agent::answer;
+use crate::agent::answer_near;
 use crate::config::{Config, Outcome};
 use crate::endpoint::{Endpoint, SocketEndpoint};
-use crate::table::Table;
+use crate::table::{Hint, Table};
 use snmp_wire::MAX_DATAGRAM;
 use std::net::UdpSocket;
 
@@ -63,8 +63,9 @@ pub fn serve_at<E: Endpoint>(
     let mut served = Served::default();
     let mut request = [0; MAX_DATAGRAM];
     let mut reply = [0; MAX_DATAGRAM];
+    let mut hint = Hint::default();
     'turns: for _ in 0..turns {
-        match serve_once(endpoint, table, config, &mut request, &mut reply) {
+        match serve_once(endpoint, table, config, &mut request, &mut reply, &mut hint) {
             Turn::Replied => served.replies += 1,
             Turn::Dropped => served.dropped += 1,
             Turn::Idle => served.idle += 1,
@@ -81,6 +82,7 @@ fn serve_once<E: Endpoint>(
     config: &Config<'_>,
     request: &mut [u8; MAX_DATAGRAM],
     reply: &mut [u8; MAX_DATAGRAM],
+    hint: &mut Hint,
 ) -> Turn
     ensures { (events : List Event) × IsTurn (agent_of table.now config.now) result events
         × (E.log endpoint.new ≡ logged (E.log endpoint.old) events) }
@@ -90,7 +92,7 @@ fn serve_once<E: Endpoint>(
         Ok(None) => return Turn::Idle,
         Err(_) => return Turn::Failed,
     };
-    match answer(table, config, &request[..size], reply) {
+    match answer_near(table, config, &request[..size], reply, hint) {
         Outcome::Reply(length) => match endpoint.reply(&reply[..length]) {
             Ok(()) => Turn::Replied,
             Err(_) => Turn::Failed,

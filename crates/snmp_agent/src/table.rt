@@ -19,5 +19,5 @@ mod value;
 pub use error::{PutError, TableError};
 pub use format::{NumericNames, Resolver};
 pub use laws::{no_fault, one_answer, one_table, table_of_lines, unmarked_table};
-pub use pages::Successors;
+pub use pages::{Hint, Successors};
 pub use table::Table;

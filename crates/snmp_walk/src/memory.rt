@@ -4,7 +4,7 @@ ghost use Rattle.snmp_walk.specs.Traffic.{datagram_at, received, Gives};
 
 use crate::arena::Arena;
 use crate::{Link, LinkFault};
-use snmp_agent::{Config, Outcome, Table, answer};
+use snmp_agent::{Config, Hint, Outcome, Table, answer_near};
 use std::alloc::{AllocError, Global};
 
 /// A link to an agent in memory, over one table, or over several that each reply to some of the
@@ -23,6 +23,7 @@ pub struct MemoryLink<'a> {
     used: usize,
     arena: Arena,
     fault_count: u64,
+    hint: Hint,
     ghost is_served: { 0 < length tables.now },
     ghost are_tables: { All (λ place. place < length tables.now) uses.now },
 }
@@ -86,6 +87,7 @@ impl<'a> MemoryLink<'a> {
             used: 0,
             arena: Arena::new(alloc),
             fault_count: 0,
+            hint: Hint::default(),
         }
     }
 
@@ -133,7 +135,7 @@ impl<'a> MemoryLink<'a> {
 
     /// Writes the agent's reply to the datagram of this number, and returns its length, if there is
     /// one.
-    fn reply_to(&self, number: usize, out: &mut [u8; 65507]) -> Option<usize>
+    fn reply_to(&self, number: usize, out: &mut [u8; 65507], hint: &mut Hint) -> Option<usize>
         ensures length { IfSome result (λ n. n ≤ 65507) }
         ensures room { length out.new ≡ 65507 }
         ensures reply { Gives (agents_of self.now) (datagram_at self.now.arena.datagrams number)
@@ -144,7 +146,7 @@ impl<'a> MemoryLink<'a> {
             self.now.arena.datagrams number) }
     {
         let datagram = self.arena.datagram(number)?;
-        match answer(self.table_for(number), &self.config, datagram, out) {
+        match answer_near(self.table_for(number), &self.config, datagram, out, hint) {
             Outcome::Reply(length) => Some(length),
             Outcome::Dropped(_) => None,
         }
@@ -223,7 +225,10 @@ impl<'a> Link for MemoryLink<'a> {
             return Err(LinkFault);
         };
         let number = self.next_number();
-        Ok(self.reply_to(number, out))
+        let mut hint = self.hint;
+        let got = self.reply_to(number, out, &mut hint);
+        self.hint = hint;
+        Ok(got)
     }
 
     fn faults(&self) -> u64 {

@@ -1,8 +1,7 @@
 //! The lines of a table's text.
 ghost use Rattle.std.specs.Prelude.{ℕ, List, IfOk, IfErr};
-ghost use Rattle.snmp_agent.specs.table.Exact.{IsOnly};
 ghost use Rattle.snmp_agent.specs.table.Row.{tag_text};
-ghost use Rattle.snmp_agent.specs.table.Form.{States, IsInstanceText};
+ghost use Rattle.snmp_agent.specs.table.Form.{States};
 ghost use Rattle.snmp_agent.specs.table.Line.{IsForm, IsObjectRead, IsInstanceRead, IsLineFault};
 ghost use Rattle.snmp_agent.specs.table.Line.{statement_of};
 ghost use Rattle.snmp_agent.specs.table.Text.{IsBlank, IsObjectForm};
@@ -11,7 +10,7 @@ use crate::table::change::is_instance_name;
 use crate::table::format::LineFormat;
 use crate::table::split::split_once;
 use crate::table::value::{Tag, value};
-use snmp_wire::{EncodedBinding, Oid};
+use snmp_wire::EncodedBinding;
 use std::alloc::{AllocError, Global};
 
 /// What a line states.
@@ -128,23 +127,12 @@ fn instance<F: LineFormat>(
 ) -> Result<Line, LineFault>
     ensures { IsInstanceRead (F.format format.now) text.now (tag_text tag) value_text.now result }
 {
-    let Some(oid) = instance_name(format, text) else {
-        return Err(LineFault::Name);
-    };
-    match value(alloc, format, tag, value_text)? {
-        Some(value) => Ok(Line::Instance(EncodedBinding::new(alloc, &oid, &value.as_ref())?)),
-        None => Err(LineFault::Value),
-    }
-}
-
-/// The name of an instance: at least three numbers, with an encoding.
-fn instance_name<F: LineFormat>(format: &F, text: &[u8]) -> Option<Oid>
-    ensures { IsOnly (IsInstanceText (F.format format.now) text.now) result }
-{
-    let oid = format.name(text)?;
-    if is_instance_name(&oid) {
-        Some(oid)
-    } else {
-        None
+    // The name stays where it is read: to move one takes as long as to read it.
+    match format.name(text) {
+        Some(oid) if is_instance_name(&oid) => match value(alloc, format, tag, value_text)? {
+            Some(value) => Ok(Line::Instance(EncodedBinding::new(alloc, &oid, &value.as_ref())?)),
+            None => Err(LineFault::Value),
+        },
+        _ => Err(LineFault::Name),
     }
 }

@@ -115,8 +115,12 @@ fn insert_row(
     ensures inserted { IfOk result (λ _. rows.new.items ≡ insert rows.old.items place row) }
     ensures unchanged_on_error { IfErr result (λ _. rows.new.items ≡ rows.old.items) }
 {
-    match rows.insert(place, row) {
-        Ok(()) => Ok(()),
+    match rows.push(row) {
+        Ok(()) => {
+            // By one place, and so at once: `Vec::insert` moves rows one by one.
+            rows[place..].rotate_right(1);
+            Ok(())
+        }
         Err(_) => Err(AllocError),
     }
 }

@@ -11,6 +11,29 @@ use snmp_wire::{Binding, EncodedBinding, EncodedName, Oid, ValueRef};
 use std::alloc::{AllocError, Global};
 use std::marker::Model;
 
+/// Where a row was that a reply gave, as a guess: whoever asks in turn mostly asks from that row.
+#[derive(Clone, Copy, Debug)]
+pub struct Hint {
+    /// How many rows of its page stand behind it.
+    rows: usize,
+    /// How many pages stand behind that.
+    pages: usize,
+}
+
+impl Default for Hint {
+    ghost use Rattle.std.specs.Prelude.{⊤};
+
+    ghost is_default = { λ _. ⊤ };
+
+    // The hint of no row: no table has as many pages.
+    fn default() -> Hint {
+        Hint {
+            rows: 0,
+            pages: usize::MAX,
+        }
+    }
+}
+
 /// Rows by rising names, in pages of 1 to 256, so that a change moves no more rows than a page has.
 #[derive(Drop)]
 pub struct Pages {
@@ -77,6 +100,37 @@ impl Pages {
         let rows = page.rows.as_slice();
         let (_, rows) = rows.split_at(place_after(rows, name));
         Successors { rows, pages }
+    }
+
+    /// The rows behind this name, as [`Pages::after`] finds them. Nothing is searched where the hint
+    /// is right.
+    pub fn after_near(&self, name: &EncodedName<'_>, hint: Hint) -> Successors<'_>
+        ensures { (front : List (List ℕ × Datum)) × StandsApart self.now name.now front result }
+    {
+        match self.behind(name, hint) {
+            Some(rows) => rows,
+            None => self.after(name),
+        }
+    }
+
+    /// The rows behind this name, if its row is where the hint says.
+    fn behind(&self, name: &EncodedName<'_>, hint: Hint) -> Option<Successors<'_>>
+        ensures { IfSome result (λ rows. (front : List (List ℕ × Datum))
+            × StandsApart self.now name.now front rows) }
+    {
+        let pages = self.list.as_slice();
+        let page_end = pages.len().checked_sub(hint.pages)?;
+        let (front, pages) = pages.split_at(page_end);
+        let page = front.last()?;
+        let rows = page.rows.as_slice();
+        let row_end = rows.len().checked_sub(hint.rows)?;
+        let (front, rows) = rows.split_at(row_end);
+        let row = front.last()?;
+        if row.name().compare(name).is_eq() {
+            Some(Successors { rows, pages })
+        } else {
+            None
+        }
     }
 
     /// Puts a row in its place among the others, or in place of the one that has its name, and
@@ -248,6 +302,15 @@ impl<'a> Successors<'a> {
         self.rows = rows;
         self.pages = pages;
         Some(row)
+    }
+
+    /// Where the row is that stands before these.
+    #[inline]
+    pub(crate) fn hint(&self) -> Hint {
+        Hint {
+            rows: self.rows.len(),
+            pages: self.pages.len(),
+        }
     }
 
     /// Whether there are none.

@@ -8,7 +8,7 @@ use crate::table::error::{PutError, TableError};
 use crate::table::format::{
     FirstFormat, LineFormat, NumericNames, Resolver, SecondFormat, is_marked,
 };
-use crate::table::pages::{Pages, Successors};
+use crate::table::pages::{Hint, Pages, Successors};
 use crate::table::split::split_line;
 use snmp_oid::order;
 use snmp_wire::{Binding, EncodedBinding, EncodedName, MAX_CONTENT, Oid, ValueRef};
@@ -197,6 +197,13 @@ impl Table {
         ensures { AreBehind self.now name.now result }
     {
         self.rows.after(name)
+    }
+
+    /// The same. Nothing is searched where the hint is right.
+    pub(crate) fn after_near(&self, name: &EncodedName<'_>, hint: Hint) -> Successors<'_>
+        ensures { AreBehind self.now name.now result }
+    {
+        self.rows.after_near(name, hint)
     }
 
     /// Changes a binding to what a GetNext gives that is asked again, `rounds` times more, each

@@ -6,9 +6,9 @@ use Rattle.snmp_agent.proofs.server.serve_once.Goals as goal
 pub returns-in-Ok : goal.returns-in-Ok
 returns-in-Ok g c =
     let datagram : List ℕ = take c.in-Ok-Some.size c.receive.new.buffer in
-    let reply : List ℕ = take c.in-Reply.length c.answer.new.out in (
+    let reply : List ℕ = take c.in-Reply.length c.answer_near.new.out in (
       came datagram ∷ sent reply ∷ [],
-      (datagram, reply, c.answer.ensures.reply c.in-Reply.length c.in-Reply.is, refl),
+      (datagram, reply, c.answer_near.ensures.reply c.in-Reply.length c.in-Reply.is, refl),
       both_events _ _ _ c.receive.result c.in-Ok-Some.size c.receive.new.buffer reply c.reply.result (cc) c.receive.ensures.log c.reply.ensures
           ∙ ap (λ r. logged (g.E.Endpoint.log c.args.endpoint.now) (came datagram ∷ event_of_reply r reply)) c.in-Ok.is,
     )
@@ -16,9 +16,9 @@ returns-in-Ok g c =
 pub returns-in-Err-reply : goal.returns-in-Err-reply
 returns-in-Err-reply g c =
     let datagram : List ℕ = take c.in-Ok-Some.size c.receive.new.buffer in
-    let reply : List ℕ = take c.in-Reply.length c.answer.new.out in (
+    let reply : List ℕ = take c.in-Reply.length c.answer_near.new.out in (
       came datagram ∷ send_failed reply ∷ [],
-      inr (datagram, reply, c.answer.ensures.reply c.in-Reply.length c.in-Reply.is, refl),
+      inr (datagram, reply, c.answer_near.ensures.reply c.in-Reply.length c.in-Reply.is, refl),
       both_events _ _ _ c.receive.result c.in-Ok-Some.size c.receive.new.buffer reply c.reply.result (cc) c.receive.ensures.log c.reply.ensures
           ∙ ap (λ r. logged (g.E.Endpoint.log c.args.endpoint.now) (came datagram ∷ event_of_reply r reply)) c.in-Err-reply.is,
     )
@@ -28,6 +28,6 @@ returns-in-Dropped g c =
     let datagram : List ℕ = take c.in-Ok-Some.size c.receive.new.buffer in
     let received : c.receive.result ≡ Ok (Some c.in-Ok-Some.size) = cc in (
       came datagram ∷ [],
-      (datagram, c.in-Dropped.field-0, c.answer.ensures.dropped c.in-Dropped.field-0 c.in-Dropped.is, refl),
+      (datagram, c.in-Dropped.field-0, c.answer_near.ensures.dropped c.in-Dropped.field-0 c.in-Dropped.is, refl),
       c.receive.ensures.log ∙ ap (λ r. logged (g.E.Endpoint.log c.args.endpoint.now) (event_of_receive r c.receive.new.buffer)) received,
     )

@@ -16,7 +16,7 @@ stated : (g : Over) (c : In-Some-2 g)
 stated g c =
     let format = g.F.LineFormat.format c.args.format.now in
     let value : IsOnly (IsValueText format (tag_text c.args.tag) c.args.value_text.now) (option_map datum_of
-    (Some c.in-Some-2.value)) = rw c.in-Some-2.is at c.in_ok-value.ensures in value.0
+    (Some c.in-Some-2.value)) = rw c.in-Some-2.is at c.in_ok-value-in-Some.ensures in value.0
 
 pub as_ref-requires : goal.as_ref-requires
 as_ref-requires g c =
@@ -24,7 +24,7 @@ as_ref-requires g c =
     (datum_of c.in-Some-2.value) (stated g (goal.at.as_ref-requires g c).In-Some-2))
 
 pub new-requires-clause-name : goal.new-requires-clause-name
-new-requires-clause-name g c = name_in_range c.in-Some.oid c.in-Some.ensures.0.1
+new-requires-clause-name g c = name_in_range c.in-Some.oid (c.is_instance_name.ensures.0 c.if-is_instance_name.true)
 
 pub new-requires-clause-value : goal.new-requires-clause-value
 new-requires-clause-value g c =
@@ -38,7 +38,8 @@ returns-in_ok-new-in-Some-2 g c =
     let row : VarBind = c.in_ok-new-in-Some-2.field-0 in
     let name : row.name ≡ c.in-Some.oid = ap (λ (p : VarBind). p.name) c.in_ok-new-in-Some-2.ensures in
     let value : row.value ≡ datum_of c.in-Some-2.value = ap (λ (p : VarBind). p.value) c.in_ok-new-in-Some-2.ensures ∙ c.as_ref.ensures in (
-      subst (λ (o : List ℕ). IsInstanceText format c.args.text.now o) (sym name) c.in-Some.ensures.0,
+      subst (λ (o : List ℕ). IsInstanceText format c.args.text.now o) (sym name)
+          (c.in-Some.ensures.0, c.is_instance_name.ensures.0 c.if-is_instance_name.true),
       subst (λ (v : Datum). IsValueText format (tag_text c.args.tag) c.args.value_text.now v) (sym value)
           (stated g (goal.at.returns-in_ok-new-in-Some-2 g c).In-Some-2),
     )
