@@ -6,21 +6,21 @@ pub returns-in-Reply-clause-reply : goal.returns-in-Reply-clause-reply
 returns-in-Reply-clause-reply c =
     given_reply c.args.self.now.tables.now c.args.self.now.config c.table_for.result.now c.in_ok-datagram.datagram.now _ _ c.table_for.ensures.one
     c.in_ok-datagram.ensures.some
-    (c.answer.ensures.reply c.in-Reply.length c.in-Reply.is)
+    (c.answer_near.ensures.reply c.in-Reply.length c.in-Reply.is)
 
 pub returns-in-Dropped-clause-reply : goal.returns-in-Dropped-clause-reply
 returns-in-Dropped-clause-reply c =
     given_none c.args.self.now.tables.now c.args.self.now.config c.table_for.result.now c.in_ok-datagram.datagram.now _ _ c.table_for.ensures.one
     c.in_ok-datagram.ensures.some
-    (c.answer.ensures.dropped _ c.in-Dropped.is)
+    (c.answer_near.ensures.dropped _ c.in-Dropped.is)
 
 pub returns-in-Reply-clause-table : goal.returns-in-Reply-clause-table
 returns-in-Reply-clause-table c = record {
   datagram = c.in_ok-datagram.datagram.now;
   found = c.in_ok-datagram.ensures.some;
   view = c.table_for.result.now;
-  serves = c.table_for.ensures.place (counted _ _ _ c.in_ok-datagram.ensures.some);
-  reply = c.answer.ensures.reply c.in-Reply.length c.in-Reply.is;
+  serves = c.table_for.ensures.place;
+  reply = c.answer_near.ensures.reply c.in-Reply.length c.in-Reply.is;
 }
 
 pub returns-in-Dropped-clause-none : goal.returns-in-Dropped-clause-none
@@ -29,6 +29,6 @@ returns-in-Dropped-clause-none c = inr (
   c.table_for.result.now,
   _,
   c.in_ok-datagram.ensures.some,
-  c.table_for.ensures.place (counted _ _ _ c.in_ok-datagram.ensures.some),
-  c.answer.ensures.dropped _ c.in-Dropped.is,
+  c.table_for.ensures.place,
+  c.answer_near.ensures.dropped _ c.in-Dropped.is,
 )

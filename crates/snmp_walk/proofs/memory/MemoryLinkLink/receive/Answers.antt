@@ -9,20 +9,20 @@ use Rattle.snmp_walk.proofs.MemoryLemmas.{brought_by, silent_by, as_before, rece
 use Rattle.snmp_walk.proofs.memory.MemoryLinkLink.receive.Goals as goal
 
 pub returns-clause-length : goal.returns-clause-length
-returns-clause-length c = within_more c.reply_to.result (length c.args.buffer.now) c.reply_to.ensures.length (c.in-Some.ensures.variant.0 refl)
+returns-clause-length c = within_more c.reply_to-got.result (length c.args.buffer.now) c.reply_to-got.ensures.length (c.in-Some.ensures.variant.0 refl)
 
 pub returns-clause-reply : goal.returns-clause-reply
 returns-clause-reply c = λ h long.
     let self = c.args.self.now in
-    let given : Gives (agents_of self) (datagram_at self.arena.datagrams c.next_number-number.result) (received c.reply_to.result c.reply_to.new.out) =
+    let given : Gives (agents_of self) (datagram_at self.arena.datagrams c.next_number-number.result) (received c.reply_to-got.result c.reply_to-got.new.out) =
     subst (λ (a : Agents). Gives a (datagram_at self.arena.datagrams c.next_number-number.result)
-    (received c.reply_to.result c.reply_to.new.out)) c.next_number-number.ensures.agents
+    (received c.reply_to-got.result c.reply_to-got.new.out)) c.next_number-number.ensures.agents
     (subst (λ (s : Store). Gives (agents_of c.next_number-number.new.self) (datagram_at s.datagrams c.next_number-number.result)
-    (received c.reply_to.result c.reply_to.new.out)) c.next_number-number.ensures.arena
-    c.reply_to.ensures.reply) in
+    (received c.reply_to-got.result c.reply_to-got.new.out)) c.next_number-number.ensures.arena
+    c.reply_to-got.ensures.reply) in
     subst (λ (r : Option (List ℕ)). Receives (agents_of self) self.arena.datagrams (drop self.used self.deliveries.now) r
     (drop c.next_number-number.new.self.used c.next_number-number.new.self.deliveries.now))
-    (sym (received_front c.reply_to.result c.reply_to.new.out _ c.reply_to.ensures.length c.reply_to.ensures.room))
+    (sym (received_front c.reply_to-got.result c.reply_to-got.new.out _ c.reply_to-got.ensures.length c.reply_to-got.ensures.room))
     (received_at (agents_of self) self.arena.datagrams
     (drop self.used self.deliveries.now) c.next_number-number.result _ _ c.next_number-number.ensures.number given)
 
@@ -64,23 +64,23 @@ returns-clause-brings c =
     let self = c.args.self.now in
     let later = c.next_number-number.new.self in
     let same = c.next_number-number.ensures in
-    brought_by c.reply_to.result c.reply_to.new.out _ c.next_number-number.result (λ k. UsesDelivery self k later)
-    (IsReplyOf (agents_of self) self.uses.now self.arena.datagrams) c.reply_to.ensures.length c.reply_to.ensures.room
+    brought_by c.reply_to-got.result c.reply_to-got.new.out _ c.next_number-number.result (λ k. UsesDelivery self k _)
+    (IsReplyOf (agents_of self) self.uses.now self.arena.datagrams) c.reply_to-got.ensures.length c.reply_to-got.ensures.room
     (record { agents = same.agents; uses = ap (λ u. u.now) same.uses; sent = ap (λ (s : Store). s.datagrams) same.arena; next = same.number })
-    (as_before (λ a u sent. IfSome c.reply_to.result (λ n. IsReplyOf a u sent c.next_number-number.result (take n c.reply_to.new.out)))
+    (as_before (λ a u sent. IfSome c.reply_to-got.result (λ n. IsReplyOf a u sent c.next_number-number.result (take n c.reply_to-got.new.out)))
     (agents_of self) (agents_of later) self.uses.now later.uses.now self.arena later.arena same.agents (ap (λ u. u.now) same.uses) same.arena
-    c.reply_to.ensures.table)
+    c.reply_to-got.ensures.table)
 
 pub returns-clause-silent : goal.returns-clause-silent
 returns-clause-silent c =
     let self = c.args.self.now in
     let later = c.next_number-number.new.self in
     let same = c.next_number-number.ensures in
-    silent_by c.reply_to.result c.next_number-number.result (λ k. UsesDelivery self k later)
+    silent_by c.reply_to-got.result c.next_number-number.result (λ k. UsesDelivery self k _)
     (HasNoReplyOf (agents_of self) self.uses.now self.arena.datagrams)
     (record { agents = same.agents; uses = ap (λ u. u.now) same.uses; sent = ap (λ (s : Store). s.datagrams) same.arena; next = same.number })
-    (as_before (λ a u sent. IfNone c.reply_to.result (HasNoReplyOf a u sent c.next_number-number.result)) (agents_of self) (agents_of later)
-    self.uses.now later.uses.now self.arena later.arena same.agents (ap (λ u. u.now) same.uses) same.arena c.reply_to.ensures.none)
+    (as_before (λ a u sent. IfNone c.reply_to-got.result (HasNoReplyOf a u sent c.next_number-number.result)) (agents_of self) (agents_of later)
+    self.uses.now later.uses.now self.arena later.arena same.agents (ap (λ u. u.now) same.uses) same.arena c.reply_to-got.ensures.none)
 
 pub returns-in_default-clause-fault : goal.returns-in_default-clause-fault
 returns-in_default-clause-fault c = record {
