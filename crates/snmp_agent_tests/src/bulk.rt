@@ -213,7 +213,7 @@ fn bulk_of(alloc: Global, count: u16) -> Result<Vec<u8>, AllocError> {
 }
 
 /// The text of the rows of the numbers from 128 to `last`, each 1.3.6, the number, with its number.
-fn numbers_to(alloc: Global, last: u32) -> Result<Vec<u8>, AllocError> {
+pub(crate) fn numbers_to(alloc: Global, last: u32) -> Result<Vec<u8>, AllocError> {
     let mut text = Vec::new(alloc);
     for number in 128..=last {
         let line = format!(in alloc; "1.3.6.{number}|65|{number}\n")?;

@@ -8,6 +8,8 @@ mod bulk;
 #[cfg(test)]
 mod changes;
 #[cfg(test)]
+mod hints;
+#[cfg(test)]
 mod loopback;
 #[cfg(test)]
 mod pages;

@@ -150,3 +150,45 @@ fn names_at_the_edges_of_encodings_are_in_order(rt: HostRuntime) {
         );
     }
 }
+
+/// A table of `count` rows, of the even numbers from 0 on, and the map of the same rows.
+fn even_rows(alloc: Global, count: u32) -> Option<(Table, BTreeMap<u32, u32>)> {
+    let mut text = Vec::new(alloc);
+    let mut map = BTreeMap::new(alloc);
+    for place in 0..count {
+        let number = place.wrapping_mul(2);
+        let line = format!(in alloc; "1.3.6.1.4.1.32473.1.{number}.0|65|{number}\n").ok()?;
+        text.extend_from_slice(line.as_bytes()).ok()?;
+        map.insert(number, number).ok()?;
+    }
+    Some((Table::read(alloc, &text).ok()?, map))
+}
+
+/// Whether a table of `count` rows stays the map while the row at this place has a new value, one
+/// comes beside it, and both go.
+fn is_changed_at(alloc: Global, count: u32, place: u32) -> Option<bool> {
+    let (mut table, mut map) = even_rows(alloc, count)?;
+    let (table, map) = (&mut table, &mut map);
+    let number = place.wrapping_mul(2);
+    let beside = number.wrapping_add(1);
+    let replaced = is_put(table, map, number, 7) && has_rows(table, map);
+    let inserted = is_put(table, map, beside, 8) && has_rows(table, map);
+    let removed = is_removed(table, map, number) && has_rows(table, map);
+    let emptied = is_removed(table, map, beside) && has_rows(table, map);
+    Some(replaced && inserted && removed && emptied)
+}
+
+#[test]
+fn rows_change_at_the_ends_and_in_the_middle_of_each_page(rt: HostRuntime) {
+    // Rows that are read in order fill pages of 256.
+    for &count in &[1, 256, 257, 513] {
+        for &place in &[0, 1, 127, 128, 129, 254, 255, 256, 257, 384, 510, 511, 512] {
+            if place < count {
+                assert!(rt;
+                    is_changed_at(rt.alloc(), count, place) == Some(true),
+                    "at {place} of {count}"
+                );
+            }
+        }
+    }
+}

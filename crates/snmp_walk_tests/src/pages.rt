@@ -1,6 +1,6 @@
 //! Walks over tables of several pages.
 
-use crate::runs::{ROOT, public, walk_ends, walk_of};
+use crate::runs::{ROOT, name_of, public, resumed, walk_ends, walk_of};
 use snmp_agent::Table;
 use snmp_walk::{MemoryLink, Method, Mode, Sink, SinkFault, WalkEnd};
 use snmp_wire::{Binding, ValueRef};
@@ -66,6 +66,35 @@ fn is_walked(
         && numbers.others == u32::from(count == 0)
 }
 
+/// Whether a walk over such rows that is resumed after the row of this number gives those behind
+/// it, in order, and nothing else.
+fn is_resumed(
+    rt: &impl Abort,
+    alloc: Global,
+    table: &Table,
+    count: u32,
+    after: u32,
+    method: Method,
+    size: usize,
+) -> bool {
+    let method = match method {
+        Method::Next => Method::Next,
+        Method::Bulk(repetitions) => Method::Bulk(repetitions.max(1)),
+    };
+    let mut name = name_of(rt, ROOT);
+    let next = after.wrapping_add(1);
+    let core = match name.push(after) {
+        Ok(()) => resumed(rt, &name, method),
+        Err(_) => return false,
+    };
+    let mut link = MemoryLink::new(alloc, table, public(size), &[]);
+    let mut numbers = Numbers { next, others: 0 };
+    let end = WalkEnd::Done(u64::from(count.wrapping_sub(next)));
+    walk_ends(&mut link, core, 0, &mut numbers, &end)
+        && numbers.next == count
+        && numbers.others == 0
+}
+
 /// Walks by each of the methods, at several sizes of messages, give the rows of a table of `count`
 /// of them.
 fn assert_walked(rt: &impl Abort, alloc: Global, count: u32, step: u32, methods: &[Method]) {
@@ -77,6 +106,13 @@ fn assert_walked(rt: &impl Abort, alloc: Global, count: u32, step: u32, methods:
                 is_walked(rt, alloc, &table, count, method, size),
                 "{count} rows by {step} in messages of {size} octets"
             );
+            // After the first and the last row of a page, and the last of all.
+            for &after in &[0, 255, 256, 511, count.saturating_sub(1)] {
+                assert!(rt;
+                    after >= count || is_resumed(rt, alloc, &table, count, after, method, size),
+                    "{count} rows by {step} in messages of {size} octets, after {after}"
+                );
+            }
         }
     }
 }

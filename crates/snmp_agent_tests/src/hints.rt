@@ -1,0 +1,86 @@
+//! An agent that is asked in turn, and keeps a hint from one request to the next.
+
+use crate::bulk::numbers_to;
+use snmp_agent::{Config, Hint, Outcome, Table, answer, answer_near};
+use snmp_wire::Oid;
+use std::alloc::Global;
+use std::process::Abort;
+
+/// The GetNext of 1.3.6 and this number, from 128 to 16383.
+fn next_of(number: u16) -> [u8; 36] {
+    let [high, low] = number.wrapping_mul(2).to_be_bytes();
+    let mut request = [
+        0x30, 0x22, 0x02, 0x01, 0x01, 0x04, 0x06, 0x70, 0x75, 0x62, 0x6C, 0x69, 0x63, 0xA1, 0x15,
+        0x02, 0x01, 0x01, 0x02, 0x01, 0x00, 0x02, 0x01, 0x00, 0x30, 0x0A, 0x30, 0x08, 0x06, 0x04,
+        0x2B, 0x06, 0x81, 0x00, 0x05, 0x00,
+    ];
+    request[32] = high | 0x80;
+    request[33] = low / 2;
+    request
+}
+
+/// Whether the agent has a reply to the GetNext of this number, and the same with the hint as
+/// without one.
+fn is_same_reply(table: &Table, number: u16, hint: &mut Hint) -> bool {
+    let request = next_of(number);
+    let config = Config {
+        community: b"public",
+        max_size: 1472,
+    };
+    let mut near = [0; 65507];
+    let mut out = [0; 65507];
+    match (
+        answer_near(table, &config, &request, &mut near, hint),
+        answer(table, &config, &request, &mut out),
+    ) {
+        (Outcome::Reply(size), Outcome::Reply(same)) => {
+            size == same && near.get(..size) == out.get(..size)
+        }
+        _ => false,
+    }
+}
+
+/// The table of the rows of the numbers from 128 to `last`.
+fn table_to(rt: &impl Abort, alloc: Global, last: u32) -> Table {
+    let text = numbers_to(alloc, last).expect(rt, "memory for rows");
+    Table::read(alloc, &text).expect(rt, "a table")
+}
+
+#[test]
+fn no_hint_changes_a_reply(rt: HostRuntime) {
+    let many = table_to(&rt, rt.alloc(), 700);
+    let few = table_to(&rt, rt.alloc(), 130);
+    let mut hint = Hint::default();
+    // In turn, past the end too; then from elsewhere, with the hint of another row.
+    for number in 128..=702 {
+        assert!(rt; is_same_reply(&many, number, &mut hint), "after {number}");
+    }
+    for &number in &[383, 128, 384, 700, 639, 640, 129] {
+        assert!(rt; is_same_reply(&many, number, &mut hint), "after {number}");
+        // The hint is that of another table.
+        assert!(rt; is_same_reply(&few, 129, &mut hint), "over few rows");
+        let mut other = hint;
+        assert!(rt;
+            is_same_reply(&many, number, &mut other),
+            "after {number} again"
+        );
+    }
+}
+
+#[test]
+fn a_hint_that_is_out_of_date_changes_no_reply(rt: HostRuntime) {
+    let mut table = table_to(&rt, rt.alloc(), 700);
+    let mut hint = Hint::default();
+    for number in 300..500 {
+        assert!(rt; is_same_reply(&table, number, &mut hint), "after {number}");
+        // The row of the hint goes, or one before it.
+        let back = if number % 2 == 0 { 0 } else { 100 };
+        let last = u32::from(number).wrapping_add(1).wrapping_sub(back);
+        let name = Oid::from_slice(&[1, 3, 6, last]).expect(&rt, "a name");
+        assert!(rt; table.remove(&name), "no row of {last}");
+        assert!(rt;
+            is_same_reply(&table, number.wrapping_add(1), &mut hint),
+            "after {number} and one more"
+        );
+    }
+}
