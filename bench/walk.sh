@@ -2,6 +2,7 @@
 # Counts the instructions that a walk over a link in memory takes for each row, by GetNext and by GetBulk of
 # 50: request, agent and reply together, without printing. It is the difference of walks over 4,000 and
 # 2,000 rows, so that what a walk does once doesn't count, nor the reading of the table.
+# Of a GetNext it counts what the agent takes, too.
 source "$(dirname "${BASH_SOURCE[0]}")/common.sh"
 driver walk.c
 rows=2000
@@ -13,3 +14,5 @@ for repetitions in 0 1 10 50; do
     case $repetitions in 0) method=GetNext ;; *) method="GetBulk of $repetitions" ;; esac
     echo "$method: $(((long - short) / rows)) instructions a row"
 done
+inside=$(within snmp_agent::agent::answer_near 0 "$rows" 1)
+echo "GetNext: $((inside / (rows + 1))) instructions a request are the agent's"
