@@ -4,9 +4,9 @@ use Rattle.std.proofs.Common.{Option, Some, None, Result, Ok, Err, refl, sym, �
 use Rattle.std.proofs.lemmas.Bool.{eqb-true, eqb-false, eq-eqb, leb-true, leb-false, le-leb, lt-leb}
 use Rattle.smi_show.specs.index.Pieces.{Piece, piece_numbers}
 use Rattle.smi_show.specs.name.Cut.{module_after, name_parts, parts_after, with_prefix}
-use Rattle.smi_show.specs.name.Meaning.{Scope, among_roots, anywhere, in_module, and_then, first_word_meaning, fitting, found_in, further_meaning, or_unknown}
+use Rattle.smi_show.specs.name.Meaning.{and_then, first_word_meaning, fitting, further_meaning, or_unknown}
 use Rattle.smi_show.specs.name.Meaning.{later_word_meaning, meaning, part_meaning, parts_meaning, plain_meaning, scoped_meaning}
-use Rattle.smi_show.specs.name.Meant.{IsFound, IsLabel, ScopeIsLoaded, ScopeIsMissing, IsRoomFor, IsScoped, TextMeans, PartMeans, PartsMean, ScopeMeans, StatesPiece}
+use Rattle.smi_show.specs.name.Meant.{Scope, among_roots, anywhere, in_module, found_in, IsFound, IsLabel, ScopeIsLoaded, ScopeIsMissing, IsRoomFor, IsScoped, TextMeans, PartMeans, PartsMean, ScopeMeans, StatesPiece}
 use Rattle.smi_show.specs.name.Naming.{Naming}
 use Rattle.smi_show.specs.name.Word.{Word, a_piece, a_label, word_of}
 use Rattle.smi_show.specs.declared.name.error.NameError.{NameError}
@@ -253,10 +253,13 @@ module _ (naming : Naming) where
       at false same = long_means (octet ∷ []) (λ e. (let w : ⊥ = cc in w)) (λ e. eqb-false octet 46 same (let is : octet ≡ 46 = cc in is))
   means (octet ∷ next ∷ more) = long_means (octet ∷ next ∷ more) (λ e. (let w : ⊥ = cc in w)) (λ e. (let w : ⊥ = cc in w))
 
-  pub means_only : (text : List ℕ) (result : Outcome) → TextMeans naming text result → result ≡ meaning naming text
+  means_only : (text : List ℕ) (result : Outcome) → TextMeans naming text result → result ≡ meaning naming text
   means_only text result h = elim h [
     | inl none ↦ none.1 ∙ sym (ap (meaning naming) none.0)
     | inr (inl dot) ↦ dot.1 ∙ sym (ap (meaning naming) dot.0)
     | inr (inr long) ↦ let scope = long.2 in
         scope_only naming scope.0 scope.1 result scope.3 ∙ scope_found text scope.0 scope.1 scope.2 ∙ sym (scoped naming text long.0 long.1)
   ]
+
+  pub one_meaning : (text : List ℕ) (a b : Outcome) → TextMeans naming text a → TextMeans naming text b → a ≡ b
+  one_meaning text a b h k = means_only text a h ∙ sym (means_only text b k)

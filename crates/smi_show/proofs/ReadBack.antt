@@ -53,14 +53,10 @@ use Rattle.smi_value.specs.declared.letters.letters.NameForm.TheVariants.{Numeri
 use Rattle.smi_show.specs.name.Cut.{name_parts, module_after}
 use Rattle.smi_show.specs.name.Naming.{Naming, Standing, IsSound, LabelLeadsTo}
 use Rattle.smi_show.specs.name.Word.{Word}
+use Rattle.smi_show.specs.name.Meant.{Scope, in_module, anywhere, among_roots, found_in}
 use Rattle.smi_show.specs.name.Meaning.{
-  Scope,
-  in_module,
-  anywhere,
-  among_roots,
   and_then,
   fitting,
-  found_in,
   first_word_meaning,
   later_word_meaning,
   part_meaning,

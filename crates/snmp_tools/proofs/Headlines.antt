@@ -19,7 +19,7 @@ use Rattle.snmp_net.specs.Address.{table, udp}
 use Rattle.snmp_net.specs.declared.links.Links.{Ghosts as Network}
 use Rattle.smi_names.specs.declared.nodes.warning.Warning.{Warning}
 use Rattle.smi_value.specs.declared.letters.letters.Letters.{Letters}
-use Rattle.snmp_tools.specs.agent.TableFile.{HasTable, names_in}
+use Rattle.snmp_tools.specs.agent.TableFile.{AreNamesIn, HasTable}
 use Rattle.snmp_tools.specs.loading.Warned.{warning_lines}
 use Rattle.snmp_tools.specs.Answer.{AreRowsOf, IsFeasible, IsOwnEnd}
 use Rattle.snmp_tools.specs.Headline.{EndsAtStatus0, IsAsk, IsMishap, IsWholeText, WritesAllAtStatus0, WritesFront}
@@ -32,6 +32,7 @@ use Rattle.snmp_tools.specs.Question.{AskFor, AskWords, IsPlanFor, Plan, counts_
 use Rattle.snmp_tools.specs.Seen.{Seen}
 use Rattle.snmp_tools.proofs.Asked.{counted}
 use Rattle.snmp_tools.proofs.Outcomes.{IsFrontOf, finished_all, finished_front, no_fault_at_0}
+use Rattle.snmp_tools.proofs.TableNames.{OneMeaning, one_look_up}
 use Rattle.snmp_tools.proofs.Plans.{IsWant, OneList, OneTree, held_is, one_load, one_path, one_plan, plain_want, table_want, wants_early, wants_last, wants_late}
 
 -- memory ran out before anything was written
@@ -110,7 +111,7 @@ own_told mib letters counts agent given turned ending.Link before between after 
 
 module _ (one_table : (names : Names) (ls : List (List ℕ)) (v w : MibView) → IsTableOf names ls v → IsTableOf names ls w → v ≡ w)
     (no_fault : (names : Names) (ls : List (List ℕ)) (view : MibView) (fault : TableError) → IsTableOf names ls view → IsFirstFault names ls fault → fault ≡ table_error.Memory)
-    (one_list : OneList) (one_tree : OneTree) {N V D : Type 0} (net : Network N V D) (wire : LinkFacts V)
+    (one_list : OneList) (one_tree : OneTree) (one : OneMeaning) {N V D : Type 0} (net : Network N V D) (wire : LinkFacts V)
     (words : AskWords) (before after : Seen N) (status : ℕ) (run : IsRun net wire words before after status) where
   module _ (rows : List VarBind) (ask : IsAsk words before.files rows) where
     module _ (mib : Mib) (warnings : List Warning) (loading : AreLoaded (MayHold before.files) words.asking.mibs mib warnings) where
@@ -122,7 +123,7 @@ module _ (one_table : (names : Names) (ls : List (List ℕ)) (v w : MibView) →
 
       module _ (plan : Plan) (for : IsPlanFor words before.files mib plan) where
         plan_is : ask.plan ≡ plan
-        plan_is = one_plan words mib ask.plan plan (subst (λ (m : Mib). AskFor words m ask.plan) mib_is ask.asked) for.asked for.only
+        plan_is = one_plan one words mib ask.plan plan (subst (λ (m : Mib). AskFor words m ask.plan) mib_is ask.asked) for.asked for.only
 
         over_same : (P : Mib → Plan → Type 0) → P mib plan → P ask.mib ask.plan
         over_same P p = subst (λ (m : Mib). P m ask.plan) (sym mib_is) (subst (P mib) (sym plan_is) p)
@@ -130,17 +131,18 @@ module _ (one_table : (names : Names) (ls : List (List ℕ)) (v w : MibView) →
         agent_is : plan.agent ≡ table ask.path
         agent_is = sym (ap (λ (p : Plan). p.agent) plan_is) ∙ ask.over
 
-        view_is : (path : List ℕ) (view : MibView) → plan.agent ≡ table path → HasTable before.files (names_in mib.naming) path view → ask.view ≡ view
+        view_is : (path : List ℕ) (view : MibView) → plan.agent ≡ table path → HasTable before.files mib.naming path view → ask.view ≡ view
         view_is path view over states =
             let same : ask.path ≡ path = one_path ask.path path (sym agent_is ∙ over) in
-            let text : states.0 ≡ ask.text = held_is (before.files path) states.0 ask.text states.1 (ap before.files (sym same) ∙ ask.held) in
-            let P : Mib → List ℕ → Type 0 = λ m t. IsTableOf (names_in m.naming) (lines t) view in
-            one_table (names_in ask.mib.naming) (lines ask.text) ask.view view ask.table
-            (subst (λ (m : Mib). P m ask.text) (sym mib_is) (subst (P mib) text states.2))
+            let text : states.2 ≡ ask.text = held_is (before.files path) states.2 ask.text states.3 (ap before.files (sym same) ∙ ask.held) in
+            let names : states.0 ≡ ask.names = one_look_up mib.naming states.0 ask.names states.1
+            (subst (λ (m : Mib). AreNamesIn m.naming ask.names) mib_is ask.named) in
+            one_table ask.names (lines ask.text) ask.view view ask.table
+            (subst (λ (n : Names). IsTableOf n (lines ask.text) view) names (subst (λ (t : List ℕ). IsTableOf states.0 (lines t) view) text states.4))
 
         -- what is true of the plan and of the table
         over_table : (P : Plan → MibView → Type 0) (path : List ℕ) (view : MibView) → plan.agent ≡ table path
-            → HasTable before.files (names_in mib.naming) path view → P ask.plan ask.view → P plan view
+            → HasTable before.files mib.naming path view → P ask.plan ask.view → P plan view
         over_table P path view over states p = subst (P plan) (view_is path view over states) (subst (λ (q : Plan). P q ask.view) plan_is p)
 
         -- what is asked isn't asked over the network
@@ -179,14 +181,14 @@ module _ (one_table : (names : Names) (ls : List (List ℕ)) (v w : MibView) →
         ends_by : IsFeasible ask.plan ask.view → (fault : Option Fault) → IsOutcomeBy net wire words mib (record before { err = warned }) end fault
             → (err : Stream) → IsReported fault warned err status → (status ≡ 0) ⊎ Stops before.out end.out warned err status
         ends_by can fault (refused why refusal same is) err told =
-            inr (want_told why before.out end.out warned err status (wants_late one_list one_tree no_fault words before.files rows ask why refusal)
+            inr (want_told why before.out end.out warned err status (wants_late one_list one_tree one no_fault words before.files rows ask why refusal)
             (subst (λ (f : Option Fault). IsReported f warned err status) is told))
         ends_by can fault (asked plan path view for over states printed same) err told =
             let feasible = over_table plan for (λ p v. IsFeasible p v) path view over states can in
             own_told mib plan.letters (counts_in plan.question) words.asking.agent printed.given printed.refused printed.end before.out printed.between end.out
             warned err fault status (printed.facts.complete feasible.room) printed.lines printed.finish told
         ends_by can fault (not_begun why last plan for where_begun is) err told =
-            inr (want_told why before.out end.out warned err status (wants_last one_list one_tree no_fault words before.files rows ask why can.sendable last)
+            inr (want_told why before.out end.out warned err status (wants_last one_list one_tree one no_fault words before.files rows ask why can.sendable last)
             (subst (λ (f : Option Fault). IsReported f warned err status) is told))
         ends_by can fault (not_linked plan host port for over risen same is) err told = absurd (no_net plan for host port over)
         ends_by can fault (asked_over plan host port for over printed same) err told = absurd (no_net plan for host port over)
@@ -208,7 +210,7 @@ module _ (one_table : (names : Names) (ls : List (List ℕ)) (v w : MibView) →
           → (status ≡ 0) ⊎ IsMishap ask.warnings before.out after.out before.err after.err status
       ends can (not_loaded why early same is) told =
           mishap ask.warnings before.out after.out before.err warned after.err status (inl (ap (λ (s : Seen N). s.err) same))
-          (inr (want_told why before.out after.out warned after.err status (wants_early one_list one_tree no_fault words before.files rows ask why early)
+          (inr (want_told why before.out after.out warned after.err status (wants_early one_list one_tree one no_fault words before.files rows ask why early)
           (subst (λ (f : Option Fault). IsReported f warned after.err status) is told)))
       ends can (loaded mib warnings loading lines by) told =
           mishap ask.warnings before.out after.out before.err warned after.err status

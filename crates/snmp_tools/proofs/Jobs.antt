@@ -22,6 +22,7 @@ use Rattle.snmp_tools.specs.Question.{AskWords, of_get, of_walk}
 use Rattle.snmp_tools.specs.Seen.{Seen, seen}
 use Rattle.snmp_tools.proofs.Headlines.{ends_at_0, refused_all, refused_end, refused_front, writes_all, writes_front}
 use Rattle.snmp_tools.proofs.Plans.{OneList, OneTree}
+use Rattle.snmp_tools.proofs.TableNames.{OneMeaning}
 
 module _ {N V D : Type 0} (net : Network N V D) (wire : LinkFacts V) where
   module _ (before after : Seen N) (status : ℕ) where
@@ -36,15 +37,15 @@ module _ {N V D : Type 0} (net : Network N V D) (wire : LinkFacts V) where
 
     pub ask_done : (one_table : (names : Names) (ls : List (List ℕ)) (v w : MibView) → IsTableOf names ls v → IsTableOf names ls w → v ≡ w)
         (no_fault : (names : Names) (ls : List (List ℕ)) (view : MibView) (fault : TableError) → IsTableOf names ls view → IsFirstFault names ls fault → fault ≡ table_error.Memory)
-        → OneList → OneTree → (read words : AskWords) → read ≡ words → IsRun net wire read before after status
+        → OneList → OneTree → OneMeaning → (read words : AskWords) → read ≡ words → IsRun net wire read before after status
         → IsAskDone net wire words before after status
-    ask_done one_table no_fault one_list one_tree read words same ran =
+    ask_done one_table no_fault one_list one_tree one read words same ran =
         let run : IsRun net wire words before after status = subst (λ (w : AskWords). IsRun net wire w before after status) same ran in
         record {
           outcome_reported = run;
-          front_written = writes_front one_table no_fault one_list one_tree net wire words before after status run;
-          all_written_at_status_0 = writes_all one_table no_fault one_list one_tree net wire words before after status run;
-          ends_at_status_0 = ends_at_0 one_table no_fault one_list one_tree net wire words before after status run;
+          front_written = writes_front one_table no_fault one_list one_tree one net wire words before after status run;
+          all_written_at_status_0 = writes_all one_table no_fault one_list one_tree one net wire words before after status run;
+          ends_at_status_0 = ends_at_0 one_table no_fault one_list one_tree one net wire words before after status run;
         }
 
   -- memory ran out before anything was done

@@ -7,8 +7,7 @@ use Rattle.smi_value.specs.declared.letters.letters.Letters.{Letters}
 use Rattle.smi_value.specs.declared.letters.letters.NameForm.{NameForm}
 use Rattle.smi_value.specs.declared.letters.letters.StringForm.{StringForm}
 use Rattle.smi_value.specs.declared.letters.letters.TypeForm.{TypeForm}
-use Rattle.smi_show.specs.name.Meaning.{meaning}
-use Rattle.smi_show.specs.declared.name.error.NameError.{NameError}
+use Rattle.smi_show.specs.name.Meant.{TextMeans}
 use Rattle.snmp_oid.specs.Identifier.{IsWire, wire}
 use Rattle.snmp_wire.specs.Message.{VarBind}
 use Rattle.snmp_agent.specs.table.Table.{MibView}
@@ -21,7 +20,7 @@ use Rattle.snmp_walk.specs.declared.mode.Mode.{Mode}
 use Rattle.snmp_io.specs.Files.{Holdings, Holds, HoldsIfKnown, MayHold}
 use Rattle.snmp_io.specs.Steps.{AreDone}
 use Rattle.snmp_net.specs.Address.{Address, table}
-use Rattle.snmp_tools.specs.agent.TableFile.{TableFails, names_in}
+use Rattle.snmp_tools.specs.agent.TableFile.{TableFails}
 use Rattle.snmp_tools.specs.Answer.{CanBeSent, CanGoOn}
 use Rattle.snmp_tools.specs.Asking.{AreShown, AskingFails, AskingStep, HasAgent, IsNameIfGiven, NameFails, ReachFails}
 use Rattle.snmp_tools.specs.Asking.{agent_step, community_step, letters_step, version_step}
@@ -37,6 +36,7 @@ use Rattle.snmp_tools.specs.Question.{AreNames, AskFor, AskWords, FailsFor, HasU
 use Rattle.snmp_tools.specs.Question.{Plan, Question, Request, Step, Walk, choices_in, goes_on_after, root_text}
 use Rattle.snmp_tools.specs.Question.{get, names, subtree, walk, loading_steps, name_steps, reach_step, reaching_steps, sent_steps}
 use Rattle.snmp_tools.specs.Question.{below_step, name_step, reach_step, sent_step}
+use Rattle.snmp_tools.proofs.TableNames.{OneMeaning, no_name, one_look_up, one_name}
 
 pub held_is : (held : Option (Option (List ℕ))) (text other : List ℕ) → HoldsIfKnown held (Some text) → held ≡ Some (Some other) → text ≡ other
 held_is None text other h e = let no : ⊥ = cc in absurd no
@@ -91,29 +91,19 @@ one_choice read a b e f = cc
 no_choice : (read : Result Choices ℕ) (a : Choices) (octet : ℕ) → read ≡ Ok a → read ≡ Err octet → ⊥
 no_choice read a octet e f = cc
 
-pub one_name : (read : Result (List ℕ) NameError) (a b : List ℕ) → read ≡ Ok a → read ≡ Ok b → a ≡ b
-one_name read a b e f = cc
-
-pub no_name : (read : Result (List ℕ) NameError) (a : List ℕ) (error : NameError) → read ≡ Ok a → read ≡ Err error → ⊥
-no_name read a error e f = cc
-
-one_after : (mib : Mib) (text a b : Option (List ℕ)) → IsNameIfGiven mib text a → IsNameIfGiven mib text b → a ≡ b
-one_after mib None a b e f = e ∙ sym f
-one_after mib (Some text) a b e f = e.2 ∙ ap Some (one_name (meaning mib.naming text) e.0 f.0 e.1 f.1) ∙ sym f.2
+one_after : OneMeaning → (mib : Mib) (text a b : Option (List ℕ)) → IsNameIfGiven mib text a → IsNameIfGiven mib text b → a ≡ b
+one_after one mib None a b e f = e ∙ sym f
+one_after one mib (Some text) a b e f = e.2 ∙ ap Some (one_name one mib.naming text e.0 f.0 e.1 f.1) ∙ sym f.2
 
 -- texts state just one list of names
-pub one_names : (mib : Mib) (texts a b : List (List ℕ)) → AreNames mib texts a → AreNames mib texts b → a ≡ b
-one_names mib [] [] [] e f = refl
-one_names mib [] [] (y ∷ b) e f = let no : ⊥ = cc in absurd no
-one_names mib [] (x ∷ a) b e f = let no : ⊥ = cc in absurd no
-one_names mib (text ∷ texts) [] b e f = let no : ⊥ = cc in absurd no
-one_names mib (text ∷ texts) (x ∷ a) [] e f = let no : ⊥ = cc in absurd no
-one_names mib (text ∷ texts) (x ∷ a) (y ∷ b) e f =
-    let first : meaning mib.naming text ≡ Ok x = cc in
-    let other : meaning mib.naming text ≡ Ok y = cc in
-    let more : AreNames mib texts a = cc in
-    let others : AreNames mib texts b = cc in
-    ap (λ (n : List ℕ). n ∷ a) (one_name (meaning mib.naming text) x y first other) ∙ ap (λ (ns : List (List ℕ)). y ∷ ns) (one_names mib texts a b more others)
+pub one_names : OneMeaning → (mib : Mib) (texts a b : List (List ℕ)) → AreNames mib texts a → AreNames mib texts b → a ≡ b
+one_names one mib [] [] [] e f = refl
+one_names one mib [] [] (y ∷ b) e f = absurd f
+one_names one mib [] (x ∷ a) b e f = absurd e
+one_names one mib (text ∷ texts) [] b e f = absurd e
+one_names one mib (text ∷ texts) (x ∷ a) [] e f = absurd f
+one_names one mib (text ∷ texts) (x ∷ a) (y ∷ b) e f =
+    ap (λ (n : List ℕ). n ∷ a) (one_name one mib.naming text x y e.0 f.0) ∙ ap (λ (ns : List (List ℕ)). y ∷ ns) (one_names one mib texts a b e.1 f.1)
 
 -- walks of the same parts are the same, and plans
 same_walk : (v w : Walk) → v.root ≡ w.root → v.after ≡ w.after → v.mode ≡ w.mode → v.method ≡ w.method → v.counts ≡ w.counts → v ≡ w
@@ -133,23 +123,23 @@ same_plan p q agent community size letters question =
     ∙ ap (λ (x : Question). record q { question = x }) question
 
 -- a request asks for one question
-one_question : (request : Request) (choices : Choices) (mib : Mib) (a b : Question) → IsQuestionOf request choices mib a → IsQuestionOf request choices mib b
+one_question : OneMeaning → (request : Request) (choices : Choices) (mib : Mib) (a b : Question) → IsQuestionOf request choices mib a → IsQuestionOf request choices mib b
     → a ≡ b
-one_question (get texts) choices mib (names a) (names b) p q = ap names (one_names mib texts a b p q)
-one_question (get texts) choices mib (names a) (subtree w) p q = absurd q
-one_question (get texts) choices mib (subtree v) b p q = absurd p
-one_question (walk bulk letters after name) choices mib (names a) b p q = absurd p
-one_question (walk bulk letters after name) choices mib (subtree v) (names b) p q = absurd q
-one_question (walk bulk letters after name) choices mib (subtree v) (subtree w) p q =
-    ap subtree (same_walk v w (one_name (meaning mib.naming (root_text name)) v.root w.root p.root q.root)
-    (one_after mib after v.after w.after p.goes_on q.goes_on) (p.mode ∙ sym q.mode) (p.method ∙ sym q.method) (p.counts ∙ sym q.counts))
+one_question one (get texts) choices mib (names a) (names b) p q = ap names (one_names one mib texts a b p q)
+one_question one (get texts) choices mib (names a) (subtree w) p q = absurd q
+one_question one (get texts) choices mib (subtree v) b p q = absurd p
+one_question one (walk bulk letters after name) choices mib (names a) b p q = absurd p
+one_question one (walk bulk letters after name) choices mib (subtree v) (names b) p q = absurd q
+one_question one (walk bulk letters after name) choices mib (subtree v) (subtree w) p q =
+    ap subtree (same_walk v w (one_name one mib.naming (root_text name) v.root w.root p.root q.root)
+    (one_after one mib after v.after w.after p.goes_on q.goes_on) (p.mode ∙ sym q.mode) (p.method ∙ sym q.method) (p.counts ∙ sym q.counts))
 
-pub one_plan : (words : AskWords) (mib : Mib) (p q : Plan) → AskFor words mib p → AskFor words mib q → HasAgent words.asking.agent q.agent → p ≡ q
-one_plan words mib p q a b only =
+pub one_plan : OneMeaning → (words : AskWords) (mib : Mib) (p q : Plan) → AskFor words mib p → AskFor words mib q → HasAgent words.asking.agent q.agent → p ≡ q
+one_plan one words mib p q a b only =
     let choice : a.choices ≡ b.choices = one_choice (choices_in words.request) a.choices b.choices a.chosen b.chosen in
     same_plan p q (only.1 p.agent a.agent) (a.community ∙ sym b.community) (a.max_size ∙ sym b.max_size)
     (one_reading words.asking.letters p.letters q.letters a.letters b.letters)
-    (one_question words.request b.choices mib p.question q.question
+    (one_question one words.request b.choices mib p.question q.question
     (subst (λ (c : Choices). IsQuestionOf words.request c mib p.question) choice a.question) b.question)
 
 -- a fault whose message says that memory ran out
@@ -169,20 +159,21 @@ both : {S : Type 0} (P : S → Type 0) (a b : List S) → AreDone P a → AreDon
 both P [] b h k = k
 both P (s ∷ a) b h k = (h.0, both P a b h.1 k)
 
-module _ (one_list : OneList) (one_tree : OneTree)
+module _ (one_list : OneList) (one_tree : OneTree) (one : OneMeaning)
     (no_fault : (names : Names) (ls : List (List ℕ)) (view : MibView) (fault : TableError) → IsTableOf names ls view → IsFirstFault names ls fault → fault ≡ table_error.Memory)
     (words : AskWords) (files : Holdings) (rows : List VarBind) (ask : IsAsk words files rows) (why : Fault) where
   agent_is : (agent : Address) → HasAgent words.asking.agent agent → agent ≡ table ask.path
   agent_is agent has = sym (has.1 ask.plan.agent ask.asked.agent) ∙ ask.over
 
-  table_want_only : TableFails unreadable bad_table files (names_in ask.mib.naming) ask.path why → IsWant why
+  table_want_only : TableFails unreadable bad_table files ask.mib.naming ask.path why → IsWant why
   table_want_only (inl f) = absurd (is_readable ask.text (files ask.path) ask.held f.0)
   table_want_only (inr f) =
-      let same : f.0 ≡ ask.text = held_is (files ask.path) f.0 ask.text f.2 ask.held in
-      let memory : f.1 ≡ table_error.Memory =
-      no_fault (names_in ask.mib.naming) (lines ask.text) ask.view f.1 ask.table
-      (subst (λ (t : List ℕ). IsFirstFault (names_in ask.mib.naming) (lines t) f.1) same f.3) in
-      table_want ask.path (f.4 ∙ ap (bad_table ask.path) memory)
+      let same : f.2 ≡ ask.text = held_is (files ask.path) f.2 ask.text f.4 ask.held in
+      let names : f.0 ≡ ask.names = one_look_up ask.mib.naming f.0 ask.names f.1 ask.named in
+      let memory : f.3 ≡ table_error.Memory =
+      no_fault ask.names (lines ask.text) ask.view f.3 ask.table
+      (subst (λ (n : Names). IsFirstFault n (lines ask.text) f.3) names (subst (λ (t : List ℕ). IsFirstFault f.0 (lines t) f.3) same f.5)) in
+      table_want ask.path (f.6 ∙ ap (bad_table ask.path) memory)
 
   known_as : (mib : Mib) → IsMibOf (MayHold files) words.asking mib → mib ≡ ask.mib
   known_as mib is = sym (one_load one_list one_tree files words.asking.mibs ask.mib mib ask.warnings is.0 ask.known is.1).0
@@ -213,47 +204,40 @@ module _ (one_list : OneList) (one_tree : OneTree)
   )
 
   -- names mean what they mean to the question
-  name_want : (text o : List ℕ) → meaning ask.mib.naming text ≡ Ok o → Wants (name_step text)
+  name_want : (text o : List ℕ) → TextMeans ask.mib.naming text (Ok o) → Wants (name_step text)
   name_want text o means f =
       let g = subst (λ (m : Mib). NameFails m text why) (known_as f.0 f.1) f.2 in
-      absurd (no_name (meaning ask.mib.naming text) o g.0 means g.1)
+      absurd (no_name one ask.mib.naming text o g.0 means g.1)
 
-  sent_want : (text o : List ℕ) → meaning ask.mib.naming text ≡ Ok o → IsWire (wire o) → Wants (sent_step text)
+  sent_want : (text o : List ℕ) → TextMeans ask.mib.naming text (Ok o) → IsWire (wire o) → Wants (sent_step text)
   sent_want text o means sent f =
       let g = subst (λ (m : Mib). HasUnsendable m text why) (known_as f.0 f.1) f.2 in
-      absurd (g.2 (subst (λ (n : List ℕ). IsWire (wire n)) (one_name (meaning ask.mib.naming text) o g.0 means g.1) sent))
+      absurd (g.2 (subst (λ (n : List ℕ). IsWire (wire n)) (one_name one ask.mib.naming text o g.0 means g.1) sent))
 
-  below_want : (root_text text root o : List ℕ) → meaning ask.mib.naming root_text ≡ Ok root → meaning ask.mib.naming text ≡ Ok o → IsAtOrBelow o root
+  below_want : (root_text text root o : List ℕ) → TextMeans ask.mib.naming root_text (Ok root) → TextMeans ask.mib.naming text (Ok o) → IsAtOrBelow o root
       → Wants (below_step root_text text)
   below_want root_text text root o root_means means at f =
       let P : Mib → Type 0 = λ m. HaveNames m root_text text (λ r a. (IsAtOrBelow a r → ⊥) × (why ≡ outside_root text)) in
       let g = subst P (known_as f.0 f.1) f.2 in
-      absurd (g.4.0 (subst (λ (a : List ℕ). IsAtOrBelow a g.0) (one_name (meaning ask.mib.naming text) o g.1 means g.3)
-      (subst (IsAtOrBelow o) (one_name (meaning ask.mib.naming root_text) root g.0 root_means g.2) at)))
+      absurd (g.4.0 (subst (λ (a : List ℕ). IsAtOrBelow a g.0) (one_name one ask.mib.naming text o g.1 means g.3)
+      (subst (IsAtOrBelow o) (one_name one ask.mib.naming root_text root g.0 root_means g.2) at)))
 
   all_named : (texts os : List (List ℕ)) → AreNames ask.mib texts os → AreDone Wants (map name_step texts)
   all_named [] os e = tt
-  all_named (text ∷ texts) [] e = let no : ⊥ = cc in absurd no
-  all_named (text ∷ texts) (o ∷ os) e =
-      let here : meaning ask.mib.naming text ≡ Ok o = cc in
-      let more : AreNames ask.mib texts os = cc in
-      (name_want text o here, all_named texts os more)
+  all_named (text ∷ texts) [] e = absurd e
+  all_named (text ∷ texts) (o ∷ os) e = (name_want text o e.0, all_named texts os e.1)
 
   all_sent : (texts os : List (List ℕ)) → AreNames ask.mib texts os → All (λ o. IsWire (wire o)) os → AreDone Wants (map sent_step texts)
   all_sent [] os e sent = tt
-  all_sent (text ∷ texts) [] e sent = let no : ⊥ = cc in absurd no
+  all_sent (text ∷ texts) [] e sent = absurd e
   all_sent (text ∷ texts) (o ∷ os) e sent =
-      let here : meaning ask.mib.naming text ≡ Ok o = cc in
-      let more : AreNames ask.mib texts os = cc in (
-        sent_want text o here (All-head (λ n. IsWire (wire n)) o os sent),
-        all_sent texts os more (All-tail (λ n. IsWire (wire n)) o os sent),
-      )
+      (sent_want text o e.0 (All-head (λ n. IsWire (wire n)) o os sent), all_sent texts os e.1 (All-tail (λ n. IsWire (wire n)) o os sent))
 
   after_named : (given planned : Option (List ℕ)) → IsNameIfGiven ask.mib given planned → AreDone Wants (goes_on_after (λ text. name_step text ∷ []) given)
   after_named None planned h = tt
   after_named (Some text) planned h = (name_want text h.0 h.1, tt)
 
-  after_sent : (text root : List ℕ) (given planned : Option (List ℕ)) → meaning ask.mib.naming text ≡ Ok root → IsNameIfGiven ask.mib given planned
+  after_sent : (text root : List ℕ) (given planned : Option (List ℕ)) → TextMeans ask.mib.naming text (Ok root) → IsNameIfGiven ask.mib given planned
       → CanGoOn root planned → AreDone Wants (goes_on_after (λ t. below_step text t ∷ sent_step t ∷ []) given)
   after_sent text root None planned means h can = tt
   after_sent text root (Some t) planned means h can =

@@ -1,9 +1,9 @@
 -- The first step that fails, after those that are done.
-use Rattle.std.proofs.Common.{◌≡◌, ◌⊎◌, inl, inr, ◌++◌, ◌<◌, ℕ, zero, suc, List, [], ◌∷◌, All, Bor, Option, Some, None, Ok, length, map, take, drop, get_or}
+use Rattle.std.proofs.Common.{◌≡◌, ◌⊎◌, inl, inr, ◌++◌, ◌+◌, ◌<◌, ℕ, zero, suc, List, [], ◌∷◌, All, Bor, Option, Some, None, Ok, length, map, take, drop, get_or}
 use Rattle.std.proofs.Common.{option_map, unwrap_or, refl, sym, ◌∙◌, ap, subst, append_assoc, arith, drop-cons}
-use Rattle.std.proofs.lemmas.List.{map-append, take-append-drop}
-use Rattle.std.proofs.lemmas.List.Elements.{All-head, All-tail}
-use Rattle.smi_show.specs.name.Meaning.{meaning}
+use Rattle.std.proofs.lemmas.List.{map-append, take-append-drop, take_more}
+use Rattle.std.proofs.lemmas.List.Elements.{All-head, All-tail, AllZip-push}
+use Rattle.smi_show.specs.name.Meant.{TextMeans}
 use Rattle.snmp_oid.specs.Identifier.{IsWire, wire}
 use Rattle.snmp_io.specs.Files.{Holdings, MayHold}
 use Rattle.snmp_io.specs.Steps.{AreDone, IsFirstToFail}
@@ -84,11 +84,18 @@ module _ {S T : Type 0} (f : S → T) where
 -- texts that state names are done
 pub are_named : (mib : Mib) (texts os : List (List ℕ)) → AreNames mib texts os → AreDone (HasMeaning mib) texts
 are_named mib [] os e = tt
-are_named mib (text ∷ texts) [] e = let no : ⊥ = cc in absurd no
-are_named mib (text ∷ texts) (name ∷ os) e =
-    let here : meaning mib.naming text ≡ Ok name = cc in
-    let more : AreNames mib texts os = cc in
-    ((name, here), are_named mib texts os more)
+are_named mib (text ∷ texts) [] e = absurd e
+are_named mib (text ∷ texts) (name ∷ os) e = ((name, e.0), are_named mib texts os e.1)
+
+-- one more text that states a name
+pub more_names : (mib : Mib) (texts : List (Bor (List ℕ))) (i : ℕ) (d : Bor (List ℕ)) (os : List (List ℕ)) (o : List ℕ) → i < length texts
+    → AreNames mib (texts_at (take i texts)) os → TextMeans mib.naming (get_or texts i d).now (Ok o)
+    → AreNames mib (texts_at (take (i + 1) texts)) (os ++ o ∷ [])
+more_names mib texts i d os o inside are means =
+    let parts : texts_at (take (i + 1) texts) ≡ texts_at (take i texts) ++ (get_or texts i d).now ∷ [] =
+    ap texts_at (take_more texts i d inside) ∙ map-append (λ t. t.now) (take i texts) (get_or texts i d ∷ []) in
+    subst (λ (ts : List (List ℕ)). AreNames mib ts (os ++ o ∷ [])) (sym parts)
+    (AllZip-push (λ text name. TextMeans mib.naming text (Ok name)) (texts_at (take i texts)) os (get_or texts i d).now o are means)
 
 module _ (mib : Mib) (texts : List (Bor (List ℕ))) (i : ℕ) (text d : Bor (List ℕ)) (inside : i < length texts) (is : text ≡ get_or texts i d)
     (os : List (List ℕ)) (are : AreNames mib (texts_at (take i texts)) os) where
@@ -111,18 +118,14 @@ pub first_unsent : (mib : Mib) (texts : List (Bor (List ℕ))) (os : List (List 
     → All (λ n. IsWire (wire n)) (take i os) → (IsWire (wire o) → ⊥)
     → IsFirstToFail (texts_at texts) (HasSendable mib) (HasUnsendable mib) (unsendable text.now)
 first_unsent mib texts [] i text d o e are inside is_text is_name sent unsent = absurd (omega arith)
-first_unsent mib [] (n ∷ os) i text d o e are inside is_text is_name sent unsent = let no : ⊥ = cc in absurd no
+first_unsent mib [] (n ∷ os) i text d o e are inside is_text is_name sent unsent = absurd are
 first_unsent mib (t ∷ texts) (n ∷ os) zero text d o e are inside is_text is_name sent unsent =
-    let here : meaning mib.naming t.now ≡ Ok n = cc in
-    let means : meaning mib.naming text.now ≡ Ok o = ap (λ (x : Bor (List ℕ)). meaning mib.naming x.now) is_text ∙ here ∙ ap Ok (sym is_name) in
-    let fails : HasUnsendable mib text.now (unsendable text.now) = (o, means, unsent, refl) in
-    subst (λ (x : Bor (List ℕ)). IsFirstToFail (x.now ∷ texts_at texts) (HasSendable mib) (HasUnsendable mib) (unsendable text.now)) is_text
-    (first (HasSendable mib) (HasUnsendable mib) (unsendable text.now) text.now (texts_at texts) fails)
+    let fails : HasUnsendable mib t.now (unsendable text.now) =
+    (n, are.0, subst (λ (m : List ℕ). IsWire (wire m) → ⊥) is_name unsent, ap (λ (x : Bor (List ℕ)). unsendable x.now) is_text) in
+    first (HasSendable mib) (HasUnsendable mib) (unsendable text.now) t.now (texts_at texts) fails
 first_unsent mib (t ∷ texts) (n ∷ os) (suc i) text d o e are inside is_text is_name sent unsent =
-    let here : meaning mib.naming t.now ≡ Ok n = cc in
-    let more : AreNames mib (texts_at texts) os = cc in
-    later (HasSendable mib) (HasUnsendable mib) (unsendable text.now) t.now (texts_at texts) (n, here, All-head (λ n. IsWire (wire n)) n (take i os) sent)
-    (first_unsent mib texts os i text d o e more (omega arith) is_text is_name (All-tail (λ n. IsWire (wire n)) n (take i os) sent) unsent)
+    later (HasSendable mib) (HasUnsendable mib) (unsendable text.now) t.now (texts_at texts) (n, are.0, All-head (λ n. IsWire (wire n)) n (take i os) sent)
+    (first_unsent mib texts os i text d o e are.1 (omega arith) is_text is_name (All-tail (λ n. IsWire (wire n)) n (take i os) sent) unsent)
 
 module _ (words : AskWords) (files : Holdings) (why : Fault) where
   abbrev Done : Step → Type 0
@@ -215,16 +218,16 @@ module _ (words : AskWords) (files : Holdings) (why : Fault) where
 
       -- the name to go on after isn't below the root, or can't be sent
       resumed : (root after : List ℕ) (text : List ℕ) (given planned : Option (List ℕ)) → IsNameIfGiven mib given planned → planned ≡ Some after
-          → meaning mib.naming text ≡ Ok root → ResumeFails root after (unwrap_or given []) why
+          → TextMeans mib.naming text (Ok root) → ResumeFails root after (unwrap_or given []) why
           → Refused (goes_on_after (λ t. below_step text t ∷ sent_step t ∷ []) given)
       resumed root after text None planned h e means f = let no : ⊥ = cc in absurd no
       resumed root after text (Some t) planned h e means (inl f) =
           let same : h.0 ≡ after = cc in
-          fails (below_step text t) _ (mib, known, (root, after, means, h.1 ∙ ap Ok same, (f.0, f.1)))
+          fails (below_step text t) _ (mib, known, (root, after, means, subst (λ (n : List ℕ). TextMeans mib.naming t (Ok n)) same h.1, (f.0, f.1)))
       resumed root after text (Some t) planned h e means (inr f) =
           let same : h.0 ≡ after = cc in
-          goes_on (below_step text t) _ (mib, known, (root, after, means, h.1 ∙ ap Ok same, f.0))
-          (fails (sent_step t) [] (mib, known, (after, h.1 ∙ ap Ok same, f.1, f.2)))
+          goes_on (below_step text t) _ (mib, known, (root, after, means, subst (λ (n : List ℕ). TextMeans mib.naming t (Ok n)) same h.1, f.0))
+          (fails (sent_step t) [] (mib, known, (after, subst (λ (n : List ℕ). TextMeans mib.naming t (Ok n)) same h.1, f.1, f.2)))
 
       at_sent : (request : Request) (choices : Choices) (question : Question) → IsQuestionOf request choices mib question
           → BeginFails request question why → Refused (sent_steps request)

@@ -1,28 +1,60 @@
 -- Names of a table file by the nodes of a tree.
-use Rattle.std.proofs.Common.{◌≡◌, ◌∙◌, ℕ, List, Some, None, Ok, Err, ap, sym}
+use Rattle.std.proofs.Common.{◌≡◌, ◌∙◌, ℕ, List, Option, Some, None, Result, Ok, Err, ap, sym, subst, absurd}
 use Rattle.std.specs.Result.{result_ok}
 use Rattle.snmp_oid.specs.Identifier.{IsIdentifier}
-use Rattle.snmp_agent.specs.table.Format.{IsFrontRead, bar}
+use Rattle.snmp_agent.specs.table.Format.{IsFrontRead, Names, bar, names_by, numeric_names}
 use Rattle.smi_show.specs.name.Meaning.{meaning}
-use Rattle.smi_show.specs.name.Meant.{FrontMeans}
+use Rattle.smi_show.specs.name.Meant.{FrontMeans, TextMeans}
 use Rattle.smi_show.specs.name.Naming.{Naming}
 use Rattle.smi_show.specs.declared.name.error.NameError.{NameError}
-use Rattle.snmp_tools.specs.agent.TableFile.{names_in}
+use Rattle.snmp_tools.specs.Resolved.{names_in}
+use Rattle.snmp_tools.specs.agent.TableFile.{AreNamesIn}
 
-pub front_named : (naming : Naming) (text o : List ℕ) (size : ℕ) → IsIdentifier o
-    → FrontMeans (λ front found. found ≡ meaning naming front) bar text (Ok (o, size)) → IsFrontRead (names_in naming) text (Some (o, size))
-front_named naming text o size is h = record {
-  front = h.0;
-  place = h.1;
-  named = ((ap result_ok (sym h.2), is), λ p k. let same : Some o ≡ Some p = ap result_ok h.2 ∙ k.0 in cc);
-  size = h.3;
-}
+-- a text means one thing
+abbrev pub OneMeaning : Type 0
+OneMeaning = (naming : Naming) (text : List ℕ) (a b : Result (List ℕ) NameError) → TextMeans naming text a → TextMeans naming text b → a ≡ b
 
-pub front_unnamed : (naming : Naming) (text : List ℕ) (why : NameError)
-    → FrontMeans (λ front found. found ≡ meaning naming front) bar text (Err why) → IsFrontRead (names_in naming) text None
-front_unnamed naming text why h = record {
-  front = h.0;
-  place = h.1;
-  named = λ p k. let none : None ≡ Some p = ap result_ok h.2 ∙ k.0 in cc;
-  size = tt;
-}
+pub one_name : OneMeaning → (naming : Naming) (text a b : List ℕ) → TextMeans naming text (Ok a) → TextMeans naming text (Ok b) → a ≡ b
+one_name one naming text a b h k = let same = one naming text (Ok a) (Ok b) h k in cc
+
+pub no_name : OneMeaning → (naming : Naming) (text a : List ℕ) (error : NameError) → TextMeans naming text (Ok a) → TextMeans naming text (Err error) → ⊥
+no_name one naming text a error h k = let same = one naming text (Ok a) (Err error) h k in cc
+
+-- a look-up that gives the same names is the same
+pub one_look_up : (naming : Naming) (a b : Names) → AreNamesIn naming a → AreNamesIn naming b → a ≡ b
+one_look_up naming numeric_names b h k = absurd h
+one_look_up naming (names_by f) numeric_names h k = absurd k
+one_look_up naming (names_by f) (names_by g) h k = ap names_by (λ i text. same text (f text) (g text) refl refl i)
+  where
+    same : (text : List ℕ) (x y : Option (List ℕ)) → f text ≡ x → g text ≡ y → f text ≡ g text
+    same text (Some o) y e d = e ∙ sym ((k text o).1 ((h text o).0 e))
+    same text None None e d = e ∙ sym d
+    same text None (Some o) e d = let other = (h text o).1 ((k text o).0 d) in let no : ⊥ = cc in absurd no
+
+module _ (found : (naming : Naming) (text : List ℕ) → TextMeans naming text (meaning naming text)) (one : OneMeaning) where
+  pub names_are_meant : (naming : Naming) → AreNamesIn naming (names_in naming)
+  names_are_meant naming text o = (at (meaning naming text) (found naming text), λ h. ap result_ok (one naming text (meaning naming text) (Ok o) (found naming text) h))
+    where
+      at : (read : Result (List ℕ) NameError) → TextMeans naming text read → result_ok read ≡ Some o → TextMeans naming text (Ok o)
+      at (Ok p) h e = let same : p ≡ o = cc in subst (λ (n : List ℕ). TextMeans naming text (Ok n)) same h
+      at (Err why) h e = let no : ⊥ = cc in absurd no
+
+  pub front_named : (naming : Naming) (text o : List ℕ) (size : ℕ) → IsIdentifier o → FrontMeans naming bar text (Ok (o, size))
+      → IsFrontRead (names_in naming) text (Some (o, size))
+  front_named naming text o size is h = record {
+    front = h.0;
+    place = h.1;
+    named = (
+      ((names_are_meant naming h.0 o).1 h.2, is),
+      λ p k. one_name one naming h.0 p o ((names_are_meant naming h.0 p).0 k.0) h.2,
+    );
+    size = h.3;
+  }
+
+  pub front_unnamed : (naming : Naming) (text : List ℕ) (why : NameError) → FrontMeans naming bar text (Err why) → IsFrontRead (names_in naming) text None
+  front_unnamed naming text why h = record {
+    front = h.0;
+    place = h.1;
+    named = λ p k. no_name one naming h.0 p why ((names_are_meant naming h.0 p).0 k.0) h.2;
+    size = tt;
+  }

@@ -25,7 +25,7 @@ use Rattle.snmp_walk.specs.Walk.{or_only, rest_of, rows_below}
 use Rattle.snmp_walk.specs.Walker.{Walker}
 use Rattle.snmp_walk.specs.declared.mode.Method.TheVariants as method
 use Rattle.snmp_walk.specs.declared.mode.Mode.TheVariants as mode
-use Rattle.smi_show.specs.name.Meaning.{meaning}
+use Rattle.smi_show.specs.name.Meant.{TextMeans}
 use Rattle.smi_show.specs.name.Naming.{Naming}
 use Rattle.smi_tree.specs.Bare.{bare}
 use Rattle.smi_tree.specs.Tree.{IsTree}
@@ -35,7 +35,8 @@ use Rattle.snmp_io.specs.Output.{IsWritten, Stream, TakesFront, appended, extend
 use Rattle.snmp_io.specs.Streams.{extended-nil}
 use Rattle.snmp_net.specs.Address as address
 use Rattle.snmp_words.specs.Words.{walk_line}
-use Rattle.snmp_tools.specs.agent.TableFile.{names_in}
+use Rattle.snmp_tools.specs.Resolved.{names_in}
+use Rattle.snmp_tools.specs.agent.TableFile.{AreNamesIn}
 use Rattle.snmp_tools.specs.Answer.{IsFeasible, agent_over, first_of}
 use Rattle.snmp_tools.specs.Headline.{EndsAtStatus0, IsAsk, IsMishap, WritesAllAtStatus0, WritesFront}
 use Rattle.snmp_tools.specs.Lines.{AreLines}
@@ -74,7 +75,7 @@ walk_plan path root = record {
 
 -- an identifier in numbers means itself
 abbrev pub NumbersAreRead : Type 0
-NumbersAreRead = (naming : Naming) (o : List ℕ) → IsIdentifier o → meaning naming (numeric_text o) ≡ Ok o
+NumbersAreRead = (naming : Naming) (o : List ℕ) → IsIdentifier o → TextMeans naming (numeric_text o) (Ok o)
 
 words_ask : NumbersAreRead → (path root : List ℕ) → path ≢ [] → IsIdentifier root → AskFor (of_walk false (numeric_walk path root)) bare_mib (walk_plan path root)
 words_ask read path root named identifier = record {
@@ -90,7 +91,7 @@ words_ask read path root named identifier = record {
     mode = refl;
     method = refl;
     counts = refl;
-    root = ap (meaning bare_mib.naming) (begins_with_dot root) ∙ read bare_mib.naming root identifier;
+    root = subst (λ (t : List ℕ). TextMeans bare_mib.naming t (Ok root)) (sym (begins_with_dot root)) (read bare_mib.naming root identifier);
     goes_on = refl;
   };
 }
@@ -257,9 +258,9 @@ feasible ls path root view got identifier sendable is is_view room short few = r
 -- ---- the walk
 
 abbrev walk_over : (files : Holdings) (path root text : List ℕ) → HoldsTableFile files path root text → IsTree [] bare [] → NumbersAreRead
-    → (view : MibView) → IsTableOf (names_in bare_mib.naming) (lines text) view → (got : VarBind) → IsGet view (wire root) got
+    → AreNamesIn bare_mib.naming (names_in bare_mib.naming) → (view : MibView) → IsTableOf (names_in bare_mib.naming) (lines text) view → (got : VarBind) → IsGet view (wire root) got
     → IsAsk (of_walk false (numeric_walk path root)) files (or_only got (rows_below root (variables view)))
-walk_over files path root text holds loads read view is got is_got = record {
+walk_over files path root text holds loads read named view is got is_got = record {
   mib = bare_mib;
   warnings = [];
   known = bare_is_loaded loads files;
@@ -270,11 +271,13 @@ walk_over files path root text holds loads read view is got is_got = record {
   text = text;
   held = holds.held;
   view = view;
+  names = names_in bare_mib.naming;
+  named = named;
   table = is;
   are_rows = (got, is_got, refl);
 }
 
-pub prints_rows : IsTree [] bare [] → NumbersAreRead → BelowAreRows
+pub prints_rows : IsTree [] bare [] → NumbersAreRead → AreNamesIn bare_mib.naming (names_in bare_mib.naming) → BelowAreRows
     → ((view : MibView) (root : List ℕ) → IsMibView view → AreOrdered (rows_below root (variables view)))
     → ((view : MibView) (o : List ℕ) → HasOne (IsGet view o)) → ShortHaveRoom
     → ((ls : List (List ℕ)) → AreTableBy (names_in bare_mib.naming) ls → (view : MibView) × IsTableOf (names_in bare_mib.naming) ls view × IsMibView view)
@@ -284,7 +287,7 @@ pub prints_rows : IsTree [] bare [] → NumbersAreRead → BelowAreRows
     → WritesAllAtStatus0 (of_walk false (numeric_walk path root)) files before after status
     → EndsAtStatus0 (of_walk false (numeric_walk path root)) files before after err_before err_after status
     → PrintsRows (lines text) root before after err_before err_after status
-prints_rows loads read law ordered one_get room tables plain files path root text before after err_before err_after status holds front all ends =
+prints_rows loads read named law ordered one_get room tables plain files path root text before after err_before err_after status holds front all ends =
     let stated = tables (lines text) (first_format, holds.unmarked, holds.table) in
     let view : MibView = stated.0 in
     let by : IsTableOf (names_in bare_mib.naming) (lines text) view = stated.1 in
@@ -295,7 +298,7 @@ prints_rows loads read law ordered one_get room tables plain files path root tex
     let is_got : IsGet view (wire root) got = one.1 in
     let got_root : IsGet view root got = subst (λ (o : List ℕ). IsGet view o got) (wire_is root holds.sendable) is_got in
     let rows : List VarBind = or_only got (rows_below root (variables view)) in
-    let walk : IsAsk (of_walk false (numeric_walk path root)) files rows = walk_over files path root text holds loads read view by got is_got in
+    let walk : IsAsk (of_walk false (numeric_walk path root)) files rows = walk_over files path root text holds loads read named view by got is_got in
     let first = front rows walk in
     record {
       rows = rows;

@@ -6,10 +6,10 @@ use Rattle.snmp_tools.specs.loading.Files.{AreModulesOf, FilesFail, Refusal}
 use Rattle.smi_text.specs.declared.trees.tree.Module.{Module}
 use Rattle.smi_value.specs.declared.letters.letters.Letters.{Letters}
 use Rattle.smi_value.specs.letters.Letters.{AreLetters, first_other}
-use Rattle.smi_show.specs.name.Meaning.{meaning}
+use Rattle.smi_show.specs.name.Meant.{TextMeans}
 use Rattle.smi_show.specs.declared.name.error.NameError.{NameError}
 use Rattle.snmp_io.specs.Files.{Holdings, Holds}
-use Rattle.snmp_tools.specs.agent.TableFile.{HasTable, TableFails, names_in}
+use Rattle.snmp_tools.specs.agent.TableFile.{HasTable, TableFails}
 use Rattle.snmp_agent.specs.table.Table.{MibView}
 use Rattle.snmp_net.specs.Address.{Address, IsAgent, table, udp}
 use Rattle.snmp_words.specs.Words.{AskingWords}
@@ -63,21 +63,21 @@ MibsFail files paths why =
 -- a text that isn't the name of an identifier
 abbrev pub NameFails : Mib → List ℕ → Fault → Type 0
 NameFails mib text why =
-    (error : NameError) × (meaning mib.naming text ≡ Err error) × (why ≡ bad_name error text)
+    (error : NameError) × TextMeans mib.naming text (Err error) × (why ≡ bad_name error text)
 
 -- the name that a text states, where there is a text
 abbrev pub IsNameIfGiven : Mib → Option (List ℕ) → Option (List ℕ) → Type 0
 IsNameIfGiven mib None name = name ≡ None
 IsNameIfGiven mib (Some text) name =
-    (o : List ℕ) × (meaning mib.naming text ≡ Ok o) × (name ≡ Some o)
+    (o : List ℕ) × TextMeans mib.naming text (Ok o) × (name ≡ Some o)
 
 -- the agent is over a table that its file states, or over the network
 abbrev pub IsReached : Holdings → Mib → Address → Type 0
-IsReached files mib (table path) = (view : MibView) × HasTable files (names_in mib.naming) path view
+IsReached files mib (table path) = (view : MibView) × HasTable files mib.naming path view
 IsReached files mib (udp host port) = Unit {0}
 
 -- its file can't be read or states no table
 abbrev pub ReachFails : Holdings → Mib → Address → Fault → Type 0
 ReachFails files mib (table path) why =
-    TableFails unreadable bad_table files (names_in mib.naming) path why
+    TableFails unreadable bad_table files mib.naming path why
 ReachFails files mib (udp host port) why = ⊥

@@ -8,13 +8,14 @@ use Rattle.std.specs.Prelude.{◌≡◌, ◌⊎◌, ◌++◌, ℕ, List, length,
 use Rattle.std.specs.Str.Lines.{lines}
 use Rattle.snmp_tools.specs.loading.Warned.{warning_lines}
 use Rattle.smi_names.specs.declared.nodes.warning.Warning.{Warning}
+use Rattle.snmp_agent.specs.table.Format.{Names}
 use Rattle.snmp_agent.specs.table.Stated.{IsTableOf}
 use Rattle.snmp_agent.specs.table.Table.{MibView}
 use Rattle.snmp_wire.specs.Message.{VarBind}
 use Rattle.snmp_io.specs.Count.{HasRisen}
 use Rattle.snmp_io.specs.Output.{IsWritten, Stream, TakesFront, extended}
 use Rattle.snmp_net.specs.Address.{table}
-use Rattle.snmp_tools.specs.agent.TableFile.{names_in}
+use Rattle.snmp_tools.specs.agent.TableFile.{AreNamesIn}
 use Rattle.snmp_tools.specs.Lines.{AreLines, count_text}
 use Rattle.snmp_io.specs.Files.{Holdings, Holds}
 use Rattle.snmp_tools.specs.Mib.{AreLoaded, Mib}
@@ -33,7 +34,9 @@ pub record IsAsk (words : AskWords) (files : Holdings) (rows : List VarBind) : T
   pub text : List ℕ
   pub held : Holds files path text
   pub view : MibView
-  pub table : IsTableOf (names_in mib.naming) (lines text) view
+  pub names : Names
+  pub named : AreNamesIn mib.naming names
+  pub table : IsTableOf names (lines text) view
   pub are_rows : AreRowsOf plan.question view rows
 
 -- the lines of the rows, and with -Cp their number

@@ -10,6 +10,7 @@ pub mod Mib
 pub mod Outcome
 pub mod Planned
 pub mod Question
+pub mod Resolved
 pub mod Seen
 pub mod Serving
 pub mod Start

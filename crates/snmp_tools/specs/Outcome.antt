@@ -16,7 +16,7 @@ use Rattle.snmp_tools.specs.Lines.{IsPrintedUpTo, count_line}
 use Rattle.snmp_tools.specs.Message.{Fault, ended, fault_message, out_of_memory, status_of}
 use Rattle.snmp_net.specs.Address.{table, udp}
 use Rattle.snmp_net.specs.declared.links.Links.{Ghosts as Network}
-use Rattle.snmp_tools.specs.agent.TableFile.{HasTable, names_in}
+use Rattle.snmp_tools.specs.agent.TableFile.{HasTable}
 use Rattle.snmp_io.specs.Files.{MayHold}
 use Rattle.snmp_tools.specs.Mib.{AreLoaded, Mib}
 use Rattle.snmp_tools.specs.Answer.{HasFacts, IsAsked}
@@ -82,7 +82,7 @@ pub data IsOutcomeBy {N V D : Type 0} (net : Network N V D) (wire : LinkFacts V)
       × HasOpened net host port words.asking.seconds before after)
       → fault ≡ Some why → IsOutcomeBy net wire words mib before after fault
   asked : (plan : Plan) (path : List ℕ) (view : MibView) → IsPlanFor words before.files mib plan
-      → plan.agent ≡ table path → HasTable before.files (names_in mib.naming) path view
+      → plan.agent ≡ table path → HasTable before.files mib.naming path view
       → IsShown (IsAsked plan plan.question view) mib plan words.asking.agent before.out after.out
       fault
       → after ≡ record before { out = after.out }

@@ -1,8 +1,9 @@
 -- What the words of a job that asks an agent ask for, and why they may be refused.
 use Rattle.std.specs.Prelude.{◌≡◌, ◌≤◌, ◌⊎◌, ◌++◌, ℕ, Bool, false, List, [], ◌∷◌, length, map}
+use Rattle.core.specs.List.{AllZip}
 use Rattle.std.specs.Prelude.{Option, Some, None, Result, Ok, Err, codes, unwrap_or}
 use Rattle.smi_value.specs.declared.letters.letters.Letters.{Letters}
-use Rattle.smi_show.specs.name.Meaning.{meaning}
+use Rattle.smi_show.specs.name.Meant.{TextMeans}
 use Rattle.snmp_oid.specs.Identifier.{IsBelow, IsWire, wire}
 use Rattle.snmp_walk.specs.declared.mode.Method.{Method}
 use Rattle.snmp_walk.specs.declared.mode.Mode.{Mode}
@@ -79,7 +80,7 @@ counts_in (subtree w) = w.counts
 
 -- the names that texts state, each at its text's place
 abbrev pub AreNames : Mib → (texts os : List (List ℕ)) → Type 0
-AreNames mib texts os = map (meaning mib.naming) texts ≡ map Ok os
+AreNames mib texts os = AllZip (λ text o. TextMeans mib.naming text (Ok o)) texts os
 
 -- the words of snmpwalk, or of snmpbulkwalk, state this walk
 pub record IsWalkOf (bulk : Bool) (choices : Choices) (after name : Option (List ℕ)) (mib : Mib)
@@ -87,7 +88,7 @@ pub record IsWalkOf (bulk : Bool) (choices : Choices) (after name : Option (List
   pub mode : w.mode ≡ mode_of choices
   pub method : w.method ≡ method_of bulk choices
   pub counts : w.counts ≡ choices.counts
-  pub root : meaning mib.naming (root_text name) ≡ Ok w.root
+  pub root : TextMeans mib.naming (root_text name) (Ok w.root)
   pub goes_on : IsNameIfGiven mib after w.after
 
 -- the words state this question
@@ -154,16 +155,16 @@ reaching_steps request = name_steps request ++ (reach_step ∷ [])
 
 -- the text states a name
 abbrev pub HasMeaning : Mib → (text : List ℕ) → Type 0
-HasMeaning mib text = (name : List ℕ) × (meaning mib.naming text ≡ Ok name)
+HasMeaning mib text = (name : List ℕ) × TextMeans mib.naming text (Ok name)
 
 -- the text states a name that can be sent
 abbrev pub HasSendable : Mib → (text : List ℕ) → Type 0
 HasSendable mib text =
-    (name : List ℕ) × (meaning mib.naming text ≡ Ok name) × IsWire (wire name)
+    (name : List ℕ) × TextMeans mib.naming text (Ok name) × IsWire (wire name)
 
 -- the text states a name that can't be sent
 abbrev pub HasUnsendable : Mib → (text : List ℕ) → Fault → Type 0
-HasUnsendable mib text why = (name : List ℕ) × (meaning mib.naming text ≡ Ok name)
+HasUnsendable mib text why = (name : List ℕ) × TextMeans mib.naming text (Ok name)
     × (IsWire (wire name) → ⊥) × (why ≡ unsendable text)
 
 -- a walk below the root can go on after the name
@@ -173,8 +174,8 @@ IsAtOrBelow after root = (after ≡ root) ⊎ IsBelow after root
 -- the texts state a root and a name of which this is true
 abbrev pub HaveNames : Mib → (root_text text : List ℕ) → (List ℕ → List ℕ → Type 0) → Type 0
 HaveNames mib root_text text Is =
-    (root : List ℕ) × (after : List ℕ) × (meaning mib.naming root_text ≡ Ok root)
-    × (meaning mib.naming text ≡ Ok after) × Is root after
+    (root : List ℕ) × (after : List ℕ) × TextMeans mib.naming root_text (Ok root)
+    × TextMeans mib.naming text (Ok after) × Is root after
 
 -- by names that the job knows
 abbrev pub ByNames : AskWords → Holdings → (Mib → Type 0) → Type 0

@@ -4,7 +4,7 @@ ghost use Rattle.std.specs.Prelude.{◌≡◌, ◌⊎◌, ◌+◌, IfErr, IfOk, 
 ghost use Rattle.snmp_io.specs.Files.{MayHold};
 ghost use Rattle.snmp_io.specs.Output.{Stream};
 ghost use Rattle.snmp_words.specs.Words.{asking_words};
-ghost use Rattle.snmp_tools.specs.agent.TableFile.{HasTable, TableFails, names_in};
+ghost use Rattle.snmp_tools.specs.agent.TableFile.{HasTable, TableFails};
 ghost use Rattle.snmp_tools.specs.loading.Loaded.{AreLoadedAs};
 ghost use Rattle.snmp_tools.specs.Answer.{IsAsked, IsAskedOver, end_in_memory};
 ghost use Rattle.snmp_tools.specs.Asking.{MibsFail};
@@ -23,7 +23,7 @@ use crate::loading::{FilesError, ModuleFiles};
 use crate::plan::{Orders, Plan};
 use crate::request::AskJob;
 use crate::start::{Begun, begin};
-use crate::table_names::TreeNames;
+use crate::table_names::{TreeNames, names_are_meant};
 use smi_show::{NameTree, ShowTree};
 use snmp_agent::{Config, Table, one_answer};
 use snmp_io::{FileFault, Files, Output};
@@ -233,9 +233,9 @@ fn table_at<'a, T: NameTree, F: Files>(
     path: &'a str,
 ) -> Result<Table, Failure<'a>>
     ensures table { IfOk result
-        (HasTable (F.text_at files.now) (names_in (T.naming tree.now)) path.now) }
+        (HasTable (F.text_at files.now) (T.naming tree.now) path.now) }
     ensures err { IfErr result (λ e. (fault_of e ≡ out_of_memory)
-        ⊎ TableFails unreadable bad_table (F.text_at files.now) (names_in (T.naming tree.now))
+        ⊎ TableFails unreadable bad_table (F.text_at files.now) (T.naming tree.now)
         path.now (fault_of e)) }
 {
     let text = match files.read(alloc, path) {
@@ -243,6 +243,7 @@ fn table_at<'a, T: NameTree, F: Files>(
         Err(FileFault::Unreadable) => return Err(Failure::Unreadable(path)),
         Err(FileFault::Memory) => return Err(Failure::Memory),
     };
+    names_are_meant();
     match Table::read_with(alloc, &text, &TreeNames { tree }) {
         Ok(table) => Ok(table),
         Err(fault) => Err(Failure::Table(path, fault)),

@@ -13,6 +13,7 @@ use crate::loading::{ModuleFiles, one_list_of_modules};
 use crate::request::AskJob;
 use crate::serve::do_serve;
 use crate::translate::do_translate;
+use smi_show::one_meaning;
 use smi_tree::one_tree;
 use snmp_agent::{no_fault, one_table};
 use snmp_io::{Output, write_all};
@@ -41,6 +42,7 @@ pub fn run_job<F: ModuleFiles, L: Links, O: Output, E: Output>(
     no_fault();
     one_list_of_modules();
     one_tree();
+    one_meaning();
     match job {
         Job::Translate(translate) => do_translate(alloc, translate, files, out, err),
         Job::Get(get) => do_ask(alloc, AskJob::of_get(get), files, links, out, err),

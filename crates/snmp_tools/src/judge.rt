@@ -2,7 +2,7 @@
 //! that has no meaning.
 ghost use Rattle.std.specs.Prelude.{◌≡◌, ◌↔◌, ◌≤◌, ℕ, List, Some, Ok, codes, length};
 ghost use Rattle.std.specs.Prelude.{IfErr, IfNone, IfOk, IfSome, IsTrue, option_map, string_bytes};
-ghost use Rattle.smi_show.specs.name.Meaning.{meaning};
+ghost use Rattle.smi_show.specs.name.Meant.{TextMeans};
 ghost use Rattle.snmp_words.specs.Words.{asking_words};
 ghost use Rattle.snmp_net.specs.Address.{address_of};
 ghost use Rattle.snmp_tools.specs.Asking.{AreShown, HasAgent, IsNameIfGiven, NameFails};
@@ -179,7 +179,7 @@ fn is_2c(word: &str) -> bool
 
 /// The name that a text states.
 pub(crate) fn name<'a, T: NameTree>(tree: &T, text: &'a str) -> Result<Oid, Failure<'a>>
-    ensures ok { IfOk result (λ o. meaning (T.naming tree.now) text.entry.now ≡ Ok o) }
+    ensures ok { IfOk result (λ o. TextMeans (T.naming tree.now) text.entry.now (Ok o)) }
     ensures err { (mib : Mib) → mib.naming ≡ T.naming tree.now
         → IfErr result (λ e. NameFails mib text.entry.now (fault_of e)) }
 {

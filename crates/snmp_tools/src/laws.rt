@@ -10,6 +10,7 @@ ghost use Rattle.snmp_tools.specs.Planned.{numeric_walk};
 ghost use Rattle.snmp_tools.specs.Question.{of_walk};
 ghost use Rattle.snmp_tools.specs.TableWalk.{HoldsTableFile, PrintsRows, table_walk};
 
+use crate::table_names::names_are_meant;
 use smi_show::numbers_are_read;
 use smi_tree::bare_tree;
 use snmp_agent::{one_answer, table_of_lines, unmarked_table};
@@ -34,6 +35,7 @@ pub(crate) fn table_walks()
 {
     walks_are_taken();
     numbers_are_read();
+    names_are_meant();
     bare_tree();
     table_of_lines();
     unmarked_table();

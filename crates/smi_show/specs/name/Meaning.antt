@@ -1,18 +1,13 @@
--- The identifier that a name means, by its parts from the left, or the first fault.
+-- What a text means as a name, computed, for private clauses.
 use Rattle.std.specs.Prelude.{ℕ, ◌==◌, nat_le, if◌then◌else◌, List, [], ◌∷◌, ◌++◌, length, Option}
 use Rattle.std.specs.Prelude.{Some, None, Result, Ok, Err}
 use Rattle.smi_show.specs.index.Pieces.{piece_numbers}
 use Rattle.smi_show.specs.name.Cut.{name_parts, module_after}
+use Rattle.smi_show.specs.name.Meant.{Scope, among_roots, anywhere, found_in, in_module}
 use Rattle.smi_show.specs.name.Naming.{Naming}
 use Rattle.smi_show.specs.name.Word.{Word, a_piece, a_label, word_of}
 use Rattle.smi_show.specs.declared.name.error.NameError.{NameError}
 use Rattle.smi_show.specs.declared.name.error.NameError.TheVariants.{Unknown, TooLong}
-
--- where the label of a head is looked up
-pub data Scope : Type 0 where
-  in_module : List ℕ → Scope
-  anywhere : Scope
-  among_roots : Scope
 
 abbrev pub and_then : {A B : Type 0} → Result A NameError → (A → Result B NameError)
     → Result B NameError
@@ -26,11 +21,6 @@ fitting o = if nat_le (length o) 128 then Ok o else Err TooLong
 abbrev pub or_unknown : Option (List ℕ) → Result (List ℕ) NameError
 or_unknown None = Err Unknown
 or_unknown (Some o) = Ok o
-
-abbrev pub found_in : Naming → Scope → List ℕ → Option (List ℕ)
-found_in naming (in_module home) label = naming.in_module home label
-found_in naming anywhere label = naming.anywhere label
-found_in naming among_roots label = naming.among_roots label
 
 -- the first part: its own numbers, or the node of the label
 abbrev pub first_word_meaning : Naming → Scope → Word → Result (List ℕ) NameError

@@ -8,7 +8,6 @@ use Rattle.snmp_io.specs.Quotes.{IsFrontOf}
 use Rattle.smi_show.specs.index.Pieces.{IsPiece, Piece, counted_text, piece_numbers, plain_number}
 use Rattle.smi_show.specs.index.Pieces.{plain_text, shown_piece}
 use Rattle.smi_show.specs.name.Cut.{module_after, name_parts}
-use Rattle.smi_show.specs.name.Meaning.{Scope, among_roots, anywhere, found_in, in_module}
 use Rattle.smi_show.specs.name.Naming.{Naming}
 use Rattle.smi_show.specs.declared.name.error.NameError.{NameError}
 use Rattle.smi_show.specs.declared.name.error.NameError.TheVariants.{BadIndex, BadNumber, TooLong}
@@ -76,6 +75,17 @@ PartsMean naming look_up so_far (part ∷ more) result =
 
 -- ---- a text
 
+-- where the label of a first part is looked up
+pub data Scope : Type 0 where
+  in_module : List ℕ → Scope
+  anywhere : Scope
+  among_roots : Scope
+
+abbrev pub found_in : Naming → Scope → List ℕ → Option (List ℕ)
+found_in naming (in_module home) label = naming.in_module home label
+found_in naming anywhere label = naming.anywhere label
+found_in naming among_roots label = naming.among_roots label
+
 -- The parts of the text stand in `rest`, and the label of the first is looked up in this scope: in
 -- the module before `::`, after a leading dot among the roots, and anywhere otherwise.
 abbrev pub IsScoped : (text : List ℕ) → Scope → (rest : List ℕ) → Type 0
@@ -109,11 +119,11 @@ TextMeans naming text result =
     ⊎ ((text ≢ []) × (text ≢ 46 ∷ []) × ((scope : Scope) × (rest : List ℕ)
     × IsScoped text scope rest × ScopeMeans naming scope rest result)))
 
--- what means what, for the front of a text: what stands before the first `stop` outside quotes,
--- with its length
-abbrev pub FrontMeans : (means : List ℕ → Result (List ℕ) NameError → Type 0) → (stop : ℕ)
-    → (text : List ℕ) → Result (List ℕ × ℕ) NameError → Type 0
-FrontMeans means stop text (Ok (o, size)) = (front : List ℕ) × IsFrontOf stop text front
-    × means front (Ok o) × (size ≡ length front)
-FrontMeans means stop text (Err why) = (front : List ℕ) × IsFrontOf stop text front
-    × means front (Err why)
+-- the same of the front of a text: what stands before the first `stop` outside quotes, with its
+-- length
+abbrev pub FrontMeans : Naming → (stop : ℕ) → (text : List ℕ) → Result (List ℕ × ℕ) NameError
+    → Type 0
+FrontMeans naming stop text (Ok (o, size)) = (front : List ℕ) × IsFrontOf stop text front
+    × TextMeans naming front (Ok o) × (size ≡ length front)
+FrontMeans naming stop text (Err why) = (front : List ℕ) × IsFrontOf stop text front
+    × TextMeans naming front (Err why)

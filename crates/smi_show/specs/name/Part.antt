@@ -2,7 +2,7 @@
 use Rattle.std.specs.Prelude.{Result, Ok, Err}
 use Rattle.smi_show.specs.index.Pieces as pieces
 use Rattle.smi_show.specs.name.Word.{Word, a_piece, a_label}
-use Rattle.smi_show.specs.name.Meaning as meaning
+use Rattle.smi_show.specs.name.Meant as meant
 use Rattle.smi_show.specs.declared.name.error.NameError.{NameError}
 use Rattle.smi_show.specs.declared.name.word.Part.{Part}
 use Rattle.smi_show.specs.declared.name.word.Part.TheVariants as part
@@ -24,7 +24,7 @@ abbrev pub outcome_in : Result Part NameError → Result Word NameError
 outcome_in (Ok part) = Ok (word_in part)
 outcome_in (Err fault) = Err fault
 
-abbrev pub scope_in : Scope → meaning.Scope
-scope_in (Module home) = meaning.in_module home.now
-scope_in Anywhere = meaning.anywhere
-scope_in Roots = meaning.among_roots
+abbrev pub scope_in : Scope → meant.Scope
+scope_in (Module home) = meant.in_module home.now
+scope_in Anywhere = meant.anywhere
+scope_in Roots = meant.among_roots

@@ -10,18 +10,18 @@ ghost use Rattle.smi_show.specs.declared.name.error.NameError.{NameError};
 use crate::index::pieces_stand_for_numbers;
 use snmp_oid::names;
 
-/// A text means one identifier, or has one first fault: what [`crate::name::resolve`] returns.
+/// A text means one thing as a name, an identifier or a fault.
 pub fn one_meaning()
-    ensures meant { (naming : Naming) (text : List ℕ)
+    ensures found { (naming : Naming) (text : List ℕ)
         → TextMeans naming text (meaning naming text) }
-    ensures only { (naming : Naming) (text : List ℕ) (result : Result (List ℕ) NameError)
-        → TextMeans naming text result → result ≡ meaning naming text }
+    ensures only { (naming : Naming) (text : List ℕ) (a b : Result (List ℕ) NameError)
+        → TextMeans naming text a → TextMeans naming text b → a ≡ b }
 {}
 
 /// An identifier written in numbers means itself, whatever nodes there are.
 pub fn numbers_are_read()
     ensures { (naming : Naming) (o : List ℕ) → IsIdentifier o
-        → meaning naming (numeric_text o) ≡ Ok o }
+        → TextMeans naming (numeric_text o) (Ok o) }
 {
     names();
     pieces_stand_for_numbers();

@@ -6,9 +6,9 @@ ghost use Rattle.smi_value.specs.declared.letters.letters.NameForm.{NameForm};
 ghost use Rattle.smi_show.specs.name.Cut.{name_parts, module_after};
 ghost use Rattle.smi_show.specs.name.Left.{parts_left};
 ghost use Rattle.smi_show.specs.name.Meaning.{further_meaning, head_meaning, meaning, part_meaning};
-ghost use Rattle.smi_show.specs.name.Meaning.{found_in, or_unknown, parts_meaning, plain_meaning};
+ghost use Rattle.smi_show.specs.name.Meaning.{or_unknown, parts_meaning, plain_meaning};
 ghost use Rattle.smi_show.specs.name.Meaning.{scoped_meaning};
-ghost use Rattle.smi_show.specs.name.Meant.{FrontMeans, TextMeans};
+ghost use Rattle.smi_show.specs.name.Meant.{FrontMeans, TextMeans, found_in};
 ghost use Rattle.smi_show.specs.name.Name.{IsName, ReadsBack};
 ghost use Rattle.smi_show.specs.name.Part.{scope_in};
 
@@ -31,7 +31,6 @@ use snmp_oid::{Oid, names};
 /// numbers, is read back.
 pub fn resolve<T: NameTree>(tree: &T, text: &[u8]) -> Result<Oid, NameError>
     ensures stated { TextMeans (T.naming tree.now) text.now result }
-    ensures meant { result ≡ meaning (T.naming tree.now) text.now }
     ensures reads_back { (form : NameForm) (numeric_index : Bool) (o : List ℕ)
         → ReadsBack form → IsIdentifier o
         → IsName (T.naming tree.now) form numeric_index o text.now → result ≡ Ok o }
@@ -50,9 +49,7 @@ pub fn resolve_front<T: NameTree>(
     text: &[u8],
     stop: u8,
 ) -> Result<(Oid, usize), NameError>
-    ensures stated { FrontMeans (TextMeans (T.naming tree.now)) stop text.now result }
-    ensures meant { FrontMeans (λ front found. found ≡ meaning (T.naming tree.now) front)
-        stop text.now result }
+    ensures { FrontMeans (T.naming tree.now) stop text.now result }
 {
     let front = unquoted_front(text, stop);
     match resolve(tree, front) {

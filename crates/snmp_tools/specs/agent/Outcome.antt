@@ -2,17 +2,17 @@
 use Rattle.std.specs.Prelude.{◌≡◌, ◌⊎◌, ◌+◌, ◌++◌, ℕ, List, Option, Some, None, codes, decimal}
 use Rattle.snmp_agent.specs.Reply.{Agent}
 use Rattle.snmp_agent.specs.declared.server.Served.{Served}
-use Rattle.snmp_agent.specs.table.Format.{Names}
 use Rattle.snmp_agent.specs.table.Table.{MibView}
 use Rattle.snmp_io.specs.Count.{HasRisen}
 use Rattle.snmp_io.specs.Files.{Holdings, MayHold}
 use Rattle.snmp_io.specs.Output.{FailsWithin, Stream, extended}
+use Rattle.smi_show.specs.name.Naming.{Naming}
 use Rattle.smi_tree.specs.Naming.{naming_of}
 use Rattle.smi_tree.specs.Tree.{Contents}
 use Rattle.snmp_words.specs.Words.{ServeWords}
 use Rattle.snmp_tools.specs.agent.Fault.{ServeFault, no_door, no_memory, no_output}
 use Rattle.snmp_tools.specs.agent.Service.{IsPlaced, IsServeRefusal, IsTableRefusal, served_agent}
-use Rattle.snmp_tools.specs.agent.TableFile.{HasTable, names_in}
+use Rattle.snmp_tools.specs.agent.TableFile.{HasTable}
 use Rattle.snmp_tools.specs.loading.Loaded.{IsLoaded}
 
 -- where requests are received, in the word's own octets
@@ -63,13 +63,13 @@ IsServing Serves faults words view before after fault =
     ⊎ IsServedAndCounted Serves words view (extended before (listening_line words.listen)) after
     fault)
 
--- By these names the table file is refused, or it states a table, which is served.
+-- By these nodes the table file is refused, or it states a table, which is served.
 abbrev pub IsServedBy : (Serves : Agent → ℕ → Served → Type 0) → Faults → ServeWords → Holdings
-    → Names → (before after : Stream) → Option ServeFault → Type 0
-IsServedBy Serves faults words files names before after fault =
-    ((why : ServeFault) × IsTableRefusal words files names why × (after ≡ before)
+    → Naming → (before after : Stream) → Option ServeFault → Type 0
+IsServedBy Serves faults words files naming before after fault =
+    ((why : ServeFault) × IsTableRefusal words files naming why × (after ≡ before)
     × (fault ≡ Some why))
-    ⊎ ((view : MibView) × HasTable files names words.table view
+    ⊎ ((view : MibView) × HasTable files naming words.table view
     × IsServing Serves faults words view before after fault)
 
 -- What snmpd printed on its output and, of the warnings of its modules, on standard error, and why
@@ -84,6 +84,6 @@ pub data IsServeOutcome (Serves : (host : List ℕ) → (port : ℕ) → Agent �
       → IsServeOutcome Serves faults words files before after err_before warned fault
   loaded : (at : IsPlaced words) (tree : Contents)
       → IsLoaded (MayHold files) words.mibs tree err_before warned
-      → IsServedBy (Serves at.host at.port) faults words files (names_in (naming_of tree)) before
-      after fault
+      → IsServedBy (Serves at.host at.port) faults words files (naming_of tree) before after
+      fault
       → IsServeOutcome Serves faults words files before after err_before warned fault

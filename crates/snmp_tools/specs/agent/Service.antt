@@ -2,8 +2,8 @@
 use Rattle.std.specs.Prelude.{◌≡◌, ◌<◌, ◌≤◌, ◌⊎◌, ℕ, List, [], ◌∷◌, length}
 use Rattle.smi_text.specs.declared.trees.tree.Module.{Module}
 use Rattle.snmp_agent.specs.Reply.{Agent}
-use Rattle.snmp_agent.specs.table.Format.{Names}
 use Rattle.snmp_agent.specs.table.Table.{MibView}
+use Rattle.smi_show.specs.name.Naming.{Naming}
 use Rattle.snmp_io.specs.Files.{Holdings, MayHold}
 use Rattle.snmp_io.specs.Steps.{IsFirstToFail}
 use Rattle.snmp_net.specs.Address.{IsHostAndPort}
@@ -63,8 +63,8 @@ ServiceFails words files why =
 abbrev pub IsServeRefusal : ServeWords → Holdings → ServeFault → Type 0
 IsServeRefusal words files why = (why ≡ no_memory) ⊎ ServiceFails words files why
 
--- why the table of the words isn't served, by these names: memory ran out, or the file can't be
+-- why the table of the words isn't served, by these nodes: memory ran out, or the file can't be
 -- read or states none
-abbrev pub IsTableRefusal : ServeWords → Holdings → Names → ServeFault → Type 0
-IsTableRefusal words files names why =
-    (why ≡ no_memory) ⊎ TableFails unreadable bad_table files names words.table why
+abbrev pub IsTableRefusal : ServeWords → Holdings → Naming → ServeFault → Type 0
+IsTableRefusal words files naming why =
+    (why ≡ no_memory) ⊎ TableFails unreadable bad_table files naming words.table why

@@ -1,29 +1,31 @@
--- The table that a file states, by the names of modules, or why it states none.
-use Rattle.std.specs.Prelude.{◌≡◌, ◌⊎◌, ℕ, List}
-use Rattle.std.specs.Result.{result_ok}
+-- The table that a file states, by the nodes of modules, or why it states none.
+use Rattle.std.specs.Prelude.{◌≡◌, ◌⊎◌, ◌↔◌, ℕ, List, Some, Ok}
 use Rattle.std.specs.Str.Lines.{lines}
 use Rattle.snmp_io.specs.Files.{Holdings, MayHold, MayHoldNone}
-use Rattle.snmp_agent.specs.table.Format.{Names, names_by}
+use Rattle.snmp_agent.specs.table.Format.{Names, names_by, numeric_names}
 use Rattle.snmp_agent.specs.table.Stated.{IsFirstFault, IsTableOf}
 use Rattle.snmp_agent.specs.table.Table.{MibView}
 use Rattle.snmp_agent.specs.declared.table.error.TableError.{TableError}
-use Rattle.smi_show.specs.name.Meaning.{meaning}
+use Rattle.smi_show.specs.name.Meant.{TextMeans}
 use Rattle.smi_show.specs.name.Naming.{Naming}
 
 -- a text of the second format names what it means by these nodes
-abbrev pub names_in : Naming → Names
-names_in naming = names_by (λ text. result_ok (meaning naming text))
+abbrev pub AreNamesIn : Naming → Names → Type 0
+AreNamesIn naming (names_by look_up) =
+    (text o : List ℕ) → (look_up text ≡ Some o) ↔ TextMeans naming text (Ok o)
+AreNamesIn naming numeric_names = ⊥
 
 -- the file at a path states this table, as far as it is known what the file holds
-abbrev pub HasTable : Holdings → Names → (path : List ℕ) → MibView → Type 0
-HasTable files names path view = (text : List ℕ) × MayHold files path text
-    × IsTableOf names (lines text) view
+abbrev pub HasTable : Holdings → Naming → (path : List ℕ) → MibView → Type 0
+HasTable files naming path view = (names : Names) × AreNamesIn naming names
+    × (text : List ℕ) × MayHold files path text × IsTableOf names (lines text) view
 
 -- The file at a path can't be read, or its text states no table: for each, what is said of it.
 abbrev pub TableFails : {Why : Type 0} → (unreadable : (path : List ℕ) → Why)
-    → (bad_table : (path : List ℕ) → TableError → Why) → Holdings → Names → (path : List ℕ) → Why
+    → (bad_table : (path : List ℕ) → TableError → Why) → Holdings → Naming → (path : List ℕ) → Why
     → Type 0
-TableFails {Why} unreadable bad_table files names path why =
+TableFails {Why} unreadable bad_table files naming path why =
     (MayHoldNone files path × (why ≡ unreadable path))
-    ⊎ ((text : List ℕ) × (error : TableError) × MayHold files path text
+    ⊎ ((names : Names) × AreNamesIn naming names
+    × (text : List ℕ) × (error : TableError) × MayHold files path text
     × IsFirstFault names (lines text) error × (why ≡ bad_table path error))

@@ -10,11 +10,11 @@ ghost use Rattle.snmp_tools.specs.agent.Outcome.{AtDoor, IsServeOutcome, IsServe
 ghost use Rattle.snmp_tools.specs.agent.Outcome.{StopsAtLine};
 ghost use Rattle.snmp_tools.specs.agent.Outcome.{counts_line, listening_line};
 ghost use Rattle.snmp_tools.specs.agent.Service.{ServiceFails};
-ghost use Rattle.snmp_tools.specs.agent.TableFile.{HasTable, TableFails, names_in};
+ghost use Rattle.snmp_tools.specs.agent.TableFile.{HasTable, TableFails};
 
 use crate::agent::error::{ServeError, modules_error};
 use crate::loading::ModuleFiles;
-use crate::table_names::TreeNames;
+use crate::table_names::{TreeNames, names_are_meant};
 use smi_show::NameTree;
 use snmp_agent::{Config, Served, Table};
 use snmp_io::{Draft, FileFault, Files, Output, write_all};
@@ -87,12 +87,12 @@ fn serve_by<'a, T: NameTree, F: Files, L: Links, O: Output>(
     ensures done { OnOk result (IsServedBy
         (AtDoor (L.binds links.old) L.serves place.entry.host.now place.entry.port)
         (record { before = L.fault_count links.old; after = L.fault_count links.new })
-        (serve_words job.now) (F.text_at files.now) (names_in (T.naming tree.now))
+        (serve_words job.now) (F.text_at files.now) (T.naming tree.now)
         (O.stream out.old) (O.stream out.new) None) }
     ensures failed { IfErr result (λ e. IsServedBy
         (AtDoor (L.binds links.old) L.serves place.entry.host.now place.entry.port)
         (record { before = L.fault_count links.old; after = L.fault_count links.new })
-        (serve_words job.now) (F.text_at files.now) (names_in (T.naming tree.now))
+        (serve_words job.now) (F.text_at files.now) (T.naming tree.now)
         (O.stream out.old) (O.stream out.new) (Some (serve_fault_of e))) }
 {
     let table = match table_at(alloc, tree, files, job.table) {
@@ -110,9 +110,9 @@ fn table_at<'a, T: NameTree, F: Files>(
     path: &'a str,
 ) -> Result<Table, ServeError<'a>>
     ensures table { IfOk result
-        (HasTable (F.text_at files.now) (names_in (T.naming tree.now)) path.now) }
+        (HasTable (F.text_at files.now) (T.naming tree.now) path.now) }
     ensures err { IfErr result (λ e. (serve_fault_of e ≡ no_memory)
-        ⊎ TableFails unreadable bad_table (F.text_at files.now) (names_in (T.naming tree.now))
+        ⊎ TableFails unreadable bad_table (F.text_at files.now) (T.naming tree.now)
         path.now (serve_fault_of e)) }
 {
     let text = match files.read(alloc, path) {
@@ -120,6 +120,7 @@ fn table_at<'a, T: NameTree, F: Files>(
         Err(FileFault::Unreadable) => return Err(ServeError::Unreadable(path)),
         Err(FileFault::Memory) => return Err(ServeError::Memory),
     };
+    names_are_meant();
     match Table::read_with(alloc, &text, &TreeNames { tree }) {
         Ok(table) => Ok(table),
         Err(fault) => Err(ServeError::Table(path, fault)),

@@ -1,7 +1,7 @@
 use Rattle.std.proofs.Common.{ap, ◌∙◌}
 use Rattle.snmp_words.specs.Command.{is_taken}
 use Rattle.snmp_words.specs.Words.{stated_job}
-use Rattle.snmp_tools.specs.agent.TableFile.{names_in}
+use Rattle.snmp_tools.specs.Resolved.{names_in}
 use Rattle.snmp_tools.proofs.BareNames.{bare_mib}
 use Rattle.snmp_tools.proofs.TableWalks.{prints_rows, words_are}
 use Rattle.snmp_tools.proofs.laws.table_walks.Goals as goal
@@ -13,6 +13,6 @@ pub returns-clause-stated : goal.returns-clause-stated
 returns-clause-stated c = λ path root. ap stated_job (words_are path root) ∙ c.walks_are_taken.ensures.joined_job path _
 
 pub returns-clause-printed : goal.returns-clause-printed
-returns-clause-printed c = prints_rows c.bare_tree.ensures c.numbers_are_read.ensures c.instances_below.ensures.below c.instances_below.ensures.ordered
+returns-clause-printed c = prints_rows c.bare_tree.ensures c.numbers_are_read.ensures (c.names_are_meant.ensures bare_mib.naming) c.instances_below.ensures.below c.instances_below.ensures.ordered
     c.one_answer.ensures.get c.short_rows_have_room.ensures (c.table_of_lines.ensures (names_in bare_mib.naming))
     (c.unmarked_table.ensures (names_in bare_mib.naming))

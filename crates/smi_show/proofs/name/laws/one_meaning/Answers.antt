@@ -1,8 +1,8 @@
-use Rattle.smi_show.proofs.MeantTexts.{means, means_only}
+use Rattle.smi_show.proofs.MeantTexts.{means, one_meaning}
 use Rattle.smi_show.proofs.name.laws.one_meaning.Goals as goal
 
-pub returns-clause-meant : goal.returns-clause-meant
-returns-clause-meant c = means
+pub returns-clause-found : goal.returns-clause-found
+returns-clause-found c = means
 
 pub returns-clause-only : goal.returns-clause-only
-returns-clause-only c = means_only
+returns-clause-only c = one_meaning

@@ -5,7 +5,6 @@ use Rattle.snmp_io.specs.Files.{MayHold}
 use Rattle.snmp_words.specs.Words.{serve_words}
 use Rattle.snmp_tools.specs.agent.Fault.{serve_fault_of}
 use Rattle.snmp_tools.specs.agent.Outcome.{AtDoor, IsServedBy, loaded, not_loaded}
-use Rattle.snmp_tools.specs.agent.TableFile.{names_in}
 use Rattle.snmp_tools.specs.loading.Files.{IsFilesRefusal, texts}
 use Rattle.snmp_tools.specs.loading.Loaded.{AreLoadedAs}
 use Rattle.snmp_tools.specs.loading.Message.{refusal_of}
@@ -40,7 +39,7 @@ returns-clause-done g c =
     }) is.tree is.loaded
     (subst (λ (n : Naming). IsServedBy (AtDoor (g.L.Links.binds c.args.links.now) g.L.Links.serves c.in-Ok.place.host.now c.in-Ok.place.port)
     (risen (g.L.Links.fault_count c.args.links.now) (g.L.Links.fault_count c.serve_by.new.links)) (serve_words c.args.job.now)
-    (g.F.Files.text_at c.args.files.now) (names_in n) (g.O.Output.stream c.args.out.now) (g.O.Output.stream c.serve_by.new.out) None) is.names h))
+    (g.F.Files.text_at c.args.files.now) n (g.O.Output.stream c.args.out.now) (g.O.Output.stream c.serve_by.new.out) None) is.names h))
     c.serve_by.ensures.done
 
 pub returns-clause-failed : goal.returns-clause-failed
@@ -58,6 +57,6 @@ returns-clause-failed g c =
     }) is.tree is.loaded
     (subst (λ (n : Naming). IsServedBy (AtDoor (g.L.Links.binds c.args.links.now) g.L.Links.serves c.in-Ok.place.host.now c.in-Ok.place.port)
     (risen (g.L.Links.fault_count c.args.links.now) (g.L.Links.fault_count c.serve_by.new.links)) (serve_words c.args.job.now)
-    (g.F.Files.text_at c.args.files.now) (names_in n) (g.O.Output.stream c.args.out.now) (g.O.Output.stream c.serve_by.new.out)
+    (g.F.Files.text_at c.args.files.now) n (g.O.Output.stream c.args.out.now) (g.O.Output.stream c.serve_by.new.out)
     (Some (serve_fault_of e))) is.names h))
     c.serve_by.ensures.failed

@@ -1,5 +1,5 @@
 use Rattle.std.proofs.Common.{◌≡◌, ◌∙◌, ℕ, List, Bor, Ok, inl, inr, refl, sym, ap, option_map, subst}
-use Rattle.smi_show.specs.name.Meaning.{meaning}
+use Rattle.smi_show.specs.name.Meant.{TextMeans}
 use Rattle.snmp_tools.specs.Asking.{NameFails}
 use Rattle.snmp_tools.specs.Chosen.{chosen}
 use Rattle.snmp_tools.specs.Message.{fault_of}
@@ -33,7 +33,7 @@ returns-in_err-name_if_given-in-Walk-clause-refused g c =
     if_err (P c.args.request) c.from_residual-in_err-name_if_given-in-Walk.result f c.from_residual-in_err-name_if_given-in-Walk.ensures.1
     (subst (λ (r : Request). P r f) (sym c.in-Walk.is)
     (inr (
-      (root, subst (λ (t : List ℕ). meaning mib.naming t ≡ Ok root) text c.in_ok-name-in-Walk.ensures.ok),
+      (root, subst (λ (t : List ℕ). TextMeans mib.naming t (Ok root)) text c.in_ok-name-in-Walk.ensures.ok),
       c.in_err-name_if_given-in-Walk.ensures.err mib refl,
     )))
 
@@ -54,7 +54,7 @@ returns-in_ok-name_if_given-in-Walk-clause-stated g c =
       mode = c.mode.ensures;
       method = c.method.ensures.method;
       counts = refl;
-      root = subst (λ (t : List ℕ). meaning mib.naming t ≡ Ok c.in_ok-name-in-Walk.field-0) text c.in_ok-name-in-Walk.ensures.ok;
+      root = subst (λ (t : List ℕ). TextMeans mib.naming t (Ok c.in_ok-name-in-Walk.field-0)) text c.in_ok-name-in-Walk.ensures.ok;
       goes_on = c.in_ok-name_if_given-in-Walk.ensures.ok mib refl;
     } in
     subst (λ (r : Request). IsQuestionOf (request_of r) (chosen c.args.choices) mib (subtree w)) (sym c.in-Walk.is) is
