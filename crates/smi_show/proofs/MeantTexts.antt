@@ -3,7 +3,8 @@ use Rattle.std.proofs.Common.{◌≡◌, ◌≢◌, ℕ, ◌<◌, ◌≤◌, Boo
 use Rattle.std.proofs.Common.{Option, Some, None, Result, Ok, Err, refl, sym, ◌∙◌, ap, subst, inl, inr}
 use Rattle.std.proofs.lemmas.Bool.{eqb-true, eqb-false, eq-eqb, leb-true, leb-false, le-leb, lt-leb}
 use Rattle.smi_show.specs.index.Pieces.{Piece, piece_numbers}
-use Rattle.smi_show.specs.name.Cut.{module_after, name_parts, parts_after, with_prefix}
+use Rattle.smi_show.specs.name.Cut.{AreParts}
+use Rattle.smi_show.specs.name.Cutting.{module_after, name_parts, parts_after, with_prefix}
 use Rattle.smi_show.specs.name.Meaning.{and_then, first_word_meaning, fitting, further_meaning, or_unknown}
 use Rattle.smi_show.specs.name.Meaning.{later_word_meaning, meaning, part_meaning, parts_meaning, plain_meaning, scoped_meaning}
 use Rattle.smi_show.specs.name.Meant.{Scope, among_roots, anywhere, in_module, found_in, IsFound, IsLabel, ScopeIsLoaded, ScopeIsMissing, IsRoomFor, IsScoped, TextMeans, PartMeans, PartsMean, ScopeMeans, StatesPiece}
@@ -12,6 +13,7 @@ use Rattle.smi_show.specs.name.Word.{Word, a_piece, a_label, word_of}
 use Rattle.smi_show.specs.declared.name.error.NameError.{NameError}
 use Rattle.smi_show.specs.declared.name.error.NameError.TheVariants.{BadIndex, BadNumber, TooLong, Unknown}
 use Rattle.smi_show.proofs.CutLemmas.{some_part}
+use Rattle.smi_show.proofs.Parted.{are_parts, has_module, has_no_module, no_module, one_module, only_parts}
 use Rattle.smi_show.proofs.MeantWords.{WordIs, index_fails, label_word, number_fails, states_word, word_is}
 use Rattle.smi_show.proofs.ReadBack.{scoped}
 
@@ -167,11 +169,18 @@ in_scope naming (in_module home) rest = cond (naming.is_loaded home) (parts_mean
 in_scope naming anywhere rest = parts_meaning naming anywhere (name_parts rest)
 in_scope naming among_roots rest = parts_meaning naming among_roots (name_parts rest)
 
-loaded_means : (naming : Naming) (scope : Scope) (rest : List ℕ)
-    → PartsMean naming (found_in naming scope) [] (name_parts rest) (parts_meaning naming scope (name_parts rest))
-loaded_means naming scope rest =
-    subst (PartsMean naming (found_in naming scope) [] (name_parts rest)) (text_same naming scope rest)
-    (parts_mean naming (found_in naming scope) [] (name_parts rest))
+-- what the parts of a text mean in a scope
+abbrev TextPartsMean : Naming → Scope → (rest : List ℕ) → Outcome → Type 0
+TextPartsMean naming scope rest result =
+    (parts : List (List ℕ)) × AreParts rest parts × PartsMean naming (found_in naming scope) [] parts result
+
+loaded_means : (naming : Naming) (scope : Scope) (rest : List ℕ) → TextPartsMean naming scope rest (parts_meaning naming scope (name_parts rest))
+loaded_means naming scope rest = (
+  name_parts rest,
+  are_parts rest,
+  subst (PartsMean naming (found_in naming scope) [] (name_parts rest)) (text_same naming scope rest)
+      (parts_mean naming (found_in naming scope) [] (name_parts rest)),
+)
 
 module_means : (naming : Naming) (home rest : List ℕ) (loaded : Bool) → naming.is_loaded home ≡ loaded
     → ScopeMeans naming (in_module home) rest (cond loaded (parts_meaning naming (in_module home) (name_parts rest)) (Err Unknown))
@@ -185,8 +194,11 @@ scope_means naming anywhere rest = inr (tt, loaded_means naming anywhere rest)
 scope_means naming among_roots rest = inr (tt, loaded_means naming among_roots rest)
 
 loaded_only : (naming : Naming) (scope : Scope) (rest : List ℕ) (result : Outcome)
-    → PartsMean naming (found_in naming scope) [] (name_parts rest) result → result ≡ parts_meaning naming scope (name_parts rest)
-loaded_only naming scope rest result h = parts_only naming (found_in naming scope) [] (name_parts rest) result h ∙ text_same naming scope rest
+    → TextPartsMean naming scope rest result → result ≡ parts_meaning naming scope (name_parts rest)
+loaded_only naming scope rest result (parts, are, h) =
+    parts_only naming (found_in naming scope) [] (name_parts rest) result
+    (subst (λ (ps : List (List ℕ)). PartsMean naming (found_in naming scope) [] ps result) (only_parts rest parts are) h)
+    ∙ text_same naming scope rest
 
 scope_only : (naming : Naming) (scope : Scope) (rest : List ℕ) (result : Outcome) → ScopeMeans naming scope rest result
     → result ≡ in_scope naming scope rest
@@ -211,27 +223,27 @@ module _ (naming : Naming) where
       × (in_scope naming scope rest ≡ cond dotted (parts_meaning naming among_roots (name_parts more))
       (parts_meaning naming anywhere (name_parts (octet ∷ more))))
   unfolding in_scope
-  plain_at octet more true is none = (among_roots, more, (none, ap (λ (o : ℕ). o ∷ more) (eqb-true octet 46 is)), refl)
+  plain_at octet more true is none = (among_roots, more, (has_no_module (octet ∷ more) none, ap (λ (o : ℕ). o ∷ more) (eqb-true octet 46 is)), refl)
   plain_at octet more false is none =
-      (anywhere, octet ∷ more, (none, refl, λ rest e. eqb-false octet 46 is (let same : octet ≡ 46 = cc in same)), refl)
+      (anywhere, octet ∷ more, (has_no_module (octet ∷ more) none, refl, λ rest e. eqb-false octet 46 is (let same : octet ≡ 46 = cc in same)), refl)
 
   scope_at : (text : List ℕ) (read : Option (List ℕ × List ℕ)) → text ≢ [] → module_after None text ≡ read
       → (scope : Scope) × (rest : List ℕ) × IsScoped text scope rest × (in_scope naming scope rest ≡ scoped_meaning naming text read)
   unfolding in_scope
-  scope_at text (Some (home, rest)) some is = (in_module home, rest, is, refl)
+  scope_at text (Some (home, rest)) some is = (in_module home, rest, has_module text home rest is, refl)
   scope_at [] None some is = absurd (some refl)
   scope_at (octet ∷ more) None some is = plain_at octet more (eqb octet 46) refl is
 
   scope_found : (text : List ℕ) (scope : Scope) (rest : List ℕ) → IsScoped text scope rest → in_scope naming scope rest
       ≡ scoped_meaning naming text (module_after None text)
   unfolding in_scope
-  scope_found text (in_module home) rest is = sym (ap (scoped_meaning naming text) is)
-  scope_found text among_roots rest is = rw is.0 (rw is.1 refl)
+  scope_found text (in_module home) rest is = sym (ap (scoped_meaning naming text) (one_module text home rest is))
+  scope_found text among_roots rest is = rw (no_module text is.0) (rw is.1 refl)
   scope_found [] anywhere rest is = ap (λ (r : List ℕ). parts_meaning naming anywhere (name_parts r)) is.1
   scope_found (octet ∷ more) anywhere rest is =
       let apart : eqb octet 46 ≡ false = at (eqb octet 46) refl in
       let whole : scoped_meaning naming (octet ∷ more) (module_after None (octet ∷ more)) ≡ parts_meaning naming anywhere (name_parts (octet ∷ more))
-      = rw is.0 (rw apart refl) in
+      = rw (no_module (octet ∷ more) is.0) (rw apart refl) in
       ap (λ (r : List ℕ). parts_meaning naming anywhere (name_parts r)) is.1 ∙ sym whole
     where
       at : (b : Bool) → eqb octet 46 ≡ b → b ≡ false

@@ -50,7 +50,7 @@ use Rattle.smi_show.specs.index.Reading.{instance_pieces}
 use Rattle.smi_show.specs.declared.name.error.NameError.{NameError}
 use Rattle.smi_value.specs.declared.letters.letters.NameForm.{NameForm}
 use Rattle.smi_value.specs.declared.letters.letters.NameForm.TheVariants.{Numeric, Full, Label, ModuleLabel}
-use Rattle.smi_show.specs.name.Cut.{name_parts, module_after}
+use Rattle.smi_show.specs.name.Cutting.{name_parts, module_after}
 use Rattle.smi_show.specs.name.Naming.{Naming, Standing, IsSound, LabelLeadsTo}
 use Rattle.smi_show.specs.name.Word.{Word}
 use Rattle.smi_show.specs.name.Meant.{Scope, in_module, anywhere, among_roots, found_in}

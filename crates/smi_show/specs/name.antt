@@ -1,4 +1,5 @@
 pub mod Cut
+pub mod Cutting
 pub mod Left
 pub mod Naming
 pub mod Standing

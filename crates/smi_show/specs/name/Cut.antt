@@ -1,36 +1,23 @@
 -- A name as parts: it is cut at each dot outside quotes, and its module stands before the first
 -- `::` outside quotes. A quote may open inside a part.
-use Rattle.std.specs.Prelude.{ℕ, Bool, false, ◌&&◌, ◌==◌, if◌then◌else◌, List, [], ◌∷◌, ◌++◌, drop}
-use Rattle.std.specs.Prelude.{Option, Some, None, option_map}
-use Rattle.snmp_io.specs.Quotes.{is_unquoted, open_after}
+use Rattle.std.specs.Prelude.{◌≡◌, ◌≢◌, ◌≤◌, ℕ, List, [], ◌∷◌, ◌++◌, length, None}
+use Rattle.snmp_io.specs.Quotes.{HasNoneOutside, IsCut, quote_after}
 
--- octets before the first of some parts
-abbrev pub with_prefix : List ℕ → List (List ℕ) → List (List ℕ)
-with_prefix front [] = front ∷ []
-with_prefix front (part ∷ parts) = (front ++ part) ∷ parts
+-- the parts of a text, with a dot outside quotes between each two and none in any
+abbrev pub AreParts : (text : List ℕ) → (parts : List (List ℕ)) → Type 0
+AreParts text [] = ⊥
+AreParts text (part ∷ []) = HasNoneOutside 46 text × (part ≡ text)
+AreParts text (part ∷ next ∷ more) =
+    (rest : List ℕ) × IsCut 46 text part rest × AreParts rest (next ∷ more)
 
--- the parts of octets, before which this quote is open, if any
-abbrev pub parts_after : Option ℕ → List ℕ → List (List ℕ)
-parts_after state [] = [] ∷ []
-parts_after state (octet ∷ more) =
-    if is_unquoted state && (octet == 46) then [] ∷ parts_after None more
-    else with_prefix (octet ∷ []) (parts_after (open_after state octet) more)
+-- wherever `::` stands in the text, a quote is open before it
+abbrev pub HasNoModule : (text : List ℕ) → Type 0
+HasNoModule text = (before after : List ℕ) → text ≡ before ++ 58 ∷ 58 ∷ after
+    → quote_after None before ≢ None
 
-abbrev pub name_parts : List ℕ → List (List ℕ)
-name_parts text = parts_after None text
-
--- `::` stands at the front
-abbrev pub is_double_colon : List ℕ → Bool
-is_double_colon [] = false
-is_double_colon (first ∷ []) = false
-is_double_colon (first ∷ second ∷ more) = (first == 58) && (second == 58)
-
-abbrev pub longer_module : List ℕ → List ℕ × List ℕ → List ℕ × List ℕ
-longer_module front (module_name, rest) = (front ++ module_name, rest)
-
--- what stands before the first `::` outside quotes, and after it
-abbrev pub module_after : Option ℕ → List ℕ → Option (List ℕ × List ℕ)
-module_after state [] = None
-module_after state (octet ∷ more) =
-    if is_unquoted state && is_double_colon (octet ∷ more) then Some ([], drop 1 more)
-    else option_map (longer_module (octet ∷ [])) (module_after (open_after state octet) more)
+-- what stands before and after the first `::` outside quotes
+pub record IsModuleCut (text home rest : List ℕ) : Type 0 where
+  pub parts : text ≡ home ++ 58 ∷ 58 ∷ rest
+  pub outside : quote_after None home ≡ None
+  pub first : (before after : List ℕ) → text ≡ before ++ 58 ∷ 58 ∷ after
+      → quote_after None before ≡ None → length home ≤ length before

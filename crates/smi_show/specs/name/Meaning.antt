@@ -2,7 +2,7 @@
 use Rattle.std.specs.Prelude.{ℕ, ◌==◌, nat_le, if◌then◌else◌, List, [], ◌∷◌, ◌++◌, length, Option}
 use Rattle.std.specs.Prelude.{Some, None, Result, Ok, Err}
 use Rattle.smi_show.specs.index.Pieces.{piece_numbers}
-use Rattle.smi_show.specs.name.Cut.{name_parts, module_after}
+use Rattle.smi_show.specs.name.Cutting.{name_parts, module_after}
 use Rattle.smi_show.specs.name.Meant.{Scope, among_roots, anywhere, found_in, in_module}
 use Rattle.smi_show.specs.name.Naming.{Naming}
 use Rattle.smi_show.specs.name.Word.{Word, a_piece, a_label, word_of}

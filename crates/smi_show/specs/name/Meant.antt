@@ -7,7 +7,7 @@ use Rattle.snmp_oid.specs.Numeric.{IsNumeral}
 use Rattle.snmp_io.specs.Quotes.{IsFrontOf}
 use Rattle.smi_show.specs.index.Pieces.{IsPiece, Piece, counted_text, piece_numbers, plain_number}
 use Rattle.smi_show.specs.index.Pieces.{plain_text, shown_piece}
-use Rattle.smi_show.specs.name.Cut.{module_after, name_parts}
+use Rattle.smi_show.specs.name.Cut.{AreParts, HasNoModule, IsModuleCut}
 use Rattle.smi_show.specs.name.Naming.{Naming}
 use Rattle.smi_show.specs.declared.name.error.NameError.{NameError}
 use Rattle.smi_show.specs.declared.name.error.NameError.TheVariants.{BadIndex, BadNumber, TooLong}
@@ -89,10 +89,10 @@ found_in naming among_roots label = naming.among_roots label
 -- The parts of the text stand in `rest`, and the label of the first is looked up in this scope: in
 -- the module before `::`, after a leading dot among the roots, and anywhere otherwise.
 abbrev pub IsScoped : (text : List ℕ) → Scope → (rest : List ℕ) → Type 0
-IsScoped text (in_module home) rest = module_after None text ≡ Some (home, rest)
-IsScoped text among_roots rest = (module_after None text ≡ None) × (text ≡ 46 ∷ rest)
+IsScoped text (in_module home) rest = IsModuleCut text home rest
+IsScoped text among_roots rest = HasNoModule text × (text ≡ 46 ∷ rest)
 IsScoped text anywhere rest =
-    (module_after None text ≡ None) × (rest ≡ text) × ((more : List ℕ) → text ≢ 46 ∷ more)
+    HasNoModule text × (rest ≡ text) × ((more : List ℕ) → text ≢ 46 ∷ more)
 
 -- whether a module that the scope names is loaded
 abbrev pub ScopeIsLoaded : Naming → Scope → Type 0
@@ -107,8 +107,8 @@ ScopeIsMissing naming _ = ⊥
 abbrev pub ScopeMeans : Naming → Scope → (rest : List ℕ) → Result (List ℕ) NameError → Type 0
 ScopeMeans naming scope rest result =
     (ScopeIsMissing naming scope × (result ≡ Err Unknown))
-    ⊎ (ScopeIsLoaded naming scope
-    × PartsMean naming (found_in naming scope) [] (name_parts rest) result)
+    ⊎ (ScopeIsLoaded naming scope × ((parts : List (List ℕ)) × AreParts rest parts
+    × PartsMean naming (found_in naming scope) [] parts result))
 
 -- The empty text is unknown, a dot alone is the empty identifier, and any other text is its parts
 -- in a scope.

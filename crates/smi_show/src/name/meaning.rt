@@ -3,7 +3,7 @@ ghost use Rattle.std.specs.Prelude.{◌≡◌, ℕ, Bool, List, Ok, Err, IfErr, 
 ghost use Rattle.std.specs.Option.{option_copied};
 ghost use Rattle.snmp_oid.specs.Identifier.{IsIdentifier};
 ghost use Rattle.smi_value.specs.declared.letters.letters.NameForm.{NameForm};
-ghost use Rattle.smi_show.specs.name.Cut.{name_parts, module_after};
+ghost use Rattle.smi_show.specs.name.Cutting.{name_parts, module_after};
 ghost use Rattle.smi_show.specs.name.Left.{parts_left};
 ghost use Rattle.smi_show.specs.name.Meaning.{further_meaning, head_meaning, meaning, part_meaning};
 ghost use Rattle.smi_show.specs.name.Meaning.{or_unknown, parts_meaning, plain_meaning};

@@ -1,0 +1,35 @@
+-- A name cut at dots and at `::` outside quotes, computed, for private clauses.
+use Rattle.std.specs.Prelude.{ℕ, Bool, false, ◌&&◌, ◌==◌, if◌then◌else◌, List, [], ◌∷◌, ◌++◌, drop}
+use Rattle.std.specs.Prelude.{Option, Some, None, option_map}
+use Rattle.snmp_io.specs.Quotes.{is_unquoted, open_after}
+
+-- octets before the first of some parts
+abbrev pub with_prefix : List ℕ → List (List ℕ) → List (List ℕ)
+with_prefix front [] = front ∷ []
+with_prefix front (part ∷ parts) = (front ++ part) ∷ parts
+
+-- the parts of octets, before which this quote is open, if any
+abbrev pub parts_after : Option ℕ → List ℕ → List (List ℕ)
+parts_after state [] = [] ∷ []
+parts_after state (octet ∷ more) =
+    if is_unquoted state && (octet == 46) then [] ∷ parts_after None more
+    else with_prefix (octet ∷ []) (parts_after (open_after state octet) more)
+
+abbrev pub name_parts : List ℕ → List (List ℕ)
+name_parts text = parts_after None text
+
+-- `::` stands at the front
+abbrev pub is_double_colon : List ℕ → Bool
+is_double_colon [] = false
+is_double_colon (first ∷ []) = false
+is_double_colon (first ∷ second ∷ more) = (first == 58) && (second == 58)
+
+abbrev pub longer_module : List ℕ → List ℕ × List ℕ → List ℕ × List ℕ
+longer_module front (module_name, rest) = (front ++ module_name, rest)
+
+-- what stands before the first `::` outside quotes, and after it
+abbrev pub module_after : Option ℕ → List ℕ → Option (List ℕ × List ℕ)
+module_after state [] = None
+module_after state (octet ∷ more) =
+    if is_unquoted state && is_double_colon (octet ∷ more) then Some ([], drop 1 more)
+    else option_map (longer_module (octet ∷ [])) (module_after (open_after state octet) more)
