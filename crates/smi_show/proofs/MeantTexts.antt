@@ -1,13 +1,13 @@
 -- What parts mean from the left, and what a text means.
-use Rattle.std.proofs.Common.{◌≡◌, ◌≢◌, ℕ, ◌<◌, ◌≤◌, Bool, true, false, eqb, leb, cond, List, [], ◌∷◌, ◌++◌, length}
+use Rattle.std.proofs.Common.{◌≡◌, ◌≢◌, ℕ, Bool, true, false, eqb, leb, cond, List, [], ◌∷◌, ◌++◌, length}
 use Rattle.std.proofs.Common.{Option, Some, None, Result, Ok, Err, refl, sym, ◌∙◌, ap, subst, inl, inr}
-use Rattle.std.proofs.lemmas.Bool.{eqb-true, eqb-false, eq-eqb, leb-true, leb-false, le-leb, lt-leb}
-use Rattle.smi_show.specs.index.Pieces.{Piece, piece_numbers}
+use Rattle.std.proofs.lemmas.Bool.{eqb-true, eqb-false, leb-true, leb-false, le-leb, lt-leb}
+use Rattle.smi_show.specs.index.Pieces.{piece_numbers}
 use Rattle.smi_show.specs.name.Cut.{AreParts}
-use Rattle.smi_show.specs.name.Cutting.{module_after, name_parts, parts_after, with_prefix}
+use Rattle.smi_show.specs.name.Cutting.{module_after, name_parts, with_prefix}
 use Rattle.smi_show.specs.name.Meaning.{and_then, first_word_meaning, fitting, further_meaning, or_unknown}
-use Rattle.smi_show.specs.name.Meaning.{later_word_meaning, meaning, part_meaning, parts_meaning, plain_meaning, scoped_meaning}
-use Rattle.smi_show.specs.name.Meant.{Scope, among_roots, anywhere, in_module, found_in, IsFound, IsLabel, ScopeIsLoaded, ScopeIsMissing, IsRoomFor, IsScoped, TextMeans, PartMeans, PartsMean, ScopeMeans, StatesPiece}
+use Rattle.smi_show.specs.name.Meaning.{later_word_meaning, meaning, part_meaning, parts_meaning, scoped_meaning}
+use Rattle.smi_show.specs.name.Meant.{Scope, among_roots, anywhere, in_module, found_in, IsFound, IsRoomFor, IsScoped, TextMeans, PartMeans, PartsMean, ScopeMeans}
 use Rattle.smi_show.specs.name.Naming.{Naming}
 use Rattle.smi_show.specs.name.Word.{Word, a_piece, a_label, word_of}
 use Rattle.smi_show.specs.declared.name.error.NameError.{NameError}

@@ -1,11 +1,10 @@
 -- A text's parts and its module are what the relations of Cut say, and there are no others.
-use Rattle.std.proofs.Common.{◌≡◌, ◌≢◌, ℕ, zero, suc, ◌≤◌, Bool, true, false, ◌&&◌, nat_eq, eqb, cond, List, [], ◌∷◌, ◌++◌, drop, length}
+use Rattle.std.proofs.Common.{◌≡◌, ◌≢◌, ℕ, ◌≤◌, Bool, true, false, ◌&&◌, nat_eq, cond, List, [], ◌∷◌, ◌++◌, drop, length}
 use Rattle.std.proofs.Common.{Option, Some, None, option_map, refl, sym, ◌∙◌, ap, subst, arith}
 use Rattle.std.proofs.lemmas.Bool.{eqb-true}
-use Rattle.snmp_io.specs.Quotes.{IsCut, is_unquoted, open_after, quote_after}
+use Rattle.snmp_io.specs.Quotes.{is_unquoted, open_after, quote_after}
 use Rattle.smi_show.specs.name.Cut.{AreParts, HasNoModule, IsModuleCut}
 use Rattle.smi_show.specs.name.Cutting.{is_double_colon, longer_module, module_after, name_parts, parts_after, with_prefix}
-use Rattle.smi_show.proofs.CutLemmas.{some_part}
 
 -- ---- parts
 

@@ -27,8 +27,9 @@ mod tree;
 
 pub use crate::details::DetailTree;
 pub use crate::index::{Extent, IndexPart};
-pub use crate::name::{NameError, NameTree, Node};
-pub use crate::name::{numbers_are_read, one_meaning, resolve, resolve_front};
+pub use crate::name::{
+    NameError, NameTree, Node, numbers_are_read, one_meaning, resolve, resolve_front,
+};
 pub use binding::{line, one_line, one_value, value_text};
 pub use smi_value::{Letters, NameForm};
 pub use text::{detail, name_text};
