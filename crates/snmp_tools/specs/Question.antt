@@ -1,6 +1,6 @@
 -- What the words of a job that asks an agent ask for, and why they may be refused.
 use Rattle.std.specs.Prelude.{◌≡◌, ◌≤◌, ◌⊎◌, ◌++◌, ℕ, Bool, false, List, [], ◌∷◌, length, map}
-use Rattle.core.specs.List.{AllZip}
+use Rattle.std.specs.List.{AllZip}
 use Rattle.std.specs.Prelude.{Option, Some, None, Result, Ok, Err, codes, unwrap_or}
 use Rattle.smi_value.specs.declared.letters.letters.Letters.{Letters}
 use Rattle.smi_show.specs.name.Meant.{TextMeans}
