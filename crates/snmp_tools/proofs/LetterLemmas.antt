@@ -8,10 +8,11 @@ use Rattle.std.proofs.lemmas.Bool.Decides.{nat_tests}
 use Rattle.std.proofs.lemmas.List.{take-append-drop, drop-drop}
 use Rattle.std.proofs.lemmas.Str.{digit_value_digit}
 use Rattle.std.specs.Prelude.{◌&&◌, ◌==◌, nat_le, if◌then◌else◌}
-use Rattle.std.specs.Char.{digit_value}
+use Rattle.std.specs.Char.{digit_value, is_ascii_digit}
 use Rattle.std.specs.List.{list_all}
 use Rattle.std.specs.Str.Parse.{digits_value, digits_value_after}
-use Rattle.snmp_tools.specs.Letters.{Choices, after_part, after_parts, after_whole, is_digit, letter_parts, put, repetitions_in}
+use Rattle.snmp_tools.specs.Choosing.{after_part, after_parts, after_whole, letter_parts, put, repetitions_in}
+use Rattle.snmp_tools.specs.Letters.{Choices}
 
 pub at_place : (letters : List ℕ) (place : ℕ) → place < length letters → drop place letters ≡ slice_index_or letters place 0 ∷ drop (place + 1) letters
 at_place letters place low = rw (add-one, drop-cons letters place 0) refl
@@ -19,7 +20,7 @@ at_place letters place low = rw (add-one, drop-cons letters place 0) refl
 -- the text doesn't begin with a digit
 abbrev pub NoDigitFirst : List ℕ → Type 0
 NoDigitFirst [] = Unit {0}
-NoDigitFirst (octet ∷ more) = is_digit octet ≡ false
+NoDigitFirst (octet ∷ more) = is_ascii_digit octet ≡ false
 
 abbrev pub before_rest : Bool → Result Choices ℕ → List ℕ × List (ℕ × List ℕ) → Result Choices ℕ
 before_rest bulk (Err octet) parts = Err octet
@@ -33,17 +34,17 @@ two : (a b : Bool) → (a && b) ≡ true → (a ≡ true) × (b ≡ true)
 two true b e = (refl, e)
 two false b e = absurd (false≢true e)
 
-digits_parts : (digits more : List ℕ) → list_all is_digit digits ≡ true → NoDigitFirst more → letter_parts (digits ++ more) ≡ (digits, (letter_parts more).1)
+digits_parts : (digits more : List ℕ) → list_all is_ascii_digit digits ≡ true → NoDigitFirst more → letter_parts (digits ++ more) ≡ (digits, (letter_parts more).1)
 digits_parts [] more all none = rest_parts more none
 digits_parts (digit ∷ digits) more all none =
-    let here = two (is_digit digit) (list_all is_digit digits) all in
+    let here = two (is_ascii_digit digit) (list_all is_ascii_digit digits) all in
     let rest = digits_parts digits more here.1 none in
     rw (rest, here.0) refl
 
-at_most : (c : ℕ) → is_digit c ≡ true → c ≤ 57
+at_most : (c : ℕ) → is_ascii_digit c ≡ true → c ≤ 57
 at_most c e = grind (arith, nat_tests)
 
-no_meaning : (bulk : Bool) (c : ℕ) (digits : List ℕ) (choices : Choices) → is_digit c ≡ true → after_part bulk (c, digits) choices ≡ Err c
+no_meaning : (bulk : Bool) (c : ℕ) (digits : List ℕ) (choices : Choices) → is_ascii_digit c ≡ true → after_part bulk (c, digits) choices ≡ Err c
 no_meaning true c digits choices e =
     let low : c ≤ 57 = at_most c e in
     let r : (c == 114) ≡ false = ne_eqb c 114 (λ h. omega (arith, h, low)) in
@@ -67,18 +68,18 @@ go_on bulk (Err octet) more none = error_stays bulk (letter_parts more).1 octet
 go_on bulk (Ok choices) more none = ap (after_whole bulk choices) (sym (rest_parts more none))
 
 -- one letter with its digits is read, and then the rest
-pub part_read : (bulk : Bool) (choices : Choices) (letter : ℕ) (digits more : List ℕ) → list_all is_digit digits ≡ true → NoDigitFirst more
+pub part_read : (bulk : Bool) (choices : Choices) (letter : ℕ) (digits more : List ℕ) → list_all is_ascii_digit digits ≡ true → NoDigitFirst more
     → after_whole bulk choices (letter_parts (letter ∷ (digits ++ more))) ≡ before_rest bulk (after_part bulk (letter, digits) choices) (letter_parts more)
 part_read bulk choices letter digits more all none =
-    ap (λ p. after_whole bulk choices (put letter p)) (digits_parts digits more all none) ∙ by_digit (is_digit letter) refl
+    ap (λ p. after_whole bulk choices (put letter p)) (digits_parts digits more all none) ∙ by_digit (is_ascii_digit letter) refl
   where
-    by_digit : (b : Bool) → is_digit letter ≡ b
+    by_digit : (b : Bool) → is_ascii_digit letter ≡ b
         → after_whole bulk choices (put letter (digits, (letter_parts more).1))
         ≡ before_rest bulk (after_part bulk (letter, digits) choices) (letter_parts more)
     by_digit true e = rw (e, no_meaning bulk letter digits choices e) refl
     by_digit false e = rw e (go_on bulk (after_part bulk (letter, digits) choices) more none)
 
-pub no_digit_at : (rest : List ℕ) (n : ℕ) → (n < length rest → is_digit (slice_index_or rest n 0) ≡ false) → NoDigitFirst (drop n rest)
+pub no_digit_at : (rest : List ℕ) (n : ℕ) → (n < length rest → is_ascii_digit (slice_index_or rest n 0) ≡ false) → NoDigitFirst (drop n rest)
 no_digit_at rest n maximal = elim (cases_lt n (length rest)) [
   | inl low ↦ let P : List ℕ → Type 0 = λ t. NoDigitFirst t in subst P (sym (at_place rest n low)) (maximal low)
   | inr high ↦ let P : List ℕ → Type 0 = λ t. NoDigitFirst t in subst P (sym (drop_of_length-le rest high)) tt
@@ -96,8 +97,8 @@ text_at text at n low =
 
 -- one letter with its digits is read, at a place of a text
 pub next_part : (bulk : Bool) (choices : Choices) (text : List ℕ) (at n : ℕ) (whole : Result Choices ℕ) → at < length text
-    → list_all is_digit (take n (drop (at + 1) text)) ≡ true
-    → (n < length (drop (at + 1) text) → is_digit (slice_index_or (drop (at + 1) text) n 0) ≡ false)
+    → list_all is_ascii_digit (take n (drop (at + 1) text)) ≡ true
+    → (n < length (drop (at + 1) text) → is_ascii_digit (slice_index_or (drop (at + 1) text) n 0) ≡ false)
     → after_whole bulk choices (letter_parts (drop at text)) ≡ whole
     → before_rest bulk (after_part bulk (slice_index_or text at 0, take n (drop (at + 1) text)) choices) (letter_parts (drop (at + (1 + n)) text)) ≡ whole
 next_part bulk choices text at n whole low all maximal same =
@@ -109,13 +110,13 @@ next_part bulk choices text at n whole low all maximal same =
 
 -- the same where the text after the letter is written in another way
 pub next_part_in : (bulk : Bool) (choices : Choices) (text rest : List ℕ) (at n : ℕ) (whole : Result Choices ℕ) → at < length text
-    → rest ≡ take (length text - (at + 1)) (drop (at + 1) text) → list_all is_digit (take n rest) ≡ true
-    → (n < length rest → is_digit (slice_index_or rest n 0) ≡ false) → after_whole bulk choices (letter_parts (drop at text)) ≡ whole
+    → rest ≡ take (length text - (at + 1)) (drop (at + 1) text) → list_all is_ascii_digit (take n rest) ≡ true
+    → (n < length rest → is_ascii_digit (slice_index_or rest n 0) ≡ false) → after_whole bulk choices (letter_parts (drop at text)) ≡ whole
     → before_rest bulk (after_part bulk (slice_index_or text at 0, take n rest) choices) (letter_parts (drop (at + (1 + n)) text)) ≡ whole
 next_part_in bulk choices text rest at n whole low is all maximal same =
     let e : rest ≡ drop (at + 1) text = is ∙ ap (λ m. take m (drop (at + 1) text)) (sym (length-drop (at + 1) text)) ∙ take-length (drop (at + 1) text) in
-    let P : List ℕ → Type 0 = λ r. list_all is_digit (take n r) ≡ true in
-    let Q : List ℕ → Type 0 = λ r. n < length r → is_digit (slice_index_or r n 0) ≡ false in
+    let P : List ℕ → Type 0 = λ r. list_all is_ascii_digit (take n r) ≡ true in
+    let Q : List ℕ → Type 0 = λ r. n < length r → is_ascii_digit (slice_index_or r n 0) ≡ false in
     ap (λ r. before_rest bulk (after_part bulk (slice_index_or text at 0, take n r) choices) (letter_parts (drop (at + (1 + n)) text))) e
     ∙ next_part bulk choices text at n whole low (subst P e all) (subst Q e maximal) same
 
@@ -127,15 +128,15 @@ pub read_no_more : (bulk : Bool) (read : Result Choices ℕ) (octet : ℕ) (part
     → before_rest bulk read parts ≡ whole → read ≡ Err octet → whole ≡ Err octet
 read_no_more bulk read octet parts whole same e = sym same ∙ ap (λ r. before_rest bulk r parts) e
 
-digit_weight : (c : ℕ) → is_digit c ≡ true → digit_value c + 48 ≡ c
+digit_weight : (c : ℕ) → is_ascii_digit c ≡ true → digit_value c + 48 ≡ c
 digit_weight c e =
     let range : (48 ≤ c) × (c ≤ 57) = (grind (arith, nat_tests), grind (arith, nat_tests)) in digit_value_digit c range
 
-pub weight_at : (digits : List ℕ) (i : ℕ) → list_all is_digit digits ≡ true → i < length digits
+pub weight_at : (digits : List ℕ) (i : ℕ) → list_all is_ascii_digit digits ≡ true → i < length digits
     → digit_value (slice_index_or digits i 0) + 48 ≡ slice_index_or digits i 0
 weight_at [] i all low = absurd (omega (arith, low))
-weight_at (c ∷ more) zero all low = digit_weight c (two (is_digit c) (list_all is_digit more) all).0
-weight_at (c ∷ more) (suc i) all low = weight_at more i (two (is_digit c) (list_all is_digit more) all).1 (omega (arith, low))
+weight_at (c ∷ more) zero all low = digit_weight c (two (is_ascii_digit c) (list_all is_ascii_digit more) all).0
+weight_at (c ∷ more) (suc i) all low = weight_at more i (two (is_ascii_digit c) (list_all is_ascii_digit more) all).1 (omega (arith, low))
 
 grows : (n : ℕ) (digits : List ℕ) → n ≤ digits_value_after 10 n digits
 grows n [] = omega arith

@@ -5,6 +5,7 @@ pub mod RowLines
 pub mod TableNames
 pub mod TableWalks
 pub mod LetterLemmas
+pub mod ChosenLetters
 pub mod Outcomes
 pub mod Plans
 pub mod Printed

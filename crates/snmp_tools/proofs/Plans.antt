@@ -33,9 +33,10 @@ use Rattle.smi_names.specs.declared.nodes.warning.Warning.{Warning}
 use Rattle.smi_tree.specs.Tree.{Contents, IsTree}
 use Rattle.snmp_tools.specs.Mib.{AreLoaded, IsMibOf, Mib, mib_of}
 use Rattle.snmp_tools.specs.Question.{AreNames, AskFor, AskWords, FailsFor, HasUnsendable, HaveNames, IsAtOrBelow, IsEarlyRefusal, IsLastRefusal, IsLateRefusal, IsQuestionOf}
-use Rattle.snmp_tools.specs.Question.{Plan, Question, Request, Step, Walk, choices_in, goes_on_after, root_text}
+use Rattle.snmp_tools.specs.Question.{Plan, Question, Request, Step, Walk, HasChosen, HasUnknown, goes_on_after, root_text}
 use Rattle.snmp_tools.specs.Question.{get, names, subtree, walk, loading_steps, name_steps, reach_step, reaching_steps, sent_steps}
 use Rattle.snmp_tools.specs.Question.{below_step, name_step, reach_step, sent_step}
+use Rattle.snmp_tools.proofs.ChosenLetters.{no_choice, one_choice}
 use Rattle.snmp_tools.proofs.TableNames.{OneMeaning, no_name, one_look_up, one_name}
 
 pub held_is : (held : Option (Option (List ℕ))) (text other : List ℕ) → HoldsIfKnown held (Some text) → held ≡ Some (Some other) → text ≡ other
@@ -85,11 +86,13 @@ one_reading text a b x y =
     same_letters a b (p.n_f_s_S ∙ sym q.n_f_s_S) (p.q_Q ∙ sym q.q_Q) (p.x_a ∙ sym q.x_a) (p.v ∙ sym q.v) (p.e ∙ sym q.e) (p.t ∙ sym q.t) (p.b ∙ sym q.b)
     (p.U ∙ sym q.U)
 
-one_choice : (read : Result Choices ℕ) (a b : Choices) → read ≡ Ok a → read ≡ Ok b → a ≡ b
-one_choice read a b e f = cc
+one_chosen : (request : Request) (a b : Choices) → HasChosen request a → HasChosen request b → a ≡ b
+one_chosen (get texts) a b h k = h ∙ sym k
+one_chosen (walk bulk letters after name) a b h k = one_choice bulk letters a b h k
 
-no_choice : (read : Result Choices ℕ) (a : Choices) (octet : ℕ) → read ≡ Ok a → read ≡ Err octet → ⊥
-no_choice read a octet e f = cc
+no_chosen : (request : Request) (a : Choices) (octet : ℕ) → HasChosen request a → HasUnknown request octet → ⊥
+no_chosen (get texts) a octet h k = k
+no_chosen (walk bulk letters after name) a octet h k = no_choice bulk letters a octet h k
 
 one_after : OneMeaning → (mib : Mib) (text a b : Option (List ℕ)) → IsNameIfGiven mib text a → IsNameIfGiven mib text b → a ≡ b
 one_after one mib None a b e f = e ∙ sym f
@@ -136,7 +139,7 @@ one_question one (walk bulk letters after name) choices mib (subtree v) (subtree
 
 pub one_plan : OneMeaning → (words : AskWords) (mib : Mib) (p q : Plan) → AskFor words mib p → AskFor words mib q → HasAgent words.asking.agent q.agent → p ≡ q
 one_plan one words mib p q a b only =
-    let choice : a.choices ≡ b.choices = one_choice (choices_in words.request) a.choices b.choices a.chosen b.chosen in
+    let choice : a.choices ≡ b.choices = one_chosen words.request a.choices b.choices a.chosen b.chosen in
     same_plan p q (only.1 p.agent a.agent) (a.community ∙ sym b.community) (a.max_size ∙ sym b.max_size)
     (one_reading words.asking.letters p.letters q.letters a.letters b.letters)
     (one_question one words.request b.choices mib p.question q.question
@@ -194,7 +197,7 @@ module _ (one_list : OneList) (one_tree : OneTree) (one : OneMeaning)
     (
       (λ f. absurd (asking_want letters_step f)),
       (
-        (λ f. absurd (no_choice (choices_in words.request) ask.asked.choices f.0 ask.asked.chosen f.1)),
+        (λ f. absurd (no_chosen words.request ask.asked.choices f.0 ask.asked.chosen f.1)),
         (
           (λ f. absurd (asking_want community_step f)),
           ((λ f. absurd (asking_want agent_step f)), ((λ f. absurd (f.3 ask.known.modules ask.known.read)), tt)),

@@ -82,7 +82,15 @@ words_ask read path root named identifier = record {
   version = refl;
   letters = record { known = refl; read = numeric_are };
   choices = no_choices;
-  chosen = refl;
+  chosen = record {
+    letters = [];
+    order = refl;
+    known = tt;
+    includes_root = refl;
+    counts = refl;
+    leaves_last_get = refl;
+    repetitions = inl (refl, refl);
+  };
   short_community = omega arith;
   community = refl;
   max_size = refl;

@@ -1,26 +1,16 @@
--- What the letters of -C choose.
-use Rattle.std.specs.Prelude.{ℕ, Bool, true, false, not, ◌&&◌, ◌==◌, nat_le, if◌then◌else◌}
-use Rattle.std.specs.Prelude.{List, [], ◌∷◌, Option, Some, None, Result, Ok, Err, pos}
+-- What the letters of -C choose, and which octet of them has no meaning.
+use Rattle.std.specs.Prelude.{◌≡◌, ◌≤◌, ◌⊎◌, ◌++◌, ◌==◌, ℕ, Bool, true, false, if◌then◌else◌}
+use Rattle.std.specs.Prelude.{List, [], ◌∷◌, pos}
 use Rattle.std.proofs.Props.{props}
+use Rattle.std.specs.Char.{is_ascii_digit}
+use Rattle.std.specs.List.{list_all, list_any}
 use Rattle.std.specs.Str.Parse.{digits_value}
+use Rattle.snmp_io.specs.Steps.{AreDone, IsFirstToFail}
 use Rattle.snmp_walk.specs.Walker.{IsMethod}
 use Rattle.snmp_walk.specs.declared.mode.Method.{Method}
 use Rattle.snmp_walk.specs.declared.mode.Method.TheVariants as method
 use Rattle.snmp_walk.specs.declared.mode.Mode.{Mode}
 use Rattle.snmp_walk.specs.declared.mode.Mode.TheVariants as mode
-
-abbrev pub is_digit : ℕ → Bool
-is_digit octet = nat_le 48 octet && nat_le octet 57
-
--- one more octet before the digits at the front and the letters after them
-abbrev pub put : ℕ → List ℕ × List (ℕ × List ℕ) → List ℕ × List (ℕ × List ℕ)
-put octet parts = if is_digit octet then (octet ∷ parts.0, parts.1)
-    else ([], (octet, parts.0) ∷ parts.1)
-
--- the digits at the front of a text, and then its letters, each with the digits after it
-abbrev pub letter_parts : List ℕ → List ℕ × List (ℕ × List ℕ)
-letter_parts [] = ([], [])
-letter_parts (octet ∷ text) = put octet (letter_parts text)
 
 -- what the letters of -C choose: `i` includes the root, `p` counts what is printed, snmpwalk's `I`
 -- leaves out the last Get, and snmpbulkwalk's `r` has the number of repetitions after it
@@ -38,49 +28,62 @@ no_choices = record {
   repetitions = 10;
 }
 
--- a number of repetitions: 1 to 2147483647
-abbrev pub repetitions_in : List ℕ → Option ℕ
-repetitions_in digits =
-    if nat_le 1 (digits_value 10 digits) && nat_le (digits_value 10 digits) 2147483647
-    then Some (digits_value 10 digits) else None
+-- ---- letters
 
--- the choices after a letter that has no number
-abbrev pub with_letter : Bool → ℕ → Choices → Option Choices
-with_letter bulk letter choices =
-    if letter == 105 then Some (record choices { includes_root = true })
-    else (if letter == 112 then Some (record choices { counts = true })
-    else (if not bulk && (letter == 73) then Some (record choices { leaves_last_get = true })
-    else None))
+-- the text is these letters in order, each with the digits after it
+abbrev pub AreLettersIn : (text : List ℕ) → (letters : List (ℕ × List ℕ)) → Type 0
+AreLettersIn text [] = text ≡ []
+AreLettersIn text ((letter, digits) ∷ more) = (rest : List ℕ)
+    × (text ≡ letter ∷ (digits ++ rest)) × (is_ascii_digit letter ≡ false)
+    × (list_all is_ascii_digit digits ≡ true) × AreLettersIn rest more
 
--- the choices, and the octet that has no meaning
-abbrev pub without_digits : ℕ → List ℕ → Option Choices → Result Choices ℕ
-without_digits letter digits None = Err letter
-without_digits letter [] (Some choices) = Ok choices
-without_digits letter (digit ∷ more) (Some choices) = Err digit
+-- `i`, `p` and snmpwalk's `I`, which have no digits after them
+abbrev pub IsPlain : (bulk : Bool) → (letter : ℕ) → Type 0
+IsPlain bulk letter = (letter ≡ 105) ⊎ ((letter ≡ 112) ⊎ ((bulk ≡ false) × (letter ≡ 73)))
 
-abbrev pub with_number : ℕ → Choices → Option ℕ → Result Choices ℕ
-with_number letter choices None = Err letter
-with_number letter choices (Some n) = Ok (record choices { repetitions = n })
+-- the digits after snmpbulkwalk's `r` state a number of repetitions: 1 to 2147483647
+abbrev pub AreRepetitions : (digits : List ℕ) → ℕ → Type 0
+AreRepetitions digits n = (n ≡ digits_value 10 digits) × (1 ≤ n) × (n ≤ 2147483647)
 
--- the choices after a letter with its digits, or the octet that has no meaning
-abbrev pub after_part : Bool → ℕ × List ℕ → Choices → Result Choices ℕ
-after_part bulk (letter, digits) choices =
-    if bulk && (letter == 114) then with_number letter choices (repetitions_in digits)
-    else without_digits letter digits (with_letter bulk letter choices)
+-- a letter, with the digits after it, has a meaning
+abbrev pub IsKnown : (bulk : Bool) → ℕ × List ℕ → Type 0
+IsKnown bulk (letter, digits) = (IsPlain bulk letter × (digits ≡ []))
+    ⊎ ((bulk ≡ true) × (letter ≡ 114) × ((n : ℕ) × AreRepetitions digits n))
 
-abbrev pub after_parts : Bool → List (ℕ × List ℕ) → Result Choices ℕ → Result Choices ℕ
-after_parts bulk [] choices = choices
-after_parts bulk (part ∷ more) (Err octet) = Err octet
-after_parts bulk (part ∷ more) (Ok choices) = after_parts bulk more (after_part bulk part choices)
+-- it has none: that is told by the first digit after a plain letter, or by the letter itself
+abbrev pub IsUnknown : (bulk : Bool) → ℕ × List ℕ → (octet : ℕ) → Type 0
+IsUnknown bulk (letter, digits) octet =
+    (IsPlain bulk letter × ((more : List ℕ) × (digits ≡ octet ∷ more)))
+    ⊎ ((IsPlain bulk letter → ⊥) × (IsKnown bulk (letter, digits) → ⊥) × (octet ≡ letter))
 
--- the choices after a text, or the first octet of it that has no meaning
-abbrev pub after_whole : Bool → Choices → List ℕ × List (ℕ × List ℕ) → Result Choices ℕ
-after_whole bulk choices ([], letters) = after_parts bulk letters (Ok choices)
-after_whole bulk choices (digit ∷ digits, letters) = Err digit
+-- whether a letter is among them
+abbrev pub has : (letter : ℕ) → List (ℕ × List ℕ) → Bool
+has letter letters = list_any (λ part. part.0 == letter) letters
 
--- what the letters of -C choose, or the first octet of them that has no meaning
-abbrev pub choices_of : Bool → List ℕ → Result Choices ℕ
-choices_of bulk text = after_whole bulk no_choices (letter_parts text)
+-- the number of repetitions after the last `r`: 10 where there is none
+abbrev pub IsLastNumber : List (ℕ × List ℕ) → ℕ → Type 0
+IsLastNumber letters n =
+    ((has 114 letters ≡ false) × (n ≡ 10))
+    ⊎ ((before : List (ℕ × List ℕ)) × (digits : List ℕ) × (after : List (ℕ × List ℕ))
+    × (letters ≡ before ++ (114, digits) ∷ after) × (has 114 after ≡ false)
+    × AreRepetitions digits n)
+
+-- all letters of a text have a meaning, and choose this
+pub record HaveChosen (bulk : Bool) (text : List ℕ) (choices : Choices) : Type 0 where
+  pub letters : List (ℕ × List ℕ)
+  pub order : AreLettersIn text letters
+  pub known : AreDone (IsKnown bulk) letters
+  pub includes_root : choices.includes_root ≡ has 105 letters
+  pub counts : choices.counts ≡ has 112 letters
+  pub leaves_last_get : choices.leaves_last_get ≡ has 73 letters
+  pub repetitions : IsLastNumber letters choices.repetitions
+
+-- the octet that tells that they don't: a digit at the front, or that of the first unknown letter
+abbrev pub IsFirstUnknown : (bulk : Bool) → (text : List ℕ) → (octet : ℕ) → Type 0
+IsFirstUnknown bulk text octet =
+    ((rest : List ℕ) × (text ≡ octet ∷ rest) × (is_ascii_digit octet ≡ true))
+    ⊎ ((letters : List (ℕ × List ℕ)) × AreLettersIn text letters
+    × IsFirstToFail letters (IsKnown bulk) (IsUnknown bulk) octet)
 
 -- ---- what a walk gives, and by which requests it asks
 

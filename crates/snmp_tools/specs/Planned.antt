@@ -1,5 +1,5 @@
 -- The request and the plan that the program keeps, and what it has read of the words before.
-use Rattle.std.specs.Prelude.{◌≡◌, ◌≤◌, ◌⊎◌, length, Ok, Some, codes, ℕ, List}
+use Rattle.std.specs.Prelude.{◌≡◌, ◌≤◌, ◌⊎◌, length, Some, codes, ℕ, List}
 use Rattle.std.specs.Prelude.{Option, drop, option_map}
 use Rattle.snmp_oid.specs.Numeric.{numeric_text}
 use Rattle.smi_show.specs.name.Naming.{Naming}
@@ -12,7 +12,7 @@ use Rattle.snmp_tools.specs.Chosen.{chosen}
 use Rattle.snmp_tools.specs.Message.{Fault, out_of_memory}
 use Rattle.snmp_tools.specs.Mib.{Mib}
 use Rattle.snmp_tools.specs.Question as question
-use Rattle.snmp_tools.specs.Question.{AskWords, HasMeaning, choices_in, root_text}
+use Rattle.snmp_tools.specs.Question.{AskWords, HasChosen, HasMeaning, root_text}
 use Rattle.snmp_io.specs.Steps.{IsFirstToFail}
 use Rattle.snmp_tools.specs.declared.request.AskJob.{AskJob}
 use Rattle.snmp_tools.specs.declared.plan.Orders.{Orders}
@@ -37,7 +37,7 @@ ask_words job = record { asking = asking_words job.asking.now; request = request
 pub record AreOrdersOf (words : AskWords) (orders : Orders) : Type 0 where
   pub version : words.asking.protocol ≡ codes "2c"
   pub letters : AreShown words.asking.letters orders.letters
-  pub chosen : choices_in words.request ≡ Ok (chosen orders.choices)
+  pub chosen : HasChosen words.request (chosen orders.choices)
   pub short_community : length words.asking.community ≤ 255
   pub community : orders.community.now ≡ words.asking.community
   pub max_size : orders.max_size ≡ words.asking.max_size

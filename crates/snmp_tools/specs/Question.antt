@@ -1,7 +1,7 @@
 -- What the words of a job that asks an agent ask for, and why they may be refused.
 use Rattle.std.specs.Prelude.{◌≡◌, ◌≤◌, ◌⊎◌, ◌++◌, ℕ, Bool, false, List, [], ◌∷◌, length, map}
 use Rattle.std.specs.List.{AllZip}
-use Rattle.std.specs.Prelude.{Option, Some, None, Result, Ok, Err, codes, unwrap_or}
+use Rattle.std.specs.Prelude.{Option, Some, None, Ok, codes, unwrap_or}
 use Rattle.smi_value.specs.declared.letters.letters.Letters.{Letters}
 use Rattle.smi_show.specs.name.Meant.{TextMeans}
 use Rattle.snmp_oid.specs.Identifier.{IsBelow, IsWire, wire}
@@ -12,7 +12,8 @@ use Rattle.snmp_net.specs.Address.{Address, IsAgent}
 use Rattle.snmp_tools.specs.Asking.{AreShown, AskingFails, AskingStep, HasAgent, IsAskingDone}
 use Rattle.snmp_tools.specs.Asking.{IsNameIfGiven, IsReached, MibsFail, NameFails, ReachFails}
 use Rattle.snmp_tools.specs.Asking.{agent_step, community_step, letters_step, version_step}
-use Rattle.snmp_tools.specs.Letters.{Choices, choices_of, method_of, mode_of, no_choices}
+use Rattle.snmp_tools.specs.Letters.{Choices, HaveChosen, IsFirstUnknown, method_of, mode_of}
+use Rattle.snmp_tools.specs.Letters.{no_choices}
 use Rattle.snmp_tools.specs.Message.{Fault, bad_letter, out_of_memory, outside_root, unsendable}
 use Rattle.snmp_io.specs.Files.{Holdings, MayHold}
 use Rattle.snmp_tools.specs.Mib.{IsMibOf, Mib}
@@ -43,10 +44,15 @@ of_walk bulk words =
 abbrev pub root_text : Option (List ℕ) → List ℕ
 root_text name = unwrap_or name (codes "1.3.6.1.2.1")
 
--- what the letters of -C choose, where there are any
-abbrev pub choices_in : Request → Result Choices ℕ
-choices_in (get texts) = Ok no_choices
-choices_in (walk bulk letters after name) = choices_of bulk letters
+-- the letters of -C choose this, where there are any
+abbrev pub HasChosen : Request → Choices → Type 0
+HasChosen (get texts) choices = choices ≡ no_choices
+HasChosen (walk bulk letters after name) choices = HaveChosen bulk letters choices
+
+-- the first octet of them that has no meaning
+abbrev pub HasUnknown : Request → (octet : ℕ) → Type 0
+HasUnknown (get texts) octet = ⊥
+HasUnknown (walk bulk letters after name) octet = IsFirstUnknown bulk letters octet
 
 -- ---- what is asked for
 
@@ -103,7 +109,7 @@ pub record AskFor (words : AskWords) (mib : Mib) (plan : Plan) : Type 0 where
   pub version : words.asking.protocol ≡ codes "2c"
   pub letters : AreShown words.asking.letters plan.letters
   pub choices : Choices
-  pub chosen : choices_in words.request ≡ Ok choices
+  pub chosen : HasChosen words.request choices
   pub short_community : length words.asking.community ≤ 255
   pub community : plan.community ≡ words.asking.community
   pub max_size : plan.max_size ≡ words.asking.max_size
@@ -190,7 +196,7 @@ OfAgent words files Is = ByNames words files
 abbrev pub IsDoneFor : AskWords → Holdings → Step → Type 0
 IsDoneFor words files (asking step) = IsAskingDone words.asking step
 IsDoneFor words files choices_step =
-    (choices : Choices) × (choices_in words.request ≡ Ok choices)
+    (choices : Choices) × HasChosen words.request choices
 IsDoneFor words files mibs_step = (mib : Mib) × IsMibOf (MayHold files) words.asking mib
 IsDoneFor words files (name_step text) = ByNames words files (λ mib. HasMeaning mib text)
 IsDoneFor words files reach_step = OfAgent words files (IsReached files)
@@ -202,7 +208,7 @@ IsDoneFor words files (below_step root_text text) = ByNames words files
 abbrev pub FailsFor : AskWords → Holdings → Step → Fault → Type 0
 FailsFor words files (asking step) why = AskingFails words.asking step why
 FailsFor words files choices_step why =
-    (letter : ℕ) × (choices_in words.request ≡ Err letter) × (why ≡ bad_letter letter)
+    (letter : ℕ) × HasUnknown words.request letter × (why ≡ bad_letter letter)
 FailsFor words files mibs_step why = MibsFail files words.asking.mibs why
 FailsFor words files (name_step text) why = ByNames words files (λ mib. NameFails mib text why)
 FailsFor words files reach_step why =

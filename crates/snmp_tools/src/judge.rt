@@ -12,7 +12,7 @@ ghost use Rattle.snmp_io.specs.Files.{Holdings};
 ghost use Rattle.snmp_tools.specs.Mib.{Mib};
 ghost use Rattle.snmp_tools.specs.Planned.{AgentFails, AreOrdersOf, NamesFail, ShowingFails};
 ghost use Rattle.snmp_tools.specs.Planned.{ask_words, mib_in, plan_of, question_of, request_of};
-ghost use Rattle.snmp_tools.specs.Question.{AskFor, IsEarlyRefusal, IsQuestionOf, choices_in};
+ghost use Rattle.snmp_tools.specs.Question.{AskFor, HasChosen, IsEarlyRefusal, IsQuestionOf};
 ghost use Rattle.snmp_tools.specs.Question.{counts_in};
 
 use crate::choices::Choices;
@@ -93,7 +93,7 @@ impl Question {
     ghost use Rattle.snmp_tools.specs.Chosen.{chosen};
     ghost use Rattle.snmp_tools.specs.Message.{fault_of};
     ghost use Rattle.snmp_tools.specs.Planned.{NamesFail, mib_in, question_of, request_of};
-    ghost use Rattle.snmp_tools.specs.Question.{IsQuestionOf, choices_in, counts_in};
+    ghost use Rattle.snmp_tools.specs.Question.{HasChosen, IsQuestionOf, counts_in};
 
     /// Whether the number of bindings is printed after them.
     pub(crate) fn counts(&self) -> bool
@@ -112,7 +112,7 @@ impl Question {
         choices: Choices,
         tree: &T,
     ) -> Result<Question, Failure<'a>>
-        requires { choices_in (request_of request) ≡ Ok (chosen choices) }
+        requires { HasChosen (request_of request) (chosen choices) }
         ensures stated { IfOk result (λ question. IsQuestionOf (request_of request.entry)
             (chosen choices) (mib_in (T.naming tree.now) (T.syntax_at tree.now))
             (question_of question)) }

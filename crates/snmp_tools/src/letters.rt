@@ -1,14 +1,15 @@
 //! The letters of `-C`.
 ghost use Rattle.std.specs.Prelude.{◌≡◌, ◌≤◌, ◌<◌, ◌+◌, true, IfErr, IfOk, IfSome, MatchOption};
 ghost use Rattle.std.specs.Prelude.{Ok, Err, Some, length, false, slice_index, take};
+ghost use Rattle.std.specs.Char.{is_ascii_digit};
 ghost use Rattle.std.specs.List.{list_all};
 ghost use Rattle.std.specs.Str.Parse.{digits_value};
 ghost use Rattle.snmp_walk.specs.Walker.{IsMethod};
 ghost use Rattle.snmp_tools.specs.Chosen.{chosen};
-ghost use Rattle.snmp_tools.specs.Letters.{after_part, choices_of, is_digit, method_of, mode_of};
-ghost use Rattle.snmp_tools.specs.Letters.{no_choices, repetitions_in};
+ghost use Rattle.snmp_tools.specs.Choosing.{after_part, choices_of, repetitions_in};
+ghost use Rattle.snmp_tools.specs.Letters.{method_of, mode_of, no_choices};
 ghost use Rattle.snmp_tools.specs.Planned.{request_of};
-ghost use Rattle.snmp_tools.specs.Question.{choices_in};
+ghost use Rattle.snmp_tools.specs.Question.{HasChosen, HasUnknown};
 
 use crate::choices::Choices;
 use crate::request::Request;
@@ -18,16 +19,16 @@ impl Choices {
     ghost use Rattle.std.specs.Prelude.{◌≡◌, MatchResult, Ok, Err};
     ghost use Rattle.snmp_walk.specs.Walker.{IsMethod};
     ghost use Rattle.snmp_tools.specs.Chosen.{chosen};
-    ghost use Rattle.snmp_tools.specs.Letters.{after_part, choices_of, method_of, mode_of};
-    ghost use Rattle.snmp_tools.specs.Letters.{no_choices};
+    ghost use Rattle.snmp_tools.specs.Choosing.{after_part, choices_of};
+    ghost use Rattle.snmp_tools.specs.Letters.{method_of, mode_of, no_choices};
     ghost use Rattle.snmp_tools.specs.Planned.{request_of};
-    ghost use Rattle.snmp_tools.specs.Question.{choices_in};
+    ghost use Rattle.snmp_tools.specs.Question.{HasChosen, HasUnknown};
 
     /// What the letters of `-C` choose, where a request has any. The error is the first octet that
     /// has no meaning.
     pub(crate) fn of(request: Request<'_, '_>) -> Result<Choices, u8>
-        ensures { MatchResult result (λ c. choices_in (request_of request.entry) ≡ Ok (chosen c))
-            (λ octet. choices_in (request_of request.entry) ≡ Err octet) }
+        ensures { MatchResult result (λ c. HasChosen (request_of request.entry) (chosen c))
+            (HasUnknown (request_of request.entry)) }
     {
         match request {
             Request::Get(_) => Ok(Choices::none()),
@@ -70,7 +71,7 @@ impl Choices {
 
     // The choices after a letter with the digits after it.
     fn after(self, letter: u8, digits: &[u8], bulk: bool) -> Result<Choices, u8>
-        requires { list_all is_digit digits.now ≡ true }
+        requires { list_all is_ascii_digit digits.now ≡ true }
         ensures { MatchResult result
             (λ c. after_part bulk (letter, digits.now) (chosen self) ≡ Ok (chosen c))
             (λ octet. after_part bulk (letter, digits.now) (chosen self) ≡ Err octet) }
@@ -121,8 +122,8 @@ impl Choices {
 // How many digits are at the front of a text.
 fn front_digits(text: &[u8]) -> usize
     ensures within { result ≤ length text.now }
-    ensures digits { list_all is_digit (take result text.now) ≡ true }
-    ensures maximal { result < length text.now → is_digit (slice_index text.now result) ≡ false }
+    ensures digits { list_all is_ascii_digit (take result text.now) ≡ true }
+    ensures maximal { result < length text.now → is_ascii_digit (slice_index text.now result) ≡ false }
 {
     'octets: for (i, octet) in text.iter().enumerate() {
         if !octet.is_ascii_digit() {
@@ -134,7 +135,7 @@ fn front_digits(text: &[u8]) -> usize
 
 // The number of repetitions that digits state.
 fn repetitions(digits: &[u8]) -> Option<u32>
-    requires { list_all is_digit digits.now ≡ true }
+    requires { list_all is_ascii_digit digits.now ≡ true }
     ensures value { result ≡ repetitions_in digits.now }
     ensures some { IfSome result (λ n. 1 ≤ n) }
     ensures few { IfSome result (λ n. n ≤ 2147483647) }

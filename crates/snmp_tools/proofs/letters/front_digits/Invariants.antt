@@ -1,7 +1,7 @@
 use Rattle.std.proofs.Common.{◌≡◌, take, true}
 use Rattle.std.specs.List.{list_all}
-use Rattle.snmp_tools.specs.Letters.{is_digit}
+use Rattle.std.specs.Char.{is_ascii_digit}
 use Rattle.snmp_tools.proofs.letters.front_digits.Given as goal
 
 abbrev pub invariant-octets : goal.invariant-octets
-invariant-octets l = list_all is_digit (take l.i l.text) ≡ true
+invariant-octets l = list_all is_ascii_digit (take l.i l.text) ≡ true

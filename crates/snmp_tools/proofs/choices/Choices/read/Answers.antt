@@ -1,7 +1,7 @@
 use Rattle.std.proofs.Common.{◌+◌, ◌-◌, arith, refl, drop, take, length}
 use Rattle.std.proofs.lemmas.Grind.{common_steps}
 use Rattle.snmp_tools.specs.Chosen.{chosen}
-use Rattle.snmp_tools.specs.Letters.{choices_of, letter_parts}
+use Rattle.snmp_tools.specs.Choosing.{choices_of, letter_parts}
 use Rattle.snmp_tools.proofs.LetterLemmas.{next_part_in, read_no_more, read_on}
 use Rattle.snmp_tools.proofs.choices.Choices.read.Goals as goal
 

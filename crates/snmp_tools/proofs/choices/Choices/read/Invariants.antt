@@ -1,6 +1,6 @@
 use Rattle.std.proofs.Common.{◌≡◌, ◌≤◌, ◌-◌, length, drop}
 use Rattle.snmp_tools.specs.Chosen.{chosen}
-use Rattle.snmp_tools.specs.Letters.{after_whole, choices_of, letter_parts}
+use Rattle.snmp_tools.specs.Choosing.{after_whole, choices_of, letter_parts}
 use Rattle.snmp_tools.proofs.choices.Choices.read.Given as goal
 
 abbrev pub invariant-parts : goal.invariant-parts
