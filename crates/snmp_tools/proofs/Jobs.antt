@@ -70,14 +70,17 @@ module _ {N V D : Type 0} (net : Network N V D) (wire : LinkFacts V) where
     }
 
     pub undone : (job : Stated) → IsJobDone net wire job Before After 1
-    undone (snmptranslate words) = record {
-      fault = Some translate.no_memory;
-      warned = err;
-      outcome = translated.refused translate.no_memory (inl refl) refl refl refl;
-      is_reported = (refl, inr told);
-      all_at_status_0 = λ zero. let no : ⊥ = cc in absurd no;
-      front = λ style modules asked. inl refl;
-    }
+    undone (snmptranslate words) = (
+      refl,
+      record {
+        fault = Some translate.no_memory;
+        warned = err;
+        outcome = translated.refused translate.no_memory (inl refl) refl refl refl;
+        is_reported = (refl, inr told);
+        all_at_status_0 = λ zero. let no : ⊥ = cc in absurd no;
+        front = λ style modules asked. inl refl;
+      },
+    )
     undone (snmpget words) = unasked (of_get words)
     undone (snmpwalk words) = unasked (of_walk false words)
     undone (snmpbulkwalk words) = unasked (of_walk true words)

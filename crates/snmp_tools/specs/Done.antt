@@ -1,5 +1,5 @@
 -- What is promised of a job, by the words that state it.
-use Rattle.std.specs.Prelude.{ℕ, true, false}
+use Rattle.std.specs.Prelude.{◌≡◌, ℕ, true, false}
 use Rattle.snmp_walk.specs.declared.link.Link.{Ghosts as LinkFacts}
 use Rattle.snmp_net.specs.declared.links.Links.{Ghosts as Network}
 use Rattle.snmp_words.specs.Words.{Stated, snmpbulkwalk, snmpd, snmpget, snmptranslate, snmpwalk}
@@ -22,10 +22,12 @@ pub record IsAskDone {N V D : Type 0} (net : Network N V D) (wire : LinkFacts V)
 
 -- The job that was stated so was done: its status is this, and the world outside went from one
 -- state to the other. `net` is what is known of the network, and `wire` of its links.
+-- snmptranslate asks nothing of the network.
 abbrev pub IsJobDone : {N V D : Type 0} → Network N V D → LinkFacts V → Stated
     → (before after : Seen N) → (status : ℕ) → Type 0
 IsJobDone {N} {V} {D} net wire (snmptranslate words) before after status =
-    IsTranslated words before.files before.out after.out before.err after.err status
+    (after.links ≡ before.links)
+    × IsTranslated words before.files before.out after.out before.err after.err status
 IsJobDone {N} {V} {D} net wire (snmpget words) before after status =
     IsAskDone net wire (of_get words) before after status
 IsJobDone {N} {V} {D} net wire (snmpwalk words) before after status =

@@ -1,11 +1,11 @@
-use Rattle.std.proofs.Common.{false, true}
+use Rattle.std.proofs.Common.{false, refl, true}
 use Rattle.snmp_words.specs.Words.{get_words, walk_words}
 use Rattle.snmp_tools.specs.Question.{of_get, of_walk}
 use Rattle.snmp_tools.proofs.Jobs.{ask_done, of_job}
 use Rattle.snmp_tools.proofs.job.run_job.Goals as goal
 
 pub returns-in-Translate : goal.returns-in-Translate
-returns-in-Translate g c = of_job g.L.Links g.L.Wire.Link _ _ _ _ _ c.in-Translate.is c.do_translate.ensures
+returns-in-Translate g c = of_job g.L.Links g.L.Wire.Link _ _ _ _ _ c.in-Translate.is (refl, c.do_translate.ensures)
 
 pub returns-in-Get : goal.returns-in-Get
 returns-in-Get g c =
