@@ -1,10 +1,14 @@
--- What is done with words that the command doesn't take.
-use Rattle.std.specs.Prelude.{◌≡◌, ◌⊎◌, ℕ, List, String, false, codes}
+-- Words that the command takes or has no fault to find in, and what is done with others.
+use Rattle.std.specs.Prelude.{◌≡◌, ◌⊎◌, ℕ, List, [], String, false, true, codes}
 use Rattle.std.specs.declared.alloc.Global.{Global}
 use Rattle.snmp_io.specs.Output.{FailsWithin, IsWritten, Stream, extended}
-use Rattle.snmp_words.specs.Command.{faults_of}
+use Rattle.snmp_words.specs.Command.{faults_of, is_taken}
 use Rattle.snmp_words.specs.Words.{AskForHelp, HasFaultOf}
 use Rattle.snmp_words.specs.declared.UsageError.TheVariants.{Parse}
+
+-- the command takes the words, or finds no fault in them
+abbrev pub AreFaultless : List (List ℕ) → Type 0
+AreFaultless words = (is_taken words ≡ true) ⊎ (faults_of words ≡ [])
 
 -- help was printed at status 0 and nothing reported; or the output failed at status 1, as is
 -- reported

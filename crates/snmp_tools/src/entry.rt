@@ -1,12 +1,11 @@
 //! From words to status.
-ghost use Rattle.std.specs.Prelude.{◌≡◌, ℕ, List, Some, true};
+ghost use Rattle.std.specs.Prelude.{◌≡◌, ℕ, List, None, Some, codes};
 ghost use Rattle.std.specs.Str.Lines.{lines};
-ghost use Rattle.snmp_words.specs.Command.{is_taken};
 ghost use Rattle.snmp_words.specs.Words.{AreFaulty, Stated, stated_job, texts_at};
 ghost use Rattle.snmp_tools.specs.Done.{IsJobDone};
 ghost use Rattle.snmp_tools.specs.Seen.{seen};
 ghost use Rattle.snmp_tools.specs.TableWalk.{HoldsTableFile, PrintsRows, table_walk};
-ghost use Rattle.snmp_tools.specs.Usage.{IsHelpOrMistake, PrintsHelp};
+ghost use Rattle.snmp_tools.specs.Usage.{AreFaultless, IsHelpOrMistake, PrintsHelp, ReportsOnly};
 
 use crate::job::{run_job, tell};
 use crate::laws::table_walks;
@@ -35,11 +34,14 @@ pub fn tool<F: ModuleFiles, L: Links, O: Output, E: Output>(
         → HoldsTableFile (F.text_at files.now) path root text
         → PrintsRows (lines text) root (O.stream out.old) (O.stream out.new)
         (E.stream err.old) (E.stream err.new) result }
-    ensures done { (job : Stated) → is_taken (texts_at words.now) ≡ true
+    ensures done { (job : Stated) → AreFaultless (texts_at words.now)
         → stated_job (texts_at words.now) ≡ Some job
         → IsJobDone L.Links L.Wire.Link job
         (seen (F.text_at files.now) links.old (O.stream out.old) (E.stream err.old))
         (seen (F.text_at files.now) links.new (O.stream out.new) (E.stream err.new)) result }
+    ensures unstated { AreFaultless (texts_at words.now) → stated_job (texts_at words.now) ≡ None
+        → ReportsOnly (codes "Out of memory.\n") (O.stream out.old) (O.stream out.new)
+        (E.stream err.old) (E.stream err.new) result }
     ensures help_or_mistake { AreFaulty (texts_at words.now)
         → IsHelpOrMistake (texts_at words.now) (O.stream out.old) (O.stream out.new)
         (E.stream err.old) (E.stream err.new) result }

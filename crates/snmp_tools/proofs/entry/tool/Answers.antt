@@ -1,15 +1,30 @@
-use Rattle.std.proofs.Common.{◌≡◌, ◌∙◌, ap, refl, inl, inr, false, subst}
-use Rattle.snmp_words.specs.Command.{faults_of}
-use Rattle.snmp_words.specs.Words.{HasFaultOf, snmpwalk, stated_job, texts_at}
+use Rattle.std.proofs.Common.{◌≡◌, ◌∙◌, ap, refl, inl, inr, Bool, false, true, subst, ℕ, List, []}
+use Rattle.std.specs.Prelude.{String}
+use Rattle.std.specs.declared.alloc.Global.{Global}
+use Rattle.snmp_words.specs.Command.{faults_of, is_taken}
+use Rattle.snmp_words.specs.Words.{HasFaultOf, IsMemory, snmpwalk, stated_job, texts_at}
 use Rattle.snmp_words.specs.declared.UsageError.{UsageError}
 use Rattle.snmp_words.specs.declared.UsageError.TheVariants.{Parse}
 use Rattle.snmp_tools.specs.Planned.{numeric_walk}
+use Rattle.snmp_tools.specs.Usage.{AreFaultless}
 use Rattle.snmp_tools.proofs.Jobs.{of_words, undone}
 use Rattle.snmp_tools.proofs.entry.tool.Goals as goal
+
+-- an error of the command line isn't that of words without a fault
+no_error : (words : List (List ℕ)) (e : UsageError) (text : String Global) (help : Bool) → e ≡ Parse text help → (is_taken words ≡ true → IsMemory e)
+    → HasFaultOf e (faults_of words) → AreFaultless words → ⊥
+no_error words e text help is taken refused (inl takes) = let memory = taken takes in let no : ⊥ = cc in no
+no_error words e text help is taken refused (inr none) =
+    let has : HasFaultOf (Parse text help) (faults_of words) = subst (λ (x : UsageError). HasFaultOf x (faults_of words)) is refused in
+    let nothing : HasFaultOf (Parse text help) [] = subst (HasFaultOf (Parse text help)) none has in
+    nothing.1
 
 pub returns-in-Ok-clause-done : goal.returns-in-Ok-clause-done
 returns-in-Ok-clause-done g c = λ job taken stated.
     of_words g.L.Links g.L.Wire.Link _ _ _ _ job _ c.in-Ok.ensures.job stated c.run_job.ensures
+
+pub returns-in-Ok-clause-unstated : goal.returns-in-Ok-clause-unstated
+returns-in-Ok-clause-unstated g c = λ faultless none. let e = c.in-Ok.ensures.job in let no : ⊥ = cc in absurd no
 
 pub returns-in-Err-Memory-clause-done : goal.returns-in-Err-Memory-clause-done
 returns-in-Err-Memory-clause-done g c = λ job taken stated.
@@ -39,3 +54,23 @@ returns-in-Err-Memory-clause-rows_printed g c = λ path root text words holds.
     (g.F.Files.text_at c.args.files.now) c.args.links.now (g.O.Output.stream c.args.out.now) (g.E.Output.stream c.args.err.now) _
     c.tell-in-Err-Memory.ensures (snmpwalk (numeric_walk path root)) in
     c.table_walks.ensures.printed _ path root text _ _ _ _ _ holds done.front_written done.all_written_at_status_0 done.ends_at_status_0
+
+pub returns-in-Err-Parse-default-false-clause-done : goal.returns-in-Err-Parse-default-false-clause-done
+returns-in-Err-Parse-default-false-clause-done g c = λ job faultless stated.
+    let at = c.in-Err-Parse-default-false in
+    let fault = at.field-0-is in
+    let text = at.text-is in
+    let help = at.field-0-1-is in
+    let none = at.field-0-1-test in
+    let error : at.field-0 ≡ Parse at.text false = cc in
+    absurd (no_error (texts_at c.args.words.now) at.field-0 at.text false error at.ensures.taken at.ensures.refused faultless)
+
+pub returns-in-Err-Parse-default-false-clause-unstated : goal.returns-in-Err-Parse-default-false-clause-unstated
+returns-in-Err-Parse-default-false-clause-unstated g c = λ faultless none_stated.
+    let at = c.in-Err-Parse-default-false in
+    let fault = at.field-0-is in
+    let text = at.text-is in
+    let help = at.field-0-1-is in
+    let none = at.field-0-1-test in
+    let error : at.field-0 ≡ Parse at.text false = cc in
+    absurd (no_error (texts_at c.args.words.now) at.field-0 at.text false error at.ensures.taken at.ensures.refused faultless)
