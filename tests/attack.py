@@ -4,15 +4,17 @@ with good ones between them, and its walkers mutated replies.
 
 usage: attack.py [--datagrams N] [--walks N] [--seed S]
 
-By default 200,000 datagrams and 600 runs of the walkers. The seed is printed, and is the time of day where it
-is 0. Its last line is 'N passed, M failed'.
+By default 200,000 mutated datagrams and 600 runs of the walkers, side by side. The seed is printed, and is the time of
+day where it is 0. Its last line is 'N passed, M failed'.
 """
 import argparse
+import concurrent.futures
 import itertools
 import random
 import socket
 import sys
 import time
+import traceback
 
 from network import (BULK, E, END, GET, INSTANCE, NEXT, NULL, OBJECT, R, RESPONSE, ROOT, SET, Elsewhere, Server,
                      answered, dotted, element, elements, identifier, integer, message, mutated, read, reply, run, text)
@@ -34,19 +36,24 @@ def some_name(rng):
 
 
 def request(rng, id):
-    """A good request, and the reply to it."""
+    """A good request."""
     names = [(some_name(rng), NULL) for _ in range(rng.randint(0, 4))]
     kind = rng.choice([GET, NEXT, BULK, BULK, SET])
     if kind == SET:
-        asked = message(SET, id, names)
-        return asked, message(RESPONSE, id, names, 17, 1 if names else 0)
-    asked = message(kind, id, names, rng.choice([-1, 0, 1, 9]), rng.choice([-1, 0, 1, 5, 50]))
-    bindings = answered(ROWS, read(asked))
-    whole = reply(read(asked), bindings)
-    while len(whole) > SIZE and kind == BULK:
+        return message(SET, id, names)
+    return message(kind, id, names, rng.choice([-1, 0, 1, 9]), rng.choice([-1, 0, 1, 5, 50]))
+
+
+def reply_to(asked):
+    """The reply to a good request."""
+    if asked.kind == SET:
+        return reply(asked, asked.bindings, 17, 1 if asked.bindings else 0)
+    bindings = answered(ROWS, asked)
+    whole = reply(asked, bindings)
+    while len(whole) > SIZE and asked.kind == BULK:
         bindings.pop()
-        whole = reply(read(asked), bindings)
-    return asked, whole if len(whole) <= SIZE else reply(read(asked), [], 1)
+        whole = reply(asked, bindings)
+    return whole if len(whole) <= SIZE else reply(asked, [], 1)
 
 
 # -- mutations
@@ -83,46 +90,53 @@ def attacked(rng, octets):
 # -- snmpd
 
 def memory(pid):
-    """The octets that a program has in memory, and that it has asked for."""
+    """The kibibytes that a program has written in memory, and that it has asked for."""
     with open(f"/proc/{pid}/status", encoding="ascii") as file:
         fields = dict(line.split(":", 1) for line in file)
-    return tuple(int(fields[name].split()[0]) for name in ("VmRSS", "VmData"))
+    return tuple(int(fields[name].split()[0]) for name in ("RssAnon", "VmData"))
+
+
+TOGETHER = 32  # so many datagrams of which few are long find room in the server's queue
 
 
 def attack_snmpd(rng, count):
-    """Sends `count` datagrams, each 33rd a good one whose reply is awaited. What is wrong comes back."""
-    wrong, sent, right = [], 0, 0
-    with Server("--max-size", str(SIZE), "--turns", str(count), table=TABLE) as server, \
+    """Sends `count` mutated datagrams, and after each few of them a good one, whose reply is awaited. What is wrong
+    comes back."""
+    wrong, sent, right, before = [], 0, 0, None
+    turns = count + -(-count // TOGETHER) + 1
+    with Server("--max-size", str(SIZE), "--turns", str(turns), table=TABLE) as server, \
             socket.socket(socket.AF_INET, socket.SOCK_DGRAM) as attacker:
         attacker.connect(("127.0.0.1", server.port))
         attacker.setblocking(False)
-        before = None
-        while sent < count and len(wrong) < 5:
-            if sent % 33 == 32 or sent == count - 1:
-                asked, wanted = request(rng, sent)
-                server.send(asked)
-                got = server.receive()
-                right += got == wanted
-                if got != wanted:
-                    wrong.append(f"after {sent} datagrams\n    {asked.hex()}\n  got\n    {got.hex()}\n  not\n    {wanted.hex()}")
-            else:
+        while sent < count and not wrong:
+            for _ in range(min(TOGETHER, count - sent)):
                 try:
-                    attacker.send(attacked(rng, request(rng, rng.randrange(2 ** 31))[0]))
+                    attacker.send(attacked(rng, request(rng, rng.randrange(2 ** 31))))
                 except OSError:  # a full queue of this machine, or one datagram too long for it
                     server.send(b"")
-            sent += 1
-            if sent == count // 10:
+                sent += 1
+            asked = request(rng, sent)
+            wanted = reply_to(read(asked))
+            server.send(asked)
+            try:
+                got = server.receive()
+            except TimeoutError:
+                got = b""
+            right += got == wanted
+            if got != wanted:
+                wrong.append(f"after {sent} datagrams\n    {asked.hex()}\n  got\n    {got.hex()}\n  not\n    {wanted.hex()}")
+            elif before is None and sent >= count // 10:
                 before = memory(server.program.pid)
-            if sent == count - 1:
-                after = memory(server.program.pid)
-                if before != after:
-                    wrong.append(f"kibibytes in memory and asked for: {before} before, {after} then")
         if not wrong:
+            after = memory(server.program.pid)
+            if any(more > less for more, less in zip(after, before)):
+                wrong.append(f"kibibytes written in memory and asked for: {before} before, {after} then")
+            server.send(b"")
             status, output, messages = server.end()
             replies, dropped = (int(word) for word in output.split() if word.isdigit())
-            if (status, replies + dropped, messages) != (0, count, ""):
+            if (status, replies + dropped, messages) != (0, turns, ""):
                 wrong.append(f"status {status}, {output!r}, {messages!r} after {count} datagrams")
-    print(f"snmpd: {sent} datagrams, {right} good requests with the right reply")
+    print(f"snmpd: {sent} mutated datagrams, {right} good requests with the right reply", flush=True)
     return wrong
 
 
@@ -214,22 +228,32 @@ COMMANDS = [["snmpwalk", "-On", "-r1", "-t1", "AGENT", ROOT], ["snmpbulkwalk", "
 
 
 def attack_walkers(rng, count):
-    """Runs the walkers and snmpget `count` times against such agents."""
-    wrong, ends, unheard = [], {}, 0
-    for number in range(count):
-        if len(wrong) >= 5:
-            break
+    """Runs the walkers and snmpget `count` times against such agents. Most of the time goes by in waiting for a reply
+    that doesn't come, so many run side by side."""
+    wrong, ends = [], {}
+
+    def attack(number, seed):
         words, sent = COMMANDS[number % len(COMMANDS)], []
-        ran = run(words, attacking(random.Random(rng.random()), sent))
-        found = list(faults_of(words, ran, sent))
+        ran = run(words, attacking(random.Random(seed), sent))
+        found = "; ".join(faults_of(words, ran, sent))
         if found:
-            wrong.append(f"run {number}, {' '.join(words)}: {'; '.join(found)}\n    {ran.output!r}\n    {ran.messages!r}")
-        end = ran.messages.split(":")[0].strip() or "done"
-        ends[end] = ends.get(end, 0) + 1
-    print("walkers: " + ", ".join(f"{times} ended with {end!r}" for end, times in sorted(ends.items())))
+            found = f"run {number}, {' '.join(words)}: {found}\n    {ran.output!r}\n    {ran.messages!r}"
+        return ran.messages.split(":")[0].strip() or "done", found
+    with concurrent.futures.ThreadPoolExecutor(16) as pool:
+        for end, found in pool.map(attack, range(count), [rng.random() for _ in range(count)]):
+            ends[end] = ends.get(end, 0) + 1
+            wrong += [found] if found else []
+    print("walkers: " + ", ".join(f"{times} ended with {end!r}" for end, times in sorted(ends.items())), flush=True)
     if ends.get("done", 0) == 0 or len(ends) < 3:
         wrong.append("the walks don't end in several ways")
-    return wrong
+    return wrong[:5]
+
+
+def found_by(part):
+    try:
+        return part.result()
+    except Exception:
+        return [traceback.format_exc()]
 
 
 def main():
@@ -239,8 +263,11 @@ def main():
     words.add_argument("--seed", type=int, default=1)
     words = words.parse_args()
     seed = words.seed or time.time_ns()
-    print(f"seed {seed}")
-    parts = [attack_snmpd(random.Random(seed), words.datagrams), attack_walkers(random.Random(seed), words.walks)]
+    print(f"seed {seed}", flush=True)
+    with concurrent.futures.ProcessPoolExecutor(2) as pool:
+        parts = [pool.submit(attack_snmpd, random.Random(seed), words.datagrams),
+                 pool.submit(attack_walkers, random.Random(seed), words.walks)]
+        parts = [found_by(part) for part in parts]
     for wrong in parts:
         for it in wrong:
             print(f"FAILED: {it}")
