@@ -34,12 +34,9 @@ untried = []
 
 
 def start(*words, before=(), **where):
-    """Starts the program by these words, with a command that runs it before them. Where they say nothing of it, a reply
-    is waited for for four seconds, so that a machine with other work sends nothing again."""
-    if words[0].startswith("snmp") and words[0] not in ("snmpd", "snmptranslate") and not any(it.startswith("-t") for it in words):
-        words = (words[0], "-t", "4", *words[1:])
+    """Starts the program by these words, with a command that runs it before them."""
     where = {"stdin": subprocess.DEVNULL, "stdout": subprocess.PIPE, "stderr": subprocess.PIPE, **where}
-    return network.Program([*before, PROGRAM, *words], **where)
+    return network.Program([*before, PROGRAM, *network.patient(words)], **where)
 
 
 def ended(program):

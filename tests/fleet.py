@@ -65,14 +65,21 @@ def printed(rows, root=ROWS_OF_INTERFACES):
 
 
 class BreakingOff:
-    """An agent over rows that replies so many times, and then falls silent."""
+    """An agent over rows that replies to so many requests, each as often as it comes, and then falls silent."""
 
     def __init__(self, rows):
-        self.rows, self.left = rows, 0
+        self.rows = rows
+        self.replies_to(0)
+
+    def replies_to(self, count):
+        self.left, self.replied = count, None
 
     def __call__(self, seen):
-        self.left -= 1
-        return [served(self.rows, seen[-1])] if self.left >= 0 else []
+        if seen[-1] != self.replied:
+            if self.left == 0:
+                return []
+            self.left, self.replied = self.left - 1, seen[-1]
+        return [served(self.rows, seen[-1])]
 
 
 Fleet = collections.namedtuple("Fleet", "rows failing breaking")
@@ -119,9 +126,11 @@ class Folder:
         shutil.copy(PROGRAM, f"{path}/bin/snmp")
 
     def run(self, commands):
-        """Runs commands, which must end with status 0 and no message."""
+        """Runs commands, which must end with status 0 and no message. A reply has twice the page's second to come, as
+        this machine has the agents' work too."""
+        commands = commands.replace(" -t 1 ", " -t 2 ")
         ran = subprocess.run(["bash", "-e", "-c", commands], cwd=self.path, env=self.environment, capture_output=True,
-                             text=True, timeout=120, stdin=subprocess.DEVNULL, check=False)
+                             text=True, timeout=300, stdin=subprocess.DEVNULL, check=False)
         self.said = ran.stdout
         return differs((ran.returncode, ran.stderr), (0, ""))
 
@@ -209,7 +218,8 @@ def what_failed(folder, block):
 def second_round(folder, block):
     """One of the devices that were silent replies by now, and the other breaks off after one reply."""
     (first, (replying, _)), (second, (breaking, held)) = folder.fleet.breaking.items()
-    replying.left, breaking.left = 99, 1
+    replying.replies_to(99)
+    breaking.replies_to(1)
     wrong = [folder.run(block), differs(folder.ends("failures"),
                                         sorted({**folder.fleet.failing, **folder.silent([second])}.items()))]
     part = "".join(printed(held).splitlines(True)[:25])
@@ -219,7 +229,8 @@ def second_round(folder, block):
 def cut_off(folder, block):
     """It goes on where it was cut off."""
     (_, (first, _)), (second, (breaking, _)) = folder.fleet.breaking.items()
-    first.left = breaking.left = 99999
+    for agent in first, breaking:
+        agent.replies_to(99999)
     return [folder.run(block), differs(folder.ends("failures"), sorted(folder.fleet.failing.items())),
             *folder.files([*folder.fleet.rows, *folder.fleet.breaking])]
 
