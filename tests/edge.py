@@ -289,7 +289,7 @@ def failing_server():
     for call in "recvfrom:error=EIO", "sendto:error=EPERM", "sendto:retval=1":
         with file(stated(SOME)) as table, file() as log:
             place = f"127.0.0.1:{next(network.ports)}"
-            server = start("snmpd", "--table", table, "--listen", place, "--turns", "8",
+            server = start("snmpd", "--table", table, "--listen", place, "--turns", "12",
                            before=["strace", "-f", "-o", log, "-e", "trace=sendto,recvfrom", "-e",
                                    f"inject={call}:when=1"])
             said = server.stdout.readline()

@@ -30,6 +30,14 @@ same() {
     if [ "$2" = "$3" ]; then count ''; else count "$1: $(diff <(echo "$2") <(echo "$3"))"; fi
 }
 
+# has TITLE COMMAND..: whether this machine has these commands; else what isn't tried for want of one is told.
+has() {
+    local command
+    for command in "${@:2}"; do
+        command -v "$command" >/dev/null || { echo "not tried: $1: no $command here" >&2; return 1; }
+    done
+}
+
 # -- the options that the program takes, by its help
 
 # The words of a command and the options with their values, one a line, but for help and version.
@@ -119,10 +127,10 @@ while read -r message; do
     count "$(grep -qxF ".It Li \"$message\"" docs/snmp.1 || echo "the manual lacks the message $message")"
 done < <(sed -n '/^| what | message |/,/^$/s/.*| \(.*\) |$/\1/p; /^Warnings change no status/p' docs/PROFILE.md |
     grep -o '`[^`]*`' | tr -d '`' | grep -E '^([A-Z][a-z]|snmp: )')
-if command -v mandoc >/dev/null; then
+if has 'mandoc -Tlint' mandoc; then
     same 'mandoc -Tlint' '' "$(mandoc -Tlint -W warning docs/snmp.1 2>&1)"
 fi
-if command -v man >/dev/null && command -v groff >/dev/null; then
+if has 'man --warnings' man groff; then
     same 'man --warnings' '' "$(man --warnings -E UTF-8 -l -Tutf8 -Z docs/snmp.1 2>&1 >/dev/null)"
 fi
 
@@ -182,7 +190,7 @@ offers 'table:' snmp snmpget -c ta ta
 offers '' snmp snmpget table:x ta
 offers '' snmp snmpget --after ta
 offers '-Td' snmptranslate -T
-if command -v zsh >/dev/null; then
+if has 'zsh -n' zsh; then
     same 'zsh -n' '' "$(zsh -n completions/_snmp 2>&1)"
 fi
 for letter in $(letters snmpwalk -O); do

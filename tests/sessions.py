@@ -114,7 +114,7 @@ def main():
                 if not block.startswith("$ "):
                     continue
                 if "modules/" in block and not os.path.isdir(os.path.join(TOP, "modules")):
-                    print(f"{path}:{line}: left out, as there are no modules/")
+                    print(f"not tried: {path}:{line}: no modules/ here", file=sys.stderr)
                     continue
                 wrong = run(block, prefix)
                 passed, failed = passed + (not wrong), failed + bool(wrong)

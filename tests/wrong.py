@@ -108,6 +108,9 @@ def use_heap(name):
 def tests_of(name):
     """The tests that are named for a way to be wrong, each with its title, and with what makes the program so."""
     def chosen(tests, words):
+        for word in words:
+            if not any(word in title for title, _ in tests):
+                print(f"not tried: {name}: no test here whose title has {word!r}", file=sys.stderr)
         return [(title, test) for title, test in tests if any(word in title for word in words)]
     yield from ((use, *it) for it in chosen(OF_EDGE, AT_THE_EDGE.get(name, [])))
     yield from ((use_heap, *it) for it in chosen(OF_HEAP, WITHOUT_MEMORY.get(name, [])))
