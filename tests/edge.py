@@ -39,10 +39,11 @@ def start(*words, before=(), **where):
     return network.Program([*before, PROGRAM, *network.patient(words)], **where)
 
 
-def ended(program):
-    """Its status, and the rest of what it wrote to its output, where that is a pipe to here, and said."""
+def ended(program, seconds=300):
+    """Its status, and the rest of what it wrote to its output, where that is a pipe to here, and said. It is ended where
+    it takes longer."""
     try:
-        output, messages = program.communicate(timeout=300)
+        output, messages = program.communicate(timeout=seconds)
     except subprocess.TimeoutExpired:
         program.kill()
         output, messages = program.communicate()
@@ -561,7 +562,7 @@ def signal_in_line():
             got += os.read(reader, 1000).decode()
         until(lambda: waits(program, reader))
         program.terminate()
-        ran = ended(program)
+        ran = ended(program, 60)
         got += all_of(reader)
         os.close(reader)
         return wrongs(beginning(got, LONG_TEXT), differs(len(got) < len(LONG_TEXT), True),

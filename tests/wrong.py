@@ -5,7 +5,7 @@ isn't a part of the gate.
 usage: wrong.py [NAME..]
 
 The ways are those of wrong.c, which stands between the program and the C library (LD_PRELOAD). Without names, all are
-tried. The last line is 'N passed, M failed'.
+tried. Below each is the beginning of what the test says of it. The last line is 'N passed, M failed'.
 """
 import contextlib
 import io
@@ -123,13 +123,14 @@ def tests_of(name):
 
 
 def found(way, name, test):
-    """What a test finds wrong with such a program."""
+    """What a test finds wrong with such a program, as a text."""
     way(name)
     try:
-        with contextlib.redirect_stdout(io.StringIO()):
-            return test()
+        with contextlib.redirect_stdout(io.StringIO()) as printed:
+            wrong = test()
     except Exception:
         return traceback.format_exc()
+    return "\n".join(wrong) if isinstance(wrong, list) else printed.getvalue() if wrong == 1 else wrong or ""
 
 
 def main():
@@ -143,7 +144,7 @@ def main():
             caught = not as_it_is[title] and found(way, name, test)
             passed, failed = passed + bool(caught), failed + (not caught)
             said = "caught by" if caught else "not wrong alone for" if as_it_is[title] else "NOT CAUGHT by"
-            print(f"{name}: {said} {title!r}", flush=True)
+            print(f"{name}: {said} {title!r}\n  {(caught or as_it_is[title])[:300]}", flush=True)
     print(f"{passed} passed, {failed} failed")
     return 1 if failed else 0
 
