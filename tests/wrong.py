@@ -58,7 +58,7 @@ AT_THE_EDGE = {
 # Those that heap.py catches, of the tools by command lines, and of single calls.
 WITHOUT_MEMORY = {
     "HALF_A_LINE": ["snmpbulkwalk -On -Cr", "over UDP"],
-    "LINES_ARE_LEFT_OUT": ["snmpbulkwalk -On -Cr", "snmptranslate --mib"],
+    "LINES_ARE_LEFT_OUT": ["snmpbulkwalk -On -Cr", "snmptranslate --mib MODULES -"],
     "NOTHING_IS_SAID": ["snmpwalk -On table", "snmpd", "over UDP"],
     "STATUS_0": ["snmpwalk -On table", "snmpget --help", "over UDP"],
     "LONG_IS_MEMORY": ["snmpget -v", "snmpwalk table:x", "snmptranslate x"],
