@@ -680,7 +680,11 @@ class Server:
             self.program = Program(
                 [*self.before, PROGRAM, "snmpd", "--table", self.file.name, "--listen", self.place, *self.words],
                 stdin=subprocess.DEVNULL, stdout=subprocess.PIPE, stderr=subprocess.PIPE, text=True)
+            # One that never says so would be waited for.
+            ender = threading.Timer(60, self.program.kill)
+            ender.start()
             self.listening = self.program.stdout.readline()
+            ender.cancel()
             if self.listening:
                 return self
             ended = self.end()

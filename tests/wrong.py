@@ -95,7 +95,12 @@ def wrong_program(name):
 
 def use(name):
     """From here on the tests run this wrong program."""
-    network.PROGRAM = edge.PROGRAM = fleet.PROGRAM = wrong_program(name)
+    network.PROGRAM = edge.PROGRAM = wrong_program(name)
+
+
+def use_in_fleet(name):
+    """By this wrong program they poll agents that the program as it is serves."""
+    network.PROGRAM, fleet.PROGRAM = PROGRAM, wrong_program(name)
 
 
 def use_heap(name):
@@ -119,7 +124,7 @@ def tests_of(name):
             count = 20000 if part is attack.attack_snmpd else 2 if name == "NEVER_ENDS" else WALKED
             yield use, part.__name__, lambda part=part, count=count: part(random.Random(1), count)
     if name in IN_A_FLEET:
-        yield use, "fleet.py", fleet.main
+        yield use_in_fleet, "fleet.py", fleet.main
 
 
 def found(way, name, test):
