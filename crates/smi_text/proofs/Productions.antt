@@ -3,7 +3,7 @@ use Rattle.std.proofs.Common.{ℕ}
 use Rattle.smi_text.specs.trees.Number.{is_symbol}
 use Rattle.smi_text.specs.Format.{begins, maybe, behind, lower, word, token, text, text_where, name, pair, before, either, shaped, some_of, separated, lined}
 use Rattle.smi_text.specs.Grammar.{arc, assigned, balanced, base, before_assign, before_end, bound, braced, choice, clause, default_value, definition}
-use Rattle.smi_text.specs.Grammar.{field, group, head, heading, identifier, implied_name, import_clause, imported_symbol, imports, index, index_names}
+use Rattle.smi_text.specs.Grammar.{field, group, head, heading, identifier, import_clause, imported_symbol, imports, index, index_names}
 use Rattle.smi_text.specs.Grammar.{later_part, lower_definition, macro_body, macro_definition, macro_name, module_identity, module_text, named_number}
 use Rattle.smi_text.specs.Grammar.{names, notification_type, object_identifier, object_identifier_words, object_identity, object_type, objects}
 use Rattle.smi_text.specs.Grammar.{octet_string_words, of_row, opening, parenthesized, part, range, ranges, raw_definition, refinement, revision}
@@ -29,7 +29,7 @@ unfolding formats braced parenthesized arc part later_part identifier value boun
 of_types = 0
 
 unfoldable pub of_clauses : ℕ
-unfolding formats clause braced names status implied_name index_names index before_assign before_end balanced default_value revision objects
+unfolding formats clause braced names status index_names index before_assign before_end balanced default_value revision objects
 of_clauses = 0
 
 unfoldable pub of_definitions : ℕ

@@ -185,8 +185,7 @@ module _ (plan : Plan) (view : MibView) (tries : ℕ) (old new : Traffic) (rows 
       linked = no_link end;
       reason = (lawful, counts_rows plan view (first_of plan.community w) rows (end_in_memory end) lawful);
       complete = λ room.
-          let b = one core.asked in
-          own_end end (facts.done_unless_stopped view b.0 refl b.1
+          own_end end (facts.done_unless_stopped view refl
           (subst (λ (c : Walker). HasRoomForEach (agent_over plan view) view c) (sym from.is) room.0)
           (subst (λ (c : Walker). HasIds c view) (sym from.is) room.1) none);
     }

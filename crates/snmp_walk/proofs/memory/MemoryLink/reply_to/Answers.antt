@@ -19,7 +19,7 @@ returns-in-Reply-clause-table c = record {
   datagram = c.in_ok-datagram.datagram.now;
   found = c.in_ok-datagram.ensures.some;
   view = c.table_for.result.now;
-  serves = c.table_for.ensures.place;
+  serves = c.table_for.ensures.place (counted _ _ _ c.in_ok-datagram.ensures.some);
   reply = c.answer_near.ensures.reply c.in-Reply.length c.in-Reply.is;
 }
 
@@ -29,6 +29,6 @@ returns-in-Dropped-clause-none c = inr (
   c.table_for.result.now,
   _,
   c.in_ok-datagram.ensures.some,
-  c.table_for.ensures.place,
+  c.table_for.ensures.place (counted _ _ _ c.in_ok-datagram.ensures.some),
   c.answer_near.ensures.dropped _ c.in-Dropped.is,
 )
