@@ -1,5 +1,5 @@
 -- What a reply means, and what came of it, once its bindings were given; where it ended the walk or
--- the Get, with the end that stands in a place of its own.
+-- the Get, with the end that stands in a place of its own. For private clauses.
 use Rattle.std.specs.Prelude.{Option, None, Some}
 use Rattle.snmp_walk.specs.declared.end.WalkEnd.{WalkEnd}
 use Rattle.snmp_walk.specs.declared.rows.Step.{Step}

@@ -1,5 +1,5 @@
 -- How the bindings of a reply are read in turn: the reading of the rules of `Taken` that proofs
--- calculate with.
+-- calculate with, for private clauses.
 use Rattle.std.specs.Prelude.{
   ◌≡◌,
   ℕ,

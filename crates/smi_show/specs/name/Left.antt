@@ -1,4 +1,4 @@
--- What is left of a name while it is read.
+-- What is left of a name while it is read, for private clauses.
 use Rattle.std.specs.Prelude.{ℕ, List, [], Option, Some, None}
 use Rattle.smi_show.specs.name.Cutting.{name_parts}
 

@@ -1,4 +1,5 @@
--- What a text means as a name, computed, for private clauses.
+-- What a text means as a name, computed: for private clauses, and for the law that each text means
+-- something.
 use Rattle.std.specs.Prelude.{ℕ, ◌==◌, nat_le, if◌then◌else◌, List, [], ◌∷◌, ◌++◌, length, Option}
 use Rattle.std.specs.Prelude.{Some, None, Result, Ok, Err}
 use Rattle.smi_show.specs.index.Pieces.{piece_numbers}

@@ -1,4 +1,5 @@
 -- A part of a name, on its own: a number, a text in quotes, or a label; or why it is none of them.
+-- Computed, for private clauses.
 use Rattle.std.specs.Prelude.{ℕ, ◌-◌, ◌^◌, ◌&&◌, ◌==◌, nat_lt, if◌then◌else◌, List, [], ◌∷◌, length}
 use Rattle.std.specs.Prelude.{take, slice_index, Option, Some, None, Result, Ok, Err}
 use Rattle.std.specs.List.{list_all}

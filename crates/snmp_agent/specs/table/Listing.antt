@@ -1,4 +1,4 @@
--- The list of a view's variables, by rising names: what proofs calculate with.
+-- The list of a view's variables, by rising names, and what proofs calculate with.
 use Rattle.std.specs.Prelude.{ℕ, zero, suc, List, [], ◌∷◌, map}
 use Rattle.std.specs.FinMap.{entries}
 use Rattle.snmp_wire.specs.Message.{VarBind}

@@ -1,5 +1,6 @@
--- The order of entries, the names of instances with their values: what private functions over
--- sorted lists are proved to find. No clause of a public call is stated by these.
+-- The order of entries, the names of instances with their values. Public clauses name `view_of`,
+-- `entry_of` and `last_name`; the others are what private functions over sorted lists are proved to
+-- find.
 use Rattle.std.specs.Prelude.{◌≡◌, ℕ, true, not, List, [], ◌∷◌, ◌++◌}
 use Rattle.std.specs.Ordering.{nat_cmp, eq_by_cmp}
 use Rattle.std.specs.List.{list_any}
