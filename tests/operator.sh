@@ -392,7 +392,7 @@ same 'an output that takes no more' "1 lines-to-table: [Errno 28] No space left 
 same 'the drawing of the figures' "$(cat docs/speed.svg)" "$(tools/draw-speed)"
 while read -r figure; do
     count "$(grep -qF ">$figure" docs/speed.svg || echo "the drawing lacks $figure, which README says of it")"
-done < <(sed -n 's/^!\[\([^]]*\)\](docs\/speed.svg)$/\1/p' README.md | grep -oE '[0-9]{1,2},[0-9]{3}')
+done < <(sed -n 's/^!\[\([^]]*\)\](docs\/speed.svg)$/\1/p' README.md | grep -oE '[0-9]{1,3}(,[0-9]{3})+')
 
 # -- the version
 
