@@ -726,9 +726,10 @@ def sockets_of(pid):
     """How many sockets a program has, and the addresses and ports of those of UDP, as /proc/net/udp has them."""
     links = [os.readlink(link) for link in glob.glob(f"/proc/{pid}/fd/*")]
     sockets = [link[len("socket:["):-1] for link in links if link.startswith("socket:[")]
+    # A line of it may come twice where other sockets go while it is read.
     with open("/proc/net/udp", encoding="ascii") as file:
-        places = [fields[1] for fields in map(str.split, file) if fields[9] in sockets]
-    return len(sockets), places
+        places = {fields[1] for fields in map(str.split, file) if fields[9] in sockets}
+    return len(sockets), sorted(places)
 
 
 def differs(got, wanted):
