@@ -128,14 +128,8 @@ fn tables_around_the_size_of_a_page_are_walked_in_order(rt: HostRuntime) {
 }
 
 #[test]
-fn a_table_of_many_pages_is_walked_by_get_bulk(rt: HostRuntime) {
-    assert_walked(&rt, rt.alloc(), 10000, 1, &[Method::Bulk(50)]);
-    assert_walked(&rt, rt.alloc(), 10000, 7919, &[Method::Bulk(50)]);
-}
-
-#[test]
-fn a_table_of_many_pages_is_walked_by_get_next(rt: HostRuntime) {
-    // A request for each row: a tenth of the rows, so that the test ends in time unoptimized too.
-    assert_walked(&rt, rt.alloc(), 1000, 1, &[Method::Next]);
-    assert_walked(&rt, rt.alloc(), 1000, 7919, &[Method::Next]);
+fn a_table_of_many_pages_is_walked(rt: HostRuntime) {
+    let methods = [Method::Next, Method::Bulk(50)];
+    assert_walked(&rt, rt.alloc(), 10000, 1, &methods);
+    assert_walked(&rt, rt.alloc(), 10000, 7919, &methods);
 }
