@@ -23,6 +23,8 @@ mod run;
 #[cfg(test)]
 mod serving;
 #[cfg(test)]
+mod tiny;
+#[cfg(test)]
 mod translation;
 #[cfg(test)]
 mod walks;

@@ -5,5 +5,3 @@
 mod loading;
 #[cfg(test)]
 mod machine;
-#[cfg(test)]
-mod tiny;

@@ -1,50 +1,11 @@
 //! Names and types by module files.
 
 use crate::run::{Held, NO_LIMITS, Run, assert_refused, prints};
+use crate::tiny::{TINY, WARNINGS};
 use std::alloc::{AllocError, Global};
 use std::process::Abort;
 
-/// Two modules in one file: the second imports what there isn't, and has a cycle.
-const TINY: &[u8] = b"TINY-SMI DEFINITIONS ::= BEGIN
-enterprises OBJECT IDENTIFIER ::= { private 1 }
-private     OBJECT IDENTIFIER ::= { internet 4 }
-internet    OBJECT IDENTIFIER ::= { iso org(3) dod(6) 1 }
-END
-TINY-MIB DEFINITIONS ::= BEGIN
-IMPORTS enterprises, absent FROM TINY-SMI
-        other FROM GONE-MIB;
------------------------------------------
-tiny OBJECT IDENTIFIER ::= { enterprises 32473 }
-Mac ::= TEXTUAL-CONVENTION DISPLAY-HINT \"1x:\" STATUS current
-  DESCRIPTION \"An address.\" SYNTAX OCTET STRING (SIZE (6))
-tinyState OBJECT-TYPE SYNTAX INTEGER { up(1), down(2) } MAX-ACCESS read-only
-  STATUS current DESCRIPTION \"State.\" ::= { tiny 1 }
-tinyTable OBJECT-TYPE SYNTAX SEQUENCE OF TinyEntry MAX-ACCESS not-accessible
-  STATUS current DESCRIPTION \"Table.\" ::= { tiny 2 }
-tinyEntry OBJECT-TYPE SYNTAX TinyEntry MAX-ACCESS not-accessible
-  STATUS current DESCRIPTION \"Row.\" INDEX { tinyName } ::= { tinyTable 1 }
-TinyEntry ::= SEQUENCE { tinyName OCTET STRING, tinyMac Mac }
-tinyName OBJECT-TYPE SYNTAX OCTET STRING (SIZE (0..32)) MAX-ACCESS not-accessible
-  STATUS current DESCRIPTION \"Name.\" ::= { tinyEntry 1 }
-tinyMac OBJECT-TYPE SYNTAX Mac MAX-ACCESS read-only
-  STATUS current DESCRIPTION \"Address.\" ::= { tinyEntry 2 }
-tinyKeyTable OBJECT IDENTIFIER ::= { tiny 3 }
-tinyKeyEntry OBJECT-TYPE SYNTAX TinyKeyEntry MAX-ACCESS not-accessible
-  STATUS current DESCRIPTION \"Key row.\" INDEX { IMPLIED tinyName } ::= { tinyKeyTable 1 }
-TinyKeyEntry ::= SEQUENCE { tinyKeyUse Gauge32 }
-tinyKeyUse OBJECT-TYPE SYNTAX Gauge32 UNITS \"jobs\" MAX-ACCESS read-only
-  STATUS current DESCRIPTION \"Use.\" ::= { tinyKeyEntry 1 }
-loopA OBJECT IDENTIFIER ::= { loopB 1 }
-loopB OBJECT IDENTIFIER ::= { loopA 1 }
-END
-";
-
-/// The lines of their warnings.
-const WARNINGS: &str = "snmp: TINY-MIB imports absent from TINY-SMI, which has no absent\n\
-snmp: TINY-MIB imports from GONE-MIB, which is not loaded\n\
-snmp: TINY-MIB::loopA stands on a cycle\nsnmp: TINY-MIB::loopB stands on a cycle\n";
-
-/// A table of their objects.
+/// A table of the modules' objects.
 const TABLE: &[u8] = b"object 1.3.6.1.4.1.32473.1\n1.3.6.1.4.1.32473.1.0|2|1\n\
 1.3.6.1.4.1.32473.2.1.2.3.119.101.115|4x|00163E5A788E\n\
 1.3.6.1.4.1.32473.3.1.1.119.101.115|66|5\n";

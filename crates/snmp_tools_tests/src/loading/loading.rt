@@ -1,6 +1,6 @@
 //! What a load of module files gives and writes, and what refuses it.
 
-use crate::loading::tiny::{ACROSS, ASTRAY, ASTRAY_WARNINGS, DOUBLES, TINY, WARNINGS, WELL};
+use crate::tiny::{ACROSS, ASTRAY, ASTRAY_WARNINGS, DOUBLES, TINY, WARNINGS, WELL};
 use smi_tree::{NameHash, Tree};
 use snmp_io::memory::{MemoryFiles, MemoryOutput};
 use snmp_io::{Draft, Output};

@@ -1,6 +1,7 @@
 //! What ends the job early, and what was printed before.
 
-use crate::translation::run::{Limits, NO_LIMITS, WARNINGS, assert_ends, ends};
+use crate::tiny::WARNINGS;
+use crate::translation::run::{Limits, NO_LIMITS, assert_ends, ends};
 use std::alloc::{AllocError, Global};
 use std::process::Abort;
 

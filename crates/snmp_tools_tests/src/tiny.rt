@@ -1,4 +1,4 @@
-//! The small modules that the tests load.
+//! The small modules that tests load.
 
 /// Two modules in one file: the second imports what there isn't, and has a cycle.
 pub(crate) const TINY: &[u8] = b"TINY-SMI DEFINITIONS ::= BEGIN
