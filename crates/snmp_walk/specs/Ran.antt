@@ -35,7 +35,8 @@ pub record IsWalkedOver {W : Type 0} (facts : LinkFacts W) (link after : W) (tri
   -- the names given are those of its root and of instances below that
   pub part : IsPartOfWalk Rises Named first (given ++ refused)
   -- they rise, where it is done its end counts them, and each end has its own reason in a datagram
-  -- that came over the link; with NoResponse it ends where each try of the request missed its reply
+  -- that a receive of such a link may bring; with NoResponse it ends where each try of the request
+  -- missed its reply
   pub ends : EndFacts (ComesOver facts.brings) (λ w.
       (facts.keeps link → IsLastSent tries end (facts.traffic after) w)
       × (end ≡ ending.NoResponse

@@ -1,4 +1,4 @@
-//! The rows of a table, in pages, and the rows behind a name.
+//! The rows of a table, in pages, and the rows after a name.
 ghost use Rattle.std.specs.Prelude.{◌≡◌, ◌≤◌, ◌++◌, ◌∷◌, [], length, IfOk, IfErr};
 ghost use Rattle.snmp_agent.specs.table.Places.{entry_of, last_name};
 ghost use Rattle.snmp_agent.specs.table.Pages.{ArePages, IsPageOf, IsLongPage, IsPageWithRoom};
@@ -14,9 +14,9 @@ use std::marker::Model;
 /// Where a row was that a reply gave, as a guess: whoever asks in turn mostly asks from that row.
 #[derive(Clone, Copy, Debug)]
 pub struct Hint {
-    /// How many rows of its page stand behind it.
+    /// How many rows of its page come after it.
     rows: usize,
-    /// How many pages stand behind that.
+    /// How many pages come after that.
     pages: usize,
 }
 
@@ -84,7 +84,7 @@ impl Pages {
         row_at(page.rows.as_slice(), name)
     }
 
-    /// The rows behind this name.
+    /// The rows after this name.
     pub fn after(&self, name: &EncodedName<'_>) -> Successors<'_>
         ensures { (front : List (List ℕ × Datum)) × StandsApart self.now name.now front result }
     {
@@ -102,7 +102,7 @@ impl Pages {
         Successors { rows, pages }
     }
 
-    /// The rows behind this name, as [`Pages::after`] finds them. Nothing is searched where the hint
+    /// The rows after this name, as [`Pages::after`] finds them. Nothing is searched where the hint
     /// is right.
     pub fn after_near(&self, name: &EncodedName<'_>, hint: Hint) -> Successors<'_>
         ensures { (front : List (List ℕ × Datum)) × StandsApart self.now name.now front result }
@@ -113,7 +113,7 @@ impl Pages {
         }
     }
 
-    /// The rows behind this name, if its row is where the hint says.
+    /// The rows after this name, if its row is where the hint says.
     fn behind(&self, name: &EncodedName<'_>, hint: Hint) -> Option<Successors<'_>>
         ensures { IfSome result (λ rows. (front : List (List ℕ × Datum))
             × StandsApart self.now name.now front rows) }
@@ -244,12 +244,12 @@ fn remove_row(pages: &mut Vec<Page>, place: usize, row: usize)
     }
 }
 
-/// Rows behind a name, as a GetNext takes them that is asked again and again.
+/// Rows after a name, as a GetNext takes them that is asked again and again.
 #[derive(Drop)]
 pub struct Successors<'a> {
     /// Those of the page where it stands.
     rows: &'a [EncodedBinding],
-    /// The pages behind that.
+    /// The pages after that.
     pages: &'a [Page],
 }
 
@@ -271,9 +271,9 @@ impl<'a> Successors<'a> {
     ghost use Rattle.snmp_agent.specs.table.Pages.{AreBehind};
     ghost use Rattle.snmp_agent.specs.table.Table.{MibView, IsNext};
 
-    /// Changes a binding of the name behind which these rows stand to what a GetNext of it gives:
+    /// Changes a binding of the name that these rows follow to what a GetNext of it gives:
     /// the first of them, else the name itself with `EndOfMibView` (RFC 3416, section 4.2.2). The
-    /// rows behind that are left.
+    /// rows after that are left.
     pub fn advance(&mut self, binding: &mut Binding<'a>)
         ensures next { (view : MibView) → AreBehind view binding.old.name self.old
             → IsNext view binding.old.name (var_bind binding.new) }
@@ -287,7 +287,7 @@ impl<'a> Successors<'a> {
         }
     }
 
-    /// The first row. Those behind it are left.
+    /// The first row. Those after it are left.
     #[inline]
     pub(crate) fn next_row(&mut self) -> Option<&'a EncodedBinding>
         ensures some { IfSome result (λ row. self.old ≡ entry_of row.now ∷ self.new) }
