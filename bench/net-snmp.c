@@ -1,7 +1,9 @@
 // Calls Net-SNMP's library for what the scripts of bench/ count, where its headers are installed:
 //   net-snmp decode|encode TIMES       a Response of 20 bindings, into and out of its own structures
+//   net-snmp exchange ROWS TIMES       a request and its Response of so many rows, each written and read
 //   net-snmp modules FILE TIMES        reads the modules of a file (TIMES is 1)
 //   net-snmp names|lines FILE TIMES    finds a name, or shows a line, among the nodes of the file's modules
+#include <stdbool.h>
 #include <stdio.h>
 #include <stdlib.h>
 #include <string.h>
@@ -14,21 +16,51 @@
 
 int snmp_build(u_char **packet, size_t *size, size_t *offset, netsnmp_session *session, netsnmp_pdu *pdu);
 
-static netsnmp_pdu *decoded(void) {
+static netsnmp_pdu *decoded(u_char *octets, size_t left) {
     u_char community[COMMUNITY_MAX_LEN];
-    size_t community_length = sizeof community, left = length;
+    size_t community_length = sizeof community;
     long version;
-    u_char *at = snmp_comstr_parse(message, &left, community, &community_length, &version);
+    u_char *at = snmp_comstr_parse(octets, &left, community, &community_length, &version);
     netsnmp_pdu *pdu = at ? snmp_pdu_create(0) : NULL;
     if (pdu == NULL || snmp_pdu_parse(pdu, at, &left)) exit(1);
+    pdu->version = version;
     return pdu;
 }
 
-static void encode(netsnmp_session *session, netsnmp_pdu *pdu) {
-    u_char *packet = malloc(1024);
-    size_t size = 1024, offset = 0;
+// Writes the message, and reads what was written where it is to be read. The library writes from the end of
+// the packet to its front.
+static netsnmp_pdu *coded(netsnmp_session *session, netsnmp_pdu *pdu, bool is_read) {
+    u_char *packet = malloc(2048);
+    size_t size = 2048, offset = 0;
     if (packet == NULL || snmp_build(&packet, &size, &offset, session, pdu) || offset == 0) exit(1);
+    netsnmp_pdu *read = is_read ? decoded(packet + size - offset, offset) : NULL;
     free(packet);
+    return read;
+}
+
+// A GetNext for one row, or a GetBulk for more, and its Response, which has INTEGERs at names of ten numbers.
+static void exchange(netsnmp_session *session, long rows) {
+    oid name[] = {1, 3, 6, 1, 4, 1, 32473, 1, 1000, 0};
+    netsnmp_pdu *asked = snmp_pdu_create(rows == 1 ? SNMP_MSG_GETNEXT : SNMP_MSG_GETBULK);
+    asked->version = SNMP_VERSION_2c;
+    asked->errstat = 0;
+    asked->errindex = 0;
+    if (rows > 1) asked->max_repetitions = rows;
+    snmp_add_null_var(asked, name, OID_LENGTH(name));
+    netsnmp_pdu *heard = coded(session, asked, true);
+    netsnmp_pdu *reply = snmp_pdu_create(SNMP_MSG_RESPONSE);
+    reply->version = SNMP_VERSION_2c;
+    reply->errstat = 0;
+    reply->errindex = 0;
+    reply->reqid = heard->reqid;
+    for (long value = 0; value < rows; value++) {
+        name[8]++;
+        snmp_pdu_add_variable(reply, name, OID_LENGTH(name), ASN_INTEGER, &value, sizeof value);
+    }
+    snmp_free_pdu(coded(session, reply, true));
+    snmp_free_pdu(reply);
+    snmp_free_pdu(heard);
+    snmp_free_pdu(asked);
 }
 
 // Where the instructions of reading a file are counted.
@@ -40,22 +72,25 @@ int main(int count, char **words) {
     if (count < 3) return 2;
     long times = strtol(words[count - 1], NULL, 10);
     netsnmp_ds_set_string(NETSNMP_DS_LIBRARY_ID, NETSNMP_DS_LIB_MIBDIRS, "/nowhere");
+    netsnmp_session session;
+    snmp_sess_init(&session);
+    session.version = SNMP_VERSION_2c;
+    session.community = (u_char *)"public";
+    session.community_len = 6;
     if (!strcmp(words[1], "decode")) {
         build();
-        for (long i = 0; i < times; i++) snmp_free_pdu(decoded());
+        for (long i = 0; i < times; i++) snmp_free_pdu(decoded(message, length));
         return 0;
     }
     if (!strcmp(words[1], "encode")) {
         build();
-        netsnmp_session session;
-        snmp_sess_init(&session);
-        session.version = SNMP_VERSION_2c;
-        session.community = (u_char *)"public";
-        session.community_len = 6;
-        netsnmp_pdu *pdu = decoded();
-        pdu->version = SNMP_VERSION_2c;
-        for (long i = 0; i < times; i++) encode(&session, pdu);
+        netsnmp_pdu *pdu = decoded(message, length);
+        for (long i = 0; i < times; i++) coded(&session, pdu, false);
         snmp_free_pdu(pdu);
+        return 0;
+    }
+    if (!strcmp(words[1], "exchange") && count == 4) {
+        for (long i = 0; i < times; i++) exchange(&session, strtol(words[2], NULL, 10));
         return 0;
     }
     netsnmp_init_mib_internals();

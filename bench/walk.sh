@@ -1,7 +1,9 @@
 #!/usr/bin/env bash
 # Counts the instructions that a walk over a link in memory takes for each row, by GetNext and by GetBulk of
 # 50: request, agent and reply together, without printing. It is the difference of walks over 4,000 and
-# 2,000 rows, so that what a walk does once doesn't count, nor the reading of the table.
+# 2,000 rows, so that what a walk does once doesn't count, nor the reading of the table. Net-SNMP's library,
+# where it is installed, has no link in memory: of it, what it takes to write and read a request and its
+# Response is counted, without a search for the row and without what its walk does.
 # Of a GetNext it counts what the agent takes, too.
 source "$(dirname "${BASH_SOURCE[0]}")/common.sh"
 driver walk.c
@@ -12,7 +14,15 @@ for repetitions in 0 1 10 50; do
     short=$(each 1 "$repetitions" "$rows")
     long=$(each 1 "$repetitions" $((2 * rows)))
     case $repetitions in 0) method=GetNext ;; *) method="GetBulk of $repetitions" ;; esac
-    echo "$method: $(((long - short) / rows)) instructions a row"
+    ours=$(((long - short) / rows))
+    printf '%s: %d instructions a row' "$method" "$ours"
+    if has_net_snmp; then
+        each_time=$((repetitions > 1 ? repetitions : 1))
+        theirs=$(($(net_snmp each 100 exchange "$each_time") / each_time))
+        awk -v n="$ours" -v m="$theirs" \
+            "BEGIN { printf \"; Net-SNMP's library takes %d to write and read them, %.1f times as many\", m, m / n }"
+    fi
+    echo
 done
 inside=$(within snmp_agent::agent::answer_near 0 "$rows" 1)
 echo "GetNext: $((inside / (rows + 1))) instructions a request are the agent's"
