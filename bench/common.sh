@@ -1,4 +1,4 @@
-# What the benchmarks share: each calls the static library of crates/bench, which is proved as every crate
+# What the benchmarks share. Most call the static library of crates/bench, which is proved as every crate
 # is, from a small C program, and counts instructions by valgrind's callgrind.
 # A count is the difference of two runs, so that what a run does once doesn't count, or that of one call.
 set -euo pipefail
@@ -8,10 +8,10 @@ trap 'rm -rf "$work"' EXIT
 
 library=$top/crates/bench/out/libbench.a
 
-# is_built: whether the library is there, and is younger than every source.
+# is_built FILE: whether the file is there, and is younger than every source.
 is_built() {
-    [ -f "$library" ] && [ -z "$(find "$top/crates.txt" "$top/crates" -name out -prune -o -name must-fail -prune -o \
-        \( -name '*.rt' -o -name crates.txt \) -newer "$library" -print -quit)" ]
+    [ -f "$1" ] && [ -z "$(find "$top/crates.txt" "$top/crates" -name out -prune -o -name must-fail -prune -o \
+        \( -name '*.rt' -o -name crates.txt \) -newer "$1" -print -quit)" ]
 }
 
 # build: proves and builds the library, which all drivers link. Where no source changed, the build leaves
@@ -26,7 +26,7 @@ driver=$work/driver
 driver() {
     local kit
     kit=$(cd "$(dirname "$(readlink -f "$(command -v rt)")")/.." && pwd)
-    is_built || build
+    is_built "$library" || build
     cc -O2 -o "$work/driver" "$top/bench/$1" "$library" "$kit/c/liblibc_c.a"
 }
 

@@ -14,7 +14,7 @@ at_once=${2:-16}
 rounds=${3:-5}
 gets=${4:-1000}
 program=$top/crates/snmp/out/snmp
-[ -x "$program" ] || "$top/snmp" --build
+is_built "$program" || "$top/snmp" --build
 port=$((20000 + RANDOM % 8000))
 table=.1.3.6.1.2.1.2.2.1
 column=$table.2

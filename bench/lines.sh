@@ -1,6 +1,6 @@
 #!/usr/bin/env bash
-# Counts the instructions of a line, `NAME = INTEGER: 5`, by how many numbers its name has, in numbers
-# and by module and label.
+# Counts the instructions of a line, `NAME = INTEGER: 5`, whose name is in numbers, by how many numbers it
+# has and how long they are.
 source "$(dirname "${BASH_SOURCE[0]}")/common.sh"
 driver lines.c
 

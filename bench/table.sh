@@ -4,7 +4,7 @@
 # over all of them, its request, its reply and its line included.
 source "$(dirname "${BASH_SOURCE[0]}")/common.sh"
 program=$top/crates/snmp/out/snmp
-[ -x "$program" ] || "$top/snmp" --build
+is_built "$program" || "$top/snmp" --build
 ln -s "$program" "$work/driver"
 cd "$work"
 for rows in 25000 50000 100000; do

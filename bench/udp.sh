@@ -7,7 +7,7 @@
 # which are of use on a quiet machine alone.
 source "$(dirname "${BASH_SOURCE[0]}")/common.sh"
 program=$top/crates/snmp/out/snmp
-[ -x "$program" ] || "$top/snmp" --build
+is_built "$program" || "$top/snmp" --build
 port=$((20000 + RANDOM % 20000))
 agent=127.0.0.1:$port
 rows=20000

@@ -5,11 +5,11 @@ use Rattle.std.proofs.lemmas.List.{get_or-set_same, get_or-set_other, length-set
 use Rattle.std.proofs.lemmas.List.{get_or_past}
 use Rattle.std.proofs.lemmas.List.Elements.{All-push, All-nil, All-contains, Contains-push, Contains-push_cases, Contains-append_left}
 use Rattle.std.proofs.lemmas.Bool.{cases_lt, cases_eq}
-use Rattle.smi_names.specs.links.Chain.{HasEnd, ends, leads_on}
-use Rattle.smi_names.specs.links.Order.{next_at, ComeAfterNext}
-use Rattle.smi_names.specs.links.Search.{Keeps, Leads, IsSettled, LeadsToSettled, mark_at}
-use Rattle.smi_names.specs.declared.links.order.Mark.{Mark}
-use Rattle.smi_names.specs.declared.links.order.Mark.TheVariants as M
+use Rattle.smi_names.specs.chains.Chain.{HasEnd, ends, leads_on}
+use Rattle.smi_names.specs.chains.Order.{next_at, ComeAfterNext}
+use Rattle.smi_names.specs.chains.Search.{Keeps, Leads, IsSettled, LeadsToSettled, mark_at}
+use Rattle.smi_names.specs.declared.chains.order.Mark.{Mark}
+use Rattle.smi_names.specs.declared.chains.order.Mark.TheVariants as M
 
 abbrev pub is_new : Mark → Bool
 is_new M.New = true

@@ -4,9 +4,9 @@ use Rattle.std.proofs.Common.{Contains, refl, sym, ap, ◌∙◌, subst, arith}
 use Rattle.std.proofs.lemmas.List.{get_or-set_same, get_or-set_other, length-set, get_or_past, take_more}
 use Rattle.std.proofs.lemmas.List.Elements.{Contains-push_cases}
 use Rattle.std.proofs.lemmas.Bool.{cases_lt, cases_eq}
-use Rattle.smi_names.specs.links.Chain.{HasEnd, ends, leads_on}
-use Rattle.smi_names.specs.links.Ends.{here, further, ChainEnds, end_at, end_of}
-use Rattle.smi_names.specs.links.Order.{next_at, ComeAfterNext}
+use Rattle.smi_names.specs.chains.Chain.{HasEnd, ends, leads_on}
+use Rattle.smi_names.specs.chains.Ends.{here, further, ChainEnds, end_at, end_of}
+use Rattle.smi_names.specs.chains.Order.{next_at, ComeAfterNext}
 
 -- this many ends that are not known
 abbrev pub unknown : ℕ → List (Option ℕ)

@@ -7,10 +7,10 @@ use Rattle.std.proofs.lemmas.Option.{slice_get_past, slice_get_within, slice_get
 use Rattle.std.specs.List.{slice_get, find, position_from, HoldsAt}
 use Rattle.std.specs.Option.{option_and_then, option_map}
 use Rattle.std.specs.Borrow.{Bor}
-use Rattle.smi_names.specs.links.Chain.{nowhere}
-use Rattle.smi_names.specs.links.Basis.{origin_of, origin_at, ComesTo, EachComesTo}
-use Rattle.smi_names.specs.declared.links.basis.Basis.{Basis}
-use Rattle.smi_names.specs.declared.links.basis.Resolution.{Resolution}
+use Rattle.smi_names.specs.chains.Chain.{nowhere}
+use Rattle.smi_names.specs.chains.Basis.{origin_of, origin_at, ComesTo, EachComesTo}
+use Rattle.smi_names.specs.declared.chains.basis.Basis.{Basis}
+use Rattle.smi_names.specs.declared.chains.basis.Resolution.{Resolution}
 use Rattle.smi_text.specs.trees.Mark.{same_text}
 use Rattle.smi_text.specs.declared.trees.tree.Module.{Module}
 use Rattle.smi_names.specs.meaning.Meaning.{QualifiedName, Decision, decision, origin, origin_by, origin_in, module_named}

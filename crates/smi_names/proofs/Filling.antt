@@ -5,14 +5,14 @@ use Rattle.std.proofs.lemmas.List.{get_or-set_same, get_or-set_other, length-set
 use Rattle.std.proofs.lemmas.List.Elements.{Contains-push_cases}
 use Rattle.std.proofs.lemmas.Bool.{cases_lt, cases_eq}
 use borrow.Author.Tests.{leb-true, leb-false}
-use Rattle.smi_names.specs.links.Chain.{Origin, after, nowhere, next_of, HasEnd, ends, leads_on, HasIdentifier, by_itself, after_another, here, further}
-use Rattle.smi_names.specs.links.Basis.{origin_of, origin_at, ComesTo, EachComesTo}
-use Rattle.smi_names.specs.links.Resolving.{lengthened, followed_by, resolution_at, resolution_of}
-use Rattle.smi_names.specs.links.Order.{next_at, ComeAfterNext}
-use Rattle.smi_names.specs.declared.links.basis.Basis.{Basis}
-use Rattle.smi_names.specs.declared.links.basis.Basis.TheVariants as B
-use Rattle.smi_names.specs.declared.links.basis.Resolution.{Resolution}
-use Rattle.smi_names.specs.declared.links.basis.Resolution.TheVariants as R
+use Rattle.smi_names.specs.chains.Chain.{Origin, after, nowhere, next_of, HasEnd, ends, leads_on, HasIdentifier, by_itself, after_another, here, further}
+use Rattle.smi_names.specs.chains.Basis.{origin_of, origin_at, ComesTo, EachComesTo}
+use Rattle.smi_names.specs.chains.Resolving.{lengthened, followed_by, resolution_at, resolution_of}
+use Rattle.smi_names.specs.chains.Order.{next_at, ComeAfterNext}
+use Rattle.smi_names.specs.declared.chains.basis.Basis.{Basis}
+use Rattle.smi_names.specs.declared.chains.basis.Basis.TheVariants as B
+use Rattle.smi_names.specs.declared.chains.basis.Resolution.{Resolution}
+use Rattle.smi_names.specs.declared.chains.basis.Resolution.TheVariants as R
 
 abbrev pub nexts : List Basis → List (Option ℕ)
 nexts bs = map (λ b. next_of (origin_of b)) bs

@@ -2,9 +2,9 @@
 use Rattle.std.proofs.Common.{◌≡◌, ℕ, true, false, List, [], ◌∷◌, ◌++◌, length, Some, None, refl, sym, ap, ◌∙◌, arith, append_assoc}
 use Rattle.std.proofs.lemmas.List.{append-nil, length_push}
 use Rattle.std.specs.List.{slice_get}
-use Rattle.smi_names.specs.links.Basis.{ComesTo}
-use Rattle.smi_names.specs.declared.links.basis.Resolution.{Resolution}
-use Rattle.smi_names.specs.declared.links.basis.Resolution.TheVariants as R
+use Rattle.smi_names.specs.chains.Basis.{ComesTo}
+use Rattle.smi_names.specs.declared.chains.basis.Resolution.{Resolution}
+use Rattle.smi_names.specs.declared.chains.basis.Resolution.TheVariants as R
 use Rattle.smi_text.specs.declared.trees.tree.Module.{Module}
 use Rattle.smi_text.specs.declared.trees.tree.Def.{Def}
 use Rattle.smi_text.specs.declared.trees.tree.Part.{Part}

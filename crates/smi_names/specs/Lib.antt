@@ -1,5 +1,5 @@
 pub mod Hash
 pub mod Name
-pub mod links
+pub mod chains
 pub mod meaning
 pub mod nodes

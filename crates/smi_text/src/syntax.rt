@@ -53,9 +53,9 @@ impl Production for LaterPart {
 }
 
 /// A name with a number of any sign.
-pub(crate) struct OneNumber;
+pub(crate) struct OneNamedNumber;
 
-impl Production for OneNumber {
+impl Production for OneNamedNumber {
     type Output = NamedNumber;
 
     ghost format = { grammar.named_number };
@@ -289,7 +289,7 @@ impl<'a> Parser<'a> {
     {
         self.sign(TokenKind::OpenBrace)?;
         let first = self.named_number()?;
-        let numbers = self.and_more::<AfterComma<OneNumber>>(first)?;
+        let numbers = self.and_more::<AfterComma<OneNamedNumber>>(first)?;
         self.sign(TokenKind::CloseBrace)?;
         Ok(numbers)
     }

@@ -5,9 +5,9 @@ use Rattle.std.proofs.lemmas.List.{get_or_past}
 use Rattle.std.proofs.lemmas.Slice.Eq.{bytes_eq-Decides}
 use Rattle.std.specs.List.{slice_get, find}
 use Rattle.std.specs.Option.{option_and_then}
-use Rattle.smi_names.specs.links.Chain.{HasEnd, ends, leads_on}
-use Rattle.smi_names.specs.links.Ends.{EndsAt, here, further, ChainEnds}
-use Rattle.smi_names.specs.links.Order.{next_at}
+use Rattle.smi_names.specs.chains.Chain.{HasEnd, ends, leads_on}
+use Rattle.smi_names.specs.chains.Ends.{EndsAt, here, further, ChainEnds}
+use Rattle.smi_names.specs.chains.Order.{next_at}
 use Rattle.smi_text.specs.trees.Mark.{same_text}
 use Rattle.smi_text.specs.declared.trees.tree.Module.{Module}
 use Rattle.smi_names.specs.meaning.Meaning.{QualifiedName, Decision, decision, module_named, or_else}

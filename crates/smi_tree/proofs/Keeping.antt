@@ -5,8 +5,8 @@ use Rattle.std.proofs.lemmas.Option.{slice_get_within}
 use Rattle.std.specs.List.{slice_get}
 use Rattle.std.specs.Global.{Global}
 use Rattle.std.specs.Option.{option_and_then}
-use Rattle.smi_names.specs.links.Order.{next_at}
-use Rattle.smi_names.specs.links.Ends.{EndsAt, ChainEnds}
+use Rattle.smi_names.specs.chains.Order.{next_at}
+use Rattle.smi_names.specs.chains.Ends.{EndsAt, ChainEnds}
 use Rattle.smi_text.specs.declared.trees.tree.Module.{Module}
 use Rattle.smi_text.specs.declared.trees.tree.Def.{Def}
 use Rattle.smi_text.specs.declared.trees.tree.SimpleType.{SimpleType}

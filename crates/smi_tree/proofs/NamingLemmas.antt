@@ -3,9 +3,9 @@ use Rattle.std.proofs.Common.{◌≡◌, ℕ, ◌<◌, ◌≤◌, List, length, 
 use Rattle.std.proofs.lemmas.Option.{slice_get_within, get_or_from_slice_get}
 use Rattle.std.specs.List.{slice_get}
 use Rattle.std.specs.Option.{option_and_then}
-use Rattle.smi_names.specs.links.Chain.{HasEnd, ends, leads_on}
-use Rattle.smi_names.specs.links.Order.{next_at}
-use Rattle.smi_names.specs.links.Ends.{EndsAt, here, further, ChainEnds}
+use Rattle.smi_names.specs.chains.Chain.{HasEnd, ends, leads_on}
+use Rattle.smi_names.specs.chains.Order.{next_at}
+use Rattle.smi_names.specs.chains.Ends.{EndsAt, here, further, ChainEnds}
 use Rattle.smi_text.specs.declared.trees.tree.Module.{Module}
 use Rattle.smi_text.specs.declared.trees.tree.Def.{Def}
 use Rattle.smi_text.specs.declared.trees.tree.Import.{Import}

@@ -1,9 +1,9 @@
 -- A name that has an identifier resolves to nothing else.
 use Rattle.std.proofs.Common.{◌≡◌, ℕ, List, length, refl, ap, arith}
-use Rattle.smi_names.specs.links.Chain.{Origin, nowhere, next_of, HasEnd, ends, leads_on, HasIdentifier, by_itself, after_another, EndsNowhere, here, further}
-use Rattle.smi_names.specs.links.Basis.{ComesTo}
-use Rattle.smi_names.specs.declared.links.basis.Resolution.{Resolution}
-use Rattle.smi_names.specs.declared.links.basis.Resolution.TheVariants as R
+use Rattle.smi_names.specs.chains.Chain.{Origin, nowhere, next_of, HasEnd, ends, leads_on, HasIdentifier, by_itself, after_another, EndsNowhere, here, further}
+use Rattle.smi_names.specs.chains.Basis.{ComesTo}
+use Rattle.smi_names.specs.declared.chains.basis.Resolution.{Resolution}
+use Rattle.smi_names.specs.declared.chains.basis.Resolution.TheVariants as R
 
 module _ {A : Type 0} (origin : A → Origin A) where
   means_ends : {a : A} {o : List ℕ} → HasIdentifier origin a o → HasEnd (λ b. next_of (origin b)) a

@@ -55,13 +55,6 @@ answer_value no_such_object h = tt
 answer_value no_such_instance h = tt
 answer_value end_of_mib_view h = tt
 
--- what a GetNext gives for a binding that has an encoding has one
-pub writable_next : (view : MibView) (p q : VarBind) → IsMibView view → IsWritable p → IsNext view p.name q → IsWritable q
-writable_next view p q mib writable next = record {
-  name = next_name view p.name q mib writable.name next;
-  value = answer_value q.value (next_value view p.name q mib next);
-}
-
 -- ---- what is written
 
 encodable_value : (value : Datum) → HasEncoding value → IsShortValue value → IsEncodableValue value

@@ -7,32 +7,10 @@ use Rattle.snmp_agent.proofs.Cuts.{HasNoBar, no_cut}
 
 -- ---- names of a reader
 
-longer : (text front rest : List ℕ) → text ≡ front ++ bar ∷ rest → length front ≡ length text → ⊥
-longer text front rest e same =
-    let parts : length text ≡ length front + length (bar ∷ rest) = ap length e ∙ length-append front (bar ∷ rest) in
-    omega (arith, parts, same)
-
--- a name of the whole text
-pub whole_name : (names : Names) (text : List ℕ) (o : List ℕ) (size : ℕ) → IsFrontRead names text (Some (o, size)) → size ≡ length text
-    → IsOnly (IsNameIn (second_format names) text) (Some o)
-whole_name names text o size h whole = elim h.place [
-  | inl none ↦
-      let P : List ℕ → Type 0 = λ t. Means names t o in
-      ((none.0, subst P none.1 h.named.0), λ p k. h.named.1 p (let Q : List ℕ → Type 0 = λ t. Means names t p in subst Q (sym none.1) k.1))
-  | inr cut ↦ absurd (longer text h.front cut.0 cut.1.parts (sym h.size ∙ whole))
-]
-
 -- what is no name, or that of a part of the text
 pub no_name : (names : Names) (text : List ℕ) → IsFrontRead names text None → IsOnly (IsNameIn (second_format names) text) None
 no_name names text h = λ p k. elim h.place [
   | inl none ↦ h.named p (let Q : List ℕ → Type 0 = λ t. Means names t p in subst Q (sym none.1) k.1)
-  | inr cut ↦ k.0 h.front cut.0 cut.1.parts cut.1.outside
-]
-
-pub part_name : (names : Names) (text : List ℕ) (o : List ℕ) (size : ℕ) → IsFrontRead names text (Some (o, size)) → size ≢ length text
-    → IsOnly (IsNameIn (second_format names) text) None
-part_name names text o size h part = λ p k. elim h.place [
-  | inl none ↦ part (h.size ∙ ap length none.1)
   | inr cut ↦ k.0 h.front cut.0 cut.1.parts cut.1.outside
 ]
 

@@ -11,10 +11,6 @@ pub extended_twice : (log : Option (List Event)) (a b : List Event) → logged (
 extended_twice None a b = refl
 extended_twice (Some before) a b = ap (λ events. Some events) (append_assoc before a b)
 
-pub extended_none : (log : Option (List Event)) → log ≡ logged log []
-extended_none None = refl
-extended_none (Some before) = ap (λ events. Some events) (sym (append-nil before))
-
 -- a datagram that came, and what became of the reply
 pub both_events : (old between new : Option (List Event)) (received : Result (Option ℕ) EndpointFault) (n : ℕ) (buffer datagram : List ℕ)
     (sent_it : Result (Unit {0}) EndpointFault) → received ≡ Ok (Some n) → between ≡ logged old (event_of_receive received buffer)

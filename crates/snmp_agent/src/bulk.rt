@@ -59,7 +59,7 @@ pub fn append_bulk<'a>(
     }
 }
 
-/// The number, and 0 for one below it.
+/// The number, or 0 where it is negative (RFC 3416, section 4.2.3).
 fn or_zero(number: i32) -> usize
     ensures { result ≡ or_zero number }
 {

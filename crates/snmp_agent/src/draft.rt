@@ -108,8 +108,8 @@ fn append_get(
     }
 }
 
-/// The same, whatever a Get gives. Not inlined: its binding, of over a thousand octets, is set to
-/// zeros as the function begins.
+/// Writes what a Get of a binding's name gives, a row or an exception, as [`append_answer`] does. Not
+/// inlined: its binding, of over a thousand octets, is set to zeros as the function begins.
 #[inline(never)]
 fn append_got(
     table: &Table,
@@ -129,8 +129,8 @@ fn append_got(
     draft.append(out, &binding)
 }
 
-/// Writes what a GetNext of a binding's name gives, as [`append_answer`] does. The hint becomes that
-/// of the row.
+/// Writes what a GetNext of a binding's name gives, as [`append_answer`] does. The hint becomes
+/// that of the row.
 pub fn append_next(
     table: &Table,
     asked: &BindingRef<'_>,

@@ -10,10 +10,10 @@ use crate::table::{Successors, Table};
 use snmp_wire::{EncodedBinding, EncodedName, MAX_DATAGRAM, ValueRef};
 use std::marker::Model;
 
-/// What a name was given last.
+/// What a repeating name of a GetBulk was given in the round before.
 #[derive(Drop)]
 pub enum Given<'a> {
-    /// Nothing, and there is no name.
+    /// Nothing: the blank of an array of places.
     Nothing,
     /// Nothing: it is the name that a request asks from.
     Asked(EncodedName<'a>),
@@ -21,12 +21,12 @@ pub enum Given<'a> {
     Row(&'a EncodedBinding),
 }
 
-/// Where a name that repeats stands.
+/// The place of a repeating name of a GetBulk among the rows of the table.
 #[derive(Drop)]
 pub struct Place<'a> {
     /// What it was given last.
     given: Given<'a>,
-    /// The rows behind that.
+    /// The rows after that.
     rows: Successors<'a>,
 }
 

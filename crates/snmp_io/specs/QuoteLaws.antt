@@ -1,5 +1,4 @@
--- A text is cut outside quotes in one way, and has one front: laws, for proofs here and of the crates
--- above.
+-- A text is cut outside quotes in one way: a law, for proofs here and of the crates above.
 use Rattle.std.specs.Prelude.{◌≡◌, ◌≢◌, ℕ, List, [], ◌∷◌, ◌++◌, Option, None}
 use Rattle.std.proofs.Common.{◌∙◌, ap, refl, sym, subst}
 use Rattle.snmp_io.specs.Quotes.{open_after, quote_after, IsCut}

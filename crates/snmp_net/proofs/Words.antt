@@ -58,10 +58,6 @@ host_only word alone host port t = elim t [
       absurd (alone.no_colon (rw p.parts (Contains-append_right host (colon ∷ p.digits) colon there)))
 ]
 
--- a prefix that a text lacks, and one that it has
-pub lacks_prefix : (word prefix : List ℕ) → FindsTextPrefix prefix word None → LacksPrefix word prefix
-lacks_prefix word prefix fails = λ rest e. fails rest e
-
 pub after_prefix : (word prefix rest : List ℕ) → StripsPrefix (FindsTextPrefix prefix) word rest → word ≡ prefix ++ rest
 after_prefix word prefix rest (k, found, is, long) = found.1 ∙ ap (λ (r : List ℕ). prefix ++ r) (sym is)
 

@@ -8,10 +8,12 @@ ghost use Rattle.snmp_words.specs.Command.{place_rules, sending_rules, serve_app
 ghost use Rattle.snmp_words.specs.Command.{showing_rules, snmp_app, top_app, translate_app};
 ghost use Rattle.snmp_words.specs.Command.{translating_rules, walk_app, walking_rules, with_rules};
 
-use crate::mistakes::VERSION;
 use crate::options;
 use clap::{Arg, Command};
 use std::alloc::{AllocError, Global};
+
+/// The version of the program.
+pub(crate) const VERSION: &str = "0.6.0";
 
 // What stands after the help of each command: an example that needs no file, and the statuses.
 const TRANSLATE_END: &str = "\
@@ -27,7 +29,7 @@ Example:
   echo '1.3.6.1.2.1.1.5.0|4|gate' | snmp snmpget -On table:/dev/stdin .1.3.6.1.2.1.1.5.0
 
 Exit status:
-  0  each name was answered, be it that there is no such instance
+  0  each name has its line, also where there is no such instance
   1  no reply, or another fault, with a message on standard error
   2  the agent reports an error";
 
@@ -122,7 +124,7 @@ fn top_command<'a>(alloc: Global) -> Command<'a>
         .about(
             "Translates names of managed objects, reads them from SNMP agents, and serves tables",
         )
-        .after_help("snmp COMMAND --help is on the words of a command, with an example")
+        .after_help("snmp COMMAND --help shows the words of a command, with an example")
         .version(VERSION)
         .propagate_version(true)
         .subcommand_required(true)

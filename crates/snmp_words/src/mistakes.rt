@@ -1,10 +1,8 @@
 //! What is printed where words give no job: the text of the parser, with what to write in place of
 //! a word of Net-SNMP, what a value should be, and the help to read.
+use crate::command::VERSION;
 use clap::error::ErrorKind;
 use std::alloc::{AllocError, Global};
-
-/// The version of the program.
-pub(crate) const VERSION: &str = "0.6.0";
 
 // Words, each with a tip.
 type Tips = &'static [(&'static str, &'static str)];
@@ -86,7 +84,7 @@ const OPTIONS_OF_SNMPD: Tips = &[
         "-M",
         "no folder is searched for modules: --mib FILE names each file",
     ),
-    ("-p", "no file of the process's number is written"),
+    ("-p", "no PID file is written"),
     ("-u", "snmpd runs as the user who starts it"),
     ("-g", "snmpd runs as the user who starts it"),
     ("-d", DUMPS),

@@ -27,7 +27,7 @@ const LETTERS_HELP: &str = "How names and values are shown; may be repeated\n\
 
 const WALK_LETTERS_HELP: &str = "What is walked; may be repeated\n\
                                  i: the root's own instance comes first\n\
-                                 p: the number of instances is printed at the end\n\
+                                 p: the number of bindings is printed at the end, exceptions too\n\
                                  I: snmpwalk: the root's own instance isn't printed in place of \
                                  an empty walk\n\
                                  rN: snmpbulkwalk: N instances a request, 1 to 2147483647; \

@@ -58,7 +58,7 @@ const COMMANDS: &[(&str, &[&str])] = &[
             "Usage: snmp snmpget [OPTIONS] <AGENT> <NAME>...",
             "echo '1.3.6.1.2.1.1.5.0|4|gate' | snmp snmpget \
              -On table:/dev/stdin .1.3.6.1.2.1.1.5.0",
-            "0  each name was answered, be it that there is no such instance",
+            "0  each name has its line, also where there is no such instance",
             "1  no reply, or another fault, with a message on standard error",
             "2  the agent reports an error",
         ],

@@ -1,8 +1,8 @@
 -- What the numbers of each entry's name are based on.
 use Rattle.std.specs.Prelude.{◌≡◌, ℕ, List, length, Some}
 use Rattle.std.specs.List.{slice_get}
-use Rattle.smi_names.specs.links.Basis.{origin_of}
-use Rattle.smi_names.specs.declared.links.basis.Basis.{Basis}
+use Rattle.smi_names.specs.chains.Basis.{origin_of}
+use Rattle.smi_names.specs.declared.chains.basis.Basis.{Basis}
 use Rattle.smi_names.specs.meaning.Meaning.{QualifiedName, origin_by}
 use Rattle.smi_names.specs.meaning.Scopes.{content_of}
 use Rattle.smi_names.specs.meaning.Names.{place_of_name, map_origin}

@@ -13,8 +13,8 @@ use Rattle.std.specs.Prelude.{
   if◌then◌else◌,
 }
 use Rattle.std.specs.List.{find}
-use Rattle.smi_names.specs.links.Chain as chain
-use Rattle.smi_names.specs.links.Chain.{Origin, numbers, after, nowhere}
+use Rattle.smi_names.specs.chains.Chain as chain
+use Rattle.smi_names.specs.chains.Chain.{Origin, numbers, after, nowhere}
 use Rattle.smi_text.specs.declared.trees.tree.Module.{Module}
 use Rattle.smi_text.specs.declared.trees.tree.Def.{Def}
 use Rattle.smi_text.specs.declared.trees.tree.Import.{Import}

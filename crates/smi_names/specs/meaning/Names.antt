@@ -2,7 +2,7 @@
 use Rattle.std.specs.Prelude.{◌≡◌, ℕ, List, length, Option, Some, unwrap_or, All}
 use Rattle.std.specs.List.{slice_get, position_from}
 use Rattle.std.specs.Option.{option_and_then}
-use Rattle.smi_names.specs.links.Chain.{Origin, numbers, after, nowhere}
+use Rattle.smi_names.specs.chains.Chain.{Origin, numbers, after, nowhere}
 use Rattle.smi_text.specs.trees.Mark.{same_text}
 use Rattle.smi_text.specs.declared.trees.tree.Module.{Module}
 use Rattle.smi_names.specs.meaning.Meaning.{QualifiedName, decision}

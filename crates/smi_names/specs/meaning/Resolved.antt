@@ -1,9 +1,9 @@
 -- What a directory of names and their resolutions state.
 use Rattle.std.specs.Prelude.{◌≡◌, ℕ, List, Some, None}
 use Rattle.std.specs.List.{slice_get}
-use Rattle.smi_names.specs.links.Chain.{nowhere}
-use Rattle.smi_names.specs.links.Basis.{ComesTo}
-use Rattle.smi_names.specs.declared.links.basis.Resolution.{Resolution}
+use Rattle.smi_names.specs.chains.Chain.{nowhere}
+use Rattle.smi_names.specs.chains.Basis.{ComesTo}
+use Rattle.smi_names.specs.declared.chains.basis.Resolution.{Resolution}
 use Rattle.smi_text.specs.declared.trees.tree.Module.{Module}
 use Rattle.smi_names.specs.meaning.Meaning.{QualifiedName, origin}
 use Rattle.smi_names.specs.meaning.Scopes.{place_in}

@@ -1,13 +1,13 @@
 //! The places of names: which entry a name of a module has, and what its numbers are based on.
 ghost use Rattle.std.specs.Prelude.{◌≡◌, ◌∷◌, ℕ, List, [], length, option_map, IfOk, Some};
-ghost use Rattle.smi_names.specs.links.Basis.{origin_of};
+ghost use Rattle.smi_names.specs.chains.Basis.{origin_of};
 ghost use Rattle.smi_names.specs.meaning.Meaning.{arcs as arcs_of, origin_by, origin_of_parts};
 ghost use Rattle.smi_names.specs.meaning.Scopes.{place_in, content_of};
 ghost use Rattle.smi_names.specs.meaning.Names.{AreEach, module_place, map_origin};
 ghost use Rattle.smi_names.specs.meaning.Directory.{place_by, place_of_entry, AreBases};
 
 use crate::hash::NameHash;
-use crate::links::Basis;
+use crate::chains::Basis;
 use crate::meaning::entry::{Decider, Entry};
 use crate::meaning::scope::{NamePlaces, put_first, scope};
 use crate::name::NameRef;

@@ -1,14 +1,14 @@
 //! The names of modules, resolved.
 ghost use Rattle.std.specs.Prelude.{◌≡◌, IfOk, MatchOption, is_some, option_map};
 ghost use Rattle.std.specs.Option.{option_and_then};
-ghost use Rattle.smi_names.specs.links.Chain.{nowhere};
-ghost use Rattle.smi_names.specs.links.Basis.{ComesTo};
+ghost use Rattle.smi_names.specs.chains.Chain.{nowhere};
+ghost use Rattle.smi_names.specs.chains.Basis.{ComesTo};
 ghost use Rattle.smi_names.specs.meaning.Meaning.{origin, module_named, decision, QualifiedName};
 ghost use Rattle.smi_names.specs.meaning.Scopes.{decision_of};
 ghost use Rattle.smi_names.specs.meaning.Names.{module_place};
 
 use crate::hash::NameHash;
-use crate::links::{Resolution, resolutions};
+use crate::chains::{Resolution, resolutions};
 use crate::meaning::directory::{Directory, find, homes, scopes};
 use crate::meaning::entries::Entries;
 use crate::meaning::entry::Decider;

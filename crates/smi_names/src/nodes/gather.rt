@@ -7,7 +7,7 @@ ghost use Rattle.smi_names.specs.nodes.Gathered.{AreGathered};
 ghost use Rattle.smi_names.specs.nodes.Gathered.{AddsModule, IsSourceOf};
 ghost use Rattle.smi_text.specs.declared.trees.tree.Module.{Module};
 
-use crate::links::Resolution;
+use crate::chains::Resolution;
 use crate::meaning::Names;
 use crate::nodes::imports::add_import_warnings;
 use crate::nodes::source::Source;
@@ -25,13 +25,6 @@ pub struct Gathered {
     pub oids: Vec<Oid>,
     /// The warnings, in order of loading.
     pub warnings: Vec<Warning>,
-}
-
-/// An owned text of these octets.
-pub(crate) fn text(alloc: Global, octets: &[u8]) -> Result<Text, AllocError>
-    ensures { IfOk result (λ text. text ≡ octets.now) }
-{
-    Text::copied(alloc, octets)
 }
 
 /// The identifier of one number.
@@ -73,24 +66,22 @@ impl Gathered {
                 return Ok(());
             }
             Resolution::Cycle => Warning::Cycle(
-                text(alloc, module.name.as_bytes())?,
-                text(alloc, def.label.as_bytes())?,
+                Text::copied(alloc, module.name.as_bytes())?,
+                Text::copied(alloc, def.label.as_bytes())?,
             ),
             Resolution::Unresolved => Warning::Unresolved(
-                text(alloc, module.name.as_bytes())?,
-                text(alloc, def.label.as_bytes())?,
+                Text::copied(alloc, module.name.as_bytes())?,
+                Text::copied(alloc, def.label.as_bytes())?,
             ),
             Resolution::TooLong => Warning::TooLong(
-                text(alloc, module.name.as_bytes())?,
-                text(alloc, def.label.as_bytes())?,
+                Text::copied(alloc, module.name.as_bytes())?,
+                Text::copied(alloc, def.label.as_bytes())?,
             ),
         };
         self.warnings.push(warning)?;
         Ok(())
     }
-}
 
-impl Gathered {
     /// Adds what a definition gives, by what its name resolves to in its module.
     fn add_definition<'a>(
         &mut self,
@@ -169,7 +160,7 @@ impl Gathered {
             (AddsModule names.now self.old self.new (take place names.now) «module».now) }
     {
         if is_double(names, module, place) {
-            let name = text(alloc, module.name.as_bytes())?;
+            let name = Text::copied(alloc, module.name.as_bytes())?;
             self.warnings.push(Warning::DoubleModule(name))?;
             return Ok(());
         }

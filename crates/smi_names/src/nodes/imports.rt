@@ -6,9 +6,8 @@ ghost use Rattle.smi_names.specs.meaning.Scopes.{decision_of};
 ghost use Rattle.smi_names.specs.nodes.Imports as imports;
 
 use crate::meaning::{Decider, Names, TypeBase, import_clauses};
-use crate::nodes::gather::text;
 use crate::nodes::warning::Warning;
-use smi_text::{Import, Module, TokenText, is_macro};
+use smi_text::{Import, Module, Text, TokenText, is_macro};
 use std::alloc::{AllocError, Global};
 
 /// Whether a module's own text decides what a name means in it, and not the list of roots.
@@ -50,8 +49,12 @@ fn add_symbol_warnings<'a>(
     if is_macro(name) || TypeBase::named(name).is_some() || has_name(names, from, name) {
         return Ok(());
     }
-    let home = text(alloc, module.name.as_bytes())?;
-    warnings.push(Warning::MissingImport(home, text(alloc, name)?, text(alloc, from)?))?;
+    let home = Text::copied(alloc, module.name.as_bytes())?;
+    warnings.push(Warning::MissingImport(
+        home,
+        Text::copied(alloc, name)?,
+        Text::copied(alloc, from)?,
+    ))?;
     Ok(())
 }
 
@@ -90,8 +93,8 @@ fn add_clause_warnings<'a>(
     if names.is_loaded(import.source.as_bytes()) {
         return add_symbols_warnings(alloc, warnings, names, module, import);
     }
-    let home = text(alloc, module.name.as_bytes())?;
-    let source = text(alloc, import.source.as_bytes())?;
+    let home = Text::copied(alloc, module.name.as_bytes())?;
+    let source = Text::copied(alloc, import.source.as_bytes())?;
     warnings.push(Warning::MissingModule(home, source))?;
     Ok(())
 }

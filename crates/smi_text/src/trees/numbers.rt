@@ -46,15 +46,15 @@ fn is_negative(text: &[u8]) -> bool
     matches!(text, [b'-', ..])
 }
 
-/// The digits of a NUM, without its hyphen.
+/// The digits of a number token, without its hyphen.
 fn digits(text: &[u8]) -> &[u8]
     ensures { result.now ≡ (if is_negative text.now then drop 1 text.now else text.now) }
 {
     if is_negative(text) { &text[1..] } else { text }
 }
 
-/// The number of an identifier that a NUM stands for, 0 to 4294967295 (RFC 2578, section 3.5). `-0`
-/// is 0.
+/// The number of an identifier that a number token states, 0 to 4294967295 (RFC 2578, section 3.5).
+/// `-0` is 0.
 #[tactic(auto, unfolding(crate::specs::trees::Number::is_arc))]
 pub fn arc(text: &[u8]) -> Option<u32>
     ensures { result ≡ number.arc_in text.now }
@@ -66,15 +66,15 @@ pub fn arc(text: &[u8]) -> Option<u32>
     }
 }
 
-/// Whether a NUM can be a number of an identifier.
+/// Whether a number token can be a number of an identifier.
 pub fn is_arc(text: &[u8]) -> bool
     ensures { result ≡ number.is_arc text.now }
 {
     arc(text).is_some()
 }
 
-/// The number that a NUM stands for elsewhere, -9223372036854775808 to 18446744073709551615 (RFC
-/// 2578, section 7.1.1).
+/// The number that a number token states elsewhere, -9223372036854775808 to 18446744073709551615
+/// (RFC 2578, section 7.1.1).
 #[tactic(auto, unfolding(crate::specs::trees::Number::is_number))]
 pub fn number(text: &[u8]) -> Option<i128>
     ensures { result ≡ number.stated_number text.now }
@@ -94,7 +94,7 @@ pub fn number(text: &[u8]) -> Option<i128>
     }
 }
 
-/// Whether a NUM can stand in a place that isn't for a number of an identifier.
+/// Whether a number token can stand where no number of an identifier is asked for.
 pub fn is_number(text: &[u8]) -> bool
     ensures { result ≡ number.is_number text.now }
 {
@@ -116,8 +116,8 @@ fn literal(base: u64, text: &[u8]) -> Option<u64>
     value_up_to(base, digits, u64::MAX)
 }
 
-/// The value of an end of a range: a NUM, or a literal up to 18446744073709551615 (RFC 2578,
-/// section 7.1.1).
+/// The value of an end of a range: a number token, or a literal up to 18446744073709551615 (RFC
+/// 2578, section 7.1.1).
 #[tactic(auto, unfolding(crate::specs::trees::Number::is_bound))]
 pub fn bound(kind: TokenKind, text: &[u8]) -> Option<i128>
     ensures { result ≡ number.bound_in kind text.now }

@@ -18,8 +18,8 @@ use Rattle.std.specs.Prelude.{
   None,
 }
 use Rattle.std.specs.List.{slice_get}
-use Rattle.smi_names.specs.links.Basis.{ComesTo}
-use Rattle.smi_names.specs.declared.links.basis.Resolution.TheVariants as R
+use Rattle.smi_names.specs.chains.Basis.{ComesTo}
+use Rattle.smi_names.specs.declared.chains.basis.Resolution.TheVariants as R
 use Rattle.smi_tree.specs.branches.Standing.{place_of}
 use Rattle.smi_show.specs.declared.index.part.IndexPart.{IndexPart}
 use Rattle.smi_text.specs.declared.trees.tree.Module.{Module}

@@ -1,8 +1,8 @@
 -- The names at which imports end, by their places.
 use Rattle.std.specs.Prelude.{◌≡◌, ℕ, ◌<◌, List, length, Option, Some, None}
 use Rattle.std.specs.List.{slice_get}
-use Rattle.smi_names.specs.links.Order.{next_at}
-use Rattle.smi_names.specs.links.Ends.{ChainEnds, end_at}
+use Rattle.smi_names.specs.chains.Order.{next_at}
+use Rattle.smi_names.specs.chains.Ends.{ChainEnds, end_at}
 use Rattle.smi_text.specs.declared.trees.tree.Module.{Module}
 use Rattle.smi_text.specs.declared.trees.tree.Def.{Def}
 use Rattle.smi_names.specs.meaning.Meaning.{QualifiedName, Decision, defined, imported, root}

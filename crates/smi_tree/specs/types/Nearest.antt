@@ -2,8 +2,8 @@
 use Rattle.std.specs.Prelude.{◌≡◌, ℕ, ◌<◌, List, length, Option, Some, Vec}
 use Rattle.std.specs.Global.{Global}
 use Rattle.std.specs.List.{slice_get}
-use Rattle.smi_names.specs.links.Order.{next_at}
-use Rattle.smi_names.specs.links.Ends.{ChainEnds, end_at}
+use Rattle.smi_names.specs.chains.Order.{next_at}
+use Rattle.smi_names.specs.chains.Ends.{ChainEnds, end_at}
 use Rattle.smi_text.specs.declared.trees.tree.Module.{Module}
 use Rattle.smi_text.specs.declared.trees.tree.Def.{Def}
 use Rattle.smi_text.specs.declared.trees.tree.Refinement.{Refinement}

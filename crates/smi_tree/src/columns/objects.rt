@@ -1,7 +1,7 @@
 //! The parts of INDEX clauses, by the objects that they name.
 ghost use Rattle.std.specs.Prelude.{◌≡◌, ◌<◌, ◌↔◌, ℕ, List, length, IsTrue, IfOk, MatchOption};
 ghost use Rattle.std.specs.Option.{option_copied};
-ghost use Rattle.smi_names.specs.links.Basis.{ComesTo};
+ghost use Rattle.smi_names.specs.chains.Basis.{ComesTo};
 ghost use Rattle.smi_names.specs.meaning.Meaning.{origin, QualifiedName};
 ghost use Rattle.smi_tree.specs.types.Kept.{AreTypesOf};
 ghost use Rattle.smi_tree.specs.columns.Index.{IsIndexPart, clause_of, is_implied};

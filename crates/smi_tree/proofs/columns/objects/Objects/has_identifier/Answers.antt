@@ -1,7 +1,7 @@
 -- A name that has an identifier comes to nothing else.
 use Rattle.std.proofs.Common.{rules, ◌≡◌}
-use Rattle.smi_names.specs.links.Basis.{ComesTo}
-use Rattle.smi_names.specs.links.Chain.{nowhere}
+use Rattle.smi_names.specs.chains.Basis.{ComesTo}
+use Rattle.smi_names.specs.chains.Chain.{nowhere}
 use Rattle.smi_names.specs.meaning.Meaning.{origin, QualifiedName}
 use Rattle.smi_tree.proofs.Resolving.{comes_to_numbers, comes_from_somewhere}
 use Rattle.smi_tree.proofs.columns.objects.Objects.has_identifier.Goals as goal

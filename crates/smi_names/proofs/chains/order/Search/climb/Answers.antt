@@ -1,0 +1,40 @@
+-- A place is met: the path goes on by it, and fewer places are new.
+use Rattle.std.proofs.Common.{rules, ◌≡◌, ◌≢◌, ℕ, ◌<◌, inl, inr, List, [], ◌∷◌, ◌++◌, Some, set, length, arith, sym, ◌∙◌}
+use Rattle.std.proofs.lemmas.List.{get_or-set_same, get_or-set_other}
+use Rattle.std.proofs.lemmas.Bool.{cases_eq}
+use Rattle.smi_names.specs.chains.Search.{Leads, mark_at}
+use Rattle.smi_names.specs.declared.chains.order.Mark.{Mark}
+use Rattle.smi_names.specs.declared.chains.order.Mark.TheVariants as M
+use Rattle.smi_names.proofs.Climbing.{news-set, Keeps-met, Leads-push}
+use Rattle.smi_names.proofs.chains.order.Search.climb.Goals as goal
+
+-- what is marked stays so, and the place is
+marked : (marks : List Mark) (at p : ℕ) → at < length marks → mark_at marks p ≢ M.New → mark_at (set marks at M.Met) p ≢ M.New
+marked marks at p inside old = λ e. elim (cases_eq p at) [
+  | inl same ↦ let here : mark_at (set marks at M.Met) p ≡ M.Met = rw same (get_or-set_same marks at M.Met M.New inside) in cc
+  | inr other ↦ old (sym (get_or-set_other marks at p M.Met M.New other) ∙ e)
+]
+
+pub up-smaller : goal.up-smaller
+up-smaller c =
+    let new : (c.in-Some.at < length c.up.self.marks.items) × (mark_at c.up.self.marks.items c.in-Some.at ≡ M.New) = search rules in
+    news-set c.up.self.marks.items c.in-Some.at new.0 new.1
+
+pub up-preserved : goal.up-preserved
+up-preserved c =
+    let new : (c.in-Some.at < length c.up.self.marks.items) × (mark_at c.up.self.marks.items c.in-Some.at ≡ M.New) = search rules in
+    let kept = c.up.invariant.0 in
+    let inside : c.in-Some.at < length c.args.next.now = omega (arith, kept.long) in
+    let path : c.push.new.self.items ≡ c.up.self.path.items ++ c.in-Some.at ∷ [] = search rules in
+    let leads : Leads c.args.next.now c.up.self.path.items (Some c.args.start) (Some c.in-Some.at) = rw c.in-Some.is at c.up.invariant.1 in
+    rw path (
+      Keeps-met c.args.next.now c.up.self.marks.items c.up.self.order.items c.up.self.path.items kept c.in-Some.at inside new.1,
+      Leads-push c.args.next.now c.up.self.path.items (Some c.args.start) c.in-Some.at leads,
+      inr (elim c.up.invariant.2 [
+        | inl same ↦ let here : c.in-Some.at ≡ c.args.start = cc in λ e.
+            let met : mark_at (set c.up.self.marks.items c.in-Some.at M.Met) c.args.start ≡ M.Met = rw (sym here)
+            (get_or-set_same c.up.self.marks.items c.in-Some.at M.Met M.New new.0) in cc
+        | inr old ↦ marked c.up.self.marks.items c.in-Some.at c.args.start new.0 old
+      ]),
+      λ p old. marked c.up.self.marks.items c.in-Some.at p new.0 (c.up.invariant.3 p old),
+    )

@@ -1,0 +1,59 @@
+-- A path is left where it leads back, and else its last place is settled, again and again.
+use Rattle.std.proofs.Common.{rules, ◌≡◌, ◌≢◌, ℕ, ◌<◌, inl, inr, List, [], ◌∷◌, ◌++◌, Some, set, length, arith, sym, ◌∙◌}
+use Rattle.std.proofs.lemmas.List.{get_or-set_same, get_or-set_other}
+use Rattle.std.proofs.lemmas.List.Elements.{All-contains, Contains-push}
+use Rattle.std.proofs.lemmas.Bool.{cases_eq}
+use Rattle.smi_names.specs.chains.Search.{mark_at}
+use Rattle.smi_names.specs.declared.chains.order.Mark.{Mark}
+use Rattle.smi_names.specs.declared.chains.order.Mark.TheVariants as M
+use Rattle.smi_names.proofs.Climbing.{Keeps-settled, Leads-settled, Leads-pop, Keeps-left, IsSettled-stopped}
+use Rattle.smi_names.proofs.chains.order.Search.visit.Goals as goal
+
+marked : (marks : List Mark) (at p : ℕ) → at < length marks → mark_at marks p ≢ M.New → mark_at (set marks at M.Settled) p ≢ M.New
+marked marks at p inside old = λ e. elim (cases_eq p at) [
+  | inl same ↦ let here : mark_at (set marks at M.Settled) p ≡ M.Settled = rw same (get_or-set_same marks at M.Settled M.New inside) in cc
+  | inr other ↦ old (sym (get_or-set_other marks at p M.Settled M.New other) ∙ e)
+]
+
+pub down-preserved : goal.down-preserved
+down-preserved c =
+    let place = c.in-Some.place in
+    let rest = c.pop.new.self.items in
+    let popped : c.down.self.path.items ≡ c.pop.new.self.items ++ c.in-Some.place ∷ [] = search rules in
+    let pushed : c.push.new.self.items ≡ c.down.self.order.items ++ c.in-Some.place ∷ [] = search rules in
+    let kept = rw popped at c.down.invariant.0 in
+    let leads = rw popped at c.down.invariant.1 in
+    let inside : place < length c.args.next.now = All-contains (λ p. p < length c.args.next.now) (rest ++ place ∷ []) place kept.along
+    (Contains-push rest place) in
+    let here : place < length c.down.self.marks.items = omega (arith, kept.long) in
+    let back = Leads-pop c.args.next.now rest leads.from leads.to place leads.leads in
+    rw pushed (
+      Keeps-settled c.args.next.now c.down.self.marks.items c.down.self.order.items rest place leads.to kept back.1 leads.settled,
+      Leads-settled c.args.next.now c.down.self.order.items rest place leads inside,
+      marked c.down.self.marks.items place c.args.start here c.down.invariant.2,
+      λ p old. marked c.down.self.marks.items place p here (c.down.invariant.3 p old),
+    )
+
+pub returns-then-not-has_ended-clause-kept : goal.returns-then-not-has_ended-clause-kept
+returns-then-not-has_ended-clause-kept c =
+    let kept = c.in_ok-to.ensures.kept in
+    let back = c.has_ended.ensures.met (search rules) in
+    let leads = rw back.1 at c.in_ok-to.ensures.leads in
+    let empty : c.clear.new.self.items ≡ [] = search rules in
+    rw empty (Keeps-left c.args.next.now c.climb.new.self.marks.items c.climb.new.self.order.items c.climb.new.self.path.items kept
+    (Some c.args.start) back.0 leads back.2)
+
+pub down-init : goal.down-init
+down-init c =
+    let kept = c.in_ok-to.ensures.kept in (
+      kept,
+      record {
+        from = Some c.args.start;
+        to = c.in_ok-to.to;
+        leads = c.in_ok-to.ensures.leads;
+        settled = IsSettled-stopped c.args.next.now c.climb.new.self.marks.items c.climb.new.self.order.items c.climb.new.self.path.items c.in_ok-to.to kept
+            c.in_ok-to.ensures.stopped (c.has_ended.ensures.other (search rules));
+      },
+      c.in_ok-to.ensures.reached,
+      c.in_ok-to.ensures.reached_before,
+    )

@@ -1,0 +1,24 @@
+-- What one step of a chain resolves to.
+use Rattle.std.specs.Prelude.{ℕ, nat_le, List, [], ◌++◌, ◌+◌, length, slice_index_or, if◌then◌else◌}
+use Rattle.smi_names.specs.declared.chains.basis.Basis.{Basis}
+use Rattle.smi_names.specs.declared.chains.basis.Basis.TheVariants as B
+use Rattle.smi_names.specs.declared.chains.basis.Resolution.{Resolution}
+use Rattle.smi_names.specs.declared.chains.basis.Resolution.TheVariants as R
+
+-- the numbers after an identifier, if there are at most 128 together
+abbrev pub lengthened : List ℕ → List ℕ → Resolution
+lengthened o ns = if nat_le (length o + length ns) 128 then R.Numbers (o ++ ns) else R.TooLong
+
+abbrev pub followed_by : Resolution → List ℕ → Resolution
+followed_by (R.Numbers o) ns = lengthened o ns
+followed_by R.Cycle ns = R.Cycle
+followed_by R.Unresolved ns = R.Unresolved
+followed_by R.TooLong ns = R.TooLong
+
+abbrev pub resolution_at : List Resolution → ℕ → Resolution
+resolution_at rs p = slice_index_or rs p R.Unresolved
+
+abbrev pub resolution_of : Basis → List Resolution → Resolution
+resolution_of (B.Numbers v) rs = lengthened [] v.items
+resolution_of (B.After p v) rs = followed_by (resolution_at rs p) v.items
+resolution_of B.Nowhere rs = R.Unresolved

@@ -1,0 +1,48 @@
+-- The state of the search for places whose chains end.
+use Rattle.std.specs.Prelude.{
+  ◌≡◌,
+  ℕ,
+  ◌<◌,
+  List,
+  [],
+  ◌∷◌,
+  length,
+  slice_index_or,
+  All,
+  Contains,
+  Option,
+  Some,
+}
+use Rattle.smi_names.specs.chains.Chain.{HasEnd}
+use Rattle.smi_names.specs.chains.Order.{next_at, ComeAfterNext}
+use Rattle.smi_names.specs.declared.chains.order.Mark.{Mark}
+use Rattle.smi_names.specs.declared.chains.order.Mark.TheVariants as M
+
+abbrev pub mark_at : List Mark → ℕ → Mark
+mark_at marks p = slice_index_or marks p M.New
+
+-- the path goes from one place to the next, and its last place leads to `to`
+abbrev pub Leads : List (Option ℕ) → List ℕ → Option ℕ → Option ℕ → Type 0
+Leads next [] from to = from ≡ to
+Leads next (p ∷ rest) from to = (from ≡ Some p) × Leads next rest (next_at next p) to
+
+-- the chain from `to` has an end, and `to` is in the order if it is a place
+abbrev pub IsSettled : List (Option ℕ) → List ℕ → Option ℕ → Type 0
+IsSettled next order to =
+    (q : ℕ) → to ≡ Some q → HasEnd (next_at next) q × (q < length next → Contains order q)
+
+-- the path leads to a place that is settled, or to nothing
+pub record LeadsToSettled (next : List (Option ℕ)) (order path : List ℕ) : Type 0 where
+  pub from : Option ℕ
+  pub to : Option ℕ
+  pub leads : Leads next path from to
+  pub settled : IsSettled next order to
+
+pub record Keeps (next : List (Option ℕ)) (marks : List Mark) (order path : List ℕ) : Type 0 where
+  pub long : length marks ≡ length next
+  pub within : All (λ p. p < length next) order
+  pub along : All (λ p. p < length next) path
+  pub only_ended : All (HasEnd (next_at next)) order
+  pub after_next : ComeAfterNext next order
+  pub settled : (p : ℕ) → mark_at marks p ≡ M.Settled → Contains order p
+  pub met : (p : ℕ) → mark_at marks p ≡ M.Met → HasEnd (next_at next) p → Contains path p

@@ -1,0 +1,130 @@
+//! The places of chains in an order in which each comes after the one that it leads to.
+ghost use Rattle.std.specs.Prelude.{◌≡◌, ◌≢◌, ◌⊎◌, ℕ, ◌<◌, ◌↔◌, List, [], ◌∷◌, length, All};
+ghost use Rattle.std.specs.Prelude.{Contains, Option, IfOk, IsTrue, Some, true, false, vec_len};
+ghost use Rattle.smi_names.specs.chains.Chain.{HasEnd};
+ghost use Rattle.smi_names.specs.chains.Order.{next_at, ComeAfterNext};
+ghost use Rattle.smi_names.specs.chains.Search.{Keeps, Leads, mark_at};
+
+use std::alloc::{AllocError, Global};
+
+/// The state of a place in the search.
+#[derive(Clone, Copy, Debug)]
+enum Mark {
+    /// Not reached.
+    New,
+    /// Reached by a climb.
+    Met,
+    /// Among the places in order.
+    Settled,
+}
+
+/// The search for the places whose chains end.
+#[derive(Drop)]
+struct Search {
+    /// How far the search is with each place.
+    marks: Vec<Mark>,
+    /// The places whose chains end, so far, each after the one that it leads to.
+    order: Vec<usize>,
+    /// The places of a climb, from its start on.
+    path: Vec<usize>,
+}
+
+/// The places whose chains end, each after the one that it leads to. A chain ends where it leads
+/// beyond the last place.
+///
+/// Each place is visited once, without recursion.
+pub fn ordered(alloc: Global, next: &[Option<usize>]) -> Result<Vec<usize>, AllocError>
+    ensures within { IfOk result (λ order. All (λ p. p < length next.now) order.items) }
+    ensures only_ended { IfOk result (λ order. All (HasEnd (next_at next.now)) order.items) }
+    ensures each_ended { IfOk result (λ order. (p : ℕ) → p < length next.now
+        → HasEnd (next_at next.now) p → Contains order.items p) }
+    ensures after_next { IfOk result (λ order. ComeAfterNext next.now order.items) }
+{
+    let mut search = Search {
+        marks: vec![in alloc; Mark::New; next.len()]?,
+        order: Vec::with_capacity(alloc, next.len())?,
+        path: Vec::new(alloc),
+    };
+    'starts: for start in 0..next.len() {
+        search.visit(next, start)?;
+    }
+    Ok(search.order)
+}
+
+impl Search {
+    /// Follows a chain from a place while its places are new, and returns where that stops.
+    fn climb(&mut self, next: &[Option<usize>], start: usize) -> Result<Option<usize>, AllocError>
+        requires kept { Keeps next.now self.old.marks.items self.old.order.items
+            self.old.path.items }
+        requires at_start { self.old.path.items ≡ [] }
+        requires inside { start < length next.now }
+        ensures kept { IfOk result (λ _.
+            Keeps next.now self.new.marks.items self.new.order.items self.new.path.items) }
+        ensures leads { IfOk result (λ to. Leads next.now self.new.path.items (Some start) to) }
+        ensures stopped { IfOk result (λ to. (p : ℕ) → to ≡ Some p → p < length next.now
+            → mark_at self.new.marks.items p ≢ Mark.New) }
+        ensures reached { IfOk result (λ _. mark_at self.new.marks.items start ≢ Mark.New) }
+        ensures reached_before { IfOk result (λ _. (p : ℕ)
+            → mark_at self.old.marks.items p ≢ Mark.New
+            → mark_at self.new.marks.items p ≢ Mark.New) }
+    {
+        let mut to = Some(start);
+        'up: while let Some(at) = to {
+            if !self.is_new(at) {
+                break;
+            }
+            self.path.push(at)?;
+            self.marks[at] = Mark::Met;
+            to = next[at];
+        }
+        Ok(to)
+    }
+
+    /// Whether there is such a place, and it is new.
+    fn is_new(&self, place: usize) -> bool
+        ensures new { IsTrue result
+            ↔ ((place < vec_len self.now.marks) × (mark_at self.now.marks.items place ≡ Mark.New)) }
+    {
+        matches!(self.marks.get(place), Some(Mark::New))
+    }
+
+    /// Whether a climb that stopped here has come to an end of its chain.
+    fn has_ended(&self, to: Option<usize>) -> bool
+        ensures met { result ≡ false → (p : ℕ) × (to ≡ Some p)
+            × (mark_at self.now.marks.items p ≡ Mark.Met) }
+        ensures other { result ≡ true → (p : ℕ) → to ≡ Some p
+            → mark_at self.now.marks.items p ≢ Mark.Met }
+    {
+        match to {
+            None => true,
+            Some(at) => !matches!(self.marks.get(at), Some(Mark::Met)),
+        }
+    }
+
+    /// Climbs from a place, and puts the places of the path into the order, the last one first, if
+    /// their chain ends.
+    fn visit(&mut self, next: &[Option<usize>], start: usize) -> Result<(), AllocError>
+        requires kept { Keeps next.now self.old.marks.items self.old.order.items
+            self.old.path.items }
+        requires at_start { self.old.path.items ≡ [] }
+        requires inside { start < length next.now }
+        ensures kept { IfOk result (λ _.
+            Keeps next.now self.new.marks.items self.new.order.items self.new.path.items) }
+        ensures at_end { IfOk result (λ _. self.new.path.items ≡ []) }
+        ensures reached { IfOk result (λ _. mark_at self.new.marks.items start ≢ Mark.New) }
+        ensures reached_before { IfOk result (λ _. (p : ℕ)
+            → mark_at self.old.marks.items p ≢ Mark.New
+            → mark_at self.new.marks.items p ≢ Mark.New) }
+    {
+        let to = self.climb(next, start)?;
+        if !self.has_ended(to) {
+            self.path.clear();
+            return Ok(());
+        }
+        'down: while let Some(place) = self.path.pop() {
+            self.order.push(place)?;
+            self.marks[place] = Mark::Settled;
+        }
+        Ok(())
+    }
+}
