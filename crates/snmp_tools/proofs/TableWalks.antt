@@ -196,24 +196,17 @@ all_are : (mib : Mib) (before after : Stream) (rows : List VarBind) (text : List
 all_are mib before after rows text none (shown, are, whole) written =
     written ∙ ap (extended before) (whole ∙ append-nil shown ∙ lines_are mib none rows shown are)
 
-no_front : (front rest : List ℕ) → [] ≡ front ++ rest → front ≡ []
-no_front [] rest e = refl
-no_front (octet ∷ front) rest e = let no : ⊥ = cc in absurd no
-
--- nothing is taken of no warnings
-same_taken : (before now : Stream) → (now ≡ before) ⊎ IsWritten before [] now → now.taken ≡ before.taken
-same_taken before now (inl same) = ap (λ (s : Stream). s.taken) same
-same_taken before now (inr (inl whole)) = ap (λ (s : Stream). s.taken) (whole ∙ extended-nil before)
-same_taken before now (inr (inr failed)) =
-    failed.begun.taken ∙ ap (appended before.taken) (no_front failed.begun.front failed.begun.rest failed.begun.parts)
-    ∙ ap (λ (s : Stream). s.taken) (extended-nil before)
+-- no warnings are no octets
+no_warnings : (before now : Stream) → (now ≡ before) ⊎ IsWritten before [] now → IsWritten before [] now
+no_warnings before now (inl same) = inl (same ∙ sym (extended-nil before))
+no_warnings before now (inr written) = written
 
 mishap_is : (before after err_before err_after : Stream) (status : ℕ) → (status ≡ 0) ⊎ IsMishap [] before after err_before err_after status
     → (status ≡ 0) ⊎ ((status ≡ 1) × (HasRisen before.faults after.faults ⊎ IsOutOfMemoryTold err_before err_after))
 mishap_is before after err_before err_after status (inl zero_status) = inl zero_status
 mishap_is before after err_before err_after status (inr (one, inl risen)) = inr (one, inl risen)
 mishap_is before after err_before err_after status (inr (one, inr (now, told, same))) =
-    inr (one, inr (now, same_taken err_before now same, told))
+    inr (one, inr (now, no_warnings err_before now same, told))
 
 -- ---- what is needed
 

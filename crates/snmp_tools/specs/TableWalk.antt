@@ -72,10 +72,10 @@ pub data AreWalked (lines : List (List ℕ)) (root : List ℕ) (rows : List VarB
 
 -- ---- what is printed
 
--- that memory ran out is told on standard error, which took nothing before that
+-- standard error was given no octet, and then that memory ran out
 abbrev pub IsOutOfMemoryTold : (before after : Stream) → Type 0
 IsOutOfMemoryTold before after =
-    (now : Stream) × (now.taken ≡ before.taken) × IsWritten now (codes "Out of memory.\n") after
+    (now : Stream) × IsWritten before [] now × IsWritten now (codes "Out of memory.\n") after
 
 -- the lines of the rows are printed, and the status says whether that was done
 pub record PrintsRows (lines : List (List ℕ)) (root : List ℕ)
