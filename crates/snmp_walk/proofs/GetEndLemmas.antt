@@ -13,7 +13,8 @@ use Rattle.snmp_wire.specs.Canon.{canon}
 use Rattle.snmp_wire.specs.Message.{Message, VarBind, end_of_mib_view}
 use Rattle.snmp_walk.specs.Facts.{IsDone}
 use Rattle.snmp_walk.specs.Get.{AreFor, AreForNames, IsEndOfGet, IsReasonOfGet, MeansToGet, answers_of, are_for}
-use Rattle.snmp_walk.specs.Link.{OneOf}
+use Rattle.snmp_walk.specs.Link.{OneOf, Outcome}
+use Rattle.snmp_walk.specs.Link as outcome
 use Rattle.snmp_walk.specs.Names.{is_end}
 use Rattle.snmp_walk.specs.Sink.{Given, Took}
 use Rattle.snmp_walk.specs.declared.end.SinkFault.{SinkFault}
@@ -143,27 +144,28 @@ module _ {S : Type 0} (takes : S → VarBind → Result (Unit {0}) SinkFault →
   took (is_silent is none none_refused same) = subst TookAt (sym is) (given_none none same, none_refused)
   took (is_cut is none none_refused same) = subst TookAt (sym is) (given_none none same, none_refused)
 
-  abbrev Reason : WalkEnd → Type 0
-  Reason why = IsReasonOfGet From names rows refused why
-
   none_at_all : rows ≡ [] → refused ≡ [] → rows ++ refused ≡ []
   none_at_all none none_refused = ap (λ (r : List VarBind). r ++ refused) none ∙ none_refused
 
-  pub reason_of : GetEnds takes request names From before rows refused end after → Reason end
-  reason_of (gives m from is none given done) = subst Reason (sym done) (m, from, means_to_get names m _ is, none)
-  reason_of (is_refused m p more fault between from is one given turned done) = subst Reason (sym done) (m, p, more, from, means_to_get names m _ is, one)
-  reason_of (fails m from is none none_refused same) = by_end (read_end names m end is)
-    where
-      by_end : (end ≡ ending.BadReply) ⊎ ((int_eq m.a (pos 0) ≡ false) × (end ≡ ending.Fault m.a m.b)) → Reason end
-      by_end (inl bad) =
-          let read = is ∙ ap Err bad in
-          subst Reason (sym bad) (m, from, means_to_get names m _ read, none_at_all none none_refused)
-      by_end (inr fault) =
-          let read = is ∙ ap Err fault.1 in
-          subst Reason (sym fault.1) (m, from, means_to_get names m _ read, none_at_all none none_refused)
-  reason_of (is_too_long long is none none_refused same) = subst Reason (sym is) (none_at_all none none_refused)
-  reason_of (is_silent is none none_refused same) = subst Reason (sym is) (none_at_all none none_refused)
-  reason_of (is_cut is none none_refused same) = subst Reason (sym is) (none_at_all none none_refused)
+  module _ (Tried : Outcome → Type 0) (silent : end ≡ ending.NoResponse → Tried outcome.missed) (cut : end ≡ ending.Link → Tried outcome.cut_off) where
+    abbrev Reason : WalkEnd → Type 0
+    Reason why = IsReasonOfGet Tried From names rows refused why
+
+    pub reason_of : GetEnds takes request names From before rows refused end after → Reason end
+    reason_of (gives m from is none given done) = subst Reason (sym done) (m, from, means_to_get names m _ is, none)
+    reason_of (is_refused m p more fault between from is one given turned done) = subst Reason (sym done) (m, p, more, from, means_to_get names m _ is, one)
+    reason_of (fails m from is none none_refused same) = by_end (read_end names m end is)
+      where
+        by_end : (end ≡ ending.BadReply) ⊎ ((int_eq m.a (pos 0) ≡ false) × (end ≡ ending.Fault m.a m.b)) → Reason end
+        by_end (inl bad) =
+            let read = is ∙ ap Err bad in
+            subst Reason (sym bad) (m, from, means_to_get names m _ read, none_at_all none none_refused)
+        by_end (inr fault) =
+            let read = is ∙ ap Err fault.1 in
+            subst Reason (sym fault.1) (m, from, means_to_get names m _ read, none_at_all none none_refused)
+    reason_of (is_too_long long is none none_refused same) = subst Reason (sym is) (none_at_all none none_refused)
+    reason_of (is_silent is none none_refused same) = subst Reason (sym is) (silent is, none_at_all none none_refused)
+    reason_of (is_cut is none none_refused same) = subst Reason (sym is) (cut is, none_at_all none none_refused)
 
   module _ (some : names ≢ []) (long : 65507 < length (canon request) → end ≡ ending.RequestTooLong) where
     abbrev Ends : WalkEnd → Type 0

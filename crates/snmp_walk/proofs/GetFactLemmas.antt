@@ -68,10 +68,10 @@ use Rattle.snmp_walk.proofs.JoinLemmas.{get_one}
 use Rattle.snmp_walk.proofs.GotLemmas.{asked_alone}
 use Rattle.snmp_walk.proofs.GetEndLemmas.{GetEnds, gives, is_refused, fails, is_too_long, is_silent, is_cut, for_names, for_none, reason_of, took}
 use Rattle.snmp_walk.proofs.MoveLemmas.{moves_as, moves_none, tries_as}
-use Rattle.snmp_walk.specs.Link.{ComesOver}
-use Rattle.snmp_walk.specs.Missed.{AreMissed, IsNotAwaited}
+use Rattle.snmp_walk.specs.Link.{Outcome}
+use Rattle.snmp_walk.specs.Link as outcome
 use Rattle.snmp_walk.specs.Moved.{IsMoved, IsMovedByTries}
-use Rattle.snmp_walk.specs.Ran.{IsFreshAndHonest, IsGotOver, IsRun}
+use Rattle.snmp_walk.specs.Ran.{IsFreshAndHonest, IsGetTried, IsGotOver, IsRun}
 use Rattle.snmp_walk.specs.declared.link.Link.{Ghosts as LinkFacts}
 
 -- what is given name by name
@@ -338,11 +338,11 @@ module _ (codec : Codec) (agents : Agents) (lawful : AreLawful agents) (tries : 
         one_got view one_good names rows all (subst (λ (w : MibView). AreGot w names rows) (only_one view v agents.tables one_view one) h) are
 
   -- the facts, by how the Get ended
-  module _ (honest : Type 0) (is_honest : honest) (Comes : List ℕ → Type 0) {S : Type 0} (takes : S → VarBind → Result (Unit {0}) SinkFault → S
+  module _ (honest : Type 0) (is_honest : honest) (Tried : Outcome → Type 0) {S : Type 0} (takes : S → VarBind → Result (Unit {0}) SinkFault → S
       → Type 0) (before after : S)
       (rows refused : List VarBind) (end : WalkEnd) (lost : end ≡ ending.NoResponse → IsLostGet agents tries old (canon Request) new) where
     abbrev Brought : Message → Type 0
-    Brought m = IsBrought Comes agents honest community id names m
+    Brought m = IsBrought Tried agents honest community id names m
 
     abbrev Facts : Type 0
     Facts = GetFacts agents tries old Request names rows refused end new
@@ -461,8 +461,11 @@ module _ {W S : Type 0} (facts : LinkFacts W) (link : W) (tries : ℕ) (communit
   abbrev Asked : Message
   Asked = get_request community id names
 
-  abbrev From : Message → Type 0
-  From m = IsBrought (ComesOver facts.brings) (facts.agents link) (IsFreshAndHonest facts link) community id names m
+  abbrev Tried : W → Outcome → Type 0
+  Tried after = IsGetTried facts link after tries community id names
+
+  abbrev From : W → Message → Type 0
+  From after m = IsBrought (Tried after) (facts.agents link) (IsFreshAndHonest facts link) community id names m
 
   abbrev Sent : W → WalkEnd → Type 0
   Sent after end = facts.keeps link → (times : ℕ) × (times ≤ tries)
@@ -508,7 +511,7 @@ module _ {W S : Type 0} (facts : LinkFacts W) (link : W) (tries : ℕ) (communit
     facts = record {
       named = for_none Asked names none;
       reason = λ some. absurd (some none);
-      missed = λ silent. let no : ⊥ = cc in absurd no;
+      unasked = λ _. refl;
       sent = sent_none (ending.Done 0) (λ silent. cc) (λ some. absurd (some none));
       judged = λ fresh. record {
         beginning = λ view all one are. ([], none_got view names all none are);
@@ -523,23 +526,27 @@ module _ {W S : Type 0} (facts : LinkFacts W) (link : W) (tries : ℕ) (communit
 
   -- by the way in which it ended
   pub got_over : Codec → (facts.honest link → AreLawful (facts.agents link)) → 0 < tries → names ≢ [] → (length (canon Asked) ≤ 65507 → Spells Asked (canon Asked))
-      → (after : W) (sunk : S) (rows refused : List VarBind) (end : WalkEnd) → GetEnds takes Asked names From before rows refused end sunk
+      → (after : W) (sunk : S) (rows refused : List VarBind) (end : WalkEnd) → GetEnds takes Asked names (From after) before rows refused end sunk
       → (end ≡ ending.NoResponse → IsFreshAndHonest facts link → IsLostGet (facts.agents link) tries (facts.traffic link) (canon Asked) (facts.traffic after))
       → (65507 < length (canon Asked) → end ≡ ending.RequestTooLong)
-      → (end ≡ ending.NoResponse → AreMissed facts.sends facts.brings facts.is_silent (IsNotAwaited community id) (canon Asked) tries link after)
-      → Sent after end → HasMoved after end
+      → (end ≡ ending.NoResponse → Tried after outcome.missed) → (end ≡ ending.Link → Tried after outcome.cut_off)
+      → (end ≡ ending.RequestTooLong → after ≡ link) → Sent after end → HasMoved after end
       → IsRun takes before end sunk (λ given refused. IsGotOver facts link after tries community id names given refused end)
-  got_over codec lawful some named own after sunk rows refused end ends lost long missed sent moved = record {
+  got_over codec lawful some named own after sunk rows refused end ends lost long silent cut unasked sent moved = record {
     rows = rows;
     refused = refused;
-    took = took takes Asked names From before sunk rows refused end ends;
+    took = took takes Asked names (From after) before sunk rows refused end ends;
     facts = record {
-      named = for_names takes Asked names From before sunk rows refused end named long ends;
-      reason = λ _. reason_of takes Asked names From before sunk rows refused end ends;
-      missed = missed;
+      named = for_names takes Asked names (From after) before sunk rows refused end named long ends;
+      reason = λ _. reason_of takes Asked names (From after) before sunk rows refused end (Tried after) silent cut ends;
+      unasked = by_cause;
       sent = sent;
       judged = λ fresh. get_facts codec (facts.agents link) (lawful fresh.0) tries some (facts.traffic link) (facts.traffic after) community id names own
-          (IsFreshAndHonest facts link) fresh (ComesOver facts.brings) takes before sunk rows refused end (λ silent. lost silent fresh) ends;
+          (IsFreshAndHonest facts link) fresh (Tried after) takes before sunk rows refused end (λ silent. lost silent fresh) ends;
       moved = moved;
     };
   }
+    where
+      by_cause : (names ≡ []) ⊎ (end ≡ ending.RequestTooLong) → after ≡ link
+      by_cause (inl none) = absurd (named none)
+      by_cause (inr long) = unasked long

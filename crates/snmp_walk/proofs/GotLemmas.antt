@@ -11,7 +11,8 @@ use Rattle.snmp_walk.specs.Codec.{Codec}
 use Rattle.snmp_agent.specs.table.Table.{MibView, IsMibView, IsGet}
 use Rattle.snmp_agent.specs.Reply.{response, AreAnswers, got, got_next, unwritten, Fits, IsResponse, whole, shortened, bulk}
 use Rattle.snmp_walk.specs.Taken.{awaits}
-use Rattle.snmp_walk.specs.Link.{Agents, OneOf, AreLawful, IsReplyFrom}
+use Rattle.snmp_walk.specs.Link.{Agents, OneOf, AreLawful, IsReplyFrom, Outcome}
+use Rattle.snmp_walk.specs.Link as outcome
 use Rattle.snmp_walk.specs.Heard.{IsAsked}
 use Rattle.snmp_walk.specs.declared.end.SinkFault.{SinkFault}
 use Rattle.snmp_walk.specs.declared.rows.Step.{Step}
@@ -104,13 +105,13 @@ module _ (codec : Codec) (community : List ℕ) (id : ℕ) (names : List (List �
   }
 
   -- the message that was heard
-  pub brought : {W S : Type 0} (Comes : List ℕ → Type 0) (agents : Agents) (honest : Type 0) → (honest → AreLawful agents) → (q : List ℕ)
+  pub brought : {W S : Type 0} (Tried : List ℕ → Outcome → Type 0) (agents : Agents) (honest : Type 0) → (honest → AreLawful agents) → (q : List ℕ)
       → q ≡ canon (get_request community id names)
       → (sent : List (List ℕ)) (reads : Message → Step → W → Type 0) (takes : S → VarBind → Result (Unit {0}) SinkFault → S → Type 0) (before : S)
       (what : Heard) (new : W) (after : S)
-      → (r : IsRead Comes (λ octets. honest → IsAsked agents community id q sent → IsReplyFrom agents q octets) community id reads takes before what new after)
-      → IsBrought Comes agents (honest × (sent ≡ [])) community id names r.is_read.message
-  brought Comes agents honest lawful q is sent reads takes before what new after here =
+      → (r : IsRead (λ octets. Tried q (outcome.answered octets)) (λ octets. honest → IsAsked agents community id q sent → IsReplyFrom agents q octets) community id reads takes before what new after)
+      → IsBrought (Tried (canon (get_request community id names))) agents (honest × (sent ≡ [])) community id names r.is_read.message
+  brought Tried agents honest lawful q is sent reads takes before what new after here =
       let m : Message = here.is_read.message in (
         (response_to_decided community id m).0 here.is_read.awaited,
         λ h.
@@ -118,5 +119,5 @@ module _ (codec : Codec) (community : List ℕ) (id : ℕ) (names : List (List �
             let a = answered agents (lawful h.0) here.datagram (subst (λ (x : List ℕ). IsReplyFrom agents x here.datagram) is r) in
             let same = (codec.one a.message m here.datagram here.datagram [] [] a.spelt here.is_read.spelt refl).0 in
             (a.view, a.one, a.named, subst (IsResponse a.view agents.max_size (get_request community id names)) same a.is_response),
-        (here.datagram, here.comes, here.is_read.spelt),
+        (here.datagram, subst (λ (x : List ℕ). Tried x (outcome.answered here.datagram)) is here.comes, here.is_read.spelt),
       )

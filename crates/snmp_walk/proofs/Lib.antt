@@ -31,7 +31,7 @@ pub mod FullLemmas
 pub mod ArenaLemmas
 pub mod MemoryLemmas
 pub mod HearLemmas
-mod MissedLemmas
+mod TryLemmas
 pub mod TriedLemmas
 pub mod GetLemmas
 pub mod GotLemmas

@@ -121,11 +121,17 @@ module _ {W : Type 0} (facts : LinkFacts W) where
     ready = λ s o r. let left = m.ready s o (long, r) in (left.0, left.1.1);
   }
 
-  -- one more receive, whose failure is said in other words
+  -- a receive whose failure is said in other words
+  pub receive_as : {old new : W} {n : ℕ} {failed other : Type 0} → 65507 ≤ n → (failed → other) → (other → failed)
+      → Moves facts.keeps facts.honest facts.agents facts.traffic facts.fault_count (λ link s o. (65507 ≤ n) × facts.ready link s o) old [] failed new
+      → IsMoved facts old [] other new
+  receive_as long there back m = moves_as there back (received long m)
+
+  -- one more receive
   pub receives_on : {old between new : W} {n : ℕ} {failed other : Type 0} → 65507 ≤ n → (failed → other) → (other → failed) → IsMoved facts old [] ⊥ between
       → Moves facts.keeps facts.honest facts.agents facts.traffic facts.fault_count (λ link s o. (65507 ≤ n) × facts.ready link s o) between [] failed new
       → IsMoved facts old [] other new
-  receives_on long there back m n = moves_on m (moves_as there back (received long n))
+  receives_on long there back m n = moves_on m (receive_as long there back n)
 
   -- one try more
   pub tries_on : {old between new : W} {q : List ℕ} {failed : Type 0} (n : ℕ) → IsMoved facts old (replicate n q) ⊥ between

@@ -10,7 +10,8 @@ use Rattle.snmp_walk.specs.Walker.{Walker, IsWalker}
 use Rattle.snmp_walk.specs.Request.{request_of}
 use Rattle.snmp_walk.specs.Taken.{is_over, awaits}
 use Rattle.snmp_walk.specs.Standing.{IsReplyTo}
-use Rattle.snmp_walk.specs.Link.{Agents, IsNextFrom, IsGotFrom, IsTooLarge, AreLawful, IsReplyFrom}
+use Rattle.snmp_walk.specs.Link.{Agents, IsNextFrom, IsGotFrom, IsTooLarge, AreLawful, IsReplyFrom, Outcome}
+use Rattle.snmp_walk.specs.Link as outcome
 use Rattle.snmp_walk.specs.Heard.{IsAsked, Exchanges, IsSentBefore, IsEarlier}
 use Rattle.snmp_walk.specs.Traffic.{Traffic}
 use Rattle.snmp_walk.specs.Run.{IsHeard, IsFullReply}
@@ -34,13 +35,13 @@ other_id community id m other less e = false_from_ne_true (awaits community id m
     absurd (omega (arith, less, numbers)))
 
 -- what was heard
-heard_of : Codec → (Comes : List ℕ → Type 0) (agents : Agents) (honest : Type 0) (w : Walker) (m : Message) (datagram : List ℕ) → is_over w.phase ≡ false
+heard_of : Codec → (Tried : Outcome → Type 0) (agents : Agents) (honest : Type 0) (w : Walker) (m : Message) (datagram : List ℕ) → is_over w.phase ≡ false
     → IsWalker w
-    → Comes datagram → Spells m datagram → awaits w.community w.id m ≡ true
-    → (honest → AreLawful agents × IsReplyFrom agents (canon (request_of w)) datagram) → IsHeard Comes agents honest w m
-heard_of codec Comes agents honest w m datagram waits good comes spelt awaited reply = record {
+    → Tried (outcome.answered datagram) → Spells m datagram → awaits w.community w.id m ≡ true
+    → (honest → AreLawful agents × IsReplyFrom agents (canon (request_of w)) datagram) → IsHeard Tried agents honest w m
+heard_of codec Tried agents honest w m datagram waits good tried spelt awaited reply = record {
   datagram = datagram;
-  comes = comes;
+  tried = tried;
   spelt = spelt;
   awaited = and_from (not (is_over w.phase)) (awaits w.community w.id m) (ap not waits) awaited;
   from = λ h.
@@ -87,13 +88,14 @@ module _ (codec : Codec) (agents : Agents) (honest : Type 0) (w : Walker) (q : L
   asked_by sent h earlier = subst (λ (x : List ℕ). IsAsked agents w.community w.id x sent) (sym is) (asked_of codec agents sent w (lawful h) good waits earlier)
 
   -- the reply that was read is the one that was waited for
-  pub heard_by : {W S : Type 0} (Comes : List ℕ → Type 0) (sent : List (List ℕ)) (reads : Message → Step → W → Type 0)
+  pub heard_by : {W S : Type 0} (Tried : List ℕ → Outcome → Type 0) (sent : List (List ℕ)) (reads : Message → Step → W → Type 0)
       (takes : S → VarBind → Result (Unit {0}) SinkFault → S → Type 0) (before : S) (what : Heard) (new : W) (after : S)
-      → (r : IsRead Comes (λ octets. honest → IsAsked agents w.community w.id q sent → IsReplyFrom agents q octets) w.community w.id reads takes before what
+      → (r : IsRead (λ octets. Tried q (outcome.answered octets)) (λ octets. honest → IsAsked agents w.community w.id q sent → IsReplyFrom agents q octets) w.community w.id reads takes before what
       new after)
-      → IsHeard Comes agents (honest × IsEarlier sent w) w r.is_read.message
-  heard_by Comes sent reads takes before what new after r =
-      heard_of codec Comes agents (honest × IsEarlier sent w) w r.is_read.message r.datagram waits good r.comes r.is_read.spelt r.is_read.awaited
+      → IsHeard (Tried (canon (request_of w))) agents (honest × IsEarlier sent w) w r.is_read.message
+  heard_by Tried sent reads takes before what new after r =
+      heard_of codec (Tried (canon (request_of w))) agents (honest × IsEarlier sent w) w r.is_read.message r.datagram waits good
+      (subst (λ (x : List ℕ). Tried x (outcome.answered r.datagram)) is r.comes) r.is_read.spelt r.is_read.awaited
       (λ h. (lawful h.0, subst (λ (x : List ℕ). IsReplyFrom agents x r.datagram) is (r.reply h.0 (asked_by sent h.0 h.1))))
 
   pub exchanged_by : (tries : ℕ) (old : Traffic) (silent same_silent failed same_failed : Type 0) (new : Traffic)

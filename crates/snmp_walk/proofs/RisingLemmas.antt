@@ -8,9 +8,10 @@ use Rattle.snmp_walk.specs.declared.end.WalkEnd.{WalkEnd}
 use Rattle.snmp_walk.specs.declared.end.WalkEnd.TheVariants as ending
 use Rattle.snmp_walk.specs.Names.{is_end, is_missing, comes_after}
 use Rattle.snmp_walk.specs.Walker.{Walker}
+use Rattle.snmp_walk.specs.Link.{Outcome}
 use Rattle.snmp_walk.specs.Trail.{IsTrail}
 use Rattle.snmp_walk.specs.Standing.{IsOpening, IsPartOfWalk, Rises, Named, IsReplyEnd, CountsAll}
-use Rattle.snmp_walk.specs.Facts.{IsReadSo, IsEndOfRun, EndFacts}
+use Rattle.snmp_walk.specs.Facts.{IsAskedLast, IsReadSo, IsEndOfRun, EndFacts}
 use Rattle.snmp_walk.proofs.TableLemmas.{after_more}
 use Rattle.snmp_walk.proofs.AnyLemmas.{rising_answers}
 use Rattle.snmp_walk.proofs.RowLemmas.{AreAfter, AreRising, AreLawfulReplies}
@@ -49,23 +50,24 @@ part_rises Next Got laws first given (inr (inl h)) =
 part_rises Next Got laws first given (inr (inr h)) = subst AreRising (sym h.only) (tt, tt)
 
 -- an end that replies lead to is read so
-pub read_end : (Comes : List ℕ → Type 0) (Sent : Walker → Type 0) (first : Walker) (rows refused : List VarBind) (end : WalkEnd) → IsReplyEnd end
-    → IsReadSo Comes Sent first rows end → IsEndOfRun Comes Sent first rows refused end
-read_end Comes Sent first rows refused (ending.Done n) own h = h
-read_end Comes Sent first rows refused (ending.Fault a b) own h = h
-read_end Comes Sent first rows refused (ending.NoProgress o) own h = h
-read_end Comes Sent first rows refused ending.BadReply own h = h
-read_end Comes Sent first rows refused (ending.NotIncreasing o p) own h = h
-read_end Comes Sent first rows refused ending.TooManyRequests own h = h
-read_end Comes Sent first rows refused ending.RequestTooLong own h = absurd own
-read_end Comes Sent first rows refused ending.NoResponse own h = absurd own
-read_end Comes Sent first rows refused ending.Link own h = absurd own
-read_end Comes Sent first rows refused (ending.Sink fault) own h = absurd own
+pub read_end : (Asked : Outcome → Walker → List VarBind → Type 0) (refused : List VarBind) (end : WalkEnd) → IsReplyEnd end
+    → IsReadSo Asked end → IsEndOfRun Asked refused end
+read_end Asked refused (ending.Done n) own h = h
+read_end Asked refused (ending.Fault a b) own h = h
+read_end Asked refused (ending.NoProgress o) own h = h
+read_end Asked refused ending.BadReply own h = h
+read_end Asked refused (ending.NotIncreasing o p) own h = h
+read_end Asked refused ending.TooManyRequests own h = h
+read_end Asked refused ending.RequestTooLong own h = absurd own
+read_end Asked refused ending.NoResponse own h = absurd own
+read_end Asked refused ending.Link own h = absurd own
+read_end Asked refused (ending.Sink fault) own h = absurd own
 
-pub end_facts : ((o p : List ℕ) → comes_after o p ≡ true → Precedes o p) → (Comes : List ℕ → Type 0) (Sent : Walker → Type 0) (first : Walker) (rows refused : List VarBind) (end : WalkEnd)
+pub end_facts : ((o p : List ℕ) → comes_after o p ≡ true → Precedes o p) → {L : Type 0} (Tried : Walker → L → Outcome → L → Type 0)
+    (Sent : Walker → Type 0) (first : Walker) (old new : L) (rows refused : List VarBind) (end : WalkEnd)
     → IsPartOfWalk Rises Named first (rows ++ refused) → CountsAll end rows
-    → IsEndOfRun Comes Sent first rows refused end → EndFacts Comes Sent first rows refused end
-end_facts precedes Comes Sent first rows refused end part counts reason = record {
+    → IsEndOfRun (IsAskedLast Tried Sent first old rows new) refused end → EndFacts Tried Sent first old rows refused end new
+end_facts precedes Tried Sent first old new rows refused end part counts reason = record {
   rising = ordered_from_rising precedes (rows ++ refused) (part_rises Rises Named rising_answers first (rows ++ refused) part);
   counted = counts;
   reason = reason;

@@ -38,17 +38,7 @@ module _ {W : Type 0} (facts : LinkFacts W) where
     short = omega arith;
   }
 
-  -- more rows were given
-  abbrev pub moved_given : {link now : W} {failed : Type 0} (tries : ℕ) (first : Walker) (given rows : List VarBind)
-      → IsMovedByRequests facts tries first given link failed now → IsMovedByRequests facts tries first (given ++ rows) link failed now
-  moved_given tries first given rows h = record {
-    requests = h.requests;
-    are_tries = tries_more tries first given rows first.id h.requests h.are_tries;
-    each_tried = h.each_tried;
-    moved = h.moved;
-  }
-
-  -- and its failure is said in other words
+  -- the same, where its failure is said in other words
   pub requests_as : {link now : W} {tries : ℕ} {first : Walker} {given : List VarBind} {failed other : Type 0} → (failed → other) → (other → failed)
       → IsMovedByRequests facts tries first given link failed now → IsMovedByRequests facts tries first given link other now
   requests_as there back h =

@@ -12,7 +12,8 @@ use Rattle.snmp_walk.specs.declared.rows.Step.TheVariants as step
 use Rattle.snmp_walk.specs.Walker.{Walker}
 use Rattle.snmp_walk.specs.Taken.{is_over, is_awaited, stops, goes_on, closes, reads, reads_next, got, reads_first, reads_last, reads_for, reads_reply, take_of}
 use Rattle.snmp_walk.specs.Standing.{IsReplyEnd}
-use Rattle.snmp_walk.specs.Link.{Agents}
+use Rattle.snmp_walk.specs.Link.{Agents, Outcome}
+use Rattle.snmp_walk.specs.Link as outcome
 use Rattle.snmp_walk.specs.declared.end.SinkFault.{SinkFault}
 use Rattle.snmp_wire.specs.Spelling.{Spells}
 use Rattle.snmp_walk.specs.Run.{IsHeard, IsFrom, Turns, goes_on as turn_on, ends, is_refused}
@@ -74,24 +75,24 @@ news_by w m true e waits = reply_news w m waits
 news_by w m false e waits = absurd (false≢true e)
 
 -- a message was taken
-pub record IsTaken (Comes : List ℕ → Type 0) (agents : Agents) (honest : Type 0) (w : Walker) (given : Step) (new : Walker) : Type 0 where
+pub record IsTaken (Tried : Outcome → Type 0) (agents : Agents) (honest : Type 0) (w : Walker) (given : Step) (new : Walker) : Type 0 where
   pub message : Message
   pub datagram : List ℕ
-  pub comes : Comes datagram
+  pub tried : Tried (outcome.answered datagram)
   pub spelt : Spells message datagram
   pub from : IsFrom agents honest w message
   pub given_is : given ≡ (take_of w message).0
   pub new_is : new ≡ (take_of w message).1
   pub news : HasNews given
 
-taken_message : (Comes : List ℕ → Type 0) (agents : Agents) (honest : Type 0) (w : Walker) (m : Message) (datagram : List ℕ) (given : Step)
+taken_message : (Tried : Outcome → Type 0) (agents : Agents) (honest : Type 0) (w : Walker) (m : Message) (datagram : List ℕ) (given : Step)
     (new : Walker) → is_over w.phase ≡ false
-    → Comes datagram → Spells m datagram → is_awaited w m ≡ true → IsFrom agents honest w m
-    → given ≡ (take_of w m).0 → new ≡ (take_of w m).1 → IsTaken Comes agents honest w given new
-taken_message Comes agents honest w m datagram given new waits comes spelt awaited from e f = record {
+    → Tried (outcome.answered datagram) → Spells m datagram → is_awaited w m ≡ true → IsFrom agents honest w m
+    → given ≡ (take_of w m).0 → new ≡ (take_of w m).1 → IsTaken Tried agents honest w given new
+taken_message Tried agents honest w m datagram given new waits tried spelt awaited from e f = record {
   message = m;
   datagram = datagram;
-  comes = comes;
+  tried = tried;
   spelt = spelt;
   from = from;
   given_is = e;
@@ -99,11 +100,11 @@ taken_message Comes agents honest w m datagram given new waits comes spelt await
   news = subst HasNews (sym e) (news_by w m (is_awaited w m) awaited waits);
 }
 
-pub is_taken : (Comes : List ℕ → Type 0) (agents : Agents) (honest : Type 0) (w : Walker) (m : Message) (given : Step) (new : Walker)
+pub is_taken : (Tried : Outcome → Type 0) (agents : Agents) (honest : Type 0) (w : Walker) (m : Message) (given : Step) (new : Walker)
     → is_over w.phase ≡ false
-    → IsHeard Comes agents honest w m → (given, new) ≡ take_of w m → IsTaken Comes agents honest w given new
-is_taken Comes agents honest w m given new waits h taken =
-    taken_message Comes agents honest w m h.datagram given new waits h.comes h.spelt h.awaited h.from
+    → IsHeard Tried agents honest w m → (given, new) ≡ take_of w m → IsTaken Tried agents honest w given new
+is_taken Tried agents honest w m given new waits h taken =
+    taken_message Tried agents honest w m h.datagram given new waits h.tried h.spelt h.awaited h.from
     (ap (λ (x : Step × Walker). x.0) taken) (ap (λ (x : Step × Walker). x.1) taken)
 
 -- where a result is None or an error, what holds then
@@ -115,6 +116,10 @@ if_silent (Err x) o P e f h = let no : ⊥ = cc in absurd no
 pub if_cut : {X E : Type 0} (r : Result X E) (e : E) (P : Type 0) → r ≡ Err e → OnErr r P → P
 if_cut (Ok x) e P f h = let no : ⊥ = cc in absurd no
 if_cut (Err x) e P f h = h
+
+pub on_cut : {X E : Type 0} (r : Result X E) (P : Type 0) → P → OnErr r P
+on_cut (Ok x) P h = tt
+on_cut (Err x) P h = h
 
 pub if_some : {X : Type 0} (o : Option X) (P : X → Type 0) (x : X) → o ≡ Some x → IfSome o P → P x
 if_some None P x e h = let no : ⊥ = cc in absurd no
@@ -138,25 +143,25 @@ module _ {S : Type 0} (takes : S → VarBind → Result (Unit {0}) SinkFault →
   has_end given what (delivered_last rows why e f g) news = subst HasEnd (sym f) (reply_has_end why (subst HasNews e news))
   has_end given what (delivered_part fault rows p left between e f g k) news = subst HasEnd (sym f) (sink_has_end fault)
 
-  turned : (Comes : List ℕ → Type 0) (agents : Agents) (honest : Type 0) (w : Walker) (given : Step) (new : Walker) (what : Heard)
-      → IsTaken Comes agents honest w given new → Delivers takes given s what t → (r : List VarBind) × Turns takes Comes agents honest w s r (end_of what) new t
-  turned Comes agents honest w given new what h (is_stray e f g) = absurd (subst HasNews e h.news)
-  turned Comes agents honest w given new what h (delivered_on rows e f g) =
-      (rows, turn_on h.message h.datagram h.from h.comes h.spelt (sym h.given_is ∙ e) h.new_is g (ap end_of f))
-  turned Comes agents honest w given new what h (delivered_last rows why e f g) =
-      (rows, ends h.message h.datagram why h.from h.comes h.spelt (sym h.given_is ∙ e) g (ap end_of f))
-  turned Comes agents honest w given new what h (delivered_part fault rows p left between e f g k) =
-      (rows, is_refused h.message h.datagram fault p left between h.from h.comes h.spelt (ap rows_in (sym h.given_is) ∙ e) g k (ap end_of f))
+  turned : (Tried : Outcome → Type 0) (agents : Agents) (honest : Type 0) (w : Walker) (given : Step) (new : Walker) (what : Heard)
+      → IsTaken Tried agents honest w given new → Delivers takes given s what t → (r : List VarBind) × Turns takes Tried agents honest w s r (end_of what) new t
+  turned Tried agents honest w given new what h (is_stray e f g) = absurd (subst HasNews e h.news)
+  turned Tried agents honest w given new what h (delivered_on rows e f g) =
+      (rows, turn_on h.message h.datagram h.from h.tried h.spelt (sym h.given_is ∙ e) h.new_is g (ap end_of f))
+  turned Tried agents honest w given new what h (delivered_last rows why e f g) =
+      (rows, ends h.message h.datagram why h.from h.tried h.spelt (sym h.given_is ∙ e) g (ap end_of f))
+  turned Tried agents honest w given new what h (delivered_part fault rows p left between e f g k) =
+      (rows, is_refused h.message h.datagram fault p left between h.from h.tried h.spelt (ap rows_in (sym h.given_is) ∙ e) g k (ap end_of f))
 
   -- a turn by a reply that was read, and how it doesn't end
-  pub turns_of : (Comes : List ℕ → Type 0) (agents : Agents) (honest : Type 0) (w : Walker) (m : Message) (given : Step) (new : Walker) (what x : Heard)
+  pub turns_of : (Tried : Outcome → Type 0) (agents : Agents) (honest : Type 0) (w : Walker) (m : Message) (given : Step) (new : Walker) (what x : Heard)
       → what ≡ x → is_over w.phase ≡ false
-      → IsHeard Comes agents honest w m → (given, new) ≡ take_of w m → Delivers takes given s what t
-      → ((r : List VarBind) × Turns takes Comes agents honest w s r (end_of x) new t) × HasEnd x
-  turns_of Comes agents honest w m given new what x is waits h read delivered =
-      let taken = is_taken Comes agents honest w m given new waits h read in (
-        subst (λ (y : Heard). (r : List VarBind) × Turns takes Comes agents honest w s r (end_of y) new t) is
-            (turned Comes agents honest w given new what taken delivered),
+      → IsHeard Tried agents honest w m → (given, new) ≡ take_of w m → Delivers takes given s what t
+      → ((r : List VarBind) × Turns takes Tried agents honest w s r (end_of x) new t) × HasEnd x
+  turns_of Tried agents honest w m given new what x is waits h read delivered =
+      let taken = is_taken Tried agents honest w m given new waits h read in (
+        subst (λ (y : Heard). (r : List VarBind) × Turns takes Tried agents honest w s r (end_of y) new t) is
+            (turned Tried agents honest w given new what taken delivered),
         subst HasEnd is (has_end given what delivered taken.news),
       )
 

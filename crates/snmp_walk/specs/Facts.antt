@@ -46,6 +46,7 @@ use Rattle.snmp_walk.specs.Standing.{
   IsReplyEnd,
 }
 use Rattle.snmp_walk.specs.Link.{Agents, OneOf, IsNextFrom, IsGotFrom, IsTooLarge, IsUnanswered}
+use Rattle.snmp_walk.specs.Link.{Outcome, answered, missed, cut_off}
 use Rattle.snmp_walk.specs.Room.{HasRoomForEach, HasRoomForAll, HasIds}
 use Rattle.snmp_walk.specs.Tables.{
   IsOfWalk,
@@ -82,86 +83,74 @@ abbrev pub rows_read : List Reading → List VarBind
 rows_read [] = []
 rows_read (r ∷ more) = r.rows ++ rows_read more
 
--- each of these is a datagram that a receive of such a link may bring, and the walk v read them, in
--- turn, as these rows, and is w then
-abbrev pub AreRead : (List ℕ → Type 0) → Walker → List Reading → Walker → Type 0
-AreRead Comes v [] w = w ≡ v
-AreRead Comes v (r ∷ more) w =
-    (u : Walker) × Comes r.datagram × MeansBy v r.datagram (step.Rows r.rows) u
-    × AreRead Comes u more w
+-- Each of these datagrams replied to the request of the walk, in turn, from one state of the link to
+-- the next, and the walk v read them as these rows, and is w then. `Tried` says what came of a
+-- walk's request over the link.
+abbrev pub AreRead : {L : Type 0} → (Tried : Walker → L → Outcome → L → Type 0) → Walker → L
+    → List Reading → Walker → L → Type 0
+AreRead {L} Tried v old [] w new = (w ≡ v) × (new ≡ old)
+AreRead {L} Tried v old (r ∷ more) w new =
+    (u : Walker) × (between : L) × Tried v old (answered r.datagram) between
+    × MeansBy v r.datagram (step.Rows r.rows) u × AreRead Tried u between more w new
 
--- the walk that began as `first` gave just the rows that it read in datagrams that a receive of
--- such a link may bring, and is w then
-pub record HasRead (Comes : List ℕ → Type 0) (first w : Walker)
-    (given : List VarBind) : Type 0 where
+-- The walk that began as `first` gave just the rows that it read in the replies to its requests,
+-- which took the link from one state to the other, and is w then.
+pub record HasRead {L : Type 0} (Tried : Walker → L → Outcome → L → Type 0) (first : Walker)
+    (old : L) (w : Walker) (new : L) (given : List VarBind) : Type 0 where
   pub readings : List Reading
   pub rows : given ≡ rows_read readings
-  pub are_read : AreRead Comes first readings w
+  pub are_read : AreRead Tried first old readings w new
 
--- The walk that began as `first` had given these rows and was waiting, as w, for the reply to its
--- request, whose sending is as `Sent` says.
-pub record IsWaiting (Comes : List ℕ → Type 0) (Sent : Walker → Type 0) (first w : Walker)
-    (given : List VarBind) : Type 0 where
+-- What came of the last request of the walk that began as `first`, over the link in the state `old`:
+-- it had given all of these rows but for `more`, and asked by w from the state `now` of the link on.
+-- `Sent` says how that request was sent.
+pub record IsAskedLast {L : Type 0} (Tried : Walker → L → Outcome → L → Type 0)
+    (Sent : Walker → Type 0) (first : Walker) (old : L) (rows : List VarBind) (new : L)
+    (outcome : Outcome) (w : Walker) (more : List VarBind) : Type 0 where
+  pub now : L
+  pub given : List VarBind
+  pub parts : rows ≡ given ++ more
   pub walker : IsWalker w
   pub id : first.id ≤ w.id
-  pub read : HasRead Comes first w given
+  pub read : HasRead Tried first old w now given
   pub reaches : Reaches Rises Named first w given
   pub sent : Sent w
+  pub tried : Tried w now outcome new
 
--- The walk that began as `first` gave these rows and ended in this way by a datagram that a receive
--- of such a link may bring: w had given the first of them and was waiting for a reply, and reads
--- the datagram as the other rows and this end.
-pub record IsReadSo (Comes : List ℕ → Type 0) (Sent : Walker → Type 0) (first : Walker)
-    (rows : List VarBind) (end : WalkEnd) : Type 0 where
-  pub w : Walker
-  pub given : List VarBind
-  pub more : List VarBind
-  pub parts : rows ≡ given ++ more
-  pub waits : IsWaiting Comes Sent first w given
-  pub datagram : List ℕ
-  pub comes : Comes datagram
-  pub over : Walker
-  pub taken : MeansBy w datagram (step.Last more end) over
+-- the reply to the last request is read as the last rows and this end
+abbrev pub IsReadSo : (Asked : Outcome → Walker → List VarBind → Type 0) → WalkEnd → Type 0
+IsReadSo Asked end =
+    (datagram : List ℕ) × (w : Walker) × (more : List VarBind) × Asked (answered datagram) w more
+    × (over : Walker) × MeansBy w datagram (step.Last more end) over
 
--- The walk that began as `first` gave these rows, and the sink refused the next: w had given the
--- first of them and was waiting for a reply, and reads a datagram that a receive of such a link may
--- bring as the other rows, those refused, and perhaps more.
-pub record IsRefusedSo (Comes : List ℕ → Type 0) (Sent : Walker → Type 0) (first : Walker)
-    (rows refused : List VarBind) : Type 0 where
-  pub w : Walker
-  pub given : List VarBind
-  pub more : List VarBind
-  pub parts : rows ≡ given ++ more
-  pub waits : IsWaiting Comes Sent first w given
-  pub datagram : List ℕ
-  pub comes : Comes datagram
-  pub left : List VarBind
-  pub step_taken : Step
-  pub over : Walker
-  pub taken : MeansBy w datagram step_taken over
-  pub read : rows_in step_taken ≡ more ++ (refused ++ left)
+-- it is read as the last rows, those that the sink refused, and perhaps more
+abbrev pub IsRefusedSo : (Asked : Outcome → Walker → List VarBind → Type 0)
+    → (refused : List VarBind) → Type 0
+IsRefusedSo Asked refused =
+    (datagram : List ℕ) × (w : Walker) × (more : List VarBind) × Asked (answered datagram) w more
+    × (read : Step) × (over : Walker) × (left : List VarBind) × MeansBy w datagram read over
+    × (rows_in read ≡ more ++ (refused ++ left))
 
--- Why a run ends, whatever the link brings: by a reply that is read so, or while w was waiting for
--- one, or by the sink, that refused a row of the reply. A request of a walk is never too long.
-abbrev pub IsEndOfRun : (List ℕ → Type 0) → (Walker → Type 0) → Walker → (rows refused : List
-    VarBind) → WalkEnd → Type 0
-IsEndOfRun Comes Sent first rows refused ending.RequestTooLong = ⊥
-IsEndOfRun Comes Sent first rows refused ending.NoResponse =
-    (w : Walker) × IsWaiting Comes Sent first w rows
-IsEndOfRun Comes Sent first rows refused ending.Link =
-    (w : Walker) × IsWaiting Comes Sent first w rows
-IsEndOfRun Comes Sent first rows refused (ending.Sink fault) =
-    IsRefusedSo Comes Sent first rows refused
-IsEndOfRun Comes Sent first rows refused why = IsReadSo Comes Sent first rows why
+-- Why a run ends, whatever the link brings, `Asked` saying what came of its last request: by a reply
+-- that is read so, or because none came, or by the sink, that refused a row of the reply. A request
+-- of a walk is never too long.
+abbrev pub IsEndOfRun : (Asked : Outcome → Walker → List VarBind → Type 0)
+    → (refused : List VarBind) → WalkEnd → Type 0
+IsEndOfRun Asked refused ending.RequestTooLong = ⊥
+IsEndOfRun Asked refused ending.NoResponse = (w : Walker) × Asked missed w []
+IsEndOfRun Asked refused ending.Link = (w : Walker) × Asked cut_off w []
+IsEndOfRun Asked refused (ending.Sink fault) = IsRefusedSo Asked refused
+IsEndOfRun Asked refused why = IsReadSo Asked why
 
--- What is promised of a run over any link: the names given, with the one that was refused, rise; a
--- walk that is done has counted the bindings; and each end comes for its own reason. `Sent` says of
--- the walk that waited last that its request was sent last.
-pub record EndFacts (Comes : List ℕ → Type 0) (Sent : Walker → Type 0) (first : Walker)
-    (rows refused : List VarBind) (end : WalkEnd) : Type 0 where
+-- What is promised of a run over any link, which it took from the state `old` to the state `new`: the
+-- names given, with the one that was refused, rise; a walk that is done has counted the bindings;
+-- and each end comes for its own reason.
+pub record EndFacts {L : Type 0} (Tried : Walker → L → Outcome → L → Type 0)
+    (Sent : Walker → Type 0) (first : Walker) (old : L) (rows refused : List VarBind)
+    (end : WalkEnd) (new : L) : Type 0 where
   pub rising : AreOrdered (rows ++ refused)
   pub counted : CountsAll end rows
-  pub reason : IsEndOfRun Comes Sent first rows refused end
+  pub reason : IsEndOfRun (IsAskedLast Tried Sent first old rows new) refused end
 
 -- How a run may end over an honest link, after these bindings: w was waiting for the reply that
 -- ended it, which gave none of them where it was an error or had no binding, and else the last.

@@ -43,6 +43,7 @@ use Rattle.snmp_walk.specs.declared.end.WalkEnd.TheVariants as ending
 use Rattle.snmp_walk.specs.Names.{is_end}
 use Rattle.snmp_walk.specs.Judged.{IsResponseTo}
 use Rattle.snmp_walk.specs.Link.{Agents, OneOf, IsUnanswered}
+use Rattle.snmp_walk.specs.Link.{Outcome, answered, missed, cut_off}
 use Rattle.snmp_walk.specs.Traffic.{Traffic, Lost}
 use Rattle.snmp_walk.specs.Facts.{IsDone, IsDoneOrStopped}
 use Rattle.snmp_agent.specs.table.Table.{MibView, IsGet}
@@ -104,15 +105,15 @@ step_of count (Err end) = step.Last [] end
 abbrev pub got_step : List (List ℕ) → Message → Step
 got_step names m = step_of (length names) (answers_of names m)
 
--- This is a reply to the Get: a Response of its community and id, in a datagram that a receive of
--- such a link may bring, and over an honest link the Response of one of the agents to it.
-abbrev pub IsBrought : (Comes : List ℕ → Type 0) → Agents → (honest : Type 0) → List ℕ → ℕ
+-- What came of the Get's request, `Tried`, is this reply to it: a Response of its community and id,
+-- and over an honest link the Response of one of the agents to it.
+abbrev pub IsBrought : (Tried : Outcome → Type 0) → Agents → (honest : Type 0) → List ℕ → ℕ
     → List (List ℕ) → Message → Type 0
-IsBrought Comes agents honest community id names m =
+IsBrought Tried agents honest community id names m =
     IsResponseTo community id m
     × (honest → (view : MibView) × OneOf agents.tables view × (community ≡ agents.community)
     × IsResponse view agents.max_size (get_request community id names) m)
-    × ((datagram : List ℕ) × Comes datagram × Spells m datagram)
+    × ((datagram : List ℕ) × Tried (answered datagram) × Spells m datagram)
 
 -- the bindings are what Gets of these names give of the table, each at its name's place
 abbrev pub AreGot : MibView → (names : List (List ℕ)) → List VarBind → Type 0
@@ -178,20 +179,21 @@ pub record AreForNames (request : Message) (names : List (List ℕ)) (given refu
   pub no_names : names ≡ [] → IsDone end
   pub too_long : names ≢ [] → 65507 < length (canon request) → end ≡ ending.RequestTooLong
 
--- Why a Get of names ended, whatever the link brings, `From` saying of a message that it is a reply
--- to the Get which came over the link: by what such a reply brings, or by the sink, that refused a
--- binding of it.
-abbrev pub IsReasonOfGet : (From : Message → Type 0) → (names : List (List ℕ))
-    → (given refused : List VarBind) → WalkEnd → Type 0
-IsReasonOfGet From names given refused (ending.Done count) =
+-- Why a Get of names ended, whatever the link brings, `Tried` saying what came of its request, and
+-- `From` of a message that it is the reply to it: by what such a reply brings, or by the sink, that
+-- refused a binding of it, or because none came.
+abbrev pub IsReasonOfGet : (Tried : Outcome → Type 0) → (From : Message → Type 0)
+    → (names : List (List ℕ)) → (given refused : List VarBind) → WalkEnd → Type 0
+IsReasonOfGet Tried From names given refused (ending.Done count) =
     (m : Message) × From m × MeansToGet names m (Ok given) × (refused ≡ [])
-IsReasonOfGet From names given refused (ending.Sink fault) =
+IsReasonOfGet Tried From names given refused (ending.Sink fault) =
     (m : Message) × (p : VarBind) × (left : List VarBind) × From m
     × MeansToGet names m (Ok (given ++ p ∷ left)) × (refused ≡ p ∷ [])
-IsReasonOfGet From names given refused ending.NoResponse = given ++ refused ≡ []
-IsReasonOfGet From names given refused ending.RequestTooLong = given ++ refused ≡ []
-IsReasonOfGet From names given refused ending.Link = given ++ refused ≡ []
-IsReasonOfGet From names given refused end =
+IsReasonOfGet Tried From names given refused ending.NoResponse = Tried missed
+    × (given ++ refused ≡ [])
+IsReasonOfGet Tried From names given refused ending.RequestTooLong = given ++ refused ≡ []
+IsReasonOfGet Tried From names given refused ending.Link = Tried cut_off × (given ++ refused ≡ [])
+IsReasonOfGet Tried From names given refused end =
     (m : Message) × From m × MeansToGet names m (Err end) × (given ++ refused ≡ [])
 
 -- What is promised of a Get over an honest link over which nothing was sent before. It gave these

@@ -15,7 +15,7 @@ pub mod Traffic
 pub mod Moves
 pub mod Moved
 pub mod Heard
-pub mod Missed
+pub mod Tries
 pub mod Room
 pub mod Sink
 pub mod Course

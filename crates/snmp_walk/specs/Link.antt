@@ -66,9 +66,12 @@ pub record IsUnanswered (agents : Agents) (datagram : List ℕ) : Type 0 where
   pub why : Why
   pub dropped : IsDropped (agent_in agents view) datagram why
 
--- the octets are a datagram that a receive may bring
-abbrev pub ComesOver : {L : Type 0} → (L → List ℕ → L → Type 0) → List ℕ → Type 0
-ComesOver {L} brings octets = (before : L) × (after : L) × brings before octets after
+-- what came of a request: this datagram replied to it, or each try of it missed the reply, or the
+-- link failed
+pub data Outcome : Type 0 where
+  answered : List ℕ → Outcome
+  missed : Outcome
+  cut_off : Outcome
 
 -- each table is a MIB view
 abbrev pub AreViews : List MibView → Type 0

@@ -1,5 +1,5 @@
 -- What is known of a run over a link: of a walk, and of a Get of names.
-use Rattle.std.specs.Prelude.{◌≡◌, ◌≢◌, ◌<◌, ◌≤◌, ◌++◌, ℕ, List, [], Result, replicate}
+use Rattle.std.specs.Prelude.{◌≡◌, ◌≢◌, ◌⊎◌, ◌<◌, ◌≤◌, ◌++◌, ℕ, List, [], Result, replicate}
 use Rattle.snmp_wire.specs.Canon.{canon}
 use Rattle.snmp_wire.specs.Message.{VarBind}
 use Rattle.snmp_walk.specs.declared.end.SinkFault.{SinkFault}
@@ -8,11 +8,11 @@ use Rattle.snmp_walk.specs.declared.end.WalkEnd.TheVariants as ending
 use Rattle.snmp_walk.specs.declared.link.Link.{Ghosts as LinkFacts}
 use Rattle.snmp_walk.specs.Facts.{EndFacts, IsLastSent, ReadyFacts, SendFacts, WalkFacts}
 use Rattle.snmp_walk.specs.Get.{AreForNames, GetFacts, IsBrought, IsReasonOfGet, get_request}
-use Rattle.snmp_walk.specs.Link.{ComesOver}
-use Rattle.snmp_walk.specs.Missed.{AreMissed, IsNotAwaited, MissesReply}
+use Rattle.snmp_walk.specs.Link.{Outcome}
 use Rattle.snmp_walk.specs.Moved.{IsMoved, IsMovedByRequests}
 use Rattle.snmp_walk.specs.Sink.{Took}
 use Rattle.snmp_walk.specs.Standing.{IsPartOfWalk, Named, Rises}
+use Rattle.snmp_walk.specs.Tries.{AreTried, IsNotAwaited, IsTried}
 use Rattle.snmp_walk.specs.Walker.{Walker}
 
 -- A run gave these bindings to a sink, and perhaps one more that was refused; so it ended, and such
@@ -34,13 +34,11 @@ pub record IsWalkedOver {W : Type 0} (facts : LinkFacts W) (link after : W) (tri
     (first : Walker) (given refused : List VarBind) (end : WalkEnd) : Type 0 where
   -- the names given are those of its root and of instances below that
   pub part : IsPartOfWalk Rises Named first (given ++ refused)
-  -- they rise, where it is done its end counts them, and each end has its own reason in a datagram
-  -- that a receive of such a link may bring; with NoResponse it ends where each try of the request
-  -- missed its reply
-  pub ends : EndFacts (ComesOver facts.brings) (λ w.
-      (facts.keeps link → IsLastSent tries end (facts.traffic after) w)
-      × (end ≡ ending.NoResponse
-      → MissesReply facts tries first given link after w)) first given refused end
+  -- they rise, where it is done its end counts them, and each end has its own reason in what came
+  -- of its requests, each from the state of the link in which the one before it ended
+  pub ends : EndFacts (IsTried facts tries)
+      (λ w. facts.keeps link → IsLastSent tries end (facts.traffic after) w) first link given
+      refused end after
   -- over a link that keeps what is sent: which requests were sent, and how many times
   pub sent : facts.keeps link → SendFacts (facts.agents link) (IsFreshAndHonest facts link) tries
       (facts.traffic link) first given end (facts.traffic after)
@@ -54,17 +52,24 @@ pub record IsWalkedOver {W : Type 0} (facts : LinkFacts W) (link after : W) (tri
   -- its requests moved the link, which failed where the walk ends because of it
   pub moved : IsMovedByRequests facts tries first given link (end ≡ ending.Link) after
 
+-- what came of the request of a Get of these names, which took the link from one state to the other
+abbrev pub IsGetTried : {W : Type 0} → LinkFacts W → (link after : W) → (tries : ℕ)
+    → (community : List ℕ) → (id : ℕ) → (names : List (List ℕ)) → Outcome → Type 0
+IsGetTried {W} facts link after tries community id names outcome =
+    AreTried facts (IsNotAwaited community id) (canon (get_request community id names)) tries link
+    outcome after
+
 -- What is known of a Get of names over a link, which was `link` before the Get and is `after` then.
 pub record IsGotOver {W : Type 0} (facts : LinkFacts W) (link after : W) (tries : ℕ)
     (community : List ℕ) (id : ℕ) (names : List (List ℕ)) (given refused : List VarBind)
     (end : WalkEnd) : Type 0 where
   pub named : AreForNames (get_request community id names) names given refused end
-  -- each end has its own reason in a datagram that came over the link; with NoResponse it ends
-  -- where each try of the request missed its reply
-  pub reason : names ≢ [] → IsReasonOfGet (IsBrought (ComesOver facts.brings) (facts.agents link)
+  -- each end has its own reason in what came of the request
+  pub reason : names ≢ [] → IsReasonOfGet (IsGetTried facts link after tries community id names)
+      (IsBrought (IsGetTried facts link after tries community id names) (facts.agents link)
       (IsFreshAndHonest facts link) community id names) names given refused end
-  pub missed : end ≡ ending.NoResponse → AreMissed facts.sends facts.brings facts.is_silent
-      (IsNotAwaited community id) (canon (get_request community id names)) tries link after
+  -- without names, and where the request is too long, the link stays as it was
+  pub unasked : (names ≡ []) ⊎ (end ≡ ending.RequestTooLong) → after ≡ link
   -- over a link that keeps what is sent: the request alone, at most once for each try, and once at
   -- least where it is sent and the link didn't fail
   pub sent : facts.keeps link → (times : ℕ) × (times ≤ tries)

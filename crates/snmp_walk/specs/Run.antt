@@ -43,6 +43,7 @@ use Rattle.snmp_walk.specs.Room.{HasRoomForAll}
 use Rattle.std.specs.List.{list_any}
 use Rattle.snmp_walk.specs.Standing.{IsReplyTo}
 use Rattle.snmp_walk.specs.Link.{Agents, OneOf, IsNextFrom, IsGotFrom, IsTooLarge}
+use Rattle.snmp_walk.specs.Link.{Outcome, answered, missed, cut_off}
 
 -- as many bindings as were asked for, or endOfMibView among them
 abbrev pub IsFull : Method → List VarBind → Type 0
@@ -60,41 +61,42 @@ IsFrom agents honest w m = honest
     → IsReplyTo (IsNextFrom agents) (IsGotFrom agents) (IsTooLarge agents) w m
     × IsFullReply agents w m
 
--- The message is the reply that the walk waits for, which came over the link in a datagram, and
+-- The message is the reply that the walk waits for, which came of its request in a datagram, and
 -- which the agents sent where the link is honest.
-pub record IsHeard (Comes : List ℕ → Type 0) (agents : Agents) (honest : Type 0) (w : Walker)
+pub record IsHeard (Tried : Outcome → Type 0) (agents : Agents) (honest : Type 0) (w : Walker)
     (message : Message) : Type 0 where
   pub datagram : List ℕ
-  pub comes : Comes datagram
+  pub tried : Tried (answered datagram)
   pub spelt : Spells message datagram
   pub awaited : is_awaited w message ≡ true
   pub from : IsFrom agents honest w message
 
 -- One turn of a run, from a request to the rows that its reply brings: which rows the sink was
--- given, how the walk ended, if it did, and what the walk and the sink are then. `Comes` says of a
--- datagram that it came over the link.
+-- given, how the walk ended, if it did, and what the walk and the sink are then. `Tried` says what
+-- came of the request.
 pub data Turns {S : Type 0} (takes : S → VarBind → Result (Unit {0}) SinkFault → S
-    → Type 0) (Comes : List ℕ → Type 0) (agents : Agents) (honest : Type 0) (old : Walker)
+    → Type 0) (Tried : Outcome → Type 0) (agents : Agents) (honest : Type 0) (old : Walker)
     (before : S)
     (rows : List VarBind) (end : Option WalkEnd) (new : Walker) (after : S) : Type 0 where
-  goes_on : (m : Message) (datagram : List ℕ) → IsFrom agents honest old m → Comes datagram
-      → Spells m datagram → (take_of old m).0 ≡ step.Rows rows
+  goes_on : (m : Message) (datagram : List ℕ) → IsFrom agents honest old m
+      → Tried (answered datagram) → Spells m datagram → (take_of old m).0 ≡ step.Rows rows
       → new ≡ (take_of old m).1 → Given takes before rows after
-      → end ≡ None → Turns takes Comes agents honest old before rows end new after
+      → end ≡ None → Turns takes Tried agents honest old before rows end new after
   ends : (m : Message) (datagram : List ℕ) (why : WalkEnd) → IsFrom agents honest old m
-      → Comes datagram → Spells m datagram
+      → Tried (answered datagram) → Spells m datagram
       → (take_of old m).0 ≡ step.Last rows why → Given takes before rows after
-      → end ≡ Some why → Turns takes Comes agents honest old before rows end new after
+      → end ≡ Some why → Turns takes Tried agents honest old before rows end new after
   is_refused : (m : Message) (datagram : List ℕ) (fault : SinkFault) (p : VarBind)
-      (left : List VarBind) (between : S) → IsFrom agents honest old m → Comes datagram
+      (left : List VarBind) (between : S) → IsFrom agents honest old m
+      → Tried (answered datagram)
       → Spells m datagram → rows_in (take_of old m).0 ≡ rows ++ p ∷ left
       → Given takes before rows between → takes between p (Err fault) after
       → end ≡ Some (ending.Sink fault)
-      → Turns takes Comes agents honest old before rows end new after
-  is_silent : rows ≡ [] → after ≡ before
-      → end ≡ Some ending.NoResponse → Turns takes Comes agents honest old before rows end new after
-  fails : rows ≡ [] → after ≡ before → end ≡ Some ending.Link
-      → Turns takes Comes agents honest old before rows end new after
+      → Turns takes Tried agents honest old before rows end new after
+  is_silent : Tried missed → rows ≡ [] → after ≡ before
+      → end ≡ Some ending.NoResponse → Turns takes Tried agents honest old before rows end new after
+  fails : Tried cut_off → rows ≡ [] → after ≡ before → end ≡ Some ending.Link
+      → Turns takes Tried agents honest old before rows end new after
 
 -- a request of the walk, and how often it was sent
 pub record Try : Type 0 where

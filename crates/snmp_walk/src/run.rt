@@ -11,8 +11,7 @@ ghost use Rattle.snmp_walk.specs.Walker.{IsWalker};
 ghost use Rattle.snmp_walk.specs.Run.{Turns};
 ghost use Rattle.snmp_walk.specs.Heard.{Exchanges, IsEarlier};
 ghost use Rattle.snmp_walk.specs.Moved.{IsMovedByTries};
-ghost use Rattle.snmp_walk.specs.Missed.{IsNotAwaited, AreMissed};
-ghost use Rattle.snmp_walk.specs.Link.{ComesOver};
+ghost use Rattle.snmp_walk.specs.Tries.{IsTried};
 ghost use Rattle.snmp_walk.specs.Facts.{IsFresh};
 ghost use Rattle.snmp_walk.specs.Ran.{IsRun, IsWalkedOver};
 
@@ -76,14 +75,11 @@ fn turn<L: Link, S: Sink>(
     end: &mut WalkEnd,
 ) -> Course
     requires { is_over core.old.phase ≡ false }
-    ensures turns { (rows : List VarBind) × Turns S.takes (ComesOver L.brings)
+    ensures turns { (rows : List VarBind) × Turns S.takes
+        (λ outcome. IsTried L.Link (retries + 1) core.old link.old outcome link.new)
         (L.agents link.old) (L.honest link.old
         × IsEarlier (L.traffic link.old).sent core.old) core.old sink.old rows
         (ended result end.new) core.new sink.new }
-    ensures unanswered { ended result end.new ≡ Some WalkEnd.NoResponse
-        → AreMissed L.sends L.brings L.is_silent
-        (IsNotAwaited core.old.community core.old.id) (canon (request_of core.old)) (retries + 1)
-        link.old link.new }
     ensures exchanged { L.keeps link.old → Exchanges (L.agents link.old) (L.honest link.old
         × IsEarlier (L.traffic link.old).sent core.old) (retries + 1) (canon (request_of core.old))
         (L.traffic link.old) (ended result end.new ≡ Some WalkEnd.NoResponse)

@@ -5,11 +5,11 @@ ghost use Rattle.snmp_wire.specs.Message.{Message};
 ghost use Rattle.snmp_wire.specs.Spelling.{Spells};
 ghost use Rattle.snmp_walk.specs.Taken.{awaits};
 ghost use Rattle.snmp_walk.specs.Course.{heard_of, step_of};
-ghost use Rattle.snmp_walk.specs.Link.{IsReplyFrom, ComesOver};
+ghost use Rattle.snmp_walk.specs.Link.{IsReplyFrom, answered, missed, cut_off};
 ghost use Rattle.snmp_walk.specs.Traffic.{latest};
 ghost use Rattle.snmp_walk.specs.Heard.{IsAsked, Hears, Exchanges};
 ghost use Rattle.snmp_walk.specs.Moved.{IsMoved, IsMovedByTries};
-ghost use Rattle.snmp_walk.specs.Missed.{IsNotAwaited, IsMissed, AreMissed};
+ghost use Rattle.snmp_walk.specs.Tries.{IsNotAwaited, AreReceives, AreTried};
 ghost use Rattle.snmp_walk.specs.Read.{IsRead, IsReadAs, Delivers};
 
 use crate::{Link, LinkFault, Rows, Sink, WalkEnd};
@@ -77,7 +77,9 @@ pub(crate) fn exchange<L: Link, W: Waiter, S: Sink>(
     end: &mut WalkEnd,
 ) -> Result<Option<Course>, LinkFault>
     ensures read { IfOk result (λ course. IfSome course
-        (λ h. IsRead (ComesOver L.brings) (λ octets. L.honest link.old
+        (λ h. IsRead (λ octets. AreTried L.Link (IsNotAwaited (W.community waiter.old)
+        (W.id waiter.old)) request.now (retries + 1) link.old (answered octets) link.new)
+        (λ octets. L.honest link.old
         → IsAsked (L.agents link.old) (W.community waiter.old) (W.id waiter.old) request.now
         (L.traffic link.old).sent
         → IsReplyFrom (L.agents link.old) request.now octets)
@@ -86,9 +88,11 @@ pub(crate) fn exchange<L: Link, W: Waiter, S: Sink>(
     ensures silent { IfOk result (λ course. IfNone course
         ((waiter.new ≡ waiter.old) × (sink.new ≡ sink.old))) }
     ensures unanswered { IfOk result (λ course. IfNone course
-        (AreMissed L.sends L.brings L.is_silent (IsNotAwaited (W.community waiter.old)
-        (W.id waiter.old)) request.now (retries + 1) link.old link.new)) }
-    ensures cut_off { OnErr result ((waiter.new ≡ waiter.old) × (sink.new ≡ sink.old)) }
+        (AreTried L.Link (IsNotAwaited (W.community waiter.old) (W.id waiter.old)) request.now
+        (retries + 1) link.old missed link.new)) }
+    ensures unchanged { OnErr result ((waiter.new ≡ waiter.old) × (sink.new ≡ sink.old)) }
+    ensures cut_off { OnErr result (AreTried L.Link (IsNotAwaited (W.community waiter.old)
+        (W.id waiter.old)) request.now (retries + 1) link.old cut_off link.new) }
     ensures exchanged { L.keeps link.old → Exchanges (L.agents link.old) (L.honest link.old
         × IsAsked (L.agents link.old) (W.community waiter.old) (W.id waiter.old) request.now
         (L.traffic link.old).sent)
@@ -117,7 +121,10 @@ fn hear<L: Link, W: Waiter, S: Sink>(
     end: &mut WalkEnd,
 ) -> Result<Option<Course>, LinkFault>
     ensures read { IfOk result (λ course. IfSome course
-        (λ h. IsRead (ComesOver L.brings) (λ octets. (q : List ℕ) → L.honest link.old
+        (λ h. IsRead (λ octets. (strays : List (List ℕ))
+        × AreReceives L.Link (IsNotAwaited (W.community waiter.old) (W.id waiter.old)) link.old
+        (answered octets) link.new strays)
+        (λ octets. (q : List ℕ) → L.honest link.old
         → latest (L.traffic link.old).sent ≡ Some q
         → IsAsked (L.agents link.old) (W.community waiter.old) (W.id waiter.old) q
         (L.traffic link.old).sent
@@ -126,10 +133,13 @@ fn hear<L: Link, W: Waiter, S: Sink>(
         (heard_of h end.new) waiter.new sink.new)) }
     ensures silent { IfOk result (λ course. IfNone course
         ((waiter.new ≡ waiter.old) × (sink.new ≡ sink.old))) }
-    ensures unanswered { IfOk result (λ course. IfNone course ((received : List (List ℕ))
-        × IsMissed L.brings L.is_silent (IsNotAwaited (W.community waiter.old) (W.id waiter.old))
-        link.old received link.new)) }
-    ensures cut_off { OnErr result ((waiter.new ≡ waiter.old) × (sink.new ≡ sink.old)) }
+    ensures unanswered { IfOk result (λ course. IfNone course ((strays : List (List ℕ))
+        × AreReceives L.Link (IsNotAwaited (W.community waiter.old) (W.id waiter.old)) link.old
+        missed link.new strays)) }
+    ensures unchanged { OnErr result ((waiter.new ≡ waiter.old) × (sink.new ≡ sink.old)) }
+    ensures cut_off { OnErr result ((strays : List (List ℕ))
+        × AreReceives L.Link (IsNotAwaited (W.community waiter.old) (W.id waiter.old)) link.old
+        cut_off link.new strays) }
     ensures heard { (q : List ℕ) → L.honest link.old → latest (L.traffic link.old).sent ≡ Some q
         → IsAsked (L.agents link.old) (W.community waiter.old) (W.id waiter.old) q
         (L.traffic link.old).sent

@@ -1,15 +1,15 @@
 use Rattle.std.proofs.Common.{◌≡◌, ◌+◌, ◌++◌, List, ap, subst, sym, refl, ℕ, arith, Some, None}
 use Rattle.snmp_wire.specs.Canon.{canon}
 use Rattle.snmp_walk.specs.Request.{request_of}
-use Rattle.snmp_walk.specs.Link.{Agents, ComesOver}
+use Rattle.snmp_walk.specs.Link.{Agents}
 use Rattle.snmp_walk.specs.Heard.{Exchanges, IsEarlier}
 use Rattle.snmp_walk.specs.Run.{Turns}
-use Rattle.snmp_walk.specs.Missed.{MissesReply}
+use Rattle.snmp_walk.specs.Tries.{IsTried}
 use Rattle.snmp_walk.specs.declared.end.WalkEnd.TheVariants as ending
 use Rattle.snmp_walk.proofs.RunLemmas.{runs_first, runs_on, ran, ready_facts}
 use Rattle.snmp_walk.specs.Moved.{IsMovedByRequests}
 use Rattle.snmp_walk.proofs.MoveLemmas.{tries_as}
-use Rattle.snmp_walk.proofs.TriedLemmas.{HasMoved, moved_first, moved_given, moved_more, moved_fine, requests_as}
+use Rattle.snmp_walk.proofs.TriedLemmas.{HasMoved, moved_first, moved_more, moved_fine, requests_as}
 use Rattle.snmp_wire.specs.Message.{VarBind}
 use Rattle.snmp_walk.proofs.RequestLemmas.{request_short}
 use Rattle.snmp_walk.proofs.TurnLemmas.{no_link_end, same_end}
@@ -17,7 +17,7 @@ use Rattle.snmp_walk.proofs.run.run_walk.Goals as goal
 
 pub turns-init : goal.turns-init
 turns-init g c = record {
-  runs = runs_first g.S.Sink.takes (ComesOver g.L.Link.brings) _ _ _ (c.args.retries + 1) c.args.core c.args.sink.now (g.L.Link.traffic c.args.link.now)
+  runs = runs_first g.S.Sink.takes (IsTried g.L.Link (c.args.retries + 1)) c.args.link.now _ _ _ (c.args.retries + 1) c.args.core c.args.sink.now (g.L.Link.traffic c.args.link.now)
       c.requires;
   has_moved = moved_first g.L.Link c.args.link.now (c.args.retries + 1) c.args.core _;
 }
@@ -27,29 +27,23 @@ returns-in-Ends g c =
     let inv = c.turns.invariant in
     let agents : Agents = g.L.Link.agents c.args.link.now in
     let t = c.in-Ends.ensures.turns in
-    let same = subst (λ (a : Agents). Turns g.S.Sink.takes (ComesOver g.L.Link.brings) a (g.L.Link.honest c.turns.link
+    let same = subst (λ (a : Agents). Turns g.S.Sink.takes
+    (λ o. IsTried g.L.Link (c.args.retries + 1) c.turns.core c.turns.link o c.turn.new.link) a (g.L.Link.honest c.turns.link
     × IsEarlier (g.L.Link.traffic c.turns.link).sent c.turns.core) c.turns.core c.turns.sink t.0
     (Some c.turn.new.end) c.turn.new.core c.turn.new.sink)
     inv.has_moved.by.moved.agents t.1 in
     let moved = moved_more g.L.Link (c.args.retries + 1) c.args.core c.turns.core inv.runs.given t.0 c.turn.ensures.walker inv.runs.stands inv.has_moved
     c.in-Ends.ensures.moves (request_short c.turns.core c.turn.ensures.walker.community c.turn.ensures.walker.identifier.short) in
-    let r = ran g.S.Sink.takes (ComesOver g.L.Link.brings) agents (g.L.Link.keeps c.args.link.now) (g.L.Link.honest c.args.link.now)
+    let r = ran g.S.Sink.takes (IsTried g.L.Link (c.args.retries + 1)) c.args.link.now c.turns.link agents (g.L.Link.keeps c.args.link.now) (g.L.Link.honest c.args.link.now)
     (g.met.L.Link.keeping c.args.link.now)
     (c.args.retries + 1) c.args.core c.args.sink.now
     (g.L.Link.traffic c.args.link.now) c.turns.core c.turns.sink (g.L.Link.traffic c.turns.link) inv.runs c.turn.ensures.walker
-    (g.L.Link.honest c.turns.link) inv.has_moved.by.moved.honest c.codec.ensures t.0 c.turn.new.core c.turn.new.sink
+    (g.L.Link.honest c.turns.link) inv.has_moved.by.moved.honest c.codec.ensures c.turn.new.link t.0 c.turn.new.core c.turn.new.sink
     (g.L.Link.traffic c.turn.new.link) c.turn.new.end c.requires (omega arith) (λ h. (g.met.L.Link.lawful c.args.link.now h).views) same
     (λ k. subst (λ (a : Agents). Exchanges a (g.L.Link.honest c.turns.link
     × IsEarlier (g.L.Link.traffic c.turns.link).sent c.turns.core) (c.args.retries + 1) (canon (request_of c.turns.core)) (g.L.Link.traffic c.turns.link)
     (Some c.turn.new.end ≡ Some ending.NoResponse) (Some c.turn.new.end ≡ Some ending.Link) (g.L.Link.traffic c.turn.new.link)) inv.has_moved.by.moved.agents
     (c.in-Ends.ensures.exchanged (inv.has_moved.by.moved.keeps k)))
-    (λ given w. MissesReply g.L.Link (c.args.retries + 1) c.args.core given c.args.link.now c.turn.new.link w)
-    (λ silent. record {
-      before = c.turns.link;
-      moved = moved_given g.L.Link (c.args.retries + 1) c.args.core inv.runs.given t.0 inv.has_moved.by;
-      next = inv.has_moved.ids;
-      missed = c.in-Ends.ensures.unanswered (ap Some silent);
-    })
     (λ given. IsMovedByRequests g.L.Link (c.args.retries + 1) c.args.core given c.args.link.now (Some c.turn.new.end ≡ Some ending.Link) c.turn.new.link)
     moved.by in
     record {
@@ -61,7 +55,7 @@ returns-in-Ends g c =
         ends = r.6;
         sent = r.5;
         judged = λ fresh. r.4 fresh.0 fresh.1;
-        ready = ready_facts c.codec.ensures g.S.Sink.takes (ComesOver g.L.Link.brings) agents (g.L.Link.keeps c.args.link.now)
+        ready = ready_facts c.codec.ensures g.S.Sink.takes (IsTried g.L.Link (c.args.retries + 1)) c.args.link.now c.turns.link agents (g.L.Link.keeps c.args.link.now)
             (g.L.Link.honest c.args.link.now) (c.args.retries + 1) c.args.core c.args.sink.now (g.L.Link.traffic c.args.link.now) c.turns.core c.turns.sink
             (g.L.Link.traffic c.turns.link) inv.runs c.requires (λ h. (g.met.L.Link.lawful c.args.link.now h).views) (g.L.Link.ready c.args.link.now)
             c.turn.new.end
@@ -76,14 +70,15 @@ turns-smaller g c =
     let inv = c.turns.invariant in
     let agents : Agents = g.L.Link.agents c.args.link.now in
     let t = c.in-GoesOn.ensures.turns in
-    let same = subst (λ (a : Agents). Turns g.S.Sink.takes (ComesOver g.L.Link.brings) a (g.L.Link.honest c.turns.link
+    let same = subst (λ (a : Agents). Turns g.S.Sink.takes
+    (λ o. IsTried g.L.Link (c.args.retries + 1) c.turns.core c.turns.link o c.turn.new.link) a (g.L.Link.honest c.turns.link
     × IsEarlier (g.L.Link.traffic c.turns.link).sent c.turns.core) c.turns.core c.turns.sink t.0 None c.turn.new.core c.turn.new.sink)
     inv.has_moved.by.moved.agents t.1 in
-    let on = runs_on g.S.Sink.takes (ComesOver g.L.Link.brings) agents (g.L.Link.keeps c.args.link.now) (g.L.Link.honest c.args.link.now)
+    let on = runs_on g.S.Sink.takes (IsTried g.L.Link (c.args.retries + 1)) c.args.link.now c.turns.link agents (g.L.Link.keeps c.args.link.now) (g.L.Link.honest c.args.link.now)
     (g.met.L.Link.keeping c.args.link.now)
     (c.args.retries + 1) c.args.core c.args.sink.now
     (g.L.Link.traffic c.args.link.now) c.turns.core c.turns.sink (g.L.Link.traffic c.turns.link) inv.runs c.turn.ensures.walker
-    (g.L.Link.honest c.turns.link) inv.has_moved.by.moved.honest c.codec.ensures t.0 c.turn.new.core c.turn.new.sink
+    (g.L.Link.honest c.turns.link) inv.has_moved.by.moved.honest c.codec.ensures c.turn.new.link t.0 c.turn.new.core c.turn.new.sink
     (g.L.Link.traffic c.turn.new.link) (None ≡ Some ending.NoResponse) (None ≡ Some ending.Link) no_link_end same
     (λ k. subst (λ (a : Agents). Exchanges a (g.L.Link.honest c.turns.link
     × IsEarlier (g.L.Link.traffic c.turns.link).sent c.turns.core) (c.args.retries + 1) (canon (request_of c.turns.core)) (g.L.Link.traffic c.turns.link)
@@ -98,14 +93,15 @@ turns-preserved g c =
     let inv = c.turns.invariant in
     let agents : Agents = g.L.Link.agents c.args.link.now in
     let t = c.in-GoesOn.ensures.turns in
-    let same = subst (λ (a : Agents). Turns g.S.Sink.takes (ComesOver g.L.Link.brings) a (g.L.Link.honest c.turns.link
+    let same = subst (λ (a : Agents). Turns g.S.Sink.takes
+    (λ o. IsTried g.L.Link (c.args.retries + 1) c.turns.core c.turns.link o c.turn.new.link) a (g.L.Link.honest c.turns.link
     × IsEarlier (g.L.Link.traffic c.turns.link).sent c.turns.core) c.turns.core c.turns.sink t.0 None c.turn.new.core c.turn.new.sink)
     inv.has_moved.by.moved.agents t.1 in
-    let on = runs_on g.S.Sink.takes (ComesOver g.L.Link.brings) agents (g.L.Link.keeps c.args.link.now) (g.L.Link.honest c.args.link.now)
+    let on = runs_on g.S.Sink.takes (IsTried g.L.Link (c.args.retries + 1)) c.args.link.now c.turns.link agents (g.L.Link.keeps c.args.link.now) (g.L.Link.honest c.args.link.now)
     (g.met.L.Link.keeping c.args.link.now)
     (c.args.retries + 1) c.args.core c.args.sink.now
     (g.L.Link.traffic c.args.link.now) c.turns.core c.turns.sink (g.L.Link.traffic c.turns.link) inv.runs c.turn.ensures.walker
-    (g.L.Link.honest c.turns.link) inv.has_moved.by.moved.honest c.codec.ensures t.0 c.turn.new.core c.turn.new.sink
+    (g.L.Link.honest c.turns.link) inv.has_moved.by.moved.honest c.codec.ensures c.turn.new.link t.0 c.turn.new.core c.turn.new.sink
     (g.L.Link.traffic c.turn.new.link) (None ≡ Some ending.NoResponse) (None ≡ Some ending.Link) no_link_end same
     (λ k. subst (λ (a : Agents). Exchanges a (g.L.Link.honest c.turns.link
     × IsEarlier (g.L.Link.traffic c.turns.link).sent c.turns.core) (c.args.retries + 1) (canon (request_of c.turns.core)) (g.L.Link.traffic c.turns.link)

@@ -1,23 +1,34 @@
 use Rattle.std.proofs.Common.{◌∙◌, ◌+◌, ℕ, List, ap, refl, subst, [], Ok}
+use Rattle.snmp_wire.specs.Canon.{canon}
+use Rattle.snmp_walk.specs.Request.{request_of}
 use Rattle.snmp_walk.specs.Walker.{Walker}
-use Rattle.snmp_walk.specs.Link.{ComesOver}
+use Rattle.snmp_walk.specs.Link.{Outcome}
+use Rattle.snmp_walk.specs.Link as outcome
 use Rattle.snmp_walk.specs.Run.{is_silent, fails}
 use Rattle.snmp_walk.specs.Course.{heard_of}
 use Rattle.snmp_walk.proofs.MoveLemmas.{is_bad, never_bad, tries_as}
 use Rattle.snmp_walk.proofs.ReplyLemmas.{heard_by, exchanged_by}
 use Rattle.snmp_walk.proofs.TurnLemmas.{still_waits, if_some, if_silent, if_cut, turns_of, not_silent, not_link, link_end, silent_no_link}
-use Rattle.snmp_walk.specs.Missed.{IsNotAwaited, AreMissed}
+use Rattle.snmp_walk.specs.Tries.{AreTried, IsNotAwaited}
 use Rattle.snmp_walk.proofs.run.turn.Goals as goal
 
 pub returns-in-Ok-None-clause-turns : goal.returns-in-Ok-None-clause-turns
 returns-in-Ok-None-clause-turns g c =
     let same = if_silent c.exchange.result c.in-Ok-None.field-0 _ c.in-Ok-None.is c.in-Ok-None.field-0-is c.exchange.ensures.silent in
-    ([], is_silent refl same.1 refl)
+    let missed = if_silent c.exchange.result c.in-Ok-None.field-0 _ c.in-Ok-None.is c.in-Ok-None.field-0-is c.exchange.ensures.unanswered in (
+      [],
+      is_silent (subst (λ (q : List ℕ). AreTried g.L.Link (IsNotAwaited c.args.core.now.community c.args.core.now.id) q (c.args.retries + 1)
+          c.args.link.now outcome.missed c.exchange.new.link) (c.request-length.ensures.waiting (still_waits _ c.requires)).1 missed) refl same.1 refl,
+    )
 
 pub returns-in-Err-clause-turns : goal.returns-in-Err-clause-turns
 returns-in-Err-clause-turns g c =
-    let same = if_cut c.exchange.result _ _ c.in-Err.is c.exchange.ensures.cut_off in
-    ([], fails refl same.1 refl)
+    let same = if_cut c.exchange.result _ _ c.in-Err.is c.exchange.ensures.unchanged in
+    let cut = if_cut c.exchange.result _ _ c.in-Err.is c.exchange.ensures.cut_off in (
+      [],
+      fails (subst (λ (q : List ℕ). AreTried g.L.Link (IsNotAwaited c.args.core.now.community c.args.core.now.id) q (c.args.retries + 1)
+          c.args.link.now outcome.cut_off c.exchange.new.link) (c.request-length.ensures.waiting (still_waits _ c.requires)).1 cut) refl same.1 refl,
+    )
 
 pub returns-in-Ok-None-clause-exchanged : goal.returns-in-Ok-None-clause-exchanged
 returns-in-Ok-None-clause-exchanged g c = λ keeps.
@@ -42,22 +53,18 @@ pub returns-in-Err-clause-moves : goal.returns-in-Err-clause-moves
 returns-in-Err-clause-moves g c =
     tries_as g.L.Link (c.request-length.ensures.waiting (still_waits _ c.requires)).1 (λ f. refl) (λ e. is_bad _ _ c.in-Err.is) c.exchange.ensures.moves
 
-pub returns-in-Ok-None-clause-unanswered : goal.returns-in-Ok-None-clause-unanswered
-returns-in-Ok-None-clause-unanswered g c = λ _.
-    subst (λ (q : List ℕ). AreMissed g.L.Link.sends g.L.Link.brings g.L.Link.is_silent (IsNotAwaited c.args.core.now.community c.args.core.now.id) q
-    (c.args.retries + 1) c.args.link.now c.exchange.new.link) (c.request-length.ensures.waiting (still_waits _ c.requires)).1
-    (if_silent c.exchange.result c.in-Ok-None.field-0 _ c.in-Ok-None.is c.in-Ok-None.field-0-is c.exchange.ensures.unanswered)
-
 pub returns-in-Ok-Some-clause-turns : goal.returns-in-Ok-Some-clause-turns
 returns-in-Ok-Some-clause-turns g c =
     let agents = g.L.Link.agents c.args.link.now in
     let w : Walker = c.args.core.now in
+    let Tried : List ℕ → Outcome → Type 0 = λ q o. AreTried g.L.Link (IsNotAwaited w.community w.id) q (c.args.retries + 1) c.args.link.now o
+    c.exchange.new.link in
     let what = heard_of c.in-Ok-Some.course c.exchange.new.end in
     let r = if_some c.in-Ok-Some.field-0 _ c.in-Ok-Some.course c.in-Ok-Some.field-0-is c.in-Ok-Some.ensures.read in
     let is_heard = heard_by c.codec.ensures agents (g.L.Link.honest c.args.link.now) w _ (c.request-length.ensures.waiting (still_waits _ c.requires)).1 c.requires
-    c.request-length.ensures.walker (g.met.L.Link.lawful c.args.link.now) (ComesOver g.L.Link.brings) (g.L.Link.traffic c.args.link.now).sent _
+    c.request-length.ensures.walker (g.met.L.Link.lawful c.args.link.now) Tried (g.L.Link.traffic c.args.link.now).sent _
     g.S.Sink.takes c.args.sink.now what c.exchange.new.waiter c.exchange.new.sink r in
-    let t = turns_of g.S.Sink.takes c.args.sink.now c.exchange.new.sink (ComesOver g.L.Link.brings) agents _ w r.is_read.message r.is_read.given
+    let t = turns_of g.S.Sink.takes c.args.sink.now c.exchange.new.sink (Tried (canon (request_of w))) agents _ w r.is_read.message r.is_read.given
     c.exchange.new.waiter what what refl c.requires is_heard r.is_read.read r.is_read.delivered in
     t.0
 
@@ -65,12 +72,14 @@ pub returns-in-Ok-Some-clause-exchanged : goal.returns-in-Ok-Some-clause-exchang
 returns-in-Ok-Some-clause-exchanged g c = λ keeps.
     let agents = g.L.Link.agents c.args.link.now in
     let w : Walker = c.args.core.now in
+    let Tried : List ℕ → Outcome → Type 0 = λ q o. AreTried g.L.Link (IsNotAwaited w.community w.id) q (c.args.retries + 1) c.args.link.now o
+    c.exchange.new.link in
     let what = heard_of c.in-Ok-Some.course c.exchange.new.end in
     let r = if_some c.in-Ok-Some.field-0 _ c.in-Ok-Some.course c.in-Ok-Some.field-0-is c.in-Ok-Some.ensures.read in
     let is_heard = heard_by c.codec.ensures agents (g.L.Link.honest c.args.link.now) w _ (c.request-length.ensures.waiting (still_waits _ c.requires)).1 c.requires
-    c.request-length.ensures.walker (g.met.L.Link.lawful c.args.link.now) (ComesOver g.L.Link.brings) (g.L.Link.traffic c.args.link.now).sent _
+    c.request-length.ensures.walker (g.met.L.Link.lawful c.args.link.now) Tried (g.L.Link.traffic c.args.link.now).sent _
     g.S.Sink.takes c.args.sink.now what c.exchange.new.waiter c.exchange.new.sink r in
-    let t = turns_of g.S.Sink.takes c.args.sink.now c.exchange.new.sink (ComesOver g.L.Link.brings) agents _ w r.is_read.message r.is_read.given
+    let t = turns_of g.S.Sink.takes c.args.sink.now c.exchange.new.sink (Tried (canon (request_of w))) agents _ w r.is_read.message r.is_read.given
     c.exchange.new.waiter what what refl c.requires is_heard r.is_read.read r.is_read.delivered in
     exchanged_by c.codec.ensures (g.L.Link.agents c.args.link.now) (g.L.Link.honest c.args.link.now) c.args.core.now _
     (c.request-length.ensures.waiting (still_waits _ c.requires)).1 c.requires c.request-length.ensures.walker (g.met.L.Link.lawful c.args.link.now) (c.args.retries + 1)
@@ -81,25 +90,14 @@ pub returns-in-Ok-Some-clause-moves : goal.returns-in-Ok-Some-clause-moves
 returns-in-Ok-Some-clause-moves g c =
     let agents = g.L.Link.agents c.args.link.now in
     let w : Walker = c.args.core.now in
+    let Tried : List ℕ → Outcome → Type 0 = λ q o. AreTried g.L.Link (IsNotAwaited w.community w.id) q (c.args.retries + 1) c.args.link.now o
+    c.exchange.new.link in
     let what = heard_of c.in-Ok-Some.course c.exchange.new.end in
     let r = if_some c.in-Ok-Some.field-0 _ c.in-Ok-Some.course c.in-Ok-Some.field-0-is c.in-Ok-Some.ensures.read in
     let is_heard = heard_by c.codec.ensures agents (g.L.Link.honest c.args.link.now) w _ (c.request-length.ensures.waiting (still_waits _ c.requires)).1 c.requires
-    c.request-length.ensures.walker (g.met.L.Link.lawful c.args.link.now) (ComesOver g.L.Link.brings) (g.L.Link.traffic c.args.link.now).sent _
+    c.request-length.ensures.walker (g.met.L.Link.lawful c.args.link.now) Tried (g.L.Link.traffic c.args.link.now).sent _
     g.S.Sink.takes c.args.sink.now what c.exchange.new.waiter c.exchange.new.sink r in
-    let t = turns_of g.S.Sink.takes c.args.sink.now c.exchange.new.sink (ComesOver g.L.Link.brings) agents _ w r.is_read.message r.is_read.given
+    let t = turns_of g.S.Sink.takes c.args.sink.now c.exchange.new.sink (Tried (canon (request_of w))) agents _ w r.is_read.message r.is_read.given
     c.exchange.new.waiter what what refl c.requires is_heard r.is_read.read r.is_read.delivered in
     tries_as g.L.Link (c.request-length.ensures.waiting (still_waits _ c.requires)).1 (λ f. absurd (never_bad _ _ c.in-Ok-Some.is f)) (λ e. absurd (not_link what t.1 e))
     c.exchange.ensures.moves
-
-pub returns-in-Ok-Some-clause-unanswered : goal.returns-in-Ok-Some-clause-unanswered
-returns-in-Ok-Some-clause-unanswered g c = λ silent.
-    let agents = g.L.Link.agents c.args.link.now in
-    let w : Walker = c.args.core.now in
-    let what = heard_of c.in-Ok-Some.course c.exchange.new.end in
-    let r = if_some c.in-Ok-Some.field-0 _ c.in-Ok-Some.course c.in-Ok-Some.field-0-is c.in-Ok-Some.ensures.read in
-    let is_heard = heard_by c.codec.ensures agents (g.L.Link.honest c.args.link.now) w _ (c.request-length.ensures.waiting (still_waits _ c.requires)).1 c.requires
-    c.request-length.ensures.walker (g.met.L.Link.lawful c.args.link.now) (ComesOver g.L.Link.brings) (g.L.Link.traffic c.args.link.now).sent _
-    g.S.Sink.takes c.args.sink.now what c.exchange.new.waiter c.exchange.new.sink r in
-    let t = turns_of g.S.Sink.takes c.args.sink.now c.exchange.new.sink (ComesOver g.L.Link.brings) agents _ w r.is_read.message r.is_read.given
-    c.exchange.new.waiter what what refl c.requires is_heard r.is_read.read r.is_read.delivered in
-    absurd (not_silent what t.1 silent)

@@ -8,42 +8,43 @@ use Rattle.snmp_walk.specs.declared.end.WalkEnd.{WalkEnd}
 use Rattle.snmp_walk.specs.declared.link.Link.{Ghosts as LinkFacts}
 use Rattle.snmp_walk.specs.declared.tries.Course.{Course}
 use Rattle.snmp_walk.specs.Read.{IsRead, IsReadAs}
-use Rattle.snmp_walk.specs.Link.{IsReplyFrom, ComesOver}
+use Rattle.snmp_walk.specs.Link.{IsReplyFrom, Outcome}
+use Rattle.snmp_walk.specs.Link as outcome
 use Rattle.snmp_walk.specs.Traffic.{Traffic, latest}
 use Rattle.snmp_walk.specs.Heard.{IsAsked, Hears, Exchanges}
 use Rattle.snmp_walk.specs.Moved.{IsMoved}
 use Rattle.snmp_walk.proofs.HearLemmas.{Missing, missing_first, missing_more, missing_all, missing_used, heard_more, try_sent, tries_sent, shown}
 use Rattle.snmp_walk.proofs.MoveLemmas.{is_bad, never_bad, ok_fine, sent_all, sent_none, moves_none, moves_on, moves_as, went, tries_on}
-use Rattle.snmp_walk.specs.Missed.{AreMissed, IsNotAwaited, IsMissed}
-use Rattle.snmp_walk.proofs.MissedLemmas.{tries_first, tries_more}
-use Rattle.snmp_walk.proofs.TurnLemmas.{if_some, if_silent, if_cut}
+use Rattle.snmp_walk.specs.Tries.{AreMissed, AreReceives, IsNotAwaited}
+use Rattle.snmp_walk.proofs.TryLemmas.{tries_first, tries_more, tried_so, unsent}
+use Rattle.snmp_walk.proofs.TurnLemmas.{if_some, if_silent, if_cut, on_cut}
 use Rattle.snmp_walk.proofs.tries.exchange.Goals as goal
 
 never_ok : {M E : Type 0} (r : Result (Option M) E) → IsErr r → r ≡ Ok None → ⊥
 never_ok (Ok x) is other = let no : ⊥ = cc in no
 never_ok (Err e) is other = let no : ⊥ = cc in no
 
--- the waiter and the sink are as they were, and the deliveries' fact is that of the request
-read_now : {W S : Type 0} (Comes Of Reply : List ℕ → Type 0) (community : W → List ℕ) (id : W → ℕ) (reads : W → Message → Step → W → Type 0)
+-- the waiter and the sink are as they were, and what is said of the datagram is of the request
+read_now : {W S : Type 0} (Of Comes From Reply : List ℕ → Type 0) (community : W → List ℕ) (id : W → ℕ) (reads : W → Message → Step → W → Type 0)
     (takes : S → VarBind → Result (Unit {0}) SinkFault → S → Type 0) (v w : W) (s t : S) (new : W) (after : S) (o : Option Course) (h : Course)
     (end : WalkEnd) → v ≡ w → s ≡ t → o ≡ Some h
-    → IfSome o (λ x. IsRead Comes Of (community v) (id v) (reads v) takes s (heard_of x end) new after) → ((octets : List ℕ) → Of octets → Reply octets)
-    → IsRead Comes Reply (community w) (id w) (reads w) takes t (heard_of h end) new after
-read_now Comes Of Reply community id reads takes v w s t new after o h end e f is read by =
-    let here = if_some o (λ x. IsRead Comes Of (community v) (id v) (reads v) takes s (heard_of x end) new after) h is read in
+    → IfSome o (λ x. IsRead Of From (community v) (id v) (reads v) takes s (heard_of x end) new after) → ((octets : List ℕ) → Of octets → Comes octets)
+    → ((octets : List ℕ) → From octets → Reply octets) → IsRead Comes Reply (community w) (id w) (reads w) takes t (heard_of h end) new after
+read_now Of Comes From Reply community id reads takes v w s t new after o h end e f is read over by =
+    let here = if_some o (λ x. IsRead Of From (community v) (id v) (reads v) takes s (heard_of x end) new after) h is read in
     record {
       datagram = here.datagram;
-      comes = here.comes;
+      comes = over here.datagram here.comes;
       reply = by here.datagram here.reply;
       is_read = subst (λ x. IsReadAs here.datagram (community w) (id w) (reads w) takes x new after (heard_of h end)) f
           (subst (λ x. IsReadAs here.datagram (community x) (id x) (reads x) takes s new after (heard_of h end)) e here.is_read);
     }
 
-not_awaited : {L W : Type 0} (brings : L → List ℕ → L → Type 0) (is_silent : L → L → Type 0) (community : W → List ℕ) (id : W → ℕ) (v w : W) (sent heard : L)
-    → v ≡ w → (received : List (List ℕ)) × IsMissed brings is_silent (IsNotAwaited (community v) (id v)) sent received heard
-    → (received : List (List ℕ)) × IsMissed brings is_silent (IsNotAwaited (community w) (id w)) sent received heard
-not_awaited brings is_silent community id v w sent heard e h =
-    (h.0, subst (λ x. IsMissed brings is_silent (IsNotAwaited (community x) (id x)) sent h.0 heard) e h.1)
+received_for : {L W : Type 0} (facts : LinkFacts L) (community : W → List ℕ) (id : W → ℕ) (v w : W) (old new : L) (what : Outcome)
+    → v ≡ w → (strays : List (List ℕ)) × AreReceives facts (IsNotAwaited (community v) (id v)) old what new strays
+    → (strays : List (List ℕ)) × AreReceives facts (IsNotAwaited (community w) (id w)) old what new strays
+received_for facts community id v w old new what e h =
+    (h.0, subst (λ x. AreReceives facts (IsNotAwaited (community x) (id x)) old what new h.0) e h.1)
 
 -- the request was sent once more, and then the link moved without sending: a reply came, or the link failed
 module _ {L W : Type 0} (facts : LinkFacts L) (keeping : (link : L) → facts.honest link → facts.keeps link) (community : W → List ℕ) (id : W → ℕ) (v w : W)
@@ -76,8 +77,8 @@ tries-init g c = record {
   lost = λ h asked. missing_first (g.L.Link.agents c.args.link.now) c.args.request.now (g.L.Link.traffic c.args.link.now) (c.args.retries + 1);
   waiter = refl;
   sink = refl;
-  missing = tries_first g.L.Link.sends g.L.Link.brings g.L.Link.is_silent
-      (IsNotAwaited (g.W.Waiter.community c.args.waiter.now) (g.W.Waiter.id c.args.waiter.now)) c.args.request.now c.args.link.now;
+  missing = tries_first g.L.Link _ c.args.request.now
+      c.args.link.now;
 }
 
 pub tries-preserved : goal.tries-preserved
@@ -98,31 +99,55 @@ tries-preserved g c =
           (λ a r. Hears a r (g.L.Link.traffic c.send.new.self) (c.hear.result ≡ Ok None) now) c.hear.ensures.heard h asked) (inv.lost h asked);
       waiter = (if_silent c.hear.result _ _ c.in_ok-course.was c.in_default.is c.hear.ensures.silent).0 ∙ inv.waiter;
       sink = (if_silent c.hear.result _ _ c.in_ok-course.was c.in_default.is c.hear.ensures.silent).1 ∙ inv.sink;
-      missing = tries_more g.L.Link.sends g.L.Link.brings g.L.Link.is_silent
-          (IsNotAwaited (g.W.Waiter.community c.args.waiter.now) (g.W.Waiter.id c.args.waiter.now)) q
-          c.tries.counter c.args.link.now c.tries.link c.send.new.self c.hear.new.link inv.missing c.in_ok-send.ensures.sends
-          (not_awaited g.L.Link.brings g.L.Link.is_silent g.W.Waiter.community g.W.Waiter.id c.tries.waiter c.args.waiter.now
-          c.send.new.self c.hear.new.link inv.waiter
-          (if_silent c.hear.result _ _ c.in_ok-course.was c.in_default.is c.hear.ensures.unanswered));
+      missing = tries_more g.L.Link _ q
+          c.tries.counter c.args.link.now c.tries.link c.send.new.self c.hear.new.link inv.missing (c.in_ok-send.ensures.sends, sent)
+          (received_for g.L.Link g.W.Waiter.community g.W.Waiter.id c.tries.waiter c.args.waiter.now c.send.new.self c.hear.new.link outcome.missed
+          inv.waiter (if_silent c.hear.result _ _ c.in_ok-course.was c.in_default.is c.hear.ensures.unanswered));
     }
 
 pub returns-clause-unanswered : goal.returns-clause-unanswered
 returns-clause-unanswered g c =
     let all : c.tries.counter ≡ c.args.retries + 1 = omega arith in
-    subst (λ (n : ℕ). AreMissed g.L.Link.sends g.L.Link.brings g.L.Link.is_silent
+    subst (λ (n : ℕ). AreMissed g.L.Link
     (IsNotAwaited (g.W.Waiter.community c.args.waiter.now) (g.W.Waiter.id c.args.waiter.now)) c.args.request.now n c.args.link.now c.tries.link) all
     c.tries.invariant.missing
 
 pub returns-in-Some-clause-read : goal.returns-in-Some-clause-read
 returns-in-Some-clause-read g c =
     let inv = c.tries.invariant in
-    read_now (ComesOver g.L.Link.brings) _ _ g.W.Waiter.community g.W.Waiter.id g.W.Waiter.reads g.S.Sink.takes c.tries.waiter c.args.waiter.now c.tries.sink
+    let few : c.tries.counter < c.args.retries + 1 = omega arith in
+    read_now _ _ _ _ g.W.Waiter.community g.W.Waiter.id g.W.Waiter.reads g.S.Sink.takes c.tries.waiter c.args.waiter.now c.tries.sink
     c.args.sink.now _ _
     c.in_ok-course.field-0 c.in-Some.course c.hear.new.end inv.waiter inv.sink c.in-Some.is c.in_ok-course.ensures.read
+    (λ octets heard.
+    tried_so g.L.Link _ c.args.request.now c.tries.counter
+    (c.args.retries + 1) c.args.link.now c.tries.link c.send.new.self c.hear.new.link (outcome.answered octets) (λ e. let no : ⊥ = cc in no) few inv.missing
+    (c.in_ok-send.ensures.sends, went g.L.Link (never_bad _ _ c.in_ok-send.was) c.send.ensures.moves)
+    (received_for g.L.Link g.W.Waiter.community g.W.Waiter.id c.tries.waiter c.args.waiter.now c.send.new.self c.hear.new.link (outcome.answered octets)
+    inv.waiter heard))
     (λ octets reply h asked.
     shown g.L.Link g.met.L.Link.keeping c.args.request.now c.tries.counter c.args.link.now c.tries.link c.send.new.self inv.moved
     (went g.L.Link (never_bad _ _ c.in_ok-send.was) c.send.ensures.moves)
     g.W.Waiter.community g.W.Waiter.id c.tries.waiter c.args.waiter.now inv.waiter (λ a r. IsReplyFrom a r octets) reply h asked)
+
+pub returns-in_err-send-clause-cut_off : goal.returns-in_err-send-clause-cut_off
+returns-in_err-send-clause-cut_off g c =
+    let few : c.tries.counter < c.args.retries + 1 = omega arith in
+    on_cut c.from_residual.result _
+    (unsent g.L.Link _ c.args.request.now c.tries.counter
+    (c.args.retries + 1) c.args.link.now c.tries.link c.send.new.self few c.tries.invariant.missing
+    (moves_as g.L.Link (λ f. tt) (λ _. is_bad _ _ c.in_err-send.was) c.send.ensures.moves))
+
+pub returns-in_err-course-clause-cut_off : goal.returns-in_err-course-clause-cut_off
+returns-in_err-course-clause-cut_off g c =
+    let inv = c.tries.invariant in
+    let few : c.tries.counter < c.args.retries + 1 = omega arith in
+    on_cut c.from_residual-in_err-course.result _
+    (tried_so g.L.Link _ c.args.request.now c.tries.counter
+    (c.args.retries + 1) c.args.link.now c.tries.link c.send.new.self c.hear.new.link outcome.cut_off (λ e. let no : ⊥ = cc in no) few inv.missing
+    (c.in_ok-send.ensures.sends, went g.L.Link (never_bad _ _ c.in_ok-send.was) c.send.ensures.moves)
+    (received_for g.L.Link g.W.Waiter.community g.W.Waiter.id c.tries.waiter c.args.waiter.now c.send.new.self c.hear.new.link outcome.cut_off inv.waiter
+    (if_cut c.hear.result _ _ c.in_err-course.was c.hear.ensures.cut_off)))
 
 pub returns-in_err-send-clause-moves : goal.returns-in_err-send-clause-moves
 returns-in_err-send-clause-moves g c = (

@@ -2,7 +2,7 @@ use Rattle.std.proofs.Common.{◌≡◌, ◌+◌, replicate}
 use Rattle.snmp_walk.specs.Heard.{IsAsked}
 use Rattle.snmp_walk.specs.Moved.{IsMoved}
 use Rattle.snmp_walk.proofs.HearLemmas.{Missing}
-use Rattle.snmp_walk.specs.Missed.{AreMissed, IsNotAwaited}
+use Rattle.snmp_walk.specs.Tries.{AreMissed, IsNotAwaited}
 use Rattle.snmp_walk.proofs.tries.exchange.Given as goal
 
 abbrev pub invariant-tries : goal.invariant-tries
@@ -13,6 +13,5 @@ invariant-tries g l = record {
       → Missing (g.L.Link.agents l.fn.link) l.request (g.L.Link.traffic l.fn.link) l.counter (l.fn.retries + 1) (g.L.Link.traffic l.link);
   waiter : l.waiter ≡ l.fn.waiter;
   sink : l.sink ≡ l.fn.sink;
-  missing : AreMissed g.L.Link.sends g.L.Link.brings g.L.Link.is_silent
-      (IsNotAwaited (g.W.Waiter.community l.fn.waiter) (g.W.Waiter.id l.fn.waiter)) l.request l.counter l.fn.link l.link;
+  missing : AreMissed g.L.Link (IsNotAwaited (g.W.Waiter.community l.fn.waiter) (g.W.Waiter.id l.fn.waiter)) l.request l.counter l.fn.link l.link;
 }

@@ -1,4 +1,4 @@
-use Rattle.std.proofs.Common.{◌≡◌, ◌<◌, ◌≤◌, ◌∙◌, sym, subst, refl, take, arith, length, ℕ, List, Option, Some, None, false}
+use Rattle.std.proofs.Common.{◌≡◌, inl, inr, ◌<◌, ◌≤◌, ◌∙◌, sym, subst, refl, take, arith, length, ℕ, List, Option, Some, None, false}
 use Rattle.std.proofs.lemmas.Grind.{common_steps}
 use Rattle.std.specs.Prelude.{true, Result, IfSome, IfNone}
 use Rattle.snmp_wire.specs.Message.{VarBind, Message}
@@ -9,14 +9,15 @@ use Rattle.snmp_walk.specs.declared.end.WalkEnd.{WalkEnd}
 use Rattle.snmp_walk.specs.declared.tries.Course.{Course}
 use Rattle.snmp_walk.specs.Taken.{awaits}
 use Rattle.snmp_walk.specs.Read.{IsRead, IsReadAs}
-use Rattle.snmp_walk.specs.Link.{ComesOver}
+use Rattle.snmp_walk.specs.Link.{Outcome}
+use Rattle.snmp_walk.specs.Link as outcome
 use Rattle.snmp_walk.specs.Traffic.{Traffic}
 use Rattle.snmp_walk.proofs.HearLemmas.{waits_first, stray_heard, none_heard, reply_heard, heard_used, received_by}
-use Rattle.snmp_walk.specs.Missed.{IsNotAwaited}
+use Rattle.snmp_walk.specs.Tries.{IsNotAwaited, AreReceives}
 use Rattle.snmp_walk.proofs.JudgedLemmas.{not_response}
-use Rattle.snmp_walk.proofs.MissedLemmas.{IsMissing, missing_first, missing_more, missed_all, missed_silent}
-use Rattle.snmp_walk.proofs.MoveLemmas.{is_bad, never_bad, ok_fine, sent_none, moves_none, moves_as, receives_on}
-use Rattle.snmp_walk.proofs.TurnLemmas.{if_some}
+use Rattle.snmp_walk.proofs.TryLemmas.{missing_first, missing_more, received_so}
+use Rattle.snmp_walk.proofs.MoveLemmas.{is_bad, never_bad, ok_fine, sent_none, moves_none, moves_as, receive_as, receives_on}
+use Rattle.snmp_walk.proofs.TurnLemmas.{if_some, on_cut}
 use Rattle.snmp_walk.proofs.tries.hear.Goals as goal
 
 pub returns-in_default-clause-heard : goal.returns-in_default-clause-heard
@@ -67,14 +68,22 @@ pub returns-in-Some-read_reply-clause-read : goal.returns-in-Some-read_reply-cla
 returns-in-Some-read_reply-clause-read g c =
     let inv = c.receives.invariant in
     let is = if_some c.read_reply.result _ c.in-Some-read_reply.course c.in-Some-read_reply.is c.read_reply.ensures.some in
-    read_now (ComesOver g.L.Link.brings) _ g.W.Waiter.community g.W.Waiter.id g.W.Waiter.reads g.S.Sink.takes c.receives.waiter c.args.waiter.now
-    c.receives.sink c.args.sink.now (take c.in-Some.length c.receive.new.buffer) _ _ c.read_reply.result c.in-Some-read_reply.course
-    c.read_reply.new.end inv.waiter inv.sink c.in-Some-read_reply.is c.read_reply.ensures.some (
-      c.receives.link,
-      c.receive.new.self,
-      if_some c.in_ok-length.field-0 (λ n. g.L.Link.brings c.receives.link (take n c.receive.new.buffer) c.receive.new.self) c.in-Some.length c.in-Some.is
-          c.in_ok-length.ensures.brings,
-    )
+    let datagram : List ℕ = take c.in-Some.length c.receive.new.buffer in
+    let less : c.receives.counter < 64 = omega arith in
+    let long : 65507 ≤ length c.receives.buffer = grind (arith, common_steps) in
+    read_now (λ octets. (strays : List (List ℕ)) × AreReceives g.L.Link (IsNotAwaited (g.W.Waiter.community c.args.waiter.now) (g.W.Waiter.id c.args.waiter.now))
+    c.args.link.now (outcome.answered octets) c.receive.new.self strays) _ g.W.Waiter.community g.W.Waiter.id g.W.Waiter.reads g.S.Sink.takes
+    c.receives.waiter c.args.waiter.now c.receives.sink c.args.sink.now datagram _ _ c.read_reply.result c.in-Some-read_reply.course
+    c.read_reply.new.end inv.waiter inv.sink c.in-Some-read_reply.is c.read_reply.ensures.some
+    (received_so g.L.Link _ c.receives.counter c.args.link.now
+    c.receives.link c.receive.new.self (outcome.answered datagram) inv.missing (
+      less,
+      (
+        if_some c.in_ok-length.field-0 (λ n. g.L.Link.brings c.receives.link (take n c.receive.new.buffer) c.receive.new.self) c.in-Some.length c.in-Some.is
+            c.in_ok-length.ensures.brings,
+        receive_as g.L.Link long (never_bad _ _ c.in_ok-length.was) (λ f. absurd f) c.receive.ensures.moves,
+      ),
+    ))
     (λ q h last asked.
     let old : Traffic = g.L.Link.traffic c.args.link.now in
     let now : Traffic = g.L.Link.traffic c.receives.link in
@@ -108,8 +117,7 @@ receives-init g c = record {
   waits = λ q h last asked. waits_first (g.L.Link.agents c.args.link.now) q (g.L.Link.traffic c.args.link.now);
   waiter = refl;
   sink = refl;
-  missing = missing_first g.L.Link.brings g.L.Link.is_silent (IsNotAwaited (g.W.Waiter.community c.args.waiter.now) (g.W.Waiter.id c.args.waiter.now))
-      c.args.link.now;
+  missing = missing_first g.L.Link _ c.args.link.now;
 }
 
 pub receives-preserved : goal.receives-preserved
@@ -133,10 +141,12 @@ receives-preserved g c =
           (if_none c.read_reply.result _ c.in_default-read_reply.is c.read_reply.ensures.none m spelt))) (inv.waits q h last asked);
       waiter = (if_none c.read_reply.result _ c.in_default-read_reply.is c.read_reply.ensures.unchanged).0 ∙ inv.waiter;
       sink = (if_none c.read_reply.result _ c.in_default-read_reply.is c.read_reply.ensures.unchanged).1 ∙ inv.sink;
-      missing = missing_more g.L.Link.brings g.L.Link.is_silent (IsNotAwaited (g.W.Waiter.community c.args.waiter.now) (g.W.Waiter.id c.args.waiter.now))
-          c.receives.counter c.args.link.now c.receives.link c.receive.new.self (take c.in-Some.length c.receive.new.buffer) inv.missing
-          (if_some c.in_ok-length.field-0 (λ n. g.L.Link.brings c.receives.link (take n c.receive.new.buffer) c.receive.new.self) c.in-Some.length c.in-Some.is
-          c.in_ok-length.ensures.brings)
+      missing = missing_more g.L.Link _
+          c.receives.counter c.args.link.now c.receives.link c.receive.new.self (take c.in-Some.length c.receive.new.buffer) inv.missing (
+            if_some c.in_ok-length.field-0 (λ n. g.L.Link.brings c.receives.link (take n c.receive.new.buffer) c.receive.new.self) c.in-Some.length c.in-Some.is
+                c.in_ok-length.ensures.brings,
+            receive_as g.L.Link long (never_bad _ _ c.in_ok-length.was) (λ f. absurd f) c.receive.ensures.moves,
+          )
           (λ m spelt. not_response (g.W.Waiter.community c.args.waiter.now) (g.W.Waiter.id c.args.waiter.now) m
           (read_other g.W.Waiter.community g.W.Waiter.id c.receives.waiter c.args.waiter.now m inv.waiter
           (if_none c.read_reply.result _ c.in_default-read_reply.is c.read_reply.ensures.none m spelt)));
@@ -145,17 +155,30 @@ receives-preserved g c =
 pub returns-in_default-clause-unanswered : goal.returns-in_default-clause-unanswered
 returns-in_default-clause-unanswered g c =
     let less : c.receives.counter < 64 = omega arith in
-    missed_silent g.L.Link.brings g.L.Link.is_silent (IsNotAwaited (g.W.Waiter.community c.args.waiter.now) (g.W.Waiter.id c.args.waiter.now))
-    c.receives.counter c.args.link.now c.receives.link c.receive.new.self less c.receives.invariant.missing
-    (if_none c.in_ok-length.field-0 _ c.in_default.is c.in_ok-length.ensures.silent)
+    let long : 65507 ≤ length c.receives.buffer = grind (arith, common_steps) in
+    received_so g.L.Link _ c.receives.counter c.args.link.now
+    c.receives.link c.receive.new.self outcome.missed c.receives.invariant.missing (inl (
+      less,
+      (
+        if_none c.in_ok-length.field-0 _ c.in_default.is c.in_ok-length.ensures.silent,
+        receive_as g.L.Link long (never_bad _ _ c.in_ok-length.was) (λ f. absurd f) c.receive.ensures.moves,
+      ),
+    ))
 
 pub returns-clause-unanswered : goal.returns-clause-unanswered
 returns-clause-unanswered g c =
     let all : c.receives.counter ≡ 64 = omega arith in
-    missed_all g.L.Link.brings g.L.Link.is_silent (IsNotAwaited (g.W.Waiter.community c.args.waiter.now) (g.W.Waiter.id c.args.waiter.now))
-    c.args.link.now c.receives.link
-    (subst (λ (n : ℕ). IsMissing g.L.Link.brings g.L.Link.is_silent (IsNotAwaited (g.W.Waiter.community c.args.waiter.now) (g.W.Waiter.id c.args.waiter.now)) n
-    c.args.link.now c.receives.link) all c.receives.invariant.missing)
+    received_so g.L.Link _ c.receives.counter c.args.link.now
+    c.receives.link c.receives.link outcome.missed c.receives.invariant.missing (inr (all, refl))
+
+pub returns-in_err-length-clause-cut_off : goal.returns-in_err-length-clause-cut_off
+returns-in_err-length-clause-cut_off g c =
+    let less : c.receives.counter < 64 = omega arith in
+    let long : 65507 ≤ length c.receives.buffer = grind (arith, common_steps) in
+    on_cut c.from_residual.result _
+    (received_so g.L.Link _ c.receives.counter c.args.link.now
+    c.receives.link c.receive.new.self outcome.cut_off c.receives.invariant.missing
+    (less, receive_as g.L.Link long (λ f. tt) (λ _. is_bad _ _ c.in_err-length.was) c.receive.ensures.moves))
 
 pub returns-in_err-length-clause-moves : goal.returns-in_err-length-clause-moves
 returns-in_err-length-clause-moves g c =

@@ -1,0 +1,86 @@
+-- How the tries of a request go over any link, each from the state in which the one before it ended.
+use Rattle.std.specs.Prelude.{◌≡◌, ◌<◌, ℕ, ◌⊎◌, List, [], ◌∷◌, length}
+use Rattle.snmp_wire.specs.Message.{Message}
+use Rattle.snmp_wire.specs.Spelling.{Spells}
+use Rattle.snmp_wire.specs.Canon.{canon}
+use Rattle.snmp_walk.specs.Walker.{Walker}
+use Rattle.snmp_walk.specs.Request.{request_of}
+use Rattle.snmp_walk.specs.Judged.{IsResponseTo}
+use Rattle.snmp_walk.specs.Link.{OneOf, Outcome, answered, missed, cut_off}
+use Rattle.snmp_walk.specs.Moved.{IsMoved}
+use Rattle.snmp_walk.specs.declared.link.Link.{Ghosts as LinkFacts}
+
+-- the datagram doesn't encode the reply of this community and request-id: it encodes another
+-- message, or none
+abbrev pub IsNotAwaited : List ℕ → ℕ → List ℕ → Type 0
+IsNotAwaited community id datagram = (m : Message) → Spells m datagram
+    → IsResponseTo community id m → ⊥
+
+-- these led from one state to the other, each from the state in which the one before it ended
+abbrev pub InTurn : {L X : Type 0} → (L → X → L → Type 0) → L → List X → L → Type 0
+InTurn {L} step old [] new = new ≡ old
+InTurn {L} step old (x ∷ more) new = (between : L) × step old x between × InTurn step between more new
+
+-- a send of the datagram; a receive that brought one; and a receive that brought nothing
+abbrev pub Sends : {L : Type 0} → LinkFacts L → L → List ℕ → L → Type 0
+Sends {L} facts old datagram new = facts.sends old datagram new
+    × IsMoved facts old (datagram ∷ []) ⊥ new
+
+abbrev pub Brings : {L : Type 0} → LinkFacts L → L → List ℕ → L → Type 0
+Brings {L} facts old datagram new = facts.brings old datagram new × IsMoved facts old [] ⊥ new
+
+abbrev pub BringsNothing : {L : Type 0} → LinkFacts L → L → L → Type 0
+BringsNothing {L} facts old new = facts.is_silent old new × IsMoved facts old [] ⊥ new
+
+-- How a try ends after so many datagrams that weren't the reply: a receive brings it; or brings
+-- nothing, or 64 had come; or fails.
+abbrev pub EndsTry : {L : Type 0} → LinkFacts L → (strays : ℕ) → L → Outcome → L → Type 0
+EndsTry {L} facts strays old (answered datagram) new = (strays < 64) × Brings facts old datagram new
+EndsTry {L} facts strays old missed new = ((strays < 64) × BringsNothing facts old new)
+    ⊎ ((strays ≡ 64) × (new ≡ old))
+EndsTry {L} facts strays old cut_off new = (strays < 64) × IsMoved facts old [] (Unit {0}) new
+
+-- after a send, receives brought these datagrams in turn, none of them the reply, and then the try
+-- ended so
+pub record AreReceives {L : Type 0} (facts : LinkFacts L) (Other : List ℕ → Type 0) (old : L)
+    (outcome : Outcome) (new : L) (strays : List (List ℕ)) : Type 0 where
+  pub last : L
+  pub brought : InTurn (Brings facts) old strays last
+  pub others : (datagram : List ℕ) → OneOf strays datagram → Other datagram
+  pub over : EndsTry facts (length strays) last outcome new
+
+-- the request was sent, and then that was heard
+pub record IsTry {L : Type 0} (facts : LinkFacts L) (Other : List ℕ → Type 0) (request : List ℕ)
+    (outcome : Outcome) (old : L) (strays : List (List ℕ)) (new : L) : Type 0 where
+  pub between : L
+  pub sent : Sends facts old request between
+  pub received : AreReceives facts Other between outcome new strays
+
+-- so many tries of the request missed the reply: each of these lists is what one of them received
+pub record AreMissed {L : Type 0} (facts : LinkFacts L) (Other : List ℕ → Type 0)
+    (request : List ℕ) (tries : ℕ) (old new : L) : Type 0 where
+  pub received : List (List (List ℕ))
+  pub all : length received ≡ tries
+  pub are_missed : InTurn (IsTry facts Other request missed) old received new
+
+-- the last try of the request, whose sending may fail
+abbrev pub IsLastTry : {L : Type 0} → LinkFacts L → (List ℕ → Type 0) → List ℕ → L → Outcome → L
+    → Type 0
+IsLastTry {L} facts Other request old outcome new =
+    ((strays : List (List ℕ)) × IsTry facts Other request outcome old strays new)
+    ⊎ ((outcome ≡ cut_off) × IsMoved facts old (request ∷ []) (Unit {0}) new)
+
+-- What came of the request in so many tries at most: each of them missed the reply, or fewer did and
+-- one more ended so.
+abbrev pub AreTried : {L : Type 0} → LinkFacts L → (List ℕ → Type 0) → List ℕ → (tries : ℕ) → L
+    → Outcome → L → Type 0
+AreTried {L} facts Other request tries old missed new = AreMissed facts Other request tries old new
+AreTried {L} facts Other request tries old outcome new =
+    (earlier : ℕ) × (earlier < tries) × (before : L)
+    × AreMissed facts Other request earlier old before
+    × IsLastTry facts Other request before outcome new
+
+-- the same of the request of a walk that waits for the reply to it
+abbrev pub IsTried : {L : Type 0} → LinkFacts L → (tries : ℕ) → Walker → L → Outcome → L → Type 0
+IsTried {L} facts tries w old outcome new = AreTried facts (IsNotAwaited w.community w.id)
+    (canon (request_of w)) tries old outcome new
