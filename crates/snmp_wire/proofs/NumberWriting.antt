@@ -1,8 +1,11 @@
 -- How many octets a number takes, by its highest bit, and four octets at once.
-use Rattle.std.proofs.Common.{◌≡◌, ℕ, ◌+◌, ◌-◌, ◌*◌, ◌/◌, ◌%◌, ◌^◌, ◌<◌, ◌≤◌, pos, lit<, suc, zero, List, [], ◌∷◌, refl, sym, ap, ◌∙◌, pow-add, ⊎_elim, arith}
+use Rattle.std.proofs.Common.{true, ◌≡◌, ℕ, ℤ, negsuc, ◌+◌, ◌-◌, ◌*◌, ◌/◌, ◌%◌, ◌^◌, ◌<◌, ◌≤◌, pos, lit<, suc, zero, List, [], ◌∷◌, refl, sym, ap, ◌∙◌, pow-add, ⊎_elim, arith}
 use Rattle.std.proofs.Math.Nat.{div-one, pow-le-pow_right, pow-suc}
 use Rattle.std.proofs.lemmas.Bool.{cases_lt}
 use Rattle.std.specs.Int.{to_be_bytes}
+use Rattle.std.proofs.lemmas.Bool.Decides.{nat_tests}
+use lib.IntN.{nat_abs}
+use lib.Signed.{le_z, lt_z}
 use mir.Syntax.{w32}
 use Rattle.snmp_wire.specs.ber.Canon.{canon_number, digit_count, number_size, octets}
 use Rattle.snmp_wire.specs.ber.Writing.{Writes}
@@ -89,3 +92,11 @@ one_octet n = ap (λ m. (m % 256) ∷ []) (sym (div-one n))
 pub two_octets : (n : ℕ) → (n / 256 % 256) ∷ (n % 256) ∷ [] ≡ octets 2 n
 unfolding octets
 two_octets n = ap (λ m. (n / 256 % 256) ∷ (m % 256) ∷ []) (sym (div-one n))
+
+-- a number from 0 to 127 is its octet
+pub short_number : (z : ℤ) → le_z (pos 0) z ≡ true → lt_z z (pos 128) ≡ true → nat_abs z ∷ [] ≡ canon_number z
+short_number (pos n) low high =
+    let below : n < 128 = grind (arith, nat_tests) in
+    let small : n % 256 ≡ n = omega (arith, below) in
+    ap (λ m. m ∷ []) (sym small) ∙ one_octet n ∙ ap (λ k. octets k n) (size_one n below) ∙ octets_from_zero n
+short_number (negsuc n) low high = absurd (cc)

@@ -20,4 +20,4 @@ pub use length::{content_at, element_at, header_size, inner_at, put_header, put_
 pub use number::{integer_at, integer_size, put_integer};
 pub use owned::{OctetString, Value};
 pub use value::{ValueRef, check_value, content_size, put_value, read_value};
-pub use writing::put_text;
+pub use writing::{put_octet, put_text};

@@ -94,10 +94,16 @@ impl<'a> Bindings<'a> {
         ensures some { result ≡ true → self.old ≡ var_bind into.new ∷ self.new }
         ensures none { result ≡ false → (self.old ≡ []) × (self.new ≡ []) × (into.new ≡ into.old) }
     {
-        let Some(binding) = self.next_ref() else {
+        if self.rest.is_empty() {
             return false;
+        }
+        // The fields stay in registers, since those of a long form are read elsewhere.
+        let Some((fields, rest)) = short_fields_at(self.rest) else {
+            self.rest = read_long(self.rest, into);
+            return true;
         };
-        binding.read_into(into);
+        self.rest = rest;
+        read_binding(fields, into);
         true
     }
 }
@@ -265,6 +271,21 @@ fn long_fields_in<'a>(octets: &'a [u8]) -> (Fields<'a>, &'a [u8])
     }
 }
 
+/// Reads the binding at the front of octets that are known to be bindings into one that is there,
+/// and returns what follows.
+#[cold]
+fn read_long<'a>(octets: &'a [u8], into: &mut Binding<'a>) -> &'a [u8]
+    requires some { 0 < length octets.now }
+    requires bindings { IsOk (reading.bindings_of octets.now) }
+    ensures others { IsOk (reading.bindings_of result.now) }
+    ensures read { reading.bindings_in octets.now
+        ≡ var_bind into.new ∷ reading.bindings_in result.now }
+{
+    let (fields, rest) = long_fields_in(octets);
+    read_binding(fields, into);
+    rest
+}
+
 /// Reads the binding of these fields into one that is there.
 // Hot: each binding that is read.
 #[inline(always)]
@@ -345,7 +366,8 @@ pub fn encode_binding(binding: &Binding<'_>, out: &mut [u8]) -> Option<usize>
 }
 
 /// Writes a binding before `end`, and returns where it begins.
-#[inline]
+// Hot, and called once: the loop that writes bindings.
+#[inline(always)]
 pub(crate) fn put_binding(out: &mut [u8], end: usize, binding: &Binding<'_>) -> usize
     requires encodable { IsEncodable (var_bind binding.now) }
     requires room { length (canon_binding (var_bind binding.now)) ≤ end }
@@ -356,7 +378,8 @@ pub(crate) fn put_binding(out: &mut [u8], end: usize, binding: &Binding<'_>) -> 
 }
 
 /// Writes the binding of a name and a value before `end`, and returns where it begins.
-#[inline]
+// Hot: each binding that is written.
+#[inline(always)]
 pub(crate) fn put_pair(out: &mut [u8], end: usize, name: &Oid, value: &ValueRef<'_>) -> usize
     requires encodable { IsEncodable (record { name = name.now; value = datum value.now }) }
     requires room { length (canon_binding (record {

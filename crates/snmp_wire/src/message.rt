@@ -18,7 +18,7 @@ ghost use Rattle.snmp_wire.specs.ber.Writing.{Writes};
 use crate::ber::tag::{INTEGER, OCTET_STRING, SEQUENCE};
 use crate::ber::{
     BerError, content_at, content_reading, element_at, header_size, inner_at, integer_at,
-    integer_size, put_header, put_integer, put_text,
+    integer_size, put_header, put_integer, put_octet, put_short_header, put_text,
 };
 use crate::binding::{binding_size, check_bindings, put_binding};
 use crate::kind::{kind_of, tag_of_kind};
@@ -177,7 +177,8 @@ fn outermost_of(octets: &[u8]) -> Result<&[u8], BerError>
 
 /// The message of this version, community and kind whose PDU has this content.
 #[tactic(auto, unfolding(crate::specs::Reading::pdu_of))]
-#[inline]
+// Called once, as hot as its caller: its result isn't moved.
+#[inline(always)]
 fn pdu_of<'a>(
     version: i32,
     community: &'a [u8],
@@ -417,8 +418,23 @@ fn put_head(out: &mut [u8], end: usize, parts: &Parts<'_>, total: u64) -> usize
 }
 
 /// Writes an INTEGER before `end`, and returns where it begins.
-#[inline]
+// Hot: four numbers of each message, most of which take one octet.
+#[inline(always)]
 fn put_integer_element(out: &mut [u8], end: usize, number: i32) -> usize
+    requires room { length (canon_value (integer_value number)) ≤ end }
+    requires within { end ≤ length out.old }
+    ensures { Writes out.old result end (canon_value (integer_value number)) out.new }
+{
+    if 0 <= number && number < 128 {
+        let start = put_octet(out, end, number as u8);
+        return put_short_header(out, start, INTEGER, (end - start) as u64);
+    }
+    put_any_integer_element(out, end, number)
+}
+
+/// Writes an INTEGER before `end`, however many octets it takes, and returns where it begins.
+#[inline(never)]
+fn put_any_integer_element(out: &mut [u8], end: usize, number: i32) -> usize
     requires room { length (canon_value (integer_value number)) ≤ end }
     requires within { end ≤ length out.old }
     ensures { Writes out.old result end (canon_value (integer_value number)) out.new }

@@ -57,7 +57,8 @@ fn sign_of(octet: u8) -> u8
 
 /// The INTEGER at the front, and what follows.
 #[tactic(auto, unfolding(crate::specs::ber::Reading::integer_at, crate::specs::ber::Reading::inner_at, crate::specs::ber::Reading::content_at, crate::specs::ber::Reading::length_at, crate::specs::ber::Reading::integer_of))]
-#[inline]
+// Hot: four numbers of each message. Inlined, those of one octet take a few tests.
+#[inline(always)]
 pub fn integer_at(octets: &[u8]) -> Result<(i32, &[u8]), BerError>
     ensures { AgreesBy (λ x. (x.0, x.1.now)) result (reading.integer_at octets.now) }
 {
@@ -70,7 +71,7 @@ pub fn integer_at(octets: &[u8]) -> Result<(i32, &[u8]), BerError>
 
 /// The INTEGER at the front, and what follows, whatever its length.
 #[tactic(auto, unfolding(crate::specs::ber::Reading::integer_at))]
-#[inline]
+#[inline(never)]
 fn any_integer_at(octets: &[u8]) -> Result<(i32, &[u8]), BerError>
     ensures { AgreesBy (λ x. (x.0, x.1.now)) result (reading.integer_at octets.now) }
 {

@@ -228,7 +228,8 @@ fn address_size(address: [u8; 4]) -> u64
 
 /// Writes a value before `end`, its tag (RFC 3416, section 3) with its content, and returns where
 /// it begins.
-#[inline]
+// Hot: each binding that is written.
+#[inline(always)]
 #[tactic(auto, unfolding(crate::specs::ber::Canon::canon_value, crate::specs::ber::Canon::canon_content))]
 pub fn put_value(out: &mut [u8], end: usize, value: &ValueRef<'_>) -> usize
     requires encodable { IsEncodableValue (datum value.now) }

@@ -6,7 +6,7 @@ ghost use Rattle.snmp_wire.specs.ber.Writing.{Writes};
 /// Writes an octet before `end`, and returns its place.
 #[inline]
 #[tactic(auto, using(crate::proofs::WritingLemmas::writes_one))]
-pub(crate) fn put_octet(out: &mut [u8], end: usize, octet: u8) -> usize
+pub fn put_octet(out: &mut [u8], end: usize, octet: u8) -> usize
     requires room { 1 ≤ end }
     requires within { end ≤ length out.old }
     ensures { Writes out.old result end (octet ∷ []) out.new }

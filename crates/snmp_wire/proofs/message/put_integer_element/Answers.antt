@@ -1,22 +1,37 @@
-use Rattle.std.proofs.Common.{List, ap, length, refl, subst, sym, ℕ, ◌≤◌, ◌∙◌}
+use Rattle.std.proofs.Common.{◌≡◌, ◌∷◌, [], ℤ, ap, arith, length, pos, refl, sym, true, ◌∙◌}
 use Rattle.std.proofs.lemmas.Int.{to_z-of_z}
+use lib.IntN.{nat_abs}
+use lib.Signed.{le_z, lt_z}
 use mir.Syntax.{w32}
-use Rattle.snmp_wire.specs.ber.Canon.{canon_number}
+use mir.Val.{SFits, of_z, to_z}
+use Rattle.snmp_wire.specs.ber.Canon.{canon_content, canon_number}
 use Rattle.snmp_wire.specs.ber.Value.{integer_value}
+use Rattle.snmp_wire.specs.ber.Writing.{Writes}
 use Rattle.snmp_wire.specs.ber.ElementLaws.{content_number, value_content_fits, value_header_fits, writes_value}
 use Rattle.snmp_wire.specs.ber.WritingLaws.{writes_same}
+use Rattle.snmp_wire.proofs.NumberWriting.{short_number}
 use Rattle.snmp_wire.proofs.message.put_integer_element.Goals as goal
+use Rattle.snmp_wire.proofs.message.put_integer_element.Goals.{After-put_octet-start}
 
-pub put_integer-start-requires-clause-room : goal.put_integer-start-requires-clause-room
-put_integer-start-requires-clause-room c = subst (λ (octets : List ℕ). length octets ≤ c.args.end)
-    (content_number c.args.number ∙ ap canon_number (sym (to_z-of_z w32 c.args.number c.ranges.number)))
-    (value_content_fits c.args.end (integer_value c.args.number) c.requires.room)
+-- the number is the content
+one : (z : ℤ) → SFits w32 z → le_z (pos 0) (to_z w32 (of_z w32 z)) ≡ true → lt_z (to_z w32 (of_z w32 z)) (pos 128) ≡ true
+    → nat_abs (to_z w32 (of_z w32 z)) ∷ [] ≡ canon_content (integer_value z)
+one z fits low high = short_number (to_z w32 (of_z w32 z)) low high ∙ ap canon_number (to_z-of_z w32 z fits) ∙ sym (content_number z)
 
-pub put_header-requires-clause-room : goal.put_header-requires-clause-room
-put_header-requires-clause-room c = value_header_fits 2 (integer_value c.args.number) refl
-    (writes_same c.put_integer-start.ensures (ap canon_number (to_z-of_z w32 c.args.number c.ranges.number)
-    ∙ sym (content_number c.args.number))) c.requires.room
+pub put_octet-start-requires-clause-room : goal.put_octet-start-requires-clause-room
+put_octet-start-requires-clause-room c =
+    let size : 1 ≡ length (canon_content (integer_value c.args.number)) =
+    ap length (one c.args.number c.ranges.number c.if-number-ge0.true c.if-number-lt128.true) in
+    omega (arith, size, value_content_fits c.args.end (integer_value c.args.number) c.requires.room)
 
-pub returns : goal.returns
-returns c = writes_value 2 (integer_value c.args.number) refl (writes_same c.put_integer-start.ensures
-    (ap canon_number (to_z-of_z w32 c.args.number c.ranges.number) ∙ sym (content_number c.args.number))) c.put_header.ensures
+written : (c : After-put_octet-start)
+    → Writes c.args.out.now c.put_octet-start.result c.args.end (canon_content (integer_value c.args.number)) c.put_octet-start.new.out
+written c = writes_same c.put_octet-start.ensures (one c.args.number c.ranges.number c.if-number-ge0.true c.if-number-lt128.true)
+
+pub put_short_header-requires-clause-room : goal.put_short_header-requires-clause-room
+put_short_header-requires-clause-room c = value_header_fits 2 (integer_value c.args.number) refl
+    (written (goal.at.put_short_header-requires-clause-room c).After-put_octet-start) c.requires.room
+
+pub returns-then-number-lt128 : goal.returns-then-number-lt128
+returns-then-number-lt128 c = writes_value 2 (integer_value c.args.number) refl
+    (written (goal.at.returns-then-number-lt128 c).After-put_octet-start) c.put_short_header.ensures

@@ -1,0 +1,23 @@
+use Rattle.std.proofs.Common.{refl, sym, ◌∙◌}
+use Rattle.snmp_wire.specs.Reading.{fields}
+use Rattle.snmp_wire.specs.ber.ReadingLaws.{some_left, none_left}
+use Rattle.snmp_wire.proofs.BindingLemmas.{stands, bindings_in_end}
+use Rattle.snmp_wire.proofs.binding.Bindings.read_next.Goals as goal
+
+pub returns-then-is_empty-clause-none : goal.returns-then-is_empty-clause-none
+returns-then-is_empty-clause-none c = λ _.
+    let none = sym c.self.view_is ∙ bindings_in_end c.self.inside.rest.now (none_left _ _ c.is_empty.ensures c.if-is_empty.true) in
+    (none, none, refl)
+
+pub read_binding-requires : goal.read_binding-requires
+read_binding-requires c = (stands c.self.inside.rest.now (fields c.in-Some.fields) c.in-Some.rest.now c.self.invariant
+    (some_left _ _ c.is_empty.ensures c.if-is_empty.false) c.in-Some.ensures).is_binding
+
+pub invariant_of-self-2 : goal.invariant_of-self-2
+invariant_of-self-2 c = (stands c.self.inside.rest.now (fields c.in-Some.fields) c.in-Some.rest.now c.self.invariant
+    (some_left _ _ c.is_empty.ensures c.if-is_empty.false) c.in-Some.ensures).others
+
+pub returns-clause-some : goal.returns-clause-some
+returns-clause-some c = λ _.
+    sym c.self.view_is ∙ (stands c.self.inside.rest.now (fields c.in-Some.fields) c.in-Some.rest.now c.self.invariant
+    (some_left _ _ c.is_empty.ensures c.if-is_empty.false) c.in-Some.ensures).all _ c.read_binding.ensures
