@@ -76,6 +76,16 @@ fn copy_to_front(octets: &mut [u8; MAX_CONTENT], content: &[u8])
     octets[..content.len()].copy_from_slice(content);
 }
 
+/// How many octets the shortest encoding of the binding that asks for a name takes.
+#[inline]
+pub fn asking_size(name: &EncodedName<'_>) -> u64
+    ensures { result ≡ length (canon_binding (asking name.now)) }
+{
+    let len = name.content().len() as u64;
+    let content = header_size(len) + len + 2;
+    header_size(content) + content
+}
+
 /// Writes the binding that asks for a name, whose value is NULL (RFC 3416, section 4.2), to the
 /// front of `out`, and returns its length.
 ///
@@ -88,9 +98,7 @@ pub fn encode_asking(name: &EncodedName<'_>, out: &mut [u8]) -> Option<usize>
         ↔ (length (canon_binding (asking name.now)) ≤ length out.old) }
     ensures unchanged { IfNone result (out.new ≡ out.old) }
 {
-    let len = name.content().len() as u64;
-    let content = header_size(len) + len + 2;
-    let size = (header_size(content) + content) as usize;
+    let size = asking_size(name) as usize;
     if out.len() < size {
         return None;
     }

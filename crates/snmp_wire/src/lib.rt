@@ -40,7 +40,7 @@ mod message;
 mod name;
 
 pub use crate::ber::{BerError, OctetString, Value, ValueRef, element_sizes, tag};
-pub use asking::{NameBuffer, encode_asking};
+pub use asking::{NameBuffer, asking_size, encode_asking};
 pub use binding::{Binding, BindingRef, Bindings, binding_size, encode_binding};
 pub use encoded::EncodedBinding;
 pub use kind::Kind;
