@@ -283,7 +283,7 @@ subidentifier_fails (first ∷ rest) e h =
       | inr other ↦ subidentifier_from_fails 0 (first ∷ rest) e other.1
     ]
 
-number_fails : (octets : List ℕ) (e : BerError) → number_at octets ≡ Err e → error.Content ≡ e
+pub number_fails : (octets : List ℕ) (e : BerError) → number_at octets ≡ Err e → error.Content ≡ e
 unfolding number_at
 number_fails octets e h =
     elim (bind_err (subidentifier_at octets) (λ n. cond (ltb n.0 (2 ^ 32)) (Ok n) (Err error.Content)) e h) [

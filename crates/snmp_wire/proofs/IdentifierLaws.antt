@@ -141,6 +141,13 @@ number_takes octets x e =
     let p = passed (ltb b.0.0 (2 ^ 32)) (Ok b.0) error.Content x b.2 in
     subst (λ (y : ℕ × List ℕ). TakesSubidentifier octets y × (y.0 < 2 ^ 32)) (ok_is b.0 x p.1) (subidentifier_takes octets b.0 b.1, ltb-true b.0.0 (2 ^ 32) p.0)
 
+-- what follows a number is shorter
+pub number_shrinks : (octets : List ℕ) (x : ℕ × List ℕ) → number_at octets ≡ Ok x → 1 + length x.1 ≤ length octets
+number_shrinks octets x e =
+    let t = (number_takes octets x e).0 in
+    let s = t.is_subidentifier in
+    omega (arith, ap length t.parts, ap length s.parts, length-append t.text x.1, length-append s.front (s.last ∷ []))
+
 number_again : (text : List ℕ) (n : ℕ) (rest : List ℕ) → IsSubidentifier text n → n < 2 ^ 32 → number_at (text ++ rest) ≡ Ok (n, rest)
 unfolding number_at
 number_again text n rest h lt = rw (subidentifier_again text n rest h (omega arith), lt-ltb n (2 ^ 32) lt) refl

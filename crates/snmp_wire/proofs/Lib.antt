@@ -18,6 +18,7 @@ pub mod IdentifierLaws
 pub mod IdentifierLemmas
 pub mod IdentifierWriting
 pub mod KnownLemmas
+pub mod NumberCounting
 pub mod LenientValues
 pub mod NumberLemmas
 pub mod NameComparing

@@ -29,6 +29,8 @@ pub enum Kind {
 
 /// The kind that has this tag.
 #[tactic(auto, unfolding(crate::specs::Reading::kind_of))]
+// Called once, for each message that is checked.
+#[inline(always)]
 pub(crate) fn kind_of(tag: u8) -> Result<Kind, BerError>
     ensures { AgreesBy (λ kind. kind) result (reading.kind_of tag) }
 {

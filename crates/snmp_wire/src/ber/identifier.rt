@@ -146,38 +146,38 @@ fn check_numbers(octets: &[u8]) -> Result<(), BerError>
     ensures { AgreesBy (λ u. u) result (checked (reading.numbers_of 126 octets.now)) }
 {
     let mut rest = octets;
-    let mut room = MORE_NUMBERS;
+    let mut count = 0;
     'numbers: while !rest.is_empty() {
-        let (count, after) = some_numbers_at(room, rest)?;
+        let (some, after) = some_numbers_at(rest)?;
         rest = after;
-        room -= count;
+        count += some;
+    }
+    // Once for all turns.
+    if count > MORE_NUMBERS {
+        return Err(BerError::Content);
     }
     Ok(())
 }
 
-/// How many numbers are at the front, one, four or eight of at most `room`, and what follows them.
+/// How many numbers are at the front, one, four or eight, and what follows them.
 // Hot, and called once: a turn of the loop that checks a name.
 #[inline(always)]
-fn some_numbers_at(room: usize, octets: &[u8]) -> Result<(usize, &[u8]), BerError>
+fn some_numbers_at(octets: &[u8]) -> Result<(usize, &[u8]), BerError>
     requires { 0 < length octets.now }
-    ensures ok { IfOk result (λ x.
-        (1 ≤ x.0) × (x.0 ≤ room)
-        × (checked (reading.numbers_of (room - x.0) x.1.now)
-        ≡ checked (reading.numbers_of room octets.now))) }
-    ensures err { IfErr result (λ e. checked (reading.numbers_of room octets.now) ≡ Err e) }
+    ensures some { IfOk result (λ x. (1 ≤ x.0) × (x.0 + length x.1.now ≤ length octets.now)) }
+    ensures fits { IfOk result (λ x. (room : ℕ) → x.0 ≤ room
+        → checked (reading.numbers_of (room - x.0) x.1.now)
+        ≡ checked (reading.numbers_of room octets.now)) }
+    ensures full { IfOk result (λ x. (room : ℕ) → room < x.0
+        → checked (reading.numbers_of room octets.now) ≡ Err BerError.Content) }
+    ensures err { IfErr result (λ e. (room : ℕ)
+        → checked (reading.numbers_of room octets.now) ≡ Err e) }
 {
-    if room == 0 {
-        return Err(BerError::Content);
+    if let Some((_, rest)) = eight_at(octets) {
+        return Ok((8, rest));
     }
-    if room >= 8 {
-        if let Some((_, rest)) = eight_at(octets) {
-            return Ok((8, rest));
-        }
-    }
-    if room >= 4 {
-        if let Some((_, rest)) = four_at(octets) {
-            return Ok((4, rest));
-        }
+    if let Some((_, rest)) = four_at(octets) {
+        return Ok((4, rest));
     }
     let (_, rest) = number_at(octets)?;
     Ok((1, rest))

@@ -54,7 +54,8 @@ pub enum ValueRef<'a> {
 
 /// Checks that a value of this tag has this content.
 #[tactic(auto, unfolding(crate::specs::ber::Reading::typed_value, crate::specs::ber::Reading::unsigned_of))]
-#[inline]
+// Hot: each binding that is checked.
+#[inline(always)]
 pub fn check_value(tag: u8, content: &[u8]) -> Result<(), BerError>
     ensures { AgreesBy (λ u. u) result (checked (reading.typed_value tag content.now)) }
 {
