@@ -81,10 +81,6 @@ check_goes_on room octets n after total some has_room h so_far =
     let one : numbers_of room octets ≡ (numbers_of (room - 1) after >>= λ more. Ok (n ∷ more)) = numbers_step room octets some has_room ∙ rw h refl in
     sym (ap checked one ∙ forget n (numbers_of (room - 1) after)) ∙ so_far
 
-pub check_ends : (room : ℕ) (octets : List ℕ) (total : Result (Unit {0}) BerError) → length octets ≡ 0 → checked (numbers_of room octets) ≡ total
-    → total ≡ Ok tt
-check_ends room octets total none so_far = sym so_far ∙ ap checked (numbers_end room octets none)
-
 -- what was read before, and what is still read
 abbrev pub with_front : List ℕ → Result (List ℕ) BerError → Result (List ℕ) BerError
 with_front front read = read >>= λ more. Ok (front ++ more)

@@ -142,6 +142,8 @@ pub fn check_identifier(content: &[u8]) -> Result<(), BerError>
 }
 
 /// Checks that the octets are numbers, no more than may follow the first two.
+// Hot: the loop that checks a name.
+#[inline(always)]
 fn check_numbers(octets: &[u8]) -> Result<(), BerError>
     ensures { AgreesBy (λ u. u) result (checked (reading.numbers_of 126 octets.now)) }
 {

@@ -65,12 +65,21 @@ pub fn check_value(tag: u8, content: &[u8]) -> Result<(), BerError>
         tag::NULL | tag::NO_SUCH_OBJECT | tag::NO_SUCH_INSTANCE | tag::END_OF_MIB_VIEW => {
             allowed(content.is_empty())
         }
-        tag::OBJECT_IDENTIFIER => check_identifier(content),
+        tag::OBJECT_IDENTIFIER => check_object_id(content),
         tag::IP_ADDRESS => allowed(content.len() == 4),
         tag::COUNTER32 | tag::GAUGE32 | tag::TIME_TICKS => allowed(has_width(4, content)),
         tag::COUNTER64 => allowed(has_width(8, content)),
         _ => Err(BerError::Tag),
     }
+}
+
+/// Checks that the content of a value is an identifier. Few values are identifiers, so this isn't
+/// inlined.
+#[inline(never)]
+fn check_object_id(content: &[u8]) -> Result<(), BerError>
+    ensures { AgreesBy (λ u. u) result (checked (reading.identifier_of content.now)) }
+{
+    check_identifier(content)
 }
 
 /// Reads the value of this tag and content into an existing one.
