@@ -1,5 +1,5 @@
--- The request of a walk, written as the binding that asks for a name and then its head.
-use Rattle.std.proofs.Common.{◌≡◌, ◌≤◌, ◌+◌, List, ℕ, [], ◌++◌, length, take, drop, sym, ap, ◌∙◌, arith}
+-- The request of a walk, written as its head and then the binding that asks for a name.
+use Rattle.std.proofs.Common.{◌≡◌, ◌≤◌, ◌+◌, List, ℕ, [], ◌++◌, length, take, length-append, append_assoc, sym, ap, ◌∙◌, arith}
 use Rattle.std.proofs.lemmas.List.{take_at}
 use Rattle.snmp_wire.specs.Canon.{canon, canon_binding, canon_head}
 use Rattle.snmp_wire.specs.Laws.{HasPieces}
@@ -22,10 +22,17 @@ module _ (law : HasPieces) (w : Walker) (bare : Message) (same : bare ≡ record
   pub request_size : length (canon_head bare total) + total ≡ length (canon (request_of w))
   request_size = size_of law (request_of w) bare same total (long ∙ ap length (alone ∙ sym (canon_one (asking w.asked))))
 
-  pub request_made : (old new : List ℕ) → new ≡ canon_binding (asking name) ++ drop total old
-      → canon_head bare total ++ take total new ≡ canon (request_of w)
-  request_made old new is =
-      ap (λ (t : List ℕ). canon_head bare total ++ take total t) is
-      ∙ ap (λ (t : List ℕ). canon_head bare total ++ t) (take_at (canon_binding (asking name)) (drop total old) total (sym long))
-      ∙ pieces_of law (request_of w) bare same total (canon_binding (asking name)) (long ∙ ap length (alone ∙ sym (canon_one (asking w.asked))))
+  pub request_made : (head len : ℕ) (held rest part tail more : List ℕ) → head ≡ length (canon_head bare total) → held ≡ canon_head bare total ++ rest
+      → len ≡ length (canon_binding (asking name)) → part ≡ canon_binding (asking name) ++ tail
+      → take (head + len) (take head held ++ (part ++ more)) ≡ canon (request_of w)
+  request_made head len held rest part tail more begins is goes_on asks =
+      let front = canon_head bare total in
+      let back = canon_binding (asking name) in
+      let first : take head held ≡ front = ap (take head) is ∙ take_at front rest head (sym begins) in
+      let both : length (front ++ back) ≡ head + len = omega (arith, begins, goes_on, length-append front back) in
+      ap (λ (t : List ℕ). take (head + len) (t ++ (part ++ more))) first
+      ∙ ap (λ (t : List ℕ). take (head + len) (front ++ (t ++ more))) asks
+      ∙ ap (take (head + len)) (ap (λ (t : List ℕ). front ++ t) (append_assoc back tail more) ∙ sym (append_assoc front back (tail ++ more)))
+      ∙ take_at (front ++ back) (tail ++ more) (head + len) both
+      ∙ pieces_of law (request_of w) bare same total back (long ∙ ap length (alone ∙ sym (canon_one (asking w.asked))))
       (alone ∙ sym (canon_one (asking w.asked)))

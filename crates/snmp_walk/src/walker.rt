@@ -15,7 +15,7 @@ use crate::{Method, Mode, Phase, Rows, StartError, Step, WalkEnd};
 use arrayvec::ArrayVec;
 use snmp_wire::{
     BindingRef, Bindings, EncodedName, Kind, MAX_CONTENT, MessageRef, NameBuffer, Oid, OidError,
-    Parts, decode, encode_asking, pieces, seal, tag,
+    Parts, asking_size, decode, encode_asking, encode_head, pieces, tag,
 };
 use std::cmp::Ordering;
 use std::marker::Model;
@@ -174,6 +174,9 @@ impl WalkCore {
 
     /// The octets of the waiting request (RFC 3416, section 3), at the front of `out`, and how many
     /// there are; 0 after the end of the walk.
+    // Not inlined: the turn of a walk that calls it would then clear its ends, of over a thousand
+    // octets, before each request.
+    #[inline(never)]
     pub fn request(&self, out: &mut [u8; 65507]) -> usize
         ensures waiting { self.now.phase ≢ Phase.Over
             → (result ≡ length (canon (request_of self.now)))
@@ -185,9 +188,8 @@ impl WalkCore {
             return 0;
         }
         pieces();
-        let Some(total) = encode_asking(&self.asked.name(), &mut out[..]) else {
-            unreachable!()
-        };
+        let name = self.asked.name();
+        let total = asking_size(&name);
         let parts = Parts {
             version: 1,
             community: self.community.as_slice(),
@@ -197,8 +199,11 @@ impl WalkCore {
             b: self.repetitions(),
             bindings: &[],
         };
-        match seal(&parts, 0, total, &mut out[..]) {
-            Some(length) => length,
+        let Some(head) = encode_head(&parts, total, &mut out[..]) else {
+            unreachable!()
+        };
+        match encode_asking(&name, &mut out[head..]) {
+            Some(len) => head + len,
             None => unreachable!(),
         }
     }
