@@ -38,7 +38,7 @@ both_true false b e = let no : ⊥ = cc in absurd no
 digit_is_no_dot : (octet : ℕ) → is_ascii_digit octet ≡ true → octet ≢ dot
 digit_is_no_dot octet yes_digit same = let P : ℕ → Type 0 = λ n. is_ascii_digit n ≡ true in let no : false ≡ true = subst P same yes_digit in cc
 
-digits_have_no_dot : (part : List ℕ) → all_ascii_digits part ≡ true → HasNoDot part
+pub digits_have_no_dot : (part : List ℕ) → all_ascii_digits part ≡ true → HasNoDot part
 digits_have_no_dot [] e = All-nil (λ octet. octet ≢ dot)
 digits_have_no_dot (octet ∷ rest) e =
     let both = both_true (is_ascii_digit octet) (all_ascii_digits rest) e in

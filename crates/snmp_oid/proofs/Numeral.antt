@@ -1,12 +1,17 @@
 -- Facts about one decimal number: reading it, and that what is written reads back.
 use Rattle.std.proofs.Common.{decimal, ◌≡◌, ◌≢◌, ℕ, ◌+◌, ◌-◌, ◌*◌, ◌^◌, ◌≤◌, ◌<◌, true, false, ◌&&◌, List, [], ◌∷◌, length, drop, get_or, refl, sym, ◌∙◌, ap}
-use Rattle.std.proofs.Common.{subst, arith, drop-cons, add-one, lit<}
+use Rattle.std.proofs.Common.{subst, arith, drop-cons, add-one, lit<, take, ◌++◌, append_assoc}
+use Rattle.std.proofs.Math.Seq.{take-suc}
+use Rattle.std.proofs.lemmas.List.{append-nil, length-take-le}
 use Rattle.std.proofs.Math.Nat.{pow-suc, one-le-pow, le-mul_of_pos_right}
 use Rattle.std.proofs.lemmas.Fmt.{decimal_nonempty, digits_decimal, digits_value-decimal}
 use Rattle.std.proofs.lemmas.Str.Parse.{IsNumeralModel, numerals_by_weight, tells_all_ascii_digits}
 use Rattle.std.specs.Char.{is_ascii_digit}
 use Rattle.std.specs.Str.{all_ascii_digits}
 use Rattle.snmp_oid.specs.Numeric.{decimal_value, IsNumeral}
+
+zero_more : (rest : List ℕ) → 0 * 10 ^ length rest + decimal_value rest ≡ decimal_value rest
+zero_more rest = omega arith
 
 -- the digits of a part are read but for those left
 pub record IsReadTo (part left : List ℕ) (number : ℕ) : Type 0 where
@@ -75,6 +80,34 @@ pub read_large_at : (part : List ℕ) (count number : ℕ) → count < length pa
 read_large_at part count number low large h =
     read_large part (drop (count + 1) part) (get_or part count 0) number large
     (let P : List ℕ → Type 0 = λ left. IsReadTo part left number in subst P (front_at part count low) h)
+
+-- the digits at the front are read, whatever follows them
+pub record IsFrontRead (text : List ℕ) (count number : ℕ) : Type 0 where
+  pub within : count ≤ length text
+  pub read : (rest : List ℕ) → IsReadTo (take count text ++ rest) rest number
+
+pub front_begins : (text : List ℕ) → IsFrontRead text 0 0
+front_begins text = record { within = omega arith; read = λ rest. record { value = zero_more rest; digits = refl; fits = lit< tt } }
+
+pub front_more : (text : List ℕ) (count number : ℕ) → count < length text → is_ascii_digit (get_or text count 0) ≡ true
+    → number * 10 + (get_or text count 0 - 48) < 2 ^ 32 → IsFrontRead text count number
+    → IsFrontRead text (count + 1) (number * 10 + (get_or text count 0 - 48))
+front_more text count number low is_digit small h =
+    let digit : ℕ = get_or text count 0 in
+    record {
+      within = omega arith;
+      read = λ rest.
+          let e : take (count + 1) text ++ rest ≡ take count text ++ (digit ∷ rest) =
+          rw add-one (ap (λ (front : List ℕ). front ++ rest) (take-suc text count 0 low) ∙ append_assoc (take count text) (digit ∷ []) rest) in
+          subst (λ (t : List ℕ). IsReadTo t rest (number * 10 + (digit - 48))) (sym e)
+          (read_more (take count text ++ (digit ∷ rest)) rest digit number is_digit small (h.read (digit ∷ rest)));
+    }
+
+pub front_numeral : (text : List ℕ) (count number : ℕ) → 0 < count → IsFrontRead text count number → IsNumeral (take count text) number
+front_numeral text count number some h =
+    let full : length (take count text) ≡ count = length-take-le count text h.within in
+    read_all (take count text) number (λ none. omega (arith, ap length none, full))
+    (subst (λ (t : List ℕ). IsReadTo t [] number) (append-nil (take count text)) (h.read []))
 
 -- the digits that are written of a number are a numeral of it
 own : IsNumeralModel (λ ds. all_ascii_digits ds ≡ true) decimal_value

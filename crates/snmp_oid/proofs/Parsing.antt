@@ -2,11 +2,13 @@
 use Rattle.std.proofs.Common.{◌≡◌, ◌≢◌, ℕ, min, ◌+◌, ◌-◌, ◌≤◌, ◌<◌, ◌⊎◌, inl, inr, Bool, true, false, List, [], ◌∷◌, ◌++◌, length, take, drop, get_or}
 use Rattle.std.proofs.Common.{slice_index, Option, Some, None, refl, sym, ◌∙◌, ap, subst, arith, length-append, append_assoc}
 use Rattle.std.proofs.lemmas.Bool.{cases_order}
-use Rattle.std.proofs.lemmas.List.{append-nil, take_all, take-append-le, get_or-drop, get_or_append_left, length_push, drop_at, drop-drop, length-take}
+use Rattle.std.proofs.Common.{MatchOption}
+use Rattle.std.proofs.lemmas.List.{append-nil, take-append-drop, take_all, take-append-le, get_or-drop, get_or_append_left, length_push, drop_at, drop-drop, length-take}
 use Rattle.std.proofs.Math.Seq.{get_or-append_seam}
-use Rattle.snmp_oid.specs.Numeric.{dot, IsNumeral, IsDotted, IsNumericName, BeginsPart, part_at, IsFirstBadPart}
+use Rattle.snmp_oid.specs.Numeric.{dot, IsNumeral, IsDotted, IsNumericName, BeginsPart, part_at, IsFirstBadPart, IsPartRead}
 use Rattle.snmp_oid.proofs.Dotted.{parts, parts_left, AreNumerals, Splits, parts_of, to_dot_is, numerals_from_dotted, dotted_from_numerals, same_numerals}
-use Rattle.snmp_oid.proofs.Dotted.{numerals_more, part_is_numeral}
+use Rattle.snmp_oid.proofs.Dotted.{digits_have_no_dot, numerals_more, part_is_numeral}
+use Rattle.snmp_oid.proofs.Numeral.{IsFrontRead, front_numeral}
 
 -- a text without the dot in front
 abbrev pub IsBehindDot : List ℕ → List ℕ → Type 0
@@ -269,3 +271,26 @@ parsed_only text kept too_long h o name =
 
 pub parsed_short : (text kept : List ℕ) → (h : IsParsedTo text None kept false) → (length h.numbers ≤ 128) × (kept ≡ h.numbers)
 parsed_short text kept h = (h.short refl, h.first ∙ take_all 128 h.numbers (h.short refl))
+
+-- what follows a part, with its dot
+abbrev pub front_of : Option (List ℕ) → List ℕ
+front_of None = []
+front_of (Some rest) = dot ∷ rest
+
+parts_after : (text part : List ℕ) (after : Option (List ℕ)) → text ≡ part ++ front_of after
+    → MatchOption after (text ≡ part) (λ rest. text ≡ part ++ dot ∷ rest)
+parts_after text part None e = e ∙ append-nil part
+parts_after text part (Some rest) e = e
+
+-- a part is what was read of it: the digits at the front, up to the end or a dot
+pub part_is_read : (text : List ℕ) (count number : ℕ) (after : Option (List ℕ)) → 0 < count → IsFrontRead text count number
+    → drop count text ≡ front_of after → IsPartRead text (Some number) after
+part_is_read text count number after some h behind =
+    let numeral : IsNumeral (take count text) number = front_numeral text count number some h in
+    let whole : text ≡ take count text ++ front_of after = sym (take-append-drop count text) ∙ ap (λ (rest : List ℕ). take count text ++ rest) behind in
+    record {
+      part = take count text;
+      plain = digits_have_no_dot (take count text) numeral.digits;
+      parts = parts_after text (take count text) after whole;
+      read = numeral;
+    }

@@ -1,7 +1,7 @@
 -- Identifiers as text: decimal numbers with a dot before or between them, as in `.1.3.6.1`.
 use Rattle.std.specs.Prelude.{◌≡◌, ◌≢◌, ℕ, ◌+◌, ◌-◌, ◌*◌, ◌^◌, ◌<◌, ◌≤◌, ◌⊎◌, ◌==◌, not}
 use Rattle.std.specs.Prelude.{List, [], ◌∷◌, ◌++◌, length, take_while, drop, slice_index, decimal}
-use Rattle.std.specs.Prelude.{true}
+use Rattle.std.specs.Prelude.{true, All, Option, MatchOption}
 use Rattle.std.specs.List.{flat_map}
 use Rattle.std.specs.Str.{all_ascii_digits}
 
@@ -52,6 +52,14 @@ pub record IsFirstBadPart (text : List ℕ) (at : ℕ) : Type 0 where
   pub part : BeginsPart text at
   pub bad : (n : ℕ) → IsNumeral (part_at text at) n → ⊥
   pub before : (k : ℕ) → k < at → BeginsPart text k → (n : ℕ) × IsNumeral (part_at text k) n
+
+-- The part up to the first dot of a text, or the end: the number that it is a numeral of, and what
+-- follows the dot. Private clauses alone cite this.
+pub record IsPartRead (text : List ℕ) (number : Option ℕ) (after : Option (List ℕ)) : Type 0 where
+  pub part : List ℕ
+  pub plain : All (λ octet. octet ≢ dot) part
+  pub parts : MatchOption after (text ≡ part) (λ rest. text ≡ part ++ dot ∷ rest)
+  pub read : MatchOption number ((n : ℕ) → IsNumeral part n → ⊥) (IsNumeral part)
 
 -- the text names a list of more numbers than an identifier holds
 abbrev pub IsTooLong : List ℕ → Type 0

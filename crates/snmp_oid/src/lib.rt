@@ -21,5 +21,5 @@
 mod numeric;
 mod oid;
 
-pub use numeric::{LONGEST_TEXT, OidTextError, names, parse_numeric, write_numeric};
+pub use numeric::{LONGEST_TEXT, OidTextError, names, parse_numeric, read_numeric, write_numeric};
 pub use oid::{MAX_LEN, Oid, OidError, compare_numbers, order, ranks};

@@ -1,10 +1,11 @@
 //! Identifiers as text: decimal numbers with a dot before or between them, as in `.1.3.6.1`.
 ghost use Rattle.std.specs.Prelude.{◌≡◌, ◌≢◌, ℕ, ◌+◌, ◌<◌, ◌≤◌, ◌↔◌, ◌⊎◌, List, [], ◌∷◌, ◌++◌};
 ghost use Rattle.std.specs.Prelude.{decimal, length, drop, slice_index, All, MatchOption};
-ghost use Rattle.std.specs.Prelude.{IsTrue, IfOk, IfSome, IfNone, IsSome, Ok, Err};
+ghost use Rattle.std.specs.Prelude.{IsTrue, IfOk, OnOk, IfSome, IfNone, IsSome, Ok, Err, Some};
+ghost use Rattle.std.specs.Option.{option_map};
 ghost use Rattle.snmp_oid.specs.Identifier.{IsIdentifier};
 ghost use Rattle.snmp_oid.specs.Numeric.{IsNumericName, IsFirstBadPart, IsTooLong, IsNumeral};
-ghost use Rattle.snmp_oid.specs.Numeric.{IsWrittenTo, dot, numeric_text};
+ghost use Rattle.snmp_oid.specs.Numeric.{IsPartRead, IsWrittenTo, dot, numeric_text};
 
 use crate::Oid;
 use arrayvec::ArrayVec;
@@ -36,14 +37,32 @@ pub fn parse_numeric(text: &[u8]) -> Result<Oid, OidTextError>
     ensures too_long { (result ≡ Err OidTextError.TooLong) ↔ IsTooLong text.now }
 {
     let mut oid = Oid::new();
+    match read_numeric(text, &mut oid) {
+        Ok(()) => Ok(oid),
+        Err(error) => Err(error),
+    }
+}
+
+/// Reads the identifier that a text names into one that is there, as [`parse_numeric`] reads it: it
+/// takes as long to move an identifier as to read one. After an error it may have any numbers.
+pub fn read_numeric(text: &[u8], oid: &mut Oid) -> Result<(), OidTextError>
+    ensures found { OnOk result (IsNumericName text.now oid.new) }
+    ensures at_most_128 { OnOk result (length oid.new ≤ 128) }
+    ensures only { (o : List ℕ) → IsNumericName text.now o → length o ≤ 128
+        → (result ≡ Ok tt) × (oid.new ≡ o) }
+    ensures bad_number { (at : ℕ)
+        → (result ≡ Err (OidTextError.BadNumber at)) ↔ IsFirstBadPart text.now at }
+    ensures too_long { (result ≡ Err OidTextError.TooLong) ↔ IsTooLong text.now }
+{
+    oid.clear();
     if is_dot(text) {
-        return Ok(oid);
+        return Ok(());
     }
     let mut too_long = false;
     let mut left = Some(without_front_dot(text));
     'parts: while let Some(here) = left {
-        let (part, after) = split_part(here);
-        let Some(number) = read_number(part) else {
+        let (number, after) = read_part(here);
+        let Some(number) = number else {
             return Err(OidTextError::BadNumber(text.len() - here.len()));
         };
         if oid.push(number).is_err() {
@@ -54,7 +73,7 @@ pub fn parse_numeric(text: &[u8]) -> Result<Oid, OidTextError>
     if too_long {
         Err(OidTextError::TooLong)
     } else {
-        Ok(oid)
+        Ok(())
     }
 }
 
@@ -74,6 +93,56 @@ fn without_front_dot(text: &[u8]) -> &[u8]
         [b'.', rest @ ..] => rest,
         _ => text,
     }
+}
+
+/// The number of the first part of a text, None where that is no numeral, and what follows the dot
+/// that ends it, None where none does.
+// Hot: each number of a name.
+#[inline(always)]
+fn read_part(text: &[u8]) -> (Option<u32>, Option<&[u8]>)
+    ensures { IsPartRead text.now result.0 (option_map (λ rest. rest.now) result.1) }
+{
+    match read_digits(text) {
+        Some((number, after)) => (Some(number), after),
+        None => read_any_part(text),
+    }
+}
+
+/// The same where the part is digits of a number that is far from the greatest, as most are. None
+/// says nothing of the text.
+// Hot: each number of a name. One pass over its digits and their end.
+#[inline(always)]
+fn read_digits(text: &[u8]) -> Option<(u32, Option<&[u8]>)>
+    ensures { IfSome result
+        (λ read. IsPartRead text.now (Some read.0) (option_map (λ rest. rest.now) read.1)) }
+{
+    let mut number: u32 = 0;
+    let mut count = 0;
+    'digits: while count < text.len() && text[count].is_ascii_digit() {
+        if number >= 400_000_000 {
+            return None;
+        }
+        number = number * 10 + u32::from(text[count] - b'0');
+        count += 1;
+    }
+    if count == 0 {
+        return None;
+    }
+    let (_, end) = text.split_at(count);
+    match end.split_first() {
+        None => Some((number, None)),
+        Some((octet, rest)) if *octet == b'.' => Some((number, Some(rest))),
+        _ => None,
+    }
+}
+
+/// The same, whatever the part is.
+#[cold]
+fn read_any_part(text: &[u8]) -> (Option<u32>, Option<&[u8]>)
+    ensures { IsPartRead text.now result.0 (option_map (λ rest. rest.now) result.1) }
+{
+    let (part, after) = split_part(text);
+    (read_number(part), after)
 }
 
 /// The first part of a text, and what follows the dot that ends it, None where none does.

@@ -52,4 +52,4 @@ pub use message::{
     MAX_DATAGRAM, MessageRef, Parts, decode, encode, encode_head, head_size, seal, size,
 };
 pub use name::{EncodedName, MAX_CONTENT, encoded_names};
-pub use snmp_oid::{Oid, OidError, OidTextError, parse_numeric, write_numeric};
+pub use snmp_oid::{Oid, OidError, OidTextError, parse_numeric, read_numeric, write_numeric};

@@ -1,6 +1,6 @@
 use Rattle.std.proofs.Common.{◌+◌, length, List, ℕ, Option, Some, None, option_map}
 use Rattle.snmp_oid.proofs.Parsing.{IsParsedTo}
-use Rattle.snmp_oid.proofs.numeric.parse_numeric.Given as goal
+use Rattle.snmp_oid.proofs.numeric.read_numeric.Given as goal
 
 abbrev pub invariant-parts : goal.invariant-parts
 invariant-parts l = IsParsedTo l.text (option_map (λ s. s.now) l.left) l.oid l.too_long
