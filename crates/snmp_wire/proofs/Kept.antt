@@ -1,6 +1,8 @@
 -- Bindings that are kept as their encodings: what is written is read again.
 use Rattle.std.proofs.Common.{◌≡◌, ℕ, List, [], ◌∷◌, ◌++◌, Result, Ok, IsOk, refl, sym, ap, subst, ◌∙◌}
-use Rattle.std.proofs.lemmas.List.{append-nil}
+use Rattle.std.proofs.Common.{◌<◌, ◌≤◌, length, get_or, take, drop, cond, eqb, ltb, Err, arith}
+use Rattle.std.proofs.lemmas.Bool.{lt-ltb, ltb-false}
+use Rattle.std.proofs.lemmas.List.{append-nil, take-append-drop}
 use Rattle.std.specs.Result.{result_unwrap_or}
 use Rattle.snmp_wire.specs.declared.ber.error.BerError.{BerError}
 use Rattle.snmp_wire.specs.Canon.{IsEncodable, IsEncodableValue, canon_binding}
@@ -13,8 +15,9 @@ use Rattle.snmp_wire.specs.Spelling.{SpellsBinding}
 use Rattle.snmp_wire.specs.ber.Laws.{ContentReading, ShortestEncodings}
 use Rattle.snmp_wire.specs.ber.LengthLaws.{inner_again}
 use Rattle.snmp_wire.specs.ber.Number.{lenient}
-use Rattle.snmp_wire.specs.ber.Reading.{identifier_of, inner_at}
-use Rattle.snmp_wire.specs.ber.ReadingLaws.{is_ok_at, ok_is}
+use Rattle.snmp_wire.specs.declared.ber.error.BerError.TheVariants as error
+use Rattle.snmp_wire.specs.ber.Reading.{content_at, identifier_of, inner_at, length_at}
+use Rattle.snmp_wire.specs.ber.ReadingLaws.{done, is_ok_at, ok_is, passed, refused}
 use Rattle.snmp_wire.proofs.Lenient.{binding_is_read}
 use Rattle.snmp_wire.proofs.MessageLaws.{binding_again, bindings_again}
 use Rattle.snmp_wire.proofs.StrictMessages.{spells_binding}
@@ -36,6 +39,24 @@ encodable_value end_of_mib_view h = tt
 
 pub encodable : (p : VarBind) → IsInRange (object_id p.name) → IsInRange p.value → IsEncodable p
 encodable p name value = record { name = name.0; value = encodable_value p.value value }
+
+-- an element whose length has one octet
+short_inner : (tag found size : ℕ) (rest content after : List ℕ) → size < 128 → inner_at tag (found ∷ size ∷ rest) ≡ Ok (content, after)
+    → (size ≤ length rest) × (take size rest ≡ content) × (drop size rest ≡ after)
+unfolding inner_at content_at length_at
+short_inner tag found size rest content after small e =
+    let p = passed (eqb found tag) (content_at error.Length (size ∷ rest)) error.Tag (content, after) e in
+    let q : cond (ltb (length rest) size) (Err error.Length) (Ok (take size rest, drop size rest)) ≡ done (content, after) = rw (lt-ltb size 128 small) at p.1 in
+    let r = refused (ltb (length rest) size) (Ok (take size rest, drop size rest)) error.Length (content, after) q in
+    let both = ok_is (take size rest, drop size rest) (content, after) r.1 in
+    (ltb-false (length rest) size r.0, ap (λ (x : List ℕ × List ℕ). x.0) both, ap (λ (x : List ℕ × List ℕ). x.1) both)
+
+four_then : (l : List ℕ) → 4 ≤ length l → l ≡ get_or l 0 0 ∷ get_or l 1 0 ∷ get_or l 2 0 ∷ get_or l 3 0 ∷ drop 4 l
+four_then [] long = absurd (omega arith)
+four_then (a ∷ []) long = absurd (omega arith)
+four_then (a ∷ b ∷ []) long = absurd (omega arith)
+four_then (a ∷ b ∷ c ∷ []) long = absurd (omega arith)
+four_then (a ∷ b ∷ c ∷ d ∷ rest) long = refl
 
 module _ (reading : ContentReading) (laws : ShortestEncodings) (p : VarBind) (range : IsBindingInRange p) where
   spells : SpellsBinding lenient p (canon_binding p)
@@ -101,3 +122,16 @@ module _ (reading : ContentReading) (laws : ShortestEncodings) (p : VarBind) (ra
         let h = has_name octets e in
         let same : name ≡ h.name = ap (λ (x : List ℕ × List ℕ). x.0) (ok_is (name, value) (h.name, h.value) (sym inner ∙ inner_is)) in
         ap identifier_of same ∙ h.is_name
+
+  -- the name behind the first four octets, where both lengths have one octet
+  pub short_name : (octets : List ℕ) → octets ≡ canon_binding p → 4 ≤ length octets → get_or octets 1 0 < 128 → get_or octets 3 0 < 128
+      → (get_or octets 3 0 ≤ length (drop 4 octets)) × (identifier_of (take (get_or octets 3 0) (drop 4 octets)) ≡ Ok p.name)
+  short_name octets e long small short =
+      let h = has_name octets e in
+      let elements : List ℕ = get_or octets 2 0 ∷ get_or octets 3 0 ∷ drop 4 octets in
+      let outer = short_inner 0x30 (get_or octets 0 0) (get_or octets 1 0) elements h.content [] small (ap (inner_at 0x30) (sym (four_then octets long)) ∙ h.outer) in
+      let whole : elements ≡ h.content =
+      sym (take-append-drop (get_or octets 1 0) elements) ∙ ap (λ (rest : List ℕ). take (get_or octets 1 0) elements ++ rest) outer.2
+      ∙ append-nil (take (get_or octets 1 0) elements) ∙ outer.1 in
+      let inner = short_inner 0x06 (get_or octets 2 0) (get_or octets 3 0) (drop 4 octets) h.name h.value short (ap (inner_at 0x06) whole ∙ h.inner) in
+      (inner.0, ap identifier_of inner.1 ∙ h.is_name)

@@ -1,5 +1,7 @@
 //! Bindings that are kept as their encodings, as a table keeps its rows.
-ghost use Rattle.std.specs.Prelude.{◌≡◌, IfOk};
+ghost use Rattle.std.specs.Prelude.{◌≡◌, IfOk, Ok};
+ghost use Rattle.snmp_wire.specs.Encoded.{IsKept, binding_in};
+ghost use Rattle.snmp_wire.specs.ber.Reading as reading;
 ghost use Rattle.snmp_wire.specs.Canon.{IsEncodable, canon_binding};
 ghost use Rattle.snmp_wire.specs.Message.{datum, object_id, var_bind};
 ghost use Rattle.snmp_wire.specs.Range.{IsBindingInRange, IsInRange};
@@ -61,15 +63,7 @@ impl EncodedBinding {
     pub fn name(&self) -> EncodedName<'_>
         ensures { result ≡ self.now.name }
     {
-        content_reading();
-        shortest_encodings();
-        let Ok((content, _)) = inner_at(SEQUENCE, self.octets.as_slice()) else {
-            unreachable!()
-        };
-        let Ok((name, _)) = inner_at(OBJECT_IDENTIFIER, content) else {
-            unreachable!()
-        };
-        EncodedName::of(name)
+        EncodedName::of(name_in(self.octets.as_slice()))
     }
 
     /// Changes a binding to this one.
@@ -89,6 +83,43 @@ impl EncodedBinding {
         self.read_into(&mut binding);
         binding.value
     }
+}
+
+/// The content of the name in the encoding of a binding.
+// Hot: each comparison of a search. Where the lengths have one octet each, as in most bindings, the
+// name begins at the fifth.
+#[inline(always)]
+fn name_in(octets: &[u8]) -> &[u8]
+    requires { IsKept octets.now }
+    ensures { reading.identifier_of result.now ≡ Ok (binding_in octets.now).name }
+{
+    content_reading();
+    shortest_encodings();
+    match octets {
+        [_, size, _, name_size, ..] if *size < 0x80 && *name_size < 0x80 => {
+            let (_, behind) = octets.split_at(4);
+            let (name, _) = behind.split_at(usize::from(*name_size));
+            name
+        }
+        _ => name_in_long(octets),
+    }
+}
+
+/// The same, whatever the form of the lengths.
+#[cold]
+fn name_in_long(octets: &[u8]) -> &[u8]
+    requires { IsKept octets.now }
+    ensures { reading.identifier_of result.now ≡ Ok (binding_in octets.now).name }
+{
+    content_reading();
+    shortest_encodings();
+    let Ok((content, _)) = inner_at(SEQUENCE, octets) else {
+        unreachable!()
+    };
+    let Ok((name, _)) = inner_at(OBJECT_IDENTIFIER, content) else {
+        unreachable!()
+    };
+    name
 }
 
 /// The shortest encoding of the binding of a name and a value.
