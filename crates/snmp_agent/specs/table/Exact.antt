@@ -1,5 +1,5 @@
 -- What a search or a reading finds.
-use Rattle.std.specs.Prelude.{◌≡◌, Option, Some, None}
+use Rattle.std.specs.Prelude.{◌≡◌, Bool, true, false, Option, Some, None}
 
 -- P holds of just one thing
 abbrev pub HasOne : {X : Type 0} → (X → Type 0) → Type 0
@@ -9,3 +9,8 @@ HasOne {X} P = (x : X) × P x × ((y : X) → P y → y ≡ x)
 abbrev pub IsOnly : {X : Type 0} → (X → Type 0) → Option X → Type 0
 IsOnly {X} P None = (x : X) → P x → ⊥
 IsOnly {X} P (Some x) = P x × ((y : X) → P y → y ≡ x)
+
+-- the same of what was put in a place, where something was found
+abbrev pub IsOnlyThere : {X : Type 0} → (X → Type 0) → (found : Bool) → X → Type 0
+IsOnlyThere P true x = IsOnly P (Some x)
+IsOnlyThere P false x = IsOnly P None

@@ -1,14 +1,14 @@
 //! The names in a table's text: those that a reader hands in, and the two formats.
 ghost use Rattle.std.specs.Prelude.{◌≡◌, ◌++◌, ◌∷◌, ◌↔◌, IsTrue, MatchOption, codes};
 ghost use Rattle.std.specs.Str.Lines.{lines};
-ghost use Rattle.snmp_agent.specs.table.Exact.{IsOnly};
+ghost use Rattle.snmp_agent.specs.table.Exact.{IsOnlyThere};
 ghost use Rattle.snmp_agent.specs.table.Format.{EndsAtBar, Format, HasNoEnd, IsFrontRead, IsMarked};
 ghost use Rattle.snmp_agent.specs.table.Format.{IsName, IsNameIn, Names, bar, numeric_names};
 ghost use Rattle.snmp_agent.specs.table.Format.{first_format, second_format};
 
 use crate::table::split::{split_line, split_once};
 use snmp_io::{split_unquoted, unquoted_front};
-use snmp_wire::{Oid, parse_numeric};
+use snmp_wire::{Oid, read_numeric};
 
 /// What reads the names of a table file of the second format (`docs/PROFILE.md`).
 pub trait Resolver {
@@ -34,9 +34,11 @@ impl Resolver for NumericNames {
         ensures { IsFrontRead numeric_names text.now result }
     {
         let front = unquoted_front(text, b'|');
-        match numeric_name(front) {
-            Some(oid) => Some((oid, front.len())),
-            None => None,
+        let mut oid = Oid::new();
+        if numeric_name(front, &mut oid) {
+            Some((oid, front.len()))
+        } else {
+            None
         }
     }
 }
@@ -45,9 +47,10 @@ impl Resolver for NumericNames {
 pub trait LineFormat {
     ghost format: { Self → Format };
 
-    /// The identifier that a text names.
-    fn name(&self, text: &[u8]) -> Option<Oid>
-        ensures { IsOnly (IsNameIn (format self.now) text.now) result };
+    /// Reads the identifier that a text names into one that is there, and returns whether the text
+    /// names one.
+    fn name(&self, text: &[u8], into: &mut Oid) -> bool
+        ensures { IsOnlyThere (IsNameIn (format self.now) text.now) result into.new };
 
     /// A row's name, and what follows the bar that ends it. None where no bar does.
     fn split_name<'b>(&self, line: &'b [u8]) -> Option<(&'b [u8], &'b [u8])>
@@ -62,16 +65,16 @@ pub struct FirstFormat;
 
 impl LineFormat for FirstFormat {
     ghost use Rattle.std.specs.Prelude.{◌≡◌, ◌++◌, ◌∷◌, MatchOption};
-    ghost use Rattle.snmp_agent.specs.table.Exact.{IsOnly};
+    ghost use Rattle.snmp_agent.specs.table.Exact.{IsOnlyThere};
     ghost use Rattle.snmp_agent.specs.table.Format.{EndsAtBar, HasNoEnd, IsNameIn, bar};
     ghost use Rattle.snmp_agent.specs.table.Format.{first_format};
 
     ghost format = { λ _. first_format };
 
-    fn name(&self, text: &[u8]) -> Option<Oid>
-        ensures { IsOnly (IsNameIn first_format text.now) result }
+    fn name(&self, text: &[u8], into: &mut Oid) -> bool
+        ensures { IsOnlyThere (IsNameIn first_format text.now) result into.new }
     {
-        numeric_name(text)
+        numeric_name(text, into)
     }
 
     fn split_name<'b>(&self, line: &'b [u8]) -> Option<(&'b [u8], &'b [u8])>
@@ -92,18 +95,22 @@ pub struct SecondFormat<'a, R: Resolver> {
 
 impl<'a, R: Resolver> LineFormat for SecondFormat<'a, R> {
     ghost use Rattle.std.specs.Prelude.{◌≡◌, ◌++◌, ◌∷◌, MatchOption};
-    ghost use Rattle.snmp_agent.specs.table.Exact.{IsOnly};
+    ghost use Rattle.snmp_agent.specs.table.Exact.{IsOnlyThere};
     ghost use Rattle.snmp_agent.specs.table.Format.{EndsAtBar, HasNoEnd, IsNameIn, bar};
     ghost use Rattle.snmp_agent.specs.table.Format.{second_format};
 
     ghost format = { λ f. second_format (R.names f.names.now) };
 
-    fn name(&self, text: &[u8]) -> Option<Oid>
-        ensures { IsOnly (IsNameIn (second_format (R.names self.now.names.now)) text.now) result }
+    fn name(&self, text: &[u8], into: &mut Oid) -> bool
+        ensures { IsOnlyThere (IsNameIn (second_format (R.names self.now.names.now)) text.now)
+            result into.new }
     {
         match self.names.front(text) {
-            Some((oid, size)) if size == text.len() => Some(oid),
-            _ => None,
+            Some((oid, size)) if size == text.len() => {
+                into.set_to(&oid);
+                true
+            }
+            _ => false,
         }
     }
 
@@ -117,11 +124,12 @@ impl<'a, R: Resolver> LineFormat for SecondFormat<'a, R> {
     }
 }
 
-/// The identifier that a numeric name has.
-fn numeric_name(text: &[u8]) -> Option<Oid>
-    ensures { IsOnly (IsName text.now) result }
+/// Reads the identifier of a numeric name into one that is there, and returns whether the text is
+/// such a name.
+fn numeric_name(text: &[u8], into: &mut Oid) -> bool
+    ensures { IsOnlyThere (IsName text.now) result into.new }
 {
-    parse_numeric(text).ok()
+    read_numeric(text, into).is_ok()
 }
 
 /// Whether the first line says that the text is of the second format.

@@ -10,7 +10,7 @@ use crate::table::change::is_instance_name;
 use crate::table::format::LineFormat;
 use crate::table::split::split_once;
 use crate::table::value::{Tag, value};
-use snmp_wire::EncodedBinding;
+use snmp_wire::{EncodedBinding, Oid};
 use std::alloc::{AllocError, Global};
 
 /// What a line states.
@@ -63,8 +63,14 @@ enum Form<'a> {
     },
 }
 
-/// What a line states.
-pub fn read_line<F: LineFormat>(alloc: Global, format: &F, line: &[u8]) -> Result<Line, LineFault>
+/// What a line states. Its name is read into the one that is there: to move a name takes as long as
+/// to read it.
+pub fn read_line<F: LineFormat>(
+    alloc: Global,
+    format: &F,
+    line: &[u8],
+    into: &mut Oid,
+) -> Result<Line, LineFault>
     ensures states { IfOk result
         (λ stated. States (F.format format.now) line.now (statement_of stated)) }
     ensures fault { IfErr result (IsLineFault (F.format format.now) line.now) }
@@ -72,8 +78,8 @@ pub fn read_line<F: LineFormat>(alloc: Global, format: &F, line: &[u8]) -> Resul
     match form_of(format, line) {
         None => Err(LineFault::Line),
         Some(Form::Blank) => Ok(Line::Nothing),
-        Some(Form::Object { text }) => object(alloc, format, text),
-        Some(Form::Row { name, tag, text }) => instance(alloc, format, name, tag, text),
+        Some(Form::Object { text }) => object(alloc, format, text, into),
+        Some(Form::Row { name, tag, text }) => instance(alloc, format, name, tag, text, into),
     }
 }
 
@@ -108,13 +114,18 @@ fn row_form<'a, F: LineFormat>(format: &F, line: &'a [u8]) -> Option<Form<'a>>
 }
 
 /// The object prefix that a text names.
-fn object<F: LineFormat>(alloc: Global, format: &F, text: &[u8]) -> Result<Line, LineFault>
+fn object<F: LineFormat>(
+    alloc: Global,
+    format: &F,
+    text: &[u8],
+    into: &mut Oid,
+) -> Result<Line, LineFault>
     ensures { IsObjectRead (F.format format.now) text.now result }
 {
-    match format.name(text) {
-        Some(oid) if !oid.is_empty() => Ok(Line::Object(Vec::from_slice(alloc, oid.as_slice())?)),
-        _ => Err(LineFault::Name),
+    if !format.name(text, into) || into.is_empty() {
+        return Err(LineFault::Name);
     }
+    Ok(Line::Object(Vec::from_slice(alloc, into.as_slice())?))
 }
 
 /// The instance that a line of this form states.
@@ -124,15 +135,15 @@ fn instance<F: LineFormat>(
     text: &[u8],
     tag: Tag,
     value_text: &[u8],
+    into: &mut Oid,
 ) -> Result<Line, LineFault>
     ensures { IsInstanceRead (F.format format.now) text.now (tag_text tag) value_text.now result }
 {
-    // The name stays where it is read: to move one takes as long as to read it.
-    match format.name(text) {
-        Some(oid) if is_instance_name(&oid) => match value(alloc, format, tag, value_text)? {
-            Some(value) => Ok(Line::Instance(EncodedBinding::new(alloc, &oid, &value.as_ref())?)),
-            None => Err(LineFault::Value),
-        },
-        _ => Err(LineFault::Name),
+    if !format.name(text, into) || !is_instance_name(into) {
+        return Err(LineFault::Name);
+    }
+    match value(alloc, format, tag, value_text)? {
+        Some(value) => Ok(Line::Instance(EncodedBinding::new(alloc, into, &value.as_ref())?)),
+        None => Err(LineFault::Value),
     }
 }

@@ -14,7 +14,7 @@ ghost use Rattle.snmp_agent.specs.table.Text.{IsValueText};
 use crate::table::format::LineFormat;
 use crate::table::row::RowValue;
 use hex::FromHexError;
-use snmp_wire::parse_numeric;
+use snmp_wire::{Oid, parse_numeric};
 use std::alloc::{AllocError, Global};
 
 /// The tag of a row, which says of what type its value is, and how the text states it.
@@ -139,6 +139,8 @@ fn address(text: &[u8]) -> Option<[u8; 4]>
 }
 
 /// An identifier that has an encoding, as its numbers.
+// Not inlined: values of other types would have to clear its identifier.
+#[inline(never)]
 fn object_id<F: LineFormat>(
     alloc: Global,
     format: &F,
@@ -147,10 +149,8 @@ fn object_id<F: LineFormat>(
     ensures { IfOk result (λ numbers. IsOnly (λ o. IsNameIn (F.format format.now) text.now o
         × IsWire o) (option_map (λ v. v.items) numbers)) }
 {
-    let Some(oid) = format.name(text) else {
-        return Ok(None);
-    };
-    if !oid.is_wire() {
+    let mut oid = Oid::new();
+    if !format.name(text, &mut oid) || !oid.is_wire() {
         return Ok(None);
     }
     Ok(Some(Vec::from_slice(alloc, oid.as_slice())?))

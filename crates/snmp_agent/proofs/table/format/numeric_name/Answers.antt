@@ -1,17 +1,18 @@
-use Rattle.std.proofs.Common.{◌≡◌, ◌≤◌, ℕ, List, length, Result, Ok, Err, IfOk}
-use Rattle.std.specs.Result.{result_ok}
+use Rattle.std.proofs.Common.{◌≡◌, ◌≤◌, ℕ, Bool, true, false, List, length, Result, Ok, Err, OnOk, sym, subst}
+use Rattle.std.specs.Result.{is_ok}
 use Rattle.snmp_oid.specs.Numeric.{IsNumericName}
 use Rattle.snmp_oid.specs.declared.numeric.OidTextError.{OidTextError}
-use Rattle.snmp_agent.specs.table.Exact.{IsOnly}
+use Rattle.snmp_agent.specs.table.Exact.{IsOnlyThere}
 use Rattle.snmp_agent.specs.table.Format.{IsName}
 use Rattle.snmp_agent.proofs.table.format.numeric_name.Goals as goal
 
-only_name : (text : List ℕ) (r : Result (List ℕ) OidTextError) → IfOk r (IsNumericName text) → IfOk r (λ o. length o ≤ 128) → ((o : List ℕ)
-    → IsNumericName text o → length o ≤ 128 → r ≡ Ok o)
-    → IsOnly (IsName text) (result_ok r)
-only_name text (Ok o) found short only = (record { named = found; short = short }, λ p h. let e = only p h.named h.short in cc)
-only_name text (Err e) found short only = λ p h. let no_name = only p h.named h.short in cc
+only_name : (text o : List ℕ) (r : Result (Unit {0}) OidTextError) → OnOk r (IsNumericName text o) → OnOk r (length o ≤ 128)
+    → ((p : List ℕ) → IsNumericName text p → length p ≤ 128 → (r ≡ Ok tt) × (o ≡ p))
+    → IsOnlyThere (IsName text) (is_ok r) o
+only_name text o (Ok u) found short only = (record { named = found; short = short }, λ p h. sym (only p h.named h.short).1)
+only_name text o (Err e) found short only = λ p h. let none = (only p h.named h.short).0 in cc
 
 pub returns : goal.returns
-returns c = rw c.ok.ensures.value
-    (only_name c.args.text.now c.parse_numeric.result c.parse_numeric.ensures.found c.parse_numeric.ensures.at_most_128 c.parse_numeric.ensures.only)
+returns c = rw c.is_ok.ensures.value
+    (only_name c.args.text.now c.read_numeric.new.oid c.read_numeric.result c.read_numeric.ensures.found c.read_numeric.ensures.at_most_128
+    c.read_numeric.ensures.only)

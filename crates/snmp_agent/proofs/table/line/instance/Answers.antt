@@ -5,41 +5,43 @@ use Rattle.snmp_wire.specs.Range.{IsInRange}
 use Rattle.snmp_agent.specs.table.Exact.{IsOnly}
 use Rattle.snmp_agent.specs.table.Row.{datum_of, tag_text}
 use Rattle.snmp_agent.specs.table.Form.{IsInstanceText}
+use Rattle.snmp_agent.specs.table.Format.{IsNameIn}
 use Rattle.snmp_agent.specs.table.Text.{IsValueText}
 use Rattle.snmp_agent.proofs.Keeping.{instance_value, name_in_range, short_value, value_in_range}
 use Rattle.snmp_agent.proofs.table.line.instance.Given.{Over}
 use Rattle.snmp_agent.proofs.table.line.instance.Goals as goal
-use Rattle.snmp_agent.proofs.table.line.instance.Goals.{In-Some-2}
+use Rattle.snmp_agent.proofs.table.line.instance.Goals.{In-Some}
 
-stated : (g : Over) (c : In-Some-2 g)
-    → IsValueText (g.F.LineFormat.format c.args.format.now) (tag_text c.args.tag) c.args.value_text.now (datum_of c.in-Some-2.value)
+stated : (g : Over) (c : In-Some g)
+    → IsValueText (g.F.LineFormat.format c.args.format.now) (tag_text c.args.tag) c.args.value_text.now (datum_of c.in-Some.value)
 stated g c =
     let format = g.F.LineFormat.format c.args.format.now in
     let value : IsOnly (IsValueText format (tag_text c.args.tag) c.args.value_text.now) (option_map datum_of
-    (Some c.in-Some-2.value)) = rw c.in-Some-2.is at c.in_ok-value-in-Some.ensures in value.0
+    (Some c.in-Some.value)) = rw c.in-Some.is at c.in_ok-value.ensures in value.0
 
 pub as_ref-requires : goal.as_ref-requires
 as_ref-requires g c =
-    short_value c.in-Some-2.value (instance_value (g.F.LineFormat.format c.args.format.now) (tag_text c.args.tag) c.args.value_text.now
-    (datum_of c.in-Some-2.value) (stated g (goal.at.as_ref-requires g c).In-Some-2))
+    short_value c.in-Some.value (instance_value (g.F.LineFormat.format c.args.format.now) (tag_text c.args.tag) c.args.value_text.now
+    (datum_of c.in-Some.value) (stated g (goal.at.as_ref-requires g c).In-Some))
 
 pub new-requires-clause-name : goal.new-requires-clause-name
-new-requires-clause-name g c = name_in_range c.in-Some.oid (c.is_instance_name.ensures.0 c.if-is_instance_name.true)
+new-requires-clause-name g c = name_in_range c.name.new.into (c.is_instance_name.ensures.0 c.if-not-is_instance_name.false)
 
 pub new-requires-clause-value : goal.new-requires-clause-value
 new-requires-clause-value g c =
-    subst (λ (v : Datum). IsInRange v) (sym c.as_ref.ensures) (value_in_range (datum_of c.in-Some-2.value)
-    (instance_value (g.F.LineFormat.format c.args.format.now) (tag_text c.args.tag) c.args.value_text.now (datum_of c.in-Some-2.value)
-    (stated g (goal.at.new-requires-clause-value g c).In-Some-2)))
+    subst (λ (v : Datum). IsInRange v) (sym c.as_ref.ensures) (value_in_range (datum_of c.in-Some.value)
+    (instance_value (g.F.LineFormat.format c.args.format.now) (tag_text c.args.tag) c.args.value_text.now (datum_of c.in-Some.value)
+    (stated g (goal.at.new-requires-clause-value g c).In-Some)))
 
-pub returns-in_ok-new-in-Some-2 : goal.returns-in_ok-new-in-Some-2
-returns-in_ok-new-in-Some-2 g c =
+pub returns-in_ok-new-in-Some : goal.returns-in_ok-new-in-Some
+returns-in_ok-new-in-Some g c =
     let format = g.F.LineFormat.format c.args.format.now in
-    let row : VarBind = c.in_ok-new-in-Some-2.field-0 in
-    let name : row.name ≡ c.in-Some.oid = ap (λ (p : VarBind). p.name) c.in_ok-new-in-Some-2.ensures in
-    let value : row.value ≡ datum_of c.in-Some-2.value = ap (λ (p : VarBind). p.value) c.in_ok-new-in-Some-2.ensures ∙ c.as_ref.ensures in (
+    let row : VarBind = c.in_ok-new-in-Some.field-0 in
+    let named : IsOnly (IsNameIn format c.args.text.now) (Some c.name.new.into) = rw c.if-not-name.false at c.name.ensures in
+    let name : row.name ≡ c.name.new.into = ap (λ (p : VarBind). p.name) c.in_ok-new-in-Some.ensures in
+    let value : row.value ≡ datum_of c.in-Some.value = ap (λ (p : VarBind). p.value) c.in_ok-new-in-Some.ensures ∙ c.as_ref.ensures in (
       subst (λ (o : List ℕ). IsInstanceText format c.args.text.now o) (sym name)
-          (c.in-Some.ensures.0, c.is_instance_name.ensures.0 c.if-is_instance_name.true),
+          (named.0, c.is_instance_name.ensures.0 c.if-not-is_instance_name.false),
       subst (λ (v : Datum). IsValueText format (tag_text c.args.tag) c.args.value_text.now v) (sym value)
-          (stated g (goal.at.returns-in_ok-new-in-Some-2 g c).In-Some-2),
+          (stated g (goal.at.returns-in_ok-new-in-Some g c).In-Some),
     )
