@@ -1,3 +1,4 @@
+pub mod Differing
 pub mod OneShortest
 pub mod BindingLemmas
 pub mod FaultLaws

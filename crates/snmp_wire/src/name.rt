@@ -180,25 +180,50 @@ fn alike(octets: &[u8], others: &[u8]) -> usize
         → get_or octets.now result 0 ≡ get_or others.now result 0 → ⊥ }
 {
     let both = octets.len().min(others.len());
-    let mut count = eights_alike(octets, others);
+    if both < 8 {
+        return few_alike(octets, others);
+    }
+    let mut count = 0;
+    'eights: while both - count >= 8 {
+        let more = eight_alike(octets, others, count);
+        if more < 8 {
+            return count + more;
+        }
+        count += 8;
+    }
+    // The last eight, of which the first are known to be the same.
+    both - 8 + eight_alike(octets, others, both - 8)
+}
+
+/// The same, octet by octet.
+fn few_alike(octets: &[u8], others: &[u8]) -> usize
+    ensures same { IsAlike octets.now others.now result }
+    ensures first { result < length octets.now → result < length others.now
+        → get_or octets.now result 0 ≡ get_or others.now result 0 → ⊥ }
+{
+    let both = octets.len().min(others.len());
+    let mut count = 0;
     'octets: while count < both && octets[count] == others[count] {
         count += 1;
     }
     count
 }
 
-/// How many octets at the front are the same, of those that make up whole words of eight.
+/// How many octets are the same at the front of the eight from a place on: the lowest bit in which
+/// the two words differ is one of the first octet that does.
 // Hot: each comparison of names.
 #[inline(always)]
-fn eights_alike(octets: &[u8], others: &[u8]) -> usize
-    ensures { IsAlike octets.now others.now result }
+fn eight_alike(octets: &[u8], others: &[u8], at: usize) -> usize
+    requires these { at + 8 ≤ length octets.now }
+    requires others { at + 8 ≤ length others.now }
+    ensures at_most_8 { result ≤ 8 }
+    ensures same { (k : ℕ) → k < result
+        → get_or octets.now (at + k) 0 ≡ get_or others.now (at + k) 0 }
+    ensures first { result < 8
+        → get_or octets.now (at + result) 0 ≡ get_or others.now (at + result) 0 → ⊥ }
 {
-    let both = octets.len().min(others.len());
-    let mut count = 0;
-    'eights: while both - count >= 8 && word_at(octets, count) == word_at(others, count) {
-        count += 8;
-    }
-    count
+    let differ = word_at(octets, at) ^ word_at(others, at);
+    differ.trailing_zeros() as usize / 8
 }
 
 /// The eight octets from a place on, as one word.

@@ -2,8 +2,8 @@ use Rattle.std.proofs.Common.{◌-◌, length}
 use Rattle.snmp_wire.specs.Name.{IsAlike}
 use Rattle.snmp_wire.proofs.name.alike.Given as goal
 
-abbrev pub invariant-octets : goal.invariant-octets
-invariant-octets l = IsAlike l.octets l.others l.count
+abbrev pub invariant-eights : goal.invariant-eights
+invariant-eights l = IsAlike l.octets l.others l.count
 
-abbrev pub decreases-octets : goal.decreases-octets
-decreases-octets l = length l.octets - l.count
+abbrev pub decreases-eights : goal.decreases-eights
+decreases-eights l = length l.octets - l.count
