@@ -10,7 +10,7 @@ use crate::table::change::is_instance_name;
 use crate::table::format::LineFormat;
 use crate::table::split::split_once;
 use crate::table::value::{Tag, value};
-use snmp_wire::{EncodedBinding, Oid};
+use snmp_wire::{EncodedBinding, Oid, ValueRef};
 use std::alloc::{AllocError, Global};
 
 /// What a line states.
@@ -142,8 +142,10 @@ fn instance<F: LineFormat>(
     if !format.name(text, into) || !is_instance_name(into) {
         return Err(LineFault::Name);
     }
-    match value(alloc, format, tag, value_text)? {
-        Some(value) => Ok(Line::Instance(EncodedBinding::new(alloc, into, &value.as_ref())?)),
-        None => Err(LineFault::Value),
-    }
+    let Some(stated) = value(alloc, format, tag, value_text)? else {
+        return Err(LineFault::Value);
+    };
+    let mut value = ValueRef::Null;
+    stated.read_into(&mut value);
+    Ok(Line::Instance(EncodedBinding::new(alloc, into, &value)?))
 }

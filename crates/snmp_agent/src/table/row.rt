@@ -32,32 +32,34 @@ impl RowValue {
     ghost use Rattle.snmp_wire.specs.Message.{datum};
     ghost use Rattle.snmp_agent.specs.table.Row.{datum_of, IsShort};
 
-    /// The value, borrowed.
-    pub fn as_ref(&self) -> ValueRef<'_>
+    /// Changes a value to this one, which it borrows.
+    pub fn read_into<'a>(&'a self, into: &mut ValueRef<'a>)
         requires { IsShort self.now }
-        ensures { datum result ≡ datum_of self.now }
+        ensures { datum into.new ≡ datum_of self.now }
     {
         match self {
-            RowValue::Integer(number) => ValueRef::Integer(*number),
-            RowValue::Octets(octets) => ValueRef::Octets(octets.as_slice()),
-            RowValue::ObjectId(numbers) => ValueRef::ObjectId(identifier(numbers.as_slice())),
-            RowValue::IpAddress(octets) => ValueRef::IpAddress(*octets),
-            RowValue::Counter32(number) => ValueRef::Counter32(*number),
-            RowValue::Gauge32(number) => ValueRef::Gauge32(*number),
-            RowValue::TimeTicks(number) => ValueRef::TimeTicks(*number),
-            RowValue::Opaque(octets) => ValueRef::Opaque(octets.as_slice()),
-            RowValue::Counter64(number) => ValueRef::Counter64(*number),
+            RowValue::Integer(number) => *into = ValueRef::Integer(*number),
+            RowValue::Octets(octets) => *into = ValueRef::Octets(octets.as_slice()),
+            RowValue::ObjectId(numbers) => set_to_identifier(into, numbers.as_slice()),
+            RowValue::IpAddress(octets) => *into = ValueRef::IpAddress(*octets),
+            RowValue::Counter32(number) => *into = ValueRef::Counter32(*number),
+            RowValue::Gauge32(number) => *into = ValueRef::Gauge32(*number),
+            RowValue::TimeTicks(number) => *into = ValueRef::TimeTicks(*number),
+            RowValue::Opaque(octets) => *into = ValueRef::Opaque(octets.as_slice()),
+            RowValue::Counter64(number) => *into = ValueRef::Counter64(*number),
         }
     }
 }
 
-/// The identifier of these numbers.
-fn identifier(numbers: &[u32]) -> Oid
+/// Changes a value to the identifier of these numbers.
+// Not inlined: values of other types would have to clear its identifier.
+#[inline(never)]
+fn set_to_identifier(into: &mut ValueRef<'_>, numbers: &[u32])
     requires { length numbers.now ≤ 128 }
-    ensures { result ≡ numbers.now }
+    ensures { datum into.new ≡ object_id numbers.now }
 {
     match Oid::from_slice(numbers) {
-        Ok(oid) => oid,
+        Ok(oid) => *into = ValueRef::ObjectId(oid),
         Err(_) => unreachable!(),
     }
 }

@@ -1,4 +1,4 @@
-use Rattle.std.proofs.Common.{◌≡◌, ◌≤◌, ℕ, Bool, true, false, List, length, Result, Ok, Err, OnOk, sym, subst}
+use Rattle.std.proofs.Common.{◌≡◌, ◌≤◌, ℕ, List, length, Result, Ok, Err, OnOk, sym}
 use Rattle.std.specs.Result.{is_ok}
 use Rattle.snmp_oid.specs.Numeric.{IsNumericName}
 use Rattle.snmp_oid.specs.declared.numeric.OidTextError.{OidTextError}

@@ -13,35 +13,35 @@ use Rattle.snmp_agent.proofs.table.line.instance.Goals as goal
 use Rattle.snmp_agent.proofs.table.line.instance.Goals.{In-Some}
 
 stated : (g : Over) (c : In-Some g)
-    → IsValueText (g.F.LineFormat.format c.args.format.now) (tag_text c.args.tag) c.args.value_text.now (datum_of c.in-Some.value)
+    → IsValueText (g.F.LineFormat.format c.args.format.now) (tag_text c.args.tag) c.args.value_text.now (datum_of c.in-Some.stated)
 stated g c =
     let format = g.F.LineFormat.format c.args.format.now in
     let value : IsOnly (IsValueText format (tag_text c.args.tag) c.args.value_text.now) (option_map datum_of
-    (Some c.in-Some.value)) = rw c.in-Some.is at c.in_ok-value.ensures in value.0
+    (Some c.in-Some.stated)) = rw c.in-Some.is at c.in_ok-stated.ensures in value.0
 
-pub as_ref-requires : goal.as_ref-requires
-as_ref-requires g c =
-    short_value c.in-Some.value (instance_value (g.F.LineFormat.format c.args.format.now) (tag_text c.args.tag) c.args.value_text.now
-    (datum_of c.in-Some.value) (stated g (goal.at.as_ref-requires g c).In-Some))
+pub read_into-requires : goal.read_into-requires
+read_into-requires g c =
+    short_value c.in-Some.stated (instance_value (g.F.LineFormat.format c.args.format.now) (tag_text c.args.tag) c.args.value_text.now
+    (datum_of c.in-Some.stated) (stated g (goal.at.read_into-requires g c).In-Some))
 
 pub new-requires-clause-name : goal.new-requires-clause-name
 new-requires-clause-name g c = name_in_range c.name.new.into (c.is_instance_name.ensures.0 c.if-not-is_instance_name.false)
 
 pub new-requires-clause-value : goal.new-requires-clause-value
 new-requires-clause-value g c =
-    subst (λ (v : Datum). IsInRange v) (sym c.as_ref.ensures) (value_in_range (datum_of c.in-Some.value)
-    (instance_value (g.F.LineFormat.format c.args.format.now) (tag_text c.args.tag) c.args.value_text.now (datum_of c.in-Some.value)
+    subst (λ (v : Datum). IsInRange v) (sym c.read_into.ensures) (value_in_range (datum_of c.in-Some.stated)
+    (instance_value (g.F.LineFormat.format c.args.format.now) (tag_text c.args.tag) c.args.value_text.now (datum_of c.in-Some.stated)
     (stated g (goal.at.new-requires-clause-value g c).In-Some)))
 
-pub returns-in_ok-new-in-Some : goal.returns-in_ok-new-in-Some
-returns-in_ok-new-in-Some g c =
+pub returns : goal.returns
+returns g c =
     let format = g.F.LineFormat.format c.args.format.now in
-    let row : VarBind = c.in_ok-new-in-Some.field-0 in
+    let row : VarBind = c.in_ok-new.field-0 in
     let named : IsOnly (IsNameIn format c.args.text.now) (Some c.name.new.into) = rw c.if-not-name.false at c.name.ensures in
-    let name : row.name ≡ c.name.new.into = ap (λ (p : VarBind). p.name) c.in_ok-new-in-Some.ensures in
-    let value : row.value ≡ datum_of c.in-Some.value = ap (λ (p : VarBind). p.value) c.in_ok-new-in-Some.ensures ∙ c.as_ref.ensures in (
+    let name : row.name ≡ c.name.new.into = ap (λ (p : VarBind). p.name) c.in_ok-new.ensures in
+    let value : row.value ≡ datum_of c.in-Some.stated = ap (λ (p : VarBind). p.value) c.in_ok-new.ensures ∙ c.read_into.ensures in (
       subst (λ (o : List ℕ). IsInstanceText format c.args.text.now o) (sym name)
           (named.0, c.is_instance_name.ensures.0 c.if-not-is_instance_name.false),
       subst (λ (v : Datum). IsValueText format (tag_text c.args.tag) c.args.value_text.now v) (sym value)
-          (stated g (goal.at.returns-in_ok-new-in-Some g c).In-Some),
+          (stated g (goal.at.returns g c).In-Some),
     )
