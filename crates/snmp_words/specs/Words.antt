@@ -2,6 +2,8 @@
 use Rattle.std.specs.Prelude.{
   ◌≡◌,
   ◌≢◌,
+  ◌≤◌,
+  ◌⊎◌,
   ⊤,
   ◌++◌,
   ℕ,
@@ -16,10 +18,10 @@ use Rattle.std.specs.Prelude.{
   None,
 }
 use Rattle.std.specs.Prelude.{string_bytes, codes, map, unwrap_or, option_and_then, option_map}
-use Rattle.std.specs.Prelude.{if◌then◌else◌}
+use Rattle.std.specs.Prelude.{if◌then◌else◌, MatchOption}
 use Rattle.std.specs.List.{flat_map}
 use Rattle.std.specs.Str.{bytes_eq}
-use Rattle.std.specs.Str.Parse.{digits_value, without_leading_plus}
+use Rattle.std.specs.Str.Parse.{IsNumeral, digits_value, without_leading_plus}
 use Rattle.std.specs.Borrow.{Bor}
 use Rattle.clap.specs.Kinds.{IsAmong, Kinds}
 use Rattle.clap.specs.Simple.{subcommand_of}
@@ -97,13 +99,28 @@ joined_of id rows = flat_map (λ text. text) (texts_of id rows)
 abbrev pub text_or : Text → Text → List Row → Text
 text_or id default rows = unwrap_or (first_of id rows) default
 
+-- the text states the number, in decimal digits with or without a plus, and it is in the range
+pub record StatesNumber (low high : ℕ) (text : Text) (n : ℕ) : Type 0 where
+  pub digits : IsNumeral 10 (without_leading_plus text)
+  pub value : n ≡ digits_value 10 (without_leading_plus text)
+  pub from : low ≤ n
+  pub to : n ≤ high
+
+-- The number of an option: the one that the text given for its id states, or, where no text was
+-- given, the default; and so where the text states no number of the range, which the command
+-- doesn't take.
+abbrev pub IsNumberOf : Text → (default low high : ℕ) → List Row → ℕ → Type 0
+IsNumberOf id default low high rows n =
+    MatchOption (first_of id rows) (n ≡ default) (λ text. StatesNumber low high text n
+    ⊎ (((m : ℕ) → StatesNumber low high text m → ⊥) × (n ≡ default)))
+
 -- the number that a text of decimal digits states, where it is in the range
 abbrev pub number_in : (low high : ℕ) → Text → Option ℕ
 number_in low high text =
     if is_unsigned_in low high text then Some (digits_value 10
     (without_leading_plus text)) else None
 
--- the number given for an id, or this one where none was
+-- that number, computed: the law `numbers_are_stated` says that it is the number of the option
 abbrev pub number_or : Text → (default low high : ℕ) → List Row → ℕ
 number_or id default low high rows =
     unwrap_or (option_and_then (number_in low high) (first_of id rows)) default

@@ -22,12 +22,13 @@ mod job;
 mod mistakes;
 mod options;
 
-ghost use Rattle.std.specs.Prelude.{◌≡◌, [], ◌∷◌, List, ℕ, Some, codes, true};
+ghost use Rattle.std.specs.Prelude.{◌≡◌, ◌<◌, ◌^◌, [], ◌∷◌, List, ℕ, Some, codes, true};
 ghost use Rattle.std.specs.Prelude.{IfErr, IfOk, OnOk};
-ghost use Rattle.clap.specs.Walk.{texts};
+ghost use Rattle.clap.specs.Walk.{Row, texts};
 ghost use Rattle.clap.specs.Words.{kind_of};
 ghost use Rattle.snmp_words.specs.Command.{faults_of, is_taken};
 ghost use Rattle.snmp_words.specs.Words.{HasFaultOf, IsMemory, StandsFor, get_line, job_words};
+ghost use Rattle.snmp_words.specs.Words.{IsNumberOf, number_or};
 ghost use Rattle.snmp_words.specs.Words.{snmpget, snmptranslate, snmpwalk, stated_job};
 ghost use Rattle.snmp_words.specs.Words.{translate_line, walk_line, words_of_get};
 ghost use Rattle.snmp_words.specs.Words.{words_of_translation, words_of_walk};
@@ -110,6 +111,12 @@ pub fn gets_are_taken()
     ensures job { (modules host first second : List ℕ) →
         stated_job (get_line modules host first second)
         ≡ Some (snmpget (words_of_get modules host first second)) }
+{}
+
+/// The number of an option is the one that its text states, within the range, or the default.
+pub fn numbers_are_stated()
+    ensures { (id : List ℕ) (default low high : ℕ) (rows : List Row) → high < 2 ^ 64
+        → IsNumberOf id default low high rows (number_or id default low high rows) }
 {}
 
 /// What the parser's refusal is to the user: help and the version are what was asked for.
