@@ -12,13 +12,13 @@ use Rattle.smi_names.specs.nodes.Nodes.{Node, roots, none_yet}
 use Rattle.smi_tree.specs.types.Types.{Facts}
 use Rattle.smi_show.specs.declared.index.part.IndexPart.{IndexPart}
 use Rattle.smi_tree.specs.columns.Index.{IsIndex, IsObjectType}
-use Rattle.smi_tree.specs.Nodes.{oids_of, place_anywhere, child_at, child_of, if_labelled, of_lowest}
+use Rattle.smi_tree.specs.Nodes.{oids_of, place_anywhere, child_of, if_labelled, nothing, of_lowest}
 use Rattle.smi_tree.specs.Standing.{Longest, longest}
 use Rattle.smi_tree.specs.Shown.{IsSyntaxOf, shown_at}
 use Rattle.smi_tree.specs.Tree.{IsTree}
 use Rattle.smi_tree.specs.Naming.{home_name, standing_of_longest, oid_of, naming_of, nearest_definition, nearest_syntax}
 use Rattle.smi_tree.specs.Bare.{bare}
-use Rattle.smi_tree.proofs.Childhood.{of_lowest-none}
+use Rattle.smi_tree.proofs.Childhood.{child-is}
 use Rattle.smi_tree.proofs.Reaching.{longest-some, longest-none}
 use Rattle.smi_tree.proofs.Sounding.{stands, root-case, root-word, leads-alike}
 use Rattle.smi_tree.proofs.Syntaxes.{no_syntax}
@@ -85,7 +85,7 @@ child-roots label = by (same_text (root_label 0) label) (same_text (root_label 1
 pub child-longer : (o label : List ℕ) → o ≢ [] → None ≡ oid_of roots (child_of roots o label)
 child-longer [] label some = absurd (some refl)
 child-longer (x ∷ xs) label some =
-    ap (λ r. oid_of roots r) (sym (of_lowest-none (child_at roots (x ∷ xs) label) 3 (λ m l. ap (λ r. if_labelled roots label r) (longer-by x xs m))))
+    ap (λ r. oid_of roots r) (child-is roots (x ∷ xs) label None (nothing (λ m. ap (λ r. if_labelled roots label r) (longer-by x xs m))))
 
 -- the longest beginning that is a root is the first number, if that is below three
 longer-beginning : (x : ℕ) (rest : List ℕ) (j : ℕ) → 1 < j → j ≤ length (x ∷ rest) → place_of (oids_of roots) (take j (x ∷ rest)) ≡ None

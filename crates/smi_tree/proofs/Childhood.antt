@@ -1,46 +1,62 @@
 -- The first child with a label is the one with the lowest number.
 use Rattle.std.proofs.Common.{◌≡◌, ◌≢◌, ℕ, zero, suc, ◌+◌, ◌<◌, ◌≤◌, ◌⊎◌, inl, inr, max, Bool, true, false, cond, List, [], ◌∷◌, ◌++◌, length, get_or}
-use Rattle.std.proofs.Common.{Option, Some, None, refl, sym, ◌∙◌, arith, nat_eq}
+use Rattle.std.proofs.Common.{Option, Some, None, refl, sym, arith, nat_eq}
 use Rattle.std.specs.declared.cmp.Ordering.TheVariants.{Less}
 use Rattle.std.specs.List.{AllByRecursion, position_from, find, filter_map, Contains}
 use Rattle.std.specs.List.Sorted.{IsStrictlySortedBy}
 use Rattle.std.specs.Ordering.{nat_cmp}
 use Rattle.std.specs.Cmp.{ranked}
 use Rattle.std.specs.Cmp.Lexicographic.{pointwise}
-use Rattle.std.proofs.lemmas.Bool.{cases_eq}
+use Rattle.std.proofs.lemmas.Bool.{cases_eq, cases_order}
 use Rattle.std.proofs.lemmas.Slice.Eq.{bytes_eq-Decides}
 use Rattle.smi_tree.specs.branches.Standing.{place_of, AreChildren}
 use Rattle.smi_names.specs.meaning.Meaning.{or_else}
 use Rattle.smi_names.specs.nodes.Nodes.{Node}
-use Rattle.smi_tree.specs.Nodes.{is_labelled, if_labelled, of_lowest, last_number, highest, child_at, child_of, oids_of}
+use Rattle.smi_tree.specs.Nodes.{IsOfLowest, nothing, lowest, IsFirstChild, is_labelled, if_labelled, of_lowest}
+use Rattle.smi_tree.specs.Nodes.{last_number, highest, child_at, child_of, oids_of}
 
 -- what the first of numbers gives that gives anything
 abbrev pub of_first : (ℕ → Option ℕ) → List ℕ → Option ℕ
 of_first f [] = None
 of_first f (n ∷ ns) = or_else (f n) (of_first f ns)
 
--- what the lowest number gives that gives anything
-pub data IsOfLowest (f : ℕ → Option ℕ) : Option ℕ → Type 0 where
-  nothing : ((m : ℕ) → f m ≡ None) → IsOfLowest f None
-  lowest : (n k : ℕ) → f n ≡ Some k → ((m : ℕ) → m < n → f m ≡ None) → IsOfLowest f (Some k)
-
-pub of_lowest-none : (f : ℕ → Option ℕ) (b : ℕ) → ((m : ℕ) → m < b → f m ≡ None) → of_lowest f b ≡ None
-unfolding of_lowest
-of_lowest-none f zero h = refl
-of_lowest-none f (suc b) h = rw (of_lowest-none f b (λ m l. h m (omega arith)), h b (omega arith)) refl
-
-of_lowest-some : (f : ℕ → Option ℕ) (b n k : ℕ) → n < b → f n ≡ Some k → ((m : ℕ) → m < n → f m ≡ None) → of_lowest f b ≡ Some k
-unfolding of_lowest
-of_lowest-some f zero n k l e h = absurd (omega arith)
-of_lowest-some f (suc b) n k l e h = by (cases_eq n b) (λ l. of_lowest-some f b n k l e h)
+-- one number is the lowest
+one_lowest : {f : ℕ → Option ℕ} {r s : Option ℕ} → IsOfLowest f r → IsOfLowest f s → r ≡ s
+one_lowest (nothing h) (nothing k) = refl
+one_lowest (nothing h) (lowest m j d before) = cc (h m)
+one_lowest (lowest n k e before) (nothing h) = cc (h n)
+one_lowest {f = f} (lowest n k e before) (lowest m j d earlier) = by (cases_order n m)
   where
-    by : (n ≡ b) ⊎ (n ≢ b) → (n < b → of_lowest f b ≡ Some k) → or_else (of_lowest f b) (f b) ≡ Some k
-    by (inl same) r = let at : f b ≡ Some k = rw same at e in rw (of_lowest-none f b (λ m l. h m (omega arith)), at) refl
-    by (inr other) r = rw (r (omega arith)) refl
+    by : (n ≡ m) ⊎ ((n < m) ⊎ (m < n)) → Some k ≡ Some j
+    by (inl same) = let at : f m ≡ Some k = rw same at e in cc
+    by (inr (inl l)) = cc (earlier n l)
+    by (inr (inr l)) = cc (before m l)
 
-pub of_lowest-is : (f : ℕ → Option ℕ) (b : ℕ) (r : Option ℕ) → IsOfLowest f r → ((n k : ℕ) → f n ≡ Some k → n < b) → r ≡ of_lowest f b
-of_lowest-is f b _ (nothing h) within = sym (of_lowest-none f b (λ m l. h m))
-of_lowest-is f b _ (lowest n k e h) within = sym (of_lowest-some f b n k (within n k e) e h)
+-- what the lowest number below b gives that gives anything
+abbrev IsLowestBelow : (ℕ → Option ℕ) → ℕ → Option ℕ → Type 0
+IsLowestBelow f b None = (m : ℕ) → m < b → f m ≡ None
+IsLowestBelow f b (Some k) = (n : ℕ) × (f n ≡ Some k) × ((m : ℕ) → m < n → f m ≡ None)
+
+lowest_below : (f : ℕ → Option ℕ) (b : ℕ) → IsLowestBelow f b (of_lowest f b)
+unfolding of_lowest
+lowest_below f zero = λ m l. absurd (omega arith)
+lowest_below f (suc b) = by (of_lowest f b) (f b) refl (lowest_below f b)
+  where
+    by : (r q : Option ℕ) → f b ≡ q → IsLowestBelow f b r → IsLowestBelow f (suc b) (or_else r q)
+    by None None e below = λ m l. elim (cases_eq m b) [ inl same ↦ rw same e | inr other ↦ below m (omega arith) ]
+    by None (Some k) e below = (b, e, below)
+    by (Some k) q e below = below
+
+of_lowest-lowest : (f : ℕ → Option ℕ) (b : ℕ) → ((n k : ℕ) → f n ≡ Some k → n < b) → IsOfLowest f (of_lowest f b)
+of_lowest-lowest f b within = by (of_lowest f b) (lowest_below f b)
+  where
+    none : (m : ℕ) (r : Option ℕ) → f m ≡ r → (m < b → f m ≡ None) → f m ≡ None
+    none m None e below = e
+    none m (Some k) e below = below (within m k e)
+
+    by : (r : Option ℕ) → IsLowestBelow f b r → IsOfLowest f r
+    by None below = nothing (λ m. none m (f m) refl (below m))
+    by (Some k) (n, e, before) = lowest n k e before
 
 -- what rising numbers give first, if no other number gives anything
 sorted_head : (n : ℕ) (ns : List ℕ) → IsStrictlySortedBy nat_cmp (n ∷ ns) → AllByRecursion (λ y. nat_cmp n y ≡ Less) ns
@@ -116,23 +132,34 @@ ends-below (x ∷ oids) o n b k e = by (pointwise nat_eq x (o ++ n ∷ [])) refl
         omega (arith, last)
     by false t e f = let below = f e in omega (arith, below)
 
--- a child is found among the children
+-- a number that gives anything for a child is at most the highest
+child-below : (nodes : List Node) (o label : List ℕ) (n k : ℕ) → child_at nodes o label n ≡ Some k → n < suc (highest (oids_of nodes))
+child-below nodes o label n k = by (place_of (oids_of nodes) (o ++ n ∷ [])) refl
+  where
+    by : (r : Option ℕ) → place_of (oids_of nodes) (o ++ n ∷ []) ≡ r → if_labelled nodes label (place_of (oids_of nodes) (o ++ n ∷ [])) ≡ Some k
+        → n < suc (highest (oids_of nodes))
+    by None e h = let at : None ≡ Some k = rw e at h in cc
+    by (Some j) e h = let most = ends-below (oids_of nodes) o n 0 j e in omega (arith, most)
+
+-- the computed child is the first one, and no other is
+pub child-first : (nodes : List Node) (o label : List ℕ) → IsFirstChild nodes o label (child_of nodes o label)
+child-first nodes o label = of_lowest-lowest (child_at nodes o label) (suc (highest (oids_of nodes))) (child-below nodes o label)
+
+pub child-is : (nodes : List Node) (o label : List ℕ) (r : Option ℕ) → IsFirstChild nodes o label r → r ≡ child_of nodes o label
+child-is nodes o label r is = one_lowest is (child-first nodes o label)
+
+-- the first child is found among the children
 pub child-found : (nodes : List Node) (o label : List ℕ) (places : List ℕ) → AreChildren (oids_of nodes) o places
-    → find (is_labelled nodes label) places ≡ child_of nodes o label
+    → IsFirstChild nodes o label (find (is_labelled nodes label) places)
 child-found nodes o label places c =
-    rw c.there
-    (find-first (is_labelled nodes label) (λ n. place_of (oids_of nodes) (o ++ n ∷ [])) (child_at nodes o label) c.numbers
-    (λ n none. rw none refl) (λ n k some. rw some refl)
-    ∙ of_lowest-is (child_at nodes o label) (suc (highest (oids_of nodes))) (of_first (child_at nodes o label) c.numbers)
+    rw (
+      c.there,
+      find-first (is_labelled nodes label) (λ n. place_of (oids_of nodes) (o ++ n ∷ [])) (child_at nodes o label) c.numbers
+          (λ n none. rw none refl) (λ n k some. rw some refl),
+    )
     (of_first-lowest (child_at nodes o label) c.numbers c.rising (λ n k e. there n k (place_of (oids_of nodes) (o ++ n ∷ [])) refl e))
-    (λ n k e. below n k (place_of (oids_of nodes) (o ++ n ∷ [])) refl e))
   where
     there : (n k : ℕ) (r : Option ℕ) → place_of (oids_of nodes) (o ++ n ∷ []) ≡ r → if_labelled nodes label (place_of (oids_of nodes) (o ++ n ∷ [])) ≡ Some k
         → Contains c.numbers n
     there n k None e h = let at : None ≡ Some k = rw e at h in cc
     there n k (Some j) e h = c.all n j e
-
-    below : (n k : ℕ) (r : Option ℕ) → place_of (oids_of nodes) (o ++ n ∷ []) ≡ r → if_labelled nodes label (place_of (oids_of nodes) (o ++ n ∷ [])) ≡ Some k
-        → n < suc (highest (oids_of nodes))
-    below n k None e h = let at : None ≡ Some k = rw e at h in cc
-    below n k (Some j) e h = let most = ends-below (oids_of nodes) o n 0 j e in omega (arith, most)

@@ -1,10 +1,11 @@
 -- The longest beginning of an identifier for which a node stands.
 use Rattle.std.proofs.Common.{◌≡◌, ◌≢◌, ℕ, zero, suc, ◌≤◌, ◌⊎◌, inl, inr, List, length, take}
-use Rattle.std.proofs.Common.{Some, None, refl, arith}
+use Rattle.std.proofs.Common.{Option, Some, None, refl, arith}
+use Rattle.std.specs.Prelude.{MatchOption, ◌<◌}
 use Rattle.std.proofs.lemmas.Bool.{cases_eq}
 use Rattle.smi_tree.specs.branches.Standing.{place_of, IsDeepestAt, HasNoBeginning}
 use Rattle.smi_names.specs.meaning.Meaning.{or_else}
-use Rattle.smi_tree.specs.Standing.{at_depth, longest_up_to}
+use Rattle.smi_tree.specs.Standing.{Longest, at_depth, longest_up_to}
 
 up_to-some : (oids : List (List ℕ)) (o : List ℕ) (p d j : ℕ) → IsDeepestAt oids o p d → d ≤ j → j ≤ length o
     → longest_up_to oids o j ≡ Some (record { place = p; depth = d })
@@ -31,3 +32,28 @@ longest-some oids o p d at = up_to-some oids o p d (length o) at at.within (omeg
 
 pub longest-none : (oids : List (List ℕ)) (o : List ℕ) → HasNoBeginning oids o → longest_up_to oids o (length o) ≡ None
 longest-none oids o h = up_to-none oids o (length o) h (omega arith)
+
+-- the longest up to a length, where no longer one is in the list
+up_to : (oids : List (List ℕ)) (o : List ℕ) (j : ℕ) → j ≤ length o → ((k : ℕ) → j < k → k ≤ length o → place_of oids (take k o) ≡ None)
+    → MatchOption (longest_up_to oids o j) (HasNoBeginning oids o) (λ at. IsDeepestAt oids o at.place at.depth)
+unfolding longest_up_to
+up_to oids o zero within above = by (place_of oids (take 0 o)) refl
+  where
+    by : (r : Option ℕ) → place_of oids (take 0 o) ≡ r
+        → MatchOption (at_depth 0 r) (HasNoBeginning oids o) (λ at. IsDeepestAt oids o at.place at.depth)
+    by None e = λ k l. elim (cases_eq k 0) [ inl same ↦ rw same e | inr other ↦ above k (omega arith) l ]
+    by (Some place) e = record { within = within; here = e; none_longer = above }
+up_to oids o (suc j) within above = by (place_of oids (take (suc j) o)) refl (up_to oids o j (omega arith))
+  where
+    Is : Option Longest → Type 0
+    Is r = MatchOption r (HasNoBeginning oids o) (λ at. IsDeepestAt oids o at.place at.depth)
+
+    by : (r : Option ℕ) → place_of oids (take (suc j) o) ≡ r
+        → (((k : ℕ) → j < k → k ≤ length o → place_of oids (take k o) ≡ None) → Is (longest_up_to oids o j))
+        → Is (or_else (at_depth (suc j) r) (longest_up_to oids o j))
+    by None e rest = rest (λ k more l. elim (cases_eq k (suc j)) [ inl same ↦ rw same e | inr other ↦ above k (omega arith) l ])
+    by (Some place) e rest = record { within = within; here = e; none_longer = above }
+
+pub longest-is : (oids : List (List ℕ)) (o : List ℕ)
+    → MatchOption (longest_up_to oids o (length o)) (HasNoBeginning oids o) (λ at. IsDeepestAt oids o at.place at.depth)
+longest-is oids o = up_to oids o (length o) (omega arith) (λ k more l. absurd (omega arith))

@@ -1,5 +1,6 @@
 -- Nodes found by their names and by their identifiers, in a list in order of loading.
 use Rattle.std.specs.Prelude.{
+  ◌≡◌,
   ℕ,
   Bool,
   false,
@@ -10,6 +11,7 @@ use Rattle.std.specs.Prelude.{
   [],
   ◌∷◌,
   ◌++◌,
+  ◌<◌,
   max,
   unwrap_or,
   Option,
@@ -58,6 +60,11 @@ abbrev pub if_labelled : List Node → List ℕ → Option ℕ → Option ℕ
 if_labelled nodes label None = None
 if_labelled nodes label (Some k) = if is_labelled nodes label k then Some k else None
 
+-- what the lowest number gives that gives anything
+pub data IsOfLowest (f : ℕ → Option ℕ) : Option ℕ → Type 0 where
+  nothing : ((n : ℕ) → f n ≡ None) → IsOfLowest f None
+  lowest : (n k : ℕ) → f n ≡ Some k → ((m : ℕ) → m < n → f m ≡ None) → IsOfLowest f (Some k)
+
 -- what the lowest number below a bound gives that gives anything
 unfoldable pub of_lowest : (ℕ → Option ℕ) → ℕ → Option ℕ
 of_lowest f zero = None
@@ -79,5 +86,9 @@ abbrev pub child_at : List Node → List ℕ → List ℕ → ℕ → Option ℕ
 child_at nodes o label n = if_labelled nodes label (place_of (oids_of nodes) (o ++ n ∷ []))
 
 -- the first child with the label: the one with the lowest number
+abbrev pub IsFirstChild : List Node → List ℕ → List ℕ → Option ℕ → Type 0
+IsFirstChild nodes o label = IsOfLowest (child_at nodes o label)
+
+-- that child, computed: the law `look_ups` says that it is the first
 abbrev pub child_of : List Node → List ℕ → List ℕ → Option ℕ
 child_of nodes o label = of_lowest (child_at nodes o label) (suc (highest (oids_of nodes)))

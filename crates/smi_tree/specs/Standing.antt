@@ -21,7 +21,8 @@ abbrev pub at_depth : ℕ → Option ℕ → Option Longest
 at_depth depth None = None
 at_depth depth (Some place) = Some (record { place = place; depth = depth })
 
--- the longest of the beginnings of o, of up to j numbers, that is in the list
+-- The longest of the beginnings of o, of up to j numbers, that is in the list. Computed: the law
+-- `look_ups` says by `IsDeepestAt` which place it is.
 unfoldable pub longest_up_to : List (List ℕ) → List ℕ → ℕ → Option Longest
 longest_up_to oids o zero = at_depth 0 (place_of oids [])
 longest_up_to oids o (suc j) =

@@ -1,8 +1,12 @@
 //! Laws of trees of names, for any modules.
-ghost use Rattle.std.specs.Prelude.{◌≡◌, List, []};
+ghost use Rattle.std.specs.Prelude.{◌≡◌, ℕ, List, [], MatchOption};
 ghost use Rattle.smi_text.specs.declared.trees.tree.Module.{Module};
 ghost use Rattle.smi_names.specs.declared.nodes.warning.Warning.{Warning};
+ghost use Rattle.smi_names.specs.nodes.Nodes.{Node};
 ghost use Rattle.smi_tree.specs.Bare.{bare};
+ghost use Rattle.smi_tree.specs.Nodes.{IsFirstChild, child_of, oids_of};
+ghost use Rattle.smi_tree.specs.Standing.{longest};
+ghost use Rattle.smi_tree.specs.branches.Standing.{HasNoBeginning, IsDeepestAt};
 ghost use Rattle.smi_tree.specs.Tree.{Contents, IsTree};
 
 use crate::columns::one_list_of_indexes;
@@ -27,4 +31,16 @@ pub fn one_tree()
 /// A law: the call does nothing, and its caller may use what it ensures.
 pub fn bare_tree()
     ensures { IsTree [] bare [] }
+{}
+
+/// Where names, definitions and syntaxes are looked up by: the longest beginning of an identifier
+/// for which a node stands, and the first child with a label (RFC 2578, section 3.6).
+///
+/// A law: the call does nothing, and its caller may use what it ensures.
+pub fn look_ups()
+    ensures longest { (nodes : List Node) (o : List ℕ) → MatchOption (longest nodes o)
+        (HasNoBeginning (oids_of nodes) o)
+        (λ at. IsDeepestAt (oids_of nodes) o at.place at.depth) }
+    ensures child { (nodes : List Node) (o label : List ℕ)
+        → IsFirstChild nodes o label (child_of nodes o label) }
 {}

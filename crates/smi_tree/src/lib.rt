@@ -35,7 +35,7 @@ mod types;
 pub use crate::branches::{Children, Deepest, Identifiers};
 pub use crate::columns::Indexes;
 pub use crate::types::{TypeSyntax, Types};
-pub use laws::{bare_tree, one_tree};
+pub use laws::{bare_tree, look_ups, one_tree};
 pub use node::Node;
 pub use roots::Roots;
 pub use smi_names::{NameHash, TypeBase, Warning};

@@ -6,7 +6,7 @@ ghost use Rattle.std.specs.List.{slice_get};
 ghost use Rattle.smi_tree.specs.branches.Children.{places_left};
 ghost use Rattle.smi_tree.specs.branches.Standing.{AreChildren, HasNoBeginning, IsDeepestAt, oid_at};
 ghost use Rattle.smi_names.specs.meaning.Meaning.{module_named};
-ghost use Rattle.smi_tree.specs.Nodes.{child_of, is_labelled, oids_of, place_anywhere};
+ghost use Rattle.smi_tree.specs.Nodes.{IsFirstChild, is_labelled, oids_of, place_anywhere};
 ghost use Rattle.smi_tree.specs.Nodes.{place_in_module};
 ghost use Rattle.smi_tree.specs.types.Kept.{facts_of};
 ghost use Rattle.smi_tree.specs.Resolved.{IsResolved};
@@ -275,7 +275,7 @@ impl Tree {
 
     /// The first of the children of an identifier that has a label.
     pub fn child(&self, oid: &Oid, label: &[u8]) -> Option<NodeId>
-        ensures { result ≡ child_of self.now.nodes oid.now label.now }
+        ensures { IsFirstChild self.now.nodes oid.now label.now result }
     {
         let mut children = self.children(oid);
         'children: while let Some(id) = children.next() {
