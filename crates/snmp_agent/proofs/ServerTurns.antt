@@ -1,10 +1,12 @@
 -- Facts about the turns of a server.
 use Rattle.std.proofs.Common.{◌≡◌, ℕ, ◌+◌, List, [], ◌∷◌, ◌++◌, take, Option, Some, None, Result, Ok, refl, sym, ap, ◌∙◌, append_assoc, append-nil, arith}
+use Rattle.std.specs.Prelude.{cond, count_by}
+use Rattle.std.proofs.lemmas.List.Sums.{sum_by-cons}
 use Rattle.snmp_agent.specs.declared.endpoint.EndpointFault.{EndpointFault}
 use Rattle.snmp_agent.specs.declared.server.Served.{Served}
 use Rattle.snmp_agent.specs.declared.server.Turn.{Turn}
 use Rattle.snmp_agent.specs.declared.server.Turn.TheVariants as turn
-use Rattle.snmp_agent.specs.Serving.{one_more}
+use Rattle.snmp_agent.specs.Serving.{same_turn, tally}
 use Rattle.snmp_agent.specs.Event.{Event, came, logged, event_of_receive, event_of_reply}
 
 pub extended_twice : (log : Option (List Event)) (a b : List Event) → logged (logged log a) b ≡ logged log (a ++ b)
@@ -21,6 +23,34 @@ both_events old between new received n buffer datagram sent_it is first second =
 
 abbrev sum : Served → ℕ
 sum s = s.replies + s.dropped + s.idle + s.faults
+
+-- the counts with one more turn of this kind
+abbrev pub one_more : Turn → Served → Served
+one_more turn.Replied served = record served { replies = served.replies + 1 }
+one_more turn.Dropped served = record served { dropped = served.dropped + 1 }
+one_more turn.Idle served = record served { idle = served.idle + 1 }
+one_more turn.Failed served = record served { faults = served.faults + 1 }
+
+same_counts : (s t : Served) → s.replies ≡ t.replies → s.dropped ≡ t.dropped → s.idle ≡ t.idle → s.faults ≡ t.faults → s ≡ t
+same_counts s t e f g h = λ i. record { replies = e i; dropped = f i; idle = g i; faults = h i }
+
+count-cons : (kind t : Turn) (turns : List Turn) → count_by (same_turn kind) (t ∷ turns) ≡ cond (same_turn kind t) 1 0 + count_by (same_turn kind) turns
+count-cons kind t turns = sum_by-cons (λ u. cond (same_turn kind u) 1 0) t turns
+
+one_more_of : {a b c d : ℕ} (n : Turn → ℕ) (t : Turn) → a ≡ cond (same_turn turn.Replied t) 1 0 + n turn.Replied
+    → b ≡ cond (same_turn turn.Dropped t) 1 0 + n turn.Dropped → c ≡ cond (same_turn turn.Idle t) 1 0 + n turn.Idle
+    → d ≡ cond (same_turn turn.Failed t) 1 0 + n turn.Failed
+    → one_more t (record { replies = n turn.Replied; dropped = n turn.Dropped; idle = n turn.Idle; faults = n turn.Failed })
+    ≡ record { replies = a; dropped = b; idle = c; faults = d }
+one_more_of n turn.Replied e f g h = same_counts _ _ (omega arith) (omega arith) (omega arith) (omega arith)
+one_more_of n turn.Dropped e f g h = same_counts _ _ (omega arith) (omega arith) (omega arith) (omega arith)
+one_more_of n turn.Idle e f g h = same_counts _ _ (omega arith) (omega arith) (omega arith) (omega arith)
+one_more_of n turn.Failed e f g h = same_counts _ _ (omega arith) (omega arith) (omega arith) (omega arith)
+
+pub one_more_counts : (t : Turn) (turns : List Turn) → one_more t (tally turns) ≡ tally (t ∷ turns)
+one_more_counts t turns =
+    one_more_of (λ kind. count_by (same_turn kind) turns) t (count-cons turn.Replied t turns) (count-cons turn.Dropped t turns)
+    (count-cons turn.Idle t turns) (count-cons turn.Failed t turns)
 
 pub one_more_turn : (t : Turn) (s : Served) → sum (one_more t s) ≡ sum s + 1
 one_more_turn turn.Replied s = omega arith

@@ -1,5 +1,5 @@
 -- The turns of a server (RFC 3417, section 3): one receive each, and the agent's reply.
-use Rattle.std.specs.Prelude.{◌≡◌, ◌⊎◌, ℕ, ◌+◌, List, [], ◌∷◌, ◌++◌}
+use Rattle.std.specs.Prelude.{◌≡◌, ◌⊎◌, ℕ, Bool, true, false, List, [], ◌∷◌, ◌++◌, count_by}
 use Rattle.snmp_agent.specs.declared.config.Why.{Why}
 use Rattle.snmp_agent.specs.declared.server.Served.{Served}
 use Rattle.snmp_agent.specs.declared.server.Turn.{Turn}
@@ -29,14 +29,19 @@ AreTurns agent (latest ∷ earlier) events =
     (before : List Event) × (now : List Event) × (events ≡ before ++ now)
     × AreTurns agent earlier before × IsTurn agent latest now
 
--- the counts with one more turn of this kind
-abbrev pub one_more : Turn → Served → Served
-one_more turn.Replied served = record served { replies = served.replies + 1 }
-one_more turn.Dropped served = record served { dropped = served.dropped + 1 }
-one_more turn.Idle served = record served { idle = served.idle + 1 }
-one_more turn.Failed served = record served { faults = served.faults + 1 }
+-- the turns are of one kind
+abbrev pub same_turn : Turn → Turn → Bool
+same_turn turn.Replied turn.Replied = true
+same_turn turn.Dropped turn.Dropped = true
+same_turn turn.Idle turn.Idle = true
+same_turn turn.Failed turn.Failed = true
+same_turn _ _ = false
 
 -- how many turns there are of each kind
 abbrev pub tally : List Turn → Served
-tally [] = record { replies = 0; dropped = 0; idle = 0; faults = 0 }
-tally (latest ∷ earlier) = one_more latest (tally earlier)
+tally turns = record {
+  replies = count_by (same_turn turn.Replied) turns;
+  dropped = count_by (same_turn turn.Dropped) turns;
+  idle = count_by (same_turn turn.Idle) turns;
+  faults = count_by (same_turn turn.Failed) turns;
+}

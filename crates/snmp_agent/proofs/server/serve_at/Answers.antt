@@ -1,8 +1,8 @@
 use Rattle.std.proofs.Common.{◌≡◌, ◌+◌, ◌∷◌, ◌++◌, refl, sym, ap, ◌∙◌, arith, length}
 use Rattle.snmp_agent.specs.declared.server.Served.{Served}
 use Rattle.snmp_agent.specs.declared.server.Turn.{Turn}
-use Rattle.snmp_agent.specs.Serving.{logged, one_more}
-use Rattle.snmp_agent.proofs.ServerTurns.{extended_twice, one_more_turn}
+use Rattle.snmp_agent.specs.Serving.{logged}
+use Rattle.snmp_agent.proofs.ServerTurns.{extended_twice, one_more, one_more_counts, one_more_turn}
 use Rattle.snmp_agent.proofs.server.serve_at.Goals as goal
 use Rattle.snmp_agent.proofs.server.serve_at.Goals.{in-Replied, in-Dropped, in-Idle, in-Failed}
 
@@ -24,6 +24,6 @@ turns-preserved g c =
       events = so_far.events ++ made.0;
       made = (so_far.events, made.0, refl, so_far.made, made.1);
       count = let long : length (t ∷ so_far.done) ≡ length so_far.done + 1 = omega arith in long ∙ ap (λ n. n + 1) so_far.count;
-      counted = more ∙ ap (one_more t) so_far.counted;
+      counted = more ∙ ap (one_more t) so_far.counted ∙ one_more_counts t so_far.done;
       log = made.2 ∙ ap (λ log. logged log made.0) so_far.log ∙ extended_twice (g.E.Endpoint.log c.args.endpoint.now) so_far.events made.0;
     }
