@@ -6,3 +6,4 @@ pub mod Growing
 pub mod Groups
 pub mod Unique
 pub mod ValueUnique
+pub mod Bits

@@ -3,11 +3,13 @@ use Rattle.std.proofs.Common.{◌≡◌, ℕ, ℤ, Bool, true, false, MatchBool,
 use Rattle.std.specs.Prelude.{pos, codes}
 use Rattle.snmp_wire.specs.ber.Value.{Datum, integer_value, octet_string, null_value, object_id, ip_address, counter32, gauge32, time_ticks}
 use Rattle.snmp_wire.specs.ber.Value.{opaque_octets, counter64, no_such_object, no_such_instance, end_of_mib_view}
+use Rattle.smi_text.specs.declared.trees.tree.NamedNumber.{NamedNumber}
 use Rattle.smi_value.specs.declared.base.ValueBase.TheVariants as base
 use Rattle.smi_value.specs.declared.letters.letters.Letters.{Letters}
-use Rattle.smi_value.specs.Pieces.{type_word, units_text}
+use Rattle.smi_value.specs.Pieces.{IsBitsText, type_word, units_text}
 use Rattle.smi_value.specs.Syntax.{ObjectSyntax, syntax_at, is_of_bits, name_of_number}
 use Rattle.smi_value.specs.Value.{IsNumberText, IsTypedNumber, IsIntegerText, IsHintedString, IsStringText, IsOctetsText, ShowsValue}
+use Rattle.smi_value.proofs.Bits.{bits_once}
 use Rattle.smi_value.proofs.Unique.{same_shown, same_number}
 
 number_once : (hint : Option (List ℕ)) (n : ℤ) (a b : List ℕ) → IsNumberText hint n a → IsNumberText hint n b → a ≡ b
@@ -40,14 +42,15 @@ module _ (letters : Letters) where
   string_once (Some hint) octets a b (inr h) (inl k) = absurd (h.0 (k.shows.specs, k.shows.is_hint))
   string_once (Some hint) octets a b (inr h) (inr k) = h.1 ∙ sym k.1
 
-  either_once : (bits : Bool) (whole : List ℕ) (hint : Option (List ℕ)) (octets a b : List ℕ)
-      → MatchBool bits (a ≡ whole) (IsStringText letters hint octets a) → MatchBool bits (b ≡ whole) (IsStringText letters hint octets b) → a ≡ b
-  either_once true whole hint octets a b h k = h ∙ sym k
-  either_once false whole hint octets a b h k = string_once hint octets a b h k
+  either_once : (bits : Bool) (names : List NamedNumber) (hint : Option (List ℕ)) (octets a b : List ℕ)
+      → MatchBool bits (IsBitsText letters names octets a) (IsStringText letters hint octets a)
+      → MatchBool bits (IsBitsText letters names octets b) (IsStringText letters hint octets b) → a ≡ b
+  either_once true names hint octets a b h k = bits_once letters names octets a b h k
+  either_once false names hint octets a b h k = string_once hint octets a b h k
 
   octets_once : (syntax : Option ObjectSyntax) (octets a b : List ℕ) → IsOctetsText letters syntax octets a → IsOctetsText letters syntax octets b → a ≡ b
   octets_once syntax octets a b h k =
-      either_once (is_of_bits syntax) _ (syntax_at base.OctetString syntax).hint octets a b h k
+      either_once (is_of_bits syntax) (syntax_at base.Bits syntax).names (syntax_at base.OctetString syntax).hint octets a b h k
 
   pub value_once : (names others : List ℕ → List ℕ) → ((o : List ℕ) → names o ≡ others o) → (syntax : Option ObjectSyntax) (value : Datum) (a b : List ℕ)
       → ShowsValue names letters syntax value a → ShowsValue others letters syntax value b → a ≡ b

@@ -1,7 +1,8 @@
 -- Pieces of the texts of values.
-use Rattle.std.specs.Prelude.{ℕ, pos, ◌+◌, ◌*◌, ◌/◌, ◌%◌, Bool, true, false, ◌==◌, if◌then◌else◌}
+use Rattle.std.specs.Prelude.{◌≡◌, ◌<◌, ℕ, pos, ◌+◌, ◌-◌, ◌*◌, ◌/◌, ◌%◌, ◌^◌, Bool, true, false}
+use Rattle.std.specs.Prelude.{◌==◌, if◌then◌else◌, Contains, length, slice_index}
 use Rattle.std.specs.Prelude.{List, [], ◌∷◌, ◌++◌, Option, Some, None, codes, decimal}
-use Rattle.std.specs.List.{flat_map, list_all, enumerate_from}
+use Rattle.std.specs.List.{flat_map, list_all}
 use Rattle.smi_value.specs.declared.letters.letters.Letters.{Letters}
 use Rattle.smi_value.specs.declared.letters.letters.TypeForm.{TypeForm}
 use Rattle.smi_value.specs.declared.letters.letters.TypeForm.TheVariants as types
@@ -69,15 +70,44 @@ bit_name letters (Some name) number =
     if letters.numeric_enumerations then number ++ codes " "
     else name ++ codes "(" ++ number ++ codes ") "
 
+-- bit n of a value of BITS is set: where n is 8 * k + j, that is the one of weight 128 / 2 ^ j in
+-- octet k (RFC 2578, section 7.1.4)
+pub record IsBitSet (octets : List ℕ) (n : ℕ) : Type 0 where
+  pub k : ℕ
+  pub j : ℕ
+  pub place : n ≡ 8 * k + j
+  pub octet : k < length octets
+  pub within : j < 8
+  pub set : slice_index octets k / 2 ^ (7 - j) % 2 ≡ 1
+
+-- the bits that are set, in rising order
+pub record AreSetBits (octets bits : List ℕ) : Type 0 where
+  pub rising : (i j : ℕ) → i < j → j < length bits → slice_index bits i < slice_index bits j
+  pub set : (n : ℕ) → Contains bits n → IsBitSet octets n
+  pub all : (n : ℕ) → IsBitSet octets n → Contains bits n
+
+-- a bit that is set: by its name, if it has one
+abbrev pub set_bit_text : Letters → List NamedNumber → ℕ → List ℕ
+set_bit_text letters names bit = bit_name letters (name_of_number names (pos bit)) (decimal bit)
+
+-- BITS: the octets in hexadecimal, then the bits that are set
+pub record IsBitsText (letters : Letters) (names : List NamedNumber) (octets text : List ℕ)
+    : Type 0 where
+  pub bits : List ℕ
+  pub are : AreSetBits octets bits
+  pub whole : text ≡ type_word letters (codes "BITS: ") ++ hexadecimal_text octets
+      ++ flat_map (set_bit_text letters names) bits
+
+-- ---- the same computed, for private clauses
+
 -- nothing for a bit that isn't set
 abbrev pub bit_text : Letters → List NamedNumber → ℕ → ℕ → List ℕ
-bit_text letters names bit set =
-    if set == 1 then bit_name letters (name_of_number names (pos bit)) (decimal bit) else []
+bit_text letters names bit set = if set == 1 then set_bit_text letters names bit else []
 
 -- the bits of an octet, that of the highest weight first
 abbrev pub octet_bits : Letters → List NamedNumber → ℕ × ℕ → List ℕ
 octet_bits letters names (place, octet) =
-    bit_text letters names (8 * place) (octet / 128)
+    bit_text letters names (8 * place) (octet / 128 % 2)
     ++ bit_text letters names (8 * place + 1) (octet / 64 % 2)
     ++ bit_text letters names (8 * place + 2) (octet / 32 % 2)
     ++ bit_text letters names (8 * place + 3) (octet / 16 % 2)
@@ -85,9 +115,3 @@ octet_bits letters names (place, octet) =
     ++ bit_text letters names (8 * place + 5) (octet / 4 % 2)
     ++ bit_text letters names (8 * place + 6) (octet / 2 % 2)
     ++ bit_text letters names (8 * place + 7) (octet % 2)
-
--- BITS: the octets in hexadecimal, then the bits that are set
-abbrev pub bits_text : Letters → List NamedNumber → List ℕ → List ℕ
-bits_text letters names octets =
-    type_word letters (codes "BITS: ") ++ hexadecimal_text octets
-    ++ flat_map (octet_bits letters names) (enumerate_from 0 octets)

@@ -17,14 +17,8 @@ use Rattle.snmp_wire.specs.ber.Value.{counter32, gauge32, time_ticks, opaque_oct
 use Rattle.snmp_wire.specs.ber.Value.{no_such_object, no_such_instance, end_of_mib_view}
 use Rattle.smi_value.specs.declared.base.ValueBase.TheVariants as base
 use Rattle.smi_value.specs.Syntax.{ObjectSyntax, syntax_at, is_of_bits, name_of_number}
-use Rattle.smi_value.specs.Pieces.{
-  type_word,
-  units_text,
-  named_text,
-  ticks_text,
-  string_text,
-  bits_text,
-}
+use Rattle.smi_value.specs.Pieces.{IsBitsText, type_word, units_text, named_text, ticks_text}
+use Rattle.smi_value.specs.Pieces.{string_text}
 use Rattle.smi_value.specs.Texts.{address_text, hexadecimal_text}
 
 -- a number under a hint of integers, otherwise in decimal digits
@@ -64,7 +58,7 @@ IsStringText letters (Some hint) octets text =
 abbrev pub IsOctetsText : Letters → Option ObjectSyntax → List ℕ → List ℕ → Type 0
 IsOctetsText letters syntax octets text =
     MatchBool (is_of_bits syntax)
-    (text ≡ bits_text letters (syntax_at base.Bits syntax).names octets)
+    (IsBitsText letters (syntax_at base.Bits syntax).names octets text)
     (IsStringText letters (syntax_at base.OctetString syntax).hint octets text)
 
 -- all but an identifier

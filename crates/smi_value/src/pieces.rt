@@ -1,5 +1,5 @@
 //! The pieces of the texts of values.
-ghost use Rattle.std.specs.Prelude.{◌≡◌, ◌<◌, ◌+◌, ◌*◌, ◌∷◌, ◌++◌, [], pos, List, ℕ, codes};
+ghost use Rattle.std.specs.Prelude.{◌≡◌, ◌<◌, ◌+◌, ◌*◌, ◌∷◌, ◌++◌, [], List, ℕ, codes};
 ghost use Rattle.std.specs.Prelude.{decimal, if◌then◌else◌, ◌/◌, ◌^◌};
 ghost use Rattle.std.specs.Fmt.{signed_decimal};
 ghost use Rattle.std.specs.List.{flat_map, list_all, enumerate_from};
@@ -7,8 +7,7 @@ ghost use Rattle.std.specs.Option.{option_copied};
 ghost use Rattle.snmp_io.specs.draft.Draft.{Adds};
 ghost use Rattle.smi_value.specs.Pieces.{is_typed, type_word, units_text, dotted, quoted, is_text};
 ghost use Rattle.smi_value.specs.Pieces.{string_text, ticks_text, named_text, bit_name, octet_bits};
-ghost use Rattle.smi_value.specs.Pieces.{bits_text, bit_text};
-ghost use Rattle.smi_value.specs.Syntax.{name_of_number};
+ghost use Rattle.smi_value.specs.Pieces.{IsBitsText, bit_text, set_bit_text};
 ghost use Rattle.smi_value.specs.Texts.{is_printable, escaped, dumped, hexadecimal_text};
 ghost use Rattle.smi_value.specs.Texts.{address_text, two_digits, days_text, clock_text};
 
@@ -246,7 +245,8 @@ pub(crate) fn append_bits(
     names: &[NamedNumber],
     octets: &[u8],
 )
-    ensures { Adds draft.old (bits_text letters.now names.now octets.now) draft.new }
+    ensures { (text : List ℕ) × IsBitsText letters.now names.now octets.now text
+        × Adds draft.old text draft.new }
 {
     append_word(draft, letters, b"BITS: ");
     append_hexadecimal(draft, octets);
@@ -276,7 +276,7 @@ fn append_octet_bits(
     ensures { Adds draft.old (octet_bits letters.now names.now (place, octet)) draft.new }
 {
     let first = 8 * place;
-    append_if_set(draft, letters, names, first, octet / 128);
+    append_if_set(draft, letters, names, first, octet / 128 % 2);
     append_if_set(draft, letters, names, first + 1, octet / 64 % 2);
     append_if_set(draft, letters, names, first + 2, octet / 32 % 2);
     append_if_set(draft, letters, names, first + 3, octet / 16 % 2);
@@ -300,9 +300,7 @@ fn append_if_set(draft: &mut Draft, letters: &Letters, names: &[NamedNumber], bi
 /// Appends a bit that is set: its name and number, or its number.
 fn append_bit(draft: &mut Draft, letters: &Letters, names: &[NamedNumber], bit: u128)
     requires { bit < 2 ^ 68 }
-    ensures { Adds draft.old (bit_name letters.now (name_of_number names.now (pos bit))
-        (decimal bit))
-        draft.new }
+    ensures { Adds draft.old (set_bit_text letters.now names.now bit) draft.new }
 {
     let mut buffer = Buffer::new();
     let number = buffer.format(bit).as_bytes();
