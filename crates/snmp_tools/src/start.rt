@@ -82,7 +82,7 @@ fn start<'a>(
     if let Some(after) = &walk.after {
         return resume(walk, community, after, after_text);
     }
-    let root = copied(&walk.root);
+    let root = walk.root.copy();
     match WalkCore::start(root, walk.mode, walk.method, community, FIRST_ID) {
         Ok(core) => Ok(core),
         Err(_) => Err(Failure::NotWire(root_text)),
@@ -109,19 +109,9 @@ fn resume<'a>(
     if *after != walk.root && !after.is_below(&walk.root) {
         return Err(Failure::AfterOutsideRoot(text));
     }
-    let root = copied(&walk.root);
+    let root = walk.root.copy();
     match WalkCore::resume(root, after, walk.method, community, FIRST_ID) {
         Ok(core) => Ok(core),
         Err(_) => Err(Failure::NotWire(text)),
-    }
-}
-
-// A copy of the identifier.
-fn copied(name: &Oid) -> Oid
-    ensures { result ≡ name.now }
-{
-    match Oid::from_slice(name.as_slice()) {
-        Ok(copy) => copy,
-        Err(_) => unreachable!(),
     }
 }
