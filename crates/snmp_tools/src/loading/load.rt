@@ -1,17 +1,17 @@
 //! The tree of names of module files.
 ghost use Rattle.std.specs.Prelude.{◌≡◌, IfErr, IfOk, List, OnErr};
 ghost use Rattle.smi_text.specs.declared.trees.tree.Module.{Module};
-ghost use Rattle.snmp_io.specs.Output.{IsWritten};
 ghost use Rattle.snmp_io.specs.Files.{Holds, MayHold};
 ghost use Rattle.snmp_tools.specs.loading.Files.{AreModulesOf, IsFilesRefusal, no_memory, texts};
 ghost use Rattle.snmp_tools.specs.loading.Loaded.{IsLoaded};
 ghost use Rattle.snmp_tools.specs.loading.Message.{refusal_of};
 
+use crate::job::tell;
 use crate::loading::error::FilesError;
 use crate::loading::read::read_modules;
 use crate::loading::warned::warning_lines;
 use smi_tree::{NameHash, Tree};
-use snmp_io::{Files, Output, write_all};
+use snmp_io::{Files, Output};
 use std::alloc::Global;
 
 /// Loads the tree of names from module files (RFC 2578, section 3), and writes the line of each
@@ -41,11 +41,4 @@ pub fn load_tree<'a, F: Files, E: Output>(
     let lines = warning_lines(alloc, &warnings)?;
     tell(err, &lines);
     Ok(tree)
-}
-
-// Writes a text. A fault is ignored: there is nowhere left to report it.
-fn tell<E: Output>(err: &mut E, text: &[u8])
-    ensures { IsWritten (E.stream err.old) text.now (E.stream err.new) }
-{
-    let _ = write_all(err, text);
 }
