@@ -8,7 +8,7 @@ pub(crate) struct Choices {
     pub(crate) includes_root: bool,
     /// No last Get of the root is sent where nothing is below it.
     pub(crate) leaves_last_get: bool,
-    /// The number of lines is printed after them.
+    /// The number of bindings is printed after their lines.
     pub(crate) counts: bool,
     /// How many instances one request asks for.
     pub(crate) repetitions: u32,

@@ -19,7 +19,7 @@ use std::alloc::AllocError;
 pub enum Failure<'a> {
     /// The version of SNMP, of `-v`, isn't 2c.
     Version(&'a str),
-    /// A letter of `-O` or `-C` that has no meaning.
+    /// A letter of `-O`, `-T` or `-C` that has no meaning.
     Letter(u8),
     /// The community has more than 255 octets.
     Community,
@@ -37,7 +37,7 @@ pub enum Failure<'a> {
     NotWire(&'a str),
     /// The name of `--after` is neither the root nor below it.
     AfterOutsideRoot(&'a str),
-    /// The walk over this agent ended before all of it was given.
+    /// What was asked of this agent, or served at this place, ended early: the end says why.
     Ended(&'a str, WalkEnd),
     /// Memory ran out.
     Memory,

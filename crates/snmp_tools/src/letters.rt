@@ -123,7 +123,8 @@ impl Choices {
 fn front_digits(text: &[u8]) -> usize
     ensures within { result ≤ length text.now }
     ensures digits { list_all is_ascii_digit (take result text.now) ≡ true }
-    ensures maximal { result < length text.now → is_ascii_digit (slice_index text.now result) ≡ false }
+    ensures maximal { result < length text.now
+        → is_ascii_digit (slice_index text.now result) ≡ false }
 {
     'octets: for (i, octet) in text.iter().enumerate() {
         if !octet.is_ascii_digit() {
