@@ -1,5 +1,5 @@
 //! Tests that go through several crates: from words to lines, over files and outputs in memory; and
-//! of module files and of translations alone.
+//! of outputs, files, module files and translations alone.
 #![tactic(auto)]
 
 #[cfg(test)]
@@ -10,6 +10,8 @@ mod gets;
 mod letters;
 #[cfg(test)]
 mod loading;
+#[cfg(test)]
+mod machine;
 #[cfg(test)]
 mod mibs;
 #[cfg(test)]
