@@ -61,12 +61,12 @@ fn letters_of_details(rt: HostRuntime) {
                 ("", "", "dd", "iso"),
                 "iso\niso OBJECT IDENTIFIER\n::= { 1 }\n",
                 "",
-                "done",
+                "",
             ),
-            (("", "", "", "iso"), "iso\n", "", "done"),
-            (("", "", "C", "iso"), "", "", "Unknown letter: 67"),
-            (("", "", "dC", "iso"), "", "", "Unknown letter: 67"),
-            (("", "", "Cdx", "iso"), "", "", "Unknown letter: 67"),
+            (("", "", "", "iso"), "iso\n", "", ""),
+            (("", "", "C", "iso"), "", "", "Unknown letter: C"),
+            (("", "", "dC", "iso"), "", "", "Unknown letter: C"),
+            (("", "", "Cdx", "iso"), "", "", "Unknown letter: C"),
         ],
     );
 }

@@ -15,38 +15,38 @@ fn the_first_bad_name_ends_the_job(rt: HostRuntime) {
                 ("", "", "", "iso.3 nosuch iso"),
                 "iso.3\n",
                 "",
-                "nosuch: unknown name",
+                "Unknown name: nosuch",
             ),
             // the second name is empty
             (
                 ("tiny.txt", "", "", "iso.3 "),
                 "iso.3\n",
                 WARNINGS,
-                ": unknown name",
+                "Unknown name: ",
             ),
             (
                 ("tiny.txt", "", "", "iso.3 NO-MIB::iso"),
                 "iso.3\n",
                 WARNINGS,
-                "NO-MIB::iso: unknown name",
+                "Unknown name: NO-MIB::iso",
             ),
             (
                 ("tiny.txt", "", "", "iso.3 tinyMac.\"wes"),
                 "iso.3\n",
                 WARNINGS,
-                "tinyMac.\"wes: bad index",
+                "Bad index: tinyMac.\"wes",
             ),
             (
                 ("tiny.txt", "", "", "iso.3 iso..3"),
                 "iso.3\n",
                 WARNINGS,
-                "iso..3: bad number",
+                "Bad number: iso..3",
             ),
             (
                 ("tiny.txt", "", "", "iso.3 iso.4294967296"),
                 "iso.3\n",
                 WARNINGS,
-                "iso.4294967296: bad number",
+                "Bad number: iso.4294967296",
             ),
         ],
     );
@@ -66,13 +66,13 @@ fn prints_128_numbers(alloc: Global) -> Result<bool, AllocError> {
     let name = zeros(alloc, 127)?;
     let line = format!(in alloc; ".{}\n", name.as_str())?;
     let given = ("", "n", "", name.as_str());
-    ends(alloc, NO_LIMITS, (given, line.as_str(), "", "done"))
+    ends(alloc, NO_LIMITS, (given, line.as_str(), "", ""))
 }
 
 /// Whether a name of 129 numbers is refused.
 fn refuses_129_numbers(alloc: Global) -> Result<bool, AllocError> {
     let name = zeros(alloc, 128)?;
-    let end = format!(in alloc; "{}: name too long", name.as_str())?;
+    let end = format!(in alloc; "Name too long: {}", name.as_str())?;
     let given = ("", "", "", name.as_str());
     ends(alloc, NO_LIMITS, (given, "", "", end.as_str()))
 }
@@ -93,19 +93,19 @@ fn words_are_judged_in_order(rt: HostRuntime) {
                 ("tiny.txt bad.txt no.txt", "nzy", "C", "nosuch"),
                 "",
                 "",
-                "Unknown letter: 122",
+                "Unknown letter: z",
             ),
             (
                 ("tiny.txt bad.txt no.txt", "n", "C", "nosuch"),
                 "",
                 "",
-                "Unknown letter: 67",
+                "Unknown letter: C",
             ),
             (
                 ("tiny.txt bad.txt no.txt", "n", "d", "nosuch"),
                 "",
                 "",
-                "bad.txt: line 2: no token begins here",
+                "bad.txt:2: bad character",
             ),
             (
                 ("tiny.txt no.txt bad.txt", "n", "d", "nosuch"),
@@ -117,7 +117,7 @@ fn words_are_judged_in_order(rt: HostRuntime) {
                 ("tiny.txt", "n", "d", "nosuch"),
                 "",
                 WARNINGS,
-                "nosuch: unknown name",
+                "Unknown name: nosuch",
             ),
         ],
     );
@@ -156,7 +156,7 @@ fn an_output_of_warnings_that_fails(rt: HostRuntime) {
         ("tiny.txt", "", "", "tiny"),
         "TINY-MIB::tiny\n",
         "snmp:",
-        "done",
+        "",
     );
     assert!(rt; matches!(ends(rt.alloc(), limits, case), Ok(true)));
 }

@@ -11,7 +11,7 @@ fn names_by_the_roots_alone(rt: HostRuntime) {
             ("", "", "", "iso.3 . ccitt .1.3 joint-iso-ccitt.1 3.1"),
             "iso.3\n.\nccitt\niso.3\njoint-iso-ccitt.1\n.3.1\n",
             "",
-            "done",
+            "",
         )],
     );
 }

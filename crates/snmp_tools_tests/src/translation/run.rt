@@ -2,7 +2,8 @@
 
 use crate::tiny::{TINY, WARNINGS};
 use snmp_io::memory::{MemoryFiles, MemoryOutput};
-use snmp_tools::translation::translate;
+use snmp_net::memory::MemoryLinks;
+use snmp_tools::{Job, run_job};
 use snmp_words::TranslateJob;
 use std::alloc::{AllocError, Global};
 use std::process::Abort;
@@ -11,11 +12,11 @@ use std::process::Abort;
 /// There is a space between two files and between two names.
 pub type Given<'a> = (&'a str, &'a str, &'a str, &'a str);
 
-/// What a job is given, what it must print on the output and on that of warnings, and how it must
-/// end: with the message of the error, or with `done`.
+/// What a job is given, what it must print on standard output, which warnings on standard error, and
+/// how it must end: with this message after them at status 1, or with none at status 0.
 pub type Case<'a> = (Given<'a>, &'a str, &'a str, &'a str);
 
-/// How many octets the output and the output of warnings take before they fail.
+/// How many octets standard output and standard error take before they fail.
 #[derive(Clone, Copy)]
 pub struct Limits {
     pub out: usize,
@@ -28,46 +29,48 @@ pub const NO_LIMITS: Limits = Limits {
     err: usize::MAX,
 };
 
-/// How the job ends over the files `tiny.txt` and `bad.txt`.
-fn end_of(
+/// The status of the job over the files `tiny.txt` and `bad.txt`.
+fn status_of(
     alloc: Global,
-    job: &TranslateJob<'_>,
+    job: TranslateJob<'_>,
     out: &mut MemoryOutput,
     err: &mut MemoryOutput,
-) -> Result<String, AllocError> {
+) -> u8 {
     let held = [("tiny.txt", TINY), ("bad.txt", b"BAD-MIB\n!".as_slice())];
     let files = MemoryFiles { files: &held };
-    match translate(alloc, job, &files, out, err) {
-        Ok(()) => String::from_str(alloc, "done"),
-        Err(error) => format!(in alloc; "{error}"),
-    }
+    let mut links = MemoryLinks::new(alloc, &[], &[]);
+    run_job(alloc, &Job::Translate(job), &files, &mut links, out, err)
 }
 
-/// Whether the job prints these texts and ends in this way.
-fn job_ends(
+/// Whether the job prints these texts and has this status.
+fn job_prints(
     alloc: Global,
-    job: &TranslateJob<'_>,
+    job: TranslateJob<'_>,
     limits: Limits,
     texts: (&str, &str),
-    end: &str,
-) -> Result<bool, AllocError> {
+    status: u8,
+) -> bool {
     let mut out = MemoryOutput::with_limit(alloc, limits.out);
     let mut err = MemoryOutput::with_limit(alloc, limits.err);
-    let ended = end_of(alloc, job, &mut out, &mut err)?;
+    let ended = status_of(alloc, job, &mut out, &mut err);
     let written = out.octets() == texts.0.as_bytes() && err.octets() == texts.1.as_bytes();
-    Ok(written && ended.as_str() == end)
+    written && ended == status
 }
 
 /// Whether the job, over the files `tiny.txt` and `bad.txt`, prints and ends as the case says.
 pub fn ends(alloc: Global, limits: Limits, case: Case<'_>) -> Result<bool, AllocError> {
-    let ((mibs, letters, details, names), lines, messages, end) = case;
+    let ((mibs, letters, details, names), lines, warnings, end) = case;
     let job = TranslateJob {
         mibs: mibs.split_whitespace().collect(alloc)?,
         letters: String::from_str(alloc, letters)?,
         details,
         names: names.split(' ').collect(alloc)?,
     };
-    job_ends(alloc, &job, limits, (lines, messages), end)
+    if end.is_empty() {
+        return Ok(job_prints(alloc, job, limits, (lines, warnings), 0));
+    }
+    let messages = format!(in alloc; "{warnings}{end}\n")?;
+    Ok(job_prints(alloc, job, limits, (lines, messages.as_str()), 1))
 }
 
 /// Asserts that each job prints and ends as its case says.
@@ -85,7 +88,7 @@ pub fn assert_prints(rt: &impl Abort, alloc: Global, cases: &[(&str, &str, &str,
             ("tiny.txt", *letters, *details, *names),
             *lines,
             WARNINGS,
-            "done",
+            "",
         );
         assert!(rt;
             matches!(ends(alloc, NO_LIMITS, case), Ok(true)),
