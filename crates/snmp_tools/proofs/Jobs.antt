@@ -11,9 +11,7 @@ use Rattle.snmp_net.specs.declared.links.Links.{Ghosts as Network}
 use Rattle.snmp_walk.specs.declared.link.Link.{Ghosts as LinkFacts}
 use Rattle.snmp_words.specs.declared.job.Job.{Job}
 use Rattle.snmp_words.specs.Words.{Stated, job_words, snmpbulkwalk, snmpd, snmpget, snmptranslate, snmpwalk}
-use Rattle.snmp_tools.specs.agent.Fault.{no_memory}
 use Rattle.snmp_tools.specs.agent.Outcome as serve
-use Rattle.snmp_tools.specs.translation.Fault as translate
 use Rattle.snmp_tools.specs.translation.Outcome as translated
 use Rattle.snmp_tools.specs.Done.{IsAskDone, IsJobDone}
 use Rattle.snmp_tools.specs.Message.{out_of_memory}
@@ -73,9 +71,9 @@ module _ {N V D : Type 0} (net : Network N V D) (wire : LinkFacts V) where
     undone (snmptranslate words) = (
       refl,
       record {
-        fault = Some translate.no_memory;
+        fault = Some out_of_memory;
         warned = err;
-        outcome = translated.refused translate.no_memory (inl refl) refl refl refl;
+        outcome = translated.refused out_of_memory (inl refl) refl refl refl;
         is_reported = (refl, inr told);
         all_at_status_0 = λ zero. let no : ⊥ = cc in absurd no;
         front = λ style modules asked. inl refl;
@@ -85,8 +83,8 @@ module _ {N V D : Type 0} (net : Network N V D) (wire : LinkFacts V) where
     undone (snmpwalk words) = unasked (of_walk false words)
     undone (snmpbulkwalk words) = unasked (of_walk true words)
     undone (snmpd words) = record {
-      fault = Some no_memory;
+      fault = Some out_of_memory;
       warned = err;
-      outcome = serve.not_loaded no_memory (inl refl) refl refl refl;
+      outcome = serve.not_loaded out_of_memory (inl refl) refl refl refl;
       reported = (refl, inr told);
     }

@@ -1,5 +1,5 @@
 -- The words ask for one plan, and the steps before its question fail for want of memory alone.
-use Rattle.std.proofs.Common.{◌≡◌, inl, inr, ℕ, Bool, ◌<◌, ◌≤◌, length, arith, List, [], ◌∷◌, ◌++◌, All, map, Option, Some, None, Result, Ok, Err}
+use Rattle.std.proofs.Common.{◌≡◌, inl, inr, ℕ, Bool, ◌<◌, ◌≤◌, length, arith, List, [], ◌∷◌, ◌++◌, All, map, Option, Some, None, Ok}
 use Rattle.std.proofs.Common.{refl, sym, ◌∙◌, ap, subst}
 use Rattle.std.proofs.lemmas.List.Elements.{All-head, All-tail}
 use Rattle.std.specs.Str.Lines.{lines}
@@ -26,7 +26,7 @@ use Rattle.snmp_tools.specs.Asking.{AreShown, AskingFails, AskingStep, HasAgent,
 use Rattle.snmp_tools.specs.Asking.{agent_step, community_step, letters_step, version_step}
 use Rattle.snmp_tools.specs.Headline.{IsAsk}
 use Rattle.snmp_tools.specs.Letters.{Choices}
-use Rattle.snmp_tools.specs.Message.{Fault, bad_table, out_of_memory, outside_root, unreadable}
+use Rattle.snmp_tools.specs.Message.{Fault, bad_table, out_of_memory, outside_root}
 use Rattle.snmp_tools.specs.loading.Files.{AreModulesOf}
 use Rattle.smi_text.specs.declared.trees.tree.Module.{Module}
 use Rattle.smi_names.specs.declared.nodes.warning.Warning.{Warning}
@@ -168,7 +168,7 @@ module _ (one_list : OneList) (one_tree : OneTree) (one : OneMeaning)
   agent_is : (agent : Address) → HasAgent words.asking.agent agent → agent ≡ table ask.path
   agent_is agent has = sym (has.1 ask.plan.agent ask.asked.agent) ∙ ask.over
 
-  table_want_only : TableFails unreadable bad_table files ask.mib.naming ask.path why → IsWant why
+  table_want_only : TableFails files ask.mib.naming ask.path why → IsWant why
   table_want_only (inl f) = absurd (is_readable ask.text (files ask.path) ask.held f.0)
   table_want_only (inr f) =
       let same : f.2 ≡ ask.text = held_is (files ask.path) f.2 ask.text f.4 ask.held in
@@ -209,7 +209,7 @@ module _ (one_list : OneList) (one_tree : OneTree) (one : OneMeaning)
   -- names mean what they mean to the question
   name_want : (text o : List ℕ) → TextMeans ask.mib.naming text (Ok o) → Wants (name_step text)
   name_want text o means f =
-      let g = subst (λ (m : Mib). NameFails m text why) (known_as f.0 f.1) f.2 in
+      let g = subst (λ (m : Mib). NameFails m.naming text why) (known_as f.0 f.1) f.2 in
       absurd (no_name one ask.mib.naming text o g.0 means g.1)
 
   sent_want : (text o : List ℕ) → TextMeans ask.mib.naming text (Ok o) → IsWire (wire o) → Wants (sent_step text)

@@ -5,7 +5,7 @@ use Rattle.std.proofs.lemmas.List.{drop_more, map-append, take-append-drop, take
 use Rattle.snmp_io.specs.Output.{Stream, extended}
 use Rattle.snmp_io.specs.Streams.{extended-twice}
 use Rattle.snmp_words.specs.Words.{texts_at}
-use Rattle.snmp_tools.specs.translation.Fault.{TranslateFault}
+use Rattle.snmp_tools.specs.Message.{Fault}
 use Rattle.snmp_tools.specs.translation.Outcome.{AreNamesPrinted, IsNamePrinted, StopsAtName, StopsWithin}
 use Rattle.snmp_tools.specs.translation.Text.{AreTextsOf, DetailMib, IsTextOf}
 use Rattle.snmp_tools.specs.declared.translation.style.Style.{Style}
@@ -45,7 +45,7 @@ texts-parts names i d inside =
 
 -- it stops at the first name that isn't printed
 pub stopped_at : (mib : DetailMib) (style : Style) (names : List (Bor (List ℕ))) (i : ℕ) (d : Bor (List ℕ)) (before middle after : Stream)
-    (why : TranslateFault)
+    (why : Fault)
     → i < length names → AreNamesPrinted mib style (texts_at (take i names)) before middle → StopsAtName mib style middle (get_or names i d).now after why
     → StopsWithin mib style (texts_at names) before after why
 stopped_at mib style names i d before middle after why inside (text, texts, is) stops = record {

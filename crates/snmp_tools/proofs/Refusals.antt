@@ -1,10 +1,10 @@
 -- Why nothing is printed.
-use Rattle.std.proofs.Common.{◌≡◌, ap, inl, inr, refl, ℕ, [], ◌∷◌, Some, None}
-use Rattle.snmp_tools.specs.loading.Files.{IsFilesRefusal, Refusal}
+use Rattle.std.proofs.Common.{◌≡◌, ◌⊎◌, inl, inr, refl, ℕ, [], ◌∷◌, Some, None}
 use Rattle.smi_value.specs.letters.Letters.{first_other}
 use Rattle.snmp_io.specs.Files.{Holdings}
 use Rattle.snmp_words.specs.Words.{TranslateWords}
-use Rattle.snmp_tools.specs.translation.Fault.{bad_letter, modules_fault}
+use Rattle.snmp_tools.specs.Asking.{MibsFail}
+use Rattle.snmp_tools.specs.Message.{Fault, bad_letter, out_of_memory}
 use Rattle.snmp_tools.specs.translation.Refusal.{IsTranslateRefusal, TranslationFails, details_step, letters_step, modules_step}
 use Rattle.snmp_tools.specs.translation.Style.{IsStyleOf, first_other_of_t}
 use Rattle.snmp_tools.specs.declared.translation.style.Style.{Style}
@@ -31,14 +31,14 @@ details_fail words files octet known other = record {
   fails = (octet, other, refl);
 }
 
-pub modules_fail : (words : TranslateWords) (files : Holdings) (style : Style) (why : Refusal) → IsStyleOf words style
-    → IsFilesRefusal files words.mibs why → IsTranslateRefusal words files (modules_fault why)
-modules_fail words files style why styled (inl none) = inl (ap modules_fault none)
+pub modules_fail : (words : TranslateWords) (files : Holdings) (style : Style) (why : Fault) → IsStyleOf words style
+    → (why ≡ out_of_memory) ⊎ MibsFail files words.mibs why → IsTranslateRefusal words files why
+modules_fail words files style why styled (inl none) = inl none
 modules_fail words files style why styled (inr fails) = inr (record {
   done = letters_step ∷ details_step ∷ [];
   failed = modules_step;
   left = [];
   order = refl;
   are_done = (styled.known, (styled.known_of_t, tt));
-  fails = (why, fails, refl);
+  fails = fails;
 })

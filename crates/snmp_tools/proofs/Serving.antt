@@ -1,5 +1,5 @@
 -- Why nothing is served, and what is printed where something is.
-use Rattle.std.proofs.Common.{◌≡◌, ap, ◌<◌, ◌≤◌, ◌+◌, inl, inr, refl, subst, ℕ, List, [], ◌∷◌, Option, None, length}
+use Rattle.std.proofs.Common.{◌≡◌, ◌⊎◌, ◌<◌, ◌≤◌, ◌+◌, inl, inr, refl, subst, ℕ, List, [], ◌∷◌, Option, length}
 use Rattle.snmp_agent.specs.Reply.{Agent}
 use Rattle.snmp_agent.specs.declared.server.Served.{Served}
 use Rattle.snmp_io.specs.Files.{Holdings}
@@ -7,10 +7,11 @@ use Rattle.snmp_io.specs.Output.{Stream, extended}
 use Rattle.snmp_net.specs.Address.{IsHostAndPort}
 use Rattle.snmp_agent.specs.table.Table.{MibView}
 use Rattle.snmp_words.specs.Words.{ServeWords}
-use Rattle.snmp_tools.specs.agent.Fault.{ServeFault, bad_place, long_community, modules_fault}
-use Rattle.snmp_tools.specs.agent.Outcome.{IsServedAndCounted, StopsAtLine, counts_line, listening_line}
-use Rattle.snmp_tools.specs.agent.Service.{IsServeRefusal, ServiceFails, served_agent, community_step, modules_step, place_step}
-use Rattle.snmp_tools.specs.loading.Files.{IsFilesRefusal, Refusal}
+use Rattle.snmp_tools.specs.agent.Outcome.{AtDoor, IsServedAndCounted, counts_line, listening_line}
+use Rattle.snmp_tools.specs.agent.Service.{IsServeRefusal, ServiceFails, community_step, modules_step, place_step}
+use Rattle.snmp_tools.specs.Asking.{MibsFail}
+use Rattle.snmp_tools.specs.Lines.{IsTextPrinted}
+use Rattle.snmp_tools.specs.Message.{Fault, bad_agent, long_community, out_of_memory}
 
 pub community_fails : (words : ServeWords) (files : Holdings) → 255 < length words.community → ServiceFails words files long_community
 community_fails words files long = record {
@@ -23,7 +24,7 @@ community_fails words files long = record {
 }
 
 pub place_fails : (words : ServeWords) (files : Holdings) → length words.community ≤ 255
-    → ((host : List ℕ) (port : ℕ) → IsHostAndPort words.listen host port → ⊥) → ServiceFails words files (bad_place words.listen)
+    → ((host : List ℕ) (port : ℕ) → IsHostAndPort words.listen host port → ⊥) → ServiceFails words files (bad_agent words.listen)
 place_fails words files short none = record {
   done = community_step ∷ [];
   failed = place_step;
@@ -33,32 +34,31 @@ place_fails words files short none = record {
   fails = (none, refl);
 }
 
-pub modules_fail : (words : ServeWords) (files : Holdings) (host : List ℕ) (port : ℕ) (why : Refusal) → length words.community ≤ 255
-    → IsHostAndPort words.listen host port → IsFilesRefusal files words.mibs why → IsServeRefusal words files (modules_fault why)
-modules_fail words files host port why short place (inl none) = inl (ap modules_fault none)
+pub modules_fail : (words : ServeWords) (files : Holdings) (host : List ℕ) (port : ℕ) (why : Fault) → length words.community ≤ 255
+    → IsHostAndPort words.listen host port → (why ≡ out_of_memory) ⊎ MibsFail files words.mibs why → IsServeRefusal words files why
+modules_fail words files host port why short place (inl none) = inl none
 modules_fail words files host port why short place (inr fails) = inr (record {
   done = community_step ∷ place_step ∷ [];
   failed = modules_step;
   left = [];
   order = refl;
   are_done = (short, ((host, port, place), tt));
-  fails = (why, fails, refl);
+  fails = fails;
 })
 
--- the counts weren't printed, or only a front of them
-pub counts_stop : (Serves : Agent → ℕ → Served → Type 0) (words : ServeWords) (view : MibView) (before middle after : Stream)
-    (served : Served) (fault : Option ServeFault) → Serves (served_agent words view) words.turns served
+-- what was served at a door, by an agent of the words' community, and the line of its counts
+pub counted : {Door : Type 0} (Binds : (host : List ℕ) → (port : ℕ) → Door → Type 0) (Serves : Door → Agent → ℕ → Served → Type 0) (host : List ℕ)
+    (port : ℕ) (door : Door) (words : ServeWords) (view : MibView) (before middle after : Stream) (community : List ℕ) (served : Served)
+    (fault : Option Fault) → Binds host port door → community ≡ words.community
+    → Serves door (record { view = view; community = community; max_size = words.max_size }) words.turns served
     → served.replies + served.dropped + served.idle + served.faults ≡ words.turns
-    → middle ≡ extended before (listening_line words.listen) → StopsAtLine middle (counts_line served) after fault
-    → IsServedAndCounted Serves words view (extended before (listening_line words.listen)) after fault
-counts_stop Serves words view before middle after served fault serves adds_up is stops =
-    (served, serves, adds_up, inr (subst (λ (s : Stream). StopsAtLine s (counts_line served) after fault) is stops))
-
--- the counts were printed
-pub counts_told : (Serves : Agent → ℕ → Served → Type 0) (words : ServeWords) (view : MibView) (before middle after : Stream)
-    (served : Served) → Serves (served_agent words view) words.turns served
-    → served.replies + served.dropped + served.idle + served.faults ≡ words.turns
-    → middle ≡ extended before (listening_line words.listen) → after ≡ extended middle (counts_line served)
-    → IsServedAndCounted Serves words view (extended before (listening_line words.listen)) after None
-counts_told Serves words view before middle after served serves adds_up is told =
-    (served, serves, adds_up, inl (subst (λ (s : Stream). after ≡ extended s (counts_line served)) is told, refl))
+    → middle ≡ extended before (listening_line words.listen) → IsTextPrinted middle (counts_line served) after fault
+    → IsServedAndCounted (AtDoor Binds Serves host port) words view (extended before (listening_line words.listen)) after fault
+counted {Door} Binds Serves host port door words view before middle after community served fault bound same serves adds_up is printed =
+    let serves_words = subst (λ (t : List ℕ). Serves door (record { view = view; community = t; max_size = words.max_size }) words.turns served) same serves
+    in (
+      served,
+      (door, bound, serves_words),
+      adds_up,
+      subst (λ (s : Stream). IsTextPrinted s (counts_line served) after fault) is printed,
+    )

@@ -99,7 +99,7 @@ more_names mib texts i d os o inside are means =
 
 module _ (mib : Mib) (texts : List (Bor (List ℕ))) (i : ℕ) (text d : Bor (List ℕ)) (inside : i < length texts) (is : text ≡ get_or texts i d)
     (os : List (List ℕ)) (are : AreNames mib (texts_at (take i texts)) os) where
-  pub first_unnamed : (why : Fault) → NameFails mib text.now why → IsFirstToFail (texts_at texts) (HasMeaning mib) (NameFails mib) why
+  pub first_unnamed : (why : Fault) → NameFails mib.naming text.now why → IsFirstToFail (texts_at texts) (HasMeaning mib) (NameFails mib.naming) why
   first_unnamed why fails =
       let parts : texts ≡ take i texts ++ text ∷ drop (suc i) texts =
       sym (take-append-drop i texts) ∙ ap (λ (s : List (Bor (List ℕ))). take i texts ++ s) (drop-cons texts i d inside
@@ -190,7 +190,7 @@ module _ (words : AskWords) (files : Holdings) (why : Fault) where
       at_names : (request : Request) → NamesFail request mib why → (why ≡ out_of_memory) ⊎ Refused (name_steps request)
       at_names (get texts) (inl e) = inl e
       at_names (get texts) (inr h) =
-          inr (mapped name_step (HasMeaning mib) Done (λ text d. (mib, known, d)) (NameFails mib) Fails why (λ text f. (mib, known, f)) texts h)
+          inr (mapped name_step (HasMeaning mib) Done (λ text d. (mib, known, d)) (NameFails mib.naming) Fails why (λ text f. (mib, known, f)) texts h)
       at_names (walk bulk letters after name) (inl f) = inr (fails (name_step (root_text name)) _ (mib, known, f))
       at_names (walk bulk letters after name) (inr f) =
           let rest : Refused (name_step f.1.0 ∷ []) = fails (name_step f.1.0) [] (mib, known, f.1.2) in

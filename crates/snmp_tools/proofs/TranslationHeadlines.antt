@@ -1,6 +1,5 @@
 -- What the outcome says of the texts of all names.
-use Rattle.std.proofs.Common.{◌≡◌, ◌∙◌, ◌++◌, ap, inl, inr, refl, sym, subst, ℕ, Bool, List, [], ◌∷◌, Option, Some, None, Result, Ok, Err}
-use Rattle.std.specs.Prelude.{IfErr, OnOk}
+use Rattle.std.proofs.Common.{◌≡◌, ◌∙◌, ◌++◌, ap, inl, inr, refl, sym, subst, ℕ, Bool, List, [], ◌∷◌, Option, Some, None}
 use Rattle.std.proofs.Common.{append_assoc, append-nil}
 use Rattle.snmp_tools.specs.loading.Files.{AreModulesOf}
 use Rattle.snmp_tools.specs.loading.Loaded.{IsLoaded}
@@ -15,12 +14,11 @@ use Rattle.snmp_io.specs.Files.{Holdings, Holds, MayHold}
 use Rattle.snmp_io.specs.Output.{Stream, extended}
 use Rattle.snmp_io.specs.Streams.{front_after, whole_taken}
 use Rattle.snmp_words.specs.Words.{TranslateWords}
-use Rattle.snmp_tools.specs.translation.Fault.{TranslateFault, translate_fault_of}
+use Rattle.snmp_tools.specs.Message.{Fault}
 use Rattle.snmp_tools.specs.translation.Headline.{AskForTranslation, IsByTree, IsFront, PrintsAll, PrintsFront}
 use Rattle.snmp_tools.specs.translation.Outcome.{AreNamesPrinted, IsPrinting, IsTranslateOutcome, StopsAtName, StopsWithin, ran, refused}
 use Rattle.snmp_tools.specs.translation.Style.{IsStyleOf}
 use Rattle.snmp_tools.specs.translation.Text.{DetailMib, detail_mib_of}
-use Rattle.snmp_tools.specs.declared.translation.error.TranslateError.{TranslateError}
 use Rattle.snmp_tools.specs.declared.translation.style.Style.{Style}
 use Rattle.snmp_tools.proofs.Printing.{AreTextsOf-more}
 
@@ -66,16 +64,17 @@ by_tree one words files style modules tree err_before err_after Printed asked lo
   printed = printed;
 }
 
-pub all_printed : OneList → (words : TranslateWords) (files : Holdings) (before after err_before err_after : Stream)
-    → IsTranslateOutcome words files before after err_before err_after None → PrintsAll words files before after
-all_printed one words files before after err_before err_after (refused why refusal same same_too is) style modules asked =
+pub all_printed : OneList → (words : TranslateWords) (files : Holdings) (before after err_before err_after : Stream) (fault : Option Fault) → fault ≡ None
+    → IsTranslateOutcome words files before after err_before err_after fault → PrintsAll words files before after
+all_printed one words files before after err_before err_after fault none (refused why refusal same same_too is) style modules asked =
     let no : ⊥ = cc in absurd no
-all_printed one words files before after err_before err_after (ran own tree styled loaded printed) style modules asked =
+all_printed one words files before after err_before err_after fault none (ran own tree styled loaded printing) style modules asked =
     by_tree one words files style modules tree err_before err_after (λ (mib : DetailMib). AreNamesPrinted mib style words.names before after) asked loaded
-    (subst (λ (s : Style). AreNamesPrinted (detail_mib_of tree) s words.names before after) (one_style words own style styled asked.styled) printed)
+    (subst (λ (s : Style). AreNamesPrinted (detail_mib_of tree) s words.names before after) (one_style words own style styled asked.styled)
+    (subst (IsPrinting (detail_mib_of tree) own words.names before after) none printing))
 
 -- a front of the texts of the names up to the one at which it stopped
-front_stopped : (mib : DetailMib) (style : Style) (names : List (List ℕ)) (before after : Stream) (why : TranslateFault)
+front_stopped : (mib : DetailMib) (style : Style) (names : List (List ℕ)) (before after : Stream) (why : Fault)
     → (stopped : StopsWithin mib style names before after why) → StopsAtName mib style (extended before stopped.text) stopped.name after why
     → IsFront style names before after mib
 front_stopped mib style names before after why stopped (inl (nothing, same)) =
@@ -96,24 +95,15 @@ front_whole : (mib : DetailMib) (style : Style) (names : List (List ℕ)) (befor
     → IsFront style names before after mib
 front_whole mib style names before after (text, texts, is) = (names, [], text, sym (append-nil names), texts, whole_taken before after text is)
 
-front_printing : (mib : DetailMib) (style : Style) (names : List (List ℕ)) (before after : Stream) (fault : Option TranslateFault)
+front_printing : (mib : DetailMib) (style : Style) (names : List (List ℕ)) (before after : Stream) (fault : Option Fault)
     → IsPrinting mib style names before after fault → IsFront style names before after mib
 front_printing mib style names before after None printed = front_whole mib style names before after printed
 front_printing mib style names before after (Some why) stopped = front_stopped mib style names before after why stopped stopped.stops
 
-front_printed : OneList → (words : TranslateWords) (files : Holdings) (before after err_before err_after : Stream) (fault : Option TranslateFault)
+pub front_printed : OneList → (words : TranslateWords) (files : Holdings) (before after err_before err_after : Stream) (fault : Option Fault)
     → IsTranslateOutcome words files before after err_before err_after fault → PrintsFront words files before after
 front_printed one words files before after err_before err_after fault (refused why refusal same same_too is) style modules asked = inl same
 front_printed one words files before after err_before err_after fault (ran own tree styled loaded printing) style modules asked =
     inr (by_tree one words files style modules tree err_before err_after (IsFront style words.names before after) asked loaded
     (subst (λ (s : Style). IsFront s words.names before after (detail_mib_of tree)) (one_style words own style styled asked.styled)
     (front_printing (detail_mib_of tree) own words.names before after fault printing)))
-
--- however it ended
-pub front_at_any_end : OneList → (words : TranslateWords) (files : Holdings) (before after err_before err_after : Stream)
-    (result : Result (Unit {0}) TranslateError) → OnOk result (IsTranslateOutcome words files before after err_before err_after None)
-    → IfErr result (λ e. IsTranslateOutcome words files before after err_before err_after (Some (translate_fault_of e))) → PrintsFront words files before after
-front_at_any_end one words files before after err_before err_after (Ok _) done failed =
-    front_printed one words files before after err_before err_after None done
-front_at_any_end one words files before after err_before err_after (Err e) done failed =
-    front_printed one words files before after err_before err_after (Some (translate_fault_of e)) failed

@@ -1,18 +1,21 @@
 -- What a job that asks an agent was told, and what it wrote.
-use Rattle.std.proofs.Common.{◌≡◌, ◌∙◌, ap, ℕ, Bool, List, Option, Some, Result, Ok, Err, subst, sym}
+use Rattle.std.proofs.Common.{◌≡◌, ◌∙◌, ◌⊎◌, inl, inr, refl, ap, ℕ, Bool, List, Bor, Option, Some, Result, Ok, Err, subst, sym}
 use Rattle.std.specs.Prelude.{IfErr}
 use Rattle.std.specs.Result.{IsErrAnd}
 use Rattle.smi_text.specs.declared.trees.tree.Def.{Def}
+use Rattle.smi_text.specs.declared.trees.tree.Module.{Module}
 use Rattle.smi_show.specs.name.Naming.{Naming}
 use Rattle.smi_tree.specs.Naming.{naming_of}
 use Rattle.smi_value.specs.Syntax.{ObjectSyntax}
 use Rattle.smi_value.specs.declared.letters.letters.Letters.{Letters}
-use Rattle.snmp_io.specs.Files.{Holdings, MayHold}
+use Rattle.snmp_io.specs.Files.{Holdings, Holds, MayHold}
 use Rattle.snmp_io.specs.Output.{Stream}
 use Rattle.snmp_wire.specs.Message.{VarBind}
 use Rattle.snmp_walk.specs.declared.end.WalkEnd.{WalkEnd}
+use Rattle.snmp_tools.specs.loading.Files.{AreModulesOf, IsFilesRefusal, Refusal, faulty, no_memory, texts, unreadable}
 use Rattle.snmp_tools.specs.loading.Loaded.{AreLoadedAs}
-use Rattle.snmp_tools.specs.Message.{Fault, fault_of, outcome_of}
+use Rattle.snmp_tools.specs.Asking.{MibsFail}
+use Rattle.snmp_tools.specs.Message.{Fault, bad_modules, fault_of, modules_fault, out_of_memory, outcome_of}
 use Rattle.snmp_tools.specs.Mib.{AreLoaded, Mib}
 use Rattle.snmp_tools.specs.Outcome.{IsPrinted}
 use Rattle.snmp_tools.specs.Planned.{mib_in}
@@ -23,9 +26,40 @@ pub outcome_err : {T : Type 0} (r : Result T Failure) (f : Failure) → IsErrAnd
 outcome_err (Ok x) f h = absurd h
 outcome_err (Err e) f h = ap (λ (x : Failure). Some (fault_of x)) h
 
+-- the same by the fault of what it returns
+pub outcome_as : {T : Type 0} (r : Result T Failure) (why : Fault) → IsErrAnd r (λ e. fault_of e ≡ why) → outcome_of r ≡ Some why
+outcome_as (Ok x) why h = absurd h
+outcome_as (Err e) why h = ap Some h
+
 pub if_err : {T : Type 0} (P : Failure → Type 0) (r : Result T Failure) (f : Failure) → IsErrAnd r (λ e. e ≡ f) → P f → IfErr r P
 if_err P (Ok x) f h p = absurd h
 if_err P (Err e) f h p = subst P (sym h) p
+
+-- a load of the same files
+pub loads_from : (files : Holdings) (given paths : List (Bor (List ℕ))) (naming : Naming) (definition_at : List ℕ → Option Def)
+    (syntax_at : List ℕ → Option ObjectSyntax) (before after : Stream) → given ≡ paths
+    → AreLoadedAs (MayHold files) (texts given) naming definition_at syntax_at before after
+    → AreLoadedAs (MayHold files) (texts paths) naming definition_at syntax_at before after
+loads_from files given paths naming definition_at syntax_at before after same =
+    subst (λ (ps : List (Bor (List ℕ))). AreLoadedAs (MayHold files) (texts ps) naming definition_at syntax_at before after) same
+
+-- why module files can't be had
+module _ (files : Holdings) (given paths : List (Bor (List ℕ))) (same : given ≡ paths) where
+  abbrev HasOnly : Refusal → Type 0
+  HasOnly why = (modules : List Module) → AreModulesOf (Holds files) (texts given) modules → why ≡ no_memory
+
+  by_fault : (why : Refusal) → (why ≡ no_memory → ⊥) → modules_fault why ≡ bad_modules why → IsFilesRefusal files (texts given) why → HasOnly why
+      → (modules_fault why ≡ out_of_memory) ⊎ MibsFail files (texts paths) (modules_fault why)
+  by_fault why some is (inl none) only = absurd (some none)
+  by_fault why some is (inr fails) only =
+      inr (subst (λ (ps : List (Bor (List ℕ))). MibsFail files (texts ps) (modules_fault why)) same
+      (why, fails, is, λ modules are. some (only modules are)))
+
+  pub mibs_fail : (why : Refusal) → IsFilesRefusal files (texts given) why → HasOnly why
+      → (modules_fault why ≡ out_of_memory) ⊎ MibsFail files (texts paths) (modules_fault why)
+  mibs_fail no_memory refused only = inl refl
+  mibs_fail (unreadable path) refused only = by_fault (unreadable path) (λ e. let no : ⊥ = cc in no) refl refused only
+  mibs_fail (faulty path fault) refused only = by_fault (faulty path fault) (λ e. let no : ⊥ = cc in no) refl refused only
 
 -- what a load tells of its names and types
 pub are_loaded : (files : Holdings) (paths : List (List ℕ)) (naming : Naming) (definition_at : List ℕ → Option Def)

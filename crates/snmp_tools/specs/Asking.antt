@@ -7,14 +7,15 @@ use Rattle.smi_text.specs.declared.trees.tree.Module.{Module}
 use Rattle.smi_value.specs.declared.letters.letters.Letters.{Letters}
 use Rattle.smi_value.specs.letters.Letters.{AreLetters, first_other}
 use Rattle.smi_show.specs.name.Meant.{TextMeans}
+use Rattle.smi_show.specs.name.Naming.{Naming}
 use Rattle.smi_show.specs.declared.name.error.NameError.{NameError}
 use Rattle.snmp_io.specs.Files.{Holdings, Holds}
 use Rattle.snmp_tools.specs.agent.TableFile.{HasTable, TableFails}
 use Rattle.snmp_agent.specs.table.Table.{MibView}
 use Rattle.snmp_net.specs.Address.{Address, IsAgent, table, udp}
 use Rattle.snmp_words.specs.Words.{AskingWords}
-use Rattle.snmp_tools.specs.Message.{Fault, bad_agent, bad_letter, bad_modules, bad_name, bad_table}
-use Rattle.snmp_tools.specs.Message.{bad_version, long_community, unreadable}
+use Rattle.snmp_tools.specs.Message.{Fault, bad_agent, bad_letter, bad_modules, bad_name}
+use Rattle.snmp_tools.specs.Message.{bad_version, long_community}
 use Rattle.snmp_tools.specs.Mib.{Mib}
 
 -- ---- words before any file is read
@@ -61,9 +62,9 @@ MibsFail files paths why =
     × ((modules : List Module) → AreModulesOf (Holds files) paths modules → ⊥)
 
 -- a text that isn't the name of an identifier
-abbrev pub NameFails : Mib → List ℕ → Fault → Type 0
-NameFails mib text why =
-    (error : NameError) × TextMeans mib.naming text (Err error) × (why ≡ bad_name error text)
+abbrev pub NameFails : Naming → List ℕ → Fault → Type 0
+NameFails naming text why =
+    (error : NameError) × TextMeans naming text (Err error) × (why ≡ bad_name error text)
 
 -- the name that a text states, where there is a text
 abbrev pub IsNameIfGiven : Mib → Option (List ℕ) → Option (List ℕ) → Type 0
@@ -78,6 +79,5 @@ IsReached files mib (udp host port) = Unit {0}
 
 -- its file can't be read or states no table
 abbrev pub ReachFails : Holdings → Mib → Address → Fault → Type 0
-ReachFails files mib (table path) why =
-    TableFails unreadable bad_table files mib.naming path why
+ReachFails files mib (table path) why = TableFails files mib.naming path why
 ReachFails files mib (udp host port) why = ⊥

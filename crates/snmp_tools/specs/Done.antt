@@ -3,12 +3,12 @@ use Rattle.std.specs.Prelude.{◌≡◌, ℕ, true, false}
 use Rattle.snmp_walk.specs.declared.link.Link.{Ghosts as LinkFacts}
 use Rattle.snmp_net.specs.declared.links.Links.{Ghosts as Network}
 use Rattle.snmp_words.specs.Words.{Stated, snmpbulkwalk, snmpd, snmpget, snmptranslate, snmpwalk}
-use Rattle.snmp_tools.specs.agent.Outcome.{AtDoor}
+use Rattle.snmp_tools.specs.agent.Outcome.{AtDoor, risen}
 use Rattle.snmp_tools.specs.Headline.{EndsAtStatus0, WritesAllAtStatus0, WritesFront}
 use Rattle.snmp_tools.specs.Outcome.{IsRun}
 use Rattle.snmp_tools.specs.Question.{AskWords, of_get, of_walk}
 use Rattle.snmp_tools.specs.Seen.{Seen}
-use Rattle.snmp_tools.specs.Serving.{IsServeRun, risen}
+use Rattle.snmp_tools.specs.Serving.{IsServeRun}
 use Rattle.snmp_tools.specs.Translating.{IsTranslated}
 
 -- the job of these words, which ask an agent, was done over the world outside

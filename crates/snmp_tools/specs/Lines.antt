@@ -1,6 +1,6 @@
 -- What a walk or a Get writes on an output.
-use Rattle.std.specs.Prelude.{◌≡◌, ◌++◌, ℕ, Bool, List, [], ◌∷◌, Result, Ok, Err, codes, decimal}
-use Rattle.std.specs.Prelude.{if◌then◌else◌}
+use Rattle.std.specs.Prelude.{◌≡◌, ◌⊎◌, ◌++◌, ℕ, Bool, List, [], ◌∷◌, Result, Ok, Err, codes}
+use Rattle.std.specs.Prelude.{Option, Some, None, decimal, if◌then◌else◌}
 use Rattle.smi_value.specs.declared.letters.letters.Letters.{Letters}
 use Rattle.smi_show.specs.Line.{IsLine}
 use Rattle.snmp_wire.specs.Message.{VarBind}
@@ -9,6 +9,7 @@ use Rattle.snmp_walk.specs.declared.end.SinkFault.TheVariants as fault
 use Rattle.snmp_walk.specs.declared.end.WalkEnd.{WalkEnd}
 use Rattle.snmp_walk.specs.declared.end.WalkEnd.TheVariants as ending
 use Rattle.snmp_io.specs.Output.{FailsWithin, Stream, extended}
+use Rattle.snmp_tools.specs.Message.{Fault, no_output, out_of_memory}
 use Rattle.snmp_tools.specs.Mib.{Mib}
 
 -- the line of a binding, by the letters of -O
@@ -54,6 +55,19 @@ pub record ArePrinted (mib : Mib) (letters : Letters) (before after : Stream) (e
   pub refused : List VarBind
   pub lines : IsPrintedUpTo mib letters before rows refused end after
   pub facts : Facts rows refused
+
+-- a text isn't printed, or only a front of it: memory for it ran out, or the output failed
+abbrev pub StopsAtText : (before : Stream) → (text : List ℕ) → (after : Stream) → Option Fault
+    → Type 0
+StopsAtText before text after fault =
+    ((after ≡ before) × (fault ≡ Some out_of_memory))
+    ⊎ (FailsWithin before text after × (fault ≡ Some no_output))
+
+-- the text is printed, or it stops there
+abbrev pub IsTextPrinted : (before : Stream) → (text : List ℕ) → (after : Stream) → Option Fault
+    → Type 0
+IsTextPrinted before text after fault =
+    ((after ≡ extended before text) × (fault ≡ None)) ⊎ StopsAtText before text after fault
 
 -- the line of -Cp
 abbrev pub count_line : ℕ → List ℕ

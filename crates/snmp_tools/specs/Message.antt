@@ -3,6 +3,7 @@ use Rattle.std.specs.Prelude.{ℕ, ℤ, pos, negsuc, List, [], ◌∷◌, ◌++�
 use Rattle.std.specs.Prelude.{Err, Ok, None, Option, Result, Some, slice_index_or}
 use Rattle.std.specs.Fmt.{signed_decimal}
 use Rattle.snmp_oid.specs.Numeric.{numeric_text}
+use Rattle.snmp_tools.specs.loading.Files as files
 use Rattle.snmp_tools.specs.loading.Files.{Refusal}
 use Rattle.snmp_tools.specs.loading.Message.{refusal_of, refusal_text}
 use Rattle.smi_show.specs.declared.name.error.NameError.{NameError}
@@ -29,6 +30,7 @@ pub data Fault : Type 0 where
   unsendable : List ℕ → Fault
   outside_root : List ℕ → Fault
   ended : List ℕ → WalkEnd → Fault
+  no_output : Fault
   out_of_memory : Fault
 
 -- the fault that a failure stands for
@@ -44,7 +46,13 @@ fault_of (failure.Table path error) = bad_table path.now error
 fault_of (failure.NotWire text) = unsendable text.now
 fault_of (failure.AfterOutsideRoot text) = outside_root text.now
 fault_of (failure.Ended agent why) = ended agent.now why
+fault_of failure.Output = no_output
 fault_of failure.Memory = out_of_memory
+
+-- why module files can't be had
+abbrev pub modules_fault : Refusal → Fault
+modules_fault files.no_memory = out_of_memory
+modules_fault why = bad_modules why
 
 -- the fault of what was tried, if it failed
 abbrev pub outcome_of : {T : Type 0} → Result T Failure → Option Fault
@@ -120,4 +128,5 @@ fault_message (bad_table path error) = table_message path error
 fault_message (unsendable text) = codes "Name cannot be sent: " ++ text
 fault_message (outside_root text) = codes "Not below the root: " ++ text
 fault_message (ended agent why) = end_message agent why
+fault_message no_output = codes "The output failed."
 fault_message out_of_memory = codes "Out of memory."

@@ -5,15 +5,14 @@ use Rattle.snmp_tools.specs.loading.Warned.{warning_lines}
 use Rattle.smi_names.specs.declared.nodes.warning.Warning.{Warning}
 use Rattle.snmp_agent.specs.table.Table.{MibView}
 use Rattle.snmp_wire.specs.Message.{VarBind}
-use Rattle.snmp_walk.specs.declared.end.SinkFault.TheVariants as sink
 use Rattle.snmp_walk.specs.declared.end.WalkEnd.{WalkEnd}
 use Rattle.snmp_walk.specs.declared.end.WalkEnd.TheVariants as ending
 use Rattle.snmp_walk.specs.declared.link.Link.{Ghosts as LinkFacts}
 use Rattle.snmp_io.specs.Count.{HasRisen}
-use Rattle.snmp_io.specs.Output.{FailsWithin, IsWritten, Stream, extended}
+use Rattle.snmp_io.specs.Output.{IsWritten, Stream}
 use Rattle.smi_value.specs.declared.letters.letters.Letters.{Letters}
-use Rattle.snmp_tools.specs.Lines.{IsPrintedUpTo, count_line}
-use Rattle.snmp_tools.specs.Message.{Fault, ended, fault_message, out_of_memory, status_of}
+use Rattle.snmp_tools.specs.Lines.{IsPrintedUpTo, IsTextPrinted, count_line}
+use Rattle.snmp_tools.specs.Message.{Fault, ended, fault_message, status_of}
 use Rattle.snmp_net.specs.Address.{table, udp}
 use Rattle.snmp_net.specs.declared.links.Links.{Ghosts as Network}
 use Rattle.snmp_tools.specs.agent.TableFile.{HasTable}
@@ -36,10 +35,7 @@ fault_at agent end = Some (ended agent end)
 abbrev pub IsFinished : (agent : List ℕ) → WalkEnd → (counts : Bool) → (before after : Stream)
     → Option Fault → Type 0
 IsFinished agent (ending.Done count) true before after fault =
-    ((after ≡ extended before (count_line count)) × (fault ≡ None))
-    ⊎ (((after ≡ before) × (fault ≡ Some out_of_memory))
-    ⊎ (FailsWithin before (count_line count) after
-    × (fault ≡ Some (ended agent (ending.Sink sink.Output)))))
+    IsTextPrinted before (count_line count) after fault
 IsFinished agent end counts before after fault = (after ≡ before) × (fault ≡ fault_at agent end)
 
 -- what a run gave was printed, of which such facts hold, and why not all of it, if not all was

@@ -59,11 +59,11 @@ AgentFails words why =
 -- after
 abbrev pub NamesFail : question.Request → Mib → Fault → Type 0
 NamesFail (question.get texts) mib why =
-    (why ≡ out_of_memory) ⊎ IsFirstToFail texts (HasMeaning mib) (NameFails mib) why
+    (why ≡ out_of_memory) ⊎ IsFirstToFail texts (HasMeaning mib) (NameFails mib.naming) why
 NamesFail (question.walk bulk letters after name) mib why =
-    NameFails mib (root_text name) why
+    NameFails mib.naming (root_text name) why
     ⊎ (HasMeaning mib (root_text name)
-    × ((text : List ℕ) × (after ≡ Some text) × NameFails mib text why))
+    × ((text : List ℕ) × (after ≡ Some text) × NameFails mib.naming text why))
 
 -- ---- the plan
 

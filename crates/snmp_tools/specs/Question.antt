@@ -210,7 +210,8 @@ FailsFor words files (asking step) why = AskingFails words.asking step why
 FailsFor words files choices_step why =
     (letter : ℕ) × HasUnknown words.request letter × (why ≡ bad_letter letter)
 FailsFor words files mibs_step why = MibsFail files words.asking.mibs why
-FailsFor words files (name_step text) why = ByNames words files (λ mib. NameFails mib text why)
+FailsFor words files (name_step text) why =
+    ByNames words files (λ mib. NameFails mib.naming text why)
 FailsFor words files reach_step why =
     OfAgent words files (λ mib agent. ReachFails files mib agent why)
 FailsFor words files (sent_step text) why =

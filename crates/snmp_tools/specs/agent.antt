@@ -1,4 +1,3 @@
-pub mod Fault
 pub mod Outcome
 pub mod Service
 pub mod TableFile

@@ -1,4 +1,3 @@
-pub mod Fault
 pub mod Headline
 pub mod Outcome
 pub mod Refusal

@@ -4,8 +4,6 @@
 //! Built on the words, the network, tables and loaded modules. The module `serve` calls it, and
 //! reports what failed.
 
-mod error;
 mod service;
 
-pub use error::ServeError;
-pub use service::serve_table;
+pub(crate) use service::serve_table;

@@ -1,15 +1,10 @@
 //! A job that asks an agent: its words are judged, its names looked up, its agent reached, and its
 //! lines printed.
-ghost use Rattle.std.specs.Prelude.{◌≡◌, ◌⊎◌, ◌+◌, IfErr, IfOk, OnErr};
+ghost use Rattle.std.specs.Prelude.{◌≡◌, ◌+◌};
 ghost use Rattle.snmp_io.specs.Files.{MayHold};
 ghost use Rattle.snmp_io.specs.Output.{Stream};
-ghost use Rattle.snmp_words.specs.Words.{asking_words};
-ghost use Rattle.snmp_tools.specs.agent.TableFile.{HasTable, TableFails};
-ghost use Rattle.snmp_tools.specs.loading.Loaded.{AreLoadedAs};
 ghost use Rattle.snmp_tools.specs.Answer.{IsAsked, IsAskedOver, end_in_memory};
-ghost use Rattle.snmp_tools.specs.Asking.{MibsFail};
-ghost use Rattle.snmp_tools.specs.Message.{bad_table, fault_of, out_of_memory, outcome_of};
-ghost use Rattle.snmp_tools.specs.Message.{unreadable};
+ghost use Rattle.snmp_tools.specs.Message.{outcome_of};
 ghost use Rattle.snmp_tools.specs.Mib.{IsMibOf};
 ghost use Rattle.snmp_tools.specs.Outcome.{IsFinished, IsOutcome, IsOutcomeBy, IsRun, IsShown};
 ghost use Rattle.snmp_tools.specs.Planned.{AreOrdersOf, ask_words, mib_in, plan_of, question_of};
@@ -19,14 +14,14 @@ ghost use Rattle.snmp_tools.specs.Start.{IsBegun};
 use crate::failure::Failure;
 use crate::job::report;
 use crate::lines::{print_count, print_lines};
-use crate::loading::{FilesError, ModuleFiles};
+use crate::loading::ModuleFiles;
 use crate::plan::{Orders, Plan};
 use crate::request::AskJob;
 use crate::start::{Begun, begin};
-use crate::table_names::{TreeNames, names_are_meant};
-use smi_show::{NameTree, ShowTree};
+use crate::table_names::table_at;
+use smi_show::ShowTree;
 use snmp_agent::{Config, Table, one_answer};
-use snmp_io::{FileFault, Files, Output};
+use snmp_io::{Files, Output};
 use snmp_net::{AgentAddress, Links};
 use snmp_walk::{Link, MemoryLink, SinkFault, WalkEnd};
 use snmp_words::Asking;
@@ -45,10 +40,8 @@ pub(crate) fn do_ask<F: ModuleFiles, L: Links, O: Output, E: Output>(
         (seen (F.text_at files.now) links.old (O.stream out.old) (E.stream err.old))
         (seen (F.text_at files.now) links.new (O.stream out.new) (E.stream err.new)) result }
 {
-    match ask(alloc, job, files, links, out, err) {
-        Ok(()) => 0,
-        Err(failure) => report(alloc, &failure, err),
-    }
+    let done = ask(alloc, job, files, links, out, err);
+    report(alloc, done, err)
 }
 
 // Writes the lines of what is asked, and before them, on `err`, those of its modules' warnings.
@@ -66,30 +59,8 @@ fn ask<'a, F: ModuleFiles, L: Links, O: Output, E: Output>(
         (outcome_of result) }
 {
     let orders = Orders::read(job)?;
-    let tree = load(alloc, job.asking, files, err)?;
+    let tree = files.load(alloc, &job.asking.mibs, err)?;
     ask_by(alloc, job, orders, &tree, files, links, out)
-}
-
-// The tree of the names and types of a job's modules. The lines of its warnings are written.
-fn load<'a, F: ModuleFiles, E: Output>(
-    alloc: Global,
-    asking: &Asking<'a>,
-    files: &F,
-    err: &mut E,
-) -> Result<F::Names, Failure<'a>>
-    ensures loaded { IfOk result (λ tree. AreLoadedAs (MayHold (F.text_at files.now))
-        (asking_words asking.now).mibs (F.Names.naming tree) (F.Names.definition_at tree)
-        (F.Names.syntax_at tree) (E.stream err.old) (E.stream err.new)) }
-    ensures failed { IfErr result (λ e. (fault_of e ≡ out_of_memory)
-        ⊎ MibsFail (F.text_at files.now) (asking_words asking.now).mibs (fault_of e)) }
-    ensures untold { OnErr result (E.stream err.new ≡ E.stream err.old) }
-{
-    match files.load(alloc, &asking.mibs, err) {
-        Ok(tree) => Ok(tree),
-        Err(FilesError::Unreadable(path)) => Err(Failure::Modules(FilesError::Unreadable(path))),
-        Err(FilesError::Text(path, why)) => Err(Failure::Modules(FilesError::Text(path, why))),
-        Err(FilesError::Memory) => Err(Failure::Memory),
-    }
 }
 
 // Writes the lines of what is asked, by the names and types of a tree.
@@ -215,37 +186,8 @@ fn finish<'a, O: Output>(
         (outcome_of result) }
 {
     match end {
-        WalkEnd::Done(count) if counts => match print_count(count, text, out) {
-            Ok(()) => Ok(()),
-            Err(SinkFault::Memory) => Err(Failure::Memory),
-            Err(SinkFault::Output) => Err(Failure::Ended(agent, WalkEnd::Sink(SinkFault::Output))),
-        },
+        WalkEnd::Done(count) if counts => print_count(count, text, out),
         WalkEnd::Done(_) => Ok(()),
         end => Err(Failure::Ended(agent, end)),
-    }
-}
-
-// The table that the file at this path states, by the names of a tree.
-fn table_at<'a, T: NameTree, F: Files>(
-    alloc: Global,
-    tree: &T,
-    files: &F,
-    path: &'a str,
-) -> Result<Table, Failure<'a>>
-    ensures table { IfOk result
-        (HasTable (F.text_at files.now) (T.naming tree.now) path.now) }
-    ensures err { IfErr result (λ e. (fault_of e ≡ out_of_memory)
-        ⊎ TableFails unreadable bad_table (F.text_at files.now) (T.naming tree.now)
-        path.now (fault_of e)) }
-{
-    let text = match files.read(alloc, path) {
-        Ok(text) => text,
-        Err(FileFault::Unreadable) => return Err(Failure::Unreadable(path)),
-        Err(FileFault::Memory) => return Err(Failure::Memory),
-    };
-    names_are_meant();
-    match Table::read_with(alloc, &text, &TreeNames { tree }) {
-        Ok(table) => Ok(table),
-        Err(fault) => Err(Failure::Table(path, fault)),
     }
 }

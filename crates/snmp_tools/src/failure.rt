@@ -39,6 +39,8 @@ pub enum Failure<'a> {
     AfterOutsideRoot(&'a str),
     /// What was asked of this agent, or served at this place, ended early: the end says why.
     Ended(&'a str, WalkEnd),
+    /// The output failed.
+    Output,
     /// Memory ran out.
     Memory,
 }
@@ -85,8 +87,35 @@ impl Failure<'_> {
             Failure::NotWire(text) => text_and_word(out, b"Name cannot be sent: ", text),
             Failure::AfterOutsideRoot(text) => text_and_word(out, b"Not below the root: ", text),
             Failure::Ended(agent, end) => end_message(end, agent, out),
+            Failure::Output => out.octets(b"The output failed."),
             Failure::Memory => out.octets(b"Out of memory."),
         }
+    }
+}
+
+impl<'a> From<FilesError<'a>> for Failure<'a> {
+    ghost use Rattle.std.specs.Prelude.{◌≡◌};
+    ghost use Rattle.snmp_tools.specs.Message.{fault_of, modules_fault};
+    ghost use Rattle.snmp_tools.specs.loading.Message.{refusal_of};
+
+    ghost from_gives = { λ why failure. fault_of failure ≡ modules_fault (refusal_of why) };
+
+    fn from(why: FilesError<'a>) -> Self {
+        match why {
+            FilesError::Unreadable(_) | FilesError::Text(_, _) => Failure::Modules(why),
+            FilesError::Memory => Failure::Memory,
+        }
+    }
+}
+
+impl From<AllocError> for Failure<'_> {
+    ghost use Rattle.std.specs.Prelude.{◌≡◌};
+    ghost use Rattle.snmp_tools.specs.declared.failure.Failure.TheVariants.{Memory};
+
+    ghost from_gives = { λ _ failure. failure ≡ Memory };
+
+    fn from(_error: AllocError) -> Self {
+        Failure::Memory
     }
 }
 

@@ -1,9 +1,9 @@
 //! A job: it is done, and what failed is reported.
-ghost use Rattle.std.specs.Prelude.{◌≡◌, ◌++◌, codes, IfOk, Some};
+ghost use Rattle.std.specs.Prelude.{◌≡◌, ◌++◌, codes, IfOk};
 ghost use Rattle.snmp_io.specs.Output.{IsWritten};
 ghost use Rattle.snmp_words.specs.Words.{job_words};
 ghost use Rattle.snmp_tools.specs.Done.{IsJobDone};
-ghost use Rattle.snmp_tools.specs.Message.{fault_of, fault_message};
+ghost use Rattle.snmp_tools.specs.Message.{fault_of, fault_message, outcome_of};
 ghost use Rattle.snmp_tools.specs.Outcome.{IsReported};
 ghost use Rattle.snmp_tools.specs.Seen.{seen};
 
@@ -52,13 +52,16 @@ pub fn run_job<F: ModuleFiles, L: Links, O: Output, E: Output>(
     }
 }
 
-/// Reports a failure on `err`, and returns its status. Where memory for its message runs out, that
-/// is reported.
-pub(crate) fn report<E: Output>(alloc: Global, failure: &Failure<'_>, err: &mut E) -> u8
-    ensures { IsReported (Some (fault_of failure.now)) (E.stream err.old) (E.stream err.new)
-        result }
+/// Reports on `err` why a job wasn't done, if it wasn't, and returns the exit status. Where memory
+/// for the message runs out, that is reported.
+pub(crate) fn report<E: Output>(alloc: Global, done: Result<(), Failure<'_>>, err: &mut E) -> u8
+    ensures { IsReported (outcome_of done.entry) (E.stream err.old) (E.stream err.new) result }
 {
-    match message_line(alloc, failure) {
+    let failure = match done {
+        Ok(()) => return 0,
+        Err(failure) => failure,
+    };
+    match message_line(alloc, &failure) {
         Ok(text) => tell(err, &text),
         Err(_) => tell(err, b"Out of memory.\n"),
     }

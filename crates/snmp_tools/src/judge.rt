@@ -180,8 +180,7 @@ fn is_2c(word: &str) -> bool
 /// The name that a text states.
 pub(crate) fn name<'a, T: NameTree>(tree: &T, text: &'a str) -> Result<Oid, Failure<'a>>
     ensures ok { IfOk result (λ o. TextMeans (T.naming tree.now) text.entry.now (Ok o)) }
-    ensures err { (mib : Mib) → mib.naming ≡ T.naming tree.now
-        → IfErr result (λ e. NameFails mib text.entry.now (fault_of e)) }
+    ensures err { IfErr result (λ e. NameFails (T.naming tree.now) text.entry.now (fault_of e)) }
 {
     match resolve(tree, text.as_bytes()) {
         Ok(name) => Ok(name),
@@ -196,15 +195,12 @@ fn name_if_given<'a, T: NameTree>(
 ) -> Result<Option<Oid>, Failure<'a>>
     ensures ok { (mib : Mib) → mib.naming ≡ T.naming tree.now
         → IfOk result (IsNameIfGiven mib (option_map (λ t. t.now) text.entry)) }
-    ensures err { (mib : Mib) → mib.naming ≡ T.naming tree.now
-        → IfErr result (λ e. (t : List ℕ) × (option_map (λ t. t.now) text.entry ≡ Some t)
-        × NameFails mib t (fault_of e)) }
+    ensures err { IfErr result (λ e.
+        (t : List ℕ) × (option_map (λ t. t.now) text.entry ≡ Some t)
+        × NameFails (T.naming tree.now) t (fault_of e)) }
 {
     match text {
         None => Ok(None),
-        Some(text) => match name(tree, text) {
-            Ok(name) => Ok(Some(name)),
-            Err(failure) => Err(failure),
-        },
+        Some(text) => Ok(Some(name(tree, text)?)),
     }
 }

@@ -60,10 +60,7 @@ impl Choices {
         'parts: while at < letters.len() {
             let rest = &letters[at + 1..];
             let digits = front_digits(rest);
-            choices = match choices.after(letters[at], &rest[..digits], bulk) {
-                Ok(choices) => choices,
-                Err(octet) => return Err(octet),
-            };
+            choices = choices.after(letters[at], &rest[..digits], bulk)?;
             at += 1 + digits;
         }
         Ok(choices)

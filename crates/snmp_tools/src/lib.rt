@@ -38,7 +38,7 @@ mod serve;
 mod start;
 mod table_names;
 mod translate;
-pub mod translation;
+mod translation;
 
 pub use crate::loading::{FilesError, ModuleFiles, WithoutModules, load_tree};
 pub use entry::tool;

@@ -2,10 +2,12 @@
 //! after them.
 ghost use Rattle.std.specs.Prelude.{◌≡◌, ◌≤◌, ◌+◌, ◌++◌, IfErr, OnOk, length};
 ghost use Rattle.snmp_io.specs.Output.{FailsWithin, extended};
-ghost use Rattle.snmp_tools.specs.Lines.{ArePrinted, TakesText, count_line};
+ghost use Rattle.snmp_tools.specs.Lines.{ArePrinted, IsTextPrinted, count_line};
+ghost use Rattle.snmp_tools.specs.Message.{outcome_of};
 ghost use Rattle.snmp_tools.specs.Planned.{mib_in};
 ghost use Rattle.snmp_tools.specs.Start.{CanRun, IsRunOver};
 
+use crate::failure::Failure;
 use crate::start::{Begun, FIRST_ID};
 use smi_show::{Letters, ShowTree, line};
 use snmp_io::{Draft, Output, OutputFault, write_all};
@@ -142,20 +144,26 @@ pub(crate) fn print_lines<T: ShowTree, L: Link, O: Output>(
 }
 
 /// Prints the number of bindings that were found. `text` is the memory for the line.
-pub(crate) fn print_count<O: Output>(
+pub(crate) fn print_count<'a, O: Output>(
     count: u64,
     text: &mut Vec<u8>,
     out: &mut O,
-) -> Result<(), SinkFault>
-    ensures { TakesText (O.stream out.old) (count_line count) result (O.stream out.new) }
+) -> Result<(), Failure<'a>>
+    ensures { IsTextPrinted (O.stream out.old) (count_line count) (O.stream out.new)
+        (outcome_of result) }
 {
     text.clear();
-    if count_line(count, text).is_err() {
-        return Err(SinkFault::Memory);
-    }
-    match write_all(out, text.as_slice()) {
+    count_line(count, text)?;
+    print_text(text.as_slice(), out)
+}
+
+/// Prints a text, or a front of it where the output fails.
+pub(crate) fn print_text<'a, O: Output>(text: &[u8], out: &mut O) -> Result<(), Failure<'a>>
+    ensures { IsTextPrinted (O.stream out.old) text.now (O.stream out.new) (outcome_of result) }
+{
+    match write_all(out, text) {
         Ok(()) => Ok(()),
-        Err(OutputFault) => Err(SinkFault::Output),
+        Err(OutputFault) => Err(Failure::Output),
     }
 }
 

@@ -26,14 +26,11 @@ pub(crate) fn read_names<'a, T: ShowTree>(
     ensures err { IfErr result (λ e. (fault_of e ≡ out_of_memory)
         ⊎ IsFirstToFail (texts_at texts.now)
         (HasMeaning (mib_in (T.naming tree.now) (T.syntax_at tree.now)))
-        (NameFails (mib_in (T.naming tree.now) (T.syntax_at tree.now))) (fault_of e)) }
+        (NameFails (T.naming tree.now)) (fault_of e)) }
 {
     let mut names = Vec::new(alloc);
     'texts: for text in texts {
-        let oid = match name(tree, text) {
-            Ok(oid) => oid,
-            Err(failure) => return Err(failure),
-        };
+        let oid = name(tree, text)?;
         if names.push(oid).is_err() {
             return Err(Failure::Memory);
         }

@@ -1,17 +1,45 @@
-//! The names of a table file by the nodes of a tree.
+//! The table that a file states, and the names in it, by the nodes of a tree.
+ghost use Rattle.std.specs.Prelude.{◌≡◌, ◌⊎◌, IfErr, IfOk};
 ghost use Rattle.smi_show.specs.name.Naming.{Naming};
 ghost use Rattle.snmp_tools.specs.Resolved.{names_in};
-ghost use Rattle.snmp_tools.specs.agent.TableFile.{AreNamesIn};
+ghost use Rattle.snmp_tools.specs.Message.{fault_of, out_of_memory};
+ghost use Rattle.snmp_tools.specs.agent.TableFile.{AreNamesIn, HasTable, TableFails};
 
+use crate::failure::Failure;
 use smi_show::{NameTree, one_meaning, resolve_front};
-use snmp_agent::Resolver;
+use snmp_agent::{Resolver, Table};
+use snmp_io::{FileFault, Files};
 use snmp_oid::Oid;
+use std::alloc::Global;
 
-/// The names that texts have by a tree.
+/// The table that the file at a path states, by the names of a tree.
+pub(crate) fn table_at<'a, T: NameTree, F: Files>(
+    alloc: Global,
+    tree: &T,
+    files: &F,
+    path: &'a str,
+) -> Result<Table, Failure<'a>>
+    ensures table { IfOk result
+        (HasTable (F.text_at files.now) (T.naming tree.now) path.now) }
+    ensures err { IfErr result (λ e. (fault_of e ≡ out_of_memory)
+        ⊎ TableFails (F.text_at files.now) (T.naming tree.now) path.now (fault_of e)) }
+{
+    let text = match files.read(alloc, path) {
+        Ok(text) => text,
+        Err(FileFault::Unreadable) => return Err(Failure::Unreadable(path)),
+        Err(FileFault::Memory) => return Err(Failure::Memory),
+    };
+    names_are_meant();
+    match Table::read_with(alloc, &text, &TreeNames { tree }) {
+        Ok(table) => Ok(table),
+        Err(fault) => Err(Failure::Table(path, fault)),
+    }
+}
+
+// The names that texts have by a tree.
 #[derive(Drop)]
-pub(crate) struct TreeNames<'a, T: NameTree> {
-    /// The tree.
-    pub(crate) tree: &'a T,
+struct TreeNames<'a, T: NameTree> {
+    tree: &'a T,
 }
 
 impl<'a, T: NameTree> Resolver for TreeNames<'a, T> {

@@ -4,10 +4,8 @@
 //! Built on the words, on module files and on names and details as text. The module `translate`
 //! calls it, and reports what failed.
 
-mod error;
 mod job;
 mod names;
 mod style;
 
-pub use error::TranslateError;
-pub use job::translate;
+pub(crate) use job::translate;

@@ -1,19 +1,21 @@
 -- What snmpd prints, and why it ends.
-use Rattle.std.specs.Prelude.{◌≡◌, ◌⊎◌, ◌+◌, ◌++◌, ℕ, List, Option, Some, None, codes, decimal}
+use Rattle.std.specs.Prelude.{◌≡◌, ◌⊎◌, ◌+◌, ◌++◌, ℕ, List, Option, Some, codes, decimal}
 use Rattle.snmp_agent.specs.Reply.{Agent}
 use Rattle.snmp_agent.specs.declared.server.Served.{Served}
 use Rattle.snmp_agent.specs.table.Table.{MibView}
 use Rattle.snmp_io.specs.Count.{HasRisen}
 use Rattle.snmp_io.specs.Files.{Holdings, MayHold}
-use Rattle.snmp_io.specs.Output.{FailsWithin, Stream, extended}
+use Rattle.snmp_io.specs.Output.{Stream, extended}
 use Rattle.smi_show.specs.name.Naming.{Naming}
 use Rattle.smi_tree.specs.Naming.{naming_of}
 use Rattle.smi_tree.specs.Tree.{Contents}
 use Rattle.snmp_words.specs.Words.{ServeWords}
-use Rattle.snmp_tools.specs.agent.Fault.{ServeFault, no_door, no_memory, no_output}
 use Rattle.snmp_tools.specs.agent.Service.{IsPlaced, IsServeRefusal, IsTableRefusal, served_agent}
 use Rattle.snmp_tools.specs.agent.TableFile.{HasTable}
 use Rattle.snmp_tools.specs.loading.Loaded.{IsLoaded}
+use Rattle.snmp_tools.specs.Lines.{IsTextPrinted, StopsAtText}
+use Rattle.snmp_tools.specs.Message.{Fault, ended}
+use Rattle.snmp_walk.specs.declared.end.WalkEnd.TheVariants as ending
 
 -- where requests are received, in the word's own octets
 abbrev pub listening_line : (word : List ℕ) → List ℕ
@@ -29,6 +31,9 @@ pub record Faults : Type 0 where
   pub before : ℕ
   pub after : ℕ
 
+abbrev pub risen : (before after : ℕ) → Faults
+risen before after = record { before = before; after = after }
+
 -- what may have been served at a door that was opened at this port of this host
 abbrev pub AtDoor : {Door : Type 0} → (Binds : (host : List ℕ) → (port : ℕ) → Door → Type 0)
     → (Serves : Door → Agent → ℕ → Served → Type 0) → (host : List ℕ) → (port : ℕ) → Agent → ℕ
@@ -36,38 +41,31 @@ abbrev pub AtDoor : {Door : Type 0} → (Binds : (host : List ℕ) → (port : �
 AtDoor {Door} Binds Serves host port agent turns served =
     (door : Door) × Binds host port door × Serves door agent turns served
 
--- a line isn't printed, or only a front of it: memory for it ran out, or the output failed
-abbrev pub StopsAtLine : (before : Stream) → List ℕ → (after : Stream) → Option ServeFault → Type 0
-StopsAtLine before line after fault =
-    ((after ≡ before) × (fault ≡ Some no_memory))
-    ⊎ (FailsWithin before line after × (fault ≡ Some no_output))
-
 -- The line of the counts, which add up to the turns, follows that of the place. `Serves agent turns
 -- served` says what may have been served.
 abbrev pub IsServedAndCounted : (Serves : Agent → ℕ → Served → Type 0) → ServeWords → MibView
-    → (before after : Stream) → Option ServeFault → Type 0
+    → (before after : Stream) → Option Fault → Type 0
 IsServedAndCounted Serves words view before after fault =
     (served : Served) × Serves (served_agent words view) words.turns served
     × (served.replies + served.dropped + served.idle + served.faults ≡ words.turns)
-    × (((after ≡ extended before (counts_line served)) × (fault ≡ None))
-    ⊎ StopsAtLine before (counts_line served) after fault)
+    × IsTextPrinted before (counts_line served) after fault
 
 -- no door was opened, and the network counted why; or the place wasn't printed; or it was, and the
 -- table was served
 abbrev pub IsServing : (Serves : Agent → ℕ → Served → Type 0) → Faults → ServeWords → MibView
-    → (before after : Stream) → Option ServeFault → Type 0
+    → (before after : Stream) → Option Fault → Type 0
 IsServing Serves faults words view before after fault =
     (HasRisen faults.before faults.after × (after ≡ before)
-    × (fault ≡ Some no_door))
-    ⊎ (StopsAtLine before (listening_line words.listen) after fault
+    × (fault ≡ Some (ended words.listen ending.Link)))
+    ⊎ (StopsAtText before (listening_line words.listen) after fault
     ⊎ IsServedAndCounted Serves words view (extended before (listening_line words.listen)) after
     fault)
 
 -- By these nodes the table file is refused, or it states a table, which is served.
 abbrev pub IsServedBy : (Serves : Agent → ℕ → Served → Type 0) → Faults → ServeWords → Holdings
-    → Naming → (before after : Stream) → Option ServeFault → Type 0
+    → Naming → (before after : Stream) → Option Fault → Type 0
 IsServedBy Serves faults words files naming before after fault =
-    ((why : ServeFault) × IsTableRefusal words files naming why × (after ≡ before)
+    ((why : Fault) × IsTableRefusal words files naming why × (after ≡ before)
     × (fault ≡ Some why))
     ⊎ ((view : MibView) × HasTable files naming words.table view
     × IsServing Serves faults words view before after fault)
@@ -78,8 +76,8 @@ IsServedBy Serves faults words files naming before after fault =
 -- have been served at a port of a host.
 pub data IsServeOutcome (Serves : (host : List ℕ) → (port : ℕ) → Agent → ℕ → Served → Type 0)
     (faults : Faults) (words : ServeWords) (files : Holdings)
-    (before after err_before warned : Stream) (fault : Option ServeFault) : Type 0 where
-  not_loaded : (why : ServeFault) → IsServeRefusal words files why → after ≡ before
+    (before after err_before warned : Stream) (fault : Option Fault) : Type 0 where
+  not_loaded : (why : Fault) → IsServeRefusal words files why → after ≡ before
       → warned ≡ err_before → fault ≡ Some why
       → IsServeOutcome Serves faults words files before after err_before warned fault
   loaded : (at : IsPlaced words) (tree : Contents)

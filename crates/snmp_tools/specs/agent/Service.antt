@@ -8,10 +8,10 @@ use Rattle.snmp_io.specs.Files.{Holdings, MayHold}
 use Rattle.snmp_io.specs.Steps.{IsFirstToFail}
 use Rattle.snmp_net.specs.Address.{IsHostAndPort}
 use Rattle.snmp_words.specs.Words.{ServeWords}
-use Rattle.snmp_tools.specs.agent.Fault.{ServeFault, bad_place, bad_table, long_community}
-use Rattle.snmp_tools.specs.agent.Fault.{modules_fault, no_memory, unreadable}
 use Rattle.snmp_tools.specs.agent.TableFile.{TableFails}
-use Rattle.snmp_tools.specs.loading.Files.{AreModulesOf, FilesFail, Refusal}
+use Rattle.snmp_tools.specs.loading.Files.{AreModulesOf}
+use Rattle.snmp_tools.specs.Asking.{MibsFail}
+use Rattle.snmp_tools.specs.Message.{Fault, bad_agent, long_community, out_of_memory}
 
 -- the agent that the words ask for, over a table
 abbrev pub served_agent : ServeWords → MibView → Agent
@@ -45,26 +45,25 @@ IsDoneForService words files modules_step =
     (modules : List Module) × AreModulesOf (MayHold files) words.mibs modules
 
 -- the step fails for this reason
-abbrev pub FailsForService : ServeWords → Holdings → ServeStep → ServeFault → Type 0
+abbrev pub FailsForService : ServeWords → Holdings → ServeStep → Fault → Type 0
 FailsForService words files community_step why =
     (255 < length words.community) × (why ≡ long_community)
 FailsForService words files place_step why =
     ((host : List ℕ) (port : ℕ) → IsHostAndPort words.listen host port → ⊥)
-    × (why ≡ bad_place words.listen)
-FailsForService words files modules_step why =
-    (refusal : Refusal) × FilesFail files words.mibs refusal × (why ≡ modules_fault refusal)
+    × (why ≡ bad_agent words.listen)
+FailsForService words files modules_step why = MibsFail files words.mibs why
 
 -- the first step that fails, after those that are done
-abbrev pub ServiceFails : ServeWords → Holdings → ServeFault → Type 0
+abbrev pub ServiceFails : ServeWords → Holdings → Fault → Type 0
 ServiceFails words files why =
     IsFirstToFail serve_steps (IsDoneForService words files) (FailsForService words files) why
 
 -- why no table file is read: memory ran out, or a step failed
-abbrev pub IsServeRefusal : ServeWords → Holdings → ServeFault → Type 0
-IsServeRefusal words files why = (why ≡ no_memory) ⊎ ServiceFails words files why
+abbrev pub IsServeRefusal : ServeWords → Holdings → Fault → Type 0
+IsServeRefusal words files why = (why ≡ out_of_memory) ⊎ ServiceFails words files why
 
 -- why the table of the words isn't served, by these nodes: memory ran out, or the file can't be
 -- read or states none
-abbrev pub IsTableRefusal : ServeWords → Holdings → Naming → ServeFault → Type 0
+abbrev pub IsTableRefusal : ServeWords → Holdings → Naming → Fault → Type 0
 IsTableRefusal words files naming why =
-    (why ≡ no_memory) ⊎ TableFails unreadable bad_table files naming words.table why
+    (why ≡ out_of_memory) ⊎ TableFails files naming words.table why

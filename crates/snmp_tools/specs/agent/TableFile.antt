@@ -8,6 +8,7 @@ use Rattle.snmp_agent.specs.table.Table.{MibView}
 use Rattle.snmp_agent.specs.declared.table.error.TableError.{TableError}
 use Rattle.smi_show.specs.name.Meant.{TextMeans}
 use Rattle.smi_show.specs.name.Naming.{Naming}
+use Rattle.snmp_tools.specs.Message.{Fault, bad_table, unreadable}
 
 -- a text of the second format names what it means by these nodes
 abbrev pub AreNamesIn : Naming → Names → Type 0
@@ -20,11 +21,9 @@ abbrev pub HasTable : Holdings → Naming → (path : List ℕ) → MibView → 
 HasTable files naming path view = (names : Names) × AreNamesIn naming names
     × (text : List ℕ) × MayHold files path text × IsTableOf names (lines text) view
 
--- The file at a path can't be read, or its text states no table: for each, what is said of it.
-abbrev pub TableFails : {Why : Type 0} → (unreadable : (path : List ℕ) → Why)
-    → (bad_table : (path : List ℕ) → TableError → Why) → Holdings → Naming → (path : List ℕ) → Why
-    → Type 0
-TableFails {Why} unreadable bad_table files naming path why =
+-- the file at a path can't be read, or its text states no table
+abbrev pub TableFails : Holdings → Naming → (path : List ℕ) → Fault → Type 0
+TableFails files naming path why =
     (MayHoldNone files path × (why ≡ unreadable path))
     ⊎ ((names : Names) × AreNamesIn naming names
     × (text : List ℕ) × (error : TableError) × MayHold files path text

@@ -1,30 +1,24 @@
 -- What snmptranslate prints, and why it ends.
-use Rattle.std.specs.Prelude.{◌≡◌, ◌⊎◌, ◌++◌, ℕ, List, ◌∷◌, Option, Some, None, Err}
+use Rattle.std.specs.Prelude.{◌≡◌, ◌⊎◌, ◌++◌, ℕ, List, ◌∷◌, Option, Some, None}
 use Rattle.snmp_tools.specs.loading.Loaded.{IsLoaded}
-use Rattle.smi_show.specs.name.Meant.{TextMeans}
-use Rattle.smi_show.specs.declared.name.error.NameError.{NameError}
 use Rattle.smi_tree.specs.Tree.{Contents}
 use Rattle.snmp_io.specs.Files.{Holdings, MayHold}
 use Rattle.snmp_io.specs.Output.{FailsWithin, Stream, extended}
 use Rattle.snmp_words.specs.Words.{TranslateWords}
-use Rattle.snmp_tools.specs.translation.Fault.{TranslateFault, bad_name, no_memory, no_output}
+use Rattle.snmp_tools.specs.Asking.{NameFails}
+use Rattle.snmp_tools.specs.Message.{Fault, no_output, out_of_memory}
 use Rattle.snmp_tools.specs.translation.Refusal.{IsTranslateRefusal}
 use Rattle.snmp_tools.specs.translation.Style.{IsStyleOf}
 use Rattle.snmp_tools.specs.translation.Text.{AreTextsOf, DetailMib, IsTextOf, detail_mib_of}
 use Rattle.snmp_tools.specs.declared.translation.style.Style.{Style}
 
--- the name has no meaning, for this reason
-abbrev pub HasNoMeaning : DetailMib → (name : List ℕ) → TranslateFault → Type 0
-HasNoMeaning mib name why =
-    (error : NameError) × TextMeans mib.naming name (Err error) × (why ≡ bad_name name error)
-
 -- A name isn't printed: it has no meaning, or memory for its text ran out. Or only a front of its
 -- text is: the output failed.
 abbrev pub StopsAtName : DetailMib → Style → (before : Stream) → (name : List ℕ)
-    → (after : Stream) → TranslateFault → Type 0
+    → (after : Stream) → Fault → Type 0
 StopsAtName mib style before name after why =
-    (HasNoMeaning mib name why × (after ≡ before))
-    ⊎ (((why ≡ no_memory) × (after ≡ before))
+    (NameFails mib.naming name why × (after ≡ before))
+    ⊎ (((why ≡ out_of_memory) × (after ≡ before))
     ⊎ ((why ≡ no_output)
     × ((text : List ℕ) × IsTextOf mib style name text × FailsWithin before text after)))
 
@@ -36,7 +30,7 @@ IsNamePrinted mib style before name after =
 
 -- the names up to this one were printed, and there it stopped
 pub record StopsWithin (mib : DetailMib) (style : Style) (names : List (List ℕ))
-    (before after : Stream) (why : TranslateFault) : Type 0 where
+    (before after : Stream) (why : Fault) : Type 0 where
   pub printed : List (List ℕ)
   pub name : List ℕ
   pub left : List (List ℕ)
@@ -53,14 +47,14 @@ AreNamesPrinted mib style names before after =
 
 -- the names were printed, or those up to the first at which it stopped
 abbrev pub IsPrinting : DetailMib → Style → (names : List (List ℕ)) → (before after : Stream)
-    → Option TranslateFault → Type 0
+    → Option Fault → Type 0
 IsPrinting mib style names before after None = AreNamesPrinted mib style names before after
 IsPrinting mib style names before after (Some why) = StopsWithin mib style names before after why
 
 -- what snmptranslate printed, and why it stopped, if it stopped before its last name was printed
 pub data IsTranslateOutcome (words : TranslateWords) (files : Holdings)
-    (before after err_before err_after : Stream) (fault : Option TranslateFault) : Type 0 where
-  refused : (why : TranslateFault) → IsTranslateRefusal words files why → after ≡ before
+    (before after err_before err_after : Stream) (fault : Option Fault) : Type 0 where
+  refused : (why : Fault) → IsTranslateRefusal words files why → after ≡ before
       → err_after ≡ err_before → fault ≡ Some why
       → IsTranslateOutcome words files before after err_before err_after fault
   ran : (style : Style) (tree : Contents) → IsStyleOf words style

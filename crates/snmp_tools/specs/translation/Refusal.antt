@@ -1,12 +1,13 @@
 -- Why nothing is printed: the words or their module files are refused.
 use Rattle.std.specs.Prelude.{◌≡◌, ◌⊎◌, ℕ, List, [], ◌∷◌, Some, None}
-use Rattle.snmp_tools.specs.loading.Files.{AreModulesOf, FilesFail, Refusal}
+use Rattle.snmp_tools.specs.loading.Files.{AreModulesOf}
 use Rattle.smi_value.specs.letters.Letters.{first_other}
 use Rattle.smi_text.specs.declared.trees.tree.Module.{Module}
 use Rattle.snmp_io.specs.Files.{Holdings, MayHold}
 use Rattle.snmp_io.specs.Steps.{IsFirstToFail}
 use Rattle.snmp_words.specs.Words.{TranslateWords}
-use Rattle.snmp_tools.specs.translation.Fault.{TranslateFault, bad_letter, modules_fault, no_memory}
+use Rattle.snmp_tools.specs.Asking.{MibsFail}
+use Rattle.snmp_tools.specs.Message.{Fault, bad_letter, out_of_memory}
 use Rattle.snmp_tools.specs.translation.Style.{first_other_of_t}
 
 -- the work before anything is printed, in its order
@@ -26,20 +27,19 @@ IsDoneForTranslation words files modules_step =
     (modules : List Module) × AreModulesOf (MayHold files) words.mibs modules
 
 -- the step fails for this reason
-abbrev pub FailsForTranslation : TranslateWords → Holdings → TranslateStep → TranslateFault → Type 0
+abbrev pub FailsForTranslation : TranslateWords → Holdings → TranslateStep → Fault → Type 0
 FailsForTranslation words files letters_step why =
     (octet : ℕ) × (first_other words.letters ≡ Some octet) × (why ≡ bad_letter octet)
 FailsForTranslation words files details_step why =
     (octet : ℕ) × (first_other_of_t words.details ≡ Some octet) × (why ≡ bad_letter octet)
-FailsForTranslation words files modules_step why =
-    (refusal : Refusal) × FilesFail files words.mibs refusal × (why ≡ modules_fault refusal)
+FailsForTranslation words files modules_step why = MibsFail files words.mibs why
 
 -- the first step that fails, after those that are done
-abbrev pub TranslationFails : TranslateWords → Holdings → TranslateFault → Type 0
+abbrev pub TranslationFails : TranslateWords → Holdings → Fault → Type 0
 TranslationFails words files why =
     IsFirstToFail translate_steps (IsDoneForTranslation words files)
     (FailsForTranslation words files) why
 
 -- why nothing is printed: memory ran out, or a step failed
-abbrev pub IsTranslateRefusal : TranslateWords → Holdings → TranslateFault → Type 0
-IsTranslateRefusal words files why = (why ≡ no_memory) ⊎ TranslationFails words files why
+abbrev pub IsTranslateRefusal : TranslateWords → Holdings → Fault → Type 0
+IsTranslateRefusal words files why = (why ≡ out_of_memory) ⊎ TranslationFails words files why

@@ -1,24 +1,22 @@
 //! Modules and a table are read, and the table is served at a UDP port.
-ghost use Rattle.std.specs.Prelude.{◌≡◌, ◌⊎◌, ◌≤◌, IfErr, IfOk, None, OnErr, OnOk, Some, length};
-ghost use Rattle.std.specs.Prelude.{IsErr};
+ghost use Rattle.std.specs.Prelude.{◌≡◌, ◌≤◌, IfErr, IfOk, OnOk, length};
 ghost use Rattle.snmp_io.specs.Files.{Holdings};
-ghost use Rattle.snmp_io.specs.Output.{extended};
 ghost use Rattle.snmp_net.specs.Address.{IsHostAndPort};
 ghost use Rattle.snmp_words.specs.Words.{serve_words};
-ghost use Rattle.snmp_tools.specs.agent.Fault.{bad_table, no_memory, serve_fault_of, unreadable};
+ghost use Rattle.snmp_tools.specs.Message.{fault_of, outcome_of};
 ghost use Rattle.snmp_tools.specs.agent.Outcome.{AtDoor, IsServeOutcome, IsServedBy, IsServing};
-ghost use Rattle.snmp_tools.specs.agent.Outcome.{StopsAtLine};
-ghost use Rattle.snmp_tools.specs.agent.Outcome.{counts_line, listening_line};
+ghost use Rattle.snmp_tools.specs.agent.Outcome.{counts_line, listening_line, risen};
 ghost use Rattle.snmp_tools.specs.agent.Service.{ServiceFails};
-ghost use Rattle.snmp_tools.specs.agent.TableFile.{HasTable, TableFails};
 
-use crate::agent::error::{ServeError, modules_error};
+use crate::failure::Failure;
+use crate::lines::print_text;
 use crate::loading::ModuleFiles;
-use crate::table_names::{TreeNames, names_are_meant};
+use crate::table_names::table_at;
 use smi_show::NameTree;
 use snmp_agent::{Config, Served, Table};
-use snmp_io::{Draft, FileFault, Files, Output, write_all};
+use snmp_io::{Draft, Files, Output};
 use snmp_net::{Links, UdpAddress};
+use snmp_walk::WalkEnd;
 use snmp_words::ServeJob;
 use std::alloc::{AllocError, Global};
 
@@ -28,48 +26,38 @@ use std::alloc::{AllocError, Global};
 ///
 /// The words, then the module files and then the table file are judged before anything is received.
 /// Warnings of the modules go to `err`; an `err` that fails changes nothing else.
-pub fn serve_table<'a, F: ModuleFiles, L: Links, O: Output, E: Output>(
+pub(crate) fn serve_table<'a, F: ModuleFiles, L: Links, O: Output, E: Output>(
     alloc: Global,
     job: &ServeJob<'a>,
     files: &F,
     links: &mut L,
     out: &mut O,
     err: &mut E,
-) -> Result<(), ServeError<'a>>
-    ensures done { OnOk result (IsServeOutcome (AtDoor (L.binds links.old) L.serves)
-        (record { before = L.fault_count links.old; after = L.fault_count links.new })
+) -> Result<(), Failure<'a>>
+    ensures { IsServeOutcome (AtDoor (L.binds links.old) L.serves)
+        (risen (L.fault_count links.old) (L.fault_count links.new))
         (serve_words job.now) (F.text_at files.now) (O.stream out.old) (O.stream out.new)
-        (E.stream err.old) (E.stream err.new) None) }
-    ensures failed { IfErr result (λ e. IsServeOutcome (AtDoor (L.binds links.old) L.serves)
-        (record { before = L.fault_count links.old; after = L.fault_count links.new })
-        (serve_words job.now) (F.text_at files.now) (O.stream out.old) (O.stream out.new)
-        (E.stream err.old) (E.stream err.new) (Some (serve_fault_of e))) }
+        (E.stream err.old) (E.stream err.new) (outcome_of result) }
 {
-    let place = match place_of(job) {
-        Ok(place) => place,
-        Err(error) => return Err(error),
-    };
-    let tree = match files.load(alloc, &job.mibs, err) {
-        Ok(tree) => tree,
-        Err(error) => return Err(modules_error(error)),
-    };
+    let place = place_of(job)?;
+    let tree = files.load(alloc, &job.mibs, err)?;
     serve_by(alloc, job, place, &tree, files, links, out)
 }
 
 // Where requests are received, where the community is short enough.
-fn place_of<'a>(job: &ServeJob<'a>) -> Result<UdpAddress<'a>, ServeError<'a>>
+fn place_of<'a>(job: &ServeJob<'a>) -> Result<UdpAddress<'a>, Failure<'a>>
     ensures short_community { OnOk result (length job.now.community.now ≤ 255) }
     ensures place { IfOk result (λ place.
         IsHostAndPort job.now.listen.now place.host.now place.port) }
     ensures refused { (files : Holdings) → IfErr result (λ e.
-        ServiceFails (serve_words job.now) files (serve_fault_of e)) }
+        ServiceFails (serve_words job.now) files (fault_of e)) }
 {
     if job.community.len() > 255 {
-        return Err(ServeError::Community);
+        return Err(Failure::Community);
     }
     match UdpAddress::read(job.listen) {
         Some(place) => Ok(place),
-        None => Err(ServeError::Place(job.listen)),
+        None => Err(Failure::Agent(job.listen)),
     }
 }
 
@@ -82,49 +70,16 @@ fn serve_by<'a, T: NameTree, F: Files, L: Links, O: Output>(
     files: &F,
     links: &mut L,
     out: &mut O,
-) -> Result<(), ServeError<'a>>
+) -> Result<(), Failure<'a>>
     requires { length job.now.community.now ≤ 255 }
-    ensures done { OnOk result (IsServedBy
+    ensures { IsServedBy
         (AtDoor (L.binds links.old) L.serves place.entry.host.now place.entry.port)
-        (record { before = L.fault_count links.old; after = L.fault_count links.new })
+        (risen (L.fault_count links.old) (L.fault_count links.new))
         (serve_words job.now) (F.text_at files.now) (T.naming tree.now)
-        (O.stream out.old) (O.stream out.new) None) }
-    ensures failed { IfErr result (λ e. IsServedBy
-        (AtDoor (L.binds links.old) L.serves place.entry.host.now place.entry.port)
-        (record { before = L.fault_count links.old; after = L.fault_count links.new })
-        (serve_words job.now) (F.text_at files.now) (T.naming tree.now)
-        (O.stream out.old) (O.stream out.new) (Some (serve_fault_of e))) }
+        (O.stream out.old) (O.stream out.new) (outcome_of result) }
 {
-    let table = match table_at(alloc, tree, files, job.table) {
-        Ok(table) => table,
-        Err(error) => return Err(error),
-    };
+    let table = table_at(alloc, tree, files, job.table)?;
     serve_at(alloc, job, place, &table, links, out)
-}
-
-// The table that the file at a path states, by the names of a tree.
-fn table_at<'a, T: NameTree, F: Files>(
-    alloc: Global,
-    tree: &T,
-    files: &F,
-    path: &'a str,
-) -> Result<Table, ServeError<'a>>
-    ensures table { IfOk result
-        (HasTable (F.text_at files.now) (T.naming tree.now) path.now) }
-    ensures err { IfErr result (λ e. (serve_fault_of e ≡ no_memory)
-        ⊎ TableFails unreadable bad_table (F.text_at files.now) (T.naming tree.now)
-        path.now (serve_fault_of e)) }
-{
-    let text = match files.read(alloc, path) {
-        Ok(text) => text,
-        Err(FileFault::Unreadable) => return Err(ServeError::Unreadable(path)),
-        Err(FileFault::Memory) => return Err(ServeError::Memory),
-    };
-    names_are_meant();
-    match Table::read_with(alloc, &text, &TreeNames { tree }) {
-        Ok(table) => Ok(table),
-        Err(fault) => Err(ServeError::Table(path, fault)),
-    }
 }
 
 // Serves a table at a place.
@@ -135,17 +90,13 @@ fn serve_at<'a, L: Links, O: Output>(
     table: &Table,
     links: &mut L,
     out: &mut O,
-) -> Result<(), ServeError<'a>>
+) -> Result<(), Failure<'a>>
     requires { length job.now.community.now ≤ 255 }
-    ensures done { OnOk result (IsServing
+    ensures { IsServing
         (AtDoor (L.binds links.old) L.serves place.entry.host.now place.entry.port)
-        (record { before = L.fault_count links.old; after = L.fault_count links.new })
-        (serve_words job.now) table.now (O.stream out.old) (O.stream out.new) None) }
-    ensures failed { IfErr result (λ e. IsServing
-        (AtDoor (L.binds links.old) L.serves place.entry.host.now place.entry.port)
-        (record { before = L.fault_count links.old; after = L.fault_count links.new })
+        (risen (L.fault_count links.old) (L.fault_count links.new))
         (serve_words job.now) table.now (O.stream out.old) (O.stream out.new)
-        (Some (serve_fault_of e))) }
+        (outcome_of result) }
 {
     let config = Config {
         community: job.community.as_bytes(),
@@ -153,56 +104,13 @@ fn serve_at<'a, L: Links, O: Output>(
     };
     let mut door = match links.bind(place.host, place.port) {
         Ok(door) => door,
-        Err(_) => return Err(ServeError::Door),
+        Err(_) => return Err(Failure::Ended(job.listen, WalkEnd::Link)),
     };
-    match print_place(alloc, job.listen, out) {
-        Ok(()) => {}
-        Err(error) => return Err(error),
-    }
+    let listening = listening_line(alloc, job.listen)?;
+    print_text(&listening, out)?;
     let served = links.serve(&mut door, table, &config, job.turns);
-    print_counts(alloc, &served, out)
-}
-
-// Prints where requests are received.
-fn print_place<'a, O: Output>(alloc: Global, word: &str, out: &mut O) -> Result<(), ServeError<'a>>
-    ensures done { OnOk result (
-        O.stream out.new ≡ extended (O.stream out.old) (listening_line word.now)) }
-    ensures stopped { IfErr result (λ e. StopsAtLine (O.stream out.old) (listening_line word.now)
-        (O.stream out.new) (Some (serve_fault_of e))) }
-{
-    match listening_line(alloc, word) {
-        Ok(line) => print(&line, out),
-        Err(_) => Err(ServeError::Memory),
-    }
-}
-
-// Prints what was served.
-fn print_counts<'a, O: Output>(
-    alloc: Global,
-    served: &Served,
-    out: &mut O,
-) -> Result<(), ServeError<'a>>
-    ensures done { OnOk result (
-        O.stream out.new ≡ extended (O.stream out.old) (counts_line served.now)) }
-    ensures stopped { IfErr result (λ e. StopsAtLine (O.stream out.old) (counts_line served.now)
-        (O.stream out.new) (Some (serve_fault_of e))) }
-{
-    match counts_line(alloc, served) {
-        Ok(line) => print(&line, out),
-        Err(_) => Err(ServeError::Memory),
-    }
-}
-
-// Prints a line.
-fn print<'a, O: Output>(line: &[u8], out: &mut O) -> Result<(), ServeError<'a>>
-    ensures done { OnOk result (O.stream out.new ≡ extended (O.stream out.old) line.now) }
-    ensures stopped { IfErr result (λ e.
-        StopsAtLine (O.stream out.old) line.now (O.stream out.new) (Some (serve_fault_of e))) }
-{
-    match write_all(out, line) {
-        Ok(()) => Ok(()),
-        Err(_) => Err(ServeError::Output),
-    }
+    let counts = counts_line(alloc, &served)?;
+    print_text(&counts, out)
 }
 
 // The line that says where requests are received.

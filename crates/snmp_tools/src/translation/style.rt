@@ -3,11 +3,11 @@ ghost use Rattle.std.specs.Prelude.{◌≡◌, None, Some, IfErr, IfOk, OnOk};
 ghost use Rattle.snmp_io.specs.Files.{Holdings};
 ghost use Rattle.smi_value.specs.letters.Letters.{has_letter};
 ghost use Rattle.snmp_words.specs.Words.{translate_words};
-ghost use Rattle.snmp_tools.specs.translation.Fault.{translate_fault_of};
+ghost use Rattle.snmp_tools.specs.Message.{fault_of};
 ghost use Rattle.snmp_tools.specs.translation.Refusal.{TranslationFails};
 ghost use Rattle.snmp_tools.specs.translation.Style.{IsStyleOf, first_other_of_t};
 
-use crate::translation::error::TranslateError;
+use crate::failure::Failure;
 use smi_value::Letters;
 use snmp_words::TranslateJob;
 
@@ -22,18 +22,18 @@ pub(crate) struct Style {
 
 impl Style {
     /// What the letters of `-O` and of `-T` say.
-    pub(crate) fn read<'a>(job: &TranslateJob<'a>) -> Result<Style, TranslateError<'a>>
+    pub(crate) fn read<'a>(job: &TranslateJob<'a>) -> Result<Style, Failure<'a>>
         ensures style { IfOk result (IsStyleOf (translate_words job.now)) }
         ensures refused { (files : Holdings) → IfErr result (λ e.
-            TranslationFails (translate_words job.now) files (translate_fault_of e)) }
+            TranslationFails (translate_words job.now) files (fault_of e)) }
     {
         let letters = match Letters::parse(job.letters.as_bytes()) {
             Ok(letters) => letters,
-            Err(letter) => return Err(TranslateError::Letter(letter)),
+            Err(letter) => return Err(Failure::Letter(letter)),
         };
         match asks_details(job.details.as_bytes()) {
             Ok(details) => Ok(Style { letters, details }),
-            Err(letter) => Err(TranslateError::Letter(letter)),
+            Err(letter) => Err(Failure::Letter(letter)),
         }
     }
 }

@@ -1,10 +1,11 @@
 use Rattle.std.proofs.Common.{ap, refl}
-use Rattle.snmp_tools.specs.Message.{fault_of}
+use Rattle.snmp_tools.specs.loading.Message.{refusal_of}
+use Rattle.snmp_tools.specs.Message.{fault_of, modules_fault}
 use Rattle.snmp_tools.specs.Outcome.{loaded, not_loaded}
 use Rattle.snmp_tools.specs.Planned.{ask_words}
 use Rattle.snmp_tools.specs.Seen.{seen}
 use Rattle.snmp_tools.proofs.Steps.{at_mibs}
-use Rattle.snmp_tools.proofs.Wholes.{are_loaded, outcome_err}
+use Rattle.snmp_tools.proofs.Wholes.{are_loaded, loads_from, mibs_fail, outcome_as, outcome_err}
 use Rattle.snmp_tools.proofs.ask.ask.Goals as goal
 
 pub returns-in_err-orders : goal.returns-in_err-orders
@@ -14,16 +15,21 @@ returns-in_err-orders g c =
 
 pub returns-in_err-tree : goal.returns-in_err-tree
 returns-in_err-tree g c =
-    not_loaded (fault_of c.in_err-tree.field-0.0)
-    (at_mibs (ask_words c.args.job) (g.F.Files.text_at c.args.files.now) (fault_of c.in_err-tree.field-0.0) c.in_ok-orders.orders
-    c.in_ok-orders.ensures.orders c.in_err-tree.ensures.failed)
-    (ap (seen (g.F.Files.text_at c.args.files.now) c.args.links.now (g.O.Output.stream c.args.out.now)) c.in_err-tree.ensures.untold)
-    (outcome_err _ _ c.from_residual-in_err-tree.ensures.1)
+    let files = g.F.Files.text_at c.args.files.now in
+    let why = refusal_of c.in_err-tree.field-0.0 in
+    not_loaded (modules_fault why)
+    (at_mibs (ask_words c.args.job) files (modules_fault why) c.in_ok-orders.orders c.in_ok-orders.ensures.orders
+    (mibs_fail files _ _ c.deref.ensures.value why c.in_err-tree.ensures.refused c.in_err-tree.ensures.only))
+    (ap (seen files c.args.links.now (g.O.Output.stream c.args.out.now)) c.in_err-tree.ensures.untold)
+    (outcome_as _ _ c.from_residual-in_err-tree.ensures.1)
 
 pub ask_by-requires-clause-known : goal.ask_by-requires-clause-known
-ask_by-requires-clause-known g c = (_, are_loaded (g.F.Files.text_at c.args.files.now) _ _ _ _ _ _ c.in_ok-tree.ensures.loaded)
+ask_by-requires-clause-known g c =
+    let files = g.F.Files.text_at c.args.files.now in
+    (_, are_loaded files _ _ _ _ _ _ (loads_from files _ _ _ _ _ _ _ c.deref.ensures.value c.in_ok-tree.ensures.loaded))
 
 pub returns : goal.returns
 returns g c =
-    let is = c.in_ok-tree.ensures.loaded in
-    loaded _ is.loaded.warnings (are_loaded (g.F.Files.text_at c.args.files.now) _ _ _ _ _ _ is) is.loaded.told (c.ask_by.ensures _)
+    let files = g.F.Files.text_at c.args.files.now in
+    let is = loads_from files _ _ _ _ _ _ _ c.deref.ensures.value c.in_ok-tree.ensures.loaded in
+    loaded _ is.loaded.warnings (are_loaded files _ _ _ _ _ _ is) is.loaded.told (c.ask_by.ensures _)

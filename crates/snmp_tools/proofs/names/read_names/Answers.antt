@@ -1,11 +1,14 @@
-use Rattle.std.proofs.Common.{◌≡◌, ◌+◌, ◌++◌, Bool, false, List, [], ◌∷◌, Result, Ok, Err, inr, refl, subst, sym, take}
+use Rattle.std.proofs.Common.{◌≡◌, ◌⊎◌, ◌+◌, ◌++◌, Bool, false, List, [], ◌∷◌, Result, Ok, Err, inr, refl, subst, sym, take}
 use Rattle.std.specs.Prelude.{if◌then◌else◌}
 use Rattle.std.specs.Result.{is_err, is_ok}
 use Rattle.snmp_words.specs.Words.{texts_at}
 use Rattle.snmp_tools.specs.Planned.{mib_in}
-use Rattle.snmp_tools.specs.Message.{fault_of}
-use Rattle.snmp_tools.specs.Question.{AreNames}
+use Rattle.snmp_io.specs.Steps.{IsFirstToFail}
+use Rattle.snmp_tools.specs.Asking.{NameFails}
+use Rattle.snmp_tools.specs.Message.{fault_of, out_of_memory}
+use Rattle.snmp_tools.specs.Question.{AreNames, HasMeaning}
 use Rattle.snmp_tools.proofs.Steps.{first_unnamed, more_names}
+use Rattle.snmp_tools.proofs.Wholes.{if_err}
 use Rattle.snmp_tools.proofs.names.read_names.Goals as goal
 
 pushed : {A E X : Type 0} (r : Result A E) (b : Bool) (new old more : List X) → b ≡ is_err r → b ≡ false
@@ -16,14 +19,17 @@ pushed (Err x) b new old more e f is = let no : ⊥ = cc in absurd no
 pub texts-preserved : goal.texts-preserved
 texts-preserved g c =
     let mib = mib_in (g.T.NameTree.naming c.args.tree.now) (g.T.ShowTree.syntax_at c.args.tree.now) in
-    let items = pushed c.push.result c.is_err.result c.push.new.self.items c.texts.names.items (c.in-Ok.oid ∷ []) c.is_err.ensures.value c.if-is_err.false
+    let items = pushed c.push.result c.is_err.result c.push.new.self.items c.texts.names.items (c.in_ok-oid.oid ∷ []) c.is_err.ensures.value c.if-is_err.false
     c.push.ensures.items in
     subst (AreNames mib (texts_at (take (c.texts.text-index + 1) c.args.texts.now))) (sym items)
-    (more_names mib c.args.texts.now c.texts.text-index record { ref_ptr = (0, 0); now = [] } c.texts.names.items c.in-Ok.oid c.texts-test.true
-    c.texts.invariant c.in-Ok.ensures.ok)
+    (more_names mib c.args.texts.now c.texts.text-index record { ref_ptr = (0, 0); now = [] } c.texts.names.items c.in_ok-oid.oid c.texts-test.true
+    c.texts.invariant c.in_ok-oid.ensures.ok)
 
-pub returns-in-Err-clause-err : goal.returns-in-Err-clause-err
-returns-in-Err-clause-err g c =
+pub returns-in_err-oid-clause-err : goal.returns-in_err-oid-clause-err
+returns-in_err-oid-clause-err g c =
     let mib = mib_in (g.T.NameTree.naming c.args.tree.now) (g.T.ShowTree.syntax_at c.args.tree.now) in
-    inr (first_unnamed mib c.args.texts.now c.texts.text-index _ _ c.texts-test.true refl c.texts.names.items c.texts.invariant (fault_of c.in-Err.failure)
-    (c.in-Err.ensures.err mib refl))
+    let f = c.in_err-oid.field-0.0 in
+    if_err (λ e. (fault_of e ≡ out_of_memory) ⊎ IsFirstToFail (texts_at c.args.texts.now) (HasMeaning mib) (NameFails mib.naming) (fault_of e)) _ f
+    c.from_residual.ensures.1
+    (inr (first_unnamed mib c.args.texts.now c.texts.text-index _ _ c.texts-test.true refl c.texts.names.items c.texts.invariant (fault_of f)
+    c.in_err-oid.ensures.err))

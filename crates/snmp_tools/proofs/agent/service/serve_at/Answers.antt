@@ -1,43 +1,33 @@
-use Rattle.std.proofs.Common.{◌≡◌, inr, subst, List, ℕ}
-use Rattle.std.proofs.lemmas.Result.{IfErr-weaker, on_ok_weaker}
+use Rattle.std.proofs.Common.{◌∙◌, ap, inl, inr, refl, subst, List, ℕ}
 use Rattle.snmp_words.specs.Words.{serve_words}
-use Rattle.snmp_tools.specs.agent.Outcome.{AtDoor}
-use Rattle.snmp_tools.specs.agent.Service.{served_agent}
-use Rattle.snmp_tools.proofs.Serving.{counts_stop, counts_told}
+use Rattle.snmp_tools.specs.Lines.{IsTextPrinted}
+use Rattle.snmp_tools.specs.Message.{outcome_of}
+use Rattle.snmp_tools.proofs.Serving.{counted}
+use Rattle.snmp_tools.proofs.Texts.{printed, stopped}
+use Rattle.snmp_tools.proofs.Wholes.{outcome_err}
 use Rattle.snmp_tools.proofs.agent.service.serve_at.Goals as goal
 
-pub returns-clause-done : goal.returns-clause-done
-returns-clause-done g c =
-    let words = serve_words c.args.job.now in
-    let community : c.as_bytes.result.now ≡ words.community = c.as_bytes.ensures.value in
-    let serves : AtDoor (g.L.Links.binds c.args.links.now) g.L.Links.serves c.args.place.host.now c.args.place.port
-    (served_agent words c.args.table.now) words.turns c.serve-served.result = (
-      c.in-Ok.door,
-      c.in-Ok.ensures.bound,
-      subst (λ (t : List ℕ). g.L.Links.serves c.in-Ok.door (record {
-        view = c.args.table.now;
-        community = t;
-        max_size = c.args.job.now.max_size;
-      }) c.args.job.now.turns c.serve-served.result) community c.serve-served.ensures.served,
-    ) in
-    on_ok_weaker c.print_counts.result (λ h. inr (inr (counts_told
-    (AtDoor (g.L.Links.binds c.args.links.now) g.L.Links.serves c.args.place.host.now c.args.place.port) words c.args.table.now _ _ _ _
-    serves c.serve-served.ensures.adds_up c.in-Ok-print_place.ensures.done h))) c.print_counts.ensures.done
+pub returns-in_err-listening : goal.returns-in_err-listening
+returns-in_err-listening g c = inr (inl (inl (refl, outcome_err _ _ c.from_residual.ensures.1)))
 
-pub returns-clause-failed : goal.returns-clause-failed
-returns-clause-failed g c =
-    let words = serve_words c.args.job.now in
-    let community : c.as_bytes.result.now ≡ words.community = c.as_bytes.ensures.value in
-    let serves : AtDoor (g.L.Links.binds c.args.links.now) g.L.Links.serves c.args.place.host.now c.args.place.port
-    (served_agent words c.args.table.now) words.turns c.serve-served.result = (
-      c.in-Ok.door,
-      c.in-Ok.ensures.bound,
-      subst (λ (t : List ℕ). g.L.Links.serves c.in-Ok.door (record {
-        view = c.args.table.now;
-        community = t;
-        max_size = c.args.job.now.max_size;
-      }) c.args.job.now.turns c.serve-served.result) community c.serve-served.ensures.served,
-    ) in
-    IfErr-weaker c.print_counts.result _ _ (λ e h. inr (inr (counts_stop
-    (AtDoor (g.L.Links.binds c.args.links.now) g.L.Links.serves c.args.place.host.now c.args.place.port) words c.args.table.now _ _ _ _ _
-    serves c.serve-served.ensures.adds_up c.in-Ok-print_place.ensures.done h))) c.print_counts.ensures.stopped
+pub returns-in_err-print_text : goal.returns-in_err-print_text
+returns-in_err-print_text g c =
+    inr (inl (stopped _ _ _ _ _ _ _ (c.deref.ensures.value ∙ c.in_ok-listening.ensures) (ap outcome_of c.in_err-print_text.was)
+    (outcome_err _ _ c.from_residual-in_err-print_text.ensures.1) c.print_text.ensures))
+
+pub returns-in_err-counts : goal.returns-in_err-counts
+returns-in_err-counts g c =
+    let told = printed _ _ _ _ _ (c.deref.ensures.value ∙ c.in_ok-listening.ensures) (ap outcome_of c.in_ok-print_text.was) c.print_text.ensures in
+    inr (inr (counted (g.L.Links.binds c.args.links.now) g.L.Links.serves c.args.place.host.now c.args.place.port c.in-Ok.door
+    (serve_words c.args.job.now) c.args.table.now _ _ _ _ _ _ c.in-Ok.ensures.bound c.as_bytes.ensures.value c.serve-served.ensures.served
+    c.serve-served.ensures.adds_up told
+    (inr (inl (refl, outcome_err _ _ c.from_residual-in_err-counts.ensures.1)))))
+
+pub returns : goal.returns
+returns g c =
+    let told = printed _ _ _ _ _ (c.deref.ensures.value ∙ c.in_ok-listening.ensures) (ap outcome_of c.in_ok-print_text.was) c.print_text.ensures in
+    inr (inr (counted (g.L.Links.binds c.args.links.now) g.L.Links.serves c.args.place.host.now c.args.place.port c.in-Ok.door
+    (serve_words c.args.job.now) c.args.table.now _ _ _ _ _ _ c.in-Ok.ensures.bound c.as_bytes.ensures.value c.serve-served.ensures.served
+    c.serve-served.ensures.adds_up told
+    (subst (λ (t : List ℕ). IsTextPrinted (g.O.Output.stream c.print_text.new.out) t (g.O.Output.stream c.print_text-2.new.out)
+    (outcome_of c.print_text-2.result)) (c.deref-2.ensures.value ∙ c.in_ok-counts.ensures) c.print_text-2.ensures)))

@@ -1,14 +1,10 @@
 use Rattle.std.proofs.Common.{inl, inr, refl}
-use Rattle.std.proofs.lemmas.Result.{IfErr-weaker, on_ok_weaker}
-use Rattle.snmp_tools.specs.agent.Fault.{serve_fault_of}
+use Rattle.snmp_tools.specs.Message.{fault_of}
+use Rattle.snmp_tools.proofs.Wholes.{outcome_err}
 use Rattle.snmp_tools.proofs.agent.service.serve_by.Goals as goal
 
-pub returns-in-Err-clause-failed : goal.returns-in-Err-clause-failed
-returns-in-Err-clause-failed g c = inl (serve_fault_of c.in-Err.error, c.in-Err.ensures.err, refl, refl)
+pub returns-in_err-table : goal.returns-in_err-table
+returns-in_err-table g c = inl (fault_of c.in_err-table.field-0.0, c.in_err-table.ensures.err, refl, outcome_err _ _ c.from_residual.ensures.1)
 
-pub returns-clause-done : goal.returns-clause-done
-returns-clause-done g c = on_ok_weaker c.serve_at.result (λ h. inr (_, c.in-Ok.ensures.table, h)) c.serve_at.ensures.done
-
-pub returns-clause-failed : goal.returns-clause-failed
-returns-clause-failed g c =
-    IfErr-weaker c.serve_at.result _ _ (λ e h. inr (_, c.in-Ok.ensures.table, h)) c.serve_at.ensures.failed
+pub returns : goal.returns
+returns g c = inr (_, c.in_ok-table.ensures.table, c.serve_at.ensures)

@@ -1,62 +1,37 @@
-use Rattle.std.proofs.Common.{◌≡◌, ℕ, List, None, Some, Bor, ap, inr, refl, subst}
-use Rattle.std.proofs.lemmas.Result.{IfErr-weaker, on_ok_weaker}
+use Rattle.std.proofs.Common.{inr, refl, subst}
 use Rattle.smi_show.specs.name.Naming.{Naming}
-use Rattle.snmp_io.specs.Files.{MayHold}
 use Rattle.snmp_words.specs.Words.{serve_words}
-use Rattle.snmp_tools.specs.agent.Fault.{serve_fault_of}
-use Rattle.snmp_tools.specs.agent.Outcome.{AtDoor, IsServedBy, loaded, not_loaded}
-use Rattle.snmp_tools.specs.loading.Files.{IsFilesRefusal, texts}
-use Rattle.snmp_tools.specs.loading.Loaded.{AreLoadedAs}
+use Rattle.snmp_tools.specs.agent.Outcome.{AtDoor, IsServedBy, loaded, not_loaded, risen}
 use Rattle.snmp_tools.specs.loading.Message.{refusal_of}
-use Rattle.snmp_tools.specs.Serving.{risen}
+use Rattle.snmp_tools.specs.Message.{fault_of, modules_fault, outcome_of}
 use Rattle.snmp_tools.proofs.Serving.{modules_fail}
+use Rattle.snmp_tools.proofs.Wholes.{loads_from, mibs_fail, outcome_as, outcome_err}
 use Rattle.snmp_tools.proofs.agent.service.serve_table.Goals as goal
 
-pub returns-in-Err-clause-failed : goal.returns-in-Err-clause-failed
-returns-in-Err-clause-failed g c = not_loaded _ (inr (c.in-Err.ensures.refused (g.F.Files.text_at c.args.files.now))) refl refl refl
+pub returns-in_err-place : goal.returns-in_err-place
+returns-in_err-place g c =
+    not_loaded (fault_of c.in_err-place.field-0.0) (inr (c.in_err-place.ensures.refused (g.F.Files.text_at c.args.files.now))) refl refl
+    (outcome_err _ _ c.from_residual.ensures.1)
 
-pub returns-in-Err-load-clause-failed : goal.returns-in-Err-load-clause-failed
-returns-in-Err-load-clause-failed g c =
+pub returns-in_err-tree : goal.returns-in_err-tree
+returns-in_err-tree g c =
     let files = g.F.Files.text_at c.args.files.now in
-    let mibs : c.deref.result.now ≡ c.args.job.now.mibs.items = c.deref.ensures.value in
-    let refusal = subst (λ (ps : List (Bor (List ℕ))). IsFilesRefusal files (texts ps) (refusal_of c.in-Err-load.error)) mibs
-    c.in-Err-load.ensures.refused in
-    not_loaded _ (modules_fail (serve_words c.args.job.now) files _ _ _ c.in-Ok.ensures.short_community c.in-Ok.ensures.place refusal) refl
-    c.in-Err-load.ensures.untold (ap Some c.modules_error.ensures)
+    let why = refusal_of c.in_err-tree.field-0.0 in
+    not_loaded (modules_fault why)
+    (modules_fail (serve_words c.args.job.now) files _ _ _ c.in_ok-place.ensures.short_community c.in_ok-place.ensures.place
+    (mibs_fail files _ _ c.deref.ensures.value why c.in_err-tree.ensures.refused c.in_err-tree.ensures.only)) refl c.in_err-tree.ensures.untold
+    (outcome_as _ _ c.from_residual-in_err-tree.ensures.1)
 
-pub returns-clause-done : goal.returns-clause-done
-returns-clause-done g c =
-    let mibs : c.deref.result.now ≡ c.args.job.now.mibs.items = c.deref.ensures.value in
-    let naming : Naming = g.F.Names.NameTree.naming c.in-Ok-load.tree in
-    let is = subst (λ (ps : List (Bor (List ℕ))). AreLoadedAs (MayHold (g.F.Files.text_at c.args.files.now)) (texts ps) naming
-    (g.F.Names.DetailTree.definition_at c.in-Ok-load.tree) (g.F.Names.ShowTree.syntax_at c.in-Ok-load.tree) (g.E.Output.stream c.args.err.now)
-    (g.E.Output.stream c.load.new.err)) mibs c.in-Ok-load.ensures.loaded in
-    on_ok_weaker c.serve_by.result (λ h. loaded (record {
-      short_community = c.in-Ok.ensures.short_community;
-      host = c.in-Ok.place.host.now;
-      port = c.in-Ok.place.port;
-      place = c.in-Ok.ensures.place;
+pub returns : goal.returns
+returns g c =
+    let is = loads_from (g.F.Files.text_at c.args.files.now) _ _ _ _ _ _ _ c.deref.ensures.value c.in_ok-tree.ensures.loaded in
+    loaded (record {
+      short_community = c.in_ok-place.ensures.short_community;
+      host = c.in_ok-place.place.host.now;
+      port = c.in_ok-place.place.port;
+      place = c.in_ok-place.ensures.place;
     }) is.tree is.loaded
-    (subst (λ (n : Naming). IsServedBy (AtDoor (g.L.Links.binds c.args.links.now) g.L.Links.serves c.in-Ok.place.host.now c.in-Ok.place.port)
+    (subst (λ (n : Naming). IsServedBy (AtDoor (g.L.Links.binds c.args.links.now) g.L.Links.serves c.in_ok-place.place.host.now c.in_ok-place.place.port)
     (risen (g.L.Links.fault_count c.args.links.now) (g.L.Links.fault_count c.serve_by.new.links)) (serve_words c.args.job.now)
-    (g.F.Files.text_at c.args.files.now) n (g.O.Output.stream c.args.out.now) (g.O.Output.stream c.serve_by.new.out) None) is.names h))
-    c.serve_by.ensures.done
-
-pub returns-clause-failed : goal.returns-clause-failed
-returns-clause-failed g c =
-    let mibs : c.deref.result.now ≡ c.args.job.now.mibs.items = c.deref.ensures.value in
-    let naming : Naming = g.F.Names.NameTree.naming c.in-Ok-load.tree in
-    let is = subst (λ (ps : List (Bor (List ℕ))). AreLoadedAs (MayHold (g.F.Files.text_at c.args.files.now)) (texts ps) naming
-    (g.F.Names.DetailTree.definition_at c.in-Ok-load.tree) (g.F.Names.ShowTree.syntax_at c.in-Ok-load.tree) (g.E.Output.stream c.args.err.now)
-    (g.E.Output.stream c.load.new.err)) mibs c.in-Ok-load.ensures.loaded in
-    IfErr-weaker c.serve_by.result _ _ (λ e h. loaded (record {
-      short_community = c.in-Ok.ensures.short_community;
-      host = c.in-Ok.place.host.now;
-      port = c.in-Ok.place.port;
-      place = c.in-Ok.ensures.place;
-    }) is.tree is.loaded
-    (subst (λ (n : Naming). IsServedBy (AtDoor (g.L.Links.binds c.args.links.now) g.L.Links.serves c.in-Ok.place.host.now c.in-Ok.place.port)
-    (risen (g.L.Links.fault_count c.args.links.now) (g.L.Links.fault_count c.serve_by.new.links)) (serve_words c.args.job.now)
-    (g.F.Files.text_at c.args.files.now) n (g.O.Output.stream c.args.out.now) (g.O.Output.stream c.serve_by.new.out)
-    (Some (serve_fault_of e))) is.names h))
-    c.serve_by.ensures.failed
+    (g.F.Files.text_at c.args.files.now) n (g.O.Output.stream c.args.out.now) (g.O.Output.stream c.serve_by.new.out) (outcome_of c.serve_by.result))
+    is.names c.serve_by.ensures)

@@ -20,7 +20,7 @@ returns-in_err-name-in-Walk-clause-refused g c =
     let P : Request → Failure → Type 0 = λ r e. NamesFail (request_of r) mib (fault_of e) in
     if_err (P c.args.request) c.from_residual-in_err-name-in-Walk.result f c.from_residual-in_err-name-in-Walk.ensures.1
     (subst (λ (r : Request). P r f) (sym c.in-Walk.is)
-    (inl (subst (λ (t : List ℕ). NameFails mib t (fault_of f)) text (c.in_err-name-in-Walk.ensures.err mib refl))))
+    (inl (subst (λ (t : List ℕ). NameFails mib.naming t (fault_of f)) text c.in_err-name-in-Walk.ensures.err)))
 
 pub returns-in_err-name_if_given-in-Walk-clause-refused : goal.returns-in_err-name_if_given-in-Walk-clause-refused
 returns-in_err-name_if_given-in-Walk-clause-refused g c =
@@ -34,7 +34,7 @@ returns-in_err-name_if_given-in-Walk-clause-refused g c =
     (subst (λ (r : Request). P r f) (sym c.in-Walk.is)
     (inr (
       (root, subst (λ (t : List ℕ). TextMeans mib.naming t (Ok root)) text c.in_ok-name-in-Walk.ensures.ok),
-      c.in_err-name_if_given-in-Walk.ensures.err mib refl,
+      c.in_err-name_if_given-in-Walk.ensures.err,
     )))
 
 pub returns-in_ok-name_if_given-in-Walk-clause-stated : goal.returns-in_ok-name_if_given-in-Walk-clause-stated

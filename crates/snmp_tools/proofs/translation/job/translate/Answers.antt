@@ -1,29 +1,28 @@
-use Rattle.std.proofs.Common.{◌≡◌, ◌∙◌, ℕ, List, Option, None, Some, Bor, ap, inr, refl, subst}
-use Rattle.std.proofs.lemmas.Result.{IfErr-weaker, on_ok_weaker}
-use Rattle.snmp_tools.specs.loading.Files.{IsFilesRefusal, texts}
-use Rattle.snmp_tools.specs.loading.Loaded.{AreLoadedAs}
+use Rattle.std.proofs.Common.{◌≡◌, ◌∙◌, ℕ, List, Option, Bor, ap, inr, refl, subst}
 use Rattle.snmp_tools.specs.loading.Message.{refusal_of}
 use Rattle.smi_text.specs.declared.trees.tree.Def.{Def}
 use Rattle.smi_show.specs.name.Naming.{Naming}
-use Rattle.snmp_io.specs.Files.{MayHold}
 use Rattle.snmp_words.specs.Words.{texts_at, translate_words}
-use Rattle.snmp_tools.specs.translation.Fault.{translate_fault_of}
+use Rattle.snmp_tools.specs.Message.{fault_of, modules_fault, outcome_of}
 use Rattle.snmp_tools.specs.translation.Outcome.{IsPrinting, ran, refused}
 use Rattle.snmp_tools.specs.translation.Text.{DetailMib}
 use Rattle.snmp_tools.proofs.Refusals.{modules_fail}
-use Rattle.snmp_tools.proofs.translation.job.translate_names.Goals as goal
+use Rattle.snmp_tools.proofs.Wholes.{loads_from, mibs_fail, outcome_as, outcome_err}
+use Rattle.snmp_tools.proofs.translation.job.translate.Goals as goal
 
-pub returns-in-Err-clause-failed : goal.returns-in-Err-clause-failed
-returns-in-Err-clause-failed g c = refused _ (inr (c.in-Err.ensures.refused (g.F.Files.text_at c.args.files.now))) refl refl refl
+pub returns-in_err-style : goal.returns-in_err-style
+returns-in_err-style g c =
+    refused (fault_of c.in_err-style.field-0.0) (inr (c.in_err-style.ensures.refused (g.F.Files.text_at c.args.files.now))) refl refl
+    (outcome_err _ _ c.from_residual.ensures.1)
 
-pub returns-in-Err-load-clause-failed : goal.returns-in-Err-load-clause-failed
-returns-in-Err-load-clause-failed g c =
+pub returns-in_err-tree : goal.returns-in_err-tree
+returns-in_err-tree g c =
     let files = g.F.Files.text_at c.args.files.now in
-    let mibs : c.deref.result.now ≡ c.args.job.now.mibs.items = c.deref.ensures.value in
-    let refusal = subst (λ (ps : List (Bor (List ℕ))). IsFilesRefusal files (texts ps) (refusal_of c.in-Err-load.error)) mibs
-    c.in-Err-load.ensures.refused in
-    refused _ (modules_fail (translate_words c.args.job.now) files _ _ c.in-Ok.ensures.style refusal) refl c.in-Err-load.ensures.untold
-    (ap Some c.modules_error.ensures)
+    let why = refusal_of c.in_err-tree.field-0.0 in
+    refused (modules_fault why)
+    (modules_fail (translate_words c.args.job.now) files _ _ c.in_ok-style.ensures.style
+    (mibs_fail files _ _ c.deref.ensures.value why c.in_err-tree.ensures.refused c.in_err-tree.ensures.only)) refl c.in_err-tree.ensures.untold
+    (outcome_as _ _ c.from_residual-in_err-tree.ensures.1)
 
 -- names and definitions
 abbrev mib_by : Naming → (List ℕ → Option Def) → DetailMib
@@ -33,32 +32,14 @@ same_mib : (naming other : Naming) (definition_at found : List ℕ → Option De
     → mib_by naming definition_at ≡ mib_by other found
 same_mib naming other definition_at found e f = ap (λ n. mib_by n definition_at) e ∙ ap (mib_by other) f
 
-pub returns-clause-done : goal.returns-clause-done
-returns-clause-done g c =
-    let mibs : c.deref.result.now ≡ c.args.job.now.mibs.items = c.deref.ensures.value in
+pub returns : goal.returns
+returns g c =
     let names : c.deref-2.result.now ≡ c.args.job.now.names.items = c.deref-2.ensures.value in
-    let naming : Naming = g.F.Names.NameTree.naming c.in-Ok-load.tree in
-    let definition_at : List ℕ → Option Def = g.F.Names.DetailTree.definition_at c.in-Ok-load.tree in
-    let is = subst (λ (ps : List (Bor (List ℕ))). AreLoadedAs (MayHold (g.F.Files.text_at c.args.files.now)) (texts ps) naming definition_at
-    (g.F.Names.ShowTree.syntax_at c.in-Ok-load.tree) (g.E.Output.stream c.args.err.now) (g.E.Output.stream c.load.new.err)) mibs
-    c.in-Ok-load.ensures.loaded in
-    on_ok_weaker c.print_names.result (λ h. ran c.in-Ok.style is.tree c.in-Ok.ensures.style is.loaded
-    (subst (λ (mib : DetailMib). IsPrinting mib c.in-Ok.style (texts_at c.args.job.now.names.items) (g.O.Output.stream c.args.out.now)
-    (g.O.Output.stream c.print_names.new.out) None) (same_mib naming _ definition_at _ is.names is.definitions)
-    (subst (λ (ns : List (Bor (List ℕ))). IsPrinting (mib_by naming definition_at) c.in-Ok.style (texts_at ns) (g.O.Output.stream c.args.out.now)
-    (g.O.Output.stream c.print_names.new.out) None) names h))) c.print_names.ensures.done
-
-pub returns-clause-failed : goal.returns-clause-failed
-returns-clause-failed g c =
-    let mibs : c.deref.result.now ≡ c.args.job.now.mibs.items = c.deref.ensures.value in
-    let names : c.deref-2.result.now ≡ c.args.job.now.names.items = c.deref-2.ensures.value in
-    let naming : Naming = g.F.Names.NameTree.naming c.in-Ok-load.tree in
-    let definition_at : List ℕ → Option Def = g.F.Names.DetailTree.definition_at c.in-Ok-load.tree in
-    let is = subst (λ (ps : List (Bor (List ℕ))). AreLoadedAs (MayHold (g.F.Files.text_at c.args.files.now)) (texts ps) naming definition_at
-    (g.F.Names.ShowTree.syntax_at c.in-Ok-load.tree) (g.E.Output.stream c.args.err.now) (g.E.Output.stream c.load.new.err)) mibs
-    c.in-Ok-load.ensures.loaded in
-    IfErr-weaker c.print_names.result _ _ (λ e h. ran c.in-Ok.style is.tree c.in-Ok.ensures.style is.loaded
-    (subst (λ (mib : DetailMib). IsPrinting mib c.in-Ok.style (texts_at c.args.job.now.names.items) (g.O.Output.stream c.args.out.now)
-    (g.O.Output.stream c.print_names.new.out) (Some (translate_fault_of e))) (same_mib naming _ definition_at _ is.names is.definitions)
-    (subst (λ (ns : List (Bor (List ℕ))). IsPrinting (mib_by naming definition_at) c.in-Ok.style (texts_at ns) (g.O.Output.stream c.args.out.now)
-    (g.O.Output.stream c.print_names.new.out) (Some (translate_fault_of e))) names h))) c.print_names.ensures.failed
+    let naming : Naming = g.F.Names.NameTree.naming c.in_ok-tree.tree in
+    let definition_at : List ℕ → Option Def = g.F.Names.DetailTree.definition_at c.in_ok-tree.tree in
+    let P : DetailMib → List (List ℕ) → Type 0 = λ mib texts. IsPrinting mib c.in_ok-style.style texts (g.O.Output.stream c.args.out.now)
+    (g.O.Output.stream c.print_names.new.out) (outcome_of c.print_names.result) in
+    let is = loads_from (g.F.Files.text_at c.args.files.now) _ _ _ _ _ _ _ c.deref.ensures.value c.in_ok-tree.ensures.loaded in
+    ran c.in_ok-style.style is.tree c.in_ok-style.ensures.style is.loaded
+    (subst (λ (mib : DetailMib). P mib (texts_at c.args.job.now.names.items)) (same_mib naming _ definition_at _ is.names is.definitions)
+    (subst (λ (ns : List (Bor (List ℕ))). P (mib_by naming definition_at) (texts_at ns)) names c.print_names.ensures))

@@ -2,9 +2,10 @@ use Rattle.std.proofs.Common.{[], Bor, List, ℕ, refl, subst, sym, take}
 use Rattle.std.proofs.lemmas.List.{take_all}
 use Rattle.snmp_io.specs.Streams.{extended-nil}
 use Rattle.snmp_words.specs.Words.{texts_at}
-use Rattle.snmp_tools.specs.translation.Outcome.{AreNamesPrinted}
+use Rattle.snmp_tools.specs.translation.Outcome.{AreNamesPrinted, IsPrinting}
 use Rattle.snmp_tools.specs.translation.Text.{DetailMib}
 use Rattle.snmp_tools.proofs.Printing.{more_printed, stopped_at, texts-more}
+use Rattle.snmp_tools.proofs.Wholes.{outcome_err}
 use Rattle.snmp_tools.proofs.translation.names.print_names.Goals as goal
 
 pub names-init : goal.names-init
@@ -17,15 +18,17 @@ names-preserved g c =
     let after = g.O.Output.stream c.print_name.new.out in
     subst (λ (names : List (List ℕ)). AreNamesPrinted mib c.args.style names before after)
     (sym (texts-more c.args.names.now c.names.name-index _ c.names-test.true))
-    (more_printed mib c.args.style (texts_at (take c.names.name-index c.args.names.now)) _ before _ after c.names.invariant c.in-Ok.ensures.done)
+    (more_printed mib c.args.style (texts_at (take c.names.name-index c.args.names.now)) _ before _ after c.names.invariant c.in_ok-print_name.ensures.printed)
 
-pub returns-in-Err-clause-failed : goal.returns-in-Err-clause-failed
-returns-in-Err-clause-failed g c =
+pub returns-in_err-print_name : goal.returns-in_err-print_name
+returns-in_err-print_name g c =
     let mib : DetailMib = record { naming = g.T.NameTree.naming c.args.tree.now; definition_at = g.T.DetailTree.definition_at c.args.tree.now } in
-    stopped_at mib c.args.style c.args.names.now c.names.name-index _ _ _ _ _ c.names-test.true c.names.invariant c.in-Err.ensures.failed
+    subst (IsPrinting mib c.args.style (texts_at c.args.names.now) (g.O.Output.stream c.args.out.now) (g.O.Output.stream c.print_name.new.out))
+    (sym (outcome_err _ _ c.from_residual.ensures.1))
+    (stopped_at mib c.args.style c.args.names.now c.names.name-index _ _ _ _ _ c.names-test.true c.names.invariant c.in_err-print_name.ensures.stopped)
 
-pub returns-clause-done : goal.returns-clause-done
-returns-clause-done g c =
+pub returns : goal.returns
+returns g c =
     let mib : DetailMib = record { naming = g.T.NameTree.naming c.args.tree.now; definition_at = g.T.DetailTree.definition_at c.args.tree.now } in
     subst (λ (names : List (Bor (List ℕ))). AreNamesPrinted mib c.args.style (texts_at names) (g.O.Output.stream c.args.out.now)
     (g.O.Output.stream c.names.out))
