@@ -1,6 +1,6 @@
 //! The tree of names as functions that a C program can call: what `bench/tree.sh` counts.
 
-use smi_show::{Letters, line};
+use smi_show::{Letters, Near, line_near};
 use smi_text::parse_modules;
 use smi_tree::{NameHash, Tree};
 use snmp_oid::parse_numeric;
@@ -106,7 +106,8 @@ pub extern "C" fn tree_syntaxes_in(alloc: Global, text: &[u8], times: usize) -> 
 }
 
 /// How many octets the line of an instance of an object has, shown so many times by the tree of a
-/// text; the greatest number where the text is refused or memory runs out.
+/// text, as a walk shows one line after the other; the greatest number where the text is refused or
+/// memory runs out.
 #[unsafe(no_mangle)]
 pub extern "C" fn tree_lines_in(alloc: Global, text: &[u8], times: usize) -> usize {
     let Some(tree) = tree_in(alloc, text) else {
@@ -118,9 +119,10 @@ pub extern "C" fn tree_lines_in(alloc: Global, text: &[u8], times: usize) -> usi
     let mut out = Vec::new(alloc);
     let letters = Letters::new();
     let value = ValueRef::Integer(1);
+    let mut near = Near::new();
     for _i in 0..times {
         out.clear();
-        if line(&tree, &letters, &name, &value, &mut out).is_err() {
+        if line_near(&tree, &letters, &name, &value, &mut near, &mut out).is_err() {
             return usize::MAX;
         }
     }

@@ -1,5 +1,5 @@
 -- The line of a variable binding: its name, ` = `, its value, and a newline.
-use Rattle.std.specs.Prelude.{◌≡◌, ℕ, Bool, if◌then◌else◌, List, ◌++◌, codes, Option}
+use Rattle.std.specs.Prelude.{◌≡◌, ℕ, if◌then◌else◌, List, ◌++◌, codes, Option}
 use Rattle.smi_value.specs.declared.letters.letters.Letters.{Letters}
 use Rattle.smi_value.specs.declared.letters.letters.TypeForm.{TypeForm}
 use Rattle.smi_value.specs.declared.letters.letters.TypeForm.TheVariants.{Typed, Untyped, Quick}

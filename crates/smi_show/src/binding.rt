@@ -11,8 +11,8 @@ ghost use Rattle.smi_show.specs.name.Naming.{Naming};
 ghost use Rattle.smi_show.specs.name.Standing.{standing_of};
 ghost use Rattle.smi_show.specs.Line.{IsLine, IsValueText, front_text, names_by, separator};
 
-use crate::ShowTree;
 use crate::name::{Node, name_by_node, name_text};
+use crate::{Near, ShowTree};
 use smi_value::{
     Letters, NameForm, TypeForm, ValueSyntax, append_identifier_word, append_value,
     one_value_by_names,
@@ -57,8 +57,27 @@ pub fn line<T: ShowTree>(
         × (out.new.items ≡ out.old.items ++ text)) }
     ensures unchanged_on_error { OnErr result (out.new.items ≡ out.old.items) }
 {
+    line_near(tree, letters, name, value, &mut Near::new(), out)
+}
+
+/// Does what [`line`] does, for one binding after the other: the tree begins its search at the node
+/// of the last one.
+pub fn line_near<T: ShowTree>(
+    tree: &T,
+    letters: &Letters,
+    name: &Oid,
+    value: &ValueRef<'_>,
+    near: &mut Near,
+    out: &mut Vec<u8>,
+) -> Result<(), AllocError>
+    ensures ok { let syntax = T.syntax_at tree.now name.now in
+        OnOk result ((text : List ℕ)
+        × IsLine (T.naming tree.now) letters.now syntax name.now (datum value.now) text
+        × (out.new.items ≡ out.old.items ++ text)) }
+    ensures unchanged_on_error { OnErr result (out.new.items ≡ out.old.items) }
+{
     let mut draft = Draft::after(out);
-    append_line(tree, letters, name, value, &mut draft);
+    append_line(tree, letters, name, value, near, &mut draft);
     draft.finish(out)
 }
 
@@ -92,13 +111,14 @@ fn append_line<T: ShowTree>(
     letters: &Letters,
     name: &Oid,
     value: &ValueRef<'_>,
+    near: &mut Near,
     draft: &mut Draft,
 )
     ensures { let syntax = T.syntax_at tree.now name.now in (text : List ℕ)
         × IsLine (T.naming tree.now) letters.now syntax name.now (datum value.now) text
         × Adds draft.old text draft.new }
 {
-    append_parts(tree, letters, name, value, draft);
+    append_parts(tree, letters, name, value, near, draft);
     draft.octets(b"\n");
 }
 
@@ -108,6 +128,7 @@ fn append_parts<T: ShowTree>(
     letters: &Letters,
     name: &Oid,
     value: &ValueRef<'_>,
+    near: &mut Near,
     draft: &mut Draft,
 )
     ensures { let names = names_by (T.naming tree.now) letters.now in
@@ -119,7 +140,7 @@ fn append_parts<T: ShowTree>(
         append_front(tree, letters, name, draft);
         append_shown(tree, letters, tree.syntax(name), value, draft);
     } else {
-        append_by_node(tree, letters, name, value, draft);
+        append_by_node(tree, letters, name, value, near, draft);
     }
 }
 
@@ -131,6 +152,7 @@ fn append_by_node<T: ShowTree>(
     letters: &Letters,
     name: &Oid,
     value: &ValueRef<'_>,
+    near: &mut Near,
     draft: &mut Draft,
 )
     requires before { letters.now.value_alone ≡ false }
@@ -140,7 +162,7 @@ fn append_by_node<T: ShowTree>(
         × ShowsValue names letters.now (T.syntax_at tree.now name.now) (datum value.now) text
         × Adds draft.old (front ++ text) draft.new }
 {
-    let (node, syntax) = tree.deepest_with_syntax(name);
+    let (node, syntax) = tree.deepest_with_syntax(name, near);
     append_named(tree, letters, name, node, draft);
     append_shown(tree, letters, syntax, value, draft);
 }

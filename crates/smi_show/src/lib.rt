@@ -30,7 +30,7 @@ pub use crate::index::{Extent, IndexPart};
 pub use crate::name::{
     NameError, NameTree, Node, numbers_are_read, one_meaning, resolve, resolve_front,
 };
-pub use binding::{line, one_line, one_value, value_text};
+pub use binding::{line, line_near, one_line, one_value, value_text};
 pub use smi_value::{Letters, NameForm};
 pub use text::{detail, name_text};
-pub use tree::ShowTree;
+pub use tree::{Near, ShowTree};

@@ -8,6 +8,21 @@ use crate::name::Node;
 use smi_value::ValueSyntax;
 use snmp_oid::Oid;
 
+/// Where a tree begins its next search: at the node that it found last. Whatever it is, the same
+/// is found.
+#[derive(Clone, Copy, Debug)]
+pub struct Near {
+    /// The place of that node, as the tree counts.
+    pub place: usize,
+}
+
+impl Near {
+    /// For the first search.
+    pub fn new() -> Near {
+        Near { place: 0 }
+    }
+}
+
 /// A tree of nodes that knows the syntax of objects.
 pub trait ShowTree: DetailTree {
     ghost syntax_at: { Self → List ℕ → Option ObjectSyntax };
@@ -18,7 +33,11 @@ pub trait ShowTree: DetailTree {
         ensures { result ≡ syntax_at self.now oid.now };
 
     /// What `deepest` and `syntax` return, by one search.
-    fn deepest_with_syntax(&self, oid: &Oid) -> (Option<Node<'_>>, Option<ValueSyntax<'_>>)
+    fn deepest_with_syntax(
+        &self,
+        oid: &Oid,
+        near: &mut Near,
+    ) -> (Option<Node<'_>>, Option<ValueSyntax<'_>>)
         ensures node { option_map standing_of result.0 ≡ (Self.naming self.now).deepest oid.now }
         ensures syntax { result.1 ≡ syntax_at self.now oid.now };
 }

@@ -4,7 +4,7 @@ ghost use Rattle.std.specs.Option.{option_copied};
 ghost use Rattle.smi_show_tests.specs.names.Sample.{sample};
 
 use crate::names::Sample;
-use smi_show::{DetailTree, NameTree, Node, ShowTree};
+use smi_show::{DetailTree, NameTree, Near, Node, ShowTree};
 use smi_text::{Def, NamedNumber};
 use smi_value::{ValueBase, ValueSyntax};
 use snmp_oid::Oid;
@@ -95,7 +95,11 @@ impl ShowTree for Known<'_> {
         }
     }
 
-    fn deepest_with_syntax(&self, oid: &Oid) -> (Option<Node<'_>>, Option<ValueSyntax<'_>>) {
+    fn deepest_with_syntax(
+        &self,
+        oid: &Oid,
+        _near: &mut Near,
+    ) -> (Option<Node<'_>>, Option<ValueSyntax<'_>>) {
         (self.deepest(oid), self.syntax(oid))
     }
 }

@@ -1,12 +1,14 @@
 -- Branches stay those of a list as it grows.
-use Rattle.std.proofs.Common.{◌≡◌, ◌≢◌, ℕ, zero, suc, ◌+◌, ◌<◌, ◌≤◌, ◌⊎◌, inl, inr, List, [], ◌∷◌, ◌++◌, length, take, drop, get_or, MatchOption, Option}
+use Rattle.std.proofs.Common.{◌≡◌, ◌≢◌, ℕ, zero, suc, ◌+◌, ◌<◌, ◌⊎◌, inl, inr, List, [], ◌∷◌, ◌++◌, length, take, drop, get_or, MatchOption, Option}
 use Rattle.std.proofs.Common.{Some, None, refl, sym, ap, ◌∙◌, arith}
-use Rattle.std.proofs.lemmas.List.{length_push, get_or_append_left, get_or_push, take-append-drop, take_more, take-take}
+use Rattle.std.proofs.lemmas.List.{length-append, length_push, get_or_append_left, get_or_push, take-append-drop, take_more, take-take}
 use Rattle.std.proofs.lemmas.Bool.{cases_eq, cases_lt}
+use Rattle.std.proofs.Math.Seq.{take-append_seam}
 use Rattle.std.proofs.lemmas.Option.{slice_get_past}
 use Rattle.std.specs.Option.{option_and_then}
 use Rattle.smi_tree.specs.branches.Standing.{place_of, oid_at, HasNoBeginning, IsDeepestAt}
-use Rattle.smi_tree.specs.branches.Branches.{follower, standing_at, walk, branch_of, IsBeginning, AreBranches, AreBranchesOf, deeper_of, GrowsBranch, there, made}
+use Rattle.smi_tree.specs.branches.Branches.{follower, standing_at, walk, branch_of, IsBeginning, AreBranches, AreBranchesOf, SoFar, IsUnderWay, deeper_of, GrowsBranch, there, made}
+use Rattle.snmp_oid.specs.Identifier.{IsBelow}
 use Rattle.smi_tree.specs.declared.branches.branch.Branch.{Branch}
 use Rattle.smi_tree.specs.declared.branches.identifiers.Deepest.{Deepest}
 use Rattle.smi_tree.proofs.Growing.{follower_past}
@@ -79,6 +81,8 @@ module _ (known oids : List (List ℕ)) (bs new : List Branch) (q : List ℕ) (a
             | inl s ↦ rw s begins
             | inr s ↦ are.only o b (sym (kept o s) ∙ e) f
           ];
+          reached = λ c p e. let r = are.reached c p (sym (stands c) ∙ e) in
+              (r.0, kept r.0 (λ s. let w = rw s at r.1 in absurd (cc)) ∙ r.1);
         },
         came,
       )
@@ -100,6 +104,7 @@ Branches-known known oids p bs are = record {
   each = are.each;
   only = λ o b e f. let r = are.only o b e f in
       (r.0, r.1, omega (arith, r.2, length_push known p), get_or_append_left known (p ∷ []) [] r.0 r.2 ∙ r.3);
+  reached = are.reached;
 }
 
 -- the new identifier's own beginnings are known
@@ -133,6 +138,10 @@ Branches-ended oids p bs new at are here long same stands others =
         )
       ];
       only = λ o b e f. are.only o b (sym (walks 0 o) ∙ e) f;
+      reached = λ c k e. elim (cases_eq c at) [
+        | inl s ↦ (p, walks 0 p ∙ here ∙ ap (λ x. Some x) (sym s))
+        | inr s ↦ let r = are.reached c k (sym (others c s) ∙ e) in (r.0, walks 0 r.0 ∙ r.1)
+      ];
     }
   where
     walk-same : (f g : ℕ → ℕ → Option ℕ) → ((c m : ℕ) → g c m ≡ f c m) → (at : ℕ) (o : List ℕ) → walk g at o ≡ walk f at o
@@ -154,11 +163,16 @@ Branches-none b none stands =
       standing = λ o c e. rw (only_first o c e).1 stands;
       each = λ k l. absurd (omega arith);
       only = λ o c e f. absurd (f (only_first o c e).0);
+      reached = λ c k e. absurd (none_stands c k e);
     }
   where
     none_at : (c n d : ℕ) → follower (b ∷ []) c n ≡ Some d → ⊥
     none_at zero n d e = let f = none n in cc
     none_at (suc c) n d e = cc
+
+    none_stands : (c k : ℕ) → standing_at (b ∷ []) c ≡ Some k → ⊥
+    none_stands zero k e = cc
+    none_stands (suc c) k e = cc
 
     step : (xs : List ℕ) (x c : ℕ) → option_and_then (λ d. follower (b ∷ []) d x) (branch_of (b ∷ []) xs) ≡ Some c → ⊥
     step xs x c e = by (branch_of (b ∷ []) xs) e
@@ -193,12 +207,6 @@ branch_off bs o i at l e f = by (branch_of bs o) refl
         let front = walk_front (follower bs) 0 (take (i + 1) o) (drop (i + 1) o) c whole in
         let none = branch_more bs o i at l e ∙ f in let some = front.1 in absurd (cc)
 
--- the longest of the beginnings up to a length
-abbrev pub SoFar : List (List ℕ) → List ℕ → ℕ → Option Deepest → Type 0
-SoFar oids o i None = (j : ℕ) → j ≤ i → place_of oids (take j o) ≡ None
-SoFar oids o i (Some d) =
-    (d.depth ≤ i) × (place_of oids (take d.depth o) ≡ Some d.place) × ((j : ℕ) → d.depth < j → j ≤ i → place_of oids (take j o) ≡ None)
-
 pub SoFar-none : (oids : List (List ℕ)) (o : List ℕ) (i : ℕ) (r : Option Deepest) → SoFar oids o i r → place_of oids (take (i + 1) o) ≡ None
     → SoFar oids o (i + 1) r
 SoFar-none oids o i None f e = λ j l. elim (cases_lt i j) [ inl m ↦ let is : j ≡ i + 1 = omega arith in rw is e | inr m ↦ f j m ]
@@ -211,9 +219,9 @@ SoFar-none oids o i (Some d) f e = (
   ],
 )
 
-pub SoFar-some : (oids : List (List ℕ)) (o : List ℕ) (i k : ℕ) → place_of oids (take (i + 1) o) ≡ Some k
-    → SoFar oids o (i + 1) (Some (record { place = k; depth = i + 1 }))
-SoFar-some oids o i k e = (omega arith, e, λ j l m. absurd (omega arith))
+pub SoFar-some : (oids : List (List ℕ)) (o : List ℕ) (i k b : ℕ) → place_of oids (take i o) ≡ Some k
+    → SoFar oids o i (Some (record { place = k; depth = i; branch = b }))
+SoFar-some oids o i k b e = (omega arith, e, λ j l m. absurd (omega arith))
 
 pub SoFar-off : (oids : List (List ℕ)) (o : List ℕ) (i n : ℕ) (r : Option Deepest) → SoFar oids o i r
     → ((j : ℕ) → i < j → place_of oids (take j o) ≡ None) → SoFar oids o n r ⊎ (n < i)
@@ -237,7 +245,23 @@ none_beyond oids bs are o i at l e f j m =
     rw (sym (take-take (i + 1) j o (omega arith))) (take-append-drop (i + 1) (take j o)) in
     rw (sym split) (places_off oids oids bs are (take (i + 1) o) (drop (i + 1) (take j o)) none)
 
-pub SoFar-deeper : (oids : List (List ℕ)) (o : List ℕ) (i : ℕ) (r : Option Deepest) (s : Option ℕ) → SoFar oids o i r → s ≡ place_of oids (take (i + 1) o)
-    → SoFar oids o (i + 1) (deeper_of s (i + 1) r)
-SoFar-deeper oids o i r None f e = SoFar-none oids o i r f (sym e)
-SoFar-deeper oids o i r (Some k) f e = SoFar-some oids o i k (sym e)
+pub SoFar-deeper : (oids : List (List ℕ)) (o : List ℕ) (i b : ℕ) (r : Option Deepest) (s : Option ℕ) → SoFar oids o i r → s ≡ place_of oids (take (i + 1) o)
+    → SoFar oids o (i + 1) (deeper_of s b (i + 1) r)
+SoFar-deeper oids o i b r None f e = SoFar-none oids o i r f (sym e)
+SoFar-deeper oids o i b r (Some k) f e = SoFar-some oids o (i + 1) k b (sym e)
+
+-- an identifier below the one that stands at a branch is on the way there
+pub way_known : (oids : List (List ℕ)) (bs : List Branch) → AreBranchesOf oids bs → (o known : List ℕ) (at place : ℕ) → standing_at bs at ≡ Some place
+    → oid_at oids place ≡ known → IsBelow o known
+    → IsUnderWay oids bs o (length known) at (Some (record { place = place; depth = length known; branch = at }))
+way_known oids bs are o known at place stands read below =
+    let r = are.reached at place stands in
+    let there : place_of oids r.0 ≡ Some place = sym (are.standing r.0 at r.1) ∙ stands in
+    let same : r.0 ≡ known = sym (place_found oids r.0 place there).1 ∙ read in
+    let front : take (length known) o ≡ known = rw below.2 (take-append_seam known below.0) in
+    let long : length o ≡ length known + length below.0 = rw below.2 (length-append known below.0) in
+    record {
+      within = omega (arith, long);
+      here = rw front (rw (sym same) r.1);
+      so_far = SoFar-some oids o (length known) place at (rw front (rw (sym same) there));
+    }

@@ -7,7 +7,7 @@ ghost use Rattle.smi_tree.specs.Naming.{oid_of};
 
 use crate::naming::root_place;
 use smi_names::root_label;
-use smi_show::{DetailTree, NameTree, Node, ShowTree};
+use smi_show::{DetailTree, NameTree, Near, Node, ShowTree};
 use smi_text::Def;
 use smi_value::ValueSyntax;
 use snmp_oid::Oid;
@@ -132,7 +132,11 @@ impl ShowTree for Roots {
         None
     }
 
-    fn deepest_with_syntax(&self, oid: &Oid) -> (Option<Node<'_>>, Option<ValueSyntax<'_>>) {
+    fn deepest_with_syntax(
+        &self,
+        oid: &Oid,
+        _near: &mut Near,
+    ) -> (Option<Node<'_>>, Option<ValueSyntax<'_>>) {
         (self.deepest(oid), self.syntax(oid))
     }
 }

@@ -1,6 +1,6 @@
 //! The tree as values are shown by it.
 use crate::tree::Tree;
-use smi_show::{Node, ShowTree};
+use smi_show::{Near, Node, ShowTree};
 use smi_value::ValueSyntax;
 use snmp_oid::Oid;
 
@@ -16,8 +16,12 @@ impl ShowTree for Tree {
         }
     }
 
-    fn deepest_with_syntax(&self, oid: &Oid) -> (Option<Node<'_>>, Option<ValueSyntax<'_>>) {
-        match self.deepest(oid) {
+    fn deepest_with_syntax(
+        &self,
+        oid: &Oid,
+        near: &mut Near,
+    ) -> (Option<Node<'_>>, Option<ValueSyntax<'_>>) {
+        match self.deepest_near(oid, near) {
             Some(deepest) => (Some(self.seen(deepest)), self.value_syntax(deepest.place)),
             None => (None, None),
         }

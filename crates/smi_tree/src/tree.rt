@@ -22,7 +22,7 @@ use crate::places::{Places, find, homes, labels, scopes};
 use crate::shown::{kept_syntaxes, syntax, units, value_syntax};
 use crate::types::{TypeSyntax, Types};
 use smi_names::{NameHash, Names, Source, Warning, gather_nodes};
-use smi_show::IndexPart;
+use smi_show::{IndexPart, Near};
 use smi_text::{Def, Module, Text};
 use smi_value::ValueSyntax;
 use snmp_oid::Oid;
@@ -264,6 +264,15 @@ impl Tree {
             deepest.depth) }
     {
         self.identifiers.deepest(oid)
+    }
+
+    /// The same, by a search that begins at the node of the last one, if the identifier is below it.
+    pub(crate) fn deepest_near(&self, oid: &Oid, near: &mut Near) -> Option<Deepest>
+        ensures { MatchOption result (HasNoBeginning (oids_of self.now.nodes) oid.now)
+            (λ deepest. IsDeepestAt (oids_of self.now.nodes) oid.now deepest.place
+            deepest.depth) }
+    {
+        self.identifiers.deepest_near(oid, &mut near.place)
     }
 
     /// The nodes that stand for the identifiers one number longer, in order of that number.

@@ -1,7 +1,7 @@
 //! Identifiers found number by number, where some stand at several places.
 
 use crate::reading::oid;
-use smi_tree::Identifiers;
+use smi_tree::{Deepest, Identifiers};
 use snmp_oid::Oid;
 use std::alloc::Global;
 use std::process::Abort;
@@ -77,17 +77,23 @@ fn the_longest_beginning_is_deepest(rt: HostRuntime) -> Result<(), Fail> {
 }
 
 fn assert_deepest(rt: &impl Abort, identifiers: &Identifiers) -> Result<(), Fail> {
+    let mut near = usize::MAX;
     for (text, expected) in &DEEPEST {
-        assert!(rt; deepest(identifiers, text)? == *expected, "{text}");
+        let oid = oid(text)?;
+        assert!(rt; found(identifiers.deepest(&oid)) == *expected, "{text}");
+        assert!(rt;
+            found(identifiers.deepest_near(&oid, &mut near)) == *expected,
+            "{text}"
+        );
     }
     Ok(())
 }
 
-fn deepest(identifiers: &Identifiers, text: &str) -> Result<Option<(usize, usize)>, Fail> {
-    Ok(match identifiers.deepest(&oid(text)?) {
+fn found(deepest: Option<Deepest>) -> Option<(usize, usize)> {
+    match deepest {
         Some(deepest) => Some((deepest.place, deepest.depth)),
         None => None,
-    })
+    }
 }
 
 static CHILDREN: [(&str, &[usize]); 6] = [

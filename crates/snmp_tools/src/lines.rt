@@ -9,7 +9,7 @@ ghost use Rattle.snmp_tools.specs.Start.{CanRun, IsRunOver};
 
 use crate::failure::Failure;
 use crate::start::{Begun, FIRST_ID};
-use smi_show::{Letters, ShowTree, line};
+use smi_show::{Letters, Near, ShowTree, line_near};
 use snmp_io::{Draft, Output, OutputFault, write_all};
 use snmp_oid::Oid;
 use snmp_walk::{Link, Rows, Sink, SinkFault, WalkEnd, run_get, run_walk};
@@ -21,6 +21,8 @@ use std::alloc::AllocError;
 pub(crate) struct Printer<'a, T: ShowTree, O: Output> {
     tree: &'a T,
     letters: Letters,
+    // The node of the last line, where the tree begins to search for the next one's.
+    near: Near,
     // The lines of a reply that are being written. Their memory is used again for the next.
     text: &'a mut Vec<u8>,
     out: &'a mut O,
@@ -39,7 +41,16 @@ impl<T: ShowTree, O: Output> Sink for Printer<'_, T, O> {
     fn row(&mut self, binding: &Binding<'_>) -> Result<(), SinkFault> {
         self.text.clear();
         let (name, value) = (&binding.name, &binding.value);
-        if line(self.tree, &self.letters, name, value, self.text).is_err() {
+        if line_near(
+            self.tree,
+            &self.letters,
+            name,
+            value,
+            &mut self.near,
+            self.text,
+        )
+        .is_err()
+        {
             return Err(SinkFault::Memory);
         }
         write_lines(self.out, self.text.as_slice())
@@ -56,11 +67,12 @@ impl<T: ShowTree, O: Output> Sink for Printer<'_, T, O> {
             return Ok(());
         }
         self.text.clear();
-        if line(
+        if line_near(
             self.tree,
             &self.letters,
             &binding.name,
             &binding.value,
+            &mut self.near,
             self.text,
         )
         .is_err()
@@ -68,11 +80,12 @@ impl<T: ShowTree, O: Output> Sink for Printer<'_, T, O> {
             return Err(SinkFault::Memory);
         }
         'rows: while rows.read_next(&mut binding) {
-            if line(
+            if line_near(
                 self.tree,
                 &self.letters,
                 &binding.name,
                 &binding.value,
+                &mut self.near,
                 self.text,
             )
             .is_err()
@@ -137,6 +150,7 @@ pub(crate) fn print_lines<T: ShowTree, L: Link, O: Output>(
     let mut printer = Printer {
         tree,
         letters,
+        near: Near::new(),
         text,
         out,
     };

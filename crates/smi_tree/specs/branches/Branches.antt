@@ -5,11 +5,13 @@ use Rattle.std.specs.Prelude.{
   ℕ,
   ◌+◌,
   ◌<◌,
+  ◌≤◌,
   List,
   [],
   ◌∷◌,
   ◌++◌,
   length,
+  take,
   Option,
   Some,
   None,
@@ -52,6 +54,8 @@ pub record AreBranches (known oids : List (List ℕ)) (bs : List Branch) : Type 
   pub standing : (o : List ℕ) (b : ℕ) → branch_of bs o ≡ Some b → standing_at bs b ≡ place_of oids o
   pub each : (k : ℕ) → k < length oids → (b : ℕ) × (branch_of bs (oid_at oids k) ≡ Some b)
   pub only : (o : List ℕ) (b : ℕ) → branch_of bs o ≡ Some b → o ≢ [] → IsBeginning known o
+  pub reached : (at place : ℕ) → standing_at bs at ≡ Some place
+      → (o : List ℕ) × (branch_of bs o ≡ Some at)
 
 -- the branches of a list of identifiers
 abbrev pub AreBranchesOf : List (List ℕ) → List Branch → Type 0
@@ -68,6 +72,21 @@ pub data GrowsBranch (old new : List Branch) (at n : ℕ) : ℕ → Type 0 where
       → GrowsBranch old new at n b
 
 -- what stands at a branch, as the deepest place, or the deepest place before it
-abbrev pub deeper_of : Option ℕ → ℕ → Option Deepest → Option Deepest
-deeper_of None depth before = before
-deeper_of (Some place) depth before = Some (record { place = place; depth = depth })
+abbrev pub deeper_of : Option ℕ → (branch depth : ℕ) → Option Deepest → Option Deepest
+deeper_of None branch depth before = before
+deeper_of (Some place) branch depth before =
+    Some (record { place = place; depth = depth; branch = branch })
+
+-- the longest of the beginnings up to a length
+abbrev pub SoFar : List (List ℕ) → List ℕ → ℕ → Option Deepest → Type 0
+SoFar oids o i None = (j : ℕ) → j ≤ i → place_of oids (take j o) ≡ None
+SoFar oids o i (Some d) =
+    (d.depth ≤ i) × (place_of oids (take d.depth o) ≡ Some d.place)
+    × ((j : ℕ) → d.depth < j → j ≤ i → place_of oids (take j o) ≡ None)
+
+-- the first `depth` numbers of o lead to a branch, and this is the longest beginning among them
+pub record IsUnderWay (oids : List (List ℕ)) (bs : List Branch) (o : List ℕ) (depth branch : ℕ)
+    (deepest : Option Deepest) : Type 0 where
+  pub within : depth ≤ length o
+  pub here : branch_of bs (take depth o) ≡ Some branch
+  pub so_far : SoFar oids o depth deepest

@@ -1,12 +1,13 @@
 //! A list of object identifiers, with what follows each beginning of one.
 ghost use Rattle.std.specs.Prelude.{◌≡◌, ◌<◌, ◌≤◌, ℕ, List, [], ◌∷◌, ◌++◌, length, IfOk};
-ghost use Rattle.std.specs.Prelude.{MatchOption};
+ghost use Rattle.std.specs.Prelude.{MatchOption, IfSome, Some};
 ghost use Rattle.std.specs.Ordering.{nat_cmp};
 ghost use Rattle.std.specs.BTreeMap.{get};
 ghost use Rattle.std.specs.Iterator.{YieldsFirst, item_count};
 ghost use Rattle.smi_tree.specs.branches.Standing.{place_of, oid_at, IsDeepestAt, HasNoBeginning};
 ghost use Rattle.smi_tree.specs.branches.Standing.{AreChildren};
-ghost use Rattle.smi_tree.specs.branches.Branches.{branch_of, standing_at, deeper_of};
+ghost use Rattle.smi_tree.specs.branches.Branches.{AreBranchesOf, IsUnderWay, branch_of};
+ghost use Rattle.smi_tree.specs.branches.Branches.{standing_at, deeper_of};
 ghost use Rattle.smi_tree.specs.branches.Children.{places_left};
 
 use crate::branches::branch::{Branch, add, first, next};
@@ -47,6 +48,8 @@ pub struct Deepest {
     pub place: usize,
     /// How many numbers that beginning has.
     pub depth: usize,
+    /// The branch to which its numbers lead.
+    branch: usize,
 }
 
 impl Identifiers {
@@ -95,17 +98,31 @@ impl Identifiers {
             (HasNoBeginning self.now oid.now)
             (λ deepest. IsDeepestAt self.now oid.now deepest.place deepest.depth) }
     {
-        let numbers = oid.as_slice();
-        let mut at = 0;
-        let mut deepest = deeper(&self.branches, at, 0, None);
-        'numbers: for i in 0..numbers.len() {
-            let Some(longer) = next(&self.branches, at, numbers[i]) else {
-                break;
-            };
-            at = longer;
-            deepest = deeper(&self.branches, at, i + 1, deepest);
+        deepest_of_all(&self.oids, &self.branches, oid)
+    }
+
+    /// The same, and `near` becomes its branch. Where one that is above the identifier stands at
+    /// that branch, the next search begins there. Whatever `near` is, the result is the same.
+    pub fn deepest_near(&self, oid: &Oid, near: &mut usize) -> Option<Deepest>
+        ensures { MatchOption result
+            (HasNoBeginning self.now oid.now)
+            (λ deepest. IsDeepestAt self.now oid.now deepest.place deepest.depth) }
+    {
+        let found = match known(&self.oids, &self.branches, oid, *near) {
+            Some(known) => deepest_from(
+                &self.oids,
+                &self.branches,
+                oid,
+                known.depth,
+                known.branch,
+                Some(known),
+            ),
+            None => deepest_of_all(&self.oids, &self.branches, oid),
+        };
+        if let Some(deepest) = found {
+            *near = deepest.branch;
         }
-        deepest
+        found
     }
 
     /// The places of the identifiers that are one number longer, in the order of that number. Each
@@ -141,12 +158,73 @@ fn standing(branches: &[Branch], at: usize) -> Option<usize>
 
 /// The place at a branch, as the deepest so far, or the deepest before it if none stands there.
 fn deeper(branches: &[Branch], at: usize, depth: usize, deepest: Option<Deepest>) -> Option<Deepest>
-    ensures { result ≡ deeper_of (standing_at branches.now at) depth deepest }
+    ensures { result ≡ deeper_of (standing_at branches.now at) at depth deepest }
 {
     match standing(branches, at) {
-        Some(place) => Some(Deepest { place, depth }),
+        Some(place) => Some(Deepest {
+            place,
+            depth,
+            branch: at,
+        }),
         None => deepest,
     }
+}
+
+/// The place at a branch, if the identifier is below the one that stands there.
+fn known(oids: &[Oid], branches: &[Branch], oid: &Oid, at: usize) -> Option<Deepest>
+    requires { AreBranchesOf oids.now branches.now }
+    ensures { IfSome result (λ d.
+        IsUnderWay oids.now branches.now oid.now d.depth d.branch (Some d)) }
+{
+    let place = standing(branches, at)?;
+    let known = oids.get(place)?;
+    if !oid.is_below(known) {
+        return None;
+    }
+    Some(Deepest {
+        place,
+        depth: known.len(),
+        branch: at,
+    })
+}
+
+/// The deepest place on the way to an identifier, from the first branch on.
+fn deepest_of_all(oids: &[Oid], branches: &[Branch], oid: &Oid) -> Option<Deepest>
+    requires { AreBranchesOf oids.now branches.now }
+    ensures { MatchOption result
+        (HasNoBeginning oids.now oid.now)
+        (λ deepest. IsDeepestAt oids.now oid.now deepest.place deepest.depth) }
+{
+    deepest_from(oids, branches, oid, 0, 0, deeper(branches, 0, 0, None))
+}
+
+/// The same, from a branch on, to which the first `depth` numbers lead. `before` is the deepest
+/// place up to there.
+fn deepest_from(
+    oids: &[Oid],
+    branches: &[Branch],
+    oid: &Oid,
+    depth: usize,
+    branch: usize,
+    before: Option<Deepest>,
+) -> Option<Deepest>
+    requires branches { AreBranchesOf oids.now branches.now }
+    requires way { IsUnderWay oids.now branches.now oid.now depth branch before }
+    ensures { MatchOption result
+        (HasNoBeginning oids.now oid.now)
+        (λ deepest. IsDeepestAt oids.now oid.now deepest.place deepest.depth) }
+{
+    let numbers = oid.as_slice();
+    let mut at = branch;
+    let mut deepest = before;
+    'numbers: for i in depth..numbers.len() {
+        let Some(longer) = next(branches, at, numbers[i]) else {
+            break;
+        };
+        at = longer;
+        deepest = deeper(branches, at, i + 1, deepest);
+    }
+    deepest
 }
 
 /// The numbers that follow a list of numbers, with the branch of each.

@@ -1,4 +1,4 @@
-use Rattle.std.proofs.Common.{ℕ, List, ◌++◌, codes, sym, ◌∙◌, ap}
+use Rattle.std.proofs.Common.{◌++◌, codes, sym, ◌∙◌}
 use Rattle.smi_show.specs.Line.{front_text}
 use Rattle.smi_show.proofs.NamesStated.{same_name}
 use Rattle.smi_show.proofs.binding.one_line.Goals as goal

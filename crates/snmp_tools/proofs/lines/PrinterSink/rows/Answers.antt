@@ -12,6 +12,7 @@ abbrev with_output : (g : Over) → Printer g.row.T.Denot g.row.O.Denot → g.ro
 with_output g s out = record {
   tree = s.tree;
   letters = s.letters;
+  near = s.near;
   text = s.text;
   out = record { ref_ptr = s.out.ref_ptr; ghost_name = s.out.ghost_name; now = out };
 }
@@ -23,7 +24,7 @@ later g s text = with_output g s (g.O.Output.after s.out.now text)
 pub rows-init : goal.rows-init
 rows-init g c =
     let p : VarBind = var_bind c.read_next.new.into in
-    let line = at_ok c.line.result (sym c.if-is_err.false ∙ c.is_err.ensures.value) c.line.ensures.ok in
+    let line = at_ok c.line_near.result (sym c.if-is_err.false ∙ c.is_err.ensures.value) c.line_near.ensures.ok in
     record {
       tree = refl;
       letters = refl;
@@ -41,7 +42,7 @@ rows-preserved g c =
     let made = c.rows.invariant.made in
     let p : VarBind = var_bind c.read_next-in-rows.new.into in
     let left : c.rows.rows ≡ p ∷ c.read_next-in-rows.new.self = c.read_next-in-rows.ensures.some c.rows-test.true in
-    let line = at_ok c.line-in-rows.result (sym c.if-is_err-2.false ∙ c.is_err-in-rows.ensures.value) c.line-in-rows.ensures.ok in
+    let line = at_ok c.line_near-in-rows.result (sym c.if-is_err-2.false ∙ c.is_err-in-rows.ensures.value) c.line_near-in-rows.ensures.ok in
     record {
       tree = c.rows.invariant.tree;
       letters = c.rows.invariant.letters;
@@ -51,7 +52,7 @@ rows-preserved g c =
         made.1 ++ p ∷ [],
         made.2 ∙ ap (λ ps. (made.0 ∷ made.1) ++ ps) left ∙ sym (append_assoc (made.0 ∷ made.1) (p ∷ []) c.read_next-in-rows.new.self),
         next_line (λ r. mib_in (g.T.NameTree.naming r.now) (g.T.ShowTree.syntax_at r.now)) c.rows.self.tree c.args.self.now.tree
-            c.rows.self.letters c.args.self.now.letters (made.0 ∷ made.1) p c.rows.self.text.now.items line.0 c.line-in-rows.new.out.items
+            c.rows.self.letters c.args.self.now.letters (made.0 ∷ made.1) p c.rows.self.text.now.items line.0 c.line_near-in-rows.new.out.items
             c.rows.invariant.tree c.rows.invariant.letters made.3 line.1 line.2,
       );
     }
@@ -70,7 +71,7 @@ returns-then-is_err-clause-err g c = (
 pub returns-in_err-write_lines-clause-err : goal.returns-in_err-write_lines-clause-err
 returns-in_err-write_lines-clause-err g c =
     let made = c.rows.invariant.made in
-    let same = at_err c.line-in-rows.result (sym c.if-is_err-2.true ∙ c.is_err-in-rows.ensures.value) c.line-in-rows.ensures.unchanged_on_error in
+    let same = at_err c.line_near-in-rows.result (sym c.if-is_err-2.true ∙ c.is_err-in-rows.ensures.value) c.line_near-in-rows.ensures.unchanged_on_error in
     let exit = err_from_is_err_and c.from_residual.result c.from_residual.ensures.1 in
     rw (exit.1, exit.2) (refused_at (λ s. s.tree) (λ s. s.letters) (λ s. s.out.ghost_name) (λ s. g.O.Output.stream s.out.now)
     (λ r. mib_in (g.T.NameTree.naming r.now) (g.T.ShowTree.syntax_at r.now)) (later g) (λ s t. (refl, refl, refl))
@@ -82,7 +83,7 @@ returns-in_err-write_lines-clause-err g c =
 pub returns-then-is_err-2-clause-err : goal.returns-then-is_err-2-clause-err
 returns-then-is_err-2-clause-err g c =
     let made = c.rows.invariant.made in
-    let same = at_err c.line-in-rows.result (sym c.if-is_err-2.true ∙ c.is_err-in-rows.ensures.value) c.line-in-rows.ensures.unchanged_on_error in
+    let same = at_err c.line_near-in-rows.result (sym c.if-is_err-2.true ∙ c.is_err-in-rows.ensures.value) c.line_near-in-rows.ensures.unchanged_on_error in
     let next = c.read_next-in-rows.ensures.some c.rows-test.true in
     refused_next (λ s. s.tree) (λ s. s.letters) (λ s. s.out.ghost_name) (λ s. g.O.Output.stream s.out.now)
     (λ r. mib_in (g.T.NameTree.naming r.now) (g.T.ShowTree.syntax_at r.now)) (later g) (λ s t. (refl, refl, refl))
