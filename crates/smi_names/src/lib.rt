@@ -16,14 +16,14 @@
 //! ```
 #![tactic(auto)]
 
-mod hash;
 mod chains;
+mod hash;
 mod meaning;
 mod name;
 mod nodes;
 
-pub use hash::NameHash;
 pub use chains::{Basis, Resolution, ends, ordered, resolutions};
+pub use hash::NameHash;
 pub use meaning::{Decider, Entries, Entry, Names, TypeBase, one_identifier, root_arc, root_label};
 pub use name::{NameBuf, NameRef};
 pub use nodes::{Gathered, Source, Warning, gather_nodes, one_loading};

@@ -7,7 +7,8 @@ use Rattle.smi_show.specs.name.Cut.{AreParts}
 use Rattle.smi_show.specs.name.Cutting.{module_after, name_parts, with_prefix}
 use Rattle.smi_show.specs.name.Meaning.{and_then, first_word_meaning, fitting, further_meaning, or_unknown}
 use Rattle.smi_show.specs.name.Meaning.{later_word_meaning, meaning, part_meaning, parts_meaning, scoped_meaning}
-use Rattle.smi_show.specs.name.Meant.{Scope, among_roots, anywhere, in_module, found_in, IsFound, IsRoomFor, IsScoped, TextMeans, PartMeans, PartsMean, ScopeMeans}
+use Rattle.smi_show.specs.name.Meant.{Scope, among_roots, anywhere, in_module, found_in, IsFound, IsRoomFor, IsScoped, TextMeans, PartMeans, PartsMean}
+use Rattle.smi_show.specs.name.Meant.{ScopeMeans}
 use Rattle.smi_show.specs.name.Naming.{Naming}
 use Rattle.smi_show.specs.name.Word.{Word, a_piece, a_label, word_of}
 use Rattle.smi_show.specs.declared.name.error.NameError.{NameError}

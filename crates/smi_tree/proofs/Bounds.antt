@@ -4,7 +4,8 @@ use Rattle.std.proofs.lemmas.Int.{ints}
 use Rattle.std.specs.Bool.{then_some}
 use Rattle.smi_text.specs.declared.lexer.token.TokenKind.{TokenKind}
 use Rattle.smi_text.specs.declared.lexer.token.TokenKind.TheVariants as K
-use Rattle.smi_text.specs.trees.Number.{is_negative, magnitude, number_value, literal_digits, is_number, is_literal, is_bound, bound_in, bound_value, signed_value}
+use Rattle.smi_text.specs.trees.Number.{is_negative, magnitude, number_value, literal_digits, is_number, is_literal, is_bound, bound_in, bound_value}
+use Rattle.smi_text.specs.trees.Number.{signed_value}
 
 pub then-some : {A : Type 0} (b : Bool) (x y : A) → then_some b x ≡ Some y → (b ≡ true) × (x ≡ y)
 then-some true x y e = (refl, cc)

@@ -7,7 +7,8 @@ use Rattle.std.proofs.Math.Seq.{take-append_seam}
 use Rattle.std.proofs.lemmas.Option.{slice_get_past}
 use Rattle.std.specs.Option.{option_and_then}
 use Rattle.smi_tree.specs.branches.Standing.{place_of, oid_at, HasNoBeginning, IsDeepestAt}
-use Rattle.smi_tree.specs.branches.Branches.{follower, standing_at, walk, branch_of, IsBeginning, AreBranches, AreBranchesOf, SoFar, IsUnderWay, deeper_of, GrowsBranch, there, made}
+use Rattle.smi_tree.specs.branches.Branches.{follower, standing_at, walk, branch_of, IsBeginning, AreBranches, AreBranchesOf, SoFar, IsUnderWay, deeper_of}
+use Rattle.smi_tree.specs.branches.Branches.{GrowsBranch, there, made}
 use Rattle.snmp_oid.specs.Identifier.{IsBelow}
 use Rattle.smi_tree.specs.declared.branches.branch.Branch.{Branch}
 use Rattle.smi_tree.specs.declared.branches.identifiers.Deepest.{Deepest}

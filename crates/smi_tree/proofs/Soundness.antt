@@ -9,7 +9,8 @@ use Rattle.smi_text.specs.declared.trees.tree.Module.{Module}
 use Rattle.smi_text.specs.declared.trees.tree.Def.{Def}
 use Rattle.smi_text.specs.declared.trees.tree.Part.{Part}
 use Rattle.smi_names.specs.meaning.Meaning.{Means, module_named}
-use Rattle.smi_names.specs.nodes.Nodes.{Node, node_of, roots, GivesNodesBy, Gathers, none, more, is_loaded, Brings, left_out, loaded, Loads, none_yet, then_module}
+use Rattle.smi_names.specs.nodes.Nodes.{Node, node_of, roots, GivesNodesBy, Gathers, none, more, is_loaded, Brings, left_out, loaded, Loads, none_yet}
+use Rattle.smi_names.specs.nodes.Nodes.{then_module}
 use Rattle.smi_names.specs.declared.nodes.warning.Warning.{Warning}
 use Rattle.smi_tree.proofs.Listing.{same_itself}
 

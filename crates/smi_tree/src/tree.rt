@@ -4,7 +4,8 @@ ghost use Rattle.std.specs.Prelude.{is_some, option_map, slice_index_or};
 ghost use Rattle.std.specs.Option.{option_and_then, option_copied};
 ghost use Rattle.std.specs.List.{slice_get};
 ghost use Rattle.smi_tree.specs.branches.Children.{places_left};
-ghost use Rattle.smi_tree.specs.branches.Standing.{AreChildren, HasNoBeginning, IsDeepestAt, oid_at};
+ghost use Rattle.smi_tree.specs.branches.Standing.{AreChildren, HasNoBeginning, IsDeepestAt};
+ghost use Rattle.smi_tree.specs.branches.Standing.{oid_at};
 ghost use Rattle.smi_names.specs.meaning.Meaning.{module_named};
 ghost use Rattle.smi_tree.specs.Nodes.{IsFirstChild, is_labelled, oids_of, place_anywhere};
 ghost use Rattle.smi_tree.specs.Nodes.{place_in_module};
@@ -266,7 +267,8 @@ impl Tree {
         self.identifiers.deepest(oid)
     }
 
-    /// The same, by a search that begins at the node of the last one, if the identifier is below it.
+    /// The same, by a search that begins at the node of the last one, if the identifier is below
+    /// it.
     pub(crate) fn deepest_near(&self, oid: &Oid, near: &mut Near) -> Option<Deepest>
         ensures { MatchOption result (HasNoBeginning (oids_of self.now.nodes) oid.now)
             (λ deepest. IsDeepestAt (oids_of self.now.nodes) oid.now deepest.place

@@ -6,7 +6,8 @@ use Rattle.std.proofs.lemmas.List.{length-replicate}
 use Rattle.snmp_io.specs.draft.Draft.{Written, Grows, Adds}
 use Rattle.smi_value.specs.declared.hint.spec.Spec.{Spec}
 use Rattle.smi_value.specs.hint.Spec.{IsFirstSpec, AreSpecs, IsOctetHint, LastTakesOctets, takes_octets, most_octets}
-use Rattle.smi_value.specs.hint.Pieces.{ArePieces, IsCut, IsGroup, AreGroups, ShowsOctets, piece_text, pieces_text, mark_before, last_mark, body_of, specs_after}
+use Rattle.smi_value.specs.hint.Pieces.{ArePieces, IsCut, IsGroup, AreGroups, ShowsOctets, piece_text, pieces_text, mark_before, last_mark, body_of}
+use Rattle.smi_value.specs.hint.Pieces.{specs_after}
 use Rattle.smi_value.proofs.Growing.{grows_none, grows_both, adds_from}
 use Rattle.smi_value.proofs.Specs.{same_spec, same_rest, Begins, begins}
 

@@ -4,7 +4,8 @@ use Rattle.snmp_oid.specs.Identifier.{IsWire}
 use Rattle.snmp_wire.specs.Message.{Datum, VarBind}
 use Rattle.snmp_wire.specs.Message.Datum.{integer_value, octet_string, null_value, object_id, ip_address, counter32, gauge32, time_ticks, opaque_octets}
 use Rattle.snmp_wire.specs.Message.Datum.{counter64, no_such_object, no_such_instance, end_of_mib_view}
-use Rattle.snmp_agent.specs.table.Table.{MibView, IsMibView, IsInstanceValue, IsAnswerValue, IsGet, variable, unknown_object, unknown_instance, IsNext, successor}
+use Rattle.snmp_agent.specs.table.Table.{MibView, IsMibView, IsInstanceValue, IsAnswerValue, IsGet, variable, unknown_object, unknown_instance, IsNext}
+use Rattle.snmp_agent.specs.table.Table.{successor}
 use Rattle.snmp_agent.specs.table.Table.{end_of_view, IsNextAfter}
 
 instance_answer : (v : Datum) → IsInstanceValue v → IsAnswerValue v

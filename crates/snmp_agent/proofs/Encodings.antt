@@ -7,8 +7,7 @@ use Rattle.snmp_wire.specs.Number.{lenient}
 use Rattle.snmp_wire.specs.Spelling.{IsContent, SpellsBindings, Spells, sequence_tag, value_tag}
 use Rattle.snmp_wire.specs.Canon.{IsEncodable, IsEncodableValue, canon_binding, canon_content, canon_element, canon_value}
 use Rattle.snmp_wire.specs.ber.Sizes.{ElementSizes}
-use Rattle.snmp_agent.specs.table.Table.{IsAnswerValue, IsMibView, IsNext, MibView}
-use Rattle.snmp_agent.proofs.Answering.{next_name, next_value}
+use Rattle.snmp_agent.specs.table.Table.{IsAnswerValue}
 use Rattle.snmp_agent.specs.Answering.{HasEncoding, IsWritable, AreWritable, IsShortValue}
 
 -- ---- what is read

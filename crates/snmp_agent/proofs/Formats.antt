@@ -1,5 +1,5 @@
 -- Names in the two formats.
-use Rattle.std.proofs.Common.{◌≡◌, ◌≢◌, ◌↔◌, ◌+◌, inl, inr, ℕ, List, [], ◌∷◌, ◌++◌, length, Option, Some, None, MatchOption, sym, ◌∙◌, ap, subst, arith, length-append, codes}
+use Rattle.std.proofs.Common.{◌≡◌, ◌↔◌, inl, inr, ℕ, List, [], ◌∷◌, Option, Some, None, MatchOption, sym, ◌∙◌, ap, subst, codes}
 use Rattle.snmp_io.specs.Quotes.{HasNoneOutside}
 use Rattle.snmp_agent.specs.table.Exact.{IsOnly}
 use Rattle.snmp_agent.specs.table.Format.{HasNoEnd, IsFrontRead, IsMarked, IsNameIn, Means, Names, bar, first_format, second_format}

@@ -1,5 +1,6 @@
 -- Pages of rows: what a change of one of them does to all rows, and where it is divided.
-use Rattle.std.proofs.Common.{◌≡◌, ℕ, zero, suc, ◌+◌, ◌-◌, ◌≤◌, ◌<◌, false, List, [], ◌∷◌, ◌++◌, length, take, drop, Some, slice_set, slice_index_or, refl, sym, ◌∙◌, ap, subst}
+use Rattle.std.proofs.Common.{◌≡◌, ℕ, zero, suc, ◌+◌, ◌-◌, ◌≤◌, ◌<◌, false, List, [], ◌∷◌, ◌++◌, length, take, drop, Some, slice_set, slice_index_or, refl, sym}
+use Rattle.std.proofs.Common.{◌∙◌, ap, subst}
 use Rattle.std.proofs.Common.{arith, append_assoc, length-append, add-one, true, is_some, inl, Less}
 use Rattle.std.specs.Ordering.{nat_cmp}
 use Rattle.std.specs.Cmp.Lexicographic.{slice_cmp, nat_list_cmp_total}
@@ -14,7 +15,8 @@ use Rattle.snmp_agent.specs.table.Places.{IsAfterAll, IsBeforeAll, IsBeforeNone,
 use Rattle.snmp_agent.specs.table.Pages.{ArePages, IsPageOf, IsPageWithRoom, IsRising, IsSorted, StandsApart, begins_up_to, entries_in, entries_of, has_name}
 use Rattle.snmp_agent.proofs.Changing.{around, set_around, at_low, put_past, put_in, without_past, without_in, past_front, find_in}
 use Rattle.snmp_agent.proofs.Partition.{before_both, after_both, after_none, none_both, rows_ahead, rows_passed}
-use Rattle.snmp_agent.proofs.Rising.{before_all, before_later, before_listed, before_no_earlier, first_of_both, listed_in_second, rising_first, rising_rest, second_of_both, turned}
+use Rattle.snmp_agent.proofs.Rising.{before_all, before_later, before_listed, before_no_earlier, first_of_both, listed_in_second, rising_first, rising_rest}
+use Rattle.snmp_agent.proofs.Rising.{second_of_both, turned}
 
 abbrev Entries : Type 0
 Entries = List (List ℕ × Datum)

@@ -1,9 +1,11 @@
 -- Facts about what lines state together, and about the draft that holds it.
-use Rattle.std.proofs.Common.{◌≡◌, Option, is_some, ℕ, ◌⊎◌, inl, inr, ◌↔◌, Bool, true, false, cond, ◌||◌, List, [], ◌∷◌, ◌++◌, map, Some, None, refl, sym, ◌∙◌, ap, subst, Less}
+use Rattle.std.proofs.Common.{◌≡◌, Option, is_some, ℕ, ◌⊎◌, inl, inr, ◌↔◌, Bool, true, false, cond, ◌||◌, List, [], ◌∷◌, ◌++◌, map, Some, None, refl, sym, ◌∙◌}
+use Rattle.std.proofs.Common.{ap, subst, Less}
 use Rattle.std.proofs.Common.{zero, suc, get_or, Equal, Greater, Vec, Global, ◌+◌, ◌<◌, ◌≤◌, length, append_assoc, append-nil, length-append, arith}
 use Rattle.std.specs.Str.Lines.{lines}
 use Rattle.std.specs.List.{Contains, list_any}
-use Rattle.std.proofs.lemmas.List.Elements.{All-append, All-cons, All-contains_itself, All-nil, Contains-append_cases, Contains-append_left, Contains-append_right}
+use Rattle.std.proofs.lemmas.List.Elements.{All-append, All-cons, All-contains_itself, All-nil, Contains-append_cases, Contains-append_left}
+use Rattle.std.proofs.lemmas.List.Elements.{Contains-append_right}
 use Rattle.std.proofs.lemmas.List.Quantifiers.{all_pairs_push}
 use Rattle.std.specs.Ordering.{nat_cmp, is_eq, eq_by_cmp, match_ordering}
 use Rattle.std.specs.Cmp.{tied_itself}

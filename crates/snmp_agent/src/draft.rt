@@ -108,8 +108,8 @@ fn append_get(
     }
 }
 
-/// Writes what a Get of a binding's name gives, a row or an exception, as [`append_answer`] does. Not
-/// inlined: its binding, of over a thousand octets, is set to zeros as the function begins.
+/// Writes what a Get of a binding's name gives, a row or an exception, as [`append_answer`] does.
+/// Not inlined: its binding, of over a thousand octets, is set to zeros as the function begins.
 #[inline(never)]
 fn append_got(
     table: &Table,

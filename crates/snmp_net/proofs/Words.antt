@@ -1,6 +1,6 @@
 -- Words with a colon or a prefix, and what they state.
 use Rattle.std.proofs.Common.{◌≡◌, ◌≢◌, ◌<◌, ◌++◌, ◌∷◌, ◌==◌, ◌↔◌, ℕ, Bool, true, false, not, IsTrue, refl, [], List, Bor}
-use Rattle.std.proofs.Common.{Contains, Option, Some, None, IfSome, IfNone, MatchOption, sym, ap, ◌∙◌, length, drop, slice_index, codes, arith, subst, inl, inr}
+use Rattle.std.proofs.Common.{Contains, Option, Some, None, IfSome, IfNone, MatchOption, sym, ap, ◌∙◌, length, slice_index, codes, arith, subst, inl, inr}
 use Rattle.std.specs.Str.Pattern.{FindsTextPrefix, StripsPrefix}
 use Rattle.std.proofs.lemmas.Bool.Decides.{nat_tests}
 use Rattle.std.proofs.lemmas.List.{get_or_default}

@@ -8,8 +8,10 @@ use Rattle.std.specs.Char.{is_ascii_digit}
 use Rattle.std.specs.List.{list_all}
 use Rattle.std.specs.Str.Parse.{digits_value}
 use Rattle.snmp_io.specs.Steps.{AreDone, IsFirstToFail}
-use Rattle.snmp_tools.specs.Letters.{AreLettersIn, AreRepetitions, Choices, HaveChosen, IsFirstUnknown, IsKnown, IsLastNumber, IsPlain, IsUnknown, has, no_choices}
-use Rattle.snmp_tools.specs.Choosing.{after_part, after_parts, after_whole, choices_of, letter_parts, put, repetitions_in, with_letter, with_number, without_digits}
+use Rattle.snmp_tools.specs.Letters.{AreLettersIn, AreRepetitions, Choices, HaveChosen, IsFirstUnknown, IsKnown, IsLastNumber, IsPlain, IsUnknown, has}
+use Rattle.snmp_tools.specs.Letters.{no_choices}
+use Rattle.snmp_tools.specs.Choosing.{after_part, after_parts, after_whole, choices_of, letter_parts, put, repetitions_in, with_letter, with_number}
+use Rattle.snmp_tools.specs.Choosing.{without_digits}
 
 abbrev Part : Type 0
 Part = ℕ × List ℕ

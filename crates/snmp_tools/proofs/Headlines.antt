@@ -33,7 +33,8 @@ use Rattle.snmp_tools.specs.Seen.{Seen}
 use Rattle.snmp_tools.proofs.Asked.{counted}
 use Rattle.snmp_tools.proofs.Outcomes.{IsFrontOf, finished_all, finished_front, no_fault_at_0}
 use Rattle.snmp_tools.proofs.TableNames.{OneMeaning, one_look_up}
-use Rattle.snmp_tools.proofs.Plans.{IsWant, OneList, OneTree, held_is, one_load, one_path, one_plan, plain_want, table_want, wants_early, wants_last, wants_late}
+use Rattle.snmp_tools.proofs.Plans.{IsWant, OneList, OneTree, held_is, one_load, one_path, one_plan, plain_want, table_want, wants_early, wants_last}
+use Rattle.snmp_tools.proofs.Plans.{wants_late}
 
 -- memory ran out before anything was written
 pub refused_front : (words : AskWords) (files : Holdings) (before : Stream) → WritesFront words files before before

@@ -32,7 +32,8 @@ use Rattle.smi_text.specs.declared.trees.tree.Module.{Module}
 use Rattle.smi_names.specs.declared.nodes.warning.Warning.{Warning}
 use Rattle.smi_tree.specs.Tree.{Contents, IsTree}
 use Rattle.snmp_tools.specs.Mib.{AreLoaded, IsMibOf, Mib, mib_of}
-use Rattle.snmp_tools.specs.Question.{AreNames, AskFor, AskWords, FailsFor, HasUnsendable, HaveNames, IsAtOrBelow, IsEarlyRefusal, IsLastRefusal, IsLateRefusal, IsQuestionOf}
+use Rattle.snmp_tools.specs.Question.{AreNames, AskFor, AskWords, FailsFor, HasUnsendable, HaveNames, IsAtOrBelow, IsEarlyRefusal, IsLastRefusal, IsLateRefusal}
+use Rattle.snmp_tools.specs.Question.{IsQuestionOf}
 use Rattle.snmp_tools.specs.Question.{Plan, Question, Request, Step, Walk, HasChosen, HasUnknown, goes_on_after, root_text}
 use Rattle.snmp_tools.specs.Question.{get, names, subtree, walk, loading_steps, name_steps, reach_step, reaching_steps, sent_steps}
 use Rattle.snmp_tools.specs.Question.{below_step, name_step, reach_step, sent_step}

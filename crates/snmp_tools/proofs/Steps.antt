@@ -1,5 +1,6 @@
 -- The first step that fails, after those that are done.
-use Rattle.std.proofs.Common.{◌≡◌, ◌⊎◌, inl, inr, ◌++◌, ◌+◌, ◌<◌, ℕ, zero, suc, List, [], ◌∷◌, All, Bor, Option, Some, None, Ok, length, map, take, drop, get_or}
+use Rattle.std.proofs.Common.{◌≡◌, ◌⊎◌, inl, inr, ◌++◌, ◌+◌, ◌<◌, ℕ, zero, suc, List, [], ◌∷◌, All, Bor, Option, Some, None, Ok, length, map, take, drop}
+use Rattle.std.proofs.Common.{get_or}
 use Rattle.std.proofs.Common.{option_map, unwrap_or, refl, sym, ◌∙◌, ap, subst, append_assoc, arith, drop-cons}
 use Rattle.std.proofs.lemmas.List.{map-append, take-append-drop, take_more}
 use Rattle.std.proofs.lemmas.List.Elements.{All-head, All-tail, AllZip-push}
@@ -15,9 +16,11 @@ use Rattle.snmp_tools.specs.Letters.{Choices}
 use Rattle.snmp_tools.specs.Message.{Fault, out_of_memory, unsendable}
 use Rattle.snmp_tools.specs.Mib.{IsMibOf, Mib}
 use Rattle.snmp_tools.specs.Planned.{AgentFails, AreOrdersOf, NamesFail, ShowingFails}
-use Rattle.snmp_tools.specs.Question.{AreNames, AskFor, AskWords, FailsFor, HasMeaning, HasSendable, HasUnsendable, IsDoneFor, IsEarlyRefusal, IsLastRefusal, IsLateRefusal}
+use Rattle.snmp_tools.specs.Question.{AreNames, AskFor, AskWords, FailsFor, HasMeaning, HasSendable, HasUnsendable, IsDoneFor, IsEarlyRefusal, IsLastRefusal}
+use Rattle.snmp_tools.specs.Question.{IsLateRefusal}
 use Rattle.snmp_tools.specs.Question.{IsQuestionOf, Plan, Question, Request, Step, get, names, subtree, walk}
-use Rattle.snmp_tools.specs.Question.{asking, below_step, choices_step, goes_on_after, loading_steps, mibs_step, name_step, name_steps, reach_step, reaching_steps, root_text, sent_step}
+use Rattle.snmp_tools.specs.Question.{asking, below_step, choices_step, goes_on_after, loading_steps, mibs_step, name_step, name_steps, reach_step}
+use Rattle.snmp_tools.specs.Question.{reaching_steps, root_text, sent_step}
 use Rattle.snmp_tools.specs.Question.{sent_steps}
 use Rattle.snmp_tools.specs.Start.{BeginFails, ResumeFails}
 use Rattle.snmp_tools.specs.declared.plan.Orders.{Orders}

@@ -31,7 +31,7 @@ use Rattle.smi_tree.specs.Bare.{bare}
 use Rattle.smi_tree.specs.Tree.{IsTree}
 use Rattle.snmp_io.specs.Files.{Holdings}
 use Rattle.snmp_io.specs.Count.{HasRisen}
-use Rattle.snmp_io.specs.Output.{IsWritten, Stream, TakesFront, appended, extended}
+use Rattle.snmp_io.specs.Output.{IsWritten, Stream, TakesFront, extended}
 use Rattle.snmp_io.specs.Streams.{extended-nil}
 use Rattle.snmp_net.specs.Address as address
 use Rattle.snmp_words.specs.Words.{walk_line}

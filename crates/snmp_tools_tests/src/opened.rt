@@ -10,7 +10,8 @@ use std::alloc::{AllocError, Global};
 use std::process::Abort;
 use std::test::Fail;
 
-/// A link in memory that takes the datagrams that these octets are, one after another, and no other.
+/// A link in memory that takes the datagrams that these octets are, one after another, and no
+/// other.
 #[derive(Drop)]
 struct Expecting<'a> {
     link: MemoryLink<'a>,

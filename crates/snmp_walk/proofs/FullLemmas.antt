@@ -20,7 +20,8 @@ use Rattle.snmp_walk.specs.Names.{is_inside, is_end, is_missing, is_below, comes
 use Rattle.snmp_walk.specs.Trail.{last_name, IsTrail}
 use Rattle.snmp_walk.specs.Walker.{Walker}
 use Rattle.snmp_walk.specs.Request.{first_phase, asked_for}
-use Rattle.snmp_walk.specs.Taken.{is_awaited, is_plain, inside_front, rising_front, name_at, stops, goes_on, closes, reads, reads_next, got, reads_last, reads_for, reads_reply, take_of}
+use Rattle.snmp_walk.specs.Taken.{is_awaited, is_plain, inside_front, rising_front, name_at, stops, goes_on, closes, reads, reads_next, got, reads_last}
+use Rattle.snmp_walk.specs.Taken.{reads_for, reads_reply, take_of}
 use Rattle.snmp_walk.specs.Standing.{IsOpening, IsStage, IsPaced, opening_gets, Reaches, IsReplyTo, IsReplyContent}
 use Rattle.snmp_walk.specs.Link.{Agents, OneOf, IsNextFrom, IsGotFrom, IsTooLarge}
 use Rattle.snmp_walk.specs.Room.{HasRoomForAll}

@@ -27,8 +27,10 @@ use Rattle.snmp_walk.specs.Names.{is_end, is_missing, is_inside, comes_after}
 use Rattle.snmp_walk.specs.Reading.{After, EndsAs, nothing, leaving, falling}
 use Rattle.snmp_walk.specs.Trail.{last_name}
 use Rattle.snmp_walk.specs.Walker.{Walker}
-use Rattle.snmp_walk.specs.Taken.{is_over, is_response, awaits, is_awaited, is_plain, inside_front, rising_front, name_at, stops, goes_on, closes, reads, reads_next, got, if_present, reads_first, reads_last, reads_for, reads_reply, take_of}
-use Rattle.snmp_walk.specs.Judged.{IsResponseTo, IsAwaitedReply, EndsBy, AsksOn, GoesOn, GivesNothing, Closes, AreRowsFrom, AreMisplaced, FollowsBy, ReadsRows, MeansNext, IsGot, MeansGot, MeansRoot, MeansFor, MeansReply, Means, MeansBy}
+use Rattle.snmp_walk.specs.Taken.{is_over, is_response, awaits, is_awaited, is_plain, inside_front, rising_front, name_at, stops, goes_on, closes, reads}
+use Rattle.snmp_walk.specs.Taken.{reads_next, got, if_present, reads_first, reads_last, reads_for, reads_reply, take_of}
+use Rattle.snmp_walk.specs.Judged.{IsResponseTo, IsAwaitedReply, EndsBy, AsksOn, GoesOn, GivesNothing, Closes, AreRowsFrom, AreMisplaced, FollowsBy, ReadsRows}
+use Rattle.snmp_walk.specs.Judged.{MeansNext, IsGot, MeansGot, MeansRoot, MeansFor, MeansReply, Means, MeansBy}
 use Rattle.snmp_walk.proofs.OrderLemmas.{less_from_after, less_precedes}
 use Rattle.snmp_walk.proofs.FrontLemmas.{reads_as, reads_by}
 use Rattle.snmp_walk.specs.Request.{asked_for}

@@ -47,7 +47,8 @@ use Rattle.snmp_walk.specs.Names.{is_missing}
 use Rattle.snmp_walk.specs.Trail.{last_name, IsTrail, IsAtEnd}
 use Rattle.snmp_walk.specs.Walker.{Walker}
 use Rattle.std.specs.Ordering.{int_eq}
-use Rattle.snmp_walk.specs.Taken.{is_over, is_awaited, is_plain, inside_front, rising_front, stops, goes_on, closes, reads_next, got, if_present, reads_first, reads_last, reads_for, take_of}
+use Rattle.snmp_walk.specs.Taken.{is_over, is_awaited, is_plain, inside_front, rising_front, stops, goes_on, closes, reads_next, got, if_present, reads_first}
+use Rattle.snmp_walk.specs.Taken.{reads_last, reads_for, take_of}
 use Rattle.snmp_walk.specs.Standing.{
   IsChain,
   IsLarge,

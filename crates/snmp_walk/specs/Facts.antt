@@ -83,8 +83,8 @@ abbrev pub rows_read : List Reading → List VarBind
 rows_read [] = []
 rows_read (r ∷ more) = r.rows ++ rows_read more
 
--- Each of these datagrams replied to the request of the walk, in turn, from one state of the link to
--- the next, and the walk v read them as these rows, and is w then. `Tried` says what came of a
+-- Each of these datagrams replied to the request of the walk, in turn, from one state of the link
+-- to the next, and the walk v read them as these rows, and is w then. `Tried` says what came of a
 -- walk's request over the link.
 abbrev pub AreRead : {L : Type 0} → (Tried : Walker → L → Outcome → L → Type 0) → Walker → L
     → List Reading → Walker → L → Type 0
@@ -101,9 +101,9 @@ pub record HasRead {L : Type 0} (Tried : Walker → L → Outcome → L → Type
   pub rows : given ≡ rows_read readings
   pub are_read : AreRead Tried first old readings w new
 
--- What came of the last request of the walk that began as `first`, over the link in the state `old`:
--- it had given all of these rows but for `more`, and asked by w from the state `now` of the link on.
--- `Sent` says how that request was sent.
+-- What came of the last request of the walk that began as `first`, over the link in the state
+-- `old`: it had given all of these rows but for `more`, and asked by w from the state `now` of the
+-- link on. `Sent` says how that request was sent.
 pub record IsAskedLast {L : Type 0} (Tried : Walker → L → Outcome → L → Type 0)
     (Sent : Walker → Type 0) (first : Walker) (old : L) (rows : List VarBind) (new : L)
     (outcome : Outcome) (w : Walker) (more : List VarBind) : Type 0 where
@@ -131,9 +131,9 @@ IsRefusedSo Asked refused =
     × (read : Step) × (over : Walker) × (left : List VarBind) × MeansBy w datagram read over
     × (rows_in read ≡ more ++ (refused ++ left))
 
--- Why a run ends, whatever the link brings, `Asked` saying what came of its last request: by a reply
--- that is read so, or because none came, or by the sink, that refused a row of the reply. A request
--- of a walk is never too long.
+-- Why a run ends, whatever the link brings, `Asked` saying what came of its last request: by a
+-- reply that is read so, or because none came, or by the sink, that refused a row of the reply. A
+-- request of a walk is never too long.
 abbrev pub IsEndOfRun : (Asked : Outcome → Walker → List VarBind → Type 0)
     → (refused : List VarBind) → WalkEnd → Type 0
 IsEndOfRun Asked refused ending.RequestTooLong = ⊥
@@ -142,9 +142,9 @@ IsEndOfRun Asked refused ending.Link = (w : Walker) × Asked cut_off w []
 IsEndOfRun Asked refused (ending.Sink fault) = IsRefusedSo Asked refused
 IsEndOfRun Asked refused why = IsReadSo Asked why
 
--- What is promised of a run over any link, which it took from the state `old` to the state `new`: the
--- names given, with the one that was refused, rise; a walk that is done has counted the bindings;
--- and each end comes for its own reason.
+-- What is promised of a run over any link, which it took from the state `old` to the state `new`:
+-- the names given, with the one that was refused, rise; a walk that is done has counted the
+-- bindings; and each end comes for its own reason.
 pub record EndFacts {L : Type 0} (Tried : Walker → L → Outcome → L → Type 0)
     (Sent : Walker → Type 0) (first : Walker) (old : L) (rows refused : List VarBind)
     (end : WalkEnd) (new : L) : Type 0 where

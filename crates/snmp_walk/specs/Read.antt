@@ -1,5 +1,5 @@
--- What comes of a reply that was waited for: it is read, and its bindings are given to a sink. All but
--- `rows_in` is for private clauses.
+-- What comes of a reply that was waited for: it is read, and its bindings are given to a sink. All
+-- but `rows_in` is for private clauses.
 use Rattle.std.specs.Prelude.{◌≡◌, ℕ, true, List, [], ◌∷◌, ◌++◌, Result, Err}
 use Rattle.snmp_wire.specs.Message.{VarBind, Message}
 use Rattle.snmp_wire.specs.Spelling.{Spells}

@@ -1,5 +1,5 @@
--- What a message means to a walk, computed, for private clauses alone: public ones are stated by the
--- rules of `Judged`, which name just what is computed here.
+-- What a message means to a walk, computed, for private clauses alone: public ones are stated by
+-- the rules of `Judged`, which name just what is computed here.
 use Rattle.std.specs.Prelude.{
   ℕ,
   zero,

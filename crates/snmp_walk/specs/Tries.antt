@@ -1,4 +1,5 @@
--- How the tries of a request go over any link, each from the state in which the one before it ended.
+-- How the tries of a request go over any link, each from the state in which the one before it
+-- ended.
 use Rattle.std.specs.Prelude.{◌≡◌, ◌<◌, ℕ, ◌⊎◌, List, [], ◌∷◌, length}
 use Rattle.snmp_wire.specs.Message.{Message}
 use Rattle.snmp_wire.specs.Spelling.{Spells}
@@ -19,7 +20,8 @@ IsNotAwaited community id datagram = (m : Message) → Spells m datagram
 -- these led from one state to the other, each from the state in which the one before it ended
 abbrev pub InTurn : {L X : Type 0} → (L → X → L → Type 0) → L → List X → L → Type 0
 InTurn {L} step old [] new = new ≡ old
-InTurn {L} step old (x ∷ more) new = (between : L) × step old x between × InTurn step between more new
+InTurn {L} step old (x ∷ more) new =
+    (between : L) × step old x between × InTurn step between more new
 
 -- a send of the datagram; a receive that brought one; and a receive that brought nothing
 abbrev pub Sends : {L : Type 0} → LinkFacts L → L → List ℕ → L → Type 0
@@ -70,8 +72,8 @@ IsLastTry {L} facts Other request old outcome new =
     ((strays : List (List ℕ)) × IsTry facts Other request outcome old strays new)
     ⊎ ((outcome ≡ cut_off) × IsMoved facts old (request ∷ []) (Unit {0}) new)
 
--- What came of the request in so many tries at most: each of them missed the reply, or fewer did and
--- one more ended so.
+-- What came of the request in so many tries at most: each of them missed the reply, or fewer did
+-- and one more ended so.
 abbrev pub AreTried : {L : Type 0} → LinkFacts L → (List ℕ → Type 0) → List ℕ → (tries : ℕ) → L
     → Outcome → L → Type 0
 AreTried {L} facts Other request tries old missed new = AreMissed facts Other request tries old new

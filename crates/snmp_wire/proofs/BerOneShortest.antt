@@ -7,7 +7,8 @@ use Rattle.std.proofs.lemmas.Bool.{cases_lt, cases_order}
 use Rattle.std.proofs.lemmas.List.{map-append}
 use Rattle.std.proofs.lemmas.List.Elements.{recursion_from_All}
 use Rattle.std.specs.List.{AllByRecursion, flat_map}
-use Rattle.snmp_wire.specs.ber.Canon.{canon_content, canon_element, canon_header, canon_length, canon_number, canon_subidentifier, canon_value, length_size, octets}
+use Rattle.snmp_wire.specs.ber.Canon.{canon_content, canon_element, canon_header, canon_length, canon_number, canon_subidentifier, canon_value, length_size}
+use Rattle.snmp_wire.specs.ber.Canon.{octets}
 use Rattle.snmp_wire.specs.ber.Identifier.{AreSubidentifiers, IsSubidentifier, subidentifiers}
 use Rattle.snmp_wire.specs.ber.Length.{IsElement, IsLength, IsLongLength}
 use Rattle.snmp_wire.specs.ber.Number.{AreOctets, IsInteger, IsUnsigned, number_of, strict, twos_complement, unsigned}

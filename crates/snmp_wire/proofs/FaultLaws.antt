@@ -14,7 +14,8 @@ use Rattle.snmp_wire.specs.ber.Value.{counter64, no_such_object, no_such_instanc
 use Rattle.snmp_wire.specs.Message.{VarBind, Message}
 use Rattle.snmp_wire.specs.ber.Spelling.{value_tag, IsContent}
 use Rattle.snmp_wire.specs.Spelling.{kind_tag}
-use Rattle.snmp_wire.specs.ber.Reading.{fault_or, ◌>>=◌, long_length_at, length_at, content_at, inner_at, element_at, integer_of, integer_at, has_width, unsigned_of}
+use Rattle.snmp_wire.specs.ber.Reading.{fault_or, ◌>>=◌, long_length_at, length_at, content_at, inner_at, element_at, integer_of, integer_at, has_width}
+use Rattle.snmp_wire.specs.ber.Reading.{unsigned_of}
 use Rattle.snmp_wire.specs.ber.Reading.{largest_subidentifier, subidentifier_from, subidentifier_at, number_at, numbers_of, first_number, second_number}
 use Rattle.snmp_wire.specs.ber.Reading.{identifier_of, empty_of, typed_value}
 use Rattle.snmp_wire.specs.Reading.{Fields, fields_of, fields_at, binding_of, binding_at, bindings_within, bindings_of, kind_of, outermost_of, pdu_of}

@@ -8,7 +8,8 @@ use Rattle.std.specs.Result.{result_unwrap_or}
 use Rattle.std.proofs.lemmas.List.{at_drop_more, at_drop_all, length_push, append-nil, nil_from_length}
 use Rattle.snmp_wire.specs.declared.ber.error.BerError.{BerError}
 use Rattle.snmp_wire.specs.declared.ber.error.BerError.TheVariants as error
-use Rattle.snmp_wire.specs.ber.Reading.{◌>>=◌, checked, largest_subidentifier, subidentifier_from, subidentifier_at, number_at, numbers_of, numbers_in, IsPlainFront}
+use Rattle.snmp_wire.specs.ber.Reading.{◌>>=◌, checked, largest_subidentifier, subidentifier_from, subidentifier_at, number_at, numbers_of, numbers_in}
+use Rattle.snmp_wire.specs.ber.Reading.{IsPlainFront}
 use Rattle.snmp_wire.proofs.KnownLemmas.{first_ok}
 use Rattle.snmp_wire.specs.ber.ReadingLaws.{done, failed, ok_is, checked_err, is_ok_at}
 

@@ -1,5 +1,6 @@
 -- How many octets a number takes, by its highest bit, and four octets at once.
-use Rattle.std.proofs.Common.{true, ◌≡◌, ℕ, ℤ, negsuc, ◌+◌, ◌-◌, ◌*◌, ◌/◌, ◌%◌, ◌^◌, ◌<◌, ◌≤◌, pos, lit<, suc, zero, List, [], ◌∷◌, refl, sym, ap, ◌∙◌, pow-add, ⊎_elim, arith}
+use Rattle.std.proofs.Common.{true, ◌≡◌, ℕ, ℤ, negsuc, ◌+◌, ◌-◌, ◌*◌, ◌/◌, ◌%◌, ◌^◌, ◌<◌, ◌≤◌, pos, lit<, suc, zero, List, [], ◌∷◌, refl, sym, ap, ◌∙◌, pow-add}
+use Rattle.std.proofs.Common.{⊎_elim, arith}
 use Rattle.std.proofs.Math.Nat.{div-one, pow-le-pow_right, pow-suc}
 use Rattle.std.proofs.lemmas.Bool.{cases_lt}
 use Rattle.std.specs.Int.{to_be_bytes}

@@ -9,7 +9,8 @@ use Rattle.snmp_wire.specs.Message.{VarBind, Message}
 use Rattle.snmp_wire.specs.ber.Spelling.{sequence_tag}
 use Rattle.snmp_wire.specs.Spelling.{kind_tag}
 unfoldable pub use Rattle.snmp_wire.specs.ber.Canon.{canon_content, canon_element, canon_header}
-unfoldable pub use Rattle.snmp_wire.specs.ber.Canon.{canon_length, canon_number, canon_subidentifier}
+unfoldable pub use Rattle.snmp_wire.specs.ber.Canon.{canon_length, canon_number}
+unfoldable pub use Rattle.snmp_wire.specs.ber.Canon.{canon_subidentifier}
 unfoldable pub use Rattle.snmp_wire.specs.ber.Canon.{canon_value, length_size, number_size, octets}
 unfoldable pub use Rattle.snmp_wire.specs.ber.Canon.{septets, subidentifier_size}
 pub use Rattle.snmp_wire.specs.ber.Canon.{IsEncodableValue, digit_count, magnitude_of}

@@ -244,7 +244,8 @@ fn left_over(tag: u8, content: &[u8]) -> BerError
     }
 }
 
-/// The fields of the binding at the front of octets that are known to be bindings, and what follows.
+/// The fields of the binding at the front of octets that are known to be bindings, and what
+/// follows.
 // Hot: each binding that is read.
 #[inline(always)]
 fn fields_in<'a>(octets: &'a [u8]) -> (Fields<'a>, &'a [u8])

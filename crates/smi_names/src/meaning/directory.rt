@@ -6,8 +6,8 @@ ghost use Rattle.smi_names.specs.meaning.Scopes.{place_in, content_of};
 ghost use Rattle.smi_names.specs.meaning.Names.{AreEach, module_place, map_origin};
 ghost use Rattle.smi_names.specs.meaning.Directory.{place_by, place_of_entry, AreBases};
 
-use crate::hash::NameHash;
 use crate::chains::Basis;
+use crate::hash::NameHash;
 use crate::meaning::entry::{Decider, Entry};
 use crate::meaning::scope::{NamePlaces, put_first, scope};
 use crate::name::NameRef;

@@ -7,8 +7,8 @@ ghost use Rattle.smi_names.specs.meaning.Meaning.{origin, module_named, decision
 ghost use Rattle.smi_names.specs.meaning.Scopes.{decision_of};
 ghost use Rattle.smi_names.specs.meaning.Names.{module_place};
 
-use crate::hash::NameHash;
 use crate::chains::{Resolution, resolutions};
+use crate::hash::NameHash;
 use crate::meaning::directory::{Directory, find, homes, scopes};
 use crate::meaning::entries::Entries;
 use crate::meaning::entry::Decider;

@@ -7,7 +7,8 @@ ghost use Rattle.smi_text.specs.trees.Mark.{same_text};
 ghost use Rattle.smi_names.specs.meaning.Meaning.{defined, imported, root, decision, or_else};
 ghost use Rattle.smi_names.specs.meaning.Meaning as meaning;
 ghost use Rattle.smi_names.specs.declared.meaning.entry.Entry.{Entry};
-ghost use Rattle.smi_names.specs.meaning.Scopes.{decision_of, decided_as, known, IsWithin, IsDefinedAt};
+ghost use Rattle.smi_names.specs.meaning.Scopes.{decision_of, decided_as, known, IsWithin};
+ghost use Rattle.smi_names.specs.meaning.Scopes.{IsDefinedAt};
 ghost use Rattle.smi_names.specs.meaning.Scopes.{IsEntryOf, KnowsMore, place_in};
 
 use crate::hash::NameHash;

@@ -2,7 +2,8 @@
 ghost use Rattle.std.specs.Prelude.{◌≡◌, List, [], ◌∷◌, length, take, Some, OnOk, IfOk, slice_get};
 ghost use Rattle.std.specs.Prelude.{false};
 ghost use Rattle.smi_names.specs.nodes.Nodes.{is_loaded};
-ghost use Rattle.smi_names.specs.nodes.Gathered.{GrowsByDefinition, AddsDefinition, AddsDefinitions};
+ghost use Rattle.smi_names.specs.nodes.Gathered.{GrowsByDefinition, AddsDefinition};
+ghost use Rattle.smi_names.specs.nodes.Gathered.{AddsDefinitions};
 ghost use Rattle.smi_names.specs.nodes.Gathered.{AreGathered};
 ghost use Rattle.smi_names.specs.nodes.Gathered.{AddsModule, IsSourceOf};
 ghost use Rattle.smi_text.specs.declared.trees.tree.Module.{Module};

@@ -7,7 +7,8 @@ use Rattle.smi_text.specs.declared.trees.tree.Range.{Range}
 use Rattle.smi_text.specs.declared.trees.tree.Refinement.{Refinement}
 use Rattle.smi_text.specs.declared.trees.tree.Refinement.TheVariants.{Numbers, Values, Size}
 use Rattle.smi_text.specs.declared.trees.tree.Base.{Base}
-use Rattle.smi_text.specs.declared.trees.tree.Base.TheVariants.{Integer, OctetString, ObjectIdentifier}
+use Rattle.smi_text.specs.declared.trees.tree.Base.TheVariants.{Integer, OctetString}
+use Rattle.smi_text.specs.declared.trees.tree.Base.TheVariants.{ObjectIdentifier}
 use Rattle.smi_text.specs.declared.trees.tree.Base.TheVariants.{Bits, Named}
 use Rattle.smi_text.specs.declared.trees.tree.Syntax.{Syntax}
 use Rattle.smi_text.specs.declared.trees.tree.Syntax.TheVariants.{SequenceOf, Simple}

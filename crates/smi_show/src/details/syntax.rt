@@ -2,7 +2,8 @@
 ghost use Rattle.std.specs.Prelude.{◌≡◌, [], ◌∷◌, ◌++◌, codes, take, List};
 ghost use Rattle.std.specs.List.{flat_map};
 ghost use Rattle.snmp_io.specs.draft.Draft.{Adds};
-ghost use Rattle.smi_show.specs.details.Syntax.{base_text, more_numbers, more_ranges, named_number_text};
+ghost use Rattle.smi_show.specs.details.Syntax.{base_text, more_numbers, more_ranges};
+ghost use Rattle.smi_show.specs.details.Syntax.{named_number_text};
 ghost use Rattle.smi_show.specs.details.Syntax.{numbers_text, range_text, ranges_text};
 ghost use Rattle.smi_show.specs.details.Syntax.{refinement_text, syntax_text};
 ghost use Rattle.smi_show.specs.details.Tokens.{AreTokensOf, joined_by_blanks};

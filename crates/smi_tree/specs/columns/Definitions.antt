@@ -3,7 +3,8 @@ use Rattle.std.specs.Prelude.{◌≡◌, ℕ, List, Some}
 use Rattle.smi_text.specs.declared.trees.tree.Module.{Module}
 use Rattle.smi_text.specs.declared.trees.tree.Import.{Import}
 use Rattle.smi_text.specs.declared.trees.tree.Def.{Def}
-use Rattle.smi_names.specs.meaning.Meaning.{QualifiedName, defined, imported, decision, module_named}
+use Rattle.smi_names.specs.meaning.Meaning.{QualifiedName, defined, imported, decision}
+use Rattle.smi_names.specs.meaning.Meaning.{module_named}
 
 -- a name of this module
 abbrev pub qualified_name : Module → List ℕ → QualifiedName

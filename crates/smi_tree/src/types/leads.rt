@@ -6,7 +6,8 @@ ghost use Rattle.std.specs.List.{slice_get};
 ghost use Rattle.smi_names.specs.meaning.Scopes.{Content, content_of};
 ghost use Rattle.smi_tree.specs.types.Types.{origin_of_simple, name_in};
 ghost use Rattle.smi_tree.specs.types.Leads.{content_origin, LeadsTo, StatesIf, IsSourceBy};
-ghost use Rattle.smi_tree.specs.types.Leads.{IsNextUntil, AreLeads, AreNextUntil, AreSources, at_place};
+ghost use Rattle.smi_tree.specs.types.Leads.{IsNextUntil, AreLeads, AreNextUntil, AreSources};
+ghost use Rattle.smi_tree.specs.types.Leads.{at_place};
 
 use crate::types::syntax::{base_of, hint_of, names_of, sizes_of, type_of};
 use smi_names::{Decider, Entries, Entry};

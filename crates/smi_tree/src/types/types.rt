@@ -2,9 +2,11 @@
 ghost use Rattle.std.specs.Prelude.{◌≡◌, ℕ, IfOk, MatchOption, option_map};
 ghost use Rattle.std.specs.Option.{option_and_then, option_copied};
 ghost use Rattle.std.specs.List.{slice_get};
-ghost use Rattle.smi_tree.specs.types.Types.{object_origin, type_hint, def_at, HasSyntax, HasNoSyntax};
+ghost use Rattle.smi_tree.specs.types.Types.{object_origin, type_hint, def_at, HasSyntax};
+ghost use Rattle.smi_tree.specs.types.Types.{HasNoSyntax};
 ghost use Rattle.smi_tree.specs.types.Leads.{at_place, AreLeads};
-ghost use Rattle.smi_tree.specs.types.Nearest.{AreNearest, AreLeadsOf, AreObjectLeads, refined_facts};
+ghost use Rattle.smi_tree.specs.types.Nearest.{AreNearest, AreLeadsOf, AreObjectLeads};
+ghost use Rattle.smi_tree.specs.types.Nearest.{refined_facts};
 ghost use Rattle.smi_tree.specs.types.Kept.{AreTypesOf, facts_of, def_by, found_by, kept_base};
 ghost use Rattle.smi_tree.specs.types.Kept.{kept_facts};
 ghost use Rattle.smi_tree.specs.types.Kept.{object_lead, kept_syntax, type_names, type_sizes};

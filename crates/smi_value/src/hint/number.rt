@@ -9,7 +9,8 @@ ghost use Rattle.std.specs.Fmt.{digits, digit_glyph};
 ghost use Rattle.snmp_io.specs.draft.Draft.{Adds};
 ghost use Rattle.smi_value.specs.declared.hint.number.NumberForm.{NumberForm};
 ghost use Rattle.smi_value.specs.hint.Number.{StartsWithNumber, front_digits, after_digits};
-ghost use Rattle.smi_value.specs.hint.Number.{IsNumberHint, with_point, magnitude_text, number_text};
+ghost use Rattle.smi_value.specs.hint.Number.{IsNumberHint, with_point, magnitude_text};
+ghost use Rattle.smi_value.specs.hint.Number.{number_text};
 
 use itoa::Buffer;
 use snmp_io::Draft;

@@ -1,7 +1,8 @@
 //! Display hints of octets (RFC 2579, section 3.1): the specs of a text.
 ghost use Rattle.std.specs.Prelude.{◌≡◌, ◌<◌, ◌≤◌, ◌+◌, ◌↔◌, List, ℕ, length, IfSome, IfNone};
 ghost use Rattle.std.specs.Prelude.{IsTrue, slice_get, option_and_then, option_to_list, drop};
-ghost use Rattle.smi_value.specs.hint.Spec.{IsFirstSpec, IsOctetHint, format_of, has_star, after_star};
+ghost use Rattle.smi_value.specs.hint.Spec.{IsFirstSpec, IsOctetHint, format_of, has_star};
+ghost use Rattle.smi_value.specs.hint.Spec.{after_star};
 ghost use Rattle.smi_value.specs.hint.Spec.{mark_of, after_mark, most_octets, takes_octets};
 ghost use Rattle.smi_value.specs.declared.hint.spec.Spec.{Spec};
 

@@ -48,7 +48,8 @@ impl Table {
     ghost use Rattle.std.specs.Str.Lines.{lines};
     ghost use Rattle.std.specs.Option.{option_map};
     ghost use Rattle.std.specs.FinMap.{contains_key, get};
-    ghost use Rattle.snmp_agent.specs.table.Table.{IsGet, IsNext, IsNextAfter, IsAnswerValue, IsMibView};
+    ghost use Rattle.snmp_agent.specs.table.Table.{IsGet, IsNext, IsNextAfter, IsAnswerValue};
+    ghost use Rattle.snmp_agent.specs.table.Table.{IsMibView};
     ghost use Rattle.snmp_agent.specs.table.Table.{IsInstanceName, IsInstanceValue, with_row};
     ghost use Rattle.snmp_agent.specs.table.Table.{without_row};
     ghost use Rattle.snmp_agent.specs.table.Put.{IsPutError};

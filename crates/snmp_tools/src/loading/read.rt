@@ -3,7 +3,8 @@ ghost use Rattle.std.specs.Prelude.{◌≡◌, ◌⊎◌, ℕ, List, IfErr, IfOk
 ghost use Rattle.snmp_tools.specs.loading.Files.{texts};
 ghost use Rattle.smi_text.specs.declared.trees.tree.Module.{Module as Tree};
 ghost use Rattle.snmp_io.specs.Files.{Holdings, Holds, MayHold};
-ghost use Rattle.snmp_tools.specs.loading.Files.{AreModulesIn, AreModulesOf, FileFails, IsFilesRefusal};
+ghost use Rattle.snmp_tools.specs.loading.Files.{AreModulesIn, AreModulesOf, FileFails};
+ghost use Rattle.snmp_tools.specs.loading.Files.{IsFilesRefusal};
 ghost use Rattle.snmp_tools.specs.loading.Files.{no_memory};
 ghost use Rattle.snmp_tools.specs.loading.Message.{refusal_of};
 

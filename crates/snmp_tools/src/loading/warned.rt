@@ -1,7 +1,8 @@
 //! Warnings of modules that are loaded, as lines of text.
 ghost use Rattle.std.specs.Prelude.{◌≡◌, ◌++◌, IfOk, codes};
 ghost use Rattle.snmp_io.specs.draft.Draft.{Adds};
-ghost use Rattle.snmp_tools.specs.loading.Warned.{symbol, warning_line, warning_lines, warning_text};
+ghost use Rattle.snmp_tools.specs.loading.Warned.{symbol, warning_line, warning_lines};
+ghost use Rattle.snmp_tools.specs.loading.Warned.{warning_text};
 
 use smi_names::Warning;
 use snmp_io::Draft;

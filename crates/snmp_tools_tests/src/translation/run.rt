@@ -12,8 +12,8 @@ use std::process::Abort;
 /// There is a space between two files and between two names.
 pub type Given<'a> = (&'a str, &'a str, &'a str, &'a str);
 
-/// What a job is given, what it must print on standard output, which warnings on standard error, and
-/// how it must end: with this message after them at status 1, or with none at status 0.
+/// What a job is given, what it must print on standard output, which warnings on standard error,
+/// and how it must end: with this message after them at status 1, or with none at status 0.
 pub type Case<'a> = (Given<'a>, &'a str, &'a str, &'a str);
 
 /// How many octets standard output and standard error take before they fail.

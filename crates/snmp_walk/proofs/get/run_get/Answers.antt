@@ -1,6 +1,5 @@
 use Rattle.std.proofs.Common.{refl, [], ℕ, List, subst, ap, arith, ◌+◌, Ok}
 use Rattle.snmp_walk.specs.Get.{get_request, IsBrought}
-use Rattle.snmp_walk.specs.Link.{Outcome}
 use Rattle.snmp_walk.specs.Link as outcome
 use Rattle.snmp_walk.specs.Course.{heard_of}
 use Rattle.snmp_walk.specs.Ran.{IsFreshAndHonest, IsGetTried}

@@ -9,7 +9,6 @@ use Rattle.snmp_walk.specs.declared.end.WalkEnd.{WalkEnd}
 use Rattle.snmp_walk.specs.declared.tries.Course.{Course}
 use Rattle.snmp_walk.specs.Taken.{awaits}
 use Rattle.snmp_walk.specs.Read.{IsRead, IsReadAs}
-use Rattle.snmp_walk.specs.Link.{Outcome}
 use Rattle.snmp_walk.specs.Link as outcome
 use Rattle.snmp_walk.specs.Traffic.{Traffic}
 use Rattle.snmp_walk.proofs.HearLemmas.{waits_first, stray_heard, none_heard, reply_heard, heard_used, received_by}
