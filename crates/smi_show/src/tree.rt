@@ -12,7 +12,7 @@ use snmp_oid::Oid;
 /// is found.
 #[derive(Clone, Copy, Debug)]
 pub struct Near {
-    /// The place of that node, as the tree counts.
+    /// Where that node is found again, as the tree counts.
     pub place: usize,
 }
 
