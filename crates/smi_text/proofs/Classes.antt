@@ -1,9 +1,12 @@
 -- What the class of an octet says of it.
-use Rattle.std.proofs.Common.{◌≡◌, ℕ, Bool, true, false, cond, List, [], ◌∷◌, refl, sym, subst, eqb}
+use Rattle.std.proofs.Common.{◌≡◌, ℕ, Bool, true, false, cond, List, [], ◌∷◌, refl, sym, subst}
+use Rattle.std.proofs.Common.{eqb}
 use Rattle.std.specs.Char.{is_ascii_lowercase, is_ascii_uppercase, is_ascii_digit}
 use Rattle.std.proofs.lemmas.Bool.{eqb-true}
 use Rattle.smi_text.specs.declared.lexer.class.Class.{Class}
-use Rattle.smi_text.specs.declared.lexer.class.Class.TheVariants.{Blank, Lowercase, Uppercase, Digit, Hyphen, Quote, Apostrophe, Symbol, Other}
+use Rattle.smi_text.specs.declared.lexer.class.Class.TheVariants.{Blank, Lowercase, Uppercase}
+use Rattle.smi_text.specs.declared.lexer.class.Class.TheVariants.{Digit, Hyphen, Quote, Apostrophe}
+use Rattle.smi_text.specs.declared.lexer.class.Class.TheVariants.{Symbol, Other}
 use Rattle.smi_text.specs.declared.lexer.token.TokenKind.{TokenKind}
 use Rattle.smi_text.specs.lexer.Lexeme.{IsLexeme, is_blank}
 use Rattle.smi_text.specs.lexer.Reading.{class_of, symbol_among, symbols}

@@ -2,10 +2,13 @@
 use Rattle.std.proofs.Common.{refl, sym, ap}
 use Rattle.std.specs.Prelude.{codes}
 use Rattle.smi_text.specs.declared.lexer.token.TokenKind.TheVariants as K
-use Rattle.smi_text.specs.Format.{before, behind, many, maybe, pair, separated, shaped, some_of, text, token, word, lower}
-use Rattle.smi_text.specs.Grammar.{to_status, from_status, to_revision, from_revision, braced, clause, names, revision, status}
+use Rattle.smi_text.specs.Format.{before, behind, many, maybe, pair, separated, shaped, some_of}
+use Rattle.smi_text.specs.Format.{text, token, word, lower}
+use Rattle.smi_text.specs.Grammar.{to_status, from_status, to_revision, from_revision, braced}
+use Rattle.smi_text.specs.Grammar.{clause, names, revision, status}
 use Rattle.smi_text.proofs.Lawful.{Lawful}
-use Rattle.smi_text.proofs.Laws.{some-inj, word-law, text-law, lower-law, pair-law, behind-law, maybe-law, shaped-law}
+use Rattle.smi_text.proofs.Laws.{some-inj, word-law, text-law, lower-law, pair-law, behind-law}
+use Rattle.smi_text.proofs.Laws.{maybe-law, shaped-law}
 use Rattle.smi_text.proofs.PieceLaws.{clause-law, braced-law, separated-law}
 
 pub names-law : Lawful names

@@ -1,5 +1,6 @@
 -- Definitions are lawful.
-use Rattle.std.proofs.Common.{◌≡◌, ℕ, Bool, true, false, not, List, [], ◌∷◌, Some, None, Ok, Err, if◌then◌else◌, refl, sym, ◌∙◌, ap, subst, inl, inr, ◌⊎◌}
+use Rattle.std.proofs.Common.{◌≡◌, ℕ, Bool, true, false, not, List, [], ◌∷◌, Some, None, Ok, Err}
+use Rattle.std.proofs.Common.{if◌then◌else◌, refl, sym, ◌∙◌, ap, subst, inl, inr, ◌⊎◌}
 use Rattle.std.proofs.lemmas.Bool.{not-true}
 use Rattle.smi_text.specs.declared.lexer.token.TokenKind.{TokenKind}
 use Rattle.smi_text.specs.declared.lexer.token.TokenKind.TheVariants as K
@@ -8,22 +9,31 @@ use Rattle.smi_text.specs.trees.Mark.{spelled, on_line}
 use Rattle.smi_text.specs.Format.{StandsAhead}
 use Rattle.smi_text.specs.trees.Reserved.{is_reserved}
 use Rattle.smi_text.specs.trees.Number.{is_macro}
-use Rattle.smi_text.specs.Format.{Format, before, behind, either, lined, many, maybe, name, pair, separated, shaped, some_of, text, text_where, token, word}
+use Rattle.smi_text.specs.Format.{Format, before, behind, either, lined, many, maybe, name, pair}
+use Rattle.smi_text.specs.Format.{separated, shaped, some_of, text, text_where, token, word}
 use Rattle.smi_text.specs.Format.{lower}
-use Rattle.smi_text.specs.Grammar.{to_assigned, from_assigned, Labelled, to_def, from_def, def_pieces, arc, assigned, balanced, base, before_assign}
-use Rattle.smi_text.specs.Grammar.{before_end, bound, braced, choice, clause, default_value, definition, field, group, identifier, index, index_names}
-use Rattle.smi_text.specs.Grammar.{later_part, lower_definition, macro_body, macro_definition, macro_name, module_identity, named_number, names}
-use Rattle.smi_text.specs.Grammar.{notification_type, object_identifier, object_identifier_words, object_identity, object_type, objects, octet_string_words}
-use Rattle.smi_text.specs.Grammar.{of_row, parenthesized, part, range, ranges, raw_definition, refinement, revision, sequence, simple_type, size, status}
-use Rattle.smi_text.specs.Grammar.{syntax_clause, syntax_type, tag, tagged, textual_convention, upper_definition, value}
+use Rattle.smi_text.specs.Grammar.{to_assigned, from_assigned, Labelled, to_def, from_def}
+use Rattle.smi_text.specs.Grammar.{def_pieces, arc, assigned, balanced, base, before_assign}
+use Rattle.smi_text.specs.Grammar.{before_end, bound, braced, choice, clause, default_value}
+use Rattle.smi_text.specs.Grammar.{definition, field, group, identifier, index, index_names}
+use Rattle.smi_text.specs.Grammar.{later_part, lower_definition, macro_body, macro_definition}
+use Rattle.smi_text.specs.Grammar.{macro_name, module_identity, named_number, names}
+use Rattle.smi_text.specs.Grammar.{notification_type, object_identifier, object_identifier_words}
+use Rattle.smi_text.specs.Grammar.{object_identity, object_type, objects, octet_string_words}
+use Rattle.smi_text.specs.Grammar.{of_row, parenthesized, part, range, ranges, raw_definition}
+use Rattle.smi_text.specs.Grammar.{refinement, revision, sequence, simple_type, size, status}
+use Rattle.smi_text.specs.Grammar.{syntax_clause, syntax_type, tag, tagged, textual_convention}
+use Rattle.smi_text.specs.Grammar.{upper_definition, value}
 use Rattle.smi_text.proofs.Lawful.{Lawful}
 use Rattle.smi_text.proofs.Marks.{false-from, StandsAhead-split}
-use Rattle.smi_text.proofs.Laws.{some-inj, never-stands, lower-law, name-law, pair-law, either-law, shaped-law, lined-law}
+use Rattle.smi_text.proofs.Laws.{some-inj, never-stands, lower-law, name-law, pair-law, either-law}
+use Rattle.smi_text.proofs.Laws.{shaped-law, lined-law}
 use Rattle.smi_text.specs.declared.trees.tree.Def.{Def}
 use Rattle.smi_text.specs.declared.trees.tree.DefKind.{DefKind}
 use Rattle.smi_text.specs.declared.trees.tree.DefKind.TheVariants as D
 use Rattle.smi_text.proofs.LowerLaws.{lower_definition-law}
-use Rattle.smi_text.proofs.UpperLaws.{assignment, macro_definition-law, no-pieces, macro-pieces, upper_definition-law, macro_name-law, macro-reserved}
+use Rattle.smi_text.proofs.UpperLaws.{assignment, macro_definition-law, no-pieces, macro-pieces}
+use Rattle.smi_text.proofs.UpperLaws.{upper_definition-law, macro_name-law, macro-reserved}
 
 -- definitions
 

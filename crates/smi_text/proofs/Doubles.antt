@@ -1,5 +1,6 @@
 -- Where definitions define a name again, no modules without a double name are read.
-use Rattle.std.proofs.Common.{◌≡◌, ℕ, true, false, not, List, [], ◌∷◌, ◌++◌, Some, None, refl, sym, ◌∙◌, ap, subst, inl, inr}
+use Rattle.std.proofs.Common.{◌≡◌, ℕ, true, false, not, List, [], ◌∷◌, ◌++◌, Some, None, refl, sym}
+use Rattle.std.proofs.Common.{◌∙◌, ap, subst, inl, inr}
 use Rattle.std.specs.Prelude.{codes}
 use Rattle.std.specs.List.{flat_map, list_any, list_all}
 use Rattle.std.proofs.lemmas.Bool.{or_cases}
@@ -7,14 +8,23 @@ use Rattle.smi_text.specs.lexer.Token.{Item}
 use Rattle.smi_text.specs.trees.Mark.{Mark, same_text}
 use Rattle.smi_text.specs.Format.{StandsAhead}
 use Rattle.smi_text.specs.trees.Reserved.{is_reserved}
-use Rattle.smi_text.specs.Format.{Format, Parsed, begins, apart, with_front, before, begins, behind, either, lined, many, maybe, name, pair, separated}
-use Rattle.smi_text.specs.Format.{shaped, some_of, text, text_where, token, with_front, word, lower}
-use Rattle.smi_text.specs.Grammar.{to_module, arc, assigned, balanced, base, before_assign, before_end, bound, braced, choice, clause, default_value}
-use Rattle.smi_text.specs.Grammar.{definition, field, file, group, head, heading, identifier, import_clause, imports, index, index_names, later_part}
-use Rattle.smi_text.specs.Grammar.{lower_definition, macro_body, macro_definition, macro_name, module_identity, module_text, named_number, names}
-use Rattle.smi_text.specs.Grammar.{notification_type, object_identifier, object_identifier_words, object_identity, object_type, objects, octet_string_words}
-use Rattle.smi_text.specs.Grammar.{of_row, opening, parenthesized, part, range, ranges, raw_definition, refinement, revision, sequence, simple_type, size}
-use Rattle.smi_text.specs.Grammar.{status, imported_symbol, syntax_clause, syntax_type, tag, tagged, textual_convention, upper_definition, value}
+use Rattle.smi_text.specs.Format.{Format, Parsed, begins, apart, with_front, before, begins}
+use Rattle.smi_text.specs.Format.{behind, either, lined, many, maybe, name, pair, separated}
+use Rattle.smi_text.specs.Format.{shaped, some_of, text, text_where, token, with_front, word}
+use Rattle.smi_text.specs.Format.{lower}
+use Rattle.smi_text.specs.Grammar.{to_module, arc, assigned, balanced, base, before_assign}
+use Rattle.smi_text.specs.Grammar.{before_end, bound, braced, choice, clause, default_value}
+use Rattle.smi_text.specs.Grammar.{definition, field, file, group, head, heading, identifier}
+use Rattle.smi_text.specs.Grammar.{import_clause, imports, index, index_names, later_part}
+use Rattle.smi_text.specs.Grammar.{lower_definition, macro_body, macro_definition, macro_name}
+use Rattle.smi_text.specs.Grammar.{module_identity, module_text, named_number, names}
+use Rattle.smi_text.specs.Grammar.{notification_type, object_identifier, object_identifier_words}
+use Rattle.smi_text.specs.Grammar.{object_identity, object_type, objects, octet_string_words}
+use Rattle.smi_text.specs.Grammar.{of_row, opening, parenthesized, part, range, ranges}
+use Rattle.smi_text.specs.Grammar.{raw_definition, refinement, revision, sequence, simple_type}
+use Rattle.smi_text.specs.Grammar.{size}
+use Rattle.smi_text.specs.Grammar.{status, imported_symbol, syntax_clause, syntax_type, tag}
+use Rattle.smi_text.specs.Grammar.{tagged, textual_convention, upper_definition, value}
 use Rattle.smi_text.specs.trees.Spelling.{of_def, of_head, of_module, spelling}
 use Rattle.smi_text.specs.Text.{HasNoDoubles}
 use Rattle.smi_text.specs.Returned.{RepeatsIn, RepeatsAgain}
@@ -23,7 +33,8 @@ use Rattle.smi_text.specs.declared.modules.Head.{Head}
 use Rattle.smi_text.specs.declared.trees.tree.Def.{Def}
 use Rattle.smi_text.specs.declared.trees.tree.Module.{Module}
 use Rattle.smi_text.proofs.Lawful.{Lawful}
-use Rattle.smi_text.proofs.Marks.{and-left, and-right, or-left, or-right, same_text-eq, same_text-same, StandsAhead-split, apart-false}
+use Rattle.smi_text.proofs.Marks.{and-left, and-right, or-left, or-right, same_text-eq}
+use Rattle.smi_text.proofs.Marks.{same_text-same, StandsAhead-split, apart-false}
 use Rattle.smi_text.proofs.Many.{many-fails, many-goes_on, with_front-append, with_front-nil}
 use Rattle.smi_text.proofs.Laws.{starts-with, some-inj}
 use Rattle.smi_text.proofs.DefinitionLaws.{definition-law}

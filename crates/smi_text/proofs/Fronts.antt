@@ -1,5 +1,6 @@
 -- Counting open braces finds exactly the tokens whose beginnings open as many braces as they close, or more.
-use Rattle.std.proofs.Common.{◌≡◌, ℕ, zero, suc, ◌+◌, ◌-◌, Bool, true, false, ◌&&◌, if◌then◌else◌, not, List, [], ◌∷◌, nat_le, refl, sym, ◌∙◌, ap, arith}
+use Rattle.std.proofs.Common.{◌≡◌, ℕ, zero, suc, ◌+◌, ◌-◌, Bool, true, false, ◌&&◌, if◌then◌else◌}
+use Rattle.std.proofs.Common.{not, List, [], ◌∷◌, nat_le, refl, sym, ◌∙◌, ap, arith}
 use Rattle.std.specs.Prelude.{◌==◌, map, count_by}
 use Rattle.std.specs.List.{list_all}
 use Rattle.std.proofs.lemmas.List.Folds.{list_all-map}
@@ -7,7 +8,8 @@ use Rattle.std.proofs.lemmas.List.Sums.{sum_by-cons}
 use Rattle.smi_text.specs.declared.lexer.token.TokenKind.TheVariants as K
 use Rattle.smi_text.specs.declared.trees.tree.TokenText.{TokenText}
 use Rattle.smi_text.specs.trees.Mark.{same_kind}
-use Rattle.smi_text.specs.trees.Fronts.{opening_braces, closing_braces, fronts, has_balanced_braces}
+use Rattle.smi_text.specs.trees.Fronts.{opening_braces, closing_braces, fronts}
+use Rattle.smi_text.specs.trees.Fronts.{has_balanced_braces}
 use Rattle.smi_text.specs.Grammar.{depth_after, is_outside, is_balanced}
 use Rattle.smi_text.proofs.Marks.{same_kind-eq}
 

@@ -1,18 +1,28 @@
 -- Gaps: blank octets and comments, and where none begins.
-use Rattle.std.proofs.Common.{◌≡◌, ℕ, zero, suc, ◌+◌, ◌<◌, ◌≤◌, ◌⊎◌, Bool, true, false, cond, ◌&&◌, Some, List, [], ◌∷◌, length, get_or, take, drop, refl}
+use Rattle.std.proofs.Common.{◌≡◌, ℕ, zero, suc, ◌+◌, ◌<◌, ◌≤◌, ◌⊎◌, Bool, true, false, cond, ◌&&◌}
+use Rattle.std.proofs.Common.{Some, List, [], ◌∷◌, length, get_or, take, drop, refl}
 use Rattle.std.proofs.Common.{sym, ap, ◌∙◌, subst, inl, inr, ⊎_elim, arith, eqb}
 use Rattle.std.specs.List.{list_all}
 use Rattle.std.specs.Bool.{then_some}
-use Rattle.std.specs.Char.{is_ascii_digit, is_ascii_hexdigit, is_ascii_lowercase, is_ascii_uppercase}
+use Rattle.std.specs.Char.{is_ascii_digit, is_ascii_hexdigit, is_ascii_lowercase}
+use Rattle.std.specs.Char.{is_ascii_uppercase}
 use Rattle.std.proofs.lemmas.Bool.{eqb-true, ne_eqb, false≢true}
 use Rattle.std.proofs.lemmas.List.{drop_all}
 use Rattle.smi_text.specs.declared.lexer.class.Class.{Class}
-use Rattle.smi_text.specs.declared.lexer.class.Class.TheVariants.{Blank, Lowercase, Uppercase, Digit, Hyphen, Quote, Apostrophe, Symbol, Other}
+use Rattle.smi_text.specs.declared.lexer.class.Class.TheVariants.{Blank, Lowercase, Uppercase}
+use Rattle.smi_text.specs.declared.lexer.class.Class.TheVariants.{Digit, Hyphen, Quote, Apostrophe}
+use Rattle.smi_text.specs.declared.lexer.class.Class.TheVariants.{Symbol, Other}
 use Rattle.smi_text.specs.declared.lexer.token.TokenKind.{TokenKind}
-use Rattle.smi_text.specs.declared.lexer.token.TokenKind.TheVariants.{Lower, Upper, Number, Text, Hex, Binary, Assign, Range, Colon, Dot}
-use Rattle.smi_text.specs.lexer.Lexeme.{gap, lexeme, begins, is_blank, is_hyphen, is_newline, is_binary_digit, is_word_rest}
-use Rattle.smi_text.specs.lexer.Reading.{HasNoGap, IsLongestPassing, IsPartFront, Skips, class_of, hyphen_part, is_comment_rest, is_string_rest}
-use Rattle.smi_text.specs.lexer.Reading.{is_literal_rest, is_hex_letter, is_binary_letter, is_nothing, is_remark_rest, is_sole, literal_part, newlines}
+use Rattle.smi_text.specs.declared.lexer.token.TokenKind.TheVariants.{Lower, Upper, Number, Text}
+use Rattle.smi_text.specs.declared.lexer.token.TokenKind.TheVariants.{Hex, Binary, Assign, Range}
+use Rattle.smi_text.specs.declared.lexer.token.TokenKind.TheVariants.{Colon, Dot}
+use Rattle.smi_text.specs.lexer.Lexeme.{gap, lexeme, begins, is_blank, is_hyphen, is_newline}
+use Rattle.smi_text.specs.lexer.Lexeme.{is_binary_digit, is_word_rest}
+use Rattle.smi_text.specs.lexer.Reading.{HasNoGap, IsLongestPassing, IsPartFront, Skips, class_of}
+use Rattle.smi_text.specs.lexer.Reading.{hyphen_part, is_comment_rest, is_string_rest}
+use Rattle.smi_text.specs.lexer.Reading.{is_literal_rest, is_hex_letter, is_binary_letter}
+use Rattle.smi_text.specs.lexer.Reading.{is_nothing, is_remark_rest, is_sole, literal_part}
+use Rattle.smi_text.specs.lexer.Reading.{newlines}
 use Rattle.smi_text.specs.lexer.Reading.{part_in, part_of, symbol_part, symbol_among, symbols}
 use Rattle.smi_text.proofs.Classes.{class_is}
 use Rattle.smi_text.proofs.LexerFronts.{and_true, rest_at, rest_of_two}

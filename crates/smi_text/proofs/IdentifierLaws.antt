@@ -2,10 +2,13 @@
 use Rattle.std.proofs.Common.{◌≡◌, ℕ, List, Option, Some, None, refl, sym, ap, inl, inr, ◌⊎◌}
 use Rattle.smi_text.specs.declared.lexer.token.TokenKind.TheVariants as K
 use Rattle.smi_text.specs.trees.Number.{is_arc}
-use Rattle.smi_text.specs.Format.{before, behind, either, many, maybe, pair, shaped, some_of, text, text_where, token, lower}
-use Rattle.smi_text.specs.Grammar.{to_part, from_part, to_later_part, from_later_part, arc, braced, identifier, later_part, parenthesized, part, value}
+use Rattle.smi_text.specs.Format.{before, behind, either, many, maybe, pair, shaped, some_of, text}
+use Rattle.smi_text.specs.Format.{text_where, token, lower}
+use Rattle.smi_text.specs.Grammar.{to_part, from_part, to_later_part, from_later_part, arc, braced}
+use Rattle.smi_text.specs.Grammar.{identifier, later_part, parenthesized, part, value}
 use Rattle.smi_text.proofs.Lawful.{Lawful}
-use Rattle.smi_text.proofs.Laws.{some-inj, token-law, text_where-law, lower-law, pair-law, behind-law, maybe-law, either-law, shaped-law}
+use Rattle.smi_text.proofs.Laws.{some-inj, token-law, text_where-law, lower-law, pair-law}
+use Rattle.smi_text.proofs.Laws.{behind-law, maybe-law, either-law, shaped-law}
 use Rattle.smi_text.specs.declared.trees.names.Name.{Name}
 use Rattle.smi_text.specs.declared.trees.tree.Part.{Part}
 use Rattle.smi_text.specs.declared.trees.tree.Part.TheVariants as P

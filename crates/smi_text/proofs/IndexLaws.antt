@@ -1,18 +1,23 @@
 -- Indexes are lawful.
-use Rattle.std.proofs.Common.{◌≡◌, ℕ, zero, suc, ◌≤◌, Bool, true, false, List, [], ◌∷◌, length, Some, None, Ok, Err, if◌then◌else◌, refl, sym, ◌∙◌, ap, subst}
+use Rattle.std.proofs.Common.{◌≡◌, ℕ, zero, suc, ◌≤◌, Bool, true, false, List, [], ◌∷◌, length}
+use Rattle.std.proofs.Common.{Some, None, Ok, Err, if◌then◌else◌, refl, sym, ◌∙◌, ap, subst}
 use Rattle.std.proofs.Common.{arith, inl, inr, ◌⊎◌}
 use Rattle.std.specs.Prelude.{codes, option_map, option_and_then}
 use Rattle.smi_text.specs.declared.lexer.token.TokenKind.TheVariants as K
 use Rattle.smi_text.specs.lexer.Token.{Item}
 use Rattle.smi_text.specs.trees.Mark.{Mark, sign, spelled}
 use Rattle.smi_text.specs.Format.{StandsAhead}
-use Rattle.smi_text.specs.Format.{Parsed, a_word, a_kind, meets, begins, before, behind, either, many, separated, shaped, some_of, text, token, word, lower}
-use Rattle.smi_text.specs.Grammar.{index_marks, index_parts, implied_name, to_index, from_index, braced, index, index_names, names, read_index}
+use Rattle.smi_text.specs.Format.{Parsed, a_word, a_kind, meets, begins, before, behind, either}
+use Rattle.smi_text.specs.Format.{many, separated, shaped, some_of, text, token, word, lower}
+use Rattle.smi_text.specs.Grammar.{index_marks, index_parts, implied_name, to_index, from_index}
+use Rattle.smi_text.specs.Grammar.{braced, index, index_names, names, read_index}
 use Rattle.smi_text.specs.Grammar.{with_names}
 use Rattle.smi_text.proofs.Lawful.{Lawful}
-use Rattle.smi_text.proofs.Marks.{or-left, or-right, StandsAhead-append, StandsAhead-split, begins-none, begins-append, map-inv, then-inv}
+use Rattle.smi_text.proofs.Marks.{or-left, or-right, StandsAhead-append, StandsAhead-split}
+use Rattle.smi_text.proofs.Marks.{begins-none, begins-append, map-inv, then-inv}
 use Rattle.smi_text.proofs.Many.{StandsAhead-length}
-use Rattle.smi_text.proofs.Laws.{some-inj, any-one, never-stands, word-law, token-law, lower-law, behind-law, either-law, shaped-law, starts-with}
+use Rattle.smi_text.proofs.Laws.{some-inj, any-one, never-stands, word-law, token-law, lower-law}
+use Rattle.smi_text.proofs.Laws.{behind-law, either-law, shaped-law, starts-with}
 use Rattle.smi_text.specs.declared.trees.names.Name.{Name}
 use Rattle.smi_text.specs.declared.trees.tree.IndexParts.{IndexParts}
 use Rattle.smi_text.specs.declared.trees.tree.Index.TheVariants as I

@@ -1,24 +1,32 @@
 -- Each way of making a format keeps it lawful.
-use Rattle.std.proofs.Common.{◌≡◌, ℕ, zero, suc, ◌<◌, Bool, true, false, ◌&&◌, not, List, [], ◌∷◌, ◌++◌, length, Option, Some, None, Ok, Err, if◌then◌else◌}
+use Rattle.std.proofs.Common.{◌≡◌, ℕ, zero, suc, ◌<◌, Bool, true, false, ◌&&◌, not, List, [], ◌∷◌}
+use Rattle.std.proofs.Common.{◌++◌, length, Option, Some, None, Ok, Err, if◌then◌else◌}
 use Rattle.std.proofs.Common.{refl, sym, ◌∙◌, ap, subst, arith, inl, inr, ◌⊎◌}
 use Rattle.std.specs.Prelude.{option_map, option_and_then}
 use Rattle.std.specs.List.{list_any, flat_map}
 use Rattle.smi_text.specs.declared.lexer.token.TokenKind.{TokenKind}
 use Rattle.smi_text.specs.declared.lexer.token.TokenKind.TheVariants.{Lower, Upper}
 use Rattle.smi_text.specs.lexer.Token.{Lexeme, Item}
-use Rattle.smi_text.specs.trees.Mark.{Mark, sign, sign_text, spelled, same_kind, same_text, MarksToken}
+use Rattle.smi_text.specs.trees.Mark.{Mark, sign, sign_text, spelled, same_kind, same_text}
+use Rattle.smi_text.specs.trees.Mark.{MarksToken}
 use Rattle.smi_text.specs.Format.{StandsAhead}
 use Rattle.smi_text.specs.trees.Reserved.{is_reserved}
-use Rattle.smi_text.specs.Format.{Format, Parsed, Ahead, a_word, a_name, a_kind, is_this_word, meets, begins, apart, never, one, read_one, word, token}
-use Rattle.smi_text.specs.Format.{text, text_where, name, pair, behind, before, maybe, spell_option, either, spell_either, read_many, many, spell_pieces}
-use Rattle.smi_text.specs.Format.{shaped, line_ahead, lined, with_front, lower, name_where, name_of, is_sign}
+use Rattle.smi_text.specs.Format.{Format, Parsed, Ahead, a_word, a_name, a_kind, is_this_word}
+use Rattle.smi_text.specs.Format.{meets, begins, apart, never, one, read_one, word, token}
+use Rattle.smi_text.specs.Format.{text, text_where, name, pair, behind, before, maybe}
+use Rattle.smi_text.specs.Format.{spell_option, either, spell_either, read_many, many}
+use Rattle.smi_text.specs.Format.{spell_pieces}
+use Rattle.smi_text.specs.Format.{shaped, line_ahead, lined, with_front, lower, name_where}
+use Rattle.smi_text.specs.Format.{name_of, is_sign}
 use Rattle.smi_text.specs.trees.Spelling.{put_line}
 use Rattle.smi_text.specs.declared.trees.names.Name.{Name}
 use Rattle.smi_text.proofs.Lawful.{Lawful}
 use Rattle.smi_text.proofs.NameLaws.{name_of-octets, name_of-is}
 pub use Rattle.smi_text.proofs.NameLaws.{some-inj}
-use Rattle.smi_text.proofs.Marks.{and-left, and-right, and-both, or-left, or-right, or-false, same_kind-eq, same_kind-same, same_text-eq, same_text-same}
-use Rattle.smi_text.proofs.Marks.{StandsAhead-append, StandsAhead-split, map-inv, then-inv, begins-append, begins-none, apart-false}
+use Rattle.smi_text.proofs.Marks.{and-left, and-right, and-both, or-left, or-right, or-false}
+use Rattle.smi_text.proofs.Marks.{same_kind-eq, same_kind-same, same_text-eq, same_text-same}
+use Rattle.smi_text.proofs.Marks.{StandsAhead-append, StandsAhead-split, map-inv, then-inv}
+use Rattle.smi_text.proofs.Marks.{begins-append, begins-none, apart-false}
 use Rattle.smi_text.proofs.Many.{shorter, many-goes_on, many-done}
 
 abbrev put_left : {A B : Type 0} → A × List Item → (A ⊎ B) × List Item

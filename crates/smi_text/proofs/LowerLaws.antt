@@ -2,11 +2,16 @@
 use Rattle.std.proofs.Common.{◌≡◌, Some, refl, sym, ap, inl, inr, ◌⊎◌}
 use Rattle.std.specs.Prelude.{codes}
 use Rattle.smi_text.specs.trees.Reserved.{is_reserved}
-use Rattle.smi_text.specs.Format.{Format, before, behind, either, many, maybe, name, pair, separated, shaped, some_of, text, text_where, token, word, lower}
-use Rattle.smi_text.specs.Grammar.{Lower, to_lower, from_lower, arc, balanced, base, before_assign, bound, braced, clause, default_value, group, identifier}
-use Rattle.smi_text.specs.Grammar.{index, index_names, later_part, lower_definition, module_identity, named_number, names, notification_type}
-use Rattle.smi_text.specs.Grammar.{object_identifier, object_identifier_words, object_identity, object_type, objects, octet_string_words, of_row}
-use Rattle.smi_text.specs.Grammar.{parenthesized, part, range, ranges, raw_definition, refinement, revision, simple_type, size, status, syntax_clause}
+use Rattle.smi_text.specs.Format.{Format, before, behind, either, many, maybe, name, pair}
+use Rattle.smi_text.specs.Format.{separated, shaped, some_of, text, text_where, token, word, lower}
+use Rattle.smi_text.specs.Grammar.{Lower, to_lower, from_lower, arc, balanced, base, before_assign}
+use Rattle.smi_text.specs.Grammar.{bound, braced, clause, default_value, group, identifier}
+use Rattle.smi_text.specs.Grammar.{index, index_names, later_part, lower_definition}
+use Rattle.smi_text.specs.Grammar.{module_identity, named_number, names, notification_type}
+use Rattle.smi_text.specs.Grammar.{object_identifier, object_identifier_words, object_identity}
+use Rattle.smi_text.specs.Grammar.{object_type, objects, octet_string_words, of_row}
+use Rattle.smi_text.specs.Grammar.{parenthesized, part, range, ranges, raw_definition, refinement}
+use Rattle.smi_text.specs.Grammar.{revision, simple_type, size, status, syntax_clause}
 use Rattle.smi_text.specs.Grammar.{syntax_type, value}
 use Rattle.smi_text.proofs.Lawful.{Lawful}
 use Rattle.smi_text.proofs.Laws.{some-inj, either-law, shaped-law}
@@ -15,7 +20,8 @@ use Rattle.smi_text.specs.declared.trees.tree.DefKind.TheVariants as D
 use Rattle.smi_text.specs.declared.trees.tree.NotificationType.{NotificationType}
 use Rattle.smi_text.specs.declared.trees.tree.Group.{Group}
 use Rattle.smi_text.specs.declared.trees.tree.RawDefinition.{RawDefinition}
-use Rattle.smi_text.proofs.MacroLaws.{module_identity-law, object_identity-law, object_type-law, notification_type-law, group-law, raw_definition-law}
+use Rattle.smi_text.proofs.MacroLaws.{module_identity-law, object_identity-law, object_type-law}
+use Rattle.smi_text.proofs.MacroLaws.{notification_type-law, group-law, raw_definition-law}
 use Rattle.smi_text.proofs.MacroLaws.{object_identifier-law}
 
 -- definitions by a name in lower case

@@ -3,16 +3,25 @@ use Rattle.std.proofs.Common.{ℕ, List, Option, refl, sym, ap}
 use Rattle.std.specs.Prelude.{codes}
 use Rattle.smi_text.specs.declared.lexer.token.TokenKind.TheVariants as K
 use Rattle.smi_text.specs.trees.Reserved.{is_reserved}
-use Rattle.smi_text.specs.Format.{Format, before, behind, either, many, maybe, name, pair, separated, shaped, some_of, text, text_where, token, word, lower}
-use Rattle.smi_text.specs.Grammar.{to_module_identity, from_module_identity, to_object_identity, from_object_identity, to_object_type, from_object_type}
-use Rattle.smi_text.specs.Grammar.{to_notification_type, from_notification_type, to_group, from_group, to_raw_definition, from_raw_definition}
-use Rattle.smi_text.specs.Grammar.{to_textual_convention, from_textual_convention, arc, balanced, base, before_assign, bound, braced, clause}
-use Rattle.smi_text.specs.Grammar.{default_value, group, identifier, index, index_names, later_part, module_identity, named_number, names, notification_type}
-use Rattle.smi_text.specs.Grammar.{object_identifier, object_identifier_words, object_identity, object_type, objects, octet_string_words, of_row}
-use Rattle.smi_text.specs.Grammar.{parenthesized, part, range, ranges, raw_definition, refinement, revision, simple_type, size, status, syntax_clause}
+use Rattle.smi_text.specs.Format.{Format, before, behind, either, many, maybe, name, pair}
+use Rattle.smi_text.specs.Format.{separated, shaped, some_of, text, text_where, token, word, lower}
+use Rattle.smi_text.specs.Grammar.{to_module_identity, from_module_identity, to_object_identity}
+use Rattle.smi_text.specs.Grammar.{from_object_identity, to_object_type, from_object_type}
+use Rattle.smi_text.specs.Grammar.{to_notification_type, from_notification_type, to_group}
+use Rattle.smi_text.specs.Grammar.{from_group, to_raw_definition, from_raw_definition}
+use Rattle.smi_text.specs.Grammar.{to_textual_convention, from_textual_convention, arc, balanced}
+use Rattle.smi_text.specs.Grammar.{base, before_assign, bound, braced, clause}
+use Rattle.smi_text.specs.Grammar.{default_value, group, identifier, index, index_names}
+use Rattle.smi_text.specs.Grammar.{later_part, module_identity, named_number, names}
+use Rattle.smi_text.specs.Grammar.{notification_type}
+use Rattle.smi_text.specs.Grammar.{object_identifier, object_identifier_words, object_identity}
+use Rattle.smi_text.specs.Grammar.{object_type, objects, octet_string_words, of_row}
+use Rattle.smi_text.specs.Grammar.{parenthesized, part, range, ranges, raw_definition, refinement}
+use Rattle.smi_text.specs.Grammar.{revision, simple_type, size, status, syntax_clause}
 use Rattle.smi_text.specs.Grammar.{syntax_type, textual_convention, value}
 use Rattle.smi_text.proofs.Lawful.{Lawful}
-use Rattle.smi_text.proofs.Laws.{some-inj, word-law, text-law, pair-law, behind-law, maybe-law, many-law, shaped-law}
+use Rattle.smi_text.proofs.Laws.{some-inj, word-law, text-law, pair-law, behind-law, maybe-law}
+use Rattle.smi_text.proofs.Laws.{many-law, shaped-law}
 use Rattle.smi_text.specs.declared.trees.tree.TokenText.{TokenText}
 use Rattle.smi_text.specs.declared.trees.tree.Part.{Part}
 use Rattle.smi_text.specs.declared.trees.tree.Index.{Index}

@@ -8,18 +8,27 @@ use Rattle.smi_text.specs.lexer.Token.{Lexeme}
 use Rattle.smi_text.specs.trees.Mark.{same_kind}
 use Rattle.smi_text.specs.trees.Reserved.{is_reserved}
 use Rattle.smi_text.specs.trees.Number.{is_symbol, is_macro}
-use Rattle.smi_text.specs.Format.{Format, a_name, a_kind, meets, before, behind, either, lined, many, maybe, name, pair, separated, shaped, some_of, text}
+use Rattle.smi_text.specs.Format.{Format, a_name, a_kind, meets, before, behind, either, lined}
+use Rattle.smi_text.specs.Format.{many, maybe, name, pair, separated, shaped, some_of, text}
 use Rattle.smi_text.specs.Format.{text_where, token, word, lower}
-use Rattle.smi_text.specs.Grammar.{macro_words, to_import, from_import, to_head, from_head, to_module, from_module, head_of, arc, assigned, balanced}
-use Rattle.smi_text.specs.Grammar.{base, before_assign, before_end, bound, braced, choice, clause, default_value, definition, field, file, group, head}
-use Rattle.smi_text.specs.Grammar.{heading, identifier, import_clause, imports, index, index_names, later_part, lower_definition, macro_body}
-use Rattle.smi_text.specs.Grammar.{macro_definition, macro_name, module_identity, module_text, named_number, names, notification_type, object_identifier}
-use Rattle.smi_text.specs.Grammar.{object_identifier_words, object_identity, object_type, objects, octet_string_words, of_row, opening, parenthesized, part}
-use Rattle.smi_text.specs.Grammar.{range, ranges, raw_definition, refinement, revision, sequence, simple_type, size, status, imported_symbol, syntax_clause}
-use Rattle.smi_text.specs.Grammar.{syntax_type, tag, tagged, textual_convention, upper_definition, value}
+use Rattle.smi_text.specs.Grammar.{macro_words, to_import, from_import, to_head, from_head}
+use Rattle.smi_text.specs.Grammar.{to_module, from_module, head_of, arc, assigned, balanced}
+use Rattle.smi_text.specs.Grammar.{base, before_assign, before_end, bound, braced, choice, clause}
+use Rattle.smi_text.specs.Grammar.{default_value, definition, field, file, group, head}
+use Rattle.smi_text.specs.Grammar.{heading, identifier, import_clause, imports, index, index_names}
+use Rattle.smi_text.specs.Grammar.{later_part, lower_definition, macro_body}
+use Rattle.smi_text.specs.Grammar.{macro_definition, macro_name, module_identity, module_text}
+use Rattle.smi_text.specs.Grammar.{named_number, names, notification_type, object_identifier}
+use Rattle.smi_text.specs.Grammar.{object_identifier_words, object_identity, object_type, objects}
+use Rattle.smi_text.specs.Grammar.{octet_string_words, of_row, opening, parenthesized, part}
+use Rattle.smi_text.specs.Grammar.{range, ranges, raw_definition, refinement, revision, sequence}
+use Rattle.smi_text.specs.Grammar.{simple_type, size, status, imported_symbol, syntax_clause}
+use Rattle.smi_text.specs.Grammar.{syntax_type, tag, tagged, textual_convention, upper_definition}
+use Rattle.smi_text.specs.Grammar.{value}
 use Rattle.smi_text.proofs.Lawful.{Lawful}
 use Rattle.smi_text.proofs.Marks.{and-left, and-right, and-both, or-left, or-right}
-use Rattle.smi_text.proofs.Laws.{some-inj, word-law, token-law, name-law, pair-law, behind-law, before-law, maybe-law, many-law, shaped-law, lined-law}
+use Rattle.smi_text.proofs.Laws.{some-inj, word-law, token-law, name-law, pair-law, behind-law}
+use Rattle.smi_text.proofs.Laws.{before-law, maybe-law, many-law, shaped-law, lined-law}
 use Rattle.smi_text.specs.declared.trees.tree.TokenText.{TokenText}
 use Rattle.smi_text.specs.declared.trees.names.Name.{Name}
 use Rattle.smi_text.proofs.PieceLaws.{braced-law, separated-law, kept-law}

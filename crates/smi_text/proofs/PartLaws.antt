@@ -1,22 +1,35 @@
 -- A stretch of octets is a part exactly where it reads as one.
-use Rattle.std.proofs.Common.{◌≡◌, ◌≢◌, ℕ, ◌≤◌, ◌⊎◌, Bool, true, false, cond, not, ◌&&◌, ◌||◌, Some, List, [], ◌∷◌, ◌++◌, length, refl, sym, ap, ◌∙◌, subst}
+use Rattle.std.proofs.Common.{◌≡◌, ◌≢◌, ℕ, ◌≤◌, ◌⊎◌, Bool, true, false, cond, not, ◌&&◌, ◌||◌}
+use Rattle.std.proofs.Common.{Some, List, [], ◌∷◌, ◌++◌, length, refl, sym, ap, ◌∙◌, subst}
 use Rattle.std.proofs.Common.{inl, inr, ⊎_elim, arith, eqb, codes, append_assoc, append-nil, ◌+◌}
 use Rattle.std.specs.List.{list_all}
 use Rattle.std.specs.Bool.{then_some}
-use Rattle.std.specs.Char.{is_ascii_digit, is_ascii_hexdigit, is_ascii_lowercase, is_ascii_uppercase}
+use Rattle.std.specs.Char.{is_ascii_digit, is_ascii_hexdigit, is_ascii_lowercase}
+use Rattle.std.specs.Char.{is_ascii_uppercase}
 use Rattle.std.proofs.Math.Bool.{and-false}
 use Rattle.std.proofs.lemmas.Bool.Decides.{nat_tests}
 use Rattle.std.proofs.lemmas.Bool.{eqb-true, false≢true, not-true, or_cases}
 use Rattle.smi_text.specs.declared.lexer.class.Class.{Class}
-use Rattle.smi_text.specs.declared.lexer.class.Class.TheVariants.{Blank, Lowercase, Uppercase, Digit, Hyphen, Quote, Apostrophe, Symbol, Other}
+use Rattle.smi_text.specs.declared.lexer.class.Class.TheVariants.{Blank, Lowercase, Uppercase}
+use Rattle.smi_text.specs.declared.lexer.class.Class.TheVariants.{Digit, Hyphen, Quote, Apostrophe}
+use Rattle.smi_text.specs.declared.lexer.class.Class.TheVariants.{Symbol, Other}
 use Rattle.smi_text.specs.declared.lexer.token.TokenKind.{TokenKind}
-use Rattle.smi_text.specs.declared.lexer.token.TokenKind.TheVariants.{Lower, Upper, Number, Text, Hex, Binary, Assign, Range, OpenBrace, CloseBrace}
-use Rattle.smi_text.specs.declared.lexer.token.TokenKind.TheVariants.{OpenParen, CloseParen, OpenBracket, CloseBracket, Less, Greater, Comma, Semicolon}
+use Rattle.smi_text.specs.declared.lexer.token.TokenKind.TheVariants.{Lower, Upper, Number, Text}
+use Rattle.smi_text.specs.declared.lexer.token.TokenKind.TheVariants.{Hex, Binary, Assign, Range}
+use Rattle.smi_text.specs.declared.lexer.token.TokenKind.TheVariants.{OpenBrace, CloseBrace}
+use Rattle.smi_text.specs.declared.lexer.token.TokenKind.TheVariants.{OpenParen, CloseParen}
+use Rattle.smi_text.specs.declared.lexer.token.TokenKind.TheVariants.{OpenBracket, CloseBracket}
+use Rattle.smi_text.specs.declared.lexer.token.TokenKind.TheVariants.{Less, Greater, Comma}
+use Rattle.smi_text.specs.declared.lexer.token.TokenKind.TheVariants.{Semicolon}
 use Rattle.smi_text.specs.declared.lexer.token.TokenKind.TheVariants.{Colon, Bar, Dot, Equals}
-use Rattle.smi_text.specs.lexer.Lexeme.{IsComment, IsLexeme, IsLiteral, IsNumber, IsPart, IsRunOfHyphens, IsString, IsWord, Part, begins, gap}
-use Rattle.smi_text.specs.lexer.Lexeme.{is_binary_digit, is_hyphen, is_newline, is_remark, is_word_rest, lexeme, is_word_octet}
-use Rattle.smi_text.specs.lexer.Reading.{class_of, hyphen_part, is_binary_letter, is_comment_rest, is_hex_letter, is_literal_rest, is_nothing, is_other}
-use Rattle.smi_text.specs.lexer.Reading.{is_remark_rest, is_sole, is_string_rest, literal_part, part_in, part_of, symbol_part, newlines}
+use Rattle.smi_text.specs.lexer.Lexeme.{IsComment, IsLexeme, IsLiteral, IsNumber, IsPart}
+use Rattle.smi_text.specs.lexer.Lexeme.{IsRunOfHyphens, IsString, IsWord, Part, begins, gap}
+use Rattle.smi_text.specs.lexer.Lexeme.{is_binary_digit, is_hyphen, is_newline, is_remark}
+use Rattle.smi_text.specs.lexer.Lexeme.{is_word_rest, lexeme, is_word_octet}
+use Rattle.smi_text.specs.lexer.Reading.{class_of, hyphen_part, is_binary_letter, is_comment_rest}
+use Rattle.smi_text.specs.lexer.Reading.{is_hex_letter, is_literal_rest, is_nothing, is_other}
+use Rattle.smi_text.specs.lexer.Reading.{is_remark_rest, is_sole, is_string_rest, literal_part}
+use Rattle.smi_text.specs.lexer.Reading.{part_in, part_of, symbol_part, newlines}
 use Rattle.smi_text.proofs.Classes.{class_is}
 use Rattle.smi_text.proofs.LexerFronts.{and_true}
 use Rattle.smi_text.proofs.Gaps.{blank_class}

@@ -1,5 +1,6 @@
 -- Pieces of productions are lawful.
-use Rattle.std.proofs.Common.{◌≡◌, ℕ, Bool, true, false, List, [], ◌∷◌, Option, Some, None, if◌then◌else◌, refl, sym, ◌∙◌, ap, subst, inl, inr, ◌⊎◌}
+use Rattle.std.proofs.Common.{◌≡◌, ℕ, Bool, true, false, List, [], ◌∷◌, Option, Some, None}
+use Rattle.std.proofs.Common.{if◌then◌else◌, refl, sym, ◌∙◌, ap, subst, inl, inr, ◌⊎◌}
 use Rattle.std.specs.Prelude.{option_map, option_and_then}
 use Rattle.std.specs.List.{list_any}
 use Rattle.smi_text.specs.declared.lexer.token.TokenKind.{TokenKind}
@@ -7,11 +8,13 @@ use Rattle.smi_text.specs.declared.lexer.token.TokenKind.TheVariants as K
 use Rattle.smi_text.specs.lexer.Token.{Lexeme, Item}
 use Rattle.smi_text.specs.trees.Mark.{Mark, spelled}
 use Rattle.smi_text.specs.Format.{StandsAhead}
-use Rattle.smi_text.specs.Format.{Format, Ahead, a_kind, meets, apart, begins, before, behind, many, pair, separated, shaped, some_of, text, token}
+use Rattle.smi_text.specs.Format.{Format, Ahead, a_kind, meets, apart, begins, before, behind}
+use Rattle.smi_text.specs.Format.{many, pair, separated, shaped, some_of, text, token}
 use Rattle.smi_text.specs.Format.{with_front, word, lower}
 use Rattle.smi_text.specs.Grammar.{kept, kept_text, braced, clause, parenthesized}
 use Rattle.smi_text.proofs.Lawful.{Lawful}
-use Rattle.smi_text.proofs.Laws.{IsOne, some-inj, if-some, if-true, one-law, word-law, token-law, text-law, pair-law, behind-law, before-law, many-law}
+use Rattle.smi_text.proofs.Laws.{IsOne, some-inj, if-some, if-true, one-law, word-law, token-law}
+use Rattle.smi_text.proofs.Laws.{text-law, pair-law, behind-law, before-law, many-law}
 use Rattle.smi_text.proofs.Laws.{shaped-law}
 use Rattle.smi_text.specs.declared.trees.tree.TokenText.{TokenText}
 

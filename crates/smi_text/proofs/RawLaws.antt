@@ -1,13 +1,16 @@
 -- Raw runs of tokens are lawful.
-use Rattle.std.proofs.Common.{◌≡◌, ℕ, Bool, true, false, ◌&&◌, not, List, [], ◌∷◌, ◌++◌, Some, None, Ok, Err, if◌then◌else◌, refl, subst, inl, inr, ◌⊎◌}
+use Rattle.std.proofs.Common.{◌≡◌, ℕ, Bool, true, false, ◌&&◌, not, List, [], ◌∷◌, ◌++◌, Some}
+use Rattle.std.proofs.Common.{None, Ok, Err, if◌then◌else◌, refl, subst, inl, inr, ◌⊎◌}
 use Rattle.std.specs.Prelude.{◌==◌, codes}
 use Rattle.std.proofs.lemmas.Bool.{not-true}
 use Rattle.smi_text.specs.declared.lexer.token.TokenKind.TheVariants as K
 use Rattle.smi_text.specs.lexer.Token.{Lexeme, Item}
 use Rattle.smi_text.specs.trees.Mark.{same_kind, same_text}
 use Rattle.smi_text.specs.Format.{StandsAhead}
-use Rattle.smi_text.specs.Format.{Parsed, no_word, no_kind, never, begins, before, behind, token, with_front, word, lower}
-use Rattle.smi_text.specs.Grammar.{kept_text, depth_after, is_outside, raw_marks, balanced, before_assign, before_end, braced, default_value, is_balanced}
+use Rattle.smi_text.specs.Format.{Parsed, no_word, no_kind, never, begins, before, behind, token}
+use Rattle.smi_text.specs.Format.{with_front, word, lower}
+use Rattle.smi_text.specs.Grammar.{kept_text, depth_after, is_outside, raw_marks, balanced}
+use Rattle.smi_text.specs.Grammar.{before_assign, before_end, braced, default_value, is_balanced}
 use Rattle.smi_text.specs.Grammar.{read_balanced}
 use Rattle.smi_text.proofs.Lawful.{Lawful}
 use Rattle.smi_text.proofs.Marks.{and-left, and-right, and-both, or-false, map-inv}

@@ -8,14 +8,21 @@ use Rattle.smi_text.specs.declared.trees.tree.NamedNumber.{NamedNumber}
 use Rattle.smi_text.specs.declared.trees.tree.Range.{Range}
 use Rattle.smi_text.specs.declared.trees.tree.Field.{Field}
 use Rattle.smi_text.specs.Returned.{ReturnsReading}
-use Rattle.smi_text.specs.Format.{Format, before, behind, either, lined, many, maybe, name, pair, separated, shaped, some_of, text, text_where, token, word}
+use Rattle.smi_text.specs.Format.{Format, before, behind, either, lined, many, maybe, name, pair}
+use Rattle.smi_text.specs.Format.{separated, shaped, some_of, text, text_where, token, word}
 use Rattle.smi_text.specs.Format.{lower}
-use Rattle.smi_text.specs.Grammar.{arc, assigned, balanced, base, before_assign, before_end, bound, braced, choice, clause, default_value, definition}
-use Rattle.smi_text.specs.Grammar.{field, group, head, heading, identifier, import_clause, imports, index, index_names, later_part, lower_definition}
-use Rattle.smi_text.specs.Grammar.{macro_body, macro_definition, macro_name, module_identity, module_text, named_number, names, notification_type}
-use Rattle.smi_text.specs.Grammar.{object_identifier, object_identifier_words, object_identity, object_type, objects, octet_string_words, of_row, opening}
-use Rattle.smi_text.specs.Grammar.{parenthesized, part, range, ranges, raw_definition, refinement, revision, sequence, simple_type, size, status}
-use Rattle.smi_text.specs.Grammar.{imported_symbol, syntax_clause, syntax_type, tag, tagged, textual_convention, upper_definition, value}
+use Rattle.smi_text.specs.Grammar.{arc, assigned, balanced, base, before_assign, before_end, bound}
+use Rattle.smi_text.specs.Grammar.{braced, choice, clause, default_value, definition}
+use Rattle.smi_text.specs.Grammar.{field, group, head, heading, identifier, import_clause, imports}
+use Rattle.smi_text.specs.Grammar.{index, index_names, later_part, lower_definition}
+use Rattle.smi_text.specs.Grammar.{macro_body, macro_definition, macro_name, module_identity}
+use Rattle.smi_text.specs.Grammar.{module_text, named_number, names, notification_type}
+use Rattle.smi_text.specs.Grammar.{object_identifier, object_identifier_words, object_identity}
+use Rattle.smi_text.specs.Grammar.{object_type, objects, octet_string_words, of_row, opening}
+use Rattle.smi_text.specs.Grammar.{parenthesized, part, range, ranges, raw_definition, refinement}
+use Rattle.smi_text.specs.Grammar.{revision, sequence, simple_type, size, status}
+use Rattle.smi_text.specs.Grammar.{imported_symbol, syntax_clause, syntax_type, tag, tagged}
+use Rattle.smi_text.specs.Grammar.{textual_convention, upper_definition, value}
 use Rattle.smi_text.proofs.Lawful.{Lawful}
 use Rattle.smi_text.proofs.Many.{reading-shorter}
 use Rattle.smi_text.proofs.IdentifierLaws.{part-law, later_part-law}

@@ -1,20 +1,28 @@
 -- The formats spell each part of the tree as the grammar's cases do.
-use Rattle.std.proofs.Common.{◌≡◌, ℕ, Bool, true, false, not, List, [], ◌∷◌, ◌++◌, Option, Some, None, if◌then◌else◌, refl, sym, ap, ◌⊎◌, inl, inr}
+use Rattle.std.proofs.Common.{◌≡◌, ℕ, Bool, true, false, not, List, [], ◌∷◌, ◌++◌, Option, Some}
+use Rattle.std.proofs.Common.{None, if◌then◌else◌, refl, sym, ap, ◌⊎◌, inl, inr}
 use Rattle.std.specs.Prelude.{codes}
 use Rattle.std.specs.List.{flat_map}
 use Rattle.smi_text.specs.declared.lexer.token.TokenKind.TheVariants as K
 use Rattle.smi_text.specs.trees.Mark.{Mark, sign, spelled, on_line}
 use Rattle.smi_text.specs.trees.Reserved.{is_reserved}
 use Rattle.smi_text.specs.trees.Number.{is_macro}
-use Rattle.smi_text.specs.Format.{never, spell_option, spell_some, before, behind, either, lined, many, maybe, name, pair, separated, shaped, some_of, text}
+use Rattle.smi_text.specs.Format.{never, spell_option, spell_some, before, behind, either, lined}
+use Rattle.smi_text.specs.Format.{many, maybe, name, pair, separated, shaped, some_of, text}
 use Rattle.smi_text.specs.Format.{text_where, token, word, lower}
 use Rattle.smi_text.specs.trees.Spelling.{put_line}
-use Rattle.smi_text.specs.Grammar.{Labelled, raw_marks, index_marks, arc, assigned, balanced, base, before_assign, before_end, bound, braced, choice}
-use Rattle.smi_text.specs.Grammar.{clause, default_value, definition, field, file, group, head, heading, identifier, import_clause, imports, index}
-use Rattle.smi_text.specs.Grammar.{index_names, later_part, lower_definition, macro_body, macro_definition, macro_name, module_identity, module_text}
-use Rattle.smi_text.specs.Grammar.{named_number, names, notification_type, object_identifier, object_identifier_words, object_identity, object_type}
-use Rattle.smi_text.specs.Grammar.{objects, octet_string_words, of_row, opening, parenthesized, part, range, ranges, raw_definition, refinement, revision}
-use Rattle.smi_text.specs.Grammar.{sequence, simple_type, size, status, imported_symbol, syntax_clause, syntax_type, tag, tagged, textual_convention}
+use Rattle.smi_text.specs.Grammar.{Labelled, raw_marks, index_marks, arc, assigned, balanced, base}
+use Rattle.smi_text.specs.Grammar.{before_assign, before_end, bound, braced, choice}
+use Rattle.smi_text.specs.Grammar.{clause, default_value, definition, field, file, group, head}
+use Rattle.smi_text.specs.Grammar.{heading, identifier, import_clause, imports, index}
+use Rattle.smi_text.specs.Grammar.{index_names, later_part, lower_definition, macro_body}
+use Rattle.smi_text.specs.Grammar.{macro_definition, macro_name, module_identity, module_text}
+use Rattle.smi_text.specs.Grammar.{named_number, names, notification_type, object_identifier}
+use Rattle.smi_text.specs.Grammar.{object_identifier_words, object_identity, object_type}
+use Rattle.smi_text.specs.Grammar.{objects, octet_string_words, of_row, opening, parenthesized}
+use Rattle.smi_text.specs.Grammar.{part, range, ranges, raw_definition, refinement, revision}
+use Rattle.smi_text.specs.Grammar.{sequence, simple_type, size, status, imported_symbol}
+use Rattle.smi_text.specs.Grammar.{syntax_clause, syntax_type, tag, tagged, textual_convention}
 use Rattle.smi_text.specs.Grammar.{upper_definition, value}
 use Rattle.smi_text.specs.trees.Spelling as say
 use Rattle.smi_text.specs.declared.trees.tree.Module.{Module}

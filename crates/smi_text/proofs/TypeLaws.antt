@@ -1,5 +1,6 @@
 -- Types are lawful.
-use Rattle.std.proofs.Common.{◌≡◌, true, ◌&&◌, ◌||◌, List, [], ◌∷◌, Some, refl, sym, ap, inl, inr, ◌⊎◌}
+use Rattle.std.proofs.Common.{◌≡◌, true, ◌&&◌, ◌||◌, List, [], ◌∷◌, Some, refl, sym, ap, inl, inr}
+use Rattle.std.proofs.Common.{◌⊎◌}
 use Rattle.std.specs.Prelude.{codes}
 use Rattle.std.specs.List.{list_any}
 use Rattle.std.proofs.lemmas.Bool.{or_cases}
@@ -8,15 +9,20 @@ use Rattle.smi_text.specs.lexer.Token.{Lexeme}
 use Rattle.smi_text.specs.trees.Mark.{same_kind}
 use Rattle.smi_text.specs.trees.Reserved.{is_reserved}
 use Rattle.smi_text.specs.trees.Number.{is_number, is_bound, is_literal}
-use Rattle.smi_text.specs.Format.{a_kind, meets, before, behind, either, many, maybe, name, pair, separated, shaped, some_of, text, text_where, token, word}
+use Rattle.smi_text.specs.Format.{a_kind, meets, before, behind, either, many, maybe, name, pair}
+use Rattle.smi_text.specs.Format.{separated, shaped, some_of, text, text_where, token, word}
 use Rattle.smi_text.specs.Format.{lower}
-use Rattle.smi_text.specs.Grammar.{to_named_number, from_named_number, to_range, from_range, to_refinement, from_refinement, to_base, from_base}
-use Rattle.smi_text.specs.Grammar.{to_simple_type, from_simple_type, to_syntax, from_syntax, to_field, from_field, base, bound, braced, field, named_number}
-use Rattle.smi_text.specs.Grammar.{object_identifier_words, octet_string_words, of_row, parenthesized, range, ranges, refinement, simple_type, size}
+use Rattle.smi_text.specs.Grammar.{to_named_number, from_named_number, to_range, from_range}
+use Rattle.smi_text.specs.Grammar.{to_refinement, from_refinement, to_base, from_base}
+use Rattle.smi_text.specs.Grammar.{to_simple_type, from_simple_type, to_syntax, from_syntax}
+use Rattle.smi_text.specs.Grammar.{to_field, from_field, base, bound, braced, field, named_number}
+use Rattle.smi_text.specs.Grammar.{object_identifier_words, octet_string_words, of_row}
+use Rattle.smi_text.specs.Grammar.{parenthesized, range, ranges, refinement, simple_type, size}
 use Rattle.smi_text.specs.Grammar.{syntax_type}
 use Rattle.smi_text.proofs.Lawful.{Lawful}
 use Rattle.smi_text.proofs.Marks.{and-left, or-right}
-use Rattle.smi_text.proofs.Laws.{some-inj, word-law, token-law, text_where-law, lower-law, name-law, pair-law, behind-law, maybe-law, either-law, shaped-law}
+use Rattle.smi_text.proofs.Laws.{some-inj, word-law, token-law, text_where-law, lower-law}
+use Rattle.smi_text.proofs.Laws.{name-law, pair-law, behind-law, maybe-law, either-law, shaped-law}
 use Rattle.smi_text.specs.declared.trees.names.Name.{Name}
 use Rattle.smi_text.specs.declared.trees.tree.NamedNumber.{NamedNumber}
 use Rattle.smi_text.specs.declared.trees.tree.Syntax.{Syntax}

@@ -1,5 +1,6 @@
 -- Definitions by a name in upper case, and macros, are lawful.
-use Rattle.std.proofs.Common.{◌≡◌, ℕ, Bool, true, ◌||◌, List, [], ◌∷◌, Option, Some, None, Ok, Err, refl, sym, ◌∙◌, ap, subst, inl, inr, ◌⊎◌}
+use Rattle.std.proofs.Common.{◌≡◌, ℕ, Bool, true, ◌||◌, List, [], ◌∷◌, Option, Some, None, Ok, Err}
+use Rattle.std.proofs.Common.{refl, sym, ◌∙◌, ap, subst, inl, inr, ◌⊎◌}
 use Rattle.std.specs.Prelude.{codes, map}
 use Rattle.std.specs.List.{list_any, list_all}
 use Rattle.std.proofs.lemmas.Bool.{or_cases}
@@ -9,15 +10,22 @@ use Rattle.smi_text.specs.trees.Mark.{same_kind, same_text}
 use Rattle.smi_text.specs.Format.{StandsAhead}
 use Rattle.smi_text.specs.trees.Reserved.{is_reserved, macros, reserved_words}
 use Rattle.smi_text.specs.trees.Number.{is_number, is_macro}
-use Rattle.smi_text.specs.Format.{Format, a_word, meets, begins, spell_pieces, before, behind, either, many, maybe, name, pair, separated, shaped, some_of}
+use Rattle.smi_text.specs.Format.{Format, a_word, meets, begins, spell_pieces, before, behind}
+use Rattle.smi_text.specs.Format.{either, many, maybe, name, pair, separated, shaped, some_of}
 use Rattle.smi_text.specs.Format.{text, text_where, token, word, lower}
-use Rattle.smi_text.specs.Grammar.{macro_words, Assigned, to_assigned, from_assigned, from_type, to_macro, from_macro, to_upper, from_upper, assigned}
-use Rattle.smi_text.specs.Grammar.{balanced, base, before_end, bound, braced, choice, clause, field, macro_body, macro_definition, macro_name, named_number}
-use Rattle.smi_text.specs.Grammar.{object_identifier_words, octet_string_words, of_row, parenthesized, range, ranges, refinement, sequence, simple_type, size}
-use Rattle.smi_text.specs.Grammar.{status, syntax_clause, syntax_type, tag, tagged, textual_convention, upper_definition}
+use Rattle.smi_text.specs.Grammar.{macro_words, Assigned, to_assigned, from_assigned, from_type}
+use Rattle.smi_text.specs.Grammar.{to_macro, from_macro, to_upper, from_upper, assigned}
+use Rattle.smi_text.specs.Grammar.{balanced, base, before_end, bound, braced, choice, clause}
+use Rattle.smi_text.specs.Grammar.{field, macro_body, macro_definition, macro_name, named_number}
+use Rattle.smi_text.specs.Grammar.{object_identifier_words, octet_string_words, of_row}
+use Rattle.smi_text.specs.Grammar.{parenthesized, range, ranges, refinement, sequence, simple_type}
+use Rattle.smi_text.specs.Grammar.{size}
+use Rattle.smi_text.specs.Grammar.{status, syntax_clause, syntax_type, tag, tagged}
+use Rattle.smi_text.specs.Grammar.{textual_convention, upper_definition}
 use Rattle.smi_text.proofs.Lawful.{Lawful}
 use Rattle.smi_text.proofs.Marks.{and-left, and-right, and-both, or-left, or-right, same_text-eq}
-use Rattle.smi_text.proofs.Laws.{some-inj, never-stands, word-law, token-law, text_where-law, name_where-law, pair-law, behind-law, before-law, either-law}
+use Rattle.smi_text.proofs.Laws.{some-inj, never-stands, word-law, token-law, text_where-law}
+use Rattle.smi_text.proofs.Laws.{name_where-law, pair-law, behind-law, before-law, either-law}
 use Rattle.smi_text.proofs.Laws.{many-law, shaped-law}
 use Rattle.smi_text.specs.declared.trees.tree.TokenText.{TokenText}
 use Rattle.smi_text.specs.declared.trees.tree.DefKind.{DefKind}

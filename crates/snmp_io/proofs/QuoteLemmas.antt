@@ -1,8 +1,9 @@
 -- Texts with quotes, octet by octet.
-use Rattle.std.proofs.Common.{◌≡◌, ◌+◌, ◌<◌, ◌∙◌, ℕ, List, [], ◌∷◌, ◌++◌, length, take, get_or, Option, None, refl, sym, ap, subst}
+use Rattle.std.proofs.Common.{◌≡◌, ◌+◌, ◌<◌, ◌∙◌, ℕ, List, [], ◌∷◌, ◌++◌, length, take, get_or}
+use Rattle.std.proofs.Common.{Option, None, refl, sym, ap, subst}
 use Rattle.std.proofs.lemmas.List.{take_more}
-use Rattle.snmp_io.specs.QuoteLaws.{HasNoneAfter, none_later}
-use Rattle.snmp_io.specs.Quotes.{open_after, quote_after, HasNoneOutside}
+use Rattle.snmp_io.specs.QuoteLaws.{quote_after, HasNoneAfter, none_later}
+use Rattle.snmp_io.specs.Quotes.{open_after}
 
 none_in_nothing : (stop : ℕ) (before after : List ℕ) → [] ≡ before ++ stop ∷ after → ⊥
 none_in_nothing stop [] after e = let wrong : ⊥ = cc in wrong
@@ -28,7 +29,7 @@ quote_more quote (y ∷ front) x = quote_more (open_after quote y) front x
 -- no such octet stands outside quotes in the octets so far, after which this quote is open
 pub record IsSoFar (stop : ℕ) (text : List ℕ) (at : ℕ) (quote : Option ℕ) : Type 0 where
   pub now : quote ≡ quote_after None (take at text)
-  pub none : HasNoneOutside stop (take at text)
+  pub none : HasNoneAfter stop None (take at text)
 
 pub read_nothing : (stop : ℕ) (text : List ℕ) → IsSoFar stop text 0 None
 read_nothing stop text = record { now = refl; none = λ before after e _. none_in_nothing stop before after e }
@@ -38,7 +39,7 @@ pub read_more : (stop : ℕ) (text : List ℕ) (at : ℕ) (quote : Option ℕ) �
 read_more stop text at quote low not_here h =
     let x = get_or text at 0 in
     let longer = take_more text at 0 low in
-    let P : List ℕ → Type 0 = λ t. HasNoneOutside stop t in
+    let P : List ℕ → Type 0 = λ t. HasNoneAfter stop None t in
     record {
       now = ap (λ (q : Option ℕ). open_after q x) h.now ∙ sym (quote_more None (take at text) x) ∙ ap (quote_after None) (sym longer);
       none = subst P (sym longer) (none_more stop None (take at text) x h.none (λ now_open same. not_here (h.now ∙ now_open) same));

@@ -1,5 +1,6 @@
 -- What is read of the front of a text.
-use Rattle.std.proofs.Common.{◌≡◌, ◌∙◌, ◌<◌, ◌++◌, ℕ, List, [], Option, Some, None, IfSome, length, min, take, option_map, ap, arith, inl, inr, sym}
+use Rattle.std.proofs.Common.{◌≡◌, ◌∙◌, ◌<◌, ◌++◌, ℕ, List, [], Option, Some, None, IfSome, length}
+use Rattle.std.proofs.Common.{min, take, option_map, ap, arith, inl, inr, sym}
 use Rattle.std.proofs.Math.Seq.{take-length}
 use Rattle.std.proofs.lemmas.Bool.{cases_lt}
 use Rattle.std.proofs.lemmas.List.{length-take-le, take_min}

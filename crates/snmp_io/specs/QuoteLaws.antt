@@ -1,7 +1,99 @@
--- A text is cut outside quotes in one way: a law, for proofs here and of the crates above.
-use Rattle.std.specs.Prelude.{◌≡◌, ◌≢◌, ℕ, List, [], ◌∷◌, ◌++◌, Option, None}
-use Rattle.std.proofs.Common.{◌∙◌, ap, refl, sym, subst}
-use Rattle.snmp_io.specs.Quotes.{open_after, quote_after, IsCut}
+-- Quotes octet by octet, for proofs here and of the crates above: a text is closed where no quote is
+-- open after it, and it is cut outside quotes in one way.
+use Rattle.std.specs.Prelude.{◌≡◌, ◌≢◌, ℕ, Bool, true, false}
+use Rattle.std.specs.Prelude.{All, List, [], ◌∷◌, ◌++◌, Option, Some, None}
+use Rattle.std.specs.List.{concat}
+use Rattle.std.proofs.Common.{◌∙◌, ap, inl, inr, refl, sym, subst, cond, nat_eq}
+use Rattle.std.proofs.lemmas.List.{append_assoc}
+use Rattle.std.proofs.lemmas.Bool.{eq-eqb, eqb-false, eqb-true, ne_eqb}
+use Rattle.std.proofs.lemmas.List.Elements.{All-cons, All-head, All-nil, All-tail}
+use Rattle.snmp_io.specs.Quotes.{is_quote, open_after, HasNoneOutside, IsClosed, IsCut, IsPiece}
+
+-- the quote that is open after these octets, before which this one is open, if any
+abbrev pub quote_after : Option ℕ → List ℕ → Option ℕ
+quote_after quote [] = quote
+quote_after quote (octet ∷ more) = quote_after (open_after quote octet) more
+
+quote_after_both : (quote : Option ℕ) (front back : List ℕ)
+    → quote_after quote (front ++ back) ≡ quote_after (quote_after quote front) back
+quote_after_both quote [] back = refl
+quote_after_both quote (octet ∷ front) back = quote_after_both (open_after quote octet) front back
+
+-- a quote stays open over octets of other kinds, and the quote itself closes it
+closed_by : (quote : ℕ) (inside : List ℕ) → All (λ octet. octet ≢ quote) inside
+    → quote_after (Some quote) (inside ++ quote ∷ []) ≡ None
+closed_by quote [] none = rw (quote_after, eq-eqb quote quote refl) refl
+closed_by quote (octet ∷ more) none =
+    let other : (nat_eq octet quote) ≡ false = ne_eqb octet quote (All-head (λ o. o ≢ quote) octet more none) in
+    rw (quote_after, other) (closed_by quote more (All-tail (λ o. o ≢ quote) octet more none))
+
+piece_closes : (piece : List ℕ) → IsPiece piece → quote_after None piece ≡ None
+piece_closes piece (inl (octet, plain, is)) = rw (quote_after, is, plain) refl
+piece_closes piece (inr (quote, inside, opens, none, is)) =
+    rw (quote_after, is, opens) (closed_by quote inside none)
+
+-- outside quotes after a closed text
+pub none_open : (text : List ℕ) → IsClosed text → quote_after None text ≡ None
+none_open text (pieces, all, is) = ap (quote_after None) is ∙ none_after pieces all
+  where
+    none_after : (pieces : List (List ℕ)) → All IsPiece pieces → quote_after None (concat pieces) ≡ None
+    none_after [] all = refl
+    none_after (piece ∷ more) all =
+        quote_after_both None piece (concat more)
+        ∙ ap (λ (q : Option ℕ). quote_after q (concat more)) (piece_closes piece (All-head IsPiece piece more all))
+        ∙ none_after more (All-tail IsPiece piece more all)
+
+-- what comes after this quote, up to where it is closed, and closed from there on
+abbrev IsClosedAfter : Option ℕ → List ℕ → Type 0
+IsClosedAfter None text = IsClosed text
+IsClosedAfter (Some quote) text = (inside rest : List ℕ) × All (λ octet. octet ≢ quote) inside
+    × IsClosed rest × (text ≡ inside ++ quote ∷ rest)
+
+abbrev ClosesAfterAny : List ℕ → Type 0
+ClosesAfterAny text = (quote : Option ℕ) → quote_after quote text ≡ None → IsClosedAfter quote text
+
+closed_after : (quote : Option ℕ) (text : List ℕ) → quote_after quote text ≡ None → IsClosedAfter quote text
+closed_after None [] at_end = ([], All-nil IsPiece, refl)
+closed_after (Some quote) [] at_end = let no : ⊥ = cc in absurd no
+closed_after None (octet ∷ more) at_end = at (is_quote octet) refl (λ quote. closed_after quote more)
+  where
+    quoted : is_quote octet ≡ true → IsClosedAfter (Some octet) more → IsClosed (octet ∷ more)
+    quoted opens (inside, rest, none, (pieces, all, is), e) =
+        let piece : List ℕ = octet ∷ inside ++ octet ∷ [] in (
+          piece ∷ pieces,
+          All-cons IsPiece piece pieces (inr (octet, inside, opens, none, refl)) all,
+          ap (λ (t : List ℕ). octet ∷ t) (e ∙ ap (λ (t : List ℕ). inside ++ octet ∷ t) is
+              ∙ sym (append_assoc inside (octet ∷ []) (concat pieces))),
+        )
+
+    at : (b : Bool) → is_quote octet ≡ b → ClosesAfterAny more → IsClosed (octet ∷ more)
+    at false e later =
+        let closed : IsClosed more = later None (subst (λ (b : Bool). quote_after (cond b (Some octet) None) more ≡ None) e at_end) in (
+          (octet ∷ []) ∷ closed.0,
+          All-cons IsPiece (octet ∷ []) closed.0 (inl (octet, e, refl)) closed.1,
+          ap (λ (t : List ℕ). octet ∷ t) closed.2,
+        )
+    at true e later =
+        quoted e (later (Some octet) (subst (λ (b : Bool). quote_after (cond b (Some octet) None) more ≡ None) e at_end))
+closed_after (Some quote) (octet ∷ more) at_end = at (nat_eq octet quote) refl (λ other. closed_after other more)
+  where
+    at : (b : Bool) → (nat_eq octet quote) ≡ b → ClosesAfterAny more → IsClosedAfter (Some quote) (octet ∷ more)
+    at true e later =
+        let closed : IsClosed more = later None (subst (λ (b : Bool). quote_after (cond b None (Some quote)) more ≡ None) e at_end) in
+        ([], more, All-nil (λ o. o ≢ quote), closed, ap (λ (n : ℕ). n ∷ more) (eqb-true octet quote e))
+    at false e later =
+        let closed : IsClosedAfter (Some quote) more
+        = later (Some quote) (subst (λ (b : Bool). quote_after (cond b None (Some quote)) more ≡ None) e at_end) in (
+          octet ∷ closed.0,
+          closed.1,
+          All-cons (λ o. o ≢ quote) octet closed.0 (eqb-false octet quote e) closed.2,
+          closed.3,
+          ap (λ (t : List ℕ). octet ∷ t) closed.4,
+        )
+
+-- a text after which no quote is open
+pub is_closed : (text : List ℕ) → quote_after None text ≡ None → IsClosed text
+is_closed text none = closed_after None text none
 
 -- wherever the octet stands in the text, a quote is open before it, if this one is before the text
 abbrev pub HasNoneAfter : (stop : ℕ) → Option ℕ → List ℕ → Type 0
@@ -40,9 +132,16 @@ same_cut stop quote (x ∷ front) rest (y ∷ other) behind e f g h k =
     (subst K same (none_later stop quote y other k)) in
     (ap (λ (z : ℕ). z ∷ other) same ∙ ap (λ (t : List ℕ). x ∷ t) later.0, later.1)
 
+-- the octet stands outside quotes nowhere, said by what is open before it
+pub never_outside : (stop : ℕ) (text : List ℕ) → HasNoneOutside stop text → HasNoneAfter stop None text
+never_outside stop text none before after e at_end = none before after e (is_closed before at_end)
+
+pub none_outside : (stop : ℕ) (text : List ℕ) → HasNoneAfter stop None text → HasNoneOutside stop text
+none_outside stop text none before after e closed = none before after e (none_open before closed)
+
 -- one cut
 pub cut_once : (stop : ℕ) (text front rest other behind : List ℕ) → IsCut stop text front rest
     → IsCut stop text other behind → (other ≡ front) × (behind ≡ rest)
 cut_once stop text front rest other behind h k =
-    same_cut stop None front rest other behind (sym h.parts ∙ k.parts) h.outside k.outside
-    h.first k.first
+    same_cut stop None front rest other behind (sym h.parts ∙ k.parts) (none_open front h.outside)
+    (none_open other k.outside) (never_outside stop front h.first) (never_outside stop other k.first)

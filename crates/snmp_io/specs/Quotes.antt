@@ -1,7 +1,8 @@
 -- Quotes in a text: one opens at any `"` or `'` outside quotes, and runs to the next of its kind or
 -- to the end.
 use Rattle.std.specs.Prelude.{◌≡◌, ◌≢◌, ℕ, Bool, true, false, ◌||◌, ◌==◌, if◌then◌else◌, ◌⊎◌}
-use Rattle.std.specs.Prelude.{List, [], ◌∷◌, ◌++◌, Option, Some, None}
+use Rattle.std.specs.Prelude.{All, List, [], ◌∷◌, ◌++◌, Option, Some, None}
+use Rattle.std.specs.List.{concat}
 
 abbrev pub is_quote : ℕ → Bool
 is_quote octet = octet == 34 || octet == 39
@@ -11,24 +12,25 @@ abbrev pub open_after : Option ℕ → ℕ → Option ℕ
 open_after None octet = if is_quote octet then Some octet else None
 open_after (Some quote) octet = if octet == quote then None else Some quote
 
-abbrev pub is_unquoted : Option ℕ → Bool
-is_unquoted None = true
-is_unquoted (Some quote) = false
+-- an octet that opens no quote; or a quote, octets of other kinds, and the quote that closes it
+abbrev pub IsPiece : List ℕ → Type 0
+IsPiece piece = ((octet : ℕ) × (is_quote octet ≡ false) × (piece ≡ octet ∷ []))
+    ⊎ ((quote : ℕ) × (inside : List ℕ) × (is_quote quote ≡ true) × All (λ octet. octet ≢ quote) inside
+    × (piece ≡ quote ∷ inside ++ quote ∷ []))
 
--- the quote that is open after these octets, before which this one is open, if any
-abbrev pub quote_after : Option ℕ → List ℕ → Option ℕ
-quote_after quote [] = quote
-quote_after quote (octet ∷ more) = quote_after (open_after quote octet) more
+-- each quote that opens in the text is closed in it, so that what comes next stands outside quotes
+abbrev pub IsClosed : List ℕ → Type 0
+IsClosed text = (pieces : List (List ℕ)) × All IsPiece pieces × (text ≡ concat pieces)
 
 -- wherever the octet stands in the text, a quote is open before it
 abbrev pub HasNoneOutside : (stop : ℕ) → List ℕ → Type 0
 HasNoneOutside stop text = (before after : List ℕ) → text ≡ before ++ stop ∷ after
-    → quote_after None before ≢ None
+    → IsClosed before → ⊥
 
 -- what stands before and after the first such octet outside quotes
 pub record IsCut (stop : ℕ) (text front rest : List ℕ) : Type 0 where
   pub parts : text ≡ front ++ stop ∷ rest
-  pub outside : quote_after None front ≡ None
+  pub outside : IsClosed front
   pub first : HasNoneOutside stop front
 
 -- what stands before the first such octet outside quotes: the whole text where there is none

@@ -1,5 +1,6 @@
 -- Facts about the numeric text of an identifier: how it is written, and that it names the identifier.
-use Rattle.std.proofs.Common.{inl, inr, All, subst, ◌^◌, ◌≡◌, ℕ, ◌+◌, ◌*◌, ◌≤◌, ◌<◌, List, [], ◌∷◌, ◌++◌, ◌-◌, decimal, length, take, refl, sym}
+use Rattle.std.proofs.Common.{inl, inr, All, subst, ◌^◌, ◌≡◌, ℕ, ◌+◌, ◌*◌, ◌≤◌, ◌<◌, List, [], ◌∷◌}
+use Rattle.std.proofs.Common.{◌++◌, ◌-◌, decimal, length, take, refl, sym}
 use Rattle.std.proofs.lemmas.List.{append-nil}
 use Rattle.std.proofs.lemmas.List.Elements.{All-head, All-tail}
 use Rattle.std.specs.List.{flat_map}

@@ -1,7 +1,11 @@
 -- A name cut at dots and at `::` outside quotes, computed, for private clauses.
-use Rattle.std.specs.Prelude.{ℕ, Bool, false, ◌&&◌, ◌==◌, if◌then◌else◌, List, [], ◌∷◌, ◌++◌, drop}
+use Rattle.std.specs.Prelude.{ℕ, Bool, true, false, ◌&&◌, ◌==◌, if◌then◌else◌, List, [], ◌∷◌, ◌++◌, drop}
 use Rattle.std.specs.Prelude.{Option, Some, None, option_map}
-use Rattle.snmp_io.specs.Quotes.{is_unquoted, open_after}
+use Rattle.snmp_io.specs.Quotes.{open_after}
+
+abbrev pub is_unquoted : Option ℕ → Bool
+is_unquoted None = true
+is_unquoted (Some quote) = false
 
 -- octets before the first of some parts
 abbrev pub with_prefix : List ℕ → List (List ℕ) → List (List ℕ)

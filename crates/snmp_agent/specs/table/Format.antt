@@ -2,7 +2,7 @@
 -- row ends.
 use Rattle.std.specs.Prelude.{◌≡◌, ◌≢◌, ◌≤◌, ℕ, List, ◌∷◌, ◌++◌, length, codes, All}
 use Rattle.std.specs.Prelude.{Option, Some, None, IfSome, option_map}
-use Rattle.snmp_io.specs.Quotes.{quote_after, HasNoneOutside, IsFrontOf}
+use Rattle.snmp_io.specs.Quotes.{HasNoneOutside, IsClosed, IsFrontOf}
 use Rattle.snmp_oid.specs.Identifier.{IsIdentifier}
 use Rattle.snmp_oid.specs.Numeric.{IsNumericName}
 use Rattle.snmp_agent.specs.table.Exact.{IsOnly}
@@ -47,7 +47,7 @@ IsNameIn (second_format names) text o = HasNoneOutside bar text × Means names t
 -- what stands before the bar that ends a row's name: the first, or the first outside quotes
 abbrev pub EndsAtBar : Format → (name : List ℕ) → Type 0
 EndsAtBar first_format name = All (λ octet. octet ≢ bar) name
-EndsAtBar (second_format names) name = (quote_after None name ≡ None) × HasNoneOutside bar name
+EndsAtBar (second_format names) name = IsClosed name × HasNoneOutside bar name
 
 -- no bar ends a name
 abbrev pub HasNoEnd : Format → (line : List ℕ) → Type 0

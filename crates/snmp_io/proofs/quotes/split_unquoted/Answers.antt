@@ -1,11 +1,13 @@
-use Rattle.std.proofs.Common.{◌≡◌, ◌+◌, ℕ, Bool, true, false, not, List, ◌∷◌, ◌++◌, Option, Some, None, ap, sym, ◌∙◌, take, drop, get_or, refl, subst}
+use Rattle.std.proofs.Common.{◌≡◌, ◌+◌, ℕ, Bool, true, false, not, List, ◌∷◌, ◌++◌, Option, Some}
+use Rattle.std.proofs.Common.{None, ap, sym, ◌∙◌, take, drop, get_or, refl, subst}
 use Rattle.std.specs.Option.{is_some}
 use Rattle.std.proofs.lemmas.List.{at_drop_more, take_all, take-append-drop}
-use Rattle.snmp_io.specs.Quotes.{HasNoneOutside}
+use Rattle.snmp_io.specs.QuoteLaws.{HasNoneAfter, is_closed, none_outside}
 use Rattle.snmp_io.proofs.OutputLemmas.{rest_whole}
 use Rattle.snmp_io.proofs.QuoteLemmas.{IsSoFar, read_more, read_nothing}
 use Rattle.snmp_io.proofs.quotes.split_unquoted.Goals as goal
-use Rattle.snmp_io.proofs.quotes.split_unquoted.Goals.{else-is_none-via-then-is_none+else-octet-stop, else-is_none-via-else-is_none}
+use Rattle.snmp_io.proofs.quotes.split_unquoted.Goals.{else-is_none-via-then-is_none+else-octet-stop}
+use Rattle.snmp_io.proofs.quotes.split_unquoted.Goals.{else-is_none-via-else-is_none}
 
 unquoted : (quote : Option ℕ) (test : Bool) → is_some quote ≡ not test → test ≡ true → quote ≡ None
 unquoted None test is yes_none = refl
@@ -26,8 +28,9 @@ returns-then-octet-stop c =
     record {
       parts = sym (take-append-drop at text) ∙ ap (λ (t : List ℕ). take at text ++ t) (at_drop_more (λ (t : List ℕ). t) text at 0 c.octets-test.true
           ∙ ap (λ (x : ℕ). x ∷ drop (at + 1) text) same ∙ ap (λ (t : List ℕ). c.args.stop ∷ t) (sym (rest_whole (at + 1) text)));
-      outside = sym c.octets.invariant.now ∙ unquoted c.octets.quote c.is_none.result c.is_none.ensures c.if-is_none.true;
-      first = c.octets.invariant.none;
+      outside = is_closed (take at text) (sym c.octets.invariant.now
+          ∙ unquoted c.octets.quote c.is_none.result c.is_none.ensures c.if-is_none.true);
+      first = none_outside c.args.stop (take at text) c.octets.invariant.none;
     }
 
 pub octets-preserved : goal.octets-preserved
@@ -41,5 +44,6 @@ octets-preserved c =
 
 pub returns : goal.returns
 returns c =
-    let P : List ℕ → Type 0 = λ t. HasNoneOutside c.args.stop t in
-    subst P (take_all c.octets.at c.args.text.now c.octets-test.false) c.octets.invariant.none
+    let P : List ℕ → Type 0 = λ t. HasNoneAfter c.args.stop None t in
+    none_outside c.args.stop c.args.text.now
+    (subst P (take_all c.octets.at c.args.text.now c.octets-test.false) c.octets.invariant.none)

@@ -1,4 +1,5 @@
-use Rattle.std.proofs.Common.{◌≡◌, ℕ, ◌+◌, ◌-◌, ◌*◌, ◌<◌, ◌≤◌, ◌^◌, true, List, [], drop, get_or, length, arith, sym, subst, rules, drop_of_length-le}
+use Rattle.std.proofs.Common.{◌≡◌, ℕ, ◌+◌, ◌-◌, ◌*◌, ◌<◌, ◌≤◌, ◌^◌, true, List, [], drop, get_or}
+use Rattle.std.proofs.Common.{length, arith, sym, subst, rules, drop_of_length-le}
 use Rattle.std.specs.Char.{is_ascii_digit}
 use Rattle.snmp_oid.specs.Numeric.{IsNumeral}
 use Rattle.snmp_oid.proofs.Numeral.{IsReadTo, read_more_at, read_all, read_large_at}

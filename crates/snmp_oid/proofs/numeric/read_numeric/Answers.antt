@@ -1,10 +1,13 @@
-use Rattle.std.proofs.Common.{◌≡◌, ℕ, ◌-◌, ◌<◌, ◌≤◌, inl, inr, ◌∙◌, List, [], ◌∷◌, ◌++◌, length, Bool, true, false, Bor, Option, Some, None, Result, Ok, Err, IsOk}
-use Rattle.std.proofs.Common.{OnOk, OnErr, ◌↔◌, MatchOption, option_map, refl, sym, ap, subst, arith}
+use Rattle.std.proofs.Common.{◌≡◌, ℕ, ◌-◌, ◌<◌, ◌≤◌, inl, inr, ◌∙◌, List, [], ◌∷◌, ◌++◌, length}
+use Rattle.std.proofs.Common.{Bool, true, false, Bor, Option, Some, None, Result, Ok, Err, IsOk}
+use Rattle.std.proofs.Common.{OnOk, OnErr, ◌↔◌, MatchOption, option_map, refl, sym, ap, subst}
+use Rattle.std.proofs.Common.{arith}
 use Rattle.std.specs.Result.{is_err}
 use Rattle.snmp_oid.specs.declared.oid.OidError.{OidError}
 use Rattle.snmp_oid.specs.Numeric.{IsNumeral, IsNumericName, IsFirstBadPart, IsPartRead}
 use Rattle.snmp_oid.proofs.Dotted.{Splits}
-use Rattle.snmp_oid.proofs.Parsing.{IsParsedTo, dot_alone, parse_begins, parse_more, bad_part_here, bad_part_no_name, one_bad_part, parsed_name, parsed_only}
+use Rattle.snmp_oid.proofs.Parsing.{IsParsedTo, dot_alone, parse_begins, parse_more, bad_part_here}
+use Rattle.snmp_oid.proofs.Parsing.{bad_part_no_name, one_bad_part, parsed_name, parsed_only}
 use Rattle.snmp_oid.proofs.Parsing.{parsed_short}
 use Rattle.snmp_oid.proofs.numeric.read_numeric.Goals as goal
 

@@ -3,7 +3,8 @@ use Rattle.smi_text.specs.lexer.Lexeme.{is_word_octet}
 use Rattle.smi_text.proofs.Scans.{word_step, hyphen_step, word_stop, begins_past, begins_at}
 use Rattle.smi_text.proofs.lexer.scan.word_rest_len.Goals as goal
 use Rattle.smi_text.proofs.lexer.scan.word_rest_len.Goals.{else-text-n-eq45-via-then-text-n-eq45+then-n-text+else-is_word_octet-2}
-use Rattle.smi_text.proofs.lexer.scan.word_rest_len.Goals.{else-text-n-eq45-via-then-text-n-eq45+else-n-text, else-text-n-eq45-via-else-text-n-eq45}
+use Rattle.smi_text.proofs.lexer.scan.word_rest_len.Goals.{else-text-n-eq45-via-then-text-n-eq45+else-n-text}
+use Rattle.smi_text.proofs.lexer.scan.word_rest_len.Goals.{else-text-n-eq45-via-else-text-n-eq45}
 
 pub octets-preserved-then-is_word_octet : goal.octets-preserved-then-is_word_octet
 octets-preserved-then-is_word_octet c = word_step c.args.text.now c.octets.n c.octets-test.true (sym c.is_word_octet.ensures

@@ -1,6 +1,7 @@
 use Rattle.std.proofs.Common.{◌∙◌, sym, length, arith}
 use Rattle.std.proofs.lemmas.Result.{err_from_is_err_and}
-use Rattle.smi_text.proofs.Loops.{with_names-nil, index-implied, index-no_name, index-stuck, index-last, index-no_comma, index-next, index_names-starts}
+use Rattle.smi_text.proofs.Loops.{with_names-nil, index-implied, index-no_name, index-stuck}
+use Rattle.smi_text.proofs.Loops.{index-last, index-no_comma, index-next, index_names-starts}
 use Rattle.smi_text.proofs.parser.Parser.index_names.Goals as goal
 
 pub each-init : goal.each-init

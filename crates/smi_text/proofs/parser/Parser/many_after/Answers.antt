@@ -1,7 +1,8 @@
 use Rattle.std.proofs.Common.{sym, ◌∙◌, ap, arith, length}
 use Rattle.std.proofs.lemmas.Result.{err_from_is_err_and}
 use Rattle.smi_text.specs.Format.{with_front}
-use Rattle.smi_text.proofs.Many.{next-many, stuck-many, end-many, many-starts_with, with_front-append, with_front-none, with_front-end}
+use Rattle.smi_text.proofs.Many.{next-many, stuck-many, end-many, many-starts_with}
+use Rattle.smi_text.proofs.Many.{with_front-append, with_front-none, with_front-end}
 use Rattle.smi_text.proofs.parser.Parser.many_after.Goals as goal
 
 pub each-init : goal.each-init

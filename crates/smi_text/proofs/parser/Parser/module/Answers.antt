@@ -1,5 +1,6 @@
 use Rattle.std.proofs.lemmas.Result.{err_from_is_err_and}
-use Rattle.smi_text.proofs.FileSteps.{module-stop, module-no_head, module-defs, module-no_end, module-reads}
+use Rattle.smi_text.proofs.FileSteps.{module-stop, module-no_head, module-defs, module-no_end}
+use Rattle.smi_text.proofs.FileSteps.{module-reads}
 use Rattle.smi_text.proofs.parser.Parser.module.Goals as goal
 
 pub returns-clause-ok : goal.returns-clause-ok
