@@ -4,6 +4,7 @@ pub mod Standing
 pub mod Answers
 pub mod Encodings
 pub mod OneReply
+pub mod Halving
 pub mod Lengths
 pub mod Requests
 pub mod Drafts

@@ -5,7 +5,7 @@ use crate::table::format::LineFormat;
 use crate::table::line::{Line, LineFault, read_line};
 use crate::table::pages::Pages;
 use snmp_oid::names;
-use snmp_wire::Oid;
+use snmp_wire::Binding;
 use std::alloc::Global;
 use std::collections::BTreeSet;
 
@@ -33,14 +33,14 @@ impl Draft {
         }
     }
 
-    /// Adds what the line of this number states. Its name is read into the one that is there.
+    /// Adds what the line of this number states. It is read into the binding that is there.
     pub fn add<F: LineFormat>(
         &mut self,
         alloc: Global,
         format: &F,
         line: &[u8],
         number: usize,
-        name: &mut Oid,
+        into: &mut Binding<'_>,
     ) -> Result<(), TableError>
         ensures { (before : List (List ℕ)) → IsDraft (F.format format.now) before self.old
             → MatchResult result
@@ -48,7 +48,7 @@ impl Draft {
             (IsFaultBehind (F.format format.now) before line.now number) }
     {
         names();
-        match read_line(alloc, format, line, name) {
+        match read_line(alloc, format, line, into) {
             Ok(Line::Nothing) => Ok(()),
             Ok(Line::Object(object)) => match self.objects.insert(object) {
                 Ok(_) => Ok(()),

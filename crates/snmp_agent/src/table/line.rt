@@ -1,6 +1,8 @@
 //! The lines of a table's text.
-ghost use Rattle.std.specs.Prelude.{ℕ, List, IfOk, IfErr};
-ghost use Rattle.snmp_agent.specs.table.Row.{tag_text};
+ghost use Rattle.std.specs.Prelude.{◌≡◌, ℕ, List, IfOk, IfErr};
+ghost use Rattle.snmp_wire.specs.Message.{object_id};
+ghost use Rattle.snmp_wire.specs.Range.{IsInRange};
+ghost use Rattle.snmp_agent.specs.table.Row.{datum_of, tag_text, IsShort};
 ghost use Rattle.snmp_agent.specs.table.Form.{States};
 ghost use Rattle.snmp_agent.specs.table.Line.{IsForm, IsObjectRead, IsInstanceRead, IsLineFault};
 ghost use Rattle.snmp_agent.specs.table.Line.{statement_of};
@@ -8,9 +10,10 @@ ghost use Rattle.snmp_agent.specs.table.Text.{IsBlank, IsObjectForm};
 
 use crate::table::change::is_instance_name;
 use crate::table::format::LineFormat;
+use crate::table::row::RowValue;
 use crate::table::split::split_once;
 use crate::table::value::{Tag, value};
-use snmp_wire::{EncodedBinding, Oid, ValueRef};
+use snmp_wire::{Binding, EncodedBinding, Oid, ValueRef};
 use std::alloc::{AllocError, Global};
 
 /// What a line states.
@@ -63,13 +66,13 @@ enum Form<'a> {
     },
 }
 
-/// What a line states. Its name is read into the one that is there: to move a name takes as long as
-/// to read it.
+/// What a line states. Its name is read into the one that is there, and a number into the value: to
+/// move or to clear one takes as long as to read it.
 pub fn read_line<F: LineFormat>(
     alloc: Global,
     format: &F,
     line: &[u8],
-    into: &mut Oid,
+    into: &mut Binding<'_>,
 ) -> Result<Line, LineFault>
     ensures states { IfOk result
         (λ stated. States (F.format format.now) line.now (statement_of stated)) }
@@ -118,14 +121,14 @@ fn object<F: LineFormat>(
     alloc: Global,
     format: &F,
     text: &[u8],
-    into: &mut Oid,
+    into: &mut Binding<'_>,
 ) -> Result<Line, LineFault>
     ensures { IsObjectRead (F.format format.now) text.now result }
 {
-    if !format.name(text, into) || into.is_empty() {
+    if !format.name(text, &mut into.name) || into.name.is_empty() {
         return Err(LineFault::Name);
     }
-    Ok(Line::Object(Vec::from_slice(alloc, into.as_slice())?))
+    Ok(Line::Object(Vec::from_slice(alloc, into.name.as_slice())?))
 }
 
 /// The instance that a line of this form states.
@@ -135,17 +138,48 @@ fn instance<F: LineFormat>(
     text: &[u8],
     tag: Tag,
     value_text: &[u8],
-    into: &mut Oid,
+    into: &mut Binding<'_>,
 ) -> Result<Line, LineFault>
     ensures { IsInstanceRead (F.format format.now) text.now (tag_text tag) value_text.now result }
 {
-    if !format.name(text, into) || !is_instance_name(into) {
+    if !format.name(text, &mut into.name) || !is_instance_name(&into.name) {
         return Err(LineFault::Name);
     }
     let Some(stated) = value(alloc, format, tag, value_text)? else {
         return Err(LineFault::Value);
     };
+    let row = encoded(alloc, &into.name, &stated, &mut into.value)?;
+    Ok(Line::Instance(row))
+}
+
+/// The row of this name and value. A number is put into the value that is there.
+fn encoded(
+    alloc: Global,
+    name: &Oid,
+    stated: &RowValue,
+    value: &mut ValueRef<'_>,
+) -> Result<EncodedBinding, AllocError>
+    requires name { IsInRange (object_id name.now) }
+    requires value { IsInRange (datum_of stated.now) }
+    requires short { IsShort stated.now }
+    ensures { IfOk result (λ row. row ≡ record { name = name.now; value = datum_of stated.now }) }
+{
+    if stated.set_number(value) {
+        return EncodedBinding::new(alloc, name, value);
+    }
+    encoded_text(alloc, name, stated)
+}
+
+/// The same, by a value of its own.
+// Not inlined: a number would have to clear that.
+#[inline(never)]
+fn encoded_text(alloc: Global, name: &Oid, stated: &RowValue) -> Result<EncodedBinding, AllocError>
+    requires name { IsInRange (object_id name.now) }
+    requires value { IsInRange (datum_of stated.now) }
+    requires short { IsShort stated.now }
+    ensures { IfOk result (λ row. row ≡ record { name = name.now; value = datum_of stated.now }) }
+{
     let mut value = ValueRef::Null;
     stated.read_into(&mut value);
-    Ok(Line::Instance(EncodedBinding::new(alloc, into, &value)?))
+    EncodedBinding::new(alloc, name, &value)
 }

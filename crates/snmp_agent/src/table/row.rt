@@ -28,9 +28,41 @@ pub enum RowValue {
 }
 
 impl RowValue {
-    ghost use Rattle.std.specs.Prelude.{◌≡◌};
+    ghost use Rattle.std.specs.Prelude.{◌≡◌, IsTrue};
     ghost use Rattle.snmp_wire.specs.Message.{datum};
     ghost use Rattle.snmp_agent.specs.table.Row.{datum_of, IsShort};
+
+    /// Changes a value to this one where it is a number or an address, and returns whether it is.
+    /// A value that had its type keeps its other octets: this saves setting over 500.
+    pub fn set_number(&self, value: &mut ValueRef<'_>) -> bool
+        ensures { IsTrue result → datum value.new ≡ datum_of self.now }
+    {
+        match self {
+            RowValue::Integer(number) => match value {
+                ValueRef::Integer(place) => *place = *number,
+                _ => *value = ValueRef::Integer(*number),
+            },
+            RowValue::IpAddress(octets) => *value = ValueRef::IpAddress(*octets),
+            RowValue::Counter32(number) => match value {
+                ValueRef::Counter32(place) => *place = *number,
+                _ => *value = ValueRef::Counter32(*number),
+            },
+            RowValue::Gauge32(number) => match value {
+                ValueRef::Gauge32(place) => *place = *number,
+                _ => *value = ValueRef::Gauge32(*number),
+            },
+            RowValue::TimeTicks(number) => match value {
+                ValueRef::TimeTicks(place) => *place = *number,
+                _ => *value = ValueRef::TimeTicks(*number),
+            },
+            RowValue::Counter64(number) => match value {
+                ValueRef::Counter64(place) => *place = *number,
+                _ => *value = ValueRef::Counter64(*number),
+            },
+            RowValue::Octets(_) | RowValue::ObjectId(_) | RowValue::Opaque(_) => return false,
+        }
+        true
+    }
 
     /// Changes a value to this one, which it borrows.
     pub fn read_into<'a>(&'a self, into: &mut ValueRef<'a>)

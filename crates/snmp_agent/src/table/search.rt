@@ -6,10 +6,11 @@ ghost use Rattle.std.specs.Ordering.{nat_cmp};
 ghost use Rattle.std.specs.Cmp.Lexicographic.{slice_cmp};
 ghost use Rattle.std.specs.FinMap.{find};
 ghost use Rattle.snmp_agent.specs.table.Places.{IsAfterAll, IsBeforeNone, IsBeforeAll};
-ghost use Rattle.snmp_agent.specs.table.Pages.{IsRising, ArePages, is_up_to, begins_up_to};
+ghost use Rattle.snmp_agent.specs.table.Pages.{IsRising, ArePages, begins_up_to};
 ghost use Rattle.snmp_agent.specs.table.Pages.{entries_in, entries_of};
 ghost use Rattle.snmp_agent.specs.table.Pages.{HasNameAt, BelongsAt, IsPageOf};
 
+use crate::table::compare::{compare, is_up_to};
 use crate::table::page::Page;
 use snmp_wire::{EncodedBinding, EncodedName};
 
@@ -19,13 +20,17 @@ pub fn page_of(pages: &[Page], name: &EncodedName<'_>) -> usize
     requires { ArePages pages.now }
     ensures { IsPageOf name.now pages.now result }
 {
-    pages
-        .partition_point(
-            |page: &Page| -> bool
-                ensures { result ≡ begins_up_to name.entry.now page.now.rows.items }
-            { begins_up_to(page.rows.as_slice(), name) },
-        )
-        .saturating_sub(1)
+    let mut begun = 0;
+    let mut end = pages.len();
+    'halves: while begun < end {
+        let middle = begun + (end - begun) / 2;
+        if begins_up_to(pages[middle].rows.as_slice(), name) {
+            begun = middle + 1;
+        } else {
+            end = middle;
+        }
+    }
+    begun.saturating_sub(1)
 }
 
 /// Whether all rows come before the name.
@@ -38,17 +43,19 @@ pub fn ends_before(pages: &[Page], name: &EncodedName<'_>) -> bool
         return true;
     };
     match page.rows.as_slice().last() {
-        Some(row) => row.name().compare(name).is_lt(),
+        Some(row) => compare(row, name).is_lt(),
         None => unreachable!(),
     }
 }
 
 /// Whether the first row has the name or one before it.
+// Hot: each turn of a search for a page.
+#[inline(always)]
 pub fn begins_up_to(rows: &[EncodedBinding], name: &EncodedName<'_>) -> bool
     ensures { result ≡ begins_up_to name.now rows.now }
 {
     match rows.first() {
-        Some(row) => row.name().compare(name).is_le(),
+        Some(row) => is_up_to(row, name),
         None => true,
     }
 }
@@ -60,11 +67,17 @@ pub fn place_after(rows: &[EncodedBinding], name: &EncodedName<'_>) -> usize
     ensures passed { IsBeforeNone name.now (entries_of (take result rows.now)) }
     ensures ahead { IsBeforeAll name.now (entries_of (drop result rows.now)) }
 {
-    rows.partition_point(
-        |row: &EncodedBinding| -> bool
-            ensures { result ≡ is_up_to name.entry.now row.now }
-        { row.name().compare(name).is_le() },
-    )
+    let mut passed = 0;
+    let mut end = rows.len();
+    'halves: while passed < end {
+        let middle = passed + (end - passed) / 2;
+        if is_up_to(&rows[middle], name) {
+            passed = middle + 1;
+        } else {
+            end = middle;
+        }
+    }
+    passed
 }
 
 /// The row of this name.
@@ -93,7 +106,7 @@ pub fn find_row(rows: &[EncodedBinding], name: &EncodedName<'_>) -> Result<usize
     let place = place_after(rows, name);
     let (front, _) = rows.split_at(place);
     match front.last() {
-        Some(row) if row.name().compare(name).is_eq() => Ok(place - 1),
+        Some(row) if compare(row, name).is_eq() => Ok(place - 1),
         _ => Err(place),
     }
 }

@@ -6,6 +6,7 @@ use memchr::memchr;
 
 /// The texts before and after the first octet that equals the separator, or None where there is
 /// none.
+#[inline]
 pub fn split_once(text: &[u8], separator: u8) -> Option<(&[u8], &[u8])>
     ensures { MatchOption result (All (λ octet. octet ≢ separator) text.now)
         (λ parts. (text.now ≡ parts.0.now ++ separator ∷ parts.1.now)

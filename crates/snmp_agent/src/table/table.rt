@@ -96,13 +96,13 @@ impl Table {
         ensures fault { IfErr result (IsFirstFaultIn (F.format format.now) (lines text.now)) }
     {
         let mut draft = Draft::new(alloc);
-        let mut name = Oid::new();
+        let mut binding = Binding::empty();
         let mut rest = text;
         let mut number = 0;
         'lines: while !rest.is_empty() {
             let (line, behind) = split_line(rest);
             number += 1;
-            draft.add(alloc, format, line, number, &mut name)?;
+            draft.add(alloc, format, line, number, &mut binding)?;
             rest = behind;
         }
         Ok(Table {

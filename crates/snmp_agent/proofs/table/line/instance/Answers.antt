@@ -1,9 +1,9 @@
 use Rattle.std.proofs.Common.{◌≡◌, ℕ, List, Some, sym, ◌∙◌, subst, ap}
 use Rattle.std.specs.Option.{option_map}
 use Rattle.snmp_wire.specs.Message.{Datum, VarBind}
-use Rattle.snmp_wire.specs.Range.{IsInRange}
 use Rattle.snmp_agent.specs.table.Exact.{IsOnly}
 use Rattle.snmp_agent.specs.table.Row.{datum_of, tag_text}
+use Rattle.snmp_agent.specs.table.Table.{IsInstanceValue}
 use Rattle.snmp_agent.specs.table.Form.{IsInstanceText}
 use Rattle.snmp_agent.specs.table.Format.{IsNameIn}
 use Rattle.snmp_agent.specs.table.Text.{IsValueText}
@@ -19,27 +19,26 @@ stated g c =
     let value : IsOnly (IsValueText format (tag_text c.args.tag) c.args.value_text.now) (option_map datum_of
     (Some c.in-Some.stated)) = rw c.in-Some.is at c.in_ok-stated.ensures in value.0
 
-pub read_into-requires : goal.read_into-requires
-read_into-requires g c =
-    short_value c.in-Some.stated (instance_value (g.F.LineFormat.format c.args.format.now) (tag_text c.args.tag) c.args.value_text.now
-    (datum_of c.in-Some.stated) (stated g (goal.at.read_into-requires g c).In-Some))
+held : (g : Over) (c : In-Some g) → IsInstanceValue (datum_of c.in-Some.stated)
+held g c =
+    instance_value (g.F.LineFormat.format c.args.format.now) (tag_text c.args.tag) c.args.value_text.now (datum_of c.in-Some.stated) (stated g c)
 
-pub new-requires-clause-name : goal.new-requires-clause-name
-new-requires-clause-name g c = name_in_range c.name.new.into (c.is_instance_name.ensures.0 c.if-not-is_instance_name.false)
+pub encoded-requires-clause-name : goal.encoded-requires-clause-name
+encoded-requires-clause-name g c = name_in_range c.name.new.into (c.is_instance_name.ensures.0 c.if-not-is_instance_name.false)
 
-pub new-requires-clause-value : goal.new-requires-clause-value
-new-requires-clause-value g c =
-    subst (λ (v : Datum). IsInRange v) (sym c.read_into.ensures) (value_in_range (datum_of c.in-Some.stated)
-    (instance_value (g.F.LineFormat.format c.args.format.now) (tag_text c.args.tag) c.args.value_text.now (datum_of c.in-Some.stated)
-    (stated g (goal.at.new-requires-clause-value g c).In-Some)))
+pub encoded-requires-clause-value : goal.encoded-requires-clause-value
+encoded-requires-clause-value g c = value_in_range (datum_of c.in-Some.stated) (held g (goal.at.encoded-requires-clause-value g c).In-Some)
+
+pub encoded-requires-clause-short : goal.encoded-requires-clause-short
+encoded-requires-clause-short g c = short_value c.in-Some.stated (held g (goal.at.encoded-requires-clause-short g c).In-Some)
 
 pub returns : goal.returns
 returns g c =
     let format = g.F.LineFormat.format c.args.format.now in
-    let row : VarBind = c.in_ok-new.field-0 in
+    let row : VarBind = c.in_ok-row.row in
     let named : IsOnly (IsNameIn format c.args.text.now) (Some c.name.new.into) = rw c.if-not-name.false at c.name.ensures in
-    let name : row.name ≡ c.name.new.into = ap (λ (p : VarBind). p.name) c.in_ok-new.ensures in
-    let value : row.value ≡ datum_of c.in-Some.stated = ap (λ (p : VarBind). p.value) c.in_ok-new.ensures ∙ c.read_into.ensures in (
+    let name : row.name ≡ c.name.new.into = ap (λ (p : VarBind). p.name) c.in_ok-row.ensures in
+    let value : row.value ≡ datum_of c.in-Some.stated = ap (λ (p : VarBind). p.value) c.in_ok-row.ensures in (
       subst (λ (o : List ℕ). IsInstanceText format c.args.text.now o) (sym name)
           (named.0, c.is_instance_name.ensures.0 c.if-not-is_instance_name.false),
       subst (λ (v : Datum). IsValueText format (tag_text c.args.tag) c.args.value_text.now v) (sym value)

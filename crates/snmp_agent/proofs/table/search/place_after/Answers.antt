@@ -1,18 +1,28 @@
-use Rattle.std.proofs.Common.{◌≡◌, true, false, rules}
-use Rattle.std.specs.List.Sorted.{IsPartitionPoint}
-use Rattle.std.proofs.lemmas.List.Sorted.{IsPartitionPoint-from_clause}
+use Rattle.std.proofs.Common.{◌≡◌, ℕ, ◌+◌, ◌-◌, ◌/◌, true, false, sym, ◌∙◌, arith}
 use Rattle.snmp_agent.specs.table.Pages.{is_up_to}
+use Rattle.snmp_agent.proofs.Halving.{passes, fails}
 use Rattle.snmp_agent.proofs.Partition.{partitioned, passed_front, ahead_back}
 use Rattle.snmp_agent.proofs.table.search.place_after.Goals as goal
 
-point : (c : goal.After-partition_point)
-    → IsPartitionPoint (λ row. is_up_to c.args.name.now row ≡ true) (λ row. is_up_to c.args.name.now row ≡ false) c.args.rows.now c.partition_point.result
-point c =
-    IsPartitionPoint-from_clause (is_up_to c.args.name.now) c.args.rows.now c.partition_point.result c.partition_point.ensures.partitioned
-    (partitioned c.args.name.now c.args.rows.now c.requires) (λ a r q k. search rules)
+pub halves-preserved-then-is_up_to : goal.halves-preserved-then-is_up_to
+halves-preserved-then-is_up_to c =
+    let middle : ℕ = c.halves.passed + (c.halves.end - c.halves.passed) / 2 in
+    passes (is_up_to c.args.name.now) c.args.rows.now c.halves.passed c.halves.end middle c.index-rows-middle.result
+    (partitioned c.args.name.now c.args.rows.now c.requires) c.halves.invariant (omega (arith, c.halves-test.true)) c.index-rows-middle.is
+    (sym c.is_up_to.ensures ∙ c.if-is_up_to.true)
+
+pub halves-preserved : goal.halves-preserved
+halves-preserved c =
+    let middle : ℕ = c.halves.passed + (c.halves.end - c.halves.passed) / 2 in
+    fails (is_up_to c.args.name.now) c.args.rows.now c.halves.passed c.halves.end middle c.index-rows-middle.result
+    (partitioned c.args.name.now c.args.rows.now c.requires) c.halves.invariant (omega (arith, c.halves-test.true)) (omega arith) c.index-rows-middle.is
+    (sym c.is_up_to.ensures ∙ c.if-is_up_to.false)
 
 pub returns-clause-passed : goal.returns-clause-passed
-returns-clause-passed c = passed_front c.args.name.now c.args.rows.now c.partition_point.result (point c).0 c.partition_point.ensures.bound
+returns-clause-passed c =
+    passed_front c.args.name.now c.args.rows.now c.halves.passed c.halves.invariant.front (omega (arith, c.halves.invariant.order, c.halves.invariant.bound))
 
 pub returns-clause-ahead : goal.returns-clause-ahead
-returns-clause-ahead c = ahead_back c.args.name.now c.args.rows.now c.partition_point.result (point c).1
+returns-clause-ahead c =
+    ahead_back c.args.name.now c.args.rows.now c.halves.passed
+    (λ k d from below. c.halves.invariant.back k d (omega (arith, from, c.halves-test.false)) below)

@@ -1,0 +1,47 @@
+-- A search by halves.
+use Rattle.std.proofs.Common.{◌≡◌, ℕ, zero, suc, ◌+◌, ◌≤◌, ◌<◌, Bool, true, false, List, [], ◌∷◌, length, slice_index_or, refl, sym, ap, ◌∙◌, arith}
+use Rattle.std.specs.List.{AllWithin}
+use Rattle.std.specs.List.Sorted.{IsPartitionedBy}
+
+-- the elements before the one place pass a test, and those from the other on don't
+pub record IsHalvedTo {X : Type 0} (p : X → Bool) (xs : List X) (passed end : ℕ) : Type 0 where
+  pub order : passed ≤ end
+  pub bound : end ≤ length xs
+  pub front : AllWithin (λ x. p x ≡ true) xs 0 passed
+  pub back : AllWithin (λ x. p x ≡ false) xs end (length xs)
+
+-- an element that is there is the same whatever stands for one that isn't
+same_there : {X : Type 0} (xs : List X) (at : ℕ) (d e : X) → at < length xs → slice_index_or xs at d ≡ slice_index_or xs at e
+same_there [] at d e low = absurd (omega (arith, low))
+same_there (x ∷ xs) zero d e low = refl
+same_there (x ∷ xs) (suc at) d e low = same_there xs at d e (omega (arith, low))
+
+-- an element passes, and so do those before it
+pub passes : {X : Type 0} (p : X → Bool) (xs : List X) (passed end at : ℕ) (x : X) → IsPartitionedBy p xs → IsHalvedTo p xs passed end → at < end
+    → x ≡ slice_index_or xs at x → p x ≡ true → IsHalvedTo p xs (at + 1) end
+passes p xs passed end at x parted h low here found = record {
+  order = omega (arith, low);
+  bound = h.bound;
+  front = λ k d from below.
+      let inside : at < length xs = omega (arith, low, h.bound) in
+      let true_there : p (slice_index_or xs at d) ≡ true = ap p (same_there xs at d x inside ∙ sym here) ∙ found in
+      parted k at d (omega (arith, below)) inside true_there;
+  back = h.back;
+}
+
+-- an element doesn't pass, and so don't those behind it
+pub fails : {X : Type 0} (p : X → Bool) (xs : List X) (passed end at : ℕ) (x : X) → IsPartitionedBy p xs → IsHalvedTo p xs passed end → at < end
+    → passed ≤ at → x ≡ slice_index_or xs at x → p x ≡ false → IsHalvedTo p xs passed at
+fails {X} p xs passed end at x parted h low behind here found = record {
+  order = behind;
+  bound = omega (arith, low, h.bound);
+  front = h.front;
+  back = λ k d from below. by_test k d from below (p (slice_index_or xs k d)) refl;
+}
+  where
+    by_test : (k : ℕ) (d : X) → at ≤ k → k < length xs → (b : Bool) → p (slice_index_or xs k d) ≡ b → p (slice_index_or xs k d) ≡ false
+    by_test k d from below false is = is
+    by_test k d from below true is =
+        let true_there : p (slice_index_or xs at d) ≡ true = parted at k d from below is in
+        let false_there : p (slice_index_or xs at d) ≡ false = ap p (same_there xs at d x (omega (arith, low, h.bound)) ∙ sym here) ∙ found in
+        absurd (cc)

@@ -1,0 +1,25 @@
+use Rattle.std.proofs.Common.{◌≡◌, ℕ, ◌+◌, ◌<◌, ◌/◌, get_or, ap, subst, ◌∙◌, arith}
+use Rattle.std.proofs.lemmas.Bool.{eqb-true}
+use Rattle.std.specs.Int.{w64, from_le_bytes, trailing_zeros}
+use Rattle.std.specs.Int.Bits.{bit_xor}
+use Rattle.std.specs.Int.Count.{trailing_of_zero}
+use Rattle.std.proofs.lemmas.Nat.{xor_lt}
+use Rattle.snmp_wire.specs.ber.Canon.{eight_from}
+use Rattle.snmp_wire.proofs.Differing.{words_alike}
+use Rattle.snmp_agent.proofs.table.compare.same_eight.Goals as goal
+
+pub returns : goal.returns
+returns c = λ equal k low.
+    let octets = c.args.octets.now in
+    let others = c.args.others.now in
+    let one = c.word_at.result in
+    let other = c.word_at-2.result in
+    let none : bit_xor one other ≡ 0 = eqb-true (bit_xor one other) 0 equal in
+    let words : bit_xor one other ≡ bit_xor (from_le_bytes w64 (eight_from octets 0)) (from_le_bytes w64 (eight_from others 0)) =
+    ap (λ (a : ℕ). bit_xor a other) c.word_at.ensures ∙ ap (λ (b : ℕ). bit_xor (from_le_bytes w64 (eight_from octets 0)) b) c.word_at-2.ensures in
+    let small : (i : ℕ) → get_or octets i 0 < 256 = λ i. omega (arith, c.type_inv.octets i) in
+    let other_small : (i : ℕ) → get_or others i 0 < 256 = λ i. omega (arith, c.type_inv.others i) in
+    let all : k < trailing_zeros w64 (bit_xor one other) / 8 = omega (arith, low, ap (trailing_zeros w64) none, trailing_of_zero 64) in
+    let place : 0 + k ≡ k = omega arith in
+    subst (λ (i : ℕ). get_or octets i 0 ≡ get_or others i 0) place
+    ((words_alike octets others 0 (bit_xor one other) small other_small (xor_lt 64 one other c.word_at.type_inv c.word_at-2.type_inv) words).same k all)
