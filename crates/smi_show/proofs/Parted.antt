@@ -2,15 +2,16 @@
 use Rattle.std.proofs.Common.{◌≡◌, ◌≢◌, ℕ, ◌≤◌, Bool, true, false, ◌&&◌, nat_eq, cond, List, [], ◌∷◌, ◌++◌, drop, length}
 use Rattle.std.proofs.Common.{Option, Some, None, option_map, refl, sym, ◌∙◌, ap, subst, arith}
 use Rattle.std.proofs.lemmas.Bool.{eqb-true}
-use Rattle.snmp_io.specs.Quotes.{is_unquoted, open_after, quote_after}
+use Rattle.snmp_io.specs.Quotes.{open_after}
+use Rattle.snmp_io.specs.QuoteLaws.{HasNoneAfter, is_closed, never_outside, none_open, none_outside, quote_after}
 use Rattle.smi_show.specs.name.Cut.{AreParts, HasNoModule, IsModuleCut}
-use Rattle.smi_show.specs.name.Cutting.{is_double_colon, longer_module, module_after, name_parts, parts_after, with_prefix}
+use Rattle.smi_show.specs.name.Cutting.{is_double_colon, is_unquoted, longer_module, module_after, name_parts, parts_after, with_prefix}
 
 -- ---- parts
 
 -- wherever a dot stands in the text a quote is open before it, after this one
 abbrev NoneFrom : Option ℕ → List ℕ → Type 0
-NoneFrom quote text = (before after : List ℕ) → text ≡ before ++ 46 ∷ after → quote_after quote before ≢ None
+NoneFrom quote text = HasNoneAfter 46 quote text
 
 record CutFrom (quote : Option ℕ) (text front rest : List ℕ) : Type 0 where
   parts : text ≡ front ++ 46 ∷ rest
@@ -137,15 +138,29 @@ only_from quote (octet ∷ text) ((o ∷ part) ∷ next ∷ more) (rest, cut, h)
 
 plain_parts : (text : List ℕ) (parts : List (List ℕ)) → PartsFrom None text parts → AreParts text parts
 plain_parts text [] h = h
-plain_parts text (part ∷ []) h = h
-plain_parts text (part ∷ next ∷ more) (rest, cut, h) =
-    (rest, record { parts = cut.parts; outside = cut.outside; first = cut.first }, plain_parts rest (next ∷ more) h)
+plain_parts text (part ∷ []) h = (none_outside 46 text h.0, h.1)
+plain_parts text (part ∷ next ∷ more) (rest, cut, h) = (
+  rest,
+  record {
+    parts = cut.parts;
+    outside = is_closed part cut.outside;
+    first = none_outside 46 part cut.first;
+  },
+  plain_parts rest (next ∷ more) h,
+)
 
 from_plain : (text : List ℕ) (parts : List (List ℕ)) → AreParts text parts → PartsFrom None text parts
 from_plain text [] h = h
-from_plain text (part ∷ []) h = h
-from_plain text (part ∷ next ∷ more) (rest, cut, h) =
-    (rest, record { parts = cut.parts; outside = cut.outside; first = cut.first }, from_plain rest (next ∷ more) h)
+from_plain text (part ∷ []) h = (never_outside 46 text h.0, h.1)
+from_plain text (part ∷ next ∷ more) (rest, cut, h) = (
+  rest,
+  record {
+    parts = cut.parts;
+    outside = none_open part cut.outside;
+    first = never_outside 46 part cut.first;
+  },
+  from_plain rest (next ∷ more) h,
+)
 
 pub are_parts : (text : List ℕ) → AreParts text (name_parts text)
 are_parts text = plain_parts text (name_parts text) (parts_from None text)
@@ -228,10 +243,16 @@ read_from quote (octet ∷ more) = at (ends_here quote (octet ∷ more)) refl (r
 pub has_module : (text : List ℕ) (home rest : List ℕ) → module_after None text ≡ Some (home, rest) → IsModuleCut text home rest
 has_module text home rest is =
     let h : ModuleFrom None text home rest = subst (ReadFrom None text) is (read_from None text) in
-    record { parts = h.parts; outside = h.outside; first = h.first }
+    record {
+      parts = h.parts;
+      outside = is_closed home h.outside;
+      first = λ before after e closed. h.first before after e (none_open before closed);
+    }
 
 pub has_no_module : (text : List ℕ) → module_after None text ≡ None → HasNoModule text
-has_no_module text is = subst (ReadFrom None text) is (read_from None text)
+has_no_module text is before after e closed =
+    let none : ReadFrom None text None = subst (ReadFrom None text) is (read_from None text) in
+    none before after e (none_open before closed)
 
 -- fronts of one text that are as long as each other are the same
 same_fronts : (a b x y : List ℕ) → length a ≤ length b → length b ≤ length a → a ++ x ≡ b ++ y → (a ≡ b) × (x ≡ y)
@@ -247,10 +268,10 @@ pub one_module : (text home rest : List ℕ) → IsModuleCut text home rest → 
 one_module text home rest h = at (module_after None text) (read_from None text)
   where
     at : (read : Option (List ℕ × List ℕ)) → ReadFrom None text read → read ≡ Some (home, rest)
-    at None none = absurd (none home rest h.parts h.outside)
+    at None none = absurd (none home rest h.parts (none_open home h.outside))
     at (Some (other, left)) k =
-        let same = same_fronts other home (58 ∷ 58 ∷ left) (58 ∷ 58 ∷ rest) (k.first home rest h.parts h.outside)
-        (h.first other left k.parts k.outside) (sym k.parts ∙ h.parts) in
+        let same = same_fronts other home (58 ∷ 58 ∷ left) (58 ∷ 58 ∷ rest) (k.first home rest h.parts (none_open home h.outside))
+        (h.first other left k.parts (is_closed other k.outside)) (sym k.parts ∙ h.parts) in
         let after : left ≡ rest = let both = same.1 in cc in
         ap (λ (t : List ℕ). Some (t, left)) same.0 ∙ ap (λ (t : List ℕ). Some (home, t)) after
 
@@ -259,4 +280,4 @@ no_module text none = at (module_after None text) (read_from None text)
   where
     at : (read : Option (List ℕ × List ℕ)) → ReadFrom None text read → read ≡ None
     at None h = refl
-    at (Some (home, rest)) h = absurd (none home rest h.parts h.outside)
+    at (Some (home, rest)) h = absurd (none home rest h.parts (is_closed home h.outside))

@@ -2,6 +2,7 @@ pub mod Cut
 pub mod Cutting
 pub mod Left
 pub mod Naming
+pub mod Beginnings
 pub mod Standing
 pub mod Word
 pub mod Meaning

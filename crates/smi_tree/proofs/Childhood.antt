@@ -13,7 +13,8 @@ use Rattle.smi_tree.specs.branches.Standing.{place_of, AreChildren}
 use Rattle.smi_names.specs.meaning.Meaning.{or_else}
 use Rattle.smi_names.specs.nodes.Nodes.{Node}
 use Rattle.smi_tree.specs.Nodes.{IsOfLowest, nothing, lowest, IsFirstChild, is_labelled, if_labelled, of_lowest}
-use Rattle.smi_tree.specs.Nodes.{last_number, highest, child_at, child_of, oids_of}
+use Rattle.smi_show.specs.name.Beginnings.{last_number}
+use Rattle.smi_tree.specs.Nodes.{highest, child_at, child_of, oids_of}
 
 -- what the first of numbers gives that gives anything
 abbrev pub of_first : (ℕ → Option ℕ) → List ℕ → Option ℕ

@@ -1,6 +1,8 @@
 -- An identifier as the value of a definition: `{ iso(1) 3 6 internet(1) 4 }`.
-use Rattle.std.specs.Prelude.{ℕ, ◌==◌, if◌then◌else◌, List, [], ◌∷◌, ◌++◌, length, slice_index}
-use Rattle.std.specs.Prelude.{take, codes, decimal, Option, Some, None}
+use Rattle.std.specs.Prelude.{ℕ, ◌==◌, if◌then◌else◌, List, [], ◌∷◌, ◌++◌, length, take}
+use Rattle.std.specs.Prelude.{codes, decimal, Option, Some, None}
+use Rattle.std.specs.List.{flat_map}
+use Rattle.smi_show.specs.name.Beginnings.{beginnings, last_number}
 use Rattle.smi_show.specs.name.Naming.{Naming, Standing}
 
 -- a number with the label of the node that stands there, or alone
@@ -10,20 +12,21 @@ labelled_number (Some node) here n =
     if node.depth == length here then node.label ++ codes "(" ++ decimal n ++ codes ")"
     else decimal n
 
--- numbers after those before them, each with its label, a blank after each
-abbrev pub labelled_parts : Naming → List ℕ → List ℕ → List ℕ
-labelled_parts naming before [] = []
-labelled_parts naming before (n ∷ more) =
-    let here = before ++ n ∷ [] in
-    (labelled_number (naming.deepest here) here n ++ codes " ") ++ labelled_parts naming here more
+-- the last number with its label, and a blank
+abbrev pub labelled_part : Naming → List ℕ → List ℕ
+labelled_part naming here =
+    labelled_number (naming.deepest here) here (last_number here) ++ codes " "
+
+-- all numbers with their labels, a blank after each: one for each beginning
+abbrev pub labelled_parts : Naming → List ℕ → List ℕ
+labelled_parts naming o = flat_map (labelled_part naming) (beginnings o)
 
 -- each number but the last with its label, then the last
 abbrev pub parts_text : Naming → List ℕ → List ℕ
 parts_text naming [] = []
 parts_text naming (n ∷ more) =
     let o = n ∷ more in
-    labelled_parts naming [] (take (length more) o)
-    ++ decimal (slice_index o (length more)) ++ codes " "
+    labelled_parts naming (take (length more) o) ++ decimal (last_number o) ++ codes " "
 
 abbrev pub identifier_text : Naming → List ℕ → List ℕ
 identifier_text naming o = codes "::= { " ++ parts_text naming o ++ codes "}\n"

@@ -1,8 +1,10 @@
 -- The name of an identifier as text.
-use Rattle.std.specs.Prelude.{◌≡◌, ℕ, Bool, ◌⊎◌, ◌==◌, if◌then◌else◌, List, [], ◌∷◌, ◌++◌, length}
-use Rattle.std.specs.Prelude.{take, drop, codes, decimal, Option, Some, None}
+use Rattle.std.specs.Prelude.{◌≡◌, ℕ, Bool, ◌⊎◌, ◌==◌, if◌then◌else◌, List, [], ◌++◌, length, take}
+use Rattle.std.specs.Prelude.{drop, codes, decimal, Option, Some, None}
+use Rattle.std.specs.List.{flat_map}
 use Rattle.snmp_oid.specs.Numeric.{numeric_text}
 use Rattle.smi_show.specs.index.Pieces.{AreInstancePieces, Piece, shown_pieces}
+use Rattle.smi_show.specs.name.Beginnings.{beginnings, last_number}
 use Rattle.smi_show.specs.name.Naming.{Naming, Standing}
 use Rattle.smi_value.specs.declared.letters.letters.NameForm.{NameForm}
 use Rattle.smi_value.specs.declared.letters.letters.NameForm.TheVariants.{
@@ -23,17 +25,19 @@ abbrev pub arc_text : Option Standing → List ℕ → ℕ → List ℕ
 arc_text None o n = decimal n
 arc_text (Some node) o n = if node.depth == length o then node.label else decimal n
 
--- each number after those before it, with a dot before each
-abbrev pub path_text : Naming → List ℕ → List ℕ → List ℕ
-path_text naming before [] = []
-path_text naming before (n ∷ more) =
-    let here = before ++ n ∷ [] in
-    codes "." ++ arc_text (naming.deepest here) here n ++ path_text naming here more
+-- the name of the last number, after a dot
+abbrev pub arc_after_dot : Naming → List ℕ → List ℕ
+arc_after_dot naming here =
+    codes "." ++ arc_text (naming.deepest here) here (last_number here)
+
+-- the names of all numbers, each after a dot: one for each beginning
+abbrev pub path_text : Naming → List ℕ → List ℕ
+path_text naming o = flat_map (arc_after_dot naming) (beginnings o)
 
 -- the deepest node in this form
 abbrev pub node_text : Naming → NameForm → List ℕ → Standing → List ℕ
 node_text naming Numeric o node = []
-node_text naming Full o node = path_text naming [] (take node.depth o)
+node_text naming Full o node = path_text naming (take node.depth o)
 node_text naming Label o node = node.label
 node_text naming ModuleLabel o node = qualified node.home node.label
 

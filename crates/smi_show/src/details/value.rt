@@ -32,7 +32,7 @@ fn parts_text<T: NameTree>(tree: &T, numbers: &[u32], draft: &mut Draft)
 /// Numbers with the labels of the nodes there, and a blank after each.
 fn labelled_parts<T: NameTree>(tree: &T, numbers: &[u32], draft: &mut Draft)
     requires { length numbers.now ≤ 128 }
-    ensures { Adds draft.old (labelled_parts (T.naming tree.now) [] numbers.now) draft.new }
+    ensures { Adds draft.old (labelled_parts (T.naming tree.now) numbers.now) draft.new }
 {
     let mut here = Oid::new();
     'each: for number in numbers {

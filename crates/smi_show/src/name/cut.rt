@@ -1,7 +1,6 @@
 //! A name cut at dots and at `::` outside quotes.
 ghost use Rattle.std.specs.Prelude.{◌≡◌, ◌&&◌, ◌∷◌, ◌++◌, ◌<◌, IfSome, None, length, option_map};
-ghost use Rattle.snmp_io.specs.Quotes.{is_unquoted};
-ghost use Rattle.smi_show.specs.name.Cutting.{name_parts, module_after, is_double_colon};
+ghost use Rattle.smi_show.specs.name.Cutting.{is_double_colon, is_unquoted, module_after, name_parts};
 ghost use Rattle.smi_show.specs.name.Left.{parts_left};
 
 use snmp_io::open_after;

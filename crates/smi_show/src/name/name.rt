@@ -98,7 +98,7 @@ fn qualified(node: Node<'_>, draft: &mut Draft)
 /// For each number the label of the node there, or the number, after a dot.
 fn path<T: NameTree>(tree: &T, numbers: &[u32], draft: &mut Draft)
     requires { length numbers.now ≤ 128 }
-    ensures { Adds draft.old (path_text (T.naming tree.now) [] numbers.now) draft.new }
+    ensures { Adds draft.old (path_text (T.naming tree.now) numbers.now) draft.new }
 {
     let mut here = Oid::new();
     'numbers: for number in numbers {

@@ -1,6 +1,5 @@
 use Rattle.std.proofs.Common.{◌+◌, ◌&&◌, ℕ, List, ap, sym, ◌∙◌, take, Some, Option, subst}
-use Rattle.snmp_io.specs.Quotes.{is_unquoted}
-use Rattle.smi_show.specs.name.Cutting.{is_double_colon}
+use Rattle.smi_show.specs.name.Cutting.{is_double_colon, is_unquoted}
 use Rattle.smi_show.proofs.CutLemmas.{IsModuleAt, module_here, module_later, all_after}
 use Rattle.smi_show.proofs.name.cut.cut_module.Goals as goal
 

@@ -1,0 +1,14 @@
+-- The beginnings of an identifier. A text with a word for each of its numbers has one for each of
+-- its beginnings: for the last number there.
+use Rattle.std.specs.Prelude.{ℕ, List, [], ◌∷◌, map}
+
+-- from its first number alone on to the whole
+abbrev pub beginnings : List ℕ → List (List ℕ)
+beginnings [] = []
+beginnings (n ∷ more) = (n ∷ []) ∷ map (λ front. n ∷ front) (beginnings more)
+
+-- the last number of an identifier
+abbrev pub last_number : List ℕ → ℕ
+last_number [] = 0
+last_number (n ∷ []) = n
+last_number (n ∷ next ∷ more) = last_number (next ∷ more)
