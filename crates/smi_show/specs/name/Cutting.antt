@@ -1,6 +1,6 @@
 -- A name cut at dots and at `::` outside quotes, computed, for private clauses.
-use Rattle.std.specs.Prelude.{ℕ, Bool, true, false, ◌&&◌, ◌==◌, if◌then◌else◌, List, [], ◌∷◌, ◌++◌, drop}
-use Rattle.std.specs.Prelude.{Option, Some, None, option_map}
+use Rattle.std.specs.Prelude.{ℕ, Bool, true, false, ◌&&◌, ◌==◌, if◌then◌else◌, List, []}
+use Rattle.std.specs.Prelude.{◌∷◌, ◌++◌, drop, Option, Some, None, option_map}
 use Rattle.snmp_io.specs.Quotes.{open_after}
 
 abbrev pub is_unquoted : Option ℕ → Bool

@@ -1,6 +1,7 @@
 //! A name cut at dots and at `::` outside quotes.
 ghost use Rattle.std.specs.Prelude.{◌≡◌, ◌&&◌, ◌∷◌, ◌++◌, ◌<◌, IfSome, None, length, option_map};
-ghost use Rattle.smi_show.specs.name.Cutting.{is_double_colon, is_unquoted, module_after, name_parts};
+ghost use Rattle.smi_show.specs.name.Cutting.{is_double_colon, is_unquoted, module_after};
+ghost use Rattle.smi_show.specs.name.Cutting.{name_parts};
 ghost use Rattle.smi_show.specs.name.Left.{parts_left};
 
 use snmp_io::open_after;
