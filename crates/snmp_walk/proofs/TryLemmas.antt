@@ -2,8 +2,7 @@
 use Rattle.std.proofs.Common.{◌≡◌, ◌≢◌, ◌⊎◌, inl, inr, ℕ, ◌+◌, ◌<◌, List, [], ◌∷◌, ◌++◌, length, refl, sym, subst, arith, length-append}
 use Rattle.snmp_walk.specs.Link.{OneOf, Outcome}
 use Rattle.snmp_walk.specs.Link as outcome
-use Rattle.snmp_walk.specs.Moved.{IsMoved}
-use Rattle.snmp_walk.specs.Tries.{InTurn, Sends, Brings, EndsTry, AreReceives, IsTry, AreMissed, IsLastTry, AreTried}
+use Rattle.snmp_walk.specs.Tries.{InTurn, Sends, SendFails, Brings, EndsTry, AreReceives, IsTry, AreMissed, IsLastTry, AreTried}
 use Rattle.snmp_walk.specs.declared.link.Link.{Ghosts as LinkFacts}
 use Rattle.snmp_walk.proofs.HearLemmas.{one_append}
 
@@ -79,5 +78,5 @@ module _ {L : Type 0} (facts : LinkFacts L) (Other : List ℕ → Type 0) (reque
       ended count tries old now new what other few before (inl (h.0, tried now sent new what sending h))
 
   pub unsent : (count tries : ℕ) (old now new : L) → count < tries → AreMissed facts Other request count old now
-      → IsMoved facts now (request ∷ []) (Unit {0}) new → AreTried facts Other request tries old outcome.cut_off new
+      → SendFails facts now request new → AreTried facts Other request tries old outcome.cut_off new
   unsent count tries old now new few before failed = (count, few, now, before, inr (refl, failed))

@@ -46,7 +46,7 @@ pub record IsReadAs {W S : Type 0} (datagram : List ℕ) (community : List ℕ) 
   pub read : reads message given new
   pub delivered : Delivers takes given before what after
 
--- such a datagram came over the link, and `Reply` holds of it
+-- such a datagram, of which `Comes` says how it came, and `Reply` whose reply it is
 pub record IsRead {W S : Type 0} (Comes Reply : List ℕ → Type 0) (community : List ℕ) (id : ℕ)
     (reads : Message → Step → W → Type 0)
     (takes : S → VarBind → Result (Unit {0}) SinkFault → S → Type 0) (before : S)

@@ -23,16 +23,24 @@ InTurn {L} step old [] new = new ≡ old
 InTurn {L} step old (x ∷ more) new =
     (between : L) × step old x between × InTurn step between more new
 
--- a send of the datagram; a receive that brought one; and a receive that brought nothing
+-- a send of the datagram, and one that failed
 abbrev pub Sends : {L : Type 0} → LinkFacts L → L → List ℕ → L → Type 0
 Sends {L} facts old datagram new = facts.sends old datagram new
     × IsMoved facts old (datagram ∷ []) ⊥ new
 
+abbrev pub SendFails : {L : Type 0} → LinkFacts L → L → List ℕ → L → Type 0
+SendFails {L} facts old datagram new = facts.send_fails old datagram new
+    × IsMoved facts old (datagram ∷ []) (Unit {0}) new
+
+-- a receive that brought the datagram, one that brought nothing, and one that failed
 abbrev pub Brings : {L : Type 0} → LinkFacts L → L → List ℕ → L → Type 0
 Brings {L} facts old datagram new = facts.brings old datagram new × IsMoved facts old [] ⊥ new
 
 abbrev pub BringsNothing : {L : Type 0} → LinkFacts L → L → L → Type 0
 BringsNothing {L} facts old new = facts.is_silent old new × IsMoved facts old [] ⊥ new
+
+abbrev pub ReceiveFails : {L : Type 0} → LinkFacts L → L → L → Type 0
+ReceiveFails {L} facts old new = facts.receive_fails old new × IsMoved facts old [] (Unit {0}) new
 
 -- How a try ends after so many datagrams that weren't the reply: a receive brings it; or brings
 -- nothing, or 64 had come; or fails.
@@ -40,7 +48,7 @@ abbrev pub EndsTry : {L : Type 0} → LinkFacts L → (strays : ℕ) → L → O
 EndsTry {L} facts strays old (answered datagram) new = (strays < 64) × Brings facts old datagram new
 EndsTry {L} facts strays old missed new = ((strays < 64) × BringsNothing facts old new)
     ⊎ ((strays ≡ 64) × (new ≡ old))
-EndsTry {L} facts strays old cut_off new = (strays < 64) × IsMoved facts old [] (Unit {0}) new
+EndsTry {L} facts strays old cut_off new = (strays < 64) × ReceiveFails facts old new
 
 -- after a send, receives brought these datagrams in turn, none of them the reply, and then the try
 -- ended so
@@ -70,7 +78,7 @@ abbrev pub IsLastTry : {L : Type 0} → LinkFacts L → (List ℕ → Type 0) �
     → Type 0
 IsLastTry {L} facts Other request old outcome new =
     ((strays : List (List ℕ)) × IsTry facts Other request outcome old strays new)
-    ⊎ ((outcome ≡ cut_off) × IsMoved facts old (request ∷ []) (Unit {0}) new)
+    ⊎ ((outcome ≡ cut_off) × SendFails facts old request new)
 
 -- What came of the request in so many tries at most: each of them missed the reply, or fewer did
 -- and one more ended so.

@@ -43,9 +43,16 @@ pub trait Link {
     /// last state.
     ghost sends: { Self → List ℕ → Self → Type 0 } = { λ _ _ _. Unit {0} };
 
+    /// Whether a send of these octets in the first state may fail, and leave the link in the last
+    /// state.
+    ghost send_fails: { Self → List ℕ → Self → Type 0 } = { λ _ _ _. Unit {0} };
+
     /// Whether a receive in the first state may bring nothing, and leave the link in the last
     /// state.
     ghost is_silent: { Self → Self → Type 0 } = { λ _ _. Unit {0} };
+
+    /// Whether a receive in the first state may fail, and leave the link in the last state.
+    ghost receive_fails: { Self → Self → Type 0 } = { λ _ _. Unit {0} };
 
     /// Whether a receive into fewer than 65507 octets is a fault.
     ghost refuses_short: { Self → Type 0 } = { λ _. ⊥ };
@@ -53,6 +60,7 @@ pub trait Link {
     /// Sends a datagram. A fault is counted, and changes neither agents nor traffic.
     fn send(&mut self, datagram: &[u8]) -> Result<(), LinkFault>
         ensures sends { OnOk result (sends self.old datagram.now self.new) }
+        ensures send_fails { OnErr result (send_fails self.old datagram.now self.new) }
         ensures ahead { honest self.old
             → OnOk result ((traffic self.new).ahead ≡ (traffic self.old).ahead) }
         ensures unchanged { OnErr result (traffic self.new ≡ traffic self.old) }
@@ -66,6 +74,7 @@ pub trait Link {
         ensures brings { IfOk result (λ got. IfSome got
             (λ n. brings self.old (take n buffer.new) self.new)) }
         ensures silent { IfOk result (λ got. IfNone got (is_silent self.old self.new)) }
+        ensures receive_fails { OnErr result (receive_fails self.old self.new) }
         ensures reply { honest self.old → 65507 ≤ length buffer.old
             → IfOk result (λ got. Receives (agents self.old) (traffic self.old).sent
             (traffic self.old).ahead (received got buffer.new) (traffic self.new).ahead) }

@@ -177,7 +177,11 @@ impl<'a> Link for MemoryLink<'a> {
 
     ghost sends = { IsSentOver };
 
+    ghost send_fails = { λ old _ new. IsAfterFault old new };
+
     ghost is_silent = { IsSilentBy };
+
+    ghost receive_fails = { IsAfterFault };
 
     ghost refuses_short = { λ _. Unit {0} };
 
@@ -187,13 +191,13 @@ impl<'a> Link for MemoryLink<'a> {
 
     fn send(&mut self, datagram: &[u8]) -> Result<(), LinkFault>
         ensures sends { OnOk result (IsSentOver self.old datagram.now self.new) }
+        ensures send_fails { OnErr result (IsAfterFault self.old self.new) }
         ensures ahead { IsHonest self.old
             → OnOk result ((traffic_of self.new).ahead ≡ (traffic_of self.old).ahead) }
         ensures unchanged { OnErr result (traffic_of self.new ≡ traffic_of self.old) }
         ensures moves { Moves (λ _. Unit {0}) IsHonest agents_of traffic_of
             (λ link. link.fault_count) IsReadyFor self.old (datagram.now ∷ []) (IsErr result)
             self.new }
-        ensures fault { OnErr result (IsAfterFault self.old self.new) }
     {
         match self.arena.push(datagram) {
             Ok(()) => Ok(()),
@@ -209,6 +213,7 @@ impl<'a> Link for MemoryLink<'a> {
         ensures brings { IfOk result (λ got. IfSome got
             (λ n. IsBroughtBy self.old (take n buffer.new) self.new)) }
         ensures silent { IfOk result (λ got. IfNone got (IsSilentBy self.old self.new)) }
+        ensures receive_fails { OnErr result (IsAfterFault self.old self.new) }
         ensures reply { IsHonest self.old → 65507 ≤ length buffer.old
             → IfOk result (λ got. Receives (agents_of self.old) (traffic_of self.old).sent
             (traffic_of self.old).ahead (received got buffer.new) (traffic_of self.new).ahead) }
@@ -218,7 +223,6 @@ impl<'a> Link for MemoryLink<'a> {
             (λ link. link.fault_count)
             (λ link sends octets. (65507 ≤ length buffer.old) × IsReadyFor link sends octets)
             self.old [] (IsErr result) self.new }
-        ensures fault { OnErr result (IsAfterFault self.old self.new) }
     {
         let Some(out) = buffer.first_chunk_mut::<65507>() else {
             self.fault_count = self.fault_count.saturating_add(1);

@@ -135,8 +135,10 @@ returns-in_err-send-clause-cut_off g c =
     let few : c.tries.counter < c.args.retries + 1 = omega arith in
     on_cut c.from_residual.result _
     (unsent g.L.Link _ c.args.request.now c.tries.counter
-    (c.args.retries + 1) c.args.link.now c.tries.link c.send.new.self few c.tries.invariant.missing
-    (moves_as g.L.Link (λ f. tt) (λ _. is_bad _ _ c.in_err-send.was) c.send.ensures.moves))
+    (c.args.retries + 1) c.args.link.now c.tries.link c.send.new.self few c.tries.invariant.missing (
+      if_cut c.send.result _ _ c.in_err-send.was c.send.ensures.send_fails,
+      moves_as g.L.Link (λ f. tt) (λ _. is_bad _ _ c.in_err-send.was) c.send.ensures.moves,
+    ))
 
 pub returns-in_err-course-clause-cut_off : goal.returns-in_err-course-clause-cut_off
 returns-in_err-course-clause-cut_off g c =

@@ -16,7 +16,7 @@ use Rattle.snmp_walk.specs.Tries.{IsNotAwaited, AreReceives}
 use Rattle.snmp_walk.proofs.JudgedLemmas.{not_response}
 use Rattle.snmp_walk.proofs.TryLemmas.{missing_first, missing_more, received_so}
 use Rattle.snmp_walk.proofs.MoveLemmas.{is_bad, never_bad, ok_fine, sent_none, moves_none, moves_as, receive_as, receives_on}
-use Rattle.snmp_walk.proofs.TurnLemmas.{if_some, on_cut}
+use Rattle.snmp_walk.proofs.TurnLemmas.{if_some, if_cut, on_cut}
 use Rattle.snmp_walk.proofs.tries.hear.Goals as goal
 
 pub returns-in_default-clause-heard : goal.returns-in_default-clause-heard
@@ -176,8 +176,13 @@ returns-in_err-length-clause-cut_off g c =
     let long : 65507 ≤ length c.receives.buffer = grind (arith, common_steps) in
     on_cut c.from_residual.result _
     (received_so g.L.Link _ c.receives.counter c.args.link.now
-    c.receives.link c.receive.new.self outcome.cut_off c.receives.invariant.missing
-    (less, receive_as g.L.Link long (λ f. tt) (λ _. is_bad _ _ c.in_err-length.was) c.receive.ensures.moves))
+    c.receives.link c.receive.new.self outcome.cut_off c.receives.invariant.missing (
+      less,
+      (
+        if_cut c.receive.result _ _ c.in_err-length.was c.receive.ensures.receive_fails,
+        receive_as g.L.Link long (λ f. tt) (λ _. is_bad _ _ c.in_err-length.was) c.receive.ensures.moves,
+      ),
+    ))
 
 pub returns-in_err-length-clause-moves : goal.returns-in_err-length-clause-moves
 returns-in_err-length-clause-moves g c =

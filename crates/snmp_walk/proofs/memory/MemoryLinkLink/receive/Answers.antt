@@ -82,8 +82,8 @@ returns-clause-silent c =
     (as_before (λ a u sent. IfNone c.reply_to-got.result (HasNoReplyOf a u sent c.next_number-number.result)) (agents_of self) (agents_of later)
     self.uses.now later.uses.now self.arena later.arena same.agents (ap (λ u. u.now) same.uses) same.arena c.reply_to-got.ensures.none)
 
-pub returns-in_default-clause-fault : goal.returns-in_default-clause-fault
-returns-in_default-clause-fault c = record {
+pub returns-in_default-clause-receive_fails : goal.returns-in_default-clause-receive_fails
+returns-in_default-clause-receive_fails c = record {
   agents = refl;
   uses = refl;
   traffic = refl;

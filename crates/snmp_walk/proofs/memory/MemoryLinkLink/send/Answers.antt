@@ -35,8 +35,8 @@ returns-in-Err-clause-moves c = record {
   ready = λ s o r. absurd (never_good _ _ c.in-Err.is (c.push.ensures.ready s o (omega (arith, r.places)) (omega (arith, r.room))).0);
 }
 
-pub returns-in-Err-clause-fault : goal.returns-in-Err-clause-fault
-returns-in-Err-clause-fault c = record {
+pub returns-in-Err-clause-send_fails : goal.returns-in-Err-clause-send_fails
+returns-in-Err-clause-send_fails c = record {
   agents = refl;
   uses = refl;
   traffic = search rules;
