@@ -33,7 +33,7 @@ use Rattle.std.proofs.Common.{
   arith,
   length-drop,
 }
-use Rattle.std.proofs.lemmas.List.{at_drop_more, at_drop_all, append-nil, take_all, take_more, drop-drop}
+use Rattle.std.proofs.lemmas.List.{at_drop_more, append-nil, take_all, take_more, drop-drop}
 use Rattle.snmp_io.specs.Quotes.{open_after}
 use Rattle.smi_show.specs.name.Cutting.{is_unquoted, with_prefix, parts_after, name_parts, is_double_colon, longer_module, module_after}
 
@@ -59,31 +59,6 @@ some_part state (octet ∷ more) = at (is_unquoted state && nat_eq octet 46) (pa
 
 pub cut_begins : (text : List ℕ) → AreCutAt text 0 None
 cut_begins text = some_part None text
-
--- one more octet, at which the text is not cut
-pub cut_later : (text : List ℕ) (at : ℕ) (state : Option ℕ) → at < length text → (is_unquoted state && nat_eq (get_or text at 0) 46) ≡ false
-    → AreCutAt text at state → AreCutAt text (at + 1) (open_after state (get_or text at 0))
-cut_later text at state low other h =
-    let here = at_drop_more (parts_after state) text at 0 low in
-    let step : parts_after state (get_or text at 0 ∷ drop (at + 1) text)
-    ≡ with_prefix (get_or text at 0 ∷ []) (parts_after (open_after state (get_or text at 0)) (drop (at + 1) text)) = rw other refl in
-    h ∙ ap (with_prefix (take at text)) (here ∙ step)
-    ∙ front_of_front (take at text) (get_or text at 0 ∷ []) (parts_after (open_after state (get_or text at 0)) (drop (at + 1) text))
-    ∙ ap (λ (t : List ℕ). with_prefix t (parts_after (open_after state (get_or text at 0)) (drop (at + 1) text))) (sym (take_more text at 0 low))
-
--- the text is cut at this octet
-pub cut_here : (text : List ℕ) (at : ℕ) (state : Option ℕ) → at < length text → (is_unquoted state && nat_eq (get_or text at 0) 46) ≡ true
-    → AreCutAt text at state → take at text ∷ name_parts (drop (at + 1) text) ≡ name_parts text
-cut_here text at state low yes_here h =
-    let here = at_drop_more (parts_after state) text at 0 low in
-    let step : parts_after state (get_or text at 0 ∷ drop (at + 1) text) ≡ [] ∷ name_parts (drop (at + 1) text) = rw yes_here refl in
-    sym (h ∙ ap (with_prefix (take at text)) (here ∙ step) ∙ ap (λ (t : List ℕ). t ∷ name_parts (drop (at + 1) text)) (append-nil (take at text)))
-
--- the text is not cut
-pub cut_ends : (text : List ℕ) (at : ℕ) (state : Option ℕ) → length text ≤ at → AreCutAt text at state → text ∷ [] ≡ name_parts text
-cut_ends text at state high h =
-    sym (h ∙ ap (with_prefix (take at text)) (at_drop_all (parts_after state) text at high)
-    ∙ ap (λ (t : List ℕ). (t ++ []) ∷ []) (take_all at text high) ∙ ap (λ (t : List ℕ). t ∷ []) (append-nil text))
 
 -- the module
 pub longer_twice : (a b : List ℕ) (read : Option (List ℕ × List ℕ))
@@ -128,9 +103,6 @@ module_here text at state low yes_here h =
     ∙ ap (option_map (longer_module (take at text))) step
     ∙ ap (λ (t : List ℕ). Some (t, drop 1 (drop (at + 1) text))) (append-nil (take at text))
     ∙ ap (λ (t : List ℕ). Some (take at text, t)) rest)
-
-pub module_ends : (text : List ℕ) (at : ℕ) (state : Option ℕ) → length text ≤ at → IsModuleAt text at state → None ≡ module_after None text
-module_ends text at state high h = sym (h ∙ ap (option_map (longer_module (take at text))) (at_drop_all (module_after state) text at high))
 
 -- all that follows a place
 pub all_after : (text : List ℕ) (at : ℕ) → take (length text - at) (drop at text) ≡ drop at text

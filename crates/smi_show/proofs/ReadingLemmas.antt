@@ -217,14 +217,6 @@ pub none_read : (part : IndexPart) (parts : List IndexPart) (numbers : List ℕ)
     → is_some (values_of (part ∷ parts) numbers) ≡ false
 none_read part parts numbers h = rw h refl
 
-mapped : (value : List ℕ) (o : Option (List (List ℕ))) → is_some (option_map (λ vs. value ∷ vs) o) ≡ is_some o
-mapped value None = refl
-mapped value (Some values) = refl
-
-pub one_read : (part : IndexPart) (parts : List IndexPart) (numbers value rest : List ℕ) → front_of part numbers ≡ Some (value, rest)
-    → is_some (values_of (part ∷ parts) numbers) ≡ is_some (values_of parts rest)
-one_read part parts numbers value rest h = rw h (mapped value (values_of parts rest))
-
 pub all_read : (numbers : List ℕ) → is_some (values_of [] numbers) ≡ true → numbers ≡ []
 all_read [] h = refl
 all_read (n ∷ more) h = let no : ⊥ = cc in absurd no
