@@ -35,7 +35,8 @@ use Rattle.std.proofs.Common.{
 }
 use Rattle.std.proofs.lemmas.List.{at_drop_more, append-nil, take_all, take_more, drop-drop}
 use Rattle.snmp_io.specs.Quotes.{open_after}
-use Rattle.smi_show.specs.name.Cutting.{is_unquoted, with_prefix, parts_after, name_parts, is_double_colon, longer_module, module_after}
+use Rattle.smi_show.specs.name.Cutting.{is_unquoted, with_prefix, parts_after, name_parts}
+use Rattle.smi_show.specs.name.Cutting.{is_double_colon, longer_module, module_after}
 
 pub front_of_front : (a b : List ℕ) (parts : List (List ℕ)) → with_prefix a (with_prefix b parts) ≡ with_prefix (a ++ b) parts
 front_of_front a b [] = refl

@@ -1,21 +1,29 @@
 -- What parts mean from the left, and what a text means.
-use Rattle.std.proofs.Common.{◌≡◌, ◌≢◌, ℕ, Bool, true, false, eqb, leb, cond, List, [], ◌∷◌, ◌++◌, length}
-use Rattle.std.proofs.Common.{Option, Some, None, Result, Ok, Err, refl, sym, ◌∙◌, ap, subst, inl, inr}
+use Rattle.std.proofs.Common.{◌≡◌, ◌≢◌, ℕ, Bool, true, false, eqb, leb, cond, List, [], ◌∷◌, ◌++◌}
+use Rattle.std.proofs.Common.{length}
+use Rattle.std.proofs.Common.{Option, Some, None, Result, Ok, Err, refl, sym, ◌∙◌, ap, subst, inl}
+use Rattle.std.proofs.Common.{inr}
 use Rattle.std.proofs.lemmas.Bool.{eqb-true, eqb-false, leb-true, leb-false, le-leb, lt-leb}
 use Rattle.smi_show.specs.index.Pieces.{piece_numbers}
 use Rattle.smi_show.specs.name.Cut.{AreParts}
 use Rattle.smi_show.specs.name.Cutting.{module_after, name_parts, with_prefix}
-use Rattle.smi_show.specs.name.Meaning.{and_then, first_word_meaning, fitting, further_meaning, or_unknown}
-use Rattle.smi_show.specs.name.Meaning.{later_word_meaning, meaning, part_meaning, parts_meaning, scoped_meaning}
-use Rattle.smi_show.specs.name.Meant.{Scope, among_roots, anywhere, in_module, found_in, IsFound, IsRoomFor, IsScoped, TextMeans, PartMeans, PartsMean}
+use Rattle.smi_show.specs.name.Meaning.{and_then, first_word_meaning, fitting, further_meaning}
+use Rattle.smi_show.specs.name.Meaning.{or_unknown}
+use Rattle.smi_show.specs.name.Meaning.{later_word_meaning, meaning, part_meaning, parts_meaning}
+use Rattle.smi_show.specs.name.Meaning.{scoped_meaning}
+use Rattle.smi_show.specs.name.Meant.{Scope, among_roots, anywhere, in_module, found_in, IsFound}
+use Rattle.smi_show.specs.name.Meant.{IsRoomFor, IsScoped, TextMeans, PartMeans, PartsMean}
 use Rattle.smi_show.specs.name.Meant.{ScopeMeans}
 use Rattle.smi_show.specs.name.Naming.{Naming}
 use Rattle.smi_show.specs.name.Word.{Word, a_piece, a_label, word_of}
 use Rattle.smi_show.specs.declared.name.error.NameError.{NameError}
-use Rattle.smi_show.specs.declared.name.error.NameError.TheVariants.{BadIndex, BadNumber, TooLong, Unknown}
+use Rattle.smi_show.specs.declared.name.error.NameError.TheVariants.{BadIndex, BadNumber, TooLong}
+use Rattle.smi_show.specs.declared.name.error.NameError.TheVariants.{Unknown}
 use Rattle.smi_show.proofs.CutLemmas.{some_part}
-use Rattle.smi_show.proofs.Parted.{are_parts, has_module, has_no_module, no_module, one_module, only_parts}
-use Rattle.smi_show.proofs.MeantWords.{WordIs, index_fails, label_word, number_fails, states_word, word_is}
+use Rattle.smi_show.proofs.Parted.{are_parts, has_module, has_no_module, no_module, one_module}
+use Rattle.smi_show.proofs.Parted.{only_parts}
+use Rattle.smi_show.proofs.MeantWords.{WordIs, index_fails, label_word, number_fails, states_word}
+use Rattle.smi_show.proofs.MeantWords.{word_is}
 use Rattle.smi_show.proofs.ReadBack.{scoped}
 
 abbrev Outcome : Type 0

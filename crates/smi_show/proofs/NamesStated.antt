@@ -1,7 +1,9 @@
 -- The name that is computed is the one that the relation states, and there is no other.
-use Rattle.std.proofs.Common.{◌≡◌, ℕ, Bool, cond, List, ◌++◌, drop, Option, Some, None, refl, sym, ◌∙◌, ap}
+use Rattle.std.proofs.Common.{◌≡◌, ℕ, Bool, cond, List, ◌++◌, drop, Option, Some, None, refl, sym}
+use Rattle.std.proofs.Common.{◌∙◌, ap}
 use Rattle.smi_value.specs.declared.letters.letters.NameForm.{NameForm}
-use Rattle.smi_value.specs.declared.letters.letters.NameForm.TheVariants.{Numeric, Full, Label, ModuleLabel}
+use Rattle.smi_value.specs.declared.letters.letters.NameForm.TheVariants.{Numeric, Full, Label}
+use Rattle.smi_value.specs.declared.letters.letters.NameForm.TheVariants.{ModuleLabel}
 use Rattle.smi_show.specs.index.Pieces.{shown_pieces}
 use Rattle.smi_show.specs.index.Reading.{instance_pieces}
 use Rattle.smi_show.specs.name.Naming.{Naming, Standing}

@@ -1,11 +1,14 @@
 -- A text's parts and its module are what the relations of Cut say, and there are no others.
-use Rattle.std.proofs.Common.{◌≡◌, ◌≢◌, ℕ, ◌≤◌, Bool, true, false, ◌&&◌, nat_eq, cond, List, [], ◌∷◌, ◌++◌, drop, length}
+use Rattle.std.proofs.Common.{◌≡◌, ◌≢◌, ℕ, ◌≤◌, Bool, true, false, ◌&&◌, nat_eq, cond, List, []}
+use Rattle.std.proofs.Common.{◌∷◌, ◌++◌, drop, length}
 use Rattle.std.proofs.Common.{Option, Some, None, option_map, refl, sym, ◌∙◌, ap, subst, arith}
 use Rattle.std.proofs.lemmas.Bool.{eqb-true}
 use Rattle.snmp_io.specs.Quotes.{open_after}
-use Rattle.snmp_io.specs.QuoteLaws.{HasNoneAfter, is_closed, never_outside, none_open, none_outside, quote_after}
+use Rattle.snmp_io.specs.QuoteLaws.{HasNoneAfter, is_closed, never_outside, none_open}
+use Rattle.snmp_io.specs.QuoteLaws.{none_outside, quote_after}
 use Rattle.smi_show.specs.name.Cut.{AreParts, HasNoModule, IsModuleCut}
-use Rattle.smi_show.specs.name.Cutting.{is_double_colon, is_unquoted, longer_module, module_after, name_parts, parts_after, with_prefix}
+use Rattle.smi_show.specs.name.Cutting.{is_double_colon, is_unquoted, longer_module, module_after}
+use Rattle.smi_show.specs.name.Cutting.{name_parts, parts_after, with_prefix}
 
 -- ---- parts
 

@@ -1,6 +1,7 @@
 -- The pieces that show numbers: what one more value adds, and that the pieces stand for the numbers shown.
 use Rattle.std.proofs.Common.{◌≡◌, ◌≢◌, ℕ, ◌+◌, ◌<◌, ◌^◌, Bool, true, false, not, ◌&&◌, cond}
-use Rattle.std.proofs.Common.{nat_eq, List, [], ◌∷◌, ◌++◌, length, drop, get_or, Option, Some, None}
+use Rattle.std.proofs.Common.{nat_eq, List, [], ◌∷◌, ◌++◌, length, drop, get_or, Option, Some}
+use Rattle.std.proofs.Common.{None}
 use Rattle.std.proofs.Common.{option_map, unwrap_or, All, inl, inr, refl, sym, ◌∙◌, ap, subst}
 use Rattle.std.specs.List.{list_all, flat_map}
 use Rattle.std.proofs.lemmas.Grind.{flat_map-append}
@@ -14,9 +15,12 @@ use Rattle.smi_show.specs.declared.index.part.IndexPart.TheVariants.{Number, Add
 use Rattle.smi_show.specs.declared.index.part.IndexPart.TheVariants.{Identifier, ImpliedIdentifier}
 use Rattle.smi_show.specs.index.Index.{IsInExtent, IsEncoding, ReadsValue, ReadValues}
 use Rattle.smi_show.specs.index.Reading.{front_of, values_of, instance_pieces}
-use Rattle.smi_show.specs.index.Pieces.{Piece, plain_number, is_quotable, is_shown_text, piece_numbers, IsPiece}
-use Rattle.smi_show.specs.index.Pieces.{dotted_text, shown_pieces, as_numbers, as_text, extent_numbers}
-use Rattle.smi_show.specs.index.Pieces.{value_numbers, value_pieces, index_pieces, AreInstancePieces}
+use Rattle.smi_show.specs.index.Pieces.{Piece, plain_number, is_quotable, is_shown_text}
+use Rattle.smi_show.specs.index.Pieces.{piece_numbers, IsPiece}
+use Rattle.smi_show.specs.index.Pieces.{dotted_text, shown_pieces, as_numbers, as_text}
+use Rattle.smi_show.specs.index.Pieces.{extent_numbers}
+use Rattle.smi_show.specs.index.Pieces.{value_numbers, value_pieces, index_pieces}
+use Rattle.smi_show.specs.index.Pieces.{AreInstancePieces}
 use Rattle.smi_show.proofs.ReadingLemmas.{all_found, all_only, first_value}
 
 -- the first of the values that are left

@@ -40,16 +40,19 @@ use Rattle.std.proofs.Common.{
 use Rattle.std.specs.List.{flat_map}
 use Rattle.std.proofs.lemmas.Bool.{le-leb, eqb-true}
 use Rattle.std.proofs.lemmas.List.{append-nil, take-append-drop}
-use Rattle.std.proofs.lemmas.List.Elements.{All-nil, All-cons, All-head, All-tail, All-drop, All-map}
+use Rattle.std.proofs.lemmas.List.Elements.{All-nil, All-cons, All-head, All-tail, All-drop}
+use Rattle.std.proofs.lemmas.List.Elements.{All-map}
 use Rattle.snmp_oid.specs.Identifier.{IsIdentifier}
 use Rattle.snmp_oid.specs.Numeric.{IsNumeral, IsNumericName, numeric_text, dot}
 use Rattle.smi_text.specs.trees.Word.{is_word}
 use Rattle.smi_show.specs.declared.index.part.IndexPart.{IndexPart}
-use Rattle.smi_show.specs.index.Pieces.{Piece, plain_number, piece_numbers, IsPiece, shown_piece, shown_pieces, as_numbers}
+use Rattle.smi_show.specs.index.Pieces.{Piece, plain_number, piece_numbers, IsPiece, shown_piece}
+use Rattle.smi_show.specs.index.Pieces.{shown_pieces, as_numbers}
 use Rattle.smi_show.specs.index.Reading.{instance_pieces}
 use Rattle.smi_show.specs.declared.name.error.NameError.{NameError}
 use Rattle.smi_value.specs.declared.letters.letters.NameForm.{NameForm}
-use Rattle.smi_value.specs.declared.letters.letters.NameForm.TheVariants.{Numeric, Full, Label, ModuleLabel}
+use Rattle.smi_value.specs.declared.letters.letters.NameForm.TheVariants.{Numeric, Full, Label}
+use Rattle.smi_value.specs.declared.letters.letters.NameForm.TheVariants.{ModuleLabel}
 use Rattle.smi_show.specs.name.Cutting.{name_parts, module_after}
 use Rattle.smi_show.specs.name.Naming.{Naming, Standing, IsSound, LabelLeadsTo}
 use Rattle.smi_show.specs.name.Word.{Word}
@@ -70,7 +73,8 @@ use Rattle.smi_show.specs.name.Meaning.{
 use Rattle.smi_show.specs.name.Name.{qualified, ReadsBack}
 use Rattle.smi_show.specs.name.Shown.{standing_text, name_text}
 use Rattle.smi_show.proofs.PlainLemmas.{plain_word, plain_digits, plain_word_begins}
-use Rattle.smi_show.proofs.ShownLemmas.{plain_is_whole, piece_is_whole, joined_parts, joined_module}
+use Rattle.smi_show.proofs.ShownLemmas.{plain_is_whole, piece_is_whole, joined_parts}
+use Rattle.smi_show.proofs.ShownLemmas.{joined_module}
 use Rattle.smi_show.proofs.WordLemmas.{piece_word, label_word}
 
 abbrev IsNumber : ℕ → Type 0

@@ -11,9 +11,11 @@ use Rattle.smi_show.specs.declared.index.part.Extent.TheVariants.{Fixed, Counted
 use Rattle.smi_show.specs.declared.index.part.IndexPart.{IndexPart}
 use Rattle.smi_show.specs.declared.index.part.IndexPart.TheVariants.{Number, Address, Text, Octets}
 use Rattle.smi_show.specs.declared.index.part.IndexPart.TheVariants.{Identifier, ImpliedIdentifier}
-use Rattle.smi_show.specs.index.Index.{is_octet, AreOctetNumbers, IsInExtent, IsEncoding, LeavesIn, LeavesAfter}
+use Rattle.smi_show.specs.index.Index.{is_octet, AreOctetNumbers, IsInExtent, IsEncoding, LeavesIn}
+use Rattle.smi_show.specs.index.Index.{LeavesAfter}
 use Rattle.smi_show.specs.index.Index.{ReadsValue, ReadValues}
-use Rattle.smi_show.specs.index.Reading.{front_and_rest, counted, remaining, of_octets, in_extent, front_of}
+use Rattle.smi_show.specs.index.Reading.{front_and_rest, counted, remaining, of_octets, in_extent}
+use Rattle.smi_show.specs.index.Reading.{front_of}
 use Rattle.smi_show.specs.index.Reading.{values_of}
 
 abbrev Pair : Type 0

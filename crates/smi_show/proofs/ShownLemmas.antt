@@ -1,12 +1,15 @@
 -- Shown words are cut where they were joined, and nowhere else.
-use Rattle.std.proofs.Common.{◌≡◌, ℕ, true, false, eqb, List, [], ◌∷◌, ◌++◌, map, All, decimal, Option, Some, None, option_map, refl, ◌∙◌, ap, append_assoc}
+use Rattle.std.proofs.Common.{◌≡◌, ℕ, true, false, eqb, List, [], ◌∷◌, ◌++◌, map, All, decimal}
+use Rattle.std.proofs.Common.{Option, Some, None, option_map, refl, ◌∙◌, ap, append_assoc}
 use Rattle.std.specs.List.{list_all}
 use Rattle.std.proofs.lemmas.List.{append-nil}
 use Rattle.std.proofs.lemmas.List.Elements.{All-head, All-tail}
 use Rattle.snmp_oid.specs.Numeric.{IsNumeral}
 use Rattle.snmp_io.specs.Quotes.{is_quote}
-use Rattle.smi_show.specs.index.Pieces.{Piece, plain_number, counted_text, plain_text, is_quotable, IsPiece, shown_piece, shown_pieces}
-use Rattle.smi_show.specs.name.Cutting.{with_prefix, parts_after, name_parts, is_double_colon, longer_module, module_after}
+use Rattle.smi_show.specs.index.Pieces.{Piece, plain_number, counted_text, plain_text, is_quotable}
+use Rattle.smi_show.specs.index.Pieces.{IsPiece, shown_piece, shown_pieces}
+use Rattle.smi_show.specs.name.Cutting.{with_prefix, parts_after, name_parts, is_double_colon}
+use Rattle.smi_show.specs.name.Cutting.{longer_module, module_after}
 use Rattle.smi_show.proofs.CutLemmas.{some_part, front_of_front, longer_twice}
 use Rattle.smi_show.proofs.PlainLemmas.{ArePlain, apart, and_left, and_right, plain_digits}
 

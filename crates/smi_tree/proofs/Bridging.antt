@@ -1,5 +1,6 @@
 -- Nodes and their sources, one for each.
-use Rattle.std.proofs.Common.{◌≡◌, ℕ, zero, suc, ◌+◌, ◌==◌, ◌<◌, Bool, true, false, cond, ◌&&◌, List, [], ◌∷◌, length, get_or}
+use Rattle.std.proofs.Common.{◌≡◌, ℕ, zero, suc, ◌+◌, ◌==◌, ◌<◌, Bool, true, false, cond, ◌&&◌}
+use Rattle.std.proofs.Common.{List, [], ◌∷◌, length, get_or}
 use Rattle.std.proofs.Common.{rules, Option, Some, None, is_some, refl, sym, ap, ◌∙◌, arith}
 use Rattle.std.specs.List.{slice_get, position_from, find}
 use Rattle.std.proofs.lemmas.Bool.{eqb-true}
@@ -13,8 +14,10 @@ use Rattle.smi_names.specs.nodes.Nodes.{Node}
 use Rattle.smi_names.specs.nodes.Gathered.{node_from, node_from_def, def_of_module, nodes_of}
 use Rattle.smi_names.specs.declared.nodes.source.Source.{Source}
 use Rattle.smi_names.specs.declared.nodes.source.Source.TheVariants as S
-use Rattle.smi_tree.specs.Nodes.{has_label, is_named, is_of, is_labelled, place_in_module, place_anywhere, oids_of}
-use Rattle.smi_tree.specs.Places.{Places, place_at, home_from, label_from, definition_from, label_in, is_this, place_of_home, is_in, AreScopes}
+use Rattle.smi_tree.specs.Nodes.{has_label, is_named, is_of, is_labelled, place_in_module}
+use Rattle.smi_tree.specs.Nodes.{place_anywhere, oids_of}
+use Rattle.smi_tree.specs.Places.{Places, place_at, home_from, label_from, definition_from}
+use Rattle.smi_tree.specs.Places.{label_in, is_this, place_of_home, is_in, AreScopes}
 use Rattle.smi_tree.specs.Places as places
 use Rattle.smi_tree.proofs.Listing.{same, same_itself}
 use Rattle.smi_tree.proofs.Scoping.{position_within}

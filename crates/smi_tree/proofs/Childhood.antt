@@ -1,5 +1,6 @@
 -- The first child with a label is the one with the lowest number.
-use Rattle.std.proofs.Common.{◌≡◌, ◌≢◌, ℕ, zero, suc, ◌+◌, ◌<◌, ◌≤◌, ◌⊎◌, inl, inr, max, Bool, true, false, cond, List, [], ◌∷◌, ◌++◌, length, get_or}
+use Rattle.std.proofs.Common.{◌≡◌, ◌≢◌, ℕ, zero, suc, ◌+◌, ◌<◌, ◌≤◌, ◌⊎◌, inl, inr, max, Bool}
+use Rattle.std.proofs.Common.{true, false, cond, List, [], ◌∷◌, ◌++◌, length, get_or}
 use Rattle.std.proofs.Common.{Option, Some, None, refl, sym, arith, nat_eq}
 use Rattle.std.specs.declared.cmp.Ordering.TheVariants.{Less}
 use Rattle.std.specs.List.{AllByRecursion, position_from, find, filter_map, Contains}
@@ -12,7 +13,8 @@ use Rattle.std.proofs.lemmas.Slice.Eq.{bytes_eq-Decides}
 use Rattle.smi_tree.specs.branches.Standing.{place_of, AreChildren}
 use Rattle.smi_names.specs.meaning.Meaning.{or_else}
 use Rattle.smi_names.specs.nodes.Nodes.{Node}
-use Rattle.smi_tree.specs.Nodes.{IsOfLowest, nothing, lowest, IsFirstChild, is_labelled, if_labelled, of_lowest}
+use Rattle.smi_tree.specs.Nodes.{IsOfLowest, nothing, lowest, IsFirstChild, is_labelled}
+use Rattle.smi_tree.specs.Nodes.{if_labelled, of_lowest}
 use Rattle.smi_show.specs.name.Beginnings.{last_number}
 use Rattle.smi_tree.specs.Nodes.{highest, child_at, child_of, oids_of}
 

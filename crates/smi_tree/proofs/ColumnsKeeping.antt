@@ -2,7 +2,8 @@
 use Rattle.std.proofs.Common.{◌≡◌, List, [], ◌∷◌, ◌++◌, length, sym, ◌∙◌, inl, inr}
 use Rattle.smi_text.specs.declared.trees.tree.Module.{Module}
 use Rattle.smi_text.specs.declared.trees.tree.Def.{Def}
-use Rattle.smi_tree.specs.columns.Kept.{KeptParts, KeptOfModule, IsOwn, AreOwn, AreOwnOfAll, items_of}
+use Rattle.smi_tree.specs.columns.Kept.{KeptParts, KeptOfModule, IsOwn, AreOwn, AreOwnOfAll}
+use Rattle.smi_tree.specs.columns.Kept.{items_of}
 use Rattle.smi_tree.proofs.Lists.{get_push, get_before_push, get_at_push}
 
 pub AreOwn-more : (ms : List Module) (m : Module) (ds : List Def) (kept : List KeptParts) (d : Def) (own : KeptParts) → length kept ≡ length ds

@@ -1,5 +1,6 @@
 -- Chains of types followed by places: their ends, and the nearest place that states a field.
-use Rattle.std.proofs.Common.{◌≡◌, ℕ, zero, suc, ◌≤◌, Bool, true, false, cond, is_some, List, [], ◌∷◌, length, Option, Some, None, refl, sym, ap, ◌∙◌}
+use Rattle.std.proofs.Common.{◌≡◌, ℕ, zero, suc, ◌≤◌, Bool, true, false, cond, is_some, List, []}
+use Rattle.std.proofs.Common.{◌∷◌, length, Option, Some, None, refl, sym, ap, ◌∙◌}
 use Rattle.std.proofs.Common.{arith}
 use Rattle.std.proofs.lemmas.List.{get_or_past}
 use Rattle.std.proofs.lemmas.Slice.Eq.{bytes_eq-Decides}
@@ -10,12 +11,15 @@ use Rattle.smi_names.specs.chains.Ends.{EndsAt, here, further, ChainEnds}
 use Rattle.smi_names.specs.chains.Order.{next_at}
 use Rattle.smi_text.specs.trees.Mark.{same_text}
 use Rattle.smi_text.specs.declared.trees.tree.Module.{Module}
-use Rattle.smi_names.specs.meaning.Meaning.{QualifiedName, Decision, decision, module_named, or_else}
+use Rattle.smi_names.specs.meaning.Meaning.{QualifiedName, Decision, decision, module_named}
+use Rattle.smi_names.specs.meaning.Meaning.{or_else}
 use Rattle.smi_names.specs.meaning.Scopes.{Content, decided_as}
 use Rattle.smi_names.specs.meaning.Known.{KnownNames, content_named}
-use Rattle.smi_tree.specs.types.Chain.{Layer, TypeOrigin, at_base, on_name, no_type, TypeChain, at_end, on_type, nearest}
+use Rattle.smi_tree.specs.types.Chain.{Layer, TypeOrigin, at_base, on_name, no_type, TypeChain}
+use Rattle.smi_tree.specs.types.Chain.{at_end, on_type, nearest}
 use Rattle.smi_tree.specs.types.Types.{type_origin, type_origin_in, type_origin_by}
-use Rattle.smi_tree.specs.types.Leads.{content_origin, LeadsTo, AreLeads, at_place, states, AreNextUntil}
+use Rattle.smi_tree.specs.types.Leads.{content_origin, LeadsTo, AreLeads, at_place, states}
+use Rattle.smi_tree.specs.types.Leads.{AreNextUntil}
 use Rattle.smi_names.specs.declared.meaning.base.TypeBase.{TypeBase}
 use Rattle.smi_tree.specs.declared.types.leads.Field.{Field}
 

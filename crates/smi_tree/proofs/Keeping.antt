@@ -1,5 +1,6 @@
 -- What is kept for the place of a name is the syntax of the type that the name means.
-use Rattle.std.proofs.Common.{◌≡◌, ℕ, ◌<◌, is_some, List, length, Option, Some, None, MatchOption, Vec, subst, refl, sym, ap, arith}
+use Rattle.std.proofs.Common.{◌≡◌, ℕ, ◌<◌, is_some, List, length, Option, Some, None, MatchOption}
+use Rattle.std.proofs.Common.{Vec, subst, refl, sym, ap, arith}
 use Rattle.std.proofs.lemmas.List.{get_or_past, get_or_default}
 use Rattle.std.proofs.lemmas.Option.{slice_get_within}
 use Rattle.std.specs.List.{slice_get}
@@ -13,16 +14,20 @@ use Rattle.smi_text.specs.declared.trees.tree.SimpleType.{SimpleType}
 use Rattle.smi_names.specs.meaning.Meaning.{QualifiedName}
 use Rattle.smi_names.specs.meaning.Scopes.{Content}
 use Rattle.smi_names.specs.meaning.Known.{KnownNames, content_named}
-use Rattle.smi_tree.specs.types.Chain.{Layer, TypeOrigin, at_base, on_name, no_type, TypeChain, nearest}
-use Rattle.smi_tree.specs.types.Types.{type_origin, object_origin, object_in, type_hint, def_at, no_layer, layer, HasSyntax, HasNoSyntax}
+use Rattle.smi_tree.specs.types.Chain.{Layer, TypeOrigin, at_base, on_name, no_type, TypeChain}
+use Rattle.smi_tree.specs.types.Chain.{nearest}
+use Rattle.smi_tree.specs.types.Types.{type_origin, object_origin, object_in, type_hint, def_at}
+use Rattle.smi_tree.specs.types.Types.{no_layer, layer, HasSyntax, HasNoSyntax}
 use Rattle.smi_tree.specs.types.Leads.{LeadsTo, AreLeads, AreSources, at_place, states}
 use Rattle.smi_tree.specs.types.Nearest.{AreEndsOfChains, AreNearest, AreLeadsOf, AreObjectLeads}
-use Rattle.smi_tree.specs.types.Kept.{type_in, type_base, type_names, type_sizes, found_by, kept_base, kept_facts, AreTypesOf}
+use Rattle.smi_tree.specs.types.Kept.{type_in, type_base, type_names, type_sizes, found_by}
+use Rattle.smi_tree.specs.types.Kept.{kept_base, kept_facts, AreTypesOf}
 use Rattle.smi_names.specs.declared.meaning.base.TypeBase.{TypeBase}
 use Rattle.smi_tree.specs.declared.types.leads.Field.{Field}
 use Rattle.smi_tree.specs.declared.types.leads.Field.TheVariants as F
 use Rattle.smi_tree.specs.declared.types.types.Types.{Types}
-use Rattle.smi_tree.proofs.Following.{origin_at, slot_origin, placed, past_get, has_end, base_at_end, chain_to, nearest_is}
+use Rattle.smi_tree.proofs.Following.{origin_at, slot_origin, placed, past_get, has_end}
+use Rattle.smi_tree.proofs.Following.{base_at_end, chain_to, nearest_is}
 use Rattle.smi_tree.proofs.Reading.{read_at, base_of_origin, reads_type_base, reads_field}
 
 -- what no chain begins with has no syntax

@@ -1,5 +1,6 @@
 -- The definition to which a name leads, by the place at which its imports end.
-use Rattle.std.proofs.Common.{◌≡◌, ℕ, ◌<◌, ◌≤◌, List, length, Option, Some, None, refl, sym, ap, ◌∙◌, arith}
+use Rattle.std.proofs.Common.{◌≡◌, ℕ, ◌<◌, ◌≤◌, List, length, Option, Some, None, refl, sym, ap}
+use Rattle.std.proofs.Common.{◌∙◌, arith}
 use Rattle.std.proofs.lemmas.Option.{slice_get_within, get_or_from_slice_get}
 use Rattle.std.specs.List.{slice_get}
 use Rattle.std.specs.Option.{option_and_then}
@@ -9,7 +10,8 @@ use Rattle.smi_names.specs.chains.Ends.{EndsAt, here, further, ChainEnds}
 use Rattle.smi_text.specs.declared.trees.tree.Module.{Module}
 use Rattle.smi_text.specs.declared.trees.tree.Def.{Def}
 use Rattle.smi_text.specs.declared.trees.tree.Import.{Import}
-use Rattle.smi_names.specs.meaning.Meaning.{QualifiedName, Decision, defined, imported, root, decision, module_named}
+use Rattle.smi_names.specs.meaning.Meaning.{QualifiedName, Decision, defined, imported, root}
+use Rattle.smi_names.specs.meaning.Meaning.{decision, module_named}
 use Rattle.smi_names.specs.meaning.Scopes.{Content, decided_as}
 use Rattle.smi_names.specs.meaning.Known.{content_named}
 use Rattle.smi_tree.specs.columns.Definitions.{IsDefinedBy, own, through}

@@ -12,7 +12,8 @@ use Rattle.smi_names.specs.meaning.Meaning.{QualifiedName, Decision, defined, im
 use Rattle.smi_names.specs.meaning.Scopes.{Content}
 use Rattle.smi_names.specs.meaning.Known.{KnownNames}
 use Rattle.smi_tree.specs.types.Chain.{Layer, TypeOrigin, at_base, on_name, no_type}
-use Rattle.smi_tree.specs.types.Types.{base_in, origin_of_base, origin_of_simple, layer, no_layer, type_hint, def_at}
+use Rattle.smi_tree.specs.types.Types.{base_in, origin_of_base, origin_of_simple, layer, no_layer}
+use Rattle.smi_tree.specs.types.Types.{type_hint, def_at}
 use Rattle.smi_tree.specs.types.Leads.{content_origin, at_place, AreSources}
 use Rattle.smi_tree.specs.types.Kept.{type_in, type_base}
 use Rattle.smi_names.specs.declared.meaning.base.TypeBase.{TypeBase}

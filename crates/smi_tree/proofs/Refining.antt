@@ -1,5 +1,6 @@
 -- The syntax of an object, by its own type and the one that it is refined from.
-use Rattle.std.proofs.Common.{◌≡◌, ℕ, List, [], ◌∷◌, Option, Some, None, MatchOption, refl, ap, ◌∙◌}
+use Rattle.std.proofs.Common.{◌≡◌, ℕ, List, [], ◌∷◌, Option, Some, None, MatchOption, refl, ap}
+use Rattle.std.proofs.Common.{◌∙◌}
 use Rattle.std.specs.List.{slice_get}
 use Rattle.std.specs.Option.{option_and_then, option_map}
 use Rattle.smi_text.specs.declared.trees.tree.Module.{Module}
@@ -10,12 +11,16 @@ use Rattle.smi_text.specs.declared.trees.tree.Base.TheVariants as B
 use Rattle.smi_text.specs.declared.trees.tree.Refinement.{Refinement}
 use Rattle.smi_names.specs.meaning.Meaning.{QualifiedName, or_else}
 use Rattle.smi_names.specs.meaning.Known.{KnownNames, content_named}
-use Rattle.smi_tree.specs.types.Chain.{Layer, at_base, on_name, no_type, TypeChain, at_end, on_type, nearest}
-use Rattle.smi_tree.specs.types.Types.{type_origin, base_in, names_in, sizes_in, simple_in, layer, origin_of_base, origin_of_object, object_syntax}
-use Rattle.smi_tree.specs.types.Types.{object_in, object_origin, def_at, Facts, HasSyntax, HasNoSyntax}
+use Rattle.smi_tree.specs.types.Chain.{Layer, at_base, on_name, no_type, TypeChain, at_end}
+use Rattle.smi_tree.specs.types.Chain.{on_type, nearest}
+use Rattle.smi_tree.specs.types.Types.{type_origin, base_in, names_in, sizes_in, simple_in, layer}
+use Rattle.smi_tree.specs.types.Types.{origin_of_base, origin_of_object, object_syntax}
+use Rattle.smi_tree.specs.types.Types.{object_in, object_origin, def_at, Facts, HasSyntax}
+use Rattle.smi_tree.specs.types.Types.{HasNoSyntax}
 use Rattle.smi_tree.specs.types.Leads.{LeadsTo}
 use Rattle.smi_tree.specs.types.Nearest.{refined_facts}
-use Rattle.smi_tree.specs.types.Kept.{facts_of, kept_base, kept_facts, kept_of, kept_syntax, object_lead, AreTypesOf}
+use Rattle.smi_tree.specs.types.Kept.{facts_of, kept_base, kept_facts, kept_of, kept_syntax}
+use Rattle.smi_tree.specs.types.Kept.{object_lead, AreTypesOf}
 use Rattle.smi_tree.specs.declared.types.types.Types.{Types}
 use Rattle.smi_names.specs.declared.meaning.base.TypeBase.{TypeBase}
 use Rattle.smi_tree.specs.declared.types.syntax.TypeSyntax.{TypeSyntax}

@@ -1,6 +1,8 @@
 -- A name that has an identifier resolves to nothing else.
 use Rattle.std.proofs.Common.{◌≡◌, ℕ, List, length, refl, ap, arith}
-use Rattle.smi_names.specs.chains.Chain.{Origin, nowhere, next_of, HasEnd, ends, leads_on, HasIdentifier, by_itself, after_another, EndsNowhere, here, further}
+use Rattle.smi_names.specs.chains.Chain.{Origin, nowhere, next_of, HasEnd, ends, leads_on}
+use Rattle.smi_names.specs.chains.Chain.{HasIdentifier, by_itself, after_another, EndsNowhere}
+use Rattle.smi_names.specs.chains.Chain.{here, further}
 use Rattle.smi_names.specs.chains.Basis.{ComesTo}
 use Rattle.smi_names.specs.declared.chains.basis.Resolution.{Resolution}
 use Rattle.smi_names.specs.declared.chains.basis.Resolution.TheVariants as R

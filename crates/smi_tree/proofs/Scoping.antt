@@ -1,5 +1,6 @@
 -- Maps of labels, one for each module.
-use Rattle.std.proofs.Common.{◌≡◌, ◌≢◌, ℕ, zero, suc, ◌+◌, ◌==◌, ◌<◌, ◌≤◌, Bool, true, false, cond, List, [], ◌∷◌, length, take, get_or, set}
+use Rattle.std.proofs.Common.{◌≡◌, ◌≢◌, ℕ, zero, suc, ◌+◌, ◌==◌, ◌<◌, ◌≤◌, Bool, true, false, cond}
+use Rattle.std.proofs.Common.{List, [], ◌∷◌, length, take, get_or, set}
 use Rattle.std.proofs.Common.{Some, None, refl, sym, ap, subst, ◌∙◌, arith}
 use Rattle.std.proofs.Math.ListN.{length-set}
 use Rattle.std.proofs.lemmas.Bool.{eqb-true, eqb-false}
@@ -10,7 +11,8 @@ use Rattle.smi_text.specs.declared.trees.tree.Module.{Module}
 use Rattle.smi_names.specs.meaning.Meaning.{or_else}
 use Rattle.smi_names.specs.meaning.Names.{module_place}
 use Rattle.smi_names.specs.declared.nodes.source.Source.{Source}
-use Rattle.smi_tree.specs.Places.{Places, kept_place, place_at, home_from, label_from, is_in, Puts, AreScopes}
+use Rattle.smi_tree.specs.Places.{Places, kept_place, place_at, home_from, label_from, is_in, Puts}
+use Rattle.smi_tree.specs.Places.{AreScopes}
 use Rattle.smi_tree.proofs.Listing.{or_else_none, position-at}
 
 slice_get-set_same : {A : Type 0} (xs : List A) (i : ℕ) (y : A) → i < length xs → slice_get (set xs i y) i ≡ Some y

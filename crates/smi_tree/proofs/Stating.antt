@@ -13,7 +13,8 @@ use Rattle.smi_names.specs.meaning.Known.{KnownNames, content_named}
 use Rattle.smi_names.specs.declared.meaning.entry.Entry.{Entry}
 use Rattle.smi_names.specs.declared.meaning.entry.Decider.TheVariants as D
 use Rattle.smi_tree.specs.types.Chain.{Layer}
-use Rattle.smi_tree.specs.types.Types.{base_in, name_in_base, name_in, origin_of_base, origin_of_simple, simple_in, layer, type_hint, type_syntax}
+use Rattle.smi_tree.specs.types.Types.{base_in, name_in_base, name_in, origin_of_base}
+use Rattle.smi_tree.specs.types.Types.{origin_of_simple, simple_in, layer, type_hint, type_syntax}
 use Rattle.smi_tree.specs.types.Leads.{content_origin, LeadsTo, states, StatesIf}
 use Rattle.smi_names.specs.declared.meaning.base.TypeBase.{TypeBase}
 use Rattle.smi_tree.specs.declared.types.leads.Field.{Field}

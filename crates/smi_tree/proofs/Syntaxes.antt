@@ -1,5 +1,6 @@
 -- What is kept for the sources of nodes is their syntax.
-use Rattle.std.proofs.Common.{◌≡◌, ℕ, zero, suc, List, [], ◌∷◌, MatchOption, Option, Some, None, slice_index_or, length, refl, sym, ap, ◌∙◌, arith}
+use Rattle.std.proofs.Common.{◌≡◌, ℕ, zero, suc, List, [], ◌∷◌, MatchOption, Option, Some, None}
+use Rattle.std.proofs.Common.{slice_index_or, length, refl, sym, ap, ◌∙◌, arith}
 use Rattle.std.specs.List.{slice_get}
 use Rattle.std.specs.Option.{option_and_then}
 use Rattle.smi_text.specs.declared.trees.tree.Module.{Module}
@@ -15,7 +16,8 @@ use Rattle.smi_tree.specs.types.Types.{Facts, HasSyntax, HasNoSyntax, object_in,
 use Rattle.smi_tree.specs.types.Kept.{kept_syntax}
 use Rattle.smi_tree.specs.declared.types.types.Types.{Types}
 use Rattle.smi_tree.specs.Places.{definition_from}
-use Rattle.smi_tree.specs.Shown.{IsSyntaxOf, AreSyntaxesOf, syntax_from, syntaxes_from, units_of, units_at}
+use Rattle.smi_tree.specs.Shown.{IsSyntaxOf, AreSyntaxesOf, syntax_from, syntaxes_from, units_of}
+use Rattle.smi_tree.specs.Shown.{units_at}
 use Rattle.smi_show.specs.declared.index.part.IndexPart.{IndexPart}
 use Rattle.smi_tree.specs.columns.Index.{AreIndexesOf}
 use Rattle.smi_tree.specs.Tree.{IsTree}

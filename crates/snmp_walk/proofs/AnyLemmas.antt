@@ -44,14 +44,18 @@ use Rattle.snmp_walk.specs.declared.rows.Step.TheVariants as step
 use Rattle.snmp_walk.specs.Names.{is_inside, is_end, is_missing, comes_after}
 use Rattle.snmp_walk.specs.Trail.{last_name, IsTrail, IsAtEnd}
 use Rattle.snmp_walk.specs.Walker.{Walker}
-use Rattle.snmp_walk.specs.Taken.{is_awaited, is_plain, inside_front, rising_front, name_at, stops, goes_on, closes, reads, reads_next, got, if_present}
+use Rattle.snmp_walk.specs.Taken.{is_awaited, is_plain, inside_front, rising_front, name_at, stops}
+use Rattle.snmp_walk.specs.Taken.{goes_on, closes, reads, reads_next, got, if_present}
 use Rattle.snmp_walk.specs.Taken.{reads_first, reads_last, reads_for, reads_reply, take_of}
-use Rattle.snmp_walk.specs.Standing.{IsGiven, IsPartOfWalk, IsStage, IsPaced, Reaches, Advances, Rises, Named, IsReplyEnd, CountsAll, AdvancesAnyhow}
-use Rattle.snmp_walk.proofs.StandingLemmas.{part_of_stage, closed, given_more, more_pace, reads_root, reads_alone, root_is}
+use Rattle.snmp_walk.specs.Standing.{IsGiven, IsPartOfWalk, IsStage, IsPaced, Reaches, Advances}
+use Rattle.snmp_walk.specs.Standing.{Rises, Named, IsReplyEnd, CountsAll, AdvancesAnyhow}
+use Rattle.snmp_walk.proofs.StandingLemmas.{part_of_stage, closed, given_more, more_pace}
+use Rattle.snmp_walk.proofs.StandingLemmas.{reads_root, reads_alone, root_is}
 use Rattle.snmp_walk.specs.Request.{asked_for}
 use Rattle.snmp_walk.proofs.RowLemmas.{AreLawfulReplies}
 use Rattle.snmp_oid.specs.Identifier.{Precedes}
-use Rattle.snmp_walk.proofs.TestLemmas.{after_test, end_test, inside_decided, miss_test, no_end, no_miss}
+use Rattle.snmp_walk.proofs.TestLemmas.{after_test, end_test, inside_decided, miss_test, no_end}
+use Rattle.snmp_walk.proofs.TestLemmas.{no_miss}
 
 -- no binding is said to be large here
 abbrev Small : ℕ → VarBind → Type 0

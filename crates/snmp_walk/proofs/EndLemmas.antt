@@ -8,7 +8,8 @@ use Rattle.snmp_walk.specs.declared.rows.Step.{Step}
 use Rattle.snmp_walk.specs.declared.rows.Step.TheVariants as step
 use Rattle.snmp_walk.specs.Walker.{Walker}
 use Rattle.snmp_walk.specs.Facts.{BringsNone}
-use Rattle.snmp_walk.specs.Taken.{stops, goes_on, closes, reads, reads_next, got, reads_first, reads_last, reads_for, reads_reply, take_of}
+use Rattle.snmp_walk.specs.Taken.{stops, goes_on, closes, reads, reads_next, got, reads_first}
+use Rattle.snmp_walk.specs.Taken.{reads_last, reads_for, reads_reply, take_of}
 
 abbrev pub EndsEmpty : Step → Type 0
 EndsEmpty (step.Last rows why) = BringsNone why rows

@@ -1,5 +1,6 @@
 -- Over one table the facts of a run are about its rows.
-use Rattle.std.proofs.Common.{◌≡◌, ◌≢◌, ◌⊎◌, inl, inr, ℕ, ◌+◌, ◌<◌, List, [], ◌∷◌, ◌++◌, length, refl, sym, ◌∙◌, ap, subst, arith, length-append, Option}
+use Rattle.std.proofs.Common.{◌≡◌, ◌≢◌, ◌⊎◌, inl, inr, ℕ, ◌+◌, ◌<◌, List, [], ◌∷◌, ◌++◌, length}
+use Rattle.std.proofs.Common.{refl, sym, ◌∙◌, ap, subst, arith, length-append, Option}
 use Rattle.snmp_wire.specs.Message.{VarBind}
 use Rattle.snmp_agent.specs.table.Table.{MibView, IsMibView, IsGet, IsNext}
 use Rattle.snmp_agent.specs.table.Listing.{variables}
@@ -8,13 +9,16 @@ use Rattle.snmp_walk.specs.declared.end.WalkEnd.TheVariants as ending
 use Rattle.snmp_walk.specs.Walker.{Walker, IsWalker}
 use Rattle.snmp_walk.specs.Standing.{Reaches, IsPartOfWalk, IsWholeWalk}
 use Rattle.snmp_walk.specs.Link.{Agents, OneOf, IsNextFrom, IsGotFrom, AreViews, IsUnanswered}
-use Rattle.snmp_walk.specs.Facts.{IsFresh, IsLastSent, IsEndedBy, IsLawfulEnd, HasNoReply, HasNone, IsDone, TableFacts, WalkFacts, SendFacts}
+use Rattle.snmp_walk.specs.Facts.{IsFresh, IsLastSent, IsEndedBy, IsLawfulEnd, HasNoReply, HasNone}
+use Rattle.snmp_walk.specs.Facts.{IsDone, TableFacts, WalkFacts, SendFacts}
 use Rattle.snmp_walk.specs.Codec.{Codec}
-use Rattle.snmp_walk.proofs.JoinLemmas.{variables_rise, variables_are, next_first, get_one, get_row, after_precedes}
+use Rattle.snmp_walk.proofs.JoinLemmas.{variables_rise, variables_are, next_first, get_one}
+use Rattle.snmp_walk.proofs.JoinLemmas.{get_row, after_precedes}
 use Rattle.snmp_walk.proofs.TableLemmas.{part_is, whole_is}
 use Rattle.snmp_walk.proofs.ViewLemmas.{only_one}
 use Rattle.snmp_walk.proofs.SwiftLemmas.{left_end, swift_end, few_in, trail_in_rest}
-use Rattle.snmp_walk.proofs.TablesLemmas.{once, rises, part_from, common_in, common_in_whole, few_rows, whole_some}
+use Rattle.snmp_walk.proofs.TablesLemmas.{once, rises, part_from, common_in, common_in_whole}
+use Rattle.snmp_walk.proofs.TablesLemmas.{few_rows, whole_some}
 use Rattle.snmp_walk.proofs.PartLemmas.{part_front}
 use Rattle.snmp_walk.proofs.FullLemmas.{AreRoomy, IsFast, fast_few}
 use Rattle.snmp_walk.specs.Walk.{rest_of}

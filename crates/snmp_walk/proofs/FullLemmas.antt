@@ -1,5 +1,6 @@
 -- Where replies have all that was asked for, a walk has few requests.
-use Rattle.std.proofs.Common.{◌≡◌, ◌⊎◌, inl, inr, ℕ, ◌+◌, ◌*◌, ◌≤◌, Bool, true, false, cond, List, [], ◌∷◌, ◌++◌, length, refl, sym, ◌∙◌, ap, subst, arith}
+use Rattle.std.proofs.Common.{◌≡◌, ◌⊎◌, inl, inr, ℕ, ◌+◌, ◌*◌, ◌≤◌, Bool, true, false, cond, List}
+use Rattle.std.proofs.Common.{[], ◌∷◌, ◌++◌, length, refl, sym, ◌∙◌, ap, subst, arith}
 use Rattle.std.proofs.Common.{append_assoc, length-append, pos, Option, Some, None, add-one}
 use Rattle.std.proofs.Math.Nat.{mul-suc}
 use Rattle.std.proofs.lemmas.Bool.{ltb-false, false≢true, and_parts, not-true, or_from}
@@ -20,9 +21,11 @@ use Rattle.snmp_walk.specs.Names.{is_inside, is_end, is_missing, is_below, comes
 use Rattle.snmp_walk.specs.Trail.{last_name, IsTrail}
 use Rattle.snmp_walk.specs.Walker.{Walker}
 use Rattle.snmp_walk.specs.Request.{first_phase, asked_for}
-use Rattle.snmp_walk.specs.Taken.{is_awaited, is_plain, inside_front, rising_front, name_at, stops, goes_on, closes, reads, reads_next, got, reads_last}
+use Rattle.snmp_walk.specs.Taken.{is_awaited, is_plain, inside_front, rising_front, name_at, stops}
+use Rattle.snmp_walk.specs.Taken.{goes_on, closes, reads, reads_next, got, reads_last}
 use Rattle.snmp_walk.specs.Taken.{reads_for, reads_reply, take_of}
-use Rattle.snmp_walk.specs.Standing.{IsOpening, IsStage, IsPaced, opening_gets, Reaches, IsReplyTo, IsReplyContent}
+use Rattle.snmp_walk.specs.Standing.{IsOpening, IsStage, IsPaced, opening_gets, Reaches, IsReplyTo}
+use Rattle.snmp_walk.specs.Standing.{IsReplyContent}
 use Rattle.snmp_walk.specs.Link.{Agents, OneOf, IsNextFrom, IsGotFrom, IsTooLarge}
 use Rattle.snmp_walk.specs.Room.{HasRoomForAll}
 use Rattle.snmp_walk.specs.Run.{Try, IsFull, IsFullReply}

@@ -1,6 +1,8 @@
 -- What a Get gives over an honest link, and when it is done.
-use Rattle.std.proofs.Common.{◌≡◌, ◌≢◌, ◌⊎◌, inl, inr, ℕ, ◌*◌, ◌<◌, ◌≤◌, Bool, true, false, cond, List, []}
-use Rattle.std.proofs.Common.{◌∷◌, ◌++◌, length, take, refl, sym, ◌∙◌, ap, subst, arith, pos, append-nil, append_assoc, Option}
+use Rattle.std.proofs.Common.{◌≡◌, ◌≢◌, ◌⊎◌, inl, inr, ℕ, ◌*◌, ◌<◌, ◌≤◌, Bool, true, false, cond}
+use Rattle.std.proofs.Common.{List, []}
+use Rattle.std.proofs.Common.{◌∷◌, ◌++◌, length, take, refl, sym, ◌∙◌, ap, subst, arith, pos}
+use Rattle.std.proofs.Common.{append-nil, append_assoc, Option}
 use Rattle.std.proofs.lemmas.Bool.{and_from}
 use Rattle.std.proofs.lemmas.List.{length-take}
 use Rattle.std.proofs.Math.Nat.{min-le_left}
@@ -46,7 +48,8 @@ use Rattle.snmp_walk.specs.declared.rows.Step.TheVariants as step
 use Rattle.snmp_walk.specs.Course.{Heard}
 use Rattle.snmp_walk.specs.Course as heard
 use Rattle.snmp_walk.specs.Sink.{Given}
-use Rattle.snmp_walk.specs.Read.{rows_in, Delivers, is_stray, goes_on as delivered_on, ends as delivered_last, is_refused as delivered_part}
+use Rattle.snmp_walk.specs.Read.{rows_in, Delivers, is_stray, goes_on as delivered_on}
+use Rattle.snmp_walk.specs.Read.{ends as delivered_last, is_refused as delivered_part}
 use Rattle.snmp_walk.proofs.GetLemmas.{no_link_of}
 use Rattle.snmp_walk.specs.Get.{
   asked_names,
@@ -66,7 +69,8 @@ use Rattle.snmp_walk.specs.Get.{
 use Rattle.snmp_walk.proofs.ViewLemmas.{view_of, only_one, get_name, get_value}
 use Rattle.snmp_walk.proofs.JoinLemmas.{get_one}
 use Rattle.snmp_walk.proofs.GotLemmas.{asked_alone}
-use Rattle.snmp_walk.proofs.GetEndLemmas.{GetEnds, gives, is_refused, fails, is_too_long, is_silent, is_cut, for_names, for_none, reason_of, took}
+use Rattle.snmp_walk.proofs.GetEndLemmas.{GetEnds, gives, is_refused, fails, is_too_long}
+use Rattle.snmp_walk.proofs.GetEndLemmas.{is_silent, is_cut, for_names, for_none, reason_of, took}
 use Rattle.snmp_walk.proofs.MoveLemmas.{moves_as, moves_none, tries_as}
 use Rattle.snmp_walk.specs.Link.{Outcome}
 use Rattle.snmp_walk.specs.Link as outcome

@@ -1,5 +1,6 @@
 -- An agent's reply to a Get is awaited, and is its Response.
-use Rattle.std.proofs.Common.{◌≡◌, ℕ, ◌<◌, ◌≤◌, true, List, [], ◌∷◌, length, refl, sym, ◌∙◌, ap, subst, arith, pos}
+use Rattle.std.proofs.Common.{◌≡◌, ℕ, ◌<◌, ◌≤◌, true, List, [], ◌∷◌, length, refl, sym, ◌∙◌, ap}
+use Rattle.std.proofs.Common.{subst, arith, pos}
 use Rattle.std.specs.Prelude.{Result}
 use Rattle.std.specs.List.{AllByRecursion}
 use Rattle.snmp_oid.specs.Identifier.{wire}
@@ -9,7 +10,8 @@ use Rattle.snmp_wire.specs.Canon.{canon}
 use Rattle.snmp_wire.specs.Range.{IsBindingInRange, IsMessageInRange}
 use Rattle.snmp_walk.specs.Codec.{Codec}
 use Rattle.snmp_agent.specs.table.Table.{MibView, IsMibView, IsGet}
-use Rattle.snmp_agent.specs.Reply.{response, AreAnswers, got, got_next, unwritten, Fits, IsResponse, whole, shortened, bulk}
+use Rattle.snmp_agent.specs.Reply.{response, AreAnswers, got, got_next, unwritten, Fits}
+use Rattle.snmp_agent.specs.Reply.{IsResponse, whole, shortened, bulk}
 use Rattle.snmp_walk.specs.Taken.{awaits}
 use Rattle.snmp_walk.specs.Link.{Agents, OneOf, AreLawful, IsReplyFrom, Outcome}
 use Rattle.snmp_walk.specs.Link as outcome

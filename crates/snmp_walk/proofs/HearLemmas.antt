@@ -1,6 +1,8 @@
 -- What a try hears, receive by receive, and what tries hear together.
-use Rattle.std.proofs.Common.{◌≡◌, ◌≢◌, ◌⊎◌, inl, inr, ℕ, zero, suc, ◌+◌, ◌*◌, ◌<◌, ◌≤◌, true, false, List, [], ◌∷◌, ◌++◌, length, replicate, refl, sym, ◌∙◌}
-use Rattle.std.proofs.Common.{ap, subst, arith, append-nil, append_assoc, length-append, Option, Some, None}
+use Rattle.std.proofs.Common.{◌≡◌, ◌≢◌, ◌⊎◌, inl, inr, ℕ, zero, suc, ◌+◌, ◌*◌, ◌<◌, ◌≤◌, true}
+use Rattle.std.proofs.Common.{false, List, [], ◌∷◌, ◌++◌, length, replicate, refl, sym, ◌∙◌}
+use Rattle.std.proofs.Common.{ap, subst, arith, append-nil, append_assoc, length-append, Option}
+use Rattle.std.proofs.Common.{Some, None}
 use Rattle.std.proofs.lemmas.Bool.{false≢true}
 use Rattle.std.proofs.lemmas.Grind.{replicate_next}
 use Rattle.std.specs.List.{slice_get}
@@ -8,7 +10,8 @@ use Rattle.snmp_wire.specs.Message.{Message}
 use Rattle.snmp_wire.specs.Spelling.{Spells}
 use Rattle.snmp_walk.specs.Taken.{awaits}
 use Rattle.snmp_walk.specs.Link.{Agents, OneOf, IsReplyFrom, IsUnanswered}
-use Rattle.snmp_walk.specs.Traffic.{Traffic, latest, datagram_at, received, Gives, Receives, IsNothing, IsOther, resent, Lost}
+use Rattle.snmp_walk.specs.Traffic.{Traffic, latest, datagram_at, received, Gives, Receives}
+use Rattle.snmp_walk.specs.Traffic.{IsNothing, IsOther, resent, Lost}
 use Rattle.snmp_walk.specs.Heard.{IsAsked, Hears}
 use Rattle.snmp_walk.specs.Moved.{IsMoved}
 use Rattle.snmp_walk.specs.declared.link.Link.{Ghosts as LinkFacts}

@@ -57,8 +57,11 @@ use Rattle.snmp_wire.specs.Spelling.{Spells}
 use Rattle.snmp_wire.specs.Canon.{canon, canon_bindings, canon_head}
 use Rattle.snmp_wire.specs.Range.{IsInRange, IsBindingInRange, IsMessageInRange}
 use Rattle.snmp_walk.specs.Codec.{Codec}
-use Rattle.snmp_agent.specs.table.Table.{MibView, IsInstanceValue, IsMibView, IsGet, variable, unknown_object, unknown_instance, IsNext, successor, end_of_view}
-use Rattle.snmp_agent.specs.Reply.{response, AreAnswers, got, got_next, unwritten, Fits, IsLongestFront, IsResponse, whole, shortened, bulk, no_error}
+use Rattle.snmp_agent.specs.table.Table.{MibView, IsInstanceValue, IsMibView, IsGet, variable}
+use Rattle.snmp_agent.specs.table.Table.{unknown_object, unknown_instance, IsNext, successor}
+use Rattle.snmp_agent.specs.table.Table.{end_of_view}
+use Rattle.snmp_agent.specs.Reply.{response, AreAnswers, got, got_next, unwritten, Fits}
+use Rattle.snmp_agent.specs.Reply.{IsLongestFront, IsResponse, whole, shortened, bulk, no_error}
 use Rattle.snmp_walk.specs.declared.mode.Method.{Method}
 use Rattle.snmp_walk.specs.declared.mode.Method.TheVariants as method
 use Rattle.snmp_walk.specs.declared.phase.Phase.{Phase}
@@ -67,7 +70,8 @@ use Rattle.snmp_walk.specs.Walker.{Walker, HasRange, IsMethod, IsWalker}
 use Rattle.snmp_walk.specs.Request.{request_of, request_kind, request_repetitions, asked_for}
 use Rattle.snmp_walk.specs.Taken.{is_over}
 use Rattle.snmp_walk.specs.Standing.{IsChain, IsLarge, IsReplyContent, IsReplyTo}
-use Rattle.snmp_walk.specs.Link.{Agents, OneOf, AreLawful, IsNextFrom, IsGotFrom, IsTooLarge, IsReplyFrom}
+use Rattle.snmp_walk.specs.Link.{Agents, OneOf, AreLawful, IsNextFrom, IsGotFrom, IsTooLarge}
+use Rattle.snmp_walk.specs.Link.{IsReplyFrom}
 use Rattle.snmp_walk.proofs.RequestLemmas.{name_short}
 use Rattle.snmp_walk.proofs.ViewLemmas.{view_of}
 use Rattle.snmp_walk.proofs.RoomLemmas.{longer_full}

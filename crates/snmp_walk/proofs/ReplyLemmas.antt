@@ -1,5 +1,6 @@
 -- What an honest reply is to the walk that waits for it.
-use Rattle.std.proofs.Common.{◌≡◌, ◌⊎◌, inl, inr, ℕ, ◌<◌, true, false, List, sym, ◌∙◌, ap, subst, refl, arith, pos, []}
+use Rattle.std.proofs.Common.{◌≡◌, ◌⊎◌, inl, inr, ℕ, ◌<◌, true, false, List, sym, ◌∙◌, ap, subst}
+use Rattle.std.proofs.Common.{refl, arith, pos, []}
 use Rattle.std.proofs.lemmas.Bool.{and_from, false_from_ne_true}
 use Rattle.std.specs.Prelude.{not, Result}
 use Rattle.snmp_wire.specs.Message.{VarBind, Message}
@@ -10,7 +11,8 @@ use Rattle.snmp_walk.specs.Walker.{Walker, IsWalker}
 use Rattle.snmp_walk.specs.Request.{request_of}
 use Rattle.snmp_walk.specs.Taken.{is_over, awaits}
 use Rattle.snmp_walk.specs.Standing.{IsReplyTo}
-use Rattle.snmp_walk.specs.Link.{Agents, IsNextFrom, IsGotFrom, IsTooLarge, AreLawful, IsReplyFrom, Outcome}
+use Rattle.snmp_walk.specs.Link.{Agents, IsNextFrom, IsGotFrom, IsTooLarge, AreLawful, IsReplyFrom}
+use Rattle.snmp_walk.specs.Link.{Outcome}
 use Rattle.snmp_walk.specs.Link as outcome
 use Rattle.snmp_walk.specs.Heard.{IsAsked, Exchanges, IsSentBefore, IsEarlier}
 use Rattle.snmp_walk.specs.Traffic.{Traffic}

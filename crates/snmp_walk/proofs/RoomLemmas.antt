@@ -1,5 +1,6 @@
 -- How long a single_response of one binding is: no longer with an exception in place of the value, nor with a lesser id.
-use Rattle.std.proofs.Common.{◌≡◌, ℕ, ◌^◌, ◌<◌, ◌≤◌, List, [], ◌∷◌, ◌++◌, length, arith, length-append, pos}
+use Rattle.std.proofs.Common.{◌≡◌, ℕ, ◌^◌, ◌<◌, ◌≤◌, List, [], ◌∷◌, ◌++◌, length, arith}
+use Rattle.std.proofs.Common.{length-append, pos}
 use Rattle.snmp_wire.specs.Message.{
   Datum,
   VarBind,

@@ -1,5 +1,6 @@
 -- A run, turn by turn.
-use Rattle.std.proofs.Common.{◌≡◌, ◌⊎◌, inl, inr, ℕ, ◌+◌, ◌^◌, ◌<◌, false, List, [], ◌∷◌, ◌++◌, refl, sym, ◌∙◌, ap, subst, arith, append-nil, append_assoc}
+use Rattle.std.proofs.Common.{◌≡◌, ◌⊎◌, inl, inr, ℕ, ◌+◌, ◌^◌, ◌<◌, false, List, [], ◌∷◌, ◌++◌}
+use Rattle.std.proofs.Common.{refl, sym, ◌∙◌, ap, subst, arith, append-nil, append_assoc}
 use Rattle.std.proofs.Common.{Option, Some, None, replicate}
 use Rattle.std.specs.Prelude.{Result, Err}
 use Rattle.snmp_wire.specs.Message.{VarBind, Message}
@@ -16,8 +17,10 @@ use Rattle.snmp_walk.specs.Walker.{Walker, IsWalker}
 use Rattle.snmp_walk.specs.Request.{first_phase}
 use Rattle.snmp_walk.specs.Judged.{MeansBy}
 use Rattle.snmp_walk.specs.Taken.{is_over, take_of}
-use Rattle.snmp_walk.specs.Standing.{IsOpening, IsPartOfWalk, IsStage, IsPaced, Reaches, Ends, Advances, Rises, Named, IsReplyEnd, CountsAll, AdvancesAnyhow}
-use Rattle.snmp_walk.specs.Link.{Agents, IsNextFrom, IsGotFrom, IsTooLarge, IsUnanswered, AreViews, Outcome}
+use Rattle.snmp_walk.specs.Standing.{IsOpening, IsPartOfWalk, IsStage, IsPaced, Reaches, Ends}
+use Rattle.snmp_walk.specs.Standing.{Advances, Rises, Named, IsReplyEnd, CountsAll, AdvancesAnyhow}
+use Rattle.snmp_walk.specs.Link.{Agents, IsNextFrom, IsGotFrom, IsTooLarge, IsUnanswered, AreViews}
+use Rattle.snmp_walk.specs.Link.{Outcome}
 use Rattle.snmp_walk.specs.Link as outcome
 use Rattle.snmp_walk.specs.Sink.{Given, Took}
 use Rattle.snmp_walk.specs.Run.{IsFrom, Turns, goes_on, ends, is_refused, is_silent, fails}

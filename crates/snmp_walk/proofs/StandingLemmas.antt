@@ -29,7 +29,8 @@ use Rattle.std.proofs.Common.{
   ℤ,
   Some,
 }
-use Rattle.std.proofs.lemmas.Bool.{ltb-true, le-ltb, or_from, and_from, and_parts, eqb-true, ltb-false, eq-eqb}
+use Rattle.std.proofs.lemmas.Bool.{ltb-true, le-ltb, or_from, and_from, and_parts, eqb-true}
+use Rattle.std.proofs.lemmas.Bool.{ltb-false, eq-eqb}
 use Rattle.std.specs.Prelude.{nat_lt, ◌==◌, ◌&&◌, ◌||◌, not}
 use Rattle.std.specs.Bool.{nat_eq}
 use Rattle.std.specs.List.{list_any}
@@ -47,7 +48,8 @@ use Rattle.snmp_walk.specs.Names.{is_missing}
 use Rattle.snmp_walk.specs.Trail.{last_name, IsTrail, IsAtEnd}
 use Rattle.snmp_walk.specs.Walker.{Walker}
 use Rattle.std.specs.Ordering.{int_eq}
-use Rattle.snmp_walk.specs.Taken.{is_over, is_awaited, is_plain, inside_front, rising_front, stops, goes_on, closes, reads_next, got, if_present, reads_first}
+use Rattle.snmp_walk.specs.Taken.{is_over, is_awaited, is_plain, inside_front, rising_front, stops}
+use Rattle.snmp_walk.specs.Taken.{goes_on, closes, reads_next, got, if_present, reads_first}
 use Rattle.snmp_walk.specs.Taken.{reads_last, reads_for, take_of}
 use Rattle.snmp_walk.specs.Standing.{
   IsChain,
@@ -65,7 +67,8 @@ use Rattle.snmp_walk.specs.Standing.{
   Reaches,
   Advances,
 }
-use Rattle.snmp_walk.proofs.TrailLemmas.{last_name-append, trail-append, IsFront, chain_front, chain_has_values}
+use Rattle.snmp_walk.proofs.TrailLemmas.{last_name-append, trail-append, IsFront, chain_front}
+use Rattle.snmp_walk.proofs.TrailLemmas.{chain_has_values}
 use Rattle.snmp_walk.specs.Request.{asked_for}
 use Rattle.snmp_walk.proofs.RowLemmas.{AreLawfulReplies}
 use Rattle.snmp_walk.proofs.TestLemmas.{present, present_is}

@@ -1,5 +1,6 @@
 -- What a run tries to send over any link, request by request.
-use Rattle.std.proofs.Common.{◌≡◌, ℕ, ◌+◌, ◌-◌, ◌*◌, ◌≤◌, List, [], ◌∷◌, ◌++◌, length, replicate, sym, ◌∙◌, ap, subst, arith}
+use Rattle.std.proofs.Common.{◌≡◌, ℕ, ◌+◌, ◌-◌, ◌*◌, ◌≤◌, List, [], ◌∷◌, ◌++◌, length, replicate}
+use Rattle.std.proofs.Common.{sym, ◌∙◌, ap, subst, arith}
 use Rattle.std.proofs.Common.{length-append}
 use Rattle.std.proofs.Math.Nat.{suc-mul, mul-le-mul_left, mul-le-mul_right, add-mul}
 use Rattle.std.proofs.lemmas.List.{length-replicate}
@@ -12,7 +13,8 @@ use Rattle.snmp_walk.specs.Moves.{octets_in}
 use Rattle.snmp_walk.specs.Moved.{IsMoved, IsMovedByTries, IsMovedByRequests}
 use Rattle.snmp_walk.specs.Run.{Try, sent_by, AreTries}
 use Rattle.snmp_walk.specs.declared.link.Link.{Ghosts as LinkFacts}
-use Rattle.snmp_walk.proofs.MoveLemmas.{by_equal, moves_as, moves_none, moves_on, octets-append, octets-replicate}
+use Rattle.snmp_walk.proofs.MoveLemmas.{by_equal, moves_as, moves_none, moves_on, octets-append}
+use Rattle.snmp_walk.proofs.MoveLemmas.{octets-replicate}
 use Rattle.snmp_walk.proofs.SendLemmas.{asks_now, each_push, sent_push, tries_more, tries_push}
 
 -- each request is among the datagrams `tries` times at most

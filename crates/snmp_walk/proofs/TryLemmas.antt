@@ -1,8 +1,10 @@
 -- Receives and tries so far, none of which brought the reply.
-use Rattle.std.proofs.Common.{◌≡◌, ◌≢◌, ◌⊎◌, inl, inr, ℕ, ◌+◌, ◌<◌, List, [], ◌∷◌, ◌++◌, length, refl, sym, subst, arith, length-append}
+use Rattle.std.proofs.Common.{◌≡◌, ◌≢◌, ◌⊎◌, inl, inr, ℕ, ◌+◌, ◌<◌, List, [], ◌∷◌, ◌++◌, length}
+use Rattle.std.proofs.Common.{refl, sym, subst, arith, length-append}
 use Rattle.snmp_walk.specs.Link.{OneOf, Outcome}
 use Rattle.snmp_walk.specs.Link as outcome
-use Rattle.snmp_walk.specs.Tries.{InTurn, Sends, SendFails, Brings, EndsTry, AreReceives, IsTry, AreMissed, IsLastTry, AreTried}
+use Rattle.snmp_walk.specs.Tries.{InTurn, Sends, SendFails, Brings, EndsTry, AreReceives, IsTry}
+use Rattle.snmp_walk.specs.Tries.{AreMissed, IsLastTry, AreTried}
 use Rattle.snmp_walk.specs.declared.link.Link.{Ghosts as LinkFacts}
 use Rattle.snmp_walk.proofs.HearLemmas.{one_append}
 

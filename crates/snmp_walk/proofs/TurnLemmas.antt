@@ -1,5 +1,6 @@
 -- What was heard is taken, and isn't passed over.
-use Rattle.std.proofs.Common.{◌≡◌, ◌≢◌, ℕ, Bool, true, false, cond, List, [], ◌∷◌, sym, ◌∙◌, ap, subst, Option, Some, None}
+use Rattle.std.proofs.Common.{◌≡◌, ◌≢◌, ℕ, Bool, true, false, cond, List, [], ◌∷◌, sym, ◌∙◌, ap}
+use Rattle.std.proofs.Common.{subst, Option, Some, None}
 use Rattle.std.proofs.lemmas.Bool.{false≢true}
 use Rattle.std.specs.Prelude.{IfSome, IfNone, IfOk, OnErr, Result, Ok, Err}
 use Rattle.snmp_wire.specs.Message.{VarBind, Message}
@@ -10,7 +11,8 @@ use Rattle.snmp_walk.specs.declared.end.WalkEnd.TheVariants as ending
 use Rattle.snmp_walk.specs.declared.rows.Step.{Step}
 use Rattle.snmp_walk.specs.declared.rows.Step.TheVariants as step
 use Rattle.snmp_walk.specs.Walker.{Walker}
-use Rattle.snmp_walk.specs.Taken.{is_over, is_awaited, stops, goes_on, closes, reads, reads_next, got, reads_first, reads_last, reads_for, reads_reply, take_of}
+use Rattle.snmp_walk.specs.Taken.{is_over, is_awaited, stops, goes_on, closes, reads, reads_next}
+use Rattle.snmp_walk.specs.Taken.{got, reads_first, reads_last, reads_for, reads_reply, take_of}
 use Rattle.snmp_walk.specs.Standing.{IsReplyEnd}
 use Rattle.snmp_walk.specs.Link.{Agents, Outcome}
 use Rattle.snmp_walk.specs.Link as outcome

@@ -1,6 +1,7 @@
 //! A walk over a link: from the first request to the end, each binding to a sink as it comes.
 ghost use Rattle.std.specs.Prelude.{◌≡◌, ◌≢◌, ◌≤◌, ◌⊎◌, ◌+◌, ◌++◌, ℕ, List, [], length};
-ghost use Rattle.std.specs.Prelude.{Option, Some, None, Ok, Err, IfOk, IfSome, IfNone, OnOk, OnErr};
+ghost use Rattle.std.specs.Prelude.{Option, Some, None, Ok, Err, IfOk, IfSome, IfNone, OnOk};
+ghost use Rattle.std.specs.Prelude.{OnErr};
 ghost use Rattle.std.specs.Prelude.{false};
 ghost use Rattle.snmp_wire.specs.Canon.{canon};
 ghost use Rattle.snmp_wire.specs.Message.{VarBind};

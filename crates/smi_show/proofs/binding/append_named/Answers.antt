@@ -1,7 +1,8 @@
 use Rattle.std.proofs.Common.{◌≡◌, ◌++◌, ℕ, Bool, List, [], cond, refl, ap, subst, sym}
 use Rattle.snmp_io.specs.draft.Draft.{Adds}
 use Rattle.smi_value.specs.declared.letters.letters.NameForm.{NameForm}
-use Rattle.smi_value.specs.declared.letters.letters.NameForm.TheVariants.{Numeric, Full, Label, ModuleLabel}
+use Rattle.smi_value.specs.declared.letters.letters.NameForm.TheVariants.{Numeric, Full, Label}
+use Rattle.smi_value.specs.declared.letters.letters.NameForm.TheVariants.{ModuleLabel}
 use Rattle.smi_show.specs.Line.{names_by, separator}
 use Rattle.smi_show.specs.name.Naming.{Naming}
 use Rattle.smi_show.specs.name.Shown.{name_text, standing_text}

@@ -8,7 +8,9 @@ use Rattle.snmp_walk.proofs.GotLemmas.{brought, own}
 use Rattle.snmp_walk.proofs.MoveLemmas.{is_bad, never_bad, ok_fine}
 use Rattle.snmp_walk.proofs.TurnLemmas.{if_some, if_silent, if_cut}
 use Rattle.snmp_walk.proofs.GetEndLemmas.{is_too_long, is_silent, is_cut, no_names, some_names}
-use Rattle.snmp_walk.proofs.GetFactLemmas.{got_none, got_over, lost_exchange, moved_none, moved_so, sent_none, sent_so, short_enough, got_ends, got_ends_always}
+use Rattle.snmp_walk.proofs.GetFactLemmas.{got_none, got_over, lost_exchange, moved_none, moved_so}
+use Rattle.snmp_walk.proofs.GetFactLemmas.{sent_none, sent_so, short_enough, got_ends}
+use Rattle.snmp_walk.proofs.GetFactLemmas.{got_ends_always}
 use Rattle.snmp_walk.proofs.get.run_get.Goals as goal
 
 pub returns-then-is_empty : goal.returns-then-is_empty

@@ -9,7 +9,8 @@ use Rattle.snmp_walk.specs.declared.end.WalkEnd.TheVariants as ending
 use Rattle.snmp_walk.proofs.RunLemmas.{runs_first, runs_on, ran, ready_facts}
 use Rattle.snmp_walk.specs.Moved.{IsMovedByRequests}
 use Rattle.snmp_walk.proofs.MoveLemmas.{tries_as}
-use Rattle.snmp_walk.proofs.TriedLemmas.{HasMoved, moved_first, moved_more, moved_fine, requests_as}
+use Rattle.snmp_walk.proofs.TriedLemmas.{HasMoved, moved_first, moved_more, moved_fine}
+use Rattle.snmp_walk.proofs.TriedLemmas.{requests_as}
 use Rattle.snmp_wire.specs.Message.{VarBind}
 use Rattle.snmp_walk.proofs.RequestLemmas.{request_short}
 use Rattle.snmp_walk.proofs.TurnLemmas.{no_link_end, same_end}

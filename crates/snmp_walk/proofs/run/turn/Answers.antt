@@ -8,7 +8,8 @@ use Rattle.snmp_walk.specs.Run.{is_silent, fails}
 use Rattle.snmp_walk.specs.Course.{heard_of}
 use Rattle.snmp_walk.proofs.MoveLemmas.{is_bad, never_bad, tries_as}
 use Rattle.snmp_walk.proofs.ReplyLemmas.{heard_by, exchanged_by}
-use Rattle.snmp_walk.proofs.TurnLemmas.{still_waits, if_some, if_silent, if_cut, turns_of, not_silent, not_link, link_end, silent_no_link}
+use Rattle.snmp_walk.proofs.TurnLemmas.{still_waits, if_some, if_silent, if_cut, turns_of}
+use Rattle.snmp_walk.proofs.TurnLemmas.{not_silent, not_link, link_end, silent_no_link}
 use Rattle.snmp_walk.specs.Tries.{AreTried, IsNotAwaited}
 use Rattle.snmp_walk.proofs.run.turn.Goals as goal
 

@@ -1,4 +1,5 @@
-use Rattle.std.proofs.Common.{◌≡◌, ◌+◌, ◌<◌, ◌∙◌, ap, subst, refl, arith, replicate, ℕ, List, [], ◌∷◌, Option, Some, None, Ok}
+use Rattle.std.proofs.Common.{◌≡◌, ◌+◌, ◌<◌, ◌∙◌, ap, subst, refl, arith, replicate, ℕ, List, []}
+use Rattle.std.proofs.Common.{◌∷◌, Option, Some, None, Ok}
 use Rattle.std.specs.Prelude.{Result, Err, IsErr, IfSome}
 use Rattle.snmp_wire.specs.Message.{VarBind, Message}
 use Rattle.snmp_walk.specs.declared.end.SinkFault.{SinkFault}
@@ -13,8 +14,10 @@ use Rattle.snmp_walk.specs.Link as outcome
 use Rattle.snmp_walk.specs.Traffic.{Traffic, latest}
 use Rattle.snmp_walk.specs.Heard.{IsAsked, Hears, Exchanges}
 use Rattle.snmp_walk.specs.Moved.{IsMoved}
-use Rattle.snmp_walk.proofs.HearLemmas.{Missing, missing_first, missing_more, missing_all, missing_used, heard_more, try_sent, tries_sent, shown}
-use Rattle.snmp_walk.proofs.MoveLemmas.{is_bad, never_bad, ok_fine, sent_all, sent_none, moves_none, moves_on, moves_as, went, tries_on}
+use Rattle.snmp_walk.proofs.HearLemmas.{Missing, missing_first, missing_more, missing_all}
+use Rattle.snmp_walk.proofs.HearLemmas.{missing_used, heard_more, try_sent, tries_sent, shown}
+use Rattle.snmp_walk.proofs.MoveLemmas.{is_bad, never_bad, ok_fine, sent_all, sent_none}
+use Rattle.snmp_walk.proofs.MoveLemmas.{moves_none, moves_on, moves_as, went, tries_on}
 use Rattle.snmp_walk.specs.Tries.{AreMissed, AreReceives, IsNotAwaited}
 use Rattle.snmp_walk.proofs.TryLemmas.{tries_first, tries_more, tried_so, unsent}
 use Rattle.snmp_walk.proofs.TurnLemmas.{if_some, if_silent, if_cut, on_cut}

@@ -1,4 +1,5 @@
-use Rattle.std.proofs.Common.{◌≡◌, inl, inr, ◌<◌, ◌≤◌, ◌∙◌, sym, subst, refl, take, arith, length, ℕ, List, Option, Some, None, false}
+use Rattle.std.proofs.Common.{◌≡◌, inl, inr, ◌<◌, ◌≤◌, ◌∙◌, sym, subst, refl, take, arith, length}
+use Rattle.std.proofs.Common.{ℕ, List, Option, Some, None, false}
 use Rattle.std.proofs.lemmas.Grind.{common_steps}
 use Rattle.std.specs.Prelude.{true, Result, IfSome, IfNone}
 use Rattle.snmp_wire.specs.Message.{VarBind, Message}
@@ -11,11 +12,13 @@ use Rattle.snmp_walk.specs.Taken.{awaits}
 use Rattle.snmp_walk.specs.Read.{IsRead, IsReadAs}
 use Rattle.snmp_walk.specs.Link as outcome
 use Rattle.snmp_walk.specs.Traffic.{Traffic}
-use Rattle.snmp_walk.proofs.HearLemmas.{waits_first, stray_heard, none_heard, reply_heard, heard_used, received_by}
+use Rattle.snmp_walk.proofs.HearLemmas.{waits_first, stray_heard, none_heard, reply_heard}
+use Rattle.snmp_walk.proofs.HearLemmas.{heard_used, received_by}
 use Rattle.snmp_walk.specs.Tries.{IsNotAwaited, AreReceives}
 use Rattle.snmp_walk.proofs.JudgedLemmas.{not_response}
 use Rattle.snmp_walk.proofs.TryLemmas.{missing_first, missing_more, received_so}
-use Rattle.snmp_walk.proofs.MoveLemmas.{is_bad, never_bad, ok_fine, sent_none, moves_none, moves_as, receive_as, receives_on}
+use Rattle.snmp_walk.proofs.MoveLemmas.{is_bad, never_bad, ok_fine, sent_none, moves_none}
+use Rattle.snmp_walk.proofs.MoveLemmas.{moves_as, receive_as, receives_on}
 use Rattle.snmp_walk.proofs.TurnLemmas.{if_some, if_cut, on_cut}
 use Rattle.snmp_walk.proofs.tries.hear.Goals as goal
 

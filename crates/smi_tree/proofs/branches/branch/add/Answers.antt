@@ -1,10 +1,12 @@
 -- The numbers of the identifier are gone along, and it stands at the end, if none did.
-use Rattle.std.proofs.Common.{rules, ◌≡◌, ℕ, ◌+◌, ◌<◌, ◌≤◌, true, is_some, Option, List, [], ◌∷◌, ◌++◌, Some, None, get_or, set, take, length, refl, sym}
+use Rattle.std.proofs.Common.{rules, ◌≡◌, ℕ, ◌+◌, ◌<◌, ◌≤◌, true, is_some, Option, List, [], ◌∷◌}
+use Rattle.std.proofs.Common.{◌++◌, Some, None, get_or, set, take, length, refl, sym}
 use Rattle.std.proofs.Common.{◌∙◌, arith}
 use Rattle.std.proofs.lemmas.List.{take_more, take_all, length-set, length-take-le, get_or_default}
 use Rattle.smi_tree.specs.branches.Branches.{AreBranches, branch_of, IsBeginning}
 use Rattle.smi_tree.specs.declared.branches.branch.Branch.{Branch}
-use Rattle.smi_tree.proofs.Branching.{Branches-known, Branches-grown, Branches-ended, begins_push, branch_inside}
+use Rattle.smi_tree.proofs.Branching.{Branches-known, Branches-grown, Branches-ended, begins_push}
+use Rattle.smi_tree.proofs.Branching.{branch_inside}
 use Rattle.smi_tree.proofs.Growing.{follower-set, standing-set, standing-set_other, standing_read}
 use Rattle.smi_tree.proofs.PlacesLemmas.{or_else}
 use Rattle.smi_tree.proofs.branches.branch.add.Goals as goal

@@ -1,11 +1,13 @@
 -- The identifier at the place.
-use Rattle.std.proofs.Common.{rules, ◌≡◌, ◌<◌, ◌≤◌, length, [], Some, None, sym, ap, refl, arith, ◌∙◌, Option, ℕ, List}
+use Rattle.std.proofs.Common.{rules, ◌≡◌, ◌<◌, ◌≤◌, length, [], Some, None, sym, ap, refl, arith}
+use Rattle.std.proofs.Common.{◌∙◌, Option, ℕ, List}
 use Rattle.std.specs.List.{slice_get}
 use Rattle.std.specs.Option.{option_and_then}
 use Rattle.std.proofs.lemmas.Option.{slice_get-get_or, slice_get_past}
 use Rattle.smi_tree.proofs.Bridging.{oids-nodes}
 use Rattle.smi_tree.proofs.tree.Tree.found.Goals as goal
-use Rattle.smi_tree.proofs.tree.Tree.found.Goals.{in_default-via-in-Some+else-id-len, in_default-via-in_default}
+use Rattle.smi_tree.proofs.tree.Tree.found.Goals.{in_default-via-in-Some+else-id-len}
+use Rattle.smi_tree.proofs.tree.Tree.found.Goals.{in_default-via-in_default}
 
 -- no place
 no_place : (os : List (List ℕ)) (place : Option ℕ) → ((id : ℕ) → place ≡ Some id → length os ≤ id) → None ≡ option_and_then (slice_get os) place

@@ -1,11 +1,13 @@
-use Rattle.std.proofs.Common.{◌≤◌, length, take, drop, refl, sym, ap, subst, ℕ, List, Option, rules, arith}
+use Rattle.std.proofs.Common.{◌≤◌, length, take, drop, refl, sym, ap, subst, ℕ, List, Option}
+use Rattle.std.proofs.Common.{rules, arith}
 use Rattle.snmp_walk.specs.Link.{Agents, AreLawful}
 use Rattle.std.specs.Prelude.{IfSome, IfNone}
 use Rattle.snmp_walk.specs.Memory.{agents_of, IsReplyOf, HasNoReplyOf, UsesDelivery}
 use Rattle.snmp_walk.specs.Traffic.{received, datagram_at, Gives, Receives}
 use Rattle.snmp_walk.specs.Arena.{Store}
 use Rattle.snmp_walk.proofs.MoveLemmas.{ok_fine, sent_nothing}
-use Rattle.snmp_walk.proofs.MemoryLemmas.{brought_by, silent_by, as_before, received_front, received_at, within_more}
+use Rattle.snmp_walk.proofs.MemoryLemmas.{brought_by, silent_by, as_before, received_front}
+use Rattle.snmp_walk.proofs.MemoryLemmas.{received_at, within_more}
 use Rattle.snmp_walk.proofs.memory.MemoryLinkLink.receive.Goals as goal
 
 pub returns-clause-length : goal.returns-clause-length

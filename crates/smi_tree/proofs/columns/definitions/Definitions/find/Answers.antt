@@ -5,7 +5,8 @@ use Rattle.std.specs.List.{slice_get}
 use Rattle.smi_text.specs.declared.trees.tree.Def.{Def}
 use Rattle.smi_names.specs.meaning.Meaning.{QualifiedName, defined}
 use Rattle.smi_names.specs.meaning.Scopes.{content_of, decision_of}
-use Rattle.smi_tree.proofs.NamingLemmas.{definition_of_end, undefined_past, undefined_ring, undefined_end, undefined_other}
+use Rattle.smi_tree.proofs.NamingLemmas.{definition_of_end, undefined_past, undefined_ring}
+use Rattle.smi_tree.proofs.NamingLemmas.{undefined_end, undefined_other}
 use Rattle.smi_tree.proofs.columns.definitions.Definitions.find.Goals as goal
 
 pub returns-in_err-get : goal.returns-in_err-get
