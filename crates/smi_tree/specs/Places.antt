@@ -65,7 +65,7 @@ pub record AreEmpty (scopes : List Places) (count : ℕ) : Type 0 where
   pub long : length scopes ≡ count
   pub empty : (p : ℕ) (x : List ℕ) → place_at scopes p x ≡ None
 
--- the label of the source gets the place k in its module, unless it has one
+-- the label of the source gets the place k in its module, unless it has one, for private clauses
 pub record Puts (ms : List Module) (s : Source) (k : ℕ) (old new : List Places) : Type 0 where
   pub long : length new ≡ length old
   pub each : (p : ℕ) (x : List ℕ) → p < length old

@@ -91,13 +91,14 @@ answers_of names m =
     then (if are_for names m.bindings then Ok m.bindings else Err ending.BadReply)
     else Err (ending.Fault m.a m.b)
 
--- a Get of these names that waits for its reply
+-- a Get of these names that waits for its reply, for private clauses
 pub record WaitingGet : Type 0 where
   pub names : List (List ℕ)
   pub community : List ℕ
   pub id : ℕ
 
--- what a reply means to a Get: all its bindings and the end, or the end without them
+-- what a reply means to a Get: all its bindings and the end, or the end without them, for private
+-- clauses
 abbrev pub step_of : ℕ → Result (List VarBind) WalkEnd → Step
 step_of count (Ok rows) = step.Last rows (ending.Done count)
 step_of count (Err end) = step.Last [] end

@@ -13,7 +13,7 @@ abbrev pub IsMoved : {W : Type 0} → LinkFacts W → W → (tried : List (List 
 IsMoved {W} facts old tried failed new = Moves facts.keeps facts.honest facts.agents facts.traffic
     facts.fault_count facts.ready old tried failed new
 
--- so did tries of this datagram, one at least and as many as `tries` at most
+-- so did tries of this datagram, one at least and as many as `tries` at most, for private clauses
 abbrev pub IsMovedByTries : {W : Type 0} → LinkFacts W → W → List ℕ → (tries : ℕ)
     → (failed : Type 0) → W → Type 0
 IsMovedByTries {W} facts old datagram tries failed new =

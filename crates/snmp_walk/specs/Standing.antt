@@ -43,7 +43,7 @@ IsChain Next o (p ∷ more) = Next o p × IsChain Next p.name more
 abbrev pub IsLarge : (List ℕ → VarBind → Type 0) → (VarBind → Type 0) → List ℕ → Type 0
 IsLarge Answer Large o = (p : VarBind) × Answer o p × Large p
 
--- an honest reply has the bindings asked for, or tooBig where they have no room
+-- an honest reply has the bindings asked for, or tooBig where they have no room, for private clauses
 abbrev pub IsGetContent : (List ℕ → VarBind → Type 0) → (VarBind → Type 0) → List ℕ → Message
     → Type 0
 IsGetContent Got Large o m =
@@ -64,7 +64,7 @@ IsReplyContent Next Got Large phase.Rows w m = IsNextContent Next (Large w.id) w
 IsReplyContent Next Got Large phase.Last w m = IsGetContent Got (Large w.id) w.asked m
 IsReplyContent Next Got Large phase.Over w m = ⊥
 
--- the message is an honest reply to the waiting request
+-- the message is an honest reply to the waiting request, for private clauses
 pub record IsReplyTo (Next Got : List ℕ → VarBind → Type 0) (Large : ℕ → VarBind → Type 0)
     (w : Walker) (m : Message) : Type 0 where
   pub response : IsResponseTo w.community w.id m
@@ -167,7 +167,7 @@ Ends Next Got Large first w given (ending.NoProgress o) = (w.phase ≡ phase.Row
 Ends Next Got Large first w given ending.TooManyRequests = 2147483647 ≤ w.id
 Ends Next Got Large first w given _ = ⊥
 
--- a step of the walk w
+-- a step of the walk w, for private clauses
 abbrev pub Advances : (Next Got : List ℕ → VarBind → Type 0) → (ℕ → VarBind → Type 0) → Walker
     → Walker → List VarBind → Step → Walker → Type 0
 Advances Next Got Large first old given step.Stray w = ⊥
@@ -198,7 +198,7 @@ CountsAll (ending.Done n) given = n ≡ length given
 CountsAll _ given = Unit {0}
 
 -- Whatever the message is: a stray changes nothing, a next request has the next id, what was given
--- rises, and a walk that is done has counted it.
+-- rises, and a walk that is done has counted it. For private clauses.
 abbrev pub AdvancesAnyhow : Walker → Walker → List VarBind → Step → Walker → Type 0
 AdvancesAnyhow first old given step.Stray w = w ≡ old
 AdvancesAnyhow first old given (step.Rows more) w = (w.id ≡ old.id + 1) × (w.id < 2 ^ 31)

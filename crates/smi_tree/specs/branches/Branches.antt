@@ -62,7 +62,7 @@ abbrev pub AreBranchesOf : List (List ℕ) → List Branch → Type 0
 AreBranchesOf oids bs = AreBranches oids oids bs
 
 -- branch `at` leads by the number n to a branch that was there or is added, and nothing else is
--- changed
+-- changed, for private clauses
 pub data GrowsBranch (old new : List Branch) (at n : ℕ) : ℕ → Type 0 where
   there : {b : ℕ} → new ≡ old → follower old at n ≡ Some b → GrowsBranch old new at n b
   made : {b : ℕ} → b ≡ length old → length new ≡ length old + 1 → follower old at n ≡ None
@@ -71,7 +71,7 @@ pub data GrowsBranch (old new : List Branch) (at n : ℕ) : ℕ → Type 0 where
       → ((c : ℕ) → standing_at new c ≡ standing_at old c)
       → GrowsBranch old new at n b
 
--- what stands at a branch, as the deepest place, or the deepest place before it
+-- what stands at a branch, as the deepest place, or the deepest place before it, for private clauses
 abbrev pub deeper_of : Option ℕ → (branch depth : ℕ) → Option Deepest → Option Deepest
 deeper_of None branch depth before = before
 deeper_of (Some place) branch depth before =
@@ -84,7 +84,8 @@ SoFar oids o i (Some d) =
     (d.depth ≤ i) × (place_of oids (take d.depth o) ≡ Some d.place)
     × ((j : ℕ) → d.depth < j → j ≤ i → place_of oids (take j o) ≡ None)
 
--- the first `depth` numbers of o lead to a branch, and this is the longest beginning among them
+-- the first `depth` numbers of o lead to a branch, and this is the longest beginning among them, for
+-- private clauses
 pub record IsUnderWay (oids : List (List ℕ)) (bs : List Branch) (o : List ℕ) (depth branch : ℕ)
     (deepest : Option Deepest) : Type 0 where
   pub within : depth ≤ length o

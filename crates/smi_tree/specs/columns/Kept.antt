@@ -1,4 +1,5 @@
 -- What is kept: the parts of each INDEX clause, and for each node which of them identify its row.
+-- The relations here are for private clauses.
 use Rattle.std.specs.Prelude.{◌≡◌, ℕ, List, Bool, Option, Some, None, option_map, length, map, Vec}
 use Rattle.std.specs.List.{slice_get}
 use Rattle.std.specs.Option.{option_and_then}

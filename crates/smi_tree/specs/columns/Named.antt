@@ -1,4 +1,4 @@
--- The names at which imports end, by their places.
+-- The names at which imports end, by their places, for private clauses.
 use Rattle.std.specs.Prelude.{◌≡◌, ℕ, ◌<◌, List, length, Option, Some, None}
 use Rattle.std.specs.List.{slice_get}
 use Rattle.smi_names.specs.chains.Order.{next_at}

@@ -1,4 +1,5 @@
--- The places of names by which chains of types are followed.
+-- The places of names by which chains of types are followed. The relations here are for private
+-- clauses.
 use Rattle.std.specs.Prelude.{
   ◌≡◌,
   ℕ,
