@@ -1,5 +1,6 @@
 -- Replies to a GetBulk.
-use Rattle.std.proofs.Common.{◌≡◌, ℕ, pos, ◌+◌, ◌≤◌, ◌<◌, List, [], ◌∷◌, ◌++◌, length, take, refl, sym, ap, subst, ◌∙◌, ⊎_elim, arith}
+use Rattle.std.proofs.Common.{◌≡◌, ℕ, pos, ◌+◌, ◌≤◌, ◌<◌, List, [], ◌∷◌, ◌++◌, length, take, refl}
+use Rattle.std.proofs.Common.{sym, ap, subst, ◌∙◌, ⊎_elim, arith}
 use Rattle.std.proofs.lemmas.Bool.{cases_lt}
 use Rattle.snmp_wire.specs.declared.kind.Kind.TheVariants as kind
 use Rattle.snmp_wire.specs.Message.{VarBind, Message}
@@ -8,7 +9,8 @@ use Rattle.snmp_wire.specs.Laws.{HasPieces}
 use Rattle.snmp_wire.specs.Sizes.{MessageSizes}
 use Rattle.snmp_agent.specs.table.Table.{MibView}
 use Rattle.snmp_agent.specs.Reply.{Fits, IsBulk, IsLongestFront, bulk, no_error, response}
-use Rattle.snmp_agent.specs.Answering.{HoldsBindings, IsResponseWritten, IsResponseTooLong, HasNoRoom, HoldsFront, IsRoom, PassesLimit, whole_size}
+use Rattle.snmp_agent.specs.Answering.{HoldsBindings, IsResponseWritten, IsResponseTooLong}
+use Rattle.snmp_agent.specs.Answering.{HasNoRoom, HoldsFront, IsRoom, PassesLimit, whole_size}
 use Rattle.snmp_agent.proofs.Requests.{bare, response_size, sealed, sealed_size}
 use Rattle.snmp_agent.proofs.Lengths.{longer, beyond}
 use Rattle.snmp_agent.proofs.Drafts.{passes}

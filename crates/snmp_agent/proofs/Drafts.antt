@@ -1,5 +1,6 @@
 -- Replies in the making.
-use Rattle.std.proofs.Common.{◌≡◌, ℕ, ◌+◌, ◌≤◌, ◌<◌, List, [], ◌∷◌, ◌++◌, length, take, refl, sym, ap, subst, ◌∙◌, arith, length-append, append_assoc, Option}
+use Rattle.std.proofs.Common.{◌≡◌, ℕ, ◌+◌, ◌≤◌, ◌<◌, List, [], ◌∷◌, ◌++◌, length, take, refl, sym}
+use Rattle.std.proofs.Common.{ap, subst, ◌∙◌, arith, length-append, append_assoc, Option}
 use Rattle.std.proofs.Common.{Some, None, IfNone}
 use Rattle.std.proofs.lemmas.Grind.{flat_map-append}
 use Rattle.snmp_wire.specs.Message.{VarBind, Message}

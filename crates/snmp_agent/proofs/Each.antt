@@ -1,6 +1,8 @@
 -- Each name has just one answer to a Get, and one to a GetNext.
-use Rattle.std.proofs.Common.{◌≡◌, ℕ, zero, suc, ◌+◌, ◌<◌, ◌⊎◌, inl, inr, Bool, true, false, T, List, [], ◌∷◌, ◌++◌, map, length, take, drop, Option, Some}
-use Rattle.std.proofs.Common.{None, Less, Equal, Greater, Ordering, refl, sym, ap, subst, ◌∙◌, ⊎_elim, arith, length-append}
+use Rattle.std.proofs.Common.{◌≡◌, ℕ, zero, suc, ◌+◌, ◌<◌, ◌⊎◌, inl, inr, Bool, true, false, T}
+use Rattle.std.proofs.Common.{List, [], ◌∷◌, ◌++◌, map, length, take, drop, Option, Some}
+use Rattle.std.proofs.Common.{None, Less, Equal, Greater, Ordering, refl, sym, ap, subst, ◌∙◌}
+use Rattle.std.proofs.Common.{⊎_elim, arith, length-append}
 use Rattle.std.specs.Ordering.{nat_cmp}
 use Rattle.std.specs.Cmp.Lexicographic.{slice_cmp, nat_list_cmp_total}
 use Rattle.std.specs.FinMap.{get, entries, entries_sorted, get-entries, find, is_sorted}
@@ -10,7 +12,9 @@ use Rattle.std.proofs.lemmas.List.{take-append-drop}
 use Rattle.std.proofs.Math.Seq.{take-append_seam}
 use Rattle.snmp_wire.specs.Message.{Datum, no_such_object, no_such_instance, VarBind}
 use Rattle.snmp_agent.specs.table.Exact.{HasOne}
-use Rattle.snmp_agent.specs.table.Table.{MibView, IsRow, HasObject, IsGet, variable, unknown_object, unknown_instance, IsSuccessor, IsNext, successor}
+use Rattle.snmp_agent.specs.table.Table.{MibView, IsRow, HasObject, IsGet, variable}
+use Rattle.snmp_agent.specs.table.Table.{unknown_object, unknown_instance, IsSuccessor, IsNext}
+use Rattle.snmp_agent.specs.table.Table.{successor}
 use Rattle.snmp_agent.specs.table.Table.{end_of_view}
 use Rattle.snmp_agent.specs.table.Table.{IsNextAfter}
 use Rattle.snmp_agent.specs.table.Listing.{first_or_end}

@@ -1,11 +1,14 @@
 -- Which bindings have an encoding, and how long it is.
 use Rattle.std.proofs.Common.{ℕ, ◌<◌, List, [], ◌∷◌, ◌++◌, length, ⊎_elim, arith, length-append}
 use Rattle.std.proofs.lemmas.Bool.{cases_lt}
-use Rattle.snmp_wire.specs.Message.{Datum, object_id, integer_value, octet_string, null_value, ip_address, counter32, gauge32, time_ticks, opaque_octets}
-use Rattle.snmp_wire.specs.Message.{counter64, no_such_object, no_such_instance, end_of_mib_view, VarBind, Message}
+use Rattle.snmp_wire.specs.Message.{Datum, object_id, integer_value, octet_string, null_value}
+use Rattle.snmp_wire.specs.Message.{ip_address, counter32, gauge32, time_ticks, opaque_octets}
+use Rattle.snmp_wire.specs.Message.{counter64, no_such_object, no_such_instance, end_of_mib_view}
+use Rattle.snmp_wire.specs.Message.{VarBind, Message}
 use Rattle.snmp_wire.specs.Number.{lenient}
 use Rattle.snmp_wire.specs.Spelling.{IsContent, SpellsBindings, Spells, sequence_tag, value_tag}
-use Rattle.snmp_wire.specs.Canon.{IsEncodable, IsEncodableValue, canon_binding, canon_content, canon_element, canon_value}
+use Rattle.snmp_wire.specs.Canon.{IsEncodable, IsEncodableValue, canon_binding, canon_content}
+use Rattle.snmp_wire.specs.Canon.{canon_element, canon_value}
 use Rattle.snmp_wire.specs.ber.Sizes.{ElementSizes}
 use Rattle.snmp_agent.specs.table.Table.{IsAnswerValue}
 use Rattle.snmp_agent.specs.Answering.{HasEncoding, IsWritable, AreWritable, IsShortValue}

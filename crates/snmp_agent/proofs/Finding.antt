@@ -1,5 +1,6 @@
 -- Finding the row of a name.
-use Rattle.std.proofs.Common.{◌≡◌, ℕ, zero, suc, ◌+◌, ◌-◌, ◌<◌, inl, inr, T, List, [], ◌∷◌, ◌++◌, map, length, take, drop, Some, None, refl, sym, ◌∙◌, ap}
+use Rattle.std.proofs.Common.{◌≡◌, ℕ, zero, suc, ◌+◌, ◌-◌, ◌<◌, inl, inr, T, List, [], ◌∷◌, ◌++◌}
+use Rattle.std.proofs.Common.{map, length, take, drop, Some, None, refl, sym, ◌∙◌, ap}
 use Rattle.std.proofs.Common.{subst, arith, Less, ◌||◌, true, false, Vec, Global, length-append}
 use Rattle.std.specs.Ordering.{nat_cmp, is_eq, eq_by_cmp}
 use Rattle.std.specs.Cmp.Lexicographic.{slice_cmp, nat_list_cmp_total}
@@ -10,11 +11,14 @@ use Rattle.std.specs.List.{slice_get, list_any}
 use Rattle.std.proofs.lemmas.List.{take-append-drop, map-append}
 use Rattle.snmp_wire.specs.Message.{Datum, VarBind}
 use Rattle.snmp_wire.specs.Message.Datum.{no_such_object, no_such_instance}
-use Rattle.snmp_agent.specs.table.Table.{HasObject, IsGet, MibView, unknown_object, unknown_instance}
+use Rattle.snmp_agent.specs.table.Table.{HasObject, IsGet, MibView, unknown_object}
+use Rattle.snmp_agent.specs.table.Table.{unknown_instance}
 use Rattle.snmp_agent.specs.table.Places.{IsBeforeNone, IsBeforeAll, HasBeginning, entry_of}
 use Rattle.snmp_agent.specs.table.Pages.{IsRising, entries_of}
-use Rattle.snmp_agent.proofs.Rising.{Listed, not_before_itself, not_both, before_all, before_listed, first_of_both, second_of_both, rising_first}
-use Rattle.snmp_agent.proofs.Rising.{listed_in_first, listed_in_both, find-listed, listed_from_find}
+use Rattle.snmp_agent.proofs.Rising.{Listed, not_before_itself, not_both, before_all}
+use Rattle.snmp_agent.proofs.Rising.{before_listed, first_of_both, second_of_both, rising_first}
+use Rattle.snmp_agent.proofs.Rising.{listed_in_first, listed_in_both, find-listed}
+use Rattle.snmp_agent.proofs.Rising.{listed_from_find}
 
 whole : (rows : List VarBind) (place : ℕ) → entries_of rows ≡ entries_of (take place rows) ++ entries_of (drop place rows)
 whole rows place = ap entries_of (sym (take-append-drop place rows)) ∙ map-append entry_of (take place rows) (drop place rows)

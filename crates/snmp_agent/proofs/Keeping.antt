@@ -2,19 +2,25 @@
 use Rattle.std.proofs.Common.{◌≡◌, ◌≢◌, ℕ, true, List, [], sym, ◌∙◌, arith}
 use Rattle.std.specs.Ordering.{nat_cmp}
 use Rattle.std.specs.Cmp.Lexicographic.{slice_cmp, nat_list_cmp_total}
-use Rattle.std.specs.FinMap.{FinMap, entries, entries_sorted, entries-from_sorted, from_sorted, same_entries_map, get, get-from_sorted, find}
+use Rattle.std.specs.FinMap.{FinMap, entries, entries_sorted, entries-from_sorted, from_sorted}
+use Rattle.std.specs.FinMap.{same_entries_map, get, get-from_sorted, find}
 use Rattle.std.specs.FinSet.{contains, contains-from_list}
 use Rattle.snmp_oid.specs.Identifier.{IsIdentifier}
 use Rattle.snmp_wire.specs.Message.{Datum, VarBind}
 use Rattle.snmp_wire.specs.Range.{IsInRange}
-use Rattle.snmp_wire.specs.Message.Datum.{integer_value, octet_string, null_value, object_id, ip_address, counter32, gauge32, time_ticks, opaque_octets}
-use Rattle.snmp_wire.specs.Message.Datum.{counter64, no_such_object, no_such_instance, end_of_mib_view}
+use Rattle.snmp_wire.specs.Message.Datum.{integer_value, octet_string, null_value, object_id}
+use Rattle.snmp_wire.specs.Message.Datum.{ip_address, counter32, gauge32, time_ticks}
+use Rattle.snmp_wire.specs.Message.Datum.{opaque_octets}
+use Rattle.snmp_wire.specs.Message.Datum.{counter64, no_such_object, no_such_instance}
+use Rattle.snmp_wire.specs.Message.Datum.{end_of_mib_view}
 use Rattle.snmp_agent.specs.declared.table.row.RowValue.{RowValue}
 use Rattle.snmp_agent.specs.declared.table.row.RowValue.TheVariants as value
-use Rattle.snmp_agent.specs.table.Table.{IsRow, IsInstanceName, IsInstanceValue, IsMibView, MibView}
+use Rattle.snmp_agent.specs.table.Table.{IsRow, IsInstanceName, IsInstanceValue, IsMibView}
+use Rattle.snmp_agent.specs.table.Table.{MibView}
 use Rattle.snmp_agent.specs.table.Row.{datum_of, IsShort}
 use Rattle.snmp_agent.specs.table.Places.{view_of}
-use Rattle.snmp_agent.specs.table.Format.{Format, IsName, IsNameIn, Means, Names, first_format, names_by, numeric_names, second_format}
+use Rattle.snmp_agent.specs.table.Format.{Format, IsName, IsNameIn, Means, Names, first_format}
+use Rattle.snmp_agent.specs.table.Format.{names_by, numeric_names, second_format}
 use Rattle.snmp_agent.specs.table.Form.{States, instance}
 use Rattle.snmp_agent.specs.table.Text.{HasPrefix, HasRow, IsPrefixLine, IsValueText}
 use Rattle.snmp_agent.specs.table.Stated.{IsTableIn}

@@ -1,5 +1,6 @@
 -- Good lines state a table.
-use Rattle.std.proofs.Common.{◌≡◌, ℕ, List, [], ◌∷◌, ◌++◌, Some, None, refl, sym, subst, append_assoc, append-nil}
+use Rattle.std.proofs.Common.{◌≡◌, ℕ, List, [], ◌∷◌, ◌++◌, Some, None, refl, sym, subst}
+use Rattle.std.proofs.Common.{append_assoc, append-nil}
 use Rattle.std.specs.Ordering.{nat_cmp}
 use Rattle.std.specs.Cmp.Lexicographic.{slice_cmp}
 use Rattle.std.specs.FinMap.{find, put}
@@ -10,7 +11,8 @@ use Rattle.snmp_agent.specs.table.Form.{Statement, nothing, object_prefix, insta
 use Rattle.snmp_agent.specs.table.Format.{Format, Names}
 use Rattle.snmp_agent.specs.table.Stated.{AreTableBy, IsTableOf}
 use Rattle.snmp_agent.specs.table.Table.{IsMibView, MibView}
-use Rattle.snmp_agent.specs.table.Text.{AreTable, HasRow, IsGoodLine, IsRowLine, a_blank, a_prefix, a_row}
+use Rattle.snmp_agent.specs.table.Text.{AreTable, HasRow, IsGoodLine, IsRowLine, a_blank, a_prefix}
+use Rattle.snmp_agent.specs.table.Text.{a_row}
 use Rattle.snmp_agent.proofs.Faultless.{earlier_differs, line_good}
 use Rattle.snmp_agent.proofs.Keeping.{is_view, table_of, view_from}
 use Rattle.snmp_agent.proofs.OneStatement.{StatesOnly, states_only}

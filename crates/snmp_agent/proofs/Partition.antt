@@ -1,5 +1,6 @@
 -- Where the rows behind a name begin.
-use Rattle.std.proofs.Common.{◌≡◌, ℕ, zero, suc, ◌-◌, ◌≤◌, ◌<◌, true, false, List, [], ◌∷◌, ◌++◌, length, take, drop, slice_index_or, refl, sym, ap, subst}
+use Rattle.std.proofs.Common.{◌≡◌, ℕ, zero, suc, ◌-◌, ◌≤◌, ◌<◌, true, false, List, [], ◌∷◌, ◌++◌}
+use Rattle.std.proofs.Common.{length, take, drop, slice_index_or, refl, sym, ap, subst}
 use Rattle.std.proofs.Common.{arith}
 use Rattle.std.proofs.Common.{Less, Equal, Greater, Ordering}
 use Rattle.std.specs.Ordering.{nat_cmp, is_le, is_gt}
@@ -10,8 +11,10 @@ use Rattle.std.specs.List.Sorted.{IsPartitionedBy}
 use Rattle.snmp_wire.specs.Message.{Datum, VarBind}
 use Rattle.snmp_agent.specs.declared.table.page.Page.{Page}
 use Rattle.snmp_agent.specs.table.Places.{IsAfterAll, IsBeforeNone, IsBeforeAll}
-use Rattle.snmp_agent.specs.table.Pages.{ArePages, IsPageOf, IsRising, IsSorted, begins_up_to, entries_in, entries_of, is_up_to}
-use Rattle.snmp_agent.proofs.Rising.{turned, same_name, before_all, rising_rest, first_of_both, second_of_both}
+use Rattle.snmp_agent.specs.table.Pages.{ArePages, IsPageOf, IsRising, IsSorted, begins_up_to}
+use Rattle.snmp_agent.specs.table.Pages.{entries_in, entries_of, is_up_to}
+use Rattle.snmp_agent.proofs.Rising.{turned, same_name, before_all, rising_rest, first_of_both}
+use Rattle.snmp_agent.proofs.Rising.{second_of_both}
 
 before_at : (o : List ℕ) (rows : List VarBind) → IsBeforeAll o (entries_of rows) → (j : ℕ) (d : VarBind) → j < length rows
     → slice_cmp nat_cmp o (slice_index_or rows j d).name ≡ Less

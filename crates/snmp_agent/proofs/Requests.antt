@@ -3,20 +3,24 @@ use Rattle.std.specs.Cmp.Lexicographic.{pointwise, same_text, other_text}
 use mir.Syntax.{w32}
 use mir.Val.{of_z, to_z, SFits}
 use Rattle.std.proofs.lemmas.Int.{to_z-of_z}
-use Rattle.std.proofs.Common.{◌≡◌, ℕ, ℤ, pos, Bool, true, false, not, nat_eq, ◌⊎◌, inl, inr, ◌+◌, ◌≤◌, List, [], ◌∷◌, ◌++◌, length, take, refl, sym, ap, subst}
+use Rattle.std.proofs.Common.{◌≡◌, ℕ, ℤ, pos, Bool, true, false, not, nat_eq, ◌⊎◌, inl, inr, ◌+◌}
+use Rattle.std.proofs.Common.{◌≤◌, List, [], ◌∷◌, ◌++◌, length, take, refl, sym, ap, subst}
 use Rattle.std.proofs.Common.{◌∙◌, arith}
 use Rattle.std.proofs.lemmas.Grind.{flat_map-append}
 use Rattle.std.proofs.lemmas.List.{append-nil}
 use Rattle.snmp_wire.specs.declared.kind.Kind.{Kind}
 use Rattle.snmp_wire.specs.declared.kind.Kind.TheVariants as kind
 use Rattle.snmp_wire.specs.Message.{VarBind, Message}
-use Rattle.snmp_wire.specs.Canon.{canon, canon_binding, canon_bindings, canon_fields, canon_front, canon_head, canon_opening}
+use Rattle.snmp_wire.specs.Canon.{canon, canon_binding, canon_bindings, canon_fields, canon_front}
+use Rattle.snmp_wire.specs.Canon.{canon_head, canon_opening}
 use Rattle.snmp_wire.specs.Laws.{HasPieces}
 use Rattle.snmp_wire.specs.Sizes.{MessageSizes}
 use Rattle.snmp_agent.specs.table.Table.{MibView}
-use Rattle.snmp_agent.specs.Reply.{IsServed, AreAnswers, IsWhole, IsResponse, whole, shortened, too_big, got, got_next, unwritten, response, not_writable}
+use Rattle.snmp_agent.specs.Reply.{IsServed, AreAnswers, IsWhole, IsResponse, whole, shortened}
+use Rattle.snmp_agent.specs.Reply.{too_big, got, got_next, unwritten, response, not_writable}
 use Rattle.snmp_agent.specs.Reply.{failed_place}
-use Rattle.snmp_agent.specs.Answering.{IsPaired, IsAnswer, IsResponseWritten, HoldsBindings, PassesLimit, whole_size, whole_status, whole_index}
+use Rattle.snmp_agent.specs.Answering.{IsPaired, IsAnswer, IsResponseWritten, HoldsBindings}
+use Rattle.snmp_agent.specs.Answering.{PassesLimit, whole_size, whole_status, whole_index}
 
 -- the head of a message doesn't look at its bindings
 pub same_head : (q : Message) (status index : ℤ) (bindings : List VarBind) (total : ℕ)

@@ -1,9 +1,12 @@
 -- The rounds of a GetBulk.
-use Rattle.std.proofs.Common.{◌≡◌, ◌⊎◌, inl, inr, ℕ, zero, suc, ◌+◌, ◌≤◌, ◌<◌, List, [], ◌∷◌, ◌++◌, length, take, drop, refl, sym, ap, subst, ◌∙◌, arith}
+use Rattle.std.proofs.Common.{◌≡◌, ◌⊎◌, inl, inr, ℕ, zero, suc, ◌+◌, ◌≤◌, ◌<◌, List, [], ◌∷◌, ◌++◌}
+use Rattle.std.proofs.Common.{length, take, drop, refl, sym, ap, subst, ◌∙◌, arith}
 use Rattle.std.proofs.Common.{append_assoc}
 use Rattle.std.proofs.lemmas.List.{append-nil}
-use Rattle.snmp_wire.specs.Message.{Datum, integer_value, octet_string, null_value, object_id, ip_address, counter32, gauge32, time_ticks, opaque_octets}
-use Rattle.snmp_wire.specs.Message.{counter64, no_such_object, no_such_instance, end_of_mib_view, VarBind, Message}
+use Rattle.snmp_wire.specs.Message.{Datum, integer_value, octet_string, null_value, object_id}
+use Rattle.snmp_wire.specs.Message.{ip_address, counter32, gauge32, time_ticks, opaque_octets}
+use Rattle.snmp_wire.specs.Message.{counter64, no_such_object, no_such_instance, end_of_mib_view}
+use Rattle.snmp_wire.specs.Message.{VarBind, Message}
 use Rattle.snmp_agent.specs.table.Table.{MibView}
 use Rattle.snmp_agent.specs.Reply.{AreEnds, AreRounds, IsBulk, joined, or_zero}
 use Rattle.snmp_agent.specs.Answering.{AreGiven, AreRoundsFrom, AreWritable, HasRow}

@@ -1,5 +1,6 @@
 -- Places among the variables of a view, and what names are given there.
-use Rattle.std.proofs.Common.{◌≡◌, ℕ, zero, suc, ◌+◌, ◌<◌, List, [], ◌∷◌, ◌++◌, map, length, take, drop, get_or, refl, sym, ap, subst, ◌∙◌, add-one, arith}
+use Rattle.std.proofs.Common.{◌≡◌, ℕ, zero, suc, ◌+◌, ◌<◌, List, [], ◌∷◌, ◌++◌, map, length, take}
+use Rattle.std.proofs.Common.{drop, get_or, refl, sym, ap, subst, ◌∙◌, add-one, arith}
 use Rattle.std.proofs.Common.{Option, Some, None}
 use Rattle.std.proofs.Common.{IfSome, IfNone, slice_set}
 use Rattle.snmp_oid.specs.Identifier.{IsWire}
@@ -10,7 +11,8 @@ use Rattle.snmp_agent.specs.table.Places.{var_of}
 use Rattle.snmp_agent.specs.table.Pages.{AreBehind}
 use Rattle.snmp_agent.specs.Reply.{AreEnds}
 use Rattle.snmp_agent.specs.Answering.{AreGiven}
-use Rattle.snmp_agent.specs.Standing.{Standing, Stands, AreStanding, AreWireNames, AreAtEnd, next_at, passed}
+use Rattle.snmp_agent.specs.Standing.{Standing, Stands, AreStanding, AreWireNames, AreAtEnd}
+use Rattle.snmp_agent.specs.Standing.{next_at, passed}
 use Rattle.snmp_agent.proofs.Answering.{next_name}
 use Rattle.snmp_agent.proofs.Following.{IsOrder, first_next, end_next, behind_first, first_row}
 

@@ -1,10 +1,13 @@
 -- Facts about what lines state together, and about the draft that holds it.
-use Rattle.std.proofs.Common.{◌≡◌, Option, is_some, ℕ, ◌⊎◌, inl, inr, ◌↔◌, Bool, true, false, cond, ◌||◌, List, [], ◌∷◌, ◌++◌, map, Some, None, refl, sym, ◌∙◌}
+use Rattle.std.proofs.Common.{◌≡◌, Option, is_some, ℕ, ◌⊎◌, inl, inr, ◌↔◌, Bool, true, false, cond}
+use Rattle.std.proofs.Common.{◌||◌, List, [], ◌∷◌, ◌++◌, map, Some, None, refl, sym, ◌∙◌}
 use Rattle.std.proofs.Common.{ap, subst, Less}
-use Rattle.std.proofs.Common.{zero, suc, get_or, Equal, Greater, Vec, Global, ◌+◌, ◌<◌, ◌≤◌, length, append_assoc, append-nil, length-append, arith}
+use Rattle.std.proofs.Common.{zero, suc, get_or, Equal, Greater, Vec, Global, ◌+◌, ◌<◌, ◌≤◌}
+use Rattle.std.proofs.Common.{length, append_assoc, append-nil, length-append, arith}
 use Rattle.std.specs.Str.Lines.{lines}
 use Rattle.std.specs.List.{Contains, list_any}
-use Rattle.std.proofs.lemmas.List.Elements.{All-append, All-cons, All-contains_itself, All-nil, Contains-append_cases, Contains-append_left}
+use Rattle.std.proofs.lemmas.List.Elements.{All-append, All-cons, All-contains_itself, All-nil}
+use Rattle.std.proofs.lemmas.List.Elements.{Contains-append_cases, Contains-append_left}
 use Rattle.std.proofs.lemmas.List.Elements.{Contains-append_right}
 use Rattle.std.proofs.lemmas.List.Quantifiers.{all_pairs_push}
 use Rattle.std.specs.Ordering.{nat_cmp, is_eq, eq_by_cmp, match_ordering}
@@ -19,7 +22,8 @@ use Rattle.snmp_agent.specs.declared.table.error.TableError.{TableError}
 use Rattle.snmp_agent.specs.declared.table.error.TableError.TheVariants as error
 use Rattle.snmp_agent.specs.table.Format.{Format}
 use Rattle.snmp_agent.specs.table.Form.{Statement, nothing, object_prefix, instance, States}
-use Rattle.snmp_agent.specs.table.Text.{AreTable, DifferInName, HasRow, IsGoodLine, IsRowLine, a_blank, a_prefix, a_row}
+use Rattle.snmp_agent.specs.table.Text.{AreTable, DifferInName, HasRow, IsGoodLine, IsRowLine}
+use Rattle.snmp_agent.specs.table.Text.{a_blank, a_prefix, a_row}
 use Rattle.snmp_agent.specs.table.Stated.{IsDouble, IsBehindGood, IsFirstFaultIn}
 use Rattle.snmp_agent.specs.table.Draft.{HoldsTable, IsDraft, IsFaultBehind}
 use Rattle.snmp_agent.proofs.OneStatement.{StatesOnly}

@@ -9,7 +9,8 @@ use Rattle.std.specs.FinSet.{FinSet, contains}
 use Rattle.snmp_oid.specs.Identifier.{IsIdentifier, IsWire, Precedes}
 use Rattle.snmp_wire.specs.Message.{Datum, VarBind}
 use Rattle.snmp_wire.specs.Message.Datum.{integer_value, octet_string, null_value, object_id}
-use Rattle.snmp_wire.specs.Message.Datum.{ip_address, counter32, gauge32, time_ticks, opaque_octets}
+use Rattle.snmp_wire.specs.Message.Datum.{ip_address, counter32, gauge32, time_ticks}
+use Rattle.snmp_wire.specs.Message.Datum.{opaque_octets}
 use Rattle.snmp_wire.specs.Message.Datum.{counter64, no_such_object, no_such_instance}
 use Rattle.snmp_wire.specs.Message.Datum.{end_of_mib_view}
 

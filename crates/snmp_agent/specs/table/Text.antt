@@ -11,7 +11,8 @@ use Rattle.snmp_oid.specs.Identifier.{IsWire}
 use Rattle.snmp_oid.specs.Numeric.{decimal_value, IsDotted}
 use Rattle.snmp_wire.specs.Message.{Datum, VarBind}
 use Rattle.snmp_wire.specs.Message.Datum.{integer_value, octet_string, null_value, object_id}
-use Rattle.snmp_wire.specs.Message.Datum.{ip_address, counter32, gauge32, time_ticks, opaque_octets}
+use Rattle.snmp_wire.specs.Message.Datum.{ip_address, counter32, gauge32, time_ticks}
+use Rattle.snmp_wire.specs.Message.Datum.{opaque_octets}
 use Rattle.snmp_wire.specs.Message.Datum.{counter64, no_such_object, no_such_instance}
 use Rattle.snmp_wire.specs.Message.Datum.{end_of_mib_view}
 use Rattle.snmp_agent.specs.table.Format.{Format, EndsAtBar, IsNameIn, bar}

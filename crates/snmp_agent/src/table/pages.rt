@@ -34,7 +34,7 @@ impl Default for Hint {
     }
 }
 
-/// Rows by rising names, in pages of 1 to 128, so that a change moves no more rows than a page has.
+/// Rows by rising names, in pages of 1 to 256, so that a change moves no more rows than a page has.
 #[derive(Drop)]
 pub struct Pages {
     list: Vec<Page>,

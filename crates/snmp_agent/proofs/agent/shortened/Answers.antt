@@ -1,4 +1,5 @@
-use Rattle.std.proofs.Common.{◌≡◌, ◌≤◌, ℕ, pos, [], length, take, drop, ◌++◌, Option, Some, None, IfSome, ap, ◌∙◌, arith}
+use Rattle.std.proofs.Common.{◌≡◌, ◌≤◌, ℕ, pos, [], length, take, drop, ◌++◌, Option, Some, None}
+use Rattle.std.proofs.Common.{IfSome, ap, ◌∙◌, arith}
 use Rattle.std.proofs.Math.Seq.{take-append_seam}
 use Rattle.snmp_wire.specs.Canon.{canon, canon_head}
 use Rattle.snmp_wire.specs.Message.{Message}

@@ -7,7 +7,8 @@ use Rattle.snmp_agent.specs.Standing.{next_at}
 use Rattle.snmp_agent.specs.table.Pages.{AreBehind}
 use Rattle.snmp_agent.proofs.Fronts.{nothing_more, one_more, whole_front, stopped}
 use Rattle.snmp_agent.proofs.RoundFronts.{others_next, written_next, closed_round}
-use Rattle.snmp_agent.proofs.Standing.{given_there, stands_first, stands_passed, end_there, row_there}
+use Rattle.snmp_agent.proofs.Standing.{given_there, stands_first, stands_passed, end_there}
+use Rattle.snmp_agent.proofs.Standing.{row_there}
 use Rattle.snmp_agent.proofs.bulk.append_column.Goals as goal
 use Rattle.snmp_agent.proofs.bulk.append_column.Goals.{After-append_next, In-Some}
 

@@ -6,7 +6,8 @@ use Rattle.snmp_agent.specs.Answering.{AreGiven, AreRoundsFrom, HasRow}
 use Rattle.snmp_agent.specs.Standing.{Standing, AreStanding, next_at}
 use Rattle.snmp_agent.proofs.Fronts.{nothing_more, whole_front}
 use Rattle.snmp_agent.proofs.RoundFronts.{others_next, written_next, closed_round}
-use Rattle.snmp_agent.proofs.Standing.{standing_wire, standing_given, standing_passed, ends_given, given_ends}
+use Rattle.snmp_agent.proofs.Standing.{standing_wire, standing_given, standing_passed, ends_given}
+use Rattle.snmp_agent.proofs.Standing.{given_ends}
 use Rattle.snmp_agent.proofs.bulk.append_kept_rounds.Goals as goal
 use Rattle.snmp_agent.proofs.bulk.append_kept_rounds.Goals.{After-append_places}
 

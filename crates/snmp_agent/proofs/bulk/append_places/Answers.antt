@@ -1,11 +1,13 @@
-use Rattle.std.proofs.Common.{◌≡◌, ◌<◌, ◌+◌, List, [], ◌∷◌, ◌++◌, map, length, take, drop, slice_set, true, refl, sym, ap, subst, ◌∙◌, arith}
+use Rattle.std.proofs.Common.{◌≡◌, ◌<◌, ◌+◌, List, [], ◌∷◌, ◌++◌, map, length, take, drop}
+use Rattle.std.proofs.Common.{slice_set, true, refl, sym, ap, subst, ◌∙◌, arith}
 use Rattle.std.proofs.lemmas.Bool.{false≢true}
 use Rattle.snmp_oid.specs.Identifier.{IsWire}
 use Rattle.snmp_wire.specs.Message.{VarBind}
 use Rattle.snmp_agent.specs.Answering.{Extends, IsAppended, IsTooLong}
 use Rattle.snmp_agent.specs.Standing.{Standing, AreAtEnd, next_at, passed}
 use Rattle.snmp_agent.proofs.Fronts.{nothing_more, one_more, stopped}
-use Rattle.snmp_agent.proofs.Standing.{IsMovedAt, moved_one, given_front, given_whole, wire_at, at_end_pushed, at_end_front, at_end_last}
+use Rattle.snmp_agent.proofs.Standing.{IsMovedAt, moved_one, given_front, given_whole, wire_at}
+use Rattle.snmp_agent.proofs.Standing.{at_end_pushed, at_end_front, at_end_last}
 use Rattle.snmp_agent.proofs.bulk.append_places.Goals as goal
 use Rattle.snmp_agent.proofs.bulk.append_places.Goals.{then-over, else-over}
 

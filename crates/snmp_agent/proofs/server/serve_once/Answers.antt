@@ -1,5 +1,6 @@
 use Rattle.std.proofs.Common.{◌≡◌, ℕ, List, [], ◌∷◌, take, Ok, Some, inr, refl, ap, ◌∙◌}
-use Rattle.snmp_agent.specs.Event.{came, sent, send_failed, logged, event_of_receive, event_of_reply}
+use Rattle.snmp_agent.specs.Event.{came, sent, send_failed, logged, event_of_receive}
+use Rattle.snmp_agent.specs.Event.{event_of_reply}
 use Rattle.snmp_agent.proofs.ServerTurns.{both_events}
 use Rattle.snmp_agent.proofs.server.serve_once.Goals as goal
 

@@ -2,7 +2,8 @@ use Rattle.std.proofs.Common.{◌≡◌, ◌<◌, ◌+◌, List, ℕ, length, �
 use Rattle.std.proofs.Common.{slice_set}
 use Rattle.std.specs.List.{insert as insert_at}
 use Rattle.snmp_agent.specs.declared.table.page.Page.{Page}
-use Rattle.snmp_agent.specs.table.Pages.{ArePages, IsPageOf, IsPageWithRoom, entries_in, begins_up_to}
+use Rattle.snmp_agent.specs.table.Pages.{ArePages, IsPageOf, IsPageWithRoom, entries_in}
+use Rattle.snmp_agent.specs.table.Pages.{begins_up_to}
 use Rattle.snmp_agent.proofs.Changing.{at_low}
 use Rattle.snmp_agent.proofs.Paging.{same_rows, divided_rows, room_before, room_behind}
 use Rattle.snmp_agent.proofs.table.pages.divide.Goals as goal

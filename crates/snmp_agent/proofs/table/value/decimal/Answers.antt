@@ -1,4 +1,5 @@
-use Rattle.std.proofs.Common.{◌≡◌, ◌≢◌, ℕ, ◌+◌, ◌-◌, ◌*◌, ◌<◌, ◌≤◌, ◌^◌, true, List, [], drop, get_or, length, arith, sym, subst, rules, drop_of_length-le}
+use Rattle.std.proofs.Common.{◌≡◌, ◌≢◌, ℕ, ◌+◌, ◌-◌, ◌*◌, ◌<◌, ◌≤◌, ◌^◌, true, List, [], drop}
+use Rattle.std.proofs.Common.{get_or, length, arith, sym, subst, rules, drop_of_length-le}
 use Rattle.std.specs.Char.{is_ascii_digit}
 use Rattle.snmp_agent.specs.table.Text.{IsDecimal}
 use Rattle.snmp_agent.proofs.Decimals.{IsReadTo, read_more, read_all, read_large, same_decimal}

@@ -1,4 +1,5 @@
-use Rattle.std.proofs.Common.{◌≡◌, List, ℕ, map, sym, ◌∙◌, ap, subst, refl, [], ◌∷◌, ◌++◌, is_some, true, false, rules}
+use Rattle.std.proofs.Common.{◌≡◌, List, ℕ, map, sym, ◌∙◌, ap, subst, refl, [], ◌∷◌, ◌++◌, is_some}
+use Rattle.std.proofs.Common.{true, false, rules}
 use Rattle.std.specs.List.{list_any}
 use Rattle.std.specs.Ordering.{nat_cmp, eq_by_cmp}
 use Rattle.std.specs.Cmp.Lexicographic.{slice_cmp, nat_list_cmp_total}
@@ -8,7 +9,8 @@ use Rattle.snmp_wire.specs.Message.{Datum}
 use Rattle.snmp_agent.specs.table.Form.{States, nothing, object_prefix, instance}
 use Rattle.snmp_agent.specs.table.Draft.{HoldsTable, draft_objects}
 use Rattle.snmp_agent.proofs.OneStatement.{states_only}
-use Rattle.snmp_agent.proofs.TableDrafts.{holds_nothing, holds_object, holds_instance, double, list_any-insert, some_of, none_of}
+use Rattle.snmp_agent.proofs.TableDrafts.{holds_nothing, holds_object, holds_instance, double}
+use Rattle.snmp_agent.proofs.TableDrafts.{list_any-insert, some_of, none_of}
 use Rattle.snmp_agent.proofs.table.draft.Draft.add.Goals as goal
 use Rattle.snmp_agent.proofs.table.draft.Draft.add.Goals.{in-Ok, in-Err}
 

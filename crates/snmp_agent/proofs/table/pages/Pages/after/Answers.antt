@@ -1,4 +1,5 @@
-use Rattle.std.proofs.Common.{◌≡◌, ◌≤◌, ◌+◌, ◌++◌, List, [], ℕ, Some, length, take, drop, ◌∙◌, ap, subst, sym, refl, suc, ltb-false, add-one}
+use Rattle.std.proofs.Common.{◌≡◌, ◌≤◌, ◌+◌, ◌++◌, List, [], ℕ, Some, length, take, drop, ◌∙◌, ap}
+use Rattle.std.proofs.Common.{subst, sym, refl, suc, ltb-false, add-one}
 use Rattle.std.specs.List.{slice_get}
 use Rattle.std.specs.Ordering.{nat_cmp}
 use Rattle.std.specs.Cmp.Lexicographic.{slice_cmp}

@@ -1,4 +1,5 @@
-use Rattle.std.proofs.Common.{◌≡◌, ◌≤◌, List, [], Some, length, ◌∙◌, ap, subst, sym, refl, ltb-false, is_some}
+use Rattle.std.proofs.Common.{◌≡◌, ◌≤◌, List, [], Some, length, ◌∙◌, ap, subst, sym, refl}
+use Rattle.std.proofs.Common.{ltb-false, is_some}
 use Rattle.std.specs.List.{slice_get}
 use Rattle.std.specs.Ordering.{nat_cmp}
 use Rattle.std.specs.Cmp.Lexicographic.{slice_cmp}
@@ -7,11 +8,14 @@ use Rattle.std.proofs.lemmas.Option.{slice_get_read}
 use Rattle.snmp_wire.specs.Message.{Datum, VarBind}
 use Rattle.snmp_agent.specs.declared.table.page.Page.{Page}
 use Rattle.snmp_agent.specs.table.Places.{without_name}
-use Rattle.snmp_agent.specs.table.Pages.{BelongsAt, HasNameAt, IsPageOf, IsRising, entries_in, has_name}
-use Rattle.snmp_agent.proofs.Changing.{row_removed, none_removed, name_found, no_name, sorted_without, map_removed, had_name}
+use Rattle.snmp_agent.specs.table.Pages.{BelongsAt, HasNameAt, IsPageOf, IsRising, entries_in}
+use Rattle.snmp_agent.specs.table.Pages.{has_name}
+use Rattle.snmp_agent.proofs.Changing.{row_removed, none_removed, name_found, no_name}
+use Rattle.snmp_agent.proofs.Changing.{sorted_without, map_removed, had_name}
 use Rattle.snmp_agent.proofs.Paging.{page_rising, find_in_page, no_pages, without_in_page, parts}
 use Rattle.snmp_agent.proofs.table.pages.Pages.remove.Goals as goal
-use Rattle.snmp_agent.proofs.table.pages.Pages.remove.Goals.{In_default, In-Some, In-Ok, In-Err, After-remove_row}
+use Rattle.snmp_agent.proofs.table.pages.Pages.remove.Goals.{In_default, In-Some, In-Ok, In-Err}
+use Rattle.snmp_agent.proofs.table.pages.Pages.remove.Goals.{After-remove_row}
 
 none : (c : In_default) → entries_in c.self.inside.list.items ≡ []
 none c =

@@ -1,4 +1,5 @@
-use Rattle.std.proofs.Common.{◌≡◌, ◌∷◌, [], ℕ, List, length, sym, ◌∙◌, subst, refl, Bool, true, eqb, eqb-true, suc, arith}
+use Rattle.std.proofs.Common.{◌≡◌, ◌∷◌, [], ℕ, List, length, sym, ◌∙◌, subst, refl, Bool, true}
+use Rattle.std.proofs.Common.{eqb, eqb-true, suc, arith}
 use Rattle.std.specs.Str.Lines.{lines}
 use Rattle.std.proofs.lemmas.Result.{err_from_is_err_and}
 use Rattle.std.specs.Ordering.{nat_cmp}
