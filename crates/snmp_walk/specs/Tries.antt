@@ -23,16 +23,17 @@ InTurn {L} step old [] new = new ≡ old
 InTurn {L} step old (x ∷ more) new =
     (between : L) × step old x between × InTurn step between more new
 
--- a send of the datagram, and one that failed
+-- a send of the datagram, and one that failed, which left what was sent and what is ahead as it was
 abbrev pub Sends : {L : Type 0} → LinkFacts L → L → List ℕ → L → Type 0
 Sends {L} facts old datagram new = facts.sends old datagram new
     × IsMoved facts old (datagram ∷ []) ⊥ new
 
 abbrev pub SendFails : {L : Type 0} → LinkFacts L → L → List ℕ → L → Type 0
 SendFails {L} facts old datagram new = facts.send_fails old datagram new
-    × IsMoved facts old (datagram ∷ []) (Unit {0}) new
+    × (facts.traffic new ≡ facts.traffic old) × IsMoved facts old (datagram ∷ []) (Unit {0}) new
 
--- a receive that brought the datagram, one that brought nothing, and one that failed
+-- a receive that brought the datagram, one that brought nothing, and one that failed, which used no
+-- delivery
 abbrev pub Brings : {L : Type 0} → LinkFacts L → L → List ℕ → L → Type 0
 Brings {L} facts old datagram new = facts.brings old datagram new × IsMoved facts old [] ⊥ new
 
@@ -40,7 +41,8 @@ abbrev pub BringsNothing : {L : Type 0} → LinkFacts L → L → L → Type 0
 BringsNothing {L} facts old new = facts.is_silent old new × IsMoved facts old [] ⊥ new
 
 abbrev pub ReceiveFails : {L : Type 0} → LinkFacts L → L → L → Type 0
-ReceiveFails {L} facts old new = facts.receive_fails old new × IsMoved facts old [] (Unit {0}) new
+ReceiveFails {L} facts old new = facts.receive_fails old new
+    × (facts.traffic new ≡ facts.traffic old) × IsMoved facts old [] (Unit {0}) new
 
 -- How a try ends after so many datagrams that weren't the reply: a receive brings it; or brings
 -- nothing, or 64 had come; or fails.

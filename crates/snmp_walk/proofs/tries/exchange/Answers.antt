@@ -140,6 +140,7 @@ returns-in_err-send-clause-cut_off g c =
     (unsent g.L.Link _ c.args.request.now c.tries.counter
     (c.args.retries + 1) c.args.link.now c.tries.link c.send.new.self few c.tries.invariant.missing (
       if_cut c.send.result _ _ c.in_err-send.was c.send.ensures.send_fails,
+      if_cut c.send.result _ _ c.in_err-send.was c.send.ensures.unchanged,
       moves_as g.L.Link (λ f. tt) (λ _. is_bad _ _ c.in_err-send.was) c.send.ensures.moves,
     ))
 

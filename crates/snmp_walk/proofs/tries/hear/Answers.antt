@@ -183,6 +183,7 @@ returns-in_err-length-clause-cut_off g c =
       less,
       (
         if_cut c.receive.result _ _ c.in_err-length.was c.receive.ensures.receive_fails,
+        if_cut c.receive.result _ _ c.in_err-length.was c.receive.ensures.unchanged,
         receive_as g.L.Link long (λ f. tt) (λ _. is_bad _ _ c.in_err-length.was) c.receive.ensures.moves,
       ),
     ))
