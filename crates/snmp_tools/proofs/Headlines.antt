@@ -28,7 +28,7 @@ use Rattle.snmp_tools.specs.Message.{Fault, bad_table, ended, fault_message, out
 use Rattle.snmp_tools.specs.Mib.{AreLoaded, Mib}
 use Rattle.snmp_tools.specs.Outcome.{IsFinished, IsOutcome, IsOutcomeBy, IsReported, IsRun}
 use Rattle.snmp_tools.specs.Outcome.{asked, asked_over, loaded, not_begun, not_linked, not_loaded, refused}
-use Rattle.snmp_tools.specs.Question.{AskFor, AskWords, IsPlanFor, Plan, counts_in}
+use Rattle.snmp_tools.specs.Question.{AskFor, AskWords, IsLastRefusal, IsLateRefusal, IsPlanFor, Plan, counts_in}
 use Rattle.snmp_tools.specs.Seen.{Seen}
 use Rattle.snmp_tools.proofs.Asked.{counted}
 use Rattle.snmp_tools.proofs.Outcomes.{IsFrontOf, finished_all, finished_front, no_fault_at_0}
@@ -154,7 +154,7 @@ module _ (one_table : (names : Names) (ls : List (List ℕ)) (v w : MibView) →
         front_by : (fault : Option Fault) → IsOutcomeBy net wire words mib (record before { err = warned }) end fault
             → IsFrontOf ask.mib ask.plan.letters (counts_in ask.plan.question) rows before.out end.out
         front_by fault (refused why refusal same is) = ([], rows, [], refl, inl refl, nothing_taken before.out end.out [] (ap (λ (s : Seen N). s.out) same))
-        front_by fault (asked plan path view for over states printed same) =
+        front_by fault (asked plan path view for over states sent printed same) =
             let are = over_table plan for (λ p v. AreRowsOf p.question v rows) path view over states ask.are_rows in
             over_same plan for (λ m p. IsFrontOf m p.letters (counts_in p.question) rows before.out end.out)
             (finished_front mib plan.letters words.asking.agent before.out rows (counts_in plan.question) printed.given printed.refused printed.end
@@ -164,12 +164,12 @@ module _ (one_table : (names : Names) (ls : List (List ℕ)) (v w : MibView) →
             ([], rows, [], refl, inl refl, nothing_taken before.out end.out [] (ap (λ (s : Seen N). s.out) same))
         front_by fault (not_begun why last plan for (inr (host, port, over, opened)) is) = absurd (no_net plan for host port over)
         front_by fault (not_linked plan host port for over risen same is) = absurd (no_net plan for host port over)
-        front_by fault (asked_over plan host port for over printed same) = absurd (no_net plan for host port over)
+        front_by fault (asked_over plan host port for over sent printed same) = absurd (no_net plan for host port over)
 
         all_by : (fault : Option Fault) → fault ≡ None → IsOutcomeBy net wire words mib (record before { err = warned }) end fault
             → (text : List ℕ) × IsWholeText ask.mib ask.plan rows text × (end.out ≡ extended before.out text)
         all_by fault none (refused why refusal same is) = let no : ⊥ = cc in absurd no
-        all_by fault none (asked plan path view for over states printed same) =
+        all_by fault none (asked plan path view for over states sent printed same) =
             let are = over_table plan for (λ p v. AreRowsOf p.question v rows) path view over states ask.are_rows in
             over_same plan for (λ m p. (text : List ℕ) × IsWholeText m p rows text × (end.out ≡ extended before.out text))
             (finished_all mib plan.letters words.asking.agent before.out rows (counts_in plan.question) printed.given printed.refused printed.end
@@ -177,22 +177,24 @@ module _ (one_table : (names : Names) (ls : List (List ℕ)) (v w : MibView) →
             (counted plan.question plan view printed.given printed.end printed.facts.reason) (printed.facts.whole rows are))
         all_by fault none (not_begun why last plan for where_begun is) = let no : ⊥ = cc in absurd no
         all_by fault none (not_linked plan host port for over risen same is) = absurd (no_net plan for host port over)
-        all_by fault none (asked_over plan host port for over printed same) = absurd (no_net plan for host port over)
+        all_by fault none (asked_over plan host port for over sent printed same) = absurd (no_net plan for host port over)
 
         ends_by : IsFeasible ask.plan ask.view → (fault : Option Fault) → IsOutcomeBy net wire words mib (record before { err = warned }) end fault
             → (err : Stream) → IsReported fault warned err status → (status ≡ 0) ⊎ Stops before.out end.out warned err status
         ends_by can fault (refused why refusal same is) err told =
-            inr (want_told why before.out end.out warned err status (wants_late one_list one_tree one no_fault words before.files rows ask why refusal)
+            let late = subst (λ (m : Mib). IsLateRefusal words before.files m why) (sym mib_is) refusal in
+            inr (want_told why before.out end.out warned err status (wants_late one no_fault words before.files rows ask why late)
             (subst (λ (f : Option Fault). IsReported f warned err status) is told))
-        ends_by can fault (asked plan path view for over states printed same) err told =
+        ends_by can fault (asked plan path view for over states sent printed same) err told =
             let feasible = over_table plan for (λ p v. IsFeasible p v) path view over states can in
             own_told mib plan.letters (counts_in plan.question) words.asking.agent printed.given printed.refused printed.end before.out printed.between end.out
             warned err fault status (printed.facts.complete feasible.room) printed.lines printed.finish told
         ends_by can fault (not_begun why last plan for where_begun is) err told =
-            inr (want_told why before.out end.out warned err status (wants_last one_list one_tree one no_fault words before.files rows ask why can.sendable last)
+            let refusal = subst (λ (m : Mib). IsLastRefusal words before.files m why) (sym mib_is) last in
+            inr (want_told why before.out end.out warned err status (wants_last one no_fault words before.files rows ask why can.sendable refusal)
             (subst (λ (f : Option Fault). IsReported f warned err status) is told))
         ends_by can fault (not_linked plan host port for over risen same is) err told = absurd (no_net plan for host port over)
-        ends_by can fault (asked_over plan host port for over printed same) err told = absurd (no_net plan for host port over)
+        ends_by can fault (asked_over plan host port for over sent printed same) err told = absurd (no_net plan for host port over)
 
     module _ (warned : Stream) (fault : Option Fault) where
       abbrev End : Seen N
@@ -211,7 +213,7 @@ module _ (one_table : (names : Names) (ls : List (List ℕ)) (v w : MibView) →
           → (status ≡ 0) ⊎ IsMishap ask.warnings before.out after.out before.err after.err status
       ends can (not_loaded why early same is) told =
           mishap ask.warnings before.out after.out before.err warned after.err status (inl (ap (λ (s : Seen N). s.err) same))
-          (inr (want_told why before.out after.out warned after.err status (wants_early one_list one_tree one no_fault words before.files rows ask why early)
+          (inr (want_told why before.out after.out warned after.err status (wants_early one no_fault words before.files rows ask why early)
           (subst (λ (f : Option Fault). IsReported f warned after.err status) is told)))
       ends can (loaded mib warnings loading lines by) told =
           mishap ask.warnings before.out after.out before.err warned after.err status

@@ -31,10 +31,9 @@ use Rattle.snmp_tools.specs.loading.Files.{AreModulesOf}
 use Rattle.smi_text.specs.declared.trees.tree.Module.{Module}
 use Rattle.smi_names.specs.declared.nodes.warning.Warning.{Warning}
 use Rattle.smi_tree.specs.Tree.{Contents, IsTree}
-use Rattle.snmp_tools.specs.Mib.{AreLoaded, IsMibOf, Mib, mib_of}
-use Rattle.snmp_tools.specs.Question.{AreNames, AskFor, AskWords, FailsFor, HasUnsendable, HaveNames, IsAtOrBelow, IsEarlyRefusal, IsLastRefusal, IsLateRefusal}
-use Rattle.snmp_tools.specs.Question.{IsQuestionOf}
-use Rattle.snmp_tools.specs.Question.{Plan, Question, Request, Step, Walk, HasChosen, HasUnknown, goes_on_after, root_text}
+use Rattle.snmp_tools.specs.Mib.{AreLoaded, Mib, mib_of}
+use Rattle.snmp_tools.specs.Question.{AreNames, AskFor, AskWords, FailsBy, FailsFor, IsAtOrBelow, IsEarlyRefusal, IsLastRefusal, IsLateRefusal, IsQuestionOf}
+use Rattle.snmp_tools.specs.Question.{LaterStep, LoadingStep, Plan, Question, Request, Walk, HasChosen, HasUnknown, goes_on_after, root_text}
 use Rattle.snmp_tools.specs.Question.{get, names, subtree, walk, loading_steps, name_steps, reach_step, reaching_steps, sent_steps}
 use Rattle.snmp_tools.specs.Question.{below_step, name_step, reach_step, sent_step}
 use Rattle.snmp_tools.proofs.ChosenLetters.{no_choice, one_choice}
@@ -163,7 +162,7 @@ both : {S : Type 0} (P : S → Type 0) (a b : List S) → AreDone P a → AreDon
 both P [] b h k = k
 both P (s ∷ a) b h k = (h.0, both P a b h.1 k)
 
-module _ (one_list : OneList) (one_tree : OneTree) (one : OneMeaning)
+module _ (one : OneMeaning)
     (no_fault : (names : Names) (ls : List (List ℕ)) (view : MibView) (fault : TableError) → IsTableOf names ls view → IsFirstFault names ls fault → fault ≡ table_error.Memory)
     (words : AskWords) (files : Holdings) (rows : List VarBind) (ask : IsAsk words files rows) (why : Fault) where
   agent_is : (agent : Address) → HasAgent words.asking.agent agent → agent ≡ table ask.path
@@ -179,12 +178,12 @@ module _ (one_list : OneList) (one_tree : OneTree) (one : OneMeaning)
       (subst (λ (n : Names). IsFirstFault n (lines ask.text) f.3) names (subst (λ (t : List ℕ). IsFirstFault f.0 (lines t) f.3) same f.5)) in
       table_want ask.path (f.6 ∙ ap (bad_table ask.path) memory)
 
-  known_as : (mib : Mib) → IsMibOf (MayHold files) words.asking mib → mib ≡ ask.mib
-  known_as mib is = sym (one_load one_list one_tree files words.asking.mibs ask.mib mib ask.warnings is.0 ask.known is.1).0
-
   -- why it wouldn't be asked is that memory ran out
-  abbrev Wants : Step → Type 0
-  Wants step = FailsFor words files step why → IsWant why
+  abbrev WantsFor : LoadingStep → Type 0
+  WantsFor step = FailsFor words files step why → IsWant why
+
+  abbrev Wants : LaterStep → Type 0
+  Wants step = FailsBy words files ask.mib step why → IsWant why
 
   asking_want : (step : AskingStep) → AskingFails words.asking step why → ⊥
   asking_want version_step f = f.0 ask.asked.version
@@ -192,7 +191,7 @@ module _ (one_list : OneList) (one_tree : OneTree) (one : OneMeaning)
   asking_want community_step f = other_way 255 (length words.asking.community) f.0 ask.asked.short_community
   asking_want agent_step f = f.0 ask.plan.agent ask.asked.agent
 
-  loading_want : AreDone Wants loading_steps
+  loading_want : AreDone WantsFor loading_steps
   loading_want = (
     (λ f. absurd (asking_want version_step f)),
     (
@@ -209,22 +208,17 @@ module _ (one_list : OneList) (one_tree : OneTree) (one : OneMeaning)
 
   -- names mean what they mean to the question
   name_want : (text o : List ℕ) → TextMeans ask.mib.naming text (Ok o) → Wants (name_step text)
-  name_want text o means f =
-      let g = subst (λ (m : Mib). NameFails m.naming text why) (known_as f.0 f.1) f.2 in
-      absurd (no_name one ask.mib.naming text o g.0 means g.1)
+  name_want text o means f = absurd (no_name one ask.mib.naming text o f.0 means f.1)
 
   sent_want : (text o : List ℕ) → TextMeans ask.mib.naming text (Ok o) → IsWire (wire o) → Wants (sent_step text)
   sent_want text o means sent f =
-      let g = subst (λ (m : Mib). HasUnsendable m text why) (known_as f.0 f.1) f.2 in
-      absurd (g.2 (subst (λ (n : List ℕ). IsWire (wire n)) (one_name one ask.mib.naming text o g.0 means g.1) sent))
+      absurd (f.2 (subst (λ (n : List ℕ). IsWire (wire n)) (one_name one ask.mib.naming text o f.0 means f.1) sent))
 
   below_want : (root_text text root o : List ℕ) → TextMeans ask.mib.naming root_text (Ok root) → TextMeans ask.mib.naming text (Ok o) → IsAtOrBelow o root
       → Wants (below_step root_text text)
   below_want root_text text root o root_means means at f =
-      let P : Mib → Type 0 = λ m. HaveNames m root_text text (λ r a. (IsAtOrBelow a r → ⊥) × (why ≡ outside_root text)) in
-      let g = subst P (known_as f.0 f.1) f.2 in
-      absurd (g.4.0 (subst (λ (a : List ℕ). IsAtOrBelow a g.0) (one_name one ask.mib.naming text o g.1 means g.3)
-      (subst (IsAtOrBelow o) (one_name one ask.mib.naming root_text root g.0 root_means g.2) at)))
+      absurd (f.4.0 (subst (λ (a : List ℕ). IsAtOrBelow a f.0) (one_name one ask.mib.naming text o f.1 means f.3)
+      (subst (IsAtOrBelow o) (one_name one ask.mib.naming root_text root f.0 root_means f.2) at)))
 
   all_named : (texts os : List (List ℕ)) → AreNames ask.mib texts os → AreDone Wants (map name_step texts)
   all_named [] os e = tt
@@ -267,22 +261,21 @@ module _ (one_list : OneList) (one_tree : OneTree) (one : OneMeaning)
   reaching_want =
       both Wants (name_steps words.request) (reach_step ∷ [])
       (named_want words.request ask.asked.choices ask.plan.question ask.asked.question) (
-        (λ f. table_want_only (subst (λ (m : Mib). ReachFails files m (table ask.path) why) (known_as f.0 f.1)
-            (subst (λ (a : Address). ReachFails files f.0 a why) (agent_is f.2.0 f.2.1) f.2.2))),
+        (λ f. table_want_only (subst (λ (a : Address). ReachFails files ask.mib a why) (agent_is f.0 f.1) f.2)),
         tt,
       )
 
   pub wants_early : IsEarlyRefusal words files why → IsWant why
   wants_early (inl e) = plain_want e
-  wants_early (inr h) = picked Wants h.done h.failed h.left (subst (AreDone Wants) h.order loading_want) h.fails
+  wants_early (inr h) = picked WantsFor h.done h.failed h.left (subst (AreDone WantsFor) h.order loading_want) h.fails
 
-  pub wants_late : IsLateRefusal words files why → IsWant why
+  pub wants_late : IsLateRefusal words files ask.mib why → IsWant why
   wants_late (inl e) = plain_want e
   wants_late (inr late) =
       let h = late.1 in
       picked Wants h.done h.failed h.left (subst (AreDone Wants) h.order reaching_want) h.fails
 
-  pub wants_last : CanBeSent ask.plan.question → IsLastRefusal words files why → IsWant why
+  pub wants_last : CanBeSent ask.plan.question → IsLastRefusal words files ask.mib why → IsWant why
   wants_last can last =
       let h = last.fails in
       picked Wants h.done h.failed h.left

@@ -16,9 +16,9 @@ use Rattle.snmp_tools.specs.Letters.{Choices}
 use Rattle.snmp_tools.specs.Message.{Fault, out_of_memory, unsendable}
 use Rattle.snmp_tools.specs.Mib.{IsMibOf, Mib}
 use Rattle.snmp_tools.specs.Planned.{AgentFails, AreOrdersOf, NamesFail, ShowingFails}
-use Rattle.snmp_tools.specs.Question.{AreNames, AskFor, AskWords, FailsFor, HasMeaning, HasSendable, HasUnsendable, IsDoneFor, IsEarlyRefusal, IsLastRefusal}
-use Rattle.snmp_tools.specs.Question.{IsLateRefusal}
-use Rattle.snmp_tools.specs.Question.{IsQuestionOf, Plan, Question, Request, Step, get, names, subtree, walk}
+use Rattle.snmp_tools.specs.Question.{AreNames, AskFor, AskWords, FailsBy, FailsFor, HasMeaning, HasSendable, HasUnsendable, IsDoneBy, IsDoneFor}
+use Rattle.snmp_tools.specs.Question.{IsEarlyRefusal, IsLastRefusal, IsLateRefusal}
+use Rattle.snmp_tools.specs.Question.{IsQuestionOf, LaterStep, LoadingStep, Plan, Question, Request, get, names, subtree, walk}
 use Rattle.snmp_tools.specs.Question.{asking, below_step, choices_step, goes_on_after, loading_steps, mibs_step, name_step, name_steps, reach_step}
 use Rattle.snmp_tools.specs.Question.{reaching_steps, root_text, sent_step}
 use Rattle.snmp_tools.specs.Question.{sent_steps}
@@ -131,19 +131,19 @@ first_unsent mib (t ∷ texts) (n ∷ os) (suc i) text d o e are inside is_text 
     (first_unsent mib texts os i text d o e are.1 (omega arith) is_text is_name (All-tail (λ n. IsWire (wire n)) n (take i os) sent) unsent)
 
 module _ (words : AskWords) (files : Holdings) (why : Fault) where
-  abbrev Done : Step → Type 0
+  abbrev Done : LoadingStep → Type 0
   Done = IsDoneFor words files
 
-  abbrev Fails : Step → Fault → Type 0
+  abbrev Fails : LoadingStep → Fault → Type 0
   Fails = FailsFor words files
 
-  abbrev Refused : List Step → Type 0
+  abbrev Refused : List LoadingStep → Type 0
   Refused steps = IsFirstToFail steps Done Fails why
 
-  fails : (step : Step) (left : List Step) → Fails step why → Refused (step ∷ left)
+  fails : (step : LoadingStep) (left : List LoadingStep) → Fails step why → Refused (step ∷ left)
   fails step left f = first Done Fails why step left f
 
-  goes_on : (step : Step) (steps : List Step) → Done step → Refused steps → Refused (step ∷ steps)
+  goes_on : (step : LoadingStep) (steps : List LoadingStep) → Done step → Refused steps → Refused (step ∷ steps)
   goes_on step steps d h = later Done Fails why step steps d h
 
   -- before any module file is read
@@ -152,7 +152,7 @@ module _ (words : AskWords) (files : Holdings) (why : Fault) where
   at_showing (inr f) = inr (goes_on (asking version_step) _ f.0 (fails (asking letters_step) _ f.1))
 
   module _ (v : Done (asking version_step)) (l : Done (asking letters_step)) where
-    shown : (steps : List Step) → Refused steps → Refused (asking version_step ∷ asking letters_step ∷ steps)
+    shown : (steps : List LoadingStep) → Refused steps → Refused (asking version_step ∷ asking letters_step ∷ steps)
     shown steps h = goes_on (asking version_step) _ v (goes_on (asking letters_step) _ l h)
 
     pub at_choices : Fails choices_step why → IsEarlyRefusal words files why
@@ -186,79 +186,94 @@ module _ (words : AskWords) (files : Holdings) (why : Fault) where
         ),
       )
 
-      loaded : Refused (reaching_steps words.request) → IsLateRefusal words files why
+      abbrev DoneBy : LaterStep → Type 0
+      DoneBy = IsDoneBy words files mib
+
+      abbrev FailsLater : LaterStep → Fault → Type 0
+      FailsLater = FailsBy words files mib
+
+      abbrev RefusedBy : List LaterStep → Type 0
+      RefusedBy steps = IsFirstToFail steps DoneBy FailsLater why
+
+      fails_by : (step : LaterStep) (left : List LaterStep) → FailsLater step why → RefusedBy (step ∷ left)
+      fails_by step left f = first DoneBy FailsLater why step left f
+
+      goes_on_by : (step : LaterStep) (steps : List LaterStep) → DoneBy step → RefusedBy steps → RefusedBy (step ∷ steps)
+      goes_on_by step steps d h = later DoneBy FailsLater why step steps d h
+
+      loaded : RefusedBy (reaching_steps words.request) → IsLateRefusal words files mib why
       loaded h = inr (loading_done, h)
 
       -- a name has no meaning
-      at_names : (request : Request) → NamesFail request mib why → (why ≡ out_of_memory) ⊎ Refused (name_steps request)
+      at_names : (request : Request) → NamesFail request mib why → (why ≡ out_of_memory) ⊎ RefusedBy (name_steps request)
       at_names (get texts) (inl e) = inl e
       at_names (get texts) (inr h) =
-          inr (mapped name_step (HasMeaning mib) Done (λ text d. (mib, known, d)) (NameFails mib.naming) Fails why (λ text f. (mib, known, f)) texts h)
-      at_names (walk bulk letters after name) (inl f) = inr (fails (name_step (root_text name)) _ (mib, known, f))
+          inr (mapped name_step (HasMeaning mib) DoneBy (λ text d. d) (NameFails mib.naming) FailsLater why (λ text f. f) texts h)
+      at_names (walk bulk letters after name) (inl f) = inr (fails_by (name_step (root_text name)) _ f)
       at_names (walk bulk letters after name) (inr f) =
-          let rest : Refused (name_step f.1.0 ∷ []) = fails (name_step f.1.0) [] (mib, known, f.1.2) in
-          let P : Option (List ℕ) → Type 0 = λ given. Refused (goes_on_after (λ text. name_step text ∷ []) given) in
-          inr (goes_on (name_step (root_text name)) _ (mib, known, f.0) (subst P (sym f.1.1) rest))
+          let rest : RefusedBy (name_step f.1.0 ∷ []) = fails_by (name_step f.1.0) [] f.1.2 in
+          let P : Option (List ℕ) → Type 0 = λ given. RefusedBy (goes_on_after (λ text. name_step text ∷ []) given) in
+          inr (goes_on_by (name_step (root_text name)) _ f.0 (subst P (sym f.1.1) rest))
 
-      pub names_refused : NamesFail words.request mib why → IsLateRefusal words files why
+      pub names_refused : NamesFail words.request mib why → IsLateRefusal words files mib why
       names_refused f = by_names (at_names words.request f)
         where
-          by_names : (why ≡ out_of_memory) ⊎ Refused (name_steps words.request) → IsLateRefusal words files why
+          by_names : (why ≡ out_of_memory) ⊎ RefusedBy (name_steps words.request) → IsLateRefusal words files mib why
           by_names (inl e) = inl e
-          by_names (inr h) = loaded (before_more Done Fails why (name_steps words.request) (reach_step ∷ []) h)
+          by_names (inr h) = loaded (before_more DoneBy FailsLater why (name_steps words.request) (reach_step ∷ []) h)
 
       after_named : (given planned : Option (List ℕ)) → IsNameIfGiven mib given planned
-          → AreDone Done (goes_on_after (λ text. name_step text ∷ []) given)
+          → AreDone DoneBy (goes_on_after (λ text. name_step text ∷ []) given)
       after_named None planned h = tt
-      after_named (Some text) planned h = ((mib, known, (h.0, h.1)), tt)
+      after_named (Some text) planned h = ((h.0, h.1), tt)
 
       names_done : (request : Request) (choices : Choices) (question : Question) → IsQuestionOf request choices mib question
-          → AreDone Done (name_steps request)
-      names_done (get texts) choices (names os) q = map_done name_step (HasMeaning mib) Done (λ text d. (mib, known, d)) texts (are_named mib texts os q)
+          → AreDone DoneBy (name_steps request)
+      names_done (get texts) choices (names os) q = map_done name_step (HasMeaning mib) DoneBy (λ text d. d) texts (are_named mib texts os q)
       names_done (get texts) choices (subtree w) q = absurd q
       names_done (walk bulk letters after name) choices (names os) q = absurd q
-      names_done (walk bulk letters after name) choices (subtree w) q = ((mib, known, (w.root, q.root)), after_named after w.after q.goes_on)
+      names_done (walk bulk letters after name) choices (subtree w) q = ((w.root, q.root), after_named after w.after q.goes_on)
 
       -- the name to go on after isn't below the root, or can't be sent
       resumed : (root after : List ℕ) (text : List ℕ) (given planned : Option (List ℕ)) → IsNameIfGiven mib given planned → planned ≡ Some after
           → TextMeans mib.naming text (Ok root) → ResumeFails root after (unwrap_or given []) why
-          → Refused (goes_on_after (λ t. below_step text t ∷ sent_step t ∷ []) given)
+          → RefusedBy (goes_on_after (λ t. below_step text t ∷ sent_step t ∷ []) given)
       resumed root after text None planned h e means f = let no : ⊥ = cc in absurd no
       resumed root after text (Some t) planned h e means (inl f) =
           let same : h.0 ≡ after = cc in
-          fails (below_step text t) _ (mib, known, (root, after, means, subst (λ (n : List ℕ). TextMeans mib.naming t (Ok n)) same h.1, (f.0, f.1)))
+          fails_by (below_step text t) _ (root, after, means, subst (λ (n : List ℕ). TextMeans mib.naming t (Ok n)) same h.1, (f.0, f.1))
       resumed root after text (Some t) planned h e means (inr f) =
           let same : h.0 ≡ after = cc in
-          goes_on (below_step text t) _ (mib, known, (root, after, means, subst (λ (n : List ℕ). TextMeans mib.naming t (Ok n)) same h.1, f.0))
-          (fails (sent_step t) [] (mib, known, (after, subst (λ (n : List ℕ). TextMeans mib.naming t (Ok n)) same h.1, f.1, f.2)))
+          goes_on_by (below_step text t) _ (root, after, means, subst (λ (n : List ℕ). TextMeans mib.naming t (Ok n)) same h.1, f.0)
+          (fails_by (sent_step t) [] (after, subst (λ (n : List ℕ). TextMeans mib.naming t (Ok n)) same h.1, f.1, f.2))
 
       at_sent : (request : Request) (choices : Choices) (question : Question) → IsQuestionOf request choices mib question
-          → BeginFails request question why → Refused (sent_steps request)
+          → BeginFails request question why → RefusedBy (sent_steps request)
       at_sent (get texts) choices (names os) q f =
-          mapped sent_step (HasSendable mib) Done (λ text d. (mib, known, d)) (HasUnsendable mib) Fails why (λ text f. (mib, known, f)) texts (f mib q)
+          mapped sent_step (HasSendable mib) DoneBy (λ text d. d) (HasUnsendable mib) FailsLater why (λ text f. f) texts (f mib q)
       at_sent (get texts) choices (subtree w) q f = absurd q
       at_sent (walk bulk letters after name) choices (names os) q f = absurd q
       at_sent (walk bulk letters after name) choices (subtree w) q (inl f) =
-          fails (sent_step (root_text name)) _ (mib, known, (w.root, q.root, f.0, f.1))
+          fails_by (sent_step (root_text name)) _ (w.root, q.root, f.0, f.1)
       at_sent (walk bulk letters after name) choices (subtree w) q (inr f) =
-          goes_on (sent_step (root_text name)) _ (mib, known, (w.root, q.root, f.0))
+          goes_on_by (sent_step (root_text name)) _ (w.root, q.root, f.0)
           (resumed w.root f.1.0 (root_text name) after w.after q.goes_on f.1.1 q.root f.1.2)
 
       module _ (plan : Plan) (asked : AskFor words mib plan) where
         -- the agent isn't reached
         pub unreached : (agent : Address) → HasAgent words.asking.agent agent → (why ≡ out_of_memory) ⊎ ReachFails files mib agent why
-            → IsLateRefusal words files why
+            → IsLateRefusal words files mib why
         unreached agent only (inl e) = inl e
         unreached agent only (inr f) =
-            loaded (after_all Done Fails why (name_steps words.request) (reach_step ∷ [])
-            (names_done words.request asked.choices plan.question asked.question) (fails reach_step [] (mib, known, (agent, only, f))))
+            loaded (after_all DoneBy FailsLater why (name_steps words.request) (reach_step ∷ [])
+            (names_done words.request asked.choices plan.question asked.question) (fails_by reach_step [] (agent, only, f)))
 
         -- a name can't be sent, or the walk can't go on after it
         pub unsent : (agent : Address) → HasAgent words.asking.agent agent → IsReached files mib agent → BeginFails words.request plan.question why
-            → IsLastRefusal words files why
+            → IsLastRefusal words files mib why
         unsent agent only reached f = record {
           loaded = loading_done;
           named = names_done words.request asked.choices plan.question asked.question;
-          reached = (mib, known, (agent, only, reached));
+          reached = (agent, only, reached);
           fails = at_sent words.request asked.choices plan.question asked.question f;
         }

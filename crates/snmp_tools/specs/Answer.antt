@@ -57,7 +57,7 @@ abbrev pub CanGoOn : List ℕ → Option (List ℕ) → Type 0
 CanGoOn root None = Unit {0}
 CanGoOn root (Some after) = IsAtOrBelow after root × IsWire (wire after)
 
--- its names can be sent
+-- its names can be sent, and a walk can go on after its name
 abbrev pub CanBeSent : Question → Type 0
 CanBeSent (names os) = All (λ o. IsWire (wire o)) os
 CanBeSent (subtree w) = IsWire (wire w.root) × CanGoOn w.root w.after
@@ -83,7 +83,8 @@ IsOwnEnd (ending.Done count) = Unit {0}
 IsOwnEnd (ending.Sink fault) = Unit {0}
 IsOwnEnd _ = ⊥
 
--- How a run over a link in memory ended: such a link fails only where memory runs out.
+-- How a run over a link in memory ended, computed, for private clauses. Such a link fails only
+-- where memory runs out.
 abbrev pub end_in_memory : WalkEnd → WalkEnd
 end_in_memory ending.Link = ending.Sink sink.Memory
 end_in_memory end = end

@@ -18,7 +18,7 @@ use Rattle.snmp_net.specs.declared.links.Links.{Ghosts as Network}
 use Rattle.snmp_tools.specs.agent.TableFile.{HasTable}
 use Rattle.snmp_io.specs.Files.{MayHold}
 use Rattle.snmp_tools.specs.Mib.{AreLoaded, Mib}
-use Rattle.snmp_tools.specs.Answer.{HasFacts, IsAsked}
+use Rattle.snmp_tools.specs.Answer.{CanBeSent, HasFacts, IsAsked}
 use Rattle.snmp_tools.specs.Question.{AskWords, IsEarlyRefusal, IsLastRefusal, IsLateRefusal}
 use Rattle.snmp_tools.specs.Question.{IsPlanFor, Plan}
 use Rattle.snmp_tools.specs.Question.{counts_in}
@@ -65,13 +65,14 @@ pub record HasOpened {N V D : Type 0} (net : Network N V D) (host : List ℕ) (p
   pub unchanged : after ≡ record before { links = after.links }
 
 -- What a job wrote by the names and types of its modules, and why it wasn't done, if it wasn't.
--- Where no agent is reached, or the agent is over a table, no link is opened.
+-- Where no agent is reached, or the agent is over a table, no link is opened. What can't be sent
+-- isn't asked.
 pub data IsOutcomeBy {N V D : Type 0} (net : Network N V D) (wire : LinkFacts V) (words : AskWords)
     (mib : Mib) (before after : Seen N) (fault : Option Fault) : Type 0 where
-  refused : (why : Fault) → IsLateRefusal words before.files why → after ≡ before
+  refused : (why : Fault) → IsLateRefusal words before.files mib why → after ≡ before
       → fault ≡ Some why → IsOutcomeBy net wire words mib before after fault
   -- the table was read, or the link opened, and then the start was refused
-  not_begun : (why : Fault) → IsLastRefusal words before.files why → (plan : Plan)
+  not_begun : (why : Fault) → IsLastRefusal words before.files mib why → (plan : Plan)
       → IsPlanFor words before.files mib plan
       → ((path : List ℕ) × (plan.agent ≡ table path) × (after ≡ before))
       ⊎ ((host : List ℕ) × (port : ℕ) × (plan.agent ≡ udp host port)
@@ -79,6 +80,7 @@ pub data IsOutcomeBy {N V D : Type 0} (net : Network N V D) (wire : LinkFacts V)
       → fault ≡ Some why → IsOutcomeBy net wire words mib before after fault
   asked : (plan : Plan) (path : List ℕ) (view : MibView) → IsPlanFor words before.files mib plan
       → plan.agent ≡ table path → HasTable before.files mib.naming path view
+      → CanBeSent plan.question
       → IsShown (IsAsked plan plan.question view) mib plan words.asking.agent before.out after.out
       fault
       → after ≡ record before { out = after.out }
@@ -90,7 +92,7 @@ pub data IsOutcomeBy {N V D : Type 0} (net : Network N V D) (wire : LinkFacts V)
       → after.out ≡ before.out → fault ≡ Some (ended words.asking.agent ending.Link)
       → IsOutcomeBy net wire words mib before after fault
   asked_over : (plan : Plan) (host : List ℕ) (port : ℕ) → IsPlanFor words before.files mib plan
-      → plan.agent ≡ udp host port
+      → plan.agent ≡ udp host port → CanBeSent plan.question
       → IsShown
       (HasFacts (net.opens before.links host port words.asking.seconds) wire
       (words.asking.retries + 1) plan) mib plan words.asking.agent before.out after.out fault

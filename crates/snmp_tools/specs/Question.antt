@@ -124,40 +124,43 @@ pub record IsPlanFor (words : AskWords) (files : Holdings) (mib : Mib) (plan : P
 
 -- ---- why not
 
--- the work before the first request
-pub data Step : Type 0 where
-  asking : AskingStep → Step
-  choices_step : Step
-  mibs_step : Step
-  name_step : (text : List ℕ) → Step
-  reach_step : Step
-  sent_step : (text : List ℕ) → Step
-  below_step : (root_text text : List ℕ) → Step
+-- the work up to the modules
+pub data LoadingStep : Type 0 where
+  asking : AskingStep → LoadingStep
+  choices_step : LoadingStep
+  mibs_step : LoadingStep
 
--- in its order up to the modules
-abbrev pub loading_steps : List Step
+-- in its order
+abbrev pub loading_steps : List LoadingStep
 loading_steps = asking version_step ∷ asking letters_step ∷ choices_step ∷ asking community_step
     ∷ asking agent_step ∷ mibs_step ∷ []
+
+-- the work before the first request, by the names of the modules that were loaded
+pub data LaterStep : Type 0 where
+  name_step : (text : List ℕ) → LaterStep
+  reach_step : LaterStep
+  sent_step : (text : List ℕ) → LaterStep
+  below_step : (root_text text : List ℕ) → LaterStep
 
 abbrev pub goes_on_after : {T : Type 0} → (List ℕ → List T) → Option (List ℕ) → List T
 goes_on_after {T} steps None = []
 goes_on_after {T} steps (Some text) = steps text
 
 -- each name is looked up
-abbrev pub name_steps : Request → List Step
+abbrev pub name_steps : Request → List LaterStep
 name_steps (get texts) = map name_step texts
 name_steps (walk bulk letters after name) =
     name_step (root_text name) ∷ goes_on_after (λ text. name_step text ∷ []) after
 
+-- up to the agent
+abbrev pub reaching_steps : Request → List LaterStep
+reaching_steps request = name_steps request ++ (reach_step ∷ [])
+
 -- each is to have an encoding, and that to go on after is to be the root or below it
-abbrev pub sent_steps : Request → List Step
+abbrev pub sent_steps : Request → List LaterStep
 sent_steps (get texts) = map sent_step texts
 sent_steps (walk bulk letters after name) = sent_step (root_text name)
     ∷ goes_on_after (λ text. below_step (root_text name) text ∷ sent_step text ∷ []) after
-
--- by the names of the modules, up to the agent
-abbrev pub reaching_steps : Request → List Step
-reaching_steps request = name_steps request ++ (reach_step ∷ [])
 
 -- the text states a name
 abbrev pub HasMeaning : Mib → (text : List ℕ) → Type 0
@@ -183,42 +186,40 @@ HaveNames mib root_text text Is =
     (root : List ℕ) × (after : List ℕ) × TextMeans mib.naming root_text (Ok root)
     × TextMeans mib.naming text (Ok after) × Is root after
 
--- by names that the job knows
-abbrev pub ByNames : AskWords → Holdings → (Mib → Type 0) → Type 0
-ByNames words files Is = (mib : Mib) × IsMibOf (MayHold files) words.asking mib × Is mib
+-- this is true of the agent of the words
+abbrev pub OfAgent : AskWords → (Address → Type 0) → Type 0
+OfAgent words Is = (agent : Address) × HasAgent words.asking.agent agent × Is agent
 
--- by names that the job knows, of the agent of the words
-abbrev pub OfAgent : AskWords → Holdings → (Mib → Address → Type 0) → Type 0
-OfAgent words files Is = ByNames words files
-    (λ mib. (agent : Address) × HasAgent words.asking.agent agent × Is mib agent)
-
--- the step is done: what it looks for is there
-abbrev pub IsDoneFor : AskWords → Holdings → Step → Type 0
+-- the step up to the modules is done: what it looks for is there
+abbrev pub IsDoneFor : AskWords → Holdings → LoadingStep → Type 0
 IsDoneFor words files (asking step) = IsAskingDone words.asking step
 IsDoneFor words files choices_step =
     (choices : Choices) × HasChosen words.request choices
 IsDoneFor words files mibs_step = (mib : Mib) × IsMibOf (MayHold files) words.asking mib
-IsDoneFor words files (name_step text) = ByNames words files (λ mib. HasMeaning mib text)
-IsDoneFor words files reach_step = OfAgent words files (IsReached files)
-IsDoneFor words files (sent_step text) = ByNames words files (λ mib. HasSendable mib text)
-IsDoneFor words files (below_step root_text text) = ByNames words files
-    (λ mib. HaveNames mib root_text text (λ root after. IsAtOrBelow after root))
 
--- the step fails for this reason
-abbrev pub FailsFor : AskWords → Holdings → Step → Fault → Type 0
+-- it fails for this reason
+abbrev pub FailsFor : AskWords → Holdings → LoadingStep → Fault → Type 0
 FailsFor words files (asking step) why = AskingFails words.asking step why
 FailsFor words files choices_step why =
     (letter : ℕ) × HasUnknown words.request letter × (why ≡ bad_letter letter)
 FailsFor words files mibs_step why = MibsFail files words.asking.mibs why
-FailsFor words files (name_step text) why =
-    ByNames words files (λ mib. NameFails mib.naming text why)
-FailsFor words files reach_step why =
-    OfAgent words files (λ mib agent. ReachFails files mib agent why)
-FailsFor words files (sent_step text) why =
-    ByNames words files (λ mib. HasUnsendable mib text why)
-FailsFor words files (below_step root_text text) why = ByNames words files
-    (λ mib. HaveNames mib root_text text
-    (λ root after. (IsAtOrBelow after root → ⊥) × (why ≡ outside_root text)))
+
+-- by the names that were loaded, the later step is done: what it looks for is there
+abbrev pub IsDoneBy : AskWords → Holdings → Mib → LaterStep → Type 0
+IsDoneBy words files mib (name_step text) = HasMeaning mib text
+IsDoneBy words files mib reach_step = OfAgent words (IsReached files mib)
+IsDoneBy words files mib (sent_step text) = HasSendable mib text
+IsDoneBy words files mib (below_step root_text text) =
+    HaveNames mib root_text text (λ root after. IsAtOrBelow after root)
+
+-- by the names that were loaded, it fails for this reason
+abbrev pub FailsBy : AskWords → Holdings → Mib → LaterStep → Fault → Type 0
+FailsBy words files mib (name_step text) why = NameFails mib.naming text why
+FailsBy words files mib reach_step why = OfAgent words (λ agent. ReachFails files mib agent why)
+FailsBy words files mib (sent_step text) why = HasUnsendable mib text why
+FailsBy words files mib (below_step root_text text) why =
+    HaveNames mib root_text text
+    (λ root after. (IsAtOrBelow after root → ⊥) × (why ≡ outside_root text))
 
 -- why no modules were loaded: memory ran out, or a step up to them failed
 abbrev pub IsEarlyRefusal : AskWords → Holdings → Fault → Type 0
@@ -226,19 +227,21 @@ IsEarlyRefusal words files why =
     (why ≡ out_of_memory)
     ⊎ IsFirstToFail loading_steps (IsDoneFor words files) (FailsFor words files) why
 
--- why no agent is reached by the modules that were loaded: memory ran out, or a later step up to
+-- why no agent is reached by the names that were loaded: memory ran out, or a later step up to
 -- the agent failed
-abbrev pub IsLateRefusal : AskWords → Holdings → Fault → Type 0
-IsLateRefusal words files why =
+abbrev pub IsLateRefusal : AskWords → Holdings → Mib → Fault → Type 0
+IsLateRefusal words files mib why =
     (why ≡ out_of_memory)
     ⊎ (AreDone (IsDoneFor words files) loading_steps
-    × IsFirstToFail (reaching_steps words.request) (IsDoneFor words files)
-    (FailsFor words files) why)
+    × IsFirstToFail (reaching_steps words.request) (IsDoneBy words files mib)
+    (FailsBy words files mib) why)
 
--- why the agent that was reached isn't asked: the first of the last steps that fails
-pub record IsLastRefusal (words : AskWords) (files : Holdings) (why : Fault) : Type 0 where
-  pub loaded : AreDone (IsDoneFor words files) loading_steps
-  pub named : AreDone (IsDoneFor words files) (name_steps words.request)
-  pub reached : IsDoneFor words files reach_step
-  pub fails : IsFirstToFail (sent_steps words.request) (IsDoneFor words files)
-      (FailsFor words files) why
+-- why the agent that was reached by these names isn't asked: the first of the last steps that
+-- fails
+pub record IsLastRefusal (words : AskWords) (files : Holdings) (mib : Mib) (why : Fault) : Type 0
+  where
+    pub loaded : AreDone (IsDoneFor words files) loading_steps
+    pub named : AreDone (IsDoneBy words files mib) (name_steps words.request)
+    pub reached : IsDoneBy words files mib reach_step
+    pub fails : IsFirstToFail (sent_steps words.request) (IsDoneBy words files mib)
+        (FailsBy words files mib) why

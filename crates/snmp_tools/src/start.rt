@@ -1,5 +1,5 @@
 //! How a question begins: its names must have an encoding.
-ghost use Rattle.std.specs.Prelude.{◌≡◌, ◌⊎◌, ◌≤◌, IfErr, IfOk, List, ℕ, length};
+ghost use Rattle.std.specs.Prelude.{◌≡◌, ◌⊎◌, ◌≤◌, IfErr, IfOk, OnOk, List, ℕ, Some, length};
 ghost use Rattle.snmp_oid.specs.Identifier.{IsWire, wire};
 ghost use Rattle.snmp_agent.specs.table.Listing.{variables};
 ghost use Rattle.snmp_agent.specs.table.Table.{MibView};
@@ -7,11 +7,12 @@ ghost use Rattle.snmp_wire.specs.Message.{VarBind};
 ghost use Rattle.snmp_walk.specs.Facts.{IsFresh, walk_at};
 ghost use Rattle.snmp_walk.specs.Request.{resumed};
 ghost use Rattle.snmp_walk.specs.Walk.{rest_of};
+ghost use Rattle.snmp_tools.specs.Answer.{CanBeSent, CanGoOn};
 ghost use Rattle.snmp_tools.specs.Letters.{Choices};
 ghost use Rattle.snmp_tools.specs.Message.{fault_of};
 ghost use Rattle.snmp_tools.specs.Mib.{Mib};
 ghost use Rattle.snmp_tools.specs.Planned.{question_of, request_of, walk_of};
-ghost use Rattle.snmp_tools.specs.Question.{IsQuestionOf};
+ghost use Rattle.snmp_tools.specs.Question.{IsQuestionOf, subtree};
 ghost use Rattle.snmp_tools.specs.Start.{BeginFails, IsBegun, IsStartOf, ResumeFails, StartFails};
 
 use crate::failure::Failure;
@@ -43,6 +44,7 @@ pub(crate) fn begin<'p, 'a>(
         × IsQuestionOf (request_of request) choices mib (question_of plan.now.question) }
     ensures ok { IfOk result
         (IsBegun plan.now.community.now (question_of plan.now.question)) }
+    ensures sendable { OnOk result (CanBeSent (question_of plan.now.question)) }
     ensures err { IfErr result (λ e. BeginFails (request_of request.entry)
         (question_of plan.now.question) (fault_of e)) }
 {
@@ -73,6 +75,7 @@ fn start<'a>(
 ) -> Result<WalkCore, Failure<'a>>
     requires { length community.now ≤ 255 }
     ensures ok { IfOk result (λ core. IsStartOf core community.now (walk_of walk.now)) }
+    ensures sendable { OnOk result (CanBeSent (subtree (walk_of walk.now))) }
     ensures err { IfErr result (λ e.
         StartFails (walk_of walk.now) root_text.now after_text.now (fault_of e)) }
 {
@@ -103,6 +106,7 @@ fn resume<'a>(
     ensures fresh { IfOk result IsFresh }
     ensures gives { IfOk result (λ core. (view : MibView) (got : VarBind)
         → walk_at core view got ≡ rest_of walk.now.root (wire after.now) (variables view)) }
+    ensures goes_on { OnOk result (CanGoOn walk.now.root (Some after.now)) }
     ensures err { IfErr result (λ e.
         ResumeFails walk.now.root after.now text.now (fault_of e)) }
 {

@@ -51,7 +51,8 @@ returns-in-Table g c = λ err.
     let words = ask_words c.args.job in
     let plan = plan_of c.in_ok-plan.plan in
     let for : IsPlanFor words files mib plan = record { known = c.requires.known; asked = c.in_ok-plan.ensures.asked; only = c.in_ok-plan.ensures.only } in
-    asked plan c.in-Table.path.now _ for (ap address_of c.in-Table.is) c.in_ok-table-in-Table.ensures.table c.print_in_memory.ensures refl
+    asked plan c.in-Table.path.now _ for (ap address_of c.in-Table.is) c.in_ok-table-in-Table.ensures.table c.in_ok-begun-in-Table.ensures.sendable
+    c.print_in_memory.ensures refl
 
 pub returns-in_err-begun-in-Udp : goal.returns-in_err-begun-in-Udp
 returns-in_err-begun-in-Udp g c = λ err.
@@ -89,7 +90,7 @@ returns g c = λ err.
     let words = ask_words c.args.job in
     let plan = plan_of c.in_ok-plan.plan in
     let for : IsPlanFor words files mib plan = record { known = c.requires.known; asked = c.in_ok-plan.ensures.asked; only = c.in_ok-plan.ensures.only } in
-    asked_over plan c.in-Udp.at.host.now c.in-Udp.at.port for (ap address_of c.in-Udp.is)
+    asked_over plan c.in-Udp.at.host.now c.in-Udp.at.port for (ap address_of c.in-Udp.is) c.in_ok-begun-in-Udp.ensures.sendable
     (with_facts _ _ mib _ _ _ _ _ _ (λ given turned end h. record {
       link = c.in-Ok.link;
       after = c.print_over.new.link;
