@@ -1,5 +1,6 @@
 -- What a run over the agent in memory gave.
-use Rattle.std.proofs.Common.{◌≡◌, ◌⊎◌, inl, inr, ◌++◌, ◌<◌, ℕ, true, List, [], ◌∷◌, length, Option, Some, None, refl, sym, ◌∙◌, ap, subst, arith}
+use Rattle.std.proofs.Common.{◌≡◌, ◌⊎◌, inl, inr, ◌++◌, ◌<◌, ℕ, true, List, [], ◌∷◌, All, length, Option, Some, None, refl, sym, ◌∙◌, ap, subst, arith}
+use Rattle.snmp_oid.specs.Identifier.{IsWire, wire}
 use Rattle.smi_value.specs.declared.letters.letters.Letters.{Letters}
 use Rattle.snmp_io.specs.Output.{Stream}
 use Rattle.snmp_wire.specs.Canon.{canon}
@@ -17,8 +18,8 @@ use Rattle.snmp_walk.specs.Walker.{Walker}
 use Rattle.snmp_walk.specs.declared.end.WalkEnd.{WalkEnd}
 use Rattle.snmp_walk.specs.declared.end.WalkEnd.TheVariants as ending
 use Rattle.snmp_walk.specs.declared.link.Link.{Ghosts as LinkFacts}
-use Rattle.snmp_tools.specs.Answer.{AreRowsAfter, Counts, HasReason, IsAsked, IsAskedOver, IsOwnEnd, agent_over, end_in_memory, first_after, first_of}
-use Rattle.snmp_tools.specs.Answer.{request_for}
+use Rattle.snmp_tools.specs.Answer.{AreRowsAfter, CanBeSent, Counts, HasReason, IsAsked, IsAskedOver, IsOwnEnd, agent_over, end_in_memory, first_after}
+use Rattle.snmp_tools.specs.Answer.{first_of, request_for}
 use Rattle.snmp_tools.specs.Lines.{IsPrintedUpTo}
 use Rattle.snmp_tools.specs.Mib.{Mib}
 use Rattle.snmp_tools.specs.Question.{Plan, Question, Walk, counts_in, names, subtree}
@@ -197,7 +198,7 @@ module _ {W : Type 0} (facts : LinkFacts W) (link after : W) (tries : ℕ) (some
     (none : (facts.traffic link).ahead ≡ []) (given refused : List VarBind) (end : WalkEnd) where
   pub is_asked : (question : Question) (begun : Begun) → IsBegun plan.community question begun
       → IsRunOver facts link after tries plan.community begun given refused end → IsAsked plan question view given refused (end_in_memory end)
-  is_asked (names os) (begun.Get sent) (same, sendable) run =
+  is_asked (names os) (begun.Get sent) same run =
       let P : Agents → List (List ℕ) → Type 0 = λ a ns. GetFacts a tries (facts.traffic link) (request_for plan ns) ns given refused end (facts.traffic after) in
       is_got plan view tries (facts.traffic link) (facts.traffic after) given refused end none some os
       (subst (λ (a : Agents). P a os) agents (subst (P (facts.agents link)) same (run.judged honest)))
@@ -211,7 +212,7 @@ module _ {W : Type 0} (facts : LinkFacts W) (link after : W) (tries : ℕ) (some
 pub asked_over : {W : Type 0} (facts : LinkFacts W) (link after : W) (tries : ℕ) (plan : Plan) (question : Question) (begun : Begun)
     → IsBegun plan.community question begun → (given refused : List VarBind) (end : WalkEnd)
     → IsRunOver facts link after tries plan.community begun given refused end → IsAskedOver facts link after tries plan question given refused end
-asked_over {W} facts link after tries plan (names os) (begun.Get sent) (same, sendable) given refused end run =
+asked_over {W} facts link after tries plan (names os) (begun.Get sent) same given refused end run =
     subst (λ (ns : List (List ℕ)). IsAskedOver facts link after tries plan (names ns) given refused end) same run
 asked_over {W} facts link after tries plan (names os) (begun.Walk core) is given refused end run = absurd is
 asked_over {W} facts link after tries plan (subtree w) (begun.Get sent) is given refused end run = absurd is
@@ -220,8 +221,8 @@ asked_over {W} facts link after tries plan (subtree w) (begun.Walk core) is give
     subst P is.is run
 
 -- what a run of it needs
-pub can_run : (community : List ℕ) (question : Question) (begun : Begun) → IsBegun community question begun → CanRun begun
-can_run community (names os) (begun.Get sent) is = is.1
-can_run community (names os) (begun.Walk core) is = absurd is
-can_run community (subtree w) (begun.Get sent) is = absurd is
-can_run community (subtree w) (begun.Walk core) is = is.fresh
+pub can_run : (community : List ℕ) (question : Question) (begun : Begun) → IsBegun community question begun → CanBeSent question → CanRun begun
+can_run community (names os) (begun.Get sent) is sendable = subst (All (λ o. IsWire (wire o))) (sym is) sendable
+can_run community (names os) (begun.Walk core) is sendable = absurd is
+can_run community (subtree w) (begun.Get sent) is sendable = absurd is
+can_run community (subtree w) (begun.Walk core) is sendable = is.fresh

@@ -22,11 +22,11 @@ use Rattle.snmp_io.specs.Steps.{AreDone}
 use Rattle.snmp_net.specs.Address.{Address, table}
 use Rattle.snmp_tools.specs.agent.TableFile.{TableFails}
 use Rattle.snmp_tools.specs.Answer.{CanBeSent, CanGoOn}
-use Rattle.snmp_tools.specs.Asking.{AreShown, AskingFails, AskingStep, HasAgent, IsNameIfGiven, NameFails, ReachFails}
+use Rattle.snmp_tools.specs.Asking.{AreShown, AskingFails, AskingStep, HasAgent, IsNameIfGiven, ReachFails}
 use Rattle.snmp_tools.specs.Asking.{agent_step, community_step, letters_step, version_step}
 use Rattle.snmp_tools.specs.Headline.{IsAsk}
 use Rattle.snmp_tools.specs.Letters.{Choices}
-use Rattle.snmp_tools.specs.Message.{Fault, bad_table, out_of_memory, outside_root}
+use Rattle.snmp_tools.specs.Message.{Fault, bad_table, out_of_memory}
 use Rattle.snmp_tools.specs.loading.Files.{AreModulesOf}
 use Rattle.smi_text.specs.declared.trees.tree.Module.{Module}
 use Rattle.smi_names.specs.declared.nodes.warning.Warning.{Warning}

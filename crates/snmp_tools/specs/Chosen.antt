@@ -1,4 +1,4 @@
--- The choices that the program keeps.
+-- The choices that the program keeps, for private clauses.
 use Rattle.snmp_tools.specs.Letters as letters
 use Rattle.snmp_tools.specs.declared.choices.Choices.{Choices}
 

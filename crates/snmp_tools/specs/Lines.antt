@@ -24,14 +24,15 @@ AreLines mib letters (binding ∷ more) text =
     (line : List ℕ) × (rest : List ℕ) × IsLineOf mib letters binding line
     × AreLines mib letters more rest × (text ≡ line ++ rest)
 
--- What the output took of a text: the whole, a front where the output failed, and nothing where
--- memory for the text ran out.
+-- What the output took of a text, for private clauses: the whole, a front where the output failed,
+-- and nothing where memory for the text ran out.
 abbrev pub TakesText : Stream → List ℕ → Result (Unit {0}) SinkFault → Stream → Type 0
 TakesText before text (Ok _) after = after ≡ extended before text
 TakesText before text (Err fault.Output) after = FailsWithin before text after
 TakesText before text (Err fault.Memory) after = after ≡ before
 
--- what it took of the line of a binding; where memory for the line ran out, nothing
+-- what it took of the line of a binding, for private clauses; where memory for the line ran out,
+-- nothing
 abbrev pub TakesLine : Mib → Letters → Stream → VarBind → Result (Unit {0}) SinkFault → Stream
     → Type 0
 TakesLine mib letters before binding (Err fault.Memory) after = after ≡ before
@@ -48,7 +49,8 @@ IsPrintedUpTo mib letters before rows refused (ending.Sink fault.Output) after =
 IsPrintedUpTo mib letters before rows refused _ after =
     (text : List ℕ) × AreLines mib letters rows text × (after ≡ extended before text)
 
--- rows of which these facts hold were given, and their lines printed, until it ended in this way
+-- rows of which these facts hold were given, and their lines printed, until it ended in this way,
+-- for private clauses
 pub record ArePrinted (mib : Mib) (letters : Letters) (before after : Stream) (end : WalkEnd)
     (Facts : (rows refused : List VarBind) → Type 0) : Type 0 where
   pub rows : List VarBind

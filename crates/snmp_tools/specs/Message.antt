@@ -54,7 +54,7 @@ abbrev pub modules_fault : Refusal → Fault
 modules_fault files.no_memory = out_of_memory
 modules_fault why = bad_modules why
 
--- the fault of what was tried, if it failed
+-- the fault of what was tried, if it failed, for private clauses
 abbrev pub outcome_of : {T : Type 0} → Result T Failure → Option Fault
 outcome_of (Ok _) = None
 outcome_of (Err failure) = Some (fault_of failure)

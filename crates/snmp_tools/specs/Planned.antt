@@ -1,4 +1,5 @@
--- The request and the plan that the program keeps, and what it has read of the words before.
+-- The request and the plan that the program keeps, and what it has read of the words before, for
+-- private clauses.
 use Rattle.std.specs.Prelude.{◌≡◌, ◌≤◌, ◌⊎◌, length, Some, codes, ℕ, List}
 use Rattle.std.specs.Prelude.{Option, drop, option_map}
 use Rattle.snmp_oid.specs.Numeric.{numeric_text}

@@ -1,4 +1,4 @@
--- How a question begins, and why it can't.
+-- How a question begins, and why it can't, for private clauses.
 use Rattle.std.specs.Prelude.{◌≡◌, ◌⊎◌, ℕ, List, [], All, Option, Some, None, unwrap_or}
 use Rattle.snmp_oid.specs.Identifier.{IsWire, wire}
 use Rattle.snmp_agent.specs.table.Listing.{variables}
@@ -31,10 +31,9 @@ pub record IsStartOf (core : Walker) (community : List ℕ) (w : Walk) : Type 0 
   pub gives : (view : MibView) (got : VarBind) → IsMibView view
       → walk_at core view got ≡ rows_given w.after w got (variables view)
 
--- it is the question, whose names can be sent
+-- it is the question
 abbrev pub IsBegun : (community : List ℕ) → Question → Begun → Type 0
-IsBegun community (names os) (begun.Get sent) =
-    (sent.now ≡ os) × All (λ o. IsWire (wire o)) sent.now
+IsBegun community (names os) (begun.Get sent) = sent.now ≡ os
 IsBegun community (subtree w) (begun.Walk core) = IsStartOf core community w
 IsBegun community _ _ = ⊥
 

@@ -3,7 +3,7 @@
 ghost use Rattle.std.specs.Prelude.{◌≡◌, ◌+◌};
 ghost use Rattle.snmp_io.specs.Files.{MayHold};
 ghost use Rattle.snmp_io.specs.Output.{Stream};
-ghost use Rattle.snmp_tools.specs.Answer.{IsAsked, IsAskedOver, end_in_memory};
+ghost use Rattle.snmp_tools.specs.Answer.{CanBeSent, IsAsked, IsAskedOver, end_in_memory};
 ghost use Rattle.snmp_tools.specs.Message.{outcome_of};
 ghost use Rattle.snmp_tools.specs.Mib.{IsMibOf};
 ghost use Rattle.snmp_tools.specs.Outcome.{IsFinished, IsOutcome, IsOutcomeBy, IsRun, IsShown};
@@ -111,7 +111,8 @@ fn print_over<'a, T: ShowTree, L: Link, O: Output>(
     asking: &Asking<'a>,
     out: &mut O,
 ) -> Result<(), Failure<'a>>
-    requires { IsBegun plan.now.community.now (question_of plan.now.question) begun }
+    requires begun { IsBegun plan.now.community.now (question_of plan.now.question) begun }
+    requires sendable { CanBeSent (question_of plan.now.question) }
     ensures { IsShown (IsAskedOver L.Link link.old link.new (asking.now.retries + 1)
         (plan_of plan.now) (plan_of plan.now).question)
         (mib_in (T.naming tree.now) (T.syntax_at tree.now)) (plan_of plan.now)
@@ -137,7 +138,8 @@ fn print_in_memory<'a, T: ShowTree, O: Output>(
     asking: &Asking<'a>,
     out: &mut O,
 ) -> Result<(), Failure<'a>>
-    requires { IsBegun plan.now.community.now (question_of plan.now.question) begun }
+    requires begun { IsBegun plan.now.community.now (question_of plan.now.question) begun }
+    requires sendable { CanBeSent (question_of plan.now.question) }
     ensures { IsShown (IsAsked (plan_of plan.now) (plan_of plan.now).question table.now)
         (mib_in (T.naming tree.now) (T.syntax_at tree.now)) (plan_of plan.now)
         asking.now.agent.now (O.stream out.old) (O.stream out.new) (outcome_of result) }

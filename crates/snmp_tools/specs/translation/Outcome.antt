@@ -22,7 +22,7 @@ StopsAtName mib style before name after why =
     ⊎ ((why ≡ no_output)
     × ((text : List ℕ) × IsTextOf mib style name text × FailsWithin before text after)))
 
--- the name is printed
+-- the name is printed, for private clauses
 abbrev pub IsNamePrinted : DetailMib → Style → (before : Stream) → (name : List ℕ)
     → (after : Stream) → Type 0
 IsNamePrinted mib style before name after =

@@ -9,7 +9,8 @@ use Rattle.snmp_tools.proofs.Asked.{can_run, is_asked, printed_in}
 use Rattle.snmp_tools.proofs.ask.print_in_memory.Goals as goal
 
 pub print_lines-end-requires-clause-sendable : goal.print_lines-end-requires-clause-sendable
-print_lines-end-requires-clause-sendable g c = can_run c.args.plan.now.community.now (question_of c.args.plan.now.question) c.args.begun c.requires
+print_lines-end-requires-clause-sendable g c =
+    can_run c.args.plan.now.community.now (question_of c.args.plan.now.question) c.args.begun c.requires.begun c.requires.sendable
 
 pub returns : goal.returns
 returns g c =
@@ -26,7 +27,7 @@ returns g c =
       facts = is_asked _ c.new-link.result c.print_lines-end.new.link (c.args.asking.now.retries + 1) (omega arith) (plan_of c.args.plan.now)
           c.args.table.now c.is_mib_view.ensures (c.one_answer.ensures.get c.args.table.now)
           (c.new-link.ensures.honest, ap (λ (t : Traffic). t.sent) traffic) c.new-link.ensures.agents (ap (λ (t : Traffic). t.ahead) traffic)
-          printed.rows printed.refused end (question_of c.args.plan.now.question) c.args.begun c.requires printed.facts;
+          printed.rows printed.refused end (question_of c.args.plan.now.question) c.args.begun c.requires.begun printed.facts;
       lines = printed_in _ _ _ _ printed.rows printed.refused end printed.lines;
       finish = subst (P (end_in_memory end)) c.counts.ensures (subst (λ (w : WalkEnd). P w c.counts.result) c.end_in_memory.ensures c.finish.ensures);
     }

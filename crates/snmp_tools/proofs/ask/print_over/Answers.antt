@@ -6,7 +6,8 @@ use Rattle.snmp_tools.proofs.Asked.{asked_over, can_run}
 use Rattle.snmp_tools.proofs.ask.print_over.Goals as goal
 
 pub print_lines-end-requires-clause-sendable : goal.print_lines-end-requires-clause-sendable
-print_lines-end-requires-clause-sendable g c = can_run c.args.plan.now.community.now (question_of c.args.plan.now.question) c.args.begun c.requires
+print_lines-end-requires-clause-sendable g c =
+    can_run c.args.plan.now.community.now (question_of c.args.plan.now.question) c.args.begun c.requires.begun c.requires.sendable
 
 pub returns : goal.returns
 returns g c =
@@ -19,7 +20,7 @@ returns g c =
       end = c.print_lines-end.result;
       between = g.O.Output.stream c.print_lines-end.new.out;
       facts = asked_over g.L.Link c.args.link.now c.print_lines-end.new.link (c.args.asking.now.retries + 1) (plan_of c.args.plan.now)
-          (question_of c.args.plan.now.question) c.args.begun c.requires printed.rows printed.refused c.print_lines-end.result printed.facts;
+          (question_of c.args.plan.now.question) c.args.begun c.requires.begun printed.rows printed.refused c.print_lines-end.result printed.facts;
       lines = printed.lines;
       finish = subst P c.counts.ensures c.finish.ensures;
     }
