@@ -1,5 +1,5 @@
 -- The words ask for one plan, and the steps before its question fail for want of memory alone.
-use Rattle.std.proofs.Common.{◌≡◌, inl, inr, ℕ, Bool, ◌<◌, ◌≤◌, length, arith, List, [], ◌∷◌, ◌++◌, All, map, Option, Some, None, Ok}
+use Rattle.std.proofs.Common.{◌≡◌, ◌⊎◌, inl, inr, ℕ, Bool, ◌<◌, ◌≤◌, length, arith, List, [], ◌∷◌, ◌++◌, All, map, Option, Some, None, Ok}
 use Rattle.std.proofs.Common.{refl, sym, ◌∙◌, ap, subst}
 use Rattle.std.proofs.lemmas.List.Elements.{All-head, All-tail}
 use Rattle.std.specs.Str.Lines.{lines}
@@ -18,7 +18,7 @@ use Rattle.snmp_agent.specs.table.Stated.{IsTableOf, IsFirstFault}
 use Rattle.snmp_walk.specs.declared.mode.Method.{Method}
 use Rattle.snmp_walk.specs.declared.mode.Mode.{Mode}
 use Rattle.snmp_io.specs.Files.{Holdings, Holds, HoldsIfKnown, MayHold}
-use Rattle.snmp_io.specs.Steps.{AreDone}
+use Rattle.snmp_io.specs.Steps.{AreDone, IsFirstToFail}
 use Rattle.snmp_net.specs.Address.{Address, table}
 use Rattle.snmp_tools.specs.agent.TableFile.{TableFails}
 use Rattle.snmp_tools.specs.Answer.{CanBeSent, CanGoOn}
@@ -32,8 +32,8 @@ use Rattle.smi_text.specs.declared.trees.tree.Module.{Module}
 use Rattle.smi_names.specs.declared.nodes.warning.Warning.{Warning}
 use Rattle.smi_tree.specs.Tree.{Contents, IsTree}
 use Rattle.snmp_tools.specs.Mib.{AreLoaded, Mib, mib_of}
-use Rattle.snmp_tools.specs.Question.{AreNames, AskFor, AskWords, FailsBy, FailsFor, IsAtOrBelow, IsEarlyRefusal, IsLastRefusal, IsLateRefusal, IsQuestionOf}
-use Rattle.snmp_tools.specs.Question.{LaterStep, LoadingStep, Plan, Question, Request, Walk, HasChosen, HasUnknown, goes_on_after, root_text}
+use Rattle.snmp_tools.specs.Question.{AreNames, AskFor, AskWords, FailsBy, FailsFor, IsAtOrBelow, IsDoneBy, IsEarlyRefusal, IsLastRefusal, IsLateRefusal}
+use Rattle.snmp_tools.specs.Question.{IsQuestionOf, LaterStep, LoadingStep, Plan, Question, Request, Walk, HasChosen, HasUnknown, goes_on_after, root_text}
 use Rattle.snmp_tools.specs.Question.{get, names, subtree, walk, loading_steps, name_steps, reach_step, reaching_steps, sent_steps}
 use Rattle.snmp_tools.specs.Question.{below_step, name_step, reach_step, sent_step}
 use Rattle.snmp_tools.proofs.ChosenLetters.{no_choice, one_choice}
@@ -270,10 +270,12 @@ module _ (one : OneMeaning)
   wants_early (inr h) = picked WantsFor h.done h.failed h.left (subst (AreDone WantsFor) h.order loading_want) h.fails
 
   pub wants_late : IsLateRefusal words files ask.mib why → IsWant why
-  wants_late (inl e) = plain_want e
-  wants_late (inr late) =
-      let h = late.1 in
-      picked Wants h.done h.failed h.left (subst (AreDone Wants) h.order reaching_want) h.fails
+  wants_late late = by_reason late.fails
+    where
+      by_reason : (why ≡ out_of_memory) ⊎ IsFirstToFail (reaching_steps words.request) (IsDoneBy words files ask.mib) (FailsBy words files ask.mib) why
+          → IsWant why
+      by_reason (inl e) = plain_want e
+      by_reason (inr h) = picked Wants h.done h.failed h.left (subst (AreDone Wants) h.order reaching_want) h.fails
 
   pub wants_last : CanBeSent ask.plan.question → IsLastRefusal words files ask.mib why → IsWant why
   wants_last can last =

@@ -201,8 +201,8 @@ module _ (words : AskWords) (files : Holdings) (why : Fault) where
       goes_on_by : (step : LaterStep) (steps : List LaterStep) → DoneBy step → RefusedBy steps → RefusedBy (step ∷ steps)
       goes_on_by step steps d h = later DoneBy FailsLater why step steps d h
 
-      loaded : RefusedBy (reaching_steps words.request) → IsLateRefusal words files mib why
-      loaded h = inr (loading_done, h)
+      loaded : (why ≡ out_of_memory) ⊎ RefusedBy (reaching_steps words.request) → IsLateRefusal words files mib why
+      loaded h = record { loaded = loading_done; fails = h }
 
       -- a name has no meaning
       at_names : (request : Request) → NamesFail request mib why → (why ≡ out_of_memory) ⊎ RefusedBy (name_steps request)
@@ -219,8 +219,8 @@ module _ (words : AskWords) (files : Holdings) (why : Fault) where
       names_refused f = by_names (at_names words.request f)
         where
           by_names : (why ≡ out_of_memory) ⊎ RefusedBy (name_steps words.request) → IsLateRefusal words files mib why
-          by_names (inl e) = inl e
-          by_names (inr h) = loaded (before_more DoneBy FailsLater why (name_steps words.request) (reach_step ∷ []) h)
+          by_names (inl e) = loaded (inl e)
+          by_names (inr h) = loaded (inr (before_more DoneBy FailsLater why (name_steps words.request) (reach_step ∷ []) h))
 
       after_named : (given planned : Option (List ℕ)) → IsNameIfGiven mib given planned
           → AreDone DoneBy (goes_on_after (λ text. name_step text ∷ []) given)
@@ -263,10 +263,10 @@ module _ (words : AskWords) (files : Holdings) (why : Fault) where
         -- the agent isn't reached
         pub unreached : (agent : Address) → HasAgent words.asking.agent agent → (why ≡ out_of_memory) ⊎ ReachFails files mib agent why
             → IsLateRefusal words files mib why
-        unreached agent only (inl e) = inl e
+        unreached agent only (inl e) = loaded (inl e)
         unreached agent only (inr f) =
-            loaded (after_all DoneBy FailsLater why (name_steps words.request) (reach_step ∷ [])
-            (names_done words.request asked.choices plan.question asked.question) (fails_by reach_step [] (agent, only, f)))
+            loaded (inr (after_all DoneBy FailsLater why (name_steps words.request) (reach_step ∷ [])
+            (names_done words.request asked.choices plan.question asked.question) (fails_by reach_step [] (agent, only, f))))
 
         -- a name can't be sent, or the walk can't go on after it
         pub unsent : (agent : Address) → HasAgent words.asking.agent agent → IsReached files mib agent → BeginFails words.request plan.question why

@@ -49,7 +49,7 @@ fault_of (failure.Ended agent why) = ended agent.now why
 fault_of failure.Output = no_output
 fault_of failure.Memory = out_of_memory
 
--- why module files can't be had
+-- why module files can't be had, for private clauses
 abbrev pub modules_fault : Refusal → Fault
 modules_fault files.no_memory = out_of_memory
 modules_fault why = bad_modules why

@@ -227,14 +227,14 @@ IsEarlyRefusal words files why =
     (why ≡ out_of_memory)
     ⊎ IsFirstToFail loading_steps (IsDoneFor words files) (FailsFor words files) why
 
--- why no agent is reached by the names that were loaded: memory ran out, or a later step up to
--- the agent failed
-abbrev pub IsLateRefusal : AskWords → Holdings → Mib → Fault → Type 0
-IsLateRefusal words files mib why =
-    (why ≡ out_of_memory)
-    ⊎ (AreDone (IsDoneFor words files) loading_steps
-    × IsFirstToFail (reaching_steps words.request) (IsDoneBy words files mib)
-    (FailsBy words files mib) why)
+-- why no agent is reached by the names that were loaded, after all steps up to the modules: memory
+-- ran out, or a later step up to the agent failed
+pub record IsLateRefusal (words : AskWords) (files : Holdings) (mib : Mib) (why : Fault) : Type 0
+  where
+    pub loaded : AreDone (IsDoneFor words files) loading_steps
+    pub fails : (why ≡ out_of_memory)
+        ⊎ IsFirstToFail (reaching_steps words.request) (IsDoneBy words files mib)
+        (FailsBy words files mib) why
 
 -- why the agent that was reached by these names isn't asked: the first of the last steps that
 -- fails
