@@ -85,6 +85,6 @@ module _ {N V D : Type 0} (net : Network N V D) (wire : LinkFacts V) where
     undone (snmpd words) = record {
       fault = Some out_of_memory;
       warned = err;
-      outcome = serve.not_loaded out_of_memory (inl refl) refl refl refl;
+      outcome = serve.not_loaded out_of_memory (inl refl) refl refl;
       reported = (refl, inr told);
     }

@@ -5,13 +5,16 @@ use Rattle.snmp_agent.specs.declared.server.Served.{Served}
 use Rattle.snmp_io.specs.Files.{Holdings}
 use Rattle.snmp_io.specs.Output.{Stream, extended}
 use Rattle.snmp_net.specs.Address.{IsHostAndPort}
+use Rattle.snmp_net.specs.declared.links.Links.{Ghosts as Network}
+use Rattle.smi_show.specs.name.Naming.{Naming}
 use Rattle.snmp_agent.specs.table.Table.{MibView}
 use Rattle.snmp_words.specs.Words.{ServeWords}
-use Rattle.snmp_tools.specs.agent.Outcome.{AtDoor, IsServedAndCounted, counts_line, listening_line}
+use Rattle.snmp_tools.specs.agent.Outcome.{IsServedAndCounted, IsServedBy, counts_line, listening_line}
 use Rattle.snmp_tools.specs.agent.Service.{IsServeRefusal, ServiceFails, community_step, modules_step, place_step}
 use Rattle.snmp_tools.specs.Asking.{MibsFail}
 use Rattle.snmp_tools.specs.Lines.{IsTextPrinted}
 use Rattle.snmp_tools.specs.Message.{Fault, bad_agent, long_community, out_of_memory}
+use Rattle.snmp_tools.specs.Seen.{Seen}
 
 pub community_fails : (words : ServeWords) (files : Holdings) → 255 < length words.community → ServiceFails words files long_community
 community_fails words files long = record {
@@ -46,19 +49,22 @@ modules_fail words files host port why short place (inr fails) = inr (record {
   fails = fails;
 })
 
--- what was served at a door, by an agent of the words' community, and the line of its counts
-pub counted : {Door : Type 0} (Binds : (host : List ℕ) → (port : ℕ) → Door → Type 0) (Serves : Door → Agent → ℕ → Served → Type 0) (host : List ℕ)
-    (port : ℕ) (door : Door) (words : ServeWords) (view : MibView) (before middle after : Stream) (community : List ℕ) (served : Served)
-    (fault : Option Fault) → Binds host port door → community ≡ words.community
-    → Serves door (record { view = view; community = community; max_size = words.max_size }) words.turns served
+-- what was served, by an agent of the words' community, and the line of its counts
+pub counted : (Serves : Agent → ℕ → Served → Type 0) (words : ServeWords) (view : MibView) (before middle after : Stream) (community : List ℕ)
+    (served : Served) (fault : Option Fault) → community ≡ words.community
+    → Serves (record { view = view; community = community; max_size = words.max_size }) words.turns served
     → served.replies + served.dropped + served.idle + served.faults ≡ words.turns
     → middle ≡ extended before (listening_line words.listen) → IsTextPrinted middle (counts_line served) after fault
-    → IsServedAndCounted (AtDoor Binds Serves host port) words view (extended before (listening_line words.listen)) after fault
-counted {Door} Binds Serves host port door words view before middle after community served fault bound same serves adds_up is printed =
-    let serves_words = subst (λ (t : List ℕ). Serves door (record { view = view; community = t; max_size = words.max_size }) words.turns served) same serves
-    in (
-      served,
-      (door, bound, serves_words),
-      adds_up,
-      subst (λ (s : Stream). IsTextPrinted s (counts_line served) after fault) is printed,
-    )
+    → IsServedAndCounted Serves words view (extended before (listening_line words.listen)) after fault
+counted Serves words view before middle after community served fault same serves adds_up is printed = (
+  served,
+  subst (λ (t : List ℕ). Serves (record { view = view; community = t; max_size = words.max_size }) words.turns served) same serves,
+  adds_up,
+  subst (λ (s : Stream). IsTextPrinted s (counts_line served) after fault) is printed,
+)
+
+-- the same by nodes that are the same
+pub by_names : {N V D : Type 0} (net : Network N V D) (words : ServeWords) (host : List ℕ) (port : ℕ) (a b : Naming) (before after : Seen N)
+    (fault : Option Fault) → a ≡ b → IsServedBy net words host port a before after fault → IsServedBy net words host port b before after fault
+by_names net words host port a b before after fault same by =
+    subst (λ (n : Naming). IsServedBy net words host port n before after fault) same by

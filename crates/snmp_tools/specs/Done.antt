@@ -3,7 +3,6 @@ use Rattle.std.specs.Prelude.{◌≡◌, ℕ, true, false}
 use Rattle.snmp_walk.specs.declared.link.Link.{Ghosts as LinkFacts}
 use Rattle.snmp_net.specs.declared.links.Links.{Ghosts as Network}
 use Rattle.snmp_words.specs.Words.{Stated, snmpbulkwalk, snmpd, snmpget, snmptranslate, snmpwalk}
-use Rattle.snmp_tools.specs.agent.Outcome.{AtDoor, risen}
 use Rattle.snmp_tools.specs.Headline.{EndsAtStatus0, WritesAllAtStatus0, WritesFront}
 use Rattle.snmp_tools.specs.Outcome.{IsRun}
 use Rattle.snmp_tools.specs.Question.{AskWords, of_get, of_walk}
@@ -35,6 +34,4 @@ IsJobDone {N} {V} {D} net wire (snmpwalk words) before after status =
 IsJobDone {N} {V} {D} net wire (snmpbulkwalk words) before after status =
     IsAskDone net wire (of_walk true words) before after status
 IsJobDone {N} {V} {D} net wire (snmpd words) before after status =
-    IsServeRun (AtDoor (net.binds before.links) net.serves)
-    (risen (net.fault_count before.links) (net.fault_count after.links)) words before.files
-    before.out after.out before.err after.err status
+    IsServeRun net words before after status

@@ -1,21 +1,17 @@
--- What snmpd prints, and what it reports.
-use Rattle.std.specs.Prelude.{ℕ, List, Option}
-use Rattle.snmp_agent.specs.Reply.{Agent}
-use Rattle.snmp_agent.specs.declared.server.Served.{Served}
+-- What snmpd does, and what it reports.
+use Rattle.std.specs.Prelude.{ℕ, Option}
 use Rattle.snmp_io.specs.Output.{Stream}
-use Rattle.snmp_tools.specs.agent.Outcome.{Faults, IsServeOutcome}
-use Rattle.snmp_io.specs.Files.{Holdings}
+use Rattle.snmp_net.specs.declared.links.Links.{Ghosts as Network}
 use Rattle.snmp_words.specs.Words.{ServeWords}
+use Rattle.snmp_tools.specs.agent.Outcome.{IsServeOutcome}
 use Rattle.snmp_tools.specs.Message.{Fault}
 use Rattle.snmp_tools.specs.Outcome.{IsReported}
+use Rattle.snmp_tools.specs.Seen.{Seen}
 
 -- the outcome of the words of snmpd, which is reported after the modules' warnings
-pub record IsServeRun (Serves : (host : List ℕ) → (port : ℕ) → Agent → ℕ → Served → Type 0)
-    (faults : Faults) (words : ServeWords) (files : Holdings)
-    (out_before out_after err_before err_after : Stream) (status : ℕ) : Type 0
-  where
-    pub fault : Option Fault
-    pub warned : Stream
-    pub outcome : IsServeOutcome Serves faults words files out_before out_after err_before warned
-        fault
-    pub reported : IsReported fault warned err_after status
+pub record IsServeRun {N V D : Type 0} (net : Network N V D) (words : ServeWords)
+    (before after : Seen N) (status : ℕ) : Type 0 where
+  pub fault : Option Fault
+  pub warned : Stream
+  pub outcome : IsServeOutcome net words before (record after { err = warned }) fault
+  pub reported : IsReported fault warned after.err status

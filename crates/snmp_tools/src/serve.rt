@@ -1,6 +1,6 @@
 //! The job of snmpd, and what of it is reported.
-ghost use Rattle.snmp_tools.specs.agent.Outcome.{AtDoor, risen};
 ghost use Rattle.snmp_words.specs.Words.{serve_words};
+ghost use Rattle.snmp_tools.specs.Seen.{seen};
 ghost use Rattle.snmp_tools.specs.Serving.{IsServeRun};
 
 use crate::agent::serve_table;
@@ -20,10 +20,9 @@ pub(crate) fn do_serve<F: ModuleFiles, L: Links, O: Output, E: Output>(
     out: &mut O,
     err: &mut E,
 ) -> u8
-    ensures { IsServeRun (AtDoor (L.binds links.old) L.serves)
-        (risen (L.fault_count links.old) (L.fault_count links.new))
-        (serve_words job.now) (F.text_at files.now) (O.stream out.old) (O.stream out.new)
-        (E.stream err.old) (E.stream err.new) result }
+    ensures { IsServeRun L.Links (serve_words job.now)
+        (seen (F.text_at files.now) links.old (O.stream out.old) (E.stream err.old))
+        (seen (F.text_at files.now) links.new (O.stream out.new) (E.stream err.new)) result }
 {
     let done = serve_table(alloc, job, files, links, out, err);
     report(alloc, done, err)

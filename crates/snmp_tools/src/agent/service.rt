@@ -1,11 +1,13 @@
 //! Modules and a table are read, and the table is served at a UDP port.
 ghost use Rattle.std.specs.Prelude.{◌≡◌, ◌≤◌, IfErr, IfOk, OnOk, length};
 ghost use Rattle.snmp_io.specs.Files.{Holdings};
+ghost use Rattle.snmp_io.specs.Output.{Stream};
 ghost use Rattle.snmp_net.specs.Address.{IsHostAndPort};
 ghost use Rattle.snmp_words.specs.Words.{serve_words};
 ghost use Rattle.snmp_tools.specs.Message.{fault_of, outcome_of};
-ghost use Rattle.snmp_tools.specs.agent.Outcome.{AtDoor, IsServeOutcome, IsServedBy, IsServing};
-ghost use Rattle.snmp_tools.specs.agent.Outcome.{counts_line, listening_line, risen};
+ghost use Rattle.snmp_tools.specs.Seen.{seen};
+ghost use Rattle.snmp_tools.specs.agent.Outcome.{IsServeOutcome, IsServedBy, IsServing};
+ghost use Rattle.snmp_tools.specs.agent.Outcome.{counts_line, listening_line};
 ghost use Rattle.snmp_tools.specs.agent.Service.{ServiceFails};
 
 use crate::failure::Failure;
@@ -24,7 +26,7 @@ use std::alloc::{AllocError, Global};
 /// where requests are received, serves the turns, and prints how many requests were replied to and
 /// how many dropped.
 ///
-/// The words, then the module files and then the table file are judged before anything is received.
+/// The words, then the module files and then the table file are judged before a socket is opened.
 /// Warnings of the modules go to `err`; an `err` that fails changes nothing else.
 pub(crate) fn serve_table<'a, F: ModuleFiles, L: Links, O: Output, E: Output>(
     alloc: Global,
@@ -34,10 +36,10 @@ pub(crate) fn serve_table<'a, F: ModuleFiles, L: Links, O: Output, E: Output>(
     out: &mut O,
     err: &mut E,
 ) -> Result<(), Failure<'a>>
-    ensures { IsServeOutcome (AtDoor (L.binds links.old) L.serves)
-        (risen (L.fault_count links.old) (L.fault_count links.new))
-        (serve_words job.now) (F.text_at files.now) (O.stream out.old) (O.stream out.new)
-        (E.stream err.old) (E.stream err.new) (outcome_of result) }
+    ensures { IsServeOutcome L.Links (serve_words job.now)
+        (seen (F.text_at files.now) links.old (O.stream out.old) (E.stream err.old))
+        (seen (F.text_at files.now) links.new (O.stream out.new) (E.stream err.new))
+        (outcome_of result) }
 {
     let place = place_of(job)?;
     let tree = files.load(alloc, &job.mibs, err)?;
@@ -61,7 +63,8 @@ fn place_of<'a>(job: &ServeJob<'a>) -> Result<UdpAddress<'a>, Failure<'a>>
     }
 }
 
-// Serves the table of the words' file at a place, by the names of a tree.
+// Serves the table of the words' file at a place, by the names of a tree. The file is read before a
+// socket is opened there.
 fn serve_by<'a, T: NameTree, F: Files, L: Links, O: Output>(
     alloc: Global,
     job: &ServeJob<'a>,
@@ -72,43 +75,40 @@ fn serve_by<'a, T: NameTree, F: Files, L: Links, O: Output>(
     out: &mut O,
 ) -> Result<(), Failure<'a>>
     requires { length job.now.community.now ≤ 255 }
-    ensures { IsServedBy
-        (AtDoor (L.binds links.old) L.serves place.entry.host.now place.entry.port)
-        (risen (L.fault_count links.old) (L.fault_count links.new))
-        (serve_words job.now) (F.text_at files.now) (T.naming tree.now)
-        (O.stream out.old) (O.stream out.new) (outcome_of result) }
+    ensures { (err : Stream) → IsServedBy L.Links (serve_words job.now)
+        place.entry.host.now place.entry.port (T.naming tree.now)
+        (seen (F.text_at files.now) links.old (O.stream out.old) err)
+        (seen (F.text_at files.now) links.new (O.stream out.new) err) (outcome_of result) }
 {
     let table = table_at(alloc, tree, files, job.table)?;
-    serve_at(alloc, job, place, &table, links, out)
+    let mut door = match links.bind(place.host, place.port) {
+        Ok(door) => door,
+        Err(_) => return Err(Failure::Ended(job.listen, WalkEnd::Link)),
+    };
+    serve_at(alloc, job, &mut door, &table, links, out)
 }
 
-// Serves a table at a place.
+// Serves a table at a door.
 fn serve_at<'a, L: Links, O: Output>(
     alloc: Global,
     job: &ServeJob<'a>,
-    place: UdpAddress<'a>,
+    door: &mut L::Door,
     table: &Table,
     links: &mut L,
     out: &mut O,
 ) -> Result<(), Failure<'a>>
     requires { length job.now.community.now ≤ 255 }
-    ensures { IsServing
-        (AtDoor (L.binds links.old) L.serves place.entry.host.now place.entry.port)
-        (risen (L.fault_count links.old) (L.fault_count links.new))
-        (serve_words job.now) table.now (O.stream out.old) (O.stream out.new)
-        (outcome_of result) }
+    ensures served { IsServing (L.serves door.old) (serve_words job.now) table.now
+        (O.stream out.old) (O.stream out.new) (outcome_of result) }
+    ensures count { L.fault_count links.new ≡ L.fault_count links.old }
 {
     let config = Config {
         community: job.community.as_bytes(),
         max_size: job.max_size as usize,
     };
-    let mut door = match links.bind(place.host, place.port) {
-        Ok(door) => door,
-        Err(_) => return Err(Failure::Ended(job.listen, WalkEnd::Link)),
-    };
     let listening = listening_line(alloc, job.listen)?;
     print_text(&listening, out)?;
-    let served = links.serve(&mut door, table, &config, job.turns);
+    let served = links.serve(door, table, &config, job.turns);
     let counts = counts_line(alloc, &served)?;
     print_text(&counts, out)
 }

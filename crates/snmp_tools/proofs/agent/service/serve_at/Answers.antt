@@ -7,27 +7,24 @@ use Rattle.snmp_tools.proofs.Texts.{printed, stopped}
 use Rattle.snmp_tools.proofs.Wholes.{outcome_err}
 use Rattle.snmp_tools.proofs.agent.service.serve_at.Goals as goal
 
-pub returns-in_err-listening : goal.returns-in_err-listening
-returns-in_err-listening g c = inr (inl (inl (refl, outcome_err _ _ c.from_residual.ensures.1)))
+pub returns-in_err-listening-clause-served : goal.returns-in_err-listening-clause-served
+returns-in_err-listening-clause-served g c = inl (inl (refl, outcome_err _ _ c.from_residual.ensures.1))
 
-pub returns-in_err-print_text : goal.returns-in_err-print_text
-returns-in_err-print_text g c =
-    inr (inl (stopped _ _ _ _ _ _ _ (c.deref.ensures.value ∙ c.in_ok-listening.ensures) (ap outcome_of c.in_err-print_text.was)
-    (outcome_err _ _ c.from_residual-in_err-print_text.ensures.1) c.print_text.ensures))
+pub returns-in_err-print_text-clause-served : goal.returns-in_err-print_text-clause-served
+returns-in_err-print_text-clause-served g c =
+    inl (stopped _ _ _ _ _ _ _ (c.deref.ensures.value ∙ c.in_ok-listening.ensures) (ap outcome_of c.in_err-print_text.was)
+    (outcome_err _ _ c.from_residual-in_err-print_text.ensures.1) c.print_text.ensures)
 
-pub returns-in_err-counts : goal.returns-in_err-counts
-returns-in_err-counts g c =
+pub returns-in_err-counts-clause-served : goal.returns-in_err-counts-clause-served
+returns-in_err-counts-clause-served g c =
     let told = printed _ _ _ _ _ (c.deref.ensures.value ∙ c.in_ok-listening.ensures) (ap outcome_of c.in_ok-print_text.was) c.print_text.ensures in
-    inr (inr (counted (g.L.Links.binds c.args.links.now) g.L.Links.serves c.args.place.host.now c.args.place.port c.in-Ok.door
-    (serve_words c.args.job.now) c.args.table.now _ _ _ _ _ _ c.in-Ok.ensures.bound c.as_bytes.ensures.value c.serve-served.ensures.served
-    c.serve-served.ensures.adds_up told
-    (inr (inl (refl, outcome_err _ _ c.from_residual-in_err-counts.ensures.1)))))
+    inr (counted (g.L.Links.serves c.args.door.now) (serve_words c.args.job.now) c.args.table.now _ _ _ _ _ _ c.as_bytes.ensures.value
+    c.serve-served.ensures.served c.serve-served.ensures.adds_up told (inr (inl (refl, outcome_err _ _ c.from_residual-in_err-counts.ensures.1))))
 
-pub returns : goal.returns
-returns g c =
+pub returns-clause-served : goal.returns-clause-served
+returns-clause-served g c =
     let told = printed _ _ _ _ _ (c.deref.ensures.value ∙ c.in_ok-listening.ensures) (ap outcome_of c.in_ok-print_text.was) c.print_text.ensures in
-    inr (inr (counted (g.L.Links.binds c.args.links.now) g.L.Links.serves c.args.place.host.now c.args.place.port c.in-Ok.door
-    (serve_words c.args.job.now) c.args.table.now _ _ _ _ _ _ c.in-Ok.ensures.bound c.as_bytes.ensures.value c.serve-served.ensures.served
-    c.serve-served.ensures.adds_up told
+    inr (counted (g.L.Links.serves c.args.door.now) (serve_words c.args.job.now) c.args.table.now _ _ _ _ _ _ c.as_bytes.ensures.value
+    c.serve-served.ensures.served c.serve-served.ensures.adds_up told
     (subst (λ (t : List ℕ). IsTextPrinted (g.O.Output.stream c.print_text.new.out) t (g.O.Output.stream c.print_text-2.new.out)
-    (outcome_of c.print_text-2.result)) (c.deref-2.ensures.value ∙ c.in_ok-counts.ensures) c.print_text-2.ensures)))
+    (outcome_of c.print_text-2.result)) (c.deref-2.ensures.value ∙ c.in_ok-counts.ensures) c.print_text-2.ensures))
