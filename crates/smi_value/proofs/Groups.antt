@@ -1,12 +1,16 @@
 -- The pieces and groups that octets are still to be cut into, and those that they were cut into.
-use Rattle.std.proofs.Common.{◌≡◌, ◌≢◌, ℕ, zero, suc, ◌+◌, ◌-◌, ◌<◌, ◌≤◌, Bool, true, false, List, [], ◌∷◌, ◌++◌, length, take, drop, replicate, refl, sym}
-use Rattle.std.proofs.Common.{◌∙◌, ap, subst, arith, rules, tests, inl, inr, ◌⊎◌, append-nil, Option, None, option_to_list, if◌then◌else◌, length-drop}
+use Rattle.std.proofs.Common.{◌≡◌, ◌≢◌, ℕ, zero, suc, ◌+◌, ◌-◌, ◌<◌, ◌≤◌, Bool, true, false, List}
+use Rattle.std.proofs.Common.{[], ◌∷◌, ◌++◌, length, take, drop, replicate, refl, sym}
+use Rattle.std.proofs.Common.{◌∙◌, ap, subst, arith, rules, tests, inl, inr, ◌⊎◌, append-nil}
+use Rattle.std.proofs.Common.{Option, None, option_to_list, if◌then◌else◌, length-drop}
 use Rattle.std.specs.Bool.{◌==◌, nat_lt}
 use Rattle.std.proofs.lemmas.List.{length-replicate}
 use Rattle.snmp_io.specs.draft.Draft.{Written, Grows, Adds}
 use Rattle.smi_value.specs.declared.hint.spec.Spec.{Spec}
-use Rattle.smi_value.specs.hint.Spec.{IsFirstSpec, AreSpecs, IsOctetHint, LastTakesOctets, takes_octets, most_octets}
-use Rattle.smi_value.specs.hint.Pieces.{ArePieces, IsCut, IsGroup, AreGroups, ShowsOctets, piece_text, pieces_text, mark_before, last_mark, body_of}
+use Rattle.smi_value.specs.hint.Spec.{IsFirstSpec, AreSpecs, IsOctetHint, LastTakesOctets}
+use Rattle.smi_value.specs.hint.Spec.{takes_octets, most_octets}
+use Rattle.smi_value.specs.hint.Pieces.{ArePieces, IsCut, IsGroup, AreGroups, ShowsOctets}
+use Rattle.smi_value.specs.hint.Pieces.{piece_text, pieces_text, mark_before, last_mark, body_of}
 use Rattle.smi_value.specs.hint.Pieces.{specs_after}
 use Rattle.smi_value.proofs.Growing.{grows_none, grows_both, adds_from}
 use Rattle.smi_value.proofs.Specs.{same_spec, same_rest, Begins, begins}

@@ -3,7 +3,6 @@
 //! Built on identifiers and values. The agent replies to requests from it.
 
 mod change;
-mod compare;
 mod draft;
 mod error;
 mod format;

@@ -1,5 +1,6 @@
 -- A strict form that is no longer than the written one is the written one.
-use Rattle.std.proofs.Common.{◌≡◌, ℕ, ℤ, pos, ◌+◌, ◌-ℤ◌, ◌*◌, ◌%◌, ◌^◌, ◌<◌, ◌≤◌, suc, List, [], ◌∷◌, ◌++◌, length, drop, get_or, refl, sym, ap, subst, ◌∙◌}
+use Rattle.std.proofs.Common.{◌≡◌, ℕ, ℤ, pos, ◌+◌, ◌-ℤ◌, ◌*◌, ◌%◌, ◌^◌, ◌<◌, ◌≤◌, suc, List, []}
+use Rattle.std.proofs.Common.{◌∷◌, ◌++◌, length, drop, get_or, refl, sym, ap, subst, ◌∙◌}
 use Rattle.std.proofs.Common.{◌⊎◌, inl, inr, ⊎_elim, arith, length-append}
 use Rattle.std.proofs.Math.Nat.{mul-le-mul_right}
 use Rattle.std.proofs.lemmas.Int.{ints}
@@ -7,20 +8,28 @@ use Rattle.std.proofs.lemmas.Bool.{cases_lt, cases_order}
 use Rattle.std.proofs.lemmas.List.{map-append}
 use Rattle.std.proofs.lemmas.List.Elements.{recursion_from_All}
 use Rattle.std.specs.List.{AllByRecursion, flat_map}
-use Rattle.snmp_wire.specs.ber.Canon.{canon_content, canon_element, canon_header, canon_length, canon_number, canon_subidentifier, canon_value, length_size}
+use Rattle.snmp_wire.specs.ber.Canon.{canon_content, canon_element, canon_header, canon_length}
+use Rattle.snmp_wire.specs.ber.Canon.{canon_number, canon_subidentifier, canon_value, length_size}
 use Rattle.snmp_wire.specs.ber.Canon.{octets}
 use Rattle.snmp_wire.specs.ber.Identifier.{AreSubidentifiers, IsSubidentifier, subidentifiers}
 use Rattle.snmp_wire.specs.ber.Length.{IsElement, IsLength, IsLongLength}
-use Rattle.snmp_wire.specs.ber.Number.{AreOctets, IsInteger, IsUnsigned, number_of, strict, twos_complement, unsigned}
+use Rattle.snmp_wire.specs.ber.Number.{AreOctets, IsInteger, IsUnsigned, number_of, strict}
+use Rattle.snmp_wire.specs.ber.Number.{twos_complement, unsigned}
 use Rattle.snmp_wire.specs.ber.Range.{IsInRange}
 use Rattle.snmp_wire.specs.ber.Spelling.{IsContent, SpellsValue, value_tag}
-use Rattle.snmp_wire.specs.ber.Value.{Datum, integer_value, octet_string, null_value, object_id, ip_address, counter32, gauge32, time_ticks, opaque_octets}
+use Rattle.snmp_wire.specs.ber.Value.{Datum, integer_value, octet_string, null_value, object_id}
+use Rattle.snmp_wire.specs.ber.Value.{ip_address, counter32, gauge32, time_ticks, opaque_octets}
 use Rattle.snmp_wire.specs.ber.Value.{counter64, no_such_object, no_such_instance, end_of_mib_view}
 use Rattle.snmp_wire.proofs.CanonLemmas.{canon_length_long, length-octets}
 use Rattle.snmp_wire.specs.ber.ElementLaws.{canon_length_short, length-canon_element}
-use Rattle.snmp_wire.proofs.ShortestValues.{Octets, back_octets, below_power, bits_below, content_octets, content_shortest, front_octets, length_rises}
-use Rattle.snmp_wire.proofs.ShortestValues.{length-low_bits, length_shortest, subidentifier_shortest, subidentifiers_shortest}
-use Rattle.snmp_wire.proofs.StrictIdentifiers.{content_is_subidentifiers, is_subidentifier, low_bits, small_subidentifiers, subidentifier_octets}
+use Rattle.snmp_wire.proofs.ShortestValues.{Octets, back_octets, below_power, bits_below}
+use Rattle.snmp_wire.proofs.ShortestValues.{content_octets, content_shortest, front_octets}
+use Rattle.snmp_wire.proofs.ShortestValues.{length_rises}
+use Rattle.snmp_wire.proofs.ShortestValues.{length-low_bits, length_shortest}
+use Rattle.snmp_wire.proofs.ShortestValues.{subidentifier_shortest, subidentifiers_shortest}
+use Rattle.snmp_wire.proofs.StrictIdentifiers.{content_is_subidentifiers, is_subidentifier}
+use Rattle.snmp_wire.proofs.StrictIdentifiers.{low_bits, small_subidentifiers}
+use Rattle.snmp_wire.proofs.StrictIdentifiers.{subidentifier_octets}
 use Rattle.snmp_wire.proofs.StrictNumbers.{are_octets, length_fits, negative, octets_fit, positive}
 use Rattle.snmp_wire.proofs.StrictValues.{IsGood, good}
 

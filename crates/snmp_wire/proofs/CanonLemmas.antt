@@ -1,7 +1,10 @@
 -- Numbers as octets, and how long an encoding is.
-use Rattle.std.proofs.Common.{true, false, ◌≡◌, ℕ, ◌+◌, ◌-◌, ◌*◌, ◌/◌, ◌%◌, ◌^◌, ◌<◌, ◌≤◌, ℤ, pos, negsuc, lit<, suc, zero, List, ◌∷◌, length, set, refl}
-use Rattle.std.proofs.Common.{sym, ap, subst, ◌∙◌, sub-one, pow-add, ⊎_elim, nat_lt, if◌then◌else◌, arith}
-use Rattle.std.proofs.Math.Nat.{add-mul-div_left, add-mul-mod_self_left, div-div-eq-div-mul, div-one, mul_assoc, mul-suc, one-le-pow, pow-suc, pow-zero}
+use Rattle.std.proofs.Common.{true, false, ◌≡◌, ℕ, ◌+◌, ◌-◌, ◌*◌, ◌/◌, ◌%◌, ◌^◌, ◌<◌, ◌≤◌, ℤ, pos}
+use Rattle.std.proofs.Common.{negsuc, lit<, suc, zero, List, ◌∷◌, length, set, refl}
+use Rattle.std.proofs.Common.{sym, ap, subst, ◌∙◌, sub-one, pow-add, ⊎_elim, nat_lt, if◌then◌else◌}
+use Rattle.std.proofs.Common.{arith}
+use Rattle.std.proofs.Math.Nat.{add-mul-div_left, add-mul-mod_self_left, div-div-eq-div-mul}
+use Rattle.std.proofs.Math.Nat.{div-one, mul_assoc, mul-suc, one-le-pow, pow-suc, pow-zero}
 use lib.Signed.{lt_z}
 use mir.Val.{SFits}
 use mir.Syntax.{w32}
@@ -9,7 +12,8 @@ use Rattle.std.proofs.lemmas.Bool.{cases_lt}
 use Rattle.std.proofs.lemmas.Bool.Decides.{nat_tests}
 use Rattle.std.proofs.lemmas.Nat.{le_or_l, le_or_r}
 use Rattle.std.specs.Int.Bits.{bit_or}
-use Rattle.snmp_wire.specs.ber.Canon.{canon_length, canon_number, digit_count, length_size, magnitude_of, number_size, octets, septets}
+use Rattle.snmp_wire.specs.ber.Canon.{canon_length, canon_number, digit_count, length_size}
+use Rattle.snmp_wire.specs.ber.Canon.{magnitude_of, number_size, octets, septets}
 use Rattle.snmp_wire.specs.ber.ElementLaws.{canon_length_short, header_short}
 use Rattle.snmp_wire.specs.ber.Writing.{Writes}
 use Rattle.snmp_wire.proofs.WritingLemmas.{writes_none, writes_octet}

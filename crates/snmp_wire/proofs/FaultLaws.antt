@@ -1,6 +1,8 @@
 -- Each fault that reading gives is one of the octets.
-use Rattle.std.proofs.Common.{◌≡◌, ◌≢◌, ℕ, ℤ, zero, suc, ◌+◌, ◌-◌, ◌*◌, ◌%◌, ◌^◌, ◌<◌, ◌≤◌, Bool, true, false, cond, eqb, ltb, ◌&&◌, ◌⊎◌, None, List, [], ◌∷◌}
-use Rattle.std.proofs.Common.{◌++◌, length, take, drop, replicate, Result, Ok, Err, refl, sym, ap, subst, ◌∙◌, append_assoc, arith, inl, inr}
+use Rattle.std.proofs.Common.{◌≡◌, ◌≢◌, ℕ, ℤ, zero, suc, ◌+◌, ◌-◌, ◌*◌, ◌%◌, ◌^◌, ◌<◌, ◌≤◌, Bool}
+use Rattle.std.proofs.Common.{true, false, cond, eqb, ltb, ◌&&◌, ◌⊎◌, None, List, [], ◌∷◌}
+use Rattle.std.proofs.Common.{◌++◌, length, take, drop, replicate, Result, Ok, Err, refl, sym, ap}
+use Rattle.std.proofs.Common.{subst, ◌∙◌, append_assoc, arith, inl, inr}
 use Rattle.std.proofs.lemmas.Bool.{ltb-true, ltb-false, eqb-true, eqb-false, and_cases, and_parts}
 use Rattle.std.proofs.lemmas.List.{append-nil, length-append, length-replicate}
 use Rattle.snmp_wire.specs.declared.ber.error.BerError.{BerError}
@@ -9,24 +11,33 @@ use Rattle.snmp_wire.specs.declared.kind.Kind.{Kind}
 use Rattle.snmp_wire.specs.declared.kind.Kind.TheVariants as kind
 use Rattle.snmp_wire.specs.ber.Number.{unsigned, twos_complement, lenient}
 use Rattle.snmp_wire.specs.ber.Length.{IsLength}
-use Rattle.snmp_wire.specs.ber.Value.{Datum, integer_value, octet_string, null_value, object_id, ip_address, counter32, gauge32, time_ticks, opaque_octets}
+use Rattle.snmp_wire.specs.ber.Value.{Datum, integer_value, octet_string, null_value, object_id}
+use Rattle.snmp_wire.specs.ber.Value.{ip_address, counter32, gauge32, time_ticks, opaque_octets}
 use Rattle.snmp_wire.specs.ber.Value.{counter64, no_such_object, no_such_instance, end_of_mib_view}
 use Rattle.snmp_wire.specs.Message.{VarBind, Message}
 use Rattle.snmp_wire.specs.ber.Spelling.{value_tag, IsContent}
 use Rattle.snmp_wire.specs.Spelling.{kind_tag}
-use Rattle.snmp_wire.specs.ber.Reading.{fault_or, ◌>>=◌, long_length_at, length_at, content_at, inner_at, element_at, integer_of, integer_at, has_width}
+use Rattle.snmp_wire.specs.ber.Reading.{fault_or, ◌>>=◌, long_length_at, length_at, content_at}
+use Rattle.snmp_wire.specs.ber.Reading.{inner_at, element_at, integer_of, integer_at, has_width}
 use Rattle.snmp_wire.specs.ber.Reading.{unsigned_of}
-use Rattle.snmp_wire.specs.ber.Reading.{largest_subidentifier, subidentifier_from, subidentifier_at, number_at, numbers_of, first_number, second_number}
+use Rattle.snmp_wire.specs.ber.Reading.{largest_subidentifier, subidentifier_from}
+use Rattle.snmp_wire.specs.ber.Reading.{subidentifier_at, number_at, numbers_of, first_number}
+use Rattle.snmp_wire.specs.ber.Reading.{second_number}
 use Rattle.snmp_wire.specs.ber.Reading.{identifier_of, empty_of, typed_value}
-use Rattle.snmp_wire.specs.Reading.{Fields, fields_of, fields_at, binding_of, binding_at, bindings_within, bindings_of, kind_of, outermost_of, pdu_of}
+use Rattle.snmp_wire.specs.Reading.{Fields, fields_of, fields_at, binding_of, binding_at}
+use Rattle.snmp_wire.specs.Reading.{bindings_within, bindings_of, kind_of, outermost_of, pdu_of}
 use Rattle.snmp_wire.specs.Reading.{message_of}
-use Rattle.snmp_wire.specs.Fault.{BeginsWith, EndsEarly, HasForbiddenLength, Place, at_message, at_version, at_community, at_pdu, at_id, at_a, at_b, at_list}
-use Rattle.snmp_wire.specs.Fault.{at_binding, at_name, at_value, first_inside, next_behind, AllowsTag, Expects, starts, inside, behind, IsFault}
+use Rattle.snmp_wire.specs.Fault.{BeginsWith, EndsEarly, HasForbiddenLength, Place, at_message}
+use Rattle.snmp_wire.specs.Fault.{at_version, at_community, at_pdu, at_id, at_a, at_b, at_list}
+use Rattle.snmp_wire.specs.Fault.{at_binding, at_name, at_value, first_inside, next_behind}
+use Rattle.snmp_wire.specs.Fault.{AllowsTag, Expects, starts, inside, behind, IsFault}
 use Rattle.snmp_wire.specs.ber.ReadingLaws.{done, failed, ok_is, bind_ok, bind_err, chosen, passed}
-use Rattle.snmp_wire.specs.ber.LengthLaws.{TakesElement, length_takes, content_takes, inner_takes, element_takes}
+use Rattle.snmp_wire.specs.ber.LengthLaws.{TakesElement, length_takes, content_takes, inner_takes}
+use Rattle.snmp_wire.specs.ber.LengthLaws.{element_takes}
 use Rattle.snmp_wire.specs.ber.Laws.{ContentReading}
 use Rattle.snmp_wire.proofs.BindingLemmas.{with_rest, binding_shrinks}
-use Rattle.snmp_wire.proofs.MessageLaws.{integer_at_takes, binding_takes, kind_takes, kind_again, outermost_takes}
+use Rattle.snmp_wire.proofs.MessageLaws.{integer_at_takes, binding_takes, kind_takes, kind_again}
+use Rattle.snmp_wire.proofs.MessageLaws.{outermost_takes}
 
 err_is : {A : Type 0} (d e : BerError) → failed {A = A} d ≡ failed e → d ≡ e
 err_is d e h = cc

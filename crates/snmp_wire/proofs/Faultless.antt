@@ -1,5 +1,6 @@
 -- Octets that spell a message have no fault.
-use Rattle.std.proofs.Common.{◌≡◌, ◌≢◌, ℕ, ℤ, ◌+◌, Some, None, List, [], ◌∷◌, ◌++◌, length, Ok, refl, sym, ap, subst, ◌∙◌, append_assoc, arith, inl, inr}
+use Rattle.std.proofs.Common.{◌≡◌, ◌≢◌, ℕ, ℤ, ◌+◌, Some, None, List, [], ◌∷◌, ◌++◌, length, Ok}
+use Rattle.std.proofs.Common.{refl, sym, ap, subst, ◌∙◌, append_assoc, arith, inl, inr}
 use Rattle.std.proofs.lemmas.List.{append-nil}
 use Rattle.snmp_wire.specs.declared.ber.error.BerError.{BerError}
 use Rattle.snmp_wire.specs.declared.ber.error.BerError.TheVariants as error
@@ -10,8 +11,10 @@ use Rattle.snmp_wire.specs.Message.{VarBind, Message}
 use Rattle.snmp_wire.specs.ber.Spelling.{value_tag, IsContent, SpellsValue}
 use Rattle.snmp_wire.specs.Spelling.{SpellsBindings, kind_tag, SpellsPdu, Spells}
 use Rattle.snmp_wire.specs.ber.Reading.{element_at}
-use Rattle.snmp_wire.specs.Fault.{BeginsWith, EndsEarly, HasForbiddenLength, Place, at_message, at_version, at_community, at_pdu, at_id, at_a, at_b, at_list}
-use Rattle.snmp_wire.specs.Fault.{at_binding, at_name, at_value, first_inside, next_behind, AllowsTag, Calls, Expects, starts, inside, behind, IsFault}
+use Rattle.snmp_wire.specs.Fault.{BeginsWith, EndsEarly, HasForbiddenLength, Place, at_message}
+use Rattle.snmp_wire.specs.Fault.{at_version, at_community, at_pdu, at_id, at_a, at_b, at_list}
+use Rattle.snmp_wire.specs.Fault.{at_binding, at_name, at_value, first_inside, next_behind}
+use Rattle.snmp_wire.specs.Fault.{AllowsTag, Calls, Expects, starts, inside, behind, IsFault}
 use Rattle.snmp_wire.specs.ber.ReadingLaws.{ok_is}
 use Rattle.snmp_wire.specs.ber.LengthLaws.{element_again}
 

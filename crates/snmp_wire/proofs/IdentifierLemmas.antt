@@ -1,14 +1,17 @@
 -- Reading an identifier's content, a subidentifier or a number at a time.
-use Rattle.std.proofs.Common.{◌≡◌, ℕ, zero, suc, ◌+◌, ◌-◌, ◌*◌, ◌%◌, ◌<◌, ◌≤◌, cond, ltb, List, [], ◌∷◌, ◌++◌, length, get_or, take, drop, All, Result, Ok, Err}
+use Rattle.std.proofs.Common.{◌≡◌, ℕ, zero, suc, ◌+◌, ◌-◌, ◌*◌, ◌%◌, ◌<◌, ◌≤◌, cond, ltb, List, []}
+use Rattle.std.proofs.Common.{◌∷◌, ◌++◌, length, get_or, take, drop, All, Result, Ok, Err}
 use Rattle.std.proofs.Common.{IsOk, refl, sym, ap, ◌∙◌, append_assoc, arith}
 use Rattle.std.proofs.lemmas.Bool.{lt-ltb, le-ltb}
 use Rattle.std.proofs.lemmas.Grind.{common_steps}
 use Rattle.std.proofs.lemmas.List.Elements.{All-head, All-tail, All-cons, All-nil, All-append}
 use Rattle.std.specs.Result.{result_unwrap_or}
-use Rattle.std.proofs.lemmas.List.{at_drop_more, at_drop_all, length_push, append-nil, nil_from_length}
+use Rattle.std.proofs.lemmas.List.{at_drop_more, at_drop_all, length_push, append-nil}
+use Rattle.std.proofs.lemmas.List.{nil_from_length}
 use Rattle.snmp_wire.specs.declared.ber.error.BerError.{BerError}
 use Rattle.snmp_wire.specs.declared.ber.error.BerError.TheVariants as error
-use Rattle.snmp_wire.specs.ber.Reading.{◌>>=◌, checked, largest_subidentifier, subidentifier_from, subidentifier_at, number_at, numbers_of, numbers_in}
+use Rattle.snmp_wire.specs.ber.Reading.{◌>>=◌, checked, largest_subidentifier, subidentifier_from}
+use Rattle.snmp_wire.specs.ber.Reading.{subidentifier_at, number_at, numbers_of, numbers_in}
 use Rattle.snmp_wire.specs.ber.Reading.{IsPlainFront}
 use Rattle.snmp_wire.proofs.KnownLemmas.{first_ok}
 use Rattle.snmp_wire.specs.ber.ReadingLaws.{done, failed, ok_is, checked_err, is_ok_at}

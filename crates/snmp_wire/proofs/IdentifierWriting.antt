@@ -1,14 +1,18 @@
 -- Identifiers: subidentifiers, how long they are, and how they are written.
-use Rattle.std.proofs.Common.{◌≡◌, ℕ, ◌+◌, ◌-◌, ◌*◌, ◌/◌, ◌%◌, ◌^◌, ◌<◌, ◌≤◌, suc, List, [], ◌∷◌, ◌++◌, length, take, drop, set, get_or, refl, sym, ap, subst}
+use Rattle.std.proofs.Common.{◌≡◌, ℕ, ◌+◌, ◌-◌, ◌*◌, ◌/◌, ◌%◌, ◌^◌, ◌<◌, ◌≤◌, suc, List, [], ◌∷◌}
+use Rattle.std.proofs.Common.{◌++◌, length, take, drop, set, get_or, refl, sym, ap, subst}
 use Rattle.std.proofs.Common.{◌∙◌, arith, length-append, take_all}
 use Rattle.std.proofs.Math.Nat.{div-div-eq-div-mul, div-one, pow-suc}
 use Rattle.std.specs.List.{flat_map}
 use Rattle.snmp_oid.specs.Identifier.{IsWire}
-use Rattle.snmp_wire.specs.ber.Canon.{digit_count, canon_content, canon_subidentifier, septets, subidentifier_size}
+use Rattle.snmp_wire.specs.ber.Canon.{digit_count, canon_content, canon_subidentifier, septets}
+use Rattle.snmp_wire.specs.ber.Canon.{subidentifier_size}
 use Rattle.snmp_wire.specs.ber.Value.{object_id}
 use Rattle.snmp_wire.specs.ber.Writing.{Writes}
-use Rattle.snmp_wire.proofs.CanonLemmas.{count_left, count_taken, digit_most, digit_some, length-septets, septets-suc, below_128}
-use Rattle.snmp_wire.specs.ber.WritingLaws.{flat_map-drop, flat_map_rest, length-flat_map_drop, writes_same, writes_then}
+use Rattle.snmp_wire.proofs.CanonLemmas.{count_left, count_taken, digit_most, digit_some}
+use Rattle.snmp_wire.proofs.CanonLemmas.{length-septets, septets-suc, below_128}
+use Rattle.snmp_wire.specs.ber.WritingLaws.{flat_map-drop, flat_map_rest, length-flat_map_drop}
+use Rattle.snmp_wire.specs.ber.WritingLaws.{writes_same, writes_then}
 use Rattle.std.specs.Int.Bits.{bit_or}
 use Rattle.snmp_wire.proofs.WritingLemmas.{writes_none, writes_octet}
 

@@ -1,5 +1,6 @@
 -- Bindings that are kept as their encodings: what is written is read again.
-use Rattle.std.proofs.Common.{◌≡◌, ℕ, List, [], ◌∷◌, ◌++◌, Result, Ok, IsOk, refl, sym, ap, subst, ◌∙◌}
+use Rattle.std.proofs.Common.{◌≡◌, ℕ, List, [], ◌∷◌, ◌++◌, Result, Ok, IsOk, refl, sym, ap, subst}
+use Rattle.std.proofs.Common.{◌∙◌}
 use Rattle.std.proofs.Common.{◌<◌, ◌≤◌, length, get_or, take, drop, cond, eqb, ltb, Err, arith}
 use Rattle.std.proofs.lemmas.Bool.{lt-ltb, ltb-false}
 use Rattle.std.proofs.lemmas.List.{append-nil, take-append-drop}
@@ -7,8 +8,10 @@ use Rattle.std.specs.Result.{result_unwrap_or}
 use Rattle.snmp_wire.specs.declared.ber.error.BerError.{BerError}
 use Rattle.snmp_wire.specs.Canon.{IsEncodable, IsEncodableValue, canon_binding}
 use Rattle.snmp_wire.specs.Encoded.{IsKept, binding_in}
-use Rattle.snmp_wire.specs.Message.{VarBind, Datum, integer_value, octet_string, null_value, object_id, ip_address, counter32, gauge32, time_ticks}
-use Rattle.snmp_wire.specs.Message.{opaque_octets, counter64, no_such_object, no_such_instance, end_of_mib_view}
+use Rattle.snmp_wire.specs.Message.{VarBind, Datum, integer_value, octet_string, null_value}
+use Rattle.snmp_wire.specs.Message.{object_id, ip_address, counter32, gauge32, time_ticks}
+use Rattle.snmp_wire.specs.Message.{opaque_octets, counter64, no_such_object, no_such_instance}
+use Rattle.snmp_wire.specs.Message.{end_of_mib_view}
 use Rattle.snmp_wire.specs.Range.{IsBindingInRange, IsInRange}
 use Rattle.snmp_wire.specs.Reading.{bindings_in, bindings_of}
 use Rattle.snmp_wire.specs.Spelling.{SpellsBinding}

@@ -1,6 +1,7 @@
 -- What is spelt by the standard is spelt in a form that is read.
 use Rattle.std.specs.Prelude.{ℕ, List}
-use Rattle.snmp_wire.specs.ber.Value.{Datum, integer_value, octet_string, null_value, object_id, ip_address, counter32, gauge32, time_ticks, opaque_octets}
+use Rattle.snmp_wire.specs.ber.Value.{Datum, integer_value, octet_string, null_value, object_id}
+use Rattle.snmp_wire.specs.ber.Value.{ip_address, counter32, gauge32, time_ticks, opaque_octets}
 use Rattle.snmp_wire.specs.ber.Value.{counter64, no_such_object, no_such_instance, end_of_mib_view}
 use Rattle.snmp_wire.specs.ber.Number.{IsUnsigned, lenient, strict}
 use Rattle.snmp_wire.specs.ber.Spelling.{IsContent, SpellsValue}

@@ -1,5 +1,6 @@
 -- What is read as a message is spelt so, and what is spelt so is read.
-use Rattle.std.proofs.Common.{◌≡◌, ℕ, ℤ, zero, suc, ◌<◌, cond, eqb, List, [], ◌∷◌, ◌++◌, length, Result, Ok, Err, refl, sym, ap, subst, ◌∙◌, append_assoc}
+use Rattle.std.proofs.Common.{◌≡◌, ℕ, ℤ, zero, suc, ◌<◌, cond, eqb, List, [], ◌∷◌, ◌++◌, length}
+use Rattle.std.proofs.Common.{Result, Ok, Err, refl, sym, ap, subst, ◌∙◌, append_assoc}
 use Rattle.std.proofs.Common.{arith, inl, inr}
 use Rattle.std.proofs.lemmas.Bool.{eqb-true}
 use Rattle.std.proofs.lemmas.List.{nil_from_length, append-nil, length-append, append_cancel_right}
@@ -13,11 +14,14 @@ use Rattle.snmp_wire.specs.ber.Value.{integer_value}
 use Rattle.snmp_wire.specs.Message.{VarBind, Message}
 use Rattle.snmp_wire.specs.ber.Spelling.{value_tag, SpellsValue}
 use Rattle.snmp_wire.specs.Spelling.{SpellsBinding, SpellsBindings, kind_tag, SpellsPdu, Spells}
-use Rattle.snmp_wire.specs.ber.Reading.{fault_or, ◌>>=◌, content_at, inner_at, element_at, integer_of, integer_at, identifier_of, typed_value}
-use Rattle.snmp_wire.specs.Reading.{Fields, fields_of, fields_at, binding_of, binding_at, bindings_within, bindings_of, kind_of, outermost_of, pdu_of}
+use Rattle.snmp_wire.specs.ber.Reading.{fault_or, ◌>>=◌, content_at, inner_at, element_at}
+use Rattle.snmp_wire.specs.ber.Reading.{integer_of, integer_at, identifier_of, typed_value}
+use Rattle.snmp_wire.specs.Reading.{Fields, fields_of, fields_at, binding_of, binding_at}
+use Rattle.snmp_wire.specs.Reading.{bindings_within, bindings_of, kind_of, outermost_of, pdu_of}
 use Rattle.snmp_wire.specs.Reading.{message_of}
 use Rattle.snmp_wire.specs.ber.ReadingLaws.{done, ok_is, bind_ok, chosen, passed}
-use Rattle.snmp_wire.specs.ber.LengthLaws.{content_takes, content_again, inner_takes, inner_again, element_takes, element_again}
+use Rattle.snmp_wire.specs.ber.LengthLaws.{content_takes, content_again, inner_takes, inner_again}
+use Rattle.snmp_wire.specs.ber.LengthLaws.{element_takes, element_again}
 use Rattle.snmp_wire.specs.ber.Laws.{ContentReading}
 use Rattle.snmp_wire.proofs.BindingLemmas.{with_rest, bindings_step}
 

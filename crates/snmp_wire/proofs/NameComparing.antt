@@ -1,8 +1,10 @@
 -- What the first octets that differ tell of two names.
-use Rattle.std.proofs.Common.{◌≡◌, ℕ, ◌<◌, ◌≤◌, ◌⊎◌, ◌↔◌, inl, inr, List, [], ◌∷◌, ◌++◌, length, get_or, take, drop, refl, sym, ap, subst, ◌∙◌}
+use Rattle.std.proofs.Common.{◌≡◌, ℕ, ◌<◌, ◌≤◌, ◌⊎◌, ◌↔◌, inl, inr, List, [], ◌∷◌, ◌++◌, length}
+use Rattle.std.proofs.Common.{get_or, take, drop, refl, sym, ap, subst, ◌∙◌}
 use Rattle.std.proofs.Common.{⊎_elim, arith, length-append, length-drop}
 use Rattle.std.proofs.lemmas.Bool.{cases_lt}
-use Rattle.std.proofs.lemmas.List.{ext_get_or, get_or-take, length-take-le, take-append-drop, get_or_append_left}
+use Rattle.std.proofs.lemmas.List.{ext_get_or, get_or-take, length-take-le, take-append-drop}
+use Rattle.std.proofs.lemmas.List.{get_or_append_left}
 use Rattle.std.specs.Ordering.{MatchOrdering, nat_cmp}
 use Rattle.std.specs.Cmp.{ranked}
 use Rattle.std.specs.Cmp.Lexicographic.{slice_cmp}
@@ -13,7 +15,8 @@ use Rattle.snmp_wire.specs.Name.{EndsAt, IsAlike}
 use Rattle.snmp_wire.specs.ber.Identifier.{IsObjectId}
 use Rattle.snmp_wire.specs.ber.Number.{AreOctets}
 use Rattle.snmp_wire.proofs.NameContents.{alike_back, ends_here, one_end}
-use Rattle.snmp_wire.proofs.NameOrder.{EndsFirst, OrderLaw, below_from_contents, below_from_names, names_differ, one_name}
+use Rattle.snmp_wire.proofs.NameOrder.{EndsFirst, OrderLaw, below_from_contents, below_from_names}
+use Rattle.snmp_wire.proofs.NameOrder.{names_differ, one_name}
 
 -- two contents, the names that they are, and how many octets at their front are the same
 pub record Beside (content other o p : List ℕ) (at : ℕ) : Type 0 where

@@ -1,11 +1,13 @@
 -- The octets of subidentifiers: where each ends, and which of two is the greater.
-use Rattle.std.proofs.Common.{◌≡◌, ℕ, ◌+◌, ◌-◌, ◌*◌, ◌%◌, ◌^◌, ◌<◌, ◌≤◌, ◌⊎◌, inl, inr, List, [], ◌∷◌, ◌++◌, length, get_or, refl, sym, ap, subst, ◌∙◌}
+use Rattle.std.proofs.Common.{◌≡◌, ℕ, ◌+◌, ◌-◌, ◌*◌, ◌%◌, ◌^◌, ◌<◌, ◌≤◌, ◌⊎◌, inl, inr, List, []}
+use Rattle.std.proofs.Common.{◌∷◌, ◌++◌, length, get_or, refl, sym, ap, subst, ◌∙◌}
 use Rattle.std.proofs.Common.{suc, ⊎_elim, arith, lit<, length-append}
 use Rattle.std.proofs.Math.Nat.{mul-le-mul_right, pow-le-pow_right}
 use Rattle.std.proofs.Math.Seq.{get_or-append_seam}
 use Rattle.std.proofs.lemmas.Bool.{cases_lt}
 use Rattle.std.proofs.lemmas.Nat.{mul-add-lt}
-use Rattle.std.proofs.lemmas.List.{append-nil, ext_get_or, get_or-append-add, get_or_append_left, map-append}
+use Rattle.std.proofs.lemmas.List.{append-nil, ext_get_or, get_or-append-add, get_or_append_left}
+use Rattle.std.proofs.lemmas.List.{map-append}
 use Rattle.std.proofs.lemmas.List.Elements.{All-get_or, recursion_from_All}
 use Rattle.std.specs.List.{AllByRecursion}
 use Rattle.snmp_oid.specs.Identifier.{PartsBelow}
@@ -14,7 +16,8 @@ use Rattle.snmp_wire.specs.ber.Identifier.{IsSubidentifier}
 use Rattle.snmp_wire.specs.ber.Number.{AreOctets, number_of}
 use Rattle.snmp_wire.proofs.BerOneShortest.{same_subidentifier}
 use Rattle.snmp_wire.proofs.IdentifierLaws.{subidentifier_some}
-use Rattle.snmp_wire.proofs.ShortestValues.{below_power, bits_below, length-low_bits, low_bits, subidentifier_bound}
+use Rattle.snmp_wire.proofs.ShortestValues.{below_power, bits_below, length-low_bits, low_bits}
+use Rattle.snmp_wire.proofs.ShortestValues.{subidentifier_bound}
 
 -- ---- where a subidentifier ends
 

@@ -1,8 +1,11 @@
 -- Contents stand for identifiers, and for their order.
-use Rattle.std.proofs.Common.{◌≡◌, ℕ, ◌+◌, ◌-◌, ◌*◌, ◌<◌, ◌≤◌, ◌⊎◌, ◌↔◌, inl, inr, List, [], ◌∷◌, ◌++◌, length, get_or, take, drop, refl, sym, ap, subst, ◌∙◌}
+use Rattle.std.proofs.Common.{◌≡◌, ℕ, ◌+◌, ◌-◌, ◌*◌, ◌<◌, ◌≤◌, ◌⊎◌, ◌↔◌, inl, inr, List, [], ◌∷◌}
+use Rattle.std.proofs.Common.{◌++◌, length, get_or, take, drop, refl, sym, ap, subst, ◌∙◌}
 use Rattle.std.proofs.Common.{⊎_elim, Result, IsOk, arith, length-append, append_assoc}
 use Rattle.std.proofs.lemmas.Bool.{cases_lt}
-use Rattle.std.proofs.lemmas.List.{append_cancel_left, ext_get_or, get_or-append-add, get_or_append_left, get_or-take, length-take-le, take-append-drop}
+use Rattle.std.proofs.lemmas.List.{append_cancel_left, ext_get_or, get_or-append-add}
+use Rattle.std.proofs.lemmas.List.{get_or_append_left, get_or-take, length-take-le}
+use Rattle.std.proofs.lemmas.List.{take-append-drop}
 use Rattle.std.proofs.lemmas.List.{drop_more}
 use Rattle.std.specs.Ordering.{nat_cmp}
 use Rattle.std.specs.Result.{result_unwrap_or}
@@ -10,8 +13,10 @@ use Rattle.std.specs.Cmp.Lexicographic.{slice_cmp}
 use Rattle.std.specs.declared.cmp.Ordering.{Ordering}
 use Rattle.std.specs.declared.cmp.Ordering.TheVariants.{Less, Equal, Greater}
 use Rattle.snmp_oid.specs.Identifier.{IsBelow, IsWire, PartsBelow, Precedes}
-use Rattle.snmp_wire.specs.Name.{ComesFirst, EncodedNames, EndsAt, IsAlike, IsContentOctets, identifier_in}
-use Rattle.snmp_wire.specs.ber.Identifier.{AreSubidentifiers, IsObjectId, IsSubidentifier, subidentifiers}
+use Rattle.snmp_wire.specs.Name.{ComesFirst, EncodedNames, EndsAt, IsAlike, IsContentOctets}
+use Rattle.snmp_wire.specs.Name.{identifier_in}
+use Rattle.snmp_wire.specs.ber.Identifier.{AreSubidentifiers, IsObjectId, IsSubidentifier}
+use Rattle.snmp_wire.specs.ber.Identifier.{subidentifiers}
 use Rattle.snmp_wire.specs.ber.Number.{AreOctets}
 use Rattle.snmp_wire.specs.declared.ber.error.BerError.{BerError}
 use Rattle.snmp_wire.specs.ber.Canon.{canon_content}
@@ -19,7 +24,8 @@ use Rattle.snmp_wire.specs.ber.Reading.{identifier_of}
 use Rattle.snmp_wire.specs.ber.ReadingLaws.{is_ok_at, ok_is, ok_value}
 use Rattle.snmp_wire.specs.ber.Value.{object_id}
 use Rattle.snmp_wire.proofs.IdentifierLaws.{identifier_again, identifier_takes, subidentifier_some}
-use Rattle.snmp_wire.proofs.NameContents.{alike_back, ends_behind, ends_later, first_is_smaller, one_text, same_number, same_texts, subidentifier_ends}
+use Rattle.snmp_wire.proofs.NameContents.{alike_back, ends_behind, ends_later, first_is_smaller}
+use Rattle.snmp_wire.proofs.NameContents.{one_text, same_number, same_texts, subidentifier_ends}
 use Rattle.snmp_wire.proofs.Octets.{back_octets, front_octets}
 use Rattle.snmp_wire.proofs.StrictIdentifiers.{is_object_id, length-name, name_octets}
 

@@ -1,5 +1,6 @@
 -- Numbers are checked first, and whether there are more than 126 of them is looked at last.
-use Rattle.std.proofs.Common.{◌≡◌, ℕ, zero, suc, ◌+◌, ◌-◌, ◌<◌, ◌≤◌, cond, ltb, List, [], ◌∷◌, ◌++◌, length, All, Result, Ok, Err, refl, sym, ap, ◌∙◌, ⊎_elim}
+use Rattle.std.proofs.Common.{◌≡◌, ℕ, zero, suc, ◌+◌, ◌-◌, ◌<◌, ◌≤◌, cond, ltb, List, [], ◌∷◌}
+use Rattle.std.proofs.Common.{◌++◌, length, All, Result, Ok, Err, refl, sym, ap, ◌∙◌, ⊎_elim}
 use Rattle.std.proofs.Common.{arith}
 use Rattle.std.proofs.lemmas.Bool.{cases_lt, le-ltb, lt-ltb}
 use Rattle.std.proofs.lemmas.List.{length-append}
@@ -8,7 +9,8 @@ use Rattle.snmp_wire.specs.declared.ber.error.BerError.{BerError}
 use Rattle.snmp_wire.specs.declared.ber.error.BerError.TheVariants as error
 use Rattle.snmp_wire.specs.ber.Reading.{IsPlainFront, checked, number_at, numbers_of}
 use Rattle.snmp_wire.specs.ber.ReadingLaws.{checked_err, failed}
-use Rattle.snmp_wire.proofs.IdentifierLemmas.{check_fails, check_goes_on, numbers_end, numbers_full, plain_number}
+use Rattle.snmp_wire.proofs.IdentifierLemmas.{check_fails, check_goes_on, numbers_end}
+use Rattle.snmp_wire.proofs.IdentifierLemmas.{numbers_full, plain_number}
 use Rattle.snmp_wire.proofs.FaultLaws.{number_fails}
 
 -- no room for a number

@@ -1,5 +1,6 @@
 -- How many octets a number takes, by its highest bit, and four octets at once.
-use Rattle.std.proofs.Common.{true, ◌≡◌, ℕ, ℤ, negsuc, ◌+◌, ◌-◌, ◌*◌, ◌/◌, ◌%◌, ◌^◌, ◌<◌, ◌≤◌, pos, lit<, suc, zero, List, [], ◌∷◌, refl, sym, ap, ◌∙◌, pow-add}
+use Rattle.std.proofs.Common.{true, ◌≡◌, ℕ, ℤ, negsuc, ◌+◌, ◌-◌, ◌*◌, ◌/◌, ◌%◌, ◌^◌, ◌<◌, ◌≤◌, pos}
+use Rattle.std.proofs.Common.{lit<, suc, zero, List, [], ◌∷◌, refl, sym, ap, ◌∙◌, pow-add}
 use Rattle.std.proofs.Common.{⊎_elim, arith}
 use Rattle.std.proofs.Math.Nat.{div-one, pow-le-pow_right, pow-suc}
 use Rattle.std.proofs.lemmas.Bool.{cases_lt}
@@ -10,7 +11,8 @@ use lib.Signed.{le_z, lt_z}
 use mir.Syntax.{w32}
 use Rattle.snmp_wire.specs.ber.Canon.{canon_number, digit_count, number_size, octets}
 use Rattle.snmp_wire.specs.ber.Writing.{Writes}
-use Rattle.snmp_wire.proofs.CanonLemmas.{digit_some, digits_fit, number_small, octets_from_zero, octets-suc}
+use Rattle.snmp_wire.proofs.CanonLemmas.{digit_some, digits_fit, number_small, octets_from_zero}
+use Rattle.snmp_wire.proofs.CanonLemmas.{octets-suc}
 use Rattle.snmp_wire.specs.ber.WritingLaws.{writes_same, writes_then}
 
 -- the least number that wants one octet more, as a power of 2

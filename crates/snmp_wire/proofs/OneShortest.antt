@@ -1,12 +1,14 @@
 -- A message has one shortest encoding: the one that is written.
-use Rattle.std.proofs.Common.{◌≡◌, ℕ, ◌^◌, ◌<◌, ◌≤◌, List, [], ◌∷◌, ◌++◌, length, take, refl, sym, ap, subst, ◌∙◌, arith, length-append}
+use Rattle.std.proofs.Common.{◌≡◌, ℕ, ◌^◌, ◌<◌, ◌≤◌, List, [], ◌∷◌, ◌++◌, length, take, refl, sym}
+use Rattle.std.proofs.Common.{ap, subst, ◌∙◌, arith, length-append}
 use Rattle.std.proofs.Math.Seq.{take-append_seam}
 use Rattle.std.specs.List.{AllByRecursion}
 use Rattle.snmp_wire.specs.ber.Canon.{canon_value}
 use Rattle.snmp_wire.specs.ber.Number.{AreOctets, strict}
 use Rattle.snmp_wire.specs.ber.Spelling.{sequence_tag}
 use Rattle.snmp_wire.specs.ber.Value.{integer_value, octet_string, object_id}
-use Rattle.snmp_wire.specs.Canon.{canon, canon_binding, canon_bindings, canon_fields, canon_opening}
+use Rattle.snmp_wire.specs.Canon.{canon, canon_binding, canon_bindings, canon_fields}
+use Rattle.snmp_wire.specs.Canon.{canon_opening}
 use Rattle.snmp_wire.specs.Laws.{OneShortestEncoding}
 use Rattle.snmp_wire.specs.Message.{VarBind, Message}
 use Rattle.snmp_wire.specs.Range.{IsBindingInRange, IsMessageInRange}
@@ -14,8 +16,10 @@ use Rattle.snmp_wire.specs.Shortest.{IsShortestEncoding}
 use Rattle.snmp_wire.specs.Spelling.{SpellsBinding, SpellsBindings, SpellsPdu, Strict, kind_tag}
 use Rattle.snmp_wire.specs.ber.Laws.{ShortestEncodings}
 use Rattle.snmp_wire.proofs.Octets.{back_octets, front_octets}
-use Rattle.snmp_wire.proofs.Shortest.{binding_shortest, bindings_shortest, no_shorter, pdu_shortest}
-use Rattle.snmp_wire.proofs.StrictMessages.{length-content, length-fields, list_of, pdu_of, strict_canon}
+use Rattle.snmp_wire.proofs.Shortest.{binding_shortest, bindings_shortest, no_shorter}
+use Rattle.snmp_wire.proofs.Shortest.{pdu_shortest}
+use Rattle.snmp_wire.proofs.StrictMessages.{length-content, length-fields, list_of, pdu_of}
+use Rattle.snmp_wire.proofs.StrictMessages.{strict_canon}
 
 -- two parts that are as short as the written ones together are the written ones
 two_same : (a b c d : List ℕ) → length c ≤ length a → length d ≤ length b → length (a ++ b) ≤ length (c ++ d) → (length a ≤ length c → a ≡ c)

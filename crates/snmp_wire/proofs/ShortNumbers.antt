@@ -1,16 +1,19 @@
 -- Eight numbers of one octet each.
-use Rattle.std.proofs.Common.{true, nat_lt, ◌≡◌, ℕ, ◌+◌, ◌-◌, ◌%◌, ◌<◌, ◌≤◌, suc, zero, List, [], ◌∷◌, ◌++◌, length, take, drop, get_or, refl, sym, ap, ◌∙◌}
+use Rattle.std.proofs.Common.{true, nat_lt, ◌≡◌, ℕ, ◌+◌, ◌-◌, ◌%◌, ◌<◌, ◌≤◌, suc, zero, List, []}
+use Rattle.std.proofs.Common.{◌∷◌, ◌++◌, length, take, drop, get_or, refl, sym, ap, ◌∙◌}
 use Rattle.std.proofs.Common.{arith, append_assoc, length-append}
 use Rattle.std.specs.List.{flat_map}
 use Rattle.std.specs.Int.Bits.{bit_or}
 use Rattle.std.proofs.lemmas.Bool.Decides.{nat_tests}
 use Rattle.std.proofs.lemmas.List.{drop_all}
 use Rattle.std.proofs.lemmas.Nat.{le_or_l, le_or_r}
-use Rattle.snmp_wire.specs.ber.Canon.{AreShort, canon_subidentifier, eight_from, subidentifier_size}
+use Rattle.snmp_wire.specs.ber.Canon.{AreShort, canon_subidentifier, eight_from}
+use Rattle.snmp_wire.specs.ber.Canon.{subidentifier_size}
 use Rattle.snmp_wire.specs.ber.Writing.{Writes}
 use Rattle.snmp_wire.proofs.CanonLemmas.{below_128}
 use Rattle.snmp_wire.proofs.IdentifierWriting.{length-numbers_from, subidentifier_short}
-use Rattle.snmp_wire.specs.ber.WritingLaws.{flat_map-drop, flat_map_rest, piece_fits, writes_piece, writes_same, writes_then}
+use Rattle.snmp_wire.specs.ber.WritingLaws.{flat_map-drop, flat_map_rest, piece_fits, writes_piece}
+use Rattle.snmp_wire.specs.ber.WritingLaws.{writes_same, writes_then}
 use Rattle.snmp_wire.proofs.WritingLemmas.{writes_no_piece}
 
 pub is_below : (n limit : ℕ) → nat_lt n limit ≡ true → n < limit

@@ -1,6 +1,7 @@
 -- No spelling by the standard is shorter than the one that is written.
 use Rattle.std.proofs.Common.{ℕ, ◌≤◌, List, [], ◌∷◌, ◌++◌, length, ap, subst, arith, length-append}
-use Rattle.snmp_wire.specs.Canon.{canon, canon_binding, canon_bindings, canon_fields, canon_opening}
+use Rattle.snmp_wire.specs.Canon.{canon, canon_binding, canon_bindings, canon_fields}
+use Rattle.snmp_wire.specs.Canon.{canon_opening}
 use Rattle.snmp_wire.specs.ber.Canon.{canon_element, canon_value}
 use Rattle.snmp_wire.specs.ber.Value.{integer_value, octet_string, object_id}
 use Rattle.snmp_wire.specs.Message.{VarBind, Message}

@@ -1,19 +1,24 @@
 -- No spelling by the standard is shorter than the one that is written.
-use Rattle.std.proofs.Common.{◌≡◌, ℕ, ℤ, pos, negsuc, ◌+◌, ◌-◌, ◌*◌, ◌%◌, ◌^◌, ◌<◌, ◌≤◌, suc, zero, List, [], ◌∷◌, ◌++◌, length, get_or, map, refl, sym, ap}
+use Rattle.std.proofs.Common.{◌≡◌, ℕ, ℤ, pos, negsuc, ◌+◌, ◌-◌, ◌*◌, ◌%◌, ◌^◌, ◌<◌, ◌≤◌, suc, zero}
+use Rattle.std.proofs.Common.{List, [], ◌∷◌, ◌++◌, length, get_or, map, refl, sym, ap}
 use Rattle.std.proofs.Common.{subst, ◌∙◌, ⊎_elim, arith, length-append}
 use Rattle.std.proofs.Math.Nat.{mul-le-mul_right, pow-suc, pow-zero}
 use Rattle.std.proofs.lemmas.Nat.{mul-add-lt}
 use Rattle.std.proofs.lemmas.Bool.{cases_lt}
 use Rattle.std.specs.List.{AllByRecursion, flat_map}
-use Rattle.snmp_wire.specs.ber.Canon.{canon_content, canon_element, canon_length, canon_number, canon_subidentifier, canon_value, digit_count, length_size}
+use Rattle.snmp_wire.specs.ber.Canon.{canon_content, canon_element, canon_length, canon_number}
+use Rattle.snmp_wire.specs.ber.Canon.{canon_subidentifier, canon_value, digit_count, length_size}
 use Rattle.snmp_wire.specs.ber.Canon.{number_size, octets, subidentifier_size}
 use Rattle.snmp_wire.specs.ber.Identifier.{AreSubidentifiers, IsSubidentifier, subidentifiers}
 use Rattle.snmp_wire.specs.ber.Length.{IsElement, IsLength, IsLongLength, IsShortLength}
-use Rattle.snmp_wire.specs.ber.Value.{Datum, integer_value, octet_string, null_value, object_id, ip_address, counter32, gauge32, time_ticks, opaque_octets}
+use Rattle.snmp_wire.specs.ber.Value.{Datum, integer_value, octet_string, null_value, object_id}
+use Rattle.snmp_wire.specs.ber.Value.{ip_address, counter32, gauge32, time_ticks, opaque_octets}
 use Rattle.snmp_wire.specs.ber.Value.{counter64, no_such_object, no_such_instance, end_of_mib_view}
 use Rattle.snmp_wire.specs.ber.Number.{number_of, strict, twos_complement, unsigned}
 use Rattle.snmp_wire.specs.ber.Spelling.{IsContent, SpellsValue, value_tag}
-use Rattle.snmp_wire.proofs.CanonLemmas.{canon_length_long, count_left, count_taken, digit_some, digits_small, length-canon_number, length-octets, number_small}
+use Rattle.snmp_wire.proofs.CanonLemmas.{canon_length_long, count_left, count_taken, digit_some}
+use Rattle.snmp_wire.proofs.CanonLemmas.{digits_small, length-canon_number, length-octets}
+use Rattle.snmp_wire.proofs.CanonLemmas.{number_small}
 use Rattle.snmp_wire.specs.ber.ElementLaws.{canon_length_short, length-canon_element}
 use Rattle.snmp_wire.proofs.IdentifierWriting.{length-canon_subidentifier}
 use Rattle.snmp_wire.proofs.StrictNumbers.{minus, negative, positive}

@@ -1,19 +1,25 @@
 -- Identifiers as they are written are forms by the standard.
-use Rattle.std.proofs.Common.{◌≡◌, ℕ, ◌+◌, ◌-◌, ◌*◌, ◌/◌, ◌%◌, ◌^◌, ◌<◌, ◌≤◌, suc, zero, List, [], ◌∷◌, ◌++◌, length, get_or, map, refl, sym, ap, subst, ◌∙◌}
+use Rattle.std.proofs.Common.{◌≡◌, ℕ, ◌+◌, ◌-◌, ◌*◌, ◌/◌, ◌%◌, ◌^◌, ◌<◌, ◌≤◌, suc, zero, List, []}
+use Rattle.std.proofs.Common.{◌∷◌, ◌++◌, length, get_or, map, refl, sym, ap, subst, ◌∙◌}
 use Rattle.std.proofs.Common.{⊎_elim, lit<, arith, length-append, All}
-use Rattle.std.proofs.Math.Nat.{div-lt_iff_lt-mul, le-div_iff_mul-le, mod-add-div', mod-eq_of_lt, mod-lt, mod-mod, mod-one, one-le-pow, pow-suc, pow-succ'}
+use Rattle.std.proofs.Math.Nat.{div-lt_iff_lt-mul, le-div_iff_mul-le, mod-add-div', mod-eq_of_lt}
+use Rattle.std.proofs.Math.Nat.{mod-lt, mod-mod, mod-one, one-le-pow, pow-suc, pow-succ'}
 use Rattle.std.proofs.Math.Arith.{mod-mul}
 use Rattle.std.proofs.lemmas.Bool.{cases_lt}
 use Rattle.std.proofs.lemmas.List.{map-append}
 use Rattle.std.proofs.lemmas.List.Elements.{All-append, All-cons, All-nil, recursion_from_All}
 use Rattle.std.specs.List.{AllByRecursion, flat_map}
 use Rattle.snmp_oid.specs.Identifier.{IsIdentifier, IsWire}
-use Rattle.snmp_wire.specs.ber.Canon.{canon_content, canon_subidentifier, digit_count, septets, subidentifier_size}
-use Rattle.snmp_wire.specs.ber.Identifier.{AreSubidentifiers, IsObjectId, IsSubidentifier, subidentifiers}
+use Rattle.snmp_wire.specs.ber.Canon.{canon_content, canon_subidentifier, digit_count, septets}
+use Rattle.snmp_wire.specs.ber.Canon.{subidentifier_size}
+use Rattle.snmp_wire.specs.ber.Identifier.{AreSubidentifiers, IsObjectId, IsSubidentifier}
+use Rattle.snmp_wire.specs.ber.Identifier.{subidentifiers}
 use Rattle.snmp_wire.specs.ber.Value.{object_id}
 use Rattle.snmp_wire.specs.ber.Number.{AreOctets, number_of}
-use Rattle.snmp_wire.proofs.CanonLemmas.{digit_some, digits_fit, digits_needed, length-septets, septets-suc}
-use Rattle.snmp_wire.proofs.IdentifierWriting.{length-canon_subidentifier, subidentifier_most, subidentifier_parts, subidentifier_short}
+use Rattle.snmp_wire.proofs.CanonLemmas.{digit_some, digits_fit, digits_needed, length-septets}
+use Rattle.snmp_wire.proofs.CanonLemmas.{septets-suc}
+use Rattle.snmp_wire.proofs.IdentifierWriting.{length-canon_subidentifier, subidentifier_most}
+use Rattle.snmp_wire.proofs.IdentifierWriting.{subidentifier_parts, subidentifier_short}
 use Rattle.snmp_wire.proofs.NumberLemmas.{number_of-push}
 
 abbrev pub low_bits : List ℕ → List ℕ

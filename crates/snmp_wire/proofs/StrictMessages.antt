@@ -1,10 +1,12 @@
 -- Messages as they are written are spelt by the standard.
-use Rattle.std.proofs.Common.{ℕ, ◌<◌, ◌≤◌, List, [], ◌∷◌, ◌++◌, length, refl, lit<, arith, length-append}
+use Rattle.std.proofs.Common.{ℕ, ◌<◌, ◌≤◌, List, [], ◌∷◌, ◌++◌, length, refl, lit<, arith}
+use Rattle.std.proofs.Common.{length-append}
 use Rattle.std.proofs.lemmas.List.Elements.{All-append, All-nil}
 use Rattle.std.specs.List.{AllByRecursion}
 use Rattle.snmp_wire.specs.declared.kind.Kind.{Kind}
 use Rattle.snmp_wire.specs.declared.kind.Kind.TheVariants as kind
-use Rattle.snmp_wire.specs.Canon.{canon, canon_binding, canon_bindings, canon_fields, canon_opening}
+use Rattle.snmp_wire.specs.Canon.{canon, canon_binding, canon_bindings, canon_fields}
+use Rattle.snmp_wire.specs.Canon.{canon_opening}
 use Rattle.snmp_wire.specs.ber.Canon.{canon_element, canon_value}
 use Rattle.snmp_wire.specs.ber.Value.{integer_value, octet_string, object_id}
 use Rattle.snmp_wire.specs.Message.{VarBind, Message}

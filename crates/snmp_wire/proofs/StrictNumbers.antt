@@ -1,7 +1,9 @@
 -- Numbers, lengths and subidentifiers as they are written are forms by the standard.
-use Rattle.std.proofs.Common.{◌≡◌, ℕ, ℤ, pos, negsuc, ◌+◌, ◌-◌, ◌-ℤ◌, ◌*◌, ◌/◌, ◌%◌, ◌^◌, ◌<◌, ◌≤◌, suc, zero, List, [], ◌∷◌, length, get_or, refl, sym, ap}
+use Rattle.std.proofs.Common.{◌≡◌, ℕ, ℤ, pos, negsuc, ◌+◌, ◌-◌, ◌-ℤ◌, ◌*◌, ◌/◌, ◌%◌, ◌^◌, ◌<◌, ◌≤◌}
+use Rattle.std.proofs.Common.{suc, zero, List, [], ◌∷◌, length, get_or, refl, sym, ap}
 use Rattle.std.proofs.Common.{subst, ◌∙◌, inl, inr, ⊎_elim, lit<, arith}
-use Rattle.std.proofs.Math.Nat.{div-eq_of_lt, div-lt_iff_lt-mul, le-div_iff_mul-le, mod-eq_of_lt, mod-lt, mod-one, one-le-pow, pow-le-pow_right, pow-suc}
+use Rattle.std.proofs.Math.Nat.{div-eq_of_lt, div-lt_iff_lt-mul, le-div_iff_mul-le, mod-eq_of_lt}
+use Rattle.std.proofs.Math.Nat.{mod-lt, mod-one, one-le-pow, pow-le-pow_right, pow-suc}
 use Rattle.std.proofs.Math.Nat.{pow-succ'}
 use Rattle.std.proofs.Math.Arith.{mod-mul}
 use Rattle.std.proofs.lemmas.Int.{ints}
@@ -10,10 +12,13 @@ use Rattle.std.proofs.lemmas.Bool.Decides.{nat_tests}
 use Rattle.std.proofs.lemmas.List.Elements.{All-cons, All-nil}
 use mir.Val.{SFits}
 use mir.Syntax.{w32}
-use Rattle.snmp_wire.specs.ber.Canon.{canon_length, canon_number, digit_count, length_size, number_size, octets}
+use Rattle.snmp_wire.specs.ber.Canon.{canon_length, canon_number, digit_count, length_size}
+use Rattle.snmp_wire.specs.ber.Canon.{number_size, octets}
 use Rattle.snmp_wire.specs.ber.Length.{IsLength}
-use Rattle.snmp_wire.specs.ber.Number.{AreOctets, IsInteger, IsUnsigned, strict, twos_complement, unsigned}
-use Rattle.snmp_wire.proofs.CanonLemmas.{canon_length_long, digit_most, digit_some, digits_fit, length-canon_number, length-octets}
+use Rattle.snmp_wire.specs.ber.Number.{AreOctets, IsInteger, IsUnsigned, strict, twos_complement}
+use Rattle.snmp_wire.specs.ber.Number.{unsigned}
+use Rattle.snmp_wire.proofs.CanonLemmas.{canon_length_long, digit_most, digit_some, digits_fit}
+use Rattle.snmp_wire.proofs.CanonLemmas.{length-canon_number, length-octets}
 use Rattle.snmp_wire.proofs.CanonLemmas.{number_small, octets_from_zero, octets-suc}
 use Rattle.snmp_wire.specs.ber.ElementLaws.{canon_length_short}
 

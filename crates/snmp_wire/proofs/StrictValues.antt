@@ -1,9 +1,12 @@
 -- Messages as they are written are spelt by the standard.
-use Rattle.std.proofs.Common.{ℕ, ◌+◌, ◌^◌, ◌<◌, ◌≤◌, List, [], ◌++◌, length, ℤ, pos, negsuc, refl, lit<, lit≤, arith}
+use Rattle.std.proofs.Common.{ℕ, ◌+◌, ◌^◌, ◌<◌, ◌≤◌, List, [], ◌++◌, length, ℤ, pos, negsuc, refl}
+use Rattle.std.proofs.Common.{lit<, lit≤, arith}
 use Rattle.std.proofs.lemmas.List.Elements.{All-append, All-cons, All-nil}
-use Rattle.snmp_wire.specs.ber.Canon.{canon_content, canon_element, canon_header, canon_length, canon_number, canon_value, number_size}
+use Rattle.snmp_wire.specs.ber.Canon.{canon_content, canon_element, canon_header, canon_length}
+use Rattle.snmp_wire.specs.ber.Canon.{canon_number, canon_value, number_size}
 use Rattle.snmp_wire.specs.ber.Length.{IsElement}
-use Rattle.snmp_wire.specs.ber.Value.{Datum, integer_value, octet_string, null_value, object_id, ip_address, counter32, gauge32, time_ticks, opaque_octets}
+use Rattle.snmp_wire.specs.ber.Value.{Datum, integer_value, octet_string, null_value, object_id}
+use Rattle.snmp_wire.specs.ber.Value.{ip_address, counter32, gauge32, time_ticks, opaque_octets}
 use Rattle.snmp_wire.specs.ber.Value.{counter64, no_such_object, no_such_instance, end_of_mib_view}
 use Rattle.snmp_wire.specs.ber.Number.{AreOctets, strict}
 use Rattle.snmp_wire.specs.ber.Range.{IsInRange}
@@ -11,7 +14,8 @@ use Rattle.snmp_wire.specs.ber.Spelling.{IsContent, SpellsValue, value_tag}
 use Rattle.snmp_wire.proofs.CanonLemmas.{digit_most, length-canon_number}
 use Rattle.snmp_wire.specs.ber.ElementLaws.{length-canon_element}
 use Rattle.snmp_wire.proofs.StrictIdentifiers.{is_object_id, length-name, name_octets}
-use Rattle.snmp_wire.proofs.StrictNumbers.{is_integer, is_length, is_unsigned_of, length-canon_length, length_octets, number_octets}
+use Rattle.snmp_wire.proofs.StrictNumbers.{is_integer, is_length, is_unsigned_of}
+use Rattle.snmp_wire.proofs.StrictNumbers.{length-canon_length, length_octets, number_octets}
 
 -- ---- elements
 

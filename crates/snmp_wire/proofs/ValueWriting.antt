@@ -1,6 +1,8 @@
 -- Values as they are written: an element each.
-use Rattle.std.proofs.Common.{ℕ, ℤ, ◌-◌, ◌<◌, ◌≤◌, List, [], length, sym, arith, append-nil, length-append}
-use Rattle.snmp_wire.specs.ber.Canon.{canon_element, canon_header, canon_number, magnitude_of, number_size}
+use Rattle.std.proofs.Common.{ℕ, ℤ, ◌-◌, ◌<◌, ◌≤◌, List, [], length, sym, arith, append-nil}
+use Rattle.std.proofs.Common.{length-append}
+use Rattle.snmp_wire.specs.ber.Canon.{canon_element, canon_header, canon_number, magnitude_of}
+use Rattle.snmp_wire.specs.ber.Canon.{number_size}
 use Rattle.snmp_wire.specs.ber.Writing.{Writes}
 use Rattle.snmp_wire.proofs.CanonLemmas.{digit_most, length-canon_number}
 use Rattle.snmp_wire.specs.ber.WritingLaws.{writes_same}

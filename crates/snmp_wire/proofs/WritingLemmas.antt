@@ -1,6 +1,8 @@
 -- What writers leave: nothing, an octet more, a text.
-use Rattle.std.proofs.Common.{◌≡◌, ℕ, ◌+◌, ◌-◌, ◌<◌, ◌≤◌, List, [], ◌∷◌, ◌++◌, length, take, drop, set, refl, sym, ap, ◌∙◌, arith, length-drop}
-use Rattle.std.proofs.lemmas.List.{append-nil, drop-set, drop_all, drop_at, length-take-le, take-set, take_all, take_at}
+use Rattle.std.proofs.Common.{◌≡◌, ℕ, ◌+◌, ◌-◌, ◌<◌, ◌≤◌, List, [], ◌∷◌, ◌++◌, length, take, drop}
+use Rattle.std.proofs.Common.{set, refl, sym, ap, ◌∙◌, arith, length-drop}
+use Rattle.std.proofs.lemmas.List.{append-nil, drop-set, drop_all, drop_at, length-take-le}
+use Rattle.std.proofs.lemmas.List.{take-set, take_all, take_at}
 use Rattle.std.specs.List.{flat_map}
 use Rattle.snmp_wire.specs.ber.Writing.{Writes}
 use Rattle.snmp_wire.specs.ber.WritingLaws.{kept, writes_same}

@@ -1,5 +1,6 @@
 //! Variable bindings, one and a list of them.
-ghost use Rattle.std.specs.Prelude.{◌≡◌, ℕ, List, [], ◌∷◌, true, false, length, IsOk, Ok, ◌+◌, ◌^◌};
+ghost use Rattle.std.specs.Prelude.{◌≡◌, ℕ, List, [], ◌∷◌, true, false, length, IsOk, Ok, ◌+◌};
+ghost use Rattle.std.specs.Prelude.{◌^◌};
 ghost use Rattle.std.specs.Prelude.{◌<◌, ◌≤◌, ◌↔◌, ◌++◌, drop, IfSome, IfNone, IsSome, ⊤};
 ghost use Rattle.snmp_wire.specs.Message.{var_bind};
 ghost use Rattle.snmp_wire.specs.ber.Value.{datum, null_value, object_id};

@@ -3,7 +3,8 @@
 ghost use Rattle.std.specs.Prelude.{ℕ, List};
 ghost use Rattle.snmp_wire.specs.declared.ber.error.BerError.{BerError};
 ghost use Rattle.snmp_wire.specs.Fault.{IsFault};
-ghost use Rattle.snmp_wire.specs.Laws.{EncodingIsShortest, EncodingIsStrict, HasPieces, OneMessage};
+ghost use Rattle.snmp_wire.specs.Laws.{EncodingIsShortest, EncodingIsStrict, HasPieces};
+ghost use Rattle.snmp_wire.specs.Laws.{OneMessage};
 ghost use Rattle.snmp_wire.specs.Laws.{OneShortestEncoding, StrictIsRead};
 ghost use Rattle.snmp_wire.specs.Message.{Message};
 ghost use Rattle.snmp_wire.specs.Sizes.{MessageSizes};

@@ -1,4 +1,5 @@
--- A name cut at dots and at `::` outside quotes, computed, for private clauses.
+-- A name cut at dots and at `::` outside quotes, computed, for private clauses and the law that the
+-- computed meaning is the stated one.
 use Rattle.std.specs.Prelude.{ℕ, Bool, true, false, ◌&&◌, ◌==◌, if◌then◌else◌, List, []}
 use Rattle.std.specs.Prelude.{◌∷◌, ◌++◌, drop, Option, Some, None, option_map}
 use Rattle.snmp_io.specs.Quotes.{open_after}

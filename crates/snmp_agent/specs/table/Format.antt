@@ -1,7 +1,7 @@
 -- The two formats of a table's text, which differ in how names are read and in where the name of a
 -- row ends.
 use Rattle.std.specs.Prelude.{◌≡◌, ◌≢◌, ◌≤◌, ℕ, List, ◌∷◌, ◌++◌, length, codes, All}
-use Rattle.std.specs.Prelude.{Option, Some, None, IfSome, option_map}
+use Rattle.std.specs.Prelude.{Option, Some, IfSome, option_map}
 use Rattle.snmp_io.specs.Quotes.{HasNoneOutside, IsClosed, IsFrontOf}
 use Rattle.snmp_oid.specs.Identifier.{IsIdentifier}
 use Rattle.snmp_oid.specs.Numeric.{IsNumericName}

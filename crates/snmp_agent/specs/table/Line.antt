@@ -1,4 +1,4 @@
--- What the steps of reading a line find.
+-- What the steps of reading a line find, for private clauses.
 use Rattle.std.specs.Prelude.{ℕ, List, Option, Some, None, Result, Ok, Err}
 use Rattle.snmp_wire.specs.Message.{Datum}
 use Rattle.snmp_agent.specs.declared.table.line.Line.{Line}

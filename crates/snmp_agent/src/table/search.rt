@@ -6,11 +6,10 @@ ghost use Rattle.std.specs.Ordering.{nat_cmp};
 ghost use Rattle.std.specs.Cmp.Lexicographic.{slice_cmp};
 ghost use Rattle.std.specs.FinMap.{find};
 ghost use Rattle.snmp_agent.specs.table.Places.{IsAfterAll, IsBeforeNone, IsBeforeAll};
-ghost use Rattle.snmp_agent.specs.table.Pages.{IsRising, ArePages, begins_up_to};
+ghost use Rattle.snmp_agent.specs.table.Pages.{IsRising, ArePages, begins_up_to, is_up_to};
 ghost use Rattle.snmp_agent.specs.table.Pages.{entries_in, entries_of};
 ghost use Rattle.snmp_agent.specs.table.Pages.{HasNameAt, BelongsAt, IsPageOf};
 
-use crate::table::compare::{compare, is_up_to};
 use crate::table::page::Page;
 use snmp_wire::{EncodedBinding, EncodedName};
 
@@ -43,9 +42,17 @@ pub fn ends_before(pages: &[Page], name: &EncodedName<'_>) -> bool
         return true;
     };
     match page.rows.as_slice().last() {
-        Some(row) => compare(row, name).is_lt(),
+        Some(row) => row.name().compare(name).is_lt(),
         None => unreachable!(),
     }
+}
+
+/// Whether the row has the name or one before it.
+#[inline(always)]
+fn is_up_to(row: &EncodedBinding, name: &EncodedName<'_>) -> bool
+    ensures { result ≡ is_up_to name.now row.now }
+{
+    row.name().compare(name).is_le()
 }
 
 /// Whether the first row has the name or one before it.
@@ -106,7 +113,7 @@ pub fn find_row(rows: &[EncodedBinding], name: &EncodedName<'_>) -> Result<usize
     let place = place_after(rows, name);
     let (front, _) = rows.split_at(place);
     match front.last() {
-        Some(row) if compare(row, name).is_eq() => Ok(place - 1),
+        Some(row) if row.name().compare(name).is_eq() => Ok(place - 1),
         _ => Err(place),
     }
 }

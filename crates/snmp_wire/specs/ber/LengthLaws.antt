@@ -11,7 +11,8 @@ use Rattle.snmp_wire.specs.declared.ber.error.BerError.{BerError}
 use Rattle.snmp_wire.specs.declared.ber.error.BerError.TheVariants as error
 use Rattle.snmp_wire.specs.ber.Number.{unsigned}
 use Rattle.snmp_wire.specs.ber.Length.{IsLength, IsLongLength, IsElement}
-use Rattle.snmp_wire.specs.ber.Reading.{long_length_at, length_at, content_at, inner_at, element_at}
+use Rattle.snmp_wire.specs.ber.Reading.{long_length_at, length_at, content_at, inner_at}
+use Rattle.snmp_wire.specs.ber.Reading.{element_at}
 use Rattle.snmp_wire.specs.ber.ReadingLaws.{done, ok_is, bind_ok, chosen, passed, refused}
 
 -- ---- lengths

@@ -1,4 +1,5 @@
-use Rattle.snmp_wire.proofs.MessageWriting.{length-canon, length-canon_fields, length-canon_front, length-canon_head, length-canon_opening, longer_head}
+use Rattle.snmp_wire.proofs.MessageWriting.{length-canon, length-canon_fields, length-canon_front}
+use Rattle.snmp_wire.proofs.MessageWriting.{length-canon_head, length-canon_opening, longer_head}
 use Rattle.snmp_wire.proofs.laws.message_sizes.Goals as goal
 
 pub returns : goal.returns

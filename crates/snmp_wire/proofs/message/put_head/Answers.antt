@@ -2,7 +2,9 @@ use Rattle.std.proofs.Common.{arith, rules}
 use mir.Syntax.{w32}
 use mir.Val.{SFits}
 use Rattle.snmp_wire.specs.Parts.{parts_message}
-use Rattle.snmp_wire.proofs.MessageWriting.{length-canon_fields, length-handed, list_fits, message_header_fits, opening_fits, pdu_header_fits, writes_fields}
+use Rattle.snmp_wire.proofs.MessageWriting.{length-canon_fields, length-handed, list_fits}
+use Rattle.snmp_wire.proofs.MessageWriting.{message_header_fits, opening_fits, pdu_header_fits}
+use Rattle.snmp_wire.proofs.MessageWriting.{writes_fields}
 use Rattle.snmp_wire.proofs.MessageWriting.{writes_front, writes_head, written_number}
 use Rattle.snmp_wire.proofs.message.put_head.Goals as goal
 

@@ -3,10 +3,14 @@ use Rattle.std.proofs.lemmas.List.Elements.{All-from_get_or}
 use Rattle.snmp_wire.specs.ber.Reading.{identifier_of}
 use Rattle.snmp_wire.proofs.IdentifierLaws.{identifier_takes}
 use Rattle.snmp_wire.proofs.NameOrder.{OrderLaw}
-use Rattle.snmp_wire.proofs.NameComparing.{Beside, EndsBy, both_go_on, ends_decide, octets_decide, one_ends, one_is_last}
+use Rattle.snmp_wire.proofs.NameComparing.{Beside, EndsBy, both_go_on, ends_decide, octets_decide}
+use Rattle.snmp_wire.proofs.NameComparing.{one_ends, one_is_last}
 use Rattle.snmp_wire.proofs.name.compare_contents.Goals as goal
-use Rattle.snmp_wire.proofs.name.compare_contents.Goals.{After-alike-at, then-octet-ge128+then-beside-ge128+else-end-other_end, else-octet-ge128}
-use Rattle.snmp_wire.proofs.name.compare_contents.Goals.{else-octet-ge128-via-then-octet-ge128+else-beside-ge128, else-octet-ge128-via-else-octet-ge128}
+use Rattle.snmp_wire.proofs.name.compare_contents.Goals.{After-alike-at}
+use Rattle.snmp_wire.proofs.name.compare_contents.Goals.{then-octet-ge128+then-beside-ge128+else-end-other_end}
+use Rattle.snmp_wire.proofs.name.compare_contents.Goals.{else-octet-ge128}
+use Rattle.snmp_wire.proofs.name.compare_contents.Goals.{else-octet-ge128-via-then-octet-ge128+else-beside-ge128}
+use Rattle.snmp_wire.proofs.name.compare_contents.Goals.{else-octet-ge128-via-else-octet-ge128}
 
 law : (c : After-alike-at) → OrderLaw
 law c = record { less = c.order.ensures.less; equal = c.order.ensures.equal; greater = c.order.ensures.greater }

@@ -17,7 +17,7 @@ returns-clause-before c = λ before.
     let some : 0 < length pages = c.in-Some.ensures.item.3.0 in
     let row_at : slice_get page.rows.items (length page.rows.items - 1) ≡ Some row =
     subst (λ (rows : List VarBind). slice_get rows (length rows - 1) ≡ Some row) c.as_slice.ensures.value (sym c.in-Some-last.ensures.value) in
-    let compared : c.compare.result ≡ order = c.compare.ensures in
+    let compared : c.compare.result ≡ order = c.compare.ensures ∙ ap (λ (o : List ℕ). slice_cmp nat_cmp o c.args.name.now) c.name.ensures in
     let test : true ≡ is_lt order = sym before ∙ c.is_lt.ensures ∙ ap is_lt compared in
     after_all pages (length pages - 1) (omega arith) c.args.name.now page (length page.rows.items - 1) row c.requires (sym c.in-Some.ensures.value)
     (omega (arith, page.some)) row_at (less_from_test order (subst T test tt))

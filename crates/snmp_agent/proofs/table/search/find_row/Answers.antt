@@ -14,7 +14,7 @@ returns-in-Some-clause-found c =
     let row = c.in-Some.row.now in
     let last : IsLast (take place rows) row = sym (rw c.split_at.ensures.front at c.in-Some.ensures.value) in
     let tie : eq_by_cmp (slice_cmp nat_cmp) row.name c.args.name.now ≡ c.is_eq.result =
-    sym (c.is_eq.ensures ∙ ap is_eq c.compare.ensures) in
+    sym (c.is_eq.ensures ∙ ap is_eq (c.compare.ensures ∙ ap (λ (p : List ℕ). slice_cmp nat_cmp p c.args.name.now) c.name.ensures)) in
     has_name_at rows place c.args.name.now row c.requires c.place_after-place.ensures.bound last (tied row.name c.args.name.now c.is_eq.result tie c.if-is_eq.true)
 
 pub returns-in_default-clause-none : goal.returns-in_default-clause-none
@@ -24,7 +24,7 @@ returns-in_default-clause-none c =
     let row = c.in-Some.row.now in
     let last : IsLast (take place rows) row = sym (rw c.split_at.ensures.front at c.in-Some.ensures.value) in
     let tie : eq_by_cmp (slice_cmp nat_cmp) row.name c.args.name.now ≡ c.is_eq.result =
-    sym (c.is_eq.ensures ∙ ap is_eq c.compare.ensures) in
+    sym (c.is_eq.ensures ∙ ap is_eq (c.compare.ensures ∙ ap (λ (p : List ℕ). slice_cmp nat_cmp p c.args.name.now) c.name.ensures)) in
     let other : (r : VarBind) → IsLast (take place rows) r → r.name ≡ c.args.name.now → ⊥ =
     λ r is_last name.
     let e : r ≡ row = cc in

@@ -1,7 +1,8 @@
 use Rattle.std.proofs.Common.{◌-◌, length, arith}
 use Rattle.snmp_wire.specs.ber.Canon.{canon_subidentifier}
 use Rattle.snmp_wire.specs.ber.WritingLaws.{writes_pieces}
-use Rattle.snmp_wire.proofs.ShortNumbers.{eight_fit, last_fits, others_fit, writes_eight, writes_last, writes_others}
+use Rattle.snmp_wire.proofs.ShortNumbers.{eight_fit, last_fits, others_fit, writes_eight}
+use Rattle.snmp_wire.proofs.ShortNumbers.{writes_last, writes_others}
 use Rattle.snmp_wire.proofs.ber.identifier.put_numbers.Goals as goal
 
 pub put_subidentifier-last-requires-clause-room : goal.put_subidentifier-last-requires-clause-room

@@ -1,5 +1,6 @@
 use Rattle.std.proofs.Common.{arith}
-use Rattle.snmp_wire.proofs.IdentifierWriting.{writes_no_septet, rest-no_septet, writes_septet, rest_septets, all_septets}
+use Rattle.snmp_wire.proofs.IdentifierWriting.{writes_no_septet, rest-no_septet, writes_septet}
+use Rattle.snmp_wire.proofs.IdentifierWriting.{rest_septets, all_septets}
 use Rattle.snmp_wire.proofs.ber.identifier.put_septets.Goals as goal
 
 pub septets-init : goal.septets-init

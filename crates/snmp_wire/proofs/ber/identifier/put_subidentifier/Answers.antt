@@ -1,5 +1,7 @@
 use Rattle.std.proofs.Common.{◌/◌, arith}
-use Rattle.snmp_wire.proofs.IdentifierWriting.{length-canon_subidentifier, short_itself, subidentifier_some, writes_subidentifier, subidentifier_two}
+use Rattle.snmp_wire.proofs.IdentifierWriting.{length-canon_subidentifier, short_itself}
+use Rattle.snmp_wire.proofs.IdentifierWriting.{subidentifier_some, writes_subidentifier}
+use Rattle.snmp_wire.proofs.IdentifierWriting.{subidentifier_two}
 use Rattle.snmp_wire.proofs.IdentifierWriting.{one_septet}
 use Rattle.snmp_wire.proofs.IdentifierWriting.{subidentifier_three, two_septets}
 use Rattle.snmp_wire.specs.ber.WritingLaws.{writes_same, writes_then}

@@ -1,4 +1,5 @@
-use Rattle.snmp_wire.proofs.KnownLemmas.{subidentifier_some, subidentifier_plain, subidentifier_longer, subidentifier_of_two}
+use Rattle.snmp_wire.proofs.KnownLemmas.{subidentifier_some, subidentifier_plain}
+use Rattle.snmp_wire.proofs.KnownLemmas.{subidentifier_longer, subidentifier_of_two}
 use Rattle.snmp_wire.proofs.KnownLemmas.{subidentifier_longest, subidentifier_of_three}
 use Rattle.snmp_wire.proofs.ber.identifier.subidentifier_in.Goals as goal
 

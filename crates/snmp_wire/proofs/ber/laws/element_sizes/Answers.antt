@@ -1,4 +1,5 @@
-use Rattle.snmp_wire.proofs.CanonLemmas.{digit_some, length-canon_length_long, length-canon_length_short, length-from_zero}
+use Rattle.snmp_wire.proofs.CanonLemmas.{digit_some, length-canon_length_long}
+use Rattle.snmp_wire.proofs.CanonLemmas.{length-canon_length_short, length-from_zero}
 use Rattle.snmp_wire.specs.ber.ElementLaws.{length-canon_element, length-canon_header}
 use Rattle.snmp_wire.proofs.ShortestValues.{count_rises, length_rises}
 use Rattle.snmp_wire.proofs.ber.laws.element_sizes.Goals as goal

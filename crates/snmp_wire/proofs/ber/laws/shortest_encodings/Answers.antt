@@ -3,8 +3,10 @@ use Rattle.std.proofs.lemmas.List.Elements.{All-from_recursion, recursion_from_A
 use Rattle.snmp_wire.specs.ber.Number.{AreOctets}
 use Rattle.snmp_wire.proofs.LenientValues.{value_is_read}
 use Rattle.snmp_wire.proofs.BerOneShortest.{element_same, element_size, value_same}
-use Rattle.snmp_wire.proofs.ShortestValues.{Octets, content_octets, element_shortest, value_shortest}
-use Rattle.snmp_wire.proofs.StrictValues.{element_most, element_octets, is_element, spells_value, value_octets, value_short}
+use Rattle.snmp_wire.proofs.ShortestValues.{Octets, content_octets, element_shortest}
+use Rattle.snmp_wire.proofs.ShortestValues.{value_shortest}
+use Rattle.snmp_wire.proofs.StrictValues.{element_most, element_octets, is_element, spells_value}
+use Rattle.snmp_wire.proofs.StrictValues.{value_octets, value_short}
 use Rattle.snmp_wire.proofs.ber.laws.shortest_encodings.Goals as goal
 
 -- octets, by cases

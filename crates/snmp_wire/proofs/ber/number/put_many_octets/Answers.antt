@@ -1,5 +1,6 @@
 use Rattle.std.proofs.Common.{arith}
-use Rattle.snmp_wire.proofs.CanonLemmas.{writes_no_digit, rest-none, writes_digit, rest_digits, all_digits}
+use Rattle.snmp_wire.proofs.CanonLemmas.{writes_no_digit, rest-none, writes_digit, rest_digits}
+use Rattle.snmp_wire.proofs.CanonLemmas.{all_digits}
 use Rattle.snmp_wire.proofs.ber.number.put_many_octets.Goals as goal
 
 pub octets-init : goal.octets-init
