@@ -1,5 +1,6 @@
 -- What a run over the agent in memory gave.
-use Rattle.std.proofs.Common.{◌≡◌, ◌⊎◌, inl, inr, ◌++◌, ◌<◌, ℕ, true, List, [], ◌∷◌, All, length, Option, Some, None, refl, sym, ◌∙◌, ap, subst, arith}
+use Rattle.std.proofs.Common.{◌≡◌, ◌⊎◌, inl, inr, ◌++◌, ◌<◌, ℕ, true, List, [], ◌∷◌, All, length}
+use Rattle.std.proofs.Common.{Option, Some, None, refl, sym, ◌∙◌, ap, subst, arith}
 use Rattle.snmp_oid.specs.Identifier.{IsWire, wire}
 use Rattle.smi_value.specs.declared.letters.letters.Letters.{Letters}
 use Rattle.snmp_io.specs.Output.{Stream}
@@ -18,7 +19,8 @@ use Rattle.snmp_walk.specs.Walker.{Walker}
 use Rattle.snmp_walk.specs.declared.end.WalkEnd.{WalkEnd}
 use Rattle.snmp_walk.specs.declared.end.WalkEnd.TheVariants as ending
 use Rattle.snmp_walk.specs.declared.link.Link.{Ghosts as LinkFacts}
-use Rattle.snmp_tools.specs.Answer.{AreRowsAfter, CanBeSent, Counts, HasReason, IsAsked, IsAskedOver, IsOwnEnd, agent_over, end_in_memory, first_after}
+use Rattle.snmp_tools.specs.Answer.{AreRowsAfter, CanBeSent, Counts, HasReason, IsAsked}
+use Rattle.snmp_tools.specs.Answer.{IsAskedOver, IsOwnEnd, agent_over, end_in_memory, first_after}
 use Rattle.snmp_tools.specs.Answer.{first_of, request_for}
 use Rattle.snmp_tools.specs.Lines.{IsPrintedUpTo}
 use Rattle.snmp_tools.specs.Mib.{Mib}

@@ -1,5 +1,6 @@
 -- What is computed of the letters of -C is what the relations say, and they say one thing.
-use Rattle.std.proofs.Common.{◌≡◌, ◌⊎◌, inl, inr, ◌∙◌, ◌++◌, ◌≤◌, ℕ, Bool, true, false, List, [], ◌∷◌, Option, Some, None, Result, Ok, Err}
+use Rattle.std.proofs.Common.{◌≡◌, ◌⊎◌, inl, inr, ◌∙◌, ◌++◌, ◌≤◌, ℕ, Bool, true, false, List, []}
+use Rattle.std.proofs.Common.{◌∷◌, Option, Some, None, Result, Ok, Err}
 use Rattle.std.proofs.Common.{refl, sym, ap, subst, arith}
 use Rattle.std.proofs.lemmas.Bool.{eqb-true, eqb-false}
 use Rattle.std.proofs.lemmas.Bool.Decides.{nat_tests}
@@ -8,9 +9,12 @@ use Rattle.std.specs.Char.{is_ascii_digit}
 use Rattle.std.specs.List.{list_all}
 use Rattle.std.specs.Str.Parse.{digits_value}
 use Rattle.snmp_io.specs.Steps.{AreDone, IsFirstToFail}
-use Rattle.snmp_tools.specs.Letters.{AreLettersIn, AreRepetitions, Choices, HaveChosen, IsFirstUnknown, IsKnown, IsLastNumber, IsPlain, IsUnknown, has}
+use Rattle.snmp_tools.specs.Letters.{AreLettersIn, AreRepetitions, Choices, HaveChosen}
+use Rattle.snmp_tools.specs.Letters.{IsFirstUnknown, IsKnown, IsLastNumber, IsPlain, IsUnknown}
+use Rattle.snmp_tools.specs.Letters.{has}
 use Rattle.snmp_tools.specs.Letters.{no_choices}
-use Rattle.snmp_tools.specs.Choosing.{after_part, after_parts, after_whole, choices_of, letter_parts, put, repetitions_in, with_letter, with_number}
+use Rattle.snmp_tools.specs.Choosing.{after_part, after_parts, after_whole, choices_of}
+use Rattle.snmp_tools.specs.Choosing.{letter_parts, put, repetitions_in, with_letter, with_number}
 use Rattle.snmp_tools.specs.Choosing.{without_digits}
 
 abbrev Part : Type 0

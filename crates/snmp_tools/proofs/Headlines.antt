@@ -1,5 +1,6 @@
 -- The headline, of what a job wrote and reported.
-use Rattle.std.proofs.Common.{◌≡◌, ◌⊎◌, inl, inr, ◌++◌, ℕ, Bool, true, false, List, [], Option, Some, None, refl, sym, ◌∙◌, ap, subst, codes}
+use Rattle.std.proofs.Common.{◌≡◌, ◌⊎◌, inl, inr, ◌++◌, ℕ, Bool, true, false, List, [], Option}
+use Rattle.std.proofs.Common.{Some, None, refl, sym, ◌∙◌, ap, subst, codes}
 use Rattle.std.specs.Str.Lines.{lines}
 use Rattle.snmp_wire.specs.Message.{VarBind}
 use Rattle.snmp_agent.specs.table.Table.{MibView}
@@ -22,18 +23,23 @@ use Rattle.smi_value.specs.declared.letters.letters.Letters.{Letters}
 use Rattle.snmp_tools.specs.agent.TableFile.{AreNamesIn, HasTable}
 use Rattle.snmp_tools.specs.loading.Warned.{warning_lines}
 use Rattle.snmp_tools.specs.Answer.{AreRowsOf, IsFeasible, IsOwnEnd}
-use Rattle.snmp_tools.specs.Headline.{EndsAtStatus0, IsAsk, IsMishap, IsWholeText, WritesAllAtStatus0, WritesFront}
+use Rattle.snmp_tools.specs.Headline.{EndsAtStatus0, IsAsk, IsMishap, IsWholeText}
+use Rattle.snmp_tools.specs.Headline.{WritesAllAtStatus0, WritesFront}
 use Rattle.snmp_tools.specs.Lines.{IsPrintedUpTo}
-use Rattle.snmp_tools.specs.Message.{Fault, bad_table, ended, fault_message, out_of_memory, status_of}
+use Rattle.snmp_tools.specs.Message.{Fault, bad_table, ended, fault_message, out_of_memory}
+use Rattle.snmp_tools.specs.Message.{status_of}
 use Rattle.snmp_tools.specs.Mib.{AreLoaded, Mib}
 use Rattle.snmp_tools.specs.Outcome.{IsFinished, IsOutcome, IsOutcomeBy, IsReported, IsRun}
-use Rattle.snmp_tools.specs.Outcome.{asked, asked_over, loaded, not_begun, not_linked, not_loaded, refused}
-use Rattle.snmp_tools.specs.Question.{AskFor, AskWords, IsLastRefusal, IsLateRefusal, IsPlanFor, Plan, counts_in}
+use Rattle.snmp_tools.specs.Outcome.{asked, asked_over, loaded, not_begun, not_linked, not_loaded}
+use Rattle.snmp_tools.specs.Outcome.{refused}
+use Rattle.snmp_tools.specs.Question.{AskFor, AskWords, IsLastRefusal, IsLateRefusal, IsPlanFor}
+use Rattle.snmp_tools.specs.Question.{Plan, counts_in}
 use Rattle.snmp_tools.specs.Seen.{Seen}
 use Rattle.snmp_tools.proofs.Asked.{counted}
 use Rattle.snmp_tools.proofs.Outcomes.{IsFrontOf, finished_all, finished_front, no_fault_at_0}
 use Rattle.snmp_tools.proofs.TableNames.{OneMeaning, one_look_up}
-use Rattle.snmp_tools.proofs.Plans.{IsWant, OneList, OneTree, held_is, one_load, one_path, one_plan, plain_want, table_want, wants_early, wants_last}
+use Rattle.snmp_tools.proofs.Plans.{IsWant, OneList, OneTree, held_is, one_load, one_path}
+use Rattle.snmp_tools.proofs.Plans.{one_plan, plain_want, table_want, wants_early, wants_last}
 use Rattle.snmp_tools.proofs.Plans.{wants_late}
 
 -- memory ran out before anything was written

@@ -1,5 +1,6 @@
 -- What is promised of a job, by what it wrote and reported.
-use Rattle.std.proofs.Common.{◌≡◌, ℕ, true, false, List, Option, Some, refl, sym, subst, inl, inr, codes}
+use Rattle.std.proofs.Common.{◌≡◌, ℕ, true, false, List, Option, Some, refl, sym, subst, inl, inr}
+use Rattle.std.proofs.Common.{codes}
 use Rattle.snmp_agent.specs.declared.table.error.TableError.{TableError}
 use Rattle.snmp_agent.specs.declared.table.error.TableError.TheVariants as table_error
 use Rattle.snmp_agent.specs.table.Format.{Names}
@@ -10,7 +11,8 @@ use Rattle.snmp_io.specs.Output.{IsWritten, Stream}
 use Rattle.snmp_net.specs.declared.links.Links.{Ghosts as Network}
 use Rattle.snmp_walk.specs.declared.link.Link.{Ghosts as LinkFacts}
 use Rattle.snmp_words.specs.declared.job.Job.{Job}
-use Rattle.snmp_words.specs.Words.{Stated, job_words, snmpbulkwalk, snmpd, snmpget, snmptranslate, snmpwalk}
+use Rattle.snmp_words.specs.Words.{Stated, job_words, snmpbulkwalk, snmpd, snmpget, snmptranslate}
+use Rattle.snmp_words.specs.Words.{snmpwalk}
 use Rattle.snmp_tools.specs.agent.Outcome as serve
 use Rattle.snmp_tools.specs.translation.Outcome as translated
 use Rattle.snmp_tools.specs.Done.{IsAskDone, IsJobDone}
@@ -18,7 +20,8 @@ use Rattle.snmp_tools.specs.Message.{out_of_memory}
 use Rattle.snmp_tools.specs.Outcome.{IsRun, not_loaded}
 use Rattle.snmp_tools.specs.Question.{AskWords, of_get, of_walk}
 use Rattle.snmp_tools.specs.Seen.{Seen, seen}
-use Rattle.snmp_tools.proofs.Headlines.{ends_at_0, refused_all, refused_end, refused_front, writes_all, writes_front}
+use Rattle.snmp_tools.proofs.Headlines.{ends_at_0, refused_all, refused_end, refused_front}
+use Rattle.snmp_tools.proofs.Headlines.{writes_all, writes_front}
 use Rattle.snmp_tools.proofs.Plans.{OneList, OneTree}
 use Rattle.snmp_tools.proofs.TableNames.{OneMeaning}
 

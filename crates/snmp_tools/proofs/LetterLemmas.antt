@@ -1,6 +1,8 @@
 -- The letters of -C, found place by place.
-use Rattle.std.proofs.Common.{◌≡◌, ◌∙◌, ◌+◌, ◌-◌, ◌*◌, ◌<◌, ◌≤◌, ◌++◌, ℕ, Bool, true, false, List, [], ◌∷◌, Result, Ok, Err, zero, suc}
-use Rattle.std.proofs.Common.{Some, None, length, take, drop, slice_index_or, refl, sym, ap, subst, drop-cons, add-one, arith, inl, inr}
+use Rattle.std.proofs.Common.{◌≡◌, ◌∙◌, ◌+◌, ◌-◌, ◌*◌, ◌<◌, ◌≤◌, ◌++◌, ℕ, Bool, true, false, List}
+use Rattle.std.proofs.Common.{[], ◌∷◌, Result, Ok, Err, zero, suc}
+use Rattle.std.proofs.Common.{Some, None, length, take, drop, slice_index_or, refl, sym, ap, subst}
+use Rattle.std.proofs.Common.{drop-cons, add-one, arith, inl, inr}
 use Rattle.std.proofs.Common.{drop_of_length-le, length-drop}
 use Rattle.std.proofs.Math.Seq.{take-length}
 use Rattle.std.proofs.lemmas.Bool.{cases_lt, false≢true, ne_eqb}
@@ -11,7 +13,8 @@ use Rattle.std.specs.Prelude.{◌&&◌, ◌==◌, nat_le, if◌then◌else◌}
 use Rattle.std.specs.Char.{digit_value, is_ascii_digit}
 use Rattle.std.specs.List.{list_all}
 use Rattle.std.specs.Str.Parse.{digits_value, digits_value_after}
-use Rattle.snmp_tools.specs.Choosing.{after_part, after_parts, after_whole, letter_parts, put, repetitions_in}
+use Rattle.snmp_tools.specs.Choosing.{after_part, after_parts, after_whole, letter_parts, put}
+use Rattle.snmp_tools.specs.Choosing.{repetitions_in}
 use Rattle.snmp_tools.specs.Letters.{Choices}
 
 pub at_place : (letters : List ℕ) (place : ℕ) → place < length letters → drop place letters ≡ slice_index_or letters place 0 ∷ drop (place + 1) letters

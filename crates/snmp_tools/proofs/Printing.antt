@@ -1,12 +1,14 @@
 -- Names are printed one after the other.
-use Rattle.std.proofs.Common.{◌≡◌, ◌∙◌, ◌++◌, ◌+◌, ◌<◌, ap, refl, sym, subst, ℕ, List, [], ◌∷◌, Bor, take, drop, length, get_or}
+use Rattle.std.proofs.Common.{◌≡◌, ◌∙◌, ◌++◌, ◌+◌, ◌<◌, ap, refl, sym, subst, ℕ, List, [], ◌∷◌}
+use Rattle.std.proofs.Common.{Bor, take, drop, length, get_or}
 use Rattle.std.proofs.Common.{append_assoc, append-nil}
 use Rattle.std.proofs.lemmas.List.{drop_more, map-append, take-append-drop, take_more}
 use Rattle.snmp_io.specs.Output.{Stream, extended}
 use Rattle.snmp_io.specs.Streams.{extended-twice}
 use Rattle.snmp_words.specs.Words.{texts_at}
 use Rattle.snmp_tools.specs.Message.{Fault}
-use Rattle.snmp_tools.specs.translation.Outcome.{AreNamesPrinted, IsNamePrinted, StopsAtName, StopsWithin}
+use Rattle.snmp_tools.specs.translation.Outcome.{AreNamesPrinted, IsNamePrinted, StopsAtName}
+use Rattle.snmp_tools.specs.translation.Outcome.{StopsWithin}
 use Rattle.snmp_tools.specs.translation.Text.{AreTextsOf, DetailMib, IsTextOf}
 use Rattle.snmp_tools.specs.declared.translation.style.Style.{Style}
 

@@ -1,5 +1,6 @@
 -- The modules of one file more, and that there is one list of them.
-use Rattle.std.proofs.Common.{◌≡◌, ◌∙◌, ◌⊎◌, inl, inr, ◌++◌, ◌+◌, ◌<◌, ap, ap₂, refl, sym, subst, ℕ, List, [], ◌∷◌, Bor, Option, Some}
+use Rattle.std.proofs.Common.{◌≡◌, ◌∙◌, ◌⊎◌, inl, inr, ◌++◌, ◌+◌, ◌<◌, ap, ap₂, refl, sym, subst}
+use Rattle.std.proofs.Common.{ℕ, List, [], ◌∷◌, Bor, Option, Some}
 use Rattle.std.proofs.Common.{take, drop, length, get_or, unwrap_or, append_assoc, append-nil}
 use Rattle.std.proofs.lemmas.List.{drop_more, map-append, take-append-drop, take_more}
 use Rattle.snmp_io.specs.draft.Draft.{Adds, Grows, Written}
@@ -11,7 +12,8 @@ use Rattle.smi_text.specs.declared.trees.tree.Module.{Module}
 use Rattle.smi_text.specs.Text.{AreSpelledBy}
 use Rattle.snmp_io.specs.Files.{Holdings, Holds, HoldsIfKnown, MayHold}
 use Rattle.snmp_io.specs.Steps.{AreDone}
-use Rattle.snmp_tools.specs.loading.Files.{AreModulesIn, AreModulesOf, FileFails, IsFilesRefusal, MayHoldModules, Refusal, no_memory, texts}
+use Rattle.snmp_tools.specs.loading.Files.{AreModulesIn, AreModulesOf, FileFails, IsFilesRefusal}
+use Rattle.snmp_tools.specs.loading.Files.{MayHoldModules, Refusal, no_memory, texts}
 
 pub AreModulesOf-more : (Held : (path text : List ℕ) → Type 0) (paths : List (List ℕ)) (path : List ℕ) (ms first : List Module)
     → AreModulesOf Held paths ms → AreModulesIn Held path first → AreModulesOf Held (paths ++ path ∷ []) (ms ++ first)

@@ -1,7 +1,9 @@
 -- The first step that fails, after those that are done.
-use Rattle.std.proofs.Common.{◌≡◌, ◌⊎◌, inl, inr, ◌++◌, ◌+◌, ◌<◌, ℕ, zero, suc, List, [], ◌∷◌, All, Bor, Option, Some, None, Ok, length, map, take, drop}
+use Rattle.std.proofs.Common.{◌≡◌, ◌⊎◌, inl, inr, ◌++◌, ◌+◌, ◌<◌, ℕ, zero, suc, List, [], ◌∷◌, All}
+use Rattle.std.proofs.Common.{Bor, Option, Some, None, Ok, length, map, take, drop}
 use Rattle.std.proofs.Common.{get_or}
-use Rattle.std.proofs.Common.{option_map, unwrap_or, refl, sym, ◌∙◌, ap, subst, append_assoc, arith, drop-cons}
+use Rattle.std.proofs.Common.{option_map, unwrap_or, refl, sym, ◌∙◌, ap, subst, append_assoc}
+use Rattle.std.proofs.Common.{arith, drop-cons}
 use Rattle.std.proofs.lemmas.List.{map-append, take-append-drop, take_more}
 use Rattle.std.proofs.lemmas.List.Elements.{All-head, All-tail, AllZip-push}
 use Rattle.smi_show.specs.name.Meant.{TextMeans}
@@ -10,16 +12,21 @@ use Rattle.snmp_io.specs.Files.{Holdings, MayHold}
 use Rattle.snmp_io.specs.Steps.{AreDone, IsFirstToFail}
 use Rattle.snmp_net.specs.Address.{Address, address_of}
 use Rattle.snmp_words.specs.Words.{texts_at}
-use Rattle.snmp_tools.specs.Asking.{HasAgent, IsNameIfGiven, IsReached, MibsFail, NameFails, ReachFails, agent_step, community_step, letters_step, version_step}
+use Rattle.snmp_tools.specs.Asking.{HasAgent, IsNameIfGiven, IsReached, MibsFail, NameFails}
+use Rattle.snmp_tools.specs.Asking.{ReachFails, agent_step, community_step, letters_step}
+use Rattle.snmp_tools.specs.Asking.{version_step}
 use Rattle.snmp_tools.specs.Chosen.{chosen}
 use Rattle.snmp_tools.specs.Letters.{Choices}
 use Rattle.snmp_tools.specs.Message.{Fault, out_of_memory, unsendable}
 use Rattle.snmp_tools.specs.Mib.{IsMibOf, Mib}
 use Rattle.snmp_tools.specs.Planned.{AgentFails, AreOrdersOf, NamesFail, ShowingFails}
-use Rattle.snmp_tools.specs.Question.{AreNames, AskFor, AskWords, FailsBy, FailsFor, HasMeaning, HasSendable, HasUnsendable, IsDoneBy, IsDoneFor}
+use Rattle.snmp_tools.specs.Question.{AreNames, AskFor, AskWords, FailsBy, FailsFor, HasMeaning}
+use Rattle.snmp_tools.specs.Question.{HasSendable, HasUnsendable, IsDoneBy, IsDoneFor}
 use Rattle.snmp_tools.specs.Question.{IsEarlyRefusal, IsLastRefusal, IsLateRefusal}
-use Rattle.snmp_tools.specs.Question.{IsQuestionOf, LaterStep, LoadingStep, Plan, Question, Request, get, names, subtree, walk}
-use Rattle.snmp_tools.specs.Question.{asking, below_step, choices_step, goes_on_after, loading_steps, mibs_step, name_step, name_steps, reach_step}
+use Rattle.snmp_tools.specs.Question.{IsQuestionOf, LaterStep, LoadingStep, Plan, Question}
+use Rattle.snmp_tools.specs.Question.{Request, get, names, subtree, walk}
+use Rattle.snmp_tools.specs.Question.{asking, below_step, choices_step, goes_on_after}
+use Rattle.snmp_tools.specs.Question.{loading_steps, mibs_step, name_step, name_steps, reach_step}
 use Rattle.snmp_tools.specs.Question.{reaching_steps, root_text, sent_step}
 use Rattle.snmp_tools.specs.Question.{sent_steps}
 use Rattle.snmp_tools.specs.Start.{BeginFails, ResumeFails}

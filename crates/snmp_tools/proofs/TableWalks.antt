@@ -1,7 +1,10 @@
 -- What the headline says of a walk of a table file in numbers: which lines are printed.
-use Rattle.std.proofs.Common.{◌≡◌, ◌≢◌, ◌⊎◌, inl, inr, refl, sym, ap, ◌∙◌, subst, ℕ, zero, suc, ◌+◌, ◌<◌, ◌≤◌, Bool, false, List, [], ◌∷◌}
-use Rattle.std.proofs.Common.{◌↔◌, ◌++◌, length, true, Some, None, Ok, arith, append-nil, append_assoc}
-use Rattle.std.specs.Prelude.{AllPairs, Contains, codes, drop, filter, if◌then◌else◌, slice_index_or}
+use Rattle.std.proofs.Common.{◌≡◌, ◌≢◌, ◌⊎◌, inl, inr, refl, sym, ap, ◌∙◌, subst, ℕ, zero, suc}
+use Rattle.std.proofs.Common.{◌+◌, ◌<◌, ◌≤◌, Bool, false, List, [], ◌∷◌}
+use Rattle.std.proofs.Common.{◌↔◌, ◌++◌, length, true, Some, None, Ok, arith, append-nil}
+use Rattle.std.proofs.Common.{append_assoc}
+use Rattle.std.specs.Prelude.{AllPairs, Contains, codes, drop, filter, if◌then◌else◌}
+use Rattle.std.specs.Prelude.{slice_index_or}
 use Rattle.std.specs.List.{flat_map}
 use Rattle.std.specs.FinMap.{get}
 use Rattle.std.specs.Str.Lines.{lines}
@@ -38,14 +41,16 @@ use Rattle.snmp_words.specs.Words.{walk_line}
 use Rattle.snmp_tools.specs.Resolved.{names_in}
 use Rattle.snmp_tools.specs.agent.TableFile.{AreNamesIn}
 use Rattle.snmp_tools.specs.Answer.{IsFeasible, agent_over, first_of}
-use Rattle.snmp_tools.specs.Headline.{EndsAtStatus0, IsAsk, IsMishap, WritesAllAtStatus0, WritesFront}
+use Rattle.snmp_tools.specs.Headline.{EndsAtStatus0, IsAsk, IsMishap, WritesAllAtStatus0}
+use Rattle.snmp_tools.specs.Headline.{WritesFront}
 use Rattle.snmp_tools.specs.Lines.{AreLines}
 use Rattle.snmp_tools.specs.Mib.{Mib}
 use Rattle.snmp_tools.specs.Question.{AskFor, Plan, Walk, of_walk, subtree}
 use Rattle.snmp_tools.specs.Planned.{numeric_walk}
 use Rattle.snmp_tools.specs.RowText.{row_line}
 use Rattle.snmp_tools.specs.TableWalk as page
-use Rattle.snmp_tools.specs.TableWalk.{AreRowsBelow, AreWalked, HoldsTableFile, IsFree, IsGot, IsOfObject, IsOutOfMemoryTold, PrintsRows, table_walk}
+use Rattle.snmp_tools.specs.TableWalk.{AreRowsBelow, AreWalked, HoldsTableFile, IsFree, IsGot}
+use Rattle.snmp_tools.specs.TableWalk.{IsOfObject, IsOutOfMemoryTold, PrintsRows, table_walk}
 use Rattle.snmp_tools.specs.Letters.{no_choices}
 use Rattle.snmp_tools.proofs.BareNames.{bare_has_no_syntax, bare_is_loaded, bare_mib}
 use Rattle.snmp_tools.proofs.RowLines.{HasNoSyntax, lines_are, numeric_are, numeric_letters}

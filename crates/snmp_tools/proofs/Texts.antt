@@ -1,5 +1,6 @@
 -- Texts that are appended one after the other, or printed.
-use Rattle.std.proofs.Common.{◌≡◌, ◌∙◌, ap, ℕ, List, ◌++◌, Option, Some, None, inl, inr, subst, sym, append_assoc}
+use Rattle.std.proofs.Common.{◌≡◌, ◌∙◌, ap, ℕ, List, ◌++◌, Option, Some, None, inl, inr, subst}
+use Rattle.std.proofs.Common.{sym, append_assoc}
 use Rattle.snmp_io.specs.draft.Draft.{Written, Grows, Adds}
 use Rattle.snmp_io.specs.Output.{FailsWithin, Stream, extended}
 use Rattle.snmp_tools.specs.Lines.{IsTextPrinted, StopsAtText}

@@ -3,7 +3,8 @@ ghost use Rattle.std.specs.Prelude.{◌≡◌, ◌++◌, ◌∷◌, codes, decim
 ghost use Rattle.std.specs.Fmt.{signed_decimal};
 ghost use Rattle.snmp_oid.specs.Numeric.{numeric_text};
 ghost use Rattle.snmp_io.specs.draft.Draft.{Adds};
-ghost use Rattle.snmp_tools.specs.Message.{end_message, error_status_text, name_fault, status_name};
+ghost use Rattle.snmp_tools.specs.Message.{end_message, error_status_text, name_fault};
+ghost use Rattle.snmp_tools.specs.Message.{status_name};
 ghost use Rattle.snmp_tools.specs.Message.{table_message};
 
 use crate::loading::FilesError;

@@ -1,4 +1,5 @@
-use Rattle.std.proofs.Common.{◌≡◌, ◌∙◌, ℕ, List, Bor, Ok, inl, inr, refl, sym, ap, option_map, subst}
+use Rattle.std.proofs.Common.{◌≡◌, ◌∙◌, ℕ, List, Bor, Ok, inl, inr, refl, sym, ap, option_map}
+use Rattle.std.proofs.Common.{subst}
 use Rattle.smi_show.specs.name.Meant.{TextMeans}
 use Rattle.snmp_tools.specs.Asking.{NameFails}
 use Rattle.snmp_tools.specs.Chosen.{chosen}
