@@ -1,4 +1,4 @@
--- What the steps of the parser return.
+-- What the steps of the parser return, for private clauses.
 use Rattle.std.specs.Prelude.{
   ◌≡◌,
   ℕ,

@@ -1,5 +1,5 @@
--- Quotes octet by octet, for proofs here and of the crates above: a text is closed where no quote is
--- open after it, and it is cut outside quotes in one way.
+-- Quotes octet by octet, for proofs here and of the crates above: a text is closed where no quote
+-- is open after it, and it is cut outside quotes in one way.
 use Rattle.std.specs.Prelude.{◌≡◌, ◌≢◌, ℕ, Bool, true, false}
 use Rattle.std.specs.Prelude.{All, List, [], ◌∷◌, ◌++◌, Option, Some, None}
 use Rattle.std.specs.List.{concat}
@@ -24,7 +24,8 @@ closed_by : (quote : ℕ) (inside : List ℕ) → All (λ octet. octet ≢ quote
     → quote_after (Some quote) (inside ++ quote ∷ []) ≡ None
 closed_by quote [] none = rw (quote_after, eq-eqb quote quote refl) refl
 closed_by quote (octet ∷ more) none =
-    let other : (nat_eq octet quote) ≡ false = ne_eqb octet quote (All-head (λ o. o ≢ quote) octet more none) in
+    let other : (nat_eq octet quote) ≡ false =
+    ne_eqb octet quote (All-head (λ o. o ≢ quote) octet more none) in
     rw (quote_after, other) (closed_by quote more (All-tail (λ o. o ≢ quote) octet more none))
 
 piece_closes : (piece : List ℕ) → IsPiece piece → quote_after None piece ≡ None
@@ -36,11 +37,13 @@ piece_closes piece (inr (quote, inside, opens, none, is)) =
 pub none_open : (text : List ℕ) → IsClosed text → quote_after None text ≡ None
 none_open text (pieces, all, is) = ap (quote_after None) is ∙ none_after pieces all
   where
-    none_after : (pieces : List (List ℕ)) → All IsPiece pieces → quote_after None (concat pieces) ≡ None
+    none_after : (pieces : List (List ℕ)) → All IsPiece pieces
+        → quote_after None (concat pieces) ≡ None
     none_after [] all = refl
     none_after (piece ∷ more) all =
         quote_after_both None piece (concat more)
-        ∙ ap (λ (q : Option ℕ). quote_after q (concat more)) (piece_closes piece (All-head IsPiece piece more all))
+        ∙ ap (λ (q : Option ℕ). quote_after q (concat more))
+        (piece_closes piece (All-head IsPiece piece more all))
         ∙ none_after more (All-tail IsPiece piece more all)
 
 -- what comes after this quote, up to where it is closed, and closed from there on
@@ -52,10 +55,12 @@ IsClosedAfter (Some quote) text = (inside rest : List ℕ) × All (λ octet. oct
 abbrev ClosesAfterAny : List ℕ → Type 0
 ClosesAfterAny text = (quote : Option ℕ) → quote_after quote text ≡ None → IsClosedAfter quote text
 
-closed_after : (quote : Option ℕ) (text : List ℕ) → quote_after quote text ≡ None → IsClosedAfter quote text
+closed_after : (quote : Option ℕ) (text : List ℕ) → quote_after quote text ≡ None
+    → IsClosedAfter quote text
 closed_after None [] at_end = ([], All-nil IsPiece, refl)
 closed_after (Some quote) [] at_end = let no : ⊥ = cc in absurd no
-closed_after None (octet ∷ more) at_end = at (is_quote octet) refl (λ quote. closed_after quote more)
+closed_after None (octet ∷ more) at_end =
+    at (is_quote octet) refl (λ quote. closed_after quote more)
   where
     quoted : is_quote octet ≡ true → IsClosedAfter (Some octet) more → IsClosed (octet ∷ more)
     quoted opens (inside, rest, none, (pieces, all, is), e) =
@@ -68,22 +73,30 @@ closed_after None (octet ∷ more) at_end = at (is_quote octet) refl (λ quote. 
 
     at : (b : Bool) → is_quote octet ≡ b → ClosesAfterAny more → IsClosed (octet ∷ more)
     at false e later =
-        let closed : IsClosed more = later None (subst (λ (b : Bool). quote_after (cond b (Some octet) None) more ≡ None) e at_end) in (
+        let after : Bool → Type 0 = λ b. quote_after (cond b (Some octet) None) more ≡ None in
+        let closed : IsClosed more = later None (subst after e at_end) in (
           (octet ∷ []) ∷ closed.0,
           All-cons IsPiece (octet ∷ []) closed.0 (inl (octet, e, refl)) closed.1,
           ap (λ (t : List ℕ). octet ∷ t) closed.2,
         )
     at true e later =
-        quoted e (later (Some octet) (subst (λ (b : Bool). quote_after (cond b (Some octet) None) more ≡ None) e at_end))
-closed_after (Some quote) (octet ∷ more) at_end = at (nat_eq octet quote) refl (λ other. closed_after other more)
+        let after : Bool → Type 0 = λ b. quote_after (cond b (Some octet) None) more ≡ None in
+        quoted e (later (Some octet) (subst after e at_end))
+closed_after (Some quote) (octet ∷ more) at_end =
+    at (nat_eq octet quote) refl (λ other. closed_after other more)
   where
-    at : (b : Bool) → (nat_eq octet quote) ≡ b → ClosesAfterAny more → IsClosedAfter (Some quote) (octet ∷ more)
+    at : (b : Bool) → (nat_eq octet quote) ≡ b → ClosesAfterAny more
+        → IsClosedAfter (Some quote) (octet ∷ more)
     at true e later =
-        let closed : IsClosed more = later None (subst (λ (b : Bool). quote_after (cond b None (Some quote)) more ≡ None) e at_end) in
-        ([], more, All-nil (λ o. o ≢ quote), closed, ap (λ (n : ℕ). n ∷ more) (eqb-true octet quote e))
+        let after : Bool → Type 0 = λ b. quote_after (cond b None (Some quote)) more ≡ None in
+        let closed : IsClosed more = later None (subst after e at_end) in
+        let is : octet ∷ more ≡ quote ∷ more =
+        ap (λ (n : ℕ). n ∷ more) (eqb-true octet quote e) in
+        ([], more, All-nil (λ o. o ≢ quote), closed, is)
     at false e later =
-        let closed : IsClosedAfter (Some quote) more
-        = later (Some quote) (subst (λ (b : Bool). quote_after (cond b None (Some quote)) more ≡ None) e at_end) in (
+        let after : Bool → Type 0 = λ b. quote_after (cond b None (Some quote)) more ≡ None in
+        let closed : IsClosedAfter (Some quote) more =
+        later (Some quote) (subst after e at_end) in (
           octet ∷ closed.0,
           closed.1,
           All-cons (λ o. o ≢ quote) octet closed.0 (eqb-false octet quote e) closed.2,
@@ -133,10 +146,12 @@ same_cut stop quote (x ∷ front) rest (y ∷ other) behind e f g h k =
     (ap (λ (z : ℕ). z ∷ other) same ∙ ap (λ (t : List ℕ). x ∷ t) later.0, later.1)
 
 -- the octet stands outside quotes nowhere, said by what is open before it
-pub never_outside : (stop : ℕ) (text : List ℕ) → HasNoneOutside stop text → HasNoneAfter stop None text
+pub never_outside : (stop : ℕ) (text : List ℕ) → HasNoneOutside stop text
+    → HasNoneAfter stop None text
 never_outside stop text none before after e at_end = none before after e (is_closed before at_end)
 
-pub none_outside : (stop : ℕ) (text : List ℕ) → HasNoneAfter stop None text → HasNoneOutside stop text
+pub none_outside : (stop : ℕ) (text : List ℕ) → HasNoneAfter stop None text
+    → HasNoneOutside stop text
 none_outside stop text none before after e closed = none before after e (none_open before closed)
 
 -- one cut
@@ -144,4 +159,5 @@ pub cut_once : (stop : ℕ) (text front rest other behind : List ℕ) → IsCut 
     → IsCut stop text other behind → (other ≡ front) × (behind ≡ rest)
 cut_once stop text front rest other behind h k =
     same_cut stop None front rest other behind (sym h.parts ∙ k.parts) (none_open front h.outside)
-    (none_open other k.outside) (never_outside stop front h.first) (never_outside stop other k.first)
+    (none_open other k.outside)
+    (never_outside stop front h.first) (never_outside stop other k.first)

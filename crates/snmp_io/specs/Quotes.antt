@@ -15,8 +15,8 @@ open_after (Some quote) octet = if octet == quote then None else Some quote
 -- an octet that opens no quote; or a quote, octets of other kinds, and the quote that closes it
 abbrev pub IsPiece : List ℕ → Type 0
 IsPiece piece = ((octet : ℕ) × (is_quote octet ≡ false) × (piece ≡ octet ∷ []))
-    ⊎ ((quote : ℕ) × (inside : List ℕ) × (is_quote quote ≡ true) × All (λ octet. octet ≢ quote) inside
-    × (piece ≡ quote ∷ inside ++ quote ∷ []))
+    ⊎ ((quote : ℕ) × (inside : List ℕ) × (is_quote quote ≡ true)
+    × All (λ octet. octet ≢ quote) inside × (piece ≡ quote ∷ inside ++ quote ∷ []))
 
 -- each quote that opens in the text is closed in it, so that what comes next stands outside quotes
 abbrev pub IsClosed : List ℕ → Type 0

@@ -11,9 +11,6 @@ use Rattle.std.specs.Char.{is_ascii_digit}
 use Rattle.std.specs.Str.{all_ascii_digits}
 use Rattle.snmp_oid.specs.Numeric.{decimal_value, IsNumeral}
 
-zero_more : (rest : List ℕ) → 0 * 10 ^ length rest + decimal_value rest ≡ decimal_value rest
-zero_more rest = omega arith
-
 -- the digits of a part are read but for those left
 pub record IsReadTo (part left : List ℕ) (number : ℕ) : Type 0 where
   pub value : number * 10 ^ length left + decimal_value left ≡ decimal_value part
@@ -86,9 +83,6 @@ read_large_at part count number low large h =
 pub record IsFrontRead (text : List ℕ) (count number : ℕ) : Type 0 where
   pub within : count ≤ length text
   pub read : (rest : List ℕ) → IsReadTo (take count text ++ rest) rest number
-
-pub front_begins : (text : List ℕ) → IsFrontRead text 0 0
-front_begins text = record { within = omega arith; read = λ rest. record { value = zero_more rest; digits = refl; fits = lit< tt } }
 
 pub front_more : (text : List ℕ) (count number : ℕ) → count < length text → is_ascii_digit (get_or text count 0) ≡ true
     → number * 10 + (get_or text count 0 - 48) < 2 ^ 32 → IsFrontRead text count number

@@ -102,15 +102,30 @@ fn without_front_dot(text: &[u8]) -> &[u8]
 fn read_part(text: &[u8]) -> (Option<u32>, Option<&[u8]>)
     ensures { IsPartRead text.now result.0 (option_map (λ rest. rest.now) result.1) }
 {
-    match read_digits(text) {
+    match read_short(text) {
         Some((number, after)) => (Some(number), after),
         None => read_any_part(text),
     }
 }
 
-/// The same where the part is digits of a number that is far from the greatest, as most are. None
-/// says nothing of the text.
-// Hot: each number of a name. One pass over its digits and their end.
+/// The same where the part is a digit before a dot, as most are, or digits of a number that is far
+/// from the greatest. None says nothing of the text.
+// Hot: each number of a name.
+#[inline(always)]
+fn read_short(text: &[u8]) -> Option<(u32, Option<&[u8]>)>
+    ensures { IfSome result
+        (λ read. IsPartRead text.now (Some read.0) (option_map (λ rest. rest.now) read.1)) }
+{
+    match text {
+        [digit, b'.', rest @ ..] if digit.is_ascii_digit() => {
+            Some((u32::from(*digit - b'0'), Some(rest)))
+        }
+        _ => read_digits(text),
+    }
+}
+
+/// The same of any digits.
+// Hot: each number of some digits. One pass over these and their end.
 #[inline(always)]
 fn read_digits(text: &[u8]) -> Option<(u32, Option<&[u8]>)>
     ensures { IfSome result

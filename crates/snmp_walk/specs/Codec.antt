@@ -1,5 +1,5 @@
--- What the crates below state, as laws, of names, of messages and their encodings, and of tables, for
--- proofs.
+-- What the crates below state, as laws, of names, of messages and their encodings, and of tables,
+-- for proofs.
 use Rattle.std.specs.Prelude.{◌≡◌, ℕ, List}
 use Rattle.std.specs.Ordering.{nat_cmp}
 use Rattle.std.specs.Cmp.Lexicographic.{slice_cmp}

@@ -43,7 +43,8 @@ IsChain Next o (p ∷ more) = Next o p × IsChain Next p.name more
 abbrev pub IsLarge : (List ℕ → VarBind → Type 0) → (VarBind → Type 0) → List ℕ → Type 0
 IsLarge Answer Large o = (p : VarBind) × Answer o p × Large p
 
--- an honest reply has the bindings asked for, or tooBig where they have no room, for private clauses
+-- an honest reply has the bindings asked for, or tooBig where they have no room, for private
+-- clauses
 abbrev pub IsGetContent : (List ℕ → VarBind → Type 0) → (VarBind → Type 0) → List ℕ → Message
     → Type 0
 IsGetContent Got Large o m =

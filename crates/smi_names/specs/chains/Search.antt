@@ -1,4 +1,4 @@
--- The state of the search for places whose chains end.
+-- The state of the search for places whose chains end, for private clauses.
 use Rattle.std.specs.Prelude.{
   ◌≡◌,
   ℕ,

@@ -50,11 +50,11 @@ abbrev pub IsDefinedAt : Entry → Type 0
 IsDefinedAt e = (d : Def) → decision_of e.decider ≡ defined d
     → slice_get e.«module».now.defs e.source.1 ≡ Some d
 
--- an entry is one of the module at a place
+-- an entry is one of the module at a place, for private clauses
 abbrev pub IsEntryOf : Module → ℕ → Entry → Type 0
 IsEntryOf m i e = (e.«module».now ≡ m) × (e.source.0 ≡ i) × IsDefinedAt e
 
--- the scope knows more: where it knew nothing, it has what `more` decides
+-- the scope knows more: where it knew nothing, it has what `more` decides; for private clauses
 pub record KnowsMore (old : List Entry) (before : NamePlaces) (new : List Entry)
     (scope : NamePlaces) (m : Module) (i : ℕ) (more : List ℕ
     → Option Decision) : Type 0 where

@@ -71,7 +71,8 @@ pub data GrowsBranch (old new : List Branch) (at n : ℕ) : ℕ → Type 0 where
       → ((c : ℕ) → standing_at new c ≡ standing_at old c)
       → GrowsBranch old new at n b
 
--- what stands at a branch, as the deepest place, or the deepest place before it, for private clauses
+-- what stands at a branch, as the deepest place, or the deepest place before it, for private
+-- clauses
 abbrev pub deeper_of : Option ℕ → (branch depth : ℕ) → Option Deepest → Option Deepest
 deeper_of None branch depth before = before
 deeper_of (Some place) branch depth before =
@@ -84,8 +85,8 @@ SoFar oids o i (Some d) =
     (d.depth ≤ i) × (place_of oids (take d.depth o) ≡ Some d.place)
     × ((j : ℕ) → d.depth < j → j ≤ i → place_of oids (take j o) ≡ None)
 
--- the first `depth` numbers of o lead to a branch, and this is the longest beginning among them, for
--- private clauses
+-- the first `depth` numbers of o lead to a branch, and this is the longest beginning among them,
+-- for private clauses
 pub record IsUnderWay (oids : List (List ℕ)) (bs : List Branch) (o : List ℕ) (depth branch : ℕ)
     (deepest : Option Deepest) : Type 0 where
   pub within : depth ≤ length o

@@ -1,5 +1,5 @@
--- The ends that are kept for the places of names, and where the types of objects lead. The relations
--- here are for private clauses.
+-- The ends that are kept for the places of names, and where the types of objects lead. The
+-- relations here are for private clauses.
 use Rattle.std.specs.Prelude.{◌≡◌, ℕ, ◌<◌, List, length, Option, Some, Vec}
 use Rattle.std.specs.Global.{Global}
 use Rattle.std.specs.List.{slice_get}

@@ -101,8 +101,8 @@ impl Identifiers {
         deepest_of_all(&self.oids, &self.branches, oid)
     }
 
-    /// The same. `near` is a guess where the search may begin, the branch of what was found last, and
-    /// is changed to that of what is found now. Whatever it is, the result is the same.
+    /// The same. `near` is a guess where the search may begin, the branch of what was found last,
+    /// and is changed to that of what is found now. Whatever it is, the result is the same.
     pub fn deepest_near(&self, oid: &Oid, near: &mut usize) -> Option<Deepest>
         ensures { MatchOption result
             (HasNoBeginning self.now oid.now)
