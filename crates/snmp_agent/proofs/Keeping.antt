@@ -13,8 +13,8 @@ use Rattle.snmp_wire.specs.Message.Datum.{ip_address, counter32, gauge32, time_t
 use Rattle.snmp_wire.specs.Message.Datum.{opaque_octets}
 use Rattle.snmp_wire.specs.Message.Datum.{counter64, no_such_object, no_such_instance}
 use Rattle.snmp_wire.specs.Message.Datum.{end_of_mib_view}
-use Rattle.snmp_agent.specs.declared.table.row.RowValue.{RowValue}
-use Rattle.snmp_agent.specs.declared.table.row.RowValue.TheVariants as value
+use Rattle.snmp_agent.specs.declared.table.row.RowText.{RowText}
+use Rattle.snmp_agent.specs.declared.table.row.RowText.TheVariants as value
 use Rattle.snmp_agent.specs.table.Table.{IsRow, IsInstanceName, IsInstanceValue, IsMibView}
 use Rattle.snmp_agent.specs.table.Table.{MibView}
 use Rattle.snmp_agent.specs.table.Row.{datum_of, IsShort}
@@ -68,16 +68,10 @@ row_value format lines p h = stated_value format h.0 p h.2
 prefix_name : (format : Format) (lines : List (List ℕ)) (o : List ℕ) → HasPrefix format lines o → (o ≢ []) × IsIdentifier o
 prefix_name format lines o h = let prefix : IsPrefixLine format h.0 o = h.2 in (prefix.3, is_identifier format prefix.0 o prefix.2)
 
-pub short_value : (v : RowValue) → IsInstanceValue (datum_of v) → IsShort v
-short_value (value.Integer n) h = omega arith
+pub short_value : (v : RowText) → IsInstanceValue (datum_of v) → IsShort v
 short_value (value.Octets octets) h = omega arith
 short_value (value.ObjectId numbers) h = h.1.short
-short_value (value.IpAddress octets) h = omega arith
-short_value (value.Counter32 n) h = omega arith
-short_value (value.Gauge32 n) h = omega arith
-short_value (value.TimeTicks n) h = omega arith
 short_value (value.Opaque octets) h = omega arith
-short_value (value.Counter64 n) h = omega arith
 
 -- an instance has an encoding
 pub name_in_range : (o : List ℕ) → IsInstanceName o → IsInRange (object_id o)

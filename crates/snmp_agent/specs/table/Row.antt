@@ -1,32 +1,25 @@
 -- Values as the text of a table states them.
 use Rattle.std.specs.Prelude.{ℕ, ◌≤◌, List, length, codes}
 use Rattle.snmp_wire.specs.Message.{Datum}
-use Rattle.snmp_wire.specs.Message.Datum.{integer_value, octet_string, object_id, ip_address}
-use Rattle.snmp_wire.specs.Message.Datum.{counter32, gauge32, time_ticks, opaque_octets, counter64}
+use Rattle.snmp_wire.specs.Message.Datum.{octet_string, object_id, opaque_octets}
 use Rattle.snmp_agent.specs.declared.table.value.Tag.{Tag}
 use Rattle.snmp_agent.specs.declared.table.value.Tag.TheVariants as tag
-use Rattle.snmp_agent.specs.declared.table.row.RowValue.{RowValue}
-use Rattle.snmp_agent.specs.declared.table.row.RowValue.TheVariants as value
+use Rattle.snmp_agent.specs.declared.table.row.RowText.{RowText}
+use Rattle.snmp_agent.specs.declared.table.row.RowText.TheVariants as value
 
 -- the value that a row's stands for
-abbrev pub datum_of : RowValue → Datum
-datum_of (value.Integer n) = integer_value n
+abbrev pub datum_of : RowText → Datum
 datum_of (value.Octets octets) = octet_string octets.items
 datum_of (value.ObjectId numbers) = object_id numbers.items
-datum_of (value.IpAddress octets) = ip_address octets
-datum_of (value.Counter32 n) = counter32 n
-datum_of (value.Gauge32 n) = gauge32 n
-datum_of (value.TimeTicks n) = time_ticks n
 datum_of (value.Opaque octets) = opaque_octets octets.items
-datum_of (value.Counter64 n) = counter64 n
 
 -- how many numbers the value has where it is an identifier, and else 0
-abbrev pub name_length : RowValue → ℕ
+abbrev pub name_length : RowText → ℕ
 name_length (value.ObjectId numbers) = length numbers.items
 name_length _ = 0
 
 -- where the value is an identifier, it has at most 128 numbers
-abbrev pub IsShort : RowValue → Type 0
+abbrev pub IsShort : RowText → Type 0
 IsShort v = name_length v ≤ 128
 
 -- the text of a tag
@@ -41,3 +34,11 @@ tag_text tag.Gauge32 = codes "66"
 tag_text tag.TimeTicks = codes "67"
 tag_text tag.HexOpaque = codes "68x"
 tag_text tag.Counter64 = codes "70"
+
+-- values of the tag are octets or identifiers, for private clauses
+abbrev pub IsTextTag : Tag → Type 0
+IsTextTag tag.OctetString = Unit {0}
+IsTextTag tag.HexOctetString = Unit {0}
+IsTextTag tag.ObjectId = Unit {0}
+IsTextTag tag.HexOpaque = Unit {0}
+IsTextTag _ = ⊥

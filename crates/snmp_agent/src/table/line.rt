@@ -10,9 +10,9 @@ ghost use Rattle.snmp_agent.specs.table.Text.{IsBlank, IsObjectForm};
 
 use crate::table::change::is_instance_name;
 use crate::table::format::LineFormat;
-use crate::table::row::RowValue;
+use crate::table::row::RowText;
 use crate::table::split::split_once;
-use crate::table::value::{Tag, value};
+use crate::table::value::{Tag, read_number, read_text};
 use snmp_wire::{Binding, EncodedBinding, Oid, ValueRef};
 use std::alloc::{AllocError, Global};
 
@@ -145,35 +145,26 @@ fn instance<F: LineFormat>(
     if !format.name(text, &mut into.name) || !is_instance_name(&into.name) {
         return Err(LineFault::Name);
     }
-    let Some(stated) = value(alloc, format, tag, value_text)? else {
-        return Err(LineFault::Value);
-    };
-    let row = encoded(alloc, &into.name, &stated, &mut into.value)?;
-    Ok(Line::Instance(row))
-}
-
-/// The row of this name and value. A number is put into the value that is there.
-fn encoded(
-    alloc: Global,
-    name: &Oid,
-    stated: &RowValue,
-    value: &mut ValueRef<'_>,
-) -> Result<EncodedBinding, AllocError>
-    requires name { IsInRange (object_id name.now) }
-    requires value { IsInRange (datum_of stated.now) }
-    requires short { IsShort stated.now }
-    ensures { IfOk result (λ row. row ≡ record { name = name.now; value = datum_of stated.now }) }
-{
-    if stated.set_number(value) {
-        return EncodedBinding::new(alloc, name, value);
+    match read_number(tag, value_text, &mut into.value) {
+        Some(true) => {
+            let row = EncodedBinding::new(alloc, &into.name, &into.value)?;
+            Ok(Line::Instance(row))
+        }
+        Some(false) => Err(LineFault::Value),
+        None => {
+            let Some(stated) = read_text(alloc, format, tag, value_text)? else {
+                return Err(LineFault::Value);
+            };
+            let row = encoded_text(alloc, &into.name, &stated)?;
+            Ok(Line::Instance(row))
+        }
     }
-    encoded_text(alloc, name, stated)
 }
 
-/// The same, by a value of its own.
-// Not inlined: a number would have to clear that.
+/// The row of this name and value.
+// Not inlined: a number would have to clear the value.
 #[inline(never)]
-fn encoded_text(alloc: Global, name: &Oid, stated: &RowValue) -> Result<EncodedBinding, AllocError>
+fn encoded_text(alloc: Global, name: &Oid, stated: &RowText) -> Result<EncodedBinding, AllocError>
     requires name { IsInRange (object_id name.now) }
     requires value { IsInRange (datum_of stated.now) }
     requires short { IsShort stated.now }

@@ -1,20 +1,23 @@
 //! Values as a table's text states them.
-ghost use Rattle.std.specs.Prelude.{◌≡◌, ◌<◌, ◌≤◌, ◌^◌, IfOk, FitsSigned};
+ghost use Rattle.std.specs.Prelude.{◌≡◌, ◌<◌, ◌≤◌, ◌^◌, IfOk, IfSome, IfNone, FitsSigned};
 ghost use Rattle.std.specs.Int.{w32};
 ghost use Rattle.std.specs.Option.{option_map};
 ghost use Rattle.hex.specs.Hex.{decode_of};
 ghost use Rattle.snmp_oid.specs.Identifier.{IsWire};
-ghost use Rattle.snmp_agent.specs.table.Exact.{IsOnly};
-ghost use Rattle.snmp_agent.specs.table.Row.{datum_of, tag_text};
+ghost use Rattle.snmp_wire.specs.Message.{datum};
+ghost use Rattle.snmp_wire.specs.Message.Datum.{integer_value, counter32, gauge32, time_ticks};
+ghost use Rattle.snmp_wire.specs.Message.Datum.{counter64};
+ghost use Rattle.snmp_agent.specs.table.Exact.{IsOnly, IsOnlyThere};
+ghost use Rattle.snmp_agent.specs.table.Row.{datum_of, tag_text, IsTextTag};
 ghost use Rattle.snmp_agent.specs.table.Table.{IsTableString};
-ghost use Rattle.snmp_agent.specs.table.Format.{IsNameIn};
+ghost use Rattle.snmp_agent.specs.table.Format.{Format, IsNameIn};
 ghost use Rattle.snmp_agent.specs.table.Text.{IsDecimal, IsSignedDecimal, IsAddressText};
 ghost use Rattle.snmp_agent.specs.table.Text.{IsValueText};
 
 use crate::table::format::LineFormat;
-use crate::table::row::RowValue;
+use crate::table::row::RowText;
 use hex::FromHexError;
-use snmp_wire::{Oid, parse_numeric};
+use snmp_wire::{Oid, ValueRef, parse_numeric};
 use std::alloc::{AllocError, Global};
 
 /// The tag of a row, which says of what type its value is, and how the text states it.
@@ -60,27 +63,116 @@ impl Tag {
 /// How many octets a string of a table has at most.
 pub const LONGEST_STRING: usize = 65535;
 
-/// The value that the text states, None where it states none of the tag's type.
-pub fn value<F: LineFormat>(
+/// Reads the number or the address that the text states into a value that is there, and returns
+/// whether it states one. None where values of the tag are neither.
+pub fn read_number(tag: Tag, text: &[u8], into: &mut ValueRef<'_>) -> Option<bool>
+    ensures number { IfSome result (λ found. (format : Format) → IsOnlyThere
+        (IsValueText format (tag_text tag) text.now) found (datum into.new)) }
+    ensures other { IfNone result (IsTextTag tag) }
+{
+    match tag {
+        Tag::Integer => match signed(text) {
+            Some(number) => set_integer(into, number),
+            None => return Some(false),
+        },
+        Tag::IpAddress => match address(text) {
+            Some(octets) => *into = ValueRef::IpAddress(octets),
+            None => return Some(false),
+        },
+        Tag::Counter32 => match unsigned(text) {
+            Some(number) => set_counter32(into, number),
+            None => return Some(false),
+        },
+        Tag::Gauge32 => match unsigned(text) {
+            Some(number) => set_gauge32(into, number),
+            None => return Some(false),
+        },
+        Tag::TimeTicks => match unsigned(text) {
+            Some(number) => set_time_ticks(into, number),
+            None => return Some(false),
+        },
+        Tag::Counter64 => match decimal(text) {
+            Some(number) => set_counter64(into, number),
+            None => return Some(false),
+        },
+        Tag::OctetString | Tag::HexOctetString | Tag::ObjectId | Tag::HexOpaque => return None,
+    }
+    Some(true)
+}
+
+/// Changes a value to an INTEGER. As the next four do, it leaves what else is in a value that has
+/// the type: this saves setting over 500 octets.
+#[inline(always)]
+fn set_integer(value: &mut ValueRef<'_>, number: i32)
+    ensures { datum value.new ≡ integer_value number }
+{
+    match value {
+        ValueRef::Integer(place) => *place = number,
+        _ => *value = ValueRef::Integer(number),
+    }
+}
+
+/// Changes a value to a Counter32.
+#[inline(always)]
+fn set_counter32(value: &mut ValueRef<'_>, number: u32)
+    ensures { datum value.new ≡ counter32 number }
+{
+    match value {
+        ValueRef::Counter32(place) => *place = number,
+        _ => *value = ValueRef::Counter32(number),
+    }
+}
+
+/// Changes a value to a Gauge32.
+#[inline(always)]
+fn set_gauge32(value: &mut ValueRef<'_>, number: u32)
+    ensures { datum value.new ≡ gauge32 number }
+{
+    match value {
+        ValueRef::Gauge32(place) => *place = number,
+        _ => *value = ValueRef::Gauge32(number),
+    }
+}
+
+/// Changes a value to a TimeTicks.
+#[inline(always)]
+fn set_time_ticks(value: &mut ValueRef<'_>, number: u32)
+    ensures { datum value.new ≡ time_ticks number }
+{
+    match value {
+        ValueRef::TimeTicks(place) => *place = number,
+        _ => *value = ValueRef::TimeTicks(number),
+    }
+}
+
+/// Changes a value to a Counter64.
+#[inline(always)]
+fn set_counter64(value: &mut ValueRef<'_>, number: u64)
+    ensures { datum value.new ≡ counter64 number }
+{
+    match value {
+        ValueRef::Counter64(place) => *place = number,
+        _ => *value = ValueRef::Counter64(number),
+    }
+}
+
+/// The octets or the identifier that the text states, None where it states none of the tag's type.
+pub fn read_text<F: LineFormat>(
     alloc: Global,
     format: &F,
     tag: Tag,
     text: &[u8],
-) -> Result<Option<RowValue>, AllocError>
+) -> Result<Option<RowText>, AllocError>
+    requires { IsTextTag tag }
     ensures { IfOk result (λ value. IsOnly
         (IsValueText (F.format format.now) (tag_text tag) text.now) (option_map datum_of value)) }
 {
     match tag {
-        Tag::Integer => Ok(signed(text).map(RowValue::Integer)),
-        Tag::OctetString => Ok(string(alloc, text)?.map(RowValue::Octets)),
-        Tag::HexOctetString => Ok(hexadecimal(alloc, text)?.map(RowValue::Octets)),
-        Tag::ObjectId => Ok(object_id(alloc, format, text)?.map(RowValue::ObjectId)),
-        Tag::IpAddress => Ok(address(text).map(RowValue::IpAddress)),
-        Tag::Counter32 => Ok(unsigned(text).map(RowValue::Counter32)),
-        Tag::Gauge32 => Ok(unsigned(text).map(RowValue::Gauge32)),
-        Tag::TimeTicks => Ok(unsigned(text).map(RowValue::TimeTicks)),
-        Tag::HexOpaque => Ok(hexadecimal(alloc, text)?.map(RowValue::Opaque)),
-        Tag::Counter64 => Ok(decimal(text).map(RowValue::Counter64)),
+        Tag::OctetString => Ok(string(alloc, text)?.map(RowText::Octets)),
+        Tag::HexOctetString => Ok(hexadecimal(alloc, text)?.map(RowText::Octets)),
+        Tag::ObjectId => Ok(object_id(alloc, format, text)?.map(RowText::ObjectId)),
+        Tag::HexOpaque => Ok(hexadecimal(alloc, text)?.map(RowText::Opaque)),
+        _ => unreachable!(),
     }
 }
 

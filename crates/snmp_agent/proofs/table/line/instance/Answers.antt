@@ -1,46 +1,61 @@
-use Rattle.std.proofs.Common.{◌≡◌, ℕ, List, Some, sym, ◌∙◌, subst, ap}
+use Rattle.std.proofs.Common.{◌≡◌, ℕ, List, Some, true, false, sym, ◌∙◌, subst, ap}
 use Rattle.std.specs.Option.{option_map}
-use Rattle.snmp_wire.specs.Message.{Datum, VarBind}
-use Rattle.snmp_agent.specs.table.Exact.{IsOnly}
+use Rattle.snmp_wire.specs.Message.{Datum, VarBind, datum}
+use Rattle.snmp_agent.specs.table.Exact.{IsOnly, IsOnlyThere}
 use Rattle.snmp_agent.specs.table.Row.{datum_of, tag_text}
-use Rattle.snmp_agent.specs.table.Table.{IsInstanceValue}
 use Rattle.snmp_agent.specs.table.Form.{IsInstanceText}
 use Rattle.snmp_agent.specs.table.Format.{IsNameIn}
 use Rattle.snmp_agent.specs.table.Text.{IsValueText}
-use Rattle.snmp_agent.proofs.Keeping.{instance_value, name_in_range, short_value, value_in_range}
+use Rattle.snmp_agent.proofs.Keeping.{instance_value, value_in_range}
 use Rattle.snmp_agent.proofs.table.line.instance.Given.{Over}
 use Rattle.snmp_agent.proofs.table.line.instance.Goals as goal
-use Rattle.snmp_agent.proofs.table.line.instance.Goals.{In-Some}
+use Rattle.snmp_agent.proofs.table.line.instance.Goals.{In-Some, In-Some-true}
 
-stated : (g : Over) (c : In-Some g)
+number : (g : Over) (c : In-Some-true g)
+    → IsValueText (g.F.LineFormat.format c.args.format.now) (tag_text c.args.tag) c.args.value_text.now (datum c.read_number.new.into)
+number g c =
+    let format = g.F.LineFormat.format c.args.format.now in
+    let only = c.in-Some-true.ensures.number format in
+    let value : IsOnlyThere (IsValueText format (tag_text c.args.tag) c.args.value_text.now) true (datum c.read_number.new.into) =
+    rw c.in-Some-true.field-0-test at only in value.0
+
+text : (g : Over) (c : In-Some g)
     → IsValueText (g.F.LineFormat.format c.args.format.now) (tag_text c.args.tag) c.args.value_text.now (datum_of c.in-Some.stated)
-stated g c =
+text g c =
     let format = g.F.LineFormat.format c.args.format.now in
     let value : IsOnly (IsValueText format (tag_text c.args.tag) c.args.value_text.now) (option_map datum_of
-    (Some c.in-Some.stated)) = rw c.in-Some.is at c.in_ok-stated.ensures in value.0
+    (Some c.in-Some.stated)) = rw c.in-Some.is at c.in_ok-stated-in-None.ensures in value.0
 
-held : (g : Over) (c : In-Some g) → IsInstanceValue (datum_of c.in-Some.stated)
-held g c =
-    instance_value (g.F.LineFormat.format c.args.format.now) (tag_text c.args.tag) c.args.value_text.now (datum_of c.in-Some.stated) (stated g c)
-
-pub encoded-requires-clause-name : goal.encoded-requires-clause-name
-encoded-requires-clause-name g c = name_in_range c.name.new.into (c.is_instance_name.ensures.0 c.if-not-is_instance_name.false)
-
-pub encoded-requires-clause-value : goal.encoded-requires-clause-value
-encoded-requires-clause-value g c = value_in_range (datum_of c.in-Some.stated) (held g (goal.at.encoded-requires-clause-value g c).In-Some)
-
-pub encoded-requires-clause-short : goal.encoded-requires-clause-short
-encoded-requires-clause-short g c = short_value c.in-Some.stated (held g (goal.at.encoded-requires-clause-short g c).In-Some)
-
-pub returns : goal.returns
-returns g c =
+pub new-requires-clause-value : goal.new-requires-clause-value
+new-requires-clause-value g c =
     let format = g.F.LineFormat.format c.args.format.now in
-    let row : VarBind = c.in_ok-row.row in
+    let value = datum c.read_number.new.into in
+    value_in_range value (instance_value format (tag_text c.args.tag) c.args.value_text.now value (number g (goal.at.new-requires-clause-value g c).In-Some-true))
+
+pub encoded_text-requires-clause-value : goal.encoded_text-requires-clause-value
+encoded_text-requires-clause-value g c =
+    let format = g.F.LineFormat.format c.args.format.now in
+    let value = datum_of c.in-Some.stated in
+    value_in_range value (instance_value format (tag_text c.args.tag) c.args.value_text.now value (text g (goal.at.encoded_text-requires-clause-value g c).In-Some))
+
+pub returns-in_ok-row-in-Some-true : goal.returns-in_ok-row-in-Some-true
+returns-in_ok-row-in-Some-true g c =
+    let format = g.F.LineFormat.format c.args.format.now in
+    let row : VarBind = c.in_ok-row-in-Some-true.row in
     let named : IsOnly (IsNameIn format c.args.text.now) (Some c.name.new.into) = rw c.if-not-name.false at c.name.ensures in
-    let name : row.name ≡ c.name.new.into = ap (λ (p : VarBind). p.name) c.in_ok-row.ensures in
-    let value : row.value ≡ datum_of c.in-Some.stated = ap (λ (p : VarBind). p.value) c.in_ok-row.ensures in (
+    let name : row.name ≡ c.name.new.into = ap (λ (p : VarBind). p.name) c.in_ok-row-in-Some-true.ensures in
+    let value : row.value ≡ datum c.read_number.new.into = ap (λ (p : VarBind). p.value) c.in_ok-row-in-Some-true.ensures in (
       subst (λ (o : List ℕ). IsInstanceText format c.args.text.now o) (sym name)
           (named.0, c.is_instance_name.ensures.0 c.if-not-is_instance_name.false),
       subst (λ (v : Datum). IsValueText format (tag_text c.args.tag) c.args.value_text.now v) (sym value)
-          (stated g (goal.at.returns g c).In-Some),
+          (number g (goal.at.returns-in_ok-row-in-Some-true g c).In-Some-true),
     )
+
+pub returns-in-Some-false : goal.returns-in-Some-false
+returns-in-Some-false g c =
+    let format = g.F.LineFormat.format c.args.format.now in
+    let named : IsOnly (IsNameIn format c.args.text.now) (Some c.name.new.into) = rw c.if-not-name.false at c.name.ensures in
+    let only = c.in-Some-false.ensures.number format in
+    let none : IsOnlyThere (IsValueText format (tag_text c.args.tag) c.args.value_text.now) false (datum c.read_number.new.into) =
+    rw c.in-Some-false.field-0-test at only in
+    ((c.name.new.into, (named.0, c.is_instance_name.ensures.0 c.if-not-is_instance_name.false)), none)
