@@ -197,9 +197,7 @@ fn append_front<T: ShowTree>(tree: &T, letters: &Letters, name: &Oid, draft: &mu
     ensures { let shown = names_by (T.naming tree.now) letters.now name.now in
         Adds draft.old (front_text letters.now shown) draft.new }
 {
-    if letters.value_alone {
-        draft.octets(b"");
-    } else {
+    if !letters.value_alone {
         name_text(tree, letters.names, letters.numeric_index, name, draft);
         append_separator(letters.types, draft);
     }

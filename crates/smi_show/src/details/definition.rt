@@ -22,7 +22,7 @@ pub fn definition_text(kind: &DefKind, draft: &mut Draft)
         DefKind::NotificationType(d) => status_text(&d.status, draft),
         DefKind::ObjectGroup(d) => status_text(&d.status, draft),
         DefKind::NotificationGroup(d) => status_text(&d.status, draft),
-        _ => draft.octets(b""),
+        _ => {}
     }
 }
 

@@ -102,10 +102,8 @@ fn parts_meaning<T: NameTree>(tree: &T, scope: Scope<'_>, text: &[u8]) -> Result
         result ≡ parts_meaning (T.naming tree.now) (scope_in scope.entry) parts }
 {
     let (part, rest) = cut_part(text);
-    match head_meaning(tree, scope, part) {
-        Ok(head) => further_meaning(tree, head, rest),
-        Err(fault) => Err(fault),
-    }
+    let head = head_meaning(tree, scope, part)?;
+    further_meaning(tree, head, rest)
 }
 
 /// What further parts mean after the identifier so far.
@@ -121,10 +119,7 @@ fn further_meaning<T: NameTree>(
     let mut left = parts;
     'parts: while let Some(here) = left {
         let (part, rest) = cut_part(here);
-        match part_meaning(tree, oid, part) {
-            Ok(next) => oid = next,
-            Err(fault) => return Err(fault),
-        }
+        oid = part_meaning(tree, oid, part)?;
         left = rest;
     }
     Ok(oid)
@@ -134,10 +129,9 @@ fn further_meaning<T: NameTree>(
 fn head_meaning<T: NameTree>(tree: &T, scope: Scope<'_>, part: &[u8]) -> Result<Oid, NameError>
     ensures { result ≡ head_meaning (T.naming tree.now) (scope_in scope.entry) part.now }
 {
-    match read_part(part) {
-        Ok(Part::Piece(piece)) => with_piece(Oid::new(), piece),
-        Ok(Part::Label(label)) => labelled(tree, scope, label),
-        Err(fault) => Err(fault),
+    match read_part(part)? {
+        Part::Piece(piece) => with_piece(Oid::new(), piece),
+        Part::Label(label) => labelled(tree, scope, label),
     }
 }
 
@@ -156,10 +150,9 @@ fn labelled<T: NameTree>(tree: &T, scope: Scope<'_>, label: &[u8]) -> Result<Oid
 fn part_meaning<T: NameTree>(tree: &T, so_far: Oid, part: &[u8]) -> Result<Oid, NameError>
     ensures { result ≡ part_meaning (T.naming tree.now) so_far part.now }
 {
-    match read_part(part) {
-        Ok(Part::Piece(piece)) => with_piece(so_far, piece),
-        Ok(Part::Label(label)) => known(tree.child(&so_far, label)),
-        Err(fault) => Err(fault),
+    match read_part(part)? {
+        Part::Piece(piece) => with_piece(so_far, piece),
+        Part::Label(label) => known(tree.child(&so_far, label)),
     }
 }
 

@@ -76,7 +76,7 @@ fn node_text<T: NameTree>(tree: &T, form: NameForm, oid: &Oid, node: Node<'_>, d
         Adds draft.old text draft.new }
 {
     match form {
-        NameForm::Numeric => draft.octets(b""),
+        NameForm::Numeric => {}
         NameForm::Full => path(tree, &oid.as_slice()[..node.depth], draft),
         NameForm::Label => draft.octets(node.label),
         NameForm::ModuleLabel => qualified(node, draft),

@@ -37,10 +37,8 @@ fn with_counted(oid: Oid, octets: &[u8]) -> Result<Oid, NameError>
     if octets.len() > MAX_LEN {
         return Err(NameError::TooLong);
     }
-    match with_number(oid, octets.len() as u32) {
-        Ok(longer) => with_octets(longer, octets),
-        Err(fault) => Err(fault),
-    }
+    let longer = with_number(oid, octets.len() as u32)?;
+    with_octets(longer, octets)
 }
 
 /// An identifier with octets after it.
