@@ -37,13 +37,6 @@ longer_twice a b (Some (name, rest)) = ap (λ (t : List ℕ). Some (t, rest)) (s
 abbrev pub IsModuleAt : List ℕ → ℕ → Option ℕ → Type 0
 IsModuleAt text at state = module_after None text ≡ option_map (longer_module (take at text)) (module_after state (drop at text))
 
-pub module_begins : (text : List ℕ) → IsModuleAt text 0 None
-module_begins text = same (module_after None text)
-  where
-    same : (read : Option (List ℕ × List ℕ)) → read ≡ option_map (longer_module []) read
-    same None = refl
-    same (Some (name, rest)) = refl
-
 pub module_later : (text : List ℕ) (at : ℕ) (state : Option ℕ) → at < length text → (is_unquoted state && is_double_colon (drop at text)) ≡ false
     → IsModuleAt text at state → IsModuleAt text (at + 1) (open_after state (get_or text at 0))
 module_later text at state low other h =

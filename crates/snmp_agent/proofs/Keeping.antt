@@ -68,11 +68,6 @@ row_value format lines p h = stated_value format h.0 p h.2
 prefix_name : (format : Format) (lines : List (List ℕ)) (o : List ℕ) → HasPrefix format lines o → (o ≢ []) × IsIdentifier o
 prefix_name format lines o h = let prefix : IsPrefixLine format h.0 o = h.2 in (prefix.3, is_identifier format prefix.0 o prefix.2)
 
-pub short_value : (v : RowText) → IsInstanceValue (datum_of v) → IsShort v
-short_value (value.Octets octets) h = omega arith
-short_value (value.ObjectId numbers) h = h.1.short
-short_value (value.Opaque octets) h = omega arith
-
 -- an instance has an encoding
 pub name_in_range : (o : List ℕ) → IsInstanceName o → IsInRange (object_id o)
 name_in_range o h = (h.wire, h.identifier)

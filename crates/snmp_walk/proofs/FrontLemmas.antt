@@ -196,8 +196,3 @@ module _ (w : Walker) (bindings : List VarBind) (front : ReadFront) (fine : is_m
 -- a reply with bindings out of place
 pub none_misplaced : (room : ℕ) → is_misplaced room [] ≡ false
 none_misplaced room = ap (λ (b : Bool). b || false) (le-ltb room 0 (omega arith))
-
-pub read_misplaced : (w : Walker) (bindings : List VarBind) → is_misplaced (asked_for w.method) bindings ≡ true
-    → reads_next w bindings ≡ stops w [] walk_end.BadReply
-read_misplaced w [] out = absurd (false≢true (sym (none_misplaced (asked_for w.method)) ∙ out))
-read_misplaced w (b ∷ more) out = rw out refl

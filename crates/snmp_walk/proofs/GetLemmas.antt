@@ -34,11 +34,6 @@ pub for_more : (names : List (List ℕ)) (i : ℕ) (o : List ℕ) (p : VarBind) 
 for_more names i o p more h e is =
     ap (λ (ns : List (List ℕ)). are_for ns (p ∷ more)) (next_name names i o h e) ∙ ap (λ (b : Bool). b && are_for (drop (i + 1) names) more) is
 
-pub for_other : (names : List (List ℕ)) (i : ℕ) (o : List ℕ) (p : VarBind) (more : List VarBind) → i < length names → o ≡ get_or names i o → is_for o p ≡ false
-    → are_for (drop i names) (p ∷ more) ≡ false
-for_other names i o p more h e is =
-    ap (λ (ns : List (List ℕ)). are_for ns (p ∷ more)) (next_name names i o h e) ∙ ap (λ (b : Bool). b && are_for (drop (i + 1) names) more) is
-
 pub for_none : (names : List (List ℕ)) (i : ℕ) (o : List ℕ) → i < length names → o ≡ get_or names i o → are_for (drop i names) [] ≡ false
 for_none names i o h e = ap (λ (ns : List (List ℕ)). are_for ns []) (next_name names i o h e)
 

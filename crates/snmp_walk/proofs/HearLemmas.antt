@@ -151,18 +151,6 @@ module _ (agents : Agents) (community : List ℕ) (id : ℕ) (q : List ℕ) (old
       by_datagram None e given = let no : ⊥ = cc in absurd no
       by_datagram (Some d) e given = by_other d given (asked.others d (found old.sent k d e))
 
--- after the last receive
-pub waits_over : (agents : Agents) (q : List ℕ) (old now : Traffic) → Waits agents q old 64 now → (silent : Type 0) → Hears agents q old silent now
-waits_over agents q old now w silent = record {
-  used = w.used;
-  parts = w.parts;
-  few = w.few;
-  lost = λ s. inr (λ t rest lost. subst (λ (n : ℕ). Lost agents old.sent q (w.used ++ rest) n 0) (add_one t) (w.over refl t rest lost));
-}
-  where
-    add_one : (t : ℕ) → suc t ≡ t + 1
-    add_one t = omega arith
-
 -- the receive that ended the try used one delivery at most
 pub heard_used : (agents : Agents) (q : List ℕ) (old now left : Traffic) (count : ℕ) (reply : Option (List ℕ)) → count < 64 → (ahead : List (Option ℕ))
     → now.ahead ≡ ahead

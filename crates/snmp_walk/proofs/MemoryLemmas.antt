@@ -57,9 +57,6 @@ pub views_more : (views : List MibView) (i : ℕ) (v : MibView) → i < length v
 views_more views i v less is good h =
     subst AreViews (sym (take_more views i v less ∙ ap (λ (x : MibView). take i views ++ x ∷ []) (sym is))) (views_push (take i views) v h good)
 
-pub views_all : (views : List MibView) (i : ℕ) → length views ≤ i → AreViews (take i views) → AreViews views
-views_all views i all h = subst AreViews (take_all i views all) h
-
 latest_found : (sent : List (List ℕ)) → datagram_at sent (length sent) ≡ latest sent
 latest_found [] = refl
 latest_found (d ∷ []) = refl
@@ -98,12 +95,6 @@ number_in sent deliveries used e h is =
     ∙ ap (λ (n : ℕ). e ∷ drop n deliveries) (sym (add-one used)) in
     subst (λ (ahead : List (Option ℕ)). IsNextNumber sent ahead (unwrap_or e 0) (drop (used + 1) deliveries)) (sym here)
     (number_of sent e (drop (used + 1) deliveries))
-
-pub number_past : (sent : List (List ℕ)) (deliveries : List (Option ℕ)) (used : ℕ) → length deliveries ≤ used
-    → IsNextNumber sent (drop used deliveries) (length sent) (drop used deliveries)
-number_past sent deliveries used h =
-    let none : drop used deliveries ≡ [] = drop_all used deliveries h in
-    subst (λ (ahead : List (Option ℕ)). IsNextNumber sent ahead (length sent) ahead) (sym none) (inr (inr (refl, refl, refl)))
 
 -- what the agent of one of the tables does with the datagram is what the agents make of it
 pub given_reply : (tables : List MibView) (config : Config) (view : MibView) (d reply : List ℕ) (found : Option (List ℕ)) → OneOf tables view → found ≡ Some d
@@ -166,11 +157,6 @@ last_at (view ∷ next ∷ views) zero d e = absurd (omega (arith, e))
 last_at (view ∷ next ∷ views) (suc n) d e =
     let rest = last_at (next ∷ views) n d (omega (arith, e)) in
     (view ∷ rest.0, ap (λ (s : List MibView). view ∷ s) rest.1)
-
-pub table_last : (tables : List MibView) (uses : List ℕ) (number i : ℕ) (d : MibView) → 0 < number → i ≡ number - 1 → length uses ≤ i → 0 < length tables
-    → IsTableFor tables uses number (get_or tables (length tables - 1) d)
-table_last tables uses number i d some at past served =
-    inr (omega (arith, some, at, past), last_at tables (length tables - 1) d (omega (arith, served)))
 
 -- a datagram that was sent has a number
 pub counted : (sent : List (List ℕ)) (number : ℕ) (d : List ℕ) → datagram_at sent number ≡ Some d → 0 < number

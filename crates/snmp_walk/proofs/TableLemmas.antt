@@ -117,9 +117,6 @@ module _ (rows : List VarBind) (rising : AreRising rows) (instances : AreInstanc
 include≢plain : mode.Include ≡ mode.Plain → ⊥
 include≢plain e = cc
 
-nolast≢plain : mode.NoLast ≡ mode.Plain → ⊥
-nolast≢plain e = cc
-
 -- a front of the rows is a front of what a plain walk gives
 or_only_front : (got : VarBind) (xs ys : List VarBind) → (more : List VarBind) × (or_only got (xs ++ ys) ≡ xs ++ more)
 or_only_front got [] ys = (or_only got ys, refl)

@@ -335,8 +335,3 @@ pub whole_some : (Next Got : List ℕ → VarBind → Type 0) (first : Walker) (
     → first.mode ≡ mode.Plain → given ≢ []
 whole_some Next Got first given (inl w) plain = w.3 plain
 whole_some Next Got first given (inr a) plain = λ none. let e : a.answer ∷ [] ≡ [] = sym a.only ∙ none in let never : ⊥ = cc in never
-
-pub whole_part : (Next Got : List ℕ → VarBind → Type 0) (first : Walker) (given : List VarBind) → IsWholeWalk Next Got first given
-    → IsPartOfWalk Next Got first given
-whole_part Next Got first given (inl w) = inr (inl (w.0, w.1))
-whole_part Next Got first given (inr a) = inr (inr a)
