@@ -111,8 +111,10 @@ walkers='snmpwalk snmpbulkwalk'
 # walks of a table
 for walker in $walkers; do
     prints "$three" $walker -On table:three.tab $e.1
-    prints "$second
-$third" $walker -On --after $e.1.1.0 table:three.tab $e.1
+    for after in "--after $e.1.1.0" "--after=$e.1.1.0"; do
+        prints "$second
+$third" $walker -On $after table:three.tab $e.1
+    done
     prints "$three" $walker -On --after $e.1 table:three.tab $e.1
     prints '' $walker -On --after $e.1.10.0 table:three.tab $e.1
     prints "$three
@@ -122,6 +124,31 @@ Variables found: 1" $walker -On -Cp --after $e.1.2.0 table:three.tab $e.1
     prints 'iso.3.6.1.4.1.32473.1.10.0 3' $walker -Oqs table:three.tab iso.3.6.1.4.1.32473.1.10
     prints 'iso.3.6.1.4.1.32473.1.10.0 3' $walker -O q -O s table:three.tab iso.3.6.1.4.1.32473.1.10
 done
+prints "$three
+Variables found: 3" snmpbulkwalk -On -Cr2p table:three.tab $e.1
+table '1.3.6.1.9.1|2|1' '1.3.6.1.10.1|2|2' '1.3.6.1.10|2|3' '1.3.6.1.11.0|2|4' '1.3.6.1.100.0|2|5'
+prints '.1.3.6.1.10.1 = INTEGER: 2' snmpwalk -On "table:$got/t.tab" .1.3.6.1.10
+prints '.1.3.6.1.9.1 = INTEGER: 1
+.1.3.6.1.10 = INTEGER: 3
+.1.3.6.1.10.1 = INTEGER: 2
+.1.3.6.1.11.0 = INTEGER: 4
+.1.3.6.1.100.0 = INTEGER: 5' snmpwalk -On "table:$got/t.tab" .
+
+# names by the built-in roots
+within=${e#.1.}
+for letters in S s nS fs; do
+    for root in iso .iso.$within; do
+        prints "${three//$e/iso.$within}" snmpwalk -O $letters table:three.tab $root
+    done
+done
+named=iso.$within.1.10.0
+prints ".$named = INTEGER: 3" snmpwalk -O f table:three.tab $named
+prints "$third" snmpwalk -O Sn table:three.tab $named
+prints "$named 3" snmpwalk -O q table:three.tab $named
+prints "$named = 3" snmpwalk -O Q table:three.tab $named
+prints 'INTEGER: 3' snmpwalk -O v table:three.tab $named
+prints '3' snmpwalk -O qv table:three.tab $named
+prints "iso.0 = $missing" snmpwalk -O S table:/dev/null .1
 
 # the modes of a walk: nothing below the root; the root alone; the root and what is below it
 for walker in $walkers; do
@@ -132,6 +159,7 @@ Variables found: 1" $walker -On -Cp table:/dev/null .
     prints "iso.0 $missing" $walker -Oq table:/dev/null .1
     prints "$missing" $walker -Ov table:/dev/null .1
     prints "iso.3.6.1.2.1 = $missing" $walker table:/dev/null
+    prints ".1.3.6.1.2.1 = $missing" $walker -On table:three.tab
     prints '' $walker -Ci table:/dev/null .1
     prints "$first" $walker -On table:three.tab $e.1.1.0
     prints "$first" $walker -On -Ci table:three.tab $e.1.1.0
@@ -147,14 +175,17 @@ prints '' snmpwalk -CI table:/dev/null .1
 prints 'Variables found: 0' snmpwalk -CIp table:/dev/null .1
 prints '' snmpwalk -On -CI table:three.tab $e.1.1.0
 prints "$first" snmpwalk -On -CiI table:three.tab $e.1.1.0
+prints "$e.9 = INTEGER: 7
+$e.9.1 = INTEGER: 8" snmpwalk -On -CIi table:$examples/nested.tab $e.9
 prints "$e.9.1 = INTEGER: 8" snmpwalk -On -CI table:$examples/nested.tab $e.9
 prints "$e.1.7.0 = No Such Instance currently exists at this OID" snmpwalk -On table:$examples/six.tab $e.1.7.0
 
 # sizes and repetitions
-for repetitions in 1 2 6 7 10 2147483647; do
+for repetitions in 1 2 6 7 007 10 2147483647; do
     prints "$six" snmpbulkwalk -On -Cr$repetitions --max-size 134 table:$examples/six.tab $e.1
 done
 prints "$six" snmpbulkwalk -On -Cr2 -Cr9 --max-size 65507 table:$examples/six.tab $e.1
+prints "$six" snmpwalk -On -cprivate table:$examples/six.tab $e.1
 table "$e.1.0|2|1" "$e.1.1|4|$(printf '%0200d' 0)"
 expect 2 "$e.1.0 = INTEGER: 1" 'Error in packet: tooBig (1), index 0' \
     snmpwalk -On --max-size 134 "table:$got/t.tab" $e.1
@@ -163,6 +194,7 @@ expect 1 "$e.1.0 = INTEGER: 1" "No progress after $e.1.0" \
 table "$e.1.1|4|$(printf '%01500d' 0)"
 expect 2 '' 'Error in packet: tooBig (1), index 0' snmpwalk -On "table:$got/t.tab" $e.1
 expect 2 '' 'Error in packet: tooBig (1), index 0' snmpget -On "table:$got/t.tab" $e.1.1
+expect 2 '' 'Error in packet: tooBig (1), index 0' snmpget -On "table:$got/t.tab" $e.1.2 $e.1.1
 refuses "No progress after $e.1" snmpbulkwalk -On "table:$got/t.tab" $e.1
 refuses 'Timeout: No Response from table:three.tab.' snmpwalk --max-size 1 table:three.tab .1
 
@@ -173,6 +205,13 @@ $first" snmpget -On table:three.tab $e.1.10.0 $e.1.3.0 $e.1.1.0
 prints "$first
 $first" snmpget -On table:three.tab $e.1.1.0 $e.1.1.0
 prints ".1.0 = $missing" snmpget -On table:three.tab .1
+names="iso.$within.1.1.0 .iso.$within.1.2.0 $e.1.10.0"
+prints '1
+"wes"
+3' snmpget -Oqv table:three.tab $names
+prints "iso.$within.1.1.0 1
+iso.$within.1.2.0 \"wes\"
+iso.$within.1.10.0 3" snmpget -Oq table:three.tab $names
 prints "$e.1.0.5 = No Such Instance currently exists at this OID
 $e.2 = $missing" snmpget -On table:tiny.tab $e.1.0.5 $e.2
 expect 0 'TINY-MIB::tinyState.0 = INTEGER: up(1)' "$warnings" snmpget --mib tiny.txt table:tiny.tab tinyState.0
@@ -181,8 +220,21 @@ expect 0 'TINY-MIB::tinyState.0 = INTEGER: up(1)' "$warnings" snmpget --mib tiny
 expect 0 "$tiny" "$warnings" snmpwalk --mib tiny.txt table:tiny.tab tiny
 expect 0 "$tiny" "$warnings" snmpbulkwalk --mib=tiny.txt table:tiny.tab TINY-MIB::tiny
 expect 0 "${tiny#*$'\n'}" "$warnings" snmpwalk --mib tiny.txt --after tinyState.0 table:tiny.tab tiny
-expect 0 'tinyState.0 up...' "$warnings" snmpwalk --mib tiny.txt -Oqs table:tiny.tab tiny
-expect 0 'up...' "$warnings" snmpwalk --mib tiny.txt -Oqv table:tiny.tab tiny
+expect 0 "tinyState.0 up
+tinyMac.\"wes\" 0:16:3e:5a:78:8e
+tinyKeyUse.'wes' 5 jobs" "$warnings" snmpwalk --mib=tiny.txt -Oqs table:tiny.tab tiny
+expect 0 'up
+0:16:3e:5a:78:8e
+5 jobs' "$warnings" snmpwalk --mib=tiny.txt -Oqv table:tiny.tab tiny
+expect 0 "$e.1.0 = INTEGER: 1
+$e.2.1.2.3.119.101.115 = STRING: 0:16:3e:5a:78:8e
+$e.3.1.1.119.101.115 = Gauge32: 5" "$warnings" snmpwalk --mib=tiny.txt -OneU table:tiny.tab tiny
+for name in "TINY-MIB::tinyKeyUse.'wes'" tinyKeyTable .iso.3.6.internet.private.enterprises.tiny.3 1.$within.3; do
+    expect 0 "${tiny##*$'\n'}" "$warnings" snmpwalk --mib=tiny.txt -OS table:tiny.tab "$name"
+done
+expect 0 "${tiny##*$'\n'}" "$warnings" snmpwalk --mib=tiny.txt '--after=TINY-MIB::tinyMac."wes"' table:tiny.tab tiny
+expect 0 'up
+0:16:3e:5a:78:8e' "$warnings" snmpget --mib=tiny.txt -Oqv table:tiny.tab tinyState.0 'TINY-MIB::tinyMac."wes"'
 shows() { expect 0 "$2" "$warnings" snmpget --mib tiny.txt "-O$1" table:tiny.tab "${@:3}"; }
 shows Q 'TINY-MIB::tinyState.0 = up' tinyState.0
 shows qQ 'TINY-MIB::tinyState.0 = up' tinyState.0
@@ -195,6 +247,16 @@ shows qv '5 jobs' "tinyKeyUse.'wes'"
 shows f '.iso.3.6.internet.private.enterprises.tiny.tinyState.0 = INTEGER: up(1)' tinyState.0
 shows nSs 'tinyState.0 = INTEGER: up(1)' tinyState.0
 shows sn "$e.1.0 = INTEGER: up(1)" tinyState.0
+# A file whose names stand on those of another, before it and behind it.
+printf 'MORE-MIB DEFINITIONS ::= BEGIN\nIMPORTS tiny FROM TINY-MIB;\nmore OBJECT IDENTIFIER ::= { tiny 9 }\nEND\n' \
+    >"$got/more.txt"
+table "$e.9.1|2|7"
+more='MORE-MIB::more.1 = INTEGER: 7'
+expect 0 "$more" "$warnings" snmpbulkwalk --mib=tiny.txt --mib="$got/more.txt" "table:$got/t.tab" more
+expect 0 "$more" "$warnings" snmpbulkwalk --mib="$got/more.txt" --mib=tiny.txt "table:$got/t.tab" more
+expect 0 "$more" "$warnings
+snmp: MORE-MIB is loaded twice" \
+    snmpwalk --mib=tiny.txt --mib="$got/more.txt" --mib="$got/more.txt" "table:$got/t.tab" tiny
 table "$e.1.0|4|up"
 expect 0 'TINY-MIB::tinyState.0 = STRING: "up"' "$warnings" snmpwalk --mib tiny.txt "table:$got/t.tab" tiny
 cat >"$got/hints.txt" <<'MODULE'
@@ -229,6 +291,12 @@ shows_bare ax 'Hex-STRING: 41 FF ' $e.2.0
 shows_bare '' 'Counter64: 18446744073709551615' $e.3.0
 shows_bare '' 'IpAddress: 192.0.2.1' $e.4.0
 shows_bare q '192.0.2.1' $e.4.0
+table "$e.5.1|67|14096763" "$e.5.2|4x|0016FF" "$e.5.3|6|1.3.6.1" "$e.5.4|65|7" "$e.5.5|4|w"
+shows_all() { prints "$2" snmpwalk -O "$1" "table:$got/t.tab" 1.$within.5; }
+shows_all v $'Timeticks: (14096763) 1 day, 15:09:27.63\nHex-STRING: 00 16 FF \nOID: iso.3.6.1\nCounter32: 7\nSTRING: "w"'
+shows_all vqn $'1:15:09:27.63\n00 16 FF \n.1.3.6.1\n7\n"w"'
+shows_all vtaf $'14096763\nSTRING: "..."\nOID: .iso.3.6.1\nCounter32: 7\nSTRING: "w"'
+shows_all taxvebU $'14096763\nHex-STRING: 00 16 FF \nOID: iso.3.6.1\nCounter32: 7\nHex-STRING: 77 '
 
 # translations
 prints '.1.3.6
@@ -240,10 +308,21 @@ expect 0 "$e.2.1.2.3.119.101.115
 $e.1.0" "$warnings" snmptranslate --mib tiny.txt -OSn 'TINY-MIB::tinyMac."wes"' tinyState.0
 expect 0 'TINY-MIB::tinyMac."wes"
 TINY-MIB::tinyState.0' "$warnings" snmptranslate --mib tiny.txt -OnS $e.2.1.2.3.119.101.115 tinyState.0
-expect 0 "TINY-MIB::tinyKeyUse.'wes'" "$warnings" snmptranslate --mib tiny.txt $e.3.1.1.119.101.115
-expect 0 'TINY-MIB::tinyMac.2.119.0' "$warnings" snmptranslate --mib tiny.txt $e.2.1.2.2.119.0
-expect 0 '.iso.3.6.internet.private.enterprises.tiny.tinyState.0' "$warnings" \
-    snmptranslate --mib tiny.txt -Of $e.1.0
+expect 0 "$e.3.1.1.119.101.115" "$warnings" snmptranslate --mib tiny.txt -On "TINY-MIB::tinyKeyUse.'wes'"
+names="1.$within.2.1.2.3.119.101.115 1.$within.3.1.1.119.101.115 1.$within.2.1.2.2.119.0"
+expect 0 "TINY-MIB::tinyMac.\"wes\"
+TINY-MIB::tinyKeyUse.'wes'
+TINY-MIB::tinyMac.2.119.0" "$warnings" snmptranslate --mib tiny.txt $names
+expect 0 'tinyMac.3.119.101.115
+tinyKeyUse.119.101.115
+tinyMac.2.119.0' "$warnings" snmptranslate --mib tiny.txt -Osb $names
+translates() { expect 0 "$2"$'\n'"$2" "$warnings" snmptranslate --mib tiny.txt "-O$1" $e.1.0 tinyState.0; }
+translates f '.iso.3.6.internet.private.enterprises.tiny.tinyState.0'
+translates nf '.iso.3.6.internet.private.enterprises.tiny.tinyState.0'
+translates s 'tinyState.0'
+translates S 'TINY-MIB::tinyState.0'
+translates nS 'TINY-MIB::tinyState.0'
+translates qQvetbUxa 'TINY-MIB::tinyState.0'
 expect 0 'TINY-MIB::tinyState
 tinyState OBJECT-TYPE
   -- FROM	TINY-MIB
@@ -253,6 +332,19 @@ tinyState OBJECT-TYPE
   DESCRIPTION	"State."
 ::= { iso(1) 3 6 internet(1) private(4) enterprises(1) tiny(32473) 1 }' "$warnings" \
     snmptranslate --mib tiny.txt -Td TINY-MIB::tinyState
+expect 0 "$e.3.1.1.119"'
+tinyKeyUse OBJECT-TYPE
+  -- FROM	TINY-MIB
+  SYNTAX	Gauge32
+  UNITS	"jobs"
+  MAX-ACCESS	read-only
+  STATUS	current
+  DESCRIPTION	"Use."
+::= { iso(1) 3 6 internet(1) private(4) enterprises(1) tiny(32473) tinyKeyTable(3) tinyKeyEntry(1) tinyKeyUse(1) 119 }' \
+    "$warnings" snmptranslate --mib tiny.txt -On -Td "tinyKeyUse.'w'"
+prints 'iso
+iso OBJECT IDENTIFIER
+::= { 1 }' snmptranslate -Tdd iso
 
 # help
 prints 'snmp 0.6.0' --version
@@ -340,19 +432,27 @@ prints "listening on $place
 # letters
 refuses 'Unknown letter: z' snmpwalk -Oz table:three.tab .1
 refuses 'Unknown letter: z' snmpwalk -O n -O nz table:three.tab .1
+refuses 'Unknown letter: X' snmpwalk -O nX table:three.tab .1
+refuses 'Unknown letter: 4' snmpwalk -O n4q table:three.tab .1
+refuses 'Unknown letter: 4' snmpwalk -On4 table:three.tab .1
+refuses 'Unknown letter: -' snmpwalk -O - table:three.tab .1
+refuses 'Unknown letter: C' snmpwalk -O C table:three.tab .1
 refuses 'Unknown letter: z' snmptranslate -Oz .1
 refuses 'Unknown letter: x' snmptranslate -Tx .1
 refuses 'Unknown letter: x' snmptranslate -Tdx .1
+for letters in C dC Cdx; do refuses 'Unknown letter: C' snmptranslate -T$letters iso; done
 refuses 'Unknown letter: r' snmpwalk -Cr5 table:three.tab .1
 refuses 'Unknown letter: I' snmpbulkwalk -CI table:three.tab .1
 refuses 'Unknown letter: 5' snmpwalk -Ci5 table:three.tab .1
+refuses 'Unknown letter: 5' snmpbulkwalk -On -Ci5 table:three.tab $e.1
+refuses 'Unknown letter: 7' snmpbulkwalk -On -C7 table:three.tab $e.1
 refuses 'Unknown letter: '$'\xC3' snmpwalk -Cé table:three.tab .1
 
 # agents
-for word in '' : h: h:0 h:65536 h:1:2 h:+1 h:x :1 udp: udp::1 table:; do
+for word in '' : h: h:0 h:65536 h:1:2 a:b:1 h:+1 udp:h:+1 h:x :1 udp: udp::1 table:; do
     refuses "Bad agent address: $word" snmpwalk -On "$word" .1
 done
-for word in '' 127.0.0.1 127.0.0.1:0 127.0.0.1:65536 :1; do
+for word in '' 161 127.0.0.1 127.0.0.1: 127.0.0.1:0 127.0.0.1:65536 :161 udp:127.0.0.1:161 h:+1 h:1:2 table:t.tab; do
     refuses "Bad agent address: $word" snmpd --table three.tab --listen "$word" --turns 0
 done
 refuses 'The link failed.' snmpwalk a..b .1.3
@@ -367,6 +467,7 @@ for walker in $walkers; do
     refuses 'Unknown version: 1' $walker -v 1 -Oz -Cy -c 0"$c255" "${bad[@]}"
     refuses 'Unknown letter: z' $walker -Oz -Cy -c 0"$c255" "${bad[@]}"
     refuses 'Unknown letter: y' $walker -Cy -c 0"$c255" "${bad[@]}"
+    refuses 'Unknown letter: z' $walker --mib tiny.txt -Oz table:no.tab nowhere
     refuses 'Community too long.' $walker -c 0"$c255" "${bad[@]}"
     refuses 'Bad agent address: udp:' $walker "${bad[@]}"
     refuses 'no.txt: cannot be read' $walker --mib no.txt --mib program.txt --after b table:no.tab a
@@ -380,6 +481,7 @@ for walker in $walkers; do
     refuses 'Name cannot be sent: .3' $walker --after .3.1 table:three.tab .3
     refuses 'Not below the root: .2' $walker --after .2 table:three.tab .1
     refuses 'Not below the root: .3' $walker --after .3 table:three.tab .1
+    refuses 'Not below the root: .1.3.6.1.2.1' $walker -On --after=.1.3.6.1.2.1 table:three.tab $e.1
     refuses 'Name cannot be sent: .1.40' $walker --after .1.40 table:three.tab .1
 done
 bad=(--mib no.txt udp: a b)
@@ -389,19 +491,44 @@ refuses 'Community too long.' snmpget -c 0"$c255" "${bad[@]}"
 refuses 'Bad agent address: udp:' snmpget "${bad[@]}"
 refuses 'no.txt: cannot be read' snmpget --mib no.txt table:no.tab .3 a b
 refuses 'Unknown name: a' snmpget table:no.tab .3 a b
+refuses 'Unknown letter: z' snmpget --mib=tiny.txt -Oz table:no.tab loopA .3
+refuses 'program.txt:1: syntax' snmpget --mib=program.txt -Oqv table:no.tab loopA .3
+refuses 'Unknown name: nosuch' snmpget -On table:three.tab $e.1.1.0 nosuch 1..3
+refuses 'Bad number: 1..3' snmpget -On table:three.tab $e.1.1.0 1..3 nosuch
+refuses 'Unknown name: nosuch' snmpget -On table:three.tab .3 $e.1.1.0 nosuch
 refuses 'no.tab: cannot be read' snmpget table:no.tab .3
 refuses 'The link failed.' snmpget a..b .3
-refuses 'Name cannot be sent: .3' snmpget -On table:three.tab $e.1.1.0 .3 .4
+refuses 'Name cannot be sent: .3' snmpget -On table:three.tab $e.1.1.0 .3 .1.40
+refuses 'Name cannot be sent: .1.40' snmpget -On table:three.tab .1.40 $e.1.1.0 .3
 refuses 'Unknown letter: z' snmptranslate -Oz -Ty --mib no.txt a
 refuses 'Unknown letter: y' snmptranslate -Ty --mib no.txt a
 refuses 'no.txt: cannot be read' snmptranslate --mib no.txt a
+printf 'BAD-MIB\n!' >"$got/bad.txt"
+refuses "$got/bad.txt:2: bad character" \
+    snmptranslate --mib tiny.txt --mib "$got/bad.txt" --mib no.txt -On -Td nosuch
+refuses 'no.txt: cannot be read' snmptranslate --mib tiny.txt --mib no.txt --mib "$got/bad.txt" -On -Td nosuch
 refuses 'Community too long.' snmpd -c 0"$c255" --listen udp: --table no.tab
 refuses 'Bad agent address: udp:' snmpd --listen udp: --table no.tab
+refuses 'Bad agent address: nowhere' snmpd -c "$c255" --listen nowhere --table no.tab
 refuses 'Bad agent address: udp:' snmpd --mib no.txt --listen udp: --table no.tab
 refuses 'no.txt: cannot be read' snmpd --mib tiny.txt --mib no.txt --listen a..b:1 --table no.tab
 refuses 'no.tab: cannot be read' snmpd --listen a..b:1 --table no.tab
-expect 1 '' "$warnings
-no.tab: cannot be read" snmpd --mib tiny.txt --listen a..b:1 --table no.tab
+table 'object 1' 'x'
+refuses "$got/t.tab:2: bad line" snmpd --listen a..b:1 --table "$got/t.tab"
+
+# the warnings of loaded modules, before what is refused behind them
+warned() { expect 1 '' "$warnings"$'\n'"$1" "${@:2}"; }
+warned 'Unknown name: nowhere' snmpwalk --mib=tiny.txt -On table:no.tab nowhere
+warned 'Unknown name: loopA' snmpwalk --mib=tiny.txt --after=loopA table:no.tab tiny
+warned 'no.tab: cannot be read' snmpwalk --mib=tiny.txt -On table:no.tab tiny
+warned 'program.txt:1: bad line' snmpwalk --mib=tiny.txt -On table:program.txt tiny
+warned 'Name cannot be sent: .3' snmpwalk --mib=tiny.txt -On table:tiny.tab .3
+warned 'The link failed.' snmpwalk --mib=tiny.txt -On a..b tiny
+warned 'Unknown name: loopA' snmpget --mib=tiny.txt -Oqv table:no.tab tinyState.0 loopA
+warned 'no.tab: cannot be read' snmpget --mib=tiny.txt -Oqv table:no.tab tinyState.0 .3
+warned 'Name cannot be sent: .3' snmpget --mib=tiny.txt -Oqv table:tiny.tab tinyState.0 .3
+warned 'Unknown name: nosuch' snmptranslate --mib tiny.txt -On -Td nosuch
+warned 'no.tab: cannot be read' snmpd --mib tiny.txt --listen a..b:1 --table no.tab
 
 # names
 refuses 'Unknown name: mib-2' snmpwalk -On table:three.tab mib-2
@@ -409,13 +536,35 @@ refuses 'Unknown name: ' snmpwalk -On table:three.tab ''
 refuses 'Bad number: .1.4294967296' snmpwalk table:three.tab .1.4294967296
 refuses 'Bad number: .1..3' snmpget table:three.tab .1..3
 refuses 'Bad index: iso."a' snmptranslate 'iso."a'
-refuses "Name too long: .1$(printf '.1%.0s' {1..128})" snmptranslate ".1$(printf '.1%.0s' {1..128})"
+for word in 1..3 .1. 4294967296 iso.4294967296 1.2a ..1; do
+    refuses "Bad number: $word" snmpwalk -On table:three.tab $word
+done
+for word in iso.org .1.iso NO-MIB::1.3 ::iso -1; do
+    refuses "Unknown name: $word" snmpwalk -On table:three.tab -- $word
+done
+for word in "1.3.''" "1.3.'abc" '1.3."a"b' "'abc::x"; do
+    refuses "Bad index: $word" snmpwalk -On table:three.tab "$word"
+done
+for word in .3 .1.40 .0.40.1 .4294967295.1; do
+    refuses "Name cannot be sent: $word" snmpwalk -On table:three.tab $word
+done
+ones=1$(printf '.1%.0s' {1..128})
+refuses "Name too long: .$ones" snmptranslate ".$ones"
+refuses "Name too long: $ones" snmpwalk -On table:three.tab "$ones"
+zeros=0$(printf '.0%.0s' {1..127})
+prints ".$zeros" snmptranslate -On "$zeros"
+refuses "Name too long: $zeros.0" snmptranslate "$zeros.0"
 refuses 'Unknown name: NO-MIB::iso' snmptranslate NO-MIB::iso
 expect 1 '' "$warnings
 Unknown name: tinyer" snmpwalk --mib tiny.txt table:tiny.tab tinyer
 expect 1 '' "$warnings
 Unknown name: tinyer" snmptranslate --mib tiny.txt -Td tinyer
 expect 1 'iso.3' 'Unknown name: x' snmptranslate .1.3 x .1.3.6
+breaks_off() { expect 1 'iso.3' "$warnings"$'\n'"$1$2" snmptranslate --mib tiny.txt iso.3 "$2"; }
+breaks_off 'Unknown name: ' ''
+breaks_off 'Unknown name: ' NO-MIB::iso
+breaks_off 'Bad number: ' iso..3
+breaks_off 'Bad number: ' iso.4294967296
 # A name of 128 numbers, of five octets each, is read and walked.
 long=.1.3.6$(printf '.4294967295%.0s' {1..125})
 table "$long|2|1"
@@ -439,9 +588,21 @@ fault 'bad line' "$e.1.0|5|"
 fault 'bad line' 'objects'
 fault 'bad name' '1.3|2|1'
 fault 'bad name' "$long.1|2|1"
+fault 'bad name' '3.3.6|2|1'
+fault 'bad name' 'object .'
 fault 'bad value' "$e.1.0|4x|0"
 fault 'bad value' "$e.1.0|2|2147483648"
+fault 'bad value' "$e.1.0|2|"
+fault 'bad value' "$e.0.0|2|x" '1.3|2|1'
 fault 'double name' "${e#.}.0.0|2|1" "$e.1.0|5|"
+fault 'double name' '.1.3.6.01.4.1.32473.0.0|2|2'
+table '' '# two lines' '1.3.6.1|2'
+refuses "$got/t.tab:3: bad line" snmpwalk -On "table:$got/t.tab" .1
+printf '1.3.6.1|2|1\r\n1.3.6.2|2|2147483648\r\n' >"$got/t.tab"
+refuses "$got/t.tab:2: bad value" snmpwalk -On "table:$got/t.tab" .1
+printf '1.3.6.1.2.0|4|a|b\r\n\r\n#\r\n1.3.6.1.1.0|2|-5' >"$got/t.tab"
+prints '.1.3.6.1.1.0 = INTEGER: -5
+.1.3.6.1.2.0 = STRING: "a|b"' snmpwalk -On "table:$got/t.tab" .1.3
 
 # table files whose names are read by the loaded modules
 two='TINY-MIB::tinyState.0 = INTEGER: up(1)
@@ -449,7 +610,7 @@ TINY-MIB::tinyMac."a|b" = STRING: 0:16:3e:5a:78:8e
 TINY-MIB::tiny.9.0 = OID: TINY-MIB::tinyMac'
 expect 0 "$two" "$warnings" snmpwalk --mib tiny.txt table:two.tab tiny
 expect 0 "$two" "$warnings" snmpbulkwalk --mib tiny.txt table:two.tab tiny
-expect 0 "${two#*$'\n'}" "$warnings" snmpget --mib tiny.txt table:two.tab 'tinyMac."a|b"' tiny.9.0
+expect 0 "$two" "$warnings" snmpget --mib tiny.txt table:two.tab tinyState.0 'tinyMac."a|b"' tiny.9.0
 refuses 'two.tab:2: bad name' snmpwalk -On table:two.tab $e
 refuses 'two.tab:2: bad name' snmpd --table two.tab --listen "$place" --turns 0
 expect 0 "listening on $place
@@ -460,17 +621,16 @@ expect 1 '' "$warnings
 $got/t.tab:1: bad name" snmpwalk --mib tiny.txt "table:$got/t.tab" tiny
 printf '#snmptab 2\r\ntinyState.0|2|1\r\n' >"$got/t.tab"
 expect 0 'TINY-MIB::tinyState.0 = INTEGER: up(1)' "$warnings" snmpwalk --mib tiny.txt "table:$got/t.tab" tiny
-table '#snmptab 2' "tinyKeyUse.'a|b'|66|5" "$e.3.1.1.99|66|6"
+printf '%s\r\n' '#snmptab 2' "tinyKeyUse.'a|b'|66|5" "$e.3.1.1.99|66|6" >"$got/t.tab"
 expect 0 "TINY-MIB::tinyKeyUse.'a|b' = Gauge32: 5 jobs
 TINY-MIB::tinyKeyUse.'c' = Gauge32: 6 jobs" "$warnings" snmpwalk --mib tiny.txt "table:$got/t.tab" tiny
 table '#snmptab 2' 'iso.3.6|2|5'
 expect 0 '.1.3.6 = INTEGER: 5' '' snmpget -On "table:$got/t.tab" .1.3.6
 spoils() {
     table "${@:2}"
-    expect 1 '' "$warnings
-$got/t.tab:$1" snmpwalk --mib tiny.txt "table:$got/t.tab" tiny
-    expect 1 '' "$warnings
-$got/t.tab:$1" snmpd --mib tiny.txt --table "$got/t.tab" --listen "$place" --turns 0
+    warned "$got/t.tab:$1" snmpwalk --mib tiny.txt "table:$got/t.tab" tiny
+    warned "$got/t.tab:$1" snmpget --mib tiny.txt "table:$got/t.tab" tinyState.0
+    warned "$got/t.tab:$1" snmpd --mib tiny.txt --table "$got/t.tab" --listen "$place" --turns 0
 }
 spoils '2: bad name' '#snmptab 2 ' 'tinyState.0|2|1'
 spoils '3: bad name' '' '#snmptab 2' 'tinyState.0|2|1'
@@ -488,15 +648,27 @@ spoils '3: double name' '#snmptab 2' 'tinyMac."a"|4|1' "$e.2.1.2.1.97|4|2"
 refuses 'no.txt: cannot be read' snmpwalk --mib tiny.txt --mib no.txt table:tiny.tab tiny
 faulty() {
     module m.txt "$2"
-    refuses "$got/m.txt:2: $1" snmptranslate --mib "$got/m.txt" iso
+    refuses "$got/m.txt:$1" snmptranslate --mib "$got/m.txt" iso
+    refuses "$got/m.txt:$1" snmpbulkwalk --mib=tiny.txt --mib="$got/m.txt" --mib=no.txt table:tiny.tab tiny
 }
-faulty 'bad character' 'a OBJECT IDENTIFIER ::= { iso 1 } ?'
-faulty 'open string' 'a OBJECT-TYPE SYNTAX INTEGER UNITS "b'
-faulty 'syntax' 'a OBJECT IDENTIFIER ::= { iso iso 1'
-faulty 'double name' 'a OBJECT IDENTIFIER ::= { iso 1 } a OBJECT IDENTIFIER ::= { iso 2 }'
+faulty '2: bad character' 'a OBJECT IDENTIFIER ::= { iso 1 } ?'
+faulty '3: bad character' $'\na OBJECT IDENTIFIER ::= { iso 1 } @'
+faulty '2: open string' 'a OBJECT-TYPE SYNTAX INTEGER UNITS "b'
+faulty '2: syntax' 'a OBJECT IDENTIFIER ::= { iso iso 1'
+faulty '3: syntax' $'a OBJECT IDENTIFIER ::= { iso 1 }\n::= END'
+faulty '4: syntax' $'a OBJECT IDENTIFIER ::= { iso 1 }\n\n::= END'
+faulty '2: double name' 'a OBJECT IDENTIFIER ::= { iso 1 } a OBJECT IDENTIFIER ::= { iso 2 }'
+faulty '3: double name' $'a OBJECT IDENTIFIER ::= { iso 1 }\na OBJECT IDENTIFIER ::= { iso 2 }'
 module m.txt "a OBJECT IDENTIFIER ::= { b 1 } c OBJECT IDENTIFIER ::= { iso$(printf ' 1%.0s' {1..128}) }"
-expect 0 'iso' "snmp: M::a is unresolved
-snmp: M::c is too long" snmptranslate --mib "$got/m.txt" iso
+astray='snmp: M::a is unresolved
+snmp: M::c is too long'
+expect 0 'iso' "$astray" snmptranslate --mib "$got/m.txt" iso
+expect 0 'iso' "$astray
+$warnings" snmptranslate --mib "$got/m.txt" --mib tiny.txt iso
+printf 'ACROSS-MIB DEFINITIONS ::= BEGIN\nIMPORTS well FROM WELL-MIB;\nacross OBJECT IDENTIFIER ::= { well 2 }\nEND\n' \
+    >"$got/across.txt"
+printf 'WELL-MIB DEFINITIONS ::= BEGIN\nwell OBJECT IDENTIFIER ::= { iso 7 }\nEND\n' >"$got/well.txt"
+expect 0 '.1.7.2' '' snmptranslate --mib "$got/across.txt" --mib "$got/well.txt" -On ACROSS-MIB::across
 # Types that are each other's give an object no syntax, and no warning.
 module m.txt 'A ::= B B ::= A
     a OBJECT-TYPE SYNTAX A UNITS "m" MAX-ACCESS read-only STATUS current DESCRIPTION "" ::= { iso 9 }'
@@ -551,7 +723,11 @@ prints "$three
 Variables found: 3" snmpbulkwalk -On -Cp -Cr2 "$place" $e.1
 prints "$third
 $e.1.3.0 = $missing" snmpget -On "udp:$place" $e.1.10.0 $e.1.3.0
-refuses "Timeout: No Response from $place." snmpget -r 0 -c other "$place" $e.1.10.0
+for walker in $walkers; do prints "$three" $walker -On "udp:$place" $e.1; done
+for command in $walkers snmpget; do
+    refuses "Timeout: No Response from $place." $command -r 0 -c other "$place" $e.1.10.0
+    refuses 'Name cannot be sent: .3' $command "$place" .3
+done
 refuses 'Request too long.' snmpget "$place" "${many[@]}"
 
 echo "$passed passed, $failed failed"

@@ -7,8 +7,6 @@ mod faults;
 #[cfg(test)]
 mod gets;
 #[cfg(test)]
-mod letters;
-#[cfg(test)]
 mod loading;
 #[cfg(test)]
 mod machine;
@@ -18,8 +16,6 @@ mod mibs;
 mod network;
 #[cfg(test)]
 mod opened;
-#[cfg(test)]
-mod options;
 #[cfg(test)]
 mod run;
 #[cfg(test)]

@@ -39,41 +39,6 @@ fn assert_runs_at_device(
 const SILENT: &str = "Timeout: No Response from device:1161.\n";
 
 #[test]
-fn a_device_is_walked(rt: HostRuntime) -> Result<(), Fail> {
-    assert_runs_at_device(
-        &rt,
-        rt.alloc(),
-        &[],
-        &[
-            (
-                "snmp snmpwalk -On -csecret device:1161 .1.3.6.1.4.1.32473.1",
-                THREE_LINES,
-                "",
-                0,
-            ),
-            (
-                "snmp snmpbulkwalk -On -csecret device:1161 .1.3.6.1.4.1.32473.1",
-                THREE_LINES,
-                "",
-                0,
-            ),
-            (
-                "snmp snmpwalk -On -csecret udp:device:1161 .1.3.6.1.4.1.32473.1",
-                THREE_LINES,
-                "",
-                0,
-            ),
-            (
-                "snmp snmpbulkwalk -On -csecret udp:device:1161 .1.3.6.1.4.1.32473.1",
-                THREE_LINES,
-                "",
-                0,
-            ),
-        ],
-    )
-}
-
-#[test]
 fn late_replies_change_no_line(rt: HostRuntime) -> Result<(), Fail> {
     assert_runs_at_device(
         &rt,
@@ -138,18 +103,6 @@ fn agents_that_are_not_reached(rt: HostRuntime) -> Result<(), Fail> {
                 1,
             ),
             (
-                "snmp snmpwalk -On -csecret device .3",
-                "",
-                "The link failed.\n",
-                1,
-            ),
-            (
-                "snmp snmpwalk -On -csecret device:1161 .3",
-                "",
-                "Name cannot be sent: .3\n",
-                1,
-            ),
-            (
                 "snmp snmpwalk -On device:1161 .1.3.6.1.4.1.32473.1",
                 "",
                 SILENT,
@@ -178,35 +131,6 @@ fn a_device_is_asked_for_a_name(rt: HostRuntime) -> Result<(), Fail> {
                 LINE,
                 "",
                 0,
-            ),
-        ],
-    )
-}
-
-#[test]
-fn a_get_ends_where_no_reply_comes(rt: HostRuntime) -> Result<(), Fail> {
-    assert_runs_at_device(
-        &rt,
-        rt.alloc(),
-        &[],
-        &[
-            (
-                "snmp snmpget -On -cpublic device:1161 .1.3.6.1.4.1.32473.1.1.0",
-                "",
-                SILENT,
-                1,
-            ),
-            (
-                "snmp snmpget -csecret device:1161 .3",
-                "",
-                "Name cannot be sent: .3\n",
-                1,
-            ),
-            (
-                "snmp snmpget -csecret device .3",
-                "",
-                "The link failed.\n",
-                1,
             ),
         ],
     )

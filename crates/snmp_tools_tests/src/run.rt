@@ -115,11 +115,6 @@ pub fn assert_runs_within(
     }
 }
 
-/// Asserts that each of the runs over files, with no agent, prints its texts and has its status.
-pub fn assert_runs(rt: &impl Abort, alloc: Global, files: Held<'_>, runs: &[Run<'_>]) {
-    assert_runs_within(rt, alloc, files, NO_LIMITS, runs);
-}
-
 /// Asserts that each of the command lines prints these lines alone and has status 0.
 pub fn assert_prints(rt: &impl Abort, alloc: Global, files: Held<'_>, lines: &[(&str, &str)]) {
     for (line, printed) in lines {
@@ -129,24 +124,4 @@ pub fn assert_prints(rt: &impl Abort, alloc: Global, files: Held<'_>, lines: &[(
             "{line}"
         );
     }
-}
-
-/// Asserts that each of the command lines prints this message alone and has status 1.
-pub fn assert_refused(rt: &impl Abort, alloc: Global, files: Held<'_>, lines: &[(&str, &str)]) {
-    for (line, message) in lines {
-        let run = (*line, "", *message, 1);
-        assert!(rt;
-            matches!(prints(alloc, files, NO_LIMITS, run), Ok(true)),
-            "{line}"
-        );
-    }
-}
-
-/// A table of one instance, whose value has 1500 octets.
-pub fn long_table(alloc: Global) -> Result<Vec<u8>, AllocError> {
-    let mut table = Vec::from_slice(alloc, b"1.3.6.1.4.1.32473.1.1|4|")?;
-    for _ in 0..1500 {
-        table.push(b'x')?;
-    }
-    Ok(table)
 }

@@ -43,29 +43,6 @@ snmp: TINY-MIB::loopA stands on a cycle
 snmp: TINY-MIB::loopB stands on a cycle
 ";
 
-/// The lines that are added where the modules are loaded a second time.
-pub(crate) const DOUBLES: &str = "\
-snmp: TINY-SMI is loaded twice
-snmp: TINY-MIB is loaded twice
-";
-
-/// A module of a definition without a meaning and one of more numbers than an identifier may have.
-pub(crate) const ASTRAY: &[u8] = b"ASTRAY-MIB DEFINITIONS ::= BEGIN
-lost OBJECT IDENTIFIER ::= { nowhere 1 }
-long OBJECT IDENTIFIER ::= { iso
-  1 1 1 1 1 1 1 1 1 1 1 1 1 1 1 1 1 1 1 1 1 1 1 1 1 1 1 1 1 1 1 1
-  1 1 1 1 1 1 1 1 1 1 1 1 1 1 1 1 1 1 1 1 1 1 1 1 1 1 1 1 1 1 1 1
-  1 1 1 1 1 1 1 1 1 1 1 1 1 1 1 1 1 1 1 1 1 1 1 1 1 1 1 1 1 1 1 1
-  1 1 1 1 1 1 1 1 1 1 1 1 1 1 1 1 1 1 1 1 1 1 1 1 1 1 1 1 1 1 1 1 }
-END
-";
-
-/// The lines of its warnings.
-pub(crate) const ASTRAY_WARNINGS: &str = "\
-snmp: ASTRAY-MIB::lost is unresolved
-snmp: ASTRAY-MIB::long is too long
-";
-
 /// A module without a warning, if the one below is loaded too.
 pub(crate) const ACROSS: &[u8] = b"ACROSS-MIB DEFINITIONS ::= BEGIN
 IMPORTS well FROM WELL-MIB;

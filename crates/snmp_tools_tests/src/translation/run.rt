@@ -1,6 +1,6 @@
 //! How a test does the job.
 
-use crate::tiny::{TINY, WARNINGS};
+use crate::tiny::TINY;
 use snmp_io::memory::{MemoryFiles, MemoryOutput};
 use snmp_net::memory::MemoryLinks;
 use snmp_tools::{Job, run_job};
@@ -29,14 +29,14 @@ pub const NO_LIMITS: Limits = Limits {
     err: usize::MAX,
 };
 
-/// The status of the job over the files `tiny.txt` and `bad.txt`.
+/// The status of the job over the file `tiny.txt`.
 fn status_of(
     alloc: Global,
     job: TranslateJob<'_>,
     out: &mut MemoryOutput,
     err: &mut MemoryOutput,
 ) -> u8 {
-    let held = [("tiny.txt", TINY), ("bad.txt", b"BAD-MIB\n!".as_slice())];
+    let held = [("tiny.txt", TINY)];
     let files = MemoryFiles { files: &held };
     let mut links = MemoryLinks::new(alloc, &[], &[]);
     run_job(alloc, &Job::Translate(job), &files, &mut links, out, err)
@@ -57,7 +57,7 @@ fn job_prints(
     written && ended == status
 }
 
-/// Whether the job, over the files `tiny.txt` and `bad.txt`, prints and ends as the case says.
+/// Whether the job, over the file `tiny.txt`, prints and ends as the case says.
 pub fn ends(alloc: Global, limits: Limits, case: Case<'_>) -> Result<bool, AllocError> {
     let ((mibs, letters, details, names), lines, warnings, end) = case;
     let job = TranslateJob {
@@ -77,22 +77,5 @@ pub fn ends(alloc: Global, limits: Limits, case: Case<'_>) -> Result<bool, Alloc
 pub fn assert_ends(rt: &impl Abort, alloc: Global, cases: &[Case<'_>]) {
     for case in cases {
         assert!(rt; matches!(ends(alloc, NO_LIMITS, *case), Ok(true)), "{}", case.0.3);
-    }
-}
-
-/// Asserts of letters of `-O`, each with letters of `-T` and names, that by them the names are
-/// printed as these lines, over the small modules.
-pub fn assert_prints(rt: &impl Abort, alloc: Global, cases: &[(&str, &str, &str, &str)]) {
-    for (letters, details, names, lines) in cases {
-        let case = (
-            ("tiny.txt", *letters, *details, *names),
-            *lines,
-            WARNINGS,
-            "",
-        );
-        assert!(rt;
-            matches!(ends(alloc, NO_LIMITS, case), Ok(true)),
-            "{letters}: {names}"
-        );
     }
 }
