@@ -11,7 +11,7 @@ ghost use Rattle.snmp_agent.specs.table.Text.{IsBlank, IsObjectForm};
 use crate::table::change::is_instance_name;
 use crate::table::format::LineFormat;
 use crate::table::row::RowText;
-use crate::table::split::split_once;
+use crate::table::split::split_near;
 use crate::table::value::{Tag, read_number, read_text};
 use snmp_wire::{Binding, EncodedBinding, Oid, ValueRef};
 use std::alloc::{AllocError, Global};
@@ -108,7 +108,7 @@ fn row_form<'a, F: LineFormat>(format: &F, line: &'a [u8]) -> Option<Form<'a>>
     ensures { IsForm (F.format format.now) line.now result }
 {
     let (name, behind) = format.split_name(line)?;
-    let (tag, text) = split_once(behind, b'|')?;
+    let (tag, text) = split_near(behind, b'|')?;
     Some(Form::Row {
         name,
         tag: Tag::from_text(tag)?,

@@ -16,6 +16,26 @@ pub fn split_once(text: &[u8], separator: u8) -> Option<(&[u8], &[u8])>
     Some((&text[..end], &text[end + 1..]))
 }
 
+/// The same where the separator is mostly the second octet or the third, as the bar behind a tag:
+/// it is looked for there before it is searched for.
+#[inline]
+pub fn split_near(text: &[u8], separator: u8) -> Option<(&[u8], &[u8])>
+    ensures { MatchOption result (All (λ octet. octet ≢ separator) text.now)
+        (λ parts. (text.now ≡ parts.0.now ++ separator ∷ parts.1.now)
+        × All (λ octet. octet ≢ separator) parts.0.now) }
+{
+    match text {
+        [first, end, rest @ ..] if *first != separator && *end == separator => {
+            Some((&text[..1], rest))
+        }
+        [first, second, end, rest @ ..]
+            if *first != separator && *second != separator && *end == separator => {
+            Some((&text[..2], rest))
+        }
+        _ => split_once(text, separator),
+    }
+}
+
 /// The first line of a text that has one, without its end, and what follows.
 pub fn split_line(text: &[u8]) -> (&[u8], &[u8])
     requires { 0 < length text.now }
