@@ -306,6 +306,11 @@ prints 'iso.3.6.1' snmptranslate 1.3.6.1
 prints '.' snmptranslate .
 expect 0 "$e.2.1.2.3.119.101.115
 $e.1.0" "$warnings" snmptranslate --mib tiny.txt -OSn 'TINY-MIB::tinyMac."wes"' tinyState.0
+expect 0 "$e.1.0
+$e.1.0
+.1.3
+$e.2.1.2" "$warnings" snmptranslate --mib tiny.txt -On TINY-MIB::tinyState.0 \
+    iso.3.6.internet.private.enterprises.tiny.tinyState.0 .iso.3 tiny.tinyTable.tinyEntry.tinyMac
 expect 0 'TINY-MIB::tinyMac."wes"
 TINY-MIB::tinyState.0' "$warnings" snmptranslate --mib tiny.txt -OnS $e.2.1.2.3.119.101.115 tinyState.0
 expect 0 "$e.3.1.1.119.101.115" "$warnings" snmptranslate --mib tiny.txt -On "TINY-MIB::tinyKeyUse.'wes'"
@@ -345,6 +350,174 @@ tinyKeyUse OBJECT-TYPE
 prints 'iso
 iso OBJECT IDENTIFIER
 ::= { 1 }' snmptranslate -Tdd iso
+
+# indexes and syntaxes of objects, by modules
+row='MAX-ACCESS not-accessible STATUS current DESCRIPTION ""'
+column='MAX-ACCESS read-only STATUS current DESCRIPTION ""'
+# A SIZE that is a number, a range from it to itself, and a literal.
+module m.txt "row OBJECT-TYPE SYNTAX Row $row INDEX { fixed, ranged, literal } ::= { iso 1 }
+fixed OBJECT-TYPE SYNTAX OCTET STRING (SIZE (2)) $column ::= { row 1 }
+ranged OBJECT-TYPE SYNTAX OCTET STRING (SIZE (2..2)) $column ::= { row 2 }
+literal OBJECT-TYPE SYNTAX OCTET STRING (SIZE ('02'H)) $column ::= { row 3 }"
+prints "M::fixed.'ab'.\"cd\".'ef'
+M::fixed.97.98.99.100.101.102" \
+    snmptranslate --mib "$got/m.txt" .1.1.1.97.98.2.99.100.101.102 .1.1.1.97.98.99.100.101.102
+prints '.1.1.1.97.98.2.99.100.101.102' snmptranslate --mib "$got/m.txt" -On "M::fixed.'ab'.\"cd\".'ef'"
+# indexed PART SYNTAX NUMBERS=TEXT.. NUMBERS..: in an index of a string and this part, whose object has this syntax, the
+# numbers behind the string are shown as the text; those without a text are no such index, and all is shown in numbers.
+indexed() {
+    local word names='' texts=''
+    module m.txt "Mac ::= OCTET STRING (SIZE (6))
+entry OBJECT-TYPE SYNTAX Entry $row INDEX { front, $1 } ::= { iso 1 }
+column OBJECT-TYPE SYNTAX $2 $column ::= { entry 1 }
+front OBJECT-TYPE SYNTAX OCTET STRING $column ::= { entry 2 }"
+    for word in "${@:3}"; do
+        names+=" .1.1.1.2.97.98.${word%%=*}"
+        case $word in
+            *=*) texts+="M::column.\"ab\".${word#*=}"$'\n' ;;
+            *) texts+="M::column.2.97.98.$word"$'\n' ;;
+        esac
+    done
+    prints "${texts%?}" snmptranslate --mib "$got/m.txt" $names
+}
+for syntax in INTEGER 'INTEGER { up(1) }' Counter32 Gauge32 Unsigned32 TimeTicks; do
+    indexed column "$syntax" 5=5 5.6 1.99
+done
+indexed 'IMPLIED column' 'Integer32 (0..9)' 5=5 5.6
+for syntax in Counter64 Missing; do indexed column "$syntax" 5 1.99; done
+indexed column IpAddress 192.0.2.1=192.0.2.1 192.0.2 192.0.2.1.1 192.0.2.256
+indexed column 'OBJECT IDENTIFIER' 2.1.256=2.1.256 5.3 1.1.3
+indexed 'IMPLIED column' 'OBJECT IDENTIFIER' 5.256=5.256
+for syntax in '' ' (SIZE (6..6))' ' (SIZE (0..32))' ' (SIZE (6 | 8))'; do
+    indexed column "OCTET STRING$syntax" '6.99.100.101.102.103.104="cdefgh"' 99.100.101.102.103.104 6.99.100
+done
+for syntax in '' ' (SIZE (6..6))' ' (SIZE (1..32))'; do
+    indexed 'IMPLIED column' "OCTET STRING$syntax" "99.100='cd'" "99.100.101.102.103.104='cdefgh'"
+done
+for syntax in 'OCTET STRING (SIZE (6))' "OCTET STRING (SIZE ('06'H))" Mac; do
+    indexed column "$syntax" "99.100.101.102.103.104='cdefgh'" 99.100 6.99.100.101.102.103.104
+done
+indexed 'IMPLIED column' 'OCTET STRING (SIZE (6))' "99.100.101.102.103.104='cdefgh'" 99.100 6.99.100.101.102.103.104
+indexed column 'Mac (SIZE (0..6))' '6.99.100.101.102.103.104="cdefgh"' '2.99.100="cd"' 99.100.101.102.103.104
+for syntax in Opaque 'BITS { a(0) }'; do indexed column "$syntax" 2.99.100=2.99.100 99.100 1.256; done
+indexed column 'Opaque (SIZE (4))' 99.100.101.102=99.100.101.102 99.100.101 4.99.100.101.102 99.100.101.256
+indexed 'IMPLIED column' 'BITS { a(0) }' 99.100=99.100 99.256
+
+# Rows that augment others, also of another module, whose index has the names of that one; what stands below a row and
+# is no column; indexes that lead to nothing; and rows of one identifier, of which the first stands for it.
+cat >"$got/m.txt" <<MODULE
+M DEFINITIONS ::= BEGIN IMPORTS key FROM N farRow FROM P absentRow FROM N;
+rowA OBJECT-TYPE SYNTAX R $row INDEX { key, local, IMPLIED nameA } ::= { iso 1 }
+nameA OBJECT-TYPE SYNTAX OCTET STRING $column ::= { rowA 1 }
+local OBJECT-TYPE SYNTAX OCTET STRING (SIZE (6)) $column ::= { rowA 2 }
+belowA OBJECT IDENTIFIER ::= { rowA 3 }
+deepA OBJECT-TYPE SYNTAX INTEGER $column ::= { rowA 2 1 }
+rowB OBJECT-TYPE SYNTAX R $row AUGMENTS { rowA } ::= { iso 2 }
+colB OBJECT-TYPE SYNTAX INTEGER $column ::= { rowB 1 }
+rowC OBJECT-TYPE SYNTAX R $row AUGMENTS { rowB } ::= { iso 3 }
+colC OBJECT-TYPE SYNTAX INTEGER $column ::= { rowC 1 }
+rowD OBJECT-TYPE SYNTAX R $row AUGMENTS { farRow } ::= { iso 4 }
+colD OBJECT-TYPE SYNTAX INTEGER $column ::= { rowD 1 }
+rowE OBJECT-TYPE SYNTAX R $row AUGMENTS { absentRow } ::= { iso 5 }
+colE OBJECT-TYPE SYNTAX INTEGER $column ::= { rowE 1 }
+rowF OBJECT-TYPE SYNTAX R $row INDEX { nameA, gone } ::= { iso 6 }
+colF OBJECT-TYPE SYNTAX INTEGER $column ::= { rowF 1 }
+rowG OBJECT-TYPE SYNTAX R $row INDEX { ringed } ::= { iso 7 }
+ringed OBJECT-TYPE SYNTAX OCTET STRING $column ::= { ringed 1 }
+colG OBJECT-TYPE SYNTAX INTEGER $column ::= { rowG 1 }
+rowH OBJECT-TYPE SYNTAX R $row INDEX { nameA, belowA } ::= { iso 8 }
+colH OBJECT-TYPE SYNTAX INTEGER $column ::= { rowH 1 }
+first OBJECT-TYPE SYNTAX R $row INDEX { local } ::= { iso 9 }
+second OBJECT-TYPE SYNTAX R $row INDEX { nameA } ::= { iso 9 }
+col9 OBJECT-TYPE SYNTAX INTEGER $column ::= { second 1 }
+plain OBJECT-TYPE SYNTAX R $row ::= { iso 10 }
+later OBJECT-TYPE SYNTAX R $row INDEX { nameA } ::= { iso 10 }
+col10 OBJECT-TYPE SYNTAX INTEGER $column ::= { later 1 }
+self OBJECT-TYPE SYNTAX R $row AUGMENTS { self } ::= { iso 11 }
+col11 OBJECT-TYPE SYNTAX INTEGER $column ::= { self 1 }
+END
+N DEFINITIONS ::= BEGIN IMPORTS key FROM P; END
+P DEFINITIONS ::= BEGIN
+farRow OBJECT-TYPE SYNTAX R $row INDEX { local, key } ::= { iso 12 }
+local OBJECT-TYPE SYNTAX OCTET STRING (SIZE (2)) $column ::= { farRow 1 }
+key OBJECT-TYPE SYNTAX INTEGER $column ::= { farRow 2 }
+END
+MODULE
+six_of=97.98.99.100.101.102
+expect 0 "M::nameA.7.'abcdef'.'xy'
+M::belowA.7.$six_of.120.121
+M::deepA.7.$six_of.120.121
+M::colB.7.'abcdef'.'xy'
+M::colC.7.$six_of.120.121
+M::colD.'ab'.7
+M::colD.$six_of.7
+P::key.'ab'.7
+M::colE.2.97.98
+M::colF.2.97.98.7
+M::colG.2.97.98
+M::colH.2.97.98.7
+M::col9.'abcdef'
+M::col9.2.97.98
+M::col10.2.97.98
+M::col11.2.97.98" 'snmp: M imports absentRow from N, which has no absentRow
+snmp: M::ringed stands on a cycle' snmptranslate --mib "$got/m.txt" .1.1.{1,3,2.1}.7.$six_of.120.121 \
+    .1.{2,3}.1.7.$six_of.120.121 .1.4.1.97.98.7 .1.4.1.$six_of.7 .1.12.2.97.98.7 .1.5.1.2.97.98 .1.6.1.2.97.98.7 \
+    .1.7.1.2.97.98 .1.8.1.2.97.98.7 .1.9.1.$six_of .1.{9,10,11}.1.2.97.98
+
+# typed SYNTAX ROW LINE: of an object of this syntax, which is its own index, a row of a table has this line.
+typed() {
+    cat >"$got/m.txt" <<MODULE
+M DEFINITIONS ::= BEGIN IMPORTS Far FROM N Gone FROM GONE Absent FROM N Ring FROM N;
+Plain ::= INTEGER
+Near ::= TEXTUAL-CONVENTION DISPLAY-HINT "1x:" STATUS current DESCRIPTION "" SYNTAX Far
+NearSize ::= TEXTUAL-CONVENTION STATUS current DESCRIPTION "" SYNTAX Far (SIZE (4))
+On ::= Near
+Up ::= INTEGER { up(1), down(2) }
+Other ::= TEXTUAL-CONVENTION DISPLAY-HINT "d-2" STATUS current DESCRIPTION "" SYNTAX Up { left(1) }
+Flags ::= BITS { a(0), b(1) }
+A ::= B
+B ::= A
+Self ::= Self
+Row ::= SEQUENCE { x INTEGER, y INTEGER }
+Choice ::= CHOICE { a b }
+Rows ::= TEXTUAL-CONVENTION DISPLAY-HINT "d" STATUS current DESCRIPTION "" SYNTAX SEQUENCE OF Row
+OnRow ::= Row
+Lost ::= Missing
+row OBJECT-TYPE SYNTAX R $row INDEX { o } ::= { iso 9 }
+o OBJECT-TYPE SYNTAX $1 UNITS "m" $column ::= { row 1 }
+END
+N DEFINITIONS ::= BEGIN IMPORTS Far FROM P Ring FROM P;
+Plain ::= OCTET STRING
+END
+P DEFINITIONS ::= BEGIN IMPORTS Ring FROM N;
+Far ::= TEXTUAL-CONVENTION DISPLAY-HINT "255a" STATUS current DESCRIPTION "" SYNTAX Deep (SIZE (6))
+Deep ::= OCTET STRING (SIZE (0..255))
+END
+MODULE
+    table ".1.9.1.$2"
+    expect 0 "M::o.$3" 'snmp: M imports from GONE, which is not loaded
+snmp: M imports Absent from N, which has no Absent' snmpwalk --mib "$got/m.txt" "table:$got/t.tab" o
+}
+# What is nearest to the object, through two imports to the end of the chain: a hint and a SIZE, names, and a type of
+# the module itself that another module has too.
+typed Far "$six_of|4|abc" "'abcdef' = STRING: abc"
+for syntax in Near On; do typed $syntax "$six_of|4|abc" "'abcdef' = STRING: 61:62:63"; done
+typed NearSize '97.98.99.100|4|abc' "'abcd' = STRING: abc"
+typed Up '5|2|1' '5 = INTEGER: up(1)'
+typed 'Up { own(1) }' '5|2|1' '5 = INTEGER: own(1)'
+for syntax in Other 'Other (1..2)'; do
+    typed "$syntax" '5|2|1' '5 = INTEGER: left(1)'
+    typed "$syntax" '5|2|7' '5 = INTEGER: 0.07 m'
+done
+typed Flags '1.65|4x|80' '1.65 = BITS: 80 a(0) '
+typed 'Flags { c(0) }' '1.65|4x|80' '1.65 = BITS: 80 c(0) '
+typed Plain '5|2|5' '5 = INTEGER: 5 m'
+# Rings of definitions and of imports, names without a definition, and those of definitions that are no types of values
+# give no syntax.
+for syntax in A B Self Ring Gone Absent Lost Missing 'SEQUENCE OF Row' Row OnRow Rows Choice; do
+    typed "$syntax" '5|2|5' '5 = INTEGER: 5'
+    typed "$syntax" '2.97.98|4x|80' '2.97.98 = Hex-STRING: 80 '
+done
 
 # help
 prints 'snmp 0.6.0' --version
@@ -563,6 +736,7 @@ expect 1 'iso.3' 'Unknown name: x' snmptranslate .1.3 x .1.3.6
 breaks_off() { expect 1 'iso.3' "$warnings"$'\n'"$1$2" snmptranslate --mib tiny.txt iso.3 "$2"; }
 breaks_off 'Unknown name: ' ''
 breaks_off 'Unknown name: ' NO-MIB::iso
+for name in TINY-SMI::tiny .tiny tiny.tinyMac GONE-MIB::other; do breaks_off 'Unknown name: ' $name; done
 breaks_off 'Bad number: ' iso..3
 breaks_off 'Bad number: ' iso.4294967296
 # A name of 128 numbers, of five octets each, is read and walked.
@@ -669,6 +843,69 @@ printf 'ACROSS-MIB DEFINITIONS ::= BEGIN\nIMPORTS well FROM WELL-MIB;\nacross OB
     >"$got/across.txt"
 printf 'WELL-MIB DEFINITIONS ::= BEGIN\nwell OBJECT IDENTIFIER ::= { iso 7 }\nEND\n' >"$got/well.txt"
 expect 0 '.1.7.2' '' snmptranslate --mib "$got/across.txt" --mib "$got/well.txt" -On ACROSS-MIB::across
+# A name in a module means its own definition, else its first import of the name. Without a module, a name is a root's,
+# else the first that was loaded.
+cat >"$got/m.txt" <<'MODULE'
+A DEFINITIONS ::= BEGIN IMPORTS x FROM B x FROM C;
+x OBJECT IDENTIFIER ::= { iso 5 }
+a OBJECT IDENTIFIER ::= { x 1 }
+END
+B DEFINITIONS ::= BEGIN x OBJECT IDENTIFIER ::= { iso 6 } END
+C DEFINITIONS ::= BEGIN x OBJECT IDENTIFIER ::= { iso 7 } END
+D DEFINITIONS ::= BEGIN IMPORTS x FROM C x FROM B; d OBJECT IDENTIFIER ::= { x 1 } END
+MODULE
+prints '.1.5.1
+.1.5
+.1.6
+.1.7
+.1.7.1
+.1.5
+.1' snmptranslate --mib "$got/m.txt" -On A::a A::x B::x C::x D::d x iso
+refuses 'Unknown name: D::x' snmptranslate --mib "$got/m.txt" D::x
+# Imports in a ring, and of a module from itself, which imports what it is asked for.
+cat >"$got/m.txt" <<'MODULE'
+A DEFINITIONS ::= BEGIN IMPORTS x FROM B;
+y OBJECT IDENTIFIER ::= { x 1 }
+END
+B DEFINITIONS ::= BEGIN IMPORTS x FROM A; END
+S DEFINITIONS ::= BEGIN IMPORTS itself, OBJECT-TYPE, Counter32, iso FROM S;
+z OBJECT IDENTIFIER ::= { itself 1 }
+END
+MODULE
+for name in A::y S::z y z; do
+    expect 1 '' "snmp: A::y stands on a cycle
+snmp: S::z stands on a cycle
+Unknown name: $name" snmptranslate --mib "$got/m.txt" $name
+done
+# Roots are missed, and a name as often as it stands there; macros and base types aren't.
+cat >"$got/m.txt" <<'MODULE'
+A DEFINITIONS ::= BEGIN IMPORTS gone, iso, gone, MODULE-IDENTITY, Gauge32 FROM B
+b FROM NONE c FROM NONE; END
+B DEFINITIONS ::= BEGIN END
+MODULE
+expect 0 'iso' 'snmp: A imports gone from B, which has no gone
+snmp: A imports iso from B, which has no iso
+snmp: A imports gone from B, which has no gone
+snmp: A imports from NONE, which is not loaded
+snmp: A imports from NONE, which is not loaded' snmptranslate --mib "$got/m.txt" iso
+# Chains of names up to 128 numbers, each name behind the one that it stands on, and before it.
+deepest=$(printf '.1%.0s' {1..128})
+below() { for n; do printf 'x%s OBJECT IDENTIFIER ::= { x%s 1 }\n' "$n" $((n - 1)); done; }
+module m.txt "x1 OBJECT IDENTIFIER ::= { iso 1 }
+$(below {2..200})"
+astray=$(printf 'snmp: M::x%s is too long\n' {128..200})
+expect 0 ".1.1.1.1
+$deepest" "$astray" snmptranslate --mib "$got/m.txt" -On M::x3 M::x127
+for name in M::x128 x200; do
+    expect 1 '' "$astray
+Unknown name: $name" snmptranslate --mib "$got/m.txt" -On $name
+done
+module m.txt "$(below {200..1})
+x0 OBJECT IDENTIFIER ::= { iso }"
+expect 0 ".1
+.1.1.1.1
+$deepest" "$(printf 'snmp: M::x%s is too long\n' {200..128})" \
+    snmptranslate --mib "$got/m.txt" -On M::x0 M::x3 M::x127
 # Types that are each other's give an object no syntax, and no warning.
 module m.txt 'A ::= B B ::= A
     a OBJECT-TYPE SYNTAX A UNITS "m" MAX-ACCESS read-only STATUS current DESCRIPTION "" ::= { iso 9 }'

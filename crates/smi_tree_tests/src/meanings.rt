@@ -1,6 +1,6 @@
 //! What names mean in modules that import from one another.
 
-use crate::reading::{comes_to, push_child};
+use crate::reading::comes_to;
 use smi_names::{Decider, NameHash, Names};
 use smi_text::{Module, parse_modules};
 use std::alloc::Global;
@@ -169,37 +169,4 @@ static DECISIONS: [(&str, &str, Decided<'static>); 10] = [
     ("RING-B", "iso", Some((0, "", 1))),
     ("A", "nothing", None),
     ("GONE", "iso", None),
-];
-
-/// A module of 201 nodes, each before its parent.
-fn push_nodes(text: &mut String) -> Result<(), Fail> {
-    text.push_str("A DEFINITIONS ::= BEGIN\n")?;
-    for k in 0..200 {
-        let parent: u32 = 199 - k;
-        push_child(text, "x", parent + 1, parent)?;
-    }
-    text.push_str("x0 OBJECT IDENTIFIER ::= { iso }\nEND\n")?;
-    Ok(())
-}
-
-#[test]
-fn parents_in_text_up_to_128_numbers(rt: HostRuntime) -> Result<(), Fail> {
-    let mut text = String::new(rt.alloc());
-    push_nodes(&mut text)?;
-    let modules = parse_modules(rt.alloc(), text.as_bytes())?;
-    assert_nodes(&rt, rt.alloc(), &modules)
-}
-
-fn assert_nodes(rt: &impl Abort, alloc: Global, modules: &[Module]) -> Result<(), Fail> {
-    let names = Names::new(alloc, NameHash::Fixed, modules)?;
-    assert!(rt; unresolved_row(&names, &LENGTHS).is_none());
-    assert!(rt; !comes_to(names.resolution(b"A", b"x127"), "too long"));
-    Ok(())
-}
-
-static LENGTHS: [(&str, &str, &str); 4] = [
-    ("A", "x0", "1"),
-    ("A", "x3", "1.1.1.1"),
-    ("A", "x128", "too long"),
-    ("A", "x200", "too long"),
 ];

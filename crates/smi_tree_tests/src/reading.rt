@@ -1,5 +1,4 @@
-//! Helpers of the tests: two modules, identifiers from texts, definitions in a row, and what names
-//! resolve to.
+//! Helpers of the tests: two modules, identifiers from texts, and what names resolve to.
 
 use smi_names::Resolution;
 use snmp_oid::{Oid, parse_numeric};
@@ -43,20 +42,6 @@ END
 /// The identifier of a text such as `1.3.6`.
 pub(crate) fn oid(text: &str) -> Result<Oid, Fail> {
     Ok(parse_numeric(text.as_bytes()).ok().ok_or("no identifier")?)
-}
-
-/// Appends a definition of a letter with a number, whose parent is the letter with another number.
-pub(crate) fn push_child(
-    text: &mut String,
-    letter: &str,
-    number: u32,
-    parent: u32,
-) -> Result<(), Fail> {
-    writeln!(
-        text,
-        "{letter}{number} OBJECT IDENTIFIER ::= {{ {letter}{parent} 1 }}"
-    )?;
-    Ok(())
 }
 
 /// Whether a name resolves to this identifier, or for this reason to none.

@@ -1,6 +1,6 @@
 //! Trees of whole modules: their warnings in order, and what each look-up finds.
 
-use crate::reading::{oid, push_child};
+use crate::reading::oid;
 use smi_text::parse_modules;
 use smi_tree::{NameHash, NodeId, Tree, Warning};
 use snmp_oid::Oid;
@@ -115,14 +115,7 @@ fn says(sentence: &str, warning: &Warning) -> bool {
                 b" stands on a cycle",
             ],
         ),
-        Warning::Unresolved(home, name) => consists_of(
-            sentence,
-            &[home.as_bytes(), b"::", name.as_bytes(), b" is unresolved"],
-        ),
-        Warning::TooLong(home, name) => consists_of(
-            sentence,
-            &[home.as_bytes(), b"::", name.as_bytes(), b" is too long"],
-        ),
+        _ => false,
     }
 }
 
@@ -137,46 +130,6 @@ fn say(sentences: &[&str], warnings: &[Warning]) -> bool {
         }
     }
     true
-}
-
-/// Warnings that say the same of a letter and each number in turn.
-struct Numbered {
-    count: usize,
-    letter: &'static str,
-    first: usize,
-    what: &'static str,
-}
-
-/// Whether a text has a tree of this many nodes, with these warnings.
-fn gives_numbered(
-    alloc: Global,
-    text: &str,
-    nodes: usize,
-    warnings: &Numbered,
-) -> Result<bool, Fail> {
-    let loaded = load(alloc, text)?;
-    Ok(loaded.tree.len() == nodes && are_numbered(alloc, &loaded.warnings, warnings)?)
-}
-
-fn are_numbered(alloc: Global, found: &[Warning], expected: &Numbered) -> Result<bool, Fail> {
-    for (k, warning) in found.iter().enumerate() {
-        if !says_of(alloc, warning, expected, k.wrapping_add(expected.first))? {
-            return Ok(false);
-        }
-    }
-    Ok(found.len() == expected.count)
-}
-
-/// Whether a warning is the one of a number.
-fn says_of(
-    alloc: Global,
-    warning: &Warning,
-    expected: &Numbered,
-    number: usize,
-) -> Result<bool, Fail> {
-    let Numbered { letter, what, .. } = expected;
-    let sentence = format!(in alloc; "{letter}{number} {what}")?;
-    Ok(says(&sentence, warning))
 }
 
 /// Whether a label in a module has this identifier.
@@ -200,12 +153,6 @@ fn has_nodes(tree: &Tree, rows: &[(&str, &str, &str)]) -> Result<bool, Fail> {
 /// The node of a label right below an identifier.
 fn child(tree: &Tree, parent: &str, label: &str) -> Result<Option<NodeId>, Fail> {
     Ok(tree.child(&oid(parent)?, label.as_bytes()))
-}
-
-/// Whether a text has a tree of this many nodes, with these warnings.
-fn gives(alloc: Global, text: &str, nodes: usize, warnings: &[&str]) -> Result<bool, Fail> {
-    let loaded = load(alloc, text)?;
-    Ok(loaded.tree.len() == nodes && say(warnings, &loaded.warnings))
 }
 
 /// Whether a tree has the nodes of the tiny modules, and the three roots.
@@ -259,79 +206,6 @@ fn assert_twice_tiny(rt: &impl Abort, loaded: &Loaded) -> Result<(), Fail> {
     Ok(())
 }
 
-const IMPORT_RING: &str = "A DEFINITIONS ::= BEGIN IMPORTS x FROM B;
-y OBJECT IDENTIFIER ::= { x 1 }
-END
-B DEFINITIONS ::= BEGIN IMPORTS x FROM A; END
-S DEFINITIONS ::= BEGIN IMPORTS itself, OBJECT-TYPE, Counter32, iso FROM S;
-z OBJECT IDENTIFIER ::= { itself 1 }
-END
-";
-
-#[test]
-fn imports_in_a_ring(rt: HostRuntime) -> Result<(), Fail> {
-    // A module that imports from itself imports what it is asked for.
-    let expected = ["A::y stands on a cycle", "S::z stands on a cycle"];
-    assert!(rt; gives(rt.alloc(), IMPORT_RING, 3, &expected)?);
-    Ok(())
-}
-
-const MISSED: &str =
-    "A DEFINITIONS ::= BEGIN IMPORTS gone, iso, gone, MODULE-IDENTITY, Gauge32 FROM B
-b FROM NONE c FROM NONE; END
-B DEFINITIONS ::= BEGIN END
-";
-
-static MISSED_WARNINGS: [&str; 5] = [
-    "A imports gone from B, which has none",
-    "A imports iso from B, which has none",
-    "A imports gone from B, which has none",
-    "A imports from NONE, which is not loaded",
-    "A imports from NONE, which is not loaded",
-];
-
-#[test]
-fn roots_and_repeated_symbols_are_missed(rt: HostRuntime) -> Result<(), Fail> {
-    assert!(rt; gives(rt.alloc(), MISSED, 3, &MISSED_WARNINGS)?);
-    Ok(())
-}
-
-const IMPORTED_TWICE: &str = "A DEFINITIONS ::= BEGIN IMPORTS x FROM B x FROM C;
-x OBJECT IDENTIFIER ::= { iso 5 }
-a OBJECT IDENTIFIER ::= { x 1 }
-END
-B DEFINITIONS ::= BEGIN x OBJECT IDENTIFIER ::= { iso 6 } END
-C DEFINITIONS ::= BEGIN x OBJECT IDENTIFIER ::= { iso 7 } END
-D DEFINITIONS ::= BEGIN IMPORTS x FROM C x FROM B; d OBJECT IDENTIFIER ::= { x 1 } END
-";
-
-static IMPORTED_NODES: [(&str, &str, &str); 5] = [
-    ("A", "a", "1.5.1"),
-    ("A", "x", "1.5"),
-    ("B", "x", "1.6"),
-    ("C", "x", "1.7"),
-    ("D", "d", "1.7.1"),
-];
-
-#[test]
-fn definitions_come_before_imports(rt: HostRuntime) -> Result<(), Fail> {
-    let loaded = load(rt.alloc(), IMPORTED_TWICE)?;
-    assert_imported(&rt, &loaded)
-}
-
-fn assert_imported(rt: &impl Abort, loaded: &Loaded) -> Result<(), Fail> {
-    let tree = &loaded.tree;
-    assert!(rt; loaded.warnings.is_empty());
-    assert!(rt; has_nodes(tree, &IMPORTED_NODES)?);
-    // Of three nodes with this label the first loaded is found, and a root before all others.
-    assert!(rt;
-        tree.find_any(b"x") == tree.find(b"A", b"x")
-            && tree.find_any(b"iso") == Some(1)
-            && tree.find(b"D", b"x").is_none()
-    );
-    Ok(())
-}
-
 const ONE_AND_TWO: &str = "A DEFINITIONS ::= BEGIN
 one OBJECT IDENTIFIER ::= { iso 3 }
 two OBJECT IDENTIFIER ::= { iso 3 }
@@ -376,55 +250,44 @@ fn assert_one_and_two(rt: &impl Abort, tree: &Tree) -> Result<(), Fail> {
     Ok(())
 }
 
-/// A module of 200 nodes, each below the one before.
-fn push_chain(text: &mut String) -> Result<(), Fail> {
-    text.push_str("L DEFINITIONS ::= BEGIN x1 OBJECT IDENTIFIER ::= { iso 1 }\n")?;
-    for k in 1..200 {
-        push_child(text, "x", k + 1, k)?;
-    }
-    text.push_str("END\n")?;
-    Ok(())
-}
-
-static TOO_LONG: Numbered = Numbered {
-    count: 73,
-    letter: "L::x",
-    first: 128,
-    what: "is too long",
-};
-
-#[test]
-fn long_chains_end_at_128_numbers(rt: HostRuntime) -> Result<(), Fail> {
-    let mut text = String::new(rt.alloc());
-    push_chain(&mut text)?;
-    // The identifier of x127 has 128 numbers.
-    assert!(rt; gives_numbered(rt.alloc(), &text, 3 + 127, &TOO_LONG)?);
-    Ok(())
-}
-
 /// A module of 1000 nodes, each below the one after, and the last below the first.
 fn push_ring(text: &mut String) -> Result<(), Fail> {
     text.push_str("R DEFINITIONS ::= BEGIN\n")?;
     for k in 0..1000 {
-        push_child(text, "r", k, (k + 1) % 1000)?;
+        let parent = (k + 1) % 1000;
+        writeln!(text, "r{k} OBJECT IDENTIFIER ::= {{ r{parent} 1 }}")?;
     }
     text.push_str("END\n")?;
     Ok(())
 }
-
-static CYCLE: Numbered = Numbered {
-    count: 1000,
-    letter: "R::r",
-    first: 0,
-    what: "stands on a cycle",
-};
 
 #[test]
 fn a_ring_of_names_has_no_end(rt: HostRuntime) -> Result<(), Fail> {
     let mut text = String::new(rt.alloc());
     push_ring(&mut text)?;
-    assert!(rt; gives_numbered(rt.alloc(), &text, 3, &CYCLE)?);
+    assert!(rt; has_ring(rt.alloc(), &text)?);
     Ok(())
+}
+
+/// Whether a text has a tree of the roots alone, with a warning of each node of the ring.
+fn has_ring(alloc: Global, text: &str) -> Result<bool, Fail> {
+    let loaded = load(alloc, text)?;
+    Ok(loaded.tree.len() == 3 && are_on_a_ring(alloc, &loaded.warnings)?)
+}
+
+/// Whether warnings say of each of the 1000 nodes in turn that it stands on a cycle.
+fn are_on_a_ring(alloc: Global, warnings: &[Warning]) -> Result<bool, Fail> {
+    for (k, warning) in warnings.iter().enumerate() {
+        if !is_on_a_ring(alloc, warning, k)? {
+            return Ok(false);
+        }
+    }
+    Ok(warnings.len() == 1000)
+}
+
+fn is_on_a_ring(alloc: Global, warning: &Warning, number: usize) -> Result<bool, Fail> {
+    let sentence = format!(in alloc; "R::r{number} stands on a cycle")?;
+    Ok(says(&sentence, warning))
 }
 
 /// A module of 5000 nodes below one, each number once, out of order.

@@ -10,38 +10,19 @@ use std::alloc::Global;
 use std::process::Abort;
 use std::test::Fail;
 
-const TYPES: &str = "M DEFINITIONS ::= BEGIN IMPORTS Far, Counter32, Integer32 FROM N
- Gone FROM GONE Absent FROM N Ring FROM N;
+const TYPES: &str = "M DEFINITIONS ::= BEGIN IMPORTS Far, Counter32, Integer32 FROM N;
 Gauge32 ::= OCTET STRING
 TimeTicks ::= Nothing
-Plain ::= INTEGER
-Near ::= TEXTUAL-CONVENTION DISPLAY-HINT \"1x:\" STATUS current DESCRIPTION \"\" SYNTAX Far
-NearSize ::= TEXTUAL-CONVENTION STATUS current DESCRIPTION \"\" SYNTAX Far (SIZE (4))
-On ::= Near
-Up ::= INTEGER { up(1), down(2) }
-Other ::= TEXTUAL-CONVENTION DISPLAY-HINT \"d-2\" STATUS current DESCRIPTION \"\" \
-SYNTAX Up { left(1) }
 Ranged ::= Far (SIZE (0..32))
 Bound ::= Integer32 (5..9)
-Flags ::= BITS { a(0), b(1) }
-A ::= B
-B ::= A
-Self ::= Self
-Row ::= SEQUENCE { x INTEGER, y INTEGER }
-Choice ::= CHOICE { a b }
-Rows ::= TEXTUAL-CONVENTION DISPLAY-HINT \"d\" STATUS current DESCRIPTION \"\" \
-SYNTAX SEQUENCE OF Row
-OnRow ::= Row
-Lost ::= Missing
 ";
 
 const IMPORTED: &str = "END
-N DEFINITIONS ::= BEGIN IMPORTS Far FROM P Ring FROM P;
+N DEFINITIONS ::= BEGIN IMPORTS Far FROM P;
 Counter32 ::= OCTET STRING
 Integer32 ::= BITS { no(0) }
-Plain ::= OCTET STRING
 END
-P DEFINITIONS ::= BEGIN IMPORTS Ring FROM N;
+P DEFINITIONS ::= BEGIN
 Far ::= TEXTUAL-CONVENTION DISPLAY-HINT \"255a\" STATUS current DESCRIPTION \"\" \
 SYNTAX Deep (SIZE (6))
 Deep ::= OCTET STRING (SIZE (0..255))
@@ -115,7 +96,7 @@ fn is_syntax(found: Option<TypeSyntax<'_>>, expected: Expected<'_>) -> bool {
 }
 
 /// How many definitions stand before the objects in the first module.
-const BEFORE: usize = 19;
+const BEFORE: usize = 4;
 
 /// The first of these rows whose syntax isn't as the row says.
 fn wrong_row(alloc: Global, rows: &[Row<'_>]) -> Result<Option<usize>, Fail> {
@@ -148,12 +129,12 @@ fn first_wrong(modules: &[Module], types: &Types, first: usize, rows: &[Row<'_>]
 }
 
 #[test]
-fn base_types_go_by_name(rt: HostRuntime) -> Result<(), Fail> {
-    assert!(rt; wrong_row(rt.alloc(), &BASES)?.is_none());
+fn base_types_go_by_name_and_sizes_are_the_nearest(rt: HostRuntime) -> Result<(), Fail> {
+    assert!(rt; wrong_row(rt.alloc(), &SYNTAXES)?.is_none());
     Ok(())
 }
 
-static BASES: [Row<'static>; 13] = [
+static SYNTAXES: [Row<'static>; 15] = [
     ("INTEGER", Some((TypeBase::Integer, "", "", ""))),
     ("OCTET STRING", Some((TypeBase::OctetString, "", "", ""))),
     (
@@ -173,58 +154,12 @@ static BASES: [Row<'static>; 13] = [
     ("Opaque (SIZE (2))", Some((TypeBase::Opaque, "", "", "2"))),
     ("Counter64", Some((TypeBase::Counter64, "", "", ""))),
     ("Bound", Some((TypeBase::Integer, "", "", ""))),
-];
-
-#[test]
-fn what_is_nearest_stands(rt: HostRuntime) -> Result<(), Fail> {
-    assert!(rt; wrong_row(rt.alloc(), &NEAREST)?.is_none());
-    Ok(())
-}
-
-static NEAREST: [Row<'static>; 13] = [
     // Through two imports, to the end of the chain.
-    ("Far", Some((TypeBase::OctetString, "255a", "", "6"))),
     (
         "Far (SIZE (1 | 3))",
         Some((TypeBase::OctetString, "255a", "", "1")),
     ),
-    ("Near", Some((TypeBase::OctetString, "1x:", "", "6"))),
-    ("On", Some((TypeBase::OctetString, "1x:", "", "6"))),
-    ("NearSize", Some((TypeBase::OctetString, "255a", "", "4"))),
     ("Ranged", Some((TypeBase::OctetString, "255a", "", "0"))),
-    ("Up", Some((TypeBase::Integer, "", "up", ""))),
-    ("Up { own(1) }", Some((TypeBase::Integer, "", "own", ""))),
-    ("Other", Some((TypeBase::Integer, "d-2", "left", ""))),
-    ("Other (1..2)", Some((TypeBase::Integer, "d-2", "left", ""))),
-    ("Flags", Some((TypeBase::Bits, "", "a", ""))),
-    ("Flags { c(0) }", Some((TypeBase::Bits, "", "c", ""))),
-    // The module's own definition, not that of another module.
-    ("Plain", Some((TypeBase::Integer, "", "", ""))),
-];
-
-#[test]
-fn other_chains_have_no_syntax(rt: HostRuntime) -> Result<(), Fail> {
-    assert!(rt; wrong_row(rt.alloc(), &WITHOUT)?.is_none());
-    Ok(())
-}
-
-static WITHOUT: [Row<'static>; 13] = [
-    // Rings of definitions and of imports.
-    ("A", None),
-    ("B", None),
-    ("Self", None),
-    ("Ring", None),
-    // Names without a definition.
-    ("Gone", None),
-    ("Absent", None),
-    ("Lost", None),
-    ("Missing", None),
-    // Names of definitions that are no types of values.
-    ("SEQUENCE OF Row", None),
-    ("Row", None),
-    ("OnRow", None),
-    ("Rows", None),
-    ("Choice", None),
 ];
 
 #[test]
