@@ -1,6 +1,8 @@
 -- Bindings as they are encoded.
-use Rattle.std.specs.Prelude.{◌≡◌, ℕ, List, []}
+use Rattle.std.specs.Prelude.{◌≡◌, ℕ, List, [], take, nat_lt}
+use Rattle.std.specs.Prelude.{if◌then◌else◌}
 use Rattle.std.specs.Result.{result_unwrap_or}
+use Rattle.snmp_wire.specs.declared.in_place.Octets.{Octets}
 use Rattle.snmp_wire.specs.Canon.{canon_binding}
 use Rattle.snmp_wire.specs.Message.{VarBind, null_value}
 use Rattle.snmp_wire.specs.Range.{IsBindingInRange}
@@ -15,3 +17,8 @@ binding_in octets =
 pub record IsKept (octets : List ℕ) : Type 0 where
   pub range : IsBindingInRange (binding_in octets)
   pub encoding : octets ≡ canon_binding (binding_in octets)
+
+-- the octets that are kept, in place or elsewhere
+abbrev pub octets_of : Octets → List ℕ
+octets_of octets =
+    if nat_lt octets.size 40 then take octets.size octets.few else octets.many.items

@@ -1,6 +1,6 @@
 //! Bindings that are kept as their encodings, as a table keeps its rows.
-ghost use Rattle.std.specs.Prelude.{◌≡◌, IfOk, Ok};
-ghost use Rattle.snmp_wire.specs.Encoded.{IsKept, binding_in};
+ghost use Rattle.std.specs.Prelude.{◌≡◌, length, IfOk, Ok};
+ghost use Rattle.snmp_wire.specs.Encoded.{IsKept, binding_in, octets_of};
 ghost use Rattle.snmp_wire.specs.ber.Reading as reading;
 ghost use Rattle.snmp_wire.specs.Canon.{IsEncodable, canon_binding};
 ghost use Rattle.snmp_wire.specs.Message.{datum, object_id, var_bind};
@@ -9,6 +9,7 @@ ghost use Rattle.snmp_wire.specs.Range.{IsBindingInRange, IsInRange};
 use crate::ber::tag::{OBJECT_IDENTIFIER, SEQUENCE};
 use crate::ber::{ValueRef, content_reading, inner_at, shortest_encodings};
 use crate::binding::{Binding, Bindings, pair_size, put_pair};
+use crate::in_place::{ELSEWHERE, IN_PLACE, Octets};
 use crate::name::EncodedName;
 use snmp_oid::Oid;
 use std::alloc::{AllocError, Global};
@@ -17,22 +18,22 @@ use std::marker::Model;
 /// A variable binding (RFC 3416, section 3) as its shortest encoding, which a message has as it is.
 #[derive(Debug, Drop)]
 pub struct EncodedBinding {
-    octets: Vec<u8>,
+    octets: Octets,
 }
 
 impl Model for EncodedBinding {
-    ghost use Rattle.snmp_wire.specs.Encoded.{IsKept, binding_in};
+    ghost use Rattle.snmp_wire.specs.Encoded.{IsKept, binding_in, octets_of};
     ghost use Rattle.snmp_wire.specs.Message.{VarBind};
 
     ghost Value = { VarBind };
 
-    ghost view = { λ b. binding_in b.octets.items };
+    ghost view = { λ b. binding_in (octets_of b.octets) };
 
-    ghost invariant = { λ b. IsKept b.octets.items };
+    ghost invariant = { λ b. IsKept (octets_of b.octets) };
 }
 
 impl EncodedBinding {
-    /// The binding of a name and a value, for whose encoding it takes memory.
+    /// The binding of a name and a value. Where its encoding is long it takes memory for it.
     pub fn new(
         alloc: Global,
         name: &Oid,
@@ -123,13 +124,45 @@ fn name_in_long(octets: &[u8]) -> &[u8]
 }
 
 /// The shortest encoding of the binding of a name and a value.
-fn encoded(alloc: Global, name: &Oid, value: &ValueRef<'_>) -> Result<Vec<u8>, AllocError>
+fn encoded(alloc: Global, name: &Oid, value: &ValueRef<'_>) -> Result<Octets, AllocError>
     requires { IsEncodable (record { name = name.now; value = datum value.now }) }
-    ensures { IfOk result (λ octets. octets.items
+    ensures { IfOk result (λ octets. octets_of octets
         ≡ canon_binding (record { name = name.now; value = datum value.now })) }
 {
     let size = pair_size(name, value) as usize;
-    let mut octets = vec![in alloc; 0; size]?;
-    let _ = put_pair(octets.as_mut_slice(), size, name, value);
-    Ok(octets)
+    if size > IN_PLACE {
+        return encoded_elsewhere(alloc, size, name, value);
+    }
+    let mut few = [0; IN_PLACE];
+    let _ = put_pair(&mut few, size, name, value);
+    Ok(Octets {
+        many: Vec::new(alloc),
+        size: size as u8,
+        few,
+    })
+}
+
+/// The same of more octets, for which it takes memory.
+#[inline(never)]
+fn encoded_elsewhere(
+    alloc: Global,
+    size: usize,
+    name: &Oid,
+    value: &ValueRef<'_>,
+) -> Result<Octets, AllocError>
+    requires encodable { IsEncodable (record { name = name.now; value = datum value.now }) }
+    requires size { size ≡ length (canon_binding (record {
+      name = name.now;
+      value = datum value.now;
+    })) }
+    ensures { IfOk result (λ octets. octets_of octets
+        ≡ canon_binding (record { name = name.now; value = datum value.now })) }
+{
+    let mut many = vec![in alloc; 0; size]?;
+    let _ = put_pair(many.as_mut_slice(), size, name, value);
+    Ok(Octets {
+        many,
+        size: ELSEWHERE,
+        few: [0; IN_PLACE],
+    })
 }

@@ -34,6 +34,7 @@ mod asking;
 mod ber;
 mod binding;
 mod encoded;
+mod in_place;
 mod kind;
 mod laws;
 mod message;

@@ -1,5 +1,5 @@
 use Rattle.std.proofs.Common.{◌∙◌, ap}
-use Rattle.snmp_wire.specs.Encoded.{binding_in}
+use Rattle.snmp_wire.specs.Encoded.{binding_in, octets_of}
 use Rattle.snmp_wire.specs.Message.{datum}
 use Rattle.snmp_wire.proofs.Kept.{encodable, is_kept, read_again}
 use Rattle.snmp_wire.proofs.encoded.EncodedBinding.new.Goals as goal
@@ -10,7 +10,7 @@ encoded-requires c = encodable (record { name = c.args.name.now; value = datum c
 pub invariant_of-result : goal.invariant_of-result
 invariant_of-result c =
     is_kept c.content_reading.ensures c.shortest_encodings.ensures (record { name = c.args.name.now; value = datum c.args.value.now })
-    (record { name = c.requires.name; value = c.requires.value }) c.in_ok-octets.octets.items c.in_ok-octets.ensures
+    (record { name = c.requires.name; value = c.requires.value }) (octets_of c.in_ok-octets.octets) c.in_ok-octets.ensures
 
 pub returns : goal.returns
 returns c =

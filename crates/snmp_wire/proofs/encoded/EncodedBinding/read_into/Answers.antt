@@ -1,14 +1,14 @@
 use Rattle.std.proofs.Common.{◌≡◌, ◌∷◌, [], true, false, List, Bool, refl, sym, ◌∙◌}
-use Rattle.snmp_wire.specs.Encoded.{binding_in}
+use Rattle.snmp_wire.specs.Encoded.{binding_in, octets_of}
 use Rattle.snmp_wire.specs.Message.{VarBind, var_bind}
 use Rattle.snmp_wire.proofs.Kept.{are_bindings, one_binding}
 use Rattle.snmp_wire.proofs.encoded.EncodedBinding.read_into.Goals as goal
 
 pub new-requires : goal.new-requires
 new-requires c =
-    let p : VarBind = binding_in c.self.inside.octets.items in
+    let p : VarBind = binding_in (octets_of c.self.inside.octets) in
     are_bindings c.content_reading.ensures c.shortest_encodings.ensures p c.self.invariant.range c.as_slice.result.now
-    (c.as_slice.ensures.value ∙ c.self.invariant.encoding)
+    (c.as_slice.ensures ∙ c.self.invariant.encoding)
 
 one : (all : List VarBind) (p q : VarBind) (rest : List VarBind) (read : Bool) → all ≡ p ∷ []
     → (read ≡ true → all ≡ q ∷ rest) → (read ≡ false → all ≡ []) → q ≡ p
@@ -17,10 +17,10 @@ one all p q rest false is some none = let e : p ∷ [] ≡ [] = sym is ∙ none 
 
 pub returns : goal.returns
 returns c =
-    let p : VarBind = binding_in c.self.inside.octets.items in
+    let p : VarBind = binding_in (octets_of c.self.inside.octets) in
     let whole : c.new.result ≡ p ∷ [] = c.new.ensures
     ∙ one_binding c.content_reading.ensures c.shortest_encodings.ensures p c.self.invariant.range c.as_slice.result.now
-    (c.as_slice.ensures.value ∙ c.self.invariant.encoding) in
+    (c.as_slice.ensures ∙ c.self.invariant.encoding) in
     one c.new.result p (var_bind c.read_next.new.into) c.read_next.new.self c.read_next.result whole c.read_next.ensures.some
     (λ no. (c.read_next.ensures.none no).0)
     ∙ c.self.view_is
