@@ -2,6 +2,7 @@
 //! other, and are moved to make room for the head once they are all there.
 ghost use Rattle.std.specs.Prelude.{◌≡◌, ◌+◌, ◌≤◌, ◌<◌, ◌++◌, List, [], length, take, IfSome};
 ghost use Rattle.std.specs.Prelude.{IfNone, IsTrue, ◌↔◌};
+ghost use Rattle.std.specs.FinMap.{get};
 ghost use Rattle.snmp_wire.specs.Message.{VarBind, var_bind, datum, null_value};
 ghost use Rattle.snmp_wire.specs.Canon.{canon_binding, canon_bindings};
 ghost use Rattle.snmp_wire.specs.Parts.{parts_message};
@@ -104,20 +105,22 @@ fn append_get(
 {
     match table.row(&asked.name()) {
         Some(row) => draft.append_row(out, row),
-        None => append_got(table, asked, draft, out),
+        None => append_exception(table, asked, draft, out),
     }
 }
 
-/// Writes what a Get of a binding's name gives, a row or an exception, as [`append_answer`] does.
-/// Not inlined: its binding, of over a thousand octets, is set to zeros as the function begins.
+/// Writes the exception that a Get of a binding's name gives that no row has, as [`append_answer`]
+/// does. Not inlined: its binding, of over a thousand octets, is set to zeros as the function
+/// begins.
 #[inline(never)]
-fn append_got(
+fn append_exception(
     table: &Table,
     asked: &BindingRef<'_>,
     draft: Draft,
     out: &mut [u8; MAX_DATAGRAM],
 ) -> Option<usize>
-    requires { IsWritable asked.now }
+    requires writable { IsWritable asked.now }
+    requires none { get table.now.rows asked.now.name ≡ None }
     ensures written { IfSome result (λ n. (p : VarBind) × IsGet table.now asked.now.name p
         × IsAppended draft.room draft.total out.old p n out.new) }
     ensures too_long { IfNone result ((p : VarBind) × IsGet table.now asked.now.name p
@@ -125,7 +128,7 @@ fn append_got(
 {
     let mut binding = blank();
     asked.name().read_into(&mut binding.name);
-    binding.value = table.get(&binding.name);
+    binding.value = table.exception(&binding.name);
     draft.append(out, &binding)
 }
 

@@ -44,7 +44,7 @@ impl Model for Table {
 
 impl Table {
     ghost use Rattle.snmp_wire.specs.Message.{datum, var_bind};
-    ghost use Rattle.std.specs.Prelude.{◌≡◌, IfOk, IfErr, IfSome};
+    ghost use Rattle.std.specs.Prelude.{◌≡◌, IfOk, IfErr, IfSome, IfNone};
     ghost use Rattle.std.specs.Str.Lines.{lines};
     ghost use Rattle.std.specs.Option.{option_map};
     ghost use Rattle.std.specs.FinMap.{contains_key, get};
@@ -162,7 +162,8 @@ impl Table {
 
     /// The row of this name.
     pub(crate) fn row(&self, name: &EncodedName<'_>) -> Option<&EncodedBinding>
-        ensures { IfSome result (λ row. IsGet self.now name.now row.now) }
+        ensures some { IfSome result (λ row. IsGet self.now name.now row.now) }
+        ensures none { IfNone result (get self.now.rows name.now ≡ None) }
     {
         self.rows.find(name)
     }
@@ -187,10 +188,24 @@ impl Table {
             (record { name = name.now; value = datum result }) }
         ensures value { IsAnswerValue (datum result) }
     {
+        self.is_mib_view();
         match self.row_of(name) {
             Some(row) => row.value(),
-            None if has_beginning(&self.objects, name.as_slice()) => ValueRef::NoSuchInstance,
-            None => ValueRef::NoSuchObject,
+            None => self.exception(name),
+        }
+    }
+
+    /// The exception that a Get of a name gives that no instance has, as [`Table::get`] says.
+    pub(crate) fn exception(&self, name: &Oid) -> ValueRef<'_>
+        requires { get self.now.rows name.now ≡ None }
+        ensures answer { IsGet self.now name.now
+            (record { name = name.now; value = datum result }) }
+        ensures value { IsAnswerValue (datum result) }
+    {
+        if has_beginning(&self.objects, name.as_slice()) {
+            ValueRef::NoSuchInstance
+        } else {
+            ValueRef::NoSuchObject
         }
     }
 
