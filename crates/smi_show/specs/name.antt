@@ -10,3 +10,4 @@ pub mod Part
 pub mod Name
 pub mod Shown
 pub mod Meant
+pub mod Reading

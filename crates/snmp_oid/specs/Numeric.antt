@@ -54,7 +54,7 @@ pub record IsFirstBadPart (text : List ℕ) (at : ℕ) : Type 0 where
   pub before : (k : ℕ) → k < at → BeginsPart text k → (n : ℕ) × IsNumeral (part_at text k) n
 
 -- The part up to the first dot of a text, or the end: the number that it is a numeral of, and what
--- follows the dot. Private clauses alone cite this.
+-- follows the dot.
 pub record IsPartRead (text : List ℕ) (number : Option ℕ) (after : Option (List ℕ)) : Type 0 where
   pub part : List ℕ
   pub plain : All (λ octet. octet ≢ dot) part

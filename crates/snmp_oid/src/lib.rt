@@ -21,5 +21,8 @@
 mod numeric;
 mod oid;
 
-pub use numeric::{LONGEST_TEXT, OidTextError, names, parse_numeric, read_numeric, write_numeric};
+pub use numeric::{
+    LONGEST_TEXT, OidTextError, front_number, names, parse_number, parse_numeric, read_numeric,
+    write_numeric,
+};
 pub use oid::{MAX_LEN, Oid, OidError, compare_numbers, order, ranks};

@@ -102,17 +102,18 @@ fn without_front_dot(text: &[u8]) -> &[u8]
 fn read_part(text: &[u8]) -> (Option<u32>, Option<&[u8]>)
     ensures { IsPartRead text.now result.0 (option_map (λ rest. rest.now) result.1) }
 {
-    match read_short(text) {
+    match front_number(text) {
         Some((number, after)) => (Some(number), after),
         None => read_any_part(text),
     }
 }
 
-/// The same where the part is a digit before a dot, as most are, or digits of a number that is far
-/// from the greatest. None says nothing of the text.
+/// The number of the first part of a text, and what follows the dot that ends it, None where none
+/// does: if the part is a digit before a dot, as most are, or digits of a number that is far from
+/// the greatest. None says nothing of the text.
 // Hot: each number of a name.
 #[inline(always)]
-fn read_short(text: &[u8]) -> Option<(u32, Option<&[u8]>)>
+pub fn front_number(text: &[u8]) -> Option<(u32, Option<&[u8]>)>
     ensures { IfSome result
         (λ read. IsPartRead text.now (Some read.0) (option_map (λ rest. rest.now) read.1)) }
 {
@@ -157,7 +158,7 @@ fn read_any_part(text: &[u8]) -> (Option<u32>, Option<&[u8]>)
     ensures { IsPartRead text.now result.0 (option_map (λ rest. rest.now) result.1) }
 {
     let (part, after) = split_part(text);
-    (read_number(part), after)
+    (parse_number(part), after)
 }
 
 /// The first part of a text, and what follows the dot that ends it, None where none does.
@@ -174,7 +175,7 @@ fn split_part(text: &[u8]) -> (&[u8], Option<&[u8]>)
 }
 
 /// The number of 32 bits that decimal digits write, None where the part is no such numeral.
-fn read_number(part: &[u8]) -> Option<u32>
+pub fn parse_number(part: &[u8]) -> Option<u32>
     ensures found { IfSome result (IsNumeral part.now) }
     ensures none { IfNone result ((n : ℕ) → IsNumeral part.now n → ⊥) }
 {

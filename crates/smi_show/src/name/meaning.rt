@@ -1,5 +1,6 @@
 //! The identifier that a name means, by its parts from the left.
-ghost use Rattle.std.specs.Prelude.{◌≡◌, ℕ, Bool, List, Ok, Err, IfErr, OnOk, option_map};
+ghost use Rattle.std.specs.Prelude.{◌≡◌, ◌<◌, ℕ, Bool, List, Ok, Err, IfErr, IfOk, IfSome, OnOk};
+ghost use Rattle.std.specs.Prelude.{MatchResult, length, option_map};
 ghost use Rattle.std.specs.Option.{option_copied};
 ghost use Rattle.snmp_oid.specs.Identifier.{IsIdentifier};
 ghost use Rattle.smi_value.specs.declared.letters.letters.NameForm.{NameForm};
@@ -12,16 +13,17 @@ ghost use Rattle.smi_show.specs.name.Meaning.{scoped_meaning};
 ghost use Rattle.smi_show.specs.name.Meant.{FrontMeans, TextMeans, found_in};
 ghost use Rattle.smi_show.specs.name.Name.{IsName, ReadsBack};
 ghost use Rattle.smi_show.specs.name.Part.{scope_in};
+ghost use Rattle.smi_show.specs.name.Reading.{meant_with, read_to};
 
 use crate::index::pieces_stand_for_numbers;
 use crate::name::cut::{cut_module, cut_part};
 use crate::name::part::read_part;
-use crate::name::piece::with_piece;
+use crate::name::piece::{push_number, push_piece};
 use crate::name::scope::Scope;
 use crate::name::word::Part;
 use crate::name::{NameError, NameTree};
 use snmp_io::unquoted_front;
-use snmp_oid::{Oid, names};
+use snmp_oid::{Oid, front_number, names};
 
 /// The identifier that a name means, or the first fault from the left. Does not allocate.
 ///
@@ -52,9 +54,37 @@ pub fn resolve_front<T: NameTree>(
 ) -> Result<(Oid, usize), NameError>
     ensures { FrontMeans (T.naming tree.now) stop text.now result }
 {
+    let mut oid = Oid::new();
+    match resolve_front_into(tree, text, stop, &mut oid) {
+        Ok(size) => Ok((oid, size)),
+        Err(fault) => Err(fault),
+    }
+}
+
+/// Reads the identifier that a name means into one that is there, as [`resolve`] reads it: to move
+/// an identifier takes as long as to read one. After a fault it may have any numbers.
+pub fn resolve_into<T: NameTree>(tree: &T, text: &[u8], oid: &mut Oid) -> Result<(), NameError>
+    ensures found { OnOk result (TextMeans (T.naming tree.now) text.now (Ok oid.new)) }
+    ensures fault { IfErr result (λ why. TextMeans (T.naming tree.now) text.now (Err why)) }
+{
+    read_meaning(tree, text, oid)
+}
+
+/// Reads the identifier that the front of a text means into one that is there, and returns the
+/// front's length, as [`resolve_front`] does. After a fault the identifier may have any numbers.
+pub fn resolve_front_into<T: NameTree>(
+    tree: &T,
+    text: &[u8],
+    stop: u8,
+    oid: &mut Oid,
+) -> Result<usize, NameError>
+    ensures { MatchResult result
+        (λ size. FrontMeans (T.naming tree.now) stop text.now (Ok (oid.new, size)))
+        (λ why. FrontMeans (T.naming tree.now) stop text.now (Err why)) }
+{
     let front = unquoted_front(text, stop);
-    match resolve(tree, front) {
-        Ok(oid) => Ok((oid, front.len())),
+    match resolve_into(tree, front, oid) {
+        Ok(()) => Ok(front.len()),
         Err(fault) => Err(fault),
     }
 }
@@ -63,108 +93,176 @@ pub fn resolve_front<T: NameTree>(
 fn meaning_of<T: NameTree>(tree: &T, text: &[u8]) -> Result<Oid, NameError>
     ensures { result ≡ meaning (T.naming tree.now) text.now }
 {
-    match text {
-        [] => Err(NameError::Unknown),
-        [b'.'] => Ok(Oid::new()),
-        _ => scoped_meaning(tree, text),
+    let mut oid = Oid::new();
+    match read_meaning(tree, text, &mut oid) {
+        Ok(()) => Ok(oid),
+        Err(fault) => Err(fault),
     }
 }
 
-/// What a text of at least one part means, with or without a module before it.
-fn scoped_meaning<T: NameTree>(tree: &T, text: &[u8]) -> Result<Oid, NameError>
-    ensures { result ≡ scoped_meaning (T.naming tree.now) text.now (module_after None text.now) }
+/// Reads what a text means into an identifier that is there.
+// All that is read of a name goes into one identifier: to move it takes as long as to read a name.
+fn read_meaning<T: NameTree>(tree: &T, text: &[u8], oid: &mut Oid) -> Result<(), NameError>
+    ensures { read_to result oid.new ≡ meaning (T.naming tree.now) text.now }
+{
+    match text {
+        [] => Err(NameError::Unknown),
+        [b'.'] => {
+            oid.clear();
+            Ok(())
+        }
+        _ => scoped_meaning(tree, text, oid),
+    }
+}
+
+/// Reads what a text of at least one part means, with or without a module before it.
+fn scoped_meaning<T: NameTree>(tree: &T, text: &[u8], oid: &mut Oid) -> Result<(), NameError>
+    ensures { read_to result oid.new
+        ≡ scoped_meaning (T.naming tree.now) text.now (module_after None text.now) }
 {
     match cut_module(text) {
         Some((home, rest)) => {
             if tree.is_loaded(home) {
-                parts_meaning(tree, Scope::Module(home), rest)
+                parts_meaning(tree, Scope::Module(home), rest, oid)
             } else {
                 Err(NameError::Unknown)
             }
         }
-        None => plain_meaning(tree, text),
+        None => plain_meaning(tree, text, oid),
     }
 }
 
-/// What a text without a module means.
-fn plain_meaning<T: NameTree>(tree: &T, text: &[u8]) -> Result<Oid, NameError>
-    ensures { result ≡ plain_meaning (T.naming tree.now) text.now }
+/// Reads what a text without a module means.
+fn plain_meaning<T: NameTree>(tree: &T, text: &[u8], oid: &mut Oid) -> Result<(), NameError>
+    ensures { read_to result oid.new ≡ plain_meaning (T.naming tree.now) text.now }
 {
     match text {
-        [b'.', rest @ ..] => parts_meaning(tree, Scope::Roots, rest),
-        _ => parts_meaning(tree, Scope::Anywhere, text),
+        [b'.', rest @ ..] => parts_meaning(tree, Scope::Roots, rest, oid),
+        _ => parts_meaning(tree, Scope::Anywhere, text, oid),
     }
 }
 
-/// What parts mean, with the label of the first looked up in this scope.
-fn parts_meaning<T: NameTree>(tree: &T, scope: Scope<'_>, text: &[u8]) -> Result<Oid, NameError>
+/// Reads what parts mean, with the label of the first looked up in this scope.
+fn parts_meaning<T: NameTree>(
+    tree: &T,
+    scope: Scope<'_>,
+    text: &[u8],
+    oid: &mut Oid,
+) -> Result<(), NameError>
     ensures { let parts = name_parts text.now in
-        result ≡ parts_meaning (T.naming tree.now) (scope_in scope.entry) parts }
+        read_to result oid.new
+        ≡ parts_meaning (T.naming tree.now) (scope_in scope.entry) parts }
 {
-    let (part, rest) = cut_part(text);
-    let head = head_meaning(tree, scope, part)?;
-    further_meaning(tree, head, rest)
+    let left = first_meaning(tree, scope, text, oid)?;
+    further_meaning(tree, left, oid)
 }
 
-/// What further parts mean after the identifier so far.
+/// Reads what further parts mean after the identifier so far.
 fn further_meaning<T: NameTree>(
     tree: &T,
-    so_far: Oid,
     parts: Option<&[u8]>,
-) -> Result<Oid, NameError>
+    oid: &mut Oid,
+) -> Result<(), NameError>
     ensures { let left = parts_left (option_map (λ rest. rest.now) parts.entry) in
-        result ≡ further_meaning (T.naming tree.now) so_far left }
+        read_to result oid.new ≡ further_meaning (T.naming tree.now) oid.old left }
 {
-    let mut oid = so_far;
     let mut left = parts;
     'parts: while let Some(here) = left {
-        let (part, rest) = cut_part(here);
-        oid = part_meaning(tree, oid, part)?;
-        left = rest;
+        left = next_meaning(tree, here, oid)?;
     }
-    Ok(oid)
+    Ok(())
 }
 
-/// What the first part means.
-fn head_meaning<T: NameTree>(tree: &T, scope: Scope<'_>, part: &[u8]) -> Result<Oid, NameError>
-    ensures { result ≡ head_meaning (T.naming tree.now) (scope_in scope.entry) part.now }
+/// Reads what the first part of a name means, and returns what follows the dot that ends it.
+fn first_meaning<'b, T: NameTree>(
+    tree: &T,
+    scope: Scope<'_>,
+    text: &'b [u8],
+    oid: &mut Oid,
+) -> Result<Option<&'b [u8]>, NameError>
+    ensures { let parts = name_parts text.now in
+        meant_with (T.naming tree.now) result oid.new
+        ≡ parts_meaning (T.naming tree.now) (scope_in scope.entry) parts }
+{
+    let (part, rest) = cut_part(text);
+    head_meaning(tree, scope, part, oid)?;
+    Ok(rest)
+}
+
+/// Reads what the first of further parts means, and returns what follows the dot that ends it.
+fn next_meaning<'b, T: NameTree>(
+    tree: &T,
+    text: &'b [u8],
+    oid: &mut Oid,
+) -> Result<Option<&'b [u8]>, NameError>
+    ensures meant { let parts = name_parts text.now in
+        meant_with (T.naming tree.now) result oid.new
+        ≡ further_meaning (T.naming tree.now) oid.old parts }
+    ensures shorter { IfOk result (λ left.
+        IfSome left (λ rest. length rest.now < length text.now)) }
+{
+    // Most further parts are numbers of a few digits.
+    if let Some((number, rest)) = front_number(text) {
+        return match push_number(oid, number) {
+            Ok(()) => Ok(rest),
+            Err(fault) => Err(fault),
+        };
+    }
+    let (part, rest) = cut_part(text);
+    part_meaning(tree, part, oid)?;
+    Ok(rest)
+}
+
+/// Reads what the first part means.
+fn head_meaning<T: NameTree>(
+    tree: &T,
+    scope: Scope<'_>,
+    part: &[u8],
+    oid: &mut Oid,
+) -> Result<(), NameError>
+    ensures { read_to result oid.new
+        ≡ head_meaning (T.naming tree.now) (scope_in scope.entry) part.now }
 {
     match read_part(part)? {
-        Part::Piece(piece) => with_piece(Oid::new(), piece),
-        Part::Label(label) => labelled(tree, scope, label),
+        Part::Piece(piece) => {
+            oid.clear();
+            push_piece(oid, piece)
+        }
+        Part::Label(label) => known(labelled(tree, scope, label), oid),
     }
 }
 
 /// The node of a label in a scope.
-fn labelled<T: NameTree>(tree: &T, scope: Scope<'_>, label: &[u8]) -> Result<Oid, NameError>
-    ensures { result ≡ or_unknown (found_in (T.naming tree.now) (scope_in scope.entry) label.now) }
+fn labelled<'t, T: NameTree>(tree: &'t T, scope: Scope<'_>, label: &[u8]) -> Option<&'t Oid>
+    ensures { option_copied result
+        ≡ found_in (T.naming tree.now) (scope_in scope.entry) label.now }
 {
     match scope {
-        Scope::Module(home) => known(tree.in_module(home, label)),
-        Scope::Anywhere => known(tree.anywhere(label)),
-        Scope::Roots => known(tree.among_roots(label)),
+        Scope::Module(home) => tree.in_module(home, label),
+        Scope::Anywhere => tree.anywhere(label),
+        Scope::Roots => tree.among_roots(label),
     }
 }
 
-/// What a further part means after the identifier so far.
-fn part_meaning<T: NameTree>(tree: &T, so_far: Oid, part: &[u8]) -> Result<Oid, NameError>
-    ensures { result ≡ part_meaning (T.naming tree.now) so_far part.now }
+/// Reads what a further part means after the identifier so far.
+fn part_meaning<T: NameTree>(tree: &T, part: &[u8], oid: &mut Oid) -> Result<(), NameError>
+    ensures { read_to result oid.new ≡ part_meaning (T.naming tree.now) oid.old part.now }
 {
     match read_part(part)? {
-        Part::Piece(piece) => with_piece(so_far, piece),
-        Part::Label(label) => known(tree.child(&so_far, label)),
+        Part::Piece(piece) => push_piece(oid, piece),
+        Part::Label(label) => known(tree.child(oid, label), oid),
     }
 }
 
-/// A copy of the identifier that was found.
-fn known(found: Option<&Oid>) -> Result<Oid, NameError>
-    ensures { result ≡ or_unknown (option_copied found.entry) }
+/// Copies the identifier that was found.
+fn known(found: Option<&Oid>, oid: &mut Oid) -> Result<(), NameError>
+    ensures { read_to result oid.new ≡ or_unknown (option_copied found.entry) }
 {
     match found {
         None => Err(NameError::Unknown),
-        Some(oid) => match Oid::from_slice(oid.as_slice()) {
-            Ok(copy) => Ok(copy),
-            Err(_) => unreachable!(),
-        },
+        Some(known) => {
+            oid.set_to(known);
+            Ok(())
+        }
     }
 }

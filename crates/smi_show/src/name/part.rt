@@ -1,7 +1,5 @@
 //! Reads a part of a name on its own.
-ghost use Rattle.std.specs.Prelude.{◌≡◌, ◌≢◌, ◌<◌, ℕ, [], length, option_map, slice_index, Some};
-ghost use Rattle.std.specs.Prelude.{None};
-ghost use Rattle.std.specs.Prelude.{◌∷◌, IfNone, IfSome};
+ghost use Rattle.std.specs.Prelude.{◌≡◌, ◌≢◌, ℕ, [], option_map};
 ghost use Rattle.std.specs.Option.{option_copied};
 ghost use Rattle.std.specs.List.{list_all};
 ghost use Rattle.smi_show.specs.index.Pieces.{is_quotable};
@@ -10,7 +8,7 @@ ghost use Rattle.smi_show.specs.name.Part.{outcome_in};
 
 use crate::name::NameError;
 use crate::name::word::{Part, Piece};
-use snmp_oid::parse_numeric;
+use snmp_oid::parse_number;
 
 /// What a part says: a number, a text in quotes, or a label; or its own fault.
 pub fn read_part(part: &[u8]) -> Result<Part<'_>, NameError>
@@ -36,25 +34,10 @@ pub fn read_part(part: &[u8]) -> Result<Part<'_>, NameError>
 
 /// The number of 32 bits that decimal digits stand for.
 fn numeral(part: &[u8]) -> Option<u32>
-    requires some { part.now ≢ [] }
-    requires dotless { slice_index part.now 0 ≢ 46 }
+    requires { part.now ≢ [] }
     ensures { result ≡ numeral_of part.now }
 {
-    match parse_numeric(part) {
-        Ok(oid) => only_number(oid.as_slice()),
-        Err(_) => None,
-    }
-}
-
-/// The number, if there is just one.
-fn only_number(numbers: &[u32]) -> Option<u32>
-    ensures found { IfSome result (λ n. numbers.now ≡ n ∷ []) }
-    ensures none { IfNone result (length numbers.now ≢ 1) }
-{
-    match numbers {
-        [number] => Some(*number),
-        _ => None,
-    }
+    parse_number(part)
 }
 
 /// The octets before the quote that ends a text, where each may stand between quotes.

@@ -3,54 +3,56 @@ ghost use Rattle.std.specs.Prelude.{◌≡◌, ◌++◌, ◌∷◌, [], length};
 ghost use Rattle.smi_show.specs.index.Pieces.{piece_numbers};
 ghost use Rattle.smi_show.specs.name.Meaning.{fitting};
 ghost use Rattle.smi_show.specs.name.Part.{piece_in};
+ghost use Rattle.smi_show.specs.name.Reading.{read_to};
 
 use crate::name::NameError;
 use crate::name::word::Piece;
 use snmp_oid::{MAX_LEN, Oid};
 
-/// An identifier with the numbers of a part after it, or `TooLong`.
-pub fn with_piece(oid: Oid, piece: Piece<'_>) -> Result<Oid, NameError>
-    ensures { result ≡ fitting (oid ++ piece_numbers (piece_in piece.entry)) }
+/// Appends the numbers of a part to an identifier, or returns `TooLong`. After that it may have any
+/// numbers.
+pub fn push_piece(oid: &mut Oid, piece: Piece<'_>) -> Result<(), NameError>
+    ensures { read_to result oid.new ≡ fitting (oid.old ++ piece_numbers (piece_in piece.entry)) }
 {
     match piece {
-        Piece::Number(number) => with_number(oid, number),
-        Piece::Counted(octets) => with_counted(oid, octets),
-        Piece::Plain(octets) => with_octets(oid, octets),
+        Piece::Number(number) => push_number(oid, number),
+        Piece::Counted(octets) => push_counted(oid, octets),
+        Piece::Plain(octets) => push_octets(oid, octets),
     }
 }
 
-/// An identifier with one more number.
-fn with_number(oid: Oid, number: u32) -> Result<Oid, NameError>
-    ensures { result ≡ fitting (oid ++ number ∷ []) }
+/// Appends a number.
+// Hot: each number of a name.
+#[inline]
+pub fn push_number(oid: &mut Oid, number: u32) -> Result<(), NameError>
+    ensures { read_to result oid.new ≡ fitting (oid.old ++ number ∷ []) }
 {
-    let mut longer = oid;
-    match longer.push(number) {
-        Ok(()) => Ok(longer),
+    match oid.push(number) {
+        Ok(()) => Ok(()),
         Err(_) => Err(NameError::TooLong),
     }
 }
 
-/// An identifier with the number of octets and then the octets after it.
-fn with_counted(oid: Oid, octets: &[u8]) -> Result<Oid, NameError>
-    ensures { result ≡ fitting (oid ++ length octets.now ∷ octets.now) }
+/// Appends the number of octets and then the octets.
+fn push_counted(oid: &mut Oid, octets: &[u8]) -> Result<(), NameError>
+    ensures { read_to result oid.new ≡ fitting (oid.old ++ length octets.now ∷ octets.now) }
 {
     if octets.len() > MAX_LEN {
         return Err(NameError::TooLong);
     }
-    let longer = with_number(oid, octets.len() as u32)?;
-    with_octets(longer, octets)
+    push_number(oid, octets.len() as u32)?;
+    push_octets(oid, octets)
 }
 
-/// An identifier with octets after it.
-fn with_octets(oid: Oid, octets: &[u8]) -> Result<Oid, NameError>
-    ensures { result ≡ fitting (oid ++ octets.now) }
+/// Appends octets.
+fn push_octets(oid: &mut Oid, octets: &[u8]) -> Result<(), NameError>
+    ensures { read_to result oid.new ≡ fitting (oid.old ++ octets.now) }
 {
     if octets.len() > MAX_LEN - oid.len() {
         return Err(NameError::TooLong);
     }
-    let mut longer = oid;
     'octets: for octet in octets {
-        longer.push_with_room(u32::from(*octet));
+        oid.push_with_room(u32::from(*octet));
     }
-    Ok(longer)
+    Ok(())
 }

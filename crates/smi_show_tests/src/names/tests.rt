@@ -1,6 +1,6 @@
 //! Names that are read, refused and shown.
 use crate::names::{Sample, random_oid};
-use smi_show::{Extent, IndexPart, Letters, NameError, NameForm, name_text, resolve};
+use smi_show::{Extent, IndexPart, Letters, NameError, NameForm, name_text, resolve, resolve_into};
 use snmp_oid::Oid;
 use std::alloc::Global;
 use std::process::Abort;
@@ -37,8 +37,17 @@ fn is_fault(tree: &Sample<'_>, text: &[u8], fault: NameError) -> bool {
     }
 }
 
+/// Whether a text is read into an identifier that is there as it is read into a new one.
+fn is_read_alike(tree: &Sample<'_>, text: &[u8], oid: &mut Oid) -> bool {
+    match (resolve(tree, text), resolve_into(tree, text, oid)) {
+        (Ok(found), Ok(())) => found == *oid,
+        (Err(fault), Err(other)) => fault == other,
+        _ => false,
+    }
+}
+
 /// Names, with the numbers of what they mean.
-static READ: [(&str, &[u32]); 10] = [
+static READ: [(&str, &[u32]); 16] = [
     (".", &[]),
     ("iso", &[1]),
     ("iso.3", &[1, 3]),
@@ -52,6 +61,12 @@ static READ: [(&str, &[u32]); 10] = [
     ),
     ("iso.\"\"", &[1, 0]),
     ("\"a\"", &[1, 97]),
+    ("iso.399999999.400000000", &[1, 399999999, 400000000]),
+    ("iso.3999999999.0", &[1, 3999999999, 0]),
+    ("iso.4294967295.4294967295", &[1, 4294967295, 4294967295]),
+    ("iso.00000000000012.007", &[1, 12, 7]),
+    ("iso.12.'c.d'.9", &[1, 12, 99, 46, 100, 9]),
+    ("0.12.3", &[0, 12, 3]),
 ];
 
 #[test]
@@ -66,8 +81,24 @@ fn assert_read(rt: &impl Abort, tree: &Sample<'_>) {
     }
 }
 
+#[test]
+fn a_name_is_read_into_an_identifier_that_is_there(rt: HostRuntime) {
+    let tree = Sample::new(COUNTED);
+    assert_read_alike(&rt, &tree);
+}
+
+fn assert_read_alike(rt: &impl Abort, tree: &Sample<'_>) {
+    let mut oid = Oid::new();
+    for (text, _) in &READ {
+        assert!(rt; is_read_alike(tree, text.as_bytes(), &mut oid), "{text}");
+    }
+    for (text, _) in &FAULTS {
+        assert!(rt; is_read_alike(tree, text.as_bytes(), &mut oid), "{text}");
+    }
+}
+
 /// Texts without a meaning, with their first faults.
-static FAULTS: [(&str, NameError); 23] = [
+static FAULTS: [(&str, NameError); 27] = [
     ("", NameError::Unknown),
     ("nosuch", NameError::Unknown),
     (".tinyMac", NameError::Unknown),
@@ -91,6 +122,10 @@ static FAULTS: [(&str, NameError); 23] = [
     ("iso.nosuch.4294967296", NameError::Unknown),
     ("iso.4294967296.nosuch", NameError::BadNumber),
     ("iso.'x.nosuch", NameError::BadIndex),
+    ("iso.12'.3'", NameError::BadNumber),
+    ("iso.12x.3", NameError::BadNumber),
+    ("iso.12.", NameError::BadNumber),
+    ("iso.42949672960.x", NameError::BadNumber),
 ];
 
 #[test]

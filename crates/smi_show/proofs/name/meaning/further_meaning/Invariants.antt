@@ -7,7 +7,7 @@ use Rattle.smi_show.proofs.name.meaning.further_meaning.Given as goal
 abbrev pub invariant-parts : goal.invariant-parts
 invariant-parts g l =
     further_meaning (g.T.NameTree.naming l.tree) l.oid (parts_left (option_map (λ s. s.now) l.left))
-    ≡ further_meaning (g.T.NameTree.naming l.tree) l.fn.so_far (parts_left (option_map (λ s. s.now) l.fn.parts))
+    ≡ further_meaning (g.T.NameTree.naming l.tree) l.fn.oid (parts_left (option_map (λ s. s.now) l.fn.parts))
 
 -- one more than is left
 abbrev octets_left : Option (List ℕ) → ℕ

@@ -3,7 +3,7 @@ use Rattle.std.proofs.Common.{length, arith, sym, subst, rules, drop_of_length-l
 use Rattle.std.specs.Char.{is_ascii_digit}
 use Rattle.snmp_oid.specs.Numeric.{IsNumeral}
 use Rattle.snmp_oid.proofs.Numeral.{IsReadTo, read_more_at, read_all, read_large_at}
-use Rattle.snmp_oid.proofs.numeric.read_number.Goals as goal
+use Rattle.snmp_oid.proofs.numeric.parse_number.Goals as goal
 
 pub returns-in_err-checked_mul-clause-none : goal.returns-in_err-checked_mul-clause-none
 returns-in_err-checked_mul-clause-none c =

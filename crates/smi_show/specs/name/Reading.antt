@@ -1,0 +1,19 @@
+-- What a name, or its first part, was read to in an identifier that is there, for private clauses.
+use Rattle.std.specs.Prelude.{ℕ, List, Option, option_map, Result, Ok, Err}
+use Rattle.std.specs.Borrow.{Bor}
+use Rattle.smi_show.specs.name.Left.{parts_left}
+use Rattle.smi_show.specs.name.Meaning.{further_meaning}
+use Rattle.smi_show.specs.name.Naming.{Naming}
+use Rattle.smi_show.specs.declared.name.error.NameError.{NameError}
+
+-- the identifier, or the fault
+abbrev pub read_to : Result (Unit {0}) NameError → List ℕ → Result (List ℕ) NameError
+read_to (Ok done) o = Ok o
+read_to (Err fault) o = Err fault
+
+-- what is meant, once the parts before what is left were read to an identifier, or had a fault
+abbrev pub meant_with : Naming → Result (Option (Bor (List ℕ))) NameError → List ℕ
+    → Result (List ℕ) NameError
+meant_with naming (Ok left) o =
+    further_meaning naming o (parts_left (option_map (λ rest. rest.now) left))
+meant_with naming (Err fault) o = Err fault
