@@ -98,10 +98,10 @@ written_numeral written n small = by_name (written (n ∷ []) (record { short = 
         let P : List ℕ → Type 0 = λ t. IsNumeral t n in subst P same h.2
 
 -- numbers that fit
-fits : (o : List ℕ) → length o ≤ 128 → fitting o ≡ Ok o
+pub fits : (o : List ℕ) → length o ≤ 128 → fitting o ≡ Ok o
 fits o low = rw (le-leb (length o) 128 low) refl
 
-shorter : (front rest : List ℕ) → length (front ++ rest) ≤ 128 → length front ≤ 128
+pub shorter : (front rest : List ℕ) → length (front ++ rest) ≤ 128 → length front ≤ 128
 shorter front rest h = omega (arith, length-append front rest)
 
 -- pieces after what stands so far

@@ -18,7 +18,7 @@ pub record IsWhole (word : List ℕ) : Type 0 where
   pub cuts : (rest : List ℕ) → name_parts (word ++ rest) ≡ with_prefix word (name_parts rest)
   pub scopes : (rest : List ℕ) → module_after None (word ++ rest) ≡ option_map (longer_module word) (module_after None rest)
 
-no_colon : (octet : ℕ) (rest : List ℕ) → eqb octet 58 ≡ false → is_double_colon (octet ∷ rest) ≡ false
+pub no_colon : (octet : ℕ) (rest : List ℕ) → eqb octet 58 ≡ false → is_double_colon (octet ∷ rest) ≡ false
 no_colon octet [] h = refl
 no_colon octet (next ∷ more) h = rw h refl
 

@@ -1,8 +1,9 @@
 //! The identifier that a name means, by its parts from the left.
 ghost use Rattle.std.specs.Prelude.{◌≡◌, ◌<◌, ℕ, Bool, List, Ok, Err, IfErr, IfOk, IfSome, OnOk};
-ghost use Rattle.std.specs.Prelude.{MatchResult, length, option_map};
+ghost use Rattle.std.specs.Prelude.{◌≤◌, MatchResult, length, option_map, true};
 ghost use Rattle.std.specs.Option.{option_copied};
 ghost use Rattle.snmp_oid.specs.Identifier.{IsIdentifier};
+ghost use Rattle.snmp_oid.specs.Numeric.{IsNumericName};
 ghost use Rattle.smi_value.specs.declared.letters.letters.NameForm.{NameForm};
 ghost use Rattle.smi_show.specs.name.Cutting.{name_parts, module_after};
 ghost use Rattle.smi_show.specs.name.Left.{parts_left};
@@ -23,7 +24,7 @@ use crate::name::scope::Scope;
 use crate::name::word::Part;
 use crate::name::{NameError, NameTree};
 use snmp_io::unquoted_front;
-use snmp_oid::{Oid, front_number, names};
+use snmp_oid::{Oid, front_number, names, read_numeric};
 
 /// The identifier that a name means, or the first fault from the left. Does not allocate.
 ///
@@ -103,6 +104,26 @@ fn meaning_of<T: NameTree>(tree: &T, text: &[u8]) -> Result<Oid, NameError>
 /// Reads what a text means into an identifier that is there.
 // All that is read of a name goes into one identifier: to move it takes as long as to read a name.
 fn read_meaning<T: NameTree>(tree: &T, text: &[u8], oid: &mut Oid) -> Result<(), NameError>
+    ensures { read_to result oid.new ≡ meaning (T.naming tree.now) text.now }
+{
+    if numbers_alone(text, oid) {
+        return Ok(());
+    }
+    named_meaning(tree, text, oid)
+}
+
+/// Reads a text of numbers alone, and returns whether it is one. Such a name is read by one pass.
+fn numbers_alone(text: &[u8], oid: &mut Oid) -> bool
+    ensures { result ≡ true → IsNumericName text.now oid.new × (length oid.new ≤ 128) }
+{
+    match text {
+        [b'.' | b'0'..=b'9', ..] => read_numeric(text, oid).is_ok(),
+        _ => false,
+    }
+}
+
+/// Reads what any text means.
+fn named_meaning<T: NameTree>(tree: &T, text: &[u8], oid: &mut Oid) -> Result<(), NameError>
     ensures { read_to result oid.new ≡ meaning (T.naming tree.now) text.now }
 {
     match text {
