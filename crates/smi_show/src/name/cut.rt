@@ -3,11 +3,34 @@ ghost use Rattle.std.specs.Prelude.{◌≡◌, ◌&&◌, ◌∷◌, ◌++◌, �
 ghost use Rattle.smi_show.specs.name.Cutting.{is_double_colon, is_unquoted, module_after};
 ghost use Rattle.smi_show.specs.name.Cutting.{name_parts};
 ghost use Rattle.smi_show.specs.name.Left.{parts_left};
+ghost use Rattle.snmp_io.specs.Quotes.{is_quote};
 
 use snmp_io::open_after;
 
 /// The first part of a text, and what follows the dot that ends it, None if no dot does.
 pub fn cut_part(text: &[u8]) -> (&[u8], Option<&[u8]>)
+    ensures parts { let left = parts_left (option_map (λ rest. rest.now) result.1) in
+        result.0.now ∷ left ≡ name_parts text.now }
+    ensures shorter { IfSome result.1 (λ rest. length rest.now < length text.now) }
+{
+    // Hot: each octet of a part. Most have no quote.
+    'octets: for (at, octet) in text.iter().enumerate() {
+        // A letter or a digit.
+        if *octet > b'.' {
+            continue;
+        }
+        if *octet == b'.' {
+            return (&text[..at], Some(&text[at + 1..]));
+        }
+        if is_quote(*octet) {
+            return cut_quoted(text);
+        }
+    }
+    (text, None)
+}
+
+/// What `cut_part` returns, of a part that may have quotes.
+fn cut_quoted(text: &[u8]) -> (&[u8], Option<&[u8]>)
     ensures parts { let left = parts_left (option_map (λ rest. rest.now) result.1) in
         result.0.now ∷ left ≡ name_parts text.now }
     ensures shorter { IfSome result.1 (λ rest. length rest.now < length text.now) }
@@ -26,6 +49,29 @@ pub fn cut_part(text: &[u8]) -> (&[u8], Option<&[u8]>)
 pub fn cut_module(text: &[u8]) -> Option<(&[u8], &[u8])>
     ensures { option_map (λ r. (r.0.now, r.1.now)) result ≡ module_after None text.now }
 {
+    // Hot: each octet before the parts. Most names have no quote there, and no other colon.
+    'octets: for (at, octet) in text.iter().enumerate() {
+        // A letter.
+        if *octet > b':' {
+            continue;
+        }
+        if *octet == b':' {
+            if is_double_colon(&text[at..]) {
+                return Some((&text[..at], &text[at + 2..]));
+            }
+            return cut_quoted_module(text);
+        }
+        if is_quote(*octet) {
+            return cut_quoted_module(text);
+        }
+    }
+    None
+}
+
+/// What `cut_module` returns, of a name that may have quotes and other colons.
+fn cut_quoted_module(text: &[u8]) -> Option<(&[u8], &[u8])>
+    ensures { option_map (λ r. (r.0.now, r.1.now)) result ≡ module_after None text.now }
+{
     let mut quote = None;
     'octets: for (at, octet) in text.iter().enumerate() {
         if ends_module(quote, &text[at..]) {
@@ -34,6 +80,13 @@ pub fn cut_module(text: &[u8]) -> Option<(&[u8], &[u8])>
         quote = open_after(quote, *octet);
     }
     None
+}
+
+/// Whether the octet opens a quote.
+fn is_quote(octet: u8) -> bool
+    ensures { result ≡ is_quote octet }
+{
+    octet == b'"' || octet == b'\''
 }
 
 /// Whether `::` stands at the front, outside quotes.
