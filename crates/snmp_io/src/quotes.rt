@@ -1,11 +1,35 @@
 //! Texts with quotes, and where they are cut: names that are given as text, and the lines of a
 //! table, have parts that end at an octet outside quotes.
 ghost use Rattle.std.specs.Prelude.{◌≡◌, MatchOption};
-ghost use Rattle.snmp_io.specs.Quotes.{HasNoneOutside, IsCut, IsFrontOf, open_after};
+ghost use Rattle.snmp_io.specs.Quotes.{HasNoneOutside, IsCut, IsFrontOf, is_quote, open_after};
 
 /// The texts before and after the first octet that equals `stop` and stands outside quotes, or None
 /// where there is none. A quote opens with `"` or `'`, and ends with the next octet of its kind.
 pub fn split_unquoted(text: &[u8], stop: u8) -> Option<(&[u8], &[u8])>
+    ensures { MatchOption result (HasNoneOutside stop text.now)
+        (λ parts. IsCut stop text.now parts.0.now parts.1.now) }
+{
+    // Hot: each octet of a table's line. Most have no quote.
+    'octets: for (at, octet) in text.iter().enumerate() {
+        if *octet == stop {
+            return Some((&text[..at], &text[at + 1..]));
+        }
+        if is_quote(*octet) {
+            return split_quoted(text, stop);
+        }
+    }
+    None
+}
+
+/// Whether the octet opens a quote.
+fn is_quote(octet: u8) -> bool
+    ensures { result ≡ is_quote octet }
+{
+    octet == b'"' || octet == b'\''
+}
+
+/// What `split_unquoted` returns, of a text that may have quotes.
+fn split_quoted(text: &[u8], stop: u8) -> Option<(&[u8], &[u8])>
     ensures { MatchOption result (HasNoneOutside stop text.now)
         (λ parts. IsCut stop text.now parts.0.now parts.1.now) }
 {

@@ -1,5 +1,6 @@
+use Rattle.std.proofs.Common.{None}
 use Rattle.snmp_io.proofs.QuoteLemmas.{IsSoFar}
 use Rattle.snmp_io.proofs.quotes.split_unquoted.Given as goal
 
 abbrev pub invariant-octets : goal.invariant-octets
-invariant-octets l = IsSoFar l.stop l.text l.at l.quote
+invariant-octets l = IsSoFar l.stop l.text l.at None
