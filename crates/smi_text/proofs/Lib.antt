@@ -27,6 +27,7 @@ pub mod Braces
 pub mod Fronts
 pub mod Lines
 pub mod LexerFronts
+pub mod Lanes
 pub mod Scans
 pub mod Places
 pub mod Parts

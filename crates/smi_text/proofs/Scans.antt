@@ -1,16 +1,17 @@
 -- Steps and ends of the scans, each by its own test.
 use Rattle.std.proofs.Common.{◌≡◌, ℕ, zero, suc, ◌+◌, ◌<◌, ◌≤◌, Bool, true, false, cond, ◌&&◌}
 use Rattle.std.proofs.Common.{◌||◌, ◌⊎◌, List, [], ◌∷◌, length, get_or, take, drop, refl}
-use Rattle.std.proofs.Common.{sym, ap, ◌∙◌, subst, inl, inr, arith, eqb, eq-eqb}
+use Rattle.std.proofs.Common.{sym, ap, ◌∙◌, subst, inl, inr, arith, eqb, eq-eqb, ◌-◌, add-zero}
+use Rattle.std.proofs.Common.{zero-add}
 use Rattle.std.specs.List.{list_all}
 use Rattle.std.proofs.lemmas.Bool.{eqb-true, ne_eqb, cases_lt, false≢true}
 use Rattle.std.proofs.lemmas.List.Folds.{list_all_more}
 use Rattle.std.proofs.lemmas.List.{drop_all}
 use Rattle.smi_text.specs.lexer.Lexeme.{begins, is_hyphen, is_word_octet, is_word_rest}
 use Rattle.smi_text.specs.lexer.Reading.{GoesOn, IsLongestPassing, IsRemarkEnd, is_comment_rest}
-use Rattle.smi_text.specs.lexer.Reading.{is_remark_rest}
-use Rattle.smi_text.proofs.LexerFronts.{rest_at, scan_step, scan_two, scan_stop, longest_behind}
-use Rattle.smi_text.proofs.LexerFronts.{goes_on_past}
+use Rattle.smi_text.specs.lexer.Reading.{IsRunBetween, is_remark_rest}
+use Rattle.smi_text.proofs.LexerFronts.{rest_at, scan_step, scan_two, scan_stop, scan_end}
+use Rattle.smi_text.proofs.LexerFronts.{longest_behind, goes_on_past}
 
 -- ---- small facts
 
@@ -79,6 +80,43 @@ word_stop text n here fail next = scan_stop is_word_rest text n here refl (λ k.
     stops c k s fail next =
         ap (λ b. (b || (is_hyphen c && begins is_word_octet (take k s))) && is_word_rest (take k s)) fail
         ∙ ap (λ b. b && is_word_rest (take k s)) (hyphen_alone is_word_octet c k s next)
+
+-- octets of a word in a row
+pub word_steps : (d : ℕ) (text : List ℕ) (n : ℕ) → n + d ≤ length text
+    → ((k : ℕ) → n ≤ k → k < n + d → is_word_octet (get_or text k 0) ≡ true)
+    → GoesOn is_word_rest text n → GoesOn is_word_rest text (n + d)
+word_steps zero text n within all goes = subst (GoesOn is_word_rest text) (sym (add-zero n)) goes
+word_steps (suc d) text n within all goes =
+    let place : (n + 1) + d ≡ n + suc d = omega arith in
+    subst (GoesOn is_word_rest text) place
+    (word_steps d text (n + 1) (omega arith) (λ k from to. all k (omega arith) (omega arith))
+    (word_step text n (omega arith) (all n (omega arith) (omega arith)) goes))
+
+-- up to where a run of them ends
+pub word_run_goes : (text : List ℕ) (from to : ℕ) → GoesOn is_word_rest text from → IsRunBetween is_word_octet text from to
+    → GoesOn is_word_rest text to
+word_run_goes text from to goes run =
+    let ordered : from ≤ to = run.ordered in
+    let within : to ≤ length text = run.within in
+    let place : from + (to - from) ≡ to = omega arith in
+    subst (GoesOn is_word_rest text) place (word_steps (to - from) text from (omega arith) (λ k above below. run.passes k above (omega arith)) goes)
+
+pub goes_from_start : (test : List ℕ → Bool) (text : List ℕ) → GoesOn test text 0
+goes_from_start test text = record { within = omega arith; same = λ k. ap (λ m. test (take m text)) (zero-add k) }
+
+-- a word ends where neither an octet of a word stands nor a hyphen before one
+pub word_ends : (text : List ℕ) (n : ℕ) → (n < length text → is_word_octet (get_or text n 0) ≡ false)
+    → (n + 1 < length text → get_or text n 0 ≡ 45 → is_word_octet (get_or text (n + 1) 0) ≡ false)
+    → GoesOn is_word_rest text n → IsLongestPassing is_word_rest text n
+word_ends text n stops next goes = elim (cases_lt n (length text)) [
+  | inl here ↦ word_stop text n here (stops here)
+      (λ hyphen. elim (cases_lt (n + 1) (length text)) [
+        | inl more ↦ begins_at is_word_octet text (n + 1) more ∙ next more hyphen
+        | inr past ↦ begins_past is_word_octet text (n + 1) past
+      ])
+      goes
+  | inr past ↦ scan_end is_word_rest text n refl (λ k h. absurd (omega arith)) goes
+]
 
 -- ---- remarks
 

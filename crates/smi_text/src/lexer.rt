@@ -3,6 +3,7 @@
 
 mod class;
 mod error;
+mod lanes;
 mod lexer;
 mod scan;
 mod token;

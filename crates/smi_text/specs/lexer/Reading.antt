@@ -34,6 +34,7 @@ use Rattle.std.specs.Prelude.{
   count_by,
 }
 use Rattle.std.specs.List.{list_all}
+use Rattle.std.specs.Int.{w64, trailing_zeros}
 use Rattle.std.specs.Bool.{then_some}
 use Rattle.std.specs.Char.{
   is_ascii_lowercase,
@@ -293,6 +294,23 @@ abbrev pub IsRemarkEnd : List ℕ → Type 0
 IsRemarkEnd [] = Unit {0}
 IsRemarkEnd (c ∷ []) = c ≡ 10
 IsRemarkEnd (c ∷ d ∷ cs) = (c ≡ 10) ⊎ ((c ≡ 45) × (d ≡ 45))
+
+-- the place of the lowest bit that is set in the mask of a load, or 16, the octets of a load
+abbrev pub first_set : ℕ → ℕ
+first_set mask = if mask == 0 then 16 else trailing_zeros w64 mask
+
+-- of the 16 octets from this place on, the first ones, this many, pass the test, and the next fails
+pub record IsRunIn (test : ℕ → Bool) (text : List ℕ) (at run : ℕ) : Type 0 where
+  pub within : run ≤ 16
+  pub passes : (k : ℕ) → at ≤ k → k < at + run → test (get_or text k 0) ≡ true
+  pub stops : run < 16 → test (get_or text (at + run) 0) ≡ false
+
+-- the octets from one place up to the other pass the test, and the one there fails
+pub record IsRunBetween (test : ℕ → Bool) (text : List ℕ) (from to : ℕ) : Type 0 where
+  pub ordered : from ≤ to
+  pub within : to ≤ length text
+  pub passes : (k : ℕ) → from ≤ k → k < to → test (get_or text k 0) ≡ true
+  pub stops : to < length text → test (get_or text to 0) ≡ false
 
 -- it is another octet
 abbrev pub is_other : ℕ → ℕ → Bool

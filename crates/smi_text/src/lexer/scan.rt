@@ -7,6 +7,7 @@ ghost use Rattle.smi_text.specs.lexer.Lexeme.{IsLexeme, lexeme, is_binary_digit,
 ghost use Rattle.smi_text.specs.lexer.Lexeme.{is_hyphen};
 ghost use Rattle.smi_text.specs.lexer.Lexeme.{is_open_string, is_word_octet, is_word_rest};
 ghost use Rattle.smi_text.specs.lexer.Reading.{GoesOn, HasNoGap, IsFirstPlace, IsLexemeFront};
+ghost use Rattle.smi_text.specs.lexer.Reading.{IsRunBetween};
 ghost use Rattle.smi_text.specs.lexer.Reading.{IsLongestPassing, IsPartFront, IsRemarkEnd, Skips};
 ghost use Rattle.smi_text.specs.lexer.Reading.{is_comment_rest, is_remark_rest, hyphen_part};
 ghost use Rattle.smi_text.specs.lexer.Reading.{literal_of};
@@ -15,6 +16,7 @@ ghost use Rattle.smi_text.specs.lexer.Reading.{string_part};
 ghost use Rattle.smi_text.specs.lexer.Reading.{symbol_part};
 
 use crate::lexer::class::{Class, class_of_octet};
+use crate::lexer::lanes::{LANES, word_run};
 use crate::lexer::token::TokenKind;
 use memchr::{memchr, memchr_iter};
 
@@ -32,19 +34,33 @@ fn is_word_octet(octet: u8) -> bool
     octet.is_ascii_alphanumeric() || octet == b'_'
 }
 
+/// Where the run of octets of a word, but for hyphens, that begins at a place ends.
+fn word_run_end(text: &[u8], from: usize) -> usize
+    requires { from ≤ length text.now }
+    ensures { IsRunBetween is_word_octet text.now from result }
+{
+    let mut n = from;
+    // Most words are shorter than a load.
+    'loads: while text.len() - n >= LANES {
+        let run = word_run(text, n);
+        n += run;
+        if run < LANES {
+            return n;
+        }
+    }
+    'octets: while n < text.len() && is_word_octet(text[n]) {
+        n += 1;
+    }
+    n
+}
+
 /// How many of the octets after a word's first letter belong to the word.
 fn word_rest_len(text: &[u8]) -> usize
     ensures { IsLongestPassing is_word_rest text.now result }
 {
-    let mut n = 0;
-    'octets: while n < text.len() {
-        if is_word_octet(text[n]) {
-            n += 1;
-        } else if text[n] == b'-' && n + 1 < text.len() && is_word_octet(text[n + 1]) {
-            n += 2;
-        } else {
-            break;
-        }
+    let mut n = word_run_end(text, 0);
+    'parts: while n + 1 < text.len() && text[n] == b'-' && is_word_octet(text[n + 1]) {
+        n = word_run_end(text, n + 2);
     }
     n
 }

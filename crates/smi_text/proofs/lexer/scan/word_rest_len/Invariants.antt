@@ -1,11 +1,14 @@
-use Rattle.std.proofs.Common.{◌-◌, length}
-use Rattle.smi_text.specs.lexer.Lexeme.{is_word_rest}
+use Rattle.std.proofs.Common.{◌≡◌, ◌-◌, ◌<◌, length, get_or, false}
+use Rattle.smi_text.specs.lexer.Lexeme.{is_word_octet, is_word_rest}
 use Rattle.smi_text.specs.lexer.Reading.{GoesOn}
 use Rattle.smi_text.proofs.lexer.scan.word_rest_len.Given as goal
 
--- the octets before n make no difference
-abbrev pub invariant-octets : goal.invariant-octets
-invariant-octets l = GoesOn (is_word_rest) l.text l.n
+-- the octets before n make no difference, and none of a word's but a hyphen may stand at n
+abbrev pub invariant-parts : goal.invariant-parts
+invariant-parts l = record {
+  goes : GoesOn is_word_rest l.text l.n;
+  stops : l.n < length l.text → is_word_octet (get_or l.text l.n 0) ≡ false;
+}
 
-abbrev pub decreases-octets : goal.decreases-octets
-decreases-octets l = length l.initial.text - l.n
+abbrev pub decreases-parts : goal.decreases-parts
+decreases-parts l = length l.initial.text - l.n
