@@ -1,8 +1,11 @@
 -- A text among words.
-use Rattle.std.proofs.Common.{◌≡◌, ℕ, ◌+◌, ◌<◌, ◌≤◌, Bool, false, ◌||◌, List, length, get_or, drop}
-use Rattle.std.proofs.Common.{refl, drop-cons, add-one, Bor}
+use Rattle.std.proofs.Common.{◌≡◌, ℕ, ◌+◌, ◌<◌, ◌≤◌, Bool, true, false, ◌||◌, List, [], ◌∷◌, length}
+use Rattle.std.proofs.Common.{get_or, drop, refl, sym, ap, ◌∙◌, drop-cons, add-one, Bor}
 use Rattle.std.specs.Prelude.{map}
-use Rattle.std.specs.List.{list_any}
+use Rattle.std.specs.List.{list_all, list_any}
+use Rattle.std.proofs.lemmas.Bool.{false≢true}
+use Rattle.std.proofs.lemmas.Slice.Eq.{bytes_eq-Decides}
+use Rattle.smi_text.proofs.LexerFronts.{and_true}
 use Rattle.std.proofs.lemmas.List.{drop_all}
 use Rattle.smi_text.specs.trees.Mark.{same_text}
 
@@ -15,3 +18,15 @@ is_one_of-drop x ws i d b h e = rw (add-one, drop-cons ws i d, e) refl
 
 pub is_one_of-none : (x : List ℕ) (ws : List (Bor (List ℕ))) (i : ℕ) → length ws ≤ i → is_one_of x (drop i ws) ≡ false
 is_one_of-none x ws i h = rw (drop_all i ws h) refl
+
+-- a text is no word of a list whose second octets all pass a test that its own fails
+pub other_second : (test : ℕ → Bool) (words : List (List ℕ)) (x : List ℕ) → list_all (λ w. test (get_or w 1 0)) words ≡ true
+    → test (get_or x 1 0) ≡ false → list_any (same_text x) words ≡ false
+other_second test [] x all other = refl
+other_second test (w ∷ ws) x all other =
+    let both = and_true (test (get_or w 1 0)) (list_all (λ v. test (get_or v 1 0)) ws) all in
+    ap (λ b. b || list_any (same_text x) ws) (unequal (same_text x w) refl both.0) ∙ other_second test ws x both.1 other
+  where
+    unequal : (b : Bool) → same_text x w ≡ b → test (get_or w 1 0) ≡ true → same_text x w ≡ false
+    unequal false is pass = is
+    unequal true is pass = absurd (false≢true (sym other ∙ ap (λ s. test (get_or s 1 0)) ((bytes_eq-Decides x w).0 is) ∙ pass))

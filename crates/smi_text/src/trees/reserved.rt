@@ -1,7 +1,8 @@
 //! The reserved words: those that stand in quotes in the grammar. No name is one of them.
 #![tactic(auto, unfolding(crate::specs::trees::Reserved::is_reserved, crate::specs::trees::Number::is_macro))]
 
-ghost use Rattle.std.specs.Prelude.{◌≡◌, map};
+ghost use Rattle.std.specs.Prelude.{◌≡◌, get_or, map};
+ghost use Rattle.std.specs.Char.{is_ascii_uppercase};
 ghost use Rattle.std.specs.List.{list_any};
 ghost use Rattle.smi_text.specs.trees.Mark.{same_text};
 ghost use Rattle.smi_text.specs.trees.Reserved as words;
@@ -80,10 +81,21 @@ fn is_among(words: &[&[u8]], text: &[u8]) -> bool
     false
 }
 
+/// Whether an upper-case letter stands in the second place.
+fn has_upper_second(text: &[u8]) -> bool
+    ensures { result ≡ is_ascii_uppercase (get_or text.now 1 0) }
+{
+    text.len() > 1 && text[1].is_ascii_uppercase()
+}
+
 /// Whether a word is reserved.
 pub fn is_reserved(text: &[u8]) -> bool
     ensures { result ≡ words.is_reserved text.now }
 {
+    // Each reserved word has such a letter there, and most names have none.
+    if !has_upper_second(text) {
+        return false;
+    }
     is_among(&RESERVED, text)
 }
 
