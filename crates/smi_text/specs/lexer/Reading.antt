@@ -295,6 +295,9 @@ IsRemarkEnd [] = Unit {0}
 IsRemarkEnd (c ∷ []) = c ≡ 10
 IsRemarkEnd (c ∷ d ∷ cs) = (c ≡ 10) ⊎ ((c ≡ 45) × (d ≡ 45))
 
+abbrev pub is_space : ℕ → Bool
+is_space c = c == 32
+
 -- the place of the lowest bit that is set in the mask of a load, or 16, the octets of a load
 abbrev pub first_set : ℕ → ℕ
 first_set mask = if mask == 0 then 16 else trailing_zeros w64 mask

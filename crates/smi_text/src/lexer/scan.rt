@@ -7,7 +7,7 @@ ghost use Rattle.smi_text.specs.lexer.Lexeme.{IsLexeme, lexeme, is_binary_digit,
 ghost use Rattle.smi_text.specs.lexer.Lexeme.{is_hyphen};
 ghost use Rattle.smi_text.specs.lexer.Lexeme.{is_open_string, is_word_octet, is_word_rest};
 ghost use Rattle.smi_text.specs.lexer.Reading.{GoesOn, HasNoGap, IsFirstPlace, IsLexemeFront};
-ghost use Rattle.smi_text.specs.lexer.Reading.{IsRunBetween};
+ghost use Rattle.smi_text.specs.lexer.Reading.{IsRunBetween, is_space};
 ghost use Rattle.smi_text.specs.lexer.Reading.{IsLongestPassing, IsPartFront, IsRemarkEnd, Skips};
 ghost use Rattle.smi_text.specs.lexer.Reading.{is_comment_rest, is_remark_rest, hyphen_part};
 ghost use Rattle.smi_text.specs.lexer.Reading.{literal_of};
@@ -16,7 +16,7 @@ ghost use Rattle.smi_text.specs.lexer.Reading.{string_part};
 ghost use Rattle.smi_text.specs.lexer.Reading.{symbol_part};
 
 use crate::lexer::class::{Class, class_of_octet};
-use crate::lexer::lanes::{LANES, word_run};
+use crate::lexer::lanes::{LANES, space_run, word_run};
 use crate::lexer::token::TokenKind;
 use memchr::{memchr, memchr_iter};
 
@@ -217,6 +217,29 @@ pub fn lexeme_at(text: &[u8]) -> Option<(TokenKind, usize)>
     Some((kind, len + 1))
 }
 
+/// Where the run of spaces that begins at a place ends.
+fn spaces_end(text: &[u8], from: usize) -> usize
+    requires { from ≤ length text.now }
+    ensures { IsRunBetween is_space text.now from result }
+{
+    // After a space mostly a lexeme stands, and after a newline more spaces.
+    if from < text.len() && text[from] != b' ' {
+        return from;
+    }
+    let mut n = from;
+    'loads: while text.len() - n >= LANES {
+        let run = space_run(text, n);
+        n += run;
+        if run < LANES {
+            return n;
+        }
+    }
+    'octets: while n < text.len() && text[n] == b' ' {
+        n += 1;
+    }
+    n
+}
+
 /// How many octets of gaps stand at the front of the text, and how many lines end in them.
 pub fn gaps_at(text: &[u8]) -> (usize, usize)
     ensures within { result.0 ≤ length text.now }
@@ -227,7 +250,10 @@ pub fn gaps_at(text: &[u8]) -> (usize, usize)
     let mut n = 0;
     let mut lines = 0;
     'gaps: while n < text.len() {
-        if text[n] == b'\n' {
+        // Most octets of gaps are spaces.
+        if text[n] == b' ' {
+            n = spaces_end(text, n + 1);
+        } else if text[n] == b'\n' {
             lines += 1;
             n += 1;
         } else if is_blank(text[n]) {
