@@ -40,7 +40,7 @@ use Rattle.smi_text.proofs.DefinitionLists.{module-stands}
 
 -- definitions
 
-pub record HasRead (names : BTreeSet (Bor (List ℕ))) (defs : List Def) (from now : List Item) : Type 0 where
+pub record HasRead (names : BTreeSet (ℕ × Bor (List ℕ))) (defs : List Def) (from now : List Item) : Type 0 where
   pub bound : ℕ
   pub enough : length now ≤ bound
   pub left : with_front defs (read_many definition bound now) ≡ (many definition).read from
@@ -48,7 +48,7 @@ pub record HasRead (names : BTreeSet (Bor (List ℕ))) (defs : List Def) (from n
   pub named : (x : List ℕ) → has names x ≡ list_any (same_text x) (labels defs)
   pub distinct : are_distinct (labels defs) ≡ true
 
-pub has_read-start : (names : BTreeSet (Bor (List ℕ))) (defs : List Def) (ts : List Item) → names.keys ≡ [] → defs ≡ [] → HasRead names defs ts ts
+pub has_read-start : (names : BTreeSet (ℕ × Bor (List ℕ))) (defs : List Def) (ts : List Item) → names.keys ≡ [] → defs ≡ [] → HasRead names defs ts ts
 has_read-start names defs ts e d =
     let P : List Def → Type 0 = λ ds. HasRead names ds ts ts in
     subst P (sym d) (record {
@@ -60,7 +60,7 @@ has_read-start names defs ts e d =
       distinct = refl;
     })
 
-module _ (names : BTreeSet (Bor (List ℕ))) (defs : List Def) (from now : List Item) (have : HasRead names defs from now) where
+module _ (names : BTreeSet (ℕ × Bor (List ℕ))) (defs : List Def) (from now : List Item) (have : HasRead names defs from now) where
   pub has_read-done : begins definition.first now ≡ false → ReadsDefinitions defs from now
   has_read-done b = record {
     read = sym have.left ∙ ap (with_front defs) (end-many definition have.bound now b) ∙ with_front-end defs now;
@@ -78,7 +78,7 @@ module _ (names : BTreeSet (Bor (List ℕ))) (defs : List Def) (from now : List 
     same-label : d.label.octets ≡ x
     same-label = read-label d now rest read ∙ sym label
 
-    pub has_read-next : (more : BTreeSet (Bor (List ℕ))) → has names x ≡ false → ((y : List ℕ) → has more y ≡ (same_text x y || has names y))
+    pub has_read-next : (more : BTreeSet (ℕ × Bor (List ℕ))) → has names x ≡ false → ((y : List ℕ) → has more y ≡ (same_text x y || has names y))
         → HasRead more (defs ++ d ∷ []) from rest
     has_read-next more new added =
         let step = next-many definition have.bound d now rest ahead read have.enough has_read-shorter in
@@ -105,7 +105,7 @@ module _ (names : BTreeSet (Bor (List ℕ))) (defs : List Def) (from now : List 
 
 -- a fault of a new definition is one of the definitions
 
-pub definitions-fault : (names : BTreeSet (Bor (List ℕ))) (defs : List Def) (from now : List Item) → HasRead names defs from now
+pub definitions-fault : (names : BTreeSet (ℕ × Bor (List ℕ))) (defs : List Def) (from now : List Item) → HasRead names defs from now
     → (x : List ℕ) → begins definition.first now ≡ true → x ≡ text_ahead now
     → (error : ParseError) → NewDefinitionFault error (has names x) now → DefinitionsFault error from
 definitions-fault names defs from now have x ahead label (E.Lex fault) f = has_read-stuck names defs from now have ahead f

@@ -23,6 +23,7 @@ ghost use Rattle.smi_text.specs.declared.trees.tree.TokenText.{TokenText};
 use crate::error::ParseError;
 use crate::lexer::{LexError, Lexer};
 use crate::names;
+use crate::names::Key;
 use crate::parser::{Parser, keep};
 use crate::trees::{Def, Items, Module};
 use std::alloc::Global;
@@ -58,7 +59,7 @@ impl<'a> Parser<'a> {
     fn new_definition(
         &mut self,
         label: &'a [u8],
-        names: &mut BTreeSet<&'a [u8]>,
+        names: &mut BTreeSet<Key<'a>>,
     ) -> Result<Def, ParseError>
         ensures read { IfOk result (λ def. definition.read self.old ≡ Some (def, self.new)) }
         ensures new { OnOk result (has names.old label.now ≡ false) }

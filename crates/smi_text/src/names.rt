@@ -2,19 +2,44 @@
 
 ghost use Rattle.std.specs.Prelude.{◌≡◌, ℕ, List, ◌||◌, not, IfOk, IfErr};
 ghost use Rattle.smi_text.specs.trees.Mark.{same_text};
-ghost use Rattle.smi_text.specs.Names.{has};
+ghost use Rattle.smi_text.specs.Names.{has, last_eight};
 
 use crate::stop::Stop;
 use std::collections::BTreeSet;
 
+/// A name, behind its last eight octets as one number. Most names of a module begin alike and end
+/// differently, so the numbers tell them apart without a look at the octets.
+pub(crate) type Key<'a> = (u64, &'a [u8]);
+
+/// The last eight octets of a name as one number; 0 for a shorter name.
+#[tactic(auto, unfolding(crate::specs::Names::last_eight))]
+fn last_eight(name: &[u8]) -> u64
+    ensures { result ≡ last_eight name.now }
+{
+    if name.len() < 8 {
+        return 0;
+    }
+    let at = name.len() - 8;
+    u64::from_le_bytes([
+        name[at],
+        name[at + 1],
+        name[at + 2],
+        name[at + 3],
+        name[at + 4],
+        name[at + 5],
+        name[at + 6],
+        name[at + 7],
+    ])
+}
+
 /// Adds a name to a set of names, and returns whether it is new.
-pub(crate) fn add<'a>(names: &mut BTreeSet<&'a [u8]>, name: &'a [u8]) -> Result<bool, Stop>
+pub(crate) fn add<'a>(names: &mut BTreeSet<Key<'a>>, name: &'a [u8]) -> Result<bool, Stop>
     ensures new { IfOk result (λ new. new ≡ not (has names.old name.now)) }
     ensures added { IfOk result (λ _. (x : List ℕ)
         → has names.new x ≡ (same_text name.now x || has names.old x)) }
     ensures err { IfErr result (λ e. e ≡ Stop.Memory) }
 {
-    match names.insert(name) {
+    match names.insert((last_eight(name), name)) {
         Ok(is_new) => Ok(is_new),
         Err(_) => Err(Stop::Memory),
     }

@@ -14,6 +14,7 @@ ghost use Rattle.smi_text.specs.Grammar as grammar;
 ghost use Rattle.smi_text.specs.declared.lexer.token.TokenKind.TheVariants as kinds;
 
 use crate::lexer::{LexError, Lexer, Token, TokenKind};
+use crate::names::Key;
 use crate::stop::Stop;
 use crate::trees::{Items, Name, Text, TokenText, is_reserved};
 use std::alloc::Global;
@@ -123,7 +124,7 @@ impl<'a> Parser<'a> {
     }
 
     /// A set with no names in it.
-    pub(crate) fn name_set(&self) -> BTreeSet<&'a [u8]>
+    pub(crate) fn name_set(&self) -> BTreeSet<Key<'a>>
         ensures { result.keys ≡ [] }
     {
         BTreeSet::new(self.alloc)

@@ -1,17 +1,51 @@
-use Rattle.std.proofs.Common.{◌≡◌, ℕ, Bool, true, false, ◌||◌, List, Bor, cond, refl, ◌∙◌, ap}
+use Rattle.std.proofs.Common.{◌≡◌, ℕ, Bool, true, false, not, ◌||◌, List, Bor, cond, refl, ◌∙◌, sym, ap, rules}
+use Rattle.std.specs.Ordering.{is_eq, nat_cmp, ordering_then}
+use Rattle.std.specs.declared.cmp.Ordering.{Ordering}
+use Rattle.std.specs.declared.cmp.Ordering.TheVariants.{Less, Equal, Greater}
+use Rattle.std.specs.BTreeSet.{contains_by}
+use Rattle.std.specs.Cmp.Lexicographic.{slice_cmp}
 use Rattle.std.proofs.lemmas.Map.Text.{is_eq-slice_cmp}
-use Rattle.smi_text.specs.Names.{has}
+use Rattle.std.proofs.lemmas.Slice.Eq.{bytes_eq-Decides}
+use Rattle.smi_text.specs.trees.Mark.{same_text}
+use Rattle.smi_text.specs.Names.{has, last_eight}
 use Rattle.smi_text.proofs.names.add.Goals as goal
 
 cond-or : (b r : Bool) → cond b true r ≡ (b || r)
 cond-or true r = refl
 cond-or false r = refl
 
+-- numbers that agree where the texts do make no difference to whether the texts are equal
+same_then : (first texts : Ordering) → (is_eq texts ≡ true → is_eq first ≡ true) → is_eq (ordering_then first texts) ≡ is_eq texts
+same_then Less Less agree = refl
+same_then Less Equal agree = agree refl
+same_then Less Greater agree = refl
+same_then Equal texts agree = refl
+same_then Greater Less agree = refl
+same_then Greater Equal agree = agree refl
+same_then Greater Greater agree = refl
+
+nat_cmp-same : (n : ℕ) → is_eq (nat_cmp n n) ≡ true
+nat_cmp-same n = search rules
+
+same_key : (x y : List ℕ) → is_eq (ordering_then (nat_cmp (last_eight x) (last_eight y)) (slice_cmp nat_cmp x y)) ≡ same_text x y
+same_key x y =
+    same_then (nat_cmp (last_eight x) (last_eight y)) (slice_cmp nat_cmp x y)
+    (λ same.
+    let equal : x ≡ y = (bytes_eq-Decides x y).0 (sym (is_eq-slice_cmp x y) ∙ same) in
+    ap (λ z. is_eq (nat_cmp (last_eight x) (last_eight z))) (sym equal) ∙ nat_cmp-same (last_eight x))
+    ∙ is_eq-slice_cmp x y
+
 pub returns-in-Ok : goal.returns-in-Ok
-returns-in-Ok c = record {
-  new = c.in-Ok.ensures.added;
-  added = λ x.
-      let q : Bor (List ℕ) = record { ref_ptr = (0, 0); now = x } in
-      c.in-Ok.ensures.updates.0 q ∙ cond-or _ (has c.args.names.now x) ∙ ap (λ (b : Bool). b || has c.args.names.now x) (is_eq-slice_cmp c.args.name.now x);
-  err = tt;
-}
+returns-in-Ok c =
+    let name = c.args.name.now in
+    let number = c.last_eight.ensures in
+    record {
+      new = c.in-Ok.ensures.added
+          ∙ ap (λ n. not (contains_by (λ k. ordering_then (nat_cmp n k.0) (slice_cmp nat_cmp name k.1.now)) c.args.names.now)) number;
+      added = λ x.
+          let q : ℕ × Bor (List ℕ) = (last_eight x, record { ref_ptr = (0, 0); now = x }) in
+          c.in-Ok.ensures.updates.0 q ∙ cond-or _ (has c.args.names.now x)
+          ∙ ap (λ (b : Bool). b || has c.args.names.now x)
+          (ap (λ n. is_eq (ordering_then (nat_cmp n (last_eight x)) (slice_cmp nat_cmp name x))) number ∙ same_key name x);
+      err = tt;
+    }
