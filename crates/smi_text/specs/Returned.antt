@@ -7,6 +7,7 @@ use Rattle.std.specs.Prelude.{
   false,
   List,
   [],
+  ◌∷◌,
   ◌++◌,
   Option,
   Some,
@@ -81,6 +82,12 @@ pub record RepeatsIn (line : ℕ) (items : List Item) : Type 0 where
 pub record ReadsDefinitions (defs : List Def) (tokens rest : List Item) : Type 0 where
   pub read : (many definition).read tokens ≡ Some (defs, rest)
   pub distinct : are_distinct (labels defs) ≡ true
+
+-- the definition ahead is read, and stands behind those before it
+pub record AppendsDefinition (before after : List Def) (tokens rest : List Item) : Type 0 where
+  pub def : Def
+  pub read : definition.read tokens ≡ Some (def, rest)
+  pub appended : after ≡ before ++ def ∷ []
 
 -- the definition ahead is on this line
 pub record IsDefinitionOn (line : ℕ) (tokens : List Item) : Type 0 where

@@ -9,7 +9,8 @@ ghost use Rattle.smi_text.specs.Names.{has};
 ghost use Rattle.smi_text.specs.trees.Spelling.{spelling};
 ghost use Rattle.smi_text.specs.trees.Lines.{plain, unlined};
 ghost use Rattle.smi_text.specs.Returned.{ReadsDefinitions, ReadsModule, ReadsModules};
-ghost use Rattle.smi_text.specs.Returned.{NewDefinitionFault, DefinitionsFault};
+ghost use Rattle.smi_text.specs.Returned.{AppendsDefinition, NewDefinitionFault};
+ghost use Rattle.smi_text.specs.Returned.{DefinitionsFault};
 ghost use Rattle.smi_text.specs.Returned.{ModuleFault, ModulesFault};
 ghost use Rattle.smi_text.specs.Returned.{IsLabelAhead};
 ghost use Rattle.smi_text.specs.Returned.{IsCauseOf};
@@ -48,20 +49,22 @@ impl<'a> Parser<'a> {
         let mut names = self.name_set();
         let mut defs = self.list();
         'each: while let Some(label) = self.label() {
-            let def = self.new_definition(label, &mut names)?;
-            keep(&mut defs, def)?;
+            self.new_definition(label, &mut names, &mut defs)?;
         }
         Ok(Items::new(defs))
     }
 
-    /// Reads the definition of a name, and adds the name to those defined so far. It is an error
-    /// where the name is among them.
+    /// Reads the definition of a name, appends it to those before it, and adds the name to theirs.
+    /// It is an error where the name is among them.
+    // A definition is large: it moves from where it is read to the list alone.
     fn new_definition(
         &mut self,
         label: &'a [u8],
         names: &mut BTreeSet<Key<'a>>,
-    ) -> Result<Def, ParseError>
-        ensures read { IfOk result (λ def. definition.read self.old ≡ Some (def, self.new)) }
+        defs: &mut Vec<Def>,
+    ) -> Result<(), ParseError>
+        ensures read { OnOk result
+            (AppendsDefinition defs.old.items defs.new.items self.old self.new) }
         ensures new { OnOk result (has names.old label.now ≡ false) }
         ensures added { OnOk result ((x : List ℕ)
             → has names.new x ≡ (same_text label.now x || has names.old x)) }
@@ -73,7 +76,10 @@ impl<'a> Parser<'a> {
         // A definition is dropped by a call: at the end of a scope, what each of its forms drops
         // would be written out.
         match names::add(names, label) {
-            Ok(true) => Ok(def),
+            Ok(true) => {
+                keep(defs, def)?;
+                Ok(())
+            }
             Ok(false) => {
                 drop(def);
                 Err(ParseError::DoubleName { line })

@@ -8,19 +8,20 @@ each-init c = has_read-start _ _ _ c.name_set-names.ensures c.list-defs.ensures
 
 pub each-smaller : goal.each-smaller
 each-smaller c =
-    has_read-shorter _ _ _ c.each.self c.each.invariant _ _ _ c.in-Some.ensures.0 c.in-Some.ensures.1 c.in_ok-def.ensures.read
+    has_read-shorter _ _ _ c.each.self c.each.invariant _ _ _ c.in-Some.ensures.0 c.in-Some.ensures.1 c.in_ok-new_definition.ensures.read.read
 
 pub each-preserved : goal.each-preserved
 each-preserved c =
-    rw (c.in_ok-keep.ensures.ok)
-    (has_read-next _ _ _ c.each.self c.each.invariant c.in-Some.label.now _ _ c.in-Some.ensures.0 c.in-Some.ensures.1 c.in_ok-def.ensures.read _
-    c.in_ok-def.ensures.new c.in_ok-def.ensures.added)
+    let more = c.in_ok-new_definition.ensures.read in
+    rw (more.appended)
+    (has_read-next _ _ _ c.each.self c.each.invariant c.in-Some.label.now _ _ c.in-Some.ensures.0 c.in-Some.ensures.1 more.read _
+    c.in_ok-new_definition.ensures.new c.in_ok-new_definition.ensures.added)
 
 pub returns-clause-ok : goal.returns-clause-ok
 returns-clause-ok c = rw (c.new.ensures) (has_read-done _ _ _ c.each.self c.each.invariant c.in_default.ensures)
 
-pub returns-in_err-def-clause-fault : goal.returns-in_err-def-clause-fault
-returns-in_err-def-clause-fault c =
+pub returns-in_err-new_definition-clause-fault : goal.returns-in_err-new_definition-clause-fault
+returns-in_err-new_definition-clause-fault c =
     let p = err_from_is_err_and c.from_residual.result c.from_residual.ensures.1 in
     rw (p.1, p.2) (definitions-fault _ _ _ c.each.self c.each.invariant c.in-Some.label.now c.in-Some.ensures.0 c.in-Some.ensures.1 _
-    c.in_err-def.ensures.fault)
+    c.in_err-new_definition.ensures.fault)
