@@ -172,6 +172,7 @@ impl<'a> Parser<'a> {
     }
 
     /// Whether this word of the grammar is ahead.
+    #[inline(always)]
     pub(crate) fn at_word(&self, word: &[u8]) -> bool
         ensures { result ≡ begins (a_word word.now ∷ []) self.now }
     {
@@ -199,6 +200,8 @@ impl<'a> Parser<'a> {
     }
 
     /// The stop of a text that can't continue with what is ahead.
+    #[cold]
+    #[inline(never)]
     pub(crate) fn syntax(&self) -> Stop
         ensures { is_memory result ≡ false }
     {
@@ -212,6 +215,7 @@ impl<'a> Parser<'a> {
     }
 
     /// Reads this word of the grammar.
+    #[inline(always)]
     pub(crate) fn word(&mut self, word: &[u8]) -> Result<(), Stop>
         ensures { ReturnsReading result self.new ((format.word word.now).read self.old) }
     {
