@@ -67,7 +67,22 @@ impl Draft {
     }
 
     /// Appends a number in decimal digits, without leading zeros.
+    #[inline]
     pub fn number(&mut self, n: u64)
+        ensures { Adds self.old (decimal n) self.new }
+    {
+        // One or two digits need no buffer.
+        if n < 10 {
+            self.octet(b'0' + n as u8);
+        } else if n < 100 {
+            self.octets(&[b'0' + (n / 10) as u8, b'0' + (n % 10) as u8]);
+        } else {
+            self.long_number(n);
+        }
+    }
+
+    /// [`Draft::number`] for any number of digits.
+    fn long_number(&mut self, n: u64)
         ensures { Adds self.old (decimal n) self.new }
     {
         let mut buffer = Buffer::new();
@@ -75,7 +90,19 @@ impl Draft {
     }
 
     /// Appends a number in decimal digits, with a `-` before a negative one.
+    #[inline]
     pub fn integer(&mut self, n: i64)
+        ensures { Adds self.old (signed_decimal n) self.new }
+    {
+        if n < 0 {
+            self.negative(n);
+        } else {
+            self.number(n.unsigned_abs());
+        }
+    }
+
+    /// [`Draft::integer`] in one piece, for a negative number.
+    fn negative(&mut self, n: i64)
         ensures { Adds self.old (signed_decimal n) self.new }
     {
         let mut buffer = Buffer::new();
@@ -88,6 +115,15 @@ impl Draft {
         ensures { Adds self.old (hexadecimal_octet octet) self.new }
     {
         self.octets(&[upper_digit(octet / 16), upper_digit(octet % 16)]);
+    }
+
+    /// Appends an octet as two upper-case digits to the base 16, and an octet after them: what
+    /// [`Draft::hexadecimal`] and [`Draft::octet`] append, in one piece.
+    #[inline]
+    pub fn hexadecimal_before(&mut self, octet: u8, next: u8)
+        ensures { Adds self.old (hexadecimal_octet octet ++ next ∷ []) self.new }
+    {
+        self.octets(&[upper_digit(octet / 16), upper_digit(octet % 16), next]);
     }
 
     /// Gives `out` its octets back, with the text after them. If memory ran out, `out` is what it
