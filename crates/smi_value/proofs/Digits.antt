@@ -17,9 +17,11 @@ use Rattle.std.proofs.lemmas.Int.Digits.{digits_value_more, number_after_append}
 use Rattle.std.proofs.lemmas.Str.{digit_value_digit}
 use Rattle.std.proofs.lemmas.Str.Parse.{digits_value-take-le}
 use Rattle.std.proofs.Math.Pow.{pow_mono}
-use Rattle.smi_value.specs.hint.Number.{front_digits, StartsWithNumber}
+use Rattle.smi_value.specs.hint.Number.{front_digits, begins_with_digit, StartsWithNumber}
 use Rattle.smi_value.specs.hint.Pieces.{number_of_octets}
 use Rattle.std.proofs.lemmas.Nat.{pow-add}
+use Rattle.std.proofs.lemmas.Fmt.{decimal_digit, decimal_step}
+use Rattle.std.specs.Fmt.{decimal}
 use Rattle.std.proofs.Common.{inl, inr}
 use Rattle.smi_value.specs.hint.Number.{IsNumberHint}
 use Rattle.smi_value.specs.declared.hint.number.NumberForm.{NumberForm}
@@ -118,3 +120,54 @@ no_places text none (form.Decimal places) (inr h) =
 no_places text none form.Hexadecimal h = absurd (cc h)
 no_places text none form.Octal h = absurd (cc h)
 no_places text none form.Binary h = absurd (cc h)
+
+-- ---- octets, of one to three digits
+
+pub hexadecimal_one : (n : ℕ) → n < 16 → digits 16 false n ≡ digit_glyph false n ∷ []
+hexadecimal_one n low =
+    let none : (n / 16 == 0) ≡ true = search (rules, tests) in
+    let same : n % 16 ≡ n = omega arith in
+    sym (last_written 63 16 n n [] (all_left 16 n [] refl) none) ∙ ap (λ (d : ℕ). digit_glyph false d ∷ []) same
+
+pub hexadecimal_two : (n : ℕ) → 16 ≤ n → n < 256 → digits 16 false n ≡ digit_glyph false (n / 16) ∷ digit_glyph false (n % 16) ∷ []
+hexadecimal_two n some low =
+    let more : (n / 16 == 0) ≡ false = search (rules, tests) in
+    let none : (n / 16 / 16 == 0) ≡ true = search (rules, tests) in
+    let same : n / 16 % 16 ≡ n / 16 = omega arith in
+    let first = one_written 63 16 n n [] (all_left 16 n [] refl) more in
+    sym (last_written 62 16 (n / 16) n (digit_glyph false (n % 16) ∷ []) first none)
+    ∙ ap (λ (d : ℕ). digit_glyph false d ∷ digit_glyph false (n % 16) ∷ []) same
+
+pub decimal_two : (n : ℕ) → 10 ≤ n → n < 100 → decimal n ≡ (48 + n / 10) ∷ (48 + n % 10) ∷ []
+decimal_two n some low = rw (decimal_step n some (omega arith), decimal_digit (n / 10) (omega arith))
+
+pub decimal_three : (n : ℕ) → 100 ≤ n → n < 1000 → decimal n ≡ (48 + n / 100) ∷ (48 + n / 10 % 10) ∷ (48 + n % 10) ∷ []
+decimal_three n some low =
+    let tens : n / 10 / 10 ≡ n / 100 = omega arith in
+    rw (decimal_step n (omega arith) (omega arith), decimal_two (n / 10) (omega arith) (omega arith), tens)
+
+-- ---- one digit at the front, and none behind it
+
+no_digits : (text : List ℕ) → begins_with_digit text ≡ false → prefix_len is_ascii_digit text ≡ 0
+no_digits [] h = refl
+no_digits (octet ∷ more) h = rw h refl
+
+pub one_starts : (digit : ℕ) (rest : List ℕ) → IsInRange 48 57 digit → begins_with_digit rest ≡ false → StartsWithNumber (digit ∷ rest) (digit - 48) rest
+one_starts digit rest range e =
+    let is : is_ascii_digit digit ≡ true = search (rules, tests) in
+    let count : prefix_len is_ascii_digit (digit ∷ rest) ≡ 1 = rw (is, no_digits rest e) refl in
+    let same : front_digits (digit ∷ rest) ≡ digit ∷ [] = ap (λ (n : ℕ). take n (digit ∷ rest)) count in
+    record {
+      some = λ no. let none : digit ∷ [] ≡ [] = sym same ∙ no in absurd (cc none);
+      value = (let value : digit - 48 ≡ digits_value 10 (digit ∷ []) = omega (arith, digit_value_digit digit range) in value
+          ∙ ap (digits_value 10) (sym same));
+      after = ap (λ (front : List ℕ). drop (length front) (digit ∷ rest)) (sym same);
+    }
+
+pub starts_at : (text rest : List ℕ) (digit : ℕ) → 1 ≤ length text → digit ≡ get_or text 0 0 → rest ≡ drop 1 text → IsInRange 48 57 digit
+    → begins_with_digit rest ≡ false → StartsWithNumber text (digit - 48) rest
+starts_at [] rest digit some e f range none = absurd (omega arith)
+starts_at (octet ∷ more) rest digit some e f range none =
+    let P : ℕ → Type 0 = λ d. StartsWithNumber (d ∷ more) (digit - 48) rest in
+    let Q : List ℕ → Type 0 = λ t. StartsWithNumber (digit ∷ t) (digit - 48) rest in
+    subst P e (subst Q f (one_starts digit rest range none))

@@ -11,7 +11,13 @@ use Rattle.smi_value.specs.hint.Spec.{IsFirstSpec, AreSpecs, IsOctetHint, LastTa
 use Rattle.smi_value.specs.hint.Spec.{takes_octets, most_octets}
 use Rattle.smi_value.specs.hint.Pieces.{ArePieces, IsCut, IsGroup, AreGroups, ShowsOctets}
 use Rattle.smi_value.specs.hint.Pieces.{piece_text, pieces_text, mark_before, last_mark, body_of}
-use Rattle.smi_value.specs.hint.Pieces.{specs_after}
+use Rattle.smi_value.specs.hint.Pieces.{specs_after, is_single, single_text, marked_text, singles_text}
+use Rattle.smi_value.specs.declared.hint.spec.OctetFormat.{OctetFormat}
+use Rattle.std.proofs.Common.{map, append_assoc, not, ◌&&◌}
+use Rattle.std.proofs.lemmas.Bool.{eqb-true, cases_order}
+use Rattle.std.proofs.Common.{min}
+use Rattle.std.specs.List.{flat_map}
+use Rattle.std.proofs.lemmas.List.{length-map, length-take, length-take-le, drop_all}
 use Rattle.smi_value.proofs.Growing.{grows_none, grows_both, adds_from}
 use Rattle.smi_value.proofs.Specs.{same_spec, same_rest, Begins, begins}
 
@@ -274,3 +280,116 @@ pub groups_end : (hint octets : List ℕ) (old : Written) (spec : Spec) (ahead :
 groups_end hint octets old spec ahead now h =
     let all = h.whole now (record { groups = []; text = []; are_groups = (refl, refl); grows = grows_none now }) in
     (all.text, all.shows, adds_from old now all.text all.grows)
+
+-- ---- a last spec that shows each octet alone
+
+alone : ℕ → List (List ℕ)
+alone octet = (octet ∷ []) ∷ []
+
+is_alone : (spec : Spec) (octet : ℕ) (more : List ℕ) → spec.is_counted ≡ false → spec.length ≡ 1 → IsGroup spec (alone octet) (octet ∷ more) more
+unfolding alone
+is_alone spec octet more e f =
+    let some : octet ∷ more ≢ [] = λ no. absurd (cc no) in
+    let cut : IsCut 1 1 ((octet ∷ []) ∷ []) (octet ∷ more) more = record { are_pieces = (some, refl, refl); at_most = omega arith; enough = inl refl } in
+    record { some = some; cut = rw (e, f) cut }
+
+alone_text : (format : OctetFormat) (mark : Option ℕ) (octet : ℕ) (more : List ℕ) → singles_text format mark (octet ∷ more)
+    ≡ single_text format octet ++ mark_before mark more ++ singles_text format mark more
+alone_text format mark octet [] = simp append-nil
+alone_text format mark octet (next ∷ more) = simp append_assoc
+
+are_alone : (spec : Spec) → spec.is_counted ≡ false → spec.length ≡ 1 → (octets : List ℕ)
+    → AreGroups (spec ∷ []) (map alone octets) octets (singles_text spec.format (last_mark spec) octets)
+unfolding alone
+are_alone spec e f [] = (refl, refl)
+are_alone spec e f (octet ∷ more) = (
+  more,
+  singles_text spec.format (last_mark spec) more,
+  is_alone spec octet more e f,
+  are_alone spec e f more,
+  alone_text spec.format (last_mark spec) octet more,
+)
+
+single_is : (spec : Spec) → is_single spec ≡ true → (spec.is_counted ≡ false) × (spec.length ≡ 1)
+single_is spec h = go spec.is_counted refl h
+  where
+    go : (b : Bool) → spec.is_counted ≡ b → (not b && (spec.length == 1)) ≡ true → (spec.is_counted ≡ false) × (spec.length ≡ 1)
+    go true e k = absurd (cc k)
+    go false e k = (e, eqb-true spec.length 1 k)
+
+pub groups_alone : (hint octets : List ℕ) (old : Written) (spec : Spec) (left : List ℕ) (now new : Written) → is_single spec ≡ true
+    → Adds now (singles_text spec.format (last_mark spec) left) new → GroupsAhead hint octets old spec [] left now
+    → (text : List ℕ) × ShowsOctets hint octets text × Adds old text new
+groups_alone hint octets old spec left now new single adds h =
+    let none : h.specs ≡ [] = no_specs h.specs h.are_specs in
+    let is = single_is spec single in
+    let P : List Spec → Type 0 = λ s. AppendsGroups (spec ∷ s) left now new in
+    let all = h.whole new (subst P (sym none) (record {
+      groups = map alone left;
+      text = singles_text spec.format (last_mark spec) left;
+      are_groups = are_alone spec is.0 is.1 left;
+      grows = adds.grows;
+    })) in
+    (all.text, all.shows, adds_from old new all.text all.grows)
+
+-- ---- pieces of one octet
+
+single : ℕ → List ℕ
+single octet = octet ∷ []
+
+are_single : (n : ℕ) (octets : List ℕ) → n ≤ length octets → ArePieces 1 (map single (take n octets)) octets (drop n octets)
+unfolding single
+are_single zero octets low = refl
+are_single (suc n) [] low = absurd (omega arith)
+are_single (suc n) (octet ∷ more) low = (λ no. absurd (cc no), refl, are_single n more (omega arith))
+
+single_pieces_text : (spec : Spec) (octet : ℕ) (more rest : List ℕ) → pieces_text spec (map single (octet ∷ more)) rest
+    ≡ singles_text spec.format spec.separator (octet ∷ more) ++ mark_before (last_mark spec) rest
+unfolding single
+single_pieces_text spec octet [] rest = simp append-nil
+single_pieces_text spec octet (next ∷ more) rest =
+    ap (λ (t : List ℕ). single_text spec.format octet ++ option_to_list spec.separator ++ t) (single_pieces_text spec next more rest)
+    ∙ grouped (single_text spec.format octet) (option_to_list spec.separator) (single_text spec.format next)
+    (flat_map (marked_text spec.format spec.separator) more) (mark_before (last_mark spec) rest)
+  where
+    grouped : (a b c d e : List ℕ) → a ++ b ++ (c ++ d ++ e) ≡ a ++ (b ++ c ++ d) ++ e
+    grouped a b c d e = simp append_assoc
+
+pub cut_none : (spec : Spec) (times n : ℕ) (octets : List ℕ) (now : Written) → n ≡ min (length octets) times → take n octets ≡ []
+    → AppendsPieces spec times octets now now (drop n octets)
+cut_none spec times n octets now e none =
+    let count : n ≡ 0 = omega (arith, ap length none, length-take n octets) in
+    let same : drop n octets ≡ octets = ap (λ (k : ℕ). drop k octets) count in
+    rw same (no_pieces spec times octets now (enough octets (omega arith)))
+  where
+    enough : (xs : List ℕ) → 0 ≡ min (length xs) times → (0 ≡ times) ⊎ (xs ≡ [])
+    enough [] h = inr refl
+    enough (x ∷ xs) h = inl (omega arith)
+
+pub cut_singles : (spec : Spec) (times n : ℕ) (octets : List ℕ) (old now new : Written) → spec.length ≡ 1 → n ≡ min (length octets) times
+    → take n octets ≢ [] → Adds old (singles_text spec.format spec.separator (take n octets)) now
+    → Adds now (mark_before (last_mark spec) (drop n octets)) new → AppendsPieces spec times octets old new (drop n octets)
+unfolding single
+cut_singles spec times n octets old now new wide e some first last =
+    let within : n ≤ length octets = omega arith in
+    let count : length (map single (take n octets)) ≡ n = length-map (take n octets) single ∙ length-take-le n octets within in
+    let are : ArePieces 1 (map single (take n octets)) octets (drop n octets) = are_single n octets within in
+    record {
+      pieces = map single (take n octets);
+      cut = record {
+        are_pieces = rw wide are;
+        at_most = omega (arith, count);
+        enough = enough (cases_order n times);
+      };
+      grows = rw (text (take n octets) some) (grows_both old now new _ _ first.grows last.grows);
+    }
+  where
+    enough : (n ≡ times) ⊎ ((n < times) ⊎ (times < n)) → (length (map single (take n octets)) ≡ times) ⊎ (drop n octets ≡ [])
+    enough (inl same) = inl (length-map (take n octets) single ∙ length-take-le n octets (omega arith) ∙ same)
+    enough (inr (inl less)) = inr (drop_all n octets (omega arith))
+    enough (inr (inr more)) = absurd (omega arith)
+
+    text : (xs : List ℕ) → xs ≢ [] → pieces_text spec (map single xs) (drop n octets)
+        ≡ singles_text spec.format spec.separator xs ++ mark_before (last_mark spec) (drop n octets)
+    text [] filled = absurd (filled refl)
+    text (x ∷ xs) filled = single_pieces_text spec x xs (drop n octets)

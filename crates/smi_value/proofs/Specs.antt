@@ -1,6 +1,6 @@
 -- The specs of a text, read from the front.
 use Rattle.std.proofs.Common.{◌≡◌, ◌≢◌, ℕ, Bool, true, false, List, [], ◌∷◌, refl}
-use Rattle.std.proofs.Common.{Option, Some, None, is_some, MatchOption, inl, inr, subst, arith}
+use Rattle.std.proofs.Common.{inl, inr, subst, arith}
 use Rattle.std.proofs.Common.{◌<◌, ◌≤◌}
 use Rattle.smi_value.specs.hint.Number.{StartsWithNumber, IsNumberHint}
 use Rattle.smi_value.specs.hint.Hint.{IsOfNumbers, IsOfOctets}
@@ -11,6 +11,10 @@ use Rattle.smi_value.specs.declared.hint.spec.OctetFormat.TheVariants as octet_f
 use Rattle.smi_value.specs.hint.Spec.{most_octets, after_star, at_letter, IsFirstSpec, AreSpecs}
 use Rattle.smi_value.specs.hint.Spec.{IsOctetHint, LastTakesOctets, takes_octets, may_end}
 use Rattle.smi_value.specs.declared.hint.spec.Spec.{Spec}
+use Rattle.smi_value.specs.hint.Form.{IsFormOf}
+use Rattle.smi_value.specs.declared.hint.hint.HintForm.{HintForm}
+use Rattle.smi_value.specs.declared.hint.hint.HintForm.TheVariants as kept
+use Rattle.std.proofs.Common.{Bor}
 
 same_fields : (a b : Spec) → a.is_counted ≡ b.is_counted → a.length ≡ b.length → a.format ≡ b.format → a.separator ≡ b.separator
     → a.terminator ≡ b.terminator → a ≡ b
@@ -70,6 +74,10 @@ pub begins : (text : List ℕ) (specs : List Spec) → text ≢ [] → AreSpecs 
 begins text [] some are = absurd (some are)
 begins text (spec ∷ more) some are = record { spec = spec; rest = are.0; more = more; is_first = are.1; are_more = are.2; whole = refl }
 
+pub first_some : (text : List ℕ) (spec : Spec) (rest : List ℕ) → IsFirstSpec text spec rest → text ≢ []
+first_some [] spec rest h = λ _. h.digits refl
+first_some (octet ∷ more) spec rest h = λ no. absurd (cc no)
+
 pub goes_on_next : (text rest next : List ℕ) (before : Bool) (spec : Spec) → rest ≢ [] → IsFirstSpec rest spec next → GoesOn text rest before
     → GoesOn text next (takes_octets spec)
 goes_on_next text rest next before spec some is_first h = record {
@@ -121,12 +129,24 @@ not_both text form.Hexadecimal (spec ∷ more) h k = (rw h at k.read.1.digits) r
 not_both text form.Octal (spec ∷ more) h k = (rw h at k.read.1.digits) refl
 not_both text form.Binary (spec ∷ more) h k = (rw h at k.read.1.digits) refl
 
-pub number_is : (number : Option NumberForm) (text : List ℕ) → MatchOption number ((specs : List Spec) × IsOctetHint text specs) (IsNumberHint text)
-    → (is_some number ≡ true → IsOfNumbers text) × (IsOfNumbers text → is_some number ≡ true)
-number_is None text h = (λ e. absurd (cc e), λ n. absurd (not_both text n.0 h.0 n.1 h.1))
-number_is (Some form) text h = (λ _. (form, h), λ _. refl)
+-- what is kept of a hint, by its kind
+pub of_number : (text : List ℕ) (form : HintForm) (number : NumberForm) → form ≡ kept.Number number → IsFormOf text form → IsNumberHint text number
+of_number text form number e h = let P : HintForm → Type 0 = λ f. IsFormOf text f in subst P e h
 
-pub octets_are : (number : Option NumberForm) (text : List ℕ) → MatchOption number ((specs : List Spec) × IsOctetHint text specs) (IsNumberHint text)
-    → (is_some number ≡ false → IsOfOctets text) × (IsOfOctets text → is_some number ≡ false)
-octets_are None text h = (λ _. h, λ _. refl)
-octets_are (Some form) text h = (λ e. absurd (cc e), λ n. absurd (not_both text form n.0 h n.1))
+pub of_octets : (text : List ℕ) (form : HintForm) (first : Spec) (ahead : Bor (List ℕ)) → form ≡ kept.Octets first ahead → IsFormOf text form
+    → (specs : List Spec) × IsOctetHint text specs × IsFirstSpec text first ahead.now
+of_octets text form first ahead e h = let P : HintForm → Type 0 = λ f. IsFormOf text f in subst P e h
+
+pub number_kept : (inside text : List ℕ) (form : HintForm) (number : NumberForm) → inside ≡ text → form ≡ kept.Number number → IsFormOf inside form
+    → IsOfNumbers text × (IsOfOctets text → ⊥)
+number_kept inside text form number same e h =
+    let P : List ℕ → Type 0 = λ t. IsFormOf t form in
+    let is = of_number text form number e (subst P same h) in
+    ((number, is), λ n. not_both text number n.0 is n.1)
+
+pub octets_kept : (inside text : List ℕ) (form : HintForm) (first : Spec) (ahead : Bor (List ℕ)) → inside ≡ text → form ≡ kept.Octets first ahead
+    → IsFormOf inside form → IsOfOctets text × (IsOfNumbers text → ⊥)
+octets_kept inside text form first ahead same e h =
+    let P : List ℕ → Type 0 = λ t. IsFormOf t form in
+    let is = of_octets text form first ahead e (subst P same h) in
+    ((is.0, is.1), λ n. not_both text n.0 is.0 n.1 is.1)

@@ -2,3 +2,4 @@ pub mod Number
 pub mod Spec
 pub mod Pieces
 pub mod Hint
+pub mod Form

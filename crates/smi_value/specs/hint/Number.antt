@@ -1,6 +1,7 @@
 -- Display hints of integers (RFC 2579, section 3.1).
 use Rattle.std.specs.Prelude.{◌≡◌, ◌≢◌, ℕ, ℤ, pos, negsuc, suc, zero, ◌+◌, ◌-◌, ◌≤◌, ◌⊎◌, List, []}
 use Rattle.std.specs.Prelude.{◌∷◌, ◌++◌, length, take, drop, replicate, codes, decimal, false}
+use Rattle.std.specs.Prelude.{Bool}
 use Rattle.std.specs.List.{take_while}
 use Rattle.std.specs.Char.{is_ascii_digit}
 use Rattle.std.specs.Fmt.{digits}
@@ -14,6 +15,11 @@ front_digits text = take_while is_ascii_digit text
 
 abbrev pub after_digits : List ℕ → List ℕ
 after_digits text = drop (length (front_digits text)) text
+
+-- a digit at the front
+abbrev pub begins_with_digit : List ℕ → Bool
+begins_with_digit [] = false
+begins_with_digit (octet ∷ _) = is_ascii_digit octet
 
 -- one or more digits at the front have this value; leading zeros are read
 pub record StartsWithNumber (text : List ℕ) (number : ℕ) (rest : List ℕ) : Type 0 where

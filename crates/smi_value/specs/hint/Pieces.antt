@@ -3,7 +3,9 @@ use Rattle.std.specs.Prelude.{◌≡◌, ◌≢◌, ℕ, ◌≤◌, ◌⊎◌, f
 use Rattle.std.specs.Prelude.{◌∷◌}
 use Rattle.std.specs.Prelude.{◌++◌, length, take, drop, slice_index, Option, option_to_list}
 use Rattle.std.specs.Prelude.{decimal}
+use Rattle.std.specs.Prelude.{Bool, not, ◌&&◌, ◌==◌}
 use Rattle.std.specs.Fmt.{digits}
+use Rattle.std.specs.List.{flat_map}
 use Rattle.std.specs.Int.Digits.{number_from_digits}
 use Rattle.smi_value.specs.hint.Spec.{IsOctetHint}
 use Rattle.smi_value.specs.declared.hint.spec.OctetFormat.{OctetFormat}
@@ -87,3 +89,23 @@ pub record ShowsOctets (hint octets text : List ℕ) : Type 0 where
   pub groups : List (List (List ℕ))
   pub is_hint : IsOctetHint hint specs
   pub are_groups : AreGroups specs groups octets text
+
+-- ---- the same computed, for private clauses
+
+-- one application to one octet, of a spec that counts none
+abbrev pub is_single : Spec → Bool
+is_single spec = not spec.is_counted && (spec.length == 1)
+
+-- one octet
+abbrev pub single_text : OctetFormat → ℕ → List ℕ
+single_text format octet = piece_text format (octet ∷ [])
+
+-- an octet after a mark
+abbrev pub marked_text : OctetFormat → Option ℕ → ℕ → List ℕ
+marked_text format mark octet = option_to_list mark ++ single_text format octet
+
+-- octets one by one, with a mark before each but the first
+abbrev pub singles_text : OctetFormat → Option ℕ → List ℕ → List ℕ
+singles_text format mark [] = []
+singles_text format mark (octet ∷ more) =
+    single_text format octet ++ flat_map (marked_text format mark) more

@@ -1,14 +1,11 @@
 //! A display hint, which is read once and then applied to values.
 ghost use Rattle.std.specs.Prelude.{◌≡◌, ◌≤◌, ◌↔◌, ◌⊎◌, List, ℕ, IsSome, IfSome, IsTrue};
-ghost use Rattle.std.specs.Prelude.{MatchOption, false};
+ghost use Rattle.std.specs.Prelude.{false};
 ghost use Rattle.snmp_io.specs.draft.Draft.{Adds};
-ghost use Rattle.smi_value.specs.hint.Number.{IsNumberHint};
-ghost use Rattle.smi_value.specs.hint.Spec.{IsOctetHint};
-ghost use Rattle.smi_value.specs.declared.hint.spec.Spec.{Spec};
 
 use crate::hint::number::{NumberForm, append_number, number_form};
 use crate::hint::octets::append_octets;
-use crate::hint::spec::is_octet_hint;
+use crate::hint::spec::{Spec, octet_hint};
 use snmp_io::Draft;
 use std::marker::Model;
 
@@ -30,16 +27,27 @@ pub enum HintValue<'a> {
 #[derive(Drop)]
 pub struct Hint<'a> {
     text: &'a [u8],
-    number: Option<NumberForm>,
+    form: HintForm<'a>,
+}
+
+/// What a text was read as.
+#[derive(Clone, Copy, Debug)]
+enum HintForm<'a> {
+    /// A hint of integers.
+    Number(NumberForm),
+    /// A hint of octets: its first spec, and the text after it.
+    Octets(Spec, &'a [u8]),
 }
 
 impl<'a> Model for Hint<'a> {
+    ghost use Rattle.std.specs.Prelude.{List, ℕ};
+    ghost use Rattle.smi_value.specs.hint.Form.{IsFormOf};
+
     ghost Value = { List ℕ };
 
     ghost view = { λ h. h.text.now };
 
-    ghost invariant = { λ h. MatchOption h.number
-        ((specs : List Spec) × IsOctetHint h.text.now specs) (IsNumberHint h.text.now) };
+    ghost invariant = { λ h. IsFormOf h.text.now h.form };
 }
 
 impl<'a> Hint<'a> {
@@ -51,15 +59,16 @@ impl<'a> Hint<'a> {
         ensures some_of_hints { IsSome result ↔ (IsOfNumbers text.now ⊎ IsOfOctets text.now) }
     {
         if let Some(form) = number_form(text) {
-            return Some(Hint {
-                text,
-                number: Some(form),
-            });
+            let form = HintForm::Number(form);
+            return Some(Hint { text, form });
         }
-        if is_octet_hint(text) {
-            return Some(Hint { text, number: None });
+        match octet_hint(text) {
+            Some((first, ahead)) => {
+                let form = HintForm::Octets(first, ahead);
+                Some(Hint { text, form })
+            }
+            None => None,
         }
-        None
     }
 
     /// Whether the hint is one of integers.
@@ -67,7 +76,10 @@ impl<'a> Hint<'a> {
         ensures true_of_numbers { IsTrue result ↔ IsOfNumbers self.now }
         ensures false_of_octets { (result ≡ false) ↔ IsOfOctets self.now }
     {
-        self.number.is_some()
+        match self.form {
+            HintForm::Number(_) => true,
+            HintForm::Octets(_, _) => false,
+        }
     }
 
     /// Appends a value as the hint shows it. The value must be a number for a hint of integers, and
@@ -78,13 +90,15 @@ impl<'a> Hint<'a> {
             × Adds draft.old text draft.new }
     {
         match value {
-            HintValue::Number(n) => match self.number {
-                Some(form) => append_number(draft, form, n),
-                None => unreachable!(),
+            HintValue::Number(n) => match self.form {
+                HintForm::Number(form) => append_number(draft, form, n),
+                HintForm::Octets(_, _) => unreachable!(),
             },
-            HintValue::Octets(octets) => match self.number {
-                Some(_) => unreachable!(),
-                None => append_octets(draft, self.text, octets),
+            HintValue::Octets(octets) => match self.form {
+                HintForm::Number(_) => unreachable!(),
+                HintForm::Octets(first, ahead) => {
+                    append_octets(draft, self.text, first, ahead, octets)
+                }
             },
         }
     }

@@ -10,7 +10,7 @@ ghost use Rattle.snmp_io.specs.draft.Draft.{Adds};
 ghost use Rattle.smi_value.specs.declared.hint.number.NumberForm.{NumberForm};
 ghost use Rattle.smi_value.specs.hint.Number.{StartsWithNumber, front_digits, after_digits};
 ghost use Rattle.smi_value.specs.hint.Number.{IsNumberHint, with_point, magnitude_text};
-ghost use Rattle.smi_value.specs.hint.Number.{number_text};
+ghost use Rattle.smi_value.specs.hint.Number.{number_text, begins_with_digit};
 
 use itoa::Buffer;
 use snmp_io::Draft;
@@ -68,6 +68,41 @@ pub(crate) fn front_number(text: &[u8], most: u32) -> Option<(u32, &[u8])>
     ensures none { IfNone result ((number : ℕ) (rest : List ℕ)
         → StartsWithNumber text.now number rest → most < number) }
 {
+    // Most numbers of a hint have one digit.
+    match front_digit(text) {
+        Some((digit, rest)) if u32::from(digit) <= most => Some((u32::from(digit), rest)),
+        _ => long_number(text, most),
+    }
+}
+
+/// The number of the digit at the front of a text, and what follows it, if that is no digit.
+fn front_digit(text: &[u8]) -> Option<(u8, &[u8])>
+    ensures { IfSome result (λ r. StartsWithNumber text.now r.0 r.1.now) }
+{
+    match text {
+        [digit @ b'0'..=b'9', rest @ ..] if !begins_with_digit(rest) => Some((*digit - b'0', rest)),
+        _ => None,
+    }
+}
+
+/// Whether a digit stands at the front of a text.
+fn begins_with_digit(text: &[u8]) -> bool
+    ensures { result ≡ begins_with_digit text.now }
+{
+    match text {
+        [octet, ..] => octet.is_ascii_digit(),
+        [] => false,
+    }
+}
+
+/// [`front_number`] for any number of digits.
+fn long_number(text: &[u8], most: u32) -> Option<(u32, &[u8])>
+    requires { most < 2 ^ 24 }
+    ensures found { IfSome result (λ r. StartsWithNumber text.now r.0 r.1.now) }
+    ensures at_most { IfSome result (λ r. r.0 ≤ most) }
+    ensures none { IfNone result ((number : ℕ) (rest : List ℕ)
+        → StartsWithNumber text.now number rest → most < number) }
+{
     let (front, rest) = split_digits(text);
     if front.is_empty() {
         return None;
@@ -119,9 +154,9 @@ fn append_magnitude(draft: &mut Draft, form: NumberForm, n: u64)
     match form {
         NumberForm::Decimal(0) => draft.number(n),
         NumberForm::Decimal(places) => append_with_point(draft, usize::from(places), n),
-        NumberForm::Hexadecimal => append_digits(draft, 16, n),
-        NumberForm::Octal => append_digits(draft, 8, n),
-        NumberForm::Binary => append_digits(draft, 2, n),
+        NumberForm::Hexadecimal => append_base_16(draft, n),
+        NumberForm::Octal => append_base_8(draft, n),
+        NumberForm::Binary => append_base_2(draft, n),
     }
 }
 
@@ -154,8 +189,34 @@ fn append_zeros(draft: &mut Draft, count: usize)
     }
 }
 
-/// Appends the digits of a number to a base, lower case.
-pub(crate) fn append_digits(draft: &mut Draft, base: u64, n: u64)
+/// Appends the digits of a number to the base 16, lower case.
+#[inline(never)]
+pub(crate) fn append_base_16(draft: &mut Draft, n: u64)
+    ensures { Adds draft.old (digits 16 false n) draft.new }
+{
+    append_digits(draft, 16, n);
+}
+
+/// Appends the digits of a number to the base 8.
+#[inline(never)]
+pub(crate) fn append_base_8(draft: &mut Draft, n: u64)
+    ensures { Adds draft.old (digits 8 false n) draft.new }
+{
+    append_digits(draft, 8, n);
+}
+
+/// Appends the digits of a number to the base 2.
+#[inline(never)]
+fn append_base_2(draft: &mut Draft, n: u64)
+    ensures { Adds draft.old (digits 2 false n) draft.new }
+{
+    append_digits(draft, 2, n);
+}
+
+/// Appends the digits of a number to a base, lower case. Inlined, so that a base that is known
+/// takes no division.
+#[inline(always)]
+fn append_digits(draft: &mut Draft, base: u64, n: u64)
     requires low { 2 ≤ base }
     requires high { base ≤ 16 }
     ensures { Adds draft.old (digits base false n) draft.new }
@@ -166,6 +227,7 @@ pub(crate) fn append_digits(draft: &mut Draft, base: u64, n: u64)
 }
 
 /// Writes the digits of a number to a base to the end of a text, and returns where they start.
+#[inline(always)]
 fn put_digits(text: &mut [u8; 64], base: u64, n: u64) -> usize
     requires low { 2 ≤ base }
     requires high { base ≤ 16 }
@@ -186,7 +248,8 @@ fn put_digits(text: &mut [u8; 64], base: u64, n: u64) -> usize
 }
 
 /// A lower-case digit to a base of at most 16.
-fn digit(n: u8) -> u8
+#[inline]
+pub(crate) fn digit(n: u8) -> u8
     requires { n < 16 }
     ensures { result ≡ digit_glyph false n }
 {

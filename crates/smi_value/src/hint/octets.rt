@@ -1,31 +1,154 @@
 //! Octets under a display hint: the specs are applied one after the other, the last one again and
 //! again.
 ghost use Rattle.std.specs.Prelude.{◌≡◌, ◌≢◌, ◌<◌, ◌≤◌, List, ℕ, [], ◌++◌, length, drop, take};
-ghost use Rattle.std.specs.Prelude.{if◌then◌else◌, true};
+ghost use Rattle.std.specs.Prelude.{if◌then◌else◌, true, decimal, ◌∷◌, false};
+ghost use Rattle.std.specs.Fmt.{digits};
 ghost use Rattle.snmp_io.specs.draft.Draft.{Adds};
+ghost use Rattle.std.specs.List.{flat_map};
 ghost use Rattle.smi_value.specs.hint.Spec.{IsFirstSpec, IsOctetHint, AreSpecs, most_octets};
 ghost use Rattle.smi_value.specs.hint.Spec.{takes_octets};
 ghost use Rattle.smi_value.specs.hint.Pieces.{IsCut, IsGroup, ShowsOctets, last_mark, mark_before};
 ghost use Rattle.smi_value.specs.hint.Pieces.{number_of_octets, piece_text, pieces_text};
+ghost use Rattle.smi_value.specs.hint.Pieces.{single_text, marked_text, singles_text};
 ghost use Rattle.smi_value.specs.declared.hint.spec.Spec.{Spec};
 
-use crate::hint::number::append_digits;
+use crate::hint::number::{append_base_8, append_base_16, digit};
 use crate::hint::spec::{OctetFormat, Spec, first_spec};
 use snmp_io::Draft;
 
-/// Appends octets as a hint shows them.
-pub(crate) fn append_octets(draft: &mut Draft, hint: &[u8], octets: &[u8])
-    requires { (specs : List Spec) × IsOctetHint hint.now specs }
+/// Appends octets as a hint shows them, of which `first` is the first spec and `after` the rest.
+pub(crate) fn append_octets(
+    draft: &mut Draft,
+    hint: &[u8],
+    first: Spec,
+    after: &[u8],
+    octets: &[u8],
+)
+    requires { (specs : List Spec) × IsOctetHint hint.now specs
+        × IsFirstSpec hint.now first after.now }
     ensures { (text : List ℕ) × ShowsOctets hint.now octets.now text
         × Adds draft.old text draft.new }
 {
-    let (mut spec, mut ahead) = next_spec(hint);
+    let mut spec = first;
+    let mut ahead = after;
     let mut left = octets;
     'groups: while !left.is_empty() {
+        // Hints often end so: each octet that is left is a group of its own.
+        if ahead.is_empty() && spec.is_single() {
+            append_singles(draft, spec.format, spec.last_mark(), left);
+            return;
+        }
         left = append_group(draft, &spec, left);
         if !ahead.is_empty() {
             (spec, ahead) = next_spec(ahead);
         }
+    }
+}
+
+/// Appends octets one by one, with a mark before each but the first.
+fn append_singles(draft: &mut Draft, format: OctetFormat, mark: Option<u8>, octets: &[u8])
+    ensures { Adds draft.old (singles_text format mark octets.now) draft.new }
+{
+    match octets {
+        [] => {}
+        [first, more @ ..] => {
+            append_single(draft, format, *first);
+            append_others(draft, format, mark, more);
+        }
+    }
+}
+
+/// Appends octets one by one, with a mark before each.
+fn append_others(draft: &mut Draft, format: OctetFormat, mark: Option<u8>, octets: &[u8])
+    ensures { Adds draft.old (flat_map (marked_text format mark) octets.now) draft.new }
+{
+    'octets: for octet in octets {
+        append_marked(draft, format, mark, *octet);
+    }
+}
+
+/// Appends a mark, if there is one, and an octet. Both go there at once in the forms that are seen
+/// most.
+fn append_marked(draft: &mut Draft, format: OctetFormat, mark: Option<u8>, octet: u8)
+    ensures { Adds draft.old (marked_text format mark octet) draft.new }
+{
+    match (format, mark) {
+        (OctetFormat::Hexadecimal, Some(mark)) => append_marked_hexadecimal(draft, mark, octet),
+        (OctetFormat::Decimal, Some(mark)) => append_marked_decimal(draft, mark, octet),
+        (_, Some(mark)) => {
+            draft.octet(mark);
+            append_single(draft, format, octet);
+        }
+        (_, None) => append_single(draft, format, octet),
+    }
+}
+
+/// Appends a mark and an octet to the base 16.
+fn append_marked_hexadecimal(draft: &mut Draft, mark: u8, octet: u8)
+    ensures { Adds draft.old (mark ∷ digits 16 false octet) draft.new }
+{
+    if octet < 16 {
+        draft.octets(&[mark, digit(octet)]);
+    } else {
+        draft.octets(&[mark, digit(octet / 16), digit(octet % 16)]);
+    }
+}
+
+/// Appends a mark and an octet to the base 10.
+fn append_marked_decimal(draft: &mut Draft, mark: u8, octet: u8)
+    ensures { Adds draft.old (mark ∷ decimal octet) draft.new }
+{
+    if octet < 10 {
+        draft.octets(&[mark, b'0' + octet]);
+    } else if octet < 100 {
+        draft.octets(&[mark, b'0' + octet / 10, b'0' + octet % 10]);
+    } else {
+        draft.octets(&[
+            mark,
+            b'0' + octet / 100,
+            b'0' + octet / 10 % 10,
+            b'0' + octet % 10,
+        ]);
+    }
+}
+
+/// Appends one octet.
+fn append_single(draft: &mut Draft, format: OctetFormat, octet: u8)
+    ensures { Adds draft.old (single_text format octet) draft.new }
+{
+    match format {
+        OctetFormat::Hexadecimal => append_octet_hexadecimal(draft, octet),
+        OctetFormat::Decimal => append_octet_decimal(draft, octet),
+        OctetFormat::Octal => append_base_8(draft, u64::from(octet)),
+        OctetFormat::Text => draft.octet(octet),
+    }
+}
+
+/// Appends an octet to the base 16.
+fn append_octet_hexadecimal(draft: &mut Draft, octet: u8)
+    ensures { Adds draft.old (digits 16 false octet) draft.new }
+{
+    if octet < 16 {
+        draft.octet(digit(octet));
+    } else {
+        draft.octets(&[digit(octet / 16), digit(octet % 16)]);
+    }
+}
+
+/// Appends an octet to the base 10.
+fn append_octet_decimal(draft: &mut Draft, octet: u8)
+    ensures { Adds draft.old (decimal octet) draft.new }
+{
+    if octet < 10 {
+        draft.octet(b'0' + octet);
+    } else if octet < 100 {
+        draft.octets(&[b'0' + octet / 10, b'0' + octet % 10]);
+    } else {
+        draft.octets(&[
+            b'0' + octet / 100,
+            b'0' + octet / 10 % 10,
+            b'0' + octet % 10,
+        ]);
     }
 }
 
@@ -67,9 +190,32 @@ fn append_pieces<'a>(draft: &mut Draft, spec: &Spec, times: usize, octets: &'a [
     if spec.length == 0 && spec.separator.is_none() && times > 1 {
         // Empty pieces with no marks between them have no text: one is enough for all.
         append_cut(draft, spec, 1, octets)
+    } else if spec.length == 1 {
+        append_cut_singles(draft, spec, times, octets)
     } else {
         append_cut(draft, spec, times, octets)
     }
+}
+
+/// Appends the pieces of [`append_pieces`] where each has one octet.
+fn append_cut_singles<'a>(
+    draft: &mut Draft,
+    spec: &Spec,
+    times: usize,
+    octets: &'a [u8],
+) -> &'a [u8]
+    requires { spec.now.length ≡ 1 }
+    ensures { (pieces : List (List ℕ))
+        × IsCut spec.now.length times pieces octets.now result.now
+        × Adds draft.old (pieces_text spec.now pieces result.now) draft.new }
+{
+    let (these, rest) = octets.split_at(octets.len().min(times));
+    if these.is_empty() {
+        return rest;
+    }
+    append_singles(draft, spec.format, spec.separator, these);
+    append_mark(draft, spec.last_mark(), rest);
+    rest
 }
 
 /// Appends the pieces of [`append_pieces`] one after the other.
@@ -124,13 +270,15 @@ fn append_formatted(draft: &mut Draft, format: OctetFormat, piece: &[u8])
     requires { length piece.now ≤ most_octets format }
     ensures { Adds draft.old (piece_text format piece.now) draft.new }
 {
-    if piece.is_empty() {
-        return;
+    match piece {
+        [] => return,
+        [octet] => return append_single(draft, format, *octet),
+        _ => {}
     }
     match format {
-        OctetFormat::Hexadecimal => append_digits(draft, 16, number_of(piece)),
+        OctetFormat::Hexadecimal => append_base_16(draft, number_of(piece)),
         OctetFormat::Decimal => draft.number(number_of(piece)),
-        OctetFormat::Octal => append_digits(draft, 8, number_of(piece)),
+        OctetFormat::Octal => append_base_8(draft, number_of(piece)),
         OctetFormat::Text => draft.octets(piece),
     }
 }
@@ -148,7 +296,14 @@ fn number_of(octets: &[u8]) -> u64
 }
 
 impl Spec {
-    ghost use Rattle.smi_value.specs.hint.Pieces.{last_mark};
+    ghost use Rattle.smi_value.specs.hint.Pieces.{last_mark, is_single};
+
+    /// Whether each octet is shown alone, by one application of its own.
+    fn is_single(&self) -> bool
+        ensures { result ≡ is_single self.now }
+    {
+        !self.is_counted && self.length == 1
+    }
 
     /// The mark after the last application: the terminator, if any, in place of the separator.
     fn last_mark(&self) -> Option<u8>

@@ -36,7 +36,8 @@ pub struct Spec {
     pub terminator: Option<u8>,
 }
 
-/// The first spec of a text, and what stands after it.
+/// The first spec of a text, and what stands after it. Inlined, so that it stays in registers.
+#[inline(always)]
 pub(crate) fn first_spec(text: &[u8]) -> Option<(Spec, &[u8])>
     ensures found { IfSome result (λ r. IsFirstSpec text.now r.0 r.1.now) }
     ensures shorter { IfSome result (λ r. length r.1.now < length text.now) }
@@ -118,12 +119,29 @@ fn split_mark(text: &[u8]) -> (Option<u8>, &[u8])
     }
 }
 
-/// Whether a text is a hint of octets.
-pub(crate) fn is_octet_hint(text: &[u8]) -> bool
+/// The first spec of a hint of octets and what stands after it, if a text is such a hint.
+pub(crate) fn octet_hint(text: &[u8]) -> Option<(Spec, &[u8])>
+    ensures found { IfSome result (λ r. (specs : List Spec) × IsOctetHint text.now specs
+        × IsFirstSpec text.now r.0 r.1.now) }
+    ensures none { IfNone result ((specs : List Spec) → IsOctetHint text.now specs → ⊥) }
+{
+    let Some((first, ahead)) = first_spec(text) else {
+        return None;
+    };
+    if ends_hint(text, &first, ahead) {
+        Some((first, ahead))
+    } else {
+        None
+    }
+}
+
+/// Whether a text is a hint of octets, by what stands after its first spec.
+fn ends_hint(text: &[u8], first: &Spec, ahead: &[u8]) -> bool
+    requires { IsFirstSpec text.now first.now ahead.now }
     ensures { IsTrue result ↔ ((specs : List Spec) × IsOctetHint text.now specs) }
 {
-    let mut rest = text;
-    let mut ends_well = false;
+    let mut rest = ahead;
+    let mut ends_well = first.takes_octets();
     'specs: while !rest.is_empty() {
         let Some((spec, more)) = first_spec(rest) else {
             return false;

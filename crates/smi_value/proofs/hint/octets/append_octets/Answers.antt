@@ -1,30 +1,33 @@
 use Rattle.std.proofs.Common.{◌≡◌, ◌≢◌, List, [], subst, sym, rules, arith}
-use Rattle.smi_value.proofs.Groups.{GroupsAhead, hint_begins, groups_begin, groups_end}
+use Rattle.smi_value.proofs.Groups.{GroupsAhead, groups_begin, groups_end, groups_alone}
 use Rattle.smi_value.proofs.Groups.{group_then_next, group_then_again, group_no_longer}
 use Rattle.smi_value.proofs.Groups.{group_shorter}
 use Rattle.smi_value.proofs.Groups.{last_takes}
 use Rattle.smi_value.proofs.Growing.{none_left}
 use Rattle.smi_value.proofs.hint.octets.append_octets.Goals as goal
 
-pub next_spec-requires : goal.next_spec-requires
-next_spec-requires c =
-    let b = hint_begins c.args.hint.now c.requires.0 c.requires.1 in
-    (b.spec, b.rest, b.is_first)
-
 pub groups-init : goal.groups-init
-groups-init c = groups_begin c.args.hint.now c.args.octets.now c.args.draft.now _ _ c.requires.0 c.requires.1 c.next_spec.ensures.first
+groups-init c = groups_begin c.args.hint.now c.args.octets.now c.args.draft.now _ _ c.requires.0 c.requires.1 c.requires.2
+
+pub returns-then-is_single : goal.returns-then-is_single
+returns-then-is_single c =
+    let none : c.groups.ahead.now ≡ [] = search rules in
+    let P : List _ → Type 0 = λ ahead. GroupsAhead c.args.hint.now c.args.octets.now c.args.draft.now c.groups.spec ahead c.groups.left.now c.groups.draft in
+    let adds = rw c.last_mark.ensures at c.append_singles.ensures in
+    groups_alone c.args.hint.now c.args.octets.now c.args.draft.now c.groups.spec c.groups.left.now c.groups.draft _ (search rules) adds
+    (subst P none c.groups.invariant)
 
 pub groups-smaller-then-not-is_empty : goal.groups-smaller-then-not-is_empty
 groups-smaller-then-not-is_empty c =
     let le = group_no_longer _ _ _ _ c.append_group-left.ensures.1 in
-    omega (arith, le, c.next_spec-then-not-is_empty.ensures.shorter)
+    omega (arith, le, c.next_spec.ensures.shorter)
 
 pub groups-preserved-then-not-is_empty : goal.groups-preserved-then-not-is_empty
 groups-preserved-then-not-is_empty c =
     let some : c.groups.ahead.now ≢ [] = search rules in
     group_then_next c.args.hint.now c.args.octets.now c.args.draft.now c.groups.spec _ c.groups.ahead.now _ c.groups.left.now _ c.groups.draft _
     c.append_group-left.ensures.0 some
-    c.next_spec-then-not-is_empty.ensures.first c.append_group-left.ensures.1 c.append_group-left.ensures.2 c.groups.invariant
+    c.next_spec.ensures.first c.append_group-left.ensures.1 c.append_group-left.ensures.2 c.groups.invariant
 
 pub groups-smaller : goal.groups-smaller
 groups-smaller c =

@@ -1,6 +1,6 @@
 use Rattle.std.proofs.Common.{length}
 use Rattle.smi_value.proofs.Specs.{GoesOn}
-use Rattle.smi_value.proofs.hint.spec.is_octet_hint.Given as goal
+use Rattle.smi_value.proofs.hint.spec.ends_hint.Given as goal
 
 abbrev pub invariant-specs : goal.invariant-specs
 invariant-specs l = GoesOn l.text l.rest l.ends_well

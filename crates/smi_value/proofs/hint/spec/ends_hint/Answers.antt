@@ -1,10 +1,13 @@
-use Rattle.std.proofs.Common.{◌≡◌, ◌≢◌, [], refl, rules}
+use Rattle.std.proofs.Common.{◌≡◌, ◌≢◌, false, [], refl, rules}
 use Rattle.smi_value.proofs.Growing.{none_left}
-use Rattle.smi_value.proofs.Specs.{goes_on_first, goes_on_next, no_hint, at_end}
-use Rattle.smi_value.proofs.hint.spec.is_octet_hint.Goals as goal
+use Rattle.smi_value.proofs.Specs.{goes_on_first, goes_on_next, no_hint, at_end, first_some}
+use Rattle.smi_value.proofs.hint.spec.ends_hint.Goals as goal
 
 pub specs-init : goal.specs-init
-specs-init c = goes_on_first c.args.text.now
+specs-init c =
+    let first = goes_on_next c.args.text.now c.args.text.now c.args.ahead.now false c.args.first.now (first_some c.args.text.now _ _ c.requires) c.requires
+    (goes_on_first c.args.text.now) in
+    rw c.takes_octets-ends_well.ensures first
 
 pub returns-in_default : goal.returns-in_default
 returns-in_default c =
@@ -16,7 +19,7 @@ specs-preserved c =
     let some : c.specs.rest.now ≢ [] = search rules in
     let next = goes_on_next c.args.text.now c.specs.rest.now c.in-Some.more.now c.specs.ends_well c.in-Some.spec some c.in-Some.ensures.found c.specs.invariant
     in
-    rw c.takes_octets-ends_well.ensures next
+    rw c.takes_octets-ends_well-in-specs.ensures next
 
 pub returns : goal.returns
 returns c =

@@ -1,6 +1,6 @@
 use Rattle.std.proofs.Common.{◌<◌, length, arith}
 use Rattle.smi_value.proofs.Digits.{value_more, value_above}
-use Rattle.smi_value.proofs.hint.number.front_number.Goals as goal
+use Rattle.smi_value.proofs.hint.number.long_number.Goals as goal
 
 pub returns-then-number-most-clause-none : goal.returns-then-number-most-clause-none
 returns-then-number-most-clause-none c =

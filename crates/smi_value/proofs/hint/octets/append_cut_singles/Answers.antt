@@ -1,0 +1,27 @@
+use Rattle.std.proofs.Common.{◌≡◌, ◌≢◌, ◌∙◌, List, ℕ, [], take, sym, subst, rules}
+use Rattle.smi_value.specs.hint.Pieces.{pieces_text}
+use Rattle.smi_value.proofs.Growing.{adds_from, none_left}
+use Rattle.smi_value.proofs.Groups.{AppendsPieces, cut_none, cut_singles}
+use Rattle.smi_value.proofs.hint.octets.append_cut_singles.Goals as goal
+
+pub returns-then-is_empty : goal.returns-then-is_empty
+returns-then-is_empty c =
+    let none : take c.min.result c.args.octets.now ≡ [] = sym c.split_at.ensures.front ∙ none_left _ _ c.is_empty.ensures c.if-is_empty.true in
+    let P : List ℕ → Type 0 = λ rest. AppendsPieces c.args.spec.now c.args.times c.args.octets.now c.args.draft.now c.args.draft.now rest in
+    let all = subst P (sym c.split_at.ensures.back)
+    (cut_none c.args.spec.now c.args.times c.min.result c.args.octets.now c.args.draft.now c.min.ensures none) in
+    (all.pieces, all.cut, adds_from _ _ _ all.grows)
+
+pub returns : goal.returns
+returns c =
+    let some : c.split_at.result.0.now ≢ [] = search rules in
+    let P : List ℕ → Type 0 = λ rest.
+    AppendsPieces c.args.spec.now c.args.times c.args.octets.now c.args.draft.now c.append_mark.new.draft rest in
+    let first = rw c.split_at.ensures.front at c.append_singles.ensures in
+    let last = rw (c.last_mark.ensures, c.split_at.ensures.back) at c.append_mark.ensures in
+    let all = subst P (sym c.split_at.ensures.back)
+    (cut_singles c.args.spec.now c.args.times c.min.result c.args.octets.now c.args.draft.now c.append_singles.new.draft
+    c.append_mark.new.draft c.requires c.min.ensures
+    (rw c.split_at.ensures.front at some) first last) in
+    let grown = adds_from c.args.draft.now c.append_mark.new.draft (pieces_text c.args.spec.now all.pieces c.split_at.result.1.now) all.grows in
+    (all.pieces, all.cut, grown)

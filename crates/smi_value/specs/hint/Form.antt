@@ -1,0 +1,13 @@
+-- What is kept of a display hint.
+use Rattle.std.specs.Prelude.{ℕ, List}
+use Rattle.smi_value.specs.declared.hint.hint.HintForm.{HintForm}
+use Rattle.smi_value.specs.declared.hint.hint.HintForm.TheVariants as form
+use Rattle.smi_value.specs.declared.hint.spec.Spec.{Spec}
+use Rattle.smi_value.specs.hint.Number.{IsNumberHint}
+use Rattle.smi_value.specs.hint.Spec.{IsOctetHint, IsFirstSpec}
+
+-- it is kept of this text
+abbrev pub IsFormOf : List ℕ → HintForm → Type 0
+IsFormOf text (form.Number number) = IsNumberHint text number
+IsFormOf text (form.Octets first ahead) =
+    (specs : List Spec) × IsOctetHint text specs × IsFirstSpec text first ahead.now
