@@ -7,3 +7,4 @@ pub mod Groups
 pub mod Unique
 pub mod ValueUnique
 pub mod Bits
+pub mod PlainStrings

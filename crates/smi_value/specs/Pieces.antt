@@ -1,6 +1,7 @@
 -- Pieces of the texts of values.
 use Rattle.std.specs.Prelude.{◌≡◌, ◌<◌, ℕ, pos, ◌+◌, ◌-◌, ◌*◌, ◌/◌, ◌%◌, ◌^◌, Bool, true, false}
-use Rattle.std.specs.Prelude.{◌==◌, if◌then◌else◌, Contains, length, slice_index}
+use Rattle.std.specs.Prelude.{◌==◌, ◌≤◌, ◌&&◌, ◌||◌, not, if◌then◌else◌, Contains, length}
+use Rattle.std.specs.Prelude.{slice_index}
 use Rattle.std.specs.Prelude.{List, [], ◌∷◌, ◌++◌, Option, Some, None, codes, decimal}
 use Rattle.std.specs.List.{flat_map, list_all}
 use Rattle.smi_value.specs.declared.letters.letters.Letters.{Letters}
@@ -99,6 +100,20 @@ pub record IsBitsText (letters : Letters) (names : List NamedNumber) (octets tex
       ++ flat_map (set_bit_text letters names) bits
 
 -- ---- the same computed, for private clauses
+
+-- printable, and neither a quote nor a backslash: shown between quotes as it is
+abbrev pub is_plain : ℕ → Bool
+is_plain octet = is_printable octet && not ((octet == 34) || (octet == 92))
+
+-- each octet from one place up to another is so
+abbrev pub ArePlain : List ℕ → ℕ → ℕ → Type 0
+ArePlain octets from to =
+    (k : ℕ) → from ≤ k → k < to → is_plain (slice_index octets k) ≡ true
+
+-- a string that is shown as text, each octet as it is
+pub record IsShownPlain (form : StringForm) (octets : List ℕ) : Type 0 where
+  pub text : is_text form octets ≡ true
+  pub same : flat_map (λ octet. escaped (dotted octet)) octets ≡ octets
 
 -- nothing for a bit that isn't set
 abbrev pub bit_text : Letters → List NamedNumber → ℕ → ℕ → List ℕ

@@ -16,6 +16,7 @@ mod base;
 mod hint;
 mod letters;
 mod pieces;
+mod plain;
 mod syntax;
 mod value;
 

@@ -13,6 +13,7 @@ ghost use Rattle.smi_value.specs.Texts.{is_printable, escaped, dumped, hexadecim
 ghost use Rattle.smi_value.specs.Texts.{address_text, two_digits, days_text, clock_text};
 
 use crate::letters::{Letters, StringForm, TypeForm};
+use crate::plain::is_shown_plain;
 use crate::syntax::name_of;
 use itoa::Buffer;
 use smi_text::NamedNumber;
@@ -58,6 +59,9 @@ pub(crate) fn append_string(draft: &mut Draft, letters: &Letters, octets: &[u8])
 {
     if octets.is_empty() {
         draft.octets(b"\"\"");
+    } else if is_shown_plain(letters.strings, octets) {
+        append_word(draft, letters, b"STRING: ");
+        append_between_quotes(draft, octets);
     } else if is_text(letters.strings, octets) {
         append_word(draft, letters, b"STRING: ");
         append_quoted(draft, octets);
@@ -90,6 +94,15 @@ fn is_printable(octet: u8) -> bool
     ensures { result ≡ is_printable octet }
 {
     32 <= octet && octet <= 126
+}
+
+/// Appends octets unchanged between quotes.
+fn append_between_quotes(draft: &mut Draft, octets: &[u8])
+    ensures { Adds draft.old (codes "\"" ++ octets.now ++ codes "\"") draft.new }
+{
+    draft.octet(b'"');
+    draft.octets(octets);
+    draft.octet(b'"');
 }
 
 /// Appends octets between quotes.

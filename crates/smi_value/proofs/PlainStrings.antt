@@ -1,0 +1,102 @@
+-- Strings that stand between quotes as they are.
+use Rattle.std.proofs.Common.{◌≡◌, ◌≢◌, ℕ, suc, ◌+◌, ◌%◌, ◌^◌, ◌<◌, ◌≤◌, Bool, true, false, cond, ltb, eqb}
+use Rattle.std.proofs.Common.{List, [], ◌∷◌, ◌++◌, length, get_or, map, replicate, w8, refl, sym, ap, ◌∙◌, arith}
+use Rattle.std.proofs.Common.{rules, tests, codes}
+use Rattle.std.proofs.Common.{◌||◌, not}
+use Rattle.std.specs.Bool.{◌==◌, nat_le, OnTrue}
+use Rattle.std.specs.List.{flat_map, list_all}
+use Rattle.std.proofs.Common.{◌⊎◌, inl, inr}
+use Rattle.std.proofs.lemmas.Bool.{and_parts, and_from, not-true, cases_order, eqb-true}
+use Rattle.std.proofs.lemmas.List.{length-map}
+use Rattle.std.proofs.lemmas.Simd.{length-chunk, bitmask_splat, tops_compared, zip2_splat_left, mask_l-mod}
+use Rattle.std.proofs.lemmas.Simd.{none_from_empty_mask}
+use lib.Lanes.{chunk, mask_l, zip2, top}
+use Rattle.smi_value.specs.declared.letters.letters.Letters.{Letters}
+use Rattle.smi_value.specs.declared.letters.letters.StringForm.{StringForm}
+use Rattle.smi_value.specs.declared.letters.letters.StringForm.TheVariants as strings
+use Rattle.smi_value.specs.Texts.{is_printable, escaped}
+use Rattle.smi_value.specs.Pieces.{ArePlain, IsShownPlain, is_plain, dotted, string_text, type_word}
+
+-- what the mask of a test of lanes is, with the octet that all are compared with on the left
+left_mask : (t : ℕ → ℕ → Bool) (lanes : List ℕ) (n y : ℕ) → length lanes ≡ n → n ≤ 64
+    → mask_l (map (top 7) (zip2 (λ a b. cond (t a b) 255 0) (replicate n y) lanes)) % 2 ^ 64 ≡ mask_l (map (λ x. t y x) lanes)
+left_mask t lanes n y long few =
+    ap (λ l. mask_l l % 2 ^ 64) (tops_compared w8 t (replicate n y) lanes ∙ zip2_splat_left t y n lanes long)
+    ∙ mask_l-mod (map (λ x. t y x) lanes) 64 (omega (arith, length-map lanes (λ x. t y x)))
+
+plain_by_tests : (octet : ℕ) → ltb octet 32 ≡ false → ltb 126 octet ≡ false → eqb octet 34 ≡ false → eqb octet 92 ≡ false → is_plain octet ≡ true
+plain_by_tests octet low high quote backslash =
+    let from : nat_le 32 octet ≡ true = search (rules, tests) in
+    let to : nat_le octet 126 ≡ true = search (rules, tests) in
+    rw (from, to, quote, backslash) refl
+
+on_true : (b : Bool) (P : Type 0) → (b ≡ true → P) → OnTrue b P
+on_true true P f = f refl
+on_true false P f = tt
+
+-- the masks of the octets from one place on: those below and those above another, and those equal to it
+abbrev mask_below : List ℕ → ℕ → ℕ → ℕ → ℕ
+mask_below octets at n y = mask_l (map (top 7) (zip2 (λ a b. cond (ltb a b) 255 0) (chunk at n octets) (replicate n y))) % 2 ^ 64
+
+abbrev mask_above : List ℕ → ℕ → ℕ → ℕ → ℕ
+mask_above octets at n y = mask_l (map (top 7) (zip2 (λ a b. cond (ltb a b) 255 0) (replicate n y) (chunk at n octets))) % 2 ^ 64
+
+abbrev mask_equal : List ℕ → ℕ → ℕ → ℕ → ℕ
+mask_equal octets at n y = mask_l (map (top 7) (zip2 (λ a b. cond (eqb a b) 255 0) (chunk at n octets) (replicate n y))) % 2 ^ 64
+
+lanes_pass : (octets : List ℕ) (at n : ℕ) → at + n ≤ length octets → n ≤ 64 → mask_below octets at n 32 ≡ 0 → mask_above octets at n 126 ≡ 0
+    → mask_equal octets at n 34 ≡ 0 → mask_equal octets at n 92 ≡ 0 → ArePlain octets at (at + n)
+lanes_pass octets at n room few low high quote backslash k from to =
+    let lanes : List ℕ = chunk at n octets in
+    let long : length lanes ≡ n = length-chunk at n octets room in
+    let a = sym (bitmask_splat w8 ltb lanes n 32 long few) ∙ low in
+    let b = sym (left_mask ltb lanes n 126 long few) ∙ high in
+    let c = sym (bitmask_splat w8 eqb lanes n 34 long few) ∙ quote in
+    let d = sym (bitmask_splat w8 eqb lanes n 92 long few) ∙ backslash in
+    plain_by_tests (get_or octets k 0)
+    (none_from_empty_mask (λ x. ltb x 32) octets at n 0 room a k from to)
+    (none_from_empty_mask (λ x. ltb 126 x) octets at n 0 room b k from to)
+    (none_from_empty_mask (λ x. eqb x 34) octets at n 0 room c k from to)
+    (none_from_empty_mask (λ x. eqb x 92) octets at n 0 room d k from to)
+
+-- four masks, of which three are zero, and the last where that is answered
+pub plain_lanes : (octets : List ℕ) (at n : ℕ) → at + n ≤ length octets → n ≤ 64 → mask_below octets at n 32 ≡ 0 → mask_above octets at n 126 ≡ 0
+    → mask_equal octets at n 34 ≡ 0 → OnTrue (mask_equal octets at n 92 == 0) (ArePlain octets at (at + n))
+plain_lanes octets at n room few low high quote =
+    let all : (mask_equal octets at n 92 == 0) ≡ true → ArePlain octets at (at + n) = λ e.
+    lanes_pass octets at n room few low high quote (eqb-true (mask_equal octets at n 92) 0 e) in
+    on_true (mask_equal octets at n 92 == 0) (ArePlain octets at (at + n)) all
+
+-- the places before one and those from it on
+pub plain_both : (octets : List ℕ) (to from end : ℕ) → from ≤ to → ArePlain octets 0 to → ArePlain octets from end → ArePlain octets 0 end
+plain_both octets to from end meet h k i low high = go (cases_order i to)
+  where
+    go : (i ≡ to) ⊎ ((i < to) ⊎ (to < i)) → is_plain (get_or octets i 0) ≡ true
+    go (inl same) = k i (omega arith) high
+    go (inr (inl less)) = h i (omega arith) less
+    go (inr (inr more)) = k i (omega arith) high
+
+shown_same : (octets : List ℕ) → ArePlain octets 0 (length octets)
+    → (list_all is_printable octets ≡ true) × (flat_map (λ octet. escaped (dotted octet)) octets ≡ octets)
+shown_same [] h = (refl, refl)
+shown_same (octet ∷ more) h =
+    let first : is_plain octet ≡ true = h 0 (omega arith) (omega arith) in
+    let here = and_parts (is_printable octet) (not ((octet == 34) || (octet == 92))) first in
+    let bare : ((octet == 34) || (octet == 92)) ≡ false = not-true _ here.1 in
+    let rest = shown_same more (λ k low high. h (suc k) (omega arith) (omega arith)) in
+    (and_from (is_printable octet) (list_all is_printable more) here.0 rest.0, rw (here.0, bare) (ap (λ (t : List ℕ). octet ∷ t) rest.1))
+
+shown_plain : (form : StringForm) (octets : List ℕ) → (form ≡ strings.Hexadecimal → ⊥) → ArePlain octets 0 (length octets) → IsShownPlain form octets
+shown_plain strings.Plain octets text h = let same = shown_same octets h in record { text = same.0; same = same.1 }
+shown_plain strings.Hexadecimal octets text h = absurd (text refl)
+shown_plain strings.Text octets text h = record { text = refl; same = (shown_same octets h).1 }
+
+pub shown_where_plain : (b : Bool) (form : StringForm) (octets : List ℕ) → (form ≡ strings.Hexadecimal → ⊥) → OnTrue b (ArePlain octets 0 (length octets))
+    → OnTrue b (IsShownPlain form octets)
+shown_where_plain true form octets text h = shown_plain form octets text h
+shown_where_plain false form octets text h = tt
+
+pub plain_string : (letters : Letters) (octets : List ℕ) → octets ≢ [] → IsShownPlain letters.strings octets
+    → string_text letters octets ≡ type_word letters (codes "STRING: ") ++ (codes "\"" ++ octets ++ codes "\"")
+plain_string letters [] some h = absurd (some refl)
+plain_string letters (octet ∷ more) some h = rw (h.text, h.same) refl

@@ -1,0 +1,96 @@
+//! Whether a string stands between quotes as it is, looked at sixteen or eight octets at a time.
+ghost use Rattle.std.specs.Prelude.{◌≡◌, ◌+◌, ◌≤◌, length, true};
+ghost use Rattle.std.specs.Bool.{OnTrue};
+ghost use Rattle.smi_value.specs.Pieces.{ArePlain, IsShownPlain};
+
+use crate::letters::StringForm;
+use std::simd::prelude::*;
+
+/// Whether a string is seen to be shown as text, and each of its octets as itself. Most strings
+/// are; of the others nothing is said.
+pub(crate) fn is_shown_plain(form: StringForm, octets: &[u8]) -> bool
+    ensures { OnTrue result (IsShownPlain form octets.now) }
+{
+    match form {
+        StringForm::Hexadecimal => false,
+        _ => are_plain(octets),
+    }
+}
+
+/// Whether each octet is a character of printable ASCII but a quote or a backslash.
+fn are_plain(octets: &[u8]) -> bool
+    ensures { OnTrue result (ArePlain octets.now 0 (length octets.now)) }
+{
+    if octets.len() < 8 {
+        are_plain_few(octets)
+    } else if octets.len() < 16 {
+        are_plain_8(octets, 0) && are_plain_8(octets, octets.len() - 8)
+    } else {
+        are_plain_many(octets)
+    }
+}
+
+/// [`are_plain`] for 16 octets or more. The last 16 may overlap those before them.
+fn are_plain_many(octets: &[u8]) -> bool
+    requires { 16 ≤ length octets.now }
+    ensures { OnTrue result (ArePlain octets.now 0 (length octets.now)) }
+{
+    let mut at = 0;
+    'pieces: while octets.len() - at > 16 {
+        if !are_plain_16(octets, at) {
+            return false;
+        }
+        at += 16;
+    }
+    are_plain_16(octets, octets.len() - 16)
+}
+
+/// [`are_plain`] one octet at a time.
+fn are_plain_few(octets: &[u8]) -> bool
+    ensures { OnTrue result (ArePlain octets.now 0 (length octets.now)) }
+{
+    'octets: for octet in octets {
+        if *octet < 32 || *octet > 126 || *octet == b'"' || *octet == b'\\' {
+            return false;
+        }
+    }
+    true
+}
+
+/// [`are_plain`] for the sixteen octets from a place on.
+#[inline(always)]
+fn are_plain_16(octets: &[u8], at: usize) -> bool
+    requires { at + 16 ≤ length octets.now }
+    ensures { OnTrue result (ArePlain octets.now at (at + 16)) }
+{
+    let these = u8x16::from_slice(&octets[at..]);
+    if these.simd_lt(u8x16::splat(32)).to_bitmask() != 0 {
+        return false;
+    }
+    if these.simd_gt(u8x16::splat(126)).to_bitmask() != 0 {
+        return false;
+    }
+    if these.simd_eq(u8x16::splat(b'"')).to_bitmask() != 0 {
+        return false;
+    }
+    these.simd_eq(u8x16::splat(b'\\')).to_bitmask() == 0
+}
+
+/// [`are_plain`] for the eight octets from a place on.
+#[inline(always)]
+fn are_plain_8(octets: &[u8], at: usize) -> bool
+    requires { at + 8 ≤ length octets.now }
+    ensures { OnTrue result (ArePlain octets.now at (at + 8)) }
+{
+    let these = u8x8::from_slice(&octets[at..]);
+    if these.simd_lt(u8x8::splat(32)).to_bitmask() != 0 {
+        return false;
+    }
+    if these.simd_gt(u8x8::splat(126)).to_bitmask() != 0 {
+        return false;
+    }
+    if these.simd_eq(u8x8::splat(b'"')).to_bitmask() != 0 {
+        return false;
+    }
+    these.simd_eq(u8x8::splat(b'\\')).to_bitmask() == 0
+}
