@@ -153,8 +153,7 @@ fn append_dumped(draft: &mut Draft, place: usize, octet: u8)
     if place > 0 && place % 16 == 0 {
         draft.octet(b'\n');
     }
-    draft.hexadecimal(octet);
-    draft.octet(b' ');
+    draft.hexadecimal_before(octet, b' ');
 }
 
 /// Appends an address: four numbers with dots between them.
