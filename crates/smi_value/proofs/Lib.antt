@@ -8,3 +8,4 @@ pub mod Unique
 pub mod ValueUnique
 pub mod Bits
 pub mod PlainStrings
+pub mod FewDigits

@@ -1,8 +1,9 @@
 //! What is known of the object of a value.
-ghost use Rattle.std.specs.Prelude.{◌≡◌, None, Some, IsTrue, ◌↔◌};
+ghost use Rattle.std.specs.Prelude.{◌≡◌, None, Some, IsTrue, ◌↔◌, IfSome, pos};
 ghost use Rattle.std.specs.Option.{option_map, option_copied};
 ghost use Rattle.smi_value.specs.Syntax.{ObjectSyntax, syntax_at, name_of_number, is_number_of};
 ghost use Rattle.smi_value.specs.Syntax.{is_of_bits};
+ghost use Rattle.smi_text.specs.trees.Number.{stated_number};
 
 use crate::base::ValueBase;
 use smi_text::{NamedNumber, number};
@@ -98,7 +99,19 @@ impl<'a> ValueSyntax<'a> {
 }
 
 /// The name of a number: of two names, the first in the text.
+#[inline]
 pub(crate) fn name_of(names: &[NamedNumber], n: i128) -> Option<&[u8]>
+    ensures { option_copied result ≡ name_of_number names.now n }
+{
+    match names {
+        // Most objects have no named numbers.
+        [] => None,
+        _ => first_name(names, n),
+    }
+}
+
+/// [`name_of`] among some names.
+fn first_name(names: &[NamedNumber], n: i128) -> Option<&[u8]>
     ensures { option_copied result ≡ name_of_number names.now n }
 {
     match names.iter().find(|named| is_number_of(named, n)) {
@@ -111,8 +124,34 @@ pub(crate) fn name_of(names: &[NamedNumber], n: i128) -> Option<&[u8]>
 fn is_number_of(named: &NamedNumber, n: i128) -> bool
     ensures { result ≡ is_number_of n named.now }
 {
-    match number(named.number.as_bytes()) {
-        Some(number) => number == n,
-        None => false,
+    let text = named.number.as_bytes();
+    match few_digits(text) {
+        Some(few) => i128::from(few) == n,
+        None => match number(text) {
+            Some(number) => number == n,
+            None => false,
+        },
+    }
+}
+
+/// The number that a text of one to three digits states. Most numbers of an enumeration have no
+/// more.
+fn few_digits(text: &[u8]) -> Option<u16>
+    ensures { IfSome result (λ few. stated_number text.now ≡ Some (pos few)) }
+{
+    match text {
+        [ones @ b'0'..=b'9'] => Some(u16::from(*ones - b'0')),
+        [tens @ b'0'..=b'9', ones @ b'0'..=b'9'] => {
+            Some(10 * u16::from(*tens - b'0') + u16::from(*ones - b'0'))
+        }
+        [
+            hundreds @ b'0'..=b'9',
+            tens @ b'0'..=b'9',
+            ones @ b'0'..=b'9',
+        ] => {
+            let tens = 10 * u16::from(*tens - b'0') + u16::from(*ones - b'0');
+            Some(100 * u16::from(*hundreds - b'0') + tens)
+        }
+        _ => None,
     }
 }
