@@ -1,7 +1,7 @@
 //! Octets under a display hint: the specs are applied one after the other, the last one again and
 //! again.
 ghost use Rattle.std.specs.Prelude.{◌≡◌, ◌≢◌, ◌<◌, ◌≤◌, List, ℕ, [], ◌++◌, length, drop, take};
-ghost use Rattle.std.specs.Prelude.{if◌then◌else◌, true, decimal, ◌∷◌, false};
+ghost use Rattle.std.specs.Prelude.{if◌then◌else◌, true, decimal, ◌∷◌, false, ◌+◌, ◌*◌};
 ghost use Rattle.std.specs.Fmt.{digits};
 ghost use Rattle.snmp_io.specs.draft.Draft.{Adds};
 ghost use Rattle.std.specs.List.{flat_map};
@@ -276,10 +276,39 @@ fn append_formatted(draft: &mut Draft, format: OctetFormat, piece: &[u8])
         _ => {}
     }
     match format {
-        OctetFormat::Hexadecimal => append_base_16(draft, number_of(piece)),
+        OctetFormat::Hexadecimal => append_hexadecimal(draft, piece),
         OctetFormat::Decimal => draft.number(number_of(piece)),
         OctetFormat::Octal => append_base_8(draft, number_of(piece)),
         OctetFormat::Text => draft.octets(piece),
+    }
+}
+
+/// Appends octets as one number to the base 16.
+fn append_hexadecimal(draft: &mut Draft, octets: &[u8])
+    requires { length octets.now ≤ 8 }
+    ensures { Adds draft.old (digits 16 false (number_of_octets octets.now)) draft.new }
+{
+    match octets {
+        // As in the address of an interface (IPv6).
+        [high, low] if *high > 0 => append_pair(draft, *high, *low),
+        _ => append_base_16(draft, number_of(octets)),
+    }
+}
+
+/// Appends two octets as one number to the base 16.
+fn append_pair(draft: &mut Draft, high: u8, low: u8)
+    requires { 0 < high }
+    ensures { Adds draft.old (digits 16 false (high * 256 + low)) draft.new }
+{
+    let third = digit(low / 16);
+    let last = digit(low % 16);
+    if high < 16 {
+        let second = digit(high);
+        draft.octets(&[second, third, last]);
+    } else {
+        let first = digit(high / 16);
+        let second = digit(high % 16);
+        draft.octets(&[first, second, third, last]);
     }
 }
 
