@@ -1,7 +1,8 @@
 //! Judges the words of a job that asks an agent: the plan that they ask for, or the first of them
 //! that has no meaning.
 ghost use Rattle.std.specs.Prelude.{◌≡◌, ◌↔◌, ◌≤◌, ℕ, List, Some, Ok, codes, length};
-ghost use Rattle.std.specs.Prelude.{IfErr, IfNone, IfOk, IfSome, IsTrue, option_map, string_bytes};
+ghost use Rattle.std.specs.Prelude.{IfErr, IfNone, IfOk, IfSome, IsTrue, OnOk, option_map};
+ghost use Rattle.std.specs.Prelude.{string_bytes};
 ghost use Rattle.smi_show.specs.name.Meant.{TextMeans};
 ghost use Rattle.snmp_words.specs.Words.{asking_words};
 ghost use Rattle.snmp_net.specs.Address.{address_of};
@@ -20,7 +21,7 @@ use crate::failure::Failure;
 use crate::names::read_names;
 use crate::plan::{Orders, Plan, Question, Walk};
 use crate::request::{AskJob, Request};
-use smi_show::{Letters, NameTree, ShowTree, resolve};
+use smi_show::{Letters, NameTree, ShowTree, resolve, resolve_into};
 use snmp_net::AgentAddress;
 use snmp_oid::Oid;
 use snmp_words::Asking;
@@ -184,6 +185,21 @@ pub(crate) fn name<'a, T: NameTree>(tree: &T, text: &'a str) -> Result<Oid, Fail
 {
     match resolve(tree, text.as_bytes()) {
         Ok(name) => Ok(name),
+        Err(error) => Err(Failure::Name(text, error)),
+    }
+}
+
+/// Reads the name that a text states into an identifier that is there.
+pub(crate) fn read_name<'a, T: NameTree>(
+    tree: &T,
+    text: &'a str,
+    oid: &mut Oid,
+) -> Result<(), Failure<'a>>
+    ensures ok { OnOk result (TextMeans (T.naming tree.now) text.entry.now (Ok oid.new)) }
+    ensures err { IfErr result (λ e. NameFails (T.naming tree.now) text.entry.now (fault_of e)) }
+{
+    match resolve_into(tree, text.as_bytes(), oid) {
+        Ok(()) => Ok(()),
         Err(error) => Err(Failure::Name(text, error)),
     }
 }

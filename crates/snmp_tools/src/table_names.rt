@@ -6,7 +6,7 @@ ghost use Rattle.snmp_tools.specs.Message.{fault_of, out_of_memory};
 ghost use Rattle.snmp_tools.specs.agent.TableFile.{AreNamesIn, HasTable, TableFails};
 
 use crate::failure::Failure;
-use smi_show::{NameTree, one_meaning, resolve_front};
+use smi_show::{NameTree, one_meaning, resolve_front_into};
 use snmp_agent::{Resolver, Table};
 use snmp_io::{FileFault, Files};
 use snmp_oid::Oid;
@@ -52,8 +52,9 @@ impl<'a, T: NameTree> Resolver for TreeNames<'a, T> {
         ensures { IsFrontRead (names_in (T.naming self.now.tree.now)) text.now result }
     {
         one_meaning();
-        match resolve_front(self.tree, text, b'|') {
-            Ok((oid, size)) => {
+        let mut oid = Oid::new();
+        match resolve_front_into(self.tree, text, b'|', &mut oid) {
+            Ok(size) => {
                 // Says that it is an identifier.
                 let _ = oid.as_slice();
                 Some((oid, size))

@@ -6,7 +6,7 @@ ghost use Rattle.snmp_tools.specs.translation.Outcome.{IsNamePrinted, IsPrinting
 ghost use Rattle.snmp_tools.specs.translation.Text.{IsShown};
 
 use crate::failure::Failure;
-use crate::judge;
+use crate::judge::read_name;
 use crate::lines::print_text;
 use crate::translation::style::Style;
 use smi_show::{DetailTree, detail, name_text};
@@ -26,18 +26,21 @@ pub(crate) fn print_names<'a, T: DetailTree, O: Output>(
         (record { naming = T.naming tree.now; definition_at = T.definition_at tree.now })
         style (texts_at names.now) (O.stream out.old) (O.stream out.new) (outcome_of result) }
 {
+    // One identifier for all names: to move it takes as long as to read a name.
+    let mut oid = Oid::new();
     'names: for name in names {
-        print_name(alloc, tree, style, name, out)?;
+        print_name(alloc, tree, style, name, &mut oid, out)?;
     }
     Ok(())
 }
 
-// Prints a name.
+// Prints a name, which is read into the identifier that is there.
 fn print_name<'a, T: DetailTree, O: Output>(
     alloc: Global,
     tree: &T,
     style: Style,
     name: &'a str,
+    oid: &mut Oid,
     out: &mut O,
 ) -> Result<(), Failure<'a>>
     ensures printed { OnOk result (IsNamePrinted
@@ -47,8 +50,8 @@ fn print_name<'a, T: DetailTree, O: Output>(
         (record { naming = T.naming tree.now; definition_at = T.definition_at tree.now })
         style (O.stream out.old) name.entry.now (O.stream out.new) (fault_of e)) }
 {
-    let oid = judge::name(tree, name)?;
-    let text = shown(alloc, tree, style, &oid)?;
+    read_name(tree, name, oid)?;
+    let text = shown(alloc, tree, style, oid)?;
     print_text(&text, out)
 }
 

@@ -25,12 +25,14 @@ module _ (mib : DetailMib) (style : Style) (before after : Stream) (name text : 
 
 pub returns-clause-printed : goal.returns-clause-printed
 returns-clause-printed g c =
-    whole _ c.args.style _ _ c.args.name.now c.in_ok-text.text.items (c.in_ok-oid.oid, c.in_ok-oid.ensures.ok, c.in_ok-text.ensures) c.print_text.result
+    whole _ c.args.style _ _ c.args.name.now c.in_ok-text.text.items (c.read_name.new.oid, c.in_ok-read_name.ensures.ok, c.in_ok-text.ensures)
+    c.print_text.result
     (subst (λ (t : List ℕ). IsTextPrinted (g.O.Output.stream c.args.out.now) t (g.O.Output.stream c.print_text.new.out) (outcome_of c.print_text.result))
     c.deref.ensures.value c.print_text.ensures)
 
 pub returns-clause-stopped : goal.returns-clause-stopped
 returns-clause-stopped g c =
-    front _ c.args.style _ _ c.args.name.now c.in_ok-text.text.items (c.in_ok-oid.oid, c.in_ok-oid.ensures.ok, c.in_ok-text.ensures) c.print_text.result
+    front _ c.args.style _ _ c.args.name.now c.in_ok-text.text.items (c.read_name.new.oid, c.in_ok-read_name.ensures.ok, c.in_ok-text.ensures)
+    c.print_text.result
     (subst (λ (t : List ℕ). IsTextPrinted (g.O.Output.stream c.args.out.now) t (g.O.Output.stream c.print_text.new.out) (outcome_of c.print_text.result))
     c.deref.ensures.value c.print_text.ensures)
