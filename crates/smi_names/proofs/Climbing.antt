@@ -147,6 +147,21 @@ module _ (next : List (Option ℕ)) where
       has_end_from p None e f = ends e
       has_end_from p (Some q) e f = leads_on e (f q refl)
 
+  -- a place that leads nowhere is settled by itself
+  pub Keeps-alone : (marks : List Mark) (order : List ℕ) (p : ℕ) → Keeps next marks order [] → p < length next → next_at next p ≡ None
+      → Keeps next (set marks p M.Settled) (order ++ p ∷ []) []
+  Keeps-alone marks order p kept inside last =
+      let met : Keeps next marks order ([] ++ p ∷ []) = record {
+        long = kept.long;
+        within = kept.within;
+        along = All-push (λ q. q < length next) [] p kept.along inside;
+        only_ended = kept.only_ended;
+        after_next = kept.after_next;
+        settled = kept.settled;
+        met = λ q e h. Contains-append_left [] (p ∷ []) q (kept.met q e h);
+      } in
+      Keeps-settled marks order [] p None met last (λ q e. absurd (cc))
+
   pub Leads-settled : (order path : List ℕ) (p : ℕ) → LeadsToSettled next order (path ++ p ∷ []) → p < length next → LeadsToSettled next (order ++ p ∷ []) path
   Leads-settled order path p l inside =
       let back = Leads-pop path l.from l.to p l.leads in record {

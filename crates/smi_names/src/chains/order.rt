@@ -80,6 +80,28 @@ impl Search {
         Ok(to)
     }
 
+    /// Puts a place that leads nowhere into the order, unless it is there.
+    fn settle(&mut self, next: &[Option<usize>], place: usize) -> Result<(), AllocError>
+        requires kept { Keeps next.now self.old.marks.items self.old.order.items
+            self.old.path.items }
+        requires at_start { self.old.path.items ≡ [] }
+        requires inside { place < length next.now }
+        requires last { next_at next.now place ≡ None }
+        ensures kept { IfOk result (λ _.
+            Keeps next.now self.new.marks.items self.new.order.items self.new.path.items) }
+        ensures at_end { IfOk result (λ _. self.new.path.items ≡ []) }
+        ensures reached { IfOk result (λ _. mark_at self.new.marks.items place ≢ Mark.New) }
+        ensures reached_before { IfOk result (λ _. (p : ℕ)
+            → mark_at self.old.marks.items p ≢ Mark.New
+            → mark_at self.new.marks.items p ≢ Mark.New) }
+    {
+        if self.is_new(place) {
+            self.order.push(place)?;
+            self.marks[place] = Mark::Settled;
+        }
+        Ok(())
+    }
+
     /// Whether there is such a place, and it is new.
     fn is_new(&self, place: usize) -> bool
         ensures new { IsTrue result
@@ -116,6 +138,10 @@ impl Search {
             → mark_at self.old.marks.items p ≢ Mark.New
             → mark_at self.new.marks.items p ≢ Mark.New) }
     {
+        // A place that leads nowhere, as most do, is settled at once.
+        if next[start].is_none() {
+            return self.settle(next, start);
+        }
         let to = self.climb(next, start)?;
         if !self.has_ended(to) {
             self.path.clear();

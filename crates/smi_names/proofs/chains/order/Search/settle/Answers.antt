@@ -1,0 +1,22 @@
+-- A new place is settled; one that is reached stays so.
+use Rattle.std.proofs.Common.{rules, ◌≡◌, ◌≢◌, ℕ, ◌<◌, inl, inr, List, [], ◌∷◌, ◌++◌, set, length, sym, ◌∙◌}
+use Rattle.std.proofs.lemmas.List.{get_or-set_same, get_or-set_other}
+use Rattle.std.proofs.lemmas.Bool.{cases_eq}
+use Rattle.smi_names.specs.chains.Search.{mark_at}
+use Rattle.smi_names.specs.declared.chains.order.Mark.{Mark}
+use Rattle.smi_names.specs.declared.chains.order.Mark.TheVariants as M
+use Rattle.smi_names.proofs.Climbing.{Keeps-alone}
+use Rattle.smi_names.proofs.chains.order.Search.settle.Goals as goal
+
+marked : (marks : List Mark) (at p : ℕ) → at < length marks → mark_at marks p ≢ M.New → mark_at (set marks at M.Settled) p ≢ M.New
+marked marks at p inside old = λ e. elim (cases_eq p at) [
+  | inl same ↦ let here : mark_at (set marks at M.Settled) p ≡ M.Settled = rw same (get_or-set_same marks at M.Settled M.New inside) in cc
+  | inr other ↦ old (sym (get_or-set_other marks at p M.Settled M.New other) ∙ e)
+]
+
+pub returns-in_ok-push-clause-kept : goal.returns-in_ok-push-clause-kept
+returns-in_ok-push-clause-kept c =
+    let pushed : c.push.new.self.items ≡ c.args.self.now.order.items ++ c.args.place ∷ [] = search rules in
+    let kept = rw (c.requires.at_start) at c.requires.kept in
+    rw (pushed, c.requires.at_start) (Keeps-alone c.args.next.now c.args.self.now.marks.items c.args.self.now.order.items c.args.place kept
+    c.requires.inside c.requires.last)
