@@ -1,13 +1,16 @@
 -- What the numbers of each entry's name are based on.
-use Rattle.std.specs.Prelude.{◌≡◌, ℕ, List, length, Some}
+use Rattle.std.specs.Prelude.{◌≡◌, ℕ, List, length, ⊤}
+use Rattle.std.specs.Prelude.{Option, Some, None, unwrap_or}
 use Rattle.std.specs.List.{slice_get}
+use Rattle.std.specs.Option.{option_and_then}
 use Rattle.smi_names.specs.chains.Basis.{origin_of}
 use Rattle.smi_names.specs.declared.chains.basis.Basis.{Basis}
 use Rattle.smi_names.specs.meaning.Meaning.{QualifiedName, origin_by}
-use Rattle.smi_names.specs.meaning.Scopes.{content_of}
+use Rattle.smi_names.specs.meaning.Scopes.{content_of, place_in}
 use Rattle.smi_names.specs.meaning.Names.{place_of_name, map_origin}
 use Rattle.smi_names.specs.declared.meaning.entry.Entry.{Entry}
 use Rattle.smi_names.specs.declared.meaning.directory.Directory.{Directory}
+use Rattle.smi_names.specs.declared.meaning.directory.Found.{Found}
 
 abbrev pub place_by : Directory → QualifiedName → ℕ
 place_by d p = place_of_name d.homes d.scopes.items (length d.entries.items) p
@@ -15,6 +18,18 @@ place_by d p = place_of_name d.homes d.scopes.items (length d.entries.items) p
 -- the name of an entry, in its module
 abbrev pub place_of_entry : Entry → QualifiedName
 place_of_entry e = record { home = e.«module».now.name.octets; name = e.name.now }
+
+-- the place of a name of the module at a place, if there is one, for private clauses
+abbrev pub place_of_scope : Directory → Option ℕ → List ℕ → ℕ
+place_of_scope d at x =
+    unwrap_or (option_and_then (λ i. option_and_then (λ scope. place_in scope x)
+    (slice_get d.scopes.items i)) at) (length d.entries.items)
+
+-- a name that was looked up has this place, if one was, for private clauses
+abbrev pub IsFound : Directory → Option Found → Type 0
+IsFound d None = ⊤
+IsFound d (Some f) = (f.at ≡ place_in d.homes f.home.now)
+    × (f.place ≡ place_by d (record { home = f.home.now; name = f.name.now }))
 
 -- each entry's basis says what decides it, by places
 pub record AreBases (d : Directory) (entries : List Entry) (bases : List Basis) : Type 0 where

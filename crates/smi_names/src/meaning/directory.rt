@@ -5,6 +5,7 @@ ghost use Rattle.smi_names.specs.meaning.Meaning.{arcs as arcs_of, origin_by, or
 ghost use Rattle.smi_names.specs.meaning.Scopes.{place_in, content_of};
 ghost use Rattle.smi_names.specs.meaning.Names.{AreEach, module_place, map_origin};
 ghost use Rattle.smi_names.specs.meaning.Directory.{place_by, place_of_entry, AreBases};
+ghost use Rattle.smi_names.specs.meaning.Directory.{IsFound, place_of_scope};
 
 use crate::chains::Basis;
 use crate::hash::NameHash;
@@ -24,6 +25,19 @@ pub(crate) struct Directory<'a> {
     pub(crate) scopes: Vec<NamePlaces<'a>>,
     /// What decides each name of each module.
     pub(crate) entries: Vec<Entry<'a>>,
+}
+
+/// A name of a module that was looked up, with its place.
+#[derive(Clone, Copy, Debug)]
+struct Found<'a> {
+    /// The name of the module.
+    home: &'a [u8],
+    /// The place of the first module of that name.
+    at: Option<usize>,
+    /// The name.
+    name: &'a [u8],
+    /// Its place.
+    place: usize,
 }
 
 /// The place of a name.
@@ -86,7 +100,14 @@ impl<'a> Directory<'a> {
     pub(crate) fn place(&self, home: &'a [u8], name: &'a [u8]) -> usize
         ensures { result ≡ place_by self.now (record { home = home.now; name = name.now }) }
     {
-        let Some(i) = find(&self.homes, home) else {
+        self.place_in(find(&self.homes, home), name)
+    }
+
+    /// The place of a name in the module at a place, if there is one.
+    fn place_in(&self, at: Option<usize>, name: &'a [u8]) -> usize
+        ensures { result ≡ place_of_scope self.now at name.now }
+    {
+        let Some(i) = at else {
             return self.entries.len();
         };
         let Some(scope) = self.scopes.get(i) else {
@@ -98,20 +119,52 @@ impl<'a> Directory<'a> {
         }
     }
 
+    /// The place of a name as [`Directory::place`] returns it. `last` is the name that was looked
+    /// up last: names in a row are mostly of one module, and many of them are one parent.
+    fn place_again(&self, home: &'a [u8], name: &'a [u8], last: &mut Option<Found<'a>>) -> usize
+        requires { IsFound self.now last.old }
+        ensures place { result ≡ place_by self.now (record { home = home.now; name = name.now }) }
+        ensures last { IsFound self.now last.new }
+    {
+        let at = match last {
+            Some(found) if found.home == home => {
+                if found.name == name {
+                    return found.place;
+                }
+                found.at
+            }
+            _ => find(&self.homes, home),
+        };
+        let place = self.place_in(at, name);
+        *last = Some(Found {
+            home,
+            at,
+            name,
+            place,
+        });
+        place
+    }
+
     /// What the numbers of an identifier value are based on.
     fn basis_of_parts(
         &self,
         alloc: Global,
         home: &'a [u8],
         parts: &'a [Part],
+        last: &mut Option<Found<'a>>,
     ) -> Result<Basis, AllocError>
-        ensures { IfOk result (λ basis.
+        requires { IsFound self.now last.old }
+        ensures basis { IfOk result (λ basis.
             origin_of basis ≡ map_origin (place_by self.now) (origin_of_parts home.now parts.now)) }
+        ensures last { IfOk result (λ _. IsFound self.now last.new) }
     {
         match parts {
             [] => Ok(Basis::Nowhere),
             [Part::Name(name), rest @ ..] => match arcs(alloc, rest)? {
-                Some(numbers) => Ok(Basis::After(self.place(home, name.as_bytes()), numbers)),
+                Some(numbers) => {
+                    let place = self.place_again(home, name.as_bytes(), last);
+                    Ok(Basis::After(place, numbers))
+                }
                 None => Ok(Basis::Nowhere),
             },
             _ => match arcs(alloc, parts)? {
@@ -122,20 +175,27 @@ impl<'a> Directory<'a> {
     }
 
     /// What the numbers of an entry's name are based on.
-    fn basis(&self, alloc: Global, entry: &Entry<'a>) -> Result<Basis, AllocError>
-        ensures { IfOk result (λ basis. origin_of basis
+    fn basis(
+        &self,
+        alloc: Global,
+        entry: &Entry<'a>,
+        last: &mut Option<Found<'a>>,
+    ) -> Result<Basis, AllocError>
+        requires { IsFound self.now last.old }
+        ensures basis { IfOk result (λ basis. origin_of basis
             ≡ map_origin (place_by self.now)
             (origin_by (place_of_entry entry.now) (Some (content_of entry.now).decided))) }
+        ensures last { IfOk result (λ _. IsFound self.now last.new) }
     {
         let module = entry.module;
         let home = module.name.as_bytes();
         match entry.decider {
             Decider::Definition(def) => match def.identifier() {
-                Some(parts) => self.basis_of_parts(alloc, home, parts.as_slice()),
+                Some(parts) => self.basis_of_parts(alloc, home, parts.as_slice(), last),
                 None => Ok(Basis::Nowhere),
             },
             Decider::Import(import) => {
-                let place = self.place(import.source.as_bytes(), entry.name);
+                let place = self.place_again(import.source.as_bytes(), entry.name, last);
                 Ok(Basis::After(place, Vec::new(alloc)))
             }
             Decider::Root(number) => {
@@ -151,8 +211,9 @@ impl<'a> Directory<'a> {
         ensures { IfOk result (λ bases. AreBases self.now self.now.entries.items bases.items) }
     {
         let mut bases = Vec::with_capacity(alloc, self.entries.len())?;
+        let mut last = None;
         'entries: for entry in &self.entries {
-            bases.push(self.basis(alloc, entry)?)?;
+            bases.push(self.basis(alloc, entry, &mut last)?)?;
         }
         Ok(bases)
     }

@@ -12,6 +12,8 @@ entries-preserved c =
     let inside = rw list at c.entries-test.true in
     let read = rw list at c.entry-item.is in
     let more : take (i + 1) es ≡ take i es ++ c.entry-item.result ∷ [] = take_more es i c.entry-item.result inside ∙ rw (sym read) refl in
-    let pushed : c.push.new.self.items ≡ c.entries.bases.items ++ c.in_ok-basis.field-0 ∷ [] = search rules in
-    rw (more, pushed) (AreBases-more c.args.self.now
-    (take i es) c.entries.bases.items c.entry-item.result c.in_ok-basis.field-0 c.entries.invariant c.in_ok-basis.ensures)
+    let pushed : c.push.new.self.items ≡ c.entries.bases.items ++ c.in_ok-basis.field-0 ∷ [] = search rules in (
+      rw (more, pushed) (AreBases-more c.args.self.now
+          (take i es) c.entries.bases.items c.entry-item.result c.in_ok-basis.field-0 c.entries.invariant.0 c.in_ok-basis.ensures.basis),
+      c.in_ok-basis.ensures.last,
+    )
