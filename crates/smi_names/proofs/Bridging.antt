@@ -34,28 +34,32 @@ module _ {A : Type 0} (f : A → ℕ) where
   next_some nowhere b e = absurd (cc)
 
   module _ (origin : A → Origin A) (small : ℕ → Origin ℕ) (same : (a : A) → small (f a) ≡ map_origin f (origin a)) where
-    Means-back : {p : ℕ} {o : List ℕ} → HasIdentifier small p o → (a : A) → p ≡ f a → HasIdentifier origin a o
-    Means-back {p} {o} (by_itself e) a is =
-        by_itself (from_numbers (origin a) o (sym (same a) ∙ ap small (sym is) ∙ e))
+    Means-back : {p : ℕ} {o : List ℕ} → HasIdentifier small p o → (a : A) → small p ≡ map_origin f (origin a) → HasIdentifier origin a o
+    Means-back {p} {o} (by_itself e) a is = by_itself (from_numbers (origin a) o (sym is ∙ e))
     Means-back {p} {o} (after_another {b = b} {ns = ns} e m) a is =
-        let r = from_after (origin a) b ns (sym (same a) ∙ ap small (sym is) ∙ e) in
-        after_another r.1 (Means-back m r.0 r.2)
+        let r = from_after (origin a) b ns (sym is ∙ e) in
+        after_another r.1 (Means-back m r.0 (ap small r.2 ∙ same r.0))
 
-    Ends-back : {p : ℕ} → EndsNowhere small p → (a : A) → p ≡ f a → EndsNowhere origin a
-    Ends-back {p} (here e) a is = here (from_nowhere (origin a) (sym (same a) ∙ ap small (sym is) ∙ e))
+    Ends-back : {p : ℕ} → EndsNowhere small p → (a : A) → small p ≡ map_origin f (origin a) → EndsNowhere origin a
+    Ends-back {p} (here e) a is = here (from_nowhere (origin a) (sym is ∙ e))
     Ends-back {p} (further {b = b} {ns = ns} e h) a is =
-        let r = from_after (origin a) b ns (sym (same a) ∙ ap small (sym is) ∙ e) in
-        further r.1 (Ends-back h r.0 r.2)
+        let r = from_after (origin a) b ns (sym is ∙ e) in
+        further r.1 (Ends-back h r.0 (ap small r.2 ∙ same r.0))
 
-    HasEnd-forth : {a : A} → HasEnd (λ b. next_of (origin b)) a → HasEnd (λ q. next_of (small q)) (f a)
-    HasEnd-forth {a} (ends e) = ends (ap next_of (same a) ∙ next_none (origin a) e)
-    HasEnd-forth {a} (leads_on {b = b} e h) = leads_on (ap next_of (same a) ∙ next_some (origin a) b e) (HasEnd-forth h)
+    HasEnd-forth : {a : A} → HasEnd (λ b. next_of (origin b)) a → (p : ℕ) → small p ≡ map_origin f (origin a) → HasEnd (λ q. next_of (small q)) p
+    HasEnd-forth {a} (ends e) p is = ends (ap next_of is ∙ next_none (origin a) e)
+    HasEnd-forth {a} (leads_on {b = b} e h) p is =
+        leads_on (ap next_of is ∙ next_some (origin a) b e) (HasEnd-forth h (f b) (same b))
+
+    -- what a place comes to that has the origin of a name is what the name comes to
+    pub ComesTo-at : (p : ℕ) (a : A) (r : Resolution) → small p ≡ map_origin f (origin a) → ComesTo small p r → ComesTo origin a r
+    ComesTo-at p a (R.Numbers o) is c = (Means-back c.0 a is, c.1)
+    ComesTo-at p a R.Cycle is c = λ h. c (HasEnd-forth h p is)
+    ComesTo-at p a R.Unresolved is c = Ends-back c a is
+    ComesTo-at p a R.TooLong is c = (c.0, Means-back c.1 a is, c.2)
 
     pub ComesTo-back : (a : A) (r : Resolution) → ComesTo small (f a) r → ComesTo origin a r
-    ComesTo-back a (R.Numbers o) c = (Means-back c.0 a refl, c.1)
-    ComesTo-back a R.Cycle c = λ h. c (HasEnd-forth h)
-    ComesTo-back a R.Unresolved c = Ends-back c a refl
-    ComesTo-back a R.TooLong c = (c.0, Means-back c.1 a refl, c.2)
+    ComesTo-back a r c = ComesTo-at (f a) a r (same a) c
 
 -- a thing has one identifier at most
 pub Means-one : {A : Type 0} (origin : A → Origin A) {a : A} {o : List ℕ} → HasIdentifier origin a o → (p : List ℕ) → HasIdentifier origin a p → o ≡ p

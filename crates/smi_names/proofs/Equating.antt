@@ -1,8 +1,8 @@
 -- A name's place has what decides the name, so the chain of places is that of names.
-use Rattle.std.proofs.Common.{◌≡◌, ℕ, zero, suc, ◌+◌, ◌-◌, ◌<◌, ◌≤◌, inl, inr, Bool, true, false, cond, List, [], ◌∷◌, ◌++◌, length, map, unwrap_or}
+use Rattle.std.proofs.Common.{◌≡◌, ℕ, zero, suc, ◌+◌, ◌-◌, ◌<◌, ◌≤◌, ◌==◌, ◌&&◌, inl, inr, Bool, true, false, cond, List, [], ◌∷◌, ◌++◌, length, map, unwrap_or}
 use Rattle.std.proofs.Common.{is_some, MatchOption, Option, Some, None, refl, sym, ap, ◌∙◌, arith}
 use Rattle.std.proofs.lemmas.List.{get_or_past, length-map, length_push}
-use Rattle.std.proofs.lemmas.Bool.{cases_eq, cases_lt}
+use Rattle.std.proofs.lemmas.Bool.{cases_eq, cases_lt, eqb-true}
 use Rattle.std.proofs.lemmas.Option.{slice_get_past, slice_get_within, slice_get_read, get_or_from_slice_get}
 use Rattle.std.specs.List.{slice_get, find, position_from, HoldsAt}
 use Rattle.std.specs.Option.{option_and_then, option_map}
@@ -14,13 +14,13 @@ use Rattle.smi_names.specs.declared.chains.basis.Resolution.{Resolution}
 use Rattle.smi_text.specs.trees.Mark.{same_text}
 use Rattle.smi_text.specs.declared.trees.tree.Module.{Module}
 use Rattle.smi_names.specs.meaning.Meaning.{QualifiedName, Decision, decision, origin, origin_by, origin_in, module_named}
-use Rattle.smi_names.specs.meaning.Scopes.{NamePlaces, content_of, decision_of, place_in, known, decided_as}
-use Rattle.smi_names.specs.meaning.Names.{map_origin}
-use Rattle.smi_names.specs.meaning.Directory.{place_by, place_of_entry, AreBases}
+use Rattle.smi_names.specs.meaning.Scopes.{NamePlaces, content_of, decision_of, place_in, known, decided_as, IsDecided}
+use Rattle.smi_names.specs.meaning.Names.{map_origin, IsSourced}
+use Rattle.smi_names.specs.meaning.Directory.{place_by, place_of_entry, is_entry_of, AreBases}
 use Rattle.smi_names.specs.meaning.Resolved.{IsDirectory, AreResolutions}
 use Rattle.smi_names.specs.declared.meaning.entry.Entry.{Entry}
 use Rattle.smi_names.specs.declared.meaning.directory.Directory.{Directory}
-use Rattle.smi_names.proofs.Bridging.{ComesTo-back, from_nowhere}
+use Rattle.smi_names.proofs.Bridging.{ComesTo-at, ComesTo-back, from_nowhere}
 use Rattle.smi_names.proofs.Knowing.{get-push_at, get_within, same}
 use Rattle.smi_names.proofs.Placing.{get-push, module_found, module_missing}
 
@@ -84,6 +84,11 @@ entry_at ms d dir a = by (place_in d.homes a.home) refl
         let s = get_within d.scopes.items i (omega (arith, slice_get_within ms i found.0 at, dir.named.long)) in
         rw (s.1, found.2) (inner m s.0 (dir.named.each i m s.0 at s.1 a.name) (place_in s.0 a.name) refl)
 
+origin_there : (xs : List Basis) (p : ℕ) (b : Basis) → slice_get xs p ≡ Some b → origin_at xs p ≡ origin_of b
+origin_there [] p b e = absurd (cc)
+origin_there (x ∷ xs) zero b e = let is : x ≡ b = cc in rw is refl
+origin_there (x ∷ xs) (suc p) b e = origin_there xs p b e
+
 -- the origin of a place is that of its name
 pub origins : (ms : List Module) (d : Directory) → IsDirectory ms d → (bs : List Basis) → AreBases d d.entries.items bs → (a : QualifiedName)
     → origin_at bs (place_by d a) ≡ map_origin (place_by d) (origin ms a)
@@ -91,11 +96,6 @@ origins ms d dir bs are a = by (slice_get d.entries.items (place_by d a)) refl
   where
     origin_past : (p : ℕ) → length bs ≤ p → origin_at bs p ≡ nowhere
     origin_past p l = get_or_past (map origin_of bs) p nowhere (omega (arith, length-map bs origin_of))
-
-    origin_there : (xs : List Basis) (p : ℕ) (b : Basis) → slice_get xs p ≡ Some b → origin_at xs p ≡ origin_of b
-    origin_there [] p b e = absurd (cc)
-    origin_there (x ∷ xs) zero b e = let is : x ≡ b = cc in rw is refl
-    origin_there (x ∷ xs) (suc p) b e = origin_there xs p b e
 
     undecided : (r : Option Module) → None ≡ option_and_then (λ m. decided_as m a.name (decision m a.name)) r → origin_in a r ≡ nowhere
     undecided None e = refl
@@ -130,12 +130,27 @@ origins ms d dir bs are a = by (slice_get d.entries.items (place_by d a)) refl
         (rw e at (entry_at ms d dir a)) in
         origin_there bs (place_by d a) b.0 b.1 ∙ are.each (place_by d a) x b.0 e b.1 ∙ ap (map_origin (place_by d)) says
 
+-- the origin of an entry's place is that of the entry's name, where its module is the first of its name
+entry_origin : (ms : List Module) (d : Directory) → IsDirectory ms d → (bs : List Basis) → AreBases d d.entries.items bs → (p : ℕ) (e : Entry)
+    → slice_get d.entries.items p ≡ Some e → module_named ms e.«module».now.name.octets ≡ Some e.«module».now
+    → origin_at bs p ≡ map_origin (place_by d) (origin ms (place_of_entry e))
+entry_origin ms d dir bs are p e at named =
+    let within = slice_get_within d.entries.items p e at in
+    let b = get_within bs p (omega (arith, within, are.long)) in
+    let decided : IsDecided e = rw (get_or_from_slice_get d.entries.items p e e at) at (dir.named.decided p e within) in
+    let from : origin ms (place_of_entry e) ≡ origin_by (place_of_entry e) (Some (content_of e).decided) = rw (named, decided) refl in
+    origin_there bs p b.0 b.1 ∙ are.each p e b.0 at b.1 ∙ ap (map_origin (place_by d)) (sym from)
+
 pub AreResolutions-all : (ms : List Module) (d : Directory) → IsDirectory ms d → (bs : List Basis) → AreBases d d.entries.items bs → (rs : List Resolution)
     → length rs ≡ length bs → EachComesTo (origin_at bs) rs → AreResolutions ms d rs
 AreResolutions-all ms d dir bs are rs long each = record {
   directory = dir;
   comes = λ a r e. ComesTo-back (place_by d) (origin ms) (origin_at bs) (origins ms d dir bs are) a r
       (rw (get_or_from_slice_get rs (place_by d a) r r e) at (each (place_by d a) r (slice_get_within rs (place_by d a) r e)));
+  long = long ∙ are.long;
+  entries = λ p e r at there named. ComesTo-at (place_by d) (origin ms) (origin_at bs) (origins ms d dir bs are) p (place_of_entry e) r
+      (entry_origin ms d dir bs are p e at named)
+      (rw (get_or_from_slice_get rs p r r there) at (each p r (slice_get_within rs p r there)));
   leads_nowhere = λ a e. from_nowhere (place_by d) (origin ms a)
       (sym (origins ms d dir bs are a)
       ∙ get_or_past (map origin_of bs) (place_by d a) nowhere (omega (arith, length-map bs origin_of, past_get rs (place_by d a) e)));
@@ -151,6 +166,38 @@ pub resolved : (ms : List Module) (d : Directory) (rs : List Resolution) → Are
     → slice_get rs (place_by d a) ≡ option_map (λ x. x.now) r → MatchOption r (origin ms a ≡ nowhere) (λ x. ComesTo (origin ms) a x.now)
 resolved ms d rs is a None e = is.leads_nowhere a e
 resolved ms d rs is a (Some x) e = is.comes a x.now e
+
+-- what the entry of a name of the first module of its name resolves to
+pub resolved_entry : (ms : List Module) (d : Directory) (rs : List Resolution) → AreResolutions ms d rs → (p i : ℕ) (m : Module) (x : List ℕ)
+    (r : Option (Bor Resolution)) → slice_get ms i ≡ Some m → module_named ms m.name.octets ≡ Some m
+    → is_entry_of (slice_get d.entries.items p) i x ≡ true → slice_get rs p ≡ option_map (λ y. y.now) r
+    → MatchOption r (origin ms (record { home = m.name.octets; name = x }) ≡ nowhere)
+    (λ y. ComesTo (origin ms) (record { home = m.name.octets; name = x }) y.now)
+resolved_entry ms d rs is p i m x r at named entry got = by (slice_get d.entries.items p) refl entry r got
+  where
+    both_true : (a b : Bool) → (a && b) ≡ true → (a ≡ true) × (b ≡ true)
+    both_true true true e = (refl, refl)
+    both_true true false e = cc
+    both_true false b e = cc
+
+    by : (s : Option Entry) → slice_get d.entries.items p ≡ s → is_entry_of s i x ≡ true → (r : Option (Bor Resolution))
+        → slice_get rs p ≡ option_map (λ y. y.now) r
+        → MatchOption r (origin ms (record { home = m.name.octets; name = x }) ≡ nowhere)
+        (λ y. ComesTo (origin ms) (record { home = m.name.octets; name = x }) y.now)
+    by None there h r got = absurd (cc)
+    by (Some e) there h None got =
+        let within = slice_get_within d.entries.items p e there in
+        let some = get_within rs p (omega (arith, within, is.long)) in
+        let s = some.1 in absurd (cc)
+    by (Some e) there h (Some y) got =
+        let both = both_true (e.source.0 == i) (same_text e.name.now x) h in
+        let place : e.source.0 ≡ i = eqb-true e.source.0 i both.0 in
+        let name : e.name.now ≡ x = same e.name.now x both.1 in
+        let within = slice_get_within d.entries.items p e there in
+        let sourced : IsSourced ms e = rw (get_or_from_slice_get d.entries.items p e e there) at (is.directory.named.sourced p e within) in
+        let found : slice_get ms i ≡ Some e.«module».now = rw place at sourced.0 in
+        let home : e.«module».now ≡ m = cc in
+        rw (home, name) at (is.entries p e y.now there got (rw home named))
 
 pub decided_at : (a : QualifiedName) (s : Option Entry) (r : Option Module)
     → option_map content_of s ≡ option_and_then (λ m. decided_as m a.name (decision m a.name)) r

@@ -1,5 +1,6 @@
 -- Nodes and warnings are added at the end.
-use Rattle.std.proofs.Common.{◌≡◌, ℕ, true, false, List, [], ◌∷◌, ◌++◌, length, Some, None, refl, sym, ap, ◌∙◌, arith, append_assoc}
+use Rattle.std.proofs.Common.{◌≡◌, ℕ, zero, suc, Bool, true, false, cond, is_some, List, [], ◌∷◌, ◌++◌}
+use Rattle.std.proofs.Common.{length, take, Some, None, refl, sym, ap, ◌∙◌, arith, append_assoc}
 use Rattle.std.proofs.lemmas.List.{append-nil, length_push}
 use Rattle.std.specs.List.{slice_get}
 use Rattle.smi_names.specs.chains.Basis.{ComesTo}
@@ -9,7 +10,9 @@ use Rattle.smi_text.specs.declared.trees.tree.Module.{Module}
 use Rattle.smi_text.specs.declared.trees.tree.Def.{Def}
 use Rattle.smi_text.specs.declared.trees.tree.Part.{Part}
 use Rattle.smi_text.specs.trees.Lookup.{identifier_value_of}
-use Rattle.smi_names.specs.meaning.Meaning.{origin}
+use Rattle.smi_text.specs.trees.Mark.{same_text}
+use Rattle.smi_names.specs.meaning.Meaning.{origin, module_named}
+use Rattle.smi_names.proofs.Knowing.{same_itself}
 use Rattle.smi_names.specs.nodes.Imports.{import_warnings}
 use Rattle.smi_names.specs.nodes.Nodes.{Node, nodes_by, warnings_by, roots, none, more, is_loaded, left_out, loaded, none_yet, then_module}
 use Rattle.smi_names.specs.nodes.Gathered.{node_from, nodes_of, sources_by, oids_by, IsSourceOf}
@@ -147,3 +150,22 @@ IsSourceOf-definition ms i k m d at there = λ o. rw (at, there) refl
 pub AreGathered-roots : (ms : List Module) (g : Gathered) → g.sources.items ≡ S.Root 0 ∷ (S.Root 1 ∷ (S.Root 2 ∷ []))
     → g.oids.items ≡ (0 ∷ []) ∷ ((1 ∷ []) ∷ ((2 ∷ []) ∷ [])) → g.warnings.items ≡ [] → AreGathered ms g []
 AreGathered-roots ms g s o w = record { ns = []; long = rw (s, o) refl; nodes = rw (s, o) refl; loads = rw w none_yet }
+
+-- a module is the first of its name, if none before it has it
+pub named_first : (ms : List Module) (i : ℕ) (m : Module) → slice_get ms i ≡ Some m → is_loaded (take i ms) m.name.octets ≡ false
+    → module_named ms m.name.octets ≡ Some m
+named_first [] i m at absent = absurd (cc)
+named_first (x ∷ ms) zero m at absent =
+    let is : x ≡ m = cc in
+    let passes : same_text x.name.octets m.name.octets ≡ true = rw is (same_itself m.name.octets) in
+    rw passes at_first
+  where
+    at_first : Some x ≡ Some m
+    at_first = at
+named_first (x ∷ ms) (suc i) m at absent = by (same_text x.name.octets m.name.octets) absent (λ e. named_first ms i m at e)
+  where
+    by : (b : Bool) → is_some (cond b (Some x) (module_named (take i ms) m.name.octets)) ≡ false
+        → (is_loaded (take i ms) m.name.octets ≡ false → module_named ms m.name.octets ≡ Some m)
+        → cond b (Some x) (module_named ms m.name.octets) ≡ Some m
+    by true e f = cc
+    by false e f = f e

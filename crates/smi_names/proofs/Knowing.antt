@@ -1,6 +1,6 @@
 -- What scopes know, as names are entered.
 use Rattle.std.proofs.Common.{◌≡◌, ℕ, zero, suc, ◌<◌, ◌≤◌, ◌||◌, Bool, true, false, cond, List, [], ◌∷◌, ◌++◌, length, Option, Some, None, unwrap_or, refl}
-use Rattle.std.proofs.Common.{sym, ap, ◌∙◌, arith, append_assoc}
+use Rattle.std.proofs.Common.{sym, ap, ◌∙◌, arith, append_assoc, get_or}
 use Rattle.std.proofs.lemmas.List.{append-nil, length_push}
 use Rattle.std.proofs.lemmas.List.Elements.{All-nil, All-push, All-append}
 use Rattle.std.proofs.lemmas.Slice.Eq.{bytes_eq-Decides}
@@ -14,6 +14,9 @@ use Rattle.smi_names.specs.declared.meaning.entry.Entry.{Entry}
 
 pub same : (xs ys : List ℕ) → same_text xs ys ≡ true → xs ≡ ys
 same xs ys e = (bytes_eq-Decides xs ys).0 e
+
+pub same_itself : (xs : List ℕ) → same_text xs xs ≡ true
+same_itself xs = (bytes_eq-Decides xs xs).1 refl
 
 pub find-append : {A : Type 0} (p : A → Bool) (xs ys : List A) → find p (xs ++ ys) ≡ or_else (find p xs) (find p ys)
 find-append p [] ys = refl
@@ -92,6 +95,7 @@ module _ (old : List Entry) (scope : NamePlaces) (m : Module) (i : ℕ) (within 
     added = [];
     grown = sym (append-nil old);
     of = All-nil (IsEntryOf m i);
+    there = All-nil (λ e. known old new e.name.now ≡ Some (content_of e));
     within = λ x q at. within x q (sym (stays x) ∙ at);
   }
     where
@@ -119,6 +123,8 @@ module _ (old : List Entry) (scope : NamePlaces) (m : Module) (i : ℕ) (within 
     added = e ∷ [];
     grown = refl;
     of = All-push (IsEntryOf m i) [] e (All-nil (IsEntryOf m i)) is_of;
+    there = All-push (λ d. known (old ++ e ∷ []) new d.name.now ≡ Some (content_of d)) [] e
+        (All-nil (λ d. known (old ++ e ∷ []) new d.name.now ≡ Some (content_of d))) itself;
     within = λ x p at. inside x p (same_text name x) (sym (places x) ∙ at);
   }
     where
@@ -134,6 +140,11 @@ module _ (old : List Entry) (scope : NamePlaces) (m : Module) (i : ℕ) (within 
           let says : content_of e ≡ record { home = m; name = x; decided = (content_of e).decided } = rw (sym home, sym is, sym named) refl in
           rw (at, before, get-push_at old e) (ap (λ v. Some v) says)
 
+      itself : known (old ++ e ∷ []) new e.name.now ≡ Some (content_of e)
+      itself =
+          let at : place_in new e.name.now ≡ Some (length old) = places e.name.now ∙ rw (named, same_itself name) refl in
+          rw (at, get-push_at old e) refl
+
       inside : (x : List ℕ) (p : ℕ) (b : Bool) → cond b (Some (length old)) (place_in scope x) ≡ Some p → p < length (old ++ e ∷ [])
       inside x p true at = let is : length old ≡ p = cc in omega (arith, length_push old e)
       inside x p false at = omega (arith, within x p at, length_push old e)
@@ -145,6 +156,8 @@ KnowsMore-then e0 e1 e2 s0 s1 s2 m i f g a b = record {
   added = a.added ++ b.added;
   grown = b.grown ∙ rw a.grown append_assoc_of;
   of = All-append (IsEntryOf m i) a.added b.added a.of b.of;
+  there = All-append (λ e. known e2 s2 e.name.now ≡ Some (content_of e)) a.added b.added
+      (λ k e l. b.knows (get_or a.added k e).name.now ∙ rw (a.there k e l) refl) b.there;
   within = b.within;
 }
   where
@@ -164,5 +177,6 @@ KnowsMore-same e0 e1 s0 s1 m i f g a h = record {
   added = a.added;
   grown = a.grown;
   of = a.of;
+  there = a.there;
   within = a.within;
 }

@@ -4,6 +4,7 @@ pub mod Ending
 pub mod Bridging
 pub mod Equating
 pub mod Knowing
+pub mod Deciding
 pub mod Placing
 pub mod Single
 pub mod Gathering

@@ -10,7 +10,7 @@ use Rattle.smi_text.specs.trees.Lookup.{part_number}
 use Rattle.smi_text.specs.declared.trees.tree.Module.{Module}
 use Rattle.smi_text.specs.declared.trees.tree.Part.{Part}
 use Rattle.smi_names.specs.meaning.Meaning.{or_else, both, arcs, decision}
-use Rattle.smi_names.specs.meaning.Scopes.{NamePlaces, known, decided_as, IsWithin, IsEntryOf}
+use Rattle.smi_names.specs.meaning.Scopes.{NamePlaces, known, decided_as, IsWithin, IsEntryOf, IsDecided}
 use Rattle.smi_names.specs.meaning.Names.{module_place, IsSourced, AreEach}
 use Rattle.smi_names.specs.declared.meaning.entry.Entry.{Entry}
 use Rattle.smi_names.proofs.Knowing.{get-push_at, known-append}
@@ -77,8 +77,8 @@ AreSourced-more ms old added m i last sourced of =
 -- one module more
 pub AreEach-more : (ms : List Module) (scopes : List NamePlaces) (old added : List Entry) (m : Module) (i : ℕ) (scope : NamePlaces) → AreEach ms scopes old
     → ((x : List ℕ) → known (old ++ added) scope x ≡ decided_as m x (decision m x)) → IsWithin (old ++ added) scope
-    → i ≡ length ms → All (IsEntryOf m i) added → AreEach (ms ++ m ∷ []) (scopes ++ scope ∷ []) (old ++ added)
-AreEach-more ms scopes old added m at_end scope are knows within last of = record {
+    → i ≡ length ms → All (IsEntryOf m i) added → All IsDecided added → AreEach (ms ++ m ∷ []) (scopes ++ scope ∷ []) (old ++ added)
+AreEach-more ms scopes old added m at_end scope are knows within last of decided = record {
   long = length_push scopes scope ∙ rw are.long (sym (length_push ms m));
   each = λ i n s em es x. elim (cases_eq i (length ms)) [
     | inl end ↦
@@ -95,6 +95,7 @@ AreEach-more ms scopes old added m at_end scope are knows within last of = recor
     | inr before ↦ omega (arith, are.within i s (sym (get-push scopes i scope before) ∙ es) x p at, length-append old added)
   ];
   sourced = AreSourced-more ms old added m at_end last are.sourced of;
+  decided = All-append IsDecided old added are.decided decided;
 }
 
 pub arcs-push : (ps : List Part) (p : Part) (ns : List ℕ) (n : ℕ) → arcs ps ≡ Some ns → part_number p ≡ Some n → arcs (ps ++ p ∷ []) ≡ Some (ns ++ n ∷ [])

@@ -1,6 +1,7 @@
 -- What the numbers of each entry's name are based on.
-use Rattle.std.specs.Prelude.{◌≡◌, ℕ, List, length, ⊤}
+use Rattle.std.specs.Prelude.{◌≡◌, ℕ, ◌==◌, ◌&&◌, Bool, false, List, length, ⊤}
 use Rattle.std.specs.Prelude.{Option, Some, None, unwrap_or}
+use Rattle.smi_text.specs.trees.Mark.{same_text}
 use Rattle.std.specs.List.{slice_get}
 use Rattle.std.specs.Option.{option_and_then}
 use Rattle.smi_names.specs.chains.Basis.{origin_of}
@@ -30,6 +31,11 @@ abbrev pub IsFound : Directory → Option Found → Type 0
 IsFound d None = ⊤
 IsFound d (Some f) = (f.at ≡ place_in d.homes f.home.now)
     × (f.place ≡ place_by d (record { home = f.home.now; name = f.name.now }))
+
+-- the entry is that of a name of the module at a place, for private clauses
+abbrev pub is_entry_of : Option Entry → ℕ → List ℕ → Bool
+is_entry_of None i x = false
+is_entry_of (Some e) i x = (e.source.0 == i) && same_text e.name.now x
 
 -- each entry's basis says what decides it, by places
 pub record AreBases (d : Directory) (entries : List Entry) (bases : List Basis) : Type 0 where

@@ -7,7 +7,7 @@ use Rattle.smi_text.specs.trees.Mark.{same_text}
 use Rattle.smi_text.specs.declared.trees.tree.Module.{Module}
 use Rattle.smi_names.specs.meaning.Meaning.{QualifiedName, decision}
 use Rattle.smi_names.specs.meaning.Scopes.{NamePlaces, place_in, known, decided_as, IsWithin}
-use Rattle.smi_names.specs.meaning.Scopes.{IsDefinedAt}
+use Rattle.smi_names.specs.meaning.Scopes.{IsDefinedAt, IsDecided}
 use Rattle.smi_names.specs.declared.meaning.entry.Entry.{Entry}
 
 -- the place of a name of a module; a name without a meaning has the place past the last
@@ -40,3 +40,4 @@ pub record AreEach (ms : List Module) (scopes : List NamePlaces) (entries : List
   pub within : (i : ℕ) (scope : NamePlaces) → slice_get scopes i ≡ Some scope
       → IsWithin entries scope
   pub sourced : All (IsSourced ms) entries
+  pub decided : All IsDecided entries

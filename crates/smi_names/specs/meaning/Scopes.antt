@@ -7,7 +7,7 @@ use Rattle.indexmap.specs.IndexMap.{IndexMap, get}
 use Rattle.smi_text.specs.declared.trees.tree.Module.{Module}
 use Rattle.smi_text.specs.declared.trees.tree.Def.{Def}
 use Rattle.smi_names.specs.declared.hash.NameHash.{NameHash}
-use Rattle.smi_names.specs.meaning.Meaning.{Decision, defined, imported, root, or_else}
+use Rattle.smi_names.specs.meaning.Meaning.{Decision, defined, imported, root, or_else, decision}
 use Rattle.smi_names.specs.declared.meaning.entry.Decider.{Decider}
 use Rattle.smi_names.specs.declared.meaning.entry.Decider.TheVariants as D
 use Rattle.smi_names.specs.declared.meaning.entry.Entry.{Entry}
@@ -54,6 +54,10 @@ IsDefinedAt e = (d : Def) → decision_of e.decider ≡ defined d
 abbrev pub IsEntryOf : Module → ℕ → Entry → Type 0
 IsEntryOf m i e = (e.«module».now ≡ m) × (e.source.0 ≡ i) × IsDefinedAt e
 
+-- what an entry says is what decides its name in its module
+abbrev pub IsDecided : Entry → Type 0
+IsDecided e = decision e.«module».now e.name.now ≡ Some (decision_of e.decider)
+
 -- the scope knows more: where it knew nothing, it has what `more` decides; for private clauses
 pub record KnowsMore (old : List Entry) (before : NamePlaces) (new : List Entry)
     (scope : NamePlaces) (m : Module) (i : ℕ) (more : List ℕ
@@ -63,4 +67,5 @@ pub record KnowsMore (old : List Entry) (before : NamePlaces) (new : List Entry)
   pub added : List Entry
   pub grown : new ≡ old ++ added
   pub of : All (IsEntryOf m i) added
+  pub there : All (λ e. known new scope e.name.now ≡ Some (content_of e)) added
   pub within : IsWithin new scope

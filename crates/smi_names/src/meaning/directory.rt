@@ -5,7 +5,8 @@ ghost use Rattle.smi_names.specs.meaning.Meaning.{arcs as arcs_of, origin_by, or
 ghost use Rattle.smi_names.specs.meaning.Scopes.{place_in, content_of};
 ghost use Rattle.smi_names.specs.meaning.Names.{AreEach, module_place, map_origin};
 ghost use Rattle.smi_names.specs.meaning.Directory.{place_by, place_of_entry, AreBases};
-ghost use Rattle.smi_names.specs.meaning.Directory.{IsFound, place_of_scope};
+ghost use Rattle.smi_names.specs.meaning.Directory.{IsFound, is_entry_of, place_of_scope};
+ghost use Rattle.std.specs.List.{slice_get};
 
 use crate::chains::Basis;
 use crate::hash::NameHash;
@@ -116,6 +117,16 @@ impl<'a> Directory<'a> {
         match find(scope, name) {
             Some(place) => place,
             None => self.entries.len(),
+        }
+    }
+
+    /// Whether the entry at a place is that of a name of the module at a place.
+    pub(crate) fn is_entry(&self, place: usize, home: usize, name: &[u8]) -> bool
+        ensures { result ≡ is_entry_of (slice_get self.now.entries.items place) home name.now }
+    {
+        match self.entries.get(place) {
+            Some(entry) => entry.source.0 == home && entry.name == name,
+            None => false,
         }
     }
 

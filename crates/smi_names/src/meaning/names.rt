@@ -1,5 +1,6 @@
 //! The names of modules, resolved.
-ghost use Rattle.std.specs.Prelude.{◌≡◌, IfOk, MatchOption, is_some, option_map};
+ghost use Rattle.std.specs.Prelude.{◌≡◌, IfOk, MatchOption, Some, is_some, option_map};
+ghost use Rattle.std.specs.List.{slice_get};
 ghost use Rattle.std.specs.Option.{option_and_then};
 ghost use Rattle.smi_names.specs.chains.Chain.{nowhere};
 ghost use Rattle.smi_names.specs.chains.Basis.{ComesTo};
@@ -70,6 +71,34 @@ impl<'a> Names<'a> {
             (λ resolution. ComesTo (origin self.now) qualified resolution.now) }
     {
         let place = self.directory.place(home, name);
+        self.resolutions.get(place)
+    }
+
+    /// The same for the name of a definition of the first module of a name, which is at a place.
+    ///
+    /// `from` is a guess: the place of the name of the module's first definition. Those of the
+    /// others follow it, but for names that stand twice. It is changed to what is found, and
+    /// whatever it is, the result is the same.
+    pub(crate) fn resolution_of(
+        &self,
+        source: (usize, usize),
+        module: &'a Module,
+        name: &'a [u8],
+        from: &mut usize,
+    ) -> Option<&Resolution>
+        requires there { slice_get self.now source.0 ≡ Some «module».now }
+        requires first { module_named self.now «module».now.name.octets ≡ Some «module».now }
+        ensures { let qualified : QualifiedName
+            = record { home = «module».now.name.octets; name = name.now } in
+            MatchOption result (origin self.now qualified ≡ nowhere)
+            (λ resolution. ComesTo (origin self.now) qualified resolution.now) }
+    {
+        let guess = from.saturating_add(source.1);
+        if self.directory.is_entry(guess, source.0, name) {
+            return self.resolutions.get(guess);
+        }
+        let place = self.directory.place(module.name.as_bytes(), name);
+        *from = place.saturating_sub(source.1);
         self.resolutions.get(place)
     }
 

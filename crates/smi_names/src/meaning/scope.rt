@@ -8,7 +8,7 @@ ghost use Rattle.smi_names.specs.meaning.Meaning.{defined, imported, root, decis
 ghost use Rattle.smi_names.specs.meaning.Meaning as meaning;
 ghost use Rattle.smi_names.specs.declared.meaning.entry.Entry.{Entry};
 ghost use Rattle.smi_names.specs.meaning.Scopes.{decision_of, decided_as, known, IsWithin};
-ghost use Rattle.smi_names.specs.meaning.Scopes.{IsDefinedAt};
+ghost use Rattle.smi_names.specs.meaning.Scopes.{IsDefinedAt, IsDecided};
 ghost use Rattle.smi_names.specs.meaning.Scopes.{IsEntryOf, KnowsMore, place_in};
 
 use crate::hash::NameHash;
@@ -208,7 +208,7 @@ pub(crate) fn scope<'a>(
     ensures within { IfOk result (λ scope. IsWithin entries.new.items scope) }
     ensures grown { IfOk result (λ _. (added : List Entry)
         × (entries.new.items ≡ entries.old.items ++ added)
-        × All (IsEntryOf «module».now place) added) }
+        × All (IsEntryOf «module».now place) added × All IsDecided added) }
 {
     let mut scope = IndexMap::with_hasher(alloc, hash);
     enter_definitions(entries, &mut scope, module, place)?;

@@ -1,11 +1,12 @@
 //! The nodes and warnings that modules give, in order of loading.
 ghost use Rattle.std.specs.Prelude.{◌≡◌, List, [], ◌∷◌, length, take, Some, OnOk, IfOk, slice_get};
 ghost use Rattle.std.specs.Prelude.{false};
+ghost use Rattle.smi_names.specs.meaning.Meaning.{module_named};
 ghost use Rattle.smi_names.specs.nodes.Nodes.{is_loaded};
 ghost use Rattle.smi_names.specs.nodes.Gathered.{GrowsByDefinition, AddsDefinition};
 ghost use Rattle.smi_names.specs.nodes.Gathered.{AddsDefinitions};
 ghost use Rattle.smi_names.specs.nodes.Gathered.{AreGathered};
-ghost use Rattle.smi_names.specs.nodes.Gathered.{AddsModule, IsSourceOf};
+ghost use Rattle.smi_names.specs.nodes.Gathered.{AddsModule};
 ghost use Rattle.smi_text.specs.declared.trees.tree.Module.{Module};
 
 use crate::chains::Resolution;
@@ -83,24 +84,29 @@ impl Gathered {
         Ok(())
     }
 
-    /// Adds what a definition gives, by what its name resolves to in its module.
+    /// Adds what the definition at a place gives, by what its name resolves to in its module.
+    /// `from` is a guess of where the module's names begin.
     fn add_definition<'a>(
         &mut self,
         alloc: Global,
         names: &Names<'a>,
         module: &'a Module,
         def: &'a Def,
-        source: Source,
+        at: (usize, usize),
+        from: &mut usize,
     ) -> Result<(), AllocError>
         requires long { length self.old.sources.items ≡ length self.old.oids.items }
-        requires there { IsSourceOf names.now source «module».now def.now }
+        requires there { slice_get names.now at.0 ≡ Some «module».now }
+        requires defined { slice_get «module».now.defs at.1 ≡ Some def.now }
+        requires first { module_named names.now «module».now.name.octets ≡ Some «module».now }
         ensures added { OnOk result
             (AddsDefinition names.now self.old self.new «module».now def.now) }
     {
         if def.identifier().is_none() {
             return Ok(());
         }
-        match names.resolution(module.name.as_bytes(), def.label.as_bytes()) {
+        let source = Source::Definition(at.0, at.1);
+        match names.resolution_of(at, module, def.label.as_bytes(), from) {
             Some(resolution) => self.add(alloc, module, def, source, resolution),
             None => self.add(alloc, module, def, source, &Resolution::Unresolved),
         }
@@ -116,13 +122,14 @@ impl Gathered {
     ) -> Result<(), AllocError>
         requires long { length self.old.sources.items ≡ length self.old.oids.items }
         requires there { slice_get names.now place ≡ Some «module».now }
+        requires first { module_named names.now «module».now.name.octets ≡ Some «module».now }
         ensures added { OnOk result
             (AddsDefinitions names.now self.old self.new «module».now «module».now.defs) }
     {
         let defs = module.defs.as_slice();
+        let mut from = 0;
         'defs: for (k, def) in defs.iter().enumerate() {
-            let source = Source::Definition(place, k);
-            self.add_definition(alloc, names, module, def, source)?;
+            self.add_definition(alloc, names, module, def, (place, k), &mut from)?;
         }
         Ok(())
     }

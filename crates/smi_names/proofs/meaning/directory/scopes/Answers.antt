@@ -16,4 +16,4 @@ modules-preserved c =
     let knows = rw grown.1 at c.in_ok-scope.ensures.decided in
     let within = rw grown.1 at c.in_ok-scope.ensures.within in
     rw (more, pushed, grown.1) (AreEach-more (take i ms) c.modules.scopes.items c.modules.entries.items grown.0 c.index-modules-i.result i
-    c.in_ok-scope.scope c.modules.invariant knows within (sym (length-take-le i ms (omega arith))) grown.2)
+    c.in_ok-scope.scope c.modules.invariant knows within (sym (length-take-le i ms (omega arith))) grown.2 grown.3)

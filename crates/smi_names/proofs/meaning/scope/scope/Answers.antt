@@ -2,6 +2,7 @@
 use Rattle.std.proofs.Common.{◌≡◌, None, refl, ◌∙◌}
 use Rattle.smi_names.specs.meaning.Scopes.{place_in}
 use Rattle.smi_names.proofs.Knowing.{KnowsMore-then}
+use Rattle.smi_names.proofs.Deciding.{decided_all}
 use Rattle.smi_names.proofs.meaning.scope.scope.Goals as goal
 
 pub returns-clause-decided : goal.returns-clause-decided
@@ -18,4 +19,4 @@ returns-clause-grown c =
     let first = c.in_ok-enter_definitions.ensures.entered in
     let second = rw (c.import_clauses.ensures) at c.in_ok-enter_imports.ensures.entered in
     let all = KnowsMore-then _ _ _ _ _ _ _ _ _ _ (KnowsMore-then _ _ _ _ _ _ _ _ _ _ first second) c.in_ok-enter_roots.ensures.entered in
-    (all.added, all.grown, all.of)
+    (all.added, all.grown, all.of, decided_all _ _ _ _ _ _ _ all (λ x. rw c.with_hasher-scope.ensures.empty refl) (λ x. refl))

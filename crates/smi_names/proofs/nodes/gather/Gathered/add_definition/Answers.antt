@@ -12,8 +12,9 @@ use Rattle.smi_text.specs.trees.Lookup.{identifier_value_of}
 use Rattle.smi_names.specs.meaning.Meaning.{origin}
 use Rattle.smi_names.specs.nodes.Gathered.{GrowsByDefinition, AddsDefinition, IsSourceOf}
 use Rattle.smi_names.specs.declared.nodes.source.Source.{Source}
+use Rattle.smi_names.specs.declared.nodes.source.Source.TheVariants as S
 use Rattle.smi_names.specs.declared.nodes.gather.Gathered.{Gathered}
-use Rattle.smi_names.proofs.Gathering.{AddsDefinition-by, AddsDefinition-none}
+use Rattle.smi_names.proofs.Gathering.{AddsDefinition-by, AddsDefinition-none, IsSourceOf-definition}
 use Rattle.smi_names.proofs.nodes.gather.Gathered.add_definition.Goals as goal
 
 none_of : (r : Option (List Part)) → is_some r ≡ false → r ≡ None
@@ -45,10 +46,12 @@ returns-in-Some c =
     let v = some_of (identifier_value_of c.args.def.now.kind) some in
     let comes : ComesTo (origin c.args.names.now)
     (record { home = c.args.module.now.name.octets; name = c.args.def.now.label.octets }) c.in-Some.resolution.now =
-    rw (sym c.as_bytes.ensures.octets, sym c.as_bytes-2.ensures.octets) c.in-Some.ensures in
+    rw (sym c.as_bytes.ensures.octets) c.in-Some.ensures in
+    let there = IsSourceOf-definition c.args.names.now c.args.at.0 c.args.at.1 c.args.module.now c.args.def.now c.requires.there c.requires.defined in
     record {
-      added = added c.args.names.now c.args.self.now c.add.new.self c.args.source c.args.module.now c.args.def.now c.in-Some.resolution.now v.0 c.add.result
-          c.requires.long c.requires.there v.1 comes c.add.ensures.added;
+      added = added c.args.names.now c.args.self.now c.add.new.self (S.Definition c.args.at.0 c.args.at.1)
+          c.args.module.now c.args.def.now c.in-Some.resolution.now v.0 c.add.result
+          c.requires.long there v.1 comes c.add.ensures.added;
     }
 
 pub returns-in-None : goal.returns-in-None
@@ -56,8 +59,10 @@ returns-in-None c =
     let some : is_some (identifier_value_of c.args.def.now.kind) ≡ true = search rules in
     let v = some_of (identifier_value_of c.args.def.now.kind) some in
     let comes : ComesTo (origin c.args.names.now) (record { home = c.args.module.now.name.octets; name = c.args.def.now.label.octets }) R.Unresolved =
-    rw (sym c.as_bytes.ensures.octets, sym c.as_bytes-2.ensures.octets) (here c.in-None.ensures) in
+    rw (sym c.as_bytes.ensures.octets) (here c.in-None.ensures) in
+    let there = IsSourceOf-definition c.args.names.now c.args.at.0 c.args.at.1 c.args.module.now c.args.def.now c.requires.there c.requires.defined in
     record {
-      added = added c.args.names.now c.args.self.now c.add-in-None.new.self c.args.source c.args.module.now c.args.def.now R.Unresolved v.0 c.add-in-None.result
-          c.requires.long c.requires.there v.1 comes c.add-in-None.ensures.added;
+      added = added c.args.names.now c.args.self.now c.add-in-None.new.self (S.Definition c.args.at.0 c.args.at.1)
+          c.args.module.now c.args.def.now R.Unresolved v.0 c.add-in-None.result
+          c.requires.long there v.1 comes c.add-in-None.ensures.added;
     }

@@ -2,18 +2,18 @@
 use Rattle.std.proofs.Common.{rules, ◌≡◌, ◌+◌, ◌<◌, [], ◌∷◌, ◌++◌, length, take, refl, sym, ◌∙◌}
 use Rattle.std.proofs.lemmas.List.{take_more}
 use Rattle.std.proofs.lemmas.Option.{slice_get_read}
-use Rattle.smi_names.proofs.Gathering.{AddsDefinitions-none, AddsDefinitions-more, IsSourceOf-definition}
+use Rattle.smi_names.proofs.Gathering.{AddsDefinitions-none, AddsDefinitions-more}
 use Rattle.smi_names.proofs.nodes.gather.Gathered.add_definitions.Goals as goal
 
 pub defs-init : goal.defs-init
 defs-init c = AddsDefinitions-none c.args.names.now c.args.self.now c.args.module.now c.requires.long
 
-pub add_definition-requires-clause-there : goal.add_definition-requires-clause-there
-add_definition-requires-clause-there c =
+pub add_definition-requires-clause-defined : goal.add_definition-requires-clause-defined
+add_definition-requires-clause-defined c =
     let list : c.as_slice-defs.result.now ≡ c.args.module.now.defs = c.as_slice-defs.ensures in
     let inside : c.defs.k < length c.as_slice-defs.result.now = search rules in
     let read = slice_get_read c.as_slice-defs.result.now (length c.as_slice-defs.result.now) c.defs.k c.index-defs-k.result refl inside c.index-defs-k.is in
-    IsSourceOf-definition c.args.names.now c.args.place c.defs.k c.args.module.now c.index-defs-k.result c.requires.there (rw list at read)
+    rw list at read
 
 pub defs-preserved : goal.defs-preserved
 defs-preserved c =

@@ -1,7 +1,7 @@
 -- Warnings of imports alone are added, and then what the definitions give.
 use Rattle.std.proofs.Common.{refl, take}
 use Rattle.smi_names.specs.declared.nodes.gather.Gathered.{Gathered}
-use Rattle.smi_names.proofs.Gathering.{AddsModule-loaded}
+use Rattle.smi_names.proofs.Gathering.{AddsModule-loaded, named_first}
 use Rattle.smi_names.proofs.nodes.gather.Gathered.add_loaded.Goals as goal
 
 pub returns : goal.returns
@@ -12,3 +12,8 @@ returns c =
       added = AddsModule-loaded c.args.names.now old warned c.add_definitions.new.self (take c.args.place c.args.names.now) c.args.module.now c.requires.long
           c.requires.first refl refl c.in_ok-add_import_warnings.ensures c.in_ok-add_definitions.ensures.added;
     }
+
+-- no module before it has its name
+pub add_definitions-requires-clause-first : goal.add_definitions-requires-clause-first
+add_definitions-requires-clause-first c =
+    named_first c.args.names.now c.args.place c.args.module.now c.requires.there c.requires.first

@@ -1,0 +1,24 @@
+-- Entries say what decides their names.
+use Rattle.std.proofs.Common.{◌≡◌, ℕ, List, get_or, All, Option, Some, None, refl, sym, ap, ◌∙◌}
+use Rattle.smi_text.specs.declared.trees.tree.Module.{Module}
+use Rattle.smi_names.specs.meaning.Meaning.{Decision, decision}
+use Rattle.smi_names.specs.meaning.Scopes.{NamePlaces, content_of, decision_of, place_in, known, decided_as, IsDecided, KnowsMore}
+use Rattle.smi_names.specs.declared.meaning.entry.Entry.{Entry}
+
+-- what is known of an entry's name decides it
+decided_by : (m : Module) (e : Entry) (r : Option Decision) → e.module.now ≡ m → decided_as m e.name.now r ≡ Some (content_of e)
+    → r ≡ Some (decision_of e.decider)
+decided_by m e None home says = cc
+decided_by m e (Some v) home says =
+    let is : record { home = m; name = e.name.now; decided = v } ≡ content_of e = cc in ap (λ c. Some c.decided) is
+
+-- entries that are added to none
+pub decided_all : (e0 e1 : List Entry) (s0 s1 : NamePlaces) (m : Module) (i : ℕ) (f : List ℕ → Option Decision) → (a : KnowsMore e0 s0 e1 s1 m i f)
+    → ((x : List ℕ) → place_in s0 x ≡ None) → ((x : List ℕ) → f x ≡ decision m x) → All IsDecided a.added
+decided_all e0 e1 s0 s1 m i f a empty same = λ k e l.
+    let is = a.of k e l in
+    let x = (get_or a.added k e).name.now in
+    let unknown : known e0 s0 (get_or a.added k e).name.now ≡ None = rw (empty (get_or a.added k e).name.now) refl in
+    let says : decided_as m (get_or a.added k e).name.now (f (get_or a.added k e).name.now) ≡ Some (content_of (get_or a.added k e)) =
+    sym (a.knows x ∙ rw unknown refl) ∙ a.there k e l in
+    rw is.0 (sym (same x) ∙ decided_by m (get_or a.added k e) (f x) is.0 says)
