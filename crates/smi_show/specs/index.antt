@@ -1,3 +1,4 @@
 pub mod Index
 pub mod Pieces
 pub mod Reading
+pub mod Digits

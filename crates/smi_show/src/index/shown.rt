@@ -1,7 +1,7 @@
 //! The text of an instance: numbers with a dot before each, or the values of an index with strings
 //! in quotes.
 ghost use Rattle.std.specs.Prelude.{◌≡◌, ◌≢◌, ℕ, ◌<◌, ◌≤◌, ◌^◌, ◌∷◌, ◌++◌, [], List, All, length};
-ghost use Rattle.std.specs.Prelude.{codes, decimal, IsTrue, Option, Some, None, true};
+ghost use Rattle.std.specs.Prelude.{codes, decimal, IsTrue, Option, Some, None, true, take, ◌+◌};
 ghost use Rattle.std.specs.List.{flat_map, list_all};
 ghost use Rattle.snmp_io.specs.draft.Draft.{Adds};
 ghost use Rattle.smi_show.specs.declared.index.part.IndexPart.{IndexPart};
@@ -10,17 +10,26 @@ ghost use Rattle.smi_show.specs.index.Pieces.{IsPiece, as_numbers, as_text, inde
 ghost use Rattle.smi_show.specs.index.Pieces.{is_quotable, is_shown_text};
 ghost use Rattle.smi_show.specs.index.Pieces.{piece_numbers};
 ghost use Rattle.smi_show.specs.index.Pieces.{shown_pieces, value_pieces};
+ghost use Rattle.smi_show.specs.index.Digits.{three_digits};
 
 use crate::index::{Extent, IndexPart, read_part, reads};
 use snmp_io::Draft;
+
+/// The room where numbers are gathered, in octets: that of eleven numbers at least.
+const ROOM: usize = 128;
 
 /// Appends numbers, with a dot before each.
 pub fn numbers_text(numbers: &[u32], draft: &mut Draft)
     ensures { Adds draft.old (shown_pieces (as_numbers numbers.now)) draft.new }
 {
+    // Gathered, and appended at once: most names are shorter than the room.
+    let mut room = [0; ROOM];
+    let mut filled: usize = 0;
     'numbers: for number in numbers {
-        number_text(u64::from(*number), draft);
+        filled = with_room(&room, filled, draft);
+        filled = put_number(&mut room, filled, *number);
     }
+    draft.octets(&room[..filled]);
 }
 
 /// Appends the numbers after a column by its index: strings whose octets may stand between quotes
@@ -100,6 +109,118 @@ fn number_text(number: u64, draft: &mut Draft)
         draft.octet(b'.');
         draft.number(number);
     }
+}
+
+/// Appends what is gathered, if there may be no room for one more number, and returns how much of
+/// the room is filled then.
+#[inline(always)]
+fn with_room(room: &[u8; ROOM], end: usize, draft: &mut Draft) -> usize
+    requires { end ≤ 128 }
+    ensures room { result ≤ 117 }
+    ensures moved { (text : List ℕ) × Adds draft.old text draft.new
+        × (text ++ take result room.now ≡ take end room.now) }
+{
+    if end <= ROOM - 11 {
+        return end;
+    }
+    draft.octets(&room[..end]);
+    0
+}
+
+/// Puts a number after a dot behind what is gathered, and returns how much of the room is filled
+/// then.
+#[inline(always)]
+fn put_number(room: &mut [u8; ROOM], filled: usize, number: u32) -> usize
+    requires { filled ≤ 117 }
+    ensures within { result ≤ filled + 11 }
+    ensures text { take result room.new ≡ take filled room.old ++ (codes "." ++ decimal number) }
+{
+    if number < 1000 {
+        put_short(room, filled, number)
+    } else {
+        put_long(room, filled, number)
+    }
+}
+
+/// The same, for a number of up to ten digits.
+#[inline(never)]
+fn put_long(room: &mut [u8; ROOM], filled: usize, number: u32) -> usize
+    requires room { filled ≤ 117 }
+    requires long { 1000 ≤ number }
+    ensures within { result ≤ filled + 11 }
+    ensures text { take result room.new ≡ take filled room.old ++ (codes "." ++ decimal number) }
+{
+    if number < 1_000_000 {
+        return put_medium(room, filled, number);
+    }
+    let front = put_medium(room, filled, number / 1_000_000);
+    let more = put_three(room, front, number / 1000 % 1000);
+    put_three(room, more, number % 1000)
+}
+
+/// The same, for a number of up to six digits.
+fn put_medium(room: &mut [u8; ROOM], filled: usize, number: u32) -> usize
+    requires room { filled ≤ 117 }
+    requires medium { number < 1000000 }
+    ensures within { result ≤ filled + 7 }
+    ensures few { number < 10000 → result ≤ filled + 5 }
+    ensures text { take result room.new ≡ take filled room.old ++ (codes "." ++ decimal number) }
+{
+    if number < 1000 {
+        return put_short(room, filled, number);
+    }
+    let front = put_short(room, filled, number / 1000);
+    put_three(room, front, number % 1000)
+}
+
+/// The same, for a number of up to three digits.
+#[inline(always)]
+fn put_short(room: &mut [u8; ROOM], filled: usize, number: u32) -> usize
+    requires room { filled ≤ 117 }
+    requires short { number < 1000 }
+    ensures within { result ≤ filled + 4 }
+    ensures one { number < 10 → result ≤ filled + 2 }
+    ensures text { take result room.new ≡ take filled room.old ++ (codes "." ++ decimal number) }
+{
+    put(room, filled, b'.');
+    if number < 10 {
+        put(room, filled + 1, b'0' + number as u8);
+        return filled + 2;
+    }
+    let ones = b'0' + (number % 10) as u8;
+    let tens = number / 10;
+    if tens < 10 {
+        put(room, filled + 1, b'0' + tens as u8);
+        put(room, filled + 2, ones);
+        return filled + 3;
+    }
+    put(room, filled + 1, b'0' + (tens / 10) as u8);
+    put(room, filled + 2, b'0' + (tens % 10) as u8);
+    put(room, filled + 3, ones);
+    filled + 4
+}
+
+/// Puts the last three digits of a longer number behind what is gathered.
+#[inline(always)]
+fn put_three(room: &mut [u8; ROOM], filled: usize, number: u32) -> usize
+    requires room { filled ≤ 125 }
+    requires three { number < 1000 }
+    ensures within { result ≡ filled + 3 }
+    ensures text { take result room.new ≡ take filled room.old ++ three_digits number }
+{
+    put(room, filled, b'0' + (number / 100) as u8);
+    put(room, filled + 1, b'0' + (number / 10 % 10) as u8);
+    put(room, filled + 2, b'0' + (number % 10) as u8);
+    filled + 3
+}
+
+/// Puts an octet at a place.
+#[inline(always)]
+fn put(room: &mut [u8; ROOM], place: usize, octet: u8)
+    requires { place < 128 }
+    ensures { take (place + 1) room.new ≡ take place room.old ++ octet ∷ [] }
+{
+    room[place] = octet;
 }
 
 /// A string between quotes, after a dot: double quotes if a length counts its octets, otherwise

@@ -1,7 +1,13 @@
-use Rattle.std.proofs.Common.{take}
+use Rattle.std.proofs.Common.{◌≡◌, ◌≤◌, ◌++◌, ℕ, List, take}
 use Rattle.snmp_io.specs.draft.Draft.{Grows}
 use Rattle.smi_show.specs.index.Pieces.{as_numbers, shown_pieces}
 use Rattle.smi_show.proofs.index.shown.numbers_text.Given as goal
 
+-- what is appended, with what is gathered, is the text of the numbers so far
 abbrev pub invariant-numbers : goal.invariant-numbers
-invariant-numbers l = Grows l.initial.draft (shown_pieces (as_numbers (take l.number-index l.numbers))) l.draft
+invariant-numbers l = record {
+  done : List ℕ;
+  within : l.filled ≤ 128;
+  grows : Grows l.initial.draft done l.draft;
+  text : done ++ take l.filled l.room ≡ shown_pieces (as_numbers (take l.number-index l.numbers));
+}
