@@ -50,7 +50,7 @@ next_value parts i left value rest ahead low front h =
     }
 
 -- the numbers of pieces
-numbers_of_numbers : (numbers : List ℕ) → flat_map piece_numbers (as_numbers numbers) ≡ numbers
+pub numbers_of_numbers : (numbers : List ℕ) → flat_map piece_numbers (as_numbers numbers) ≡ numbers
 numbers_of_numbers [] = refl
 numbers_of_numbers (n ∷ more) = ap (λ (ns : List ℕ). n ∷ ns) (numbers_of_numbers more)
 

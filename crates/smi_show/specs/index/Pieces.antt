@@ -1,6 +1,7 @@
 -- The instance part of a name as text: pieces, each after a dot. A piece is a number, or a text in
 -- quotes: double ones stand for its length and its octets, single ones for its octets alone.
-use Rattle.std.specs.Prelude.{◌≡◌, ◌≢◌, ℕ, ◌<◌, ◌^◌, Bool, not, ◌&&◌, ◌||◌, ◌==◌, nat_le, ◌⊎◌}
+use Rattle.std.specs.Prelude.{◌≡◌, ◌≢◌, ℕ, ◌<◌, ◌^◌, Bool, true, false}
+use Rattle.std.specs.Prelude.{not, ◌&&◌, ◌||◌, ◌==◌, nat_le, ◌⊎◌}
 use Rattle.std.specs.Prelude.{List, [], ◌∷◌, ◌++◌, length, map, decimal, codes, Option, Some, None}
 use Rattle.std.specs.Prelude.{if◌then◌else◌, IsTrue}
 use Rattle.std.specs.List.{flat_map, list_all}
@@ -83,6 +84,15 @@ value_pieces Address value = as_numbers value
 value_pieces (Octets extent) value = as_numbers (extent_numbers extent value)
 value_pieces Identifier value = as_numbers (length value ∷ value)
 value_pieces ImpliedIdentifier value = as_numbers value
+
+-- a part whose values are never shown as texts, for private clauses
+abbrev pub is_plain : IndexPart → Bool
+is_plain Number = true
+is_plain Address = true
+is_plain (Text extent) = false
+is_plain (Octets extent) = true
+is_plain Identifier = true
+is_plain ImpliedIdentifier = true
 
 abbrev pub index_pieces : List IndexPart → List (List ℕ) → List Piece
 index_pieces [] values = []

@@ -7,7 +7,7 @@ ghost use Rattle.snmp_io.specs.draft.Draft.{Adds};
 ghost use Rattle.smi_show.specs.declared.index.part.IndexPart.{IndexPart};
 ghost use Rattle.smi_show.specs.index.Reading.{instance_pieces, values_of};
 ghost use Rattle.smi_show.specs.index.Pieces.{IsPiece, as_numbers, as_text, index_pieces};
-ghost use Rattle.smi_show.specs.index.Pieces.{is_quotable, is_shown_text};
+ghost use Rattle.smi_show.specs.index.Pieces.{is_plain, is_quotable, is_shown_text};
 ghost use Rattle.smi_show.specs.index.Pieces.{piece_numbers};
 ghost use Rattle.smi_show.specs.index.Pieces.{shown_pieces, value_pieces};
 ghost use Rattle.smi_show.specs.index.Digits.{three_digits};
@@ -39,7 +39,10 @@ pub fn index_text(parts: &[IndexPart], numbers: &[u32], draft: &mut Draft)
     ensures { let pieces = instance_pieces (Some parts.now) numbers.now in
         Adds draft.old (shown_pieces pieces) draft.new }
 {
-    if reads(parts, numbers) {
+    // Where no part may be shown as a text, nothing has to be read.
+    if are_plain(parts) {
+        numbers_text(numbers, draft);
+    } else if reads(parts, numbers) {
         values_text(parts, numbers, draft);
     } else {
         numbers_text(numbers, draft);
@@ -56,6 +59,27 @@ pub fn pieces_stand_for_numbers()
     ensures each { (index : Option (List IndexPart)) (numbers : List ℕ)
         → All (λ n. n < 2 ^ 32) numbers → All IsPiece (instance_pieces index numbers) }
 {}
+
+/// Whether all parts of an index are shown as numbers, whatever their values.
+fn are_plain(parts: &[IndexPart]) -> bool
+    ensures { result ≡ list_all is_plain parts.now }
+{
+    parts.iter().all(|part| is_plain(*part))
+}
+
+/// Whether a part of an index is shown as numbers, whatever its value.
+fn is_plain(part: IndexPart) -> bool
+    ensures { result ≡ is_plain part }
+{
+    match part {
+        IndexPart::Text(_) => false,
+        IndexPart::Number
+        | IndexPart::Address
+        | IndexPart::Octets(_)
+        | IndexPart::Identifier
+        | IndexPart::ImpliedIdentifier => true,
+    }
+}
 
 /// The values that the parts of an index read, one after the other.
 fn values_text(parts: &[IndexPart], numbers: &[u32], draft: &mut Draft)
