@@ -1,4 +1,5 @@
 pub mod Line
+pub mod Found
 pub mod index
 pub mod name
 pub mod details

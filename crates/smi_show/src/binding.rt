@@ -1,18 +1,19 @@
 //! The value of a binding, and its line.
-ghost use Rattle.std.specs.Prelude.{◌≡◌, ◌≢◌, ℕ, List, ◌++◌, codes, Option, OnOk, OnErr};
-ghost use Rattle.std.specs.Prelude.{false, option_map};
+ghost use Rattle.std.specs.Prelude.{◌≡◌, ℕ, List, ◌++◌, codes, Option, OnOk, OnErr};
+ghost use Rattle.std.specs.Prelude.{option_map};
+ghost use Rattle.std.specs.Option.{option_copied};
 ghost use Rattle.snmp_io.specs.draft.Draft.{Adds};
 ghost use Rattle.snmp_wire.specs.ber.Value.{Datum, datum};
 ghost use Rattle.smi_value.specs.Value.{ShowsValue};
 ghost use Rattle.smi_value.specs.declared.letters.letters.Letters.{Letters};
 ghost use Rattle.smi_value.specs.Syntax.{ObjectSyntax};
-ghost use Rattle.smi_value.specs.declared.letters.letters.NameForm.TheVariants as form;
 ghost use Rattle.smi_show.specs.name.Naming.{Naming};
 ghost use Rattle.smi_show.specs.name.Standing.{standing_of};
+ghost use Rattle.smi_show.specs.Found.{IsFound};
 ghost use Rattle.smi_show.specs.Line.{IsLine, IsValueText, front_text, names_by, separator};
 
-use crate::name::{Node, name_by_node, name_text};
-use crate::{Near, ShowTree};
+use crate::name::{Node, name_by_node, name_text, numeric};
+use crate::{Found, Near, ShowTree};
 use smi_value::{
     Letters, NameForm, TypeForm, ValueSyntax, append_identifier_word, append_value,
     one_value_by_names,
@@ -38,7 +39,8 @@ pub fn value_text<T: ShowTree>(
     ensures unchanged_on_error { OnErr result (out.new.items ≡ out.old.items) }
 {
     let mut draft = Draft::after(out);
-    append_shown(tree, letters, tree.syntax(name), value, &mut draft);
+    let syntax = tree.syntax(name);
+    append_shown(tree, letters, syntax.as_ref(), value, &mut draft);
     draft.finish(out)
 }
 
@@ -76,8 +78,14 @@ pub fn line_near<T: ShowTree>(
         × (out.new.items ≡ out.old.items ++ text)) }
     ensures unchanged_on_error { OnErr result (out.new.items ≡ out.old.items) }
 {
+    let (node, syntax) = tree.deepest_with_syntax(name, near);
+    let found = Found {
+        node,
+        syntax,
+        below: None,
+    };
     let mut draft = Draft::after(out);
-    append_line(tree, letters, name, value, near, &mut draft);
+    append_line(tree, letters, name, &found, value, &mut draft);
     draft.finish(out)
 }
 
@@ -105,20 +113,21 @@ pub fn one_line()
     one_value();
 }
 
-/// The line of a binding.
-fn append_line<T: ShowTree>(
+/// The line of a binding, by what the tree finds for its name.
+pub(crate) fn append_line<T: ShowTree>(
     tree: &T,
     letters: &Letters,
     name: &Oid,
+    found: &Found<'_>,
     value: &ValueRef<'_>,
-    near: &mut Near,
     draft: &mut Draft,
 )
+    requires { IsFound (T.naming tree.now) (T.syntax_at tree.now) name.now found.now }
     ensures { let syntax = T.syntax_at tree.now name.now in (text : List ℕ)
         × IsLine (T.naming tree.now) letters.now syntax name.now (datum value.now) text
         × Adds draft.old text draft.new }
 {
-    append_parts(tree, letters, name, value, near, draft);
+    append_parts(tree, letters, name, found, value, draft);
     draft.octets(b"\n");
 }
 
@@ -127,79 +136,60 @@ fn append_parts<T: ShowTree>(
     tree: &T,
     letters: &Letters,
     name: &Oid,
+    found: &Found<'_>,
     value: &ValueRef<'_>,
-    near: &mut Near,
     draft: &mut Draft,
 )
+    requires { IsFound (T.naming tree.now) (T.syntax_at tree.now) name.now found.now }
     ensures { let names = names_by (T.naming tree.now) letters.now in
         let front = front_text letters.now (names name.now) in (text : List ℕ)
         × ShowsValue names letters.now (T.syntax_at tree.now name.now) (datum value.now) text
         × Adds draft.old (front ++ text) draft.new }
 {
-    if letters.value_alone || letters.names == NameForm::Numeric {
-        append_front(tree, letters, name, draft);
-        append_shown(tree, letters, tree.syntax(name), value, draft);
-    } else {
-        append_by_node(tree, letters, name, value, near, draft);
-    }
+    append_front(tree, letters, name, found.node, draft);
+    append_shown(tree, letters, found.syntax.as_ref(), value, draft);
 }
 
-/// The name and the value, by one search of the tree for the name's node and the value's syntax.
-// A function of its own, since it clears room for both, which a name in numbers doesn't need.
-#[inline(never)]
-fn append_by_node<T: ShowTree>(
-    tree: &T,
-    letters: &Letters,
-    name: &Oid,
-    value: &ValueRef<'_>,
-    near: &mut Near,
-    draft: &mut Draft,
-)
-    requires before { letters.now.value_alone ≡ false }
-    requires named { letters.now.names ≢ form.Numeric }
-    ensures { let names = names_by (T.naming tree.now) letters.now in
-        let front = front_text letters.now (names name.now) in (text : List ℕ)
-        × ShowsValue names letters.now (T.syntax_at tree.now name.now) (datum value.now) text
-        × Adds draft.old (front ++ text) draft.new }
-{
-    let (node, syntax) = tree.deepest_with_syntax(name, near);
-    append_named(tree, letters, name, node, draft);
-    append_shown(tree, letters, syntax, value, draft);
-}
-
-/// The name by its node, and what stands between it and the value.
-fn append_named<T: ShowTree>(
+/// The name and what stands between it and the value, unless only the value is shown.
+fn append_front<T: ShowTree>(
     tree: &T,
     letters: &Letters,
     name: &Oid,
     node: Option<Node<'_>>,
     draft: &mut Draft,
 )
-    requires before { letters.now.value_alone ≡ false }
-    requires named { letters.now.names ≢ form.Numeric }
-    requires node { option_map standing_of node ≡ (T.naming tree.now).deepest name.now }
-    ensures { let shown = names_by (T.naming tree.now) letters.now name.now in
-        Adds draft.old (front_text letters.now shown) draft.new }
-{
-    name_by_node(
-        tree,
-        letters.names,
-        letters.numeric_index,
-        name,
-        node,
-        draft,
-    );
-    append_separator(letters.types, draft);
-}
-
-/// The name and what stands between it and the value, unless only the value is shown.
-fn append_front<T: ShowTree>(tree: &T, letters: &Letters, name: &Oid, draft: &mut Draft)
+    requires { option_map standing_of node ≡ (T.naming tree.now).deepest name.now }
     ensures { let shown = names_by (T.naming tree.now) letters.now name.now in
         Adds draft.old (front_text letters.now shown) draft.new }
 {
     if !letters.value_alone {
-        name_text(tree, letters.names, letters.numeric_index, name, draft);
+        append_name(tree, letters, name, node, draft);
         append_separator(letters.types, draft);
+    }
+}
+
+/// The name, by its node where it isn't shown in numbers.
+fn append_name<T: ShowTree>(
+    tree: &T,
+    letters: &Letters,
+    name: &Oid,
+    node: Option<Node<'_>>,
+    draft: &mut Draft,
+)
+    requires { option_map standing_of node ≡ (T.naming tree.now).deepest name.now }
+    ensures { Adds draft.old (names_by (T.naming tree.now) letters.now name.now) draft.new }
+{
+    if letters.names == NameForm::Numeric {
+        numeric(name, draft);
+    } else {
+        name_by_node(
+            tree,
+            letters.names,
+            letters.numeric_index,
+            name,
+            node,
+            draft,
+        );
     }
 }
 
@@ -217,12 +207,12 @@ fn append_separator(types: TypeForm, draft: &mut Draft)
 fn append_shown<T: ShowTree>(
     tree: &T,
     letters: &Letters,
-    syntax: Option<ValueSyntax<'_>>,
+    syntax: Option<&ValueSyntax<'_>>,
     value: &ValueRef<'_>,
     draft: &mut Draft,
 )
     ensures { let names = names_by (T.naming tree.now) letters.now in (text : List ℕ)
-        × ShowsValue names letters.now syntax.entry (datum value.now) text
+        × ShowsValue names letters.now (option_copied syntax.entry) (datum value.now) text
         × Adds draft.old text draft.new }
 {
     match value {
@@ -230,6 +220,6 @@ fn append_shown<T: ShowTree>(
             append_identifier_word(draft, letters);
             name_text(tree, letters.names, letters.numeric_index, oid, draft);
         }
-        _ => append_value(draft, letters, syntax.as_ref(), value),
+        _ => append_value(draft, letters, syntax, value),
     }
 }

@@ -24,6 +24,7 @@ mod index;
 mod name;
 mod text;
 mod tree;
+mod writer;
 
 pub use crate::details::DetailTree;
 pub use crate::index::{Extent, IndexPart};
@@ -34,4 +35,5 @@ pub use crate::name::{
 pub use binding::{line, line_near, one_line, one_value, value_text};
 pub use smi_value::{Letters, NameForm};
 pub use text::{detail, name_text};
-pub use tree::{Near, ShowTree};
+pub use tree::{Found, Near, ShowTree};
+pub use writer::LineWriter;

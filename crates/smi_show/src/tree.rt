@@ -2,6 +2,7 @@
 ghost use Rattle.std.specs.Prelude.{◌≡◌, List, ℕ, Option, option_map};
 ghost use Rattle.smi_value.specs.Syntax.{ObjectSyntax};
 ghost use Rattle.smi_show.specs.name.Standing.{standing_of};
+ghost use Rattle.smi_show.specs.Found.{IsFound, IsFoundBelow};
 
 use crate::details::DetailTree;
 use crate::name::Node;
@@ -23,6 +24,18 @@ impl Near {
     }
 }
 
+/// What a tree finds for an identifier.
+#[derive(Drop)]
+pub struct Found<'a> {
+    /// The node that stands for the longest beginning of the identifier.
+    pub node: Option<Node<'a>>,
+    /// The syntax of that node, if it is an object whose type is known.
+    pub syntax: Option<ValueSyntax<'a>>,
+    /// The identifier below which all identifiers have this node and this syntax, if the tree says
+    /// so of one.
+    pub below: Option<&'a Oid>,
+}
+
 /// A tree of nodes that knows the syntax of objects.
 pub trait ShowTree: DetailTree {
     ghost syntax_at: { Self → List ℕ → Option ObjectSyntax };
@@ -40,4 +53,17 @@ pub trait ShowTree: DetailTree {
     ) -> (Option<Node<'_>>, Option<ValueSyntax<'_>>)
         ensures node { option_map standing_of result.0 ≡ (Self.naming self.now).deepest oid.now }
         ensures syntax { result.1 ≡ syntax_at self.now oid.now };
+
+    /// What `deepest_with_syntax` returns, and the identifier below which it returns the same.
+    fn found_for(&self, oid: &Oid, near: &mut Near) -> Found<'_>
+        ensures found { IsFound (Self.naming self.now) (syntax_at self.now) oid.now result }
+        ensures below { IsFoundBelow (Self.naming self.now) (syntax_at self.now) result }
+    {
+        let (node, syntax) = self.deepest_with_syntax(oid, near);
+        Found {
+            node,
+            syntax,
+            below: None,
+        }
+    }
 }

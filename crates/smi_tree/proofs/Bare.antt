@@ -1,14 +1,15 @@
 -- The tree of no modules: what is found among the three roots.
 use Rattle.std.proofs.Common.{◌≡◌, ◌≢◌, ℕ, zero, suc, ◌<◌, ◌≤◌, Bool, true, false, cond, ◌&&◌}
 use Rattle.std.proofs.Common.{List, [], ◌∷◌, ◌++◌, length, take, get_or, slice_index_or}
-use Rattle.std.proofs.Common.{Option, Some, None, refl, sym, ap, arith, nat_eq}
+use Rattle.std.proofs.Common.{Option, Some, None, MatchOption, IfSome, refl, sym, ap, ◌∙◌, arith, nat_eq}
+use Rattle.snmp_oid.specs.Identifier.{IsBelow}
 use Rattle.std.proofs.lemmas.Bool.{ne_eqb}
 use Rattle.std.specs.List.{slice_get}
 use Rattle.std.specs.Option.{option_and_then}
 use Rattle.smi_text.specs.trees.Mark.{same_text}
 use Rattle.smi_tree.specs.branches.Standing.{place_of, IsDeepestAt, HasNoBeginning}
 use Rattle.smi_names.specs.meaning.Meaning.{or_else, root_label}
-use Rattle.smi_show.specs.name.Naming.{LabelLeadsTo, IsSound}
+use Rattle.smi_show.specs.name.Naming.{LabelLeadsTo, IsSound, Standing}
 use Rattle.smi_names.specs.nodes.Nodes.{Node, roots, none_yet}
 use Rattle.smi_tree.specs.types.Types.{Facts}
 use Rattle.smi_show.specs.declared.index.part.IndexPart.{IndexPart}
@@ -20,7 +21,7 @@ use Rattle.smi_tree.specs.Shown.{IsSyntaxOf, shown_at}
 use Rattle.smi_tree.specs.Tree.{IsTree}
 use Rattle.smi_tree.specs.Naming.{home_name, standing_of_longest, oid_of, naming_of}
 use Rattle.smi_tree.specs.Naming.{nearest_definition, nearest_syntax}
-use Rattle.smi_tree.specs.Bare.{bare}
+use Rattle.smi_tree.specs.Bare.{bare, IsRootOf}
 use Rattle.smi_tree.proofs.Childhood.{child-is}
 use Rattle.smi_tree.proofs.Reaching.{longest-some, longest-none}
 use Rattle.smi_tree.proofs.Sounding.{stands, root-case, root-word, leads-alike}
@@ -166,3 +167,14 @@ sound-bare = record {
       leads-alike (naming_of bare) (home_name s.n.home) node.home s.n.label node.label s.n.oid (take node.depth o) (sym s.home) (sym s.label) s.oid
       (root-leads-to s.place s.n s.there);
 }
+
+-- all identifiers below a root have it as their longest beginning
+pub holds_below_root : {X : Type 0} (value : X → List ℕ) (r : Option X) (o : List ℕ) → IfSome r (λ root. IsRootOf o (value root))
+    → (Holds : List ℕ → Type 0)
+    → ((p : List ℕ) → option_and_then (standing_of_longest bare) (longest roots o) ≡ option_and_then (standing_of_longest bare) (longest roots p) → Holds p)
+    → MatchOption r (Unit {0}) (λ root. (p : List ℕ) → IsBelow p (value root) → Holds p)
+holds_below_root value None o is Holds holds = tt
+holds_below_root value (Some root) o (n, rest, low, is, starts) Holds holds = λ p below.
+    let Seen : List ℕ → Option Standing = λ q. option_and_then (standing_of_longest bare) (longest roots q) in
+    let begins : p ≡ n ∷ below.0 = below.2 ∙ ap (λ t. t ++ below.0) is in
+    holds p (ap Seen starts ∙ sym (first-root n rest low) ∙ first-root n below.0 low ∙ ap Seen (sym begins))

@@ -19,6 +19,7 @@ pub mod Stating
 pub mod Following
 pub mod Reading
 pub mod Keeping
+pub mod Lasting
 pub mod Refining
 pub mod Bounds
 pub mod Lists

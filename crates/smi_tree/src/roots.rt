@@ -1,13 +1,13 @@
 //! The tree of names where no modules are loaded.
-ghost use Rattle.std.specs.Prelude.{◌≡◌, [], ◌∷◌};
+ghost use Rattle.std.specs.Prelude.{◌≡◌, [], ◌∷◌, IfSome};
 ghost use Rattle.std.specs.Option.{option_copied};
 ghost use Rattle.smi_names.specs.nodes.Nodes.{roots};
-ghost use Rattle.smi_tree.specs.Bare.{bare};
+ghost use Rattle.smi_tree.specs.Bare.{IsRootOf, bare};
 ghost use Rattle.smi_tree.specs.Naming.{oid_of};
 
 use crate::naming::root_place;
 use smi_names::root_label;
-use smi_show::{DetailTree, NameTree, Near, Node, ShowTree};
+use smi_show::{DetailTree, Found, NameTree, Near, Node, ShowTree};
 use smi_text::Def;
 use smi_value::ValueSyntax;
 use snmp_oid::Oid;
@@ -52,6 +52,16 @@ impl Roots {
     {
         Roots {
             oids: [root_oid(0), root_oid(1), root_oid(2)],
+        }
+    }
+
+    /// The root with the first number of an identifier.
+    fn root_of(&self, oid: &Oid) -> Option<&Oid>
+        ensures { IfSome result (λ root. IsRootOf oid.now root.now) }
+    {
+        match oid.as_slice() {
+            [number, ..] => self.oids.get(*number as usize),
+            [] => None,
         }
     }
 
@@ -138,5 +148,13 @@ impl ShowTree for Roots {
         _near: &mut Near,
     ) -> (Option<Node<'_>>, Option<ValueSyntax<'_>>) {
         (self.deepest(oid), self.syntax(oid))
+    }
+
+    fn found_for(&self, oid: &Oid, _near: &mut Near) -> Found<'_> {
+        Found {
+            node: self.deepest(oid),
+            syntax: None,
+            below: self.root_of(oid),
+        }
     }
 }

@@ -1,6 +1,6 @@
 //! The tree as values are shown by it.
 use crate::tree::Tree;
-use smi_show::{Near, Node, ShowTree};
+use smi_show::{Found, Near, Node, ShowTree};
 use smi_value::ValueSyntax;
 use snmp_oid::Oid;
 
@@ -24,6 +24,21 @@ impl ShowTree for Tree {
         match self.deepest_near(oid, near) {
             Some(deepest) => (Some(self.seen(deepest)), self.value_syntax(deepest.place)),
             None => (None, None),
+        }
+    }
+
+    fn found_for(&self, oid: &Oid, near: &mut Near) -> Found<'_> {
+        match self.deepest_near(oid, near) {
+            Some(deepest) => Found {
+                node: Some(self.seen(deepest)),
+                syntax: self.value_syntax(deepest.place),
+                below: self.last_on_way(deepest.place, near),
+            },
+            None => Found {
+                node: None,
+                syntax: None,
+                below: None,
+            },
         }
     }
 }

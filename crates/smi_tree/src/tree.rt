@@ -1,11 +1,12 @@
 //! The tree of names, and what it is asked for.
 ghost use Rattle.std.specs.Prelude.{◌≡◌, ◌<◌, ℕ, List, length, Some, None, IfOk, MatchOption};
+ghost use Rattle.std.specs.Prelude.{IfSome};
 ghost use Rattle.std.specs.Prelude.{is_some, option_map, slice_index_or};
 ghost use Rattle.std.specs.Option.{option_and_then, option_copied};
 ghost use Rattle.std.specs.List.{slice_get};
 ghost use Rattle.smi_tree.specs.branches.Children.{places_left};
 ghost use Rattle.smi_tree.specs.branches.Standing.{AreChildren, HasNoBeginning, IsDeepestAt};
-ghost use Rattle.smi_tree.specs.branches.Standing.{oid_at};
+ghost use Rattle.smi_tree.specs.branches.Standing.{HasNoneBelow, oid_at};
 ghost use Rattle.smi_names.specs.meaning.Meaning.{module_named};
 ghost use Rattle.smi_tree.specs.Nodes.{IsFirstChild, is_labelled, oids_of, place_anywhere};
 ghost use Rattle.smi_tree.specs.Nodes.{place_in_module};
@@ -275,6 +276,15 @@ impl Tree {
             deepest.depth) }
     {
         self.identifiers.deepest_near(oid, &mut near.place)
+    }
+
+    /// The identifier of a node, if no node is below it. `near` is what `deepest_near` left when it
+    /// found the node.
+    pub(crate) fn last_on_way(&self, id: NodeId, near: &Near) -> Option<&Oid>
+        ensures at { IfSome result (λ o. o.now ≡ oid_at (oids_of self.now.nodes) id) }
+        ensures last { IfSome result (λ o. HasNoneBelow (oids_of self.now.nodes) o.now) }
+    {
+        self.identifiers.last_on_way(id, near.place)
     }
 
     /// The nodes that stand for the identifiers one number longer, in order of that number.

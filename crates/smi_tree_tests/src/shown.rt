@@ -1,11 +1,12 @@
 //! Names by the tree of the tiny modules. `tests/program.sh` tests what else is shown by modules.
 
 use crate::reading::{TINY, oid};
-use smi_show::{Letters, name_text, resolve};
+use smi_show::{Letters, LineWriter, line, name_text, resolve};
 use smi_show_tests::names::random_oid;
 use smi_text::parse_modules;
 use smi_tree::{NameHash, Tree};
 use snmp_oid::Oid;
+use snmp_wire::ValueRef;
 use std::alloc::Global;
 use std::process::Abort;
 use std::test::Fail;
@@ -92,4 +93,50 @@ fn is_read_back(alloc: Global, tree: &Tree, letters: &str, name: &Oid) -> Result
     let mut text = Vec::new(alloc);
     name_text(tree, &letters_of(letters)?, name, &mut text)?;
     Ok(means(tree, &text, name))
+}
+
+#[test]
+fn a_writer_shows_each_line_as_it_is_alone(rt: HostRuntime) -> Result<(), Fail> {
+    let tree = tiny(rt.alloc())?;
+    for letters in ["", "b", "f", "n", "q", "v"] {
+        assert_written(&rt, rt.alloc(), &tree, &letters_of(letters)?)?;
+    }
+    Ok(())
+}
+
+/// Checks the lines of names, a few of one column after the other, and the column itself.
+fn assert_written(
+    rt: &impl Abort,
+    alloc: Global,
+    tree: &Tree,
+    letters: &Letters,
+) -> Result<(), Fail> {
+    let mut writer = LineWriter::new(tree);
+    for round in 0..100 {
+        for front in &FRONTS {
+            let front = oid(front)?;
+            assert!(rt; is_written_alike(alloc, tree, &mut writer, letters, &front)?);
+            for seed in 0..round % 4 {
+                let name = random_oid(front.as_slice(), round * 4 + seed);
+                assert!(rt; is_written_alike(alloc, tree, &mut writer, letters, &name)?);
+            }
+        }
+    }
+    Ok(())
+}
+
+/// Whether a writer's next line is that which the name has alone.
+fn is_written_alike(
+    alloc: Global,
+    tree: &Tree,
+    writer: &mut LineWriter<'_, Tree>,
+    letters: &Letters,
+    name: &Oid,
+) -> Result<bool, Fail> {
+    let value = ValueRef::Integer(1);
+    let mut alone = Vec::new(alloc);
+    line(tree, letters, name, &value, &mut alone)?;
+    let mut written = Vec::new(alloc);
+    writer.line(letters, name, &value, &mut written)?;
+    Ok(written.as_slice() == alone.as_slice())
 }

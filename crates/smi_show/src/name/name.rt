@@ -59,8 +59,8 @@ pub fn name_by_node<T: NameTree>(
     }
 }
 
-/// Each number after a dot; a dot alone if there are no numbers.
-fn numeric(oid: &Oid, draft: &mut Draft)
+/// Appends each number after a dot; a dot alone if there are no numbers.
+pub fn numeric(oid: &Oid, draft: &mut Draft)
     ensures { Adds draft.old (numeric_text oid.now) draft.new }
 {
     match oid.as_slice() {

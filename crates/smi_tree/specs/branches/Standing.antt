@@ -21,6 +21,7 @@ use Rattle.std.specs.List.{position_from, filter_map}
 use Rattle.std.specs.Cmp.Lexicographic.{pointwise}
 use Rattle.std.specs.List.Sorted.{IsStrictlySortedBy}
 use Rattle.std.specs.Ordering.{nat_cmp}
+use Rattle.snmp_oid.specs.Identifier.{IsBelow}
 
 -- the first place of the identifier
 abbrev pub place_of : List (List ℕ) → List ℕ → Option ℕ
@@ -40,6 +41,10 @@ pub record IsDeepestAt (oids : List (List ℕ)) (o : List ℕ) (place depth : �
 -- no beginning of the identifier is in the list
 abbrev pub HasNoBeginning : List (List ℕ) → List ℕ → Type 0
 HasNoBeginning oids o = (j : ℕ) → j ≤ length o → place_of oids (take j o) ≡ None
+
+-- no identifier below this one is in the list
+abbrev pub HasNoneBelow : List (List ℕ) → List ℕ → Type 0
+HasNoneBelow oids o = (p : List ℕ) → IsBelow p o → place_of oids p ≡ None
 
 -- the places of the identifiers that are one number longer than o, in the order of that number:
 -- those that stand for their identifiers

@@ -5,7 +5,7 @@ ghost use Rattle.std.specs.Ordering.{nat_cmp};
 ghost use Rattle.std.specs.BTreeMap.{get};
 ghost use Rattle.std.specs.Iterator.{YieldsFirst, item_count};
 ghost use Rattle.smi_tree.specs.branches.Standing.{place_of, oid_at, IsDeepestAt, HasNoBeginning};
-ghost use Rattle.smi_tree.specs.branches.Standing.{AreChildren};
+ghost use Rattle.smi_tree.specs.branches.Standing.{AreChildren, HasNoneBelow};
 ghost use Rattle.smi_tree.specs.branches.Branches.{AreBranchesOf, IsUnderWay, branch_of};
 ghost use Rattle.smi_tree.specs.branches.Branches.{standing_at, deeper_of};
 ghost use Rattle.smi_tree.specs.branches.Children.{places_left};
@@ -123,6 +123,19 @@ impl Identifiers {
             *near = deepest.branch;
         }
         found
+    }
+
+    /// The identifier at a place, if there is none below it. `near` is what `deepest_near` left as
+    /// it found the place; where it is anything else, the result is None.
+    pub fn last_on_way(&self, place: usize, near: usize) -> Option<&Oid>
+        ensures at { IfSome result (λ o. o.now ≡ oid_at self.now place) }
+        ensures last { IfSome result (λ o. HasNoneBelow self.now o.now) }
+    {
+        let branch = self.branches.get(near)?;
+        match branch.standing {
+            Some(standing) if standing == place && branch.after.is_empty() => self.oids.get(place),
+            _ => None,
+        }
     }
 
     /// The places of the identifiers that are one number longer, in the order of that number. Each

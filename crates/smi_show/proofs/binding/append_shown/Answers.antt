@@ -1,4 +1,5 @@
 use Rattle.std.proofs.Common.{◌++◌, codes, refl, sym, subst}
+use Rattle.std.specs.Option.{option_copied}
 use Rattle.smi_value.specs.Pieces.{type_word}
 use Rattle.smi_value.specs.Value.{ShowsValue}
 use Rattle.snmp_wire.specs.ber.Value.{datum}
@@ -13,7 +14,7 @@ returns-in-ObjectId g c =
     let names = names_by (g.T.NameTree.naming c.args.tree.now) letters in
     let word = type_word letters (codes "OID: ") in
     let text = word ++ names c.in-ObjectId.oid in
-    let P : ValueRef → Type 0 = λ v. ShowsValue names letters c.args.syntax (datum v) text in (
+    let P : ValueRef → Type 0 = λ v. ShowsValue names letters (option_copied c.args.syntax) (datum v) text in (
       text,
       subst P (sym c.in-ObjectId.is) refl,
       adds_both c.args.draft.now c.append_identifier_word.new.draft c.name_text.new.draft word (names c.in-ObjectId.oid)

@@ -1,0 +1,98 @@
+//! The lines of bindings, one after the other, by one tree.
+ghost use Rattle.std.specs.Prelude.{◌≡◌, ℕ, List, ◌++◌, ◌↔◌, OnOk, OnErr, IsTrue, MatchOption};
+ghost use Rattle.snmp_oid.specs.Identifier.{IsBelow};
+ghost use Rattle.snmp_wire.specs.ber.Value.{datum};
+ghost use Rattle.smi_show.specs.Found.{IsFound, IsFoundBelow};
+ghost use Rattle.smi_show.specs.Line.{IsLine};
+
+use crate::binding::append_line;
+use crate::{Found, Near, ShowTree};
+use smi_value::Letters;
+use snmp_io::Draft;
+use snmp_oid::Oid;
+use snmp_wire::ValueRef;
+use std::alloc::AllocError;
+use std::marker::Model;
+
+/// Writes the lines of bindings by one tree, one after the other.
+///
+/// It keeps what the tree found for the name of the last line, where that is found for other names
+/// too: lines of one column follow one another. A contract sees its tree.
+#[derive(Drop)]
+pub struct LineWriter<'t, T: ShowTree> {
+    tree: &'t T,
+    near: Near,
+    // What was found for the last name.
+    found: Found<'t>,
+}
+
+impl<'t, T: ShowTree> Model for LineWriter<'t, T> {
+    ghost use Rattle.smi_show.specs.Found.{IsFoundBelow};
+
+    ghost Value = { T };
+
+    ghost view = { λ w. w.tree.now };
+
+    ghost invariant = { λ w. IsFoundBelow (T.naming w.tree.now) (T.syntax_at w.tree.now) w.found };
+}
+
+impl<'t, T: ShowTree> LineWriter<'t, T> {
+    /// For lines by this tree.
+    pub fn new(tree: &'t T) -> LineWriter<'t, T>
+        ensures { result ≡ tree.now }
+    {
+        LineWriter {
+            tree,
+            near: Near::new(),
+            found: Found {
+                node: None,
+                syntax: None,
+                below: None,
+            },
+        }
+    }
+
+    /// Appends the line of a binding, as [`line`](crate::line) does. If memory runs out, `out` is
+    /// unchanged.
+    pub fn line(
+        &mut self,
+        letters: &Letters,
+        name: &Oid,
+        value: &ValueRef<'_>,
+        out: &mut Vec<u8>,
+    ) -> Result<(), AllocError>
+        ensures same { self.new ≡ self.old }
+        ensures ok { let syntax = T.syntax_at self.old name.now in
+            OnOk result ((text : List ℕ)
+            × IsLine (T.naming self.old) letters.now syntax name.now (datum value.now) text
+            × (out.new.items ≡ out.old.items ++ text)) }
+        ensures unchanged_on_error { OnErr result (out.new.items ≡ out.old.items) }
+    {
+        find(self.tree, name, &mut self.near, &mut self.found);
+        let mut draft = Draft::after(out);
+        append_line(self.tree, letters, name, &self.found, value, &mut draft);
+        draft.finish(out)
+    }
+}
+
+/// Finds a name, unless what was found for the last one is found for it too.
+fn find<'t, T: ShowTree>(tree: &'t T, name: &Oid, near: &mut Near, found: &mut Found<'t>)
+    requires { IsFoundBelow (T.naming tree.now) (T.syntax_at tree.now) found.old }
+    ensures found { IsFound (T.naming tree.now) (T.syntax_at tree.now) name.now found.new }
+    ensures below { IsFoundBelow (T.naming tree.now) (T.syntax_at tree.now) found.new }
+{
+    if is_known(found, name) {
+        return;
+    }
+    *found = tree.found_for(name, near);
+}
+
+/// Whether a name is below the identifier below which this is found.
+fn is_known(found: &Found<'_>, name: &Oid) -> bool
+    ensures { IsTrue result ↔ MatchOption found.now.below ⊥ (λ root. IsBelow name.now root.now) }
+{
+    match found.below {
+        Some(root) => name.is_below(root),
+        None => false,
+    }
+}
