@@ -10,7 +10,7 @@ ghost use Rattle.smi_tree.specs.Standing.{longest_of};
 use crate::branches::Deepest;
 use crate::tree::Tree;
 use smi_names::{one_identifier, root_arc};
-use smi_show::{NameTree, Node};
+use smi_show::{NameTree, Near, Node};
 use smi_text::Module;
 use snmp_oid::Oid;
 
@@ -81,6 +81,13 @@ impl NameTree for Tree {
 
     fn deepest(&self, oid: &Oid) -> Option<Node<'_>> {
         match self.deepest(oid) {
+            Some(deepest) => Some(self.seen(deepest)),
+            None => None,
+        }
+    }
+
+    fn deepest_near(&self, oid: &Oid, near: &mut Near) -> Option<Node<'_>> {
+        match self.deepest_near(oid, near) {
             Some(deepest) => Some(self.seen(deepest)),
             None => None,
         }

@@ -10,6 +10,7 @@ ghost use Rattle.smi_show.specs.name.Name.{arc_text, node_text, path_text, quali
 ghost use Rattle.smi_show.specs.name.Shown.{instance_text, name_text, standing_text};
 ghost use Rattle.smi_show.specs.name.Standing.{standing_of};
 
+use crate::Near;
 use crate::index::{index_text, numbers_text};
 use crate::name::{NameForm, NameTree, Node};
 use snmp_io::Draft;
@@ -101,19 +102,20 @@ fn path<T: NameTree>(tree: &T, numbers: &[u32], draft: &mut Draft)
     ensures { Adds draft.old (path_text (T.naming tree.now) numbers.now) draft.new }
 {
     let mut here = Oid::new();
+    let mut near = Near::new();
     'numbers: for number in numbers {
         here.push_with_room(*number);
-        arc(tree, &here, *number, draft);
+        arc(tree, &here, *number, &mut near, draft);
     }
 }
 
 /// The label of the node that stands for an identifier, or its last number, after a dot.
-fn arc<T: NameTree>(tree: &T, here: &Oid, number: u32, draft: &mut Draft)
+fn arc<T: NameTree>(tree: &T, here: &Oid, number: u32, near: &mut Near, draft: &mut Draft)
     ensures { let standing = (T.naming tree.now).deepest here.now in
         Adds draft.old (codes "." ++ arc_text standing here.now number) draft.new }
 {
     draft.octet(b'.');
-    match tree.deepest(here) {
+    match tree.deepest_near(here, near) {
         Some(node) if node.depth == here.len() => draft.octets(node.label),
         _ => draft.number(u64::from(number)),
     }

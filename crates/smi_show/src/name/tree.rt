@@ -4,6 +4,7 @@ ghost use Rattle.std.specs.Option.{option_copied};
 ghost use Rattle.smi_show.specs.name.Naming.{IsSound, Naming, Standing};
 ghost use Rattle.smi_show.specs.name.Standing.{standing_of};
 
+use crate::Near;
 use crate::index::IndexPart;
 use snmp_oid::Oid;
 
@@ -47,6 +48,14 @@ pub trait NameTree {
     /// The node that stands for the longest beginning of an identifier.
     fn deepest(&self, oid: &Oid) -> Option<Node<'_>>
         ensures { option_map standing_of result ≡ (naming self.now).deepest oid.now };
+
+    /// What `deepest` returns, for one identifier after the other: the tree may begin its search at
+    /// the node of the last one.
+    fn deepest_near(&self, oid: &Oid, _near: &mut Near) -> Option<Node<'_>>
+        ensures { option_map standing_of result ≡ (naming self.now).deepest oid.now }
+    {
+        self.deepest(oid)
+    }
 
     /// Labels are words, and lead to the nodes that they are shown for.
     fn sound(&self)
