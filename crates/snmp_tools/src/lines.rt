@@ -9,7 +9,7 @@ ghost use Rattle.snmp_tools.specs.Start.{CanRun, IsRunOver};
 
 use crate::failure::Failure;
 use crate::start::{Begun, FIRST_ID};
-use smi_show::{Letters, Near, ShowTree, line_near};
+use smi_show::{Letters, LineWriter, ShowTree};
 use snmp_io::{Draft, Output, OutputFault, write_all};
 use snmp_oid::Oid;
 use snmp_walk::{Link, Rows, Sink, SinkFault, WalkEnd, run_get, run_walk};
@@ -19,10 +19,8 @@ use std::alloc::AllocError;
 /// What writes the lines of bindings, by the names and types of a tree and the letters of `-O`.
 #[derive(Drop)]
 pub(crate) struct Printer<'a, T: ShowTree, O: Output> {
-    tree: &'a T,
+    writer: LineWriter<'a, T>,
     letters: Letters,
-    // The node of the last line, where the tree begins to search for the next one's.
-    near: Near,
     // The lines of a reply that are being written. Their memory is used again for the next.
     text: &'a mut Vec<u8>,
     out: &'a mut O,
@@ -33,23 +31,18 @@ impl<T: ShowTree, O: Output> Sink for Printer<'_, T, O> {
     ghost use Rattle.snmp_tools.specs.Planned.{mib_in};
 
     ghost takes = { λ old binding result new.
-        (new.tree ≡ old.tree) × (new.letters ≡ old.letters)
+        (new.writer ≡ old.writer) × (new.letters ≡ old.letters)
         × (new.out.ghost_name ≡ old.out.ghost_name)
-        × TakesLine (mib_in (T.naming old.tree.now) (T.syntax_at old.tree.now)) old.letters
+        × TakesLine (mib_in (T.naming old.writer) (T.syntax_at old.writer)) old.letters
         (O.stream old.out.now) binding result (O.stream new.out.now) };
 
     fn row(&mut self, binding: &Binding<'_>) -> Result<(), SinkFault> {
         self.text.clear();
         let (name, value) = (&binding.name, &binding.value);
-        if line_near(
-            self.tree,
-            &self.letters,
-            name,
-            value,
-            &mut self.near,
-            self.text,
-        )
-        .is_err()
+        if self
+            .writer
+            .line(&self.letters, name, value, self.text)
+            .is_err()
         {
             return Err(SinkFault::Memory);
         }
@@ -67,28 +60,18 @@ impl<T: ShowTree, O: Output> Sink for Printer<'_, T, O> {
             return Ok(());
         }
         self.text.clear();
-        if line_near(
-            self.tree,
-            &self.letters,
-            &binding.name,
-            &binding.value,
-            &mut self.near,
-            self.text,
-        )
-        .is_err()
+        if self
+            .writer
+            .line(&self.letters, &binding.name, &binding.value, self.text)
+            .is_err()
         {
             return Err(SinkFault::Memory);
         }
         'rows: while rows.read_next(&mut binding) {
-            if line_near(
-                self.tree,
-                &self.letters,
-                &binding.name,
-                &binding.value,
-                &mut self.near,
-                self.text,
-            )
-            .is_err()
+            if self
+                .writer
+                .line(&self.letters, &binding.name, &binding.value, self.text)
+                .is_err()
             {
                 write_lines(self.out, self.text.as_slice())?;
                 return Err(SinkFault::Memory);
@@ -116,7 +99,7 @@ impl<T: ShowTree, O: Output> Printer<'_, T, O> {
         requires community { length community.now ≤ 255 }
         ensures same_output { self.new.out.ghost_name ≡ self.old.out.ghost_name }
         ensures printed { ArePrinted
-            (mib_in (T.naming self.old.tree.now) (T.syntax_at self.old.tree.now)) self.old.letters
+            (mib_in (T.naming self.old.writer) (T.syntax_at self.old.writer)) self.old.letters
             (O.stream self.old.out.now) (O.stream self.new.out.now) result
             (λ given refused. IsRunOver L.Link link.old link.new (retries + 1)
             community.now begun.entry given refused result) }
@@ -147,14 +130,42 @@ pub(crate) fn print_lines<T: ShowTree, L: Link, O: Output>(
         (λ given refused. IsRunOver L.Link link.old link.new (retries + 1)
         community.now begun.entry given refused result) }
 {
+    let writer = LineWriter::new(tree);
+    print_by(link, begun, community, retries, writer, letters, text, out)
+}
+
+// The same, by a writer of lines.
+fn print_by<T: ShowTree, L: Link, O: Output>(
+    link: &mut L,
+    begun: Begun<'_>,
+    community: &[u8],
+    retries: u32,
+    writer: LineWriter<'_, T>,
+    letters: Letters,
+    text: &mut Vec<u8>,
+    out: &mut O,
+) -> WalkEnd
+    requires sendable { CanRun begun }
+    requires community { length community.now ≤ 255 }
+    ensures printed { ArePrinted (mib_in (T.naming writer.entry) (T.syntax_at writer.entry)) letters
+        (O.stream out.old) (O.stream out.new) result
+        (λ given refused. IsRunOver L.Link link.old link.new (retries + 1)
+        community.now begun.entry given refused result) }
+{
     let mut printer = Printer {
-        tree,
+        writer,
         letters,
-        near: Near::new(),
         text,
         out,
     };
-    printer.print(link, begun, community, retries)
+    let end = printer.print(link, begun, community, retries);
+    let Printer {
+        writer: _writer,
+        letters: _letters,
+        text: _text,
+        out: _out,
+    } = printer;
+    end
 }
 
 /// Prints the number of bindings that were found. `text` is the memory for the line.

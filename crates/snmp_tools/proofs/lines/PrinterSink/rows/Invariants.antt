@@ -6,11 +6,11 @@ use Rattle.snmp_tools.proofs.lines.PrinterSink.rows.Given as goal
 
 abbrev pub invariant-rows : goal.invariant-rows
 invariant-rows g l = record {
-  tree : l.self.tree ≡ l.fn.self.tree;
+  writer : l.self.writer ≡ l.fn.self.writer;
   letters : l.self.letters ≡ l.fn.self.letters;
   output : l.self.out ≡ l.fn.self.out;
   made : (p : VarBind) × (more : List VarBind) × (l.fn.rows ≡ (p ∷ more) ++ l.rows)
-      × AreLines (mib_in (g.T.NameTree.naming l.fn.self.tree.now) (g.T.ShowTree.syntax_at l.fn.self.tree.now)) l.fn.self.letters (p ∷ more)
+      × AreLines (mib_in (g.T.NameTree.naming l.fn.self.writer) (g.T.ShowTree.syntax_at l.fn.self.writer)) l.fn.self.letters (p ∷ more)
       l.self.text.now.items;
 }
 
