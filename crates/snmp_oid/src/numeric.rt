@@ -2,6 +2,8 @@
 ghost use Rattle.std.specs.Prelude.{◌≡◌, ◌≢◌, ℕ, ◌+◌, ◌<◌, ◌≤◌, ◌↔◌, ◌⊎◌, List, [], ◌∷◌, ◌++◌};
 ghost use Rattle.std.specs.Prelude.{decimal, length, drop, slice_index, All, MatchOption};
 ghost use Rattle.std.specs.Prelude.{IsTrue, IfOk, OnOk, IfSome, IfNone, IsSome, Ok, Err, Some};
+ghost use Rattle.std.specs.Prelude.{true};
+ghost use Rattle.std.specs.Char.{is_ascii_digit};
 ghost use Rattle.std.specs.Option.{option_map};
 ghost use Rattle.snmp_oid.specs.Identifier.{IsIdentifier};
 ghost use Rattle.snmp_oid.specs.Numeric.{IsNumericName, IsFirstBadPart, IsTooLong, IsNumeral};
@@ -121,8 +123,62 @@ pub fn front_number(text: &[u8]) -> Option<(u32, Option<&[u8]>)>
         [digit, b'.', rest @ ..] if digit.is_ascii_digit() => {
             Some((u32::from(*digit - b'0'), Some(rest)))
         }
+        _ => read_two_digits(text),
+    }
+}
+
+/// The same of two digits before a dot, or of more.
+// Hot: each number of some digits.
+#[inline(always)]
+fn read_two_digits(text: &[u8]) -> Option<(u32, Option<&[u8]>)>
+    ensures { IfSome result
+        (λ read. IsPartRead text.now (Some read.0) (option_map (λ rest. rest.now) read.1)) }
+{
+    match text {
+        [tens, ones, b'.', rest @ ..] if tens.is_ascii_digit() && ones.is_ascii_digit() => {
+            Some((two_digits(*tens, *ones), Some(rest)))
+        }
+        _ => read_three_digits(text),
+    }
+}
+
+/// The same of three digits before a dot, or of any.
+// Hot: each number of some digits.
+#[inline(always)]
+fn read_three_digits(text: &[u8]) -> Option<(u32, Option<&[u8]>)>
+    ensures { IfSome result
+        (λ read. IsPartRead text.now (Some read.0) (option_map (λ rest. rest.now) read.1)) }
+{
+    match text {
+        [hundreds, tens, ones, b'.', rest @ ..]
+            if hundreds.is_ascii_digit() && tens.is_ascii_digit() && ones.is_ascii_digit() => {
+            Some((three_digits(*hundreds, *tens, *ones), Some(rest)))
+        }
         _ => read_digits(text),
     }
+}
+
+/// The number of two digits.
+#[inline(always)]
+fn two_digits(tens: u8, ones: u8) -> u32
+    requires tens { is_ascii_digit tens ≡ true }
+    requires ones { is_ascii_digit ones ≡ true }
+    ensures value { IsNumeral (tens ∷ ones ∷ []) result }
+    ensures plain { All (λ octet. octet ≢ dot) (tens ∷ ones ∷ []) }
+{
+    u32::from(tens - b'0') * 10 + u32::from(ones - b'0')
+}
+
+/// The number of three digits.
+#[inline(always)]
+fn three_digits(hundreds: u8, tens: u8, ones: u8) -> u32
+    requires hundreds { is_ascii_digit hundreds ≡ true }
+    requires tens { is_ascii_digit tens ≡ true }
+    requires ones { is_ascii_digit ones ≡ true }
+    ensures value { IsNumeral (hundreds ∷ tens ∷ ones ∷ []) result }
+    ensures plain { All (λ octet. octet ≢ dot) (hundreds ∷ tens ∷ ones ∷ []) }
+{
+    u32::from(hundreds - b'0') * 100 + u32::from(tens - b'0') * 10 + u32::from(ones - b'0')
 }
 
 /// The same of any digits.
