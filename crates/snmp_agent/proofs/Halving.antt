@@ -1,15 +1,8 @@
 -- A search by halves.
 use Rattle.std.proofs.Common.{◌≡◌, ℕ, zero, suc, ◌+◌, ◌≤◌, ◌<◌, Bool, true, false, List, [], ◌∷◌}
 use Rattle.std.proofs.Common.{length, slice_index_or, refl, sym, ap, ◌∙◌, arith}
-use Rattle.std.specs.List.{AllWithin}
 use Rattle.std.specs.List.Sorted.{IsPartitionedBy}
-
--- the elements before the one place pass a test, and those from the other on don't
-pub record IsHalvedTo {X : Type 0} (p : X → Bool) (xs : List X) (passed end : ℕ) : Type 0 where
-  pub order : passed ≤ end
-  pub bound : end ≤ length xs
-  pub front : AllWithin (λ x. p x ≡ true) xs 0 passed
-  pub back : AllWithin (λ x. p x ≡ false) xs end (length xs)
+use Rattle.snmp_agent.specs.table.Halving.{IsHalvedTo}
 
 -- an element that is there is the same whatever stands for one that isn't
 same_there : {X : Type 0} (xs : List X) (at : ℕ) (d e : X) → at < length xs → slice_index_or xs at d ≡ slice_index_or xs at e

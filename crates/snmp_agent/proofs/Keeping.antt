@@ -1,5 +1,5 @@
 -- What lines state is what a table may keep.
-use Rattle.std.proofs.Common.{◌≡◌, ◌≢◌, ℕ, true, List, [], sym, ◌∙◌, arith}
+use Rattle.std.proofs.Common.{◌≡◌, ◌≢◌, ℕ, true, List, [], sym, ◌∙◌}
 use Rattle.std.specs.Ordering.{nat_cmp}
 use Rattle.std.specs.Cmp.Lexicographic.{slice_cmp, nat_list_cmp_total}
 use Rattle.std.specs.FinMap.{FinMap, entries, entries_sorted, entries-from_sorted, from_sorted}
@@ -13,11 +13,8 @@ use Rattle.snmp_wire.specs.Message.Datum.{ip_address, counter32, gauge32, time_t
 use Rattle.snmp_wire.specs.Message.Datum.{opaque_octets}
 use Rattle.snmp_wire.specs.Message.Datum.{counter64, no_such_object, no_such_instance}
 use Rattle.snmp_wire.specs.Message.Datum.{end_of_mib_view}
-use Rattle.snmp_agent.specs.declared.table.row.RowText.{RowText}
-use Rattle.snmp_agent.specs.declared.table.row.RowText.TheVariants as value
 use Rattle.snmp_agent.specs.table.Table.{IsRow, IsInstanceName, IsInstanceValue, IsMibView}
 use Rattle.snmp_agent.specs.table.Table.{MibView}
-use Rattle.snmp_agent.specs.table.Row.{datum_of, IsShort}
 use Rattle.snmp_agent.specs.table.Places.{view_of}
 use Rattle.snmp_agent.specs.table.Format.{Format, IsName, IsNameIn, Means, Names, first_format}
 use Rattle.snmp_agent.specs.table.Format.{names_by, numeric_names, second_format}

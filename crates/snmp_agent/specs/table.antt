@@ -2,6 +2,7 @@ pub mod Draft
 pub mod Exact
 pub mod Form
 pub mod Format
+pub mod Halving
 pub mod Line
 pub mod Listing
 pub mod Pages

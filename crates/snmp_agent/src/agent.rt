@@ -50,8 +50,8 @@ pub fn answer(
     answer_near(table, config, request, out, &mut Hint::default())
 }
 
-/// [`answer`] for an agent that is asked in turn. It finds the row of a GetNext without a search
-/// where the hint says where the row is that is asked from, and leaves one of the row that it gave.
+/// [`answer`] for an agent that is asked in turn. It finds a name without a search where the hint
+/// says where it stands, and leaves in the hint where names stood, and the row that it gave last.
 ///
 /// No hint changes a reply: any may be handed in, also that of another table.
 pub fn answer_near(

@@ -54,7 +54,7 @@ pub fn append_bulk<'a>(
                 room: draft.room,
                 total,
             };
-            append_repeaters(table, repetitions, bindings, draft, out)
+            append_repeaters(table, repetitions, bindings, draft, out, hint)
         }
     }
 }
@@ -107,6 +107,7 @@ fn append_repeaters<'a>(
     bindings: Bindings<'a>,
     draft: Draft,
     out: &mut [u8; MAX_DATAGRAM],
+    hint: &mut Hint,
 ) -> usize
     requires { AreWritable bindings }
     ensures { (rounds : List (List VarBind))
@@ -115,19 +116,20 @@ fn append_repeaters<'a>(
 {
     let mut others = bindings.left();
     match (others.next_ref(), others.next_ref()) {
-        (Some(only), None) => append_column(table, repetitions, only, draft, out),
-        _ => append_columns(table, repetitions, bindings, draft, out),
+        (Some(only), None) => append_column(table, repetitions, only, draft, out, hint),
+        _ => append_columns(table, repetitions, bindings, draft, out, hint),
     }
 }
 
 /// Writes the rounds of one binding, as a walk asks for them: each begins where the one before
-/// ended, and nothing is searched.
+/// ended, and nothing is searched. The hint is told of the last row.
 fn append_column<'a>(
     table: &'a Table,
     repetitions: usize,
     asked: BindingRef<'a>,
     draft: Draft,
     out: &mut [u8; MAX_DATAGRAM],
+    hint: &mut Hint,
 ) -> usize
     requires { IsWire asked.name }
     ensures { (rounds : List (List VarBind))
@@ -138,21 +140,26 @@ fn append_column<'a>(
     order();
     table.is_mib_view();
     let mut total = draft.total;
-    let mut place = Place::new(table, asked.name());
+    let mut place = Place::new(table, asked.name(), hint);
     'rounds: for _ in 0..repetitions {
         let is_last = place.is_at_end();
+        let left = place.left();
         let written = Draft {
             room: draft.room,
             total,
         };
         match place.append_next(written, out) {
             Some(end) => total = end,
-            None => return total,
+            None => {
+                hint.keep_last(left);
+                return total;
+            }
         }
         if is_last {
             return total;
         }
     }
+    hint.keep_last(place.left());
     total
 }
 
@@ -164,6 +171,7 @@ fn append_columns<'a>(
     bindings: Bindings<'a>,
     draft: Draft,
     out: &mut [u8; MAX_DATAGRAM],
+    hint: &mut Hint,
 ) -> usize
     requires { AreWritable bindings }
     ensures { (rounds : List (List VarBind))
@@ -172,7 +180,7 @@ fn append_columns<'a>(
 {
     let mut others = bindings.left();
     let mut places = ArrayVec::new();
-    keep_places(table, &mut others, &mut places);
+    keep_places(table, &mut others, &mut places, hint);
     match others.next_ref() {
         Some(_) => append_rounds(table, repetitions, bindings, draft, out),
         None => {
@@ -188,6 +196,7 @@ fn keep_places<'a>(
     table: &'a Table,
     bindings: &mut Bindings<'a>,
     places: &mut ArrayVec<Place<'a>, MAX_PLACES>,
+    hint: &mut Hint,
 )
     requires writable { AreWritable bindings.old }
     requires none { places.old.items ≡ [] }
@@ -198,7 +207,7 @@ fn keep_places<'a>(
         let Some(asked) = bindings.next_ref() else {
             return;
         };
-        places.push(Place::new(table, asked.name()));
+        places.push(Place::new(table, asked.name(), hint));
     }
 }
 

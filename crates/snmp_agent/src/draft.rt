@@ -84,7 +84,7 @@ fn append_answer(
         × IsTooLong draft.room draft.total p) }
 {
     match kind {
-        Kind::GetRequest => append_get(table, asked, draft, out),
+        Kind::GetRequest => append_get(table, asked, draft, out, hint),
         Kind::GetNextRequest => append_next(table, asked, draft, out, hint),
         _ => append_same(asked, draft, out),
     }
@@ -96,6 +96,7 @@ fn append_get(
     asked: &BindingRef<'_>,
     draft: Draft,
     out: &mut [u8; MAX_DATAGRAM],
+    hint: &mut Hint,
 ) -> Option<usize>
     requires { IsWritable asked.now }
     ensures written { IfSome result (λ n. (p : VarBind) × IsGet table.now asked.now.name p
@@ -103,7 +104,7 @@ fn append_get(
     ensures too_long { IfNone result ((p : VarBind) × IsGet table.now asked.now.name p
         × IsTooLong draft.room draft.total p) }
 {
-    match table.row(&asked.name()) {
+    match table.row_near(&asked.name(), hint) {
         Some(row) => draft.append_row(out, row),
         None => append_exception(table, asked, draft, out),
     }
@@ -132,8 +133,8 @@ fn append_exception(
     draft.append(out, &binding)
 }
 
-/// Writes what a GetNext of a binding's name gives, as [`append_answer`] does. The hint becomes
-/// that of the row.
+/// Writes what a GetNext of a binding's name gives, as [`append_answer`] does. The hint is told of
+/// the row.
 pub fn append_next(
     table: &Table,
     asked: &BindingRef<'_>,
@@ -150,10 +151,10 @@ pub fn append_next(
 {
     order();
     let name = asked.name();
-    let mut rows = table.after_near(&name, *hint);
+    let mut rows = table.after_near(&name, hint);
     match rows.next_row() {
         Some(row) => {
-            *hint = rows.hint();
+            hint.keep_last(rows.left());
             draft.append_row(out, row)
         }
         None => append_end(&Given::Asked(name), draft, out),

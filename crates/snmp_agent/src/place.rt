@@ -6,7 +6,7 @@ ghost use Rattle.snmp_agent.specs.Answering.{IsAppended, IsTooLong};
 ghost use Rattle.snmp_agent.specs.Standing.{name_of};
 
 use crate::draft::{Draft, blank};
-use crate::table::{Successors, Table};
+use crate::table::{Hint, Successors, Table};
 use snmp_wire::{EncodedBinding, EncodedName, MAX_DATAGRAM, ValueRef};
 use std::marker::Model;
 
@@ -59,15 +59,21 @@ impl<'a> Place<'a> {
     ghost use Rattle.snmp_agent.specs.table.Pages.{AreBehind};
 
     /// The place of a name that a request asks from.
-    pub fn new(table: &'a Table, name: EncodedName<'a>) -> Place<'a>
+    pub fn new(table: &'a Table, name: EncodedName<'a>, hint: &mut Hint) -> Place<'a>
         ensures name { result.name ≡ name.entry }
         ensures behind { AreBehind table.now name.entry result.rows }
     {
-        let rows = table.after(&name);
+        let rows = table.after_near(&name, hint);
         Place {
             given: Given::Asked(name),
             rows,
         }
+    }
+
+    /// How many rows of their page are left, and how many pages after that.
+    #[inline]
+    pub fn left(&self) -> (usize, usize) {
+        self.rows.left()
     }
 
     /// Whether no row is left, so that the name is given `EndOfMibView`.

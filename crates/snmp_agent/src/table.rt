@@ -6,6 +6,7 @@ mod change;
 mod draft;
 mod error;
 mod format;
+mod hint;
 mod laws;
 mod line;
 mod page;
@@ -18,6 +19,7 @@ mod value;
 
 pub use error::{PutError, TableError};
 pub use format::{NumericNames, Resolver};
+pub use hint::Hint;
 pub use laws::{no_fault, one_answer, one_table, table_of_lines, unmarked_table};
-pub use pages::{Hint, Successors};
+pub use pages::Successors;
 pub use table::Table;

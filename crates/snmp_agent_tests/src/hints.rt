@@ -22,7 +22,26 @@ fn next_of(number: u16) -> [u8; 36] {
 /// Whether the agent has a reply to the GetNext of this number, and the same with the hint as
 /// without one.
 fn is_same_reply(table: &Table, number: u16, hint: &mut Hint) -> bool {
-    let request = next_of(number);
+    is_same(table, &next_of(number), hint)
+}
+
+/// The same of a Get.
+fn is_same_value(table: &Table, number: u16, hint: &mut Hint) -> bool {
+    let mut request = next_of(number);
+    request[13] = 0xA0;
+    is_same(table, &request, hint)
+}
+
+/// The same of a GetBulk of five repetitions.
+fn is_same_column(table: &Table, number: u16, hint: &mut Hint) -> bool {
+    let mut request = next_of(number);
+    request[13] = 0xA5;
+    request[23] = 5;
+    is_same(table, &request, hint)
+}
+
+/// The same of a request.
+fn is_same(table: &Table, request: &[u8], hint: &mut Hint) -> bool {
     let config = Config {
         community: b"public",
         max_size: 1472,
@@ -30,8 +49,8 @@ fn is_same_reply(table: &Table, number: u16, hint: &mut Hint) -> bool {
     let mut near = [0; 65507];
     let mut out = [0; 65507];
     match (
-        answer_near(table, &config, &request, &mut near, hint),
-        answer(table, &config, &request, &mut out),
+        answer_near(table, &config, request, &mut near, hint),
+        answer(table, &config, request, &mut out),
     ) {
         (Outcome::Reply(size), Outcome::Reply(same)) => {
             size == same && near.get(..size) == out.get(..size)
@@ -82,5 +101,46 @@ fn a_hint_that_is_out_of_date_changes_no_reply(rt: HostRuntime) {
             is_same_reply(&table, number.wrapping_add(1), &mut hint),
             "after {number} and one more"
         );
+    }
+}
+
+#[test]
+fn names_asked_for_again_have_the_same_replies(rt: HostRuntime) {
+    let mut table = table_to(&rt, rt.alloc(), 900);
+    let few = table_to(&rt, rt.alloc(), 130);
+    let mut hint = Hint::default();
+    // More names than a hint keeps, in no order; each is asked for by a Get, a GetNext and a
+    // GetBulk.
+    for round in 0..4 {
+        for step in 0..800_u16 {
+            let number = step.wrapping_mul(331) % 800 + 128;
+            assert!(rt;
+                is_same_value(&table, number, &mut hint),
+                "{number} in {round}"
+            );
+            assert!(rt;
+                is_same_reply(&table, number, &mut hint),
+                "after {number} in {round}"
+            );
+            assert!(rt;
+                is_same_column(&table, number, &mut hint),
+                "five after {number} in {round}"
+            );
+        }
+        assert!(rt;
+            is_same_value(&few, 129, &mut hint),
+            "over few rows in {round}"
+        );
+        // Rows go, so that others stand elsewhere.
+        for number in 0..60_u32 {
+            let name = Oid::from_slice(&[
+                1,
+                3,
+                6,
+                number.wrapping_mul(13).wrapping_add(128 + round),
+            ]);
+            let name = name.expect(&rt, "a name");
+            let _ = table.remove(&name);
+        }
     }
 }

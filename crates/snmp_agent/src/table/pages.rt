@@ -4,37 +4,17 @@ ghost use Rattle.snmp_agent.specs.table.Places.{entry_of, last_name};
 ghost use Rattle.snmp_agent.specs.table.Pages.{ArePages, IsPageOf, IsLongPage, IsPageWithRoom};
 ghost use Rattle.snmp_agent.specs.table.Pages.{IsRowIn, IsWithoutRow, entries_in, entries_of};
 
+use crate::table::hint::Hint;
 use crate::table::page::{PAGE_ROWS, Page};
-use crate::table::search::{begins_up_to, ends_before, find_row, page_of, place_after, row_at};
+use crate::table::search::{
+    begins_up_to, ends_before, find_row, page_near, page_of, place_after, place_near, row_at,
+};
 use snmp_oid::order;
 use snmp_wire::{Binding, EncodedBinding, EncodedName, Oid, ValueRef};
 use std::alloc::{AllocError, Global};
 use std::marker::Model;
 
-/// Where a row was that a reply gave, as a guess: whoever asks in turn mostly asks from that row.
-#[derive(Clone, Copy, Debug)]
-pub struct Hint {
-    /// How many rows of its page come after it.
-    rows: usize,
-    /// How many pages come after that.
-    pages: usize,
-}
-
-impl Default for Hint {
-    ghost use Rattle.std.specs.Prelude.{⊤};
-
-    ghost is_default = { λ _. ⊤ };
-
-    // The hint of no row: no table has as many pages.
-    fn default() -> Hint {
-        Hint {
-            rows: 0,
-            pages: usize::MAX,
-        }
-    }
-}
-
-/// Rows by rising names, in pages of 1 to 256, so that a change moves no more rows than a page has.
+/// Rows by rising names, in pages of 1 to 128, so that a change moves no more rows than a page has.
 #[derive(Drop)]
 pub struct Pages {
     list: Vec<Page>,
@@ -81,7 +61,24 @@ impl Pages {
     {
         let pages = self.list.as_slice();
         let page = pages.get(page_of(pages, name))?;
-        row_at(page.rows.as_slice(), name)
+        let rows = page.rows.as_slice();
+        row_at(rows, name, place_after(rows, name))
+    }
+
+    /// The same. Nothing is searched where the hint is right; it is told where the name stands.
+    pub fn find_near(&self, name: &EncodedName<'_>, hint: &mut Hint) -> Option<&EncodedBinding>
+        ensures value { option_map (λ row. row.now.value) result
+            ≡ get self.now name.now }
+        ensures name { IfSome result (λ row. row.now.name ≡ name.now) }
+    {
+        let pages = self.list.as_slice();
+        let guess = hint.guess(name);
+        let at = page_near(pages, name, guess.page);
+        let page = pages.get(at)?;
+        let rows = page.rows.as_slice();
+        let place = place_near(rows, name, guess.row);
+        hint.keep(guess, at, place);
+        row_at(rows, name, place)
     }
 
     /// The rows after this name.
@@ -103,18 +100,18 @@ impl Pages {
     }
 
     /// The rows after this name, as [`Pages::after`] finds them. Nothing is searched where the hint
-    /// is right.
-    pub fn after_near(&self, name: &EncodedName<'_>, hint: Hint) -> Successors<'_>
+    /// is right; it is told where the name stands.
+    pub fn after_near(&self, name: &EncodedName<'_>, hint: &mut Hint) -> Successors<'_>
         ensures { (front : List (List ℕ × Datum)) × StandsApart self.now name.now front result }
     {
         match self.behind(name, hint) {
             Some(rows) => rows,
-            None => self.after(name),
+            None => self.after_guess(name, hint),
         }
     }
 
-    /// The rows after this name, if its row is where the hint says.
-    fn behind(&self, name: &EncodedName<'_>, hint: Hint) -> Option<Successors<'_>>
+    /// The rows after this name, if its row is the last one that the hint was told of.
+    fn behind(&self, name: &EncodedName<'_>, hint: &Hint) -> Option<Successors<'_>>
         ensures { IfSome result (λ rows. (front : List (List ℕ × Datum))
             × StandsApart self.now name.now front rows) }
     {
@@ -131,6 +128,27 @@ impl Pages {
         } else {
             None
         }
+    }
+
+    /// The rows after this name, by a guess of where it stands.
+    fn after_guess(&self, name: &EncodedName<'_>, hint: &mut Hint) -> Successors<'_>
+        ensures { (front : List (List ℕ × Datum)) × StandsApart self.now name.now front result }
+    {
+        let pages = self.list.as_slice();
+        let guess = hint.guess(name);
+        let at = page_near(pages, name, guess.page);
+        let Some(page) = pages.get(at) else {
+            return Successors {
+                rows: &[],
+                pages: &[],
+            };
+        };
+        let (_, pages) = pages.split_at(at + 1);
+        let rows = page.rows.as_slice();
+        let place = place_near(rows, name, guess.row);
+        hint.keep(guess, at, place);
+        let (_, rows) = rows.split_at(place);
+        Successors { rows, pages }
     }
 
     /// Puts a row in its place among the others, or in place of the one that has its name, and
@@ -304,13 +322,10 @@ impl<'a> Successors<'a> {
         Some(row)
     }
 
-    /// Where the row is that stands before these.
+    /// How many rows of their page are left, and how many pages after that.
     #[inline]
-    pub(crate) fn hint(&self) -> Hint {
-        Hint {
-            rows: self.rows.len(),
-            pages: self.pages.len(),
-        }
+    pub(crate) fn left(&self) -> (usize, usize) {
+        (self.rows.len(), self.pages.len())
     }
 
     /// Whether there are none.

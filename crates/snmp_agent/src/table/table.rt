@@ -8,7 +8,8 @@ use crate::table::error::{PutError, TableError};
 use crate::table::format::{
     FirstFormat, LineFormat, NumericNames, Resolver, SecondFormat, is_marked,
 };
-use crate::table::pages::{Hint, Pages, Successors};
+use crate::table::hint::Hint;
+use crate::table::pages::{Pages, Successors};
 use crate::table::split::split_line;
 use snmp_oid::order;
 use snmp_wire::{Binding, EncodedBinding, EncodedName, MAX_CONTENT, Oid, ValueRef};
@@ -160,12 +161,16 @@ impl Table {
         let _ = &self.rows;
     }
 
-    /// The row of this name.
-    pub(crate) fn row(&self, name: &EncodedName<'_>) -> Option<&EncodedBinding>
+    /// The row of this name. Nothing is searched where the hint is right.
+    pub(crate) fn row_near(
+        &self,
+        name: &EncodedName<'_>,
+        hint: &mut Hint,
+    ) -> Option<&EncodedBinding>
         ensures some { IfSome result (λ row. IsGet self.now name.now row.now) }
         ensures none { IfNone result (get self.now.rows name.now ≡ None) }
     {
-        self.rows.find(name)
+        self.rows.find_near(name, hint)
     }
 
     /// The row of this name, which may have no encoding: no row has it then.
@@ -217,7 +222,7 @@ impl Table {
     }
 
     /// The same. Nothing is searched where the hint is right.
-    pub(crate) fn after_near(&self, name: &EncodedName<'_>, hint: Hint) -> Successors<'_>
+    pub(crate) fn after_near(&self, name: &EncodedName<'_>, hint: &mut Hint) -> Successors<'_>
         ensures { AreBehind self.now name.now result }
     {
         self.rows.after_near(name, hint)

@@ -1,4 +1,4 @@
-use Rattle.std.proofs.Common.{◌≡◌, ℕ, List, Some, true, false, sym, ◌∙◌, subst, ap}
+use Rattle.std.proofs.Common.{◌≡◌, ℕ, List, Some, true, false, sym, subst, ap}
 use Rattle.std.specs.Option.{option_map}
 use Rattle.snmp_wire.specs.Message.{Datum, VarBind, datum}
 use Rattle.snmp_agent.specs.table.Exact.{IsOnly, IsOnlyThere}
