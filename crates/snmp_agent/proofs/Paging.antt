@@ -148,7 +148,7 @@ seam_at : (xs ys : List Page) (y : Page) → slice_get (xs ++ y ∷ ys) (length 
 seam_at [] ys y = refl
 seam_at (x ∷ xs) ys y = seam_at xs ys y
 
-pub page_between : (o : List ℕ) (xs ys : List Page) (page : Page) → IsAfterAll o (entries_in xs) → IsBeforeAll o (entries_in ys) → length page.rows.items < 256
+pub page_between : (o : List ℕ) (xs ys : List Page) (page : Page) → IsAfterAll o (entries_in xs) → IsBeforeAll o (entries_in ys) → length page.rows.items < 128
     → IsPageWithRoom o (xs ++ page ∷ ys) (length xs)
 page_between o xs ys page passed ahead room = record {
   page_of = record {
@@ -202,7 +202,7 @@ module _ (pages : List Page) (place : ℕ) (found first second : Page) (low : pl
     room_before begins =
         let ahead : IsBeforeAll o (entries_in (second ∷ drop (suc place) pages)) = rows_ahead o second.rows.items (entries_in (drop (suc place) pages))
         (rising_rest (entries_of first.rows.items) (entries_of second.rows.items ++ entries_in (drop (suc place) pages)) rising_halves) begins in
-        let room : length first.rows.items < 256 = omega (arith, found.most, second.some, ap length same, length-append first.rows.items second.rows.items) in
+        let room : length first.rows.items < 128 = omega (arith, found.most, second.some, ap length same, length-append first.rows.items second.rows.items) in
         let whole = page_between o (take place pages) (second ∷ drop (suc place) pages) first h.passed ahead room in
         subst (λ (ps : List Page). IsPageWithRoom o ps place) (sym as_list)
         (subst (λ (k : ℕ). IsPageWithRoom o (take place pages ++ first ∷ second ∷ drop (suc place) pages) k) (length-take-le place pages (omega (arith, low))) whole)
@@ -214,7 +214,7 @@ module _ (pages : List Page) (place : ℕ) (found first second : Page) (low : pl
         let front_passed : IsAfterAll o (entries_in (take place pages ++ first ∷ [])) = subst (λ (es : Entries). IsAfterAll o es)
         (sym (pages-append (take place pages) (first ∷ [])))
         (after_both o (entries_in (take place pages)) (entries_of first.rows.items ++ []) h.passed (after_both o (entries_of first.rows.items) [] behind tt)) in
-        let room : length second.rows.items < 256 = omega (arith, found.most, first.some, ap length same, length-append first.rows.items second.rows.items) in
+        let room : length second.rows.items < 128 = omega (arith, found.most, first.some, ap length same, length-append first.rows.items second.rows.items) in
         let whole = page_between o (take place pages ++ first ∷ []) (drop (suc place) pages) second front_passed h.ahead room in
         let at : length (take place pages ++ first ∷ []) ≡ place + 1 =
         length-append (take place pages) (first ∷ []) ∙ ap (λ (k : ℕ). k + 1) (length-take-le place pages (omega (arith, low))) in
@@ -356,8 +356,8 @@ module _ (o : List ℕ) (pages : List Page) (place : ℕ) (w : IsPageWithRoom o 
   pub rising_found : ArePages pages → IsRising found.rows.items
   rising_found rising = subst (λ (p : Page). IsRising p.rows.items) (sym is_page) (page_rising pages place w.page w.at rising)
 
-  pub room_found : length found.rows.items < 256
-  room_found = subst (λ (p : Page). length p.rows.items < 256) (sym is_page) w.room
+  pub room_found : length found.rows.items < 128
+  room_found = subst (λ (p : Page). length p.rows.items < 128) (sym is_page) w.room
 
   pub put_found : (v : Datum) (new : Page) → entries_of new.rows.items ≡ put (slice_cmp nat_cmp) o v (entries_of found.rows.items)
       → entries_in (slice_set pages place new) ≡ put (slice_cmp nat_cmp) o v (entries_in pages)

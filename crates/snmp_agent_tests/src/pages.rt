@@ -106,7 +106,7 @@ fn is_read(alloc: Global, count: u32, step: u32) -> Option<bool> {
 #[test]
 fn rows_are_read_around_the_size_of_a_page(rt: HostRuntime) {
     // A step that has no factor in common with a count comes to each number once.
-    for &count in &[0, 1, 255, 256, 257, 512, 513] {
+    for &count in &[0, 1, 127, 128, 129, 255, 256, 257, 512, 513] {
         assert!(rt;
             is_read(rt.alloc(), count, 1) == Some(true),
             "{count} rows that rise"
@@ -180,8 +180,8 @@ fn is_changed_at(alloc: Global, count: u32, place: u32) -> Option<bool> {
 
 #[test]
 fn rows_change_at_the_ends_and_in_the_middle_of_each_page(rt: HostRuntime) {
-    // Rows that are read in order fill pages of 256.
-    for &count in &[1, 256, 257, 513] {
+    // Rows that are read in order fill pages of 128.
+    for &count in &[1, 128, 129, 256, 257, 513] {
         for &place in &[0, 1, 127, 128, 129, 254, 255, 256, 257, 384, 510, 511, 512] {
             if place < count {
                 assert!(rt;

@@ -107,7 +107,7 @@ fn assert_walked(rt: &impl Abort, alloc: Global, count: u32, step: u32, methods:
                 "{count} rows by {step} in messages of {size} octets"
             );
             // After the first and the last row of a page, and the last of all.
-            for &after in &[0, 255, 256, 511, count.saturating_sub(1)] {
+            for &after in &[0, 127, 128, 255, 256, 511, count.saturating_sub(1)] {
                 assert!(rt;
                     after >= count || is_resumed(rt, alloc, &table, count, after, method, size),
                     "{count} rows by {step} in messages of {size} octets, after {after}"
@@ -121,7 +121,7 @@ fn assert_walked(rt: &impl Abort, alloc: Global, count: u32, step: u32, methods:
 fn tables_around_the_size_of_a_page_are_walked_in_order(rt: HostRuntime) {
     let methods = [Method::Next, Method::Bulk(50)];
     // A step that has no factor in common with a count comes to each number once.
-    for &count in &[0, 1, 255, 256, 257, 512, 513] {
+    for &count in &[0, 1, 127, 128, 129, 255, 256, 257, 512, 513] {
         assert_walked(&rt, rt.alloc(), count, 1, &methods);
         assert_walked(&rt, rt.alloc(), count, 101, &methods);
     }

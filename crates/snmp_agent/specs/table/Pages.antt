@@ -76,7 +76,7 @@ pub record IsPageWithRoom (o : List ℕ) (pages : List Page) (place : ℕ) : Typ
   pub page_of : IsPageOf o pages place
   pub page : Page
   pub at : slice_get pages place ≡ Some page
-  pub room : length page.rows.items < 256
+  pub room : length page.rows.items < 128
 
 -- the page at this place has a row at that one
 abbrev pub IsRowIn : List Page → ℕ → ℕ → Type 0

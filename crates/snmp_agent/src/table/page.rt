@@ -7,7 +7,7 @@ use snmp_wire::{EncodedBinding, EncodedName};
 use std::alloc::{AllocError, Global};
 
 /// How many rows a page has at most.
-pub const PAGE_ROWS: usize = 256;
+pub const PAGE_ROWS: usize = 128;
 
 /// Rows that a change moves together.
 #[derive(Drop)]
@@ -15,7 +15,7 @@ pub struct Page {
     /// The rows, of which there is one at least.
     pub rows: Vec<EncodedBinding>,
     ghost some: { 1 ≤ length rows.items },
-    ghost most: { length rows.items ≤ 256 },
+    ghost most: { length rows.items ≤ 128 },
 }
 
 impl Page {
@@ -39,7 +39,7 @@ impl Page {
 
     /// Appends a row.
     pub fn push(&mut self, row: EncodedBinding) -> Result<(), AllocError>
-        requires { length self.old.rows.items < 256 }
+        requires { length self.old.rows.items < 128 }
         ensures pushed { IfOk result (λ _. self.new.rows.items ≡ self.old.rows.items ++ row ∷ []) }
         ensures unchanged_on_error { IfErr result (λ _. self.new.rows.items
             ≡ self.old.rows.items) }
@@ -54,7 +54,7 @@ impl Page {
     /// returns whether there was one.
     pub fn put(&mut self, row: EncodedBinding) -> Result<bool, AllocError>
         requires rising { IsRising self.old.rows.items }
-        requires room { length self.old.rows.items < 256 }
+        requires room { length self.old.rows.items < 128 }
         ensures put { IfOk result (λ _. entries_of self.new.rows.items
             ≡ put (slice_cmp nat_cmp) row.name row.value (entries_of self.old.rows.items)) }
         ensures replaced { IfOk result (λ replaced. replaced

@@ -11,7 +11,7 @@ returns-then-len-lt-PAGE_ROWS-clause-place c =
     let found = c.index.result.now in
     let here : IsPageOf c.args.name.now pages place = subst (λ (ps : List Page). IsPageOf c.args.name.now ps place) c.as_slice.ensures.value
     c.page_of-place.ensures in
-    let room : length found.rows.items < 256 = search rules in
+    let room : length found.rows.items < 128 = search rules in
     record {
       page_of = here;
       page = found;
