@@ -31,14 +31,16 @@ use Rattle.std.proofs.Common.{
   None,
 }
 use Rattle.std.specs.Prelude.{unwrap_or, IfSome, IfNone}
-use Rattle.std.proofs.lemmas.List.{drop_all, take_all, take_more, take-append-le}
+use Rattle.std.proofs.lemmas.List.{take_more, take-append-le}
 use Rattle.snmp_agent.specs.table.Table.{MibView, IsMibView}
 use Rattle.snmp_agent.specs.Reply.{agent_of, IsReply, IsDropped}
 use Rattle.snmp_agent.specs.declared.config.Config.{Config}
 use Rattle.snmp_agent.specs.declared.config.Why.{Why}
 use Rattle.snmp_walk.specs.Link.{Agents, OneOf, AreViews}
 use Rattle.snmp_walk.specs.Traffic.{datagram_at, latest, received, Gives, Receives}
-use Rattle.snmp_walk.specs.Memory.{agents_over, IsNextNumber, IsTableFor}
+use Rattle.snmp_walk.specs.Memory.{agents_of, agents_over, traffic_of, IsNextNumber, IsTableFor}
+use Rattle.snmp_walk.specs.Memory.{UsesDelivery}
+use Rattle.snmp_walk.specs.declared.memory.MemoryLink.{MemoryLink}
 use Rattle.snmp_walk.specs.Arena.{Store}
 use Rattle.std.proofs.lemmas.Option.{slice_get-get_or}
 
@@ -135,6 +137,18 @@ pub as_before : (P : Agents → List ℕ → List (List ℕ) → Type 0) (agents
 as_before P agents a uses u store s e f g h =
     subst (λ (x : Agents). P x uses store.datagrams) e
     (subst (λ (x : List ℕ). P a x store.datagrams) f (subst (λ (x : Store). P a u x.datagrams) g h))
+
+-- a delivery that was used stays the one used, where the rest of the link stays the same
+pub still_used : (old used new : MemoryLink) (number : ℕ) → UsesDelivery old number used
+    → agents_of new ≡ agents_of used → new.uses ≡ used.uses → new.arena ≡ used.arena
+    → (traffic_of new).ahead ≡ (traffic_of used).ahead → UsesDelivery old number new
+still_used old used new number was agents uses arena ahead = record {
+  agents = agents ∙ was.agents;
+  uses = ap (λ u. u.now) uses ∙ was.uses;
+  sent = ap (λ (s : Store). s.datagrams) arena ∙ was.sent;
+  next = subst (IsNextNumber (traffic_of old).sent (traffic_of old).ahead number) (sym ahead)
+      was.next;
+}
 
 -- the table at a place of `uses`,
 pub table_found : (tables : List MibView) (uses : List ℕ) (number i place : ℕ) (d : MibView) → 0 < number → i ≡ number - 1 → i < length uses

@@ -135,19 +135,25 @@ impl<'a> MemoryLink<'a> {
     }
 
     /// Writes the agent's reply to the datagram of this number, and returns its length, if there is
-    /// one.
-    fn reply_to(&self, number: usize, out: &mut [u8; 65507], hint: &mut Hint) -> Option<usize>
+    /// one. Of the link only the hint changes, which is lent where it stands.
+    fn reply_to(&mut self, number: usize, out: &mut [u8; 65507]) -> Option<usize>
         ensures length { IfSome result (λ n. n ≤ 65507) }
         ensures room { length out.new ≡ 65507 }
-        ensures reply { Gives (agents_of self.now) (datagram_at self.now.arena.datagrams number)
+        ensures reply { Gives (agents_of self.old) (datagram_at self.old.arena.datagrams number)
             (received result out.new) }
-        ensures table { IfSome result (λ n. IsReplyOf (agents_of self.now) self.now.uses.now
-            self.now.arena.datagrams number (take n out.new)) }
-        ensures none { IfNone result (HasNoReplyOf (agents_of self.now) self.now.uses.now
-            self.now.arena.datagrams number) }
+        ensures table { IfSome result (λ n. IsReplyOf (agents_of self.old) self.old.uses.now
+            self.old.arena.datagrams number (take n out.new)) }
+        ensures none { IfNone result (HasNoReplyOf (agents_of self.old) self.old.uses.now
+            self.old.arena.datagrams number) }
+        ensures arena { self.new.arena ≡ self.old.arena }
+        ensures agents { agents_of self.new ≡ agents_of self.old }
+        ensures uses { self.new.uses ≡ self.old.uses }
+        ensures ahead { (traffic_of self.new).ahead ≡ (traffic_of self.old).ahead }
+        ensures count { self.new.fault_count ≡ self.old.fault_count }
     {
+        let table = self.table_for(number);
         let datagram = self.arena.datagram(number)?;
-        match answer_near(self.table_for(number), &self.config, datagram, out, hint) {
+        match answer_near(table, &self.config, datagram, out, &mut self.hint) {
             Outcome::Reply(length) => Some(length),
             Outcome::Dropped(_) => None,
         }
@@ -230,10 +236,7 @@ impl<'a> Link for MemoryLink<'a> {
             return Err(LinkFault);
         };
         let number = self.next_number();
-        let mut hint = self.hint;
-        let got = self.reply_to(number, out, &mut hint);
-        self.hint = hint;
-        Ok(got)
+        Ok(self.reply_to(number, out))
     }
 
     fn faults(&self) -> u64 {
