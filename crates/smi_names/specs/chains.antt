@@ -4,3 +4,4 @@ pub mod Order
 pub mod Search
 pub mod Resolving
 pub mod Ends
+pub mod Shared

@@ -8,8 +8,10 @@ mod basis;
 mod chain;
 mod order;
 mod resolve;
+mod shared;
 
 pub use basis::{Basis, Resolution};
 pub use chain::ends;
 pub use order::ordered;
 pub use resolve::resolutions;
+pub(crate) use shared::{Shared, shared_resolutions};

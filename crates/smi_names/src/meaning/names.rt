@@ -8,7 +8,7 @@ ghost use Rattle.smi_names.specs.meaning.Meaning.{origin, module_named, decision
 ghost use Rattle.smi_names.specs.meaning.Scopes.{decision_of};
 ghost use Rattle.smi_names.specs.meaning.Names.{module_place};
 
-use crate::chains::{Resolution, resolutions};
+use crate::chains::{Resolution, Shared, shared_resolutions};
 use crate::hash::NameHash;
 use crate::meaning::directory::{Directory, find, homes, scopes};
 use crate::meaning::entries::Entries;
@@ -24,19 +24,22 @@ use std::marker::Model;
 pub struct Names<'a> {
     modules: &'a [Module],
     directory: Directory<'a>,
-    resolutions: Vec<Resolution>,
+    resolutions: Shared,
 }
 
 impl<'a> Model for Names<'a> {
     ghost use Rattle.std.specs.Prelude.{List};
     ghost use Rattle.smi_text.specs.declared.trees.tree.Module.{Module};
+    ghost use Rattle.smi_names.specs.chains.Shared.{shared, AreWithin};
     ghost use Rattle.smi_names.specs.meaning.Resolved.{AreResolutions};
 
     ghost Value = { List Module };
 
     ghost view = { λ s. s.modules.now };
 
-    ghost invariant = { λ s. AreResolutions s.modules.now s.directory s.resolutions.items };
+    ghost invariant = { λ s. AreWithin s.resolutions.list.items s.resolutions.places.items
+        × AreResolutions s.modules.now s.directory
+        (shared s.resolutions.list.items s.resolutions.places.items) };
 }
 
 impl<'a> Names<'a> {
@@ -56,7 +59,7 @@ impl<'a> Names<'a> {
             entries,
         };
         let bases = directory.bases(alloc)?;
-        let resolutions = resolutions(alloc, &bases)?;
+        let resolutions = shared_resolutions(alloc, &bases)?;
         Ok(Names {
             modules,
             directory,

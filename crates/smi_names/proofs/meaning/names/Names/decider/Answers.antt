@@ -19,7 +19,7 @@ returns-in_err-entry c =
     let there : slice_get es (place_by d a) ≡ None = looked_up es (place_by d a) c.get.result found.3 ∙ rw none refl in
     rw (out, sym c.self.view_is)
     (let says = decided_at a (slice_get es (place_by d a)) (module_named c.self.inside.modules.now a.home)
-    (entry_at c.self.inside.modules.now d c.self.invariant.directory a) in
+    (entry_at c.self.inside.modules.now d c.self.invariant.1.directory a) in
     rw there at says)
 
 pub returns : goal.returns
@@ -34,5 +34,5 @@ returns c =
     let there : slice_get es (place_by d a) ≡ Some c.in_ok-entry.entry.now = looked_up es (place_by d a) c.get.result found.3 ∙ rw some refl in
     rw (sym c.self.view_is)
     (let says = decided_at a (slice_get es (place_by d a)) (module_named c.self.inside.modules.now a.home)
-    (entry_at c.self.inside.modules.now d c.self.invariant.directory a) in
+    (entry_at c.self.inside.modules.now d c.self.invariant.1.directory a) in
     rw there at says)

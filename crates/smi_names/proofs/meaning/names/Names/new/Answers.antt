@@ -1,5 +1,6 @@
 -- What is made is resolved.
 use Rattle.std.proofs.Common.{◌≡◌}
+use Rattle.smi_names.specs.chains.Shared.{shared}
 use Rattle.smi_names.specs.meaning.Resolved.{IsDirectory}
 use Rattle.smi_names.specs.declared.meaning.directory.Directory.{Directory}
 use Rattle.smi_names.proofs.Equating.{AreResolutions-all}
@@ -12,4 +13,4 @@ invariant_of-result c =
     let list : c.deref.result.now ≡ c.in_ok-bases.bases.items = c.deref.ensures.value in
     let long = rw list at c.in_ok-resolutions.ensures.length in
     let each = rw list at c.in_ok-resolutions.ensures.each in
-    AreResolutions-all c.args.modules.now d dir c.in_ok-bases.bases.items c.in_ok-bases.ensures c.in_ok-resolutions.resolutions.items long each
+    (c.in_ok-resolutions.ensures.within, AreResolutions-all c.args.modules.now d dir c.in_ok-bases.bases.items c.in_ok-bases.ensures (shared c.in_ok-resolutions.resolutions.list.items c.in_ok-resolutions.resolutions.places.items) long each)

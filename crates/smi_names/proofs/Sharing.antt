@@ -1,0 +1,46 @@
+-- Resolutions that are kept once: the list grows, and what is there stays.
+use Rattle.std.proofs.Common.{◌≡◌, ℕ, zero, suc, ◌+◌, ◌<◌, ◌≤◌, Bool, true, false, cond, nat_le, List, [], ◌∷◌, ◌++◌, length, set}
+use Rattle.std.proofs.Common.{replicate, refl, ap, ◌∙◌, arith, length-append}
+use Rattle.std.proofs.lemmas.List.{append-nil, get_or_append_left, map-set}
+use Rattle.std.proofs.lemmas.List.Elements.{All-head, All-tail, All-set, All-weaker}
+use borrow.Author.Tests.{leb-false}
+use Rattle.smi_names.specs.chains.Resolving.{followed_by, resolution_at}
+use Rattle.smi_names.specs.chains.Shared.{shared, AreWithin, HasReasons, GrowsTo}
+use Rattle.smi_names.specs.declared.chains.basis.Resolution.{Resolution}
+use Rattle.smi_names.specs.declared.chains.basis.Resolution.TheVariants as R
+
+-- with no numbers after it an identifier is the same
+pub followed_by_none : (o : List ℕ) → length o ≤ 128 → followed_by (R.Numbers o) [] ≡ R.Numbers o
+followed_by_none o short = by (nat_le (length o + 0) 128) refl
+  where
+    by : (b : Bool) → nat_le (length o + 0) 128 ≡ b → cond b (R.Numbers (o ++ [])) R.TooLong ≡ R.Numbers o
+    by true e = ap (λ x. R.Numbers x) (append-nil o)
+    by false e = absurd (omega (arith, leb-false _ _ e))
+
+-- what stands in the list stays where it is
+shared-append : (list added : List Resolution) (places : List ℕ) → AreWithin list places → shared (list ++ added) places ≡ shared list places
+shared-append list added [] within = refl
+shared-append list added (k ∷ places) within =
+    rw (
+      get_or_append_left list added R.Unresolved k (All-head (λ x. x < length list) k places within),
+      shared-append list added places (All-tail (λ x. x < length list) k places within),
+    ) refl
+
+pub shared-grown : (old new : List Resolution) (places : List ℕ) (p at : ℕ) (r : Resolution) → AreWithin old places → GrowsTo old new at r
+    → shared new (set places p at) ≡ set (shared old places) p r
+shared-grown old new places p at r within g =
+    map-set (λ k. resolution_at new k) places p at
+    ∙ rw (g.there, g.grown) (ap (λ rs. set rs p r) (shared-append old g.added places within))
+
+pub AreWithin-grown : (old new : List Resolution) (places : List ℕ) (p at : ℕ) (r : Resolution) → AreWithin old places → GrowsTo old new at r
+    → AreWithin new (set places p at)
+AreWithin-grown old new places p at r within g =
+    All-set (λ k. k < length new) places p at g.inside
+    (All-weaker (λ k. k < length old) (λ k. k < length new) (λ k l. omega (arith, l, ap length g.grown, length-append old g.added)) places within)
+
+pub HasReasons-grown : (old new : List Resolution) (at : ℕ) (r : Resolution) → HasReasons old → GrowsTo old new at r → HasReasons new
+HasReasons-grown old new at r has g = (has.0 ++ g.added, rw (g.grown, has.1) refl)
+
+pub shared-start : (list : List Resolution) (n : ℕ) → resolution_at list 1 ≡ R.Cycle → shared list (replicate n 1) ≡ replicate n R.Cycle
+shared-start list zero e = refl
+shared-start list (suc n) e = rw (e, shared-start list n e) refl

@@ -1,0 +1,23 @@
+-- No numbers are added.
+use Rattle.std.proofs.Common.{rules, ◌≡◌, [], length, get_or, sym, ◌∙◌}
+use Rattle.std.proofs.lemmas.List.{append-nil, get_or_default, nil_from_length}
+use Rattle.smi_names.specs.chains.Resolving.{resolution_at}
+use Rattle.smi_names.specs.declared.chains.basis.Resolution.TheVariants as R
+use Rattle.smi_names.proofs.Sharing.{followed_by_none}
+use Rattle.smi_names.proofs.chains.shared.followed.Goals as goal
+
+pub returns-then-len-le-MAX_LEN : goal.returns-then-len-le-MAX_LEN
+returns-then-len-le-MAX_LEN c =
+    let none : length c.args.numbers.now ≡ 0 = search rules in
+    let is : c.index.result.now ≡ R.Numbers c.in-Numbers.oid = search rules in
+    let at : get_or c.args.list.now.items c.args.at c.index.result.now ≡ c.index.result.now = search rules in
+    let there : resolution_at c.args.list.now.items c.args.at ≡ R.Numbers c.in-Numbers.oid =
+    get_or_default c.args.list.now.items c.args.at R.Unresolved c.index.result.now c.requires.inside ∙ at ∙ is in
+    record {
+      grown = record {
+        added = [];
+        grown = sym (append-nil c.args.list.now.items);
+        inside = c.requires.inside;
+        there = rw (nil_from_length c.args.numbers.now none, there) (sym (followed_by_none c.in-Numbers.oid c.len.ensures.at_most_128));
+      };
+    }
