@@ -105,6 +105,11 @@ impl<'a> Names<'a> {
         self.resolutions.get(place)
     }
 
+    /// Three more than the identifiers that are kept: a guess at the room that nodes take.
+    pub(crate) fn identifiers(&self) -> usize {
+        self.resolutions.list.len()
+    }
+
     /// What decides the meaning of a name in the module of a name.
     pub fn decider(&self, home: &'a [u8], name: &'a [u8]) -> Option<Decider<'a>>
         ensures { option_map decision_of result

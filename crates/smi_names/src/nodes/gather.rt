@@ -1,6 +1,6 @@
 //! The nodes and warnings that modules give, in order of loading.
-ghost use Rattle.std.specs.Prelude.{◌≡◌, List, [], ◌∷◌, length, take, Some, OnOk, IfOk, slice_get};
-ghost use Rattle.std.specs.Prelude.{false};
+ghost use Rattle.std.specs.Prelude.{◌≡◌, List, [], ◌∷◌, ◌++◌, length, take, Some, OnOk, IfOk};
+ghost use Rattle.std.specs.Prelude.{false, slice_get};
 ghost use Rattle.smi_names.specs.meaning.Meaning.{module_named};
 ghost use Rattle.smi_names.specs.nodes.Nodes.{is_loaded};
 ghost use Rattle.smi_names.specs.nodes.Gathered.{GrowsByDefinition, AddsDefinition};
@@ -38,6 +38,15 @@ fn single(number: u32) -> Oid
     oid
 }
 
+/// Appends a copy of an identifier, which is moved once: an identifier takes some 500 octets.
+fn push_copy(oids: &mut Vec<Oid>, oid: &Oid) -> Result<(), AllocError>
+    ensures pushed { OnOk result (oids.new.items ≡ oids.old.items ++ oid.now ∷ []) }
+{
+    oids.reserve(1)?;
+    oids.push_reserved(oid.copy());
+    Ok(())
+}
+
 /// Whether one of the modules before this place has the name of a module.
 fn is_double<'a>(names: &Names<'a>, module: &'a Module, place: usize) -> bool
     ensures { result ≡ is_loaded (take place names.now) «module».now.name.octets }
@@ -64,7 +73,7 @@ impl Gathered {
         let warning = match resolution {
             Resolution::Numbers(oid) => {
                 self.sources.push(source)?;
-                self.oids.push(oid.copy())?;
+                push_copy(&mut self.oids, oid)?;
                 return Ok(());
             }
             Resolution::Cycle => Warning::Cycle(
@@ -175,12 +184,12 @@ impl Gathered {
         self.add_loaded(alloc, names, module, place)
     }
 
-    /// The roots alone (RFC 2578, section 2).
-    fn roots(alloc: Global) -> Result<Gathered, AllocError>
+    /// The roots alone (RFC 2578, section 2), with room for this many nodes.
+    fn roots(alloc: Global, room: usize) -> Result<Gathered, AllocError>
         ensures { IfOk result (λ gathered. (ms : List Module) → AreGathered ms gathered []) }
     {
-        let mut sources = Vec::new(alloc);
-        let mut oids = Vec::new(alloc);
+        let mut sources = Vec::with_capacity(alloc, room)?;
+        let mut oids = Vec::with_capacity(alloc, room)?;
         sources.push(Source::Root(0))?;
         oids.push(single(0))?;
         sources.push(Source::Root(1))?;
@@ -192,6 +201,18 @@ impl Gathered {
             oids,
             warnings: Vec::new(alloc),
         })
+    }
+
+    /// Gives back room that is more than the nodes take, as modules of one name leave.
+    fn trim(&mut self)
+        ensures sources { self.new.sources.items ≡ self.old.sources.items }
+        ensures oids { self.new.oids.items ≡ self.old.oids.items }
+        ensures warnings { self.new.warnings ≡ self.old.warnings }
+    {
+        if self.oids.capacity() / 2 > self.oids.len() {
+            self.sources.shrink_to_fit();
+            self.oids.shrink_to_fit();
+        }
     }
 }
 
@@ -205,9 +226,11 @@ pub fn gather_nodes<'a>(
     requires { names.now ≡ modules.now }
     ensures { IfOk result (λ gathered. AreGathered modules.now gathered modules.now) }
 {
-    let mut gathered = Gathered::roots(alloc)?;
+    // Most nodes have an identifier that no other has.
+    let mut gathered = Gathered::roots(alloc, names.identifiers())?;
     'modules: for (i, module) in modules.iter().enumerate() {
         gathered.add_module(alloc, names, module, i)?;
     }
+    gathered.trim();
     Ok(gathered)
 }
