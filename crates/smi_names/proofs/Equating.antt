@@ -8,15 +8,16 @@ use Rattle.std.specs.List.{slice_get, find, position_from, HoldsAt}
 use Rattle.std.specs.Option.{option_and_then, option_map}
 use Rattle.std.specs.Borrow.{Bor}
 use Rattle.smi_names.specs.chains.Chain.{nowhere}
-use Rattle.smi_names.specs.chains.Basis.{origin_of, origin_at, ComesTo, EachComesTo}
-use Rattle.smi_names.specs.declared.chains.basis.Basis.{Basis}
+use Rattle.smi_names.specs.chains.Basis.{ComesTo, EachComesTo}
+use Rattle.smi_names.specs.chains.Link.{origin_of_link, origin_by_link}
+use Rattle.smi_names.specs.declared.chains.link.Link.{Link}
 use Rattle.smi_names.specs.declared.chains.basis.Resolution.{Resolution}
 use Rattle.smi_text.specs.trees.Mark.{same_text}
 use Rattle.smi_text.specs.declared.trees.tree.Module.{Module}
 use Rattle.smi_names.specs.meaning.Meaning.{QualifiedName, Decision, decision, origin, origin_by, origin_in, module_named}
 use Rattle.smi_names.specs.meaning.Scopes.{NamePlaces, content_of, decision_of, place_in, known, decided_as, IsDecided}
 use Rattle.smi_names.specs.meaning.Names.{map_origin, IsSourced}
-use Rattle.smi_names.specs.meaning.Directory.{place_by, place_of_entry, is_entry_of, AreBases}
+use Rattle.smi_names.specs.meaning.Directory.{place_by, place_of_entry, is_entry_of, AreLinks}
 use Rattle.smi_names.specs.meaning.Resolved.{IsDirectory, AreResolutions}
 use Rattle.smi_names.specs.declared.meaning.entry.Entry.{Entry}
 use Rattle.smi_names.specs.declared.meaning.directory.Directory.{Directory}
@@ -27,10 +28,10 @@ use Rattle.smi_names.proofs.Placing.{get-push, module_found, module_missing}
 past_get : {X : Type 0} (xs : List X) (i : ℕ) → slice_get xs i ≡ None → length xs ≤ i
 past_get xs i e = elim (cases_lt i (length xs)) [ inl l ↦ let r = get_within xs i l in let h = r.1 in absurd (cc) | inr l ↦ l ]
 
-pub AreBases-more : (d : Directory) (es : List Entry) (bs : List Basis) (e : Entry) (b : Basis) → AreBases d es bs
-    → origin_of b ≡ map_origin (place_by d) (origin_by (place_of_entry e) (Some (content_of e).decided))
-    → AreBases d (es ++ e ∷ []) (bs ++ b ∷ [])
-AreBases-more d es bs e b are says = record {
+pub AreLinks-more : (d : Directory) (es : List Entry) (bs : List Link) (e : Entry) (b : Link) → AreLinks d es bs
+    → origin_of_link b ≡ map_origin (place_by d) (origin_by (place_of_entry e) (Some (content_of e).decided))
+    → AreLinks d (es ++ e ∷ []) (bs ++ b ∷ [])
+AreLinks-more d es bs e b are says = record {
   long = length_push bs b ∙ rw are.long (sym (length_push es e));
   each = λ p x y ex ey. elim (cases_eq p (length es)) [
     | inl end ↦
@@ -84,18 +85,18 @@ entry_at ms d dir a = by (place_in d.homes a.home) refl
         let s = get_within d.scopes.items i (omega (arith, slice_get_within ms i found.0 at, dir.named.long)) in
         rw (s.1, found.2) (inner m s.0 (dir.named.each i m s.0 at s.1 a.name) (place_in s.0 a.name) refl)
 
-origin_there : (xs : List Basis) (p : ℕ) (b : Basis) → slice_get xs p ≡ Some b → origin_at xs p ≡ origin_of b
+origin_there : (xs : List Link) (p : ℕ) (b : Link) → slice_get xs p ≡ Some b → origin_by_link xs p ≡ origin_of_link b
 origin_there [] p b e = absurd (cc)
 origin_there (x ∷ xs) zero b e = let is : x ≡ b = cc in rw is refl
 origin_there (x ∷ xs) (suc p) b e = origin_there xs p b e
 
 -- the origin of a place is that of its name
-pub origins : (ms : List Module) (d : Directory) → IsDirectory ms d → (bs : List Basis) → AreBases d d.entries.items bs → (a : QualifiedName)
-    → origin_at bs (place_by d a) ≡ map_origin (place_by d) (origin ms a)
+pub origins : (ms : List Module) (d : Directory) → IsDirectory ms d → (bs : List Link) → AreLinks d d.entries.items bs → (a : QualifiedName)
+    → origin_by_link bs (place_by d a) ≡ map_origin (place_by d) (origin ms a)
 origins ms d dir bs are a = by (slice_get d.entries.items (place_by d a)) refl
   where
-    origin_past : (p : ℕ) → length bs ≤ p → origin_at bs p ≡ nowhere
-    origin_past p l = get_or_past (map origin_of bs) p nowhere (omega (arith, length-map bs origin_of))
+    origin_past : (p : ℕ) → length bs ≤ p → origin_by_link bs p ≡ nowhere
+    origin_past p l = get_or_past (map origin_of_link bs) p nowhere (omega (arith, length-map bs origin_of_link))
 
     undecided : (r : Option Module) → None ≡ option_and_then (λ m. decided_as m a.name (decision m a.name)) r → origin_in a r ≡ nowhere
     undecided None e = refl
@@ -120,7 +121,7 @@ origins ms d dir bs are a = by (slice_get d.entries.items (place_by d a)) refl
             let decided : (content_of e).decided ≡ v = ap (λ x. x.decided) is in
             rw (home, name, decided) refl
 
-    by : (r : Option Entry) → slice_get d.entries.items (place_by d a) ≡ r → origin_at bs (place_by d a) ≡ map_origin (place_by d) (origin ms a)
+    by : (r : Option Entry) → slice_get d.entries.items (place_by d a) ≡ r → origin_by_link bs (place_by d a) ≡ map_origin (place_by d) (origin ms a)
     by None e =
         let none = undecided (module_named ms a.home) (rw e at (entry_at ms d dir a)) in
         rw (origin_past (place_by d a) (omega (arith, past_get d.entries.items (place_by d a) e, are.long)), none) refl
@@ -131,9 +132,9 @@ origins ms d dir bs are a = by (slice_get d.entries.items (place_by d a)) refl
         origin_there bs (place_by d a) b.0 b.1 ∙ are.each (place_by d a) x b.0 e b.1 ∙ ap (map_origin (place_by d)) says
 
 -- the origin of an entry's place is that of the entry's name, where its module is the first of its name
-entry_origin : (ms : List Module) (d : Directory) → IsDirectory ms d → (bs : List Basis) → AreBases d d.entries.items bs → (p : ℕ) (e : Entry)
+entry_origin : (ms : List Module) (d : Directory) → IsDirectory ms d → (bs : List Link) → AreLinks d d.entries.items bs → (p : ℕ) (e : Entry)
     → slice_get d.entries.items p ≡ Some e → module_named ms e.«module».now.name.octets ≡ Some e.«module».now
-    → origin_at bs p ≡ map_origin (place_by d) (origin ms (place_of_entry e))
+    → origin_by_link bs p ≡ map_origin (place_by d) (origin ms (place_of_entry e))
 entry_origin ms d dir bs are p e at named =
     let within = slice_get_within d.entries.items p e at in
     let b = get_within bs p (omega (arith, within, are.long)) in
@@ -141,19 +142,19 @@ entry_origin ms d dir bs are p e at named =
     let from : origin ms (place_of_entry e) ≡ origin_by (place_of_entry e) (Some (content_of e).decided) = rw (named, decided) refl in
     origin_there bs p b.0 b.1 ∙ are.each p e b.0 at b.1 ∙ ap (map_origin (place_by d)) (sym from)
 
-pub AreResolutions-all : (ms : List Module) (d : Directory) → IsDirectory ms d → (bs : List Basis) → AreBases d d.entries.items bs → (rs : List Resolution)
-    → length rs ≡ length bs → EachComesTo (origin_at bs) rs → AreResolutions ms d rs
+pub AreResolutions-all : (ms : List Module) (d : Directory) → IsDirectory ms d → (bs : List Link) → AreLinks d d.entries.items bs → (rs : List Resolution)
+    → length rs ≡ length bs → EachComesTo (origin_by_link bs) rs → AreResolutions ms d rs
 AreResolutions-all ms d dir bs are rs long each = record {
   directory = dir;
-  comes = λ a r e. ComesTo-back (place_by d) (origin ms) (origin_at bs) (origins ms d dir bs are) a r
+  comes = λ a r e. ComesTo-back (place_by d) (origin ms) (origin_by_link bs) (origins ms d dir bs are) a r
       (rw (get_or_from_slice_get rs (place_by d a) r r e) at (each (place_by d a) r (slice_get_within rs (place_by d a) r e)));
   long = long ∙ are.long;
-  entries = λ p e r at there named. ComesTo-at (place_by d) (origin ms) (origin_at bs) (origins ms d dir bs are) p (place_of_entry e) r
+  entries = λ p e r at there named. ComesTo-at (place_by d) (origin ms) (origin_by_link bs) (origins ms d dir bs are) p (place_of_entry e) r
       (entry_origin ms d dir bs are p e at named)
       (rw (get_or_from_slice_get rs p r r there) at (each p r (slice_get_within rs p r there)));
   leads_nowhere = λ a e. from_nowhere (place_by d) (origin ms a)
       (sym (origins ms d dir bs are a)
-      ∙ get_or_past (map origin_of bs) (place_by d a) nowhere (omega (arith, length-map bs origin_of, past_get rs (place_by d a) e)));
+      ∙ get_or_past (map origin_of_link bs) (place_by d a) nowhere (omega (arith, length-map bs origin_of_link, past_get rs (place_by d a) e)));
 }
 
 -- what `get` gives

@@ -5,22 +5,16 @@ use Rattle.std.proofs.lemmas.List.{get_or-set_same, get_or-set_other, length-set
 use Rattle.std.proofs.lemmas.List.Elements.{Contains-push_cases}
 use Rattle.std.proofs.lemmas.Bool.{cases_lt, cases_eq}
 use borrow.Author.Tests.{leb-true, leb-false}
-use Rattle.smi_names.specs.chains.Chain.{Origin, after, nowhere, next_of, HasEnd, ends, leads_on, HasIdentifier, by_itself, after_another, here, further}
-use Rattle.smi_names.specs.chains.Basis.{origin_of, origin_at, ComesTo, EachComesTo}
-use Rattle.smi_names.specs.chains.Resolving.{lengthened, followed_by, resolution_at, resolution_of}
+use Rattle.smi_names.specs.chains.Chain.{Origin, numbers, after, nowhere, next_of, HasEnd, ends}
+use Rattle.smi_names.specs.chains.Chain.{leads_on, HasIdentifier, by_itself, after_another}
+use Rattle.smi_names.specs.chains.Chain.{here, further}
+use Rattle.smi_names.specs.chains.Basis.{origin_of, ComesTo, EachComesTo}
+use Rattle.smi_names.specs.chains.Resolving.{lengthened, followed_by, resolution_at, resolution_of, resolution_by}
 use Rattle.smi_names.specs.chains.Order.{next_at, ComeAfterNext}
 use Rattle.smi_names.specs.declared.chains.basis.Basis.{Basis}
 use Rattle.smi_names.specs.declared.chains.basis.Basis.TheVariants as B
 use Rattle.smi_names.specs.declared.chains.basis.Resolution.{Resolution}
 use Rattle.smi_names.specs.declared.chains.basis.Resolution.TheVariants as R
-
-abbrev pub nexts : List Basis → List (Option ℕ)
-nexts bs = map (λ b. next_of (origin_of b)) bs
-
-pub nexts_at : (bs : List Basis) (p : ℕ) → next_at (nexts bs) p ≡ next_of (origin_at bs p)
-nexts_at [] p = refl
-nexts_at (b ∷ bs) zero = refl
-nexts_at (b ∷ bs) (suc p) = nexts_at bs p
 
 pub HasEnd-same : (f g : ℕ → Option ℕ) → ((a : ℕ) → f a ≡ g a) → {a : ℕ} → HasEnd f a → HasEnd g a
 HasEnd-same f g same {a} (ends e) = ends (sym (same a) ∙ e)
@@ -44,11 +38,11 @@ module _ (origin : ℕ → Origin ℕ) where
   followed_comes p q ns R.Unresolved e c = further e c
   followed_comes p q ns R.TooLong e c = (c.0 ++ ns, after_another e c.1, omega (arith, length-append c.0 ns, c.2))
 
-  step_comes : (p : ℕ) (b : Basis) (rs : List Resolution) → origin p ≡ origin_of b
-      → ((q : ℕ) → next_of (origin p) ≡ Some q → ComesTo origin q (resolution_at rs q)) → ComesTo origin p (resolution_of b rs)
-  step_comes p (B.Numbers v) rs e f = lengthened_comes p [] v.items (by_itself e)
-  step_comes p (B.After q v) rs e f = followed_comes p q v.items (resolution_at rs q) e (f q (ap next_of e))
-  step_comes p B.Nowhere rs e f = here e
+  step_comes : (p : ℕ) (o : Origin ℕ) (rs : List Resolution) → origin p ≡ o
+      → ((q : ℕ) → next_of (origin p) ≡ Some q → ComesTo origin q (resolution_at rs q)) → ComesTo origin p (resolution_by o rs)
+  step_comes p (numbers ns) rs e f = lengthened_comes p [] ns (by_itself e)
+  step_comes p (after q ns) rs e f = followed_comes p q ns (resolution_at rs q) e (f q (ap next_of e))
+  step_comes p nowhere rs e f = here e
 
   -- those of the front are right, and each other one is right or still a cycle
   pub record Fills (front : List ℕ) (rs : List Resolution) : Type 0 where
@@ -74,29 +68,8 @@ module _ (origin : ℕ → Origin ℕ) where
       new : (q : ℕ) → q ≡ p → ComesTo origin q (resolution_at (set rs p r) q)
       new q same = rw (same, get_or-set_same rs p r R.Unresolved inside) comes
 
--- beyond the last place there is no meaning
-pub beyond_comes : (bases : List Basis) (rs : List Resolution) (p : ℕ) → length rs ≡ length bases → length bases ≤ p
-    → ComesTo (origin_at bases) p (resolution_at rs p)
-beyond_comes bases rs p long l =
-    rw (get_or_past rs p R.Unresolved (omega arith)) (here (get_or_past (map origin_of bases) p nowhere (omega (arith, length-map bases origin_of))))
-
-pub origin_is : (bases : List Basis) (p : ℕ) (b : Basis) → p < length bases → b ≡ get_or bases p b → origin_at bases p ≡ origin_of b
-origin_is [] p b l e = absurd (omega arith)
-origin_is (x ∷ xs) zero b l e = ap origin_of (sym e)
-origin_is (x ∷ xs) (suc p) b l e = origin_is xs p b (omega arith) e
-
-pub EachComesTo-filled : (bases : List Basis) (order : List ℕ) (rs : List Resolution) → length rs ≡ length bases → Fills (origin_at bases) order rs
-    → ((p : ℕ) → p < length bases → HasEnd (next_at (nexts bases)) p → Contains order p) → EachComesTo (origin_at bases) rs
-EachComesTo-filled bases order rs long fills complete p d l =
-    rw (get_or_default rs p d R.Unresolved l) (elim (fills.other p l) [
-      | inl comes ↦ comes
-      | inr cycle ↦ rw cycle (λ h.
-          let m = complete p (omega arith) (HasEnd-same (λ b. next_of (origin_at bases b)) (next_at (nexts bases)) (λ a. sym (nexts_at bases a)) h) in
-          let right = rw cycle at (fills.right p m) in right h)
-    ])
-
-pub Fills-start : (bases : List Basis) (n : ℕ) → Fills (origin_at bases) [] (replicate n R.Cycle)
-Fills-start bases n = record {
+pub Fills-start : (origin : ℕ → Origin ℕ) (n : ℕ) → Fills origin [] (replicate n R.Cycle)
+Fills-start origin n = record {
   right = λ p m. absurd (omega (arith, m.1));
   other = λ p l. inr (filled n p (omega (arith, long n)));
 }
@@ -110,15 +83,54 @@ Fills-start bases n = record {
     filled (suc n) zero l = refl
     filled (suc n) (suc p) l = filled n p (omega arith)
 
-pub Fills-step : (bases : List Basis) (order : List ℕ) (rs : List Resolution) (i : ℕ) (b : Basis) → length rs ≡ length bases
-    → Fills (origin_at bases) (take i order) rs → i < length order → get_or order i 0 < length bases → b ≡ get_or bases (get_or order i 0) b
-    → ComeAfterNext (nexts bases) order
-    → Fills (origin_at bases) (take (i + 1) order) (set rs (get_or order i 0) (resolution_of b rs))
-Fills-step bases order rs i b long fills l inside found after_next =
-    let p = get_or order i 0 in
-    let comes : ComesTo (origin_at bases) p (resolution_of b rs) =
-    step_comes (origin_at bases) p b rs (origin_is bases p b inside found) (λ q e. elim (cases_lt q (length bases)) [
-      | inl there ↦ fills.right q (after_next i q l (nexts_at bases p ∙ e) (omega (arith, length-map bases (λ x. next_of (origin_of x)))))
-      | inr beyond ↦ beyond_comes bases rs q long beyond
-    ]) in
-    rw (take_more order i 0 l) (Fills-more (origin_at bases) (take i order) rs p (resolution_of b rs) fills (omega arith) comes)
+-- the things at places are bases or links, each with its origin
+module _ {X : Type 0} (origin_of : X → Origin ℕ) where
+  abbrev pub origins : List X → ℕ → Origin ℕ
+  origins xs p = get_or (map origin_of xs) p nowhere
+
+  abbrev pub nexts : List X → List (Option ℕ)
+  nexts xs = map (λ x. next_of (origin_of x)) xs
+
+  pub nexts_at : (xs : List X) (p : ℕ) → next_at (nexts xs) p ≡ next_of (origins xs p)
+  nexts_at [] p = refl
+  nexts_at (x ∷ xs) zero = refl
+  nexts_at (x ∷ xs) (suc p) = nexts_at xs p
+
+  -- beyond the last place there is no meaning
+  beyond_comes : (xs : List X) (rs : List Resolution) (p : ℕ) → length rs ≡ length xs → length xs ≤ p → ComesTo (origins xs) p (resolution_at rs p)
+  beyond_comes xs rs p long l =
+      rw (get_or_past rs p R.Unresolved (omega arith)) (here (get_or_past (map origin_of xs) p nowhere (omega (arith, length-map xs origin_of))))
+
+  origin_is : (xs : List X) (p : ℕ) (x : X) → p < length xs → x ≡ get_or xs p x → origins xs p ≡ origin_of x
+  origin_is [] p x l e = absurd (omega arith)
+  origin_is (y ∷ xs) zero x l e = ap origin_of (sym e)
+  origin_is (y ∷ xs) (suc p) x l e = origin_is xs p x (omega arith) e
+
+  pub EachComesTo-filled : (xs : List X) (order : List ℕ) (rs : List Resolution) → length rs ≡ length xs → Fills (origins xs) order rs
+      → ((p : ℕ) → p < length xs → HasEnd (next_at (nexts xs)) p → Contains order p) → EachComesTo (origins xs) rs
+  EachComesTo-filled xs order rs long fills complete p d l =
+      rw (get_or_default rs p d R.Unresolved l) (elim (fills.other p l) [
+        | inl comes ↦ comes
+        | inr cycle ↦ rw cycle (λ h.
+            let m = complete p (omega arith) (HasEnd-same (λ b. next_of (origins xs b)) (next_at (nexts xs)) (λ a. sym (nexts_at xs a)) h) in
+            let right = rw cycle at (fills.right p m) in right h)
+      ])
+
+  pub Fills-step : (xs : List X) (order : List ℕ) (rs : List Resolution) (i : ℕ) (x : X) → length rs ≡ length xs
+      → Fills (origins xs) (take i order) rs → i < length order → get_or order i 0 < length xs → x ≡ get_or xs (get_or order i 0) x
+      → ComeAfterNext (nexts xs) order
+      → Fills (origins xs) (take (i + 1) order) (set rs (get_or order i 0) (resolution_by (origin_of x) rs))
+  Fills-step xs order rs i x long fills l inside found after_next =
+      let p = get_or order i 0 in
+      let comes : ComesTo (origins xs) p (resolution_by (origin_of x) rs) =
+      step_comes (origins xs) p (origin_of x) rs (origin_is xs p x inside found) (λ q e. elim (cases_lt q (length xs)) [
+        | inl there ↦ fills.right q (after_next i q l (nexts_at xs p ∙ e) (omega (arith, length-map xs (λ y. next_of (origin_of y)))))
+        | inr beyond ↦ beyond_comes xs rs q long beyond
+      ]) in
+      rw (take_more order i 0 l) (Fills-more (origins xs) (take i order) rs p (resolution_by (origin_of x) rs) fills (omega arith) comes)
+
+-- what a basis resolves to is by its origin
+pub resolution_of_basis : (b : Basis) (rs : List Resolution) → resolution_of b rs ≡ resolution_by (origin_of b) rs
+resolution_of_basis (B.Numbers v) rs = refl
+resolution_of_basis (B.After p v) rs = refl
+resolution_of_basis B.Nowhere rs = refl

@@ -4,4 +4,5 @@ pub mod Order
 pub mod Search
 pub mod Resolving
 pub mod Ends
+pub mod Link
 pub mod Shared

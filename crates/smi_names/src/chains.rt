@@ -6,12 +6,14 @@
 
 mod basis;
 mod chain;
+mod link;
 mod order;
 mod resolve;
 mod shared;
 
 pub use basis::{Basis, Resolution};
 pub use chain::ends;
+pub(crate) use link::Link;
 pub use order::ordered;
 pub use resolve::resolutions;
 pub(crate) use shared::{Shared, shared_resolutions};

@@ -1,5 +1,6 @@
 -- What one step of a chain resolves to.
 use Rattle.std.specs.Prelude.{ℕ, nat_le, List, [], ◌++◌, ◌+◌, length, slice_index_or, if◌then◌else◌}
+use Rattle.smi_names.specs.chains.Chain.{Origin, numbers, after, nowhere}
 use Rattle.smi_names.specs.declared.chains.basis.Basis.{Basis}
 use Rattle.smi_names.specs.declared.chains.basis.Basis.TheVariants as B
 use Rattle.smi_names.specs.declared.chains.basis.Resolution.{Resolution}
@@ -22,3 +23,9 @@ abbrev pub resolution_of : Basis → List Resolution → Resolution
 resolution_of (B.Numbers v) rs = lengthened [] v.items
 resolution_of (B.After p v) rs = followed_by (resolution_at rs p) v.items
 resolution_of B.Nowhere rs = R.Unresolved
+
+-- the same by where a name's numbers come from
+abbrev pub resolution_by : Origin ℕ → List Resolution → Resolution
+resolution_by (numbers ns) rs = lengthened [] ns
+resolution_by (after p ns) rs = followed_by (resolution_at rs p) ns
+resolution_by nowhere rs = R.Unresolved

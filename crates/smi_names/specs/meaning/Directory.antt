@@ -4,8 +4,8 @@ use Rattle.std.specs.Prelude.{Option, Some, None, unwrap_or}
 use Rattle.smi_text.specs.trees.Mark.{same_text}
 use Rattle.std.specs.List.{slice_get}
 use Rattle.std.specs.Option.{option_and_then}
-use Rattle.smi_names.specs.chains.Basis.{origin_of}
-use Rattle.smi_names.specs.declared.chains.basis.Basis.{Basis}
+use Rattle.smi_names.specs.chains.Link.{origin_of_link}
+use Rattle.smi_names.specs.declared.chains.link.Link.{Link}
 use Rattle.smi_names.specs.meaning.Meaning.{QualifiedName, origin_by}
 use Rattle.smi_names.specs.meaning.Scopes.{content_of, place_in}
 use Rattle.smi_names.specs.meaning.Names.{place_of_name, map_origin}
@@ -37,10 +37,10 @@ abbrev pub is_entry_of : Option Entry → ℕ → List ℕ → Bool
 is_entry_of None i x = false
 is_entry_of (Some e) i x = (e.source.0 == i) && same_text e.name.now x
 
--- each entry's basis says what decides it, by places
-pub record AreBases (d : Directory) (entries : List Entry) (bases : List Basis) : Type 0 where
-  pub long : length bases ≡ length entries
-  pub each : (p : ℕ) (e : Entry) (b : Basis) → slice_get entries p ≡ Some e
-      → slice_get bases p ≡ Some b
-      → origin_of b ≡ map_origin (place_by d) (origin_by (place_of_entry e) (Some
+-- each entry's link says what decides it, by places
+pub record AreLinks (d : Directory) (entries : List Entry) (links : List Link) : Type 0 where
+  pub long : length links ≡ length entries
+  pub each : (p : ℕ) (e : Entry) (l : Link) → slice_get entries p ≡ Some e
+      → slice_get links p ≡ Some l
+      → origin_of_link l ≡ map_origin (place_by d) (origin_by (place_of_entry e) (Some
       (content_of e).decided))

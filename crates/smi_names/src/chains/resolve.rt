@@ -29,7 +29,7 @@ pub fn resolutions(alloc: Global, bases: &[Basis]) -> Result<Vec<Resolution>, Al
 }
 
 /// The place that the name at each place leads to.
-pub(crate) fn next_places(alloc: Global, bases: &[Basis]) -> Result<Vec<Option<usize>>, AllocError>
+fn next_places(alloc: Global, bases: &[Basis]) -> Result<Vec<Option<usize>>, AllocError>
     ensures { IfOk result (λ next. next.items ≡ map (λ b. next_of (origin_of b)) bases.now) }
 {
     let mut next = Vec::with_capacity(alloc, bases.len())?;

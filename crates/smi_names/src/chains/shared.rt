@@ -1,14 +1,16 @@
 //! What the names at places resolve to, with one resolution for those that resolve to the same.
-ghost use Rattle.std.specs.Prelude.{◌≡◌, ◌<◌, ◌≤◌, ◌∷◌, [], length, option_map, IfOk};
+ghost use Rattle.std.specs.Prelude.{◌≡◌, ◌<◌, ◌≤◌, ◌∷◌, [], length, map, option_map, IfOk};
 ghost use Rattle.std.specs.List.{slice_get};
-ghost use Rattle.smi_names.specs.chains.Basis.{origin_at, EachComesTo};
+ghost use Rattle.smi_names.specs.chains.Chain.{next_of};
+ghost use Rattle.smi_names.specs.chains.Basis.{EachComesTo};
+ghost use Rattle.smi_names.specs.chains.Link.{origin_of_link, origin_by_link};
 ghost use Rattle.smi_names.specs.chains.Resolving.{lengthened, followed_by};
-ghost use Rattle.smi_names.specs.chains.Resolving.{resolution_at, resolution_of};
+ghost use Rattle.smi_names.specs.chains.Resolving.{resolution_at, resolution_by};
 ghost use Rattle.smi_names.specs.chains.Shared.{shared, AreWithin, HasReasons, GrowsTo};
 
 use crate::chains::basis::{Basis, Resolution};
+use crate::chains::link::Link;
 use crate::chains::order::ordered;
-use crate::chains::resolve::next_places;
 use snmp_oid::{MAX_LEN, Oid};
 use std::alloc::{AllocError, Global};
 
@@ -46,80 +48,112 @@ impl Shared {
 }
 
 /// What the name at each place resolves to, as [`super::resolutions`] gives it.
-pub(crate) fn shared_resolutions(alloc: Global, bases: &[Basis]) -> Result<Shared, AllocError>
+pub(crate) fn shared_resolutions(alloc: Global, links: &[Link]) -> Result<Shared, AllocError>
     ensures within { IfOk result (λ s. AreWithin s.list.items s.places.items) }
     ensures length { IfOk result (λ s. length (shared s.list.items s.places.items)
-        ≡ length bases.now) }
-    ensures each { IfOk result (λ s. EachComesTo (origin_at bases.now)
+        ≡ length links.now) }
+    ensures each { IfOk result (λ s. EachComesTo (origin_by_link links.now)
         (shared s.list.items s.places.items)) }
 {
-    // No place, no resolution, no memory.
-    if bases.is_empty() {
+    // Without places nothing is kept, and no memory is asked for.
+    if links.is_empty() {
         return Ok(Shared {
             list: Vec::new(alloc),
             places: Vec::new(alloc),
         });
     }
-    let next = next_places(alloc, bases)?;
+    let next = next_places(alloc, links)?;
     let order = ordered(alloc, &next)?;
-    let mut list = reasons(alloc, bases)?;
-    let mut places = vec![in alloc; CYCLE; bases.len()]?;
+    let mut list = reasons(alloc, links)?;
+    let mut places = vec![in alloc; CYCLE; links.len()]?;
     'places: for place in &order {
         let place = *place;
-        places[place] = entered(&mut list, &places, &bases[place])?;
+        places[place] = entered(&mut list, &places, &links[place])?;
     }
     Ok(Shared { list, places })
 }
 
-/// The three resolutions without an identifier, with room for those that these bases may add.
-fn reasons(alloc: Global, bases: &[Basis]) -> Result<Vec<Resolution>, AllocError>
+/// The place that the name at each place leads to.
+fn next_places(alloc: Global, links: &[Link]) -> Result<Vec<Option<usize>>, AllocError>
+    ensures { IfOk result (λ next. next.items ≡ map (λ l. next_of (origin_of_link l)) links.now) }
+{
+    let mut next = Vec::with_capacity(alloc, links.len())?;
+    'links: for link in links {
+        next.push(link.next())?;
+    }
+    Ok(next)
+}
+
+/// The three resolutions without an identifier, with room for those that these links may add.
+fn reasons(alloc: Global, links: &[Link]) -> Result<Vec<Resolution>, AllocError>
     ensures { IfOk result (λ list. list.items
         ≡ Resolution.Unresolved ∷ Resolution.Cycle ∷ Resolution.TooLong ∷ []) }
 {
-    let mut list = Vec::with_capacity(alloc, 3 + most(bases))?;
+    let mut list = Vec::with_capacity(alloc, 3 + most(links))?;
     list.push(Resolution::Unresolved)?;
     list.push(Resolution::Cycle)?;
     list.push(Resolution::TooLong)?;
     Ok(list)
 }
 
-/// The most identifiers that names of these bases have which aren't those of other names.
-fn most(bases: &[Basis]) -> usize
-    ensures { result ≤ length bases.now }
+/// The most identifiers that names of these links have which aren't those of other names.
+fn most(links: &[Link]) -> usize
+    ensures { result ≤ length links.now }
 {
     let mut count = 0;
-    'bases: for basis in bases {
-        if is_new(basis) {
+    'links: for link in links {
+        if is_new(link) {
             count += 1;
         }
     }
     count
 }
 
-/// Whether a name of this basis may have an identifier that isn't that of the name it leads to.
-fn is_new(basis: &Basis) -> bool {
-    match basis {
-        Basis::Numbers(_) => true,
-        Basis::After(_, numbers) => !numbers.is_empty(),
-        Basis::Nowhere => false,
+/// Whether a name of this link may have an identifier that isn't that of the name it leads to.
+fn is_new(link: &Link) -> bool {
+    match link {
+        Link::Number(_) | Link::Child(_, _) => true,
+        Link::Same(_) => false,
+        Link::Other(Basis::Numbers(_)) => true,
+        Link::Other(Basis::After(_, numbers)) => !numbers.is_empty(),
+        Link::Other(Basis::Nowhere) => false,
     }
 }
 
 /// The place in the list of what a name resolves to, given those of the names before it. What isn't
 /// there yet is appended.
-fn entered(list: &mut Vec<Resolution>, places: &[usize], basis: &Basis) -> Result<usize, AllocError>
+fn entered(list: &mut Vec<Resolution>, places: &[usize], link: &Link) -> Result<usize, AllocError>
     requires reasons { HasReasons list.old.items }
     requires within { AreWithin list.old.items places.now }
     ensures grown { IfOk result (λ at. GrowsTo list.old.items list.new.items at
-        (resolution_of basis.now (shared list.old.items places.now))) }
+        (resolution_by (origin_of_link link.now) (shared list.old.items places.now))) }
 {
-    match basis {
-        Basis::Numbers(numbers) => appended(list, Oid::new(), numbers),
-        Basis::Nowhere => Ok(UNRESOLVED),
-        Basis::After(place, numbers) => match places.get(*place) {
-            Some(at) => followed(list, *at, numbers),
-            None => Ok(UNRESOLVED),
-        },
+    match link {
+        Link::Number(number) => appended(list, Oid::new(), &[*number]),
+        Link::Same(place) => led(list, places, *place, &[]),
+        Link::Child(place, number) => led(list, places, *place, &[*number]),
+        Link::Other(Basis::Numbers(numbers)) => appended(list, Oid::new(), numbers),
+        Link::Other(Basis::After(place, numbers)) => led(list, places, *place, numbers),
+        Link::Other(Basis::Nowhere) => Ok(UNRESOLVED),
+    }
+}
+
+/// The place in the list of what a name resolves to that has these numbers after those of the name
+/// at a place.
+fn led(
+    list: &mut Vec<Resolution>,
+    places: &[usize],
+    place: usize,
+    numbers: &[u32],
+) -> Result<usize, AllocError>
+    requires reasons { HasReasons list.old.items }
+    requires within { AreWithin list.old.items places.now }
+    ensures grown { IfOk result (λ at. GrowsTo list.old.items list.new.items at
+        (followed_by (resolution_at (shared list.old.items places.now) place) numbers.now)) }
+{
+    match places.get(place) {
+        Some(at) => followed(list, *at, numbers),
+        None => Ok(UNRESOLVED),
     }
 }
 

@@ -1,14 +1,15 @@
 //! The places of names: which entry a name of a module has, and what its numbers are based on.
 ghost use Rattle.std.specs.Prelude.{◌≡◌, ◌∷◌, ℕ, List, [], length, option_map, IfOk, Some};
 ghost use Rattle.smi_names.specs.chains.Basis.{origin_of};
+ghost use Rattle.smi_names.specs.chains.Link.{origin_of_link};
 ghost use Rattle.smi_names.specs.meaning.Meaning.{arcs as arcs_of, origin_by, origin_of_parts};
 ghost use Rattle.smi_names.specs.meaning.Scopes.{place_in, content_of};
 ghost use Rattle.smi_names.specs.meaning.Names.{AreEach, module_place, map_origin};
-ghost use Rattle.smi_names.specs.meaning.Directory.{place_by, place_of_entry, AreBases};
+ghost use Rattle.smi_names.specs.meaning.Directory.{place_by, place_of_entry, AreLinks};
 ghost use Rattle.smi_names.specs.meaning.Directory.{IsFound, is_entry_of, place_of_scope};
 ghost use Rattle.std.specs.List.{slice_get};
 
-use crate::chains::Basis;
+use crate::chains::{Basis, Link};
 use crate::hash::NameHash;
 use crate::meaning::entry::{Decider, Entry};
 use crate::meaning::scope::{NamePlaces, put_first, scope};
@@ -185,15 +186,41 @@ impl<'a> Directory<'a> {
         }
     }
 
+    /// What the numbers of an identifier value are based on. No list is made for one number after a
+    /// name, as most have.
+    fn link_of_parts(
+        &self,
+        alloc: Global,
+        home: &'a [u8],
+        parts: &'a [Part],
+        last: &mut Option<Found<'a>>,
+    ) -> Result<Link, AllocError>
+        requires { IsFound self.now last.old }
+        ensures link { IfOk result (λ link.
+            origin_of_link link
+            ≡ map_origin (place_by self.now) (origin_of_parts home.now parts.now)) }
+        ensures last { IfOk result (λ _. IsFound self.now last.new) }
+    {
+        if let [Part::Name(name), part] = parts {
+            let Some(number) = part.number() else {
+                return Ok(Link::Other(Basis::Nowhere));
+            };
+            let place = self.place_again(home, name.as_bytes(), last);
+            return Ok(Link::Child(place, number));
+        }
+        let basis = self.basis_of_parts(alloc, home, parts, last)?;
+        Ok(Link::Other(basis))
+    }
+
     /// What the numbers of an entry's name are based on.
-    fn basis(
+    fn link(
         &self,
         alloc: Global,
         entry: &Entry<'a>,
         last: &mut Option<Found<'a>>,
-    ) -> Result<Basis, AllocError>
+    ) -> Result<Link, AllocError>
         requires { IsFound self.now last.old }
-        ensures basis { IfOk result (λ basis. origin_of basis
+        ensures link { IfOk result (λ link. origin_of_link link
             ≡ map_origin (place_by self.now)
             (origin_by (place_of_entry entry.now) (Some (content_of entry.now).decided))) }
         ensures last { IfOk result (λ _. IsFound self.now last.new) }
@@ -202,30 +229,26 @@ impl<'a> Directory<'a> {
         let home = module.name.as_bytes();
         match entry.decider {
             Decider::Definition(def) => match def.identifier() {
-                Some(parts) => self.basis_of_parts(alloc, home, parts.as_slice(), last),
-                None => Ok(Basis::Nowhere),
+                Some(parts) => self.link_of_parts(alloc, home, parts.as_slice(), last),
+                None => Ok(Link::Other(Basis::Nowhere)),
             },
             Decider::Import(import) => {
                 let place = self.place_again(import.source.as_bytes(), entry.name, last);
-                Ok(Basis::After(place, Vec::new(alloc)))
+                Ok(Link::Same(place))
             }
-            Decider::Root(number) => {
-                let mut numbers = Vec::new(alloc);
-                numbers.push(number)?;
-                Ok(Basis::Numbers(numbers))
-            }
+            Decider::Root(number) => Ok(Link::Number(number)),
         }
     }
 
     /// What the numbers of each entry's name are based on.
-    pub(crate) fn bases(&self, alloc: Global) -> Result<Vec<Basis>, AllocError>
-        ensures { IfOk result (λ bases. AreBases self.now self.now.entries.items bases.items) }
+    pub(crate) fn links(&self, alloc: Global) -> Result<Vec<Link>, AllocError>
+        ensures { IfOk result (λ links. AreLinks self.now self.now.entries.items links.items) }
     {
-        let mut bases = Vec::with_capacity(alloc, self.entries.len())?;
+        let mut links = Vec::with_capacity(alloc, self.entries.len())?;
         let mut last = None;
         'entries: for entry in &self.entries {
-            bases.push(self.basis(alloc, entry, &mut last)?)?;
+            links.push(self.link(alloc, entry, &mut last)?)?;
         }
-        Ok(bases)
+        Ok(links)
     }
 }

@@ -58,8 +58,8 @@ impl<'a> Names<'a> {
             scopes,
             entries,
         };
-        let bases = directory.bases(alloc)?;
-        let resolutions = shared_resolutions(alloc, &bases)?;
+        let links = directory.links(alloc)?;
+        let resolutions = shared_resolutions(alloc, &links)?;
         Ok(Names {
             modules,
             directory,

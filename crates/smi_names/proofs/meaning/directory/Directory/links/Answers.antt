@@ -1,8 +1,8 @@
 -- One entry more.
 use Rattle.std.proofs.Common.{rules, ◌≡◌, ◌+◌, [], ◌∷◌, ◌++◌, take, sym, refl, ◌∙◌}
 use Rattle.std.proofs.lemmas.List.{take_more}
-use Rattle.smi_names.proofs.Equating.{AreBases-more}
-use Rattle.smi_names.proofs.meaning.directory.Directory.bases.Goals as goal
+use Rattle.smi_names.proofs.Equating.{AreLinks-more}
+use Rattle.smi_names.proofs.meaning.directory.Directory.links.Goals as goal
 
 pub entries-preserved : goal.entries-preserved
 entries-preserved c =
@@ -12,8 +12,8 @@ entries-preserved c =
     let inside = rw list at c.entries-test.true in
     let read = rw list at c.entry-item.is in
     let more : take (i + 1) es ≡ take i es ++ c.entry-item.result ∷ [] = take_more es i c.entry-item.result inside ∙ rw (sym read) refl in
-    let pushed : c.push.new.self.items ≡ c.entries.bases.items ++ c.in_ok-basis.field-0 ∷ [] = search rules in (
-      rw (more, pushed) (AreBases-more c.args.self.now
-          (take i es) c.entries.bases.items c.entry-item.result c.in_ok-basis.field-0 c.entries.invariant.0 c.in_ok-basis.ensures.basis),
-      c.in_ok-basis.ensures.last,
+    let pushed : c.push.new.self.items ≡ c.entries.links.items ++ c.in_ok-link.field-0 ∷ [] = search rules in (
+      rw (more, pushed) (AreLinks-more c.args.self.now
+          (take i es) c.entries.links.items c.entry-item.result c.in_ok-link.field-0 c.entries.invariant.0 c.in_ok-link.ensures.link),
+      c.in_ok-link.ensures.last,
     )
