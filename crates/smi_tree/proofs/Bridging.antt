@@ -15,12 +15,13 @@ use Rattle.smi_names.specs.nodes.Gathered.{node_from, node_from_def, def_of_modu
 use Rattle.smi_names.specs.declared.nodes.source.Source.{Source}
 use Rattle.smi_names.specs.declared.nodes.source.Source.TheVariants as S
 use Rattle.smi_tree.specs.Nodes.{has_label, is_named, is_of, is_labelled, place_in_module}
-use Rattle.smi_tree.specs.Nodes.{place_anywhere, oids_of}
+use Rattle.smi_tree.specs.Nodes.{place_anywhere, oids_of, is_of_module}
 use Rattle.smi_tree.specs.Places.{Places, place_at, home_from, label_from, definition_from}
-use Rattle.smi_tree.specs.Places.{label_in, is_this, place_of_home, is_in, AreScopes}
+use Rattle.smi_tree.specs.Places.{label_in, is_this, place_of_home, is_in, AreScopes, IsKnown}
+use Rattle.smi_tree.specs.Places.{anywhere, noted}
 use Rattle.smi_tree.specs.Places as places
 use Rattle.smi_tree.proofs.Listing.{same, same_itself}
-use Rattle.smi_tree.proofs.Scoping.{position_within}
+use Rattle.smi_tree.proofs.Scoping.{position_within, first_none, first_of_both, passes_at, both}
 
 -- a node of a source, by its parts
 pub parts : (ms : List Module) (s : Source) (o : List ℕ)
@@ -176,14 +177,46 @@ in_module-sources : (ms : List Module) (ss : List Source) (os : List (List ℕ))
 in_module-sources ms ss os home x l =
     position-nodes ms (is_of home x) (λ s. is_named home (home_from ms s) && places.has_label ms x s) 0 ss os l (λ s o. rw (parts ms s o) refl)
 
+-- the first node of the label is the first in its module
+pub in_module-first : (nodes : List Node) (home x : List ℕ) (k : ℕ) → place_anywhere nodes x ≡ Some k → is_of_module nodes home k ≡ true
+    → place_in_module nodes home x ≡ Some k
+in_module-first nodes home x k there of =
+    let n = passes_at (has_label x) nodes k there in
+    let named : is_named home n.0.home ≡ true = sym (rw n.1 refl) ∙ of in
+    first_of_both (has_label x) (is_of home x) (λ m e. (both (is_named home m.home) (has_label x m) e).1) nodes k n.0 there n.1 (rw (named, n.2) refl)
+
+-- a label that no node has is in no module
+pub in_module-absent : (nodes : List Node) (home x : List ℕ) → place_anywhere nodes x ≡ None → place_in_module nodes home x ≡ None
+in_module-absent nodes home x none =
+    first_none (has_label x) (is_of home x) (λ m e. (both (is_named home m.home) (has_label x m) e).1) 0 nodes none
+
+-- whether the node at a place is of the module of a name
+pub of_module-some : (ms : List Module) (ss : List Source) (os : List (List ℕ)) (k : ℕ) (s : Source) (home : List ℕ) → length ss ≡ length os
+    → slice_get ss k ≡ Some s → is_named home (home_from ms s) ≡ is_of_module (nodes_of ms ss os) home k
+of_module-some ms ss os k s home l e =
+    let within : k < length ss = slice_get_within ss k s e in
+    let o = slice_get-get_or os k [] (omega (arith, within, l)) in
+    rw (node-at ms ss os k s (get_or os k []) e o, parts ms s (get_or os k [])) refl
+
 pub in_module-some : (ms : List Module) (ss : List Source) (os : List (List ℕ)) (scopes : List Places) (home x : List ℕ) (p : ℕ)
     → length ss ≡ length os → AreScopes ms ss scopes → module_place ms home ≡ Some p
+    → ((k : ℕ) → place_anywhere (nodes_of ms ss os) x ≡ Some k → is_of_module (nodes_of ms ss os) home k ≡ false)
     → place_at scopes p x ≡ place_in_module (nodes_of ms ss os) home x
-in_module-some ms ss os scopes home x p l a there =
+in_module-some ms ss os scopes home x p l a there elsewhere =
     let within = position_within (λ m. same_text m.name.octets home) 0 ms p there in
-    a.each p x (omega (arith, within.1))
-    ∙ position-same (is_in ms p x) (λ s. is_named home (home_from ms s) && places.has_label ms x s) 0 ss (in-module ms home x p there)
-    ∙ sym (in_module-sources ms ss os home x l)
+    by (a.each p x (omega (arith, within.1)))
+  where
+    by : IsKnown ms ss p x (place_at scopes p x) → place_at scopes p x ≡ place_in_module (nodes_of ms ss os) home x
+    by (noted e) =
+        e ∙ position-same (is_in ms p x) (λ s. is_named home (home_from ms s) && places.has_label ms x s) 0 ss (in-module ms home x p there)
+        ∙ sym (in_module-sources ms ss os home x l)
+    by (anywhere k first also) =
+        let s = passes_at (is_in ms p x) ss k also in
+        let passes : (is_named home (home_from ms s.0) && places.has_label ms x s.0) ≡ true = sym (in-module ms home x p there s.0) ∙ s.2 in
+        let named = (both (is_named home (home_from ms s.0)) (places.has_label ms x s.0) passes).0 in
+        let of = sym (of_module-some ms ss os k s.0 home l s.1) ∙ named in
+        let not_of = elsewhere k (anywhere-sources ms ss os x l ∙ first) in
+        absurd (cc)
 
 pub in_module-none : (ms : List Module) (ss : List Source) (os : List (List ℕ)) (home x : List ℕ) → length ss ≡ length os
     → module_place ms home ≡ None → place_in_module (nodes_of ms ss os) home x ≡ None

@@ -57,6 +57,11 @@ oids_of nodes = map (λ n. n.oid) nodes
 abbrev pub is_labelled : List Node → List ℕ → ℕ → Bool
 is_labelled nodes label k = unwrap_or (option_map (has_label label) (slice_get nodes k)) false
 
+-- the node at the place is of the module of the name
+abbrev pub is_of_module : List Node → List ℕ → ℕ → Bool
+is_of_module nodes home k =
+    unwrap_or (option_map (λ n. is_named home n.home) (slice_get nodes k)) false
+
 abbrev pub if_labelled : List Node → List ℕ → Option ℕ → Option ℕ
 if_labelled nodes label None = None
 if_labelled nodes label (Some k) = if is_labelled nodes label k then Some k else None

@@ -71,8 +71,24 @@ pub record Puts (ms : List Module) (s : Source) (k : ℕ) (old new : List Places
   pub each : (p : ℕ) (x : List ℕ) → p < length old
       → place_at new p x ≡ or_else (place_at old p x) (if is_in ms p x s then Some k else None)
 
--- the maps have the first place of each label in each module
+-- the same of the source at the place k, or nothing is changed, as the source at `first` is of the
+-- same module, for private clauses
+pub data PutsElsewhere (ms : List Module) (ss : List Source) (first k : ℕ)
+    (old new : List Places) : Type 0 where
+  left : (s f : Source) → slice_get ss k ≡ Some s → slice_get ss first ≡ Some f
+      → home_from ms f ≡ home_from ms s → new ≡ old → PutsElsewhere ms ss first k old new
+  puts : (s : Source) → slice_get ss k ≡ Some s → Puts ms s k old new
+      → PutsElsewhere ms ss first k old new
+
+-- the first source of a label in a module is the first anywhere, or it is kept
+pub data IsKnown (ms : List Module) (ss : List Source) (p : ℕ) (x : List ℕ) (kept : Option ℕ)
+    : Type 0 where
+  anywhere : (k : ℕ) → position_from (has_label ms x) 0 ss ≡ Some k
+      → position_from (is_in ms p x) 0 ss ≡ Some k → IsKnown ms ss p x kept
+  noted : kept ≡ position_from (is_in ms p x) 0 ss → IsKnown ms ss p x kept
+
+-- the maps have the first place of each label in each module but that of the first of the label
 pub record AreScopes (ms : List Module) (ss : List Source) (scopes : List Places) : Type 0 where
   pub long : length scopes ≡ length ms
   pub each : (p : ℕ) (x : List ℕ) → p < length ms
-      → place_at scopes p x ≡ position_from (is_in ms p x) 0 ss
+      → IsKnown ms ss p x (place_at scopes p x)

@@ -1,7 +1,7 @@
 //! The tree of names, and what it is asked for.
 ghost use Rattle.std.specs.Prelude.{◌≡◌, ◌<◌, ℕ, List, length, Some, None, IfOk, MatchOption};
 ghost use Rattle.std.specs.Prelude.{IfSome};
-ghost use Rattle.std.specs.Prelude.{is_some, option_map, slice_index_or};
+ghost use Rattle.std.specs.Prelude.{is_some, false, option_map, slice_index_or};
 ghost use Rattle.std.specs.Option.{option_and_then, option_copied};
 ghost use Rattle.std.specs.List.{slice_get};
 ghost use Rattle.smi_tree.specs.branches.Children.{places_left};
@@ -9,7 +9,7 @@ ghost use Rattle.smi_tree.specs.branches.Standing.{AreChildren, HasNoBeginning, 
 ghost use Rattle.smi_tree.specs.branches.Standing.{HasNoneBelow, oid_at};
 ghost use Rattle.smi_names.specs.meaning.Meaning.{module_named};
 ghost use Rattle.smi_tree.specs.Nodes.{IsFirstChild, is_labelled, oids_of, place_anywhere};
-ghost use Rattle.smi_tree.specs.Nodes.{place_in_module};
+ghost use Rattle.smi_tree.specs.Nodes.{place_in_module, is_of_module};
 ghost use Rattle.smi_tree.specs.types.Kept.{facts_of};
 ghost use Rattle.smi_tree.specs.Resolved.{IsResolved};
 ghost use Rattle.smi_tree.specs.Shown.{shown_at, units_at};
@@ -20,7 +20,7 @@ ghost use Rattle.smi_names.specs.declared.nodes.warning.Warning.{Warning};
 use crate::branches::{Children, Deepest, Identifiers};
 use crate::columns::Indexes;
 use crate::node::{Node, at, definition, home, label};
-use crate::places::{Places, find, homes, labels, scopes};
+use crate::places::{LabelPlaces, Places, find, homes, labels};
 use crate::shown::{kept_syntaxes, syntax, units, value_syntax};
 use crate::types::{TypeSyntax, Types};
 use smi_names::{NameHash, Names, Source, Warning, gather_nodes};
@@ -50,7 +50,7 @@ pub struct Tree {
     homes: Places,
     /// The first node of each label.
     labels: Places,
-    /// The first node of each label in each module.
+    /// For each module, the first node there of each label whose first node is elsewhere.
     scopes: Vec<Places>,
     /// The types of the modules.
     types: Types,
@@ -126,8 +126,7 @@ impl Tree {
             warnings,
         } = resolve(alloc, hash, &modules)?;
         let homes = homes(alloc, hash, &modules)?;
-        let labels = labels(alloc, hash, &modules, &sources)?;
-        let scopes = scopes(alloc, hash, &modules, &homes, &sources)?;
+        let LabelPlaces { labels, scopes } = labels(alloc, hash, &modules, &homes, &sources)?;
         let tree = Tree {
             modules,
             sources,
@@ -240,6 +239,34 @@ impl Tree {
 
     /// The first node of a label in the module of a name.
     pub fn find(&self, home: &[u8], label: &[u8]) -> Option<NodeId>
+        ensures { result ≡ place_in_module self.now.nodes home.now label.now }
+    {
+        // Most labels stand in one module alone: no map of that module is needed then.
+        let first = self.find_any(label)?;
+        if self.is_of(first, home) {
+            return Some(first);
+        }
+        self.find_elsewhere(home, label)
+    }
+
+    /// Whether a node is of the module of a name.
+    fn is_of(&self, id: NodeId, name: &[u8]) -> bool
+        ensures { result ≡ is_of_module self.now.nodes name.now id }
+    {
+        let Some(source) = at(&self.sources, id) else {
+            return false;
+        };
+        match home(&self.modules, *source) {
+            Some(module) => module.name.as_bytes() == name,
+            None => false,
+        }
+    }
+
+    /// The first node of a label in the module of a name, if the first node of that label is of
+    /// another module.
+    fn find_elsewhere(&self, home: &[u8], label: &[u8]) -> Option<NodeId>
+        requires { (first : ℕ) → place_anywhere self.now.nodes label.now ≡ Some first
+            → is_of_module self.now.nodes home.now first ≡ false }
         ensures { result ≡ place_in_module self.now.nodes home.now label.now }
     {
         let Some(place) = find(&self.homes, home) else {

@@ -250,6 +250,64 @@ fn assert_one_and_two(rt: &impl Abort, tree: &Tree) -> Result<(), Fail> {
     Ok(())
 }
 
+const SHARED: &str = "A DEFINITIONS ::= BEGIN
+shared OBJECT IDENTIFIER ::= { 1 3 }
+only OBJECT IDENTIFIER ::= { 1 4 }
+END
+B DEFINITIONS ::= BEGIN
+shared OBJECT IDENTIFIER ::= { 1 5 }
+mine OBJECT IDENTIFIER ::= { 1 6 }
+iso OBJECT IDENTIFIER ::= { 2 7 }
+END
+C DEFINITIONS ::= BEGIN
+mine OBJECT IDENTIFIER ::= { 1 8 }
+END
+A DEFINITIONS ::= BEGIN
+mine OBJECT IDENTIFIER ::= { 1 10 }
+END
+";
+
+/// The first node of each label in each module, where labels stand in several modules.
+static SHARED_NODES: [(&str, &str, &str); 6] = [
+    ("A", "shared", "1.3"),
+    ("A", "only", "1.4"),
+    ("B", "shared", "1.5"),
+    ("B", "mine", "1.6"),
+    ("B", "iso", "2.7"),
+    ("C", "mine", "1.8"),
+];
+
+/// Labels that no module of the name has.
+static ABSENT: [(&str, &str); 7] = [
+    ("A", "mine"),
+    ("A", "iso"),
+    ("B", "only"),
+    ("C", "shared"),
+    ("C", "gone"),
+    ("D", "shared"),
+    ("D", "gone"),
+];
+
+#[test]
+fn a_label_is_found_in_each_of_its_modules(rt: HostRuntime) -> Result<(), Fail> {
+    let loaded = load(rt.alloc(), SHARED)?;
+    assert_shared(&rt, &loaded.tree)
+}
+
+fn assert_shared(rt: &impl Abort, tree: &Tree) -> Result<(), Fail> {
+    assert!(rt; has_nodes(tree, &SHARED_NODES)?);
+    for (home, label) in &ABSENT {
+        assert!(rt;
+            tree.find(home.as_bytes(), label.as_bytes()).is_none(),
+            "{home}::{label}"
+        );
+    }
+    assert!(rt; tree.find_any(b"shared") == tree.find(b"A", b"shared"));
+    assert!(rt; tree.find_any(b"mine") == tree.find(b"B", b"mine"));
+    assert!(rt; tree.find_any(b"iso") == Some(1) && tree.find_any(b"gone").is_none());
+    Ok(())
+}
+
 /// A module of 1000 nodes, each below the one after, and the last below the first.
 fn push_ring(text: &mut String) -> Result<(), Fail> {
     text.push_str("R DEFINITIONS ::= BEGIN\n")?;

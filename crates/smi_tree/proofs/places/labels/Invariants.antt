@@ -1,7 +1,9 @@
 use Rattle.std.proofs.Common.{◌≡◌, ℕ, List, take}
 use Rattle.std.specs.List.{position_from}
-use Rattle.smi_tree.specs.Places.{kept_place, has_label}
+use Rattle.smi_tree.specs.Places.{kept_place, has_label, AreScopes}
 use Rattle.smi_tree.proofs.places.labels.Given as goal
 
 abbrev pub invariant-sources : goal.invariant-sources
-invariant-sources l = (x : List ℕ) → kept_place l.labels x ≡ position_from (has_label l.modules x) 0 (take l.k l.sources)
+invariant-sources l =
+    ((x : List ℕ) → kept_place l.labels x ≡ position_from (has_label l.modules x) 0 (take l.k l.sources))
+    × AreScopes l.modules (take l.k l.sources) l.scopes.items

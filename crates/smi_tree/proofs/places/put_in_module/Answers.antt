@@ -1,6 +1,5 @@
 -- The label has a place in its module, or gets one.
-use Rattle.std.proofs.Common.{◌≡◌, ◌<◌, length, Some, Result, Ok, Err, OnOk, sym, ◌∙◌, arith}
-use Rattle.std.specs.declared.alloc.AllocError.{AllocError}
+use Rattle.std.proofs.Common.{◌≡◌, ◌<◌, length, Some, sym, ◌∙◌, arith}
 use Rattle.smi_text.specs.trees.Mark.{same_text}
 use Rattle.smi_names.specs.meaning.Names.{module_place}
 use Rattle.smi_tree.proofs.Scoping.{position_within, Puts-set}
@@ -16,10 +15,6 @@ within c =
     let w = position_within (λ m. same_text m.name.octets c.in-Some.module.now.name.octets) 0 c.args.modules.now c.in-Some-find.at (placed c) in
     omega (arith, w.1, c.requires.long)
 
-on_ok : {P Q : Type 0} (out : Result (Unit {0}) AllocError) → OnOk out P → (P → Q) → OnOk out Q
-on_ok (Ok u) p f = f p
-on_ok (Err x) p f = tt
-
 pub index_mut-scope-requires : goal.index_mut-scope-requires
 index_mut-scope-requires c = let w = within (goal.at.index_mut-scope-requires c).In-Some-find in rw c.args.scopes.now.ok.0 w
 
@@ -27,8 +22,7 @@ pub returns : goal.returns
 returns c =
     let there = (goal.at.returns c).In-Some-find in
     record {
-      put = on_ok c.put_first.result c.put_first.ensures.put
-          (λ put. Puts-set c.args.modules.now c.args.source c.args.place c.in-Some-find.at c.in-Some.module.now c.args.scopes.now.items
+      put = Puts-set c.args.modules.now c.args.source c.args.place c.in-Some-find.at c.in-Some.module.now c.args.scopes.now.items
           c.index_mut-scope.result.now c.put_first.new.places (sym c.in-Some.ensures) (placed there) (within there)
-          c.index_mut-scope.ensures.value (λ x. rw (sym c.label.ensures) (put x)));
+          c.index_mut-scope.ensures.value (λ x. rw (sym c.label.ensures) (c.in_ok-put_first.ensures.put x));
     }

@@ -1,34 +1,24 @@
--- The first node of the label in the modules of the name is in the map of the first of them.
-use Rattle.std.proofs.Common.{rules, ◌≡◌, Some, None, refl, sym, ◌∙◌}
-use Rattle.std.specs.List.{slice_get}
-use Rattle.smi_names.specs.meaning.Names.{module_place}
-use Rattle.smi_tree.specs.Places.{kept_place, place_at}
-use Rattle.smi_tree.proofs.Bridging.{in_module-some, in_module-none}
+-- The first node of the label stands for it in its own module.
+use Rattle.std.proofs.Common.{rules, ◌≡◌, Some, None, true, false, sym, subst}
+use Rattle.smi_tree.specs.Nodes.{place_anywhere, is_of_module}
+use Rattle.smi_tree.proofs.Bridging.{in_module-first, in_module-absent}
 use Rattle.smi_tree.proofs.tree.Tree.find.Goals as goal
-use Rattle.smi_tree.proofs.tree.Tree.find.Goals.{In-Some}
 
-placed : (c : In-Some) → module_place c.self.inside.modules.items c.args.home.now ≡ Some c.in-Some.place
-placed c = sym (c.self.invariant.homes c.args.home.now) ∙ sym c.in-Some.ensures
+pub returns-in_err-first : goal.returns-in_err-first
+returns-in_err-first c =
+    let none : place_anywhere c.args.self.now.nodes c.args.label.now ≡ None = search rules in
+    let out : c.from_residual.result ≡ None = search rules in
+    rw out (sym (in_module-absent c.args.self.now.nodes c.args.home.now c.args.label.now none))
 
-pub returns-in_default : goal.returns-in_default
-returns-in_default c =
-    let i = c.self.inside in
-    let none : kept_place i.homes c.args.home.now ≡ None = search rules in
-    let place = sym (c.self.invariant.homes c.args.home.now) ∙ none in
-    rw (sym c.self.view_is) (sym (in_module-none i.modules.items i.sources.items i.identifiers c.args.home.now c.args.label.now c.self.invariant.long place))
+pub returns-then-is_of : goal.returns-then-is_of
+returns-then-is_of c =
+    let there : place_anywhere c.args.self.now.nodes c.args.label.now ≡ Some c.in_ok-first.first = search rules in
+    let of : is_of_module c.args.self.now.nodes c.args.home.now c.in_ok-first.first ≡ true = sym c.if-is_of.ensures in
+    sym (in_module-first c.args.self.now.nodes c.args.home.now c.args.label.now c.in_ok-first.first there of)
 
-pub returns-in_default-at : goal.returns-in_default-at
-returns-in_default-at c =
-    let i = c.self.inside in
-    let none : slice_get i.scopes.items c.in-Some.place ≡ None = search rules in
-    let at : place_at i.scopes.items c.in-Some.place c.args.label.now ≡ None = rw none refl in
-    rw (sym c.self.view_is) (sym at ∙ in_module-some i.modules.items i.sources.items i.identifiers i.scopes.items c.args.home.now c.args.label.now
-    c.in-Some.place c.self.invariant.long c.self.invariant.scopes (placed (goal.at.returns-in_default-at c).In-Some))
-
-pub returns : goal.returns
-returns c =
-    let i = c.self.inside in
-    let there : slice_get i.scopes.items c.in-Some.place ≡ Some c.in-Some-at.scope.now = search rules in
-    let at : place_at i.scopes.items c.in-Some.place c.args.label.now ≡ c.find-2.result = rw there (sym c.find-2.ensures) in
-    rw (sym c.self.view_is) (sym at ∙ in_module-some i.modules.items i.sources.items i.identifiers i.scopes.items c.args.home.now c.args.label.now
-    c.in-Some.place c.self.invariant.long c.self.invariant.scopes (placed (goal.at.returns c).In-Some))
+pub find_elsewhere-requires : goal.find_elsewhere-requires
+find_elsewhere-requires c = λ k first.
+    let there : place_anywhere c.args.self.now.nodes c.args.label.now ≡ Some c.in_ok-first.first = search rules in
+    let same : c.in_ok-first.first ≡ k = cc (there, first) in
+    let not_of : is_of_module c.args.self.now.nodes c.args.home.now c.in_ok-first.first ≡ false = sym c.if-is_of.ensures in
+    subst (λ j. is_of_module c.args.self.now.nodes c.args.home.now j ≡ false) same not_of

@@ -5,15 +5,14 @@ pub invariant_of-tree : goal.invariant_of-tree
 invariant_of-tree c =
     let found = rw (c.deref.ensures.value) at c.in_ok-sources.ensures in
     let homes = rw (c.deref-2.ensures.value) at c.in_ok-homes.ensures in
-    let labels = rw (c.deref-3.ensures.value, c.deref-4.ensures.value) at c.in_ok-labels.ensures in
-    let scopes = rw (c.deref-5.ensures.value, c.deref-6.ensures.value) at c.in_ok-scopes.ensures in
+    let places = rw (c.deref-3.ensures.value, c.deref-4.ensures.value) at c.in_ok-labels.ensures in
     record {
       long = found.long;
       warnings = c.in_ok-sources.field-0.warnings.items;
       tree = found.tree;
       homes = homes;
-      labels = labels;
-      scopes = scopes;
+      labels = places.labels;
+      scopes = places.scopes;
     }
 
 pub returns : goal.returns
