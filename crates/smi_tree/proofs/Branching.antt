@@ -100,6 +100,29 @@ Branches-grown known oids bs new q at n b are here begins (there e f) = grown_th
 Branches-grown known oids bs new q at n b are here begins (made is long none leads others stands) =
     rw is (grown_made known oids bs new q at n are here begins long none (leads ∙ ap (λ x. Some x) is) others stands)
 
+-- where numbers led to a branch they still do
+pub branch_kept : (known oids : List (List ℕ)) (bs new : List Branch) (q : List ℕ) (at n b : ℕ) → AreBranches known oids bs
+    → branch_of bs q ≡ Some at → GrowsBranch bs new at n b → (o : List ℕ) (c : ℕ) → branch_of bs o ≡ Some c → branch_of new o ≡ Some c
+branch_kept known oids bs new q at n b are here (there e f) o c leads = rw e leads
+branch_kept known oids bs new q at n b are here (made is long none new_at others stands) o c leads =
+    let f = follower bs in let g = follower new in
+    let past : (m : ℕ) → follower bs (length bs) m ≡ None = λ m. follower_past bs (length bs) m (omega arith) in
+    let at_new : follower new at n ≡ Some (length bs) = new_at ∙ ap (λ x. Some x) is in
+    let off = none_there f g q at n (length bs) are.within are.some are.apart here none at_new others past in
+    walk_kept f g q at n (length bs) are.within are.some are.apart here none at_new others past o (λ s. let w = rw s at leads in absurd (cc)) ∙ leads
+
+-- walks by what follows alike come to the same
+walk-same : (f g : ℕ → ℕ → Option ℕ) → ((c m : ℕ) → g c m ≡ f c m) → (at : ℕ) (o : List ℕ) → walk g at o ≡ walk f at o
+walk-same f g same at [] = refl
+walk-same f g same at (n ∷ o) = rw (same at n) (by (f at n) (λ b. walk-same f g same b o))
+  where
+    by : (r : Option ℕ) → ((b : ℕ) → walk g b o ≡ walk f b o) → option_and_then (λ b. walk g b o) r ≡ option_and_then (λ b. walk f b o) r
+    by None h = refl
+    by (Some b) h = h b
+
+pub branch-same : (bs new : List Branch) → ((c m : ℕ) → follower new c m ≡ follower bs c m) → (o : List ℕ) → branch_of new o ≡ branch_of bs o
+branch-same bs new same o = walk-same (follower bs) (follower new) same 0 o
+
 -- more is known
 pub Branches-known : (known oids : List (List ℕ)) (p : List ℕ) (bs : List Branch) → AreBranches known oids bs → AreBranches (known ++ p ∷ []) oids bs
 Branches-known known oids p bs are = record {
@@ -149,14 +172,6 @@ Branches-ended oids p bs new at are here long same stands others =
         | inr s ↦ let r = are.reached c k (sym (others c s) ∙ e) in (r.0, walks 0 r.0 ∙ r.1)
       ];
     }
-  where
-    walk-same : (f g : ℕ → ℕ → Option ℕ) → ((c m : ℕ) → g c m ≡ f c m) → (at : ℕ) (o : List ℕ) → walk g at o ≡ walk f at o
-    walk-same f g same at [] = refl
-    walk-same f g same at (n ∷ o) = rw (same at n) (by (f at n) (λ b. walk-same f g same b o))
-      where
-        by : (r : Option ℕ) → ((b : ℕ) → walk g b o ≡ walk f b o) → option_and_then (λ b. walk g b o) r ≡ option_and_then (λ b. walk f b o) r
-        by None h = refl
-        by (Some b) h = h b
 
 -- the branches of no identifier
 pub Branches-none : (b : Branch) → ((n : ℕ) → follower (b ∷ []) 0 n ≡ None) → b.standing ≡ None → AreBranchesOf [] (b ∷ [])

@@ -12,6 +12,7 @@ use Rattle.std.specs.Prelude.{
   ◌++◌,
   length,
   take,
+  slice_index_or,
   Option,
   Some,
   None,
@@ -92,3 +93,7 @@ pub record IsUnderWay (oids : List (List ℕ)) (bs : List Branch) (o : List ℕ)
   pub within : depth ≤ length o
   pub here : branch_of bs (take depth o) ≡ Some branch
   pub so_far : SoFar oids o depth deepest
+
+-- the branches of the beginnings of o, by how many numbers each has, for private clauses
+pub record IsWay (bs : List Branch) (o way : List ℕ) : Type 0 where
+  pub each : (j : ℕ) → j ≤ length o → branch_of bs (take j o) ≡ Some (slice_index_or way j 0)

@@ -1,8 +1,9 @@
 //! The branches: for each beginning of an identifier, the numbers that follow it, in order, and
 //! what stands there.
-ghost use Rattle.std.specs.Prelude.{◌≡◌, ◌<◌, ◌+◌, ℕ, List, [], ◌∷◌, ◌++◌, length, take, IfOk};
+ghost use Rattle.std.specs.Prelude.{◌≡◌, ◌<◌, ◌≤◌, ◌+◌, ℕ, List, [], ◌∷◌, ◌++◌, length, take, IfOk};
 ghost use Rattle.std.specs.Prelude.{Some, None, option_copied};
-ghost use Rattle.smi_tree.specs.branches.Branches.{follower, GrowsBranch, AreBranchesOf};
+ghost use Rattle.smi_tree.specs.branches.Branches.{follower, GrowsBranch, AreBranchesOf, IsWay};
+ghost use Rattle.smi_tree.specs.branches.Standing.{oid_at};
 
 use snmp_oid::Oid;
 use std::alloc::{AllocError, Global};
@@ -60,22 +61,47 @@ pub(crate) fn first(alloc: Global) -> Result<Vec<Branch>, AllocError>
     Ok(branches)
 }
 
-/// Adds the branches of the identifier at a place to those of the identifiers before it.
+/// The branches of the beginnings of the identifier that was added last, by how many numbers each
+/// has.
+pub(crate) type Way = [usize; 129];
+
+/// With how many of the same numbers two lists begin.
+fn shared(a: &[u32], b: &[u32]) -> usize
+    ensures within { result ≤ length a.now }
+    ensures too { result ≤ length b.now }
+    ensures same { take result a.now ≡ take result b.now }
+{
+    let mut count = 0;
+    'numbers: while count < a.len() && count < b.len() && a[count] == b[count] {
+        count += 1;
+    }
+    count
+}
+
+/// Adds the branches of the identifier at a place to those of the identifiers before it. `last` are
+/// the numbers of the one that was added last, and `way` has its branches: identifiers that follow
+/// one another mostly begin alike, and are walked from where they differ.
 pub(crate) fn add(
     alloc: Global,
     branches: &mut Vec<Branch>,
     oids: &[Oid],
     place: usize,
+    last: &[u32],
+    way: &mut Way,
 ) -> Result<(), AllocError>
     requires within { place < length oids.now }
     requires before { AreBranchesOf (take place oids.now) branches.old.items }
+    requires on_way { IsWay branches.old.items last.now way.old }
     ensures added { IfOk result
         (λ _. AreBranchesOf (take (place + 1) oids.now) branches.new.items) }
+    ensures on_way { IfOk result (λ _. IsWay branches.new.items (oid_at oids.now place) way.new) }
 {
-    let oid = &oids[place];
-    let mut at = 0;
-    'numbers: for number in oid.as_slice() {
-        at = grow(alloc, branches, at, *number)?;
+    let numbers = oids[place].as_slice();
+    let from = shared(last, numbers);
+    let mut at = way[from];
+    'numbers: for i in from..numbers.len() {
+        at = grow(alloc, branches, at, numbers[i])?;
+        way[i + 1] = at;
     }
     let branch = &mut branches[at];
     if branch.standing.is_none() {

@@ -58,8 +58,11 @@ impl Identifiers {
         ensures { IfOk result (λ identifiers. identifiers ≡ oids.items) }
     {
         let mut branches = first(alloc)?;
+        let mut last: &[u32] = &[];
+        let mut way = [0; 129];
         'places: for place in 0..oids.len() {
-            add(alloc, &mut branches, &oids, place)?;
+            add(alloc, &mut branches, &oids, place, last, &mut way)?;
+            last = oids[place].as_slice();
         }
         Ok(Identifiers {
             oids,

@@ -1,6 +1,9 @@
 use Rattle.std.proofs.Common.{take}
-use Rattle.smi_tree.specs.branches.Branches.{AreBranchesOf}
+use Rattle.smi_tree.specs.branches.Branches.{AreBranchesOf, IsWay}
 use Rattle.smi_tree.proofs.branches.identifiers.Identifiers.new.Given as goal
 
 abbrev pub invariant-places : goal.invariant-places
-invariant-places l = AreBranchesOf (take l.place l.oids.items) l.branches.items
+invariant-places l = record {
+  branches : AreBranchesOf (take l.place l.fn.oids.items) l.branches.items;
+  way : IsWay l.branches.items l.last l.way;
+}
