@@ -90,7 +90,14 @@ impl Identifiers {
     pub fn find(&self, oid: &Oid) -> Option<usize>
         ensures { result ≡ place_of self.now oid.now }
     {
-        let at = walked(&self.branches, oid.as_slice())?;
+        self.find_numbers(oid.as_slice())
+    }
+
+    /// The first place of the identifier of these numbers.
+    pub(crate) fn find_numbers(&self, numbers: &[u32]) -> Option<usize>
+        ensures { result ≡ place_of self.now numbers.now }
+    {
+        let at = walked(&self.branches, numbers)?;
         standing(&self.branches, at)
     }
 

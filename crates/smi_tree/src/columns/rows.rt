@@ -12,7 +12,6 @@ use crate::branches::Identifiers;
 use crate::columns::objects::{Objects, clause};
 use smi_names::Source;
 use smi_text::{Def, DefKind, Index};
-use snmp_oid::Oid;
 use std::alloc::{AllocError, Global};
 
 /// The place of the first identifier that is that of a place without its last number.
@@ -26,8 +25,7 @@ fn row_place(identifiers: &Identifiers, place: usize) -> Option<usize>
         × (place_of identifiers.now front ≡ Some row)) }
 {
     let (_last, front) = identifiers.get(place).as_slice().split_last()?;
-    let front = Oid::from_slice(front).ok()?;
-    identifiers.find(&front)
+    identifiers.find_numbers(front)
 }
 
 /// Whether a definition is an OBJECT-TYPE.
