@@ -137,12 +137,11 @@ fn lead_until(
     ensures { (c : Content) → slice_get entries.now.names place ≡ Some c
         → IsNextUntil field (content_origin c) (at_place leads.now place) result }
 {
+    // Most names lead nowhere, whatever they state.
+    let lead = (*leads.get(place)?)?;
     match entries.get(place) {
         Some(entry) if states(&entry, field) => None,
-        _ => match leads.get(place) {
-            Some(lead) => *lead,
-            None => None,
-        },
+        _ => Some(lead),
     }
 }
 
