@@ -1,12 +1,13 @@
 -- Facts about one decimal number: reading it, and that what is written reads back.
 use Rattle.std.proofs.Common.{decimal, ◌≡◌, ◌≢◌, ℕ, ◌+◌, ◌-◌, ◌*◌, ◌^◌, ◌≤◌, ◌<◌, true, false}
 use Rattle.std.proofs.Common.{◌&&◌, List, [], ◌∷◌, length, drop, get_or, refl, sym, ◌∙◌, ap}
-use Rattle.std.proofs.Common.{subst, arith, drop-cons, add-one, lit<, take, ◌++◌, append_assoc}
+use Rattle.std.proofs.Common.{subst, arith, drop-cons, add-one, lit<, take, ◌++◌, append_assoc, leb}
 use Rattle.std.proofs.Math.Seq.{take-suc}
 use Rattle.std.proofs.lemmas.List.{append-nil, length-take-le}
 use Rattle.std.proofs.Math.Nat.{pow-suc, one-le-pow, le-mul_of_pos_right}
 use Rattle.std.proofs.lemmas.Fmt.{decimal_nonempty, digits_decimal, digits_value-decimal}
 use Rattle.std.proofs.lemmas.Str.Parse.{IsNumeralModel, numerals_by_weight, tells_all_ascii_digits}
+use Rattle.std.proofs.lemmas.Bool.{and_parts, leb-true}
 use Rattle.std.specs.Char.{is_ascii_digit}
 use Rattle.std.specs.Str.{all_ascii_digits}
 use Rattle.snmp_oid.specs.Numeric.{decimal_value, IsNumeral}
@@ -117,3 +118,7 @@ decimal_is_numeral n small =
       value = digits_value-decimal own n wide;
       fits = small;
     }
+
+-- no digit is above the octet of 9
+pub digit_small : (digit : ℕ) → is_ascii_digit digit ≡ true → digit ≤ 57
+digit_small digit is_digit = leb-true digit 57 (and_parts (leb 48 digit) (leb digit 57) is_digit).1

@@ -4,17 +4,20 @@ use Rattle.std.proofs.Common.{false, List, [], ◌∷◌, ◌++◌, length, take
 use Rattle.std.proofs.Common.{slice_index, Option, Some, None, refl, sym, ◌∙◌, ap, subst, arith}
 use Rattle.std.proofs.Common.{length-append, append_assoc}
 use Rattle.std.proofs.lemmas.Bool.{cases_order}
-use Rattle.std.proofs.Common.{MatchOption}
+use Rattle.std.proofs.Common.{MatchOption, All, map, ◌&&◌}
+use Rattle.std.specs.Char.{is_ascii_digit}
+use Rattle.std.specs.List.{flat_map}
+use Rattle.std.proofs.lemmas.List.Elements.{All-head, All-tail}
 use Rattle.std.proofs.lemmas.List.{append-nil, take-append-drop, take_all, take-append-le}
 use Rattle.std.proofs.lemmas.List.{get_or-drop, get_or_append_left, length_push, drop_at}
 use Rattle.std.proofs.lemmas.List.{drop-drop, length-take}
 use Rattle.std.proofs.Math.Seq.{get_or-append_seam}
 use Rattle.snmp_oid.specs.Numeric.{dot, IsNumeral, IsDotted, IsNumericName, BeginsPart, part_at}
-use Rattle.snmp_oid.specs.Numeric.{IsFirstBadPart, IsPartRead}
+use Rattle.snmp_oid.specs.Numeric.{IsFirstBadPart, IsPartRead, AreDigitsRead}
 use Rattle.snmp_oid.proofs.Dotted.{parts, parts_left, AreNumerals, Splits, parts_of, to_dot_is}
 use Rattle.snmp_oid.proofs.Dotted.{numerals_from_dotted, dotted_from_numerals, same_numerals}
 use Rattle.snmp_oid.proofs.Dotted.{digits_have_no_dot, numerals_more, part_is_numeral}
-use Rattle.snmp_oid.proofs.Numeral.{IsFrontRead, front_numeral}
+use Rattle.snmp_oid.proofs.Numeral.{IsFrontRead, front_numeral, digit_small}
 
 -- a text without the dot in front
 abbrev pub IsBehindDot : List ℕ → List ℕ → Type 0
@@ -235,6 +238,46 @@ parse_more text here part behind kept new too_long now n h split one keeps = rec
   stands = stands_behind text here part behind h.at h.stands split;
   before = before_more text here part behind h.at n h.stands.0 split one h.before;
 }
+
+-- a part of one digit
+digit_splits : (digit : ℕ) (rest : List ℕ) → is_ascii_digit digit ≡ true → Splits (digit ∷ dot ∷ rest) (digit ∷ []) (Some rest)
+digit_splits digit rest is_digit = (digits_have_no_dot (digit ∷ []) (ap (λ b. b && true) is_digit), refl)
+
+digit_numeral : (digit : ℕ) → is_ascii_digit digit ≡ true → IsNumeral (digit ∷ []) (digit - 48)
+digit_numeral digit is_digit = record {
+  some = λ none. cc;
+  digits = ap (λ b. b && true) is_digit;
+  value = omega arith;
+  fits = omega (arith, digit_small digit is_digit);
+}
+
+-- parts of a digit each
+parse_each : (digits text here rest kept : List ℕ) (too_long : Bool) → IsParsedTo text (Some here) kept too_long
+    → All (λ digit. is_ascii_digit digit ≡ true) digits → here ≡ flat_map (λ digit. digit ∷ dot ∷ []) digits ++ rest → length kept + length digits ≤ 128
+    → IsParsedTo text (Some rest) (kept ++ map (λ digit. digit - 48) digits) too_long
+parse_each [] text here rest kept too_long h are parts room =
+    let P : List ℕ → Type 0 = λ left. IsParsedTo text (Some left) (kept ++ []) too_long in
+    let Q : List ℕ → Type 0 = λ numbers. IsParsedTo text (Some here) numbers too_long in
+    subst P parts (subst Q (sym (append-nil kept)) h)
+parse_each (digit ∷ digits) text here rest kept too_long h are parts room =
+    let is_digit : is_ascii_digit digit ≡ true = All-head (λ x. is_ascii_digit x ≡ true) digit digits are in
+    let behind : List ℕ = flat_map (λ x. x ∷ dot ∷ []) digits ++ rest in
+    let next : List ℕ = kept ++ (digit - 48) ∷ [] in
+    let P : List ℕ → Type 0 = λ left. IsParsedTo text (Some left) kept too_long in
+    let Q : List ℕ → Type 0 = λ numbers. IsParsedTo text (Some rest) numbers too_long in
+    let one : IsParsedTo text (Some behind) next too_long =
+    parse_more text (digit ∷ dot ∷ behind) (digit ∷ []) (Some behind) kept next too_long too_long (digit - 48)
+    (subst P parts h) (digit_splits digit behind is_digit) (digit_numeral digit is_digit) (inl (omega (arith, room), refl, refl)) in
+    subst Q (append_assoc kept ((digit - 48) ∷ []) (map (λ x. x - 48) digits))
+    (parse_each digits text behind rest next too_long one (All-tail (λ x. is_ascii_digit x ≡ true) digit digits are) refl
+    (omega (arith, room, length_push kept (digit - 48))))
+
+pub parse_digits : (count : ℕ) (text here rest kept new : List ℕ) (too_long : Bool) → IsParsedTo text (Some here) kept too_long
+    → AreDigitsRead count here rest kept new → IsParsedTo text (Some rest) new too_long
+parse_digits count text here rest kept new too_long h read =
+    let P : List ℕ → Type 0 = λ numbers. IsParsedTo text (Some rest) numbers too_long in
+    subst P (sym read.numbers)
+    (parse_each read.digits text here rest kept too_long h read.are read.parts (omega (arith, read.room, read.size)))
 
 -- a part that is no numeral is the first bad one, and the text names nothing
 pub bad_part_here : (text here part : List ℕ) (behind : Option (List ℕ)) (kept : List ℕ) (too_long : Bool) → IsParsedTo text (Some here) kept too_long

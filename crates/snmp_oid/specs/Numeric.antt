@@ -1,7 +1,8 @@
 -- Identifiers as text: decimal numbers with a dot before or between them, as in `.1.3.6.1`.
-use Rattle.std.specs.Prelude.{◌≡◌, ◌≢◌, ℕ, ◌+◌, ◌-◌, ◌*◌, ◌^◌, ◌<◌, ◌≤◌, ◌⊎◌, ◌==◌, not}
+use Rattle.std.specs.Prelude.{◌≡◌, ◌≢◌, ℕ, ◌+◌, ◌-◌, ◌*◌, ◌^◌, ◌<◌, ◌≤◌, ◌⊎◌, ◌==◌}
 use Rattle.std.specs.Prelude.{List, [], ◌∷◌, ◌++◌, length, take_while, drop, slice_index, decimal}
-use Rattle.std.specs.Prelude.{true, All, Option, MatchOption}
+use Rattle.std.specs.Prelude.{true, not, map, All, Option, MatchOption}
+use Rattle.std.specs.Char.{is_ascii_digit}
 use Rattle.std.specs.List.{flat_map}
 use Rattle.std.specs.Str.{all_ascii_digits}
 
@@ -60,6 +61,16 @@ pub record IsPartRead (text : List ℕ) (number : Option ℕ) (after : Option (L
   pub plain : All (λ octet. octet ≢ dot) part
   pub parts : MatchOption after (text ≡ part) (λ rest. text ≡ part ++ dot ∷ rest)
   pub read : MatchOption number ((n : ℕ) → IsNumeral part n → ⊥) (IsNumeral part)
+
+-- parts of a digit each at the front of a text, so many, and what follows the dot of the last;
+-- their numbers were appended to those before
+pub record AreDigitsRead (count : ℕ) (text rest before after : List ℕ) : Type 0 where
+  pub digits : List ℕ
+  pub size : length digits ≡ count
+  pub are : All (λ digit. is_ascii_digit digit ≡ true) digits
+  pub parts : text ≡ flat_map (λ digit. digit ∷ dot ∷ []) digits ++ rest
+  pub room : length before + count ≤ 128
+  pub numbers : after ≡ before ++ map (λ digit. digit - 48) digits
 
 -- the text names a list of more numbers than an identifier holds
 abbrev pub IsTooLong : List ℕ → Type 0

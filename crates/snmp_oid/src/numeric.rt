@@ -7,7 +7,7 @@ ghost use Rattle.std.specs.Char.{is_ascii_digit};
 ghost use Rattle.std.specs.Option.{option_map};
 ghost use Rattle.snmp_oid.specs.Identifier.{IsIdentifier};
 ghost use Rattle.snmp_oid.specs.Numeric.{IsNumericName, IsFirstBadPart, IsTooLong, IsNumeral};
-ghost use Rattle.snmp_oid.specs.Numeric.{IsPartRead, IsWrittenTo, dot, numeric_text};
+ghost use Rattle.snmp_oid.specs.Numeric.{AreDigitsRead, IsPartRead, IsWrittenTo, dot, numeric_text};
 
 use crate::Oid;
 use arrayvec::ArrayVec;
@@ -63,14 +63,18 @@ pub fn read_numeric(text: &[u8], oid: &mut Oid) -> Result<(), OidTextError>
     let mut too_long = false;
     let mut left = Some(without_front_dot(text));
     'parts: while let Some(here) = left {
-        let (number, after) = read_part(here);
-        let Some(number) = number else {
-            return Err(OidTextError::BadNumber(text.len() - here.len()));
-        };
-        if oid.push(number).is_err() {
-            too_long = true;
+        if let Some(rest) = read_three(here, oid) {
+            left = Some(rest);
+        } else {
+            let (number, after) = read_part(here);
+            let Some(number) = number else {
+                return Err(OidTextError::BadNumber(text.len() - here.len()));
+            };
+            if oid.push(number).is_err() {
+                too_long = true;
+            }
+            left = after;
         }
-        left = after;
     }
     if too_long {
         Err(OidTextError::TooLong)
@@ -97,6 +101,32 @@ fn without_front_dot(text: &[u8]) -> &[u8]
     }
 }
 
+/// Appends the numbers of the first three parts of a text, and returns what follows the dot that
+/// ends them, where each is a digit before a dot and there is room for three. None changes nothing.
+// Hot: most numbers of a name have one digit. A number of more digits is told by its second octet,
+// which is looked at in any case.
+#[inline(always)]
+fn read_three<'a>(text: &'a [u8], oid: &mut Oid) -> Option<&'a [u8]>
+    ensures three { IfSome result (λ rest. AreDigitsRead 3 text.now rest.now oid.old oid.new) }
+    ensures unchanged_on_none { IfNone result (oid.new ≡ oid.old) }
+{
+    match text {
+        [a, b'.', b, b'.', c, b'.', rest @ ..]
+            if a.is_ascii_digit() && b.is_ascii_digit() && c.is_ascii_digit() && oid.len() <= 125 =>
+            {
+                // All are read before the first is written, so that none is read again.
+                let first = u32::from(*a - b'0');
+                let second = u32::from(*b - b'0');
+                let third = u32::from(*c - b'0');
+                oid.push_with_room(first);
+                oid.push_with_room(second);
+                oid.push_with_room(third);
+                Some(rest)
+            }
+        _ => None,
+    }
+}
+
 /// The number of the first part of a text, None where that is no numeral, and what follows the dot
 /// that ends it, None where none does.
 // Hot: each number of a name.
@@ -106,8 +136,18 @@ fn read_part(text: &[u8]) -> (Option<u32>, Option<&[u8]>)
 {
     match front_number(text) {
         Some((number, after)) => (Some(number), after),
-        None => read_any_part(text),
+        None => read_other_part(text),
     }
+}
+
+/// The same, whatever the part is. The call has a function of its own, since each turn of a loop
+/// clears what a call in it returns, whether it is made or not.
+#[inline(always)]
+fn read_other_part(text: &[u8]) -> (Option<u32>, Option<&[u8]>)
+    ensures { IsPartRead text.now result.0 (option_map (λ rest. rest.now) result.1) }
+{
+    let (number, after) = read_any_part(text);
+    (number, after)
 }
 
 /// The number of the first part of a text, and what follows the dot that ends it, None where none
@@ -210,6 +250,7 @@ fn read_digits(text: &[u8]) -> Option<(u32, Option<&[u8]>)>
 
 /// The same, whatever the part is.
 #[cold]
+#[inline(never)]
 fn read_any_part(text: &[u8]) -> (Option<u32>, Option<&[u8]>)
     ensures { IsPartRead text.now result.0 (option_map (λ rest. rest.now) result.1) }
 {

@@ -8,7 +8,7 @@ use Rattle.snmp_oid.specs.Numeric.{IsNumeral, IsNumericName, IsFirstBadPart, IsP
 use Rattle.snmp_oid.proofs.Dotted.{Splits}
 use Rattle.snmp_oid.proofs.Parsing.{IsParsedTo, dot_alone, parse_begins, parse_more, bad_part_here}
 use Rattle.snmp_oid.proofs.Parsing.{bad_part_no_name, one_bad_part, parsed_name, parsed_only}
-use Rattle.snmp_oid.proofs.Parsing.{parsed_short}
+use Rattle.snmp_oid.proofs.Parsing.{parsed_short, parse_digits}
 use Rattle.snmp_oid.proofs.numeric.read_numeric.Goals as goal
 
 -- what is left, as lists
@@ -17,6 +17,10 @@ here_left : (text kept : List ℕ) (too_long : Bool) (left : Option (Bor (List �
     → IsParsedTo text (Some here.now) kept too_long
 here_left text kept too_long left here is h =
     let P : Option (Bor (List ℕ)) → Type 0 = λ l. IsParsedTo text (option_map (λ s. s.now) l) kept too_long in subst P is h
+
+still_here : (text here kept same : List ℕ) (too_long : Bool) → same ≡ kept → IsParsedTo text (Some here) kept too_long
+    → IsParsedTo text (Some here) same too_long
+still_here text here kept same too_long is h = let P : List ℕ → Type 0 = λ k. IsParsedTo text (Some here) k too_long in subst P (sym is) h
 
 splits_of : (here : List ℕ) (number : Option ℕ) (after : Option (List ℕ)) (h : IsPartRead here number after) → Splits here h.part after
 splits_of here number after h = (h.plain, h.parts)
@@ -98,31 +102,38 @@ pushed_from_ok (Err fault) new kept n e h = let no : ⊥ = cc in absurd no
 pub parts-preserved-then-is_err : goal.parts-preserved-then-is_err
 parts-preserved-then-is_err c =
     parse_more c.args.text.now c.in-Some.here.now c.read_part-number.ensures.part
-    (option_map (λ s. s.now) c.read_part-number.result.1) c.parts.oid c.push.new.self c.parts.too_long true c.in-Some-number.number
-    (here_left c.args.text.now c.parts.oid c.parts.too_long c.parts.left c.in-Some.here c.in-Some.is c.parts.invariant)
+    (option_map (λ s. s.now) c.read_part-number.result.1) c.read_three.new.oid c.push.new.self c.parts.too_long true c.in-Some-number.number
+    (still_here c.args.text.now c.in-Some.here.now c.parts.oid c.read_three.new.oid c.parts.too_long c.in_default-read_three.ensures.unchanged_on_none
+    (here_left c.args.text.now c.parts.oid c.parts.too_long c.parts.left c.in-Some.here c.in-Some.is c.parts.invariant))
     (splits_of c.in-Some.here.now c.read_part-number.result.0 (option_map (λ s. s.now) c.read_part-number.result.1) c.read_part-number.ensures)
     (its_number c.in-Some.here.now c.read_part-number.result.0 (option_map (λ s. s.now) c.read_part-number.result.1) c.in-Some-number.number c.read_part-number.ensures
     c.in-Some-number.is)
     (inr (
-      full_from_err c.push.result c.parts.oid (cc (c.is_err.ensures.value, c.if-is_err.true)) c.push.ensures.variant,
-      same_from_err c.push.result c.push.new.self c.parts.oid (cc (c.is_err.ensures.value, c.if-is_err.true)) c.push.ensures.unchanged_on_error,
+      full_from_err c.push.result c.read_three.new.oid (cc (c.is_err.ensures.value, c.if-is_err.true)) c.push.ensures.variant,
+      same_from_err c.push.result c.push.new.self c.read_three.new.oid (cc (c.is_err.ensures.value, c.if-is_err.true)) c.push.ensures.unchanged_on_error,
       refl,
     ))
 
 pub parts-preserved : goal.parts-preserved
 parts-preserved c =
     parse_more c.args.text.now c.in-Some.here.now c.read_part-number.ensures.part
-    (option_map (λ s. s.now) c.read_part-number.result.1) c.parts.oid c.push.new.self c.parts.too_long c.parts.too_long c.in-Some-number.number
-    (here_left c.args.text.now c.parts.oid c.parts.too_long c.parts.left c.in-Some.here c.in-Some.is c.parts.invariant)
+    (option_map (λ s. s.now) c.read_part-number.result.1) c.read_three.new.oid c.push.new.self c.parts.too_long c.parts.too_long c.in-Some-number.number
+    (still_here c.args.text.now c.in-Some.here.now c.parts.oid c.read_three.new.oid c.parts.too_long c.in_default-read_three.ensures.unchanged_on_none
+    (here_left c.args.text.now c.parts.oid c.parts.too_long c.parts.left c.in-Some.here c.in-Some.is c.parts.invariant))
     (splits_of c.in-Some.here.now c.read_part-number.result.0 (option_map (λ s. s.now) c.read_part-number.result.1) c.read_part-number.ensures)
     (its_number c.in-Some.here.now c.read_part-number.result.0 (option_map (λ s. s.now) c.read_part-number.result.1) c.in-Some-number.number c.read_part-number.ensures
     c.in-Some-number.is)
     (inl (
-      room_from_ok c.push.result c.parts.oid (cc (c.is_err.ensures.value, c.if-is_err.false)) c.push.ensures.variant,
-      pushed_from_ok c.push.result c.push.new.self c.parts.oid c.in-Some-number.number
+      room_from_ok c.push.result c.read_three.new.oid (cc (c.is_err.ensures.value, c.if-is_err.false)) c.push.ensures.variant,
+      pushed_from_ok c.push.result c.push.new.self c.read_three.new.oid c.in-Some-number.number
           (cc (c.is_err.ensures.value, c.if-is_err.false)) c.push.ensures.ok,
       refl,
     ))
+
+pub parts-preserved-in-Some-read_three : goal.parts-preserved-in-Some-read_three
+parts-preserved-in-Some-read_three c =
+    parse_digits 3 c.args.text.now c.in-Some.here.now c.in-Some-read_three.rest.now c.parts.oid c.read_three.new.oid c.parts.too_long
+    (here_left c.args.text.now c.parts.oid c.parts.too_long c.parts.left c.in-Some.here c.in-Some.is c.parts.invariant) c.in-Some-read_three.ensures.three
 
 -- the end
 ended : (text kept : List ℕ) (too_long was : Bool) (left : Option (Bor (List ℕ))) → left ≡ None → was ≡ too_long
