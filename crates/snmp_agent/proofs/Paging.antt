@@ -2,7 +2,7 @@
 use Rattle.std.proofs.Common.{◌≡◌, ℕ, zero, suc, ◌+◌, ◌-◌, ◌≤◌, ◌<◌, false, List, [], ◌∷◌, ◌++◌}
 use Rattle.std.proofs.Common.{length, take, drop, Some, slice_set, slice_index_or, refl, sym}
 use Rattle.std.proofs.Common.{◌∙◌, ap, subst}
-use Rattle.std.proofs.Common.{arith, append_assoc, length-append, add-one, true, is_some, inl}
+use Rattle.std.proofs.Common.{arith, append_assoc, length-append, add-one, true, is_some, inl, inr, ◌⊎◌}
 use Rattle.std.proofs.Common.{Less}
 use Rattle.std.specs.Ordering.{nat_cmp}
 use Rattle.std.specs.Cmp.Lexicographic.{slice_cmp, nat_list_cmp_total}
@@ -20,11 +20,14 @@ use Rattle.snmp_agent.specs.table.Pages.{StandsApart, begins_up_to, entries_in, 
 use Rattle.snmp_agent.specs.table.Pages.{has_name}
 use Rattle.snmp_agent.proofs.Changing.{around, set_around, at_low, put_past, put_in, without_past}
 use Rattle.snmp_agent.proofs.Changing.{without_in, past_front, find_in}
-use Rattle.snmp_agent.proofs.Partition.{before_both, after_both, after_none, none_both, rows_ahead}
-use Rattle.snmp_agent.proofs.Partition.{rows_passed}
+use Rattle.snmp_agent.proofs.Partition.{before_both, before_more, after_both, after_none, none_both}
+use Rattle.snmp_agent.proofs.Partition.{rows_ahead, rows_passed}
 use Rattle.snmp_agent.proofs.Rising.{before_all, before_later, before_listed, before_no_earlier}
-use Rattle.snmp_agent.proofs.Rising.{first_of_both, listed_in_second, rising_first, rising_rest}
+use Rattle.snmp_agent.proofs.Rising.{Listed, first_of_both, find-listed, listed_in_first}
+use Rattle.snmp_agent.proofs.Rising.{listed_in_second, rising_first, rising_rest}
 use Rattle.snmp_agent.proofs.Rising.{second_of_both, turned}
+use Rattle.snmp_agent.proofs.Finding.{listed_at}
+use Rattle.snmp_agent.specs.table.Halving.{BeginsBehind, StandsBetween}
 
 abbrev Entries : Type 0
 Entries = List (List ℕ × Datum)
@@ -294,7 +297,7 @@ module _ (pages : List Page) (place : ℕ) (long : length pages ≡ place + 1) w
 
 -- ---- the rows behind one
 
-last_of : {A : Type 0} (xs : List A) (x : A) → 0 < length xs → slice_get xs (length xs - 1) ≡ Some x → xs ≡ take (length xs - 1) xs ++ x ∷ []
+pub last_of : {A : Type 0} (xs : List A) (x : A) → 0 < length xs → slice_get xs (length xs - 1) ≡ Some x → xs ≡ take (length xs - 1) xs ++ x ∷ []
 last_of xs x some at =
     around xs (length xs - 1) x at ∙ ap (λ rest. take (length xs - 1) xs ++ x ∷ rest) (none_past xs (length xs - 1) (omega (arith, some)))
 
@@ -340,6 +343,82 @@ apart_behind o pages n page k row rising some at row_some row_at name =
         ahead = subst (λ (p : List ℕ). IsBeforeAll p late) name (before_later early late e sorted);
       },
     )
+
+-- ---- a name between two rows of a page
+
+abbrev FirstBehind : List ℕ → Entries → Type 0
+FirstBehind o [] = ⊥
+FirstBehind o (f ∷ fs) = slice_cmp nat_cmp o f.0 ≡ Less
+
+-- the name is that of an entry, or stands between it and the next one
+abbrev Follows : List ℕ → List ℕ × Datum → Entries → Type 0
+Follows o e late = (e.0 ≡ o) ⊎ ((slice_cmp nat_cmp e.0 o ≡ Less) × FirstBehind o late)
+
+front_sorted : (early late : Entries) (e : List ℕ × Datum) → IsSorted (early ++ e ∷ late) → IsSorted (early ++ e ∷ [])
+front_sorted early late e sorted = rising_first (early ++ e ∷ []) late (subst IsSorted (sym (append_assoc early (e ∷ []) late)) sorted)
+
+passed_by : (o : List ℕ) (early late : Entries) (e : List ℕ × Datum) → IsSorted (early ++ e ∷ late) → Follows o e late → IsBeforeNone o (early ++ e ∷ [])
+passed_by o early late e sorted (inl name) = subst (λ (p : List ℕ). IsBeforeNone p (early ++ e ∷ [])) name (before_no_earlier early late e sorted)
+passed_by o early late e sorted (inr between) = after_none o (early ++ e ∷ []) (after_last o early e (front_sorted early late e sorted) between.0)
+
+ahead_by : (o : List ℕ) (early late : Entries) (e : List ℕ × Datum) → IsSorted (early ++ e ∷ late) → Follows o e late → IsBeforeAll o late
+ahead_by o early late e sorted (inl name) = subst (λ (p : List ℕ). IsBeforeAll p late) name (before_later early late e sorted)
+ahead_by o early [] e sorted (inr between) = tt
+ahead_by o early (f ∷ fs) e sorted (inr between) =
+    (between.1, before_more o f.0 fs between.1 (before_later (early ++ e ∷ []) fs f (subst IsSorted (sym (append_assoc early (e ∷ []) (f ∷ fs))) sorted)))
+
+apart_by : (o : List ℕ) (pages : List Page) (early late : Entries) (e : List ℕ × Datum) → ArePages pages → entries_in pages ≡ early ++ e ∷ late
+    → Follows o e late → StandsApart (from_sorted (entries_in pages)) o (early ++ e ∷ []) late
+apart_by o pages early late e rising whole follows =
+    let joined : entries_in pages ≡ (early ++ e ∷ []) ++ late = whole ∙ sym (append_assoc early (e ∷ []) late) in
+    let sorted : IsSorted (early ++ e ∷ late) = subst IsSorted whole rising in
+    record {
+      found = λ q. get-from_sorted (slice_cmp nat_cmp) (entries_in pages) q rising ∙ ap (find (slice_cmp nat_cmp) q) joined;
+      rising = subst IsSorted joined rising;
+      passed = passed_by o early late e sorted follows;
+      ahead = ahead_by o early late e sorted follows;
+    }
+
+follows_in : (o : List ℕ) (rows : List VarBind) (more : Entries) (e : List ℕ × Datum)
+    → (e.0 ≡ o) ⊎ ((slice_cmp nat_cmp e.0 o ≡ Less) × BeginsBehind o rows) → Follows o e (entries_of rows ++ more)
+follows_in o rows more e (inl name) = inl name
+follows_in o [] more e (inr between) = absurd (between.1)
+follows_in o (row ∷ rows) more e (inr between) = inr between
+
+-- the rows of a page behind a place, and the pages behind it, are those behind a name that stands there
+pub apart_between : (o : List ℕ) (pages : List Page) (place : ℕ) (page : Page) (k : ℕ) → ArePages pages → slice_get pages place ≡ Some page
+    → StandsBetween o (take k page.rows.items) (drop k page.rows.items)
+    → (front : List (List ℕ × Datum))
+    × StandsApart (from_sorted (entries_in pages)) o front (entries_of (drop k page.rows.items) ++ entries_in (drop (suc place) pages))
+apart_between o pages place page k rising at stands =
+    let e : List ℕ × Datum = entry_of stands.row in
+    let before : Entries = entries_in (take place pages) in
+    let init : Entries = entries_of stands.init in
+    let rows_behind : Entries = entries_of (drop k page.rows.items) in
+    let behind : Entries = entries_in (drop (suc place) pages) in
+    let rows : entries_of page.rows.items ≡ init ++ e ∷ rows_behind =
+    ap entries_of (sym (take-append-drop k page.rows.items)) ∙ rows-append (take k page.rows.items) (drop k page.rows.items)
+    ∙ ap (λ (rs : List VarBind). entries_of rs ++ rows_behind) stands.last
+    ∙ ap (λ (es : Entries). es ++ rows_behind) (rows-append stands.init (stands.row ∷ []))
+    ∙ append_assoc init (e ∷ []) rows_behind in
+    let whole : entries_in pages ≡ (before ++ init) ++ e ∷ (rows_behind ++ behind) =
+    parts pages place page at ∙ ap (λ (es : Entries). before ++ (es ++ behind)) rows
+    ∙ sym (append_assoc before (init ++ e ∷ rows_behind) behind)
+    ∙ regrouped before init rows_behind behind e in (
+      (before ++ init) ++ e ∷ [],
+      apart_by o pages (before ++ init) (rows_behind ++ behind) e rising whole (follows_in o (drop k page.rows.items) behind e stands.order),
+    )
+
+-- a row of a page is found by its name
+pub found_in_page : (pages : List Page) (place : ℕ) (page : Page) (k : ℕ) (row : VarBind) → ArePages pages → slice_get pages place ≡ Some page
+    → slice_get page.rows.items k ≡ Some row → find (slice_cmp nat_cmp) row.name (entries_in pages) ≡ Some (row.value)
+found_in_page pages place page k row rising at row_at =
+    let rows : Entries = entries_of page.rows.items in
+    let front : Entries = entries_in (take place pages) in
+    let behind : Entries = entries_in (drop (suc place) pages) in
+    find-listed (entry_of row) (entries_in pages) rising
+    (subst (Listed (entry_of row)) (sym (parts pages place page at)) (listed_in_second (entry_of row) front (rows ++ behind)
+    (listed_in_first (entry_of row) rows behind (listed_at page.rows.items k row row_at))))
 
 -- a page of one row appended
 pub appended_page : (old new : List Page) (page : Page) (row : VarBind) → new ≡ old ++ page ∷ [] → page.rows.items ≡ row ∷ []

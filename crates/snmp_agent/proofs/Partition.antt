@@ -108,7 +108,7 @@ pub after_none : (o : List ℕ) (es : List (List ℕ × Datum)) → IsAfterAll o
 after_none o [] h = tt
 after_none o (e ∷ es) h = ((λ less. let greater = h.0 in absurd (cc)), after_none o es h.1)
 
-before_more : (o p : List ℕ) (es : List (List ℕ × Datum)) → slice_cmp nat_cmp o p ≡ Less → IsBeforeAll p es → IsBeforeAll o es
+pub before_more : (o p : List ℕ) (es : List (List ℕ × Datum)) → slice_cmp nat_cmp o p ≡ Less → IsBeforeAll p es → IsBeforeAll o es
 before_more o p [] less h = tt
 before_more o p (e ∷ es) less h = (nat_list_cmp_total.trans o p e.0 less h.0, before_more o p es less h.1)
 

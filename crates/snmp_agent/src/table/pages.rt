@@ -1,10 +1,17 @@
 //! The rows of a table, in pages, and the rows after a name.
-ghost use Rattle.std.specs.Prelude.{◌≡◌, ◌≤◌, ◌++◌, ◌∷◌, [], length, IfOk, IfErr};
+ghost use Rattle.std.specs.Prelude.{◌≡◌, ◌≤◌, ◌++◌, ◌∷◌, [], ℕ, List, length, IfOk, IfErr};
+ghost use Rattle.std.specs.Prelude.{IfSome, IsTrue, Some};
+ghost use Rattle.std.specs.Ordering.{nat_cmp};
+ghost use Rattle.std.specs.Cmp.Lexicographic.{slice_cmp};
+ghost use Rattle.std.specs.FinMap.{find, from_sorted};
+ghost use Rattle.snmp_wire.specs.Message.{Datum};
 ghost use Rattle.snmp_agent.specs.table.Places.{entry_of, last_name};
 ghost use Rattle.snmp_agent.specs.table.Pages.{ArePages, IsPageOf, IsLongPage, IsPageWithRoom};
-ghost use Rattle.snmp_agent.specs.table.Pages.{IsRowIn, IsWithoutRow, entries_in, entries_of};
+ghost use Rattle.snmp_agent.specs.table.Pages.{IsRowIn, IsWithoutRow, StandsApart, entries_in};
+ghost use Rattle.snmp_agent.specs.table.Pages.{entries_of};
+ghost use Rattle.snmp_agent.specs.table.Halving.{StandsBetween};
 
-use crate::table::hint::Hint;
+use crate::table::hint::{Guess, Hint};
 use crate::table::page::{PAGE_ROWS, Page};
 use crate::table::search::{
     begins_up_to, ends_before, find_row, page_near, page_of, place_after, place_near, row_at,
@@ -12,6 +19,7 @@ use crate::table::search::{
 use snmp_oid::order;
 use snmp_wire::{Binding, EncodedBinding, EncodedName, Oid, ValueRef};
 use std::alloc::{AllocError, Global};
+use std::cmp::Ordering;
 use std::marker::Model;
 
 /// Rows by rising names, in pages of 1 to 128, so that a change moves no more rows than a page has.
@@ -65,7 +73,8 @@ impl Pages {
         row_at(rows, name, place_after(rows, name))
     }
 
-    /// The same. Nothing is searched where the hint is right; it is told where the name stands.
+    /// The same. Nothing is searched where the hint is right; else it is told where the name
+    /// stands.
     pub fn find_near(&self, name: &EncodedName<'_>, hint: &mut Hint) -> Option<&EncodedBinding>
         ensures value { option_map (λ row. row.now.value) result
             ≡ get self.now name.now }
@@ -73,6 +82,9 @@ impl Pages {
     {
         let pages = self.list.as_slice();
         let guess = hint.guess(name);
+        if let Some(row) = row_guessed(pages, name, guess) {
+            return Some(row);
+        }
         let at = page_near(pages, name, guess.page);
         let page = pages.get(at)?;
         let rows = page.rows.as_slice();
@@ -100,7 +112,7 @@ impl Pages {
     }
 
     /// The rows after this name, as [`Pages::after`] finds them. Nothing is searched where the hint
-    /// is right; it is told where the name stands.
+    /// is right; else it is told where the name stands.
     pub fn after_near(&self, name: &EncodedName<'_>, hint: &mut Hint) -> Successors<'_>
         ensures { (front : List (List ℕ × Datum)) × StandsApart self.now name.now front result }
     {
@@ -136,6 +148,9 @@ impl Pages {
     {
         let pages = self.list.as_slice();
         let guess = hint.guess(name);
+        if let Some(rows) = rows_guessed(pages, name, guess) {
+            return rows;
+        }
         let at = page_near(pages, name, guess.page);
         let Some(page) = pages.get(at) else {
             return Successors {
@@ -184,6 +199,71 @@ impl Pages {
             }
             Err(_) => false,
         }
+    }
+}
+
+/// The row that a guess names, if it has the name. Nothing else is looked at.
+#[inline]
+fn row_guessed<'a>(
+    pages: &'a [Page],
+    name: &EncodedName<'_>,
+    guess: Guess,
+) -> Option<&'a EncodedBinding>
+    requires { ArePages pages.now }
+    ensures value { IfSome result
+        (λ row. find (slice_cmp nat_cmp) name.now (entries_in pages.now) ≡ Some row.now.value) }
+    ensures name { IfSome result (λ row. row.now.name ≡ name.now) }
+{
+    let page = pages.get(guess.page)?;
+    let before = guess.row.checked_sub(1)?;
+    let row = page.rows.as_slice().get(before)?;
+    if !row.name().compare(name).is_eq() {
+        return None;
+    }
+    Some(row)
+}
+
+/// The rows after this name, if the row before the place of a guess has it, or if it stands between
+/// that row and the next of its page. Nothing else is looked at.
+#[inline]
+fn rows_guessed<'a>(
+    pages: &'a [Page],
+    name: &EncodedName<'_>,
+    guess: Guess,
+) -> Option<Successors<'a>>
+    requires { ArePages pages.now }
+    ensures { IfSome result (λ rows. (front : List (List ℕ × Datum))
+        × StandsApart (from_sorted (entries_in pages.now)) name.now front rows) }
+{
+    let page = pages.get(guess.page)?;
+    let rows = page.rows.as_slice();
+    if guess.row > rows.len() {
+        return None;
+    }
+    let (front, rows) = rows.split_at(guess.row);
+    if !stands_between(name, front, rows) {
+        return None;
+    }
+    let (_, pages) = pages.split_at(guess.page + 1);
+    Some(Successors { rows, pages })
+}
+
+/// Whether the last of the rows in front has the name, or has one before it where the first of
+/// those behind has one after it.
+#[inline]
+fn stands_between(name: &EncodedName<'_>, front: &[EncodedBinding], rows: &[EncodedBinding]) -> bool
+    ensures { IsTrue result → StandsBetween name.now front.now rows.now }
+{
+    let Some(row) = front.last() else {
+        return false;
+    };
+    match row.name().compare(name) {
+        Ordering::Equal => true,
+        Ordering::Greater => false,
+        Ordering::Less => match rows.first() {
+            Some(next) => next.name().compare(name).is_gt(),
+            None => false,
+        },
     }
 }
 

@@ -8,7 +8,7 @@ use Rattle.std.specs.FinMap.{FinMap, find, get}
 use Rattle.std.proofs.lemmas.Option.{slice_get_read}
 use Rattle.snmp_wire.specs.Message.{Datum, VarBind}
 use Rattle.snmp_agent.specs.declared.table.page.Page.{Page}
-use Rattle.snmp_agent.specs.table.Pages.{ArePages, IsPageOf, IsRising, entries_of}
+use Rattle.snmp_agent.specs.table.Pages.{ArePages, IsPageOf, IsRising, entries_in, entries_of}
 use Rattle.snmp_agent.proofs.Paging.{page_rising, find_in_page, no_pages, get_in}
 use Rattle.snmp_agent.proofs.table.pages.Pages.find_near.Goals as goal
 
@@ -63,4 +63,11 @@ returns-clause-value c =
     c.row_at.ensures.value ∙ ap (λ (rows : List VarBind). find (slice_cmp nat_cmp) o (entries_of rows)) c.as_slice-rows.ensures.value
     ∙ sym (find_in_page pages c.page_near-at.result o here page
     (subst (λ (ps : List Page). slice_get ps c.page_near-at.result ≡ Some page) c.as_slice-pages.ensures.value at))
+    ∙ sym (get_in o pages c.self.invariant) ∙ ap (λ (m : FinMap (slice_cmp nat_cmp) Datum). get m o) c.self.view_is
+
+pub returns-in-Some-clause-value : goal.returns-in-Some-clause-value
+returns-in-Some-clause-value c =
+    let pages = c.self.inside.list.items in
+    let o = c.args.name.now in
+    sym c.in-Some.ensures.value ∙ ap (λ (ps : List Page). find (slice_cmp nat_cmp) o (entries_in ps)) c.as_slice-pages.ensures.value
     ∙ sym (get_in o pages c.self.invariant) ∙ ap (λ (m : FinMap (slice_cmp nat_cmp) Datum). get m o) c.self.view_is
