@@ -3,7 +3,7 @@
 use crate::bulk::numbers_to;
 use snmp_agent::{Config, Hint, Outcome, Table, answer, answer_near};
 use snmp_wire::Oid;
-use std::alloc::Global;
+use std::alloc::{AllocError, Global};
 use std::process::Abort;
 
 /// The GetNext of 1.3.6 and this number, from 128 to 16383.
@@ -109,8 +109,7 @@ fn names_asked_for_again_have_the_same_replies(rt: HostRuntime) {
     let mut table = table_to(&rt, rt.alloc(), 900);
     let few = table_to(&rt, rt.alloc(), 130);
     let mut hint = Hint::default();
-    // More names than a hint keeps, in no order; each is asked for by a Get, a GetNext and a
-    // GetBulk.
+    // Names of one mark, in no order; each is asked for by a Get, a GetNext and a GetBulk.
     for round in 0..4 {
         for step in 0..800_u16 {
             let number = step.wrapping_mul(331) % 800 + 128;
@@ -140,6 +139,60 @@ fn names_asked_for_again_have_the_same_replies(rt: HostRuntime) {
                 number.wrapping_mul(13).wrapping_add(128 + round),
             ]);
             let name = name.expect(&rt, "a name");
+            let _ = table.remove(&name);
+        }
+    }
+}
+
+/// The GetNext of 1.3.6.1.4.1.1 and this number, from 128 to 16383: a name of eight octets, so that
+/// its mark depends on the number.
+fn marked_next_of(number: u16) -> [u8; 40] {
+    let [high, low] = number.wrapping_mul(2).to_be_bytes();
+    let mut request = [
+        0x30, 0x26, 0x02, 0x01, 0x01, 0x04, 0x06, 0x70, 0x75, 0x62, 0x6C, 0x69, 0x63, 0xA1, 0x19,
+        0x02, 0x01, 0x01, 0x02, 0x01, 0x00, 0x02, 0x01, 0x00, 0x30, 0x0E, 0x30, 0x0C, 0x06, 0x08,
+        0x2B, 0x06, 0x01, 0x04, 0x01, 0x01, 0x81, 0x00, 0x05, 0x00,
+    ];
+    request[36] = high | 0x80;
+    request[37] = low / 2;
+    request
+}
+
+/// The text of the rows of each second number from 128 to `last` below 1.3.6.1.4.1.1.
+fn marked_rows(alloc: Global, last: u32) -> Result<Vec<u8>, AllocError> {
+    let mut text = Vec::new(alloc);
+    for number in 64..=last / 2 {
+        let line = format!(in alloc; "1.3.6.1.4.1.1.{}|65|{number}\n", number.wrapping_mul(2))?;
+        text.extend_from_slice(line.as_bytes())?;
+    }
+    Ok(text)
+}
+
+#[test]
+fn more_names_than_a_hint_keeps_have_the_same_replies(rt: HostRuntime) {
+    let text = marked_rows(rt.alloc(), 2200).expect(&rt, "memory for rows");
+    let mut table = Table::read(rt.alloc(), &text).expect(&rt, "a table");
+    let mut hint = Hint::default();
+    // Rows and names between them, in no order and asked for again; a hint keeps 1,024 names.
+    for round in 0..3_u32 {
+        for step in 0..1500_u16 {
+            let number = step.wrapping_mul(331) % 1500 + 650;
+            let mut request = marked_next_of(number);
+            for &kind in &[0xA0, 0xA1] {
+                request[13] = kind;
+                assert!(rt;
+                    is_same(&table, &request, &mut hint),
+                    "{number} by {kind} in {round}"
+                );
+            }
+        }
+        // Rows go, so that others stand elsewhere.
+        for number in 0..60_u32 {
+            let last = number
+                .wrapping_mul(26)
+                .wrapping_add(660)
+                .wrapping_add(round.wrapping_mul(2));
+            let name = Oid::from_slice(&[1, 3, 6, 1, 4, 1, 1, last]).expect(&rt, "a name");
             let _ = table.remove(&name);
         }
     }

@@ -1,10 +1,12 @@
 //! Where names stood among the rows of a table, as guesses for whoever asks in turn.
 
+ghost use Rattle.std.specs.Prelude.{◌+◌, ◌<◌};
+
 use snmp_wire::EncodedName;
 use std::fmt;
 
-/// How many names a hint keeps at most.
-const NAMES: usize = 512;
+/// How many names a hint keeps at most: two for each value of the high nine bits of a mark.
+const NAMES: usize = 1024;
 
 /// Where names stood of which an agent was asked, as guesses: whoever asks in turn mostly asks from
 /// the row that was given last, or for the names that were asked for before.
@@ -14,11 +16,11 @@ pub struct Hint {
     pub(crate) rows: usize,
     /// How many pages come after that.
     pub(crate) pages: usize,
-    /// By the mark of a name, the place of the page where one of this mark stood, counted from 1; 0
-    /// where none did.
-    at_pages: [u16; NAMES],
-    /// How many rows of that page had the name or one before it, as far as an octet holds that.
-    at_rows: [u8; NAMES],
+    /// Where names stood, two for each value of the high nine bits of their marks, the later one
+    /// first: from the high bits on the place of the page, counted from 1 in 16 bits, or 0 for no
+    /// name; how many rows of that page had the name or one before it, as far as 8 bits hold that;
+    /// and the 8 other bits of the mark.
+    kept: [u32; NAMES],
 }
 
 // The row that was given last alone.
@@ -35,7 +37,7 @@ impl fmt::Debug for Hint {
 #[derive(Clone, Copy, Debug)]
 pub(crate) struct Guess {
     /// The mark of the name.
-    mark: u16,
+    mark: u32,
     /// The place of its page.
     pub(crate) page: usize,
     /// How many rows of the page have the name or one before it.
@@ -52,8 +54,7 @@ impl Default for Hint {
         Hint {
             rows: 0,
             pages: usize::MAX,
-            at_pages: [0; NAMES],
-            at_rows: [0; NAMES],
+            kept: [0; NAMES],
         }
     }
 }
@@ -70,11 +71,20 @@ impl Hint {
     #[inline]
     pub(crate) fn guess(&self, name: &EncodedName<'_>) -> Guess {
         let mark = mark_of(name.content());
-        let at = usize::from(mark) % NAMES;
+        let at = place_of(mark);
+        let later = self.kept[at];
+        let earlier = self.kept[at + 1];
+        let kept = if later % 256 == mark % 256 {
+            later
+        } else if earlier % 256 == mark % 256 {
+            earlier
+        } else {
+            0
+        };
         Guess {
             mark,
-            page: usize::from(self.at_pages[at]).wrapping_sub(1),
-            row: usize::from(self.at_rows[at]),
+            page: ((kept >> 16) as usize).wrapping_sub(1),
+            row: (kept >> 8) as usize % 256,
         }
     }
 
@@ -82,22 +92,35 @@ impl Hint {
     /// one before it.
     #[inline]
     pub(crate) fn keep(&mut self, guess: Guess, page: usize, row: usize) {
-        let at = usize::from(guess.mark) % NAMES;
-        self.at_pages[at] = u16::try_from(page.wrapping_add(1)).unwrap_or(0);
-        self.at_rows[at] = u8::try_from(row).unwrap_or(0);
+        let at = place_of(guess.mark);
+        let later = self.kept[at];
+        if later % 256 != guess.mark % 256 {
+            self.kept[at + 1] = later;
+        }
+        let page = u32::from(u16::try_from(page.wrapping_add(1)).unwrap_or(0));
+        let row = u32::from(u8::try_from(row).unwrap_or(0));
+        self.kept[at] = page << 16 | row << 8 | guess.mark % 256;
     }
 }
 
-/// A number below 512, from the last sixteen octets of a name, in which names that one manager asks
-/// for mostly differ; 0 of fewer than eight octets.
+/// The place of the later of the two names that are kept for the high bits of a mark.
 #[inline]
-fn mark_of(content: &[u8]) -> u16 {
+fn place_of(mark: u32) -> usize
+    ensures { result + 1 < 1024 }
+{
+    (mark >> 8) as usize % (NAMES / 2) * 2
+}
+
+/// A number below 131,072, from the last sixteen octets of a name, in which names that one manager
+/// asks for mostly differ; 0 of fewer than eight octets.
+#[inline]
+fn mark_of(content: &[u8]) -> u32 {
     let (front, last) = last_word(content);
     let (_, before) = last_word(front);
     let mixed = last
         .wrapping_mul(0x9e37_79b9_7f4a_7c15)
         .wrapping_add(before.wrapping_mul(0xc2b2_ae3d_27d4_eb4f));
-    (mixed >> 55) as u16
+    (mixed >> 47) as u32
 }
 
 /// The last eight octets as a number, with what stands before them; all of fewer octets as 0.
