@@ -1,7 +1,9 @@
 //! The text of an instance: numbers with a dot before each, or the values of an index with strings
 //! in quotes.
 ghost use Rattle.std.specs.Prelude.{◌≡◌, ◌≢◌, ℕ, ◌<◌, ◌≤◌, ◌^◌, ◌∷◌, ◌++◌, [], List, All, length};
-ghost use Rattle.std.specs.Prelude.{codes, decimal, IsTrue, Option, Some, None, true, take, ◌+◌};
+ghost use Rattle.std.specs.Prelude.{codes, decimal, IsTrue, Option, Some, None, true, take};
+ghost use Rattle.std.specs.Prelude.{◌+◌, ◌*◌};
+ghost use Rattle.std.specs.Bool.{OnTrue};
 ghost use Rattle.std.specs.List.{flat_map, list_all};
 ghost use Rattle.snmp_io.specs.draft.Draft.{Adds};
 ghost use Rattle.smi_show.specs.declared.index.part.IndexPart.{IndexPart};
@@ -18,16 +20,38 @@ use snmp_io::Draft;
 /// The room where numbers are gathered, in octets: that of eleven numbers at least.
 const ROOM: usize = 128;
 
+/// The numbers below 256 as they are put, four octets for each: a dot, the digits and blanks. No
+/// digit has to be worked out, and there is no branch by how many there are.
+const SMALL: &[u8] = b"\
+    .0  .1  .2  .3  .4  .5  .6  .7  .8  .9  .10 .11 .12 .13 .14 .15 \
+    .16 .17 .18 .19 .20 .21 .22 .23 .24 .25 .26 .27 .28 .29 .30 .31 \
+    .32 .33 .34 .35 .36 .37 .38 .39 .40 .41 .42 .43 .44 .45 .46 .47 \
+    .48 .49 .50 .51 .52 .53 .54 .55 .56 .57 .58 .59 .60 .61 .62 .63 \
+    .64 .65 .66 .67 .68 .69 .70 .71 .72 .73 .74 .75 .76 .77 .78 .79 \
+    .80 .81 .82 .83 .84 .85 .86 .87 .88 .89 .90 .91 .92 .93 .94 .95 \
+    .96 .97 .98 .99 .100.101.102.103.104.105.106.107.108.109.110.111\
+    .112.113.114.115.116.117.118.119.120.121.122.123.124.125.126.127\
+    .128.129.130.131.132.133.134.135.136.137.138.139.140.141.142.143\
+    .144.145.146.147.148.149.150.151.152.153.154.155.156.157.158.159\
+    .160.161.162.163.164.165.166.167.168.169.170.171.172.173.174.175\
+    .176.177.178.179.180.181.182.183.184.185.186.187.188.189.190.191\
+    .192.193.194.195.196.197.198.199.200.201.202.203.204.205.206.207\
+    .208.209.210.211.212.213.214.215.216.217.218.219.220.221.222.223\
+    .224.225.226.227.228.229.230.231.232.233.234.235.236.237.238.239\
+    .240.241.242.243.244.245.246.247.248.249.250.251.252.253.254.255\
+    ";
+
 /// Appends numbers, with a dot before each.
 pub fn numbers_text(numbers: &[u32], draft: &mut Draft)
     ensures { Adds draft.old (shown_pieces (as_numbers numbers.now)) draft.new }
 {
     // Gathered, and appended at once: most names are shorter than the room.
     let mut room = [0; ROOM];
-    let mut filled: usize = 0;
-    'numbers: for number in numbers {
+    let front = put_front(&mut room, numbers);
+    let mut filled = 2 * front;
+    'numbers: for at in front..numbers.len() {
         filled = with_room(&room, filled, draft);
-        filled = put_number(&mut room, filled, *number);
+        filled = put_number(&mut room, filled, numbers[at]);
     }
     draft.octets(&room[..filled]);
 }
@@ -135,6 +159,54 @@ fn number_text(number: u64, draft: &mut Draft)
     }
 }
 
+/// Puts the numbers at the front into the room, four at a time, as long as they have one digit, and
+/// returns how many these are. Most names begin with such numbers.
+#[inline(always)]
+fn put_front(room: &mut [u8; ROOM], numbers: &[u32]) -> usize
+    ensures front { result ≤ length numbers.now }
+    ensures within { 2 * result ≤ 128 }
+    ensures text { let front = take result numbers.now in
+        take (2 * result) room.new ≡ shown_pieces (as_numbers front) }
+{
+    let mut front = 0;
+    'fours: while front <= 56 && numbers.len() - front >= 4 {
+        let first = numbers[front];
+        let second = numbers[front + 1];
+        let third = numbers[front + 2];
+        let fourth = numbers[front + 3];
+        if !are_digits(first, second, third, fourth) {
+            return front;
+        }
+        put_digits(room, 2 * front, first, second);
+        put_digits(room, 2 * front + 4, third, fourth);
+        front += 4;
+    }
+    front
+}
+
+/// Whether numbers have one digit.
+#[inline(always)]
+fn are_digits(first: u32, second: u32, third: u32, fourth: u32) -> bool
+    ensures { OnTrue result ((first < 10) × (second < 10) × (third < 10) × (fourth < 10)) }
+{
+    first < 10 && second < 10 && third < 10 && fourth < 10
+}
+
+/// Puts two numbers of one digit behind what is gathered.
+#[inline(always)]
+fn put_digits(room: &mut [u8; ROOM], filled: usize, first: u32, second: u32)
+    requires room { filled ≤ 124 }
+    requires first { first < 10 }
+    requires second { second < 10 }
+    ensures { take (filled + 4) room.new ≡ take filled room.old
+        ++ 46 ∷ (48 + first) ∷ 46 ∷ (48 + second) ∷ [] }
+{
+    put(room, filled, b'.');
+    put(room, filled + 1, b'0' + first as u8);
+    put(room, filled + 2, b'.');
+    put(room, filled + 3, b'0' + second as u8);
+}
+
 /// Appends what is gathered, if there may be no room for one more number, and returns how much of
 /// the room is filled then.
 #[inline(always)]
@@ -159,10 +231,13 @@ fn put_number(room: &mut [u8; ROOM], filled: usize, number: u32) -> usize
     ensures within { result ≤ filled + 11 }
     ensures text { take result room.new ≡ take filled room.old ++ (codes "." ++ decimal number) }
 {
-    if number < 1000 {
-        put_short(room, filled, number)
-    } else {
+    if number >= 1000 {
         put_long(room, filled, number)
+    } else if number < 256 {
+        // Most are octets of addresses, or as short.
+        put_small(room, filled, number)
+    } else {
+        put_short(room, filled, number)
     }
 }
 
@@ -222,6 +297,36 @@ fn put_short(room: &mut [u8; ROOM], filled: usize, number: u32) -> usize
     put(room, filled + 2, b'0' + (tens % 10) as u8);
     put(room, filled + 3, ones);
     filled + 4
+}
+
+/// The same, for a number below 256.
+#[inline(always)]
+fn put_small(room: &mut [u8; ROOM], filled: usize, number: u32) -> usize
+    requires room { filled ≤ 117 }
+    requires small { number < 256 }
+    ensures within { result ≤ filled + 4 }
+    ensures one { number < 10 → result ≤ filled + 2 }
+    ensures text { take result room.new ≡ take filled room.old ++ (codes "." ++ decimal number) }
+{
+    // All four, with no test of how many: what is put next begins behind the digits.
+    let at = number as usize * 4;
+    let (first, second, third, fourth) = (SMALL[at], SMALL[at + 1], SMALL[at + 2], SMALL[at + 3]);
+    put(room, filled, first);
+    put(room, filled + 1, second);
+    put(room, filled + 2, third);
+    put(room, filled + 3, fourth);
+    filled + small_len(number)
+}
+
+/// How many octets a number below 256 takes after its dot, with it.
+#[inline(always)]
+fn small_len(number: u32) -> usize
+    requires { number < 256 }
+    ensures within { 2 ≤ result × result ≤ 4 }
+    ensures one { number < 10 → result ≡ 2 }
+    ensures length { result ≡ length (codes "." ++ decimal number) }
+{
+    2 + usize::from(number >= 10) + usize::from(number >= 100)
 }
 
 /// Puts the last three digits of a longer number behind what is gathered.

@@ -9,5 +9,5 @@ invariant-numbers l = record {
   done : List ℕ;
   within : l.filled ≤ 128;
   grows : Grows l.initial.draft done l.draft;
-  text : done ++ take l.filled l.room ≡ shown_pieces (as_numbers (take l.number-index l.numbers));
+  text : done ++ take l.filled l.room ≡ shown_pieces (as_numbers (take l.at l.numbers));
 }

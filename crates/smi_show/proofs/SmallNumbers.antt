@@ -1,0 +1,66 @@
+-- The table of small numbers, checked entry by entry.
+use Rattle.std.proofs.Common.{◌≡◌, ℕ, zero, suc, ◌+◌, ◌*◌, ◌/◌, ◌%◌, ◌<◌, inl, inr, Bool, true, ◌&&◌, ltb, leb, cond, List, [], ◌∷◌, ◌++◌, ◌≤◌, decimal, length, take, get_or, refl, sym, ap, ◌∙◌, arith}
+use mir.Val.{bool_byte}
+use Rattle.std.specs.Str.{bytes_eq}
+use Rattle.std.proofs.Math.Seq.{take-append-add}
+use Rattle.std.proofs.lemmas.List.{length-take-le, take-take}
+use Rattle.std.proofs.lemmas.Bool.{cases_lt, lt-ltb, le-ltb, lt-leb, le-leb}
+use Rattle.std.proofs.lemmas.Bool.Decides.{Decides-below_and}
+use Rattle.std.proofs.lemmas.Slice.Eq.{bytes_eq-Decides}
+use Rattle.smi_show.specs.declared.index.shown.TheConstants.{SMALL}
+use Rattle.smi_show.proofs.DigitLemmas.{digit_is, two_digits, digits_of_three}
+
+-- a number below 1000 after a dot
+abbrev dotted : ℕ → List ℕ
+dotted n =
+    46 ∷ cond (ltb n 10) ((48 + n) ∷ []) (cond (ltb n 100) ((48 + n / 10) ∷ (48 + n % 10) ∷ [])
+    ((48 + n / 10 / 10) ∷ (48 + n / 10 % 10) ∷ (48 + n % 10) ∷ []))
+
+dotted_is : (n : ℕ) → n < 256 → dotted n ≡ 46 ∷ decimal n
+dotted_is n small = elim (cases_lt n 10) [
+  | inl one ↦ rw (lt-ltb n 10 one) (ap (λ t. 46 ∷ t) (sym (digit_is n one)))
+  | inr more ↦ elim (cases_lt n 100) [
+    | inl two ↦ rw (le-ltb n 10 more, lt-ltb n 100 two) (ap (λ t. 46 ∷ t) (sym (two_digits n more two)))
+    | inr three ↦ rw (le-ltb n 10 more, le-ltb n 100 three) (ap (λ t. 46 ∷ t) (sym (digits_of_three n three (omega arith))))
+  ]
+]
+
+-- the octets of an entry
+abbrev pub octets_of : ℕ → List ℕ
+octets_of n =
+    get_or SMALL.now (n * 4) 0 ∷ get_or SMALL.now (n * 4 + 1) 0 ∷ get_or SMALL.now (n * 4 + 2) 0 ∷ get_or SMALL.now (n * 4 + 3) 0 ∷ []
+
+-- as many of them as a number takes after its dot, with it
+abbrev entry : ℕ → List ℕ
+entry n = take (length (dotted n)) (octets_of n)
+
+abbrev entries_match : ℕ → Bool
+entries_match zero = true
+entries_match (suc n) = bytes_eq (entry n) (dotted n) && entries_match n
+
+entries_checked : entries_match 256 ≡ true
+entries_checked = refl
+
+matched : (n : ℕ) → n < 256 → entry n ≡ dotted n
+matched =
+    (Decides-below_and (λ n. bytes_eq (entry n) (dotted n)) (λ n. entry n ≡ dotted n) entries_match (λ n. bytes_eq-Decides _ _) refl (λ _. refl) 256).0 entries_checked
+
+pub small_entry : (n : ℕ) → n < 256 → take (length (46 ∷ decimal n)) (octets_of n) ≡ 46 ∷ decimal n
+small_entry n small = ap (λ t. take (length t) (octets_of n)) (sym (dotted_is n small)) ∙ matched n small ∙ dotted_is n small
+
+-- how many octets that is, by two tests
+pub small_len_is : (n a b : ℕ) → n < 256 → a ≡ bool_byte (leb 10 n) → b ≡ bool_byte (leb 100 n) → 2 + a + b ≡ length (46 ∷ decimal n)
+small_len_is n a b small tens hundreds = elim (cases_lt n 10) [
+  | inl one ↦ rw (tens, hundreds, lt-leb 10 n one, lt-leb 100 n (omega arith)) (ap (λ t. length (46 ∷ t)) (sym (digit_is n one)))
+  | inr more ↦ elim (cases_lt n 100) [
+    | inl two ↦ rw (tens, hundreds, le-leb 10 n more, lt-leb 100 n two) (ap (λ t. length (46 ∷ t)) (sym (two_digits n more two)))
+    | inr three ↦ rw (tens, hundreds, le-leb 10 n more, le-leb 100 n three) (ap (λ t. length (46 ∷ t)) (sym (digits_of_three n three (omega arith))))
+  ]
+]
+
+-- the front of what is put behind a text
+pub front_behind : (a k m : ℕ) (room now part : List ℕ) → a ≤ length room → k ≤ length part → k ≤ m → take (a + m) now ≡ take a room ++ part
+    → take (a + k) now ≡ take a room ++ take k part
+front_behind a k m room now part within fits fewer is =
+    sym (take-take (a + k) (a + m) now (omega (arith, fewer))) ∙ ap (take (a + k)) is
+    ∙ ap (λ i. take (i + k) (take a room ++ part)) (sym (length-take-le a room within)) ∙ take-append-add (take a room) part k
