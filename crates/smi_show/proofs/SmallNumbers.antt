@@ -1,5 +1,7 @@
 -- The table of small numbers, checked entry by entry.
-use Rattle.std.proofs.Common.{◌≡◌, ℕ, zero, suc, ◌+◌, ◌*◌, ◌/◌, ◌%◌, ◌<◌, inl, inr, Bool, true, ◌&&◌, ltb, leb, cond, List, [], ◌∷◌, ◌++◌, ◌≤◌, decimal, length, take, get_or, refl, sym, ap, ◌∙◌, arith}
+use Rattle.std.proofs.Common.{◌≡◌, ℕ, zero, suc, ◌+◌, ◌*◌, ◌/◌, ◌%◌, ◌<◌, inl, inr, Bool, true}
+use Rattle.std.proofs.Common.{◌&&◌, ltb, leb, cond, List, [], ◌∷◌, ◌++◌, ◌≤◌, decimal, length}
+use Rattle.std.proofs.Common.{take, get_or, refl, sym, ap, ◌∙◌, arith}
 use mir.Val.{bool_byte}
 use Rattle.std.specs.Str.{bytes_eq}
 use Rattle.std.proofs.Math.Seq.{take-append-add}
@@ -43,7 +45,8 @@ entries_checked = refl
 
 matched : (n : ℕ) → n < 256 → entry n ≡ dotted n
 matched =
-    (Decides-below_and (λ n. bytes_eq (entry n) (dotted n)) (λ n. entry n ≡ dotted n) entries_match (λ n. bytes_eq-Decides _ _) refl (λ _. refl) 256).0 entries_checked
+    (Decides-below_and (λ n. bytes_eq (entry n) (dotted n)) (λ n. entry n ≡ dotted n) entries_match
+    (λ n. bytes_eq-Decides _ _) refl (λ _. refl) 256).0 entries_checked
 
 pub small_entry : (n : ℕ) → n < 256 → take (length (46 ∷ decimal n)) (octets_of n) ≡ 46 ∷ decimal n
 small_entry n small = ap (λ t. take (length t) (octets_of n)) (sym (dotted_is n small)) ∙ matched n small ∙ dotted_is n small

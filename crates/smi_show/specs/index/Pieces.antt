@@ -94,6 +94,20 @@ is_plain (Octets extent) = true
 is_plain Identifier = true
 is_plain ImpliedIdentifier = true
 
+-- whether a value is shown as a text, and whether one of them is, for private clauses
+abbrev pub is_text : IndexPart → List ℕ → Bool
+is_text Number value = false
+is_text Address value = false
+is_text (Text extent) value = is_shown_text value
+is_text (Octets extent) value = false
+is_text Identifier value = false
+is_text ImpliedIdentifier value = false
+
+abbrev pub is_text_among : List IndexPart → List (List ℕ) → Bool
+is_text_among [] values = false
+is_text_among (part ∷ parts) [] = false
+is_text_among (part ∷ parts) (value ∷ values) = is_text part value || is_text_among parts values
+
 abbrev pub index_pieces : List IndexPart → List (List ℕ) → List Piece
 index_pieces [] values = []
 index_pieces (part ∷ parts) [] = []

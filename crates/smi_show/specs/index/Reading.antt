@@ -1,10 +1,10 @@
 -- An index computed from numbers, and its pieces, for private clauses: what the relations of Index
 -- and Pieces determine.
 use Rattle.std.specs.Prelude.{ℕ, nat_le, if◌then◌else◌, List, [], ◌∷◌, length, take, drop, Option}
-use Rattle.std.specs.Prelude.{Some, None, option_map, option_and_then, unwrap_or}
+use Rattle.std.specs.Prelude.{Some, None, option_map, option_and_then, unwrap_or, Bool, false}
 use Rattle.std.specs.List.{list_all}
 use Rattle.smi_show.specs.index.Index.{is_octet}
-use Rattle.smi_show.specs.index.Pieces.{Piece, as_numbers, index_pieces}
+use Rattle.smi_show.specs.index.Pieces.{Piece, as_numbers, index_pieces, is_text_among}
 use Rattle.smi_show.specs.declared.index.part.Extent.{Extent}
 use Rattle.smi_show.specs.declared.index.part.Extent.TheVariants.{Fixed, Counted, Implied}
 use Rattle.smi_show.specs.declared.index.part.IndexPart.{IndexPart}
@@ -54,6 +54,11 @@ values_of (part ∷ parts) numbers =
     option_and_then
     (λ (value, rest). option_map (λ values. value ∷ values) (values_of parts rest))
     (front_of part numbers)
+
+-- whether one of the values that the numbers read is shown as a text
+abbrev pub has_text : List IndexPart → List ℕ → Bool
+has_text parts numbers =
+    unwrap_or (option_map (is_text_among parts) (values_of parts numbers)) false
 
 -- the pieces of the numbers after a node
 abbrev pub instance_pieces : Option (List IndexPart) → List ℕ → List Piece

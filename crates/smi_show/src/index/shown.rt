@@ -1,15 +1,16 @@
 //! The text of an instance: numbers with a dot before each, or the values of an index with strings
 //! in quotes.
 ghost use Rattle.std.specs.Prelude.{◌≡◌, ◌≢◌, ℕ, ◌<◌, ◌≤◌, ◌^◌, ◌∷◌, ◌++◌, [], List, All, length};
-ghost use Rattle.std.specs.Prelude.{codes, decimal, IsTrue, Option, Some, None, true, take};
-ghost use Rattle.std.specs.Prelude.{◌+◌, ◌*◌};
-ghost use Rattle.std.specs.Bool.{OnTrue};
+ghost use Rattle.std.specs.Prelude.{codes, decimal, IsTrue, Option, Some, None, true, false};
+ghost use Rattle.std.specs.Prelude.{take, ◌+◌, ◌*◌};
+ghost use Rattle.std.specs.Bool.{OnTrue, OnFalse};
+ghost use Rattle.std.specs.Option.{is_some};
 ghost use Rattle.std.specs.List.{flat_map, list_all};
 ghost use Rattle.snmp_io.specs.draft.Draft.{Adds};
 ghost use Rattle.smi_show.specs.declared.index.part.IndexPart.{IndexPart};
-ghost use Rattle.smi_show.specs.index.Reading.{instance_pieces, values_of};
+ghost use Rattle.smi_show.specs.index.Reading.{has_text, instance_pieces, values_of};
 ghost use Rattle.smi_show.specs.index.Pieces.{IsPiece, as_numbers, as_text, index_pieces};
-ghost use Rattle.smi_show.specs.index.Pieces.{is_plain, is_quotable, is_shown_text};
+ghost use Rattle.smi_show.specs.index.Pieces.{is_plain, is_quotable, is_shown_text, is_text};
 ghost use Rattle.smi_show.specs.index.Pieces.{piece_numbers};
 ghost use Rattle.smi_show.specs.index.Pieces.{shown_pieces, value_pieces};
 ghost use Rattle.smi_show.specs.index.Digits.{three_digits};
@@ -63,10 +64,7 @@ pub fn index_text(parts: &[IndexPart], numbers: &[u32], draft: &mut Draft)
     ensures { let pieces = instance_pieces (Some parts.now) numbers.now in
         Adds draft.old (shown_pieces pieces) draft.new }
 {
-    // Where no part may be shown as a text, nothing has to be read.
-    if are_plain(parts) {
-        numbers_text(numbers, draft);
-    } else if reads(parts, numbers) {
+    if is_shown_by_values(parts, numbers) {
         values_text(parts, numbers, draft);
     } else {
         numbers_text(numbers, draft);
@@ -83,6 +81,17 @@ pub fn pieces_stand_for_numbers()
     ensures each { (index : Option (List IndexPart)) (numbers : List ℕ)
         → All (λ n. n < 2 ^ 32) numbers → All IsPiece (instance_pieces index numbers) }
 {}
+
+/// Whether all numbers are read, and one of the values may be shown as a text. If not, all of them
+/// are shown as numbers, and no value has to be shown by itself.
+fn is_shown_by_values(parts: &[IndexPart], numbers: &[u32]) -> bool
+    ensures read { OnTrue result (is_some (values_of parts.now numbers.now) ≡ true) }
+    ensures numbers { let pieces = instance_pieces (Some parts.now) numbers.now in
+        OnFalse result (as_numbers numbers.now ≡ pieces) }
+{
+    // Where no part may be shown as a text, nothing has to be read.
+    !are_plain(parts) && reads_some_text(parts, numbers)
+}
 
 /// Whether all parts of an index are shown as numbers, whatever their values.
 fn are_plain(parts: &[IndexPart]) -> bool
@@ -102,6 +111,41 @@ fn is_plain(part: IndexPart) -> bool
         | IndexPart::Octets(_)
         | IndexPart::Identifier
         | IndexPart::ImpliedIdentifier => true,
+    }
+}
+
+/// Whether the parts of an index read all numbers, and one of the values may be shown as a text.
+fn reads_some_text(parts: &[IndexPart], numbers: &[u32]) -> bool
+    ensures read { OnTrue result (is_some (values_of parts.now numbers.now) ≡ true) }
+    ensures none { OnFalse result (has_text parts.now numbers.now ≡ false) }
+{
+    let mut left = numbers;
+    'parts: for at in 0..parts.len() {
+        let Some((value, rest)) = read_part(parts[at], left) else {
+            return false;
+        };
+        if may_be_text(parts[at], value) {
+            return reads(&parts[at + 1..], rest);
+        }
+        left = rest;
+    }
+    false
+}
+
+/// Whether a value may be shown as a text, by its first octet.
+fn may_be_text(part: IndexPart, value: &[u32]) -> bool
+    ensures { OnFalse result (is_text part value.now ≡ false) }
+{
+    match part {
+        IndexPart::Text(_) => match value {
+            [first, ..] => is_quotable(*first),
+            [] => false,
+        },
+        IndexPart::Number
+        | IndexPart::Address
+        | IndexPart::Octets(_)
+        | IndexPart::Identifier
+        | IndexPart::ImpliedIdentifier => false,
     }
 }
 
@@ -184,7 +228,7 @@ fn put_front(room: &mut [u8; ROOM], numbers: &[u32]) -> usize
     front
 }
 
-/// Whether numbers have one digit.
+/// Whether all four numbers have one digit.
 #[inline(always)]
 fn are_digits(first: u32, second: u32, third: u32, fourth: u32) -> bool
     ensures { OnTrue result ((first < 10) × (second < 10) × (third < 10) × (fourth < 10)) }
@@ -305,7 +349,6 @@ fn put_small(room: &mut [u8; ROOM], filled: usize, number: u32) -> usize
     requires room { filled ≤ 117 }
     requires small { number < 256 }
     ensures within { result ≤ filled + 4 }
-    ensures one { number < 10 → result ≤ filled + 2 }
     ensures text { take result room.new ≡ take filled room.old ++ (codes "." ++ decimal number) }
 {
     // All four, with no test of how many: what is put next begins behind the digits.
@@ -318,12 +361,11 @@ fn put_small(room: &mut [u8; ROOM], filled: usize, number: u32) -> usize
     filled + small_len(number)
 }
 
-/// How many octets a number below 256 takes after its dot, with it.
+/// How many octets a number below 256 takes, with the dot before it.
 #[inline(always)]
 fn small_len(number: u32) -> usize
     requires { number < 256 }
-    ensures within { 2 ≤ result × result ≤ 4 }
-    ensures one { number < 10 → result ≡ 2 }
+    ensures within { result ≤ 4 }
     ensures length { result ≡ length (codes "." ++ decimal number) }
 {
     2 + usize::from(number >= 10) + usize::from(number >= 100)

@@ -1,0 +1,10 @@
+use Rattle.std.proofs.Common.{◌≡◌, drop, is_some}
+use Rattle.smi_show.specs.index.Reading.{has_text, values_of}
+use Rattle.smi_show.proofs.index.shown.reads_some_text.Given as goal
+
+-- the parts that are left read the numbers that are left exactly where all read all, and have a text where all have one
+abbrev pub invariant-parts : goal.invariant-parts
+invariant-parts l = record {
+  read : is_some (values_of (drop l.at l.parts) l.left) ≡ is_some (values_of l.fn.parts l.fn.numbers);
+  text : has_text (drop l.at l.parts) l.left ≡ has_text l.fn.parts l.fn.numbers;
+}
