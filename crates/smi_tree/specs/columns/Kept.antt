@@ -1,6 +1,7 @@
 -- What is kept: the parts of each INDEX clause, and for each node which of them identify its row.
 -- The relations here are for private clauses.
 use Rattle.std.specs.Prelude.{◌≡◌, ℕ, List, Bool, Option, Some, None, option_map, length, map, Vec}
+use Rattle.std.specs.Prelude.{⊤}
 use Rattle.std.specs.List.{slice_get}
 use Rattle.std.specs.Option.{option_and_then}
 use Rattle.std.specs.Global.{Global}
@@ -9,6 +10,8 @@ use Rattle.smi_text.specs.declared.trees.tree.Module.{Module}
 use Rattle.smi_text.specs.declared.trees.tree.Def.{Def}
 use Rattle.smi_text.specs.declared.trees.tree.IndexParts.{IndexParts}
 use Rattle.smi_names.specs.nodes.Nodes.{Node}
+use Rattle.smi_tree.specs.branches.Standing.{place_of}
+use Rattle.smi_tree.specs.declared.columns.rows.LastRow.{LastRow}
 use Rattle.smi_tree.specs.columns.Index.{
   IsIndexPart,
   AreParts,
@@ -100,6 +103,11 @@ pub record AreRows (ms : List Module) (nodes : List Node) (rows : List (Option (
   pub long : length rows ≡ length nodes
   pub each : (k : ℕ) (node : Node) → slice_get nodes k ≡ Some node
       → (at : Option (ℕ × ℕ)) × (slice_get rows k ≡ Some at) × HasRowOrNone ms nodes node at
+
+-- a row that was looked up has this place, if one was, for private clauses
+abbrev pub IsLastRow : List (List ℕ) → Option LastRow → Type 0
+IsLastRow oids None = ⊤
+IsLastRow oids (Some row) = row.place ≡ place_of oids row.numbers.now
 
 -- the index of each node, by what is kept
 abbrev pub indexes_of : List KeptOfModule → List (Option (ℕ × ℕ))

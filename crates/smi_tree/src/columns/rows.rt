@@ -7,6 +7,7 @@ ghost use Rattle.smi_names.specs.nodes.Nodes.{Node};
 ghost use Rattle.smi_names.specs.nodes.Gathered.{node_from, nodes_of};
 ghost use Rattle.smi_tree.specs.columns.Index.{IsObjectType};
 ghost use Rattle.smi_tree.specs.columns.Kept.{UsesAt, UsesNone, AreRows, HasRowOrNone};
+ghost use Rattle.smi_tree.specs.columns.Kept.{IsLastRow};
 
 use crate::branches::Identifiers;
 use crate::columns::objects::{Objects, clause};
@@ -14,18 +15,44 @@ use smi_names::Source;
 use smi_text::{Def, DefKind, Index};
 use std::alloc::{AllocError, Global};
 
-/// The place of the first identifier that is that of a place without its last number.
-fn row_place(identifiers: &Identifiers, place: usize) -> Option<usize>
-    requires { place < length identifiers.now }
-    ensures { MatchOption result
+/// The row that was looked up last.
+#[derive(Clone, Copy, Debug)]
+struct LastRow<'i> {
+    /// The numbers of its identifier.
+    numbers: &'i [u32],
+    /// The place of the first identifier of these numbers.
+    place: Option<usize>,
+}
+
+/// The place of the first identifier that is that of a place without its last number. `last` is the
+/// row that was looked up last: nodes in a row are mostly columns of one row.
+fn row_place<'i>(
+    identifiers: &'i Identifiers,
+    place: usize,
+    last: &mut Option<LastRow<'i>>,
+) -> Option<usize>
+    requires within { place < length identifiers.now }
+    requires last { IsLastRow identifiers.now last.old }
+    ensures row { MatchOption result
         ((front : List ℕ) (last row : ℕ) → oid_at identifiers.now place ≡ front ++ last ∷ []
         → place_of identifiers.now front ≡ Some row → ⊥)
         (λ row. (front : List ℕ) × (last : ℕ)
         × (oid_at identifiers.now place ≡ front ++ last ∷ [])
         × (place_of identifiers.now front ≡ Some row)) }
+    ensures last { IsLastRow identifiers.now last.new }
 {
     let (_last, front) = identifiers.get(place).as_slice().split_last()?;
-    identifiers.find_numbers(front)
+    match last {
+        Some(row) if row.numbers == front => row.place,
+        _ => {
+            let found = identifiers.find_numbers(front);
+            *last = Some(LastRow {
+                numbers: front,
+                place: found,
+            });
+            found
+        }
+    }
 }
 
 /// Whether a definition is an OBJECT-TYPE.
@@ -70,24 +97,27 @@ impl<'n, 'a> Objects<'n, 'a> {
     }
 
     /// The definition whose INDEX clause identifies the rows of the node at a place, None if the
-    /// node is no column or there is none.
-    fn row(
+    /// node is no column or there is none. `last` is the row that was looked up last.
+    fn row<'i>(
         &self,
         sources: &[Source],
-        identifiers: &Identifiers,
+        identifiers: &'i Identifiers,
         place: usize,
+        last: &mut Option<LastRow<'i>>,
     ) -> Option<(usize, usize)>
         requires long { length sources.now ≡ length identifiers.now }
         requires within { place < length sources.now }
-        ensures { let ms = self.now in
+        requires last { IsLastRow identifiers.now last.old }
+        ensures row { let ms = self.now in
             let nodes = nodes_of ms sources.now identifiers.now in
             (node : Node) → slice_get nodes place ≡ Some node → HasRowOrNone ms nodes node result }
+        ensures last { IsLastRow identifiers.now last.new }
     {
         let def = self.definition(sources[place])?;
         if !is_object_type(def) {
             return None;
         }
-        let row = row_place(identifiers, place)?;
+        let row = row_place(identifiers, place, last)?;
         let source = sources.get(row)?;
         self.used(*source)
     }
@@ -104,8 +134,9 @@ impl<'n, 'a> Objects<'n, 'a> {
             AreRows ms (nodes_of ms sources.now identifiers.now) rows.items) }
     {
         let mut rows = Vec::with_capacity(alloc, sources.len())?;
+        let mut last = None;
         'places: for place in 0..sources.len() {
-            rows.push(self.row(sources, identifiers, place))?;
+            rows.push(self.row(sources, identifiers, place, &mut last))?;
         }
         Ok(rows)
     }
