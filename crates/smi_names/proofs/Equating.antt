@@ -7,17 +7,20 @@ use Rattle.std.proofs.lemmas.Option.{slice_get_past, slice_get_within, slice_get
 use Rattle.std.specs.List.{slice_get, find, position_from, HoldsAt}
 use Rattle.std.specs.Option.{option_and_then, option_map}
 use Rattle.std.specs.Borrow.{Bor}
-use Rattle.smi_names.specs.chains.Chain.{nowhere}
+use Rattle.smi_names.specs.chains.Chain.{after, nowhere, next_of}
 use Rattle.smi_names.specs.chains.Basis.{ComesTo, EachComesTo}
 use Rattle.smi_names.specs.chains.Link.{origin_of_link, origin_by_link}
 use Rattle.smi_names.specs.declared.chains.link.Link.{Link}
 use Rattle.smi_names.specs.declared.chains.basis.Resolution.{Resolution}
 use Rattle.smi_text.specs.trees.Mark.{same_text}
 use Rattle.smi_text.specs.declared.trees.tree.Module.{Module}
-use Rattle.smi_names.specs.meaning.Meaning.{QualifiedName, Decision, decision, origin, origin_by, origin_in, module_named}
-use Rattle.smi_names.specs.meaning.Scopes.{NamePlaces, content_of, decision_of, place_in, known, decided_as, IsDecided}
+use Rattle.smi_text.specs.declared.trees.tree.Def.{Def}
+use Rattle.smi_text.specs.declared.trees.tree.Import.{Import}
+use Rattle.smi_names.specs.meaning.Meaning.{QualifiedName, Decision, decision, defined, imported, root, origin, origin_by, origin_in, module_named}
+use Rattle.smi_names.specs.meaning.Scopes.{NamePlaces, Content, content_of, decision_of, place_in, known, decided_as, IsDecided}
 use Rattle.smi_names.specs.meaning.Names.{map_origin, IsSourced}
-use Rattle.smi_names.specs.meaning.Directory.{place_by, place_of_entry, is_entry_of, AreLinks}
+use Rattle.smi_names.specs.meaning.Directory.{place_by, place_of_entry, is_entry_of, AreLinks, AreImportsLed}
+use Rattle.smi_names.specs.meaning.Known.{IsNextOf}
 use Rattle.smi_names.specs.meaning.Resolved.{IsDirectory, AreResolutions}
 use Rattle.smi_names.specs.declared.meaning.entry.Entry.{Entry}
 use Rattle.smi_names.specs.declared.meaning.directory.Directory.{Directory}
@@ -27,6 +30,21 @@ use Rattle.smi_names.proofs.Placing.{get-push, module_found, module_missing}
 
 past_get : {X : Type 0} (xs : List X) (i : ℕ) → slice_get xs i ≡ None → length xs ≤ i
 past_get xs i e = elim (cases_lt i (length xs)) [ inl l ↦ let r = get_within xs i l in let h = r.1 in absurd (cc) | inr l ↦ l ]
+
+pub get-map : {A B : Type 0} (f : A → B) (xs : List A) (p : ℕ) → slice_get (map f xs) p ≡ option_map f (slice_get xs p)
+get-map f [] p = refl
+get-map f (x ∷ xs) zero = refl
+get-map f (x ∷ xs) (suc p) = get-map f xs p
+
+-- where links lead, imports do
+pub AreImportsLed-links : (d : Directory) (bs : List Link) → AreLinks d d.entries.items bs → AreImportsLed d (map (λ l. next_of (origin_of_link l)) bs)
+AreImportsLed-links d bs are = record {
+  each = λ p e i at is.
+      let b = get_within bs p (omega (arith, slice_get_within d.entries.items p e at, are.long)) in
+      let a : QualifiedName = record { home = i.source.octets; name = e.name.now } in
+      let leads : origin_of_link b.0 ≡ after (place_by d a) [] = are.each p e b.0 at b.1 ∙ rw is refl in
+      get-map (λ l. next_of (origin_of_link l)) bs p ∙ rw b.1 (ap (λ o. Some (next_of o)) leads);
+}
 
 pub AreLinks-more : (d : Directory) (es : List Entry) (bs : List Link) (e : Entry) (b : Link) → AreLinks d es bs
     → origin_of_link b ≡ map_origin (place_by d) (origin_by (place_of_entry e) (Some (content_of e).decided))
@@ -84,6 +102,26 @@ entry_at ms d dir a = by (place_in d.homes a.home) refl
         let at : slice_get ms i ≡ Some found.0 = rw all at found.1 in
         let s = get_within d.scopes.items i (omega (arith, slice_get_within ms i found.0 at, dir.named.long)) in
         rw (s.1, found.2) (inner m s.0 (dir.named.each i m s.0 at s.1 a.name) (place_in s.0 a.name) refl)
+
+-- where the name at a place leads as an import
+module _ (ms : List Module) (d : Directory) (dir : IsDirectory ms d) (next : List (Option ℕ)) (nexts : AreImportsLed d next) (p : ℕ) (e : Entry)
+    (at : slice_get d.entries.items p ≡ Some e) (c : Content) (there : slice_get (map content_of d.entries.items) p ≡ Some c) where
+  content_is : content_of e ≡ c
+  content_is = let read : slice_get (map content_of d.entries.items) p ≡ Some (content_of e) = get-map content_of d.entries.items p ∙ rw at refl in cc
+
+  pub next_import : (i : Import) → decision_of e.decider ≡ imported i → (r : Option ℕ) → slice_get next p ≡ Some r
+      → IsNextOf ms (map content_of d.entries.items) c.name c.decided r
+  next_import i is r read =
+      let a : QualifiedName = record { home = i.source.octets; name = e.name.now } in
+      let leads : slice_get next p ≡ Some (Some (place_by d a)) = nexts.each p e i at is in
+      let to : r ≡ Some (place_by d a) = cc in
+      rw (sym content_is, is) (place_by d a, to, get-map content_of d.entries.items (place_by d a) ∙ entry_at ms d dir a)
+
+  pub next_defined : (x : Def) → decision_of e.decider ≡ defined x → IsNextOf ms (map content_of d.entries.items) c.name c.decided None
+  next_defined x is = rw (sym content_is, is) refl
+
+  pub next_root : (n : ℕ) → decision_of e.decider ≡ root n → IsNextOf ms (map content_of d.entries.items) c.name c.decided None
+  next_root n is = rw (sym content_is, is) refl
 
 origin_there : (xs : List Link) (p : ℕ) (b : Link) → slice_get xs p ≡ Some b → origin_by_link xs p ≡ origin_of_link b
 origin_there [] p b e = absurd (cc)

@@ -13,9 +13,9 @@ use Rattle.smi_text.specs.declared.trees.tree.Import.{Import}
 use Rattle.smi_names.specs.meaning.Meaning.{QualifiedName, Decision, defined, imported, root}
 use Rattle.smi_names.specs.meaning.Meaning.{decision, module_named}
 use Rattle.smi_names.specs.meaning.Scopes.{Content, decided_as}
-use Rattle.smi_names.specs.meaning.Known.{content_named}
+use Rattle.smi_names.specs.meaning.Known.{content_named, IsNextOf}
 use Rattle.smi_tree.specs.columns.Definitions.{IsDefinedBy, own, through}
-use Rattle.smi_tree.specs.columns.Named.{IsNextOf, AreNexts, AreEndsOfImports, IsUndefined}
+use Rattle.smi_tree.specs.columns.Named.{AreNexts, AreEndsOfImports, IsUndefined}
 use Rattle.smi_tree.proofs.Lists.{get_within, within_some}
 
 abbrev content : Module → List ℕ → Decision → Content

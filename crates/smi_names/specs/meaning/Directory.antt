@@ -6,8 +6,9 @@ use Rattle.std.specs.List.{slice_get}
 use Rattle.std.specs.Option.{option_and_then}
 use Rattle.smi_names.specs.chains.Link.{origin_of_link}
 use Rattle.smi_names.specs.declared.chains.link.Link.{Link}
-use Rattle.smi_names.specs.meaning.Meaning.{QualifiedName, origin_by}
-use Rattle.smi_names.specs.meaning.Scopes.{content_of, place_in}
+use Rattle.smi_text.specs.declared.trees.tree.Import.{Import}
+use Rattle.smi_names.specs.meaning.Meaning.{QualifiedName, imported, origin_by}
+use Rattle.smi_names.specs.meaning.Scopes.{content_of, decision_of, place_in}
 use Rattle.smi_names.specs.meaning.Names.{place_of_name, map_origin}
 use Rattle.smi_names.specs.declared.meaning.entry.Entry.{Entry}
 use Rattle.smi_names.specs.declared.meaning.directory.Directory.{Directory}
@@ -44,3 +45,10 @@ pub record AreLinks (d : Directory) (entries : List Entry) (links : List Link) :
       → slice_get links p ≡ Some l
       → origin_of_link l ≡ map_origin (place_by d) (origin_by (place_of_entry e) (Some
       (content_of e).decided))
+
+-- an import leads to the same name in the module after FROM, by its place
+pub record AreImportsLed (d : Directory) (next : List (Option ℕ)) : Type 0 where
+  pub each : (p : ℕ) (e : Entry) (i : Import) → slice_get d.entries.items p ≡ Some e
+      → decision_of e.decider ≡ imported i
+      → slice_get next p
+      ≡ Some (Some (place_by d (record { home = i.source.octets; name = e.name.now })))

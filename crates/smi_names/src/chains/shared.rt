@@ -31,6 +31,8 @@ pub(crate) struct Shared {
     pub(crate) list: Vec<Resolution>,
     /// For each place, the place of its resolution in the list.
     pub(crate) places: Vec<usize>,
+    /// For each place, the place that its name leads to, if it leads to one.
+    pub(crate) next: Vec<Option<usize>>,
 }
 
 impl Shared {
@@ -54,12 +56,15 @@ pub(crate) fn shared_resolutions(alloc: Global, links: &[Link]) -> Result<Shared
         ≡ length links.now) }
     ensures each { IfOk result (λ s. EachComesTo (origin_by_link links.now)
         (shared s.list.items s.places.items)) }
+    ensures next { IfOk result (λ s. s.next.items
+        ≡ map (λ l. next_of (origin_of_link l)) links.now) }
 {
     // Without places nothing is kept, and no memory is asked for.
     if links.is_empty() {
         return Ok(Shared {
             list: Vec::new(alloc),
             places: Vec::new(alloc),
+            next: Vec::new(alloc),
         });
     }
     let next = next_places(alloc, links)?;
@@ -70,7 +75,7 @@ pub(crate) fn shared_resolutions(alloc: Global, links: &[Link]) -> Result<Shared
         let place = *place;
         places[place] = entered(&mut list, &places, &links[place])?;
     }
-    Ok(Shared { list, places })
+    Ok(Shared { list, places, next })
 }
 
 /// The place that the name at each place leads to.

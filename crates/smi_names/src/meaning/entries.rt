@@ -1,13 +1,13 @@
 //! The names of modules by their places.
 ghost use Rattle.std.specs.Prelude.{◌≡◌, Some, length, option_map};
 ghost use Rattle.std.specs.List.{slice_get};
-ghost use Rattle.smi_names.specs.meaning.Scopes.{content_of};
+ghost use Rattle.smi_names.specs.meaning.Scopes.{Content, content_of};
 ghost use Rattle.smi_names.specs.meaning.Names.{IsSourced};
-ghost use Rattle.smi_names.specs.meaning.Known.{content_named};
+ghost use Rattle.smi_names.specs.meaning.Known.{content_named, IsNextOf};
 ghost use Rattle.smi_names.specs.declared.meaning.entry.Entry.{Entry};
 
 use crate::meaning::directory::Directory;
-use crate::meaning::entry::Entry;
+use crate::meaning::entry::{Decider, Entry};
 use smi_text::Module;
 use std::marker::Model;
 
@@ -18,12 +18,15 @@ use std::marker::Model;
 pub struct Entries<'s, 'a> {
     pub(crate) modules: &'a [Module],
     pub(crate) directory: &'s Directory<'a>,
+    /// For each name, the place of the name that it leads to, if it leads to one.
+    pub(crate) next: &'s [Option<usize>],
 }
 
 impl<'s, 'a> Model for Entries<'s, 'a> {
     ghost use Rattle.std.specs.Prelude.{map};
     ghost use Rattle.smi_names.specs.meaning.Scopes.{content_of};
     ghost use Rattle.smi_names.specs.meaning.Known.{KnownNames};
+    ghost use Rattle.smi_names.specs.meaning.Directory.{AreImportsLed};
     ghost use Rattle.smi_names.specs.meaning.Resolved.{IsDirectory};
 
     ghost Value = { KnownNames };
@@ -33,7 +36,8 @@ impl<'s, 'a> Model for Entries<'s, 'a> {
       names = map content_of s.directory.now.entries.items;
     } };
 
-    ghost invariant = { λ s. IsDirectory s.modules.now s.directory.now };
+    ghost invariant = { λ s. IsDirectory s.modules.now s.directory.now
+        × AreImportsLed s.directory.now s.next.now };
 }
 
 impl<'s, 'a> Entries<'s, 'a> {
@@ -51,6 +55,20 @@ impl<'s, 'a> Entries<'s, 'a> {
             ≡ content_named self.now.modules (record { home = home.now; name = name.now }) }
     {
         self.directory.place(home, name)
+    }
+
+    /// The place to which the import at a place leads: that of the same name in the module after
+    /// FROM, the one past the last if it has no meaning there. None if the name at the place is no
+    /// import.
+    pub fn import(&self, place: usize) -> Option<usize>
+        ensures { (c : Content) → slice_get self.now.names place ≡ Some c
+            → IsNextOf self.now.modules self.now.names c.name c.decided result }
+    {
+        let entry = self.directory.entries.get(place)?;
+        match entry.decider {
+            Decider::Import(_) => *self.next.get(place)?,
+            Decider::Definition(_) | Decider::Root(_) => None,
+        }
     }
 
     /// The name at a place.

@@ -31,6 +31,7 @@ impl<'a> Model for Names<'a> {
     ghost use Rattle.std.specs.Prelude.{List};
     ghost use Rattle.smi_text.specs.declared.trees.tree.Module.{Module};
     ghost use Rattle.smi_names.specs.chains.Shared.{shared, AreWithin};
+    ghost use Rattle.smi_names.specs.meaning.Directory.{AreImportsLed};
     ghost use Rattle.smi_names.specs.meaning.Resolved.{AreResolutions};
 
     ghost Value = { List Module };
@@ -39,7 +40,8 @@ impl<'a> Model for Names<'a> {
 
     ghost invariant = { λ s. AreWithin s.resolutions.list.items s.resolutions.places.items
         × AreResolutions s.modules.now s.directory
-        (shared s.resolutions.list.items s.resolutions.places.items) };
+        (shared s.resolutions.list.items s.resolutions.places.items)
+        × AreImportsLed s.directory s.resolutions.next.items };
 }
 
 impl<'a> Names<'a> {
@@ -127,6 +129,7 @@ impl<'a> Names<'a> {
         Entries {
             modules: self.modules,
             directory: &self.directory,
+            next: self.resolutions.next.as_slice(),
         }
     }
 

@@ -1,23 +1,14 @@
 -- The names at which imports end, by their places, for private clauses.
-use Rattle.std.specs.Prelude.{◌≡◌, ℕ, ◌<◌, List, length, Option, Some, None}
+use Rattle.std.specs.Prelude.{◌≡◌, ℕ, ◌<◌, List, length, Option, Some}
 use Rattle.std.specs.List.{slice_get}
 use Rattle.smi_names.specs.chains.Order.{next_at}
 use Rattle.smi_names.specs.chains.Ends.{ChainEnds, end_at}
 use Rattle.smi_text.specs.declared.trees.tree.Module.{Module}
 use Rattle.smi_text.specs.declared.trees.tree.Def.{Def}
-use Rattle.smi_names.specs.meaning.Meaning.{QualifiedName, Decision, defined, imported, root}
+use Rattle.smi_names.specs.meaning.Meaning.{QualifiedName}
 use Rattle.smi_names.specs.meaning.Scopes.{Content}
-use Rattle.smi_names.specs.meaning.Known.{content_named}
+use Rattle.smi_names.specs.meaning.Known.{IsNextOf}
 use Rattle.smi_tree.specs.columns.Definitions.{IsDefinedBy}
-
--- an import leads to the same name in the module after FROM, by its place; any other name leads to
--- none
-abbrev pub IsNextOf : List Module → List Content → List ℕ → Decision → Option ℕ → Type 0
-IsNextOf ms names x (defined d) next = next ≡ None
-IsNextOf ms names x (imported i) next =
-    (q : ℕ) × (next ≡ Some q)
-    × (slice_get names q ≡ content_named ms (record { home = i.source.octets; name = x }))
-IsNextOf ms names x (root n) next = next ≡ None
 
 -- each name leads to its next
 pub record AreNexts (ms : List Module) (names : List Content) (next : List (Option ℕ))

@@ -1,9 +1,7 @@
 //! The definitions that names lead to, by their own modules or through imports.
-ghost use Rattle.std.specs.Prelude.{◌≡◌, IfOk, MatchOption, Some};
-ghost use Rattle.std.specs.List.{slice_get};
-ghost use Rattle.smi_names.specs.meaning.Scopes.{Content};
+ghost use Rattle.std.specs.Prelude.{◌≡◌, IfOk, MatchOption};
 ghost use Rattle.smi_names.specs.meaning.Meaning.{QualifiedName};
-ghost use Rattle.smi_tree.specs.columns.Named.{IsNextOf, AreNexts, IsFoundAt, IsUndefined};
+ghost use Rattle.smi_tree.specs.columns.Named.{AreNexts, IsFoundAt, IsUndefined};
 
 use smi_names::{Decider, Entries, Names, ends};
 use std::alloc::{AllocError, Global};
@@ -61,18 +59,6 @@ impl<'n, 'a> Definitions<'n, 'a> {
     }
 }
 
-/// The place of the name to which an import leads.
-fn next_place<'n, 'a>(entries: &Entries<'n, 'a>, place: usize) -> Option<usize>
-    ensures { (c : Content) → slice_get entries.now.names place ≡ Some c
-        → IsNextOf entries.now.modules entries.now.names c.name c.decided result }
-{
-    let entry = entries.get(place)?;
-    match entry.decider {
-        Decider::Import(import) => Some(entries.place(import.source.as_bytes(), entry.name)),
-        Decider::Definition(_) | Decider::Root(_) => None,
-    }
-}
-
 /// The places of the names to which imports lead.
 fn next_places<'n, 'a>(
     alloc: Global,
@@ -83,7 +69,7 @@ fn next_places<'n, 'a>(
 {
     let mut next = Vec::with_capacity(alloc, entries.len())?;
     'places: for place in 0..entries.len() {
-        next.push(next_place(entries, place))?;
+        next.push(entries.import(place))?;
     }
     Ok(next)
 }

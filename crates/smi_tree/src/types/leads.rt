@@ -56,15 +56,16 @@ pub(crate) fn lead_of_type<'a>(
     }
 }
 
-/// The place to which a name leads as a type.
-fn lead<'a>(entries: &Entries<'_, 'a>, entry: &Entry<'a>) -> Option<usize>
+/// The place to which the name at a place leads as a type, by its entry.
+fn lead<'a>(entries: &Entries<'_, 'a>, place: usize, entry: &Entry<'a>) -> Option<usize>
+    requires { slice_get entries.now.names place ≡ Some (content_of entry.now) }
     ensures { LeadsTo entries.now (content_origin (content_of entry.now)) result }
 {
     match entry.decider {
         Decider::Definition(def) => {
             lead_of_type(entries, entry.module.name.as_bytes(), type_of(&def.kind))
         }
-        Decider::Import(import) => Some(entries.place(import.source.as_bytes(), entry.name)),
+        Decider::Import(_) => entries.import(place),
         Decider::Root(_) => None,
     }
 }
@@ -89,7 +90,7 @@ fn lead_at(entries: &Entries<'_, '_>, place: usize) -> Option<usize>
         → LeadsTo entries.now (content_origin c) result }
 {
     match entries.get(place) {
-        Some(entry) => lead(entries, &entry),
+        Some(entry) => lead(entries, place, &entry),
         None => None,
     }
 }

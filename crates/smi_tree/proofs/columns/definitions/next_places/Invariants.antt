@@ -2,7 +2,7 @@ use Rattle.std.proofs.Common.{◌≡◌, ◌<◌, ℕ, length, Some}
 use Rattle.std.specs.List.{slice_get}
 use Rattle.smi_names.specs.chains.Order.{next_at}
 use Rattle.smi_names.specs.meaning.Scopes.{Content}
-use Rattle.smi_tree.specs.columns.Named.{IsNextOf}
+use Rattle.smi_names.specs.meaning.Known.{IsNextOf}
 use Rattle.smi_tree.proofs.columns.definitions.next_places.Given as goal
 
 abbrev pub invariant-places : goal.invariant-places
