@@ -213,9 +213,6 @@ message_bound m =
 pub request_short : (w : Walker) → length w.community ≤ 255 → length w.asked ≤ 128 → length (canon (request_of w)) ≤ 1000
 request_short w h k = omega (arith, h, message_bound (request_of w), name_short w.asked k)
 
-pub request_fits : (w : Walker) → length w.community ≤ 255 → length w.asked ≤ 128 → length (canon (request_of w)) ≤ 65507
-request_fits w h k = omega (arith, request_short w h k)
-
 pub encodable : (name : List ℕ) → IsWire name → All (λ (b : Binding). IsEncodable (var_bind b)) (record { name = name; value = value.Null } ∷ [])
 encodable name h =
     let P : Binding → Type 0 = λ b. IsEncodable (var_bind b) in

@@ -30,8 +30,8 @@ use crate::{Link, Sink, WalkCore, WalkEnd};
 /// two more, it is done unless the link or the sink stops it or messages are lost. Where the table
 /// changes under the walk, each name that all the tables have is given once. A link that is ready
 /// for the tries of a request for each row and three more, of 1,000 octets each, doesn't stop it.
-// Not inlined: its two buffers are on the stack, and a caller with several such calls would have
-// room for each of them.
+// Not inlined: its buffers are on the stack, and a caller with several such calls would have room
+// for each of them.
 #[inline(never)]
 pub fn run_walk<L: Link, S: Sink>(
     link: &mut L,
@@ -45,7 +45,8 @@ pub fn run_walk<L: Link, S: Sink>(
 {
     codec();
     let mut core = core;
-    let mut request = [0; 65507];
+    // A request of a walk has one name, and at most 1,000 octets: no more than it needs is cleared.
+    let mut request = [0; 1024];
     let mut buffer = [0; 65507];
     let mut end = WalkEnd::NoResponse;
     'turns: loop {
@@ -71,7 +72,7 @@ fn turn<L: Link, S: Sink>(
     core: &mut WalkCore,
     retries: u32,
     sink: &mut S,
-    request: &mut [u8; 65507],
+    request: &mut [u8; 1024],
     buffer: &mut [u8; 65507],
     end: &mut WalkEnd,
 ) -> Course
@@ -90,7 +91,7 @@ fn turn<L: Link, S: Sink>(
         (ended result end.new ≡ Some WalkEnd.Link) link.new }
 {
     codec();
-    let length = core.request(request);
+    let length = core.request_in(&mut request[..]);
     match exchange(link, core, retries, &request[..length], buffer, sink, end) {
         Ok(Some(course)) => course,
         Ok(None) => {

@@ -174,10 +174,22 @@ impl WalkCore {
 
     /// The octets of the waiting request (RFC 3416, section 3), at the front of `out`, and how many
     /// there are; 0 after the end of the walk.
+    pub fn request(&self, out: &mut [u8; 65507]) -> usize
+        ensures waiting { self.now.phase ≢ Phase.Over
+            → (result ≡ length (canon (request_of self.now)))
+            × (take result out.new ≡ canon (request_of self.now)) }
+        ensures over { self.now.phase ≡ Phase.Over → (result ≡ 0) × (out.new ≡ out.old) }
+        ensures walker { IsWalker self.now }
+    {
+        self.request_in(&mut out[..])
+    }
+
+    /// As `request`, for a buffer that has room for each request of a walk, of one name.
     // Not inlined: the turn of a walk that calls it would then clear its ends, of over a thousand
     // octets, before each request.
     #[inline(never)]
-    pub fn request(&self, out: &mut [u8; 65507]) -> usize
+    pub(crate) fn request_in(&self, out: &mut [u8]) -> usize
+        requires { 1000 ≤ length out.old }
         ensures waiting { self.now.phase ≢ Phase.Over
             → (result ≡ length (canon (request_of self.now)))
             × (take result out.new ≡ canon (request_of self.now)) }
@@ -199,7 +211,7 @@ impl WalkCore {
             b: self.repetitions(),
             bindings: &[],
         };
-        let Some(head) = encode_head(&parts, total, &mut out[..]) else {
+        let Some(head) = encode_head(&parts, total, out) else {
             unreachable!()
         };
         match encode_asking(&name, &mut out[head..]) {

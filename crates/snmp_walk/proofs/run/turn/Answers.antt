@@ -19,7 +19,7 @@ returns-in-Ok-None-clause-turns g c =
     let missed = if_silent c.exchange.result c.in-Ok-None.field-0 _ c.in-Ok-None.is c.in-Ok-None.field-0-is c.exchange.ensures.unanswered in (
       [],
       is_silent (subst (λ (q : List ℕ). AreTried g.L.Link (IsNotAwaited c.args.core.now.community c.args.core.now.id) q (c.args.retries + 1)
-          c.args.link.now outcome.missed c.exchange.new.link) (c.request-length.ensures.waiting (still_waits _ c.requires)).1 missed) refl same.1 refl,
+          c.args.link.now outcome.missed c.exchange.new.link) (c.request_in-length.ensures.waiting (still_waits _ c.requires)).1 missed) refl same.1 refl,
     )
 
 pub returns-in-Err-clause-turns : goal.returns-in-Err-clause-turns
@@ -28,31 +28,31 @@ returns-in-Err-clause-turns g c =
     let cut = if_cut c.exchange.result _ _ c.in-Err.is c.exchange.ensures.cut_off in (
       [],
       fails (subst (λ (q : List ℕ). AreTried g.L.Link (IsNotAwaited c.args.core.now.community c.args.core.now.id) q (c.args.retries + 1)
-          c.args.link.now outcome.cut_off c.exchange.new.link) (c.request-length.ensures.waiting (still_waits _ c.requires)).1 cut) refl same.1 refl,
+          c.args.link.now outcome.cut_off c.exchange.new.link) (c.request_in-length.ensures.waiting (still_waits _ c.requires)).1 cut) refl same.1 refl,
     )
 
 pub returns-in-Ok-None-clause-exchanged : goal.returns-in-Ok-None-clause-exchanged
 returns-in-Ok-None-clause-exchanged g c = λ keeps.
     exchanged_by c.codec.ensures (g.L.Link.agents c.args.link.now) (g.L.Link.honest c.args.link.now) c.args.core.now _
-    (c.request-length.ensures.waiting (still_waits _ c.requires)).1 c.requires c.request-length.ensures.walker (g.met.L.Link.lawful c.args.link.now) (c.args.retries + 1)
+    (c.request_in-length.ensures.waiting (still_waits _ c.requires)).1 c.requires c.request_in-length.ensures.walker (g.met.L.Link.lawful c.args.link.now) (c.args.retries + 1)
     (g.L.Link.traffic c.args.link.now) _ _ _ _ _
     (λ s. c.in-Ok-None.is ∙ ap Ok c.in-Ok-None.field-0-is) (λ f. absurd (never_bad _ _ c.in-Ok-None.is f)) (c.exchange.ensures.exchanged keeps)
 
 pub returns-in-Err-clause-exchanged : goal.returns-in-Err-clause-exchanged
 returns-in-Err-clause-exchanged g c = λ keeps.
     exchanged_by c.codec.ensures (g.L.Link.agents c.args.link.now) (g.L.Link.honest c.args.link.now) c.args.core.now _
-    (c.request-length.ensures.waiting (still_waits _ c.requires)).1 c.requires c.request-length.ensures.walker (g.met.L.Link.lawful c.args.link.now) (c.args.retries + 1)
+    (c.request_in-length.ensures.waiting (still_waits _ c.requires)).1 c.requires c.request_in-length.ensures.walker (g.met.L.Link.lawful c.args.link.now) (c.args.retries + 1)
     (g.L.Link.traffic c.args.link.now) _ _ _ _ _
     (λ s. absurd (link_end s)) (λ f. refl) (c.exchange.ensures.exchanged keeps)
 
 pub returns-in-Ok-None-clause-moves : goal.returns-in-Ok-None-clause-moves
 returns-in-Ok-None-clause-moves g c =
-    tries_as g.L.Link (c.request-length.ensures.waiting (still_waits _ c.requires)).1 (λ f. absurd (never_bad _ _ c.in-Ok-None.is f)) (λ e. absurd (silent_no_link e))
+    tries_as g.L.Link (c.request_in-length.ensures.waiting (still_waits _ c.requires)).1 (λ f. absurd (never_bad _ _ c.in-Ok-None.is f)) (λ e. absurd (silent_no_link e))
     c.exchange.ensures.moves
 
 pub returns-in-Err-clause-moves : goal.returns-in-Err-clause-moves
 returns-in-Err-clause-moves g c =
-    tries_as g.L.Link (c.request-length.ensures.waiting (still_waits _ c.requires)).1 (λ f. refl) (λ e. is_bad _ _ c.in-Err.is) c.exchange.ensures.moves
+    tries_as g.L.Link (c.request_in-length.ensures.waiting (still_waits _ c.requires)).1 (λ f. refl) (λ e. is_bad _ _ c.in-Err.is) c.exchange.ensures.moves
 
 pub returns-in-Ok-Some-clause-turns : goal.returns-in-Ok-Some-clause-turns
 returns-in-Ok-Some-clause-turns g c =
@@ -62,8 +62,8 @@ returns-in-Ok-Some-clause-turns g c =
     c.exchange.new.link in
     let what = heard_of c.in-Ok-Some.course c.exchange.new.end in
     let r = if_some c.in-Ok-Some.field-0 _ c.in-Ok-Some.course c.in-Ok-Some.field-0-is c.in-Ok-Some.ensures.read in
-    let is_heard = heard_by c.codec.ensures agents (g.L.Link.honest c.args.link.now) w _ (c.request-length.ensures.waiting (still_waits _ c.requires)).1 c.requires
-    c.request-length.ensures.walker (g.met.L.Link.lawful c.args.link.now) Tried (g.L.Link.traffic c.args.link.now).sent _
+    let is_heard = heard_by c.codec.ensures agents (g.L.Link.honest c.args.link.now) w _ (c.request_in-length.ensures.waiting (still_waits _ c.requires)).1 c.requires
+    c.request_in-length.ensures.walker (g.met.L.Link.lawful c.args.link.now) Tried (g.L.Link.traffic c.args.link.now).sent _
     g.S.Sink.takes c.args.sink.now what c.exchange.new.waiter c.exchange.new.sink r in
     let t = turns_of g.S.Sink.takes c.args.sink.now c.exchange.new.sink (Tried (canon (request_of w))) agents _ w r.is_read.message r.is_read.given
     c.exchange.new.waiter what what refl c.requires is_heard r.is_read.read r.is_read.delivered in
@@ -77,13 +77,13 @@ returns-in-Ok-Some-clause-exchanged g c = λ keeps.
     c.exchange.new.link in
     let what = heard_of c.in-Ok-Some.course c.exchange.new.end in
     let r = if_some c.in-Ok-Some.field-0 _ c.in-Ok-Some.course c.in-Ok-Some.field-0-is c.in-Ok-Some.ensures.read in
-    let is_heard = heard_by c.codec.ensures agents (g.L.Link.honest c.args.link.now) w _ (c.request-length.ensures.waiting (still_waits _ c.requires)).1 c.requires
-    c.request-length.ensures.walker (g.met.L.Link.lawful c.args.link.now) Tried (g.L.Link.traffic c.args.link.now).sent _
+    let is_heard = heard_by c.codec.ensures agents (g.L.Link.honest c.args.link.now) w _ (c.request_in-length.ensures.waiting (still_waits _ c.requires)).1 c.requires
+    c.request_in-length.ensures.walker (g.met.L.Link.lawful c.args.link.now) Tried (g.L.Link.traffic c.args.link.now).sent _
     g.S.Sink.takes c.args.sink.now what c.exchange.new.waiter c.exchange.new.sink r in
     let t = turns_of g.S.Sink.takes c.args.sink.now c.exchange.new.sink (Tried (canon (request_of w))) agents _ w r.is_read.message r.is_read.given
     c.exchange.new.waiter what what refl c.requires is_heard r.is_read.read r.is_read.delivered in
     exchanged_by c.codec.ensures (g.L.Link.agents c.args.link.now) (g.L.Link.honest c.args.link.now) c.args.core.now _
-    (c.request-length.ensures.waiting (still_waits _ c.requires)).1 c.requires c.request-length.ensures.walker (g.met.L.Link.lawful c.args.link.now) (c.args.retries + 1)
+    (c.request_in-length.ensures.waiting (still_waits _ c.requires)).1 c.requires c.request_in-length.ensures.walker (g.met.L.Link.lawful c.args.link.now) (c.args.retries + 1)
     (g.L.Link.traffic c.args.link.now) _ _ _ _ _
     (λ s. absurd (not_silent what t.1 s)) (λ f. absurd (never_bad _ _ c.in-Ok-Some.is f)) (c.exchange.ensures.exchanged keeps)
 
@@ -95,10 +95,10 @@ returns-in-Ok-Some-clause-moves g c =
     c.exchange.new.link in
     let what = heard_of c.in-Ok-Some.course c.exchange.new.end in
     let r = if_some c.in-Ok-Some.field-0 _ c.in-Ok-Some.course c.in-Ok-Some.field-0-is c.in-Ok-Some.ensures.read in
-    let is_heard = heard_by c.codec.ensures agents (g.L.Link.honest c.args.link.now) w _ (c.request-length.ensures.waiting (still_waits _ c.requires)).1 c.requires
-    c.request-length.ensures.walker (g.met.L.Link.lawful c.args.link.now) Tried (g.L.Link.traffic c.args.link.now).sent _
+    let is_heard = heard_by c.codec.ensures agents (g.L.Link.honest c.args.link.now) w _ (c.request_in-length.ensures.waiting (still_waits _ c.requires)).1 c.requires
+    c.request_in-length.ensures.walker (g.met.L.Link.lawful c.args.link.now) Tried (g.L.Link.traffic c.args.link.now).sent _
     g.S.Sink.takes c.args.sink.now what c.exchange.new.waiter c.exchange.new.sink r in
     let t = turns_of g.S.Sink.takes c.args.sink.now c.exchange.new.sink (Tried (canon (request_of w))) agents _ w r.is_read.message r.is_read.given
     c.exchange.new.waiter what what refl c.requires is_heard r.is_read.read r.is_read.delivered in
-    tries_as g.L.Link (c.request-length.ensures.waiting (still_waits _ c.requires)).1 (λ f. absurd (never_bad _ _ c.in-Ok-Some.is f)) (λ e. absurd (not_link what t.1 e))
+    tries_as g.L.Link (c.request_in-length.ensures.waiting (still_waits _ c.requires)).1 (λ f. absurd (never_bad _ _ c.in-Ok-Some.is f)) (λ e. absurd (not_link what t.1 e))
     c.exchange.ensures.moves

@@ -7,9 +7,9 @@ use Rattle.snmp_wire.specs.Message.{Message}
 use Rattle.snmp_walk.specs.Request.{request_of}
 use Rattle.snmp_walk.specs.Walker.{Walker}
 use Rattle.snmp_walk.proofs.AskingLemmas.{asking_short, request_made, request_size}
-use Rattle.snmp_walk.proofs.RequestLemmas.{request_fits}
-use Rattle.snmp_walk.proofs.walker.WalkCore.request.Goals as goal
-use Rattle.snmp_walk.proofs.walker.WalkCore.request.Goals.{After-repetitions}
+use Rattle.snmp_walk.proofs.RequestLemmas.{request_short}
+use Rattle.snmp_walk.proofs.walker.WalkCore.request_in.Goals as goal
+use Rattle.snmp_walk.proofs.walker.WalkCore.request_in.Goals.{After-repetitions}
 
 -- the message of no bindings whose head is written
 abbrev bare : After-repetitions → Message
@@ -35,7 +35,7 @@ named c = c.name-name.ensures ∙ ap (λ (w : Walker). w.asked) c.self.view_is
 whole : (c : After-repetitions) → length (canon_head (bare c) c.asking_size-total.result) + c.asking_size-total.result ≡ length (canon (request_of c.args.self.now))
 whole c = request_size c.pieces.ensures c.args.self.now (bare c) (is_request c) c.name-name.result (named c) c.asking_size-total.result c.asking_size-total.ensures
 
-fits : (c : After-repetitions) → length (canon (request_of c.args.self.now)) ≤ 65507
+fits : (c : After-repetitions) → length (canon (request_of c.args.self.now)) ≤ 1000
 fits c =
     let inside : Walker = record {
       root = c.self.inside.root;
@@ -47,8 +47,8 @@ fits c =
       id = c.self.inside.id;
       count = c.self.inside.count;
     } in
-    subst (λ (w : Walker). length (canon (request_of w)) ≤ 65507) c.self.view_is
-    (request_fits inside c.self.invariant.community c.self.invariant.identifier.short)
+    subst (λ (w : Walker). length (canon (request_of w)) ≤ 1000) c.self.view_is
+    (request_short inside c.self.invariant.community c.self.invariant.identifier.short)
 
 pub encode_head-requires : goal.encode_head-requires
 encode_head-requires c =
@@ -61,7 +61,7 @@ encode_head-requires c =
 pub unreachable-requires : goal.unreachable-requires
 unreachable-requires c =
     let at = (goal.at.unreachable-requires c).After-repetitions in
-    false≢true (c.in_default-encode_head.ensures.variant.1 (omega (arith, whole at, fits at, c.told-out)))
+    false≢true (c.in_default-encode_head.ensures.variant.1 (omega (arith, whole at, fits at, c.requires)))
 
 pub unreachable-requires-in-None : goal.unreachable-requires-in-None
 unreachable-requires-in-None c =
@@ -70,7 +70,7 @@ unreachable-requires-in-None c =
       arith,
       whole at,
       fits at,
-      c.told-out,
+      c.requires,
       c.encode_head.auto.out,
       c.in-Some.ensures.some.0,
       c.asking_size-total.ensures,
