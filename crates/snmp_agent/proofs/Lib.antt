@@ -16,7 +16,9 @@ pub mod Answering
 pub mod Changing
 pub mod Cuts
 pub mod Decimals
+pub mod Gathering
 pub mod TableDrafts
+pub mod Adding
 pub mod Each
 pub mod Faultless
 pub mod Finding

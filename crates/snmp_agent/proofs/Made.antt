@@ -1,14 +1,19 @@
 -- Good lines state a table.
-use Rattle.std.proofs.Common.{◌≡◌, ℕ, List, [], ◌∷◌, ◌++◌, Some, None, refl, sym, subst}
+use Rattle.std.proofs.Common.{◌≡◌, ℕ, List, [], ◌∷◌, ◌++◌, Some, None, refl, sym, subst, T}
 use Rattle.std.proofs.Common.{append_assoc, append-nil}
+use Rattle.std.specs.List.Sorted.{IsPermutation}
+use Rattle.std.proofs.lemmas.List.Sorted.{IsPermutation-append_left, IsPermutation-refl}
+use Rattle.std.proofs.lemmas.List.Sorted.{IsPermutation-trans}
 use Rattle.std.specs.Ordering.{nat_cmp}
-use Rattle.std.specs.Cmp.Lexicographic.{slice_cmp}
-use Rattle.std.specs.FinMap.{find, put}
+use Rattle.std.specs.Cmp.Lexicographic.{slice_cmp, nat_list_cmp_total}
+use Rattle.std.specs.FinMap.{find, is_sorted, put}
+use Rattle.std.specs.FinMap.Entries.{is_sorted-put}
 use Rattle.snmp_oid.specs.Numeric.{IsNumericName}
 use Rattle.snmp_wire.specs.Message.{Datum, VarBind}
-use Rattle.snmp_agent.specs.table.Draft.{HoldsTable}
+use Rattle.snmp_agent.specs.table.Draft.{HoldsLines, HoldsTable}
 use Rattle.snmp_agent.specs.table.Form.{Statement, nothing, object_prefix, instance}
 use Rattle.snmp_agent.specs.table.Format.{Format, Names}
+use Rattle.snmp_agent.specs.table.Places.{entry_of}
 use Rattle.snmp_agent.specs.table.Stated.{AreTableBy, IsTableOf}
 use Rattle.snmp_agent.specs.table.Table.{IsMibView, MibView}
 use Rattle.snmp_agent.specs.table.Text.{AreTable, HasRow, IsGoodLine, IsRowLine, a_blank, a_prefix}
@@ -16,28 +21,50 @@ use Rattle.snmp_agent.specs.table.Text.{a_row}
 use Rattle.snmp_agent.proofs.Faultless.{earlier_differs, line_good}
 use Rattle.snmp_agent.proofs.Keeping.{is_view, table_of, view_from}
 use Rattle.snmp_agent.proofs.OneStatement.{StatesOnly, states_only}
-use Rattle.snmp_agent.proofs.TableDrafts.{holds_instance, holds_none, holds_nothing, holds_object}
+use Rattle.snmp_agent.proofs.TableDrafts.{holds_instance, holds_no_lines, holds_nothing}
+use Rattle.snmp_agent.proofs.TableDrafts.{holds_object, put_moves, whole}
 
+-- what the lines hold, and its entries in their places
 abbrev HasDraft : Format → List (List ℕ) → Type 0
-HasDraft format lines = (entries : List (List ℕ × Datum)) × (objects : List (List ℕ)) × HoldsTable format lines entries objects
+HasDraft format lines = (es : List (List ℕ × Datum)) × (fs : List (List ℕ × Datum))
+    × (objects : List (List ℕ)) × HoldsLines format lines es objects × IsPermutation es fs
+    × T (is_sorted (slice_cmp nat_cmp) fs)
+
+holds_table : (format : Format) (lines : List (List ℕ)) (h : HasDraft format lines)
+    → HoldsTable format lines h.1 h.2
+holds_table format lines h = whole format lines h.0 h.1 h.2 h.3 h.4 h.5
 
 -- one more line
-module _ (format : Format) (done : List (List ℕ)) (line : List ℕ) (rest : List (List ℕ)) (good : AreTable format (done ++ line ∷ rest)) (entries : List (List ℕ
-    × Datum)) (objects : List (List ℕ)) (h : HoldsTable format done entries objects) where
-  no_row : (p : VarBind) → IsRowLine format line p → find (slice_cmp nat_cmp) p.name entries ≡ None
-  no_row p row = elim (find (slice_cmp nat_cmp) p.name entries) as (λ r. find (slice_cmp nat_cmp) p.name entries ≡ r → r ≡ None) [
-    | None ↦ λ found. refl
-    | Some v ↦ λ found.
-        let earlier : HasRow format done (record { name = p.name; value = v }) = (h.rows (record { name = p.name; value = v })).0 found in
-        absurd (earlier_differs format done line rest earlier.0 good.differ earlier.1 (record { name = p.name; value = v }) p earlier.2 row refl)
-  ] refl
+module _ (format : Format) (done : List (List ℕ)) (line : List ℕ) (rest : List (List ℕ))
+    (good : AreTable format (done ++ line ∷ rest)) (h : HasDraft format done) where
+  no_row : (p : VarBind) → IsRowLine format line p → find (slice_cmp nat_cmp) p.name h.1 ≡ None
+  no_row p row =
+      let found = find (slice_cmp nat_cmp) p.name h.1 in
+      elim found as (λ r. found ≡ r → r ≡ None) [
+        | None ↦ λ _. refl
+        | Some v ↦ λ is.
+            let q : VarBind = record { name = p.name; value = v } in
+            let earlier : HasRow format done q = ((holds_table format done h).rows q).0 is in
+            absurd (earlier_differs format done line rest earlier.0 good.differ earlier.1 q p
+            earlier.2 row refl)
+      ] refl
 
   one_more : (s : Statement) → StatesOnly format line s → HasDraft format (done ++ line ∷ [])
-  one_more nothing only = (entries, objects, holds_nothing format done line entries objects h only)
+  one_more nothing only =
+      (h.0, h.1, h.2, holds_nothing format done line h.0 h.2 h.3 only, h.4, h.5)
   one_more (object_prefix object) only =
-      (entries, object ∷ objects, holds_object format done line entries objects h object (object ∷ objects) only (λ o. refl))
+      let objects = object ∷ h.2 in
+      let holds = holds_object format done line h.0 h.2 h.3 object objects only (λ o. refl) in
+      (h.0, h.1, objects, holds, h.4, h.5)
   one_more (instance p) only =
-      (put (slice_cmp nat_cmp) p.name p.value entries, objects, holds_instance format done line entries objects h p only (no_row p only.0))
+      let es = h.0 ++ entry_of p ∷ [] in
+      let fs = put (slice_cmp nat_cmp) p.name p.value h.1 in
+      let moved = IsPermutation-trans es (h.1 ++ entry_of p ∷ []) fs
+      (IsPermutation-append_left (entry_of p ∷ []) h.0 h.1 h.4)
+      (put_moves p.name p.value h.1 (no_row p only.0)) in
+      let rising =
+      is_sorted-put (slice_cmp nat_cmp) nat_list_cmp_total p.name p.value h.1 h.5 in
+      (es, fs, h.2, holds_instance format done line h.0 h.2 h.3 p only, moved, rising)
 
 module _ (one_name : (text o p : List ℕ) → IsNumericName text o → IsNumericName text p → o ≡ p) where
   only_statement : (format : Format) (line : List ℕ) → IsGoodLine format line → (s : Statement) × StatesOnly format line s
@@ -48,14 +75,22 @@ module _ (one_name : (text o p : List ℕ) → IsNumericName text o → IsNumeri
   all_held : (format : Format) (rest done : List (List ℕ)) → HasDraft format done → AreTable format (done ++ rest) → HasDraft format (done ++ rest)
   all_held format [] done h good = subst (λ (ls : List (List ℕ)). HasDraft format ls) (sym (append-nil done)) h
   all_held format (line ∷ rest) done h good =
-      let whole : (done ++ line ∷ []) ++ rest ≡ done ++ line ∷ rest = append_assoc done (line ∷ []) rest in
+      let same : (done ++ line ∷ []) ++ rest ≡ done ++ line ∷ rest =
+      append_assoc done (line ∷ []) rest in
       let only = only_statement format line (line_good format done line rest good.each) in
-      let more : HasDraft format (done ++ line ∷ []) = one_more format done line rest good h.0 h.1 h.2 only.0 only.1 in
-      subst (λ (ls : List (List ℕ)). HasDraft format ls) whole (all_held format rest (done ++ line ∷ []) more (subst (λ (ls : List (List ℕ)). AreTable format ls) (sym whole) good))
+      let more : HasDraft format (done ++ line ∷ []) =
+      one_more format done line rest good h only.0 only.1 in
+      subst (λ (ls : List (List ℕ)). HasDraft format ls) same
+      (all_held format rest (done ++ line ∷ []) more
+      (subst (λ (ls : List (List ℕ)). AreTable format ls) (sym same) good))
 
   pub table_of_lines : (names : Names) (lines : List (List ℕ)) → AreTableBy names lines
       → (view : MibView) × IsTableOf names lines view × IsMibView view
   table_of_lines names lines h =
       let format = h.0 in
-      let held = all_held format lines [] ([], [], holds_none format) h.2 in
-      (view_from held.0 held.1, (format, h.1, table_of format lines held.0 held.1 held.2), is_view format lines held.0 held.1 held.2)
+      let none : HasDraft format [] =
+      ([], [], [], holds_no_lines format [] [] refl refl, IsPermutation-refl [], tt) in
+      let held = all_held format lines [] none h.2 in
+      let table = holds_table format lines held in
+      let stated = table_of format lines held.1 held.2 table in
+      (view_from held.1 held.2, (format, h.1, stated), is_view format lines held.1 held.2 table)

@@ -1,33 +1,118 @@
 -- Facts about what lines state together, and about the draft that holds it.
 use Rattle.std.proofs.Common.{◌≡◌, Option, is_some, ℕ, ◌⊎◌, inl, inr, ◌↔◌, Bool, true, false, cond}
-use Rattle.std.proofs.Common.{◌||◌, List, [], ◌∷◌, ◌++◌, map, Some, None, refl, sym, ◌∙◌}
-use Rattle.std.proofs.Common.{ap, subst, Less}
-use Rattle.std.proofs.Common.{zero, suc, get_or, Equal, Greater, Vec, Global, ◌+◌, ◌<◌, ◌≤◌}
-use Rattle.std.proofs.Common.{length, append_assoc, append-nil, length-append, arith}
-use Rattle.std.specs.Str.Lines.{lines}
-use Rattle.std.specs.List.{Contains, list_any}
+use Rattle.std.proofs.Common.{◌||◌, List, [], ◌∷◌, ◌++◌, map, Some, None, refl, sym, ◌∙◌, T}
+use Rattle.std.proofs.Common.{ap, subst, Less, zero, suc, get_or, Equal, Greater, Vec, Global}
+use Rattle.std.proofs.Common.{◌+◌, ◌<◌, ◌≤◌, length, arith}
+use Rattle.std.specs.List.{All, AllPairs, Contains, list_any, sum_by}
+use Rattle.std.specs.List.Sorted.{IsPermutation}
 use Rattle.std.proofs.lemmas.List.Elements.{All-append, All-cons, All-contains_itself, All-nil}
 use Rattle.std.proofs.lemmas.List.Elements.{Contains-append_cases, Contains-append_left}
-use Rattle.std.proofs.lemmas.List.Elements.{Contains-append_right}
+use Rattle.std.proofs.lemmas.List.Elements.{Contains-append_right, Contains-push}
+use Rattle.std.proofs.lemmas.List.Elements.{Contains-push_cases}
 use Rattle.std.proofs.lemmas.List.Quantifiers.{all_pairs_push}
+use Rattle.std.proofs.lemmas.List.Sorted.{Contains-permutation, IsPermutation-cons}
+use Rattle.std.proofs.lemmas.List.Sorted.{IsPermutation-refl, IsPermutation-sym}
+use Rattle.std.proofs.lemmas.List.Sorted.{IsPermutation-to_front, sum_by-IsPermutation}
+use Rattle.std.proofs.lemmas.List.Sums.{get_or-le-sum_by, sum_by-cons, sum_by_push}
 use Rattle.std.specs.Ordering.{nat_cmp, is_eq, eq_by_cmp, match_ordering}
 use Rattle.std.specs.Cmp.{tied_itself}
 use Rattle.std.specs.Cmp.Lexicographic.{slice_cmp, nat_list_cmp_total}
-use Rattle.std.specs.FinMap.{find, put}
-use Rattle.std.specs.FinMap.Entries.{is_sorted-put, find-put}
+use Rattle.std.specs.FinMap.{find, is_sorted, put}
+use Rattle.std.specs.FinMap.Entries.{below_all, by_order}
 use Rattle.std.specs.BTreeSet.{insert_key}
 use Rattle.snmp_wire.specs.Message.{Datum, VarBind}
-use Rattle.snmp_agent.specs.declared.table.draft.Draft.{Draft}
-use Rattle.snmp_agent.specs.declared.table.error.TableError.{TableError}
-use Rattle.snmp_agent.specs.declared.table.error.TableError.TheVariants as error
 use Rattle.snmp_agent.specs.table.Format.{Format}
 use Rattle.snmp_agent.specs.table.Form.{Statement, nothing, object_prefix, instance, States}
-use Rattle.snmp_agent.specs.table.Text.{AreTable, DifferInName, HasRow, IsGoodLine, IsRowLine}
-use Rattle.snmp_agent.specs.table.Text.{a_blank, a_prefix, a_row}
-use Rattle.snmp_agent.specs.table.Stated.{IsDouble, IsBehindGood, IsFirstFaultIn}
-use Rattle.snmp_agent.specs.table.Draft.{HoldsTable, IsDraft, IsFaultBehind}
+use Rattle.snmp_agent.specs.table.Text.{AreTable, DifferInName, IsGoodLine, a_blank, a_prefix}
+use Rattle.snmp_agent.specs.table.Text.{a_row}
+use Rattle.snmp_agent.specs.table.Stated.{IsDouble}
+use Rattle.snmp_agent.specs.table.Places.{IsBeforeAll, entry_of}
+use Rattle.snmp_agent.specs.table.Draft.{AreDistinct, HoldsLines, HoldsTable, has_key}
 use Rattle.snmp_agent.proofs.OneStatement.{StatesOnly}
-use Rattle.snmp_agent.proofs.Rising.{same_name}
+use Rattle.snmp_agent.proofs.Rising.{Listed, before_all, find-listed, first_of_both}
+use Rattle.snmp_agent.proofs.Rising.{listed_from_find, same_name, second_of_both}
+
+-- ---- entries in any order
+
+counted_itself : (o : List ℕ) (v : Datum) → has_key o (o, v) ≡ 1
+counted_itself o v = ap (λ r. cond (is_eq r) 1 0) (tied_itself nat_list_cmp_total o)
+
+-- an entry of the name counts one at least
+contained_counts : (o : List ℕ) (v : Datum) (es : List (List ℕ × Datum)) → Contains es (o, v)
+    → 1 ≤ sum_by (has_key o) es
+contained_counts o v es h =
+    let one : has_key o (get_or es h.0 (o, v)) ≡ 1 = ap (has_key o) h.2 ∙ counted_itself o v in
+    omega (arith, get_or-le-sum_by (has_key o) es h.0 (o, v) h.1)
+
+none_behind : (o : List ℕ) (es : List (List ℕ × Datum)) → IsBeforeAll o es
+    → sum_by (has_key o) es ≡ 0
+none_behind o [] h = refl
+none_behind o (e ∷ es) h =
+    let here : has_key o e ≡ 0 = ap (λ r. cond (is_eq r) 1 0) h.0 in
+    let later : sum_by (has_key o) es ≡ 0 = none_behind o es h.1 in
+    omega (arith, sum_by-cons (has_key o) e es)
+
+pub distinct_moved : (es fs : List (List ℕ × Datum)) → IsPermutation es fs → AreDistinct fs
+    → AreDistinct es
+distinct_moved es fs moved distinct = λ o.
+    omega (arith, sum_by-IsPermutation (has_key o) es fs moved, distinct o)
+
+pub distinct_sorted : (es : List (List ℕ × Datum)) → T (is_sorted (slice_cmp nat_cmp) es)
+    → AreDistinct es
+distinct_sorted [] rising = λ o. omega arith
+distinct_sorted (e ∷ es) rising = λ o.
+    let first = below_all (slice_cmp nat_cmp) e.0 es in
+    let others = is_sorted (slice_cmp nat_cmp) es in
+    let rest : sum_by (has_key o) es ≤ 1 =
+    distinct_sorted es (second_of_both first others rising) o in
+    let parts : sum_by (has_key o) (e ∷ es) ≡ has_key o e + sum_by (has_key o) es =
+    sum_by-cons (has_key o) e es in
+    elim (slice_cmp nat_cmp o e.0) as (λ r. slice_cmp nat_cmp o e.0 ≡ r
+    → sum_by (has_key o) (e ∷ es) ≤ 1) [
+      | Less ↦ λ less.
+          let other : has_key o e ≡ 0 = ap (λ r. cond (is_eq r) 1 0) less in omega arith
+      | Equal ↦ λ tied.
+          let one : has_key o e ≡ 1 = ap (λ r. cond (is_eq r) 1 0) tied in
+          let ahead = before_all e.0 es (first_of_both first others rising) in
+          let P : List ℕ → Type 0 = λ p. IsBeforeAll p es in
+          let none : sum_by (has_key o) es ≡ 0 =
+          none_behind o es (subst P (sym (same_name o e.0 tied)) ahead) in
+          omega arith
+      | Greater ↦ λ greater.
+          let other : has_key o e ≡ 0 = ap (λ r. cond (is_eq r) 1 0) greater in omega arith
+    ] refl
+
+pub listed_contained : (e : List ℕ × Datum) (es : List (List ℕ × Datum)) → Listed e es
+    → Contains es e
+listed_contained e [] at = absurd at
+listed_contained e (f ∷ fs) (inl same) = (0, omega arith, sym same)
+listed_contained e (f ∷ fs) (inr later) =
+    let rest = listed_contained e fs later in (suc rest.0, omega (arith, rest.1), rest.2)
+
+listed_at : (e : List ℕ × Datum) (es : List (List ℕ × Datum)) (k : ℕ) → k < length es
+    → get_or es k e ≡ e → Listed e es
+listed_at e [] k low at = absurd (omega arith)
+listed_at e (f ∷ fs) zero low at = inl (sym at)
+listed_at e (f ∷ fs) (suc k) low at = inr (listed_at e fs k (omega arith) at)
+
+pub contained_listed : (e : List ℕ × Datum) (es : List (List ℕ × Datum)) → Contains es e
+    → Listed e es
+contained_listed e es h = listed_at e es h.0 h.1 h.2
+
+-- to put an entry of a new name in its place only moves entries
+pub put_moves : (o : List ℕ) (v : Datum) (es : List (List ℕ × Datum))
+    → find (slice_cmp nat_cmp) o es ≡ None
+    → IsPermutation (es ++ (o, v) ∷ []) (put (slice_cmp nat_cmp) o v es)
+put_moves o v [] absent = IsPermutation-refl ((o, v) ∷ [])
+put_moves o v (e ∷ es) absent =
+    let later = put (slice_cmp nat_cmp) o v es in
+    elim (slice_cmp nat_cmp o e.0) as (λ r. cond (is_eq r) (Some e.1)
+    (find (slice_cmp nat_cmp) o es) ≡ None → IsPermutation ((e ∷ es) ++ (o, v) ∷ [])
+    (by_order r ((o, v) ∷ e ∷ es) ((e.0, v) ∷ es) (e ∷ later))) [
+      | Less ↦ λ _. IsPermutation-to_front (e ∷ es) (o, v)
+      | Equal ↦ λ found. (let no : ⊥ = cc in absurd no)
+      | Greater ↦ λ rest. IsPermutation-cons e (es ++ (o, v) ∷ []) later (put_moves o v es rest)
+    ] absent
 
 -- ---- one more line
 
@@ -57,138 +142,191 @@ good_statement format line nothing h = a_blank h
 good_statement format line (object_prefix object) h = a_prefix object h
 good_statement format line (instance row) h = a_row row h
 
-good_more : (format : Format) (before : List (List ℕ)) (line : List ℕ) (s : Statement) → AreTable format before → States format line s
-    → ((p : VarBind) → IsRowLine format line p → (q : VarBind) → HasRow format before q → q.name ≡ p.name → ⊥) → AreTable format (before ++ line ∷ [])
-good_more format before line s h states fresh = record {
-  each = All-append (IsGoodLine format) before (line ∷ []) h.each (All-cons (IsGoodLine format) line [] (good_statement format line s states) (All-nil (IsGoodLine format)));
-  differ = all_pairs_push (DifferInName format) before line h.differ
-      (λ k d low row other is_row is_other. fresh other is_other row (get_or before k d, All-contains_itself before k d low, is_row));
-}
+-- ---- what lines hold
 
--- a draft of no lines
-pub holds_none : (format : Format) → HoldsTable format [] [] []
-holds_none format = record {
-  good = record { each = All-nil (IsGoodLine format); differ = λ i j d before within. absurd (omega (arith, before, within)) };
-  rising = tt;
-  rows = λ p. (λ found. (let no : ⊥ = cc in absurd no), λ h. absurd (omega (arith, h.1.1)));
-  prefixes = λ o. (λ found. (let no : ⊥ = cc in absurd no), λ h. absurd (omega (arith, h.1.1)));
-}
+pub holds_no_lines : (format : Format) (es : List (List ℕ × Datum)) (os : List (List ℕ))
+    → es ≡ [] → os ≡ [] → HoldsLines format [] es os
+holds_no_lines format es os no_entries no_objects =
+    subst (λ (e : List (List ℕ × Datum)). HoldsLines format [] e os) (sym no_entries)
+    (subst (λ (o : List (List ℕ)). HoldsLines format [] [] o) (sym no_objects) none) where
+      none : HoldsLines format [] [] []
+      none = record {
+        each = All-nil (IsGoodLine format);
+        rows = λ p. (λ h. absurd (omega (arith, h.1)), λ h. absurd (omega (arith, h.1.1)));
+        differ = λ _ i j d before within. absurd (omega (arith, before, within));
+        prefixes = λ o.
+            (λ found. (let no : ⊥ = cc in absurd no), λ h. absurd (omega (arith, h.1.1)));
+      }
 
-pub holds_none_yet : (format : Format) (es : List (List ℕ × Datum)) (os : List (List ℕ)) → es ≡ [] → os ≡ [] → HoldsTable format [] es os
-holds_none_yet format es os no_entries no_objects =
-    subst (λ (e : List (List ℕ × Datum)). HoldsTable format [] e os) (sym no_entries)
-    (subst (λ (o : List (List ℕ)). HoldsTable format [] [] o) (sym no_objects) (holds_none format))
+-- one more line
+module _ (format : Format) (before : List (List ℕ)) (line : List ℕ)
+    (es : List (List ℕ × Datum)) (os : List (List ℕ)) (h : HoldsLines format before es os) where
+  each_more : (s : Statement) → States format line s
+      → All (IsGoodLine format) (before ++ line ∷ [])
+  each_more s states =
+      All-append (IsGoodLine format) before (line ∷ []) h.each (All-cons (IsGoodLine format) line []
+      (good_statement format line s states) (All-nil (IsGoodLine format)))
 
--- ---- what the draft holds behind one more line
-
-module _ (format : Format) (before : List (List ℕ)) (line : List ℕ) (es : List (List ℕ × Datum)) (os : List (List ℕ)) (h : HoldsTable format before es os) where
   same_rows : ((p : VarBind) → States format line (instance p) → ⊥) → (p : VarBind)
-      → (find (slice_cmp nat_cmp) p.name es ≡ Some p.value) ↔ IsStated format (before ++ line ∷ []) (instance p)
+      → Contains es (entry_of p) ↔ IsStated format (before ++ line ∷ []) (instance p)
   same_rows never p = (
-    λ found. stated_before format before line (instance p) ((h.rows p).0 found),
-    λ stated. elim (stated_either format before line (instance p) stated) [ inl old ↦ (h.rows p).1 old | inr now ↦ absurd (never p now) ],
+    λ has. stated_before format before line (instance p) ((h.rows p).0 has),
+    λ stated. elim (stated_either format before line (instance p) stated) [
+      | inl old ↦ (h.rows p).1 old
+      | inr now ↦ absurd (never p now)
+    ],
   )
+
+  same_differ : ((p : VarBind) → States format line (instance p) → ⊥) → AreDistinct es
+      → AllPairs (DifferInName format) (before ++ line ∷ [])
+  same_differ never distinct =
+      all_pairs_push (DifferInName format) before line (h.differ distinct)
+      (λ k d low row other is_row is_other. absurd (never other is_other))
 
   same_prefixes : ((o : List ℕ) → States format line (object_prefix o) → ⊥) → (o : List ℕ)
-      → (list_any (eq_by_cmp (slice_cmp nat_cmp) o) os ≡ true) ↔ IsStated format (before ++ line ∷ []) (object_prefix o)
+      → (list_any (eq_by_cmp (slice_cmp nat_cmp) o) os ≡ true)
+      ↔ IsStated format (before ++ line ∷ []) (object_prefix o)
   same_prefixes never o = (
     λ found. stated_before format before line (object_prefix o) ((h.prefixes o).0 found),
-    λ stated. elim (stated_either format before line (object_prefix o) stated) [ inl old ↦ (h.prefixes o).1 old | inr now ↦ absurd (never o now) ],
+    λ stated. elim (stated_either format before line (object_prefix o) stated) [
+      | inl old ↦ (h.prefixes o).1 old
+      | inr now ↦ absurd (never o now)
+    ],
   )
 
-  pub holds_nothing : StatesOnly format line nothing → HoldsTable format (before ++ line ∷ []) es os
+  pub holds_nothing : StatesOnly format line nothing
+      → HoldsLines format (before ++ line ∷ []) es os
   holds_nothing only = record {
-    good = good_more format before line nothing h.good only.0 (λ p states. let no_instance : instance p ≡ nothing = only.1 (instance p) states in absurd (cc));
-    rising = h.rising;
-    rows = same_rows (λ p states. let no_instance : instance p ≡ nothing = only.1 (instance p) states in cc);
-    prefixes = same_prefixes (λ o states. let no_object : object_prefix o ≡ nothing = only.1 (object_prefix o) states in cc);
-  }
+    each = each_more nothing only.0;
+    rows = same_rows no_row;
+    differ = same_differ no_row;
+    prefixes = same_prefixes (λ o states.
+        let same : object_prefix o ≡ nothing = only.1 (object_prefix o) states in cc);
+  } where
+    no_row : (p : VarBind) → States format line (instance p) → ⊥
+    no_row p states = let same : instance p ≡ nothing = only.1 (instance p) states in cc
 
-  pub holds_object : (object : List ℕ) (more : List (List ℕ)) → StatesOnly format line (object_prefix object)
-      → ((o : List ℕ) → list_any (eq_by_cmp (slice_cmp nat_cmp) o) more ≡ (is_eq (slice_cmp nat_cmp o object) || list_any (eq_by_cmp (slice_cmp nat_cmp) o) os))
-      → HoldsTable format (before ++ line ∷ []) es more
+  pub holds_object : (object : List ℕ) (more : List (List ℕ))
+      → StatesOnly format line (object_prefix object)
+      → ((o : List ℕ) → list_any (eq_by_cmp (slice_cmp nat_cmp) o) more
+      ≡ (is_eq (slice_cmp nat_cmp o object) || list_any (eq_by_cmp (slice_cmp nat_cmp) o) os))
+      → HoldsLines format (before ++ line ∷ []) es more
   holds_object object more only has = record {
-    good = good_more format before line (object_prefix object) h.good only.0 (λ p states. let no_instance : instance p ≡ object_prefix object = only.1
-        (instance p) states in absurd (cc));
-    rising = h.rising;
-    rows = same_rows (λ p states. let no_instance : instance p ≡ object_prefix object = only.1 (instance p) states in cc);
+    each = each_more (object_prefix object) only.0;
+    rows = same_rows no_row;
+    differ = same_differ no_row;
     prefixes = λ o. (
-      λ found. elim (slice_cmp nat_cmp o object) as (λ r. slice_cmp nat_cmp o object ≡ r → (is_eq r || list_any (eq_by_cmp (slice_cmp nat_cmp) o) os) ≡ true
+      λ found. elim (slice_cmp nat_cmp o object) as (λ r. slice_cmp nat_cmp o object ≡ r
+          → (is_eq r || list_any (eq_by_cmp (slice_cmp nat_cmp) o) os) ≡ true
           → IsStated format (before ++ line ∷ []) (object_prefix o)) [
-            | Less ↦ λ _ old. stated_before format before line (object_prefix o) ((h.prefixes o).0 old)
+            | Less ↦ λ _ old.
+                stated_before format before line (object_prefix o) ((h.prefixes o).0 old)
             | Equal ↦ λ tied _.
-                let P : List ℕ → Type 0 = λ p. IsStated format (before ++ line ∷ []) (object_prefix p) in
-                subst P (sym (same_name o object tied)) (stated_now format before line (object_prefix object) only.0)
-            | Greater ↦ λ _ old. stated_before format before line (object_prefix o) ((h.prefixes o).0 old)
+                let P : List ℕ → Type 0 =
+                λ p. IsStated format (before ++ line ∷ []) (object_prefix p) in
+                subst P (sym (same_name o object tied))
+                (stated_now format before line (object_prefix object) only.0)
+            | Greater ↦ λ _ old.
+                stated_before format before line (object_prefix o) ((h.prefixes o).0 old)
           ] refl (sym (has o) ∙ found),
       λ stated. has o ∙ elim (stated_either format before line (object_prefix o) stated) [
-        | inl old ↦ ap (λ b. is_eq (slice_cmp nat_cmp o object) || b) ((h.prefixes o).1 old) ∙ or_true (is_eq (slice_cmp nat_cmp o object))
+        | inl old ↦ ap (λ b. is_eq (slice_cmp nat_cmp o object) || b) ((h.prefixes o).1 old)
+            ∙ or_true (is_eq (slice_cmp nat_cmp o object))
         | inr now ↦
             let same : object_prefix o ≡ object_prefix object = only.1 (object_prefix o) now in
             let name : o ≡ object = cc in
-            ap (λ p. is_eq (slice_cmp nat_cmp p object) || list_any (eq_by_cmp (slice_cmp nat_cmp) o) os) name
-            ∙ ap (λ r. is_eq r || list_any (eq_by_cmp (slice_cmp nat_cmp) o) os) (tied_itself nat_list_cmp_total object)
+            let others = list_any (eq_by_cmp (slice_cmp nat_cmp) o) os in
+            ap (λ p. is_eq (slice_cmp nat_cmp p object) || others) name
+            ∙ ap (λ r. is_eq r || others) (tied_itself nat_list_cmp_total object)
       ],
     );
   } where
+    no_row : (p : VarBind) → States format line (instance p) → ⊥
+    no_row p states =
+        let same : instance p ≡ object_prefix object = only.1 (instance p) states in cc
+
     or_true : (b : Bool) → (b || true) ≡ true
     or_true true = refl
     or_true false = refl
 
-  pub holds_instance : (p : VarBind) → StatesOnly format line (instance p) → find (slice_cmp nat_cmp) p.name es ≡ None
-      → HoldsTable format (before ++ line ∷ []) (put (slice_cmp nat_cmp) p.name p.value es) os
-  holds_instance p only absent = record {
-    good = good_more format before line (instance p) h.good only.0 (λ q states other old same.
-        let is : instance q ≡ instance p = only.1 (instance q) states in
+  pub holds_instance : (p : VarBind) → StatesOnly format line (instance p)
+      → HoldsLines format (before ++ line ∷ []) (es ++ entry_of p ∷ []) os
+  holds_instance p only = record {
+    each = each_more (instance p) only.0;
+    rows = λ q. (row_stated q, row_contained q);
+    differ = λ distinct. all_pairs_push (DifferInName format) before line
+        (h.differ (earlier distinct)) (λ k d low row other is_row is_other same.
+        let is : instance other ≡ instance p = only.1 (instance other) is_other in
         let name : other.name ≡ p.name = cc in
-        let found : find (slice_cmp nat_cmp) other.name es ≡ Some other.value = (h.rows other).1 old in
-        let none : find (slice_cmp nat_cmp) other.name es ≡ None = rw name absent in cc);
-    rising = is_sorted-put (slice_cmp nat_cmp) nat_list_cmp_total p.name p.value es h.rising;
-    rows = λ q. (rows_found q, rows_stated q);
-    prefixes = same_prefixes (λ o states. let no_object : object_prefix o ≡ instance p = only.1 (object_prefix o) states in cc);
+        fresh distinct row (get_or before k d, All-contains_itself before k d low, is_row)
+        (same ∙ name));
+    prefixes = same_prefixes (λ o states.
+        let same : object_prefix o ≡ instance p = only.1 (object_prefix o) states in cc);
   } where
-    at : (q : List ℕ) → find (slice_cmp nat_cmp) q (put (slice_cmp nat_cmp) p.name p.value es) ≡ cond (eq_by_cmp (slice_cmp nat_cmp) q p.name) (Some p.value)
-        (find (slice_cmp nat_cmp) q es)
-    at q = find-put (slice_cmp nat_cmp) nat_list_cmp_total q p.name p.value es
+    earlier : AreDistinct (es ++ entry_of p ∷ []) → AreDistinct es
+    earlier distinct = λ o. omega (arith, sum_by_push (has_key o) es (entry_of p), distinct o)
 
-    rows_found : (q : VarBind) → find (slice_cmp nat_cmp) q.name (put (slice_cmp nat_cmp) p.name p.value es) ≡ Some q.value
+    fresh : AreDistinct (es ++ entry_of p ∷ []) → (row : VarBind)
+        → IsStated format before (instance row) → row.name ≡ p.name → ⊥
+    fresh distinct row stated name =
+        let some : 1 ≤ sum_by (has_key row.name) es =
+        contained_counts row.name row.value es ((h.rows row).1 stated) in
+        let own : has_key row.name (entry_of p) ≡ 1 =
+        ap (λ o. has_key row.name (o, p.value)) (sym name)
+        ∙ counted_itself row.name p.value in
+        omega (arith, sum_by_push (has_key row.name) es (entry_of p), distinct row.name)
+
+    row_stated : (q : VarBind) → Contains (es ++ entry_of p ∷ []) (entry_of q)
         → IsStated format (before ++ line ∷ []) (instance q)
-    rows_found q found =
-        elim (slice_cmp nat_cmp q.name p.name) as (λ r. slice_cmp nat_cmp q.name p.name ≡ r
-        → cond (is_eq r) (Some p.value) (find (slice_cmp nat_cmp) q.name es) ≡ Some q.value → IsStated format (before ++ line ∷ []) (instance q)) [
-          | Less ↦ λ _ old. stated_before format before line (instance q) ((h.rows q).0 old)
-          | Equal ↦ λ tied new.
-              let name : q.name ≡ p.name = same_name q.name p.name tied in
-              let value : q.value ≡ p.value = cc in
-              let same : p ≡ q = λ i. record { name = sym name i; value = sym value i } in
-              subst (λ (x : VarBind). IsStated format (before ++ line ∷ []) (instance x)) same (stated_now format before line (instance p) only.0)
-          | Greater ↦ λ _ old. stated_before format before line (instance q) ((h.rows q).0 old)
-        ] refl (sym (at q.name) ∙ found)
-
-    rows_stated : (q : VarBind) → IsStated format (before ++ line ∷ []) (instance q)
-        → find (slice_cmp nat_cmp) q.name (put (slice_cmp nat_cmp) p.name p.value es) ≡ Some q.value
-    rows_stated q stated = at q.name ∙ elim (stated_either format before line (instance q) stated) [
-      | inl old ↦
-          let found : find (slice_cmp nat_cmp) q.name es ≡ Some q.value = (h.rows q).1 old in
-          elim (slice_cmp nat_cmp q.name p.name) as (λ r. slice_cmp nat_cmp q.name p.name ≡ r
-          → cond (is_eq r) (Some p.value) (find (slice_cmp nat_cmp) q.name es) ≡ Some q.value) [
-            | Less ↦ λ _. found
-            | Equal ↦ λ tied.
-                let name : q.name ≡ p.name = same_name q.name p.name tied in
-                let none : find (slice_cmp nat_cmp) q.name es ≡ None = rw name absent in absurd (cc)
-            | Greater ↦ λ _. found
-          ] refl
-      | inr now ↦
-          let is : instance q ≡ instance p = only.1 (instance q) now in
-          let name : q.name ≡ p.name = cc in
-          let value : p.value ≡ q.value = cc in
-          ap (λ o. cond (is_eq (slice_cmp nat_cmp o p.name)) (Some p.value) (find (slice_cmp nat_cmp) q.name es)) name
-          ∙ ap (λ r. cond (is_eq r) (Some p.value) (find (slice_cmp nat_cmp) q.name es)) (tied_itself nat_list_cmp_total p.name)
-          ∙ ap (λ (v : Datum). Some v) value
+    row_stated q has = elim (Contains-push_cases es (entry_of p) (entry_of q) has) [
+      | inl old ↦ stated_before format before line (instance q) ((h.rows q).0 old)
+      | inr same ↦
+          let row : p ≡ q = λ i. record { name = (same i).0; value = (same i).1 } in
+          subst (λ (x : VarBind). IsStated format (before ++ line ∷ []) (instance x)) row
+          (stated_now format before line (instance p) only.0)
     ]
 
-  pub double : (p : VarBind) (v : Datum) → States format line (instance p) → find (slice_cmp nat_cmp) p.name es ≡ Some v → IsDouble format before line
-  double p v states found = (p, record { name = p.name; value = v }, states, (h.rows (record { name = p.name; value = v })).0 found, refl)
+    row_contained : (q : VarBind) → IsStated format (before ++ line ∷ []) (instance q)
+        → Contains (es ++ entry_of p ∷ []) (entry_of q)
+    row_contained q stated = elim (stated_either format before line (instance q) stated) [
+      | inl old ↦
+          Contains-append_left es (entry_of p ∷ []) (entry_of q) ((h.rows q).1 old)
+      | inr now ↦
+          let same : instance q ≡ instance p = only.1 (instance q) now in
+          let row : q ≡ p = cc in
+          subst (λ (x : VarBind). Contains (es ++ entry_of p ∷ []) (entry_of x)) (sym row)
+          (Contains-push es (entry_of p))
+    ]
+
+  pub double : (p : VarBind) (v : Datum) → States format line (instance p)
+      → Contains es (p.name, v) → IsDouble format before line
+  double p v states has =
+      let q : VarBind = record { name = p.name; value = v } in
+      (p, q, states, (h.rows q).0 has, refl)
+
+-- ---- lines whose rows differ in name
+
+pub good_lines : (format : Format) (lines : List (List ℕ)) (es : List (List ℕ × Datum))
+    (os : List (List ℕ)) → HoldsLines format lines es os → AreDistinct es → AreTable format lines
+good_lines format lines es os h distinct =
+    record { each = h.each; differ = h.differ distinct }
+
+-- the entries in their places
+pub whole : (format : Format) (lines : List (List ℕ)) (es fs : List (List ℕ × Datum))
+    (os : List (List ℕ)) → HoldsLines format lines es os → IsPermutation es fs
+    → T (is_sorted (slice_cmp nat_cmp) fs) → HoldsTable format lines fs os
+whole format lines es fs os h moved rising = record {
+  good = good_lines format lines es os h (distinct_moved es fs moved (distinct_sorted fs rising));
+  rising = rising;
+  rows = λ p. (
+    λ found. (h.rows p).0 (Contains-permutation fs es (entry_of p)
+        (IsPermutation-sym es fs moved)
+        (listed_contained (entry_of p) fs (listed_from_find p.name p.value fs found))),
+    λ stated. find-listed (entry_of p) fs rising (contained_listed (entry_of p) fs
+        (Contains-permutation es fs (entry_of p) moved ((h.rows p).1 stated))),
+  );
+  prefixes = h.prefixes;
+}
 
 -- ---- the collections of the draft
 
@@ -218,55 +356,6 @@ list_any-insert o (x ∷ ks) k =
       swapped true false c = refl
       swapped false true c = refl
       swapped false false c = refl
-
--- ---- the lines of a text
-
--- the draft has what the first lines of the text state, and the others are left
-pub record IsReadTo (format : Format) (text rest : List ℕ) (draft : Draft) (number : ℕ) : Type 0 where
-  pub done : List (List ℕ)
-  pub parts : lines text ≡ done ++ lines rest
-  pub holds : IsDraft format done draft
-  pub place : number ≡ length done
-  pub few : number + length rest ≤ length text
-
-pub read_nothing : (format : Format) (text : List ℕ) (draft : Draft) → IsDraft format [] draft → IsReadTo format text text draft 0
-read_nothing format text draft holds = record { done = []; parts = refl; holds = holds; place = refl; few = omega arith }
-
--- one more line
-pub read_more : (format : Format) (text rest line behind : List ℕ) (old new : Draft) (number : ℕ) (h : IsReadTo format text rest old number) → lines rest ≡ line ∷ lines behind
-    → length behind < length rest
-    → IsDraft format (h.done ++ line ∷ []) new → IsReadTo format text behind new (number + 1)
-read_more format text rest line behind old new number h e shorter holds = record {
-  done = h.done ++ line ∷ [];
-  parts = h.parts ∙ ap (λ (ls : List (List ℕ)). h.done ++ ls) e ∙ sym (append_assoc h.done (line ∷ []) (lines behind));
-  holds = holds;
-  place = let now : number ≡ length h.done = h.place in omega (arith, length-append h.done (line ∷ []));
-  few = let before : number + length rest ≤ length text = h.few in omega arith;
-}
-
--- the fault of a line that stands behind the ones read
-pub fault_at : (format : Format) (text rest line behind : List ℕ) (draft : Draft) (number : ℕ) (h : IsReadTo format text rest draft number) → lines rest ≡ line ∷ lines behind
-    → (e : TableError) → IsFaultBehind format h.done line (number + 1) e → IsFirstFaultIn format (lines text) e
-fault_at format text rest line behind draft number h e = cases where
-  behind_good : (at : ℕ) → at ≡ number + 1 → IsBehindGood format (lines text) at h.done line
-  behind_good at same = record {
-    back = lines behind;
-    parts = h.parts ∙ ap (λ (ls : List (List ℕ)). h.done ++ ls) e;
-    place = let now : number ≡ length h.done = h.place in omega arith;
-    good = h.holds.good;
-  }
-
-  cases : (f : TableError) → IsFaultBehind format h.done line (number + 1) f → IsFirstFaultIn format (lines text) f
-  cases (error.BadLine at) k = (h.done, line, behind_good at k.0, k.1)
-  cases (error.BadName at) k = (h.done, line, behind_good at k.0, k.1)
-  cases (error.BadValue at) k = (h.done, line, behind_good at k.0, k.1)
-  cases (error.Double at) k = (h.done, line, behind_good at k.0, k.1)
-  cases error.Memory k = tt
-
--- all lines
-pub all_read : (format : Format) (text : List ℕ) (draft : Draft) (number : ℕ) → IsReadTo format text [] draft number → IsDraft format (lines text) draft
-all_read format text draft number h =
-    let whole : lines text ≡ h.done = h.parts ∙ append-nil h.done in subst (λ (ls : List (List ℕ)). IsDraft format ls draft) (sym whole) h.holds
 
 -- ---- what a look-up says
 

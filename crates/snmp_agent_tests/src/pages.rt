@@ -2,7 +2,7 @@
 
 use crate::changes::{is_numbered, name_of};
 use crate::table::all_rows;
-use snmp_agent::Table;
+use snmp_agent::{Table, TableError};
 use snmp_wire::{Binding, ValueRef};
 use std::alloc::{AllocError, Global};
 use std::collections::BTreeMap;
@@ -115,6 +115,90 @@ fn rows_are_read_around_the_size_of_a_page(rt: HostRuntime) {
             is_read(rt.alloc(), count, 101) == Some(true),
             "{count} rows in no order"
         );
+    }
+}
+
+/// Counts of rows, each with a step by which most of them come before the one in front: a table of
+/// four pages gathers such rows, and puts them in place when it may have become twice as long.
+const IN_NO_ORDER: [(u32, u32); 7] = [
+    (383, 239),
+    (512, 317),
+    (577, 357),
+    (1000, 619),
+    (2500, 1543),
+    (5000, 3089),
+    (9000, 5563),
+];
+
+#[test]
+fn rows_in_no_order_are_read_around_the_times_when_they_are_put_in_place(rt: HostRuntime) {
+    for &(count, step) in &IN_NO_ORDER {
+        assert!(rt;
+            is_read(rt.alloc(), count, step) == Some(true),
+            "{count} rows"
+        );
+    }
+}
+
+/// The fault of a table of `count` such rows in which the line of the number `again` has the row of
+/// that of the number `first`, and the line of the number `bad`, if there is one, no row's form.
+fn fault_of(
+    alloc: Global,
+    count: u32,
+    step: u32,
+    first: u32,
+    again: u32,
+    bad: u32,
+) -> Option<TableError> {
+    let mut text = Vec::new(alloc);
+    let mut number: u32 = 0;
+    for place in 0..count {
+        let line = if place.wrapping_add(1) == bad {
+            format!(in alloc; "no row\n").ok()?
+        } else if place.wrapping_add(1) == again {
+            let number = first.wrapping_sub(1).wrapping_mul(step) % count.max(1);
+            format!(in alloc; "1.3.6.1.4.1.32473.1.{number}.0|65|1\n").ok()?
+        } else {
+            format!(in alloc; "1.3.6.1.4.1.32473.1.{number}.0|65|{number}\n").ok()?
+        };
+        text.extend_from_slice(line.as_bytes()).ok()?;
+        number = number.wrapping_add(step) % count.max(1);
+    }
+    Table::read(alloc, &text).err()
+}
+
+/// The first and the second line of a name, in each of the times between which rows are gathered.
+const TWICE: [(u32, u32); 8] = [
+    (1, 2),
+    (1, 600),
+    (600, 601),
+    (500, 1900),
+    (1200, 2400),
+    (2399, 2400),
+    (1, 2500),
+    (2499, 2500),
+];
+
+#[test]
+fn the_first_line_of_a_name_that_is_there_is_told(rt: HostRuntime) {
+    for &(first, again) in &TWICE {
+        let double = Some(TableError::Double {
+            line: again as usize,
+        });
+        for &bad in &[0, again.wrapping_add(1), 2501] {
+            assert!(rt;
+                fault_of(rt.alloc(), 2500, 1543, first, again, bad) == double,
+                "lines {first} and {again}, and a fault in {bad}"
+            );
+        }
+        let bad = again.wrapping_sub(1);
+        if bad != first {
+            assert!(rt;
+                fault_of(rt.alloc(), 2500, 1543, first, again, bad)
+                    == Some(TableError::BadLine { line: bad as usize }),
+                "a fault in {bad}, before {again}"
+            );
+        }
     }
 }
 

@@ -1,6 +1,8 @@
 -- What a table holds while its text is read.
-use Rattle.std.specs.Prelude.{◌≡◌, ℕ, ◌↔◌, T, true, List, map, Some}
-use Rattle.std.specs.List.{list_any}
+use Rattle.std.specs.Prelude.{◌≡◌, ℕ, ◌↔◌, ◌≤◌, ◌++◌, T, Bool, true, false, List, map, Some, cond}
+use Rattle.std.specs.Prelude.{All, AllPairs, Contains}
+use Rattle.std.specs.List.{list_any, sum_by}
+use Rattle.std.specs.List.Sorted.{IsPermutation}
 use Rattle.std.specs.Ordering.{nat_cmp, eq_by_cmp}
 use Rattle.std.specs.Cmp.Lexicographic.{slice_cmp}
 use Rattle.std.specs.FinMap.{entries, find, is_sorted}
@@ -10,8 +12,12 @@ use Rattle.snmp_agent.specs.declared.table.error.TableError.{TableError}
 use Rattle.snmp_agent.specs.declared.table.error.TableError.TheVariants as error
 use Rattle.snmp_agent.specs.table.Format.{Format}
 use Rattle.snmp_agent.specs.table.Form.{IsBadLine, IsBadName, IsBadValue}
-use Rattle.snmp_agent.specs.table.Text.{AreTable, HasPrefix, HasRow}
-use Rattle.snmp_agent.specs.table.Stated.{IsDouble}
+use Rattle.snmp_agent.specs.table.Text.{AreTable, DifferInName, HasPrefix, HasRow, IsGoodLine}
+use Rattle.snmp_agent.specs.table.Stated.{IsDouble, IsFirstFaultIn}
+use Rattle.snmp_agent.specs.table.Places.{entry_of}
+use Rattle.snmp_agent.specs.table.Pages.{entries_of}
+use Rattle.snmp_agent.specs.declared.table.draft.Halt.{Halt}
+use Rattle.snmp_agent.specs.declared.table.draft.Halt.TheVariants as halt
 
 abbrev pub draft_objects : Draft → List (List ℕ)
 draft_objects draft = map (λ object. object.items) draft.objects.keys
@@ -27,9 +33,33 @@ pub record HoldsTable (format : Format) (lines : List (List ℕ)) (es : List (Li
       → (list_any (eq_by_cmp (slice_cmp nat_cmp) object) objects ≡ true)
       ↔ HasPrefix format lines object
 
+-- 1 where an entry has the name, else 0
+abbrev pub has_key : List ℕ → List ℕ × Datum → ℕ
+has_key o e = cond (eq_by_cmp (slice_cmp nat_cmp) o e.0) 1 0
+
+-- no two entries have one name
+abbrev pub AreDistinct : List (List ℕ × Datum) → Type 0
+AreDistinct es = (o : List ℕ) → sum_by (has_key o) es ≤ 1
+
+-- the lines are good but for names that are there twice, and the entries, in any order, and object
+-- prefixes are those that they state
+pub record HoldsLines (format : Format) (lines : List (List ℕ)) (es : List (List ℕ × Datum))
+    (objects : List (List ℕ)) : Type 0 where
+  pub each : All (IsGoodLine format) lines
+  pub rows : (p : VarBind) → Contains es (entry_of p) ↔ HasRow format lines p
+  pub differ : AreDistinct es → AllPairs (DifferInName format) lines
+  pub prefixes : (object : List ℕ)
+      → (list_any (eq_by_cmp (slice_cmp nat_cmp) object) objects ≡ true)
+      ↔ HasPrefix format lines object
+
+-- the entries of the draft: those in their places, and those of the rows that it gathers
+abbrev pub draft_entries : Draft → List (List ℕ × Datum)
+draft_entries draft = entries draft.rows ++ entries_of draft.late.items
+
 -- the draft has what the lines state
 abbrev pub IsDraft : Format → List (List ℕ) → Draft → Type 0
-IsDraft format lines draft = HoldsTable format lines (entries draft.rows) (draft_objects draft)
+IsDraft format lines draft = (es : List (List ℕ × Datum))
+    × HoldsLines format lines es (draft_objects draft) × IsPermutation es (draft_entries draft)
 
 -- what is wrong with the line of this number, which comes after these
 abbrev pub IsFaultBehind : Format → List (List ℕ) → List ℕ → ℕ → TableError → Type 0
@@ -39,3 +69,29 @@ IsFaultBehind format before line number (error.BadValue at) = (at ≡ number) ×
 IsFaultBehind format before line number (error.Double at) =
     (at ≡ number) × IsDouble format before line
 IsFaultBehind format before line number error.Memory = Unit {0}
+
+-- why a reading stops: a fault of which P holds; or memory ran out; or rows that were gathered
+-- aren't put in their places, as happens only where it isn't exact
+abbrev pub HaltsBy : (TableError → Type 0) → (exact : Bool) → Halt → Type 0
+HaltsBy P exact (halt.Fault fault) = P fault
+HaltsBy P exact halt.Memory = Unit {0}
+HaltsBy P exact halt.Again = exact ≡ false
+
+-- this fault behind these entries, of which no two have one name
+abbrev pub IsStop : List (List ℕ × Datum) → (exact : Bool) → TableError → Halt → Type 0
+IsStop es exact wrong = HaltsBy (λ fault. (fault ≡ wrong) × AreDistinct es) exact
+
+-- at the row of this name, of the line of this number: one of these entries, of which no two have
+-- one name, has its name
+abbrev pub IsHaltAt : List ℕ → List (List ℕ × Datum) → ℕ → (exact : Bool) → Halt → Type 0
+IsHaltAt o es number exact = HaltsBy (λ fault. (fault ≡ error.Double number) × AreDistinct es
+    × (v : Datum) × Contains es (o, v)) exact
+
+-- at the line of this number, a fault behind lines that are a table
+abbrev pub IsHalt : Format → List (List ℕ) → List ℕ → ℕ → (exact : Bool) → Halt → Type 0
+IsHalt format before line number exact =
+    HaltsBy (λ fault. AreTable format before × IsFaultBehind format before line number fault) exact
+
+-- the fault of the first line that isn't good
+abbrev pub IsFirstHalt : Format → List (List ℕ) → (exact : Bool) → Halt → Type 0
+IsFirstHalt format lines exact = HaltsBy (IsFirstFaultIn format lines) exact

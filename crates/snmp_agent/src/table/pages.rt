@@ -21,12 +21,37 @@ use snmp_wire::{Binding, EncodedBinding, EncodedName, Oid, ValueRef};
 use std::alloc::{AllocError, Global};
 use std::cmp::Ordering;
 use std::marker::Model;
+use std::mem;
 
 /// Rows by rising names, in pages of 1 to 128, so that a change moves no more rows than a page has.
 #[derive(Drop)]
 pub struct Pages {
     list: Vec<Page>,
+    /// In which order rows were put among others.
+    order: PutOrder,
 }
+
+/// In which pages rows were put among others, of which 64 in turn are a sample. Nothing but time
+/// depends on it.
+#[derive(Drop)]
+struct PutOrder {
+    /// How many rows of the sample were put.
+    rows: u32,
+    /// Their pages: a bit for each place, modulo 64.
+    pages: u64,
+    /// How many samples in turn came to many pages.
+    scattered: u32,
+}
+
+/// How many rows a sample has.
+const SAMPLE: u32 = 64;
+
+/// To how many pages the rows of a sample come mostly that are in no order; those of up to 40
+/// columns in turn come to fewer.
+const MANY_PAGES: u32 = 36;
+
+/// After how many such samples in turn the rows are taken to be in no order.
+const MANY_SAMPLES: u32 = 4;
 
 impl Model for Pages {
     ghost use Rattle.std.specs.Coded.{codes};
@@ -46,11 +71,14 @@ impl Model for Pages {
 }
 
 impl Pages {
-    ghost use Rattle.std.specs.Prelude.{◌≡◌, [], List, ℕ, IfOk, IfErr, IfSome};
+    ghost use Rattle.std.specs.Prelude.{◌≡◌, ◌++◌, ◌∷◌, [], List, ℕ, IfOk, IfErr, IfSome};
+    ghost use Rattle.std.specs.Prelude.{IsTrue};
+    ghost use Rattle.std.specs.List.Sorted.{IsPermutation};
     ghost use Rattle.std.specs.Option.{option_map};
     ghost use Rattle.std.specs.FinMap.{contains_key, entries, get, insert, remove as remove_key};
     ghost use Rattle.snmp_wire.specs.Message.{Datum};
-    ghost use Rattle.snmp_agent.specs.table.Pages.{StandsApart};
+    ghost use Rattle.snmp_agent.specs.table.Places.{IsAfterAll, entry_of};
+    ghost use Rattle.snmp_agent.specs.table.Pages.{StandsApart, entries_of};
 
     /// No rows.
     pub fn new(alloc: Global) -> Pages
@@ -58,6 +86,11 @@ impl Pages {
     {
         Pages {
             list: Vec::new(alloc),
+            order: PutOrder {
+                rows: 0,
+                pages: 0,
+                scattered: 0,
+            },
         }
     }
 
@@ -179,8 +212,123 @@ impl Pages {
             return Ok(false);
         }
         let place = page_with_room(&mut self.list, &name)?;
+        self.order.note(place);
         let replaced = self.list[place].put(row)?;
         Ok(replaced)
+    }
+
+    /// Whether the last rows that were put among others came to many pages, as those in no order do.
+    #[inline]
+    pub fn are_scattered(&self) -> bool {
+        self.order.scattered >= MANY_SAMPLES
+    }
+
+    /// How many rows there are at most.
+    #[inline]
+    pub fn most_rows(&self) -> usize {
+        self.list.len().saturating_mul(PAGE_ROWS)
+    }
+
+    /// Whether all rows come before the name.
+    pub fn ends_before(&self, name: &EncodedName<'_>) -> bool
+        ensures { IsTrue result → IsAfterAll name.now (entries self.now) }
+    {
+        ends_before(self.list.as_slice(), name)
+    }
+
+    /// Appends a row that comes after all others.
+    pub fn append(&mut self, alloc: Global, row: EncodedBinding) -> Result<(), AllocError>
+        requires { IsAfterAll row.name (entries self.old) }
+        ensures appended { IfOk result
+            (λ _. entries self.new ≡ entries self.old ++ entry_of row ∷ []) }
+        ensures unchanged_on_error { IfErr result (λ _. self.new ≡ self.old) }
+    {
+        append(alloc, &mut self.list, row)?;
+        Ok(())
+    }
+
+    /// Puts each of the rows in its place, from the last one on, and returns whether none has the
+    /// name of another. Where one has, or memory runs out, some are lost.
+    pub fn put_all(
+        &mut self,
+        alloc: Global,
+        rows: &mut Vec<EncodedBinding>,
+    ) -> Result<bool, AllocError>
+        ensures { IfOk result (λ apart. IsTrue apart
+            → IsPermutation (entries self.old ++ entries_of rows.old.items) (entries self.new)) }
+    {
+        'rows: while let Some(row) = rows.pop() {
+            if self.put(alloc, row)? {
+                return Ok(false);
+            }
+        }
+        Ok(true)
+    }
+
+    /// The same, by one pass over all rows, those that were there too. It pays where the rows are
+    /// many, if their names fall.
+    pub fn merge(
+        &mut self,
+        alloc: Global,
+        rows: &mut Vec<EncodedBinding>,
+    ) -> Result<bool, AllocError>
+        ensures { IfOk result (λ apart. IsTrue apart
+            → IsPermutation (entries self.old ++ entries_of rows.old.items) (entries self.new)) }
+    {
+        let pages = mem::replace(&mut self.list, Vec::new(alloc));
+        for page in pages {
+            if !self.merge_page(alloc, page, rows)? {
+                return Ok(false);
+            }
+        }
+        self.put_all(alloc, rows)
+    }
+
+    /// Puts the rows of a page, and before each the last of the others that come before it, and
+    /// returns the same.
+    fn merge_page(
+        &mut self,
+        alloc: Global,
+        page: Page,
+        others: &mut Vec<EncodedBinding>,
+    ) -> Result<bool, AllocError>
+        ensures { IfOk result (λ apart. IsTrue apart → IsPermutation
+            (entries self.old ++ (entries_of others.old.items ++ entries_of page.rows.items))
+            (entries self.new ++ entries_of others.new.items)) }
+    {
+        let Page { rows } = page;
+        for row in rows {
+            if !self.put_before(alloc, &row.name(), others)? || self.put(alloc, row)? {
+                return Ok(false);
+            }
+        }
+        Ok(true)
+    }
+
+    /// Puts the last of the rows that come before the name, and returns the same.
+    #[inline(always)]
+    fn put_before(
+        &mut self,
+        alloc: Global,
+        name: &EncodedName<'_>,
+        rows: &mut Vec<EncodedBinding>,
+    ) -> Result<bool, AllocError>
+        ensures { IfOk result (λ apart. IsTrue apart
+            → IsPermutation (entries self.old ++ entries_of rows.old.items)
+            (entries self.new ++ entries_of rows.new.items)) }
+    {
+        'rows: while let Some(row) = rows.last() {
+            if !row.name().compare(name).is_lt() {
+                break;
+            }
+            let Some(row) = rows.pop() else {
+                break;
+            };
+            if self.put(alloc, row)? {
+                return Ok(false);
+            }
+        }
+        Ok(true)
     }
 
     /// Removes the row of this name, and returns whether there was one.
@@ -198,6 +346,24 @@ impl Pages {
                 true
             }
             Err(_) => false,
+        }
+    }
+}
+
+impl PutOrder {
+    /// A row was put in the page at this place.
+    #[inline]
+    fn note(&mut self, page: usize) {
+        self.pages |= 1 << (page % 64);
+        self.rows = self.rows.saturating_add(1);
+        if self.rows >= SAMPLE {
+            self.scattered = if self.pages.count_ones() >= MANY_PAGES {
+                self.scattered.saturating_add(1)
+            } else {
+                0
+            };
+            self.rows = 0;
+            self.pages = 0;
         }
     }
 }
@@ -268,6 +434,8 @@ fn stands_between(name: &EncodedName<'_>, front: &[EncodedBinding], rows: &[Enco
 }
 
 /// Appends a row that comes after all others.
+// Hot: each row of a table that is read in order.
+#[inline(always)]
 fn append(alloc: Global, pages: &mut Vec<Page>, row: EncodedBinding) -> Result<(), AllocError>
     ensures rows { IfOk result (λ _. entries_in pages.new.items
         ≡ entries_in pages.old.items ++ entry_of row ∷ []) }

@@ -97,6 +97,8 @@ fn pages_by(
 }
 
 /// Whether all rows come before the name.
+// Hot: each row of a table that is read.
+#[inline(always)]
 pub fn ends_before(pages: &[Page], name: &EncodedName<'_>) -> bool
     requires { ArePages pages.now }
     ensures before { IsTrue result → IsAfterAll name.now (entries_in pages.now) }

@@ -3,14 +3,13 @@ ghost use Rattle.std.specs.Prelude.{◌↔◌, map, IsTrue};
 ghost use Rattle.snmp_agent.specs.table.Places.{HasBeginning};
 
 use crate::table::change::{is_instance_name, is_instance_value};
-use crate::table::draft::Draft;
+use crate::table::draft::{Draft, Halt};
 use crate::table::error::{PutError, TableError};
 use crate::table::format::{
     FirstFormat, LineFormat, NumericNames, Resolver, SecondFormat, is_marked,
 };
 use crate::table::hint::Hint;
 use crate::table::pages::{Pages, Successors};
-use crate::table::split::split_line;
 use snmp_oid::order;
 use snmp_wire::{Binding, EncodedBinding, EncodedName, MAX_CONTENT, Oid, ValueRef};
 use std::alloc::Global;
@@ -96,21 +95,21 @@ impl Table {
         ensures view { IfOk result IsMibView }
         ensures fault { IfErr result (IsFirstFaultIn (F.format format.now) (lines text.now)) }
     {
-        let mut draft = Draft::new(alloc);
-        let mut binding = Binding::empty();
-        let mut rest = text;
-        let mut number = 0;
-        'lines: while !rest.is_empty() {
-            let (line, behind) = split_line(rest);
-            number += 1;
-            draft.add(alloc, format, line, number, &mut binding)?;
-            rest = behind;
+        let read = match Draft::read(alloc, text, format, false) {
+            // A name may be there twice: the line is known where each row is put at once.
+            Err(Halt::Again) => Draft::read(alloc, text, format, true),
+            read => read,
+        };
+        match read {
+            Ok(draft) => Ok(Table {
+                alloc,
+                rows: draft.rows,
+                objects: draft.objects,
+            }),
+            Err(Halt::Fault(fault)) => Err(fault),
+            Err(Halt::Memory) => Err(TableError::Memory),
+            Err(Halt::Again) => unreachable!(),
         }
-        Ok(Table {
-            alloc,
-            rows: draft.rows,
-            objects: draft.objects,
-        })
     }
 
     /// Gives the instance of this name the value, and returns whether it had one before. All else

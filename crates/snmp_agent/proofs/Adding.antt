@@ -1,0 +1,178 @@
+-- What a draft has behind one more line, and why the reading stops at it.
+use Rattle.std.proofs.Common.{◌≡◌, ℕ, List, [], ◌∷◌, ◌++◌, map, refl, sym, ap, subst, Result, Ok}
+use Rattle.std.proofs.Common.{Err, IfOk, IfErr, MatchResult, append-nil, ◌∙◌, Bool, ◌+◌, ◌<◌}
+use Rattle.std.proofs.Common.{◌≤◌, append_assoc, arith, length, length-append}
+use Rattle.std.specs.Str.Lines.{lines}
+use Rattle.std.specs.List.{Contains}
+use Rattle.std.specs.List.Sorted.{IsPermutation}
+use Rattle.std.proofs.lemmas.List.Sorted.{Contains-permutation, IsPermutation-append_left}
+use Rattle.std.proofs.lemmas.List.Sorted.{IsPermutation-sym, IsPermutation-trans}
+use Rattle.std.specs.FinMap.{entries, entries_sorted}
+use Rattle.snmp_wire.specs.Message.{Datum, VarBind}
+use Rattle.snmp_agent.specs.declared.table.draft.Draft.{Draft}
+use Rattle.snmp_agent.specs.declared.table.draft.Halt.{Halt}
+use Rattle.snmp_agent.specs.declared.table.draft.Halt.TheVariants as halt
+use Rattle.snmp_agent.specs.declared.table.error.TableError.{TableError}
+use Rattle.snmp_agent.specs.declared.table.error.TableError.TheVariants as error
+use Rattle.snmp_agent.specs.table.Stated.{IsBehindGood, IsFirstFaultIn}
+use Rattle.snmp_agent.specs.table.Draft.{AreDistinct, HaltsBy, HoldsLines, HoldsTable}
+use Rattle.snmp_agent.specs.table.Draft.{IsDraft, IsFaultBehind, IsFirstHalt, IsHalt}
+use Rattle.snmp_agent.specs.table.Draft.{IsHaltAt, IsStop, draft_entries}
+use Rattle.snmp_agent.specs.table.Draft.{draft_objects}
+use Rattle.snmp_agent.specs.table.Form.{States, instance}
+use Rattle.snmp_agent.specs.table.Format.{Format}
+use Rattle.snmp_agent.specs.table.Pages.{entries_of}
+use Rattle.snmp_agent.specs.table.Places.{entry_of}
+use Rattle.snmp_agent.specs.table.Text.{AreTable}
+use Rattle.snmp_agent.proofs.OneStatement.{StatesOnly}
+use Rattle.snmp_agent.proofs.TableDrafts.{distinct_moved, distinct_sorted, double, good_lines}
+use Rattle.snmp_agent.proofs.TableDrafts.{holds_instance, whole}
+
+pub either : {A B : Type 0} {P P' : A → Type 0} {Q Q' : B → Type 0} (r : Result A B) → IfOk r P
+    → IfErr r Q → ((a : A) → P a → P' a) → ((b : B) → Q b → Q' b) → MatchResult r P' Q'
+either (Ok a) p q f g = f a p
+either (Err b) p q f g = g b q
+
+-- another reason to stop, of each fault
+halts_weaker : (P Q : TableError → Type 0) (exact : Bool)
+    → ((fault : TableError) → P fault → Q fault) → (e : Halt) → HaltsBy P exact e
+    → HaltsBy Q exact e
+halts_weaker P Q exact f (halt.Fault fault) k = f fault k
+halts_weaker P Q exact f halt.Memory k = tt
+halts_weaker P Q exact f halt.Again k = k
+
+module _ (format : Format) (before : List (List ℕ)) (line : List ℕ) (number : ℕ) (old : Draft)
+    (h : IsDraft format before old) where
+  -- one row more
+  pub row_added : (row : VarBind) → StatesOnly format line (instance row) → (new : Draft)
+      → IsPermutation (draft_entries old ++ entry_of row ∷ []) (draft_entries new)
+      → new.objects ≡ old.objects → IsDraft format (before ++ line ∷ []) new
+  row_added row only new moved same = (
+    h.0 ++ entry_of row ∷ [],
+    subst (λ (os : List (List ℕ)). HoldsLines format (before ++ line ∷ [])
+        (h.0 ++ entry_of row ∷ []) os)
+        (ap (λ objects. map (λ o. o.items) objects.keys) (sym same))
+        (holds_instance format before line h.0 (draft_objects old) h.1 row only),
+    IsPermutation-trans _ _ _
+        (IsPermutation-append_left (entry_of row ∷ []) h.0 (draft_entries old) h.2) moved,
+  )
+
+  -- the lines are a table, as no two rows have one name
+  table_before : AreDistinct (draft_entries old) → AreTable format before
+  table_before distinct = good_lines format before h.0 (draft_objects old) h.1
+      (distinct_moved h.0 (draft_entries old) h.2 distinct)
+
+  abbrev Here : TableError → Type 0
+  Here fault = AreTable format before × IsFaultBehind format before line number fault
+
+  -- a row that isn't put
+  pub row_halted : (row : VarBind) → States format line (instance row) → (e : Halt)
+      → IsHaltAt row.name (draft_entries old) number old.exact e
+      → IsHalt format before line number old.exact e
+  row_halted row states = halts_weaker (λ fault. (fault ≡ error.Double number)
+      × AreDistinct (draft_entries old) × (v : Datum) × Contains (draft_entries old) (row.name, v))
+      Here old.exact (λ fault k.
+      let there : Contains h.0 (row.name, k.2) = Contains-permutation (draft_entries old) h.0
+      (row.name, k.2) (IsPermutation-sym h.0 (draft_entries old) h.2) k.3 in (
+        table_before k.1,
+        subst (λ (f : TableError). IsFaultBehind format before line number f) (sym k.0)
+            (refl, double format before line h.0 (draft_objects old) h.1 row k.2 states there),
+      ))
+
+  -- a fault behind lines of which no two are rows of one name
+  pub stopped : (wrong : TableError) → IsFaultBehind format before line number wrong → (e : Halt)
+      → IsStop (draft_entries old) old.exact wrong e → IsHalt format before line number old.exact e
+  stopped wrong faulty = halts_weaker (λ fault. (fault ≡ wrong) × AreDistinct (draft_entries old))
+      Here old.exact (λ fault k. (
+        table_before k.1,
+        subst (λ (f : TableError). IsFaultBehind format before line number f) (sym k.0) faulty,
+      ))
+
+-- all rows are in their places: no two have one name
+pub settled_distinct : (old new : Draft) → IsPermutation (draft_entries old) (draft_entries new)
+    → new.late.items ≡ [] → AreDistinct (draft_entries old)
+settled_distinct old new moved none =
+    let es = entries new.rows in
+    distinct_moved (draft_entries old) es
+    (subst (λ (fs : List (List ℕ × Datum)). IsPermutation (draft_entries old) fs)
+    (ap (λ rows. es ++ entries_of rows) none ∙ append-nil es) moved)
+    (distinct_sorted es (entries_sorted new.rows))
+
+-- ---- the lines of a text
+
+-- the draft has what the first lines of the text state, and the others are left
+pub record IsReadTo (format : Format) (text rest : List ℕ) (draft : Draft) (number : ℕ)
+    : Type 0 where
+  pub done : List (List ℕ)
+  pub parts : lines text ≡ done ++ lines rest
+  pub holds : IsDraft format done draft
+  pub place : number ≡ length done
+  pub few : number + length rest ≤ length text
+
+pub read_nothing : (format : Format) (text : List ℕ) (draft : Draft) → IsDraft format [] draft
+    → IsReadTo format text text draft 0
+read_nothing format text draft holds =
+    record { done = []; parts = refl; holds = holds; place = refl; few = omega arith }
+
+module _ (format : Format) (text rest line behind : List ℕ) (old : Draft) (number : ℕ)
+    (h : IsReadTo format text rest old number) (e : lines rest ≡ line ∷ lines behind) where
+  -- one more line
+  pub read_more : (more new : Draft) → length behind < length rest
+      → IsDraft format (h.done ++ line ∷ []) more
+      → IsPermutation (draft_entries more) (draft_entries new) → new.objects ≡ more.objects
+      → IsReadTo format text behind new (number + 1)
+  read_more more new shorter holds moved same = record {
+    done = h.done ++ line ∷ [];
+    parts = h.parts ∙ ap (λ (ls : List (List ℕ)). h.done ++ ls) e
+        ∙ sym (append_assoc h.done (line ∷ []) (lines behind));
+    holds = (
+      holds.0,
+      subst (λ (os : List (List ℕ)). HoldsLines format (h.done ++ line ∷ []) holds.0 os)
+          (ap (λ objects. map (λ o. o.items) objects.keys) (sym same)) holds.1,
+      IsPermutation-trans _ _ _ holds.2 moved,
+    );
+    place = let now : number ≡ length h.done = h.place in
+        omega (arith, length-append h.done (line ∷ []));
+    few = let before : number + length rest ≤ length text = h.few in omega arith;
+  }
+
+  -- the reading stops at the line
+  pub halted_at : (stop : Halt) → IsHalt format h.done line (number + 1) old.exact stop
+      → IsFirstHalt format (lines text) old.exact stop
+  halted_at = halts_weaker
+      (λ fault. AreTable format h.done × IsFaultBehind format h.done line (number + 1) fault)
+      (IsFirstFaultIn format (lines text)) old.exact (λ fault k. cases k.0 fault k.1) where
+        behind_good : AreTable format h.done → (at : ℕ) → at ≡ number + 1
+            → IsBehindGood format (lines text) at h.done line
+        behind_good good at same = record {
+          back = lines behind;
+          parts = h.parts ∙ ap (λ (ls : List (List ℕ)). h.done ++ ls) e;
+          place = let now : number ≡ length h.done = h.place in omega arith;
+          good = good;
+        }
+
+        cases : AreTable format h.done → (f : TableError)
+            → IsFaultBehind format h.done line (number + 1) f → IsFirstFaultIn format (lines text) f
+        cases good (error.BadLine at) j = (h.done, line, behind_good good at j.0, j.1)
+        cases good (error.BadName at) j = (h.done, line, behind_good good at j.0, j.1)
+        cases good (error.BadValue at) j = (h.done, line, behind_good good at j.0, j.1)
+        cases good (error.Double at) j = (h.done, line, behind_good good at j.0, j.1)
+        cases good error.Memory j = tt
+
+-- all lines are read, and all rows are in their places
+pub all_read : (format : Format) (text : List ℕ) (old new : Draft) (number : ℕ)
+    → IsReadTo format text [] old number → IsPermutation (draft_entries old) (draft_entries new)
+    → new.late.items ≡ [] → new.objects ≡ old.objects
+    → HoldsTable format (lines text) (entries new.rows) (draft_objects new)
+all_read format text old new number h moved none same =
+    let es = entries new.rows in
+    let all : lines text ≡ h.done = h.parts ∙ append-nil h.done in
+    let sorted : IsPermutation h.holds.0 es =
+    subst (λ (fs : List (List ℕ × Datum)). IsPermutation h.holds.0 fs)
+    (ap (λ rows. es ++ entries_of rows) none ∙ append-nil es)
+    (IsPermutation-trans _ _ _ h.holds.2 moved) in
+    subst (λ (ls : List (List ℕ)). HoldsTable format ls es (draft_objects new)) (sym all)
+    (subst (λ (os : List (List ℕ)). HoldsTable format h.done es os)
+    (ap (λ objects. map (λ o. o.items) objects.keys) (sym same))
+    (whole format h.done h.holds.0 es (draft_objects old) h.holds.1 sorted
+    (entries_sorted new.rows)))

@@ -1,0 +1,52 @@
+use Rattle.std.proofs.Common.{◌≡◌, ◌++◌, ◌∷◌, [], List, subst, sym, refl, ap, ◌∙◌, arith, length, rules}
+use Rattle.std.specs.FinMap.{entries}
+use Rattle.std.specs.List.Sorted.{IsPermutation}
+use Rattle.std.specs.Vec.Iter.{into_iter_items}
+use Rattle.std.proofs.lemmas.Result.{IfOk-weaker}
+use Rattle.snmp_agent.specs.declared.table.page.Page.{Page}
+use Rattle.snmp_agent.specs.table.Pages.{IsSorted, entries_in, entries_of}
+use Rattle.snmp_agent.proofs.Gathering.{entries_are, merge_begins, merge_ends, nothing_left}
+use Rattle.snmp_agent.proofs.Gathering.{page_moves}
+use Rattle.snmp_agent.proofs.table.pages.Pages.merge.Goals as goal
+
+pub loop-page-init : goal.loop-page-init
+loop-page-init c =
+    let none : c.replace-pages.new.dest.items ≡ [] = search rules in
+    let empty : entries_in c.replace-pages.new.dest.items ≡ [] = ap entries_in none in
+    let all : into_iter_items c.into_iter-page-iterator.result ≡ c.self.inside.list.items =
+    c.into_iter-page-iterator.ensures.into_iter_gives.0 ∙ search rules in (
+      merge_begins c.args.self.now _ (entries_of c.args.rows.now.items)
+          (into_iter_items c.into_iter-page-iterator.result)
+          (entries_are (entries_in c.replace-pages.new.dest.items) _ (subst IsSorted (sym empty) tt) refl
+          ∙ empty)
+          (ap entries_in all ∙ sym (entries_are (entries_in c.self.inside.list.items) c.args.self.now
+          c.self.invariant c.self.view_is)),
+      search rules,
+    )
+
+pub loop-page-preserved : goal.loop-page-preserved
+loop-page-preserved c =
+    let total = entries c.args.self.now ++ entries_of c.args.rows.now.items in
+    let at = c.loop-page in
+    let page = c.in-Some.page in
+    let steps : into_iter_items at.page-iterator ≡ page ∷ into_iter_items c.next.new.self =
+    c.in-Some.ensures.steps.0 in
+    let before = subst (λ (pages : List Page). IsPermutation total
+    (entries at.self ++ (entries_of at.rows.items ++ entries_in pages))) steps at.invariant.0 in (
+      page_moves total at.self c.merge_page.new.self at.rows.items c.merge_page.new.others.items page
+          (into_iter_items c.next.new.self) before (c.in_ok-merge_page.ensures c.if-not-branch.false),
+      let was = at.invariant.1 in
+          let gone = c.in-Some.ensures.steps.1 in
+          let short = ap length steps in
+          omega arith,
+    )
+
+pub returns : goal.returns
+returns c =
+    let total = entries c.args.self.now ++ entries_of c.args.rows.now.items in
+    let at = c.loop-page in
+    let empty : into_iter_items at.page-iterator ≡ [] = nothing_left _ (sym at.invariant.1
+    ∙ c.in-None.ensures.steps.0) in
+    IfOk-weaker c.put_all.result _ _
+    (λ apart moves is. merge_ends total _ at.self at.rows.items _ at.invariant.0 empty (moves is))
+    c.put_all.ensures
