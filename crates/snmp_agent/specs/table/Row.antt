@@ -35,9 +35,8 @@ tag_text tag.TimeTicks = codes "67"
 tag_text tag.HexOpaque = codes "68x"
 tag_text tag.Counter64 = codes "70"
 
--- values of the tag are octets or identifiers, for private clauses
+-- a value of the tag takes memory of its own when it is read, for private clauses
 abbrev pub IsTextTag : Tag → Type 0
-IsTextTag tag.OctetString = Unit {0}
 IsTextTag tag.HexOctetString = Unit {0}
 IsTextTag tag.ObjectId = Unit {0}
 IsTextTag tag.HexOpaque = Unit {0}

@@ -119,13 +119,13 @@ impl Draft {
     }
 
     /// Adds what the line of this number states. It is read into the binding that is there.
-    fn add<F: LineFormat>(
+    fn add<'a, F: LineFormat>(
         &mut self,
         alloc: Global,
         format: &F,
-        line: &[u8],
+        line: &'a [u8],
         number: usize,
-        into: &mut Binding<'_>,
+        into: &mut Binding<'a>,
     ) -> Result<(), Halt>
         ensures draft { (before : List (List ℕ)) → IsDraft (F.format format.now) before self.old
             → MatchResult result

@@ -12,7 +12,7 @@ use crate::table::change::is_instance_name;
 use crate::table::format::LineFormat;
 use crate::table::row::RowText;
 use crate::table::split::split_near;
-use crate::table::value::{Tag, read_number, read_text};
+use crate::table::value::{Tag, read_plain, read_text};
 use snmp_wire::{Binding, EncodedBinding, Oid, ValueRef};
 use std::alloc::{AllocError, Global};
 
@@ -66,13 +66,13 @@ enum Form<'a> {
     },
 }
 
-/// What a line states. Its name is read into the one that is there, and a number into the value: to
-/// move or to clear one takes as long as to read it.
-pub fn read_line<F: LineFormat>(
+/// What a line states. Its name is read into the one that is there, and a number or octets into the
+/// value: to move or to clear one takes as long as to read it.
+pub fn read_line<'a, F: LineFormat>(
     alloc: Global,
     format: &F,
-    line: &[u8],
-    into: &mut Binding<'_>,
+    line: &'a [u8],
+    into: &mut Binding<'a>,
 ) -> Result<Line, LineFault>
     ensures states { IfOk result
         (λ stated. States (F.format format.now) line.now (statement_of stated)) }
@@ -132,20 +132,20 @@ fn object<F: LineFormat>(
 }
 
 /// The instance that a line of this form states.
-fn instance<F: LineFormat>(
+fn instance<'a, F: LineFormat>(
     alloc: Global,
     format: &F,
     text: &[u8],
     tag: Tag,
-    value_text: &[u8],
-    into: &mut Binding<'_>,
+    value_text: &'a [u8],
+    into: &mut Binding<'a>,
 ) -> Result<Line, LineFault>
     ensures { IsInstanceRead (F.format format.now) text.now (tag_text tag) value_text.now result }
 {
     if !format.name(text, &mut into.name) || !is_instance_name(&into.name) {
         return Err(LineFault::Name);
     }
-    match read_number(tag, value_text, &mut into.value) {
+    match read_plain(tag, value_text, &mut into.value) {
         Some(true) => {
             let row = EncodedBinding::new(alloc, &into.name, &into.value)?;
             Ok(Line::Instance(row))

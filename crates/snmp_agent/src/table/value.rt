@@ -6,7 +6,7 @@ ghost use Rattle.hex.specs.Hex.{decode_of};
 ghost use Rattle.snmp_oid.specs.Identifier.{IsWire};
 ghost use Rattle.snmp_wire.specs.Message.{datum};
 ghost use Rattle.snmp_wire.specs.Message.Datum.{integer_value, counter32, gauge32, time_ticks};
-ghost use Rattle.snmp_wire.specs.Message.Datum.{counter64};
+ghost use Rattle.snmp_wire.specs.Message.Datum.{counter64, octet_string};
 ghost use Rattle.snmp_agent.specs.table.Exact.{IsOnly, IsOnlyThere};
 ghost use Rattle.snmp_agent.specs.table.Row.{datum_of, tag_text, IsTextTag};
 ghost use Rattle.snmp_agent.specs.table.Table.{IsTableString};
@@ -63,10 +63,11 @@ impl Tag {
 /// How many octets a string of a table has at most.
 pub const LONGEST_STRING: usize = 65535;
 
-/// Reads the number or the address that the text states into a value that is there, and returns
-/// whether it states one. None where values of the tag are neither.
-pub fn read_number(tag: Tag, text: &[u8], into: &mut ValueRef<'_>) -> Option<bool>
-    ensures number { IfSome result (λ found. (format : Format) → IsOnlyThere
+/// Reads the number, the address or the octets that the text states as they are into a value that
+/// is there, and returns whether it states one. None where values of the tag are others: they take
+/// memory.
+pub fn read_plain<'a>(tag: Tag, text: &'a [u8], into: &mut ValueRef<'a>) -> Option<bool>
+    ensures plain { IfSome result (λ found. (format : Format) → IsOnlyThere
         (IsValueText format (tag_text tag) text.now) found (datum into.new)) }
     ensures other { IfNone result (IsTextTag tag) }
 {
@@ -95,12 +96,14 @@ pub fn read_number(tag: Tag, text: &[u8], into: &mut ValueRef<'_>) -> Option<boo
             Some(number) => set_counter64(into, number),
             None => return Some(false),
         },
-        Tag::OctetString | Tag::HexOctetString | Tag::ObjectId | Tag::HexOpaque => return None,
+        Tag::OctetString if text.len() <= LONGEST_STRING => set_octets(into, text),
+        Tag::OctetString => return Some(false),
+        Tag::HexOctetString | Tag::ObjectId | Tag::HexOpaque => return None,
     }
     Some(true)
 }
 
-/// Changes a value to an INTEGER. As the next four do, it leaves what else is in a value that has
+/// Changes a value to an INTEGER. As the next five do, it leaves what else is in a value that has
 /// the type: this saves setting over 500 octets.
 #[inline(always)]
 fn set_integer(value: &mut ValueRef<'_>, number: i32)
@@ -156,6 +159,17 @@ fn set_counter64(value: &mut ValueRef<'_>, number: u64)
     }
 }
 
+/// Changes a value to an OCTET STRING.
+#[inline(always)]
+fn set_octets<'a>(value: &mut ValueRef<'a>, octets: &'a [u8])
+    ensures { datum value.new ≡ octet_string octets.now }
+{
+    match value {
+        ValueRef::Octets(place) => *place = octets,
+        _ => *value = ValueRef::Octets(octets),
+    }
+}
+
 /// The octets or the identifier that the text states, None where it states none of the tag's type.
 pub fn read_text<F: LineFormat>(
     alloc: Global,
@@ -168,7 +182,6 @@ pub fn read_text<F: LineFormat>(
         (IsValueText (F.format format.now) (tag_text tag) text.now) (option_map datum_of value)) }
 {
     match tag {
-        Tag::OctetString => Ok(string(alloc, text)?.map(RowText::Octets)),
         Tag::HexOctetString => Ok(hexadecimal(alloc, text)?.map(RowText::Octets)),
         Tag::ObjectId => Ok(object_id(alloc, format, text)?.map(RowText::ObjectId)),
         Tag::HexOpaque => Ok(hexadecimal(alloc, text)?.map(RowText::Opaque)),
@@ -246,17 +259,6 @@ fn object_id<F: LineFormat>(
         return Ok(None);
     }
     Ok(Some(Vec::from_slice(alloc, oid.as_slice())?))
-}
-
-/// The octets of the text itself.
-fn string(alloc: Global, text: &[u8]) -> Result<Option<Vec<u8>>, AllocError>
-    ensures { IfOk result (λ octets. IsOnly (λ s. (text.now ≡ s)
-        × IsTableString s) (option_map (λ v. v.items) octets)) }
-{
-    if text.len() > LONGEST_STRING {
-        return Ok(None);
-    }
-    Ok(Some(Vec::from_slice(alloc, text)?))
 }
 
 /// The octets that pairs of hexadecimal digits encode.
