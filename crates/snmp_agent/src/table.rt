@@ -7,6 +7,7 @@ mod draft;
 mod error;
 mod format;
 mod hint;
+mod late;
 mod laws;
 mod line;
 mod page;

@@ -80,25 +80,36 @@ fn changes_in_no_order_are_those_of_a_map(rt: HostRuntime) {
     }
 }
 
-/// The text of `count` rows of numbers that go up by `step`, from 0 on again at the count.
-fn text_of(alloc: Global, count: u32, step: u32) -> Result<Vec<u8>, AllocError> {
+/// The text of `count` rows of numbers that go up by `step`, from 0 on again at the count, each
+/// times itself and the factor, or as it is where that is 0.
+fn text_of(alloc: Global, count: u32, step: u32, factor: u32) -> Result<Vec<u8>, AllocError> {
     let mut text = Vec::new(alloc);
     let mut number: u32 = 0;
     for _ in 0..count {
-        let line = format!(in alloc; "1.3.6.1.4.1.32473.1.{number}.0|65|{number}\n")?;
+        let shown = spread(number, factor);
+        let line = format!(in alloc; "1.3.6.1.4.1.32473.1.{shown}.0|65|{shown}\n")?;
         text.extend_from_slice(line.as_bytes())?;
         number = number.wrapping_add(step) % count.max(1);
     }
     Ok(text)
 }
 
+/// The number times itself and the factor, or as it is where that is 0.
+fn spread(number: u32, factor: u32) -> u32 {
+    if factor == 0 {
+        return number;
+    }
+    number.wrapping_mul(number).wrapping_mul(factor)
+}
+
 /// Whether a table that is read of `count` such rows has them.
-fn is_read(alloc: Global, count: u32, step: u32) -> Option<bool> {
-    let text = text_of(alloc, count, step).ok()?;
+fn is_read(alloc: Global, count: u32, step: u32, factor: u32) -> Option<bool> {
+    let text = text_of(alloc, count, step, factor).ok()?;
     let table = Table::read(alloc, &text).ok()?;
     let mut map = BTreeMap::new(alloc);
     for number in 0..count {
-        map.insert(number, number).ok()?;
+        let shown = spread(number, factor);
+        map.insert(shown, shown).ok()?;
     }
     Some(has_rows(&table, &map))
 }
@@ -108,19 +119,24 @@ fn rows_are_read_around_the_size_of_a_page(rt: HostRuntime) {
     // A step that has no factor in common with a count comes to each number once.
     for &count in &[0, 1, 127, 128, 129, 255, 256, 257, 512, 513] {
         assert!(rt;
-            is_read(rt.alloc(), count, 1) == Some(true),
+            is_read(rt.alloc(), count, 1, 0) == Some(true),
             "{count} rows that rise"
         );
         assert!(rt;
-            is_read(rt.alloc(), count, 101) == Some(true),
+            is_read(rt.alloc(), count, 101, 0) == Some(true),
             "{count} rows in no order"
         );
     }
 }
 
-/// Counts of rows, each with a step by which most of them come before the one in front: a table of
-/// four pages gathers such rows, and puts them in place when it may have become twice as long.
-const IN_NO_ORDER: [(u32, u32); 7] = [
+/// Counts of rows, each with a step by which many of them come before the one in front. After 64
+/// such rows a table gathers them, and puts them in place when it may have become twice as long.
+const IN_NO_ORDER: [(u32, u32); 12] = [
+    (100, 61),
+    (129, 79),
+    (190, 117),
+    (191, 100),
+    (200, 123),
     (383, 239),
     (512, 317),
     (577, 357),
@@ -134,7 +150,18 @@ const IN_NO_ORDER: [(u32, u32); 7] = [
 fn rows_in_no_order_are_read_around_the_times_when_they_are_put_in_place(rt: HostRuntime) {
     for &(count, step) in &IN_NO_ORDER {
         assert!(rt;
-            is_read(rt.alloc(), count, step) == Some(true),
+            is_read(rt.alloc(), count, step, 0) == Some(true),
+            "{count} rows"
+        );
+    }
+}
+
+#[test]
+fn names_of_short_and_long_numbers_in_no_order_are_read(rt: HostRuntime) {
+    // Up to 2,999 times itself and 400, which 32 bits hold: encodings of one octet to five.
+    for &(count, step) in &[(200, 123), (1000, 619), (3000, 1853)] {
+        assert!(rt;
+            is_read(rt.alloc(), count, step, 400) == Some(true),
             "{count} rows"
         );
     }
@@ -168,8 +195,10 @@ fn fault_of(
 }
 
 /// The first and the second line of a name, in each of the times between which rows are gathered.
-const TWICE: [(u32, u32); 8] = [
+const TWICE: [(u32, u32); 10] = [
     (1, 2),
+    (1, 100),
+    (99, 100),
     (1, 600),
     (600, 601),
     (500, 1900),

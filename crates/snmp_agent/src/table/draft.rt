@@ -3,6 +3,7 @@ ghost use Rattle.std.specs.Prelude.{◌≡◌, true, false, [], List};
 
 use crate::table::error::TableError;
 use crate::table::format::LineFormat;
+use crate::table::late::{Late, sort_falling};
 use crate::table::line::{Line, LineFault, read_line};
 use crate::table::pages::Pages;
 use crate::table::split::split_line;
@@ -22,12 +23,12 @@ pub struct Draft {
     /// The rows that are in their places.
     pub rows: Pages,
     /// The rows that are gathered.
-    late: Vec<EncodedBinding>,
+    late: Vec<Late>,
     /// The object prefixes.
     pub objects: BTreeSet<Vec<u32>>,
     /// Whether each row is put in its place at once.
     exact: bool,
-    /// Whether rows in no order are gathered now.
+    /// Whether rows in no order are gathered.
     gathers: bool,
     /// How many octets of the text are read when those gathered are put in their places.
     until: usize,
@@ -196,7 +197,7 @@ impl Draft {
         if self.rows.ends_before(&row.name()) {
             return self.rows.append(alloc, row);
         }
-        match self.late.push(row) {
+        match self.late.push(Late::new(row)) {
             Ok(()) => Ok(()),
             Err(_) => Err(AllocError),
         }
@@ -212,21 +213,17 @@ impl Draft {
         ensures objects { self.new.objects ≡ self.old.objects }
         ensures exact { self.new.exact ≡ self.old.exact }
     {
-        if !self.gathers {
-            if self.rows.are_scattered() && !self.exact {
-                self.gathers = true;
-                self.until = octets.saturating_mul(2);
-            }
+        let waits = if self.gathers {
+            octets < self.until
+        } else {
+            self.exact || !self.rows.are_unordered()
+        };
+        if waits {
             return true;
         }
-        if octets < self.until {
-            return true;
-        }
-        let all = self.settle(alloc);
-        if all {
-            self.gathers = false;
-        }
-        all
+        self.gathers = true;
+        self.until = octets.saturating_mul(2);
+        self.settle(alloc)
     }
 
     /// Puts the rows that are gathered in their places. Whether all could be put: not where a name
@@ -243,7 +240,7 @@ impl Draft {
             return true;
         }
         let mut late = mem::replace(&mut self.late, Vec::new(alloc));
-        late.sort_unstable_by(|row, other| other.name().compare(&row.name()));
+        sort_falling(&mut late);
         let apart = if late.len() < self.rows.most_rows() / 8 {
             self.rows.put_all(alloc, &mut late)
         } else {

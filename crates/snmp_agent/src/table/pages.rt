@@ -12,6 +12,7 @@ ghost use Rattle.snmp_agent.specs.table.Pages.{entries_of};
 ghost use Rattle.snmp_agent.specs.table.Halving.{StandsBetween};
 
 use crate::table::hint::{Guess, Hint};
+use crate::table::late::Late;
 use crate::table::page::{PAGE_ROWS, Page};
 use crate::table::search::{
     begins_up_to, ends_before, find_row, page_near, page_of, place_after, place_near, row_at,
@@ -27,31 +28,12 @@ use std::mem;
 #[derive(Drop)]
 pub struct Pages {
     list: Vec<Page>,
-    /// In which order rows were put among others.
-    order: PutOrder,
+    /// How many rows were put among others. Nothing but time depends on it.
+    among: u32,
 }
 
-/// In which pages rows were put among others, of which 64 in turn are a sample. Nothing but time
-/// depends on it.
-#[derive(Drop)]
-struct PutOrder {
-    /// How many rows of the sample were put.
-    rows: u32,
-    /// Their pages: a bit for each place, modulo 64.
-    pages: u64,
-    /// How many samples in turn came to many pages.
-    scattered: u32,
-}
-
-/// How many rows a sample has.
-const SAMPLE: u32 = 64;
-
-/// To how many pages the rows of a sample come mostly that are in no order; those of up to 40
-/// columns in turn come to fewer.
-const MANY_PAGES: u32 = 36;
-
-/// After how many such samples in turn the rows are taken to be in no order.
-const MANY_SAMPLES: u32 = 4;
+/// From how many rows on that were put among others the rows are taken to be in no order.
+const MANY_AMONG: u32 = 64;
 
 impl Model for Pages {
     ghost use Rattle.std.specs.Coded.{codes};
@@ -86,11 +68,7 @@ impl Pages {
     {
         Pages {
             list: Vec::new(alloc),
-            order: PutOrder {
-                rows: 0,
-                pages: 0,
-                scattered: 0,
-            },
+            among: 0,
         }
     }
 
@@ -212,15 +190,15 @@ impl Pages {
             return Ok(false);
         }
         let place = page_with_room(&mut self.list, &name)?;
-        self.order.note(place);
+        self.among = self.among.saturating_add(1);
         let replaced = self.list[place].put(row)?;
         Ok(replaced)
     }
 
-    /// Whether the last rows that were put among others came to many pages, as those in no order do.
+    /// Whether many rows were put among others, as those in no order are.
     #[inline]
-    pub fn are_scattered(&self) -> bool {
-        self.order.scattered >= MANY_SAMPLES
+    pub fn are_unordered(&self) -> bool {
+        self.among >= MANY_AMONG
     }
 
     /// How many rows there are at most.
@@ -249,16 +227,12 @@ impl Pages {
 
     /// Puts each of the rows in its place, from the last one on, and returns whether none has the
     /// name of another. Where one has, or memory runs out, some are lost.
-    pub fn put_all(
-        &mut self,
-        alloc: Global,
-        rows: &mut Vec<EncodedBinding>,
-    ) -> Result<bool, AllocError>
+    pub fn put_all(&mut self, alloc: Global, rows: &mut Vec<Late>) -> Result<bool, AllocError>
         ensures { IfOk result (λ apart. IsTrue apart
             → IsPermutation (entries self.old ++ entries_of rows.old.items) (entries self.new)) }
     {
-        'rows: while let Some(row) = rows.pop() {
-            if self.put(alloc, row)? {
+        'rows: while let Some(late) = rows.pop() {
+            if self.put(alloc, late.into_row())? {
                 return Ok(false);
             }
         }
@@ -267,11 +241,7 @@ impl Pages {
 
     /// The same, by one pass over all rows, those that were there too. It pays where the rows are
     /// many, if their names fall.
-    pub fn merge(
-        &mut self,
-        alloc: Global,
-        rows: &mut Vec<EncodedBinding>,
-    ) -> Result<bool, AllocError>
+    pub fn merge(&mut self, alloc: Global, rows: &mut Vec<Late>) -> Result<bool, AllocError>
         ensures { IfOk result (λ apart. IsTrue apart
             → IsPermutation (entries self.old ++ entries_of rows.old.items) (entries self.new)) }
     {
@@ -290,7 +260,7 @@ impl Pages {
         &mut self,
         alloc: Global,
         page: Page,
-        others: &mut Vec<EncodedBinding>,
+        others: &mut Vec<Late>,
     ) -> Result<bool, AllocError>
         ensures { IfOk result (λ apart. IsTrue apart → IsPermutation
             (entries self.old ++ (entries_of others.old.items ++ entries_of page.rows.items))
@@ -311,20 +281,20 @@ impl Pages {
         &mut self,
         alloc: Global,
         name: &EncodedName<'_>,
-        rows: &mut Vec<EncodedBinding>,
+        rows: &mut Vec<Late>,
     ) -> Result<bool, AllocError>
         ensures { IfOk result (λ apart. IsTrue apart
             → IsPermutation (entries self.old ++ entries_of rows.old.items)
             (entries self.new ++ entries_of rows.new.items)) }
     {
-        'rows: while let Some(row) = rows.last() {
-            if !row.name().compare(name).is_lt() {
+        'rows: while let Some(late) = rows.last() {
+            if !late.row().name().compare(name).is_lt() {
                 break;
             }
-            let Some(row) = rows.pop() else {
+            let Some(late) = rows.pop() else {
                 break;
             };
-            if self.put(alloc, row)? {
+            if self.put(alloc, late.into_row())? {
                 return Ok(false);
             }
         }
@@ -346,24 +316,6 @@ impl Pages {
                 true
             }
             Err(_) => false,
-        }
-    }
-}
-
-impl PutOrder {
-    /// A row was put in the page at this place.
-    #[inline]
-    fn note(&mut self, page: usize) {
-        self.pages |= 1 << (page % 64);
-        self.rows = self.rows.saturating_add(1);
-        if self.rows >= SAMPLE {
-            self.scattered = if self.pages.count_ones() >= MANY_PAGES {
-                self.scattered.saturating_add(1)
-            } else {
-                0
-            };
-            self.rows = 0;
-            self.pages = 0;
         }
     }
 }

@@ -11,11 +11,11 @@ use Rattle.snmp_agent.proofs.table.draft.Draft.settle.Goals.{then-len-most_rows,
 pub returns-in-Ok-clause-moved : goal.returns-in-Ok-clause-moved
 returns-in-Ok-clause-moved c =
     let old = c.args.self.now in
-    let sorted = c.sort_unstable_by.new.self.items in
+    let sorted = c.sort_falling.new.rows.items in
     let gathered : c.replace-late.result.items ≡ old.late.items = search rules in
     let none : c.replace-late.new.dest.items ≡ [] = search rules in
     let order : IsPermutation old.late.items sorted =
-    subst (λ (rows : List VarBind). IsPermutation rows sorted) gathered (search rules) in
+    subst (λ (rows : List VarBind). IsPermutation rows sorted) gathered c.sort_falling.ensures in
     let moves : IfOk c.if-len-most_rows.apart (λ apart. IsTrue apart
     → IsPermutation (draft_entries old) (draft_entries c.if-len-most_rows.self)) =
     elim c.if-len-most_rows.branch [

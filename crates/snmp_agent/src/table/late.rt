@@ -1,0 +1,154 @@
+//! Rows that are gathered, with what they are sorted by.
+ghost use Rattle.std.specs.Prelude.{◌≡◌};
+ghost use Rattle.std.specs.List.Sorted.{IsPermutation};
+
+use snmp_wire::EncodedBinding;
+use std::cmp::Ordering;
+use std::marker::Model;
+
+/// The bit of each octet that tells that its subidentifier goes on.
+const GOES_ON: u128 = 0x8080_8080_8080_8080_8080_8080_8080_8080;
+
+/// A row that is gathered. Nothing but time depends on its key.
+#[derive(Drop)]
+pub struct Late {
+    /// What tells the order of most rows, without a look at their names.
+    key: u128,
+    row: EncodedBinding,
+}
+
+impl Model for Late {
+    ghost use Rattle.snmp_wire.specs.Message.{VarBind};
+
+    ghost Value = { VarBind };
+
+    ghost view = { λ late. late.row };
+}
+
+impl Late {
+    ghost use Rattle.std.specs.Prelude.{◌≡◌};
+
+    /// A row without its key.
+    #[inline]
+    pub fn new(row: EncodedBinding) -> Late
+        ensures { result ≡ row }
+    {
+        Late { key: 0, row }
+    }
+
+    /// The row.
+    #[inline]
+    pub fn row(&self) -> &EncodedBinding
+        ensures { result.now ≡ self.now }
+    {
+        &self.row
+    }
+
+    /// The row alone.
+    #[inline]
+    pub fn into_row(self) -> EncodedBinding
+        ensures { result ≡ self }
+    {
+        self.row
+    }
+
+    /// Sets the key of a row whose name is the same as those of the others in as many octets.
+    #[inline]
+    fn set_key(&mut self, alike: usize)
+        ensures { self.new ≡ self.old }
+    {
+        self.key = sort_key(self.row.name().content(), alike);
+    }
+
+    /// How two rows compare: by their keys, and where these are the same, by their names.
+    #[inline]
+    fn compare(&self, other: &Late) -> Ordering {
+        match self.key.cmp(&other.key) {
+            Ordering::Equal => self.row.name().compare(&other.row.name()),
+            ordering => ordering,
+        }
+    }
+}
+
+/// Sorts rows by their names, so that these fall: mostly by keys, as to compare names takes longer.
+pub fn sort_falling(rows: &mut Vec<Late>)
+    ensures { IsPermutation rows.old.items rows.new.items }
+{
+    let alike = octets_alike(rows.as_slice());
+    set_keys(rows.as_mut_slice(), alike);
+    rows.sort_unstable_by(|late, other| other.compare(late));
+}
+
+/// How many octets at the front are the same in the names of all rows.
+fn octets_alike(rows: &[Late]) -> usize {
+    let Some(first) = rows.first() else {
+        return 0;
+    };
+    let mut alike = first.row.name().content();
+    'rows: for late in rows {
+        let content = late.row.name().content();
+        'octets: while !content.starts_with(alike) {
+            let Some((_, front)) = alike.split_last() else {
+                return 0;
+            };
+            alike = front;
+        }
+    }
+    alike.len()
+}
+
+/// Sets the keys of rows whose names are the same in as many octets.
+fn set_keys(rows: &mut [Late], alike: usize)
+    ensures { rows.new ≡ rows.old }
+{
+    'rows: for late in rows.iter_mut() {
+        late.set_key(alike);
+    }
+}
+
+/// What tells the order of names that are the same up to a place: the next 16 octets.
+#[inline]
+fn sort_key(content: &[u8], alike: usize) -> u128 {
+    let (_, octets) = content.split_at(alike.min(content.len()));
+    let (front, _) = octets.split_at(octets.len().min(16));
+    let mut few = [0; 16];
+    few[..front.len()].copy_from_slice(front);
+    let key = u128::from_be_bytes(few);
+    let goes_on = key & GOES_ON;
+    if goes_on & (goes_on << 8) == 0 {
+        return key;
+    }
+    long_key(octets)
+}
+
+/// The same where a subidentifier has three octets or more. As the longer is the greater, their
+/// number stands before them, behind an octet that no shorter one has before its last.
+#[inline(never)]
+fn long_key(octets: &[u8]) -> u128 {
+    let mut key = [0; 16];
+    let mut at = 0;
+    let mut begins = true;
+    'octets: for (place, octet) in octets.iter().enumerate() {
+        if begins {
+            let (_, number) = octets.split_at(place);
+            let before_last = number.iter().position(|octet| *octet < 0x80).unwrap_or(0);
+            if before_last >= 2 {
+                at = put_octet(&mut key, at, 0xff);
+                at = put_octet(&mut key, at, 0x80 | before_last.min(0x7f) as u8);
+            }
+        }
+        at = put_octet(&mut key, at, *octet);
+        begins = *octet < 0x80;
+    }
+    u128::from_be_bytes(key)
+}
+
+/// Puts an octet at a place, if there is room, and returns the place behind it.
+#[inline]
+fn put_octet(key: &mut [u8; 16], at: usize, octet: u8) -> usize {
+    let Some(place) = key.get_mut(at) else {
+        return at;
+    };
+    *place = octet;
+    at + 1
+}
