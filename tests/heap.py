@@ -84,6 +84,9 @@ calls("Value::from_ref", "values",
       message(RESPONSE, 1, [((1, 3, 6), text(b"wes")), ((1, 3, 7), element(0x44, b"\1\2"))]), b"",
       ".1.3.6\n.1.3.7\n")
 calls("Table::read", "table", TABLE, ASKED, shown(ROWS))
+LINES = TABLE.splitlines(keepends=True)
+calls("Table::read in no order", "table", b"".join(LINES[i * 121 % len(LINES)] for i in range(len(LINES))), ASKED,
+      shown(ROWS))
 calls("Table::put", "put", TABLE, ASKED, shown({**ROWS, E + (1, 5, 0): text(b"sextet")}))
 calls("Table::put in place of a value", "put", TABLE + b".1.3.6.1.4.1.32473.1.5.0|2|1", ASKED,
       shown({**ROWS, E + (1, 5, 0): text(b"sextet")}))

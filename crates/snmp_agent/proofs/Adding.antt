@@ -16,7 +16,7 @@ use Rattle.snmp_agent.specs.declared.table.error.TableError.{TableError}
 use Rattle.snmp_agent.specs.declared.table.error.TableError.TheVariants as error
 use Rattle.snmp_agent.specs.table.Stated.{IsBehindGood, IsFirstFaultIn}
 use Rattle.snmp_agent.specs.table.Draft.{AreDistinct, HaltsBy, HoldsLines, HoldsTable}
-use Rattle.snmp_agent.specs.table.Draft.{IsDraft, IsFaultBehind, IsFirstHalt, IsHalt}
+use Rattle.snmp_agent.specs.table.Draft.{IsDraft, IsFaultBehind, IsFirstHalt, IsFull, IsHalt}
 use Rattle.snmp_agent.specs.table.Draft.{IsHaltAt, IsStop, draft_entries}
 use Rattle.snmp_agent.specs.table.Draft.{draft_objects}
 use Rattle.snmp_agent.specs.table.Form.{States, instance}
@@ -40,6 +40,10 @@ halts_weaker : (P Q : TableError → Type 0) (exact : Bool)
 halts_weaker P Q exact f (halt.Fault fault) k = f fault k
 halts_weaker P Q exact f halt.Memory k = tt
 halts_weaker P Q exact f halt.Again k = k
+
+-- no fault: memory ran out
+pub full : (P : TableError → Type 0) (exact : Bool) (e : Halt) → IsFull exact e → HaltsBy P exact e
+full P exact = halts_weaker (λ _. ⊥) P exact (λ fault none. absurd none)
 
 module _ (format : Format) (before : List (List ℕ)) (line : List ℕ) (number : ℕ) (old : Draft)
     (h : IsDraft format before old) where

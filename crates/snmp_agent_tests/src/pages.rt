@@ -80,8 +80,8 @@ fn changes_in_no_order_are_those_of_a_map(rt: HostRuntime) {
     }
 }
 
-/// The text of `count` rows of numbers that go up by `step`, from 0 on again at the count, each
-/// times itself and the factor, or as it is where that is 0.
+/// The text of `count` rows of numbers that go up by `step`, from 0 on again at the count, spread by
+/// the factor.
 fn text_of(alloc: Global, count: u32, step: u32, factor: u32) -> Result<Vec<u8>, AllocError> {
     let mut text = Vec::new(alloc);
     let mut number: u32 = 0;

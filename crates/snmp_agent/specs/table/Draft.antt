@@ -77,6 +77,10 @@ HaltsBy P exact (halt.Fault fault) = P fault
 HaltsBy P exact halt.Memory = Unit {0}
 HaltsBy P exact halt.Again = exact ≡ false
 
+-- memory ran out
+abbrev pub IsFull : (exact : Bool) → Halt → Type 0
+IsFull exact = HaltsBy (λ _. ⊥) exact
+
 -- this fault behind these entries, of which no two have one name
 abbrev pub IsStop : List (List ℕ × Datum) → (exact : Bool) → TableError → Halt → Type 0
 IsStop es exact wrong = HaltsBy (λ fault. (fault ≡ wrong) × AreDistinct es) exact

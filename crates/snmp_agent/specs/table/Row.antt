@@ -35,9 +35,9 @@ tag_text tag.TimeTicks = codes "67"
 tag_text tag.HexOpaque = codes "68x"
 tag_text tag.Counter64 = codes "70"
 
--- a value of the tag takes memory of its own when it is read, for private clauses
-abbrev pub IsTextTag : Tag → Type 0
-IsTextTag tag.HexOctetString = Unit {0}
-IsTextTag tag.ObjectId = Unit {0}
-IsTextTag tag.HexOpaque = Unit {0}
-IsTextTag _ = ⊥
+-- values of the tag take memory of their own when they are read, for private clauses
+abbrev pub TakesMemory : Tag → Type 0
+TakesMemory tag.HexOctetString = Unit {0}
+TakesMemory tag.ObjectId = Unit {0}
+TakesMemory tag.HexOpaque = Unit {0}
+TakesMemory _ = ⊥

@@ -68,7 +68,7 @@ impl Draft {
     ghost use Rattle.std.specs.Str.Lines.{lines};
     ghost use Rattle.snmp_agent.specs.table.Format.{Format};
     ghost use Rattle.snmp_agent.specs.table.Places.{entry_of};
-    ghost use Rattle.snmp_agent.specs.table.Draft.{HoldsTable, IsDraft, IsFirstHalt, IsHalt};
+    ghost use Rattle.snmp_agent.specs.table.Draft.{HoldsTable, IsDraft, IsFirstHalt, IsFull, IsHalt};
     ghost use Rattle.snmp_agent.specs.table.Draft.{IsHaltAt, IsStop, draft_entries};
     ghost use Rattle.snmp_agent.specs.table.Draft.{draft_objects};
 
@@ -139,13 +139,24 @@ impl Draft {
             Ok(Line::Nothing) => Ok(()),
             Ok(Line::Object(object)) => match self.objects.insert(object) {
                 Ok(_) => Ok(()),
-                Err(_) => Err(Halt::Memory),
+                Err(_) => Err(self.full()),
             },
             Ok(Line::Instance(row)) => self.put(alloc, row, number),
             Err(LineFault::Line) => Err(self.stop(alloc, TableError::BadLine { line: number })),
             Err(LineFault::Name) => Err(self.stop(alloc, TableError::BadName { line: number })),
             Err(LineFault::Value) => Err(self.stop(alloc, TableError::BadValue { line: number })),
-            Err(LineFault::Memory) => Err(Halt::Memory),
+            Err(LineFault::Memory) => Err(self.full()),
+        }
+    }
+
+    /// Why the reading stops where memory runs out, which rows that are gathered may have taken.
+    fn full(&self) -> Halt
+        ensures { IsFull self.now.exact result }
+    {
+        if self.late.is_empty() {
+            Halt::Memory
+        } else {
+            Halt::Again
         }
     }
 

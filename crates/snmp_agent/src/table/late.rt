@@ -6,6 +6,9 @@ use snmp_wire::EncodedBinding;
 use std::cmp::Ordering;
 use std::marker::Model;
 
+/// How many octets a key has.
+const KEY_SIZE: usize = 16;
+
 /// The bit of each octet that tells that its subidentifier goes on.
 const GOES_ON: u128 = 0x8080_8080_8080_8080_8080_8080_8080_8080;
 
@@ -106,29 +109,34 @@ fn set_keys(rows: &mut [Late], alike: usize)
     }
 }
 
-/// What tells the order of names that are the same up to a place: the next 16 octets.
+/// What tells the order of names that are the same up to a place: the next 16 octets, but that of a
+/// subidentifier of three octets or more its size comes first.
 #[inline]
 fn sort_key(content: &[u8], alike: usize) -> u128 {
     let (_, octets) = content.split_at(alike.min(content.len()));
-    let (front, _) = octets.split_at(octets.len().min(16));
-    let mut few = [0; 16];
+    let (front, _) = octets.split_at(octets.len().min(KEY_SIZE));
+    let mut few = [0; KEY_SIZE];
     few[..front.len()].copy_from_slice(front);
     let key = u128::from_be_bytes(few);
     let goes_on = key & GOES_ON;
-    if goes_on & (goes_on << 8) == 0 {
+    // The last octet may begin a long one.
+    if goes_on & (goes_on << 8 | 0x80) == 0 {
         return key;
     }
     long_key(octets)
 }
 
-/// The same where a subidentifier has three octets or more. As the longer is the greater, their
-/// number stands before them, behind an octet that no shorter one has before its last.
+/// The same where there may be such a subidentifier. As the longer is the greater, its size comes
+/// first, as an octet of at least 0x80 behind one of 0xff: no shorter one begins with more.
 #[inline(never)]
 fn long_key(octets: &[u8]) -> u128 {
-    let mut key = [0; 16];
+    let mut key = [0; KEY_SIZE];
     let mut at = 0;
     let mut begins = true;
     'octets: for (place, octet) in octets.iter().enumerate() {
+        if at == KEY_SIZE {
+            break;
+        }
         if begins {
             let (_, number) = octets.split_at(place);
             let before_last = number.iter().position(|octet| *octet < 0x80).unwrap_or(0);
@@ -145,7 +153,7 @@ fn long_key(octets: &[u8]) -> u128 {
 
 /// Puts an octet at a place, if there is room, and returns the place behind it.
 #[inline]
-fn put_octet(key: &mut [u8; 16], at: usize, octet: u8) -> usize {
+fn put_octet(key: &mut [u8; KEY_SIZE], at: usize, octet: u8) -> usize {
     let Some(place) = key.get_mut(at) else {
         return at;
     };

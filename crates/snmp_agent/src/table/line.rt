@@ -12,7 +12,7 @@ use crate::table::change::is_instance_name;
 use crate::table::format::LineFormat;
 use crate::table::row::RowText;
 use crate::table::split::split_near;
-use crate::table::value::{Tag, read_plain, read_text};
+use crate::table::value::{Tag, read_kept, read_plain};
 use snmp_wire::{Binding, EncodedBinding, Oid, ValueRef};
 use std::alloc::{AllocError, Global};
 
@@ -66,8 +66,8 @@ enum Form<'a> {
     },
 }
 
-/// What a line states. Its name is read into the one that is there, and a number or octets into the
-/// value: to move or to clear one takes as long as to read it.
+/// What a line states. Its name is read into the one that is there, and a number or the text itself
+/// into the value: to move or to clear one takes as long as to read it.
 pub fn read_line<'a, F: LineFormat>(
     alloc: Global,
     format: &F,
@@ -152,7 +152,7 @@ fn instance<'a, F: LineFormat>(
         }
         Some(false) => Err(LineFault::Value),
         None => {
-            let Some(stated) = read_text(alloc, format, tag, value_text)? else {
+            let Some(stated) = read_kept(alloc, format, tag, value_text)? else {
                 return Err(LineFault::Value);
             };
             let row = encoded_text(alloc, &into.name, &stated)?;
@@ -162,7 +162,7 @@ fn instance<'a, F: LineFormat>(
 }
 
 /// The row of this name and value.
-// Not inlined: a number would have to clear the value.
+// Not inlined: all other rows would have to clear the value.
 #[inline(never)]
 fn encoded_text(alloc: Global, name: &Oid, stated: &RowText) -> Result<EncodedBinding, AllocError>
     requires name { IsInRange (object_id name.now) }

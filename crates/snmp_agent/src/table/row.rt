@@ -1,4 +1,4 @@
-//! What the rows of a table's text state that isn't a number.
+//! Values of a table's text that take memory of their own when they are read.
 ghost use Rattle.std.specs.Prelude.{◌≡◌, ◌≤◌, length};
 ghost use Rattle.snmp_wire.specs.Message.{datum, object_id};
 

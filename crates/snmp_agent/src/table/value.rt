@@ -8,7 +8,7 @@ ghost use Rattle.snmp_wire.specs.Message.{datum};
 ghost use Rattle.snmp_wire.specs.Message.Datum.{integer_value, counter32, gauge32, time_ticks};
 ghost use Rattle.snmp_wire.specs.Message.Datum.{counter64, octet_string};
 ghost use Rattle.snmp_agent.specs.table.Exact.{IsOnly, IsOnlyThere};
-ghost use Rattle.snmp_agent.specs.table.Row.{datum_of, tag_text, IsTextTag};
+ghost use Rattle.snmp_agent.specs.table.Row.{datum_of, tag_text, TakesMemory};
 ghost use Rattle.snmp_agent.specs.table.Table.{IsTableString};
 ghost use Rattle.snmp_agent.specs.table.Format.{Format, IsNameIn};
 ghost use Rattle.snmp_agent.specs.table.Text.{IsDecimal, IsSignedDecimal, IsAddressText};
@@ -69,7 +69,7 @@ pub const LONGEST_STRING: usize = 65535;
 pub fn read_plain<'a>(tag: Tag, text: &'a [u8], into: &mut ValueRef<'a>) -> Option<bool>
     ensures plain { IfSome result (λ found. (format : Format) → IsOnlyThere
         (IsValueText format (tag_text tag) text.now) found (datum into.new)) }
-    ensures other { IfNone result (IsTextTag tag) }
+    ensures other { IfNone result (TakesMemory tag) }
 {
     match tag {
         Tag::Integer => match signed(text) {
@@ -171,13 +171,13 @@ fn set_octets<'a>(value: &mut ValueRef<'a>, octets: &'a [u8])
 }
 
 /// The octets or the identifier that the text states, None where it states none of the tag's type.
-pub fn read_text<F: LineFormat>(
+pub fn read_kept<F: LineFormat>(
     alloc: Global,
     format: &F,
     tag: Tag,
     text: &[u8],
 ) -> Result<Option<RowText>, AllocError>
-    requires { IsTextTag tag }
+    requires { TakesMemory tag }
     ensures { IfOk result (λ value. IsOnly
         (IsValueText (F.format format.now) (tag_text tag) text.now) (option_map datum_of value)) }
 {

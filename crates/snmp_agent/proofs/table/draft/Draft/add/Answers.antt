@@ -4,7 +4,7 @@ use Rattle.std.specs.Ordering.{nat_cmp, eq_by_cmp}
 use Rattle.std.specs.Cmp.Lexicographic.{slice_cmp}
 use Rattle.snmp_agent.specs.table.Form.{States, nothing, object_prefix, instance}
 use Rattle.snmp_agent.specs.table.Draft.{draft_objects}
-use Rattle.snmp_agent.proofs.Adding.{either, row_added, row_halted, stopped}
+use Rattle.snmp_agent.proofs.Adding.{either, full, row_added, row_halted, stopped}
 use Rattle.snmp_agent.proofs.OneStatement.{states_only}
 use Rattle.snmp_agent.proofs.TableDrafts.{holds_nothing, holds_object, list_any-insert}
 use Rattle.snmp_agent.proofs.table.draft.Draft.add.Goals as goal
@@ -32,7 +32,7 @@ returns-after-insert-clause-draft g c = λ before h.
             w.in-Ok.ensures.keys ∙ list_any-insert o c.args.self.now.objects.keys object),
         h.2,
       )
-      | in-Err w ↦ rw w.result-is tt
+      | in-Err w ↦ rw w.result-is (full _ c.args.self.now.exact w.full.result w.full.ensures)
     ]
 
 pub returns-in-Ok-Instance-clause-draft : goal.returns-in-Ok-Instance-clause-draft
@@ -63,3 +63,8 @@ pub returns-in-Err-Value-clause-draft : goal.returns-in-Err-Value-clause-draft
 returns-in-Err-Value-clause-draft g c = λ before h.
     stopped (g.F.LineFormat.format c.args.format.now) before c.args.line.now c.args.number
     c.args.self.now h _ (refl, search rules) c.stop-in-Err-Value.result c.stop-in-Err-Value.ensures.halt
+
+pub returns-in-Err-Memory-clause-draft : goal.returns-in-Err-Memory-clause-draft
+returns-in-Err-Memory-clause-draft g c = λ before h.
+    full _ c.args.self.now.exact c.full-in-Err-Memory.result
+    c.full-in-Err-Memory.ensures
