@@ -110,19 +110,22 @@ fn read_three<'a>(text: &'a [u8], oid: &mut Oid) -> Option<&'a [u8]>
     ensures three { IfSome result (λ rest. AreDigitsRead 3 text.now rest.now oid.old oid.new) }
     ensures unchanged_on_none { IfNone result (oid.new ≡ oid.old) }
 {
+    // First, so that a name that is too long isn't looked at twice.
+    if oid.len() > 125 {
+        return None;
+    }
     match text {
         [a, b'.', b, b'.', c, b'.', rest @ ..]
-            if a.is_ascii_digit() && b.is_ascii_digit() && c.is_ascii_digit() && oid.len() <= 125 =>
-            {
-                // All are read before the first is written, so that none is read again.
-                let first = u32::from(*a - b'0');
-                let second = u32::from(*b - b'0');
-                let third = u32::from(*c - b'0');
-                oid.push_with_room(first);
-                oid.push_with_room(second);
-                oid.push_with_room(third);
-                Some(rest)
-            }
+            if a.is_ascii_digit() && b.is_ascii_digit() && c.is_ascii_digit() => {
+            // All are read before the first is written, so that none is read again.
+            let first = u32::from(*a - b'0');
+            let second = u32::from(*b - b'0');
+            let third = u32::from(*c - b'0');
+            oid.push_with_room(first);
+            oid.push_with_room(second);
+            oid.push_with_room(third);
+            Some(rest)
+        }
         _ => None,
     }
 }

@@ -53,6 +53,6 @@ returns-in-46-clause-three c =
     (cc (c.is_ascii_digit-then-is_ascii_digit.ensures.value, c.if-is_ascii_digit-2.true))
     (cc (c.is_ascii_digit-then-is_ascii_digit-2.ensures.value, c.if-is_ascii_digit-3.true))
     c.from-first.ensures c.from-second.ensures c.from-third.ensures
-    (omega (arith, c.len.ensures.value, c.if-len-le125.true))
+    (omega (arith, c.len.ensures.value, c.if-len-gt125.false))
     (pushed c.args.oid.now _ _ _ c.from-first.result c.from-second.result c.from-third.result
     c.push_with_room.ensures c.push_with_room-in-46.ensures c.push_with_room-in-46-2.ensures))
