@@ -1,7 +1,7 @@
 -- Gaps: blank octets and comments, and where none begins.
-use Rattle.std.proofs.Common.{◌≡◌, ℕ, zero, suc, ◌+◌, ◌<◌, ◌≤◌, ◌⊎◌, Bool, true, false, cond, ◌&&◌}
+use Rattle.std.proofs.Common.{◌≡◌, ℕ, zero, suc, ◌+◌, ◌<◌, ◌≤◌, ◌⊎◌, Bool, true, false, cond, ◌&&◌, ◌||◌}
 use Rattle.std.proofs.Common.{Some, List, [], ◌∷◌, length, get_or, take, drop, refl}
-use Rattle.std.proofs.Common.{sym, ap, ◌∙◌, subst, inl, inr, ⊎_elim, arith, eqb, eq-eqb, ◌-◌}
+use Rattle.std.proofs.Common.{sym, ap, ◌∙◌, subst, inl, inr, ⊎_elim, arith, eqb, ◌-◌}
 use Rattle.std.proofs.Common.{add-zero}
 use Rattle.std.specs.List.{list_all}
 use Rattle.std.specs.Bool.{then_some}
@@ -23,7 +23,7 @@ use Rattle.smi_text.specs.lexer.Reading.{HasNoGap, IsLongestPassing, IsPartFront
 use Rattle.smi_text.specs.lexer.Reading.{hyphen_part, is_comment_rest, is_string_rest}
 use Rattle.smi_text.specs.lexer.Reading.{is_literal_rest, is_hex_letter, is_binary_letter}
 use Rattle.smi_text.specs.lexer.Reading.{is_nothing, is_remark_rest, is_sole, literal_part}
-use Rattle.smi_text.specs.lexer.Reading.{IsRunBetween, is_space, newlines}
+use Rattle.smi_text.specs.lexer.Reading.{ArePassedBetween, is_space_or_tab, newlines}
 use Rattle.smi_text.specs.lexer.Reading.{part_in, part_of, symbol_part, symbol_among, symbols}
 use Rattle.smi_text.proofs.Classes.{class_is}
 use Rattle.smi_text.proofs.LexerFronts.{and_true, rest_at, rest_of_two}
@@ -65,15 +65,23 @@ skips_blank text n lines here blank skips =
     (n + 1) text) blank))
     (ap (λ s. newlines (take 1 s)) rest) skips
 
-skips_space : (text : List ℕ) (n lines : ℕ) → n < length text → is_space (get_or text n 0) ≡ true
+-- a space or a tab ends no line, and is blank
+ends_no_line : (c : ℕ) → is_space_or_tab c ≡ true → (newlines (c ∷ []) ≡ 0) × (is_blank c ≡ true)
+ends_no_line c is = by_space (eqb c 32) refl is
+  where
+    by_space : (b : Bool) → eqb c 32 ≡ b → (b || eqb c 9) ≡ true → (newlines (c ∷ []) ≡ 0) × (is_blank c ≡ true)
+    by_space true space h = (ap (λ d. newlines (d ∷ [])) (eqb-true c 32 space), ap is_blank (eqb-true c 32 space))
+    by_space false other h = (ap (λ d. newlines (d ∷ [])) (eqb-true c 9 h), ap is_blank (eqb-true c 9 h))
+
+skips_space : (text : List ℕ) (n lines : ℕ) → n < length text → is_space_or_tab (get_or text n 0) ≡ true
     → Skips text n lines → Skips text (n + 1) lines
 skips_space text n lines here is skips =
-    let space = eqb-true (get_or text n 0) 32 is in
+    let plain = ends_no_line (get_or text n 0) is in
     subst (Skips text (n + 1)) (add-zero lines)
-    (subst (λ m. Skips text (n + 1) (lines + m)) (ap (λ d. newlines (d ∷ [])) space) (skips_blank text n lines here (ap is_blank space) skips))
+    (subst (λ m. Skips text (n + 1) (lines + m)) plain.0 (skips_blank text n lines here plain.1 skips))
 
 pub skips_spaces : (d : ℕ) (text : List ℕ) (n lines : ℕ) → n + d ≤ length text
-    → ((k : ℕ) → n ≤ k → k < n + d → is_space (get_or text k 0) ≡ true)
+    → ((k : ℕ) → n ≤ k → k < n + d → is_space_or_tab (get_or text k 0) ≡ true)
     → Skips text n lines → Skips text (n + d) lines
 skips_spaces zero text n lines within all skips = subst (λ m. Skips text m lines) (sym (add-zero n)) skips
 skips_spaces (suc d) text n lines within all skips =
@@ -82,8 +90,8 @@ skips_spaces (suc d) text n lines within all skips =
     (skips_spaces d text (n + 1) lines (omega arith) (λ k from to. all k (omega arith) (omega arith))
     (skips_space text n lines (omega arith) (all n (omega arith) (omega arith)) skips))
 
--- a space, and the run of spaces behind it
-pub skips_run : (text : List ℕ) (n to lines : ℕ) → n < length text → get_or text n 0 ≡ 32 → IsRunBetween is_space text (n + 1) to
+-- a space, and the spaces and tabs behind it
+pub skips_run : (text : List ℕ) (n to lines : ℕ) → n < length text → get_or text n 0 ≡ 32 → ArePassedBetween is_space_or_tab text (n + 1) to
     → Skips text n lines → Skips text to lines
 skips_run text n to lines here space run skips =
     let ordered : n + 1 ≤ to = run.ordered in
@@ -91,7 +99,7 @@ skips_run text n to lines here space run skips =
     let place : (n + 1) + (to - (n + 1)) ≡ to = omega arith in
     subst (λ m. Skips text m lines) place
     (skips_spaces (to - (n + 1)) text (n + 1) lines (omega arith) (λ k from below. run.passes k from (omega arith))
-    (skips_space text n lines here (eq-eqb (get_or text n 0) 32 space) skips))
+    (skips_space text n lines here (ap is_space_or_tab space) skips))
 
 -- ---- comments
 

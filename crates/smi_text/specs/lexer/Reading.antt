@@ -295,8 +295,8 @@ IsRemarkEnd [] = Unit {0}
 IsRemarkEnd (c ∷ []) = c ≡ 10
 IsRemarkEnd (c ∷ d ∷ cs) = (c ≡ 10) ⊎ ((c ≡ 45) × (d ≡ 45))
 
-abbrev pub is_space : ℕ → Bool
-is_space c = c == 32
+abbrev pub is_space_or_tab : ℕ → Bool
+is_space_or_tab c = c == 32 || c == 9
 
 -- the place of the lowest bit that is set in the mask of a load, or 16, the octets of a load
 abbrev pub first_set : ℕ → ℕ
@@ -308,7 +308,13 @@ pub record IsRunIn (test : ℕ → Bool) (text : List ℕ) (at run : ℕ) : Type
   pub passes : (k : ℕ) → at ≤ k → k < at + run → test (get_or text k 0) ≡ true
   pub stops : run < 16 → test (get_or text (at + run) 0) ≡ false
 
--- the octets from one place up to the other pass the test, and the one there fails
+-- the octets from one place up to the other pass the test
+pub record ArePassedBetween (test : ℕ → Bool) (text : List ℕ) (from to : ℕ) : Type 0 where
+  pub ordered : from ≤ to
+  pub within : to ≤ length text
+  pub passes : (k : ℕ) → from ≤ k → k < to → test (get_or text k 0) ≡ true
+
+-- the same, and the one there fails
 pub record IsRunBetween (test : ℕ → Bool) (text : List ℕ) (from to : ℕ) : Type 0 where
   pub ordered : from ≤ to
   pub within : to ≤ length text

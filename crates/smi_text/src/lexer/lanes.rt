@@ -1,7 +1,7 @@
 //! How many octets of one load, from the first, pass a test.
 ghost use Rattle.std.specs.Prelude.{◌≡◌, ◌+◌, ◌≤◌, length};
 ghost use Rattle.smi_text.specs.lexer.Lexeme.{is_word_octet};
-ghost use Rattle.smi_text.specs.lexer.Reading.{IsRunIn, first_set, is_space};
+ghost use Rattle.smi_text.specs.lexer.Reading.{IsRunIn, first_set, is_space_or_tab};
 
 use std::simd::prelude::*;
 
@@ -36,12 +36,13 @@ pub fn word_run(text: &[u8], at: usize) -> usize
     first_set(stops.to_bitmask())
 }
 
-/// How many spaces stand from a place on.
+/// How many spaces and tabs stand from a place on.
 #[inline(always)]
-pub fn space_run(text: &[u8], at: usize) -> usize
+pub fn blank_run(text: &[u8], at: usize) -> usize
     requires { at + LANES ≤ length text.now }
-    ensures { IsRunIn is_space text.now at result }
+    ensures { IsRunIn is_space_or_tab text.now at result }
 {
     let octets = u8x16::from_slice(&text[at..]);
-    first_set(octets.simd_ne(u8x16::splat(b' ')).to_bitmask())
+    let stops = octets.simd_ne(u8x16::splat(b' ')) & octets.simd_ne(u8x16::splat(b'\t'));
+    first_set(stops.to_bitmask())
 }

@@ -7,7 +7,7 @@ ghost use Rattle.smi_text.specs.lexer.Lexeme.{IsLexeme, lexeme, is_binary_digit,
 ghost use Rattle.smi_text.specs.lexer.Lexeme.{is_hyphen};
 ghost use Rattle.smi_text.specs.lexer.Lexeme.{is_open_string, is_word_octet, is_word_rest};
 ghost use Rattle.smi_text.specs.lexer.Reading.{GoesOn, HasNoGap, IsFirstPlace, IsLexemeFront};
-ghost use Rattle.smi_text.specs.lexer.Reading.{IsRunBetween, is_space};
+ghost use Rattle.smi_text.specs.lexer.Reading.{ArePassedBetween, IsRunBetween, is_space_or_tab};
 ghost use Rattle.smi_text.specs.lexer.Reading.{IsLongestPassing, IsPartFront, IsRemarkEnd, Skips};
 ghost use Rattle.smi_text.specs.lexer.Reading.{is_comment_rest, is_remark_rest, hyphen_part};
 ghost use Rattle.smi_text.specs.lexer.Reading.{literal_of};
@@ -16,7 +16,7 @@ ghost use Rattle.smi_text.specs.lexer.Reading.{string_part};
 ghost use Rattle.smi_text.specs.lexer.Reading.{symbol_part};
 
 use crate::lexer::class::{Class, class_of_octet};
-use crate::lexer::lanes::{LANES, space_run, word_run};
+use crate::lexer::lanes::{LANES, blank_run, word_run};
 use crate::lexer::token::TokenKind;
 use memchr::{memchr, memchr_iter};
 
@@ -59,10 +59,27 @@ fn word_rest_len(text: &[u8]) -> usize
     ensures { IsLongestPassing is_word_rest text.now result }
 {
     let mut n = word_run_end(text, 0);
-    'parts: while n + 1 < text.len() && text[n] == b'-' && is_word_octet(text[n + 1]) {
-        n = word_run_end(text, n + 2);
+    'parts: while n < text.len() && text[n] == b'-' {
+        let end = part_end(text, n + 1);
+        if end == n + 1 {
+            break;
+        }
+        n = end;
     }
     n
+}
+
+/// Where the run of octets of a word that follows a hyphen ends.
+#[inline(always)]
+fn part_end(text: &[u8], from: usize) -> usize
+    requires { from ≤ length text.now }
+    ensures { IsRunBetween is_word_octet text.now from result }
+{
+    // A load takes twice as long as one octet before the next hyphen.
+    if from + 1 < text.len() && text[from + 1] == b'-' && is_word_octet(text[from]) {
+        return from + 1;
+    }
+    word_run_end(text, from)
 }
 
 /// How many digits stand at the front.
@@ -217,10 +234,10 @@ pub fn lexeme_at(text: &[u8]) -> Option<(TokenKind, usize)>
     Some((kind, len + 1))
 }
 
-/// Where the run of spaces that begins at a place ends.
-fn spaces_end(text: &[u8], from: usize) -> usize
+/// Where spaces and tabs from a place on end, or sooner.
+fn blanks_end(text: &[u8], from: usize) -> usize
     requires { from ≤ length text.now }
-    ensures { IsRunBetween is_space text.now from result }
+    ensures { ArePassedBetween is_space_or_tab text.now from result }
 {
     // After a space mostly a lexeme stands, and after a newline more spaces.
     if from < text.len() && text[from] != b' ' {
@@ -228,14 +245,11 @@ fn spaces_end(text: &[u8], from: usize) -> usize
     }
     let mut n = from;
     'loads: while text.len() - n >= LANES {
-        let run = space_run(text, n);
+        let run = blank_run(text, n);
         n += run;
         if run < LANES {
             return n;
         }
-    }
-    'octets: while n < text.len() && text[n] == b' ' {
-        n += 1;
     }
     n
 }
@@ -252,7 +266,7 @@ pub fn gaps_at(text: &[u8]) -> (usize, usize)
     'gaps: while n < text.len() {
         // Most octets of gaps are spaces.
         if text[n] == b' ' {
-            n = spaces_end(text, n + 1);
+            n = blanks_end(text, n + 1);
         } else if text[n] == b'\n' {
             lines += 1;
             n += 1;

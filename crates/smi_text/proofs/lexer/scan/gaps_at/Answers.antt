@@ -13,11 +13,11 @@ use Rattle.smi_text.proofs.lexer.scan.gaps_at.Goals.{else-text-n-eq45-via-else-t
 
 pub gaps-preserved-then-text-n-eq32 : goal.gaps-preserved-then-text-n-eq32
 gaps-preserved-then-text-n-eq32 c =
-    let run = c.spaces_end-n.ensures in
+    let run = c.blanks_end-n.ensures in
     record {
       within = run.within;
       lines = omega (arith, run.ordered);
-      skips = skips_run c.args.text.now c.gaps.n c.spaces_end-n.result c.gaps.lines c.gaps-test.true c.if-text-n-eq32.true run c.gaps.invariant.skips;
+      skips = skips_run c.args.text.now c.gaps.n c.blanks_end-n.result c.gaps.lines c.gaps-test.true c.if-text-n-eq32.true run c.gaps.invariant.skips;
     }
 
 pub gaps-preserved-then-text-n-eq10 : goal.gaps-preserved-then-text-n-eq10
