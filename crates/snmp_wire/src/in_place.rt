@@ -2,8 +2,8 @@
 
 use std::fmt;
 
-/// How many octets stand in place at most: as many as most rows of a device have. With what else
-/// [`Octets`] has they fill a line of the processor's cache.
+/// How many octets stand in place at most: most rows of a device have no more. [`Octets`] takes 64
+/// octets with them.
 pub const IN_PLACE: usize = 39;
 
 /// The size that says that octets stand elsewhere: any above [`IN_PLACE`].

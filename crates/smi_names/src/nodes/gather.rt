@@ -203,7 +203,9 @@ impl Gathered {
         })
     }
 
-    /// Gives back room that is more than the nodes take, as modules of one name leave.
+    /// Gives back the room that is left where the nodes take less than half of it. There was some
+    /// for each identifier that is kept, and these bring no node: the roots as each module names
+    /// them, and the definitions of a module whose name an earlier one has.
     fn trim(&mut self)
         ensures sources { self.new.sources.items ≡ self.old.sources.items }
         ensures oids { self.new.oids.items ≡ self.old.oids.items }
