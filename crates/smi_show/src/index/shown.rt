@@ -90,7 +90,17 @@ fn is_shown_by_values(parts: &[IndexPart], numbers: &[u32]) -> bool
         OnFalse result (as_numbers numbers.now ≡ pieces) }
 {
     // Where no part may be shown as a text, nothing has to be read.
-    !are_plain(parts) && reads_some_text(parts, numbers)
+    !are_few_and_plain(parts, numbers.len()) && reads_some_text(parts, numbers)
+}
+
+/// Whether an index has at most this many parts, and all are shown as numbers, whatever their
+/// values.
+fn are_few_and_plain(parts: &[IndexPart], most: usize) -> bool
+    ensures few { OnTrue result (length parts.now ≤ most) }
+    ensures plain { OnTrue result (list_all is_plain parts.now ≡ true) }
+{
+    // Reading ends with the numbers of a name, 128 at most: no more parts than that are looked at.
+    parts.len() <= most && are_plain(parts)
 }
 
 /// Whether all parts of an index are shown as numbers, whatever their values.
