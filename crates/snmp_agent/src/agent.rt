@@ -13,7 +13,7 @@ ghost use Rattle.snmp_agent.specs.Answering.{IsResponseTooLong, whole_status, wh
 use crate::bulk::append_bulk;
 use crate::config::{Config, Outcome, Why};
 use crate::draft::{Draft, append_answers, room_for_bindings};
-use crate::table::{Hint, Table, one_answer};
+use crate::table::{Guesses, Hint, Last, Table, one_answer};
 use snmp_wire::{
     Kind, MAX_DATAGRAM, MessageRef, Parts, decode, encode_head, head_size, message_sizes, pieces,
     seal,
@@ -47,7 +47,9 @@ pub fn answer(
     ensures dropped { (why : Why) → result ≡ Outcome.Dropped why
         → IsDropped (agent_of table.now config.now) request.now why }
 {
-    answer_near(table, config, request, out, &mut Hint::default())
+    let mut last = Last::default();
+    let mut hint = Guesses::without_names(&mut last);
+    answer_by(table, config, request, out, &mut hint)
 }
 
 /// [`answer`] for an agent that is asked in turn. It finds a name without a search where the hint
@@ -60,6 +62,23 @@ pub fn answer_near(
     request: &[u8],
     out: &mut [u8; MAX_DATAGRAM],
     hint: &mut Hint,
+) -> Outcome
+    ensures reply { (n : ℕ) → result ≡ Outcome.Reply n
+        → IsReply (agent_of table.now config.now) request.now (take n out.new) }
+    ensures length { (n : ℕ) → result ≡ Outcome.Reply n → n ≤ config.now.max_size }
+    ensures dropped { (why : Why) → result ≡ Outcome.Dropped why
+        → IsDropped (agent_of table.now config.now) request.now why }
+{
+    answer_by(table, config, request, out, &mut hint.lend())
+}
+
+/// The same, by a hint that is lent for the request.
+fn answer_by(
+    table: &Table,
+    config: &Config<'_>,
+    request: &[u8],
+    out: &mut [u8; MAX_DATAGRAM],
+    hint: &mut Guesses<'_>,
 ) -> Outcome
     ensures reply { (n : ℕ) → result ≡ Outcome.Reply n
         → IsReply (agent_of table.now config.now) request.now (take n out.new) }
@@ -106,7 +125,7 @@ fn reply(
     config: &Config<'_>,
     request: &MessageRef<'_>,
     out: &mut [u8; MAX_DATAGRAM],
-    hint: &mut Hint,
+    hint: &mut Guesses<'_>,
 ) -> Option<usize>
     requires served { IsServed request.now.kind }
     requires community { length request.now.community ≤ 255 }
@@ -127,7 +146,7 @@ fn bulk_reply<'a>(
     config: &Config<'_>,
     request: &MessageRef<'a>,
     out: &mut [u8; MAX_DATAGRAM],
-    hint: &mut Hint,
+    hint: &mut Guesses<'_>,
 ) -> Option<usize>
     requires bulk { request.now.kind ≡ kind.GetBulkRequest }
     requires community { length request.now.community ≤ 255 }
@@ -157,7 +176,7 @@ fn paired_reply(
     config: &Config<'_>,
     request: &MessageRef<'_>,
     out: &mut [u8; MAX_DATAGRAM],
-    hint: &mut Hint,
+    hint: &mut Guesses<'_>,
 ) -> Option<usize>
     requires paired { IsPaired request.now.kind }
     requires community { length request.now.community ≤ 255 }

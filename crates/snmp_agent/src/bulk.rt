@@ -14,7 +14,7 @@ ghost use Rattle.snmp_agent.specs.Standing.{AreMoved, next_at};
 
 use crate::draft::{Draft, append_next, blank};
 use crate::place::Place;
-use crate::table::{Hint, Table, one_answer};
+use crate::table::{Guesses, Table, one_answer};
 use arrayvec::ArrayVec;
 use snmp_oid::order;
 use snmp_wire::{BindingRef, Bindings, MAX_DATAGRAM, MessageRef, ValueRef};
@@ -37,7 +37,7 @@ pub fn append_bulk<'a>(
     request: &MessageRef<'a>,
     draft: Draft,
     out: &mut [u8; MAX_DATAGRAM],
-    hint: &mut Hint,
+    hint: &mut Guesses<'_>,
 ) -> usize
     requires { AreWritable request.now.bindings }
     ensures { (all : List VarBind) × IsBulk table.now request.now all
@@ -74,7 +74,7 @@ fn append_singles<'a>(
     bindings: &mut Bindings<'a>,
     draft: Draft,
     out: &mut [u8; MAX_DATAGRAM],
-    hint: &mut Hint,
+    hint: &mut Guesses<'_>,
 ) -> Progress
     requires { AreWritable bindings.old }
     ensures progress { IsProgress (AreGiven table.now 0 (take count bindings.old))
@@ -107,7 +107,7 @@ fn append_repeaters<'a>(
     bindings: Bindings<'a>,
     draft: Draft,
     out: &mut [u8; MAX_DATAGRAM],
-    hint: &mut Hint,
+    hint: &mut Guesses<'_>,
 ) -> usize
     requires { AreWritable bindings }
     ensures { (rounds : List (List VarBind))
@@ -129,7 +129,7 @@ fn append_column<'a>(
     asked: BindingRef<'a>,
     draft: Draft,
     out: &mut [u8; MAX_DATAGRAM],
-    hint: &mut Hint,
+    hint: &mut Guesses<'_>,
 ) -> usize
     requires { IsWire asked.name }
     ensures { (rounds : List (List VarBind))
@@ -140,7 +140,7 @@ fn append_column<'a>(
     order();
     table.is_mib_view();
     let mut total = draft.total;
-    let mut place = Place::new(table, asked.name(), hint);
+    let mut place = Place::of_walk(table, asked.name(), hint);
     'rounds: for _ in 0..repetitions {
         let is_last = place.is_at_end();
         let left = place.left();
@@ -171,7 +171,7 @@ fn append_columns<'a>(
     bindings: Bindings<'a>,
     draft: Draft,
     out: &mut [u8; MAX_DATAGRAM],
-    hint: &mut Hint,
+    hint: &mut Guesses<'_>,
 ) -> usize
     requires { AreWritable bindings }
     ensures { (rounds : List (List VarBind))
@@ -196,7 +196,7 @@ fn keep_places<'a>(
     table: &'a Table,
     bindings: &mut Bindings<'a>,
     places: &mut ArrayVec<Place<'a>, MAX_PLACES>,
-    hint: &mut Hint,
+    hint: &mut Guesses<'_>,
 )
     requires writable { AreWritable bindings.old }
     requires none { places.old.items ≡ [] }

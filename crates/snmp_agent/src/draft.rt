@@ -14,7 +14,7 @@ ghost use Rattle.snmp_agent.specs.table.Table.{IsGet, IsNext};
 
 use crate::config::Config;
 use crate::place::{Given, append_end};
-use crate::table::{Hint, Table, one_answer};
+use crate::table::{Guesses, Table, one_answer};
 use snmp_oid::order;
 use snmp_wire::{
     Binding, BindingRef, Bindings, EncodedBinding, EncodedName, Kind, MAX_DATAGRAM, Oid, Parts,
@@ -31,7 +31,7 @@ pub fn append_answers<'a>(
     parts: &Parts<'_>,
     config: &Config<'_>,
     out: &mut [u8; MAX_DATAGRAM],
-    hint: &mut Hint,
+    hint: &mut Guesses<'_>,
 ) -> Option<usize>
     requires paired { IsPaired kind }
     requires writable { AreWritable bindings }
@@ -74,7 +74,7 @@ fn append_answer(
     asked: &BindingRef<'_>,
     draft: Draft,
     out: &mut [u8; MAX_DATAGRAM],
-    hint: &mut Hint,
+    hint: &mut Guesses<'_>,
 ) -> Option<usize>
     requires paired { IsPaired kind }
     requires writable { IsWritable asked.now }
@@ -96,7 +96,7 @@ fn append_get(
     asked: &BindingRef<'_>,
     draft: Draft,
     out: &mut [u8; MAX_DATAGRAM],
-    hint: &mut Hint,
+    hint: &mut Guesses<'_>,
 ) -> Option<usize>
     requires { IsWritable asked.now }
     ensures written { IfSome result (λ n. (p : VarBind) × IsGet table.now asked.now.name p
@@ -140,7 +140,7 @@ pub fn append_next(
     asked: &BindingRef<'_>,
     draft: Draft,
     out: &mut [u8; MAX_DATAGRAM],
-    hint: &mut Hint,
+    hint: &mut Guesses<'_>,
 ) -> Option<usize>
     requires { IsWritable asked.now }
     ensures written { IfSome result (λ n. (p : VarBind) × IsNext table.now asked.now.name p
@@ -151,7 +151,7 @@ pub fn append_next(
 {
     order();
     let name = asked.name();
-    let mut rows = table.after_near(&name, hint);
+    let mut rows = table.after_last(&name, hint);
     match rows.next_row() {
         Some(row) => {
             hint.keep_last(rows.left());

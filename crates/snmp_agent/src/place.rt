@@ -6,7 +6,7 @@ ghost use Rattle.snmp_agent.specs.Answering.{IsAppended, IsTooLong};
 ghost use Rattle.snmp_agent.specs.Standing.{name_of};
 
 use crate::draft::{Draft, blank};
-use crate::table::{Hint, Successors, Table};
+use crate::table::{Guesses, Successors, Table};
 use snmp_wire::{EncodedBinding, EncodedName, MAX_DATAGRAM, ValueRef};
 use std::marker::Model;
 
@@ -59,11 +59,23 @@ impl<'a> Place<'a> {
     ghost use Rattle.snmp_agent.specs.table.Pages.{AreBehind};
 
     /// The place of a name that a request asks from.
-    pub fn new(table: &'a Table, name: EncodedName<'a>, hint: &mut Hint) -> Place<'a>
+    pub fn new(table: &'a Table, name: EncodedName<'a>, hint: &mut Guesses<'_>) -> Place<'a>
         ensures name { result.name ≡ name.entry }
         ensures behind { AreBehind table.now name.entry result.rows }
     {
         let rows = table.after_near(&name, hint);
+        Place {
+            given: Given::Asked(name),
+            rows,
+        }
+    }
+
+    /// The same for the name of a walk, which mostly asks from the row that was given last.
+    pub fn of_walk(table: &'a Table, name: EncodedName<'a>, hint: &mut Guesses<'_>) -> Place<'a>
+        ensures name { result.name ≡ name.entry }
+        ensures behind { AreBehind table.now name.entry result.rows }
+    {
+        let rows = table.after_last(&name, hint);
         Place {
             given: Given::Asked(name),
             rows,

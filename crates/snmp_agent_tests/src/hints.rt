@@ -2,7 +2,7 @@
 
 use crate::bulk::numbers_to;
 use snmp_agent::{Config, Hint, Outcome, Table, answer, answer_near};
-use snmp_wire::Oid;
+use snmp_wire::{EncodedName, Kind, MAX_CONTENT, Oid, Parts, encode_asking, seal};
 use std::alloc::{AllocError, Global};
 use std::process::Abort;
 
@@ -194,6 +194,126 @@ fn more_names_than_a_hint_keeps_have_the_same_replies(rt: HostRuntime) {
                 .wrapping_add(round.wrapping_mul(2));
             let name = Oid::from_slice(&[1, 3, 6, 1, 4, 1, 1, last]).expect(&rt, "a name");
             let _ = table.remove(&name);
+        }
+    }
+}
+
+/// How many columns and rows the table of [`routes`] has.
+const COLUMNS: u32 = 6;
+
+const ROUTES: u32 = 90;
+
+/// The name of the row of this place, from 0 on, in a table of routes, whose index has many numbers.
+/// Its rows differ within a name alone.
+fn route(place: u32) -> Option<Oid> {
+    let column = place / ROUTES % COLUMNS + 1;
+    let row = place % ROUTES;
+    Oid::from_slice(&[
+        1, 3, 6, 1, 2, 1, 4, 24, 7, 1, column, 2, 16, 253, 0, 170, 187, 204, row, 0, 0, 0, 0, 0, 0,
+        0, 0, 0, 0, 64, 2, 0, 0, 1, 4, 10, 1, 1, 1,
+    ])
+    .ok()
+}
+
+/// The text of that table.
+fn routes(alloc: Global) -> Result<Vec<u8>, AllocError> {
+    let mut text = Vec::new(alloc);
+    for column in 1..=COLUMNS {
+        for row in 0..ROUTES {
+            let line = format!(in alloc;
+                "1.3.6.1.2.1.4.24.7.1.{column}.2.16.253.0.170.187.204.{row}\
+.0.0.0.0.0.0.0.0.0.0.64.2.0.0.1.4.10.1.1.1|65|{row}\n"
+            )?;
+            text.extend_from_slice(line.as_bytes())?;
+        }
+    }
+    Ok(text)
+}
+
+/// Writes a request for the names of `count` rows of that table, `step` places apart, and returns
+/// its length.
+fn asking(
+    kind: Kind,
+    repetitions: i32,
+    place: u32,
+    step: u32,
+    count: u32,
+    out: &mut [u8; 65507],
+) -> usize {
+    let mut total: usize = 0;
+    for i in 0..count {
+        if let Some(name) = route(place.wrapping_add(step.wrapping_mul(i))) {
+            total = total.saturating_add(written(&name, total, out));
+        }
+    }
+    let parts = Parts {
+        version: 1,
+        community: b"public",
+        kind,
+        id: 1,
+        a: 0,
+        b: repetitions,
+        bindings: &[],
+    };
+    if total > 65507 {
+        return 0;
+    }
+    seal(&parts, 0, total, out).unwrap_or(0)
+}
+
+/// Writes the binding that asks for a name from a place on, and returns how many octets it takes.
+fn written(name: &Oid, from: usize, out: &mut [u8; 65507]) -> usize {
+    let mut content = [0; MAX_CONTENT];
+    if !name.is_wire() {
+        return 0;
+    }
+    match out.get_mut(from..) {
+        Some(room) => encode_asking(&EncodedName::write(name, &mut content), room).unwrap_or(0),
+        None => 0,
+    }
+}
+
+#[test]
+fn columns_of_rows_with_a_long_index_have_the_same_replies(rt: HostRuntime) {
+    let text = routes(rt.alloc()).expect(&rt, "memory for rows");
+    let table = Table::read(rt.alloc(), &text).expect(&rt, "a table");
+    let mut hint = Hint::default();
+    let mut request = [0; 65507];
+    // All columns of one row after the other, again and again; and past the last column.
+    for round in 0..3 {
+        for row in 0..ROUTES {
+            for &kind in &[Kind::GetRequest, Kind::GetNextRequest, Kind::GetBulkRequest] {
+                let size = asking(kind, 3, row, ROUTES, COLUMNS, &mut request);
+                assert!(rt;
+                    is_same(&table, request.get(..size).unwrap_or(&[]), &mut hint),
+                    "{row} in {round}"
+                );
+            }
+        }
+    }
+}
+
+#[test]
+fn walks_in_turn_have_the_same_replies(rt: HostRuntime) {
+    let text = routes(rt.alloc()).expect(&rt, "memory for rows");
+    let table = Table::read(rt.alloc(), &text).expect(&rt, "a table");
+    let mut hint = Hint::default();
+    let mut request = [0; 65507];
+    // Two by GetNext, two by GetBulk of one column, one by GetBulk of two, and Gets between them.
+    for step in 0..ROUTES * COLUMNS {
+        for &(kind, repetitions, place, count) in &[
+            (Kind::GetNextRequest, 0, step, 1),
+            (Kind::GetBulkRequest, 5, step.wrapping_mul(5), 1),
+            (Kind::GetNextRequest, 0, step.wrapping_add(200), 1),
+            (Kind::GetBulkRequest, 7, step.wrapping_mul(7), 1),
+            (Kind::GetBulkRequest, 2, step.wrapping_mul(2), 2),
+            (Kind::GetRequest, 0, step.wrapping_mul(3), 2),
+        ] {
+            let size = asking(kind, repetitions, place, ROUTES, count, &mut request);
+            assert!(rt;
+                is_same(&table, request.get(..size).unwrap_or(&[]), &mut hint),
+                "{place} in {step}"
+            );
         }
     }
 }

@@ -1,36 +1,87 @@
 //! Where names stood among the rows of a table, as guesses for whoever asks in turn.
 
-ghost use Rattle.std.specs.Prelude.{◌+◌, ◌<◌};
-
 use snmp_wire::EncodedName;
 use std::fmt;
 
-/// How many names a hint keeps at most: two for each value of the high nine bits of a mark.
-const NAMES: usize = 1024;
+/// How many pairs of names a hint keeps: one for each value of the high nine bits of a mark.
+const PAIRS: usize = 512;
 
 /// Where names stood of which an agent was asked, as guesses: whoever asks in turn mostly asks from
 /// the row that was given last, or for the names that were asked for before.
 #[derive(Clone, Copy)]
 pub struct Hint {
-    /// How many rows of its page come after the row that was given last.
-    pub(crate) rows: usize,
+    last: Last,
+    /// Where names stood. A number has from the high bits on: in 16 bits the place of the page,
+    /// counted from 1, or 0 for no name or a place that is greater; in 8 bits how many rows of that
+    /// page have the name or one before it; and the low 8 bits of the mark. The first of a pair was
+    /// kept after the second, and the names of a pair have other low bits.
+    kept: [[u32; 2]; PAIRS],
+}
+
+/// Where the row stands that was given last.
+#[derive(Clone, Copy)]
+pub(crate) struct Last {
+    /// How many rows of its page come after it.
+    rows: usize,
     /// How many pages come after that.
-    pub(crate) pages: usize,
-    /// Where names stood, two for each value of the high nine bits of their marks, the later one
-    /// first: from the high bits on the place of the page, counted from 1 in 16 bits, or 0 for no
-    /// name; how many rows of that page had the name or one before it, as far as 8 bits hold that;
-    /// and the 8 other bits of the mark.
-    kept: [u32; NAMES],
+    pages: usize,
 }
 
 // The row that was given last alone.
 impl fmt::Debug for Hint {
     fn fmt<W: fmt::Write>(&self, f: &mut fmt::Formatter<W>) -> fmt::Result {
         f.debug_struct("Hint")
-            .field("rows", &self.rows)
-            .field("pages", &self.pages)
+            .field("rows", &self.last.rows)
+            .field("pages", &self.last.pages)
             .finish()
     }
+}
+
+impl Default for Hint {
+    ghost use Rattle.std.specs.Prelude.{⊤};
+
+    ghost is_default = { λ _. ⊤ };
+
+    fn default() -> Hint {
+        Hint {
+            last: Last::default(),
+            kept: [[0; 2]; PAIRS],
+        }
+    }
+}
+
+impl Default for Last {
+    ghost use Rattle.std.specs.Prelude.{⊤};
+
+    ghost is_default = { λ _. ⊤ };
+
+    // No row: no table has as many pages.
+    fn default() -> Last {
+        Last {
+            rows: 0,
+            pages: usize::MAX,
+        }
+    }
+}
+
+impl Hint {
+    /// The hint, for a request.
+    #[inline]
+    pub(crate) fn lend(&mut self) -> Guesses<'_> {
+        let Hint { last, kept } = self;
+        Guesses {
+            last,
+            kept: &mut kept[..],
+        }
+    }
+}
+
+/// A hint, while a request is replied to.
+#[derive(Drop)]
+pub(crate) struct Guesses<'h> {
+    last: &'h mut Last,
+    /// The names of [`Hint`], or none where no request follows.
+    kept: &'h mut [[u32; 2]],
 }
 
 /// A guess of where a name stands.
@@ -44,86 +95,148 @@ pub(crate) struct Guess {
     pub(crate) row: usize,
 }
 
-impl Default for Hint {
-    ghost use Rattle.std.specs.Prelude.{⊤};
-
-    ghost is_default = { λ _. ⊤ };
-
-    // The hint of no row: no table has as many pages.
-    fn default() -> Hint {
-        Hint {
-            rows: 0,
-            pages: usize::MAX,
-            kept: [0; NAMES],
+impl<'h> Guesses<'h> {
+    /// A hint for a request that no other follows: to keep names for the next would only cost.
+    #[inline]
+    pub(crate) fn without_names(last: &'h mut Last) -> Guesses<'h> {
+        Guesses {
+            last,
+            kept: &mut [],
         }
     }
-}
 
-impl Hint {
+    /// How many rows of its page come after the row that was given last, and how many pages after
+    /// that.
+    #[inline]
+    pub(crate) fn last(&self) -> (usize, usize) {
+        (self.last.rows, self.last.pages)
+    }
+
     /// Keeps the row before which so many rows of its page, and so many pages, are left.
     #[inline]
     pub(crate) fn keep_last(&mut self, left: (usize, usize)) {
-        self.rows = left.0;
-        self.pages = left.1;
+        self.last.rows = left.0;
+        self.last.pages = left.1;
     }
 
     /// A guess of where a name stands.
     #[inline]
     pub(crate) fn guess(&self, name: &EncodedName<'_>) -> Guess {
-        let mark = mark_of(name.content());
-        let at = place_of(mark);
-        let later = self.kept[at];
-        let earlier = self.kept[at + 1];
-        let kept = if later % 256 == mark % 256 {
-            later
-        } else if earlier % 256 == mark % 256 {
-            earlier
-        } else {
-            0
-        };
-        Guess {
-            mark,
-            page: ((kept >> 16) as usize).wrapping_sub(1),
-            row: (kept >> 8) as usize % 256,
+        if self.kept.is_empty() {
+            return Guess::of(0, 0);
         }
+        let mark = mark_of(name.content());
+        let kept = match self.kept.get(place_of(mark)) {
+            Some(&[later, earlier]) => {
+                if later % 256 == mark % 256 {
+                    later
+                } else if earlier % 256 == mark % 256 {
+                    earlier
+                } else {
+                    0
+                }
+            }
+            None => 0,
+        };
+        Guess::of(mark, kept)
     }
 
     /// Keeps where a name stands: the place of its page, and how many rows of that have the name or
     /// one before it.
     #[inline]
     pub(crate) fn keep(&mut self, guess: Guess, page: usize, row: usize) {
-        let at = place_of(guess.mark);
-        let later = self.kept[at];
+        let Some(pair) = self.kept.get_mut(place_of(guess.mark)) else {
+            return;
+        };
+        let later = pair[0];
         if later % 256 != guess.mark % 256 {
-            self.kept[at + 1] = later;
+            pair[1] = later;
         }
         let page = u32::from(u16::try_from(page.wrapping_add(1)).unwrap_or(0));
         let row = u32::from(u8::try_from(row).unwrap_or(0));
-        self.kept[at] = page << 16 | row << 8 | guess.mark % 256;
+        pair[0] = page << 16 | row << 8 | guess.mark % 256;
+    }
+
+    /// The same of the name of the row that was given last. Walks that are made in turn each find
+    /// their row by its name, where another row was given since.
+    #[inline]
+    pub(crate) fn keep_passed(&mut self, name: &EncodedName<'_>, page: usize, row: usize) {
+        if !self.kept.is_empty() {
+            self.keep(Guess::of(mark_of(name.content()), 0), page, row);
+        }
     }
 }
 
-/// The place of the later of the two names that are kept for the high bits of a mark.
-#[inline]
-fn place_of(mark: u32) -> usize
-    ensures { result + 1 < 1024 }
-{
-    (mark >> 8) as usize % (NAMES / 2) * 2
+impl Guess {
+    /// The guess of a mark, by what is kept for it.
+    #[inline]
+    fn of(mark: u32, kept: u32) -> Guess {
+        Guess {
+            mark,
+            page: ((kept >> 16) as usize).wrapping_sub(1),
+            row: (kept >> 8) as usize % 256,
+        }
+    }
 }
 
-/// A number below 131,072, from the last sixteen octets of a name, in which names that one manager
-/// asks for mostly differ; 0 of fewer than eight octets.
+/// The place of the pair of names that is kept for the high bits of a mark.
+#[inline]
+fn place_of(mark: u32) -> usize {
+    (mark >> 8) as usize % PAIRS
+}
+
+/// A number below 131,072, by which names are told apart. It is made of the last sixteen octets, in
+/// which rows mostly differ, and of the second, third and fourth eight of a longer name, where the
+/// column of a row with a long index stands. Two names of one mark cost comparisons, and no more.
 #[inline]
 fn mark_of(content: &[u8]) -> u32 {
     let (front, last) = last_word(content);
     let (_, before) = last_word(front);
-    let mixed = last
-        .wrapping_mul(0x9e37_79b9_7f4a_7c15)
-        .wrapping_add(before.wrapping_mul(0xc2b2_ae3d_27d4_eb4f));
+    let mixed = mix(mix(middle_of(front), before), last);
     (mixed >> 47) as u32
 }
 
-/// The last eight octets as a number, with what stands before them; all of fewer octets as 0.
+/// The second, third and fourth eight octets as one number, as far as there are such. Without the
+/// first eight, which are the same in most names.
+#[inline]
+fn middle_of(octets: &[u8]) -> u64 {
+    let [_, _, _, _, _, _, _, _, rest @ ..] = octets else {
+        return 0;
+    };
+    let Some((second, rest)) = first_word(rest) else {
+        return 0;
+    };
+    let Some((third, rest)) = first_word(rest) else {
+        return mix(0, second);
+    };
+    match first_word(rest) {
+        Some((fourth, _)) => mix(mix(mix(0, fourth), third), second),
+        None => mix(mix(0, third), second),
+    }
+}
+
+/// A number with another mixed in, so that its high bits depend on all bits of both.
+#[inline]
+fn mix(number: u64, other: u64) -> u64 {
+    number
+        .wrapping_add(other)
+        .wrapping_mul(0x9e37_79b9_7f4a_7c15)
+}
+
+/// The first eight octets as a number, and those after them.
+#[inline]
+fn first_word(octets: &[u8]) -> Option<(u64, &[u8])> {
+    match octets {
+        [a, b, c, d, e, f, g, h, rest @ ..] => Some((
+            u64::from_be_bytes([*a, *b, *c, *d, *e, *f, *g, *h]),
+            rest,
+        )),
+        _ => None,
+    }
+}
+
+/// The last eight octets as a number, with what stands before them. Of fewer octets the first four
+/// and the last four, and all of fewer than four as 0.
 #[inline]
 fn last_word(octets: &[u8]) -> (&[u8], u64) {
     match octets {
@@ -131,6 +244,18 @@ fn last_word(octets: &[u8]) -> (&[u8], u64) {
             front,
             u64::from_be_bytes([*a, *b, *c, *d, *e, *f, *g, *h]),
         ),
-        _ => (&[], 0),
+        _ => (&[], few_octets(octets)),
+    }
+}
+
+/// The first four octets and the last four as one number; fewer than four as 0.
+#[inline]
+fn few_octets(octets: &[u8]) -> u64 {
+    let [a, b, c, d, ..] = octets else {
+        return 0;
+    };
+    match octets {
+        [.., e, f, g, h] => u64::from_be_bytes([*a, *b, *c, *d, *e, *f, *g, *h]),
+        _ => 0,
     }
 }

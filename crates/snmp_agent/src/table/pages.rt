@@ -11,7 +11,7 @@ ghost use Rattle.snmp_agent.specs.table.Pages.{IsRowIn, IsWithoutRow, StandsApar
 ghost use Rattle.snmp_agent.specs.table.Pages.{entries_of};
 ghost use Rattle.snmp_agent.specs.table.Halving.{StandsBetween};
 
-use crate::table::hint::{Guess, Hint};
+use crate::table::hint::{Guess, Guesses};
 use crate::table::late::Late;
 use crate::table::page::{PAGE_ROWS, Page};
 use crate::table::search::{
@@ -86,7 +86,11 @@ impl Pages {
 
     /// The same. Nothing is searched where the hint is right; else it is told where the name
     /// stands.
-    pub fn find_near(&self, name: &EncodedName<'_>, hint: &mut Hint) -> Option<&EncodedBinding>
+    pub fn find_near(
+        &self,
+        name: &EncodedName<'_>,
+        hint: &mut Guesses<'_>,
+    ) -> Option<&EncodedBinding>
         ensures value { option_map (λ row. row.now.value) result
             ≡ get self.now name.now }
         ensures name { IfSome result (λ row. row.now.name ≡ name.now) }
@@ -122,39 +126,44 @@ impl Pages {
         Successors { rows, pages }
     }
 
-    /// The rows after this name, as [`Pages::after`] finds them. Nothing is searched where the hint
-    /// is right; else it is told where the name stands.
-    pub fn after_near(&self, name: &EncodedName<'_>, hint: &mut Hint) -> Successors<'_>
+    /// The rows after this name, as [`Pages::after`] finds them, for a walk: it mostly asks from the
+    /// row that was given last. Nothing is searched where the hint is right; else it is told where
+    /// the name stands.
+    pub fn after_last(&self, name: &EncodedName<'_>, hint: &mut Guesses<'_>) -> Successors<'_>
         ensures { (front : List (List ℕ × Datum)) × StandsApart self.now name.now front result }
     {
         match self.behind(name, hint) {
             Some(rows) => rows,
-            None => self.after_guess(name, hint),
+            None => self.after_near(name, hint),
         }
     }
 
-    /// The rows after this name, if its row is the last one that the hint was told of.
-    fn behind(&self, name: &EncodedName<'_>, hint: &Hint) -> Option<Successors<'_>>
+    /// The rows after this name, if its row is the one that was given last. Else the place of that
+    /// row is kept by its name: another walk, which asks in turn with this one, goes on from there.
+    fn behind(&self, name: &EncodedName<'_>, hint: &mut Guesses<'_>) -> Option<Successors<'_>>
         ensures { IfSome result (λ rows. (front : List (List ℕ × Datum))
             × StandsApart self.now name.now front rows) }
     {
         let pages = self.list.as_slice();
-        let page_end = pages.len().checked_sub(hint.pages)?;
+        let left = hint.last();
+        let page_end = pages.len().checked_sub(left.1)?;
         let (front, pages) = pages.split_at(page_end);
         let page = front.last()?;
         let rows = page.rows.as_slice();
-        let row_end = rows.len().checked_sub(hint.rows)?;
+        let row_end = rows.len().checked_sub(left.0)?;
         let (front, rows) = rows.split_at(row_end);
         let row = front.last()?;
         if row.name().compare(name).is_eq() {
             Some(Successors { rows, pages })
         } else {
+            hint.keep_passed(&row.name(), page_end - 1, row_end);
             None
         }
     }
 
-    /// The rows after this name, by a guess of where it stands.
-    fn after_guess(&self, name: &EncodedName<'_>, hint: &mut Hint) -> Successors<'_>
+    /// The rows after this name, by a guess of where it stands. Nothing is searched where that is
+    /// right; else the hint is told where the name stands.
+    pub fn after_near(&self, name: &EncodedName<'_>, hint: &mut Guesses<'_>) -> Successors<'_>
         ensures { (front : List (List ℕ × Datum)) × StandsApart self.now name.now front result }
     {
         let pages = self.list.as_slice();

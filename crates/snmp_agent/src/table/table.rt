@@ -8,7 +8,7 @@ use crate::table::error::{PutError, TableError};
 use crate::table::format::{
     FirstFormat, LineFormat, NumericNames, Resolver, SecondFormat, is_marked,
 };
-use crate::table::hint::Hint;
+use crate::table::hint::Guesses;
 use crate::table::pages::{Pages, Successors};
 use snmp_oid::order;
 use snmp_wire::{Binding, EncodedBinding, EncodedName, MAX_CONTENT, Oid, ValueRef};
@@ -164,7 +164,7 @@ impl Table {
     pub(crate) fn row_near(
         &self,
         name: &EncodedName<'_>,
-        hint: &mut Hint,
+        hint: &mut Guesses<'_>,
     ) -> Option<&EncodedBinding>
         ensures some { IfSome result (λ row. IsGet self.now name.now row.now) }
         ensures none { IfNone result (get self.now.rows name.now ≡ None) }
@@ -221,10 +221,25 @@ impl Table {
     }
 
     /// The same. Nothing is searched where the hint is right.
-    pub(crate) fn after_near(&self, name: &EncodedName<'_>, hint: &mut Hint) -> Successors<'_>
+    pub(crate) fn after_near(
+        &self,
+        name: &EncodedName<'_>,
+        hint: &mut Guesses<'_>,
+    ) -> Successors<'_>
         ensures { AreBehind self.now name.now result }
     {
         self.rows.after_near(name, hint)
+    }
+
+    /// The same for a walk, which mostly asks from the row that was given last.
+    pub(crate) fn after_last(
+        &self,
+        name: &EncodedName<'_>,
+        hint: &mut Guesses<'_>,
+    ) -> Successors<'_>
+        ensures { AreBehind self.now name.now result }
+    {
+        self.rows.after_last(name, hint)
     }
 
     /// Changes a binding to what a GetNext gives that is asked again, `rounds` times more, each

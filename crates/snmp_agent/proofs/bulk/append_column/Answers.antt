@@ -19,8 +19,8 @@ rounds-init c = record {
       (c.args.asked ∷ []) 0 k rest) same h;
   written = nothing_more c.args.draft.room c.args.draft.total c.args.out.now c.args.draft.fits;
   stands =
-      stands_first c.args.table.now c.args.asked.name c.new-place.result c.requires (c.new-place.ensures.name ∙ c.name.ensures)
-      (subst (λ (o : List ℕ). AreBehind c.args.table.now o c.new-place.result.rows) c.name.ensures c.new-place.ensures.behind);
+      stands_first c.args.table.now c.args.asked.name c.of_walk-place.result c.requires (c.of_walk-place.ensures.name ∙ c.name.ensures)
+      (subst (λ (o : List ℕ). AreBehind c.args.table.now o c.of_walk-place.result.rows) c.name.ensures c.of_walk-place.ensures.behind);
 }
 
 pub append_next-requires : goal.append_next-requires

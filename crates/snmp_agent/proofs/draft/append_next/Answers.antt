@@ -16,14 +16,14 @@ row c =
     let o = c.args.asked.now.name in
     first_next c.order.ensures.less c.args.table.now o (entry_of c.in-Some.row.now) c.next_row.new.self
     (subst (λ (es : List (List ℕ × Datum)). AreBehind c.args.table.now o es) c.in-Some.ensures.some
-    (subst (λ (p : List ℕ). AreBehind c.args.table.now p c.after_near-rows.result) c.name-name.ensures c.after_near-rows.ensures))
+    (subst (λ (p : List ℕ). AreBehind c.args.table.now p c.after_last-rows.result) c.name-name.ensures c.after_last-rows.ensures))
 
 named : (c : In-None) → IsNext c.args.table.now c.args.asked.now.name (record { name = c.args.asked.now.name; value = end_of_mib_view })
 named c =
     let o = c.args.asked.now.name in
     end_next c.order.ensures.less c.args.table.now o
     (subst (λ (es : List (List ℕ × Datum)). AreBehind c.args.table.now o es) c.in-None.ensures.none.0
-    (subst (λ (p : List ℕ). AreBehind c.args.table.now p c.after_near-rows.result) c.name-name.ensures c.after_near-rows.ensures))
+    (subst (λ (p : List ℕ). AreBehind c.args.table.now p c.after_last-rows.result) c.name-name.ensures c.after_last-rows.ensures))
 
 end : (c : In-None) → IsNext c.args.table.now c.args.asked.now.name (record { name = c.name-name.result; value = end_of_mib_view })
 end c =

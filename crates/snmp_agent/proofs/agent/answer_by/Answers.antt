@@ -3,7 +3,7 @@ use Rattle.snmp_agent.specs.declared.config.Why.{Why}
 use Rattle.snmp_agent.specs.declared.config.Why.TheVariants as why
 use Rattle.snmp_agent.specs.Reply.{agent_of, IsDropped}
 use Rattle.snmp_agent.proofs.Encodings.{read_message}
-use Rattle.snmp_agent.proofs.agent.answer_near.Goals as goal
+use Rattle.snmp_agent.proofs.agent.answer_by.Goals as goal
 
 pub reply-requires-clause-writable : goal.reply-requires-clause-writable
 reply-requires-clause-writable c = read_message c.in-Ok.message c.args.request.now c.in-Ok.ensures.found.spelt

@@ -10,8 +10,8 @@ use Rattle.snmp_agent.specs.declared.table.page.Page.{Page}
 use Rattle.snmp_agent.specs.table.Places.{IsBeforeAll, IsBeforeNone}
 use Rattle.snmp_agent.specs.table.Pages.{IsPageOf, IsRising, StandsApart, entries_in, entries_of}
 use Rattle.snmp_agent.proofs.Paging.{apart_in_page, none_apart, no_pages, page_rising}
-use Rattle.snmp_agent.proofs.table.pages.Pages.after_guess.Goals as goal
-use Rattle.snmp_agent.proofs.table.pages.Pages.after_guess.Goals.{In-Some-get}
+use Rattle.snmp_agent.proofs.table.pages.Pages.after_near.Goals as goal
+use Rattle.snmp_agent.proofs.table.pages.Pages.after_near.Goals.{In-Some-get}
 
 at : (c : In-Some-get) → slice_get c.self.inside.list.items c.page_near-at.result ≡ Some c.in-Some-get.page.now
 at c =
