@@ -9,6 +9,12 @@ use std::alloc::{AllocError, Global};
 /// How many rows a page has at most.
 pub const PAGE_ROWS: usize = 128;
 
+/// From how many places without a row on a page gives room back, once a row is removed.
+const MANY_SPARE: usize = 24;
+
+/// How many places without a row stay then, so that rows that come and go ask for room seldom.
+const SPARE: usize = 8;
+
 /// Rows that a change moves together.
 #[derive(Drop)]
 pub struct Page {
@@ -95,13 +101,26 @@ impl Page {
         }
     }
 
-    /// Removes the row at this place, which isn't the only one.
+    /// Removes the row at this place, which isn't the only one. Most of the room that rows took
+    /// which were removed is given back.
     pub fn remove(&mut self, place: usize)
         requires other { 1 < length self.old.rows.items }
         requires within { place < length self.old.rows.items }
         ensures { self.new.rows.items ≡ remove_at self.old.rows.items place }
     {
         let _ = self.rows.remove(place);
+        give_back(&mut self.rows);
+    }
+}
+
+/// Gives the room for many rows back, where it isn't used. The rows stay in the room that there is
+/// where less can't be had.
+fn give_back(rows: &mut Vec<EncodedBinding>)
+    ensures { rows.new.items ≡ rows.old.items }
+{
+    let count = rows.len();
+    if rows.capacity().saturating_sub(count) >= MANY_SPARE {
+        rows.shrink_to(count.saturating_add(SPARE));
     }
 }
 
@@ -115,6 +134,11 @@ fn insert_row(
     ensures inserted { IfOk result (λ _. rows.new.items ≡ insert rows.old.items place row) }
     ensures unchanged_on_error { IfErr result (λ _. rows.new.items ≡ rows.old.items) }
 {
+    let count = rows.len();
+    // Where room was given back, twice the room would be more than a page needs.
+    if count == rows.capacity() && count > PAGE_ROWS / 2 {
+        rows.reserve_exact(PAGE_ROWS.saturating_sub(count))?;
+    }
     match rows.push(row) {
         Ok(()) => {
             // By one place, and so at once: `Vec::insert` moves rows one by one.

@@ -468,6 +468,17 @@ fn remove_row(pages: &mut Vec<Page>, place: usize, row: usize)
         pages[place].remove(row);
     } else {
         let _ = pages.remove(place);
+        give_back(pages);
+    }
+}
+
+/// Gives the room for most pages back, where it isn't used.
+fn give_back(pages: &mut Vec<Page>)
+    ensures { pages.new.items ≡ pages.old.items }
+{
+    let count = pages.len();
+    if count < pages.capacity() / 4 {
+        pages.shrink_to(count.saturating_mul(2));
     }
 }
 
