@@ -927,6 +927,11 @@ stack=256 expect 0 "$three" '' snmpbulkwalk -On -Cr50 table:three.tab $e.1
 stack=256 expect 0 "$tiny" "$warnings" snmpwalk --mib tiny.txt table:tiny.tab tiny
 stack=256 expect 0 "$e.1.10.0 = INTEGER: 3" '' snmpget -On table:three.tab $e.1.10.0
 stack=256 expect 0 '.1.3' '' snmptranslate -On .1.3
+# Rows in no order are sorted by calls within calls, twice as many at most as the rows can be halved.
+for ((i = 0; i < 20000; i++)); do
+    echo "$e.1.$((i * 7919 % 20000)).0|2|$i"
+done >"$got/t.tab"
+stack=256 expect 0 "$e.1.7919.0 = INTEGER: 1" '' snmpget -On "table:$got/t.tab" $e.1.7919.0
 
 # outputs
 "$program" snmpwalk --mib tiny.txt table:tiny.tab tiny >"$got/both" 2>&1

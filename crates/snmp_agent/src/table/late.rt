@@ -1,5 +1,5 @@
 //! Rows that are gathered, with what they are sorted by.
-ghost use Rattle.std.specs.Prelude.{◌≡◌};
+ghost use Rattle.std.specs.Prelude.{◌≡◌, ◌<◌, ◌≤◌, length, true, false};
 ghost use Rattle.std.specs.List.Sorted.{IsPermutation};
 
 use snmp_wire::EncodedBinding;
@@ -8,6 +8,13 @@ use std::marker::Model;
 
 /// How many octets a key has.
 const KEY_SIZE: usize = 16;
+
+/// From how many rows with one key on they get keys anew.
+const MANY_TIED: usize = 5;
+
+/// How many times a row gets a key anew at most, on average: names that differ late and one by one
+/// are compared.
+const MOST_KEYS: usize = 8;
 
 /// The bit of each octet that tells that its subidentifier goes on.
 const GOES_ON: u128 = 0x8080_8080_8080_8080_8080_8080_8080_8080;
@@ -63,23 +70,105 @@ impl Late {
         self.key = sort_key(self.row.name().content(), alike);
     }
 
-    /// How two rows compare: by their keys, and where these are the same, by their names.
+    /// Whether the row has this key.
     #[inline]
-    fn compare(&self, other: &Late) -> Ordering {
-        match self.key.cmp(&other.key) {
-            Ordering::Equal => self.row.name().compare(&other.row.name()),
-            ordering => ordering,
+    fn has_key(&self, key: u128) -> bool {
+        self.key == key
+    }
+}
+
+/// Sorts rows by their names, so that these fall. Rows whose keys tie get others, after what their
+/// names share: to compare names takes longer, as two rows are looked at.
+pub fn sort_falling(rows: &mut Vec<Late>)
+    ensures { IsPermutation rows.old.items rows.new.items }
+{
+    sort_rows(rows.as_mut_slice());
+}
+
+/// The same.
+fn sort_rows(rows: &mut [Late])
+    ensures { IsPermutation rows.old rows.new }
+{
+    sort_by_keys(rows);
+    sort_ties(rows);
+}
+
+/// Gives rows keys, and sorts them by these alone.
+fn sort_by_keys(rows: &mut [Late])
+    ensures { IsPermutation rows.old rows.new }
+{
+    let alike = octets_alike(rows);
+    set_keys(rows, alike);
+    // It calls itself at most 2 log2 of the rows deep: 86 for all the rows that memory can hold.
+    rows.sort_unstable_by(|late, other| other.key.cmp(&late.key));
+}
+
+/// Sorts by their names the rows, each beside the other, whose keys tie.
+fn sort_ties(rows: &mut [Late])
+    ensures { IsPermutation rows.old rows.new }
+{
+    let mut at = 0;
+    // How many rows may still get keys anew.
+    let mut left = rows.len().saturating_mul(MOST_KEYS);
+    'ties: while at < rows.len() {
+        let end = tie_end(rows, at);
+        let count = end - at;
+        if sort_tie(&mut rows[at..end], count <= left) {
+            at = end;
+        } else {
+            left -= count;
         }
     }
 }
 
-/// Sorts rows by their names, so that these fall: mostly by keys, as to compare names takes longer.
-pub fn sort_falling(rows: &mut Vec<Late>)
-    ensures { IsPermutation rows.old.items rows.new.items }
+/// The place behind the rows from this one on whose keys are the same.
+#[inline]
+fn tie_end(rows: &[Late], at: usize) -> usize
+    requires { at < length rows.now }
+    ensures behind { at < result }
+    ensures within { result ≤ length rows.now }
 {
-    let alike = octets_alike(rows.as_slice());
-    set_keys(rows.as_mut_slice(), alike);
-    rows.sort_unstable_by(|late, other| other.compare(late));
+    let first = &rows[at];
+    let key = first.key;
+    let mut end = at + 1;
+    'tied: while end < rows.len() && rows[end].has_key(key) {
+        end += 1;
+    }
+    end
+}
+
+/// Sorts rows whose keys tie: by others, if they may get these, or by their names. Whether they are
+/// sorted by their names: not where keys told some of them apart, of which others may tie.
+fn sort_tie(rows: &mut [Late], may_get_keys: bool) -> bool
+    ensures sorted { IsPermutation rows.old rows.new }
+    ensures keys { result ≡ false → may_get_keys ≡ true }
+{
+    if rows.len() < MANY_TIED || !may_get_keys {
+        sort_by_names(rows);
+        return true;
+    }
+    sort_by_keys(rows);
+    if keys_differ(rows) {
+        return false;
+    }
+    sort_by_names(rows);
+    true
+}
+
+/// Whether rows that are sorted by their keys haven't all the same, as where names end.
+fn keys_differ(rows: &[Late]) -> bool {
+    match (rows.first(), rows.last()) {
+        (Some(first), Some(last)) => !first.has_key(last.key),
+        _ => false,
+    }
+}
+
+/// Sorts rows by their names.
+#[inline(never)]
+fn sort_by_names(rows: &mut [Late])
+    ensures { IsPermutation rows.old rows.new }
+{
+    rows.sort_unstable_by(|late, other| other.row.name().compare(&late.row.name()));
 }
 
 /// How many octets at the front are the same in the names of all rows.
