@@ -88,8 +88,13 @@ LINES = TABLE.splitlines(keepends=True)
 calls("Table::read in no order", "table", b"".join(LINES[i * 121 % len(LINES)] for i in range(len(LINES))), ASKED,
       shown(ROWS))
 calls("Table::put", "put", TABLE, ASKED, shown({**ROWS, E + (1, 5, 0): text(b"sextet")}))
-calls("Table::put in place of a value", "put", TABLE + b".1.3.6.1.4.1.32473.1.5.0|2|1", ASKED,
-      shown({**ROWS, E + (1, 5, 0): text(b"sextet")}))
+IN_PLACE = TABLE + b".1.3.6.1.4.1.32473.1.5.0|2|1"
+calls("Table::put in place of a value", "put", IN_PLACE, ASKED, shown({**ROWS, E + (1, 5, 0): text(b"sextet")}))
+# Its row, of 60 octets, doesn't stand in the table's.
+LONG = b"a string of 43 octets, more than in a place"
+calls("Table::put of a long value", "put_long", TABLE, ASKED, shown({**ROWS, E + (1, 5, 0): text(LONG)}))
+calls("Table::put of a long value in place of another", "put_long", IN_PLACE, ASKED,
+      shown({**ROWS, E + (1, 5, 0): text(LONG)}))
 LABELS = """TINY-SMI enterprises private internet TINY-MIB tiny Mac tinyState tinyTable tinyEntry TinyEntry tinyName
 tinyMac tinyKeyTable tinyKeyEntry TinyKeyEntry tinyKeyUse loopA loopB
 """

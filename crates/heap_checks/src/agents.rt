@@ -54,14 +54,20 @@ fn reply(table: &Table, request: &[u8], room: &mut Room<'_>) {
 
 /// `Table::put` of a string at 1.3.6.1.4.1.32473.1.5.0: the reply to a request then. Where it is
 /// refused, the reply is as before.
-pub fn put(alloc: Global, text: &[u8], request: &[u8], room: &mut Room<'_>) -> Result<(), Fault> {
+pub fn put(
+    alloc: Global,
+    text: &[u8],
+    string: &[u8],
+    request: &[u8],
+    room: &mut Room<'_>,
+) -> Result<(), Fault> {
     let mut table = table_of(alloc, text)?;
     let Ok(name) = parse_numeric(b"1.3.6.1.4.1.32473.1.5.0") else {
         return Err(Fault::Wrong);
     };
     let mut octets = ([0; 1472], [0; 1472]);
     reply(&table, request, &mut Room::new(&mut octets.0));
-    match table.put(&name, ValueRef::Octets(b"sextet")) {
+    match table.put(&name, ValueRef::Octets(string)) {
         Ok(_) => {
             reply(&table, request, room);
             Ok(())

@@ -18,6 +18,9 @@ use std::env::Env;
 use std::process::ExitCode;
 use std::{env, rt};
 
+/// A string whose row takes memory of its own: 60 octets with its name.
+const LONG: &[u8] = b"a string of 43 octets, more than in a place";
+
 /// Why there is no whole answer.
 #[derive(Clone, Copy, Debug)]
 pub(crate) enum Fault {
@@ -81,7 +84,8 @@ fn check_by(
     match check {
         "values" => agents::values(alloc, first, room),
         "table" => agents::table(alloc, first, second, room),
-        "put" => agents::put(alloc, first, second, room),
+        "put" => agents::put(alloc, first, b"sextet", second, room),
+        "put_long" => agents::put(alloc, first, LONG, second, room),
         "modules" => modules::modules(alloc, first, room),
         "tree" => modules::tree(alloc, first, room),
         "hint" => texts::hint(alloc, first, second, room),
