@@ -6,6 +6,7 @@ mod change;
 mod draft;
 mod error;
 mod format;
+mod hashes;
 mod hint;
 mod late;
 mod laws;

@@ -12,6 +12,8 @@ mod hints;
 #[cfg(test)]
 mod loopback;
 #[cfg(test)]
+mod orders;
+#[cfg(test)]
 mod pages;
 #[cfg(test)]
 mod table;

@@ -10,20 +10,20 @@ use std::process::Abort;
 
 /// Numbers in no order, the same in each run.
 #[derive(Drop)]
-struct Random {
-    state: u32,
+pub(crate) struct Random {
+    pub(crate) state: u32,
 }
 
 impl Random {
     /// The next number below the bound.
-    fn below(&mut self, bound: u32) -> u32 {
+    pub(crate) fn below(&mut self, bound: u32) -> u32 {
         self.state = self.state.wrapping_mul(1664525).wrapping_add(1013904223);
         (self.state >> 8) % bound.max(1)
     }
 }
 
 /// Whether the rows are those of the map, from each number to its value, and no others.
-fn has_rows(table: &Table, map: &BTreeMap<u32, u32>) -> bool {
+pub(crate) fn has_rows(table: &Table, map: &BTreeMap<u32, u32>) -> bool {
     let mut binding = Binding::empty();
     let Some(mut rows) = all_rows(table) else {
         return false;

@@ -3,12 +3,13 @@ ghost use Rattle.std.specs.Prelude.{◌≡◌, true, false, [], List};
 
 use crate::table::error::TableError;
 use crate::table::format::LineFormat;
+use crate::table::hashes::Hashes;
 use crate::table::late::{Late, sort_falling};
 use crate::table::line::{Line, LineFault, read_line};
 use crate::table::pages::Pages;
 use crate::table::split::split_line;
 use snmp_oid::names;
-use snmp_wire::{Binding, EncodedBinding};
+use snmp_wire::{Binding, EncodedBinding, EncodedName};
 use std::alloc::{AllocError, Global};
 use std::collections::BTreeSet;
 use std::mem;
@@ -17,7 +18,11 @@ use std::mem;
 ///
 /// To put a row in no order among many others, each step of the search waits for a piece of memory,
 /// and half a page of rows is moved. So where rows come in no order they are gathered, sorted and
-/// put in their places together, each time that twice as much of the text is read.
+/// put in their places together, each time that there may be as many as in their places.
+///
+/// A name that is there twice is found at its line, by the hashes of names: where that of a row is
+/// there, all rows are put in their places, this one too, which tells. Where the name is another,
+/// rows are put at once from then on, so that no names make this happen again.
 #[derive(Drop)]
 pub struct Draft {
     /// The rows that are in their places.
@@ -30,8 +35,13 @@ pub struct Draft {
     exact: bool,
     /// Whether rows in no order are gathered.
     gathers: bool,
-    /// How many octets of the text are read when those gathered are put in their places.
-    until: usize,
+    /// The hashes of the names of all rows but some of the last in their places.
+    hashes: Hashes,
+    /// How many the last are whose names aren't hashed: a row after all others has a new name, and
+    /// is looked for only once another is gathered.
+    unhashed: usize,
+    /// Whether no more rows are gathered, as the hash of a name was there that was another's.
+    no_more: bool,
     ghost exactly: { exact ≡ true → gathers ≡ false },
     ghost at_once: { gathers ≡ false → late.items ≡ [] },
 }
@@ -43,8 +53,8 @@ pub enum Halt {
     Fault(TableError),
     /// Memory ran out.
     Memory,
-    /// Rows that were gathered aren't put in their places, as a name is there twice or memory ran
-    /// out: the text is to be read again, with each row put in its place at once.
+    /// Memory ran out while rows were gathered, which may have taken it: the text is to be read
+    /// again, with each row put in its place at once.
     Again,
 }
 
@@ -83,12 +93,14 @@ impl Draft {
             objects: BTreeSet::new(alloc),
             exact,
             gathers: false,
-            until: 0,
+            hashes: Hashes::new(alloc),
+            unhashed: 0,
+            no_more: false,
         }
     }
 
     /// Reads what a text of this format states. Where it is exact, each row is put in its place at
-    /// once, so that the first line whose name is there already is known.
+    /// once, so that no memory is taken beside that of the table.
     pub fn read<F: LineFormat>(
         alloc: Global,
         text: &[u8],
@@ -107,7 +119,7 @@ impl Draft {
             let (line, behind) = split_line(rest);
             number += 1;
             draft.add(alloc, format, line, number, &mut binding)?;
-            if !draft.settle_in_time(alloc, text.len().wrapping_sub(behind.len())) {
+            if !draft.settle_in_time(alloc) {
                 return Err(Halt::Again);
             }
             rest = behind;
@@ -131,7 +143,8 @@ impl Draft {
         ensures draft { (before : List (List ℕ)) → IsDraft (F.format format.now) before self.old
             → MatchResult result
             (λ _. IsDraft (F.format format.now) (before ++ line.now ∷ []) self.new)
-            (IsHalt (F.format format.now) before line.now number self.old.exact) }
+            (IsHalt (F.format format.now) before line.now number self.old.exact
+            self.old.gathers) }
         ensures exact { self.new.exact ≡ self.old.exact }
     {
         names();
@@ -149,21 +162,21 @@ impl Draft {
         }
     }
 
-    /// Why the reading stops where memory runs out, which rows that are gathered may have taken.
+    /// Why the reading stops where memory runs out, which what is gathered may have taken.
     fn full(&self) -> Halt
-        ensures { IsFull self.now.exact result }
+        ensures { IsFull self.now.exact self.now.gathers result }
     {
-        if self.late.is_empty() {
-            Halt::Memory
-        } else {
-            Halt::Again
+        if self.gathers {
+            return Halt::Again;
         }
+        Halt::Memory
     }
 
     /// Why the reading stops at a line with this fault, which is the first if no two rows before it
     /// have one name.
     fn stop(&mut self, alloc: Global, fault: TableError) -> Halt
-        ensures halt { IsStop (draft_entries self.old) self.old.exact fault result }
+        ensures halt { IsStop (draft_entries self.old) self.old.exact self.old.gathers fault
+            result }
         ensures exact { self.new.exact ≡ self.old.exact }
     {
         if self.settle(alloc) {
@@ -180,15 +193,12 @@ impl Draft {
         ensures rows { IfOk result (λ _. IsPermutation (draft_entries self.old ++ entry_of row ∷ [])
             (draft_entries self.new)) }
         ensures halt { IfErr result (IsHaltAt row.name (draft_entries self.old) number
-            self.old.exact) }
+            self.old.exact self.old.gathers) }
         ensures objects { self.new.objects ≡ self.old.objects }
         ensures exact { self.new.exact ≡ self.old.exact }
     {
         if self.gathers {
-            return match self.gather(alloc, row) {
-                Ok(()) => Ok(()),
-                Err(_) => Err(Halt::Again),
-            };
+            return self.gather(alloc, row, number);
         }
         match self.rows.put(alloc, row)? {
             false => Ok(()),
@@ -198,48 +208,102 @@ impl Draft {
 
     /// Appends a row that comes after all that are in their places, or else gathers it.
     #[inline(never)]
-    fn gather(&mut self, alloc: Global, row: EncodedBinding) -> Result<(), AllocError>
+    fn gather(&mut self, alloc: Global, row: EncodedBinding, number: usize) -> Result<(), Halt>
         requires { self.old.gathers ≡ true }
         ensures rows { IfOk result (λ _. IsPermutation (draft_entries self.old ++ entry_of row ∷ [])
             (draft_entries self.new)) }
+        ensures halt { IfErr result (IsHaltAt row.name (draft_entries self.old) number
+            self.old.exact self.old.gathers) }
         ensures objects { self.new.objects ≡ self.old.objects }
         ensures exact { self.new.exact ≡ self.old.exact }
     {
         if self.rows.ends_before(&row.name()) {
-            return self.rows.append(alloc, row);
+            self.unhashed = self.unhashed.saturating_add(1);
+            return match self.rows.append(alloc, row) {
+                Ok(()) => Ok(()),
+                Err(_) => Err(Halt::Again),
+            };
+        }
+        let name = row.name();
+        if !is_new(
+            alloc,
+            &self.rows,
+            &mut self.unhashed,
+            &mut self.hashes,
+            &name,
+        ) {
+            return self.put_known(alloc, row, number);
         }
         match self.late.push(Late::new(row)) {
             Ok(()) => Ok(()),
-            Err(_) => Err(AllocError),
+            Err(_) => Err(Halt::Again),
+        }
+    }
+
+    /// Puts a row in its place, after those that are gathered. None is gathered from then on.
+    #[inline(never)]
+    fn put_known(&mut self, alloc: Global, row: EncodedBinding, number: usize) -> Result<(), Halt>
+        requires { self.old.gathers ≡ true }
+        ensures rows { IfOk result (λ _. IsPermutation (draft_entries self.old ++ entry_of row ∷ [])
+            (draft_entries self.new)) }
+        ensures halt { IfErr result (IsHaltAt row.name (draft_entries self.old) number
+            self.old.exact self.old.gathers) }
+        ensures objects { self.new.objects ≡ self.old.objects }
+        ensures exact { self.new.exact ≡ self.old.exact }
+    {
+        if !self.settle(alloc) {
+            return Err(Halt::Again);
+        }
+        self.gathers = false;
+        self.no_more = true;
+        match self.rows.put(alloc, row) {
+            Ok(false) => Ok(()),
+            Ok(true) => Err(Halt::Fault(TableError::Double { line: number })),
+            Err(_) => Err(Halt::Again),
         }
     }
 
     /// Begins to gather where rows come in no order, and puts those gathered in their places when
-    /// it is time, by how many octets of the text are read. Whether all could be put.
+    /// there may be as many as there. Whether all could be put.
     #[inline(always)]
-    fn settle_in_time(&mut self, alloc: Global, octets: usize) -> bool
+    fn settle_in_time(&mut self, alloc: Global) -> bool
         ensures moved { IsTrue result
             → IsPermutation (draft_entries self.old) (draft_entries self.new) }
         ensures exactly { result ≡ false → self.old.exact ≡ false }
         ensures objects { self.new.objects ≡ self.old.objects }
         ensures exact { self.new.exact ≡ self.old.exact }
     {
-        let waits = if self.gathers {
-            octets < self.until
-        } else {
-            self.exact || !self.rows.are_unordered()
-        };
-        if waits {
+        if self.gathers {
+            if self.late.len() < self.rows.most_rows() {
+                return true;
+            }
+            return self.place_late(alloc);
+        }
+        if self.exact || self.no_more || !self.rows.are_unordered() {
             return true;
         }
         self.gathers = true;
-        self.until = octets.saturating_mul(2);
-        self.settle(alloc)
+        self.unhashed = usize::MAX;
+        true
     }
 
-    /// Puts the rows that are gathered in their places. Whether all could be put: not where a name
-    /// is there twice, and memory may run out.
+    /// Puts the rows that are gathered in their places, as the last that are. Whether all could be
+    /// put: not where a name is there twice, and memory may run out.
     fn settle(&mut self, alloc: Global) -> bool
+        ensures moved { IsTrue result
+            → IsPermutation (draft_entries self.old) (draft_entries self.new) }
+        ensures none { IsTrue result → self.new.late.items ≡ [] }
+        ensures exactly { result ≡ false → self.old.exact ≡ false }
+        ensures objects { self.new.objects ≡ self.old.objects }
+        ensures exact { self.new.exact ≡ self.old.exact }
+    {
+        // No more names are hashed, and the memory may be wanted.
+        self.hashes = Hashes::new(alloc);
+        self.place_late(alloc)
+    }
+
+    /// The same, of which there may be more.
+    fn place_late(&mut self, alloc: Global) -> bool
         ensures moved { IsTrue result
             → IsPermutation (draft_entries self.old) (draft_entries self.new) }
         ensures none { IsTrue result → self.new.late.items ≡ [] }
@@ -262,4 +326,21 @@ impl Draft {
             Err(_) => false,
         }
     }
+}
+
+/// Hashes the names of the rows in place that aren't hashed, and this one. Whether none has the hash
+/// of another.
+#[inline]
+fn is_new(
+    alloc: Global,
+    rows: &Pages,
+    unhashed: &mut usize,
+    hashes: &mut Hashes,
+    name: &EncodedName<'_>,
+) -> bool {
+    let count = mem::replace(unhashed, 0);
+    if count > 0 && !rows.insert_last(alloc, count, hashes) {
+        return false;
+    }
+    hashes.insert(alloc, name)
 }

@@ -11,6 +11,7 @@ ghost use Rattle.snmp_agent.specs.table.Pages.{IsRowIn, IsWithoutRow, StandsApar
 ghost use Rattle.snmp_agent.specs.table.Pages.{entries_of};
 ghost use Rattle.snmp_agent.specs.table.Halving.{StandsBetween};
 
+use crate::table::hashes::Hashes;
 use crate::table::hint::{Guess, Guesses};
 use crate::table::late::Late;
 use crate::table::page::{PAGE_ROWS, Page};
@@ -30,9 +31,11 @@ pub struct Pages {
     list: Vec<Page>,
     /// How many rows were put among others. Nothing but time depends on it.
     among: u32,
+    /// How many were put behind all others, likewise.
+    behind: u32,
 }
 
-/// From how many rows on that were put among others the rows are taken to be in no order.
+/// From how many rows on that were put among others the rows may be taken to be in no order.
 const MANY_AMONG: u32 = 64;
 
 impl Model for Pages {
@@ -69,6 +72,7 @@ impl Pages {
         Pages {
             list: Vec::new(alloc),
             among: 0,
+            behind: 0,
         }
     }
 
@@ -196,6 +200,7 @@ impl Pages {
         let name = row.name();
         if ends_before(self.list.as_slice(), &name) {
             append(alloc, &mut self.list, row)?;
+            self.behind = self.behind.saturating_add(1);
             return Ok(false);
         }
         let place = page_with_room(&mut self.list, &name)?;
@@ -204,16 +209,34 @@ impl Pages {
         Ok(replaced)
     }
 
-    /// Whether many rows were put among others, as those in no order are.
+    /// Whether many rows were put among others, and more than behind all others, as most of those
+    /// in no order are.
     #[inline]
     pub fn are_unordered(&self) -> bool {
-        self.among >= MANY_AMONG
+        self.among >= MANY_AMONG && self.among > self.behind
     }
 
     /// How many rows there are at most.
     #[inline]
     pub fn most_rows(&self) -> usize {
         self.list.len().saturating_mul(PAGE_ROWS)
+    }
+
+    /// Inserts the hashes of the names of the last rows, as many or all. Whether each was new.
+    pub fn insert_last(&self, alloc: Global, count: usize, hashes: &mut Hashes) -> bool {
+        let mut left = count;
+        for page in self.list.iter().rev() {
+            for row in page.rows.iter().rev() {
+                if left == 0 {
+                    return true;
+                }
+                left -= 1;
+                if !hashes.insert(alloc, &row.name()) {
+                    return false;
+                }
+            }
+        }
+        true
     }
 
     /// Whether all rows come before the name.
@@ -300,10 +323,10 @@ impl Pages {
             if !late.row().name().compare(name).is_lt() {
                 break;
             }
-            let Some(late) = rows.pop() else {
+            let Some(next) = rows.pop() else {
                 break;
             };
-            if self.put(alloc, late.into_row())? {
+            if self.put(alloc, next.into_row())? {
                 return Ok(false);
             }
         }

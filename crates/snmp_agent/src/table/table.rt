@@ -96,7 +96,7 @@ impl Table {
         ensures fault { IfErr result (IsFirstFaultIn (F.format format.now) (lines text.now)) }
     {
         let read = match Draft::read(alloc, text, format, false) {
-            // A name may be there twice: the line is known where each row is put at once.
+            // Memory ran out where rows were gathered: what they took isn't taken this time.
             Err(Halt::Again) => Draft::read(alloc, text, format, true),
             read => read,
         };

@@ -1,15 +1,13 @@
 use Rattle.std.specs.FinMap.{entries}
 use Rattle.std.proofs.lemmas.List.Sorted.{IsPermutation-refl}
-use Rattle.std.proofs.lemmas.Result.{IfOk-weaker}
 use Rattle.snmp_agent.specs.table.Draft.{draft_entries}
 use Rattle.snmp_agent.specs.table.Pages.{entries_of}
 use Rattle.snmp_agent.proofs.Gathering.{appended_moves}
 use Rattle.snmp_agent.proofs.table.draft.Draft.gather.Goals as goal
 
-pub returns-then-ends_before-clause-rows : goal.returns-then-ends_before-clause-rows
-returns-then-ends_before-clause-rows c =
+pub returns-in-Ok-clause-rows : goal.returns-in-Ok-clause-rows
+returns-in-Ok-clause-rows c =
     let old = c.args.self.now in
-    IfOk-weaker c.append.result _ _
-    (λ _ appended. appended_moves (draft_entries old) (entries old.rows) (entries c.append.new.self)
-    (entries_of old.late.items) c.args.row (IsPermutation-refl (draft_entries old)) appended)
-    c.append.ensures.appended
+    appended_moves (draft_entries old) (entries old.rows) (entries c.append.new.self)
+    (entries_of old.late.items) c.args.row (IsPermutation-refl (draft_entries old))
+    c.in-Ok.ensures.appended

@@ -5,8 +5,8 @@ use Rattle.std.proofs.lemmas.Result.{IfOk-weaker}
 use Rattle.snmp_wire.specs.Message.{VarBind}
 use Rattle.snmp_agent.specs.table.Draft.{draft_entries}
 use Rattle.snmp_agent.proofs.Gathering.{settled_moves}
-use Rattle.snmp_agent.proofs.table.draft.Draft.settle.Goals as goal
-use Rattle.snmp_agent.proofs.table.draft.Draft.settle.Goals.{then-len-most_rows, else-len-most_rows}
+use Rattle.snmp_agent.proofs.table.draft.Draft.place_late.Goals as goal
+use Rattle.snmp_agent.proofs.table.draft.Draft.place_late.Goals.{then-len-most_rows, else-len-most_rows}
 
 pub returns-in-Ok-clause-moved : goal.returns-in-Ok-clause-moved
 returns-in-Ok-clause-moved c =

@@ -1,0 +1,247 @@
+//! Tables in no order, beside a plain model: rows put one by one.
+
+use crate::pages::{Random, has_rows};
+use snmp_agent::{Table, TableError};
+use std::alloc::{AllocError, Global};
+use std::collections::BTreeMap;
+
+/// How the numbers of the rows come.
+#[derive(Clone, Copy, Debug)]
+struct Order {
+    /// How many rows there are.
+    count: u32,
+    /// As many columns come row by row; with one the numbers rise.
+    columns: u32,
+    /// The numbers go up by this, from 0 on again at the count; with 0 they fall.
+    step: u32,
+}
+
+/// Lines that state something else than the row that they stand for.
+#[derive(Clone, Copy, Debug)]
+struct Wrong {
+    /// The line of this number has the row of an earlier one.
+    again: u32,
+    /// Which.
+    first: u32,
+    /// The line of this number is faulty.
+    bad: u32,
+    /// How.
+    kind: u32,
+}
+
+/// A text, and what it states: these rows, or else this fault.
+#[derive(Drop)]
+struct Stated {
+    text: Vec<u8>,
+    map: BTreeMap<u32, u32>,
+    fault: Option<TableError>,
+}
+
+impl Order {
+    /// The number of the row at this place.
+    fn number(&self, place: u32) -> u32 {
+        let place = if self.step == 0 {
+            self.count.saturating_sub(place)
+        } else {
+            place.wrapping_mul(self.step) % self.count.max(1)
+        };
+        let columns = self.columns.max(1);
+        (place % columns)
+            .wrapping_mul(100_000)
+            .wrapping_add(place / columns)
+    }
+}
+
+/// A line with a fault of this kind, and the fault.
+fn faulty_line(kind: u32, line: usize) -> (&'static str, TableError) {
+    match kind % 3 {
+        0 => ("no row\n", TableError::BadLine { line }),
+        1 => ("1.40|65|1\n", TableError::BadName { line }),
+        _ => (
+            "1.3.6.1.4.1.32473.2.0|65|-1\n",
+            TableError::BadValue { line },
+        ),
+    }
+}
+
+/// The text of such rows, in the second format where it is marked.
+fn text_of(
+    alloc: Global,
+    order: &Order,
+    wrong: &Wrong,
+    is_marked: bool,
+) -> Result<Stated, AllocError> {
+    let mut text = Vec::new(alloc);
+    let mut map = BTreeMap::new(alloc);
+    let mut fault = None;
+    let mut line: usize = 0;
+    if is_marked {
+        text.extend_from_slice(b"#snmptab 2\n")?;
+        line = 1;
+    }
+    for place in 0..order.count {
+        line = line.wrapping_add(1);
+        let number = if place == wrong.again {
+            order.number(wrong.first)
+        } else {
+            order.number(place)
+        };
+        if place == wrong.bad {
+            let (octets, kind) = faulty_line(wrong.kind, line);
+            text.extend_from_slice(octets.as_bytes())?;
+            fault = fault.or(Some(kind));
+            continue;
+        }
+        let octets = format!(in alloc; "1.3.6.1.4.1.32473.1.{number}.0|65|{place}\n")?;
+        text.extend_from_slice(octets.as_bytes())?;
+        let is_there = map.contains_key(&number);
+        if is_there {
+            fault = fault.or(Some(TableError::Double { line }));
+        } else if map.insert(number, place).is_err() {
+            return Err(AllocError);
+        }
+    }
+    Ok(Stated { text, map, fault })
+}
+
+/// Whether the text is read as it is stated.
+fn is_read_so(alloc: Global, stated: &Stated) -> bool {
+    match (Table::read(alloc, &stated.text), stated.fault) {
+        (Ok(table), None) => has_rows(&table, &stated.map),
+        (Err(error), Some(fault)) => error == fault,
+        _ => false,
+    }
+}
+
+/// An order of up to 1,260 rows: falling, of one column, or of some; a step by an odd number mostly
+/// comes to each number once.
+fn any_order(random: &mut Random) -> Order {
+    let count = random.below(1200);
+    let steps = [0, 1, 619, 1543, 3089];
+    let columns = [1, 1, 2, 3, 8];
+    let step = random.below(5) as usize;
+    let column = random.below(5) as usize;
+    Order {
+        count: count.wrapping_add(60),
+        columns: *columns.get(column).unwrap_or(&1),
+        step: *steps.get(step).unwrap_or(&1),
+    }
+}
+
+/// Faults at random places, of which some stand behind all lines.
+fn any_wrong(random: &mut Random, count: u32) -> Wrong {
+    let more = count.saturating_mul(2);
+    let again = random.below(more);
+    Wrong {
+        again,
+        first: random.below(again.min(count)),
+        bad: random.below(more),
+        kind: random.below(3),
+    }
+}
+
+#[test]
+fn tables_in_any_order_are_read_as_row_by_row(rt: HostRuntime) {
+    let mut random = Random { state: 7 };
+    for _ in 0..60 {
+        let order = any_order(&mut random);
+        let wrong = any_wrong(&mut random, order.count);
+        let is_marked = random.below(2) == 0;
+        let stated = text_of(rt.alloc(), &order, &wrong, is_marked).expect(&rt, "memory");
+        assert!(rt;
+            is_read_so(rt.alloc(), &stated),
+            "{order:?}, {wrong:?}, marked: {is_marked}"
+        );
+    }
+}
+
+#[test]
+fn the_first_double_behind_64_rows_among_others_is_told(rt: HostRuntime) {
+    // Rows that fall are all among others but the first: from the 65th on they are gathered.
+    for again in 60..140 {
+        let order = Order {
+            count: 140,
+            columns: 1,
+            step: 0,
+        };
+        for &first in &[0, 1, 58, 64, 65, 66, 128] {
+            let wrong = Wrong {
+                again,
+                first: first.min(again.saturating_sub(1)),
+                bad: 139,
+                kind: 0,
+            };
+            let stated = text_of(rt.alloc(), &order, &wrong, false).expect(&rt, "memory");
+            assert!(rt; is_read_so(rt.alloc(), &stated), "{wrong:?}");
+        }
+    }
+}
+
+/// Names of one hash, two by two: while rows are gathered, the second is taken for the first until
+/// all rows are in their places.
+const OF_ONE_HASH: [(&str, &str); 6] = [
+    (
+        "1.3.6.1.4.1.66.68.108.100.113.111.62.21.33.53.94",
+        "1.3.6.1.4.1.30.97.72.73.74.104.26.33.125.0.110",
+    ),
+    (
+        "1.3.6.1.4.1.35.44.75.91.123.67.51.71.70.103.41",
+        "1.3.6.1.4.1.106.53.109.20.99.69.118.24.50.57.90",
+    ),
+    (
+        "1.3.6.1.4.1.98.111.28.53.91.67.72.34.26.57.82",
+        "1.3.6.1.4.1.34.96.101.15.26.7.73.107.83.3.54",
+    ),
+    (
+        "1.3.6.1.4.1.98.73.14.72.16.73.62.66.6.121.75",
+        "1.3.6.1.4.1.55.40.21.116.84.127.49.30.62.124.91",
+    ),
+    (
+        "1.3.6.1.4.1.6.59.64.127.66.7.30.49.15.37.100",
+        "1.3.6.1.4.1.123.44.15.100.69.5.50.47.58.24.83",
+    ),
+    (
+        "1.3.6.1.4.1.101.15.27.96.92.83.125.30.26.101.26",
+        "1.3.6.1.4.1.30.5.60.24.67.55.53.76.107.50.41",
+    ),
+];
+
+/// The fault of rows in no order among which such names stand, the second ones after as many rows,
+/// and in the last line the row of this place.
+fn fault_of_names(alloc: Global, before: u32, again: u32) -> Option<TableError> {
+    let mut text = Vec::new(alloc);
+    text.extend_from_slice(b"2.1.0|65|0\n").ok()?;
+    for (name, _) in &OF_ONE_HASH {
+        let line = format!(in alloc; "{name}|65|1\n").ok()?;
+        text.extend_from_slice(line.as_bytes()).ok()?;
+    }
+    for place in 0..before {
+        let number = place.wrapping_mul(619) % 4096;
+        let line = format!(in alloc; "1.3.6.1.4.1.32473.1.{number}.0|65|1\n").ok()?;
+        text.extend_from_slice(line.as_bytes()).ok()?;
+    }
+    for (_, name) in &OF_ONE_HASH {
+        let line = format!(in alloc; "{name}|65|1\n").ok()?;
+        text.extend_from_slice(line.as_bytes()).ok()?;
+    }
+    let number = again.wrapping_mul(619) % 4096;
+    let line = format!(in alloc; "1.3.6.1.4.1.32473.1.{number}.0|65|1\n").ok()?;
+    text.extend_from_slice(line.as_bytes()).ok()?;
+    Table::read(alloc, &text).err()
+}
+
+#[test]
+fn names_of_one_hash_are_told_apart(rt: HostRuntime) {
+    for before in [50, 57, 58, 59, 60, 64, 128, 200, 500, 1000, 3000] {
+        let double = Some(TableError::Double {
+            line: (before as usize).saturating_add(14),
+        });
+        for again in [0, 57, 63, 127, 499, 2999] {
+            assert!(rt;
+                fault_of_names(rt.alloc(), before, again)
+                    == if again < before { double } else { None },
+                "{before} rows, that of {again} again"
+            );
+        }
+    }
+}
