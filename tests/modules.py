@@ -1,11 +1,14 @@
 #!/usr/bin/env python3
-"""Loads the modules of modules/ with the built program, alone and together, walks examples/interfaces.tab by
-their names, and translates names both ways.
+"""Loads the modules of modules/ with the built program, alone and together, walks tables of examples/ by their
+names, and translates names both ways; and reads the texts by itself (module_texts.py), to find labels that are
+there twice, names without a parent, columns whose index or rows whose columns can't be read, and hints that
+the program doesn't take.
 
-usage: modules.py
+usage: modules.py [ROOT]
 
-What must come was written from the standards: tests/data/interfaces.txt has the lines of the walk, and the
-names here have their numbers from the RFCs. Its last line is 'N passed, M failed'.
+What must come was written from the standards: tests/data has the lines of the walks, and the names here have
+their numbers from the RFCs. Where the packages python3-pysnmp4-mibs and libsnmp-base of Debian stand below ROOT,
+which is / by default, the facts of the texts are compared with theirs. Its last line is 'N passed, M failed'.
 """
 import glob
 import os
@@ -16,10 +19,13 @@ import subprocess
 import sys
 import tempfile
 
+import module_facts
+import module_texts
+
 here = os.path.dirname(os.path.abspath(__file__))
 TOP = os.path.join(here, "..")
 PROGRAM = os.path.join(TOP, "crates", "snmp", "out", "snmp")
-ALL = "modules/all.txt"
+ALL, CORE = MADE = "modules/all.txt", "modules/core.txt"
 TABLE = "table:examples/interfaces.tab"
 
 NAMES = {
@@ -49,10 +55,43 @@ NAMES = {
     "ENTITY-MIB::entPhysicalUUID.3": ".1.3.6.1.2.1.47.1.1.1.1.19.3",
     "BRIDGE-MIB::dot1dStaticStatus.'abcdef'.1": ".1.3.6.1.2.1.17.5.1.1.4.97.98.99.100.101.102.1",
     "BRIDGE-MIB::topologyChange": ".1.3.6.1.2.1.17.0.2",
+    "P-BRIDGE-MIB::dot1dTpHCPortInFrames.5": ".1.3.6.1.2.1.17.4.5.1.1.5",
+    "P-BRIDGE-MIB::dot1dRegenUserPriority.5.7": ".1.3.6.1.2.1.17.6.1.2.2.1.2.5.7",
+    "Q-BRIDGE-MIB::dot1qVlanCurrentEgressPorts.0.10": ".1.3.6.1.2.1.17.7.1.4.2.1.4.0.10",
+    "Q-BRIDGE-MIB::dot1qTpFdbPort.10.'abcdef'": ".1.3.6.1.2.1.17.7.1.2.2.1.2.10.97.98.99.100.101.102",
+    "Q-BRIDGE-MIB::dot1qPvid.5": ".1.3.6.1.2.1.17.7.1.4.5.1.1.5",
+    'Q-BRIDGE-MIB::dot1vProtocolGroupId.1."ab"': ".1.3.6.1.2.1.17.7.1.5.1.1.3.1.2.97.98",
+    "RSTP-MIB::dot1dStpPortOperEdgePort.5": ".1.3.6.1.2.1.17.2.19.1.3.5",
+    "RSTP-MIB::rstpMIB": ".1.3.6.1.2.1.134",
+    "LLDP-MIB::lldpRemSysName.1200.5.1": ".1.0.8802.1.1.2.1.4.1.1.9.1200.5.1",
+    'LLDP-MIB::lldpRemManAddrIfId.0.5.1.1."abcd"': ".1.0.8802.1.1.2.1.4.2.1.4.0.5.1.1.4.97.98.99.100",
+    "LLDP-MIB::lldpRemOrgDefInfo.0.5.1.'abc'.1.1": ".1.0.8802.1.1.2.1.4.4.1.4.0.5.1.97.98.99.1.1",
+    "LLDP-MIB::lldpRemTablesChange": ".1.0.8802.1.1.2.0.0.1",
+    "EtherLike-MIB::dot3StatsDuplexStatus.5": ".1.3.6.1.2.1.10.7.2.1.19.5",
+    "EtherLike-MIB::dot3HCInPauseFrames.5": ".1.3.6.1.2.1.10.7.10.1.5.5",
+    "MAU-MIB::ifMauAutoNegConfig.5.1": ".1.3.6.1.2.1.26.5.1.1.4.5.1",
+    "IANA-MAU-MIB::dot3MauType1000BaseTFD": ".1.3.6.1.2.1.26.4.30",
+    "POWER-ETHERNET-MIB::pethPsePortDetectionStatus.1.5": ".1.3.6.1.2.1.105.1.1.1.6.1.5",
+    "POWER-ETHERNET-MIB::pethMainPseConsumptionPower.1": ".1.3.6.1.2.1.105.1.3.1.1.4.1",
+    "ENTITY-SENSOR-MIB::entPhySensorValue.1001": ".1.3.6.1.2.1.99.1.1.1.4.1001",
+    "ENTITY-STATE-MIB::entStateOper.1001": ".1.3.6.1.2.1.131.1.1.1.3.1001",
+    "RMON-MIB::etherStatsOctets.5": ".1.3.6.1.2.1.16.1.1.1.4.5",
+    "RMON-MIB::etherHistoryUtilization.5.17": ".1.3.6.1.2.1.16.2.2.1.15.5.17",
+    'IP-FORWARD-MIB::inetCidrRouteProto.1."abcd".24.2.0.0.1."abcd"':
+        ".1.3.6.1.2.1.4.24.7.1.9.1.4.97.98.99.100.24.2.0.0.1.4.97.98.99.100",
+    "IP-FORWARD-MIB::ipCidrRouteIfIndex.192.0.2.0.255.255.255.0.0.0.0.0.0":
+        ".1.3.6.1.2.1.4.24.4.1.5.192.0.2.0.255.255.255.0.0.0.0.0.0",
+    "IF-INVERTED-STACK-MIB::ifInvStackStatus.2.5": ".1.3.6.1.2.1.77.1.1.1.1.2.5",
 }
-# RFC 2790 has these in both of its modules, and a number is shown by the first.
+# The standards have these in two modules each, and a number is shown by the first that was loaded.
 TWICE = {f"HOST-RESOURCES-TYPES::{label}": f"HOST-RESOURCES-MIB::{label}"
-         for label in ("hrStorageTypes", "hrDeviceTypes", "hrFSTypes")}
+         for label in ("hrStorageTypes", "hrDeviceTypes", "hrFSTypes")} | {"RMON2-MIB::rmon": "RMON-MIB::rmon"}
+# Where a further module names what stands below another's label, it is shown by that.
+DEEPER = {"SNMPv2-MIB::sysUpTime.0": "DISMAN-EVENT-MIB::sysUpTimeInstance",
+          "SNMPv2-SMI::transmission.7": "EtherLike-MIB::dot3"}
+MACROS = {"MODULE-IDENTITY", "OBJECT-IDENTITY", "OBJECT-TYPE", "NOTIFICATION-TYPE", "TEXTUAL-CONVENTION"}
+# RFC 2579, section 3.1: of numbers, and of strings.
+HINTS = {True: re.compile(r"[xob]|d(-\d+)?"), False: re.compile(r"(\*?\d+[xdoat]([^\d*]([^\d*])?)?)+")}
 DETAILS = """\
 IF-MIB::ifOperStatus
 ifOperStatus OBJECT-TYPE
@@ -112,22 +151,156 @@ def needed(file, files):
     return found
 
 
+def by_all(text):
+    """A text with the names that the program shows by all modules."""
+    loaded = modules_of(ALL)
+    for name, deeper in DEEPER.items():
+        if deeper.split("::")[0] in loaded:
+            text = re.sub(rf"(?<![\w:-]){re.escape(name)}(?![\w.-])", deeper, text)
+    return text
+
+
 def joined():
-    """modules/all.txt is what the script makes, which tells where it isn't."""
+    """modules/all.txt and modules/core.txt are what the script makes, which tells where they aren't."""
     with tempfile.TemporaryDirectory() as top:
         shutil.copytree(os.path.join(TOP, "modules"), f"{top}/modules")
         shutil.copytree(os.path.join(TOP, "tools"), f"{top}/tools")
 
         def join(*words):
             return subprocess.run([f"{top}/tools/join-modules", *words], capture_output=True).returncode
-        check("modules/all.txt is what tools/join-modules makes", join("--check"), 0)
+        check("modules/all.txt and modules/core.txt are what tools/join-modules makes", join("--check"), 0)
         with open(f"{top}/modules/z.txt", "w", encoding="ascii") as file:
             file.write("Z-MIB DEFINITIONS ::= BEGIN END\n")
         check("tools/join-modules --check tells of a file that is new", join("--check"), 1)
         check("tools/join-modules joins it", join(), 0)
-        with open(f"{top}/modules/all.txt", encoding="ascii") as file:
-            check("and it stands there", file.read(), text_of(ALL) + "\nZ-MIB DEFINITIONS ::= BEGIN END\n")
+        for made, more in (ALL, "\nZ-MIB DEFINITIONS ::= BEGIN END\n"), (CORE, ""):
+            with open(f"{top}/{made}", encoding="ascii") as file:
+                check(f"and {made} is right", file.read(), text_of(made) + more)
         check("tools/join-modules has no other words", join("--wrong"), 2)
+
+
+def texts(world, files):
+    """What the texts say, read by themselves: each label once and with a number, rows, types and hints in order."""
+    names = [name for file in files for name in modules_of(file)]
+    check("no two files have a module of one name", sorted(set(names)), sorted(names))
+    homes = {}
+    for module in world.modules.values():
+        placed = {label: world.numbers(module, found) for label, found in module.definitions.items() if found.value}
+        for label, number in placed.items():
+            homes.setdefault(number, []).append(f"{module.name}::{label}")
+        check(f"{module.name} has no label twice", module.twice, [])
+        check(f"{module.name} has a parent for each label", [label for label in placed if not placed[label]], [])
+        check(f"{module.name} has no number twice", len(set(placed.values())), len(placed))
+        check(f"{module.name} imports what is there", [
+            label for label, source in module.imports.items()
+            if source != "SNMPv2-CONF" and label not in MACROS and not world.find(module, label)], [])
+        check(f"{module.name} has rows, types, hints and notifications in order", [
+            f"{found.label}: {fault}" for found in module.definitions.values()
+            for fault in faults(world, module, found)], [])
+    check("numbers that stand in two modules",
+          {name: names[0] for names in homes.values() for name in names[1:]}, TWICE)
+
+
+def faults(world, module, found):
+    """What is wrong with a definition, beside its number."""
+    kind, clauses = found.type, found.clauses
+    named = [world.find(module, label) for label in clauses.get("OBJECTS", [])]
+    if not all(place and place[1].type for place in named):
+        yield "names what is no object"
+    if found.macro == "OBJECT-TYPE" and {"INDEX", "AUGMENTS"} & set(clauses):
+        parts, row = world.index(module, found), module.definitions.get(kind.name)
+        if not parts or not all(world.meaning(owner, column.type) for owner, column, _ in parts):
+            yield "has an index that can't be read"
+        if not row or row.type.members != [label for label, other in module.definitions.items()
+                                           if other.value[:1] == [found.label]]:
+            yield "has other columns than its row"
+    elif found.macro == "OBJECT-TYPE" and not kind.name.startswith("SEQUENCE") and not world.meaning(module, kind):
+        yield "has no type"
+    elif "DISPLAY-HINT" in clauses:
+        base, hint = world.meaning(module, kind)[0], clauses["DISPLAY-HINT"]
+        if not HINTS[base in module_texts.INTEGERS].fullmatch(hint):
+            yield f"has a hint that is none of its type, {hint}"
+
+
+def instance(world, parts):
+    """The numbers of a row whose index has these parts, and how they are shown."""
+    numbers, text = [], ""
+    for owner, column, implied in parts:
+        base, ranges, _, _ = world.meaning(owner, column.type)
+        if base == "OCTET STRING":
+            fixed = len(ranges) == 1 and len(ranges[0]) == 1
+            octets = [97] * max(2, ranges[0][0] if ranges else 0)
+            numbers += octets if fixed or implied else [len(octets), *octets]
+            quote = "'" if fixed or implied else '"'
+            text += f".{quote}{'a' * len(octets)}{quote}"
+            continue
+        more = {"IpAddress": [192, 0, 2, 1], "OBJECT IDENTIFIER": [1, 3] if implied else [2, 1, 3]}.get(base, [7])
+        numbers += more
+        text += "".join(f".{number}" for number in more)
+    return numbers, text
+
+
+def indexes(world):
+    """An instance of the first column of each row is shown by its index, and read back."""
+    names, numbers = [], []
+    for module in world.modules.values():
+        for found in module.definitions.values():
+            if not {"INDEX", "AUGMENTS"} & set(found.clauses):
+                continue
+            column = module.definitions[module.definitions[found.type.name].type.members[0]]
+            more, text = instance(world, world.index(module, found))
+            names.append(f"{module.name}::{column.label}{text}")
+            numbers.append("".join(f".{number}" for number in [*world.numbers(module, column), *more]))
+    check("rows are named by their indexes", run("snmptranslate", "--mib", ALL, *numbers),
+          (0, "".join(f"{name}\n" for name in names), ""))
+    check("and read by them", run("snmptranslate", "--mib", ALL, "-On", *names),
+          (0, "".join(f"{number}\n" for number in numbers), ""))
+
+
+def hints(world):
+    """The program takes the hint of each textual convention: a string is shown neither in quotes nor as octets."""
+    lines, rows, wanted = [], [], []
+    for module in world.modules.values():
+        for found in module.definitions.values():
+            if found.macro != "TEXTUAL-CONVENTION" or "DISPLAY-HINT" not in found.clauses:
+                continue
+            base, ranges, _, hint = world.meaning(module, found.type, found.clauses["DISPLAY-HINT"])
+            number = len(rows) + 1
+            lines.append(f"h{number}-{module.name} DEFINITIONS ::= BEGIN IMPORTS {found.label} FROM {module.name};\n"
+                         f"h{number} OBJECT-TYPE SYNTAX {found.label} MAX-ACCESS read-only STATUS current\n"
+                         f'DESCRIPTION "" ::= {{ iso 3 6 1 4 1 32473 {number} }} END\n'.replace("h", "H", 1))
+            if base in module_texts.INTEGERS:
+                tag = "2" if base in ("INTEGER", "Integer32") else "66"
+                places = int(hint.partition("-")[2] or 0)
+                wanted.append(f"{'INTEGER' if tag == '2' else 'Gauge32'}: {7 / 10 ** places:.{places}f}")
+                rows.append(f"1.3.6.1.4.1.32473.{number}.0|{tag}|7")
+            else:
+                length = max(2, ranges[0][0] if ranges else 0)
+                wanted.append("STRING: ")
+                rows.append(f"1.3.6.1.4.1.32473.{number}.0|4|{'a' * length}")
+    with tempfile.TemporaryDirectory() as folder:
+        for name, kept in ("hints.txt", lines), ("hints.tab", [row + "\n" for row in rows]):
+            with open(f"{folder}/{name}", "w", encoding="ascii") as file:
+                file.write("".join(kept))
+        status, out, said = run("snmpwalk", "--mib", ALL, "--mib", f"{folder}/hints.txt", "-OU",
+                                f"table:{folder}/hints.tab", ".1.3.6.1.4.1.32473")
+    check("a table of each hint is walked", (status, said, out.count("\n")), (0, "", len(wanted)))
+    for line, start in zip(out.splitlines(), wanted):
+        name, _, value = line.partition(" = ")
+        check(f"{line} by its hint", (value == start) if start != "STRING: " else
+              value.startswith(start) and not value.startswith('STRING: "'), True)
+
+
+def facts(world, root):
+    """The facts of the texts are those that packages of Debian have, where these are there."""
+    compared = 0
+    for module in world.modules.values():
+        found = module_facts.differences(root, world, module)
+        if found:
+            compared += found[0]
+            check(f"{module.name} is as the package has it", found[1], [])
+    if not compared:
+        print("not tried: facts of modules, as neither python3-pysnmp4-mibs nor libsnmp-base is there", file=sys.stderr)
 
 
 def loads(files):
@@ -136,7 +309,8 @@ def loads(files):
     for file in files:
         check(f"{file} loads without a warning",
               run("snmptranslate", *mibs(needed(file, files)), "-On", ".1.3.6.1"), silent)
-    check(f"{ALL} loads without a warning", run("snmptranslate", "--mib", ALL, "-On", ".1.3.6.1"), silent)
+    for made in MADE:
+        check(f"{made} loads without a warning", run("snmptranslate", "--mib", made, "-On", ".1.3.6.1"), silent)
     check("what other modules import is there",
           run("snmptranslate", *mibs([ALL, "tests/data/imports.txt"]), "-Of", "vendor.1"),
           (0, ".iso.org.dod.internet.private.enterprises.vendor.1\n", ""))
@@ -147,9 +321,12 @@ def loads(files):
 
 
 def walks(files):
-    lines = text_of("tests/data/interfaces.txt").splitlines(True)
+    plain = text_of("tests/data/interfaces.txt")
+    check("snmpbulkwalk prints the table by the names of the core", run("snmpbulkwalk", "--mib", CORE, TABLE, ".1"),
+          (0, plain, ""))
+    lines = by_all(plain).splitlines(True)
     whole = 0, "".join(lines), ""
-    check("snmpbulkwalk prints the table by names", run("snmpbulkwalk", "--mib", ALL, TABLE, ".1"), whole)
+    check("and by those of all", run("snmpbulkwalk", "--mib", ALL, TABLE, ".1"), whole)
     check("so does snmpwalk by the files in another order",
           run("snmpwalk", *mibs(files[::-1]), TABLE, ".1"), whole)
     first = lines.index("IF-MIB::ifIndex.1 = INTEGER: 1\n")
@@ -165,9 +342,35 @@ def walks(files):
         check(f"-O{letters} {name}", run("snmpwalk", "--mib", ALL, f"-O{letters}", TABLE, name), (0, text, ""))
 
 
+def devices():
+    """What devices return, by names: each table of examples/ whose lines are in tests/data. A switch has ports as
+    bits, and neighbours whose rows are marked with a time."""
+    for path in sorted(glob.glob(os.path.join(TOP, "examples", "*.tab"))):
+        name = os.path.basename(path)[:-len(".tab")]
+        if name == "interfaces" or not os.path.exists(os.path.join(TOP, "tests", "data", f"{name}.txt")):
+            continue
+        lines = by_all(text_of(f"tests/data/{name}.txt"))
+        for walker in "snmpwalk", "snmpbulkwalk":
+            check(f"{walker} prints the {name} by names",
+                  run(walker, "--mib", ALL, f"table:examples/{name}.tab", ".1"), (0, lines, ""))
+    for letters, root, text in (
+            ("qs", "lldpRemSysName",
+             "lldpRemSysName.3120.5.1 core-2.example.net\nlldpRemSysName.188231200.3.7 phone-4d0109\n"),
+            ("qv", "dot1qVlanStaticName", "default\noffice\nvoice\n"),
+            ("qv", "dot1qPvid", "10\n10\n20\n20\n1\n"),
+            ("qv", "pethPsePortDetectionStatus", "deliveringPower\ndisabled\ndeliveringPower\nsearching\n"),
+            ("QUs", "pethMainPsePower", "pethMainPsePower.1 = 370\n"),
+            ("qs", "entPhySensorValueUpdateRate", "entPhySensorValueUpdateRate.1001 5000 milliseconds\n"),
+            ("qv", "ifMauType",
+             "IANA-MAU-MIB::dot3MauType1000BaseTFD\nIANA-MAU-MIB::dot3MauType10GigBaseSR\n"),
+            ("e", "entStateAlarm", "ENTITY-STATE-MIB::entStateAlarm.1003 = BITS: 10 3 \n")):
+        check(f"-O{letters} {root}", run("snmpwalk", "--mib", ALL, f"-O{letters}", "table:examples/switch.tab", root),
+              (0, text, ""))
+
+
 def translations(files):
     numbers = "".join(f"{number}\n" for number in NAMES.values())
-    names = "".join(f"{name}\n" for name in NAMES)
+    names = by_all("".join(f"{name}\n" for name in NAMES))
     check("names as numbers", run("snmptranslate", "--mib", ALL, "-On", *NAMES), (0, numbers, ""))
     check("numbers as names", run("snmptranslate", "--mib", ALL, *NAMES.values()), (0, names, ""))
     check("the details of ifOperStatus", run("snmptranslate", "--mib", ALL, "-Td", "ifOperStatus"), (0, DETAILS, ""))
@@ -211,10 +414,16 @@ def main():
         print("tests/modules.py: the program isn't built: ./snmp --build", file=sys.stderr)
         return 1
     files = sorted(f"modules/{os.path.basename(path)}" for path in glob.glob(os.path.join(TOP, "modules", "*.txt")))
-    files.remove(ALL)
+    files = [file for file in files if file not in MADE]
+    world = module_texts.World(module for file in files for module in module_texts.read(text_of(file)))
     joined()
+    texts(world, files)
+    indexes(world)
+    hints(world)
+    facts(world, sys.argv[1] if len(sys.argv) > 1 else "/")
     loads(files)
     walks(files)
+    devices()
     translations(files)
     beside()
     print(f"{passed} passed, {failed} failed")

@@ -1,0 +1,173 @@
+"""A plain reading of module texts: what each definition says, and what its names mean. It is for tests, which
+compare it with what the program reads; it refuses nothing."""
+import re
+
+TOKEN = re.compile(r"""
+    "[^"]*" | --(?:(?!--)[^\n])*(?:--)? | '[^']*'[HhBb] | ::= | \.\. | [{}()\[\],;|]
+    | [^\s{}()\[\],;|"']+?(?=::=|\.\.|[\s{}()\[\],;|"']|--|$)""", re.X)
+OPEN, CLOSE = "{([", "})]"
+BASES = {"INTEGER", "OCTET STRING", "OBJECT IDENTIFIER", "BITS", "Integer32", "Unsigned32", "Gauge32", "Counter32",
+         "Counter64", "TimeTicks", "IpAddress", "Opaque"}
+INTEGERS = {"INTEGER", "Integer32", "Unsigned32", "Gauge32", "Counter32", "TimeTicks"}
+
+
+def group_end(tokens, at):
+    """Behind the group that opens here."""
+    depth = 0
+    while True:
+        depth += (tokens[at] in OPEN) - (tokens[at] in CLOSE)
+        at += 1
+        if not depth:
+            return at
+
+
+class Type:
+    """What a SYNTAX says: its name, the ranges of its numbers or lengths, and the names of its numbers."""
+
+    def __init__(self, tokens, at):
+        if tokens[at] == "[":
+            at = group_end(tokens, at) + 1
+        words = 3 if tokens[at:at + 2] == ["SEQUENCE", "OF"] else 2 if tokens[at] in ("OCTET", "OBJECT") else 1
+        self.name, self.ranges, self.names, self.members = " ".join(tokens[at:at + words]), [], {}, []
+        at += words
+        if at < len(tokens) and tokens[at] == "{":
+            end = group_end(tokens, at)
+            inside = " ".join(tokens[at + 1:end - 1])
+            self.members = [part.split()[0] for part in inside.split(" , ") if part]
+            self.names = {name: int(number) for name, number in re.findall(r"([\w-]+) \( (-?\d+) \)", inside)}
+            at = end
+        if at < len(tokens) and tokens[at] == "(":
+            end = group_end(tokens, at)
+            inside = " ".join(tokens[at + 1:end - 1]).replace("SIZE (", "").rstrip(") ")
+            self.ranges = [[int(bound) for bound in re.findall(r"-?\d+", part)] for part in inside.split("|")]
+            at = end
+        self.end = at
+
+
+class Definition:
+    """A label or a type of a module, with its clauses."""
+
+    def __init__(self, label, macro, tokens, value):
+        self.label, self.macro, self.value = label, macro, value
+        self.clauses, self.type, at = {}, None, 0
+        while at < len(tokens):
+            word, rest = tokens[at], tokens[at + 1:at + 2]
+            if word == "SYNTAX" and not self.type:
+                self.type = Type(tokens, at + 1)
+                at = self.type.end
+            elif rest == ["{"]:
+                end = group_end(tokens, at + 1)
+                inside = " ".join(tokens[at + 2:end - 1])
+                self.clauses.setdefault(word, [part for part in inside.split(" , ") if part])
+                at = end
+            elif word in ("UNITS", "MAX-ACCESS", "ACCESS", "STATUS", "DISPLAY-HINT", "LAST-UPDATED"):
+                self.clauses.setdefault(word.replace("MAX-", ""), rest[0].strip('"'))
+                at += 2
+            else:
+                at += 1
+
+
+class Module:
+    """The definitions of one module, by their labels; the labels that it has twice; and its imports."""
+
+    def __init__(self, name, tokens):
+        self.name, self.definitions, self.twice, self.imports = name, {}, [], {}
+        at = 0
+        if tokens[:1] == ["IMPORTS"]:
+            at = tokens.index(";") + 1
+            names = []
+            for word in tokens[1:at]:
+                if names[-1:] == ["FROM"]:
+                    self.imports.update({label: word for label in names if label not in (",", "FROM")})
+                    names = []
+                else:
+                    names.append(word)
+        while at < len(tokens):
+            at = self.definition(tokens, at)
+
+    def definition(self, tokens, at):
+        label, sign = tokens[at], tokens.index("::=", at)
+        if sign == at + 1 and tokens[sign + 1] != "TEXTUAL-CONVENTION":
+            found = Definition(label, "type", [], [])
+            found.type = Type(tokens, sign + 1)
+            end = found.type.end
+        elif sign == at + 1:
+            syntax = tokens.index("SYNTAX", sign)
+            end = Type(tokens, syntax + 1).end
+            found = Definition(label, "TEXTUAL-CONVENTION", tokens[sign + 2:end], [])
+        else:
+            end = group_end(tokens, sign + 1)
+            value = " ".join(tokens[sign + 2:end - 1]).replace(" ( ", "(").replace(" )", ")").split()
+            found = Definition(label, tokens[at + 1], tokens[at + 2:sign], value)
+        if label in self.definitions:
+            self.twice.append(label)
+        else:
+            self.definitions[label] = found
+        return end
+
+
+def read(text):
+    """The modules of a text, in order."""
+    tokens = [token for token in TOKEN.findall(text) if not token.startswith("--")]
+    found, at = [], 0
+    while at < len(tokens):
+        begin = tokens.index("BEGIN", at)
+        end = begin + 1
+        while tokens[end] != "END":
+            end = group_end(tokens, end) if tokens[end] in OPEN else end + 1
+        found.append(Module(tokens[at], tokens[begin + 1:end]))
+        at = end + 1
+    return found
+
+
+class World:
+    """Several modules, each the first of its name."""
+
+    def __init__(self, modules):
+        self.modules = {}
+        for module in modules:
+            self.modules.setdefault(module.name, module)
+
+    def find(self, module, label):
+        """The module and the definition that a name in a module means, or None."""
+        while label not in module.definitions:
+            module = self.modules.get(module.imports.get(label))
+            if not module:
+                return None
+        return module, module.definitions[label]
+
+    def numbers(self, module, definition, depth=0):
+        """The identifier of a definition, or None."""
+        first, *rest = definition.value or [""]
+        if depth > 40 or not all(re.fullmatch(r"\d+|[\w-]+\(\d+\)", part) for part in rest):
+            return None
+        rest = tuple(int(re.search(r"(\d+)\)?$", part)[1]) for part in rest)
+        if first.isdigit() or first in ("iso", "ccitt"):
+            return (int(first) if first.isdigit() else int(first == "iso"),) + rest
+        found = self.find(module, first)
+        above = found and self.numbers(*found, depth + 1)
+        return above and above + rest
+
+    def meaning(self, module, kind, hint=None):
+        """The base of a type, and the nearest ranges, names of numbers and hint; or None."""
+        ranges, names = kind.ranges, kind.names
+        while kind.name not in BASES:
+            found = self.find(module, kind.name)
+            if not found or not found[1].type:
+                return None
+            module, definition = found
+            kind = definition.type
+            hint = hint or definition.clauses.get("DISPLAY-HINT")
+            ranges, names = ranges or kind.ranges, names or kind.names
+        return kind.name, ranges, names, hint
+
+    def index(self, module, row):
+        """The parts of a row's index, each a module, an object and whether it is IMPLIED; or None."""
+        if "AUGMENTS" in row.clauses:
+            found = self.find(module, row.clauses["AUGMENTS"][0])
+            return found and "AUGMENTS" not in found[1].clauses and self.index(*found)
+        parts = [part.split() for part in row.clauses.get("INDEX", [])]
+        found = [self.find(module, words[-1]) for words in parts]
+        if not parts or not all(found):
+            return None
+        return [(*place, words[0] == "IMPLIED") for place, words in zip(found, parts)]
