@@ -369,12 +369,16 @@ input:4: no value of its type: .1.3.6.4 = STRING: 0:16:3e
 input:5: no value of its type: .1.3.6.5 = INTEGER: 0.05" \
     $'.1.3.6.1 = NULL\n.1.3.6.2 = No Such Instance currently exists at this OID\n.1.3.6.3 = Opaque: Float: 1.5
 .1.3.6.4 = STRING: 0:16:3e\n.1.3.6.5 = INTEGER: 0.05\n'
-turned 'names that no table has' '' "input:1: no name in numbers: IF-MIB::ifIndex.1 = INTEGER: 1
-input:2: no name that a table holds: .1.3 = INTEGER: 1
+turned 'names that no table has' '' "input:2: no name that a table holds: .1.3 = INTEGER: 1
 input:3: no name that a table holds: .1.3.4294967296 = INTEGER: 1
 input:4: no name that a table holds: .3.1.1 = INTEGER: 1
-input:5: no line of a walk: .1.3.6.1 \"t\"" \
+input:5: no line of a walk: .1.3.6.1 \"t\"
+input:1: no name in numbers: walk without --mib: IF-MIB::ifIndex.1 = INTEGER: 1" \
     $'IF-MIB::ifIndex.1 = INTEGER: 1\n.1.3 = INTEGER: 1\n.1.3.4294967296 = INTEGER: 1\n.3.1.1 = INTEGER: 1\n.1.3.6.1 "t"\n'
+# A walk by modules: its texts may go on in further lines, and one line tells of all.
+turned 'a walk with names' '1.3.6.1|2|1' 'input:1: no name in numbers, nor in 3 more lines: walk without --mib: SNMPv2-MIB::sysDescr.0 = STRING: one' \
+    $'SNMPv2-MIB::sysDescr.0 = STRING: one\ntwo\n\nthree\nSNMPv2-MIB::sysObjectID.0 = OID: NET-SNMP-TC::linux
+.1.3.6.1 = INTEGER: 1\n.1.3.6.2 = OID: NET-SNMP-TC::linux\nsysUpTimeInstance = Timeticks: (1) 0:00:00.01\nVariables found: 4\n'
 turned 'a name that came before' '1.3.6.1|2|1' 'input:2: the name has a row: .1.3.6.1 = INTEGER: 2' \
     $'.1.3.6.1 = INTEGER: 1\n.1.3.6.1 = INTEGER: 2\n'
 turned 'a string that has no end' '1.3.6.2|4|b' 'input:1: no value of its type: .1.3.6.1 = STRING: "a' \
