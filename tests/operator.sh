@@ -207,9 +207,8 @@ done
 # A folder with what an install takes, so that nothing of the repository is touched.
 tree() {
     rm -rf "${got:?}/tree" "${got:?}/usr" "${got:?}/names"
-    mkdir -p "$got/tree/crates/snmp/out" "$got/tree/modules" "$got/tree/docs"
-    cp -r snmp tools completions "$got/tree"
-    cp docs/snmp.1 "$got/tree/docs"
+    mkdir -p "$got/tree/crates/snmp/out" "$got/tree/modules"
+    cp -r snmp tools completions docs examples "$got/tree"
     ln -s "$program" "$got/tree/crates/snmp/out/snmp"
     touch "$got/tree/crates.txt" -d 2000-01-01
     echo 'base' >"$got/tree/modules/base.txt"
@@ -218,8 +217,9 @@ install_with() { (cd "$got" && tree/snmp --install "$@" 2>&1); }
 there() { (cd "$got" && find usr names -type f -o -type l 2>/dev/null | sort); }
 
 tree
-files='bin/lines-to-table bin/snmp share/bash-completion/completions/snmp share/man/man1/snmp.1
-share/snmp/modules/base.txt share/zsh/site-functions/_snmp'
+files="bin/lines-to-table bin/snmp share/bash-completion/completions/snmp
+share/doc/snmp/FROM-NET-SNMP.md share/doc/snmp/MANY-DEVICES.md share/doc/snmp/PROFILE.md share/man/man1/snmp.1
+$(printf 'share/snmp/%s\n' examples/*) share/snmp/modules/base.txt share/zsh/site-functions/_snmp"
 files=$(printf 'usr/%s\n' $files)
 scripts=$(printf 'names/%s\n' $commands)
 same 'an install lists its files' "$files" "$(install_with usr | sed "s:^$got/::" | sort)"
@@ -227,9 +227,16 @@ same 'the files of an install' "$files" "$(there)"
 same 'an installed program runs' "$("$program" --version)" "$(cd / && "$got/usr/bin/snmp" --version)"
 same 'an installed lines-to-table runs' '1.3.6|2|1' "$(echo '.1.3.6 = INTEGER: 1' | "$got/usr/bin/lines-to-table")"
 for file in tools/lines-to-table:bin/lines-to-table docs/snmp.1:share/man/man1/snmp.1 \
+    docs/PROFILE.md:share/doc/snmp/PROFILE.md examples/printer.tab:share/snmp/examples/printer.tab \
     completions/snmp.bash:share/bash-completion/completions/snmp completions/_snmp:share/zsh/site-functions/_snmp; do
     count "$(cmp "${file%%:*}" "$got/usr/${file#*:}" 2>&1)"
 done
+# What the manual says is there; the modules are those of the repository and not of this tree.
+while read -r named; do
+    case $named in */modules/*) at=${named#share/snmp/} ;; *) at=$got/usr/$named ;; esac
+    count "$([ -e "$at" ] || echo "the manual names $named, which isn't there")"
+done < <(grep -oE 'share/(snmp|doc)/[a-zA-Z0-9/.-]*[a-zA-Z0-9]' docs/snmp.1 | sort -u)
+count "$(grep -n 'docs/' docs/snmp.1 | grep -v '^[0-9]*:\.\\"')"
 same 'modes of an install' '644 755' "$(stat -c %a "$got/usr/share/man/man1/snmp.1" "$got/usr/bin/snmp" | xargs)"
 
 install_with usr --with-names names >"$got/out"
