@@ -7,7 +7,7 @@ driver tree.c
 
 echo 'SNMPv2-SMI DEFINITIONS ::= BEGIN enterprises OBJECT IDENTIFIER ::= { iso 3 6 1 4 1 } END' >"$work/text"
 python3 "$top/bench/modules_text.py" 1000000 >>"$work/text"
-for text in "$work/text" "$top/modules/all.txt"; do
+for text in "$work/text" "$top/modules/core.txt"; do
     "$work/driver" nodes "$text" 1
     compared "  ${text##*/}" "$(within tree_nodes_in nodes "$text" 1)" within net_snmp_modules modules "$text" 1
 done

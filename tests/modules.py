@@ -82,6 +82,19 @@ NAMES = {
     "IP-FORWARD-MIB::ipCidrRouteIfIndex.192.0.2.0.255.255.255.0.0.0.0.0.0":
         ".1.3.6.1.2.1.4.24.4.1.5.192.0.2.0.255.255.255.0.0.0.0.0.0",
     "IF-INVERTED-STACK-MIB::ifInvStackStatus.2.5": ".1.3.6.1.2.1.77.1.1.1.1.2.5",
+    "Printer-MIB::prtMarkerSuppliesLevel.1.6": ".1.3.6.1.2.1.43.11.1.1.9.1.6",
+    "Printer-MIB::printerV2Alert": ".1.3.6.1.2.1.43.18.2.0.1",
+    "Printer-MIB::prtConsoleColor.1.2": ".1.3.6.1.2.1.43.17.6.1.4.1.2",
+    "IANA-PRINTER-MIB::ianaPrinterMIB": ".1.3.6.1.2.1.109",
+    "IANA-CHARSET-MIB::ianaCharsetMIB": ".1.3.6.1.2.1.106",
+    "UCD-SNMP-MIB::laLoad.1": ".1.3.6.1.4.1.2021.10.1.3.1",
+    "UCD-SNMP-MIB::memSysAvail.0": ".1.3.6.1.4.1.2021.4.27.0",
+    "UCD-SNMP-MIB::mrModuleName.1.3.6.1.2.1.1": ".1.3.6.1.4.1.2021.102.1.2.1.3.6.1.2.1.1",
+    "UCD-DISKIO-MIB::diskIOBusyTime.1": ".1.3.6.1.4.1.2021.13.15.1.1.14.1",
+    "NET-SNMP-TC::linux": ".1.3.6.1.4.1.8072.3.2.10",
+    "UPS-MIB::upsOutputPercentLoad.1": ".1.3.6.1.2.1.33.1.4.4.1.5.1",
+    "UPS-MIB::upsTrapAlarmEntryRemoved": ".1.3.6.1.2.1.33.2.4",
+    "SNMP-TARGET-MIB::snmpTargetAddrTDomain.'ab'": ".1.3.6.1.6.3.12.1.2.1.2.97.98",
 }
 # The standards have these in two modules each, and a number is shown by the first that was loaded.
 TWICE = {f"HOST-RESOURCES-TYPES::{label}": f"HOST-RESOURCES-MIB::{label}"
@@ -353,19 +366,23 @@ def devices():
         for walker in "snmpwalk", "snmpbulkwalk":
             check(f"{walker} prints the {name} by names",
                   run(walker, "--mib", ALL, f"table:examples/{name}.tab", ".1"), (0, lines, ""))
-    for letters, root, text in (
-            ("qs", "lldpRemSysName",
+    for device, letters, root, text in (
+            ("switch", "qs", "lldpRemSysName",
              "lldpRemSysName.3120.5.1 core-2.example.net\nlldpRemSysName.188231200.3.7 phone-4d0109\n"),
-            ("qv", "dot1qVlanStaticName", "default\noffice\nvoice\n"),
-            ("qv", "dot1qPvid", "10\n10\n20\n20\n1\n"),
-            ("qv", "pethPsePortDetectionStatus", "deliveringPower\ndisabled\ndeliveringPower\nsearching\n"),
-            ("QUs", "pethMainPsePower", "pethMainPsePower.1 = 370\n"),
-            ("qs", "entPhySensorValueUpdateRate", "entPhySensorValueUpdateRate.1001 5000 milliseconds\n"),
-            ("qv", "ifMauType",
+            ("switch", "qv", "dot1qVlanStaticName", "default\noffice\nvoice\n"),
+            ("switch", "qv", "dot1qPvid", "10\n10\n20\n20\n1\n"),
+            ("switch", "qv", "pethPsePortDetectionStatus", "deliveringPower\ndisabled\ndeliveringPower\nsearching\n"),
+            ("switch", "QUs", "pethMainPsePower", "pethMainPsePower.1 = 370\n"),
+            ("switch", "qs", "entPhySensorValueUpdateRate", "entPhySensorValueUpdateRate.1001 5000 milliseconds\n"),
+            ("switch", "qv", "ifMauType",
              "IANA-MAU-MIB::dot3MauType1000BaseTFD\nIANA-MAU-MIB::dot3MauType10GigBaseSR\n"),
-            ("e", "entStateAlarm", "ENTITY-STATE-MIB::entStateAlarm.1003 = BITS: 10 3 \n")):
-        check(f"-O{letters} {root}", run("snmpwalk", "--mib", ALL, f"-O{letters}", "table:examples/switch.tab", root),
-              (0, text, ""))
+            ("switch", "e", "entStateAlarm", "ENTITY-STATE-MIB::entStateAlarm.1003 = BITS: 10 3 \n"),
+            ("printer", "qv", "prtMarkerSuppliesLevel", "6\n71\n64\n58\n-3\n101787\n"),
+            ("host", "qs", "laLoad", "laLoad.1 2.18\nlaLoad.2 1.75\nlaLoad.3 0.94\n"),
+            ("ups", "qv", "upsAlarmDescr",
+             "UPS-MIB::upsAlarmOnBattery\nUPS-MIB::upsAlarmInputBad\nSNMPv2-SMI::enterprises.32473.5.2.14\n")):
+        check(f"-O{letters} {root}",
+              run("snmpwalk", "--mib", ALL, f"-O{letters}", f"table:examples/{device}.tab", root), (0, text, ""))
 
 
 def translations(files):
