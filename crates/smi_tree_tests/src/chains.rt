@@ -1,7 +1,9 @@
 //! Chains of places: long ones in both directions, rings, and what leads into a ring or nowhere.
+//! The names of a module on such chains, which loading resolves, come to the same.
 
 use crate::reading::comes_to;
-use smi_names::{Basis, Resolution, ordered, resolutions};
+use smi_names::{Basis, NameHash, Names, Resolution, ordered, resolutions};
+use smi_text::{Module, parse_modules};
 use std::alloc::Global;
 use std::test::Fail;
 
@@ -115,6 +117,116 @@ fn is_chain(chain: &[Resolution]) -> bool {
 fn has_numbers(resolution: Option<&Resolution>, count: usize) -> bool {
     match resolution {
         Some(Resolution::Numbers(numbers)) => numbers.len() == count,
+        _ => false,
+    }
+}
+
+#[test]
+fn names_lead_back_to_one_with_numbers(rt: HostRuntime) -> Result<(), Fail> {
+    let alloc = rt.alloc();
+    assert!(rt; are_loaded(alloc, &falling(alloc, MANY, &[])?)?);
+    Ok(())
+}
+
+#[test]
+fn names_lead_on_to_one_with_numbers(rt: HostRuntime) -> Result<(), Fail> {
+    let alloc = rt.alloc();
+    assert!(rt; are_loaded(alloc, &rising_to_numbers(alloc)?)?);
+    Ok(())
+}
+
+#[test]
+fn names_lead_nowhere(rt: HostRuntime) -> Result<(), Fail> {
+    let alloc = rt.alloc();
+    assert!(rt; are_loaded(alloc, &rising(alloc, MANY, MANY)?)?);
+    Ok(())
+}
+
+#[test]
+fn names_on_a_ring_have_no_end(rt: HostRuntime) -> Result<(), Fail> {
+    let alloc = rt.alloc();
+    assert!(rt; are_loaded(alloc, &rising(alloc, MANY, 0)?)?);
+    assert!(rt; are_loaded(alloc, &ring_and_others(alloc)?)?);
+    Ok(())
+}
+
+#[test]
+fn numbers_come_along_a_chain_of_names(rt: HostRuntime) -> Result<(), Fail> {
+    let alloc = rt.alloc();
+    assert!(rt; are_loaded(alloc, &falling(alloc, 200, &[7])?)?);
+    Ok(())
+}
+
+/// Whether the names of a module with these bases resolve to what the places do.
+fn are_loaded(alloc: Global, bases: &[Basis]) -> Result<bool, Fail> {
+    let text = module_text(alloc, bases)?;
+    let modules = parse_modules(alloc, text.as_bytes())?;
+    let resolutions = resolutions(alloc, bases)?;
+    resolve_to(alloc, &modules, &resolutions)
+}
+
+/// The text of a module that has a name for each place, with its basis.
+fn module_text(alloc: Global, bases: &[Basis]) -> Result<String, Fail> {
+    let mut text = String::new(alloc);
+    text.push_str("M DEFINITIONS ::= BEGIN\n")?;
+    for (place, basis) in bases.iter().enumerate() {
+        write!(text, "p{place} OBJECT IDENTIFIER ::= {{")?;
+        push_basis(&mut text, basis)?;
+        text.push_str(" }\n")?;
+    }
+    text.push_str("END\n")?;
+    Ok(text)
+}
+
+/// Appends the parts of an identifier value that has this basis.
+fn push_basis(text: &mut String, basis: &Basis) -> Result<(), Fail> {
+    match basis {
+        Basis::Numbers(numbers) => push_numbers(text, numbers),
+        Basis::After(place, numbers) => {
+            write!(text, " p{place}")?;
+            push_numbers(text, numbers)
+        }
+        Basis::Nowhere => {
+            text.push_str(" nowhere")?;
+            Ok(())
+        }
+    }
+}
+
+fn push_numbers(text: &mut String, numbers: &[u32]) -> Result<(), Fail> {
+    for number in numbers {
+        write!(text, " {number}")?;
+    }
+    Ok(())
+}
+
+/// Whether there is one module, whose names resolve to these, in order of its definitions.
+fn resolve_to(alloc: Global, modules: &[Module], resolutions: &[Resolution]) -> Result<bool, Fail> {
+    let names = Names::new(alloc, NameHash::Fixed, modules)?;
+    match modules {
+        [module] => Ok(each_resolves_to(&names, module, resolutions)),
+        _ => Ok(false),
+    }
+}
+
+fn each_resolves_to<'a>(names: &Names<'a>, module: &'a Module, resolutions: &[Resolution]) -> bool {
+    let defs = module.defs.as_slice();
+    for (k, def) in defs.iter().enumerate() {
+        let found = names.resolution(module.name.as_bytes(), def.label.as_bytes());
+        if !are_same(found, resolutions.get(k)) {
+            return false;
+        }
+    }
+    defs.len() == resolutions.len()
+}
+
+/// Whether both are the same identifier, or the same reason why there is none.
+fn are_same(a: Option<&Resolution>, b: Option<&Resolution>) -> bool {
+    match (a, b) {
+        (Some(Resolution::Numbers(a)), Some(Resolution::Numbers(b))) => *a == *b,
+        (Some(Resolution::Cycle), Some(Resolution::Cycle)) => true,
+        (Some(Resolution::Unresolved), Some(Resolution::Unresolved)) => true,
+        (Some(Resolution::TooLong), Some(Resolution::TooLong)) => true,
         _ => false,
     }
 }
