@@ -142,14 +142,22 @@ merge_ends total new m others pages h none put =
     (subst (λ (es : Entries). IsPermutation total (entries m ++ es)) all h) put
 
 -- rows that were gathered, put in any order
-pub settled_moves : (m n : Rows) (late put kept : List VarBind) → IsPermutation late put
-    → IsPermutation (entries m ++ entries_of put) (entries n) → kept ≡ []
+pub sorted_moves : (m : Rows) (new : Entries) (late put : List VarBind) → IsPermutation late put
+    → IsPermutation (entries m ++ entries_of put) new
+    → IsPermutation (entries m ++ entries_of late) new
+sorted_moves m new late put sorted moved =
+    IsPermutation-trans _ _ _ (IsPermutation-append_right (entries m) (entries_of late)
+    (entries_of put) (IsPermutation-map entry_of late put sorted)) moved
+
+-- none of them is left
+pub settled_moves : (m n : Rows) (late taken kept : List VarBind) → taken ≡ late
+    → IsPermutation (entries m ++ entries_of taken) (entries n) → kept ≡ []
     → IsPermutation (entries m ++ entries_of late) (entries n ++ entries_of kept)
-settled_moves m n late put kept sorted moved none =
+settled_moves m n late taken kept same moved none =
     subst (λ (es : Entries). IsPermutation (entries m ++ entries_of late) es)
     (sym (append-nil (entries n)) ∙ ap (λ (rows : List VarBind). entries n ++ entries_of rows) (sym none))
-    (IsPermutation-trans _ _ _ (IsPermutation-append_right (entries m) (entries_of late)
-    (entries_of put) (IsPermutation-map entry_of late put sorted)) moved)
+    (subst (λ (rows : List VarBind). IsPermutation (entries m ++ entries_of rows) (entries n)) same
+    moved)
 
 -- ---- a row that a draft is given, behind the rows gathered or among them
 

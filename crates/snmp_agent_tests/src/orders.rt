@@ -113,10 +113,10 @@ fn is_read_so(alloc: Global, stated: &Stated) -> bool {
     }
 }
 
-/// An order of up to 1,260 rows: falling, of one column, or of some; a step by an odd number mostly
+/// An order of up to 660 rows: falling, of one column, or of some; a step by an odd number mostly
 /// comes to each number once.
 fn any_order(random: &mut Random) -> Order {
-    let count = random.below(1200);
+    let count = random.below(600);
     let steps = [0, 1, 619, 1543, 3089];
     let columns = [1, 1, 2, 3, 8];
     let step = random.below(5) as usize;
@@ -143,7 +143,7 @@ fn any_wrong(random: &mut Random, count: u32) -> Wrong {
 #[test]
 fn tables_in_any_order_are_read_as_row_by_row(rt: HostRuntime) {
     let mut random = Random { state: 7 };
-    for _ in 0..60 {
+    for _ in 0..25 {
         let order = any_order(&mut random);
         let wrong = any_wrong(&mut random, order.count);
         let is_marked = random.below(2) == 0;

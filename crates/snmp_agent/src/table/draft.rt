@@ -4,7 +4,7 @@ ghost use Rattle.std.specs.Prelude.{◌≡◌, true, false, [], List};
 use crate::table::error::TableError;
 use crate::table::format::LineFormat;
 use crate::table::hashes::Hashes;
-use crate::table::late::{Late, sort_falling};
+use crate::table::late::Late;
 use crate::table::line::{Line, LineFault, read_line};
 use crate::table::pages::Pages;
 use crate::table::split::split_line;
@@ -225,13 +225,9 @@ impl Draft {
             };
         }
         let name = row.name();
-        if !is_new(
-            alloc,
-            &self.rows,
-            &mut self.unhashed,
-            &mut self.hashes,
-            &name,
-        ) {
+        let late = self.late.as_slice();
+        let (unhashed, hashes) = (&mut self.unhashed, &mut self.hashes);
+        if !is_new(alloc, &self.rows, late, unhashed, hashes, &name) {
             return self.put_known(alloc, row, number);
         }
         match self.late.push(Late::new(row)) {
@@ -315,12 +311,10 @@ impl Draft {
             return true;
         }
         let mut late = mem::replace(&mut self.late, Vec::new(alloc));
-        sort_falling(&mut late);
-        let apart = if late.len() < self.rows.most_rows() / 8 {
-            self.rows.put_all(alloc, &mut late)
-        } else {
-            self.rows.merge(alloc, &mut late)
-        };
+        let apart = self.rows.put_sorted(alloc, &mut late);
+        // Its memory serves again.
+        late.clear();
+        self.late = late;
         match apart {
             Ok(apart) => apart,
             Err(_) => false,
@@ -330,17 +324,36 @@ impl Draft {
 
 /// Hashes the names of the rows in place that aren't hashed, and this one. Whether none has the hash
 /// of another.
-#[inline]
 fn is_new(
     alloc: Global,
     rows: &Pages,
+    late: &[Late],
     unhashed: &mut usize,
     hashes: &mut Hashes,
     name: &EncodedName<'_>,
 ) -> bool {
-    let count = mem::replace(unhashed, 0);
-    if count > 0 && !rows.insert_last(alloc, count, hashes) {
+    let mut count = mem::replace(unhashed, 0);
+    if !hashes.have_room(count.saturating_add(1)) {
+        if !rehash(alloc, rows, late, hashes) {
+            return false;
+        }
+        count = usize::MAX;
+    }
+    (count == 0 || rows.insert_last(count, hashes)) && hashes.insert(name)
+}
+
+/// Makes room for more hashes, and hashes the names of the rows that are gathered. Whether they are
+/// new, and there is memory.
+#[inline(never)]
+fn rehash(alloc: Global, rows: &Pages, late: &[Late], hashes: &mut Hashes) -> bool {
+    let most = rows.most_rows().saturating_add(late.len());
+    if !hashes.clear(alloc, most) {
         return false;
     }
-    hashes.insert(alloc, name)
+    for late in late {
+        if !hashes.insert(&late.row().name()) {
+            return false;
+        }
+    }
+    true
 }

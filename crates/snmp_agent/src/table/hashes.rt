@@ -3,21 +3,27 @@
 use snmp_wire::EncodedName;
 use std::alloc::{AllocError, Global};
 
-/// How many places there are at least, once there are any.
-const FEW_PLACES: usize = 512;
+/// How many hashes a bucket holds: they are looked at together, without a branch for each.
+const BUCKET: usize = 16;
 
-/// At how many places in a row a hash may stand.
-const LOOKS: usize = 64;
+/// How many buckets there are at least, once there are any.
+const FEW_BUCKETS: usize = 32;
+
+/// In how many buckets in a row a hash may stand.
+const LOOKS: usize = 16;
 
 /// An odd number in whose product with another each bit depends on all below it.
 const FACTOR: u64 = 0x9E37_79B9_7F4A_7C15;
 
 /// Hashes of names, to tell that a name wasn't there before. Nothing but time depends on them.
+///
+/// They take as few octets as serve: each page of memory that is touched costs as much as some rows.
 #[derive(Drop)]
 pub struct Hashes {
-    /// As many places as a power of two, or none: each with a hash, or 0.
-    places: Vec<u64>,
-    /// How many hashes there are: at most half as many as places.
+    /// As many as a power of two, or none. Each has the high halves of hashes whose low halves tell
+    /// its place, or one before it where the bucket there is full, and then zeros.
+    buckets: Vec<[u32; BUCKET]>,
+    /// How many hashes there are.
     count: usize,
 }
 
@@ -25,66 +31,89 @@ impl Hashes {
     /// No hashes.
     pub fn new(alloc: Global) -> Hashes {
         Hashes {
-            places: Vec::new(alloc),
+            buckets: Vec::new(alloc),
             count: 0,
         }
     }
 
-    /// Inserts the hash of a name. Whether it wasn't there: it may be another name's, and where it
-    /// gets no memory or no place it is taken to be there.
-    pub fn insert(&mut self, alloc: Global, name: &EncodedName<'_>) -> bool {
-        if self.count >= self.places.len() / 2 && !self.grow(alloc) {
-            return false;
-        }
-        self.count = self.count.saturating_add(1);
-        put_hash(self.places.as_mut_slice(), hash_of(name.content()))
+    /// Whether there is room for as many more, so that three of eight places stay free.
+    #[inline]
+    pub fn have_room(&self, more: usize) -> bool {
+        let most = self.buckets.len().saturating_mul(BUCKET / 8 * 5);
+        more <= most.saturating_sub(self.count)
     }
 
-    /// Makes four times as many places. Whether each hash got one.
+    /// Forgets all hashes, and makes room for as many and again as many. Whether there is memory.
     #[inline(never)]
-    fn grow(&mut self, alloc: Global) -> bool {
-        let size = self.places.len().saturating_mul(4).max(FEW_PLACES);
-        let Ok(mut places) = empty_places(alloc, size) else {
+    pub fn clear(&mut self, alloc: Global, count: usize) -> bool {
+        let mut size = FEW_BUCKETS;
+        for _ in 0..64 {
+            if size.saturating_mul(BUCKET / 8 * 5) / 2 >= count {
+                break;
+            }
+            size = size.saturating_mul(2);
+        }
+        self.count = 0;
+        self.buckets = Vec::new(alloc);
+        let Ok(buckets) = empty_buckets(alloc, size) else {
             return false;
         };
-        for hash in self.places.iter() {
-            if *hash != 0 && !put_hash(places.as_mut_slice(), *hash) {
-                return false;
-            }
-        }
-        self.places = places;
+        self.buckets = buckets;
         true
     }
+
+    /// Inserts the hash of a name. Whether it wasn't there, and found a place: it may be another
+    /// name's.
+    #[inline]
+    pub fn insert(&mut self, name: &EncodedName<'_>) -> bool {
+        self.count = self.count.saturating_add(1);
+        put_hash(self.buckets.as_mut_slice(), hash_of(name.content()))
+    }
 }
 
-/// This many places without a hash.
-fn empty_places(alloc: Global, size: usize) -> Result<Vec<u64>, AllocError> {
-    vec![in alloc; 0; size]
+/// This many buckets without a hash.
+fn empty_buckets(alloc: Global, size: usize) -> Result<Vec<[u32; BUCKET]>, AllocError> {
+    vec![in alloc; [0; BUCKET]; size]
 }
 
-/// Puts a hash in the first free place from its own on. Whether it wasn't there, and found one.
+/// Puts a hash in the first bucket from its own on that isn't full. Whether it wasn't there, and
+/// found one.
 #[inline]
-fn put_hash(places: &mut [u64], hash: u64) -> bool {
-    let last = places.len().wrapping_sub(1);
+fn put_hash(buckets: &mut [[u32; BUCKET]], hash: u64) -> bool {
+    let last = buckets.len().wrapping_sub(1);
+    let high = ((hash >> 32) as u32).max(1);
     let mut at = hash as usize & last;
     for _ in 0..LOOKS {
-        let Some(place) = places.get_mut(at) else {
+        let Some(bucket) = buckets.get_mut(at) else {
             return false;
         };
-        if *place == 0 {
-            *place = hash;
-            return true;
-        }
-        if *place == hash {
+        let (is_there, used) = look_for(bucket, high);
+        if is_there {
             return false;
+        }
+        if let Some(place) = bucket.get_mut(used) {
+            *place = high;
+            return true;
         }
         at = at.wrapping_add(1) & last;
     }
     false
 }
 
-/// The hash of the content of a name, which isn't 0: eight octets at a time, the last eight as they
-/// stand at its end.
+/// Whether the half of a hash is in a bucket, and how many are.
+#[inline(always)]
+fn look_for(bucket: &[u32; BUCKET], high: u32) -> (bool, usize) {
+    let mut is_there = false;
+    let mut used: u32 = 0;
+    for place in bucket {
+        is_there |= *place == high;
+        used = used.wrapping_add(u32::from(*place != 0));
+    }
+    (is_there, used as usize)
+}
+
+/// The hash of the content of a name: eight octets at a time, the last eight as they stand at its
+/// end.
 #[inline]
 fn hash_of(content: &[u8]) -> u64 {
     let Some(last) = content.last_chunk::<8>() else {
@@ -100,7 +129,7 @@ fn hash_of(content: &[u8]) -> u64 {
         rest = behind;
     }
     // Mixed once more, so that the low bits, which tell the place, depend on all octets.
-    mixed(mixed(hash ^ u64::from_be_bytes(*last))).max(1)
+    mixed(mixed(hash ^ u64::from_be_bytes(*last)))
 }
 
 /// The same of fewer octets than eight.
@@ -109,7 +138,7 @@ fn hash_of_few(content: &[u8]) -> u64 {
     let mut few = [0; 8];
     let size = content.len().min(8);
     few[..size].copy_from_slice(&content[..size]);
-    mixed(mixed(content.len() as u64 ^ u64::from_be_bytes(few))).max(1)
+    mixed(mixed(content.len() as u64 ^ u64::from_be_bytes(few)))
 }
 
 /// A number each bit of which depends on many of another.

@@ -13,7 +13,7 @@ ghost use Rattle.snmp_agent.specs.table.Halving.{StandsBetween};
 
 use crate::table::hashes::Hashes;
 use crate::table::hint::{Guess, Guesses};
-use crate::table::late::Late;
+use crate::table::late::{Late, sort_falling};
 use crate::table::page::{PAGE_ROWS, Page};
 use crate::table::search::{
     begins_up_to, ends_before, find_row, page_near, page_of, place_after, place_near, row_at,
@@ -223,7 +223,7 @@ impl Pages {
     }
 
     /// Inserts the hashes of the names of the last rows, as many or all. Whether each was new.
-    pub fn insert_last(&self, alloc: Global, count: usize, hashes: &mut Hashes) -> bool {
+    pub fn insert_last(&self, count: usize, hashes: &mut Hashes) -> bool {
         let mut left = count;
         for page in self.list.iter().rev() {
             for row in page.rows.iter().rev() {
@@ -231,7 +231,7 @@ impl Pages {
                     return true;
                 }
                 left -= 1;
-                if !hashes.insert(alloc, &row.name()) {
+                if !hashes.insert(&row.name()) {
                     return false;
                 }
             }
@@ -255,6 +255,20 @@ impl Pages {
     {
         append(alloc, &mut self.list, row)?;
         Ok(())
+    }
+
+    /// Sorts rows, puts each in its place, and returns whether none has the name of another. Where
+    /// one has, or memory runs out, some are lost.
+    pub fn put_sorted(&mut self, alloc: Global, rows: &mut Vec<Late>) -> Result<bool, AllocError>
+        ensures { IfOk result (λ apart. IsTrue apart
+            → IsPermutation (entries self.old ++ entries_of rows.old.items) (entries self.new)) }
+    {
+        sort_falling(rows);
+        if rows.len() < self.most_rows() / 8 {
+            self.put_all(alloc, rows)
+        } else {
+            self.merge(alloc, rows)
+        }
     }
 
     /// Puts each of the rows in its place, from the last one on, and returns whether none has the
