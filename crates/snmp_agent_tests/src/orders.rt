@@ -5,14 +5,22 @@ use snmp_agent::{Table, TableError};
 use std::alloc::{AllocError, Global};
 use std::collections::BTreeMap;
 
-/// How the numbers of the rows come.
+/// How many rows in order stand before the others, whose names have the even numbers: on so many
+/// pages that a table takes the others to be in no order where they come to many of these, and
+/// gathers them.
+const FIRST_ROWS: u32 = 16_000;
+
+/// How many of the others, put one by one, show that: three samples.
+const SEEN: u32 = 384;
+
+/// How the numbers of the rows come that stand among them.
 #[derive(Clone, Copy, Debug)]
 struct Order {
     /// How many rows there are.
     count: u32,
-    /// As many columns come row by row; with one the numbers rise.
+    /// As many columns come row by row; with one the numbers rise by the step.
     columns: u32,
-    /// The numbers go up by this, from 0 on again at the count; with 0 they fall.
+    /// The numbers go up by this, from the first on again behind the last; with 0 they fall.
     step: u32,
 }
 
@@ -38,17 +46,18 @@ struct Stated {
 }
 
 impl Order {
-    /// The number of the row at this place.
+    /// The number of the row at this place, which is odd.
     fn number(&self, place: u32) -> u32 {
         let place = if self.step == 0 {
-            self.count.saturating_sub(place)
+            FIRST_ROWS.saturating_sub(place.wrapping_add(1))
         } else {
-            place.wrapping_mul(self.step) % self.count.max(1)
+            place.wrapping_mul(self.step) % FIRST_ROWS
         };
         let columns = self.columns.max(1);
-        (place % columns)
-            .wrapping_mul(100_000)
-            .wrapping_add(place / columns)
+        let number = (place % columns)
+            .wrapping_mul(FIRST_ROWS / columns)
+            .wrapping_add(place / columns);
+        number.wrapping_mul(2).wrapping_add(1)
     }
 }
 
@@ -62,6 +71,16 @@ fn faulty_line(kind: u32, line: usize) -> (&'static str, TableError) {
             TableError::BadValue { line },
         ),
     }
+}
+
+/// Appends the lines of the rows that stand first.
+fn append_first_rows(alloc: Global, text: &mut Vec<u8>) -> Result<(), AllocError> {
+    for place in 0..FIRST_ROWS {
+        let number = place.wrapping_mul(2);
+        let line = format!(in alloc; "1.3.6.1.4.1.32473.1.{number}.0|65|{number}\n")?;
+        text.extend_from_slice(line.as_bytes())?;
+    }
+    Ok(())
 }
 
 /// The text of such rows, in the second format where it is marked.
@@ -79,6 +98,14 @@ fn text_of(
         text.extend_from_slice(b"#snmptab 2\n")?;
         line = 1;
     }
+    append_first_rows(alloc, &mut text)?;
+    for place in 0..FIRST_ROWS {
+        let number = place.wrapping_mul(2);
+        if map.insert(number, number).is_err() {
+            return Err(AllocError);
+        }
+    }
+    line = line.wrapping_add(FIRST_ROWS as usize);
     for place in 0..order.count {
         line = line.wrapping_add(1);
         let number = if place == wrong.again {
@@ -113,16 +140,16 @@ fn is_read_so(alloc: Global, stated: &Stated) -> bool {
     }
 }
 
-/// An order of up to 660 rows: falling, of one column, or of some; a step by an odd number mostly
-/// comes to each number once.
+/// An order of up to 1,700 rows: falling, of one column, or of some. The first are put one by one;
+/// where a step is long, or the columns are many, the others are gathered.
 fn any_order(random: &mut Random) -> Order {
-    let count = random.below(600);
+    let count = random.below(1600);
     let steps = [0, 1, 619, 1543, 3089];
-    let columns = [1, 1, 2, 3, 8];
+    let columns = [1, 1, 8, 40, 100];
     let step = random.below(5) as usize;
     let column = random.below(5) as usize;
     Order {
-        count: count.wrapping_add(60),
+        count: count.wrapping_add(100),
         columns: *columns.get(column).unwrap_or(&1),
         step: *steps.get(step).unwrap_or(&1),
     }
@@ -156,19 +183,18 @@ fn tables_in_any_order_are_read_as_row_by_row(rt: HostRuntime) {
 }
 
 #[test]
-fn the_first_double_behind_64_rows_among_others_is_told(rt: HostRuntime) {
-    // Rows that fall are all among others but the first: from the 65th on they are gathered.
-    for again in 60..140 {
+fn the_first_double_where_rows_begin_to_be_gathered_is_told(rt: HostRuntime) {
+    for again in SEEN - 4..SEEN + 6 {
         let order = Order {
-            count: 140,
+            count: SEEN + 8,
             columns: 1,
-            step: 0,
+            step: 619,
         };
-        for &first in &[0, 1, 58, 64, 65, 66, 128] {
+        for &first in &[0, 200, SEEN - 1, SEEN, SEEN + 4] {
             let wrong = Wrong {
                 again,
                 first: first.min(again.saturating_sub(1)),
-                bad: 139,
+                bad: SEEN + 7,
                 kind: 0,
             };
             let stated = text_of(rt.alloc(), &order, &wrong, false).expect(&rt, "memory");
@@ -209,14 +235,19 @@ const OF_ONE_HASH: [(&str, &str); 6] = [
 /// The fault of rows in no order among which such names stand, the second ones after as many rows,
 /// and in the last line the row of this place.
 fn fault_of_names(alloc: Global, before: u32, again: u32) -> Option<TableError> {
+    let order = Order {
+        count: before,
+        columns: 1,
+        step: 619,
+    };
     let mut text = Vec::new(alloc);
-    text.extend_from_slice(b"2.1.0|65|0\n").ok()?;
+    append_first_rows(alloc, &mut text).ok()?;
     for (name, _) in &OF_ONE_HASH {
         let line = format!(in alloc; "{name}|65|1\n").ok()?;
         text.extend_from_slice(line.as_bytes()).ok()?;
     }
     for place in 0..before {
-        let number = place.wrapping_mul(619) % 4096;
+        let number = order.number(place);
         let line = format!(in alloc; "1.3.6.1.4.1.32473.1.{number}.0|65|1\n").ok()?;
         text.extend_from_slice(line.as_bytes()).ok()?;
     }
@@ -224,7 +255,7 @@ fn fault_of_names(alloc: Global, before: u32, again: u32) -> Option<TableError> 
         let line = format!(in alloc; "{name}|65|1\n").ok()?;
         text.extend_from_slice(line.as_bytes()).ok()?;
     }
-    let number = again.wrapping_mul(619) % 4096;
+    let number = order.number(again);
     let line = format!(in alloc; "1.3.6.1.4.1.32473.1.{number}.0|65|1\n").ok()?;
     text.extend_from_slice(line.as_bytes()).ok()?;
     Table::read(alloc, &text).err()
@@ -232,11 +263,13 @@ fn fault_of_names(alloc: Global, before: u32, again: u32) -> Option<TableError> 
 
 #[test]
 fn names_of_one_hash_are_told_apart(rt: HostRuntime) {
-    for before in [50, 57, 58, 59, 60, 64, 128, 200, 500, 1000, 3000] {
+    for before in [370, 378, 379, 384, 385, 512, 1000, 3000] {
         let double = Some(TableError::Double {
-            line: (before as usize).saturating_add(14),
+            line: (FIRST_ROWS as usize)
+                .saturating_add(before as usize)
+                .saturating_add(13),
         });
-        for again in [0, 57, 63, 127, 499, 2999] {
+        for again in [0, 383, 499, 2999] {
             assert!(rt;
                 fault_of_names(rt.alloc(), before, again)
                     == if again < before { double } else { None },

@@ -129,9 +129,9 @@ fn rows_are_read_around_the_size_of_a_page(rt: HostRuntime) {
     }
 }
 
-/// Counts of rows, each with a step by which many of them come before the one in front. After 64
-/// such rows a table gathers them, and puts them in place when it may have become twice as long.
-const IN_NO_ORDER: [(u32, u32); 12] = [
+/// Counts of rows, each with a step by which many of them come before the one in front: of the last
+/// ones so many that a table gathers them, and puts them in place when it may become twice as long.
+const IN_NO_ORDER: [(u32, u32); 13] = [
     (100, 61),
     (129, 79),
     (190, 117),
@@ -144,6 +144,7 @@ const IN_NO_ORDER: [(u32, u32); 12] = [
     (2500, 1543),
     (5000, 3089),
     (9000, 5563),
+    (30000, 18541),
 ];
 
 #[test]
@@ -194,7 +195,7 @@ fn fault_of(
     Table::read(alloc, &text).err()
 }
 
-/// The first and the second line of a name, in each of the times between which rows are gathered.
+/// The first and the second line of a name.
 const TWICE: [(u32, u32); 10] = [
     (1, 2),
     (1, 100),

@@ -275,7 +275,7 @@ impl Draft {
             }
             return self.place_late(alloc);
         }
-        if self.exact || self.no_more || !self.rows.are_unordered() {
+        if self.exact || self.no_more || !self.rows.are_scattered() {
             return true;
         }
         self.gathers = true;

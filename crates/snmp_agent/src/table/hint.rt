@@ -158,8 +158,9 @@ impl<'h> Guesses<'h> {
     }
 
     /// The same of the name of the row that was given last. Walks that are made in turn each find
-    /// their row by its name, where another row was given since.
-    #[inline]
+    /// their row by its name, where another row was given since. Not inlined: a walk that is alone
+    /// doesn't come here.
+    #[inline(never)]
     pub(crate) fn keep_passed(&mut self, name: &EncodedName<'_>, page: usize, row: usize) {
         if !self.kept.is_empty() {
             self.keep(Guess::of(mark_of(name.content()), 0), page, row);

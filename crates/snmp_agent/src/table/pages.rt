@@ -29,14 +29,31 @@ use std::mem;
 #[derive(Drop)]
 pub struct Pages {
     list: Vec<Page>,
-    /// How many rows were put among others. Nothing but time depends on it.
-    among: u32,
-    /// How many were put behind all others, likewise.
-    behind: u32,
+    /// In which order rows were put among others.
+    order: PutOrder,
 }
 
-/// From how many rows on that were put among others the rows may be taken to be in no order.
-const MANY_AMONG: u32 = 64;
+/// In which pages rows were put among others, of which 128 in turn are a sample. Nothing but time
+/// depends on it.
+#[derive(Drop)]
+struct PutOrder {
+    /// How many rows of the sample were put.
+    rows: u32,
+    /// Their pages: a bit for each place, modulo 128.
+    pages: u128,
+    /// How many samples in turn came to many pages.
+    scattered: u32,
+}
+
+/// How many rows a sample has.
+const SAMPLE: u32 = 128;
+
+/// To how many pages the rows of a sample come at least that are in no order. Rows of a table that
+/// is read row by row come to a page for each column.
+const MANY_PAGES: u32 = 68;
+
+/// After how many such samples in turn the rows are taken to be in no order.
+const MANY_SAMPLES: u32 = 3;
 
 impl Model for Pages {
     ghost use Rattle.std.specs.Coded.{codes};
@@ -71,8 +88,11 @@ impl Pages {
     {
         Pages {
             list: Vec::new(alloc),
-            among: 0,
-            behind: 0,
+            order: PutOrder {
+                rows: 0,
+                pages: 0,
+                scattered: 0,
+            },
         }
     }
 
@@ -133,6 +153,8 @@ impl Pages {
     /// The rows after this name, as [`Pages::after`] finds them, for a walk: it mostly asks from the
     /// row that was given last. Nothing is searched where the hint is right; else it is told where
     /// the name stands.
+    // Hot: each request of a walk, in which the row is mostly the one that was given last.
+    #[inline(always)]
     pub fn after_last(&self, name: &EncodedName<'_>, hint: &mut Guesses<'_>) -> Successors<'_>
         ensures { (front : List (List ℕ × Datum)) × StandsApart self.now name.now front result }
     {
@@ -144,6 +166,7 @@ impl Pages {
 
     /// The rows after this name, if its row is the one that was given last. Else the place of that
     /// row is kept by its name: another walk, which asks in turn with this one, goes on from there.
+    #[inline(always)]
     fn behind(&self, name: &EncodedName<'_>, hint: &mut Guesses<'_>) -> Option<Successors<'_>>
         ensures { IfSome result (λ rows. (front : List (List ℕ × Datum))
             × StandsApart self.now name.now front rows) }
@@ -166,7 +189,9 @@ impl Pages {
     }
 
     /// The rows after this name, by a guess of where it stands. Nothing is searched where that is
-    /// right; else the hint is told where the name stands.
+    /// right; else the hint is told where the name stands. Not inlined, so that what comes before it
+    /// in a walk stays short.
+    #[inline(never)]
     pub fn after_near(&self, name: &EncodedName<'_>, hint: &mut Guesses<'_>) -> Successors<'_>
         ensures { (front : List (List ℕ × Datum)) × StandsApart self.now name.now front result }
     {
@@ -200,20 +225,19 @@ impl Pages {
         let name = row.name();
         if ends_before(self.list.as_slice(), &name) {
             append(alloc, &mut self.list, row)?;
-            self.behind = self.behind.saturating_add(1);
             return Ok(false);
         }
         let place = page_with_room(&mut self.list, &name)?;
-        self.among = self.among.saturating_add(1);
+        self.order.note(place);
         let replaced = self.list[place].put(row)?;
         Ok(replaced)
     }
 
-    /// Whether many rows were put among others, and more than behind all others, as most of those
-    /// in no order are.
+    /// Whether the last rows that were put among others came to many pages, as those in no order do:
+    /// each step of their searches waits for a piece of memory.
     #[inline]
-    pub fn are_unordered(&self) -> bool {
-        self.among >= MANY_AMONG && self.among > self.behind
+    pub fn are_scattered(&self) -> bool {
+        self.order.scattered >= MANY_SAMPLES
     }
 
     /// How many rows there are at most.
@@ -362,6 +386,24 @@ impl Pages {
                 true
             }
             Err(_) => false,
+        }
+    }
+}
+
+impl PutOrder {
+    /// A row was put in the page at this place.
+    #[inline]
+    fn note(&mut self, page: usize) {
+        self.pages |= 1 << (page % 128);
+        self.rows = self.rows.saturating_add(1);
+        if self.rows >= SAMPLE {
+            self.scattered = if self.pages.count_ones() >= MANY_PAGES {
+                self.scattered.saturating_add(1)
+            } else {
+                0
+            };
+            self.rows = 0;
+            self.pages = 0;
         }
     }
 }

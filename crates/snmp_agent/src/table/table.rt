@@ -232,6 +232,7 @@ impl Table {
     }
 
     /// The same for a walk, which mostly asks from the row that was given last.
+    #[inline(always)]
     pub(crate) fn after_last(
         &self,
         name: &EncodedName<'_>,
