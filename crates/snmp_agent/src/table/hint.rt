@@ -119,26 +119,22 @@ impl<'h> Guesses<'h> {
         self.last.pages = left.1;
     }
 
-    /// A guess of where a name stands.
+    /// A guess of where a name stands; none where no names are kept.
     #[inline]
-    pub(crate) fn guess(&self, name: &EncodedName<'_>) -> Guess {
+    pub(crate) fn guess(&self, name: &EncodedName<'_>) -> Option<Guess> {
         if self.kept.is_empty() {
-            return Guess::of(0, 0);
+            return None;
         }
         let mark = mark_of(name.content());
-        let kept = match self.kept.get(place_of(mark)) {
-            Some(&[later, earlier]) => {
-                if later % 256 == mark % 256 {
-                    later
-                } else if earlier % 256 == mark % 256 {
-                    earlier
-                } else {
-                    0
-                }
-            }
-            None => 0,
+        let [later, earlier] = *self.kept.get(place_of(mark))?;
+        let kept = if later % 256 == mark % 256 {
+            later
+        } else if earlier % 256 == mark % 256 {
+            earlier
+        } else {
+            0
         };
-        Guess::of(mark, kept)
+        Some(Guess::of(mark, kept))
     }
 
     /// Keeps where a name stands: the place of its page, and how many rows of that have the name or

@@ -119,8 +119,10 @@ impl Pages {
             ≡ get self.now name.now }
         ensures name { IfSome result (λ row. row.now.name ≡ name.now) }
     {
+        let Some(guess) = hint.guess(name) else {
+            return self.find(name);
+        };
         let pages = self.list.as_slice();
-        let guess = hint.guess(name);
         if let Some(row) = row_guessed(pages, name, guess) {
             return Some(row);
         }
@@ -195,8 +197,10 @@ impl Pages {
     pub fn after_near(&self, name: &EncodedName<'_>, hint: &mut Guesses<'_>) -> Successors<'_>
         ensures { (front : List (List ℕ × Datum)) × StandsApart self.now name.now front result }
     {
+        let Some(guess) = hint.guess(name) else {
+            return self.after(name);
+        };
         let pages = self.list.as_slice();
-        let guess = hint.guess(name);
         if let Some(rows) = rows_guessed(pages, name, guess) {
             return rows;
         }
