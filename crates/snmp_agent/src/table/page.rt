@@ -82,7 +82,8 @@ impl Page {
     }
 
     /// Divides the page, and returns its back: the half of its rows, or the last alone if the name
-    /// comes behind it, so that rows which come in order fill their pages.
+    /// comes behind it, so that rows which come in order fill their pages. So do rows that fall: the
+    /// first alone stays if the name comes before it.
     pub fn divide(&mut self, name: &EncodedName<'_>) -> Result<Page, AllocError>
         requires { 1 < length self.old.rows.items }
         ensures parts { IfOk result (λ back. self.old.rows.items
@@ -91,8 +92,9 @@ impl Page {
             ≡ self.old.rows.items) }
     {
         let count = self.rows.len();
-        let place = match self.rows.last() {
-            Some(row) if row.name().compare(name).is_lt() => count - 1,
+        let place = match (self.rows.first(), self.rows.last()) {
+            (_, Some(row)) if row.name().compare(name).is_lt() => count - 1,
+            (Some(row), _) if row.name().compare(name).is_gt() => 1,
             _ => count / 2,
         };
         match self.rows.split_off(place) {
