@@ -3,7 +3,7 @@
 use crate::Fault;
 use crate::room::Room;
 use snmp_agent::{Config, Outcome, PutError, Table, TableError, answer};
-use snmp_oid::parse_numeric;
+use snmp_oid::{Oid, parse_numeric};
 use snmp_wire::{Value, ValueRef, decode};
 use std::alloc::Global;
 
@@ -82,4 +82,31 @@ pub fn put(
         }
         Err(_) => Err(Fault::Wrong),
     }
+}
+
+/// `Table::remove` of the rows of 1.3.6.1.4.1.32473.1.1.0 to 20000.0, but for each whose number is
+/// a multiple of `each`: the reply to a request then, and once the text is read again. What is held
+/// at most says what the rows that stay take.
+pub fn removed(
+    alloc: Global,
+    text: &[u8],
+    request: &[u8],
+    each: u32,
+    room: &mut Room<'_>,
+) -> Result<(), Fault> {
+    let mut table = table_of(alloc, text)?;
+    'rows: for number in 1..=20000_u32 {
+        if number % each.max(1) != 0 {
+            let Ok(name) = Oid::from_slice(&[1, 3, 6, 1, 4, 1, 32473, 1, number, 0]) else {
+                return Err(Fault::Wrong);
+            };
+            if !table.remove(&name) {
+                return Err(Fault::Wrong);
+            }
+        }
+    }
+    let whole = table_of(alloc, text)?;
+    reply(&table, request, room);
+    drop(whole);
+    Ok(())
 }

@@ -4,6 +4,7 @@
 //! A check makes a call that takes memory, on the octets of the two files. It prints the call's
 //! whole answer, for which it takes none, with status 0; or nothing, with status 1, where memory
 //! was refused and it has seen that what was to be changed is as it was. Status 2: a wrong answer.
+//! `tests/room.py` runs some over a heap that tells how much of it they hold.
 #![tactic(auto)]
 
 mod agents;
@@ -86,6 +87,8 @@ fn check_by(
         "table" => agents::table(alloc, first, second, room),
         "put" => agents::put(alloc, first, b"sextet", second, room),
         "put_long" => agents::put(alloc, first, LONG, second, room),
+        "half" => agents::removed(alloc, first, second, 2, room),
+        "sparse" => agents::removed(alloc, first, second, 64, room),
         "modules" => modules::modules(alloc, first, room),
         "tree" => modules::tree(alloc, first, room),
         "hint" => texts::hint(alloc, first, second, room),
