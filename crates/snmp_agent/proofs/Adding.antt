@@ -34,17 +34,17 @@ either (Ok a) p q f g = f a p
 either (Err b) p q f g = g b q
 
 -- another reason to stop, of each fault
-halts_weaker : (P Q : TableError → Type 0) (exact gathers : Bool)
-    → ((fault : TableError) → P fault → Q fault) → (e : Halt) → HaltsBy P exact gathers e
-    → HaltsBy Q exact gathers e
-halts_weaker P Q exact gathers f (halt.Fault fault) k = f fault k
-halts_weaker P Q exact gathers f halt.Memory k = k
-halts_weaker P Q exact gathers f halt.Again k = k
+halts_weaker : (P Q : TableError → Type 0) (exact : Bool)
+    → ((fault : TableError) → P fault → Q fault) → (e : Halt) → HaltsBy P exact e
+    → HaltsBy Q exact e
+halts_weaker P Q exact f (halt.Fault fault) k = f fault k
+halts_weaker P Q exact f halt.Memory k = k
+halts_weaker P Q exact f halt.Again k = k
 
 -- no fault: memory ran out
-pub full : (P : TableError → Type 0) (exact gathers : Bool) (e : Halt) → IsFull exact gathers e
-    → HaltsBy P exact gathers e
-full P exact gathers = halts_weaker (λ _. ⊥) P exact gathers (λ fault none. absurd none)
+pub full : (P : TableError → Type 0) (exact : Bool) (e : Halt) → IsFull exact e
+    → HaltsBy P exact e
+full P exact = halts_weaker (λ _. ⊥) P exact (λ fault none. absurd none)
 
 module _ (format : Format) (before : List (List ℕ)) (line : List ℕ) (number : ℕ) (old : Draft)
     (h : IsDraft format before old) where
@@ -72,11 +72,11 @@ module _ (format : Format) (before : List (List ℕ)) (line : List ℕ) (number 
 
   -- a row that isn't put
   pub row_halted : (row : VarBind) → States format line (instance row) → (e : Halt)
-      → IsHaltAt row.name (draft_entries old) number old.exact old.gathers e
-      → IsHalt format before line number old.exact old.gathers e
+      → IsHaltAt row.name (draft_entries old) number old.exact e
+      → IsHalt format before line number old.exact e
   row_halted row states = halts_weaker (λ fault. (fault ≡ error.Double number)
       × AreDistinct (draft_entries old) × (v : Datum) × Contains (draft_entries old) (row.name, v))
-      Here old.exact old.gathers (λ fault k.
+      Here old.exact (λ fault k.
       let there : Contains h.0 (row.name, k.2) = Contains-permutation (draft_entries old) h.0
       (row.name, k.2) (IsPermutation-sym h.0 (draft_entries old) h.2) k.3 in (
         table_before k.1,
@@ -86,10 +86,10 @@ module _ (format : Format) (before : List (List ℕ)) (line : List ℕ) (number 
 
   -- a fault behind lines of which no two are rows of one name
   pub stopped : (wrong : TableError) → IsFaultBehind format before line number wrong → (e : Halt)
-      → IsStop (draft_entries old) old.exact old.gathers wrong e
-      → IsHalt format before line number old.exact old.gathers e
+      → IsStop (draft_entries old) old.exact wrong e
+      → IsHalt format before line number old.exact e
   stopped wrong faulty = halts_weaker (λ fault. (fault ≡ wrong) × AreDistinct (draft_entries old))
-      Here old.exact old.gathers (λ fault k. (
+      Here old.exact (λ fault k. (
         table_before k.1,
         subst (λ (f : TableError). IsFaultBehind format before line number f) (sym k.0) faulty,
       ))
@@ -144,19 +144,11 @@ module _ (format : Format) (text rest line behind : List ℕ) (old : Draft) (num
 
   -- the reading stops at the line
   pub halted_at : (stop : Halt)
-      → IsHalt format h.done line (number + 1) old.exact old.gathers stop
+      → IsHalt format h.done line (number + 1) old.exact stop
       → IsFirstHalt format (lines text) old.exact stop
-  halted_at stop k = no_rows stop (halts_weaker
+  halted_at = halts_weaker
       (λ fault. AreTable format h.done × IsFaultBehind format h.done line (number + 1) fault)
-      (IsFirstFaultIn format (lines text)) old.exact old.gathers (λ fault k. cases k.0 fault k.1)
-      stop k) where
-        no_rows : (e : Halt)
-            → HaltsBy (IsFirstFaultIn format (lines text)) old.exact old.gathers e
-            → IsFirstHalt format (lines text) old.exact e
-        no_rows (halt.Fault fault) k = k
-        no_rows halt.Memory k = refl
-        no_rows halt.Again k = k
-
+      (IsFirstFaultIn format (lines text)) old.exact (λ fault k. cases k.0 fault k.1) where
         behind_good : AreTable format h.done → (at : ℕ) → at ≡ number + 1
             → IsBehindGood format (lines text) at h.done line
         behind_good good at same = record {

@@ -203,7 +203,8 @@ const COLUMNS: u32 = 6;
 
 const ROUTES: u32 = 90;
 
-/// The name of the row of this place, from 0 on, in a table of routes, whose index has many numbers.
+/// The name of the row of this place, from 0 on, in a table of routes, whose index has many
+/// numbers.
 /// Its rows differ within a name alone.
 fn route(place: u32) -> Option<Oid> {
     let column = place / ROUTES % COLUMNS + 1;

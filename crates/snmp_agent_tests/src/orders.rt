@@ -84,6 +84,59 @@ fn first_lines(alloc: Global) -> Result<Vec<u8>, AllocError> {
     Ok(text)
 }
 
+impl Stated {
+    /// The rows that stand first, in the second format where the text is marked.
+    fn of_first(
+        alloc: Global,
+        first_lines: &[u8],
+        is_marked: bool,
+    ) -> Result<Stated, AllocError> {
+        let mut text = Vec::new(alloc);
+        let mut map = BTreeMap::new(alloc);
+        if is_marked {
+            text.extend_from_slice(b"#snmptab 2\n")?;
+        }
+        text.extend_from_slice(first_lines)?;
+        for place in 0..FIRST_ROWS {
+            let number = place.wrapping_mul(2);
+            if map.insert(number, number).is_err() {
+                return Err(AllocError);
+            }
+        }
+        Ok(Stated {
+            text,
+            map,
+            fault: None,
+        })
+    }
+
+    /// Adds the line of this number, of a row.
+    fn add_row(
+        &mut self,
+        alloc: Global,
+        line: usize,
+        number: u32,
+        value: u32,
+    ) -> Result<(), AllocError> {
+        let octets = format!(in alloc; "1.3.6.1.4.1.32473.1.{number}.0|65|{value}\n")?;
+        self.text.extend_from_slice(octets.as_bytes())?;
+        if self.map.contains_key(&number) {
+            self.fault = self.fault.or(Some(TableError::Double { line }));
+        } else if self.map.insert(number, value).is_err() {
+            return Err(AllocError);
+        }
+        Ok(())
+    }
+
+    /// Adds the line of this number, with a fault of this kind.
+    fn add_fault(&mut self, line: usize, kind: u32) -> Result<(), AllocError> {
+        let (octets, fault) = faulty_line(kind, line);
+        self.text.extend_from_slice(octets.as_bytes())?;
+        self.fault = self.fault.or(Some(fault));
+        Ok(())
+    }
+}
+
 /// The text of such rows, in the second format where it is marked.
 fn text_of(
     alloc: Global,
@@ -92,45 +145,22 @@ fn text_of(
     wrong: &Wrong,
     is_marked: bool,
 ) -> Result<Stated, AllocError> {
-    let mut text = Vec::new(alloc);
-    let mut map = BTreeMap::new(alloc);
-    let mut fault = None;
-    let mut line: usize = 0;
-    if is_marked {
-        text.extend_from_slice(b"#snmptab 2\n")?;
-        line = 1;
-    }
-    text.extend_from_slice(first_lines)?;
-    for place in 0..FIRST_ROWS {
-        let number = place.wrapping_mul(2);
-        if map.insert(number, number).is_err() {
-            return Err(AllocError);
-        }
-    }
-    line = line.wrapping_add(FIRST_ROWS as usize);
+    let mut stated = Stated::of_first(alloc, first_lines, is_marked)?;
+    let mut line = (FIRST_ROWS as usize).wrapping_add(usize::from(is_marked));
     for place in 0..order.count {
         line = line.wrapping_add(1);
-        let number = if place == wrong.again {
-            order.number(wrong.first)
-        } else {
-            order.number(place)
-        };
         if place == wrong.bad {
-            let (octets, kind) = faulty_line(wrong.kind, line);
-            text.extend_from_slice(octets.as_bytes())?;
-            fault = fault.or(Some(kind));
+            stated.add_fault(line, wrong.kind)?;
             continue;
         }
-        let octets = format!(in alloc; "1.3.6.1.4.1.32473.1.{number}.0|65|{place}\n")?;
-        text.extend_from_slice(octets.as_bytes())?;
-        let is_there = map.contains_key(&number);
-        if is_there {
-            fault = fault.or(Some(TableError::Double { line }));
-        } else if map.insert(number, place).is_err() {
-            return Err(AllocError);
-        }
+        let row = if place == wrong.again {
+            wrong.first
+        } else {
+            place
+        };
+        stated.add_row(alloc, line, order.number(row), place)?;
     }
-    Ok(Stated { text, map, fault })
+    Ok(stated)
 }
 
 /// Whether the text is read as it is stated.

@@ -80,8 +80,8 @@ fn changes_in_no_order_are_those_of_a_map(rt: HostRuntime) {
     }
 }
 
-/// The text of `count` rows of numbers that go up by `step`, from 0 on again at the count, spread by
-/// the factor.
+/// The text of `count` rows of numbers that go up by `step`, from 0 on again at the count, spread
+/// by the factor.
 fn text_of(alloc: Global, count: u32, step: u32, factor: u32) -> Result<Vec<u8>, AllocError> {
     let mut text = Vec::new(alloc);
     let mut number: u32 = 0;
@@ -130,8 +130,9 @@ fn rows_are_read_around_the_size_of_a_page(rt: HostRuntime) {
 }
 
 /// Counts of rows, each with a step by which many of them come before the one in front: of the last
-/// ones so many that a table gathers them, and puts them in place when it may become twice as long.
-const IN_NO_ORDER: [(u32, u32); 13] = [
+/// ones so many that a table gathers them, and puts them in place when it may become twice as long,
+/// once before the end.
+const IN_NO_ORDER: [(u32, u32); 14] = [
     (100, 61),
     (129, 79),
     (190, 117),
@@ -145,6 +146,7 @@ const IN_NO_ORDER: [(u32, u32); 13] = [
     (5000, 3089),
     (9000, 5563),
     (20000, 12347),
+    (40000, 24697),
 ];
 
 #[test]
@@ -208,6 +210,19 @@ const TWICE: [(u32, u32); 10] = [
     (1, 2500),
     (2499, 2500),
 ];
+
+#[test]
+fn a_name_that_is_there_is_told_behind_gathered_rows_that_were_put_in_place(rt: HostRuntime) {
+    for &(first, again) in &[(1, 39_000), (20_000, 39_999), (38_000, 38_500)] {
+        let double = Some(TableError::Double {
+            line: again as usize,
+        });
+        assert!(rt;
+            fault_of(rt.alloc(), 40_000, 24_697, first, again, 0) == double,
+            "lines {first} and {again}"
+        );
+    }
+}
 
 #[test]
 fn the_first_line_of_a_name_that_is_there_is_told(rt: HostRuntime) {

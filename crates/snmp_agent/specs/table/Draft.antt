@@ -70,35 +70,32 @@ IsFaultBehind format before line number (error.Double at) =
     (at ≡ number) × IsDouble format before line
 IsFaultBehind format before line number error.Memory = Unit {0}
 
--- why a reading stops: a fault of which P holds; or memory ran out, and no rows are gathered, which
--- may have taken it; or it ran out where they are, or they aren't put in their places, as happens
--- only where it isn't exact
-abbrev pub HaltsBy : (TableError → Type 0) → (exact gathers : Bool) → Halt → Type 0
-HaltsBy P exact gathers (halt.Fault fault) = P fault
-HaltsBy P exact gathers halt.Memory = gathers ≡ false
-HaltsBy P exact gathers halt.Again = exact ≡ false
+-- why a reading stops: a fault of which P holds; or memory ran out where it is exact, and else the
+-- text is to be read again, as what rows took that are gathered may serve then
+abbrev pub HaltsBy : (TableError → Type 0) → (exact : Bool) → Halt → Type 0
+HaltsBy P exact (halt.Fault fault) = P fault
+HaltsBy P exact halt.Memory = exact ≡ true
+HaltsBy P exact halt.Again = exact ≡ false
 
 -- memory ran out
-abbrev pub IsFull : (exact gathers : Bool) → Halt → Type 0
-IsFull exact gathers = HaltsBy (λ _. ⊥) exact gathers
+abbrev pub IsFull : (exact : Bool) → Halt → Type 0
+IsFull exact = HaltsBy (λ _. ⊥) exact
 
 -- this fault behind these entries, of which no two have one name
-abbrev pub IsStop : List (List ℕ × Datum) → (exact gathers : Bool) → TableError → Halt → Type 0
-IsStop es exact gathers wrong =
-    HaltsBy (λ fault. (fault ≡ wrong) × AreDistinct es) exact gathers
+abbrev pub IsStop : List (List ℕ × Datum) → (exact : Bool) → TableError → Halt → Type 0
+IsStop es exact wrong = HaltsBy (λ fault. (fault ≡ wrong) × AreDistinct es) exact
 
 -- at the row of this name, of the line of this number: one of these entries, of which no two have
 -- one name, has its name
-abbrev pub IsHaltAt : List ℕ → List (List ℕ × Datum) → ℕ → (exact gathers : Bool) → Halt → Type 0
-IsHaltAt o es number exact gathers = HaltsBy (λ fault. (fault ≡ error.Double number)
-    × AreDistinct es × (v : Datum) × Contains es (o, v)) exact gathers
+abbrev pub IsHaltAt : List ℕ → List (List ℕ × Datum) → ℕ → (exact : Bool) → Halt → Type 0
+IsHaltAt o es number exact = HaltsBy (λ fault. (fault ≡ error.Double number)
+    × AreDistinct es × (v : Datum) × Contains es (o, v)) exact
 
 -- at the line of this number, a fault behind lines that are a table
-abbrev pub IsHalt : Format → List (List ℕ) → List ℕ → ℕ → (exact gathers : Bool) → Halt → Type 0
-IsHalt format before line number exact gathers =
+abbrev pub IsHalt : Format → List (List ℕ) → List ℕ → ℕ → (exact : Bool) → Halt → Type 0
+IsHalt format before line number exact =
     HaltsBy (λ fault. AreTable format before × IsFaultBehind format before line number fault) exact
-    gathers
 
--- the fault of the first line that isn't good; or memory ran out where no rows were gathered
+-- the fault of the first line that isn't good; or memory ran out
 abbrev pub IsFirstHalt : Format → List (List ℕ) → (exact : Bool) → Halt → Type 0
-IsFirstHalt format lines exact = HaltsBy (IsFirstFaultIn format lines) exact false
+IsFirstHalt format lines exact = HaltsBy (IsFirstFaultIn format lines) exact

@@ -51,23 +51,11 @@ pub struct Draft {
 pub enum Halt {
     /// The line is the first faulty one.
     Fault(TableError),
-    /// Memory ran out.
+    /// Memory ran out in an exact reading.
     Memory,
-    /// Memory ran out while rows were gathered, which may have taken it: the text is to be read
-    /// again, with each row put in its place at once.
+    /// Memory ran out in another, which rows that were gathered may have taken: the text is to be
+    /// read again, with each row put in its place at once.
     Again,
-}
-
-impl From<AllocError> for Halt {
-    ghost use Rattle.std.specs.Prelude.{◌≡◌};
-    ghost use Rattle.snmp_agent.specs.declared.table.draft.Halt.{Halt};
-    ghost use Rattle.snmp_agent.specs.declared.table.draft.Halt.TheVariants.{Memory};
-
-    ghost from_gives = { λ _ halt. halt ≡ Memory };
-
-    fn from(_: AllocError) -> Halt {
-        Halt::Memory
-    }
 }
 
 impl Draft {
@@ -78,8 +66,8 @@ impl Draft {
     ghost use Rattle.std.specs.Str.Lines.{lines};
     ghost use Rattle.snmp_agent.specs.table.Format.{Format};
     ghost use Rattle.snmp_agent.specs.table.Places.{entry_of};
-    ghost use Rattle.snmp_agent.specs.table.Draft.{HoldsTable, IsDraft, IsFirstHalt, IsFull, IsHalt};
-    ghost use Rattle.snmp_agent.specs.table.Draft.{IsHaltAt, IsStop, draft_entries};
+    ghost use Rattle.snmp_agent.specs.table.Draft.{HoldsTable, IsDraft, IsFirstHalt, IsFull};
+    ghost use Rattle.snmp_agent.specs.table.Draft.{IsHalt, IsHaltAt, IsStop, draft_entries};
     ghost use Rattle.snmp_agent.specs.table.Draft.{draft_objects};
 
     /// A draft of no lines.
@@ -143,8 +131,7 @@ impl Draft {
         ensures draft { (before : List (List ℕ)) → IsDraft (F.format format.now) before self.old
             → MatchResult result
             (λ _. IsDraft (F.format format.now) (before ++ line.now ∷ []) self.new)
-            (IsHalt (F.format format.now) before line.now number self.old.exact
-            self.old.gathers) }
+            (IsHalt (F.format format.now) before line.now number self.old.exact) }
         ensures exact { self.new.exact ≡ self.old.exact }
     {
         names();
@@ -162,21 +149,21 @@ impl Draft {
         }
     }
 
-    /// Why the reading stops where memory runs out, which what is gathered may have taken.
+    /// Why the reading stops where memory runs out.
     fn full(&self) -> Halt
-        ensures { IsFull self.now.exact self.now.gathers result }
+        ensures { IsFull self.now.exact result }
     {
-        if self.gathers {
-            return Halt::Again;
+        if self.exact {
+            Halt::Memory
+        } else {
+            Halt::Again
         }
-        Halt::Memory
     }
 
     /// Why the reading stops at a line with this fault, which is the first if no two rows before it
     /// have one name.
     fn stop(&mut self, alloc: Global, fault: TableError) -> Halt
-        ensures halt { IsStop (draft_entries self.old) self.old.exact self.old.gathers fault
-            result }
+        ensures halt { IsStop (draft_entries self.old) self.old.exact fault result }
         ensures exact { self.new.exact ≡ self.old.exact }
     {
         if self.settle(alloc) {
@@ -192,15 +179,18 @@ impl Draft {
     fn put(&mut self, alloc: Global, row: EncodedBinding, number: usize) -> Result<(), Halt>
         ensures rows { IfOk result (λ _. IsPermutation (draft_entries self.old ++ entry_of row ∷ [])
             (draft_entries self.new)) }
-        ensures halt { IfErr result (IsHaltAt row.name (draft_entries self.old) number
-            self.old.exact self.old.gathers) }
+        ensures halt { IfErr result
+            (IsHaltAt row.name (draft_entries self.old) number self.old.exact) }
         ensures objects { self.new.objects ≡ self.old.objects }
         ensures exact { self.new.exact ≡ self.old.exact }
     {
         if self.gathers {
             return self.gather(alloc, row, number);
         }
-        match self.rows.put(alloc, row)? {
+        let Ok(is_there) = self.rows.put(alloc, row) else {
+            return Err(self.full());
+        };
+        match is_there {
             false => Ok(()),
             true => Err(Halt::Fault(TableError::Double { line: number })),
         }
@@ -212,8 +202,8 @@ impl Draft {
         requires { self.old.gathers ≡ true }
         ensures rows { IfOk result (λ _. IsPermutation (draft_entries self.old ++ entry_of row ∷ [])
             (draft_entries self.new)) }
-        ensures halt { IfErr result (IsHaltAt row.name (draft_entries self.old) number
-            self.old.exact self.old.gathers) }
+        ensures halt { IfErr result
+            (IsHaltAt row.name (draft_entries self.old) number self.old.exact) }
         ensures objects { self.new.objects ≡ self.old.objects }
         ensures exact { self.new.exact ≡ self.old.exact }
     {
@@ -242,14 +232,16 @@ impl Draft {
         requires { self.old.gathers ≡ true }
         ensures rows { IfOk result (λ _. IsPermutation (draft_entries self.old ++ entry_of row ∷ [])
             (draft_entries self.new)) }
-        ensures halt { IfErr result (IsHaltAt row.name (draft_entries self.old) number
-            self.old.exact self.old.gathers) }
+        ensures halt { IfErr result
+            (IsHaltAt row.name (draft_entries self.old) number self.old.exact) }
         ensures objects { self.new.objects ≡ self.old.objects }
         ensures exact { self.new.exact ≡ self.old.exact }
     {
         if !self.settle(alloc) {
             return Err(Halt::Again);
         }
+        // Its memory may be wanted, and no reading without it follows.
+        self.late = Vec::new(alloc);
         self.gathers = false;
         self.no_more = true;
         match self.rows.put(alloc, row) {
@@ -322,8 +314,8 @@ impl Draft {
     }
 }
 
-/// Hashes the names of the rows in place that aren't hashed, and this one. Whether none has the hash
-/// of another.
+/// Hashes the names of the rows in place that aren't hashed, and this one. Whether none has the
+/// hash of another.
 fn is_new(
     alloc: Global,
     rows: &Pages,
@@ -346,8 +338,8 @@ fn is_new(
 /// new, and there is memory.
 #[inline(never)]
 fn rehash(alloc: Global, rows: &Pages, late: &[Late], hashes: &mut Hashes) -> bool {
-    let most = rows.most_rows().saturating_add(late.len());
-    if !hashes.clear(alloc, most) {
+    let count = rows.count().saturating_add(late.len());
+    if !hashes.clear(alloc, count) {
         return false;
     }
     for late in late {

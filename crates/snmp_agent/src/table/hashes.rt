@@ -17,7 +17,8 @@ const FACTOR: u64 = 0x9E37_79B9_7F4A_7C15;
 
 /// Hashes of names, to tell that a name wasn't there before. Nothing but time depends on them.
 ///
-/// They take as few octets as serve: each page of memory that is touched costs as much as some rows.
+/// They take as few octets as serve: each page of memory that is touched costs as much as some
+/// rows.
 #[derive(Drop)]
 pub struct Hashes {
     /// As many as a power of two, or none. Each has the high halves of hashes whose low halves tell

@@ -3,7 +3,7 @@
 use snmp_wire::EncodedName;
 use std::fmt;
 
-/// How many pairs of names a hint keeps: one for each value of the high nine bits of a mark.
+/// How many pairs of names a hint keeps: one for each value of the high nine bits of a hash.
 const PAIRS: usize = 512;
 
 /// Where names stood of which an agent was asked, as guesses: whoever asks in turn mostly asks from
@@ -13,7 +13,7 @@ pub struct Hint {
     last: Last,
     /// Where names stood. A number has from the high bits on: in 16 bits the place of the page,
     /// counted from 1, or 0 for no name or a place that is greater; in 8 bits how many rows of that
-    /// page have the name or one before it; and the low 8 bits of the mark. The first of a pair was
+    /// page have the name or one before it; and the low 8 bits of the hash. The first of a pair was
     /// kept after the second, and the names of a pair have other low bits.
     kept: [[u32; 2]; PAIRS],
 }
@@ -87,8 +87,8 @@ pub(crate) struct Guesses<'h> {
 /// A guess of where a name stands.
 #[derive(Clone, Copy, Debug)]
 pub(crate) struct Guess {
-    /// The mark of the name.
-    mark: u32,
+    /// The hash of the name.
+    hash: u32,
     /// The place of its page.
     pub(crate) page: usize,
     /// How many rows of the page have the name or one before it.
@@ -125,32 +125,32 @@ impl<'h> Guesses<'h> {
         if self.kept.is_empty() {
             return None;
         }
-        let mark = mark_of(name.content());
-        let [later, earlier] = *self.kept.get(place_of(mark))?;
-        let kept = if later % 256 == mark % 256 {
+        let hash = hash_of(name.content());
+        let [later, earlier] = *self.kept.get(place_of(hash))?;
+        let kept = if later % 256 == hash % 256 {
             later
-        } else if earlier % 256 == mark % 256 {
+        } else if earlier % 256 == hash % 256 {
             earlier
         } else {
             0
         };
-        Some(Guess::of(mark, kept))
+        Some(Guess::of(hash, kept))
     }
 
     /// Keeps where a name stands: the place of its page, and how many rows of that have the name or
     /// one before it.
     #[inline]
     pub(crate) fn keep(&mut self, guess: Guess, page: usize, row: usize) {
-        let Some(pair) = self.kept.get_mut(place_of(guess.mark)) else {
+        let Some(pair) = self.kept.get_mut(place_of(guess.hash)) else {
             return;
         };
         let later = pair[0];
-        if later % 256 != guess.mark % 256 {
+        if later % 256 != guess.hash % 256 {
             pair[1] = later;
         }
         let page = u32::from(u16::try_from(page.wrapping_add(1)).unwrap_or(0));
         let row = u32::from(u8::try_from(row).unwrap_or(0));
-        pair[0] = page << 16 | row << 8 | guess.mark % 256;
+        pair[0] = page << 16 | row << 8 | guess.hash % 256;
     }
 
     /// The same of the name of the row that was given last. Walks that are made in turn each find
@@ -159,34 +159,36 @@ impl<'h> Guesses<'h> {
     #[inline(never)]
     pub(crate) fn keep_passed(&mut self, name: &EncodedName<'_>, page: usize, row: usize) {
         if !self.kept.is_empty() {
-            self.keep(Guess::of(mark_of(name.content()), 0), page, row);
+            self.keep(Guess::of(hash_of(name.content()), 0), page, row);
         }
     }
 }
 
 impl Guess {
-    /// The guess of a mark, by what is kept for it.
+    /// The guess of a hash, by what is kept for it.
     #[inline]
-    fn of(mark: u32, kept: u32) -> Guess {
+    fn of(hash: u32, kept: u32) -> Guess {
         Guess {
-            mark,
+            hash,
             page: ((kept >> 16) as usize).wrapping_sub(1),
             row: (kept >> 8) as usize % 256,
         }
     }
 }
 
-/// The place of the pair of names that is kept for the high bits of a mark.
+/// The place of the pair of names that is kept for the high bits of a hash.
 #[inline]
-fn place_of(mark: u32) -> usize {
-    (mark >> 8) as usize % PAIRS
+fn place_of(hash: u32) -> usize {
+    (hash >> 8) as usize % PAIRS
 }
 
 /// A number below 131,072, by which names are told apart. It is made of the last sixteen octets, in
 /// which rows mostly differ, and of the second, third and fourth eight of a longer name, where the
-/// column of a row with a long index stands. Two names of one mark cost comparisons, and no more.
+/// column of a row with a long index stands. Of the octets before the last eight, where they are
+/// fewer than eight, it has the first four and the last four, or none of fewer than four. Two names
+/// of one hash cost comparisons, and no more.
 #[inline]
-fn mark_of(content: &[u8]) -> u32 {
+fn hash_of(content: &[u8]) -> u32 {
     let (front, last) = last_word(content);
     let (_, before) = last_word(front);
     let mixed = mix(mix(middle_of(front), before), last);

@@ -177,16 +177,24 @@ fn octets_alike(rows: &[Late]) -> usize {
         return 0;
     };
     let mut alike = first.row.name().content();
-    'rows: for late in rows {
+    for late in rows {
         let content = late.row.name().content();
-        'octets: while !content.starts_with(alike) {
-            let Some((_, front)) = alike.split_last() else {
-                return 0;
-            };
+        if !content.starts_with(alike) {
+            let (front, _) = alike.split_at(same_octets(alike, content).min(alike.len()));
             alike = front;
         }
     }
     alike.len()
+}
+
+/// How many octets at the front are the same in both.
+fn same_octets(octets: &[u8], others: &[u8]) -> usize {
+    for (place, octet) in octets.iter().enumerate() {
+        if others.get(place) != Some(octet) {
+            return place;
+        }
+    }
+    octets.len()
 }
 
 /// Sets the keys of rows whose names are the same in as many octets.

@@ -82,8 +82,8 @@ impl Page {
     }
 
     /// Divides the page, and returns its back: the half of its rows, or the last alone if the name
-    /// comes behind it, so that rows which come in order fill their pages. So do rows that fall: the
-    /// first alone stays if the name comes before it.
+    /// comes behind it, so that rows which come in order fill their pages. So do rows that fall:
+    /// the first alone stays if the name comes before it.
     pub fn divide(&mut self, name: &EncodedName<'_>) -> Result<Page, AllocError>
         requires { 1 < length self.old.rows.items }
         ensures parts { IfOk result (λ back. self.old.rows.items

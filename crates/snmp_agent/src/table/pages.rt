@@ -53,7 +53,10 @@ const SAMPLE: u32 = 128;
 const MANY_PAGES: u32 = 68;
 
 /// After how many such samples in turn the rows are taken to be in no order.
-const MANY_SAMPLES: u32 = 3;
+const MANY_SAMPLES: usize = 3;
+
+/// For how many pages there is one such sample at least.
+const PAGES_FOR_SAMPLE: usize = 32;
 
 impl Model for Pages {
     ghost use Rattle.std.specs.Coded.{codes};
@@ -152,9 +155,9 @@ impl Pages {
         Successors { rows, pages }
     }
 
-    /// The rows after this name, as [`Pages::after`] finds them, for a walk: it mostly asks from the
-    /// row that was given last. Nothing is searched where the hint is right; else it is told where
-    /// the name stands.
+    /// The rows after this name, as [`Pages::after`] finds them, for a walk: it mostly asks from
+    /// the row that was given last. Nothing is searched where the hint is right; else it is told
+    /// where the name stands.
     // Hot: each request of a walk, in which the row is mostly the one that was given last.
     #[inline(always)]
     pub fn after_last(&self, name: &EncodedName<'_>, hint: &mut Guesses<'_>) -> Successors<'_>
@@ -191,8 +194,8 @@ impl Pages {
     }
 
     /// The rows after this name, by a guess of where it stands. Nothing is searched where that is
-    /// right; else the hint is told where the name stands. Not inlined, so that what comes before it
-    /// in a walk stays short.
+    /// right; else the hint is told where the name stands. Not inlined, so that what comes before
+    /// it in a walk stays short.
     #[inline(never)]
     pub fn after_near(&self, name: &EncodedName<'_>, hint: &mut Guesses<'_>) -> Successors<'_>
         ensures { (front : List (List ℕ × Datum)) × StandsApart self.now name.now front result }
@@ -237,17 +240,28 @@ impl Pages {
         Ok(replaced)
     }
 
-    /// Whether the last rows that were put among others came to many pages, as those in no order do:
-    /// each step of their searches waits for a piece of memory.
+    /// Whether the last rows that were put among others came to many pages, as those in no order
+    /// do: each step of their searches waits for a piece of memory. They are a share of all rows,
+    /// as what follows looks at each.
     #[inline]
     pub fn are_scattered(&self) -> bool {
-        self.order.scattered >= MANY_SAMPLES
+        let samples = self.order.scattered as usize;
+        samples >= MANY_SAMPLES && samples >= self.list.len() / PAGES_FOR_SAMPLE
     }
 
     /// How many rows there are at most.
     #[inline]
     pub fn most_rows(&self) -> usize {
         self.list.len().saturating_mul(PAGE_ROWS)
+    }
+
+    /// How many rows there are.
+    pub fn count(&self) -> usize {
+        let mut count: usize = 0;
+        for page in self.list.iter() {
+            count = count.saturating_add(page.rows.len());
+        }
+        count
     }
 
     /// Inserts the hashes of the names of the last rows, as many or all. Whether each was new.

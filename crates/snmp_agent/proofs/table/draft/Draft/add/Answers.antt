@@ -32,8 +32,7 @@ returns-after-insert-clause-draft g c = λ before h.
             w.in-Ok.ensures.keys ∙ list_any-insert o c.args.self.now.objects.keys object),
         h.2,
       )
-      | in-Err w ↦ rw w.result-is (full _ c.args.self.now.exact c.args.self.now.gathers
-          w.full.result w.full.ensures)
+      | in-Err w ↦ rw w.result-is (full _ c.args.self.now.exact w.full.result w.full.ensures)
     ]
 
 pub returns-in-Ok-Instance-clause-draft : goal.returns-in-Ok-Instance-clause-draft
@@ -67,5 +66,4 @@ returns-in-Err-Value-clause-draft g c = λ before h.
 
 pub returns-in-Err-Memory-clause-draft : goal.returns-in-Err-Memory-clause-draft
 returns-in-Err-Memory-clause-draft g c = λ before h.
-    full _ c.args.self.now.exact c.args.self.now.gathers c.full-in-Err-Memory.result
-    c.full-in-Err-Memory.ensures
+    full _ c.args.self.now.exact c.full-in-Err-Memory.result c.full-in-Err-Memory.ensures
