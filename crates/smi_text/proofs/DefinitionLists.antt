@@ -1,14 +1,14 @@
 -- Definitions one after the other, with the names that they define.
-use Rattle.std.proofs.Common.{◌≡◌, ℕ, Bool, true, false, ◌||◌, not, List, [], ◌∷◌, ◌++◌, Option}
-use Rattle.std.proofs.Common.{Some, None, Ok, Err, refl, sym, ◌∙◌, ap, subst}
+use Rattle.std.proofs.Common.{◌≡◌, ℕ, Bool, true, false, ◌||◌, not, List, [], ◌∷◌, ◌++◌}
+use Rattle.std.proofs.Common.{Some, Ok, Err, refl, sym, ◌∙◌, ap, subst}
 use Rattle.std.proofs.Common.{append_assoc, append-nil}
 use Rattle.std.specs.List.{flat_map, list_any, list_all}
 use Rattle.smi_text.specs.lexer.Token.{Lexeme, Item}
 use Rattle.smi_text.specs.trees.Mark.{Mark, MarksToken, spelled, on_line, same_text}
 use Rattle.smi_text.specs.Format.{StandsAhead}
 use Rattle.smi_text.specs.Format.{Ahead, begins}
-use Rattle.smi_text.specs.Grammar.{definition, module_text, file}
-use Rattle.smi_text.specs.trees.Spelling.{of_def, of_def_kind, of_module, spelling}
+use Rattle.smi_text.specs.Grammar.{definition, file}
+use Rattle.smi_text.specs.trees.Spelling.{label, of_def, spelling}
 use Rattle.smi_text.specs.Text.{HasNoDoubles}
 use Rattle.smi_text.specs.trees.Lookup.{labels, are_distinct}
 use Rattle.smi_text.specs.Returned.{text_ahead}
@@ -19,10 +19,7 @@ use Rattle.smi_text.specs.declared.trees.tree.DefKind.TheVariants as D
 use Rattle.smi_text.specs.declared.trees.tree.Module.{Module}
 use Rattle.smi_text.proofs.Marks.{and-left, and-right, and-both, or-false, false-from}
 use Rattle.smi_text.proofs.Marks.{same_text-eq, same_text-same, StandsAhead-append}
-use Rattle.smi_text.proofs.Laws.{some-inj}
-use Rattle.smi_text.proofs.DefinitionLaws.{definition-law}
-use Rattle.smi_text.proofs.ModuleLaws.{module_text-law, file-law}
-use Rattle.smi_text.proofs.Spells.{def-spells, module-spells, file-spells}
+use Rattle.smi_text.proofs.ProductionLaws.{definition-law, file-law}
 
 -- the label of a definition is the text of its first token
 
@@ -35,43 +32,19 @@ unfolding mark_text
 fits-text (spelled k x ok) t h = sym h.1
 fits-text (on_line n m) t h = fits-text m t h.0
 
--- the text of the first of some marks
-first_text : List Mark → Option (List ℕ)
-first_text [] = None
-first_text (m ∷ ms) = Some (mark_text m)
-
-first-label : (ms : List Mark) (x : List ℕ) (ts rest : List Item) → first_text ms ≡ Some x → StandsAhead ms ts rest → x ≡ text_ahead ts
-unfolding first_text
-first-label [] x ts rest e h = absurd (cc)
-first-label (m ∷ ms) x [] rest e h = absurd h
-first-label (m ∷ ms) x (Err f ∷ ts) rest e h = absurd h
-first-label (m ∷ ms) x (Ok t ∷ ts) rest e h = some-inj x (mark_text m) (sym e) ∙ fits-text m t h.0
-
-kind-label : (n : ℕ) (x : Name) (k : DefKind) (ts rest : List Item) → StandsAhead (of_def_kind n x k) ts rest → x.octets ≡ text_ahead ts
-unfolding first_text mark_text
-kind-label n x (D.ObjectIdentifier d) ts rest h = first-label (of_def_kind n x (D.ObjectIdentifier d)) x.octets ts rest refl h
-kind-label n x (D.ModuleIdentity d) ts rest h = first-label (of_def_kind n x (D.ModuleIdentity d)) x.octets ts rest refl h
-kind-label n x (D.ObjectIdentity d) ts rest h = first-label (of_def_kind n x (D.ObjectIdentity d)) x.octets ts rest refl h
-kind-label n x (D.ObjectType d) ts rest h = first-label (of_def_kind n x (D.ObjectType d)) x.octets ts rest refl h
-kind-label n x (D.NotificationType d) ts rest h = first-label (of_def_kind n x (D.NotificationType d)) x.octets ts rest refl h
-kind-label n x (D.ObjectGroup d) ts rest h = first-label (of_def_kind n x (D.ObjectGroup d)) x.octets ts rest refl h
-kind-label n x (D.NotificationGroup d) ts rest h = first-label (of_def_kind n x (D.NotificationGroup d)) x.octets ts rest refl h
-kind-label n x (D.ModuleCompliance d) ts rest h = first-label (of_def_kind n x (D.ModuleCompliance d)) x.octets ts rest refl h
-kind-label n x (D.AgentCapabilities d) ts rest h = first-label (of_def_kind n x (D.AgentCapabilities d)) x.octets ts rest refl h
-kind-label n x (D.TextualConvention d) ts rest h = first-label (of_def_kind n x (D.TextualConvention d)) x.octets ts rest refl h
-kind-label n x (D.TypeAssignment d) ts rest h = first-label (of_def_kind n x (D.TypeAssignment d)) x.octets ts rest refl h
-kind-label n x (D.Sequence d) ts rest h = first-label (of_def_kind n x (D.Sequence d)) x.octets ts rest refl h
-kind-label n x (D.Choice d) ts rest h = first-label (of_def_kind n x (D.Choice d)) x.octets ts rest refl h
-kind-label n x (D.Macro d) ts rest h = first-label (of_def_kind n x (D.Macro d)) x.octets ts rest refl h
+label-text : (x : Name) (k : DefKind) → mark_text (label x k) ≡ x.octets
+unfolding mark_text
+label-text x (D.ObjectType d) = refl
+label-text x _ = refl
 
 pub spelled-label : (d : Def) (ts rest : List Item) → StandsAhead (of_def d) ts rest → d.label.octets ≡ text_ahead ts
-spelled-label d ts rest h = kind-label d.line d.label d.kind ts rest h
-
-pub read-stands : (d : Def) (ts rest : List Item) → definition.read ts ≡ Some (d, rest) → StandsAhead (of_def d) ts rest
-read-stands d ts rest h = let P : List Mark → Type 0 = λ ms. StandsAhead ms ts rest in subst P (def-spells d) (definition-law.takes ts rest d h)
+unfolding mark_text
+spelled-label d [] rest h = absurd h
+spelled-label d (Err f ∷ ts) rest h = absurd h
+spelled-label d (Ok t ∷ ts) rest h = sym (label-text d.label d.kind) ∙ fits-text (label d.label d.kind) t h.0.0
 
 pub read-label : (d : Def) (ts rest : List Item) → definition.read ts ≡ Some (d, rest) → d.label.octets ≡ text_ahead ts
-read-label d ts rest h = kind-label d.line d.label d.kind ts rest (read-stands d ts rest h)
+read-label d ts rest h = spelled-label d ts rest (definition-law.takes ts rest d h)
 
 -- one more
 
@@ -137,18 +110,10 @@ all-more p (y ∷ ys) x h k = and-both (p y) (list_all p (ys ++ x ∷ [])) (and-
 pub no-doubles-more : (ms : List Module) (m : Module) → HasNoDoubles ms → are_distinct (labels m.defs) ≡ true → HasNoDoubles (ms ++ m ∷ [])
 no-doubles-more ms m h k = all-more (λ (n : Module). are_distinct (labels n.defs)) ms m h k
 
-pub module-stands : (m : Module) (ts rest : List Item) → module_text.read ts ≡ Some (m, rest) → StandsAhead (of_module m) ts rest
-module-stands m ts rest h = let P : List Mark → Type 0 = λ ms. StandsAhead ms ts rest in subst P (module-spells m) (module_text-law.takes ts rest m h)
-
 pub nothing-begins : (cs : List Ahead) → begins cs [] ≡ false
 unfolding begins
 nothing-begins cs = refl
 
 -- the whole
-pub file-stands : (ms : List Module) (ts rest : List Item) → file.read ts ≡ Some (ms, rest) → StandsAhead (spelling ms) ts rest
-file-stands ms ts rest h = let P : List Mark → Type 0 = λ us. StandsAhead us ts rest in subst P (file-spells ms) (file-law.takes ts rest ms h)
-
 pub file-reads : (ms : List Module) (ts : List Item) → StandsAhead (spelling ms) ts [] → file.read ts ≡ Some (ms, [])
-file-reads ms ts h =
-    let P : List Mark → Type 0 = λ us. StandsAhead us ts [] in
-    file-law.again ms ts [] (subst P (sym (file-spells ms)) h) (nothing-begins file.stop)
+file-reads ms ts h = file-law.again ms ts [] h (nothing-begins file.stop)

@@ -7,25 +7,10 @@ use Rattle.std.proofs.lemmas.Bool.{or_cases}
 use Rattle.smi_text.specs.lexer.Token.{Item}
 use Rattle.smi_text.specs.trees.Mark.{Mark, same_text}
 use Rattle.smi_text.specs.Format.{StandsAhead}
-use Rattle.smi_text.specs.trees.Reserved.{is_reserved}
-use Rattle.smi_text.specs.Format.{Format, Parsed, begins, apart, with_front, before, begins}
-use Rattle.smi_text.specs.Format.{behind, either, lined, many, maybe, name, pair, separated}
-use Rattle.smi_text.specs.Format.{shaped, some_of, text, text_where, token, with_front, word}
-use Rattle.smi_text.specs.Format.{lower}
-use Rattle.smi_text.specs.Grammar.{to_module, arc, assigned, balanced, base, before_assign}
-use Rattle.smi_text.specs.Grammar.{before_end, bound, braced, choice, clause, default_value}
-use Rattle.smi_text.specs.Grammar.{definition, field, file, group, head, heading, identifier}
-use Rattle.smi_text.specs.Grammar.{import_clause, imports, index, index_names, later_part}
-use Rattle.smi_text.specs.Grammar.{lower_definition, macro_body, macro_definition, macro_name}
-use Rattle.smi_text.specs.Grammar.{module_identity, module_text, named_number, names}
-use Rattle.smi_text.specs.Grammar.{notification_type, object_identifier, object_identifier_words}
-use Rattle.smi_text.specs.Grammar.{object_identity, object_type, objects, octet_string_words}
-use Rattle.smi_text.specs.Grammar.{of_row, opening, parenthesized, part, range, ranges}
-use Rattle.smi_text.specs.Grammar.{raw_definition, refinement, revision, sequence, simple_type}
-use Rattle.smi_text.specs.Grammar.{size}
-use Rattle.smi_text.specs.Grammar.{status, imported_symbol, syntax_clause, syntax_type, tag}
-use Rattle.smi_text.specs.Grammar.{tagged, textual_convention, upper_definition, value}
-use Rattle.smi_text.specs.trees.Spelling.{of_def, of_head, of_module, spelling}
+use Rattle.smi_text.specs.Format.{Format, Parsed, begins, apart, with_front, before, many, pair}
+use Rattle.smi_text.specs.Format.{shaped, word, lower}
+use Rattle.smi_text.specs.Grammar.{to_module, definition, file, head, module_text}
+use Rattle.smi_text.specs.trees.Spelling.{of_def, of_head, spelling}
 use Rattle.smi_text.specs.Text.{HasNoDoubles}
 use Rattle.smi_text.specs.Returned.{RepeatsIn, RepeatsAgain}
 use Rattle.smi_text.specs.trees.Lookup.{labels, are_distinct}
@@ -37,10 +22,9 @@ use Rattle.smi_text.proofs.Marks.{and-left, and-right, or-left, or-right, same_t
 use Rattle.smi_text.proofs.Marks.{same_text-same, StandsAhead-split, apart-false}
 use Rattle.smi_text.proofs.Many.{many-fails, many-goes_on, with_front-append, with_front-nil}
 use Rattle.smi_text.proofs.Laws.{starts-with, some-inj}
-use Rattle.smi_text.proofs.DefinitionLaws.{definition-law}
-use Rattle.smi_text.proofs.ModuleLaws.{head-law, module_text-law}
+use Rattle.smi_text.proofs.Productions.{all}
+use Rattle.smi_text.proofs.ProductionLaws.{definition-law, head-law, module_text-law}
 use Rattle.smi_text.proofs.Shorter.{definition-solid, module_text-solid}
-use Rattle.smi_text.proofs.Spells.{def-spells, head-spells, module-spells, lists}
 use Rattle.smi_text.proofs.DefinitionLists.{read-label, spelled-label}
 
 front-inv : {A : Type 0} (x : A) (r : Parsed (List A)) (xs : List A) (rest : List Item) → with_front (x ∷ []) r ≡ Some (xs, rest)
@@ -58,20 +42,20 @@ fronts-inv {A} xs (Some p) ys rest h =
     (p.0, ap (λ (us : List Item). Some (p.0, us)) (ap (λ (q : List A × List Item). q.1) e), sym (ap (λ (q : List A × List Item). q.0) e))
 
 -- parts that are spelled before one that begins again are read first
-module _ {A : Type 0} (f : Format A) (law : Lawful f) (solid : f.empty ≡ false) (far : apart f.stop f.first ≡ true) where
-  begin-again : (xs : List A) (ts mid : List Item) → StandsAhead (flat_map f.spell xs) ts mid → begins f.first mid ≡ true → begins f.first ts ≡ true
+module _ {A : Type 0} {s : A → List Mark} {f : Format A} (law : Lawful s f) (solid : f.empty ≡ false) (far : apart f.stop f.first ≡ true) where
+  begin-again : (xs : List A) (ts mid : List Item) → StandsAhead (flat_map s xs) ts mid → begins f.first mid ≡ true → begins f.first ts ≡ true
   begin-again [] ts mid h b = ap (begins f.first) h ∙ b
   begin-again (x ∷ xs) ts mid h b =
-      let r = StandsAhead-split (f.spell x) (flat_map f.spell xs) ts mid h in
-      starts-with f law solid x ts r.0 r.1
+      let r = StandsAhead-split (s x) (flat_map s xs) ts mid h in
+      starts-with law solid x ts r.0 r.1
 
-  pub many-before : (xs : List A) (ts mid : List Item) → StandsAhead (flat_map f.spell xs) ts mid → begins f.first mid ≡ true
+  pub many-before : (xs : List A) (ts mid : List Item) → StandsAhead (flat_map s xs) ts mid → begins f.first mid ≡ true
       → (many f).read ts ≡ with_front xs ((many f).read mid)
   many-before [] ts mid h b = ap (λ (us : List Item). (many f).read us) h ∙ sym (with_front-nil _)
   many-before (x ∷ xs) ts mid h b =
-      let r = StandsAhead-split (f.spell x) (flat_map f.spell xs) ts mid h in
+      let r = StandsAhead-split (s x) (flat_map s xs) ts mid h in
       let on = apart-false f.stop f.first r.0 far (begin-again xs r.0 mid r.2 b) in
-      many-goes_on f law solid x ts r.0 (starts-with f law solid x ts r.0 r.1) (law.again x ts r.0 r.1 on)
+      many-goes_on law solid x ts r.0 (starts-with law solid x ts r.0 r.1) (law.again x ts r.0 r.1 on)
       ∙ ap (with_front (x ∷ [])) (many-before xs r.0 mid r.2 b)
       ∙ sym (with_front-append (x ∷ []) xs ((many f).read mid))
 
@@ -82,7 +66,7 @@ module _ {A : Type 0} (f : Format A) (law : Lawful f) (solid : f.empty ≡ false
       elim (f.read ts) as (λ r. f.read ts ≡ r → (x : A) × (more : List A) × (mid : List Item) × (f.read ts ≡ Some (x, mid)) × (xs ≡ x ∷ more)) [
         | None ↦ λ e. absurd (cc (h, many-fails f ts b e))
         | Some p ↦ λ e.
-            let q = front-inv p.0 ((many f).read p.1) xs rest (sym (many-goes_on f law solid p.0 ts p.1 b e) ∙ h) in
+            let q = front-inv p.0 ((many f).read p.1) xs rest (sym (many-goes_on law solid p.0 ts p.1 b e) ∙ h) in
             (p.0, q.0, p.1, e, q.1)
       ] refl
 
@@ -110,33 +94,24 @@ labels-append (d ∷ ds) es = ap (λ (xs : List (List ℕ)). d.label.octets ∷ 
 -- definitions
 
 definition-apart : apart definition.stop definition.first ≡ true
-unfolding arc assigned balanced base before before_assign before_end behind bound braced choice clause default_value definition either field group identifier
-    index index_names is_reserved later_part lined lower_definition macro_body macro_definition macro_name many maybe module_identity name lower named_number
-    names notification_type object_identifier object_identifier_words object_identity object_type objects octet_string_words of_row pair parenthesized part
-    range ranges raw_definition refinement revision separated sequence shaped simple_type size some_of status syntax_clause syntax_type tag tagged text
-    text_where textual_convention token upper_definition value word
+unfolding all
 definition-apart = refl
 
 module _ (line : ℕ) (body : List Item) (s : RepeatsIn line body) where
   halves : (mid : List Item) × StandsAhead (flat_map of_def s.before) body mid × StandsAhead (of_def s.second) mid s.rest
   halves = StandsAhead-split (flat_map of_def s.before) (of_def s.second) body s.rest s.stands
 
-  first-half : StandsAhead (flat_map definition.spell s.before) body halves.0
-  first-half = let P : List Mark → Type 0 = λ ms. StandsAhead ms body halves.0 in subst P (sym (lists definition.spell of_def def-spells s.before)) halves.1
-
   second-ahead : begins definition.first halves.0 ≡ true
-  second-ahead =
-      let P : List Mark → Type 0 = λ ms. StandsAhead ms halves.0 s.rest in
-      starts-with definition definition-law definition-solid s.second halves.0 s.rest (subst P (sym (def-spells s.second)) halves.2)
+  second-ahead = starts-with definition-law definition-solid s.second halves.0 s.rest halves.2
 
   body-ahead : begins definition.first body ≡ true
-  body-ahead = begin-again definition definition-law definition-solid definition-apart s.before body halves.0 first-half second-ahead
+  body-ahead = begin-again definition-law definition-solid definition-apart s.before body halves.0 halves.1 second-ahead
 
   definitions-twice : (ds : List Def) (rest : List Item) → (many definition).read body ≡ Some (ds, rest) → are_distinct (labels ds) ≡ true → ⊥
   definitions-twice ds rest h k =
-      let e = many-before definition definition-law definition-solid definition-apart s.before body halves.0 first-half second-ahead in
+      let e = many-before definition-law definition-solid definition-apart s.before body halves.0 halves.1 second-ahead in
       let inv = fronts-inv s.before ((many definition).read halves.0) ds rest (sym e ∙ h) in
-      let f = many-first definition definition-law definition-solid definition-apart halves.0 rest inv.0 second-ahead inv.1 in
+      let f = many-first definition-law definition-solid definition-apart halves.0 rest inv.0 second-ahead inv.1 in
       let same : s.second.label.octets ≡ f.0.label.octets = spelled-label s.second halves.0 s.rest halves.2 ∙ sym (read-label f.0 halves.0 f.2 f.3) in
       let all : labels ds ≡ labels s.before ++ f.0.label.octets ∷ labels f.1 = ap labels inv.2 ∙ ap (λ (xs : List Def). labels (s.before ++ xs)) f.4
       ∙ labels-append s.before (f.0 ∷ f.1) in
@@ -151,32 +126,19 @@ all-middle [] m ns h = and-left (are_distinct (labels m.defs)) (list_all (λ n. 
 all-middle (x ∷ xs) m ns h = all-middle xs m ns (and-right (are_distinct (labels x.defs)) (list_all (λ n. are_distinct (labels n.defs)) (xs ++ m ∷ ns)) h)
 
 head-apart : apart head.stop definition.first ≡ true
-unfolding arc assigned balanced base before before_assign before_end behind bound braced choice clause default_value definition either field group head heading
-    identifier import_clause imports index index_names is_reserved later_part lined lower_definition macro_body macro_definition macro_name many maybe
-    module_identity name lower named_number names notification_type object_identifier object_identifier_words object_identity object_type objects
-    octet_string_words of_row opening pair parenthesized part range ranges raw_definition refinement revision separated sequence shaped simple_type size
-    some_of status imported_symbol syntax_clause syntax_type tag tagged text text_where textual_convention token upper_definition value word
+unfolding all
 head-apart = refl
 
 module-first : (ts : List Item) → begins module_text.first ts ≡ begins head.first ts
-unfolding arc assigned balanced base before before_assign before_end behind bound braced choice clause default_value definition either field group head heading
-    identifier import_clause imports index index_names later_part lined lower_definition macro_body macro_definition macro_name many maybe module_identity
-    module_text name lower named_number names notification_type object_identifier object_identifier_words object_identity object_type objects
-    octet_string_words of_row opening pair parenthesized part range ranges raw_definition refinement revision separated sequence shaped simple_type size
-    some_of status imported_symbol syntax_clause syntax_type tag tagged text text_where textual_convention token upper_definition value word
+unfolding all
 module-first ts = refl
 
 module-apart : apart module_text.stop module_text.first ≡ true
-unfolding arc assigned balanced base before before_assign before_end behind bound braced choice clause default_value definition either field group head heading
-    identifier import_clause imports index index_names is_reserved later_part lined lower_definition macro_body macro_definition macro_name many maybe
-    module_identity module_text name lower named_number names notification_type object_identifier object_identifier_words object_identity object_type objects
-    octet_string_words of_row opening pair parenthesized part range ranges raw_definition refinement revision separated sequence shaped simple_type size
-    some_of status imported_symbol syntax_clause syntax_type tag tagged text text_where textual_convention token upper_definition value word
+unfolding all
 module-apart = refl
 
 head-solid : head.empty ≡ false
-unfolding arc before behind braced either head heading import_clause imports lined many maybe name lower opening pair parenthesized part separated shaped
-    some_of imported_symbol text text_where token word
+unfolding all
 head-solid = refl
 
 module-inv : (ts body : List Item) (h : Head) (m : Module) (rest : List Item) → head.read ts ≡ Some (h, body) → module_text.read ts ≡ Some (m, rest)
@@ -200,28 +162,24 @@ module _ (line : ℕ) (tokens : List Item) (d : RepeatsAgain line tokens) where
   opened : (mid : List Item) × StandsAhead (spelling d.modules) tokens mid × StandsAhead (of_head d.name d.heading d.imports) mid d.body
   opened = StandsAhead-split (spelling d.modules) (of_head d.name d.heading d.imports) tokens d.body d.stands
 
-  head-stands : StandsAhead (head.spell (record { name = d.name; heading = d.heading; imports = d.imports })) opened.0 d.body
-  head-stands = let P : List Mark → Type 0 = λ ms. StandsAhead ms opened.0 d.body in subst P (sym (head-spells d.name d.heading d.imports)) opened.2
+  abbrev top : Head
+  top = record { name = d.name; heading = d.heading; imports = d.imports }
 
-  head-read : head.read opened.0 ≡ Some (record { name = d.name; heading = d.heading; imports = d.imports }, d.body)
-  head-read = head-law.again (record { name = d.name; heading = d.heading; imports = d.imports }) opened.0 d.body head-stands
+  head-read : head.read opened.0 ≡ Some (top, d.body)
+  head-read = head-law.again top opened.0 d.body opened.2
       (apart-false head.stop definition.first d.body head-apart (body-ahead line d.body d.twice))
 
   module-ahead : begins module_text.first opened.0 ≡ true
   module-ahead = module-first opened.0
-      ∙ starts-with head head-law head-solid (record { name = d.name; heading = d.heading; imports = d.imports }) opened.0 d.body head-stands
-
-  before-stands : StandsAhead (flat_map module_text.spell d.modules) tokens opened.0
-  before-stands = let P : List Mark
-      → Type 0 = λ ms. StandsAhead ms tokens opened.0 in subst P (sym (lists module_text.spell of_module module-spells d.modules)) opened.1
+      ∙ starts-with head-law head-solid top opened.0 d.body opened.2
 
   pub file-twice : (ns : List Module) → file.read tokens ≡ Some (ns, []) → HasNoDoubles ns → ⊥
   unfolding file
   file-twice ns h k =
-      let e = many-before module_text module_text-law module_text-solid module-apart d.modules tokens opened.0 before-stands module-ahead in
+      let e = many-before module_text-law module_text-solid module-apart d.modules tokens opened.0 opened.1 module-ahead in
       let inv = fronts-inv d.modules ((many module_text).read opened.0) ns [] (sym e ∙ h) in
-      let f = many-first module_text module_text-law module_text-solid module-apart opened.0 [] inv.0 module-ahead inv.1 in
-      let defs = module-inv opened.0 d.body (record { name = d.name; heading = d.heading; imports = d.imports }) f.0 f.2 head-read f.3 in
+      let f = many-first module_text-law module_text-solid module-apart opened.0 [] inv.0 module-ahead inv.1 in
+      let defs = module-inv opened.0 d.body top f.0 f.2 head-read f.3 in
       let all : ns ≡ d.modules ++ f.0 ∷ f.1 = inv.2 ∙ ap (λ (xs : List Module). d.modules ++ xs) f.4 in
       let P : List Module → Type 0 = λ ms. HasNoDoubles ms in
       definitions-twice line d.body d.twice f.0.defs defs.0 defs.1 (all-middle d.modules f.0 f.1 (subst P all k))

@@ -1,14 +1,14 @@
 -- The steps of the loops over definitions and over modules.
-use Rattle.std.proofs.Common.{◌≡◌, ℕ, ◌<◌, ◌≤◌, Bool, true, false, ◌||◌, List, [], ◌∷◌, ◌++◌}
-use Rattle.std.proofs.Common.{length, Some, None, refl, sym, ◌∙◌, ap, subst, arith, Bor}
+use Rattle.std.proofs.Common.{◌≡◌, ℕ, ◌<◌, Bool, true, false, ◌||◌, List, [], ◌∷◌, ◌++◌}
+use Rattle.std.proofs.Common.{length, Some, None, refl, sym, ◌∙◌, ap, subst, Bor}
 use Rattle.std.specs.Prelude.{codes}
 use Rattle.std.specs.List.{flat_map, list_any}
 use Rattle.std.specs.BTreeSet.{BTreeSet}
 use Rattle.smi_text.specs.lexer.Token.{Item}
-use Rattle.smi_text.specs.trees.Mark.{Mark, same_text}
+use Rattle.smi_text.specs.trees.Mark.{same_text}
 use Rattle.smi_text.specs.Format.{StandsAhead}
 use Rattle.smi_text.specs.Names.{has}
-use Rattle.smi_text.specs.Format.{begins, read_many, many, with_front, shaped, pair, before, word}
+use Rattle.smi_text.specs.Format.{begins, many, with_front, shaped, pair, before, word}
 use Rattle.smi_text.specs.Format.{lower}
 use Rattle.smi_text.specs.Grammar.{definition, head, module_text, file}
 use Rattle.smi_text.specs.trees.Spelling.{of_def, of_head, of_module, spelling}
@@ -25,25 +25,18 @@ use Rattle.smi_text.specs.declared.modules.Head.{Head}
 use Rattle.smi_text.specs.declared.trees.tree.Def.{Def}
 use Rattle.smi_text.specs.declared.trees.tree.Module.{Module}
 use Rattle.smi_text.proofs.Marks.{StandsAhead-append}
-use Rattle.smi_text.proofs.Many.{reading-shorter, next-many, stuck-many, end-many}
-use Rattle.smi_text.proofs.Many.{many-starts_with, with_front-append, with_front-none}
-use Rattle.smi_text.proofs.Many.{with_front-end}
-use Rattle.smi_text.proofs.Many.{with_front-nil}
+use Rattle.smi_text.proofs.Many.{reading-shorter, many-fails, many-goes_on, many-done}
+use Rattle.smi_text.proofs.Many.{with_front-append, with_front-none, with_front-end, with_front-nil}
 use Rattle.smi_text.proofs.Laws.{starts-with, some-inj}
-use Rattle.smi_text.proofs.DefinitionLaws.{definition-law}
-use Rattle.smi_text.proofs.ModuleLaws.{head-law, module_text-law}
+use Rattle.smi_text.proofs.ProductionLaws.{definition-law, head-law, module_text-law}
 use Rattle.smi_text.proofs.Shorter.{definition-solid, module_text-solid}
-use Rattle.smi_text.proofs.Spells.{head-spells}
-use Rattle.smi_text.proofs.DefinitionLists.{read-stands, read-label, stands-more, distinct-more}
+use Rattle.smi_text.proofs.DefinitionLists.{read-label, stands-more, distinct-more}
 use Rattle.smi_text.proofs.DefinitionLists.{among-more, no-doubles-more, nothing-begins}
-use Rattle.smi_text.proofs.DefinitionLists.{module-stands}
 
 -- definitions
 
 pub record HasRead (names : BTreeSet (ℕ × Bor (List ℕ))) (defs : List Def) (from now : List Item) : Type 0 where
-  pub bound : ℕ
-  pub enough : length now ≤ bound
-  pub left : with_front defs (read_many definition bound now) ≡ (many definition).read from
+  pub left : with_front defs ((many definition).read now) ≡ (many definition).read from
   pub stands : StandsAhead (flat_map of_def defs) from now
   pub named : (x : List ℕ) → has names x ≡ list_any (same_text x) (labels defs)
   pub distinct : are_distinct (labels defs) ≡ true
@@ -52,9 +45,7 @@ pub has_read-start : (names : BTreeSet (ℕ × Bor (List ℕ))) (defs : List Def
 has_read-start names defs ts e d =
     let P : List Def → Type 0 = λ ds. HasRead names ds ts ts in
     subst P (sym d) (record {
-      bound = length ts;
-      enough = omega arith;
-      left = with_front-nil _ ∙ sym (many-starts_with definition ts);
+      left = with_front-nil _;
       stands = refl;
       named = λ x. rw e refl;
       distinct = refl;
@@ -63,17 +54,17 @@ has_read-start names defs ts e d =
 module _ (names : BTreeSet (ℕ × Bor (List ℕ))) (defs : List Def) (from now : List Item) (have : HasRead names defs from now) where
   pub has_read-done : begins definition.first now ≡ false → ReadsDefinitions defs from now
   has_read-done b = record {
-    read = sym have.left ∙ ap (with_front defs) (end-many definition have.bound now b) ∙ with_front-end defs now;
+    read = sym have.left ∙ ap (with_front defs) (many-done definition now b) ∙ with_front-end defs now;
     distinct = have.distinct;
   }
 
   pub has_read-stuck : begins definition.first now ≡ true → definition.read now ≡ None → (many definition).read from ≡ None
-  has_read-stuck b e = sym have.left ∙ with_front-none defs _ (stuck-many definition have.bound now b e have.enough)
+  has_read-stuck b e = sym have.left ∙ with_front-none defs _ (many-fails definition now b e)
 
   module _ (x : List ℕ) (d : Def) (rest : List Item) (ahead : begins definition.first now ≡ true) (label : x ≡ text_ahead now)
       (read : definition.read now ≡ Some (d, rest)) where
     pub has_read-shorter : length rest < length now
-    has_read-shorter = reading-shorter definition definition-law definition-solid d now rest read
+    has_read-shorter = reading-shorter definition-law definition-solid d now rest read
 
     same-label : d.label.octets ≡ x
     same-label = read-label d now rest read ∙ sym label
@@ -81,12 +72,10 @@ module _ (names : BTreeSet (ℕ × Bor (List ℕ))) (defs : List Def) (from now 
     pub has_read-next : (more : BTreeSet (ℕ × Bor (List ℕ))) → has names x ≡ false → ((y : List ℕ) → has more y ≡ (same_text x y || has names y))
         → HasRead more (defs ++ d ∷ []) from rest
     has_read-next more new added =
-        let step = next-many definition have.bound d now rest ahead read have.enough has_read-shorter in
+        let step = many-goes_on definition-law definition-solid d now rest ahead read in
         record {
-          bound = step.0;
-          enough = step.1;
-          left = with_front-append defs (d ∷ []) _ ∙ ap (with_front defs) (sym step.2) ∙ have.left;
-          stands = stands-more of_def defs d from now rest have.stands (read-stands d now rest read);
+          left = with_front-append defs (d ∷ []) _ ∙ ap (with_front defs) (sym step) ∙ have.left;
+          stands = stands-more of_def defs d from now rest have.stands (definition-law.takes now rest d read);
           named = λ y. added y ∙ ap (λ (b : Bool). same_text x y || b) (have.named y)
               ∙ ap (λ (z : List ℕ). same_text z y || list_any (same_text y) (labels defs)) (sym same-label) ∙ sym (among-more defs d y);
           distinct = distinct-more defs d have.distinct (ap (λ (z : List ℕ). list_any (same_text z) (labels defs)) same-label ∙ sym (have.named x) ∙ new);
@@ -98,7 +87,7 @@ module _ (names : BTreeSet (ℕ × Bor (List ℕ))) (defs : List Def) (from now 
       once = have.distinct;
       second = d;
       rest = rest;
-      stands = StandsAhead-append (flat_map of_def defs) (of_def d) from now rest have.stands (read-stands d now rest read);
+      stands = StandsAhead-append (flat_map of_def defs) (of_def d) from now rest have.stands (definition-law.takes now rest d read);
       defined = ap (λ (z : List ℕ). list_any (same_text z) (labels defs)) same-label ∙ sym (have.named x) ∙ again;
       on_line = refl;
     }
@@ -133,7 +122,7 @@ module _ (ts mid : List Item) (h : Head) (read : head.read ts ≡ Some (h, mid))
     heading = h.heading;
     imports = h.imports;
     body = mid;
-    stands = let P : List Mark → Type 0 = λ ms. StandsAhead ms ts mid in subst P (head-spells h.name h.heading h.imports) (head-law.takes ts mid h read);
+    stands = head-law.takes ts mid h read;
     twice = f;
   }
   module-defs E.Memory f = tt
@@ -155,9 +144,7 @@ module-no_head ts e = rw e refl
 -- modules
 
 pub record HasModules (ms : List Module) (from now : List Item) : Type 0 where
-  pub bound : ℕ
-  pub enough : length now ≤ bound
-  pub left : with_front ms (read_many module_text bound now) ≡ file.read from
+  pub left : with_front ms ((many module_text).read now) ≡ file.read from
   pub stands : StandsAhead (spelling ms) from now
   pub distinct : HasNoDoubles ms
 
@@ -166,9 +153,7 @@ unfolding file
 has_modules-start ms ts e =
     let P : List Module → Type 0 = λ us. HasModules us ts ts in
     subst P (sym e) (record {
-      bound = length ts;
-      enough = omega arith;
-      left = with_front-nil _ ∙ sym (many-starts_with module_text ts);
+      left = with_front-nil _;
       stands = refl;
       distinct = refl;
     })
@@ -176,32 +161,30 @@ has_modules-start ms ts e =
 module _ (ms : List Module) (from now : List Item) (have : HasModules ms from now) where
   pub has_modules-done : now ≡ [] → ReadsModules ms from
   has_modules-done e = record {
-    read = sym have.left ∙ ap (with_front ms) (end-many module_text have.bound now (rw e (nothing-begins module_text.first))) ∙ with_front-end ms now
+    read = sym have.left ∙ ap (with_front ms) (many-done module_text now (rw e (nothing-begins module_text.first))) ∙ with_front-end ms now
         ∙ ap (λ (us : List Item). Some (ms, us)) e;
     distinct = have.distinct;
   }
 
   pub has_modules-shorter : (m : Module) (rest : List Item) → ReadsModule m now rest → length rest < length now
-  has_modules-shorter m rest r = reading-shorter module_text module_text-law module_text-solid m now rest r.read
+  has_modules-shorter m rest r = reading-shorter module_text-law module_text-solid m now rest r.read
 
   pub has_modules-next : (m : Module) (rest : List Item) → ReadsModule m now rest → HasModules (ms ++ m ∷ []) from rest
   has_modules-next m rest r =
-      let ahead = starts-with module_text module_text-law module_text-solid m now rest (module_text-law.takes now rest m r.read) in
-      let step = next-many module_text have.bound m now rest ahead r.read have.enough (has_modules-shorter m rest r) in
+      let ahead = starts-with module_text-law module_text-solid m now rest (module_text-law.takes now rest m r.read) in
+      let step = many-goes_on module_text-law module_text-solid m now rest ahead r.read in
       record {
-        bound = step.0;
-        enough = step.1;
-        left = with_front-append ms (m ∷ []) _ ∙ ap (with_front ms) (sym step.2) ∙ have.left;
-        stands = stands-more of_module ms m from now rest have.stands (module-stands m now rest r.read);
+        left = with_front-append ms (m ∷ []) _ ∙ ap (with_front ms) (sym step) ∙ have.left;
+        stands = stands-more of_module ms m from now rest have.stands (module_text-law.takes now rest m r.read);
         distinct = no-doubles-more ms m have.distinct r.distinct;
       }
 
   stuck : module_text.read now ≡ None → (now ≡ [] → ⊥) → (us : List Module) → file.read from ≡ Some (us, []) → ⊥
   stuck e some us h =
       elim (begins module_text.first now) as (λ b. begins module_text.first now ≡ b → ⊥) [
-        | true ↦ λ b. cc (h, sym have.left ∙ with_front-none ms _ (stuck-many module_text have.bound now b e have.enough))
+        | true ↦ λ b. cc (h, sym have.left ∙ with_front-none ms _ (many-fails module_text now b e))
         | false ↦ λ b.
-            let k = sym have.left ∙ ap (with_front ms) (end-many module_text have.bound now b) ∙ with_front-end ms now in
+            let k = sym have.left ∙ ap (with_front ms) (many-done module_text now b) ∙ with_front-end ms now in
             some (ap (λ (p : List Module × List Item). p.1) (some-inj {A = List Module × List Item} (ms, now) (us, []) (sym k ∙ h)))
       ] refl
 

@@ -10,8 +10,13 @@ use Rattle.smi_text.specs.declared.trees.tree.TokenText.{TokenText}
 use Rattle.smi_text.specs.trees.Mark.{same_kind}
 use Rattle.smi_text.specs.trees.Fronts.{opening_braces, closing_braces, fronts}
 use Rattle.smi_text.specs.trees.Fronts.{has_balanced_braces}
-use Rattle.smi_text.specs.Grammar.{depth_after, is_outside, is_balanced}
+use Rattle.smi_text.specs.Grammar.{depth_after, is_outside}
 use Rattle.smi_text.proofs.Marks.{same_kind-eq}
+
+-- after `depth` open braces, the tokens close each brace that is open, and none that is not
+unfoldable pub is_balanced : ℕ → List TokenText → Bool
+is_balanced depth [] = depth == 0
+is_balanced depth (x ∷ xs) = not (is_outside x.kind depth) && is_balanced (depth_after x.kind depth) xs
 
 -- with d braces open before them
 abbrev is_within : ℕ → List TokenText → Bool

@@ -1,34 +1,29 @@
 -- Indexes are lawful.
 use Rattle.std.proofs.Common.{◌≡◌, ℕ, zero, suc, ◌≤◌, Bool, true, false, List, [], ◌∷◌, length}
-use Rattle.std.proofs.Common.{Some, None, Ok, Err, if◌then◌else◌, refl, sym, ◌∙◌, ap, subst}
-use Rattle.std.proofs.Common.{arith, inl, inr, ◌⊎◌}
+use Rattle.std.proofs.Common.{Some, None, Ok, Err, if◌then◌else◌, refl, sym, ◌∙◌, subst}
+use Rattle.std.proofs.Common.{arith, inl}
 use Rattle.std.specs.Prelude.{codes, option_map, option_and_then}
 use Rattle.smi_text.specs.declared.lexer.token.TokenKind.TheVariants as K
 use Rattle.smi_text.specs.lexer.Token.{Item}
 use Rattle.smi_text.specs.trees.Mark.{Mark, sign, spelled}
-use Rattle.smi_text.specs.Format.{StandsAhead}
-use Rattle.smi_text.specs.Format.{Parsed, a_word, a_kind, meets, begins, before, behind, either}
-use Rattle.smi_text.specs.Format.{many, separated, shaped, some_of, text, token, word, lower}
-use Rattle.smi_text.specs.Grammar.{index_marks, index_parts, implied_name, to_index, from_index}
-use Rattle.smi_text.specs.Grammar.{braced, index, index_names, names, read_index}
-use Rattle.smi_text.specs.Grammar.{with_names}
+use Rattle.smi_text.specs.Format.{StandsAhead, pair}
+use Rattle.smi_text.specs.Format.{Parsed, a_word, a_kind, meets, begins, behind}
+use Rattle.smi_text.specs.Format.{shaped, text, token, word, lower}
+use Rattle.smi_text.specs.Grammar.{index_parts, implied_name, index_names, read_index, with_names}
+use Rattle.smi_text.specs.trees.Spelling as say
 use Rattle.smi_text.proofs.Lawful.{Lawful}
 use Rattle.smi_text.proofs.Marks.{or-left, or-right, StandsAhead-append, StandsAhead-split}
 use Rattle.smi_text.proofs.Marks.{begins-none, begins-append, map-inv, then-inv}
 use Rattle.smi_text.proofs.Many.{StandsAhead-length}
-use Rattle.smi_text.proofs.Laws.{some-inj, any-one, never-stands, word-law, token-law, lower-law}
-use Rattle.smi_text.proofs.Laws.{behind-law, either-law, shaped-law, starts-with}
+use Rattle.smi_text.proofs.Laws.{some-inj, any-one, never-stands, token-law, lower-law, starts-with}
+use Rattle.smi_text.proofs.PieceLaws.{after-word}
 use Rattle.smi_text.specs.declared.trees.names.Name.{Name}
 use Rattle.smi_text.specs.declared.trees.tree.IndexParts.{IndexParts}
-use Rattle.smi_text.specs.declared.trees.tree.Index.TheVariants as I
-use Rattle.smi_text.specs.declared.trees.tree.Index.{Index}
-use Rattle.smi_text.proofs.PieceLaws.{braced-law}
 
 -- indexes
 
-implied_name-law : Lawful implied_name
-unfolding behind word text lower
-implied_name-law = behind-law (word (codes "IMPLIED")) lower (word-law (codes "IMPLIED")) lower-law refl refl
+implied_name-law : Lawful (λ x. say.word (codes "IMPLIED") ∷ say.lower x ∷ []) implied_name
+implied_name-law = after-word (codes "IMPLIED") lower-law
 
 stands-lower : (ts rest : List Item) (x : Name) → lower.read ts ≡ Some (x, rest) → StandsAhead (spelled K.Lower x.octets true ∷ []) ts rest
 unfolding lower
@@ -76,19 +71,19 @@ with_names-one x (Some p) = refl
 
 -- a name and a comma before the names of an index
 joined : (x : Name) (ys : List Name) (implied : Bool) (ts mid after rest : List Item) → StandsAhead (spelled K.Lower x.octets true ∷ []) ts mid
-    → StandsAhead (sign K.Comma ∷ []) mid after → StandsAhead (index_marks ys implied) after rest → StandsAhead (index_marks (x ∷ ys) implied) ts rest
+    → StandsAhead (sign K.Comma ∷ []) mid after → StandsAhead (say.of_index_names ys implied) after rest → StandsAhead (say.of_index_names (x ∷ ys) implied) ts rest
 joined x [] implied ts mid after rest h c k = absurd (never-stands after rest k)
 joined x (y ∷ ys) implied ts mid after rest h c k =
-    StandsAhead-append (spelled K.Lower x.octets true ∷ []) (sign K.Comma ∷ index_marks (y ∷ ys) implied) ts mid rest h
-    (StandsAhead-append (sign K.Comma ∷ []) (index_marks (y ∷ ys) implied) mid after rest c k)
+    StandsAhead-append (spelled K.Lower x.octets true ∷ []) (sign K.Comma ∷ say.of_index_names (y ∷ ys) implied) ts mid rest h
+    (StandsAhead-append (sign K.Comma ∷ []) (say.of_index_names (y ∷ ys) implied) mid after rest c k)
 
-index-takes : (n : ℕ) (ts rest : List Item) (x : IndexParts) → read_index n ts ≡ Some (x, rest) → StandsAhead (index_marks x.names x.implied) ts rest
-unfolding read_index behind word text lower
+index-takes : (n : ℕ) (ts rest : List Item) (x : IndexParts) → read_index n ts ≡ Some (x, rest) → StandsAhead (say.of_index_names x.names x.implied) ts rest
+unfolding read_index behind shaped pair word text lower
 index-takes zero ts rest x h = absurd (cc)
 index-takes (suc n) ts rest x h =
-    let P : IndexParts × List Item → Type 0 = λ w. StandsAhead (index_marks w.0.names w.0.implied) ts w.1 in
+    let P : IndexParts × List Item → Type 0 = λ w. StandsAhead (say.of_index_names w.0.names w.0.implied) ts w.1 in
     elim (begins (a_word (codes "IMPLIED") ∷ []) ts) as (λ b. (if b then option_map put_implied (implied_name.read ts) else option_and_then (read_next n)
-    (lower.read ts)) ≡ Some (x, rest) → StandsAhead (index_marks x.names x.implied) ts rest) [
+    (lower.read ts)) ≡ Some (x, rest) → StandsAhead (say.of_index_names x.names x.implied) ts rest) [
       | true ↦ λ k.
           let r = map-inv put_implied (implied_name.read ts) (x, rest) k in
           subst P r.2 (implied_name-law.takes ts r.0.1 r.0.0 r.1)
@@ -99,7 +94,7 @@ index-takes (suc n) ts rest x h =
           let first = stands-lower ts mid y r.1 in
           let after = option_and_then (read_after n) ((token K.Comma).read mid) in
           elim (begins (a_kind K.Comma ∷ []) mid) as (λ b. (if b then with_names (y ∷ []) after else Some (index_parts (y ∷ []) false, mid)) ≡ Some (x, rest)
-          → StandsAhead (index_marks x.names x.implied) ts rest) [
+          → StandsAhead (say.of_index_names x.names x.implied) ts rest) [
             | true ↦ λ e.
                 let s = map-inv (put_name y) after (x, rest) (sym (with_names-one y after) ∙ e) in
                 let q = then-inv (read_after n) ((token K.Comma).read mid) s.0 s.1 in
@@ -117,15 +112,15 @@ lower-no-word x w [] rest ms h = refl
 lower-no-word x w (Err f ∷ ts) rest ms h = refl
 lower-no-word x w (Ok t ∷ ts) rest ms h = rw (h.0.0) refl
 
-implied-begins : (ts rest : List Item) (x : Name) → StandsAhead (index_marks (x ∷ []) true) ts rest → begins (a_word (codes "IMPLIED") ∷ []) ts ≡ true
-unfolding behind word text lower
-implied-begins ts rest x h = starts-with implied_name implied_name-law refl x ts rest h
+implied-begins : (ts rest : List Item) (x : Name) → StandsAhead (say.of_index_names (x ∷ []) true) ts rest → begins (a_word (codes "IMPLIED") ∷ []) ts ≡ true
+unfolding behind shaped pair word text lower
+implied-begins ts rest x h = starts-with implied_name-law refl x ts rest h
 
-index-again : (xs : List Name) (implied : Bool) (n : ℕ) (ts rest : List Item) → length ts ≤ n → StandsAhead (index_marks xs implied) ts rest
+index-again : (xs : List Name) (implied : Bool) (n : ℕ) (ts rest : List Item) → length ts ≤ n → StandsAhead (say.of_index_names xs implied) ts rest
     → begins (a_kind K.Comma ∷ []) rest ≡ false → read_index n ts ≡ Some (index_parts xs implied, rest)
-unfolding read_index behind word text lower
+unfolding read_index behind shaped pair word text lower
 index-again [] implied n ts rest k h s = absurd (never-stands ts rest h)
-index-again (x ∷ []) implied zero [] rest k h s = absurd (elim implied as (λ b. StandsAhead (index_marks (x ∷ []) b) [] rest
+index-again (x ∷ []) implied zero [] rest k h s = absurd (elim implied as (λ b. StandsAhead (say.of_index_names (x ∷ []) b) [] rest
     → ⊥) [ true ↦ λ u. u | false ↦ λ u. u ] h)
 index-again (x ∷ []) implied zero (t ∷ ts) rest k h s = absurd (omega arith)
 index-again (x ∷ []) true (suc n) ts rest k h s =
@@ -137,12 +132,12 @@ index-again (x ∷ (y ∷ ys)) implied zero (t ∷ ts) rest k h s = absurd (omeg
 index-again (x ∷ (y ∷ ys)) implied (suc n) [] rest k h s = absurd h
 index-again (x ∷ (y ∷ ys)) implied (suc n) (Err f ∷ ts) rest k h s = absurd h
 index-again (x ∷ (y ∷ ys)) implied (suc n) (Ok t ∷ ts) rest k h s =
-    let others = StandsAhead-split (sign K.Comma ∷ []) (index_marks (y ∷ ys) implied) ts rest h.1 in
+    let others = StandsAhead-split (sign K.Comma ∷ []) (say.of_index_names (y ∷ ys) implied) ts rest h.1 in
     let first : lower.read (Ok t ∷ ts) ≡ Some (x, ts) = read-lower (Ok t ∷ ts) ts x (h.0, refl) in
     let less : length others.0 ≤ n = omega (arith, StandsAhead-length (sign K.Comma ∷ []) ts others.0 others.1) in
     let next = index-again (y ∷ ys) implied n others.0 rest less others.2 s in
     rw (
-      lower-no-word x (codes "IMPLIED") (Ok t ∷ ts) rest (sign K.Comma ∷ index_marks
+      lower-no-word x (codes "IMPLIED") (Ok t ∷ ts) rest (sign K.Comma ∷ say.of_index_names
           (y ∷ ys) implied) h,
       first,
       comma-begins ts others.0 others.1,
@@ -158,37 +153,19 @@ lower-begins x ms [] rest h = absurd h
 lower-begins x ms (Err f ∷ ts) rest h = absurd h
 lower-begins x ms (Ok t ∷ ts) rest h = or-right (meets t (a_word (codes "IMPLIED"))) _ (rw h.0.0 refl)
 
-index-starts : (xs : List Name) (implied : Bool) (ts rest : List Item) → StandsAhead (index_marks xs implied) ts rest
+index-starts : (xs : List Name) (implied : Bool) (ts rest : List Item) → StandsAhead (say.of_index_names xs implied) ts rest
     → begins (a_word (codes "IMPLIED") ∷ a_kind K.Lower ∷ []) ts ≡ true
 index-starts [] implied ts rest h = absurd (never-stands ts rest h)
 index-starts (x ∷ []) true ts rest h =
     begins-append (a_word (codes "IMPLIED") ∷ []) (a_kind K.Lower ∷ []) ts
     ∙ or-left (begins (a_word (codes "IMPLIED") ∷ []) ts) (begins (a_kind K.Lower ∷ []) ts) (implied-begins ts rest x h)
 index-starts (x ∷ []) false ts rest h = lower-begins x [] ts rest h
-index-starts (x ∷ (y ∷ ys)) implied ts rest h = lower-begins x (sign K.Comma ∷ index_marks (y ∷ ys) implied) ts rest h
+index-starts (x ∷ (y ∷ ys)) implied ts rest h = lower-begins x (sign K.Comma ∷ say.of_index_names (y ∷ ys) implied) ts rest h
 
-pub index_names-law : Lawful index_names
+pub index_names-law : Lawful (λ (p : IndexParts). say.of_index_names p.names p.implied) index_names
 unfolding index_names
 index_names-law = record {
   takes = λ ts rest x h. index-takes (length ts) ts rest x h;
   again = λ x ts rest h s. index-again x.names x.implied (length ts) ts rest (omega arith) h s;
   starts = λ x ts rest h. inl (index-starts x.names x.implied ts rest h);
 }
-
-index-back : (x : IndexParts ⊎ Name) → from_index (to_index x) ≡ Some x
-index-back (inl p) = refl
-index-back (inr x) = refl
-
-index-forth : (y : Index) (x : IndexParts ⊎ Name) → from_index y ≡ Some x → to_index x ≡ y
-index-forth (I.Own p) x e = ap to_index (sym (some-inj (inl p) x e))
-index-forth (I.Augments n) x e = ap to_index (sym (some-inj (inr n) x e))
-
-pub index-law : Lawful index
-unfolding before behind braced either index index_names many names separated shaped some_of text token word lower
-index-law =
-    shaped-law to_index from_index (either (behind (word (codes "INDEX")) (braced index_names)) (behind (word (codes "AUGMENTS")) (braced lower)))
-    (either-law (behind (word (codes "INDEX")) (braced index_names)) (behind (word (codes "AUGMENTS")) (braced lower))
-    (behind-law (word (codes "INDEX")) (braced index_names) (word-law (codes "INDEX")) (braced-law index_names index_names-law refl) refl refl)
-    (behind-law (word (codes "AUGMENTS")) (braced lower) (word-law (codes "AUGMENTS")) (braced-law lower lower-law refl) refl refl)
-    refl refl refl)
-    (λ x ts rest h. index-back x) index-forth

@@ -1,19 +1,15 @@
--- When a format is sound: what it reads is what it spells, and what is spelled is read.
+-- When a format is sound for a spelling: what it reads is what is spelled, and what is spelled is read.
 use Rattle.std.specs.Prelude.{◌≡◌, true, false, List, Some}
 use Rattle.std.proofs.Common.{◌⊎◌}
 use Rattle.smi_text.specs.lexer.Token.{Item}
+use Rattle.smi_text.specs.trees.Mark.{Mark}
 use Rattle.smi_text.specs.Format.{StandsAhead}
 use Rattle.smi_text.specs.Format.{Format, begins}
 
-pub record Lawful {A : Type 0} (f : Format A) : Type 0 where
+pub record Lawful {A : Type 0} (s : A → List Mark) (f : Format A) : Type 0 where
   -- what is read is spelled by the tokens that are taken
-  pub takes : (ts rest : List Item) (x : A) → f.read ts ≡ Some (x, rest) → StandsAhead (f.spell x) ts rest
+  pub takes : (ts rest : List Item) (x : A) → f.read ts ≡ Some (x, rest) → StandsAhead (s x) ts rest
   -- what is spelled is read, where nothing follows that must not
-  pub again : (x : A) (ts rest : List Item) → StandsAhead (f.spell x) ts rest → begins f.stop rest ≡ false → f.read ts ≡ Some (x, rest)
+  pub again : (x : A) (ts rest : List Item) → StandsAhead (s x) ts rest → begins f.stop rest ≡ false → f.read ts ≡ Some (x, rest)
   -- what is spelled begins as the format says, or is no token
-  pub starts : (x : A) (ts rest : List Item) → StandsAhead (f.spell x) ts rest → (begins f.first ts ≡ true) ⊎ ((f.empty ≡ true) × (ts ≡ rest))
-
--- a sound format that is spelled by a token at least, so that several can be read in a row
-pub record Repeatable {A : Type 0} (f : Format A) : Type 0 where
-  pub lawful : Lawful f
-  pub solid : f.empty ≡ false
+  pub starts : (x : A) (ts rest : List Item) → StandsAhead (s x) ts rest → (begins f.first ts ≡ true) ⊎ ((f.empty ≡ true) × (ts ≡ rest))

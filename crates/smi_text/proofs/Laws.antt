@@ -11,14 +11,13 @@ use Rattle.smi_text.specs.trees.Mark.{Mark, sign, sign_text, spelled, same_kind,
 use Rattle.smi_text.specs.trees.Mark.{MarksToken}
 use Rattle.smi_text.specs.Format.{StandsAhead}
 use Rattle.smi_text.specs.trees.Reserved.{is_reserved}
-use Rattle.smi_text.specs.Format.{Format, Parsed, Ahead, a_word, a_name, a_kind, is_this_word}
-use Rattle.smi_text.specs.Format.{meets, begins, apart, never, one, read_one, word, token}
+use Rattle.smi_text.specs.Format.{Format, Parsed, Ahead, a_word, a_name, a_kind, exact}
+use Rattle.smi_text.specs.Format.{meets, begins, apart, one, read_one, word, token}
 use Rattle.smi_text.specs.Format.{text, text_where, name, pair, behind, before, maybe}
-use Rattle.smi_text.specs.Format.{spell_option, either, spell_either, read_many, many}
-use Rattle.smi_text.specs.Format.{spell_pieces}
-use Rattle.smi_text.specs.Format.{shaped, line_ahead, lined, with_front, lower, name_where}
-use Rattle.smi_text.specs.Format.{name_of, is_sign}
-use Rattle.smi_text.specs.trees.Spelling.{put_line}
+use Rattle.smi_text.specs.Format.{either, read_many, many}
+use Rattle.smi_text.specs.Format.{some_of, shaped, line_ahead, lined, with_front, lower, name_where}
+use Rattle.smi_text.specs.Format.{name_of}
+use Rattle.smi_text.specs.trees.Spelling.{put_line, of_option, of_some, nothing}
 use Rattle.smi_text.specs.declared.trees.names.Name.{Name}
 use Rattle.smi_text.proofs.Lawful.{Lawful}
 use Rattle.smi_text.proofs.NameLaws.{name_of-octets, name_of-is}
@@ -26,7 +25,7 @@ pub use Rattle.smi_text.proofs.NameLaws.{some-inj}
 use Rattle.smi_text.proofs.Marks.{and-left, and-right, and-both, or-left, or-right, or-false}
 use Rattle.smi_text.proofs.Marks.{same_kind-eq, same_kind-same, same_text-eq, same_text-same}
 use Rattle.smi_text.proofs.Marks.{StandsAhead-append, StandsAhead-split, map-inv, then-inv}
-use Rattle.smi_text.proofs.Marks.{begins-append, begins-none, apart-false}
+use Rattle.smi_text.proofs.Marks.{begins-append, apart-false}
 use Rattle.smi_text.proofs.Many.{shorter, many-goes_on, many-done}
 
 abbrev put_left : {A B : Type 0} → A × List Item → (A ⊎ B) × List Item
@@ -44,16 +43,16 @@ put_first x q = (x ∷ q.0, q.1)
 abbrev then_many : {A : Type 0} → Format A → ℕ → A × List Item → Parsed (List A)
 then_many f n p = option_map (put_first p.0) (read_many f n p.1)
 
--- no token is spelled by `never`
-pub never-stands : (ts rest : List Item) → StandsAhead never ts rest → ⊥
+-- no token is marked so
+pub never-stands : (ts rest : List Item) → StandsAhead nothing ts rest → ⊥
 never-stands [] rest h = h
 never-stands (Err f ∷ ts) rest h = h
 never-stands (Ok t ∷ ts) rest h = cc (h.0.2)
 
 -- what is spelled by a format that is not empty begins as it says
-pub starts-with : {A : Type 0} (f : Format A) → Lawful f → f.empty ≡ false → (x : A) (ts rest : List Item) → StandsAhead (f.spell x) ts rest
+pub starts-with : {A : Type 0} {s : A → List Mark} {f : Format A} → Lawful s f → f.empty ≡ false → (x : A) (ts rest : List Item) → StandsAhead (s x) ts rest
     → begins f.first ts ≡ true
-starts-with f law solid x ts rest h =
+starts-with law solid x ts rest h =
     elim (law.starts x ts rest h) [ inl b ↦ b | inr p ↦ absurd (let e = p.0 in cc) ]
 
 begins-left : (cs ds : List Ahead) (ts : List Item) → begins cs ts ≡ true → begins (cs ++ ds) ts ≡ true
@@ -74,7 +73,7 @@ pub record IsOne {A : Type 0} (cs : List Ahead) (mark : A → Mark) (pick : Lexe
   pub ahead : (t : Lexeme) (x : A) → MarksToken (mark x) t → list_any (meets t) cs ≡ true
 
 one-takes : {A : Type 0} (cs : List Ahead) (mark : A → Mark) (pick : Lexeme → Option A) → IsOne cs mark pick → (ts rest : List Item) (x : A)
-    → (one cs mark pick).read ts ≡ Some (x, rest) → StandsAhead ((one cs mark pick).spell x) ts rest
+    → (one cs pick).read ts ≡ Some (x, rest) → StandsAhead (mark x ∷ []) ts rest
 one-takes cs mark pick is [] rest x h = absurd (cc)
 one-takes cs mark pick is (Err f ∷ ts) rest x h = absurd (cc)
 one-takes {A} cs mark pick is (Ok t ∷ ts) rest x h =
@@ -95,7 +94,7 @@ one-starts cs mark pick is x [] rest h = absurd h
 one-starts cs mark pick is x (Err f ∷ ts) rest h = absurd h
 one-starts cs mark pick is x (Ok t ∷ ts) rest h = is.ahead t x h.0
 
-pub one-law : {A : Type 0} (cs : List Ahead) (mark : A → Mark) (pick : Lexeme → Option A) → IsOne cs mark pick → Lawful (one cs mark pick)
+pub one-law : {A : Type 0} (cs : List Ahead) (mark : A → Mark) (pick : Lexeme → Option A) → IsOne cs mark pick → Lawful (λ x. mark x ∷ []) (one cs pick)
 one-law cs mark pick is = record {
   takes = one-takes cs mark pick is;
   again = λ x ts rest h s. one-again cs mark pick is x ts rest h;
@@ -113,39 +112,33 @@ if-true b x y h = rw h refl
 pub any-one : (t : Lexeme) (c : Ahead) → meets t c ≡ true → list_any (meets t) (c ∷ []) ≡ true
 any-one t c h = or-left (meets t c) false h
 
-word-true : (w : List ℕ) (t : Lexeme) → t.kind ≡ Upper → t.text ≡ w → is_this_word w t ≡ true
-word-true w t e f = rw (e, f) (same_text-same w)
+module _ (c : Ahead) (k : TokenKind) (x : List ℕ) where
+  exact-found : (t : Lexeme) → MarksToken (spelled k x true) t → (same_kind t.kind k && same_text t.text x) ≡ true
+  exact-found t h = and-both (same_kind t.kind k) (same_text t.text x) (rw h.0 (same_kind-same k)) (rw h.1 (same_text-same x))
 
-pub word-law : (w : List ℕ) → Lawful (word w)
+  exact-law : ((t : Lexeme) → (same_kind t.kind k && same_text t.text x) ≡ true → meets t c ≡ true)
+      → Lawful (λ (_ : Unit {0}). spelled k x true ∷ []) (exact c k x)
+  exact-law ahead = one-law (c ∷ []) (λ _. spelled k x true) (λ t. if same_kind t.kind k && same_text t.text x then Some tt else None) (record {
+    fits = λ t u h.
+        let b = (if-some {A = Unit {0}} (same_kind t.kind k && same_text t.text x) tt u h).0 in (
+          same_kind-eq t.kind k (and-left (same_kind t.kind k) (same_text t.text x) b),
+          same_text-eq t.text x (and-right (same_kind t.kind k)
+              (same_text t.text x) b),
+          refl,
+        );
+    picks = λ t u h. if-true (same_kind t.kind k && same_text t.text x) (Some tt) None (exact-found t h);
+    ahead = λ t u h. any-one t c (ahead t (exact-found t h));
+  })
+
+pub word-law : (w : List ℕ) → Lawful (λ (_ : Unit {0}). spelled Upper w true ∷ []) (word w)
 unfolding word
-word-law w = one-law (a_word w ∷ []) (λ _. spelled Upper w true) (λ t. if is_this_word w t then Some tt else None) (record {
-  fits = λ t x h.
-      let b = (if-some {A = Unit {0}} (is_this_word w t) tt x h).0 in (
-        same_kind-eq t.kind Upper (and-left (same_kind t.kind Upper) (same_text t.text w) b),
-        same_text-eq t.text w (and-right (same_kind t.kind Upper)
-            (same_text t.text w) b),
-        refl,
-      );
-  picks = λ t x h. if-true (is_this_word w t) (Some tt) None (word-true w t h.0 h.1);
-  ahead = λ t x h. any-one t (a_word w) (word-true w t h.0 h.1);
-})
+word-law w = exact-law (a_word w) Upper w (λ t h. h)
 
-pub token-law : (k : TokenKind) → Lawful (token k)
+pub token-law : (k : TokenKind) → Lawful (λ (_ : Unit {0}). sign k ∷ []) (token k)
 unfolding token
-token-law k = one-law (a_kind k ∷ []) (λ _. sign k) (λ t. if is_sign k t then Some tt else None) (record {
-  fits = λ t x h.
-      let b = (if-some {A = Unit {0}} (is_sign k t) tt x h).0 in (
-        same_kind-eq t.kind k (and-left (same_kind t.kind k) (same_text t.text (sign_text k)) b),
-        same_text-eq t.text (sign_text k) (and-right (same_kind t.kind k) (same_text t.text (sign_text k)) b),
-        refl,
-      );
-  picks = λ t x h.
-      if-true (is_sign k t) (Some tt) None
-      (and-both (same_kind t.kind k) (same_text t.text (sign_text k)) (rw h.0 (same_kind-same k)) (rw h.1 (same_text-same (sign_text k))));
-  ahead = λ t x h. any-one t (a_kind k) (rw h.0 (same_kind-same k));
-})
+token-law k = exact-law (a_kind k) k (sign_text k) (λ t h. and-left (same_kind t.kind k) (same_text t.text (sign_text k)) h)
 
-pub text-law : (k : TokenKind) → Lawful (text k)
+pub text-law : (k : TokenKind) → Lawful (λ x. spelled k x true ∷ []) (text k)
 unfolding text
 text-law k = one-law (a_kind k ∷ []) (λ x. spelled k x true) (λ t. if same_kind t.kind k then Some t.text else None) (record {
   fits = λ t x h. let p = if-some (same_kind t.kind k) t.text x h in (same_kind-eq t.kind k p.0, p.1, refl);
@@ -153,7 +146,7 @@ text-law k = one-law (a_kind k ∷ []) (λ x. spelled k x true) (λ t. if same_k
   ahead = λ t x h. any-one t (a_kind k) (rw h.0 (same_kind-same k));
 })
 
-pub text_where-law : (k : TokenKind) (ok : List ℕ → Bool) → Lawful (text_where k ok)
+pub text_where-law : (k : TokenKind) (ok : List ℕ → Bool) → Lawful (λ x. spelled k x (ok x) ∷ []) (text_where k ok)
 unfolding text_where
 text_where-law k ok = one-law (a_kind k ∷ []) (λ x. spelled k x (ok x)) (λ t. if same_kind t.kind k && ok t.text then Some t.text else None) (record {
   fits = λ t x h.
@@ -170,7 +163,7 @@ if-then true r y h = (refl, h)
 if-then false r y h = absurd (cc)
 
 pub name_where-law : (cs : List Ahead) (k : TokenKind) (ok : List ℕ → Bool) → ((t : Lexeme) → same_kind t.kind k ≡ true → ok t.text ≡ true
-    → list_any (meets t) cs ≡ true) → Lawful (name_where cs k ok)
+    → list_any (meets t) cs ≡ true) → Lawful (λ (x : Name). spelled k x.octets (ok x.octets) ∷ []) (name_where cs k ok)
 name_where-law cs k ok ahead = one-law cs (λ (x : Name). spelled k x.octets (ok x.octets))
     (λ t. if same_kind t.kind k && ok t.text then name_of t.text else None) (record {
       fits = λ t x h.
@@ -184,11 +177,11 @@ name_where-law cs k ok ahead = one-law cs (λ (x : Name). spelled k x.octets (ok
       ahead = λ t x h. ahead t (rw h.0 (same_kind-same k)) (ap ok h.1 ∙ h.2);
     })
 
-pub lower-law : Lawful lower
+pub lower-law : Lawful (λ (x : Name). spelled Lower x.octets true ∷ []) lower
 unfolding lower
 lower-law = name_where-law (a_kind Lower ∷ []) Lower (λ _. true) (λ t k ok. any-one t (a_kind Lower) k)
 
-pub name-law : Lawful name
+pub name-law : Lawful (λ (x : Name). spelled Upper x.octets (not (is_reserved x.octets)) ∷ []) name
 unfolding name
 name-law =
     name_where-law (a_name ∷ []) Upper (λ x. not (is_reserved x))
@@ -196,9 +189,10 @@ name-law =
 
 -- several parts
 
-module _ {A B : Type 0} (f : Format A) (g : Format B) (f-law : Lawful f) (g-law : Lawful g) (far : apart f.stop g.first ≡ true) where
+module _ {A B : Type 0} {s : A → List Mark} {t : B → List Mark} {f : Format A} {g : Format B} (f-law : Lawful s f) (g-law : Lawful t g)
+    (far : apart f.stop g.first ≡ true) where
   -- what stands behind the first part does not stop it
-  goes-on : (y : B) (mid rest : List Item) → StandsAhead (g.spell y) mid rest → (g.empty ≡ true → begins f.stop rest ≡ false) → begins f.stop mid ≡ false
+  goes-on : (y : B) (mid rest : List Item) → StandsAhead (t y) mid rest → (g.empty ≡ true → begins f.stop rest ≡ false) → begins f.stop mid ≡ false
   goes-on y mid rest h e =
       elim (g-law.starts y mid rest h) [
         | inl b ↦ apart-false f.stop g.first mid far b
@@ -214,20 +208,20 @@ module _ {A B : Type 0} (f : Format A) (g : Format B) (f-law : Lawful f) (g-law 
         | false ↦ λ k. (k, λ e. absurd (cc))
       ] h
 
-  pair-takes : (ts rest : List Item) (x : A × B) → (pair f g).read ts ≡ Some (x, rest) → StandsAhead ((pair f g).spell x) ts rest
+  pair-takes : (ts rest : List Item) (x : A × B) → (pair f g).read ts ≡ Some (x, rest) → StandsAhead (s x.0 ++ t x.1) ts rest
   unfolding pair
   pair-takes ts rest x h =
       let r = then-inv (λ (p : A × List Item). option_map (λ (q : B × List Item). ((p.0, q.0), q.1)) (g.read p.1)) (f.read ts) (x, rest) h in
-      let s = map-inv (λ (q : B × List Item). ((r.0.0, q.0), q.1)) (g.read r.0.1) (x, rest) r.2 in
-      let P : (A × B) × List Item → Type 0 = λ w. StandsAhead (f.spell w.0.0 ++ g.spell w.0.1) ts w.1 in
-      subst P s.2 (StandsAhead-append (f.spell r.0.0) (g.spell s.0.0) ts r.0.1 s.0.1 (f-law.takes ts r.0.1 r.0.0 r.1) (g-law.takes r.0.1 s.0.1 s.0.0 s.1))
+      let q = map-inv (λ (q : B × List Item). ((r.0.0, q.0), q.1)) (g.read r.0.1) (x, rest) r.2 in
+      let P : (A × B) × List Item → Type 0 = λ w. StandsAhead (s w.0.0 ++ t w.0.1) ts w.1 in
+      subst P q.2 (StandsAhead-append (s r.0.0) (t q.0.0) ts r.0.1 q.0.1 (f-law.takes ts r.0.1 r.0.0 r.1) (g-law.takes r.0.1 q.0.1 q.0.0 q.1))
 
-  pair-again : (x : A × B) (ts rest : List Item) → StandsAhead ((pair f g).spell x) ts rest → begins (pair f g).stop rest ≡ false
+  pair-again : (x : A × B) (ts rest : List Item) → StandsAhead (s x.0 ++ t x.1) ts rest → begins (pair f g).stop rest ≡ false
       → (pair f g).read ts ≡ Some (x, rest)
   unfolding pair
-  pair-again x ts rest h s =
-      let r = StandsAhead-split (f.spell x.0) (g.spell x.1) ts rest h in
-      let stops = pair-stops rest s in
+  pair-again x ts rest h k =
+      let r = StandsAhead-split (s x.0) (t x.1) ts rest h in
+      let stops = pair-stops rest k in
       let first : f.read ts ≡ Some (x.0, r.0) = f-law.again x.0 ts r.0 r.1 (goes-on x.1 r.0 rest r.2 stops.1) in
       let second : g.read r.0 ≡ Some (x.1, rest) = g-law.again x.1 r.0 rest r.2 stops.0 in
       rw (first, second) refl
@@ -239,11 +233,11 @@ module _ {A B : Type 0} (f : Format A) (g : Format B) (f-law : Lawful f) (g-law 
   second-of-two : (ts : List Item) → f.empty ≡ true → begins g.first ts ≡ true → begins (if f.empty then f.first ++ g.first else f.first) ts ≡ true
   second-of-two ts e h = rw e (begins-right f.first g.first ts h)
 
-  pair-starts : (x : A × B) (ts rest : List Item) → StandsAhead ((pair f g).spell x) ts rest
+  pair-starts : (x : A × B) (ts rest : List Item) → StandsAhead (s x.0 ++ t x.1) ts rest
       → (begins (pair f g).first ts ≡ true) ⊎ (((pair f g).empty ≡ true) × (ts ≡ rest))
   unfolding pair
   pair-starts x ts rest h =
-      let r = StandsAhead-split (f.spell x.0) (g.spell x.1) ts rest h in
+      let r = StandsAhead-split (s x.0) (t x.1) ts rest h in
       elim (f-law.starts x.0 ts r.0 r.1) [
         | inl b ↦ inl (first-of-two ts b)
         | inr p ↦ elim (g-law.starts x.1 r.0 rest r.2) [
@@ -252,106 +246,53 @@ module _ {A B : Type 0} (f : Format A) (g : Format B) (f-law : Lawful f) (g-law 
         ]
       ]
 
-  pub pair-law : Lawful (pair f g)
+  pub pair-law : Lawful (λ (p : A × B). s p.0 ++ t p.1) (pair f g)
   pair-law = record { takes = pair-takes; again = pair-again; starts = pair-starts }
 
-module _ {A : Type 0} (w : Format (Unit {0})) (f : Format A) (w-law : Lawful w) (f-law : Lawful f) (solid : w.empty ≡ false) (unstopped : w.stop ≡ []) where
-  behind-takes : (ts rest : List Item) (x : A) → (behind w f).read ts ≡ Some (x, rest) → StandsAhead ((behind w f).spell x) ts rest
-  unfolding behind
-  behind-takes ts rest x h =
-      let r = then-inv (λ (p : (Unit {0}) × List Item). f.read p.1) (w.read ts) (x, rest) h in
-      StandsAhead-append (w.spell tt) (f.spell x) ts r.0.1 rest (w-law.takes ts r.0.1 r.0.0 r.1) (f-law.takes r.0.1 rest x r.2)
-
-  behind-again : (x : A) (ts rest : List Item) → StandsAhead ((behind w f).spell x) ts rest → begins (behind w f).stop rest ≡ false
-      → (behind w f).read ts ≡ Some (x, rest)
-  unfolding behind
-  behind-again x ts rest h s =
-      let r = StandsAhead-split (w.spell tt) (f.spell x) ts rest h in
-      let first : w.read ts ≡ Some (tt, r.0) = w-law.again tt ts r.0 r.1 (rw unstopped (begins-none r.0)) in
-      rw first (f-law.again x r.0 rest r.2 s)
-
-  behind-starts : (x : A) (ts rest : List Item) → StandsAhead ((behind w f).spell x) ts rest → begins (behind w f).first ts ≡ true
-  unfolding behind
-  behind-starts x ts rest h =
-      let r = StandsAhead-split (w.spell tt) (f.spell x) ts rest h in
-      starts-with w w-law solid tt ts r.0 r.1
-
-  pub behind-law : Lawful (behind w f)
-  unfolding behind
-  behind-law = record { takes = behind-takes; again = behind-again; starts = λ x ts rest h. inl (behind-starts x ts rest h) }
-
-module _ {A : Type 0} (f : Format A) (w : Format (Unit {0})) (f-law : Lawful f) (w-law : Lawful w) (solid : w.empty ≡ false)
-    (far : apart f.stop w.first ≡ true) where
-  before-takes : (ts rest : List Item) (x : A) → (before f w).read ts ≡ Some (x, rest) → StandsAhead ((before f w).spell x) ts rest
-  unfolding before
-  before-takes ts rest x h =
-      let r = then-inv (λ (p : A × List Item). option_map (λ (q : (Unit {0}) × List Item). (p.0, q.1)) (w.read p.1)) (f.read ts) (x, rest) h in
-      let s = map-inv (λ (q : (Unit {0}) × List Item). (r.0.0, q.1)) (w.read r.0.1) (x, rest) r.2 in
-      let P : A × List Item → Type 0 = λ p. StandsAhead (f.spell p.0 ++ w.spell tt) ts p.1 in
-      subst P s.2 (StandsAhead-append (f.spell r.0.0) (w.spell tt) ts r.0.1 s.0.1 (f-law.takes ts r.0.1 r.0.0 r.1) (w-law.takes r.0.1 s.0.1 s.0.0 s.1))
-
-  before-again : (x : A) (ts rest : List Item) → StandsAhead ((before f w).spell x) ts rest → begins (before f w).stop rest ≡ false
-      → (before f w).read ts ≡ Some (x, rest)
-  unfolding before
-  before-again x ts rest h s =
-      let r = StandsAhead-split (f.spell x) (w.spell tt) ts rest h in
-      let first : f.read ts ≡ Some (x, r.0) = f-law.again x ts r.0 r.1 (apart-false f.stop w.first r.0 far (starts-with w w-law solid tt r.0 rest r.2)) in
-      let second : w.read r.0 ≡ Some (tt, rest) = w-law.again tt r.0 rest r.2 s in
-      rw (first, second) refl
-
-  before-starts : (x : A) (ts rest : List Item) → StandsAhead ((before f w).spell x) ts rest → begins (before f w).first ts ≡ true
-  unfolding before
-  before-starts x ts rest h =
-      let r = StandsAhead-split (f.spell x) (w.spell tt) ts rest h in
-      elim (f-law.starts x ts r.0 r.1) [
-        | inl b ↦ elim (f.empty) as (λ e. begins (if e then f.first ++ w.first else f.first) ts ≡ true) [ true ↦ begins-left f.first w.first ts b | false ↦ b ]
-        | inr p ↦ rw (p.0) (begins-right f.first w.first ts (ap (begins w.first) p.1 ∙ starts-with w w-law solid tt r.0 rest r.2))
-      ]
-
-  pub before-law : Lawful (before f w)
-  unfolding before
-  before-law = record { takes = before-takes; again = before-again; starts = λ x ts rest h. inl (before-starts x ts rest h) }
-
-module _ {A : Type 0} (f : Format A) (law : Lawful f) (solid : f.empty ≡ false) where
-  maybe-takes : (ts rest : List Item) (x : Option A) → (maybe f).read ts ≡ Some (x, rest) → StandsAhead ((maybe f).spell x) ts rest
+module _ {A : Type 0} {s : A → List Mark} {f : Format A} (law : Lawful s f) (solid : f.empty ≡ false) where
+  maybe-takes : (ts rest : List Item) (x : Option A) → (maybe f).read ts ≡ Some (x, rest) → StandsAhead (of_option s x) ts rest
   unfolding maybe
   maybe-takes ts rest x =
       elim (begins f.first ts) as (λ b. (if b then option_map put_some (f.read ts) else Some (None, ts)) ≡ Some (x, rest)
-      → StandsAhead (spell_option f.spell x) ts rest) [
+      → StandsAhead (of_option s x) ts rest) [
         | true ↦ λ h.
             let r = map-inv put_some (f.read ts) (x, rest) h in
-            let P : Option A × List Item → Type 0 = λ w. StandsAhead (spell_option f.spell w.0) ts w.1 in
+            let P : Option A × List Item → Type 0 = λ w. StandsAhead (of_option s w.0) ts w.1 in
             subst P r.2 (law.takes ts r.0.1 r.0.0 r.1)
         | false ↦ λ h.
             let e = some-inj {A = Option A × List Item} (None, ts) (x, rest) h in
-            let P : Option A × List Item → Type 0 = λ w. StandsAhead (spell_option f.spell w.0) ts w.1 in
+            let P : Option A × List Item → Type 0 = λ w. StandsAhead (of_option s w.0) ts w.1 in
             subst P e refl
       ]
 
-  maybe-again : (x : Option A) (ts rest : List Item) → StandsAhead ((maybe f).spell x) ts rest → begins (maybe f).stop rest ≡ false
+  maybe-again : (x : Option A) (ts rest : List Item) → StandsAhead (of_option s x) ts rest → begins (maybe f).stop rest ≡ false
       → (maybe f).read ts ≡ Some (x, rest)
   unfolding maybe
-  maybe-again None ts rest h s = rw (ap (begins f.first) h ∙ (neither f.first f.stop rest s).0) (ap (λ (us : List Item). Some (None, us)) h)
-  maybe-again (Some x) ts rest h s =
-      rw (starts-with f law solid x ts rest h, law.again x ts rest h (neither f.first f.stop rest s).1) refl
+  maybe-again None ts rest h k = rw (ap (begins f.first) h ∙ (neither f.first f.stop rest k).0) (ap (λ (us : List Item). Some (None, us)) h)
+  maybe-again (Some x) ts rest h k =
+      rw (starts-with law solid x ts rest h, law.again x ts rest h (neither f.first f.stop rest k).1) refl
 
-  maybe-starts : (x : Option A) (ts rest : List Item) → StandsAhead ((maybe f).spell x) ts rest
+  maybe-starts : (x : Option A) (ts rest : List Item) → StandsAhead (of_option s x) ts rest
       → (begins (maybe f).first ts ≡ true) ⊎ (((maybe f).empty ≡ true) × (ts ≡ rest))
   unfolding maybe
   maybe-starts None ts rest h = inr (refl, h)
-  maybe-starts (Some x) ts rest h = inl (starts-with f law solid x ts rest h)
+  maybe-starts (Some x) ts rest h = inl (starts-with law solid x ts rest h)
 
-  pub maybe-law : Lawful (maybe f)
+  pub maybe-law : Lawful (of_option s) (maybe f)
   maybe-law = record { takes = maybe-takes; again = maybe-again; starts = maybe-starts }
 
-module _ {A B : Type 0} (f : Format A) (g : Format B) (f-law : Lawful f) (g-law : Lawful g) (f-solid : f.empty ≡ false) (g-solid : g.empty ≡ false)
-    (far : apart f.first g.first ≡ true) where
-  either-takes : (ts rest : List Item) (x : A ⊎ B) → (either f g).read ts ≡ Some (x, rest) → StandsAhead ((either f g).spell x) ts rest
+abbrev pub of_either : {A B : Type 0} → (A → List Mark) → (B → List Mark) → A ⊎ B → List Mark
+of_either s t (inl x) = s x
+of_either s t (inr y) = t y
+
+module _ {A B : Type 0} {s : A → List Mark} {t : B → List Mark} {f : Format A} {g : Format B} (f-law : Lawful s f) (g-law : Lawful t g)
+    (f-solid : f.empty ≡ false) (g-solid : g.empty ≡ false) (far : apart f.first g.first ≡ true) where
+  either-takes : (ts rest : List Item) (x : A ⊎ B) → (either f g).read ts ≡ Some (x, rest) → StandsAhead (of_either s t x) ts rest
   unfolding either
   either-takes ts rest x =
-      let P : (A ⊎ B) × List Item → Type 0 = λ w. StandsAhead (spell_either f.spell g.spell w.0) ts w.1 in
+      let P : (A ⊎ B) × List Item → Type 0 = λ w. StandsAhead (of_either s t w.0) ts w.1 in
       elim (begins f.first ts) as (λ b. (if b then option_map (put_left {B = B}) (f.read ts) else option_map (put_right {A = A}) (g.read ts)) ≡ Some
-      (x, rest) → StandsAhead (spell_either f.spell g.spell x) ts rest) [
+      (x, rest) → StandsAhead (of_either s t x) ts rest) [
         | true ↦ λ h.
             let r = map-inv (put_left {B = B}) (f.read ts) (x, rest) h in
             subst P r.2 (f-law.takes ts r.0.1 r.0.0 r.1)
@@ -360,20 +301,20 @@ module _ {A B : Type 0} (f : Format A) (g : Format B) (f-law : Lawful f) (g-law 
             subst P r.2 (g-law.takes ts r.0.1 r.0.0 r.1)
       ]
 
-  either-again : (x : A ⊎ B) (ts rest : List Item) → StandsAhead ((either f g).spell x) ts rest → begins (either f g).stop rest ≡ false
+  either-again : (x : A ⊎ B) (ts rest : List Item) → StandsAhead (of_either s t x) ts rest → begins (either f g).stop rest ≡ false
       → (either f g).read ts ≡ Some (x, rest)
   unfolding either
-  either-again (inl x) ts rest h s =
-      rw (starts-with f f-law f-solid x ts rest h, f-law.again x ts rest h (neither f.stop g.stop rest s).0) refl
-  either-again (inr y) ts rest h s =
-      rw (apart-false f.first g.first ts far (starts-with g g-law g-solid y ts rest h), g-law.again y ts rest h (neither f.stop g.stop rest s).1) refl
+  either-again (inl x) ts rest h k =
+      rw (starts-with f-law f-solid x ts rest h, f-law.again x ts rest h (neither f.stop g.stop rest k).0) refl
+  either-again (inr y) ts rest h k =
+      rw (apart-false f.first g.first ts far (starts-with g-law g-solid y ts rest h), g-law.again y ts rest h (neither f.stop g.stop rest k).1) refl
 
-  either-starts : (x : A ⊎ B) (ts rest : List Item) → StandsAhead ((either f g).spell x) ts rest → begins (either f g).first ts ≡ true
+  either-starts : (x : A ⊎ B) (ts rest : List Item) → StandsAhead (of_either s t x) ts rest → begins (either f g).first ts ≡ true
   unfolding either
-  either-starts (inl x) ts rest h = begins-left f.first g.first ts (starts-with f f-law f-solid x ts rest h)
-  either-starts (inr y) ts rest h = begins-right f.first g.first ts (starts-with g g-law g-solid y ts rest h)
+  either-starts (inl x) ts rest h = begins-left f.first g.first ts (starts-with f-law f-solid x ts rest h)
+  either-starts (inr y) ts rest h = begins-right f.first g.first ts (starts-with g-law g-solid y ts rest h)
 
-  pub either-law : Lawful (either f g)
+  pub either-law : Lawful (of_either s t) (either f g)
   unfolding either
   either-law = record { takes = either-takes; again = either-again; starts = λ x ts rest h. inl (either-starts x ts rest h) }
 
@@ -381,127 +322,156 @@ front-of-one : {A : Type 0} (y : A) (ys : List A) (us : List Item) → with_fron
 unfolding with_front
 front-of-one y ys us = refl
 
-module _ {A : Type 0} (f : Format A) (law : Lawful f) (solid : f.empty ≡ false) (far : apart f.stop f.first ≡ true) where
-  many-takes-from : (n : ℕ) (ts rest : List Item) (xs : List A) → read_many f n ts ≡ Some (xs, rest) → StandsAhead (flat_map f.spell xs) ts rest
+module _ {A : Type 0} {s : A → List Mark} {f : Format A} (law : Lawful s f) (solid : f.empty ≡ false) (far : apart f.stop f.first ≡ true) where
+  many-takes-from : (n : ℕ) (ts rest : List Item) (xs : List A) → read_many f n ts ≡ Some (xs, rest) → StandsAhead (flat_map s xs) ts rest
   unfolding read_many
   many-takes-from zero ts rest xs = λ h.
       let e = some-inj {A = List A × List Item} ([], ts) (xs, rest) h in
-      let P : List A × List Item → Type 0 = λ w. StandsAhead (flat_map f.spell w.0) ts w.1 in
+      let P : List A × List Item → Type 0 = λ w. StandsAhead (flat_map s w.0) ts w.1 in
       subst P e refl
   many-takes-from (suc n) ts rest xs =
-      let P : List A × List Item → Type 0 = λ w. StandsAhead (flat_map f.spell w.0) ts w.1 in
+      let P : List A × List Item → Type 0 = λ w. StandsAhead (flat_map s w.0) ts w.1 in
       elim (begins f.first ts) as (λ b. (if b then option_and_then (then_many f n) (f.read ts) else Some ([], ts)) ≡ Some (xs, rest)
-      → StandsAhead (flat_map f.spell xs) ts rest) [
+      → StandsAhead (flat_map s xs) ts rest) [
         | true ↦ λ h.
             let r = then-inv (then_many f n) (f.read ts) (xs, rest) h in
-            let s = map-inv (put_first r.0.0) (read_many f n r.0.1) (xs, rest) r.2 in
-            subst P s.2 (StandsAhead-append (f.spell r.0.0) (flat_map f.spell s.0.0) ts r.0.1 s.0.1 (law.takes ts r.0.1 r.0.0 r.1)
-            (many-takes-from n r.0.1 s.0.1 s.0.0 s.1))
+            let q = map-inv (put_first r.0.0) (read_many f n r.0.1) (xs, rest) r.2 in
+            subst P q.2 (StandsAhead-append (s r.0.0) (flat_map s q.0.0) ts r.0.1 q.0.1 (law.takes ts r.0.1 r.0.0 r.1)
+            (many-takes-from n r.0.1 q.0.1 q.0.0 q.1))
         | false ↦ λ h.
             let e = some-inj {A = List A × List Item} ([], ts) (xs, rest) h in
             subst P e refl
       ]
 
-  many-starts : (xs : List A) (ts rest : List Item) → StandsAhead (flat_map f.spell xs) ts rest → (begins f.first ts ≡ true) ⊎ (ts ≡ rest)
+  many-starts : (xs : List A) (ts rest : List Item) → StandsAhead (flat_map s xs) ts rest → (begins f.first ts ≡ true) ⊎ (ts ≡ rest)
   many-starts [] ts rest h = inr h
   many-starts (x ∷ xs) ts rest h =
-      let r = StandsAhead-split (f.spell x) (flat_map f.spell xs) ts rest h in
-      inl (starts-with f law solid x ts r.0 r.1)
+      let r = StandsAhead-split (s x) (flat_map s xs) ts rest h in
+      inl (starts-with law solid x ts r.0 r.1)
 
-  many-again : (xs : List A) (ts rest : List Item) → StandsAhead (flat_map f.spell xs) ts rest → (begins f.first rest ≡ false) × (begins f.stop rest ≡ false)
+  many-again : (xs : List A) (ts rest : List Item) → StandsAhead (flat_map s xs) ts rest → (begins f.first rest ≡ false) × (begins f.stop rest ≡ false)
       → (many f).read ts ≡ Some (xs, rest)
-  many-again [] ts rest h s = rw h (many-done f rest s.0)
-  many-again (x ∷ xs) ts rest h s =
-      let r = StandsAhead-split (f.spell x) (flat_map f.spell xs) ts rest h in
+  many-again [] ts rest h k = rw h (many-done f rest k.0)
+  many-again (x ∷ xs) ts rest h k =
+      let r = StandsAhead-split (s x) (flat_map s xs) ts rest h in
       let on : begins f.stop r.0 ≡ false = elim (many-starts xs r.0 rest r.2) [
         | inl b ↦ apart-false f.stop f.first r.0 far b
         | inr e ↦ ap (begins f.stop) e
-            ∙ s.1
+            ∙ k.1
       ] in
-      many-goes_on f law solid x ts r.0 (starts-with f law solid x ts r.0 r.1) (law.again x ts r.0 r.1 on)
-      ∙ ap (with_front (x ∷ [])) (many-again xs r.0 rest r.2 s) ∙ front-of-one x xs rest
+      many-goes_on law solid x ts r.0 (starts-with law solid x ts r.0 r.1) (law.again x ts r.0 r.1 on)
+      ∙ ap (with_front (x ∷ [])) (many-again xs r.0 rest r.2 k) ∙ front-of-one x xs rest
 
-  pub many-law : Lawful (many f)
+  pub many-law : Lawful (flat_map s) (many f)
   unfolding many
   many-law = record {
     takes = λ ts rest xs h. many-takes-from (length ts) ts rest xs h;
-    again = λ xs ts rest h s. many-again xs ts rest h (neither f.first f.stop rest s);
+    again = λ xs ts rest h k. many-again xs ts rest h (neither f.first f.stop rest k);
     starts = λ xs ts rest h. elim (many-starts xs ts rest h) [ inl b ↦ inl b | inr e ↦ inr (refl, e) ];
   }
 
-module _ {A B : Type 0} (to : A → B) (from : B → Option A) (f : Format A) (law : Lawful f)
-    (back : (x : A) (ts rest : List Item) → StandsAhead (f.spell x) ts rest → from (to x) ≡ Some x)
-    (forth : (y : B) (x : A) → from y ≡ Some x → to x ≡ y) where
-  shaped-takes : (ts rest : List Item) (y : B) → (shaped to from f).read ts ≡ Some (y, rest) → StandsAhead ((shaped to from f).spell y) ts rest
+-- what is spelled of the pieces is what is spelled of the part that they make, which has pieces
+module _ {A B : Type 0} (to : A → B) (u : B → List Mark) {s : A → List Mark} {f : Format A} (law : Lawful s f)
+    (forth : (ts rest : List Item) (x : A) → StandsAhead (s x) ts rest → StandsAhead (u (to x)) ts rest)
+    (back : (ts rest : List Item) (y : B) → StandsAhead (u y) ts rest → (x : A) × (to x ≡ y) × StandsAhead (s x) ts rest) where
+  shaped-takes : (ts rest : List Item) (y : B) → (shaped to f).read ts ≡ Some (y, rest) → StandsAhead (u y) ts rest
   unfolding shaped
   shaped-takes ts rest y h =
       let r = map-inv (λ (p : A × List Item). (to p.0, p.1)) (f.read ts) (y, rest) h in
-      let stands = law.takes ts r.0.1 r.0.0 r.1 in
-      let P : B × List Item → Type 0 = λ w. StandsAhead (spell_pieces f.spell (from w.0)) ts w.1 in
-      subst P r.2 (rw (back r.0.0 ts r.0.1 stands) stands)
+      let P : B × List Item → Type 0 = λ w. StandsAhead (u w.0) ts w.1 in
+      subst P r.2 (forth ts r.0.1 r.0.0 (law.takes ts r.0.1 r.0.0 r.1))
 
-  -- what is spelled has pieces, and they are spelled
-  pieces : (y : B) (ts rest : List Item) → StandsAhead (spell_pieces f.spell (from y)) ts rest → (x : A) × (from y ≡ Some x) × StandsAhead (f.spell x) ts rest
-  pieces y ts rest h =
-      elim (from y) as (λ o. from y ≡ o → StandsAhead (spell_pieces f.spell o) ts rest → (x : A) × (from y ≡ Some x) × StandsAhead (f.spell x) ts rest) [
-        | None ↦ λ e k. absurd (never-stands ts rest k)
-        | Some x ↦ λ e k. (x, e, k)
-      ] refl h
-
-  shaped-again : (y : B) (ts rest : List Item) → StandsAhead ((shaped to from f).spell y) ts rest → begins (shaped to from f).stop rest ≡ false
-      → (shaped to from f).read ts ≡ Some (y, rest)
+  shaped-again : (y : B) (ts rest : List Item) → StandsAhead (u y) ts rest → begins (shaped to f).stop rest ≡ false → (shaped to f).read ts ≡ Some (y, rest)
   unfolding shaped
-  shaped-again y ts rest h s =
-      let p = pieces y ts rest h in
-      rw (law.again p.0 ts rest p.2 s) (ap (λ (z : B). Some (z, rest)) (forth y p.0 p.1))
+  shaped-again y ts rest h k =
+      let p = back ts rest y h in
+      rw (law.again p.0 ts rest p.2 k) (ap (λ (z : B). Some (z, rest)) p.1)
 
-  shaped-starts : (y : B) (ts rest : List Item) → StandsAhead ((shaped to from f).spell y) ts rest
-      → (begins (shaped to from f).first ts ≡ true) ⊎ (((shaped to from f).empty ≡ true) × (ts ≡ rest))
+  shaped-starts : (y : B) (ts rest : List Item) → StandsAhead (u y) ts rest
+      → (begins (shaped to f).first ts ≡ true) ⊎ (((shaped to f).empty ≡ true) × (ts ≡ rest))
   unfolding shaped
   shaped-starts y ts rest h =
-      let p = pieces y ts rest h in
+      let p = back ts rest y h in
       law.starts p.0 ts rest p.2
 
-  pub shaped-law : Lawful (shaped to from f)
+  pub shaped-law : Lawful u (shaped to f)
   shaped-law = record { takes = shaped-takes; again = shaped-again; starts = shaped-starts }
 
-module _ {A : Type 0} (f : Format A) (law : Lawful f) (solid : f.empty ≡ false) where
-  put-line : (ms : List Mark) (ts rest : List Item) → (ms ≡ [] → ⊥) → StandsAhead ms ts rest → StandsAhead (put_line (line_ahead ts) ms) ts rest
-  put-line [] ts rest some h = absurd (some refl)
-  put-line (m ∷ ms) [] rest some h = h
-  put-line (m ∷ ms) (Err f ∷ ts) rest some h = absurd h
-  put-line (m ∷ ms) (Ok t ∷ ts) rest some h = ((h.0, refl), h.1)
+pub behind-law : {A : Type 0} {v : Unit {0} → List Mark} {s : A → List Mark} {w : Format (Unit {0})} {f : Format A} → Lawful v w → Lawful s f
+    → apart w.stop f.first ≡ true → Lawful (λ x. v tt ++ s x) (behind w f)
+unfolding behind
+behind-law {A} {v} {s} w-law f-law far =
+    shaped-law (λ (p : (Unit {0}) × A). p.1) (λ x. v tt ++ s x) (pair-law w-law f-law far) (λ ts rest p h. h) (λ ts rest x h. ((tt, x), refl, h))
 
-  drop-line : (n : ℕ) (ms : List Mark) (ts rest : List Item) → StandsAhead (put_line n ms) ts rest → StandsAhead ms ts rest × (line_ahead ts ≡ n)
-  drop-line n [] ts rest h = absurd (never-stands ts rest h)
-  drop-line n (m ∷ ms) [] rest h = absurd h
-  drop-line n (m ∷ ms) (Err f ∷ ts) rest h = absurd h
-  drop-line n (m ∷ ms) (Ok t ∷ ts) rest h = ((h.0.0, h.1), h.0.1)
+pub before-law : {A : Type 0} {s : A → List Mark} {v : Unit {0} → List Mark} {f : Format A} {w : Format (Unit {0})} → Lawful s f → Lawful v w
+    → apart f.stop w.first ≡ true → Lawful (λ x. s x ++ v tt) (before f w)
+unfolding before
+before-law {A} {s} {v} f-law w-law far =
+    shaped-law (λ (p : A × (Unit {0})). p.0) (λ x. s x ++ v tt) (pair-law f-law w-law far) (λ ts rest p h. h) (λ ts rest x h. ((x, tt), refl, h))
 
-  some-mark : (x : A) → f.spell x ≡ [] → ⊥
+-- a part before the others, as a pair that is made a list
+front-pair : {A : Type 0} (x : A) (r : Parsed (List A))
+    → with_front (x ∷ []) r ≡ option_map (λ (w : (A × List A) × List Item). (w.0.0 ∷ w.0.1, w.1)) (option_map (λ (q : List A × List Item). ((x, q.0), q.1)) r)
+unfolding with_front
+front-pair x None = refl
+front-pair x (Some q) = refl
+
+some-read : {A : Type 0} (g : Format A) (r : Parsed A) → option_and_then (λ (p : A × List Item). with_front (p.0 ∷ []) ((many g).read p.1)) r
+    ≡ option_map (λ (w : (A × List A) × List Item). (w.0.0 ∷ w.0.1, w.1)) (option_and_then (λ (p : A × List Item). option_map
+    (λ (q : List A × List Item). ((p.0, q.0), q.1)) ((many g).read p.1)) r)
+some-read g None = refl
+some-read g (Some p) = front-pair p.0 ((many g).read p.1)
+
+pub some_of-law : {A : Type 0} {s t : A → List Mark} {f g : Format A} → Lawful s f → Lawful t g → g.empty ≡ false → apart f.stop g.first ≡ true
+    → apart g.stop g.first ≡ true → Lawful (of_some s t) (some_of f g)
+unfolding some_of shaped pair many
+some_of-law {A} {s} {t} {f} {g} f-law g-law solid far near =
+    let law = shaped-law (λ (p : A × List A). p.0 ∷ p.1) (of_some s t) (pair-law f-law (many-law g-law solid near) far) (λ ts rest p h. h)
+    (λ ts rest. elim [ [] ↦ λ h. absurd (never-stands ts rest h) | (x ∷ xs) ↦ λ h. ((x, xs), refl, h) ]) in
+    record {
+      takes = λ ts rest xs h. law.takes ts rest xs (sym (some-read g (f.read ts)) ∙ h);
+      again = λ xs ts rest h k. some-read g (f.read ts) ∙ law.again xs ts rest h k;
+      starts = law.starts;
+    }
+
+-- the line of the first mark
+put-line : (ms : List Mark) (ts rest : List Item) → (ms ≡ [] → ⊥) → StandsAhead ms ts rest → StandsAhead (put_line (line_ahead ts) ms) ts rest
+put-line [] ts rest some h = absurd (some refl)
+put-line (m ∷ ms) [] rest some h = h
+put-line (m ∷ ms) (Err f ∷ ts) rest some h = absurd h
+put-line (m ∷ ms) (Ok t ∷ ts) rest some h = ((h.0, refl), h.1)
+
+drop-line : (n : ℕ) (ms : List Mark) (ts rest : List Item) → StandsAhead (put_line n ms) ts rest → StandsAhead ms ts rest × (line_ahead ts ≡ n)
+drop-line n [] ts rest h = absurd (never-stands ts rest h)
+drop-line n (m ∷ ms) [] rest h = absurd h
+drop-line n (m ∷ ms) (Err f ∷ ts) rest h = absurd h
+drop-line n (m ∷ ms) (Ok t ∷ ts) rest h = ((h.0.0, h.1), h.0.1)
+
+module _ {A : Type 0} {s : A → List Mark} {f : Format A} (law : Lawful s f) (solid : f.empty ≡ false) where
+  some-mark : (x : A) → s x ≡ [] → ⊥
   some-mark x e =
-      let none : StandsAhead (f.spell x) [] [] = let P : List Mark → Type 0 = λ ms. StandsAhead ms [] [] in subst P (sym e) refl in
-      let short : length {A = Lexeme} [] < length {A = Lexeme} [] = shorter f law solid x [] [] none in
+      let none : StandsAhead (s x) [] [] = let P : List Mark → Type 0 = λ ms. StandsAhead ms [] [] in subst P (sym e) refl in
+      let short : length {A = Lexeme} [] < length {A = Lexeme} [] = shorter law solid x [] [] none in
       omega arith
 
-  lined-takes : (ts rest : List Item) (x : ℕ × A) → (lined f).read ts ≡ Some (x, rest) → StandsAhead ((lined f).spell x) ts rest
+  lined-takes : (ts rest : List Item) (x : ℕ × A) → (lined f).read ts ≡ Some (x, rest) → StandsAhead (put_line x.0 (s x.1)) ts rest
   unfolding lined
   lined-takes ts rest x h =
       let r = map-inv (λ (p : A × List Item). ((line_ahead ts, p.0), p.1)) (f.read ts) (x, rest) h in
-      let P : (ℕ × A) × List Item → Type 0 = λ w. StandsAhead (put_line w.0.0 (f.spell w.0.1)) ts w.1 in
-      subst P r.2 (put-line (f.spell r.0.0) ts r.0.1 (some-mark r.0.0) (law.takes ts r.0.1 r.0.0 r.1))
+      let P : (ℕ × A) × List Item → Type 0 = λ w. StandsAhead (put_line w.0.0 (s w.0.1)) ts w.1 in
+      subst P r.2 (put-line (s r.0.0) ts r.0.1 (some-mark r.0.0) (law.takes ts r.0.1 r.0.0 r.1))
 
-  lined-again : (x : ℕ × A) (ts rest : List Item) → StandsAhead ((lined f).spell x) ts rest → begins (lined f).stop rest ≡ false
+  lined-again : (x : ℕ × A) (ts rest : List Item) → StandsAhead (put_line x.0 (s x.1)) ts rest → begins (lined f).stop rest ≡ false
       → (lined f).read ts ≡ Some (x, rest)
   unfolding lined
-  lined-again x ts rest h s =
-      let r = drop-line x.0 (f.spell x.1) ts rest h in
-      rw (law.again x.1 ts rest r.0 s) (ap (λ (n : ℕ). Some ((n, x.1), rest)) r.1)
+  lined-again x ts rest h k =
+      let r = drop-line x.0 (s x.1) ts rest h in
+      rw (law.again x.1 ts rest r.0 k) (ap (λ (n : ℕ). Some ((n, x.1), rest)) r.1)
 
-  lined-starts : (x : ℕ × A) (ts rest : List Item) → StandsAhead ((lined f).spell x) ts rest → begins (lined f).first ts ≡ true
+  lined-starts : (x : ℕ × A) (ts rest : List Item) → StandsAhead (put_line x.0 (s x.1)) ts rest → begins (lined f).first ts ≡ true
   unfolding lined
-  lined-starts x ts rest h = starts-with f law solid x.1 ts rest (drop-line x.0 (f.spell x.1) ts rest h).0
+  lined-starts x ts rest h = starts-with law solid x.1 ts rest (drop-line x.0 (s x.1) ts rest h).0
 
-  pub lined-law : Lawful (lined f)
+  pub lined-law : Lawful (λ (p : ℕ × A). put_line p.0 (s p.1)) (lined f)
   unfolding lined
   lined-law = record { takes = lined-takes; again = lined-again; starts = λ x ts rest h. inl (lined-starts x ts rest h) }

@@ -6,14 +6,7 @@ use Rattle.std.proofs.Math.Bool.{Bool-set}
 use Rattle.std.proofs.Math.Logic.{∥∥₁_elim}
 use Rattle.std.proofs.lemmas.Bool.{false≢true}
 use Rattle.smi_text.specs.declared.lexer.token.TokenKind.{TokenKind}
-use Rattle.smi_text.specs.declared.lexer.token.TokenKind.TheVariants.{Lower, Upper, Number, Text}
-use Rattle.smi_text.specs.declared.lexer.token.TokenKind.TheVariants.{Hex, Binary, Assign, Range}
-use Rattle.smi_text.specs.declared.lexer.token.TokenKind.TheVariants.{OpenBrace, CloseBrace}
-use Rattle.smi_text.specs.declared.lexer.token.TokenKind.TheVariants.{OpenParen, CloseParen}
-use Rattle.smi_text.specs.declared.lexer.token.TokenKind.TheVariants.{OpenBracket, CloseBracket}
-use Rattle.smi_text.specs.declared.lexer.token.TokenKind.TheVariants.{Less, Greater, Comma}
-use Rattle.smi_text.specs.declared.lexer.token.TokenKind.TheVariants.{Semicolon}
-use Rattle.smi_text.specs.declared.lexer.token.TokenKind.TheVariants.{Colon, Bar, Dot, Equals}
+use Rattle.smi_text.specs.declared.lexer.token.TokenKind.TheVariants as K
 use Rattle.smi_text.specs.lexer.Lexeme.{IsLexeme}
 use Rattle.smi_text.specs.lexer.Token.{Lexeme, Item}
 use Rattle.smi_text.specs.trees.Mark.{sign_text, same_text, same_kind}
@@ -22,33 +15,18 @@ use Rattle.smi_text.specs.Kinds.{is_sign_kind}
 use Rattle.smi_text.specs.declared.stop.Stop.{Stop}
 use Rattle.smi_text.specs.declared.stop.Stop.TheVariants.{Memory}
 use Rattle.smi_text.specs.Returned.{ReturnsReading, is_memory}
-use Rattle.smi_text.specs.Format.{Ahead, name_of, name_where, token, is_sign}
+use Rattle.smi_text.specs.Format.{Ahead, name_of, name_where, token}
 use Rattle.smi_text.proofs.Marks.{and-both, same_kind-same, same_text-same}
 use Rattle.smi_text.proofs.NameLaws.{name_of-octets}
 
 sign-of : (k : TokenKind) (x : List ℕ) → is_sign_kind k ≡ true → IsLexeme k x → x ≡ sign_text k
-sign-of Lower x e h = absurd (false≢true e)
-sign-of Upper x e h = absurd (false≢true e)
-sign-of Number x e h = absurd (false≢true e)
-sign-of Text x e h = absurd (false≢true e)
-sign-of Hex x e h = absurd (false≢true e)
-sign-of Binary x e h = absurd (false≢true e)
-sign-of Assign x e h = h
-sign-of Range x e h = h
-sign-of OpenBrace x e h = h
-sign-of CloseBrace x e h = h
-sign-of OpenParen x e h = h
-sign-of CloseParen x e h = h
-sign-of OpenBracket x e h = h
-sign-of CloseBracket x e h = h
-sign-of Less x e h = h
-sign-of Greater x e h = h
-sign-of Comma x e h = h
-sign-of Semicolon x e h = h
-sign-of Colon x e h = h
-sign-of Bar x e h = h
-sign-of Dot x e h = h
-sign-of Equals x e h = h
+sign-of K.Lower x e h = absurd (false≢true e)
+sign-of K.Upper x e h = absurd (false≢true e)
+sign-of K.Number x e h = absurd (false≢true e)
+sign-of K.Text x e h = absurd (false≢true e)
+sign-of K.Hex x e h = absurd (false≢true e)
+sign-of K.Binary x e h = absurd (false≢true e)
+sign-of _ x e h = h
 
 -- the text of a sign is that of its kind
 sign_is : (k : TokenKind) (x : List ℕ) → is_sign_kind k ≡ true → ∥ IsLexeme k x ∥₁ → same_text x (sign_text k) ≡ true
@@ -59,7 +37,7 @@ pub sign-read : (k : TokenKind) (t : Lexeme) (ts : List Item) → t.kind ≡ k �
 unfolding token
 sign-read k t ts e s l =
     let text : same_text t.text (sign_text t.kind) ≡ true = sign_is t.kind t.text (rw e s) l in
-    let both : is_sign k t ≡ true = and-both (same_kind t.kind k) (same_text t.text (sign_text k)) (rw e (same_kind-same k)) (rw (← e) text) in
+    let both : (same_kind t.kind k && same_text t.text (sign_text k)) ≡ true = and-both (same_kind t.kind k) (same_text t.text (sign_text k)) (rw e (same_kind-same k)) (rw (← e) text) in
     rw both refl
 
 -- the octets of a name give it

@@ -10,6 +10,7 @@ use Rattle.smi_text.specs.declared.trees.tree.TokenText.{TokenText}
 use Rattle.smi_text.specs.declared.trees.tree.IndexParts.{IndexParts}
 use Rattle.smi_text.specs.trees.Mark.{same_kind}
 use Rattle.smi_text.specs.Format.{Parsed, a_word, a_kind, begins, word, behind, with_front, lower}
+use Rattle.smi_text.specs.Format.{shaped, pair}
 use Rattle.smi_text.specs.Format.{token, token_ahead}
 use Rattle.smi_text.specs.Grammar.{index_names, read_index, with_names, index_parts, depth_after}
 use Rattle.smi_text.specs.Grammar.{is_outside, kept_text, read_balanced, balanced}
@@ -35,11 +36,11 @@ with_names-append xs ys (Some p) = ap (λ (zs : List Name). Some (index_parts zs
 
 name-shorter : (x : Name) (ts rest : List Item) → lower.read ts ≡ Some (x, rest) → length rest < length ts
 unfolding lower
-name-shorter x ts rest h = reading-shorter lower lower-law refl x ts rest h
+name-shorter x ts rest h = reading-shorter lower-law refl x ts rest h
 
 comma-shorter : (ts rest : List Item) → (token K.Comma).read ts ≡ Some (tt, rest) → length rest < length ts
 unfolding token
-comma-shorter ts rest h = reading-shorter (token K.Comma) (token-law K.Comma) refl tt ts rest h
+comma-shorter ts rest h = reading-shorter (token-law K.Comma) refl tt ts rest h
 
 some-token : (w : List ℕ) (ts : List Item) → begins (a_word w ∷ []) ts ≡ true → 0 < length ts
 unfolding begins
@@ -50,7 +51,7 @@ module _ (names : List Name) (n : ℕ) (ts : List Item) (enough : length ts ≤ 
   pub index-implied : (x : Name) (mid rest : List Item) → begins (a_word (codes "IMPLIED") ∷ []) ts ≡ true
       → (word (codes "IMPLIED")).read ts ≡ Some (tt, mid) → lower.read mid ≡ Some (x, rest)
       → with_names names (read_index n ts) ≡ Some (index_parts (names ++ x ∷ []) true, rest)
-  unfolding read_index behind with_names
+  unfolding read_index behind shaped pair with_names
   index-implied x mid rest b w e = by-bound n enough
     where
       by-bound : (m : ℕ) → length ts ≤ m → with_names names (read_index m ts) ≡ Some (index_parts (names ++ x ∷ []) true, rest)
@@ -59,7 +60,7 @@ module _ (names : List Name) (n : ℕ) (ts : List Item) (enough : length ts ≤ 
 
   pub index-no_name : (mid : List Item) → begins (a_word (codes "IMPLIED") ∷ []) ts ≡ true → (word (codes "IMPLIED")).read ts ≡ Some (tt, mid)
       → lower.read mid ≡ None → with_names names (read_index n ts) ≡ None
-  unfolding read_index behind
+  unfolding read_index behind shaped pair
   index-no_name mid b w e = with_names-none names (read_index n ts) (by-bound n)
     where
       by-bound : (m : ℕ) → read_index m ts ≡ None

@@ -20,42 +20,42 @@ begins-nil : {A : Type 0} (f : Format A) → begins f.first [] ≡ false
 unfolding begins
 begins-nil f = refl
 
-pub shorter : {A : Type 0} (f : Format A) → Lawful f → f.empty ≡ false → (x : A) (ts rest : List Item) → StandsAhead (f.spell x) ts rest
+pub shorter : {A : Type 0} {s : A → List Mark} {f : Format A} → Lawful s f → f.empty ≡ false → (x : A) (ts rest : List Item) → StandsAhead (s x) ts rest
     → length rest < length ts
-shorter f law solid x ts rest h =
-    elim (f.spell x) as (λ ms. f.spell x ≡ ms → length rest < length ts) [
+shorter {A} {s} {f} law solid x ts rest h =
+    elim (s x) as (λ ms. s x ≡ ms → length rest < length ts) [
       | [] ↦ λ e. elim (law.starts x [] [] (let P : List Mark → Type 0 = λ ms. StandsAhead ms [] [] in subst P (sym e) refl)) [
         | inl b ↦ absurd (cc (begins-nil f))
         | inr b ↦ absurd (cc (b.0))
       ]
-      | (m ∷ ms) ↦ λ e. omega (arith, StandsAhead-length (f.spell x) ts rest h, ap length e)
+      | (m ∷ ms) ↦ λ e. omega (arith, StandsAhead-length (s x) ts rest h, ap length e)
     ] refl
 
-pub reading-shorter : {A : Type 0} (f : Format A) → Lawful f → f.empty ≡ false → (x : A) (ts rest : List Item) → f.read ts ≡ Some (x, rest)
-    → length rest < length ts
-reading-shorter f law solid x ts rest h = shorter f law solid x ts rest (law.takes ts rest x h)
+pub reading-shorter : {A : Type 0} {s : A → List Mark} {f : Format A} → Lawful s f → f.empty ≡ false → (x : A) (ts rest : List Item)
+    → f.read ts ≡ Some (x, rest) → length rest < length ts
+reading-shorter law solid x ts rest h = shorter law solid x ts rest (law.takes ts rest x h)
 
 abbrev put_one : {A : Type 0} → Format A → ℕ → A × List Item → Parsed (List A)
 put_one f n p = option_map (λ q. (p.0 ∷ q.0, q.1)) (read_many f n p.1)
 
 -- a longer bound reads the same
-enough : {A : Type 0} (f : Format A) → Lawful f → f.empty ≡ false → (n m : ℕ) (ts : List Item) → length ts ≤ n → length ts ≤ m
+enough : {A : Type 0} {s : A → List Mark} {f : Format A} → Lawful s f → f.empty ≡ false → (n m : ℕ) (ts : List Item) → length ts ≤ n → length ts ≤ m
     → read_many f n ts ≡ read_many f m ts
 unfolding read_many begins
-enough f law solid zero zero ts h k = refl
-enough f law solid zero (suc m) [] h k = refl
-enough f law solid (suc n) zero [] h k = refl
-enough f law solid (suc n) (suc m) [] h k = refl
-enough f law solid zero (suc m) (t ∷ ts) h k = absurd (omega arith)
-enough f law solid (suc n) zero (t ∷ ts) h k = absurd (omega arith)
-enough {A} f law solid (suc n) (suc m) (t ∷ ts) h k =
+enough law solid zero zero ts h k = refl
+enough law solid zero (suc m) [] h k = refl
+enough law solid (suc n) zero [] h k = refl
+enough law solid (suc n) (suc m) [] h k = refl
+enough law solid zero (suc m) (t ∷ ts) h k = absurd (omega arith)
+enough law solid (suc n) zero (t ∷ ts) h k = absurd (omega arith)
+enough {A} {s} {f} law solid (suc n) (suc m) (t ∷ ts) h k =
     ap (λ (r : Parsed (List A)). if begins f.first (t ∷ ts) then r else Some ([], t ∷ ts))
     (elim (f.read (t ∷ ts)) as (λ r. f.read (t ∷ ts) ≡ r →
     option_and_then (put_one f n) r ≡ option_and_then (put_one f m) r) [
       | None ↦ λ e. refl
       | Some p ↦ λ e.
-          let s : length p.1 < length (t ∷ ts) = reading-shorter f law solid p.0 (t ∷ ts) p.1 e in
-          ap (λ (r : Parsed (List A)). option_map (λ (q : List A × List Item). (p.0 ∷ q.0, q.1)) r) (enough f law solid n m p.1 (omega arith) (omega arith))
+          let less : length p.1 < length (t ∷ ts) = reading-shorter law solid p.0 (t ∷ ts) p.1 e in
+          ap (λ (r : Parsed (List A)). option_map (λ (q : List A × List Item). (p.0 ∷ q.0, q.1)) r) (enough law solid n m p.1 (omega arith) (omega arith))
     ] refl)
 
 -- where the part begins and is not read, nor are several
@@ -65,14 +65,14 @@ many-fails f [] b e = absurd (cc)
 many-fails f (t ∷ ts) b e = rw (b, e) refl
 
 -- a part that is read goes before the others
-pub many-goes_on : {A : Type 0} (f : Format A) → Lawful f → f.empty ≡ false → (x : A) (ts rest : List Item) → begins f.first ts ≡ true
+pub many-goes_on : {A : Type 0} {s : A → List Mark} {f : Format A} → Lawful s f → f.empty ≡ false → (x : A) (ts rest : List Item) → begins f.first ts ≡ true
     → f.read ts ≡ Some (x, rest) → (many f).read ts ≡ with_front (x ∷ []) ((many f).read rest)
 unfolding many read_many begins with_front
-many-goes_on f law solid x [] rest b e = absurd (cc)
-many-goes_on {A} f law solid x (t ∷ ts) rest b e =
-    let s : length rest < length (t ∷ ts) = reading-shorter f law solid x (t ∷ ts) rest e in
+many-goes_on law solid x [] rest b e = absurd (cc)
+many-goes_on {A} {s} {f} law solid x (t ∷ ts) rest b e =
+    let less : length rest < length (t ∷ ts) = reading-shorter law solid x (t ∷ ts) rest e in
     rw (b, e) (ap (λ (r : Parsed (List A)). option_map (λ (q : List A
-    × List Item). (x ∷ q.0, q.1)) r) (enough f law solid (length ts) (length rest) rest (omega arith) (omega arith)))
+    × List Item). (x ∷ q.0, q.1)) r) (enough law solid (length ts) (length rest) rest (omega arith) (omega arith)))
 
 -- where the part does not begin, there are none
 pub many-done : {A : Type 0} (f : Format A) (ts : List Item) → begins f.first ts ≡ false → (many f).read ts ≡ Some ([], ts)

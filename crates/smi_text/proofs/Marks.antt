@@ -62,27 +62,7 @@ kinds =
 kind_at : (k : TokenKind) → get_or kinds (kind_number k) Lower ≡ k
 unfolding kinds
 kind_at Lower = refl
-kind_at Upper = refl
-kind_at Number = refl
-kind_at Text = refl
-kind_at Hex = refl
-kind_at Binary = refl
-kind_at Assign = refl
-kind_at Range = refl
-kind_at OpenBrace = refl
-kind_at CloseBrace = refl
-kind_at OpenParen = refl
-kind_at CloseParen = refl
-kind_at OpenBracket = refl
-kind_at CloseBracket = refl
-kind_at Less = refl
-kind_at Greater = refl
-kind_at Comma = refl
-kind_at Semicolon = refl
-kind_at Colon = refl
-kind_at Bar = refl
-kind_at Dot = refl
-kind_at Equals = refl
+kind_at _ = refl
 
 pub same_kind-eq : (a b : TokenKind) → same_kind a b ≡ true → a ≡ b
 same_kind-eq a b h = sym (kind_at a) ∙ ap (λ (n : ℕ). get_or kinds n Lower) (eqb-eq (kind_number a) (kind_number b) h) ∙ kind_at b
@@ -152,9 +132,8 @@ begins-append cs ds (Ok t ∷ ts) = any-append t cs ds
 
 pub begins-none : (ts : List Item) → begins [] ts ≡ false
 unfolding begins
-begins-none [] = refl
-begins-none (Err f ∷ ts) = refl
 begins-none (Ok t ∷ ts) = refl
+begins-none _ = refl
 
 true-not : (b : Bool) → not b ≡ true → b ≡ true → ⊥
 true-not true h k = cc
@@ -178,21 +157,12 @@ module _ (t : Lexeme) where
   half-sound (a_word v) (a_kind k) a h e = kind-clash Upper k a (word-kind v h) (same_kind-eq t.kind k e)
   half-sound (a_word v) (no_word w) a h k =
       true-not (is_this_word w t) k (let e : v ≡ w = same_text-eq v w a in rw (← e) h)
-  half-sound (a_word v) (no_kind k) a h e = cc
-  half-sound a_name (a_word w) a h k = cc
-  half-sound a_name a_name a h k = cc
   half-sound a_name (a_kind k) a h e =
       kind-clash Upper k a (same_kind-eq t.kind Upper (and-left (same_kind t.kind Upper) (not (is_reserved t.text)) h)) (same_kind-eq t.kind k e)
-  half-sound a_name (no_word w) a h k = cc
-  half-sound a_name (no_kind k) a h e = cc
-  half-sound (a_kind j) (a_word w) a h k = cc
-  half-sound (a_kind j) a_name a h k = cc
   half-sound (a_kind j) (a_kind k) a h e = kind-clash j k a (same_kind-eq t.kind j h) (same_kind-eq t.kind k e)
-  half-sound (a_kind j) (no_word w) a h k = cc
   half-sound (a_kind j) (no_kind k) a h e =
       true-not (same_kind t.kind k) e (let f : j ≡ k = same_kind-eq j k a in rw (← f) h)
-  half-sound (no_word v) d a h k = cc
-  half-sound (no_kind j) d a h k = cc
+  half-sound _ _ a h k = cc
 
   list-sound : (c : Ahead) (ds : List Ahead) → list_all (λ d. half_apart c d || half_apart d c) ds ≡ true → meets t c ≡ true → list_any (meets t) ds ≡ true → ⊥
   list-sound c [] a h k = cc

@@ -16,12 +16,7 @@ use Rattle.smi_text.specs.declared.lexer.class.Class.TheVariants.{Symbol, Other}
 use Rattle.smi_text.specs.declared.lexer.token.TokenKind.{TokenKind}
 use Rattle.smi_text.specs.declared.lexer.token.TokenKind.TheVariants.{Lower, Upper, Number, Text}
 use Rattle.smi_text.specs.declared.lexer.token.TokenKind.TheVariants.{Hex, Binary, Assign, Range}
-use Rattle.smi_text.specs.declared.lexer.token.TokenKind.TheVariants.{OpenBrace, CloseBrace}
-use Rattle.smi_text.specs.declared.lexer.token.TokenKind.TheVariants.{OpenParen, CloseParen}
-use Rattle.smi_text.specs.declared.lexer.token.TokenKind.TheVariants.{OpenBracket, CloseBracket}
-use Rattle.smi_text.specs.declared.lexer.token.TokenKind.TheVariants.{Less, Greater, Comma}
-use Rattle.smi_text.specs.declared.lexer.token.TokenKind.TheVariants.{Semicolon}
-use Rattle.smi_text.specs.declared.lexer.token.TokenKind.TheVariants.{Colon, Bar, Dot, Equals}
+use Rattle.smi_text.specs.declared.lexer.token.TokenKind.TheVariants.{Colon, Dot}
 use Rattle.smi_text.specs.lexer.Lexeme.{IsComment, IsLexeme, IsLiteral, IsNumber, IsPart}
 use Rattle.smi_text.specs.lexer.Lexeme.{IsRunOfHyphens, IsString, IsWord, Part, begins, gap}
 use Rattle.smi_text.specs.lexer.Lexeme.{is_binary_digit, is_hyphen, is_newline, is_remark}
@@ -336,22 +331,7 @@ lexeme_of_kind Number s h = number_of s h
 lexeme_of_kind Text s h = string_of s h
 lexeme_of_kind Hex s h = hex_of s h
 lexeme_of_kind Binary s h = binary_of s h
-lexeme_of_kind Assign s h = ap part_of h
-lexeme_of_kind Range s h = ap part_of h
-lexeme_of_kind OpenBrace s h = ap part_of h
-lexeme_of_kind CloseBrace s h = ap part_of h
-lexeme_of_kind OpenParen s h = ap part_of h
-lexeme_of_kind CloseParen s h = ap part_of h
-lexeme_of_kind OpenBracket s h = ap part_of h
-lexeme_of_kind CloseBracket s h = ap part_of h
-lexeme_of_kind Less s h = ap part_of h
-lexeme_of_kind Greater s h = ap part_of h
-lexeme_of_kind Comma s h = ap part_of h
-lexeme_of_kind Semicolon s h = ap part_of h
-lexeme_of_kind Colon s h = ap part_of h
-lexeme_of_kind Bar s h = ap part_of h
-lexeme_of_kind Dot s h = ap part_of h
-lexeme_of_kind Equals s h = ap part_of h
+lexeme_of_kind _ s h = ap part_of h
 
 -- comments: hyphens and nothing else may close a remark
 all_hyphens : (closing : List ℕ) → (closing ≡ []) ⊎ IsRunOfHyphens closing → list_all is_hyphen closing ≡ true
@@ -494,19 +474,4 @@ one_line Number other s h = number_one_line s h
 one_line Text other s h = absurd (other refl)
 one_line Hex other s h = literal_one_line is_ascii_hexdigit 72 104 hex_other refl refl s h
 one_line Binary other s h = literal_one_line is_binary_digit 66 98 binary_other refl refl s h
-one_line Assign other s h = ap newlines h
-one_line Range other s h = ap newlines h
-one_line OpenBrace other s h = ap newlines h
-one_line CloseBrace other s h = ap newlines h
-one_line OpenParen other s h = ap newlines h
-one_line CloseParen other s h = ap newlines h
-one_line OpenBracket other s h = ap newlines h
-one_line CloseBracket other s h = ap newlines h
-one_line Less other s h = ap newlines h
-one_line Greater other s h = ap newlines h
-one_line Comma other s h = ap newlines h
-one_line Semicolon other s h = ap newlines h
-one_line Colon other s h = ap newlines h
-one_line Bar other s h = ap newlines h
-one_line Dot other s h = ap newlines h
-one_line Equals other s h = ap newlines h
+one_line _ other s h = ap newlines h

@@ -1,8 +1,9 @@
 -- What the functions of a file unfold, each list under one name: the formats, and the productions that the file reads.
 use Rattle.std.proofs.Common.{ℕ}
 use Rattle.smi_text.specs.trees.Number.{is_symbol}
+use Rattle.smi_text.specs.trees.Reserved.{is_reserved}
 use Rattle.smi_text.specs.Format.{begins, maybe, behind, lower, word, token, text, text_where}
-use Rattle.smi_text.specs.Format.{name, pair, before, either, shaped, some_of, separated, lined}
+use Rattle.smi_text.specs.Format.{name, pair, before, either, shaped, some_of, separated, lined, many}
 use Rattle.smi_text.specs.Grammar.{arc, assigned, balanced, base, before_assign, before_end, bound}
 use Rattle.smi_text.specs.Grammar.{braced, choice, clause, default_value, definition}
 use Rattle.smi_text.specs.Grammar.{field, group, head, heading, identifier, import_clause}
@@ -15,15 +16,15 @@ use Rattle.smi_text.specs.Grammar.{octet_string_words, of_row, opening, parenthe
 use Rattle.smi_text.specs.Grammar.{ranges, raw_definition, refinement, revision}
 use Rattle.smi_text.specs.Grammar.{sequence, simple_type, size, status, syntax_clause, syntax_type}
 use Rattle.smi_text.specs.Grammar.{tag, tagged, textual_convention, upper_definition}
-use Rattle.smi_text.specs.Grammar.{value}
+use Rattle.smi_text.specs.Grammar.{value, file}
 
 -- one token, or none
 unfoldable pub tokens : ℕ
-unfolding begins maybe behind lower word token text text_where name
+unfolding begins maybe shaped pair behind lower word token text text_where name
 tokens = 0
 
 unfoldable pub formats : ℕ
-unfolding tokens pair before either shaped some_of separated lined
+unfolding tokens before either some_of separated lined
 formats = 0
 
 unfoldable pub of_parser : ℕ
@@ -48,3 +49,8 @@ of_definitions = 0
 unfoldable pub of_modules : ℕ
 unfolding formats braced imported_symbol import_clause imports heading opening head module_text is_symbol
 of_modules = 0
+
+-- each of them
+unfoldable pub all : ℕ
+unfolding of_types of_clauses of_definitions of_modules file many is_reserved
+all = 0

@@ -1,33 +1,37 @@
 -- Raw runs of tokens are lawful.
 use Rattle.std.proofs.Common.{◌≡◌, ℕ, Bool, true, false, ◌&&◌, not, List, [], ◌∷◌, ◌++◌, Some}
 use Rattle.std.proofs.Common.{None, Ok, Err, if◌then◌else◌, refl, subst, inl, inr, ◌⊎◌}
-use Rattle.std.specs.Prelude.{◌==◌, codes}
+use Rattle.std.specs.Prelude.{◌==◌, codes, map}
 use Rattle.std.proofs.lemmas.Bool.{not-true}
 use Rattle.smi_text.specs.declared.lexer.token.TokenKind.TheVariants as K
 use Rattle.smi_text.specs.lexer.Token.{Lexeme, Item}
-use Rattle.smi_text.specs.trees.Mark.{same_kind, same_text}
+use Rattle.smi_text.specs.trees.Mark.{Mark, spelled, same_kind, same_text}
 use Rattle.smi_text.specs.Format.{StandsAhead}
-use Rattle.smi_text.specs.Format.{Parsed, no_word, no_kind, never, begins, before, behind, token}
-use Rattle.smi_text.specs.Format.{with_front, word, lower}
-use Rattle.smi_text.specs.Grammar.{kept_text, depth_after, is_outside, raw_marks, balanced}
-use Rattle.smi_text.specs.Grammar.{before_assign, before_end, braced, default_value, is_balanced}
-use Rattle.smi_text.specs.Grammar.{read_balanced}
+use Rattle.smi_text.specs.Format.{Parsed, no_word, no_kind, begins, with_front}
+use Rattle.smi_text.specs.trees.Spelling.{of_balanced, nothing}
+use Rattle.smi_text.specs.Grammar.{kept_text, depth_after, is_outside, balanced, before_assign}
+use Rattle.smi_text.specs.Grammar.{before_end, read_balanced}
+use Rattle.smi_text.proofs.Fronts.{is_balanced, fronts-counted}
 use Rattle.smi_text.proofs.Lawful.{Lawful}
 use Rattle.smi_text.proofs.Marks.{and-left, and-right, and-both, or-false, map-inv}
-use Rattle.smi_text.proofs.Laws.{some-inj, any-one, never-stands, word-law, behind-law}
+use Rattle.smi_text.proofs.Laws.{some-inj, any-one, never-stands}
 use Rattle.smi_text.specs.declared.trees.tree.TokenText.{TokenText}
-use Rattle.smi_text.proofs.PieceLaws.{braced-law, same-token, kept-law}
+use Rattle.smi_text.proofs.PieceLaws.{same-token, kept-law}
 
 -- raw runs
 
-pub before_assign-law : Lawful before_assign
+pub before_assign-law : Lawful (λ (x : TokenText). spelled x.kind x.text (not (same_kind x.kind K.Assign)) ∷ []) before_assign
 unfolding before_assign
 before_assign-law = kept-law (no_kind K.Assign ∷ []) (λ k x. not (same_kind k K.Assign)) (λ t h. any-one t (no_kind K.Assign) h)
 
-pub before_end-law : Lawful before_end
+pub before_end-law : Lawful (λ (x : TokenText). spelled x.kind x.text (not (same_kind x.kind K.Upper && same_text x.text (codes "END"))) ∷ [])
+    before_end
 unfolding before_end
 before_end-law =
     kept-law (no_word (codes "END") ∷ []) (λ k x. not (same_kind k K.Upper && same_text x (codes "END"))) (λ t h. any-one t (no_word (codes "END")) h)
+
+abbrev raw_marks : List TokenText → List Mark
+raw_marks xs = map (λ x. spelled x.kind x.text true) xs
 
 abbrev put_kept : TokenText → List TokenText × List Item → List TokenText × List Item
 put_kept x p = ((x ∷ []) ++ p.0, p.1)
@@ -105,24 +109,20 @@ balanced-starts (x ∷ xs) (Ok t ∷ ts) rest b h =
     inl (any-one t (no_kind K.CloseBrace) (rw h.0.0 (not-close (same_kind x.kind K.CloseBrace) (and-left (not (same_kind x.kind K.CloseBrace && true))
     (is_balanced (depth_after x.kind 0) xs) b))))
 
-balanced-pieces : (xs : List TokenText) (ts rest : List Item) → StandsAhead (if is_balanced 0 xs then raw_marks xs else never) ts rest
+balanced-pieces : (xs : List TokenText) (ts rest : List Item) → StandsAhead (of_balanced xs) ts rest
     → (is_balanced 0 xs ≡ true) × StandsAhead (raw_marks xs) ts rest
-balanced-pieces xs ts rest =
-    elim (is_balanced 0 xs) as (λ b. StandsAhead (if b then raw_marks xs else never) ts rest → (b ≡ true) × StandsAhead (raw_marks xs) ts rest) [
+balanced-pieces xs ts rest h =
+    (elim (is_balanced 0 xs) as (λ b. StandsAhead (if b then raw_marks xs else nothing) ts rest → (b ≡ true) × StandsAhead (raw_marks xs) ts rest) [
       | true ↦ λ h. (refl, h)
       | false ↦ λ h. absurd (never-stands ts rest h)
-    ]
+    ]) (rw (← fronts-counted xs) h)
 
-pub balanced-law : Lawful balanced
+pub balanced-law : Lawful of_balanced balanced
 unfolding balanced
 balanced-law = record {
-  takes = λ ts rest xs h. let p = balanced-takes 0 ts rest xs h in rw (p.0) (p.1);
+  takes = λ ts rest xs h. let p = balanced-takes 0 ts rest xs h in rw (fronts-counted xs, p.0) (p.1);
   again = λ xs ts rest h s. let p = balanced-pieces xs ts rest h in balanced-again 0 xs ts rest p.0 p.1 s;
   starts = λ xs ts rest h.
       let p = balanced-pieces xs ts rest h in
       elim (balanced-starts xs ts rest p.0 p.1) [ inl b ↦ inl b | inr e ↦ inr (refl, e) ];
 }
-
-pub default_value-law : Lawful default_value
-unfolding balanced before behind braced default_value token word lower
-default_value-law = behind-law (word (codes "DEFVAL")) (braced balanced) (word-law (codes "DEFVAL")) (braced-law balanced balanced-law refl) refl refl

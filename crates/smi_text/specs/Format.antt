@@ -1,40 +1,17 @@
--- Productions of the grammar as values: how a part of the tree is spelled, how it is read from the
--- front of the tokens, what it begins with, and what must not follow it.
-use Rattle.std.specs.Prelude.{
-  ◌≡◌,
-  ℕ,
-  Bool,
-  true,
-  false,
-  ◌&&◌,
-  ◌||◌,
-  not,
-  List,
-  [],
-  ◌∷◌,
-  ◌++◌,
-  length,
-  Option,
-  Some,
-  None,
-  Ok,
-  Err,
-  drop,
-  if◌then◌else◌,
-  option_and_then,
-  option_map,
-  refl,
-}
-use Rattle.std.specs.List.{list_any, list_all, flat_map}
+-- Productions of the grammar as values: how a part of the tree is read from the front of the
+-- tokens, what it begins with, and what must not follow it.
+use Rattle.std.specs.Prelude.{◌≡◌, ℕ, Bool, true, false, ◌&&◌, ◌||◌, not, List, [], ◌∷◌, ◌++◌}
+use Rattle.std.specs.Prelude.{length, Option, Some, None, Ok, Err, drop, if◌then◌else◌}
+use Rattle.std.specs.Prelude.{option_and_then, option_map, refl}
+use Rattle.std.specs.List.{list_any, list_all}
 use Rattle.std.proofs.Common.{◌⊎◌, inl, inr, zero, suc}
 use Rattle.smi_text.specs.declared.lexer.token.TokenKind.{TokenKind}
 use Rattle.smi_text.specs.declared.lexer.token.TokenKind.TheVariants.{Lower, Upper}
 use Rattle.smi_text.specs.lexer.Token.{Lexeme, Item}
-use Rattle.smi_text.specs.trees.Mark.{Mark, sign, sign_text, spelled, same_kind, same_text}
+use Rattle.smi_text.specs.trees.Mark.{Mark, sign_text, same_kind, same_text}
 use Rattle.smi_text.specs.trees.Mark.{MarksToken}
 use Rattle.smi_text.specs.trees.Word.{is_word}
 use Rattle.smi_text.specs.trees.Reserved.{is_reserved}
-use Rattle.smi_text.specs.trees.Spelling.{put_line}
 use Rattle.smi_text.specs.declared.trees.names.Name.{Name}
 
 -- which token may be ahead: a word of the grammar, a name, one of a kind, or any token but such a
@@ -98,52 +75,45 @@ abbrev pub Parsed : Type 0 → Type 0
 Parsed A = Option (A × List Item)
 
 pub record Format (A : Type 0) : Type 0 where
-  pub spell : A → List Mark
   pub read : List Item → Parsed A
   -- what it begins with
   pub first : List Ahead
   -- what must not follow it
   pub stop : List Ahead
-  -- whether its spelling may be empty
+  -- whether it may be read from no token
   pub empty : Bool
 
--- the mark of no token
-abbrev pub never : List Mark
-never = spelled Upper [] false ∷ []
-
--- one token: what it begins with, how it is marked, and what is taken from it
+-- one token: what it begins with, and what is taken from it
 abbrev pub read_one : {A : Type 0} → (Lexeme → Option A) → List Item → Parsed A
 read_one pick items = option_map (λ x. (x, drop 1 items)) (option_and_then pick (token_ahead items))
 
-abbrev pub one : {A : Type 0} → List Ahead → (A → Mark) → (Lexeme → Option A) → Format A
-one cs mark pick = record {
-  spell = λ x. mark x ∷ [];
+abbrev pub one : {A : Type 0} → List Ahead → (Lexeme → Option A) → Format A
+one cs pick = record {
   read = read_one pick;
   first = cs;
   stop = [];
   empty = false;
 }
 
--- a word of the grammar
-unfoldable pub word : List ℕ → Format (Unit {0})
-word w = one (a_word w ∷ []) (λ _. spelled Upper w true)
-    (λ t. if is_this_word w t then Some tt else None)
+-- a token of this kind and text
+abbrev pub exact : Ahead → TokenKind → List ℕ → Format (Unit {0})
+exact c k x =
+    one (c ∷ []) (λ t. if same_kind t.kind k && same_text t.text x then Some tt else None)
 
--- a sign of the grammar
-abbrev pub is_sign : TokenKind → Lexeme → Bool
-is_sign k t = same_kind t.kind k && same_text t.text (sign_text k)
+-- a word of the grammar, and a sign
+unfoldable pub word : List ℕ → Format (Unit {0})
+word w = exact (a_word w) Upper w
 
 unfoldable pub token : TokenKind → Format (Unit {0})
-token k = one (a_kind k ∷ []) (λ _. sign k) (λ t. if is_sign k t then Some tt else None)
+token k = exact (a_kind k) k (sign_text k)
 
 -- a token of this kind, by its text
 unfoldable pub text : TokenKind → Format (List ℕ)
-text k = one (a_kind k ∷ []) (λ x. spelled k x true)
-    (λ t. if same_kind t.kind k then Some t.text else None)
+text k = one (a_kind k ∷ []) (λ t. if same_kind t.kind k then Some t.text else None)
 
 -- a token of this kind, by its text, for which a test holds
 unfoldable pub text_where : TokenKind → (List ℕ → Bool) → Format (List ℕ)
-text_where k ok = one (a_kind k ∷ []) (λ x. spelled k x (ok x))
+text_where k ok = one (a_kind k ∷ [])
     (λ t. if same_kind t.kind k && ok t.text then Some t.text else None)
 
 -- the name of these octets, if they are a word
@@ -157,8 +127,7 @@ name_of x = name_when x (is_word x) refl
 -- a name that passes a test, of a token of this kind
 abbrev pub name_where : List Ahead → TokenKind → (List ℕ → Bool) → Format Name
 name_where cs k ok =
-    one cs (λ x. spelled k x.octets (ok x.octets))
-    (λ t. if same_kind t.kind k && ok t.text then name_of t.text else None)
+    one cs (λ t. if same_kind t.kind k && ok t.text then name_of t.text else None)
 
 -- a name in lower case
 unfoldable pub lower : Format Name
@@ -175,41 +144,31 @@ read_pair f g ts = option_and_then (λ p. option_map (λ q. ((p.0, q.0), q.1)) (
 
 unfoldable pub pair : {A B : Type 0} → Format A → Format B → Format (A × B)
 pair f g = record {
-  spell = λ p. f.spell p.0 ++ g.spell p.1;
   read = read_pair f.read g.read;
   first = if f.empty then f.first ++ g.first else f.first;
   stop = if g.empty then g.stop ++ f.stop else g.stop;
   empty = f.empty && g.empty;
 }
 
--- a part that follows tokens of which nothing is kept
-unfoldable pub behind : {A : Type 0} → Format (Unit {0}) → Format A → Format A
-behind w f = record {
-  spell = λ x. w.spell tt ++ f.spell x;
-  read = λ ts. option_and_then (λ p. f.read p.1) (w.read ts);
-  first = w.first;
+-- a part of the tree, made of its pieces
+unfoldable pub shaped : {A B : Type 0} → (A → B) → Format A → Format B
+shaped to f = record {
+  read = λ ts. option_map (λ p. (to p.0, p.1)) (f.read ts);
+  first = f.first;
   stop = f.stop;
-  empty = false;
+  empty = f.empty;
 }
 
--- a part before tokens of which nothing is kept
+-- a part that follows tokens of which nothing is kept, and one before such tokens
+unfoldable pub behind : {A : Type 0} → Format (Unit {0}) → Format A → Format A
+behind {A} w f = shaped (λ (p : (Unit {0}) × A). p.1) (pair w f)
+
 unfoldable pub before : {A : Type 0} → Format A → Format (Unit {0}) → Format A
-before f w = record {
-  spell = λ x. f.spell x ++ w.spell tt;
-  read = λ ts. option_and_then (λ p. option_map (λ q. (p.0, q.1)) (w.read p.1)) (f.read ts);
-  first = if f.empty then f.first ++ w.first else f.first;
-  stop = w.stop;
-  empty = false;
-}
+before {A} f w = shaped (λ (p : A × (Unit {0})). p.0) (pair f w)
 
 -- a part that may be left out
-abbrev pub spell_option : {A : Type 0} → (A → List Mark) → Option A → List Mark
-spell_option f None = []
-spell_option f (Some x) = f x
-
 unfoldable pub maybe : {A : Type 0} → Format A → Format (Option A)
 maybe f = record {
-  spell = spell_option f.spell;
   read = λ ts. if begins f.first ts then option_map (λ p. (Some p.0, p.1)) (f.read ts) else Some
       (None, ts);
   first = f.first;
@@ -218,13 +177,8 @@ maybe f = record {
 }
 
 -- one of two parts: the token ahead decides
-abbrev pub spell_either : {A B : Type 0} → (A → List Mark) → (B → List Mark) → A ⊎ B → List Mark
-spell_either f g (inl x) = f x
-spell_either f g (inr y) = g y
-
 unfoldable pub either : {A B : Type 0} → Format A → Format B → Format (A ⊎ B)
 either f g = record {
-  spell = spell_either f.spell g.spell;
   read = λ ts. if begins f.first ts then option_map (λ p. (inl p.0, p.1))
       (f.read ts) else option_map (λ p. (inr p.0, p.1)) (g.read ts);
   first = f.first ++ g.first;
@@ -241,25 +195,10 @@ read_many f (suc n) ts =
 
 unfoldable pub many : {A : Type 0} → Format A → Format (List A)
 many f = record {
-  spell = flat_map f.spell;
   read = λ ts. read_many f (length ts) ts;
   first = f.first;
   stop = f.first ++ f.stop;
   empty = true;
-}
-
--- a part of the tree, made of its pieces; a part without pieces has no spelling here
-abbrev pub spell_pieces : {A : Type 0} → (A → List Mark) → Option A → List Mark
-spell_pieces f None = never
-spell_pieces f (Some x) = f x
-
-unfoldable pub shaped : {A B : Type 0} → (A → B) → (B → Option A) → Format A → Format B
-shaped to from f = record {
-  spell = λ y. spell_pieces f.spell (from y);
-  read = λ ts. option_map (λ p. (to p.0, p.1)) (f.read ts);
-  first = f.first;
-  stop = f.stop;
-  empty = f.empty;
 }
 
 -- these parts before those that were read
@@ -267,17 +206,12 @@ unfoldable pub with_front : {A : Type 0} → List A → Parsed (List A) → Pars
 with_front xs r = option_map (λ p. (xs ++ p.0, p.1)) r
 
 -- one part, and then any number of another, as one list
-abbrev pub spell_some : {A : Type 0} → (A → List Mark) → (A → List Mark) → List A → List Mark
-spell_some f g [] = never
-spell_some f g (x ∷ xs) = f x ++ flat_map g xs
-
 unfoldable pub some_of : {A : Type 0} → Format A → Format A → Format (List A)
 some_of f g = record {
-  spell = spell_some f.spell g.spell;
   read = λ ts. option_and_then (λ p. with_front (p.0 ∷ []) ((many g).read p.1)) (f.read ts);
-  first = f.first;
-  stop = (g.first ++ g.stop) ++ f.stop;
-  empty = false;
+  first = (pair f (many g)).first;
+  stop = (pair f (many g)).stop;
+  empty = (pair f (many g)).empty;
 }
 
 -- parts with a sign between them
@@ -294,7 +228,6 @@ line_ahead items = line_of (token_ahead items)
 
 unfoldable pub lined : {A : Type 0} → Format A → Format (ℕ × A)
 lined f = record {
-  spell = λ p. put_line p.0 (f.spell p.1);
   read = λ ts. option_map (λ p. ((line_ahead ts, p.0), p.1)) (f.read ts);
   first = f.first;
   stop = f.stop;

@@ -1,68 +1,19 @@
--- The productions of the grammar as formats: each reads and spells one part of the tree.
-use Rattle.std.specs.Prelude.{
-  ℕ,
-  ◌+◌,
-  ◌-◌,
-  ◌==◌,
-  Bool,
-  true,
-  false,
-  ◌&&◌,
-  not,
-  List,
-  [],
-  ◌∷◌,
-  ◌++◌,
-  length,
-  Option,
-  Some,
-  None,
-  Ok,
-  Err,
-  codes,
-  map,
-  if◌then◌else◌,
-  option_and_then,
-  option_map,
-}
+-- The productions of the grammar as formats: each reads the part of the tree that its case of the
+-- spelling states.
+use Rattle.std.specs.Prelude.{ℕ, ◌+◌, ◌-◌, ◌==◌, Bool, true, false, ◌&&◌, not, List, [], ◌∷◌}
+use Rattle.std.specs.Prelude.{◌++◌, length, Option, Some, None, Ok, Err, codes, map}
+use Rattle.std.specs.Prelude.{if◌then◌else◌, option_and_then, option_map}
 use Rattle.std.proofs.Common.{◌⊎◌, inl, inr, zero, suc}
 use Rattle.smi_text.specs.declared.lexer.token.TokenKind.{TokenKind}
 use Rattle.smi_text.specs.declared.lexer.token.TokenKind.TheVariants as K
 use Rattle.smi_text.specs.lexer.Token.{Lexeme, Item}
-use Rattle.smi_text.specs.trees.Mark.{Mark, sign, spelled, same_kind, same_text}
+use Rattle.smi_text.specs.trees.Mark.{same_kind, same_text}
 use Rattle.smi_text.specs.trees.Reserved.{macros}
 use Rattle.smi_text.specs.trees.Number.{is_arc, is_number, is_bound, is_symbol, is_macro}
-use Rattle.smi_text.specs.Format.{
-  Format,
-  Parsed,
-  Ahead,
-  a_word,
-  a_name,
-  a_kind,
-  no_word,
-  no_kind,
-  begins,
-  never,
-  one,
-  word,
-  token,
-  text,
-  text_where,
-  name,
-  pair,
-  behind,
-  before,
-  maybe,
-  either,
-  many,
-  shaped,
-  some_of,
-  separated,
-  lined,
-  with_front,
-  lower,
-  name_where,
-}
+use Rattle.smi_text.specs.Format.{Format, Parsed, Ahead, a_word, a_name, a_kind, no_word, no_kind}
+use Rattle.smi_text.specs.Format.{begins, one, word, token, text, text_where, name, pair, behind}
+use Rattle.smi_text.specs.Format.{before, maybe, either, many, shaped, some_of, separated, lined}
+use Rattle.smi_text.specs.Format.{with_front, lower, name_where}
 use Rattle.smi_text.specs.declared.trees.names.Name.{Name}
 use Rattle.smi_text.specs.declared.trees.tree.Module.{Module}
 use Rattle.smi_text.specs.declared.modules.Head.{Head}
@@ -115,8 +66,7 @@ abbrev pub kept_text : Lexeme → TokenText
 kept_text t = record { kind = t.kind; text = t.text }
 
 abbrev pub kept : List Ahead → (TokenKind → List ℕ → Bool) → Format TokenText
-kept cs ok = one cs (λ x. spelled x.kind x.text (ok x.kind x.text))
-    (λ t. if ok t.kind t.text then Some (kept_text t) else None)
+kept cs ok = one cs (λ t. if ok t.kind t.text then Some (kept_text t) else None)
 
 -- identifiers
 
@@ -126,35 +76,22 @@ arc = text_where K.Number is_arc
 abbrev pub to_named_number : Name × List ℕ → NamedNumber
 to_named_number p = record { name = p.0; number = p.1 }
 
-abbrev pub from_named_number : NamedNumber → Option (Name × List ℕ)
-from_named_number n = Some (n.name, n.number)
-
 abbrev pub to_part : List ℕ ⊎ (Name × Option (List ℕ)) → Part
 to_part (inl n) = P.Number n
 to_part (inr (x, None)) = P.Name x
 to_part (inr (x, Some n)) = P.NamedNumber (record { name = x; number = n })
 
-abbrev pub from_part : Part → Option (List ℕ ⊎ (Name × Option (List ℕ)))
-from_part (P.Number n) = Some (inl n)
-from_part (P.Name x) = Some (inr (x, None))
-from_part (P.NamedNumber n) = Some (inr (n.name, Some n.number))
-
 -- a part in the first place, or in a heading
 unfoldable pub part : Format Part
-part = shaped to_part from_part (either arc (pair lower (maybe (parenthesized arc))))
+part = shaped to_part (either arc (pair lower (maybe (parenthesized arc))))
 
 abbrev pub to_later_part : List ℕ ⊎ (Name × List ℕ) → Part
 to_later_part (inl n) = P.Number n
 to_later_part (inr (x, n)) = P.NamedNumber (record { name = x; number = n })
 
-abbrev pub from_later_part : Part → Option (List ℕ ⊎ (Name × List ℕ))
-from_later_part (P.Number n) = Some (inl n)
-from_later_part (P.Name x) = None
-from_later_part (P.NamedNumber n) = Some (inr (n.name, n.number))
-
 -- a part in a later place
 unfoldable pub later_part : Format Part
-later_part = shaped to_later_part from_later_part (either arc (pair lower (parenthesized arc)))
+later_part = shaped to_later_part (either arc (pair lower (parenthesized arc)))
 
 unfoldable pub identifier : Format (List Part)
 identifier = braced (some_of part later_part)
@@ -171,18 +108,15 @@ bound = kept (a_kind K.Number ∷ a_kind K.Hex ∷ a_kind K.Binary ∷ []) is_bo
 abbrev pub to_range : TokenText × Option TokenText → Range
 to_range p = record { low = p.0; high = p.1 }
 
-abbrev pub from_range : Range → Option (TokenText × Option TokenText)
-from_range r = Some (r.low, r.high)
-
 unfoldable pub range : Format Range
-range = shaped to_range from_range (pair bound (maybe (behind (token K.Range) bound)))
+range = shaped to_range (pair bound (maybe (behind (token K.Range) bound)))
 
 unfoldable pub ranges : Format (List Range)
 ranges = separated K.Bar range
 
 -- a name with a number of any sign
 unfoldable pub named_number : Format NamedNumber
-named_number = shaped to_named_number from_named_number (pair lower (parenthesized
+named_number = shaped to_named_number (pair lower (parenthesized
     (text_where K.Number is_number)))
 
 abbrev pub to_refinement : List NamedNumber ⊎ (List Range ⊎ List Range) → Refinement
@@ -190,17 +124,12 @@ to_refinement (inl ns) = R.Numbers ns
 to_refinement (inr (inl rs)) = R.Size rs
 to_refinement (inr (inr rs)) = R.Values rs
 
-abbrev pub from_refinement : Refinement → Option (List NamedNumber ⊎ (List Range ⊎ List Range))
-from_refinement (R.Numbers ns) = Some (inl ns)
-from_refinement (R.Size rs) = Some (inr (inl rs))
-from_refinement (R.Values rs) = Some (inr (inr rs))
-
 unfoldable pub size : Format (List Range)
 size = behind (word (codes "SIZE")) (parenthesized ranges)
 
 unfoldable pub refinement : Format Refinement
 refinement =
-    shaped to_refinement from_refinement (either (braced (separated K.Comma named_number))
+    shaped to_refinement (either (braced (separated K.Comma named_number))
     (parenthesized (either size ranges)))
 
 unfoldable pub object_identifier_words : Format (Unit {0})
@@ -216,51 +145,34 @@ to_base (inr (inr (inl x))) = B.ObjectIdentifier
 to_base (inr (inr (inr (inl x)))) = B.Bits
 to_base (inr (inr (inr (inr x)))) = B.Named x
 
-abbrev pub from_base : Base → Option (Unit {0} ⊎ (Unit {0} ⊎ (Unit {0} ⊎ (Unit {0} ⊎ Name))))
-from_base B.Integer = Some (inl tt)
-from_base B.OctetString = Some (inr (inl tt))
-from_base B.ObjectIdentifier = Some (inr (inr (inl tt)))
-from_base B.Bits = Some (inr (inr (inr (inl tt))))
-from_base (B.Named x) = Some (inr (inr (inr (inr x))))
-
 unfoldable pub base : Format Base
 base =
-    shaped to_base from_base
+    shaped to_base
     (either (word (codes "INTEGER")) (either octet_string_words (either object_identifier_words
     (either (word (codes "BITS")) name))))
 
 abbrev pub to_simple_type : Base × Option Refinement → SimpleType
 to_simple_type p = record { base = p.0; refinement = p.1 }
 
-abbrev pub from_simple_type : SimpleType → Option (Base × Option Refinement)
-from_simple_type t = Some (t.base, t.refinement)
-
 unfoldable pub simple_type : Format SimpleType
-simple_type = shaped to_simple_type from_simple_type (pair base (maybe refinement))
+simple_type = shaped to_simple_type (pair base (maybe refinement))
 
 abbrev pub to_syntax : Name ⊎ SimpleType → Syntax
 to_syntax (inl x) = T.SequenceOf x
 to_syntax (inr t) = T.Simple t
 
-abbrev pub from_syntax : Syntax → Option (Name ⊎ SimpleType)
-from_syntax (T.SequenceOf x) = Some (inl x)
-from_syntax (T.Simple t) = Some (inr t)
-
 unfoldable pub of_row : Format Name
 of_row = behind (word (codes "OF")) name
 
 unfoldable pub syntax_type : Format Syntax
-syntax_type = shaped to_syntax from_syntax (either (behind (word
+syntax_type = shaped to_syntax (either (behind (word
     (codes "SEQUENCE")) of_row) simple_type)
 
 abbrev pub to_field : Name × Syntax → Field
 to_field p = record { label = p.0; syntax = p.1 }
 
-abbrev pub from_field : Field → Option (Name × Syntax)
-from_field f = Some (f.label, f.syntax)
-
 unfoldable pub field : Format Field
-field = shaped to_field from_field (pair lower syntax_type)
+field = shaped to_field (pair lower syntax_type)
 
 -- clauses
 
@@ -270,23 +182,11 @@ names = braced (separated K.Comma lower)
 abbrev pub to_status : List ℕ × (List ℕ × Option (List ℕ)) → Status
 to_status p = record { status = p.0; description = p.1.0; reference = p.1.1 }
 
-abbrev pub from_status : Status → Option (List ℕ × (List ℕ × Option (List ℕ)))
-from_status s = Some (s.status, (s.description, s.reference))
-
 unfoldable pub status : Format Status
 status =
-    shaped to_status from_status
+    shaped to_status
     (pair (behind (word (codes "STATUS")) (text K.Lower)) (pair (clause (codes "DESCRIPTION"))
     (maybe (clause (codes "REFERENCE")))))
-
--- the marks of the names of an index: IMPLIED may stand before the last one
-abbrev pub index_marks : List Name → Bool → List Mark
-index_marks [] implied = never
-index_marks (x ∷ []) implied =
-    (if implied then spelled K.Upper
-    (codes "IMPLIED") true ∷ [] else []) ++ spelled K.Lower x.octets true ∷ []
-index_marks (x ∷ (y ∷ ys)) implied = spelled K.Lower x.octets true ∷ sign K.Comma ∷ index_marks
-    (y ∷ ys) implied
 
 abbrev pub implied_name : Format Name
 implied_name = behind (word (codes "IMPLIED")) lower
@@ -314,7 +214,6 @@ read_index (suc n) ts =
 
 unfoldable pub index_names : Format IndexParts
 index_names = record {
-  spell = λ p. index_marks p.names p.implied;
   read = λ ts. read_index (length ts) ts;
   first = a_word (codes "IMPLIED") ∷ a_kind K.Lower ∷ [];
   stop = a_kind K.Comma ∷ [];
@@ -325,13 +224,9 @@ abbrev pub to_index : IndexParts ⊎ Name → Index
 to_index (inl p) = I.Own p
 to_index (inr x) = I.Augments x
 
-abbrev pub from_index : Index → Option (IndexParts ⊎ Name)
-from_index (I.Own p) = Some (inl p)
-from_index (I.Augments x) = Some (inr x)
-
 unfoldable pub index : Format Index
 index =
-    shaped to_index from_index
+    shaped to_index
     (either (behind (word (codes "INDEX")) (braced index_names)) (behind (word (codes "AUGMENTS"))
     (braced lower)))
 
@@ -354,15 +249,6 @@ depth_after k depth =
 abbrev pub is_outside : TokenKind → ℕ → Bool
 is_outside k depth = same_kind k K.CloseBrace && (depth == 0)
 
--- after `depth` open braces, the tokens close each brace that is open, and none that is not
-unfoldable pub is_balanced : ℕ → List TokenText → Bool
-is_balanced depth [] = depth == 0
-is_balanced depth (x ∷ xs) = not (is_outside x.kind depth) && is_balanced
-    (depth_after x.kind depth) xs
-
-abbrev pub raw_marks : List TokenText → List Mark
-raw_marks xs = map (λ x. spelled x.kind x.text true) xs
-
 unfoldable pub read_balanced : ℕ → List Item → Parsed (List TokenText)
 read_balanced depth [] = if depth == 0 then Some ([], []) else None
 read_balanced depth (Err fault ∷ items) = if depth == 0 then Some ([], Err fault ∷ items) else None
@@ -372,7 +258,6 @@ read_balanced depth (Ok t ∷ items) =
 
 unfoldable pub balanced : Format (List TokenText)
 balanced = record {
-  spell = λ xs. if is_balanced 0 xs then raw_marks xs else never;
   read = read_balanced 0;
   first = no_kind K.CloseBrace ∷ [];
   stop = no_kind K.CloseBrace ∷ [];
@@ -384,11 +269,8 @@ balanced = record {
 abbrev pub to_revision : List ℕ × List ℕ → Revision
 to_revision p = record { date = p.0; description = p.1 }
 
-abbrev pub from_revision : Revision → Option (List ℕ × List ℕ)
-from_revision r = Some (r.date, r.description)
-
 unfoldable pub revision : Format Revision
-revision = shaped to_revision from_revision (pair (clause (codes "REVISION")) (clause
+revision = shaped to_revision (pair (clause (codes "REVISION")) (clause
     (codes "DESCRIPTION")))
 
 abbrev pub to_module_identity : List ℕ × (List ℕ × (List ℕ × (List ℕ × (List Revision
@@ -402,26 +284,10 @@ to_module_identity p = record {
   value = p.1.1.1.1.1;
 }
 
-abbrev pub from_module_identity : ModuleIdentity
-    → Option (List ℕ × (List ℕ × (List ℕ × (List ℕ × (List Revision × List Part)))))
-from_module_identity m = Some (
-  m.last_updated,
-  (
-    m.organization,
-    (
-      m.contact_info,
-      (
-        m.description,
-        (m.revisions, m.value),
-      ),
-    ),
-  ),
-)
-
 unfoldable pub module_identity : Format ModuleIdentity
 module_identity =
-    behind (word (codes "MODULE-IDENTITY"))
-    (shaped to_module_identity from_module_identity
+    shaped to_module_identity
+    (behind (word (codes "MODULE-IDENTITY"))
     (pair (clause (codes "LAST-UPDATED")) (pair (clause (codes "ORGANIZATION")) (pair (clause
     (codes "CONTACT-INFO"))
     (pair (clause (codes "DESCRIPTION")) (pair (many revision) value))))))
@@ -429,12 +295,9 @@ module_identity =
 abbrev pub to_object_identity : Status × List Part → ObjectIdentity
 to_object_identity p = record { status = p.0; value = p.1 }
 
-abbrev pub from_object_identity : ObjectIdentity → Option (Status × List Part)
-from_object_identity d = Some (d.status, d.value)
-
 unfoldable pub object_identity : Format ObjectIdentity
-object_identity = behind (word (codes "OBJECT-IDENTITY"))
-    (shaped to_object_identity from_object_identity (pair status value))
+object_identity =
+    shaped to_object_identity (behind (word (codes "OBJECT-IDENTITY")) (pair status value))
 
 abbrev pub to_object_type : Syntax × (Option (List ℕ) × (List ℕ × (Status × (Option Index
     × (Option (List TokenText) × List Part))))) → ObjectType
@@ -448,26 +311,6 @@ to_object_type p = record {
   value = p.1.1.1.1.1.1;
 }
 
-abbrev pub from_object_type : ObjectType
-    → Option (Syntax × (Option (List ℕ) × (List ℕ × (Status × (Option Index
-    × (Option (List TokenText) × List Part))))))
-from_object_type d = Some (
-  d.syntax,
-  (
-    d.units,
-    (
-      d.max_access,
-      (
-        d.status,
-        (
-          d.index,
-          (d.default, d.value),
-        ),
-      ),
-    ),
-  ),
-)
-
 unfoldable pub default_value : Format (List TokenText)
 default_value = behind (word (codes "DEFVAL")) (braced balanced)
 
@@ -476,8 +319,8 @@ syntax_clause = behind (word (codes "SYNTAX")) syntax_type
 
 unfoldable pub object_type : Format ObjectType
 object_type =
-    behind (word (codes "OBJECT-TYPE"))
-    (shaped to_object_type from_object_type
+    shaped to_object_type
+    (behind (word (codes "OBJECT-TYPE"))
     (pair syntax_clause (pair (maybe (clause (codes "UNITS")))
     (pair (behind (word (codes "MAX-ACCESS")) (text K.Lower)) (pair status (pair (maybe index)
     (pair (maybe default_value) value)))))))
@@ -485,38 +328,28 @@ object_type =
 abbrev pub to_notification_type : Option (List Name) × (Status × List Part) → NotificationType
 to_notification_type p = record { objects = p.0; status = p.1.0; value = p.1.1 }
 
-abbrev pub from_notification_type : NotificationType
-    → Option (Option (List Name) × (Status × List Part))
-from_notification_type d = Some (d.objects, (d.status, d.value))
-
 unfoldable pub objects : Format (List Name)
 objects = behind (word (codes "OBJECTS")) names
 
 unfoldable pub notification_type : Format NotificationType
 notification_type =
-    behind (word (codes "NOTIFICATION-TYPE"))
-    (shaped to_notification_type from_notification_type (pair (maybe objects) (pair status value)))
+    shaped to_notification_type
+    (behind (word (codes "NOTIFICATION-TYPE")) (pair (maybe objects) (pair status value)))
 
 abbrev pub to_group : List Name × (Status × List Part) → Group
 to_group p = record { members = p.0; status = p.1.0; value = p.1.1 }
 
-abbrev pub from_group : Group → Option (List Name × (Status × List Part))
-from_group d = Some (d.members, (d.status, d.value))
-
 -- a group after its word, with its members after theirs
 unfoldable pub group : List ℕ → List ℕ → Format Group
-group w v = behind (word w) (shaped to_group from_group (pair (behind (word v) names)
-    (pair status value)))
+group w v =
+    shaped to_group (behind (word w) (pair (behind (word v) names) (pair status value)))
 
 abbrev pub to_raw_definition : List TokenText × List Part → RawDefinition
 to_raw_definition p = record { clauses = p.0; value = p.1 }
 
-abbrev pub from_raw_definition : RawDefinition → Option (List TokenText × List Part)
-from_raw_definition d = Some (d.clauses, d.value)
-
 unfoldable pub raw_definition : List ℕ → Format RawDefinition
-raw_definition w = behind (word w) (shaped to_raw_definition from_raw_definition (pair
-    (many before_assign) value))
+raw_definition w =
+    shaped to_raw_definition (behind (word w) (pair (many before_assign) value))
 
 unfoldable pub object_identifier : Format (List Part)
 object_identifier = behind object_identifier_words value
@@ -524,14 +357,10 @@ object_identifier = behind object_identifier_words value
 abbrev pub to_textual_convention : Option (List ℕ) × (Status × Syntax) → TextualConvention
 to_textual_convention p = record { display_hint = p.0; status = p.1.0; syntax = p.1.1 }
 
-abbrev pub from_textual_convention : TextualConvention
-    → Option (Option (List ℕ) × (Status × Syntax))
-from_textual_convention d = Some (d.display_hint, (d.status, d.syntax))
-
 unfoldable pub textual_convention : Format TextualConvention
 textual_convention =
-    behind (word (codes "TEXTUAL-CONVENTION"))
-    (shaped to_textual_convention from_textual_convention
+    shaped to_textual_convention
+    (behind (word (codes "TEXTUAL-CONVENTION"))
     (pair (maybe (clause (codes "DISPLAY-HINT"))) (pair status syntax_clause)))
 
 -- a definition of a name in lower case, by what follows the name
@@ -551,25 +380,9 @@ to_lower (inr (inr (inr (inr (inr (inr (inl d))))))) = D.NotificationGroup d
 to_lower (inr (inr (inr (inr (inr (inr (inr (inl d)))))))) = D.ModuleCompliance d
 to_lower (inr (inr (inr (inr (inr (inr (inr (inr d)))))))) = D.AgentCapabilities d
 
-abbrev pub from_lower : DefKind → Option Lower
-from_lower (D.ObjectType d) = Some (inl d)
-from_lower (D.ObjectIdentifier d) = Some (inr (inl d))
-from_lower (D.ObjectIdentity d) = Some (inr (inr (inl d)))
-from_lower (D.ModuleIdentity d) = Some (inr (inr (inr (inl d))))
-from_lower (D.NotificationType d) = Some (inr (inr (inr (inr (inl d)))))
-from_lower (D.ObjectGroup d) = Some (inr (inr (inr (inr (inr (inl d))))))
-from_lower (D.NotificationGroup d) = Some (inr (inr (inr (inr (inr (inr (inl d)))))))
-from_lower (D.ModuleCompliance d) = Some (inr (inr (inr (inr (inr (inr (inr (inl d))))))))
-from_lower (D.AgentCapabilities d) = Some (inr (inr (inr (inr (inr (inr (inr (inr d))))))))
-from_lower (D.TextualConvention d) = None
-from_lower (D.TypeAssignment d) = None
-from_lower (D.Sequence d) = None
-from_lower (D.Choice d) = None
-from_lower (D.Macro d) = None
-
 unfoldable pub lower_definition : Format DefKind
 lower_definition =
-    shaped to_lower from_lower
+    shaped to_lower
     (either object_type (either object_identifier (either object_identity (either module_identity
     (either notification_type
     (either (group (codes "OBJECT-GROUP") (codes "OBJECTS")) (either (group
@@ -598,27 +411,6 @@ to_assigned (inr (inr (inr (inl (inr x))))) = D.TypeAssignment
 to_assigned (inr (inr (inr (inr t)))) = D.TypeAssignment
     (record { tag = None; syntax = T.Simple t })
 
-abbrev pub from_type : Option (List ℕ) → Syntax → Assigned
-from_type (Some n) t = inr (inr (inl (n, t)))
-from_type None (T.SequenceOf x) = inr (inr (inr (inl (inr x))))
-from_type None (T.Simple t) = inr (inr (inr (inr t)))
-
-abbrev pub from_assigned : DefKind → Option Assigned
-from_assigned (D.TextualConvention d) = Some (inl d)
-from_assigned (D.Choice d) = Some (inr (inl d))
-from_assigned (D.TypeAssignment d) = Some (from_type d.tag d.syntax)
-from_assigned (D.Sequence d) = Some (inr (inr (inr (inl (inl d)))))
-from_assigned (D.ObjectType d) = None
-from_assigned (D.ObjectIdentifier d) = None
-from_assigned (D.ObjectIdentity d) = None
-from_assigned (D.ModuleIdentity d) = None
-from_assigned (D.NotificationType d) = None
-from_assigned (D.ObjectGroup d) = None
-from_assigned (D.NotificationGroup d) = None
-from_assigned (D.ModuleCompliance d) = None
-from_assigned (D.AgentCapabilities d) = None
-from_assigned (D.Macro d) = None
-
 unfoldable pub choice : Format (List TokenText)
 choice = behind (word (codes "CHOICE")) (braced balanced)
 
@@ -630,7 +422,7 @@ sequence = behind (word (codes "SEQUENCE")) (either (braced (separated K.Comma f
 
 unfoldable pub assigned : Format DefKind
 assigned =
-    shaped to_assigned from_assigned
+    shaped to_assigned
     (either textual_convention (either choice (either tagged (either sequence simple_type))))
 
 unfoldable pub macro_body : Format (List TokenText)
@@ -641,28 +433,8 @@ macro_body =
 abbrev pub to_macro : List TokenText → DefKind
 to_macro xs = D.Macro xs
 
-abbrev pub from_macro : DefKind → Option (List TokenText)
-from_macro (D.Macro xs) = Some xs
-from_macro (D.TextualConvention d) = None
-from_macro (D.TypeAssignment d) = None
-from_macro (D.Sequence d) = None
-from_macro (D.Choice d) = None
-from_macro (D.ObjectType d) = None
-from_macro (D.ObjectIdentifier d) = None
-from_macro (D.ObjectIdentity d) = None
-from_macro (D.ModuleIdentity d) = None
-from_macro (D.NotificationType d) = None
-from_macro (D.ObjectGroup d) = None
-from_macro (D.NotificationGroup d) = None
-from_macro (D.ModuleCompliance d) = None
-from_macro (D.AgentCapabilities d) = None
-
 unfoldable pub macro_definition : Format DefKind
-macro_definition = shaped to_macro from_macro macro_body
-
-abbrev pub from_upper : DefKind → Option (DefKind ⊎ DefKind)
-from_upper (D.Macro xs) = Some (inr (D.Macro xs))
-from_upper k = Some (inl k)
+macro_definition = shaped to_macro macro_body
 
 abbrev pub to_upper : DefKind ⊎ DefKind → DefKind
 to_upper (inl k) = k
@@ -670,7 +442,7 @@ to_upper (inr k) = k
 
 -- what follows a name in upper case
 unfoldable pub upper_definition : Format DefKind
-upper_definition = shaped to_upper from_upper (either (behind
+upper_definition = shaped to_upper (either (behind
     (token K.Assign) assigned) macro_definition)
 
 -- the name of a macro that is a reserved word
@@ -688,21 +460,9 @@ to_def (inl p) = record { label = p.0.1; line = p.0.0; kind = p.1 }
 to_def (inr (inl p)) = record { label = p.0.1; line = p.0.0; kind = p.1 }
 to_def (inr (inr p)) = record { label = p.0.1; line = p.0.0; kind = p.1 }
 
--- a definition by its name and kind: a name in lower case, in upper case, or the word of a macro
-abbrev pub def_pieces : Labelled → DefKind → Labelled ⊎ (Labelled ⊎ Labelled)
-def_pieces p (D.Macro xs) = if is_macro p.0.1.octets then inr (inr p) else inr (inl p)
-def_pieces p (D.TextualConvention d) = inr (inl p)
-def_pieces p (D.TypeAssignment d) = inr (inl p)
-def_pieces p (D.Sequence d) = inr (inl p)
-def_pieces p (D.Choice d) = inr (inl p)
-def_pieces p k = inl p
-
-abbrev pub from_def : Def → Option (Labelled ⊎ (Labelled ⊎ Labelled))
-from_def d = Some (def_pieces ((d.line, d.label), d.kind) d.kind)
-
 unfoldable pub definition : Format Def
 definition =
-    shaped to_def from_def
+    shaped to_def
     (either (pair (lined lower) lower_definition)
     (either (pair (lined name) upper_definition) (pair (lined macro_name) macro_definition)))
 
@@ -714,12 +474,9 @@ imported_symbol = kept (a_kind K.Lower ∷ a_name ∷ macro_words) is_symbol
 abbrev pub to_import : ℕ × (List TokenText × Name) → Import
 to_import p = record { symbols = p.1.0; source = p.1.1; line = p.0 }
 
-abbrev pub from_import : Import → Option (ℕ × (List TokenText × Name))
-from_import i = Some (i.line, (i.symbols, i.source))
-
 unfoldable pub import_clause : Format Import
 import_clause =
-    shaped to_import from_import (lined (pair (separated K.Comma imported_symbol) (behind (word
+    shaped to_import (lined (pair (separated K.Comma imported_symbol) (behind (word
     (codes "FROM")) name)))
 
 unfoldable pub imports : Format (List Import)
@@ -735,12 +492,9 @@ opening = behind (word (codes "DEFINITIONS")) (behind (token K.Assign) (word (co
 abbrev pub to_head : Name × (Option (List Part) × Option (List Import)) → Head
 to_head p = record { name = p.0; heading = p.1.0; imports = p.1.1 }
 
-abbrev pub from_head : Head → Option (Name × (Option (List Part) × Option (List Import)))
-from_head h = Some (h.name, (h.heading, h.imports))
-
 -- a module up to its definitions
 unfoldable pub head : Format Head
-head = shaped to_head from_head (pair name (pair (maybe heading) (behind opening (maybe imports))))
+head = shaped to_head (pair name (pair (maybe heading) (behind opening (maybe imports))))
 
 abbrev pub to_module : Head × List Def → Module
 to_module p = record { name = p.0.name; heading = p.0.heading; imports = p.0.imports; defs = p.1 }
@@ -748,11 +502,8 @@ to_module p = record { name = p.0.name; heading = p.0.heading; imports = p.0.imp
 abbrev pub head_of : Module → Head
 head_of m = record { name = m.name; heading = m.heading; imports = m.imports }
 
-abbrev pub from_module : Module → Option (Head × List Def)
-from_module m = Some (head_of m, m.defs)
-
 unfoldable pub module_text : Format Module
-module_text = shaped to_module from_module (pair head (before (many definition) (word
+module_text = shaped to_module (pair head (before (many definition) (word
     (codes "END"))))
 
 unfoldable pub file : Format (List Module)

@@ -1,14 +1,8 @@
 -- Kinds of tokens: words, and signs, which have one text each.
 use Rattle.std.specs.Prelude.{Bool, true, false}
 use Rattle.smi_text.specs.declared.lexer.token.TokenKind.{TokenKind}
-use Rattle.smi_text.specs.declared.lexer.token.TokenKind.TheVariants.{
-  Lower,
-  Upper,
-  Number,
-  Text,
-  Hex,
-  Binary,
-}
+use Rattle.smi_text.specs.declared.lexer.token.TokenKind.TheVariants.{Lower, Upper, Number, Text}
+use Rattle.smi_text.specs.declared.lexer.token.TokenKind.TheVariants.{Hex, Binary}
 
 abbrev pub is_word_kind : TokenKind → Bool
 is_word_kind Lower = true

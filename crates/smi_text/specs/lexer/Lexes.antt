@@ -1,23 +1,6 @@
 -- The tokens of a text.
-use Rattle.std.specs.Prelude.{
-  ℕ,
-  ◌+◌,
-  ◌<◌,
-  ◌≤◌,
-  List,
-  [],
-  ◌∷◌,
-  ◌++◌,
-  length,
-  take,
-  drop,
-  Ok,
-  Err,
-  count_by,
-  slice_range,
-  ◌≡◌,
-  if◌then◌else◌,
-}
+use Rattle.std.specs.Prelude.{ℕ, ◌+◌, ◌<◌, ◌≤◌, List, [], ◌∷◌, ◌++◌, length, take, drop, Ok, Err}
+use Rattle.std.specs.Prelude.{count_by, slice_range, ◌≡◌, if◌then◌else◌}
 use Rattle.smi_text.specs.declared.lexer.token.TokenKind.{TokenKind}
 use Rattle.smi_text.specs.declared.lexer.error.LexError.{LexError}
 use Rattle.smi_text.specs.declared.lexer.error.LexError.TheVariants.{BadByte, OpenString}

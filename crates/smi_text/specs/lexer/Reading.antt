@@ -1,97 +1,31 @@
 -- The tokens of a text, computed in the plain, slow way: every front of what is left is tried, the
 -- longest first. The law that this agrees with `Lexes` is in proofs/; only private clauses use this
 -- file.
-use Rattle.std.specs.Prelude.{
-  ◌≡◌,
-  ℕ,
-  zero,
-  suc,
-  pred,
-  ◌+◌,
-  ◌<◌,
-  ◌≤◌,
-  ◌⊎◌,
-  not,
-  get_or,
-  Bool,
-  true,
-  false,
-  if◌then◌else◌,
-  ◌&&◌,
-  ◌||◌,
-  ◌==◌,
-  Option,
-  Some,
-  None,
-  Ok,
-  Err,
-  List,
-  [],
-  ◌∷◌,
-  length,
-  take,
-  drop,
-  count_by,
-}
+use Rattle.std.specs.Prelude.{◌≡◌, ℕ, zero, suc, pred, ◌+◌, ◌<◌, ◌≤◌, ◌⊎◌, not, get_or, Bool}
+use Rattle.std.specs.Prelude.{true, false, if◌then◌else◌, ◌&&◌, ◌||◌, ◌==◌, Option, Some, None}
+use Rattle.std.specs.Prelude.{Ok, Err, List, [], ◌∷◌, length, take, drop, count_by}
 use Rattle.std.specs.List.{list_all}
 use Rattle.std.specs.Int.{w64, trailing_zeros}
 use Rattle.std.specs.Bool.{then_some}
-use Rattle.std.specs.Char.{
-  is_ascii_lowercase,
-  is_ascii_uppercase,
-  is_ascii_digit,
-  is_ascii_hexdigit,
-}
+use Rattle.std.specs.Char.{is_ascii_lowercase, is_ascii_uppercase, is_ascii_digit}
+use Rattle.std.specs.Char.{is_ascii_hexdigit}
 use Rattle.smi_text.specs.declared.lexer.class.Class.{Class}
-use Rattle.smi_text.specs.declared.lexer.class.Class.TheVariants.{
-  Blank,
-  Lowercase,
-  Uppercase,
-  Digit,
-  Hyphen,
-  Quote,
-  Apostrophe,
-  Symbol,
-  Other,
-}
+use Rattle.smi_text.specs.declared.lexer.class.Class.TheVariants.{Blank, Lowercase, Uppercase}
+use Rattle.smi_text.specs.declared.lexer.class.Class.TheVariants.{Digit, Hyphen, Quote}
+use Rattle.smi_text.specs.declared.lexer.class.Class.TheVariants.{Apostrophe, Symbol, Other}
 use Rattle.smi_text.specs.declared.lexer.token.TokenKind.{TokenKind}
-use Rattle.smi_text.specs.declared.lexer.token.TokenKind.TheVariants.{
-  Lower,
-  Upper,
-  Number,
-  Text,
-  Hex,
-  Binary,
-  Assign,
-  Range,
-  OpenBrace,
-  CloseBrace,
-  OpenParen,
-  CloseParen,
-  OpenBracket,
-  CloseBracket,
-  Less,
-  Greater,
-  Comma,
-  Semicolon,
-  Colon,
-  Bar,
-  Dot,
-  Equals,
-}
+use Rattle.smi_text.specs.declared.lexer.token.TokenKind.TheVariants.{Lower, Upper, Number, Text}
+use Rattle.smi_text.specs.declared.lexer.token.TokenKind.TheVariants.{Hex, Binary, Assign, Range}
+use Rattle.smi_text.specs.declared.lexer.token.TokenKind.TheVariants.{OpenBrace, CloseBrace}
+use Rattle.smi_text.specs.declared.lexer.token.TokenKind.TheVariants.{OpenParen, CloseParen}
+use Rattle.smi_text.specs.declared.lexer.token.TokenKind.TheVariants.{OpenBracket, CloseBracket}
+use Rattle.smi_text.specs.declared.lexer.token.TokenKind.TheVariants.{Less, Greater, Comma}
+use Rattle.smi_text.specs.declared.lexer.token.TokenKind.TheVariants.{Semicolon, Colon, Bar, Dot}
+use Rattle.smi_text.specs.declared.lexer.token.TokenKind.TheVariants.{Equals}
 use Rattle.smi_text.specs.lexer.Token.{Lexeme, Item}
 use Rattle.smi_text.specs.lexer.Lexes.{fault_on}
-use Rattle.smi_text.specs.lexer.Lexeme.{
-  Part,
-  gap,
-  lexeme,
-  is_blank,
-  is_hyphen,
-  is_newline,
-  is_binary_digit,
-  begins,
-  is_word_rest,
-}
+use Rattle.smi_text.specs.lexer.Lexeme.{Part, gap, lexeme, is_blank, is_hyphen, is_newline}
+use Rattle.smi_text.specs.lexer.Lexeme.{is_binary_digit, begins, is_word_rest}
 
 -- ---- what a piece of a text is, by its first octet
 

@@ -1,20 +1,6 @@
 -- What a module defines and imports, and what a definition says of its name.
-use Rattle.std.specs.Prelude.{
-  ℕ,
-  Bool,
-  true,
-  ◌&&◌,
-  not,
-  List,
-  [],
-  ◌∷◌,
-  Option,
-  Some,
-  None,
-  codes,
-  map,
-  unwrap_or,
-}
+use Rattle.std.specs.Prelude.{ℕ, Bool, true, ◌&&◌, not, List, [], ◌∷◌, Option, Some, None, codes}
+use Rattle.std.specs.Prelude.{map, unwrap_or}
 use Rattle.std.specs.List.{list_any, find}
 use Rattle.smi_text.specs.trees.Mark.{same_text}
 use Rattle.smi_text.specs.declared.trees.tree.Module.{Module}

@@ -2,30 +2,14 @@
 use Rattle.std.specs.Prelude.{◌≡◌, ℕ, ◌==◌, Bool, true, List, [], ◌∷◌, codes}
 use Rattle.std.specs.Str.{bytes_eq}
 use Rattle.smi_text.specs.declared.lexer.token.TokenKind.{TokenKind}
-use Rattle.smi_text.specs.declared.lexer.token.TokenKind.TheVariants.{
-  Lower,
-  Upper,
-  Number,
-  Text,
-  Hex,
-  Binary,
-  Assign,
-  Range,
-  OpenBrace,
-  CloseBrace,
-  OpenParen,
-  CloseParen,
-  OpenBracket,
-  CloseBracket,
-  Less,
-  Greater,
-  Comma,
-  Semicolon,
-  Colon,
-  Bar,
-  Dot,
-  Equals,
-}
+use Rattle.smi_text.specs.declared.lexer.token.TokenKind.TheVariants.{Lower, Upper, Number, Text}
+use Rattle.smi_text.specs.declared.lexer.token.TokenKind.TheVariants.{Hex, Binary, Assign, Range}
+use Rattle.smi_text.specs.declared.lexer.token.TokenKind.TheVariants.{OpenBrace, CloseBrace}
+use Rattle.smi_text.specs.declared.lexer.token.TokenKind.TheVariants.{OpenParen, CloseParen}
+use Rattle.smi_text.specs.declared.lexer.token.TokenKind.TheVariants.{OpenBracket, CloseBracket}
+use Rattle.smi_text.specs.declared.lexer.token.TokenKind.TheVariants.{Less, Greater, Comma}
+use Rattle.smi_text.specs.declared.lexer.token.TokenKind.TheVariants.{Semicolon, Colon, Bar, Dot}
+use Rattle.smi_text.specs.declared.lexer.token.TokenKind.TheVariants.{Equals}
 use Rattle.smi_text.specs.lexer.Token.{Lexeme}
 
 -- the number of a kind among the kinds

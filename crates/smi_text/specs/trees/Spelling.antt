@@ -1,24 +1,8 @@
 -- The spelling of a list of module trees: one case for each production of the grammar, with the
 -- marks of its tokens in order. In the comments a word stands for itself, and UPPER, LOWER, NUM and
 -- STR for a token of that kind (RFC 2578, sections 3 to 8; RFC 2579; RFC 2580).
-use Rattle.std.specs.Prelude.{
-  ℕ,
-  Bool,
-  true,
-  false,
-  ◌&&◌,
-  not,
-  List,
-  [],
-  ◌∷◌,
-  ◌++◌,
-  Option,
-  Some,
-  None,
-  codes,
-  map,
-  if◌then◌else◌,
-}
+use Rattle.std.specs.Prelude.{ℕ, Bool, true, false, ◌&&◌, not, List, [], ◌∷◌, ◌++◌, Option, Some}
+use Rattle.std.specs.Prelude.{None, codes, map, if◌then◌else◌}
 use Rattle.std.specs.List.{flat_map}
 use Rattle.smi_text.specs.declared.lexer.token.TokenKind.TheVariants as K
 use Rattle.smi_text.specs.trees.Mark.{Mark, sign, spelled, on_line, same_kind, same_text}
@@ -103,10 +87,14 @@ abbrev pub of_option : {A : Type 0} → (A → List Mark) → Option A → List 
 of_option f None = []
 of_option f (Some x) = f x
 
+-- part { other }
+abbrev pub of_some : {A : Type 0} → (A → List Mark) → (A → List Mark) → List A → List Mark
+of_some f g [] = nothing
+of_some f g (x ∷ xs) = f x ++ flat_map g xs
+
 -- part { sign part }
 abbrev pub of_list : {A : Type 0} → Mark → (A → List Mark) → List A → List Mark
-of_list m f [] = nothing
-of_list m f (x ∷ xs) = f x ++ flat_map (λ y. m ∷ f y) xs
+of_list m f = of_some f (λ y. m ∷ f y)
 
 -- identifiers
 
@@ -126,8 +114,7 @@ of_later_part (P.Name x) = nothing
 of_later_part (P.NamedNumber n) = of_named_arc n
 
 abbrev pub of_parts : List Part → List Mark
-of_parts [] = nothing
-of_parts (p ∷ ps) = of_part p ++ flat_map of_later_part ps
+of_parts = of_some of_part of_later_part
 
 -- "::=" "{" part { part } "}"
 abbrev pub of_value : List Part → List Mark
@@ -261,39 +248,39 @@ of_type_assignment d =
     (codes "APPLICATION") ∷ number n ∷ sign K.CloseBracket ∷ word
     (codes "IMPLICIT") ∷ []) d.tag ++ of_syntax d.syntax
 
--- a name in lower case or in upper case, on its line, and what it is defined as
-abbrev pub of_def_kind : ℕ → Name → DefKind → List Mark
-of_def_kind line x (D.ObjectIdentifier v) = on_line line (lower x) ∷ word (codes "OBJECT") ∷ word
-    (codes "IDENTIFIER") ∷ of_value v
-of_def_kind line x (D.ModuleIdentity d) = on_line line (lower x) ∷ of_module_identity d
-of_def_kind line x (D.ObjectIdentity d) = on_line line (lower x) ∷ of_object_identity d
-of_def_kind line x (D.ObjectType d) = on_line line (lower x) ∷ of_object_type d
-of_def_kind line x (D.NotificationType d) = on_line line (lower x) ∷ of_notification_type d
-of_def_kind line x (D.ObjectGroup d) = on_line line (lower x) ∷ of_group (codes "OBJECT-GROUP")
-    (codes "OBJECTS") d
-of_def_kind line x (D.NotificationGroup d) = on_line line (lower x) ∷ of_group
-    (codes "NOTIFICATION-GROUP") (codes "NOTIFICATIONS") d
-of_def_kind line x (D.ModuleCompliance d) = on_line line (lower x) ∷ of_raw_definition
-    (codes "MODULE-COMPLIANCE") d
-of_def_kind line x (D.AgentCapabilities d) = on_line line (lower x) ∷ of_raw_definition
-    (codes "AGENT-CAPABILITIES") d
-of_def_kind line x (D.TextualConvention d) = on_line line
-    (upper x) ∷ sign K.Assign ∷ of_textual_convention d
-of_def_kind line x (D.TypeAssignment d) = on_line line
-    (upper x) ∷ sign K.Assign ∷ of_type_assignment d
-of_def_kind line x (D.Sequence fs) =
-    on_line line (upper x) ∷ sign K.Assign ∷ word (codes "SEQUENCE") ∷ braces (of_list
-    (sign K.Comma) of_field fs)
-of_def_kind line x (D.Choice xs) = on_line line (upper x) ∷ sign K.Assign ∷ word
-    (codes "CHOICE") ∷ braces (of_balanced xs)
--- a macro may have its reserved word as its name
-of_def_kind line x (D.Macro xs) =
-    on_line line (spelled K.Upper x.octets (if is_macro x.octets then true else not
-    (is_reserved x.octets))) ∷ word (codes "MACRO") ∷ sign K.Assign ∷ word (codes "BEGIN") ∷
+-- the name of a definition: of a type in upper case, of a macro in upper case or its reserved word
+abbrev pub label : Name → DefKind → Mark
+label x (D.TextualConvention d) = upper x
+label x (D.TypeAssignment d) = upper x
+label x (D.Sequence fs) = upper x
+label x (D.Choice xs) = upper x
+label x (D.Macro xs) =
+    spelled K.Upper x.octets (if is_macro x.octets then true else not (is_reserved x.octets))
+label x _ = lower x
+
+-- what a name is defined as
+abbrev pub of_kind : DefKind → List Mark
+of_kind (D.ObjectIdentifier v) = word (codes "OBJECT") ∷ word (codes "IDENTIFIER") ∷ of_value v
+of_kind (D.ModuleIdentity d) = of_module_identity d
+of_kind (D.ObjectIdentity d) = of_object_identity d
+of_kind (D.ObjectType d) = of_object_type d
+of_kind (D.NotificationType d) = of_notification_type d
+of_kind (D.ObjectGroup d) = of_group (codes "OBJECT-GROUP") (codes "OBJECTS") d
+of_kind (D.NotificationGroup d) = of_group (codes "NOTIFICATION-GROUP") (codes "NOTIFICATIONS") d
+of_kind (D.ModuleCompliance d) = of_raw_definition (codes "MODULE-COMPLIANCE") d
+of_kind (D.AgentCapabilities d) = of_raw_definition (codes "AGENT-CAPABILITIES") d
+of_kind (D.TextualConvention d) = sign K.Assign ∷ of_textual_convention d
+of_kind (D.TypeAssignment d) = sign K.Assign ∷ of_type_assignment d
+of_kind (D.Sequence fs) =
+    sign K.Assign ∷ word (codes "SEQUENCE") ∷ braces (of_list (sign K.Comma) of_field fs)
+of_kind (D.Choice xs) = sign K.Assign ∷ word (codes "CHOICE") ∷ braces (of_balanced xs)
+of_kind (D.Macro xs) =
+    word (codes "MACRO") ∷ sign K.Assign ∷ word (codes "BEGIN") ∷
     (of_raw_body xs ++ word (codes "END") ∷ [])
 
+-- a name on its line, and what it is defined as
 abbrev pub of_def : Def → List Mark
-of_def d = of_def_kind d.line d.label d.kind
+of_def d = on_line d.line (label d.label d.kind) ∷ of_kind d.kind
 
 -- modules
 

@@ -10,7 +10,8 @@ use Rattle.smi_text.specs.Text.{AreSpelledBy, HasNoDoubles, IsCause}
 use Rattle.smi_text.specs.Returned.{ReadsModules, ModulesFault, IsLexFault, IsCauseOf}
 use Rattle.smi_text.specs.Grammar.{file}
 use Rattle.smi_text.proofs.Laws.{some-inj}
-use Rattle.smi_text.proofs.DefinitionLists.{file-stands, file-reads}
+use Rattle.smi_text.proofs.DefinitionLists.{file-reads}
+use Rattle.smi_text.proofs.ProductionLaws.{file-law}
 use Rattle.smi_text.proofs.Doubles.{file-twice}
 use Rattle.smi_text.proofs.Tokens.{taken-whole, taken-stands, taken-no_fault, double-token}
 use Rattle.smi_text.proofs.file.parse_modules.Goals as goal
@@ -24,7 +25,7 @@ module _ (text : List ℕ) (items : List Item) (lexed : Lexes [] text items) (so
 
   found : (ms : List Module) → ReadsModules ms items → AreSpelledBy ms text × HasNoDoubles ms
   found ms r =
-      let taken = file-stands ms items [] r.read in (
+      let taken = file-law.takes items [] ms r.read in (
         record {
           items = items;
           lexed = lexed;

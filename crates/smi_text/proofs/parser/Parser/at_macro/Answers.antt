@@ -5,7 +5,7 @@ use Rattle.smi_text.specs.declared.lexer.token.TokenKind.TheVariants.{Upper}
 use Rattle.smi_text.specs.lexer.Token.{lexeme_of}
 use Rattle.smi_text.specs.Format.{begins}
 use Rattle.smi_text.specs.Grammar.{macro_words}
-use Rattle.smi_text.proofs.UpperLaws.{begins-macro}
+use Rattle.smi_text.proofs.ProductionLaws.{begins-macro}
 use Rattle.smi_text.proofs.parser.Parser.at_macro.Goals as goal
 
 pub returns-then-eq : goal.returns-then-eq
