@@ -30,4 +30,3 @@ pub mod PartLaws
 pub mod LexerLaws
 pub mod Digits
 pub mod Words
-pub mod Finds

@@ -11,36 +11,25 @@ use crate::trees::tree::{Def, DefKind, Import, Module, Part};
 fn imports(import: &Import, name: &[u8]) -> bool
     ensures { result ≡ lookup.is_imported_by name.now import.now }
 {
-    for symbol in import.symbols.as_slice() {
-        if symbol.text.as_bytes() == name {
-            return true;
-        }
-    }
-    false
+    import
+        .symbols
+        .as_slice()
+        .iter()
+        .any(|symbol| symbol.text.as_bytes() == name)
 }
 
 /// The first of these clauses that imports the name.
 fn import_among<'a>(clauses: &'a [Import], name: &[u8]) -> Option<&'a Import>
     ensures { option_copied result ≡ lookup.first_import name.now clauses.now }
 {
-    for clause in clauses {
-        if imports(clause, name) {
-            return Some(clause);
-        }
-    }
-    None
+    clauses.iter().find(|clause| imports(clause, name))
 }
 
 /// The first of these definitions that defines the name.
 fn definition_among<'a>(defs: &'a [Def], name: &[u8]) -> Option<&'a Def>
     ensures { option_copied result ≡ lookup.first_definition name.now defs.now }
 {
-    for def in defs {
-        if def.label.as_bytes() == name {
-            return Some(def);
-        }
-    }
-    None
+    defs.iter().find(|def| def.label.as_bytes() == name)
 }
 
 impl Module {
