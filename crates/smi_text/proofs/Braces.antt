@@ -1,7 +1,7 @@
 -- Counting open braces finds exactly the balanced tokens.
 use Rattle.std.proofs.Common.{◌≡◌, ℕ, zero, suc, ◌+◌, ◌-◌, true, false, not, List, [], ◌∷◌, ◌++◌}
-use Rattle.std.proofs.Common.{refl, sym, ◌∙◌, ap, subst, arith, append_assoc}
-use Rattle.std.proofs.Common.{append-nil}
+use Rattle.std.proofs.Common.{refl, sym, ◌∙◌, ap, subst, arith, append_assoc, append-nil}
+use Rattle.std.proofs.lemmas.Bool.{and_parts, false_from_ne_true}
 use Rattle.std.specs.Prelude.{◌==◌, ◌≢◌}
 use Rattle.std.proofs.lemmas.Bool.{not-true}
 use Rattle.smi_text.specs.declared.lexer.token.TokenKind.{TokenKind}
@@ -11,7 +11,7 @@ use Rattle.smi_text.specs.Grammar.{depth_after, is_outside}
 use Rattle.smi_text.proofs.Fronts.{is_balanced}
 use Rattle.smi_text.specs.trees.Braces.{IsBalanced, none, other, nested}
 use Rattle.smi_text.specs.declared.trees.tree.TokenText.{TokenText}
-use Rattle.smi_text.proofs.Marks.{and-left, and-right, false-from, same_kind-eq, same_kind-same}
+use Rattle.smi_text.proofs.Marks.{same_kind-eq, same_kind-same}
 
 -- ---- how a token changes the count
 
@@ -25,7 +25,7 @@ passing : (k : TokenKind) (d : ℕ) → same_kind k K.OpenBrace ≡ false → sa
 passing k d o c = (rw c refl, rw (o, c) refl)
 
 is_no : (k j : TokenKind) → k ≢ j → same_kind k j ≡ false
-is_no k j n = false-from (same_kind k j) (λ h. n (same_kind-eq k j h))
+is_no k j n = false_from_ne_true (same_kind k j) (λ h. n (same_kind-eq k j h))
 
 is_not : (k j : TokenKind) → same_kind k j ≡ false → k ≢ j
 is_not k j h e = let yes : same_kind k j ≡ true = rw e (same_kind-same j) in cc (h, yes)
@@ -83,10 +83,10 @@ closes : (xs : List TokenText) (d : ℕ) → is_balanced d xs ≡ true → Close
 unfolding is_balanced
 closes [] d h = at_end d h
 closes (x ∷ xs) d h =
-    let inside : is_outside x.kind d ≡ false = not-true (is_outside x.kind d) (and-left (not (is_outside x.kind d)) (is_balanced
-    (depth_after x.kind d) xs) h) in
-    let later : Closes (depth_after x.kind d) xs = closes xs (depth_after x.kind d) (and-right (not (is_outside x.kind d)) (is_balanced
-    (depth_after x.kind d) xs) h) in
+    let inside : is_outside x.kind d ≡ false = not-true (is_outside x.kind d) (and_parts (not (is_outside x.kind d)) (is_balanced
+    (depth_after x.kind d) xs) h).0 in
+    let later : Closes (depth_after x.kind d) xs = closes xs (depth_after x.kind d) (and_parts (not (is_outside x.kind d)) (is_balanced
+    (depth_after x.kind d) xs) h).1 in
     elim (same_kind x.kind K.OpenBrace) as (λ b. same_kind x.kind K.OpenBrace ≡ b → Closes d (x ∷ xs)) [
       | true ↦ λ o.
           let k = same_kind-eq x.kind K.OpenBrace o in

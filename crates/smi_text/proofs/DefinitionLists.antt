@@ -1,12 +1,18 @@
 -- Definitions one after the other, with the names that they define.
-use Rattle.std.proofs.Common.{◌≡◌, ℕ, Bool, true, false, ◌||◌, not, List, [], ◌∷◌, ◌++◌}
-use Rattle.std.proofs.Common.{Some, Ok, Err, refl, sym, ◌∙◌, ap, subst}
-use Rattle.std.proofs.Common.{append_assoc, append-nil}
+use Rattle.std.proofs.Common.{◌≡◌, ℕ, Bool, true, false, ◌||◌, not, List, [], ◌∷◌, ◌++◌, Some, Ok}
+use Rattle.std.proofs.Common.{Err, refl, sym, ◌∙◌, ap, subst, append-nil}
+use Rattle.std.proofs.lemmas.Bool.{and_parts, and_from, or_parts}
 use Rattle.std.specs.List.{flat_map, list_any, list_all}
+use Rattle.std.proofs.Math.Bool.{or-false, or_comm}
+use Rattle.std.proofs.lemmas.Bool.Decides.{same_from_decides}
+use Rattle.std.proofs.lemmas.Grind.{flat_map-append}
+use Rattle.std.proofs.lemmas.List.{map-append}
+use Rattle.std.proofs.lemmas.List.Folds.{list_any-append, list_all-append}
+use Rattle.std.proofs.lemmas.Slice.Eq.{bytes_eq-Decides}
+use Rattle.std.proofs.Common.{◌&&◌}
 use Rattle.smi_text.specs.lexer.Token.{Lexeme, Item}
 use Rattle.smi_text.specs.trees.Mark.{Mark, MarksToken, spelled, on_line, same_text}
-use Rattle.smi_text.specs.Format.{StandsAhead}
-use Rattle.smi_text.specs.Format.{Ahead, begins}
+use Rattle.smi_text.specs.Format.{StandsAhead, Ahead, begins}
 use Rattle.smi_text.specs.Grammar.{definition, file}
 use Rattle.smi_text.specs.trees.Spelling.{label, of_def, spelling}
 use Rattle.smi_text.specs.Text.{HasNoDoubles}
@@ -17,8 +23,7 @@ use Rattle.smi_text.specs.declared.trees.names.Name.{Name}
 use Rattle.smi_text.specs.declared.trees.tree.DefKind.{DefKind}
 use Rattle.smi_text.specs.declared.trees.tree.DefKind.TheVariants as D
 use Rattle.smi_text.specs.declared.trees.tree.Module.{Module}
-use Rattle.smi_text.proofs.Marks.{and-left, and-right, and-both, or-false, false-from}
-use Rattle.smi_text.proofs.Marks.{same_text-eq, same_text-same, StandsAhead-append}
+use Rattle.smi_text.proofs.Marks.{StandsAhead-append}
 use Rattle.smi_text.proofs.ProductionLaws.{definition-law, file-law}
 
 -- the label of a definition is the text of its first token
@@ -49,8 +54,7 @@ read-label d ts rest h = spelled-label d ts rest (definition-law.takes ts rest d
 -- one more
 
 flat-more : {A : Type 0} (f : A → List Mark) (xs : List A) (x : A) → flat_map f (xs ++ x ∷ []) ≡ flat_map f xs ++ f x
-flat-more f [] x = append-nil (f x)
-flat-more f (y ∷ ys) x = ap (λ (ms : List Mark). f y ++ ms) (flat-more f ys x) ∙ sym (append_assoc (f y) (flat_map f ys) (f x))
+flat-more f xs x = flat_map-append f xs (x ∷ []) ∙ ap (λ (ms : List Mark). flat_map f xs ++ ms) (append-nil (f x))
 
 pub stands-more : {A : Type 0} (f : A → List Mark) (xs : List A) (x : A) (ts mid rest : List Item) → StandsAhead (flat_map f xs) ts mid
     → StandsAhead (f x) mid rest
@@ -59,38 +63,27 @@ stands-more f xs x ts mid rest h k =
     let P : List Mark → Type 0 = λ ms. StandsAhead ms ts rest in
     subst P (sym (flat-more f xs x)) (StandsAhead-append (flat_map f xs) (f x) ts mid rest h k)
 
-pub any-more : (x : List ℕ) (ys : List (List ℕ)) (y : List ℕ) → list_any (same_text x) (ys ++ y ∷ []) ≡ (same_text x y || list_any (same_text x) ys)
-any-more x [] y = refl
-any-more x (z ∷ zs) y = ap (λ (b : Bool). same_text x z || b) (any-more x zs y) ∙ swap (same_text x z) (same_text x y) (list_any (same_text x) zs)
-  where
-    swap : (a b c : Bool) → (a || (b || c)) ≡ (b || (a || c))
-    swap true true c = refl
-    swap true false c = refl
-    swap false b c = refl
+any-more : (x : List ℕ) (ys : List (List ℕ)) (y : List ℕ) → list_any (same_text x) (ys ++ y ∷ []) ≡ (same_text x y || list_any (same_text x) ys)
+any-more x ys y =
+    list_any-append (same_text x) ys (y ∷ []) ∙ ap (λ (b : Bool). list_any (same_text x) ys || b) (or-false (same_text x y))
+    ∙ or_comm (list_any (same_text x) ys) (same_text x y)
 
 same-sym : (x y : List ℕ) → same_text x y ≡ same_text y x
 same-sym x y =
-    elim (same_text x y) as (λ b. same_text x y ≡ b → b ≡ same_text y x) [
-      | true ↦ λ e. sym (let P : List ℕ → Type 0 = λ z. same_text z x ≡ true in subst P (same_text-eq x y e) (same_text-same x))
-      | false ↦ λ e. sym (false-from (same_text y x) (λ k. cc (
-        e,
-        (let P : List ℕ
-            → Type 0 = λ z. same_text z y ≡ true in subst P (same_text-eq y x k) (same_text-same y)),
-      )))
-    ] refl
+    same_from_decides (same_text x y) (same_text y x) (bytes_eq-Decides x y)
+    (λ e. sym ((bytes_eq-Decides y x).0 e), λ e. (bytes_eq-Decides y x).1 (sym e))
 
 labels-more : (ds : List Def) (d : Def) → labels (ds ++ d ∷ []) ≡ labels ds ++ d.label.octets ∷ []
-labels-more [] d = refl
-labels-more (e ∷ es) d = ap (λ (xs : List (List ℕ)). e.label.octets ∷ xs) (labels-more es d)
+labels-more ds d = map-append (λ (e : Def). e.label.octets) ds (d ∷ [])
 
 distinct-text : (xs : List (List ℕ)) (x : List ℕ) → are_distinct xs ≡ true → list_any (same_text x) xs ≡ false → are_distinct (xs ++ x ∷ []) ≡ true
 distinct-text [] x h k = refl
 distinct-text (y ∷ ys) x h k =
-    let apart = or-false (same_text x y) (list_any (same_text x) ys) k in
-    let first = and-left (not (list_any (same_text y) ys)) (are_distinct ys) h in
-    and-both (not (list_any (same_text y) (ys ++ x ∷ []))) (are_distinct (ys ++ x ∷ []))
+    let apart = or_parts (same_text x y) (list_any (same_text x) ys) k in
+    let first = (and_parts (not (list_any (same_text y) ys)) (are_distinct ys) h).0 in
+    and_from (not (list_any (same_text y) (ys ++ x ∷ []))) (are_distinct (ys ++ x ∷ []))
     (rw (any-more y ys x, same-sym y x, apart.0) first)
-    (distinct-text ys x (and-right (not (list_any (same_text y) ys)) (are_distinct ys) h) apart.1)
+    (distinct-text ys x (and_parts (not (list_any (same_text y) ys)) (are_distinct ys) h).1 apart.1)
 
 pub distinct-more : (ds : List Def) (d : Def) → are_distinct (labels ds) ≡ true → list_any (same_text d.label.octets) (labels ds) ≡ false
     → are_distinct (labels (ds ++ d ∷ [])) ≡ true
@@ -102,13 +95,10 @@ among-more ds d x =
     ap (list_any (same_text x)) (labels-more ds d) ∙ any-more x (labels ds) d.label.octets
     ∙ ap (λ (b : Bool). b || list_any (same_text x) (labels ds)) (same-sym x d.label.octets)
 
-all-more : {A : Type 0} (p : A → Bool) (xs : List A) (x : A) → list_all p xs ≡ true → p x ≡ true → list_all p (xs ++ x ∷ []) ≡ true
-all-more p [] x h k = and-both (p x) true k refl
-all-more p (y ∷ ys) x h k = and-both (p y) (list_all p (ys ++ x ∷ [])) (and-left (p y) (list_all p ys) h) (all-more p ys x (and-right (p y)
-    (list_all p ys) h) k)
-
 pub no-doubles-more : (ms : List Module) (m : Module) → HasNoDoubles ms → are_distinct (labels m.defs) ≡ true → HasNoDoubles (ms ++ m ∷ [])
-no-doubles-more ms m h k = all-more (λ (n : Module). are_distinct (labels n.defs)) ms m h k
+no-doubles-more ms m h k =
+    let ok : Module → Bool = λ n. are_distinct (labels n.defs) in
+    list_all-append ok ms (m ∷ []) ∙ and_from (list_all ok ms) (ok m && true) h (and_from (ok m) true k refl)
 
 pub nothing-begins : (cs : List Ahead) → begins cs [] ≡ false
 unfolding begins

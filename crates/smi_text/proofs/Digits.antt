@@ -1,11 +1,11 @@
 -- What digits write, read from the front.
 use Rattle.std.proofs.Common.{◌≡◌, ℕ, suc, ◌+◌, ◌*◌, ◌^◌, ◌<◌, ◌≤◌, List, [], ◌∷◌, length, get_or}
 use Rattle.std.proofs.Common.{drop, refl, sym, ◌∙◌, ap, arith, drop-cons, add-one}
-use Rattle.std.proofs.Common.{nat_le, true, false}
 use Rattle.std.specs.Prelude.{Some, None}
 use Rattle.std.proofs.lemmas.List.{drop_all}
 use Rattle.std.proofs.Math.Nat.{le-mul_of_pos_right, one-le-pow, mul_comm, mul_assoc, mul-one}
 use Rattle.std.proofs.Math.Nat.{pow-zero, pow-succ'}
+use Rattle.std.proofs.lemmas.Bool.{lt-leb, le-leb}
 use Rattle.smi_text.specs.trees.Number.{digit_value, number_value, up_to}
 
 -- what digits write after those that wrote n
@@ -35,16 +35,13 @@ worth-grows base n cs h =
 pub worth-step : (base n i : ℕ) (cs : List ℕ) → i < length cs → worth base n (drop i cs) ≡ worth base (base * n + digit_value (get_or cs i 0)) (drop (i + 1) cs)
 worth-step base n i cs h = rw (add-one, drop-cons cs i 0) (worth-digit base n (get_or cs i 0) (drop (suc i) cs))
 
-above : (v most : ℕ) → most < v → nat_le v most ≡ false
-above v most h = grind arith
-
 -- where the digits so far are worth too much, all of them are
 pub worth-above : (base n i most : ℕ) (cs : List ℕ) → 0 < base → i < length cs → worth base n (drop i cs) ≡ number_value base cs
     → most < base * n + digit_value (get_or cs i 0) → None ≡ up_to most (number_value base cs)
 worth-above base n i most cs pos h e over =
     let grown = worth-grows base (base * n + digit_value (get_or cs i 0)) (drop (i + 1) cs) pos in
     let step = worth-step base n i cs h in
-    rw (above (number_value base cs) most (omega (arith, grown, step, e))) refl
+    rw (lt-leb (number_value base cs) most (omega (arith, grown, step, e))) refl
 
 nothing-more : (base n : ℕ) → worth base n [] ≡ n
 unfolding number_value
@@ -54,8 +51,5 @@ pub worth-end : (base n i : ℕ) (cs : List ℕ) → length cs ≤ i → worth b
 unfolding number_value
 worth-end base n i cs h = rw (drop_all i cs h) (nothing-more base n)
 
-below : (v most : ℕ) → v ≤ most → nat_le v most ≡ true
-below v most h = grind arith
-
 pub value-within : (v most : ℕ) → v ≤ most → Some v ≡ up_to most v
-value-within v most h = rw (below v most h) refl
+value-within v most h = rw (le-leb v most h) refl

@@ -1,14 +1,16 @@
 -- Where definitions define a name again, no modules without a double name are read.
 use Rattle.std.proofs.Common.{◌≡◌, ℕ, true, false, not, List, [], ◌∷◌, ◌++◌, Some, None, refl, sym}
 use Rattle.std.proofs.Common.{◌∙◌, ap, subst, inl, inr}
+use Rattle.std.proofs.lemmas.Bool.{and_parts, or_left, or_right}
 use Rattle.std.specs.Prelude.{codes}
 use Rattle.std.specs.List.{flat_map, list_any, list_all}
 use Rattle.std.proofs.lemmas.Bool.{or_cases}
+use Rattle.std.proofs.lemmas.List.{map-append}
+use Rattle.std.proofs.lemmas.List.Folds.{list_any-append}
 use Rattle.smi_text.specs.lexer.Token.{Item}
 use Rattle.smi_text.specs.trees.Mark.{Mark, same_text}
-use Rattle.smi_text.specs.Format.{StandsAhead}
-use Rattle.smi_text.specs.Format.{Format, Parsed, begins, apart, with_front, before, many, pair}
-use Rattle.smi_text.specs.Format.{shaped, word, lower}
+use Rattle.smi_text.specs.Format.{StandsAhead, Format, Parsed, begins, apart, with_front, before}
+use Rattle.smi_text.specs.Format.{many, pair, shaped, word, lower}
 use Rattle.smi_text.specs.Grammar.{to_module, definition, file, head, module_text}
 use Rattle.smi_text.specs.trees.Spelling.{of_def, of_head, spelling}
 use Rattle.smi_text.specs.Text.{HasNoDoubles}
@@ -18,8 +20,7 @@ use Rattle.smi_text.specs.declared.modules.Head.{Head}
 use Rattle.smi_text.specs.declared.trees.tree.Def.{Def}
 use Rattle.smi_text.specs.declared.trees.tree.Module.{Module}
 use Rattle.smi_text.proofs.Lawful.{Lawful}
-use Rattle.smi_text.proofs.Marks.{and-left, and-right, or-left, or-right, same_text-eq}
-use Rattle.smi_text.proofs.Marks.{same_text-same, StandsAhead-split, apart-false}
+use Rattle.smi_text.proofs.Marks.{same_text-eq, same_text-same, StandsAhead-split, apart-false}
 use Rattle.smi_text.proofs.Many.{many-fails, many-goes_on, with_front-append, with_front-nil}
 use Rattle.smi_text.proofs.Laws.{starts-with, some-inj}
 use Rattle.smi_text.proofs.Productions.{all}
@@ -73,8 +74,8 @@ module _ {A : Type 0} {s : A → List Mark} {f : Format A} (law : Lawful s f) (s
 -- names that stand twice
 
 any-middle : (x y : List ℕ) (xs ys : List (List ℕ)) → same_text x y ≡ true → list_any (same_text x) (xs ++ y ∷ ys) ≡ true
-any-middle x y [] ys h = or-left (same_text x y) (list_any (same_text x) ys) h
-any-middle x y (z ∷ zs) ys h = or-right (same_text x z) (list_any (same_text x) (zs ++ y ∷ ys)) (any-middle x y zs ys h)
+any-middle x y xs ys h = list_any-append (same_text x) xs (y ∷ ys)
+    ∙ or_right (list_any (same_text x) xs) _ (or_left (same_text x y) (list_any (same_text x) ys) h)
 
 twice : (xs ys : List (List ℕ)) (y : List ℕ) → list_any (same_text y) xs ≡ true → are_distinct (xs ++ y ∷ ys) ≡ true → ⊥
 twice [] ys y h k = cc
@@ -83,13 +84,9 @@ twice (x ∷ xs) ys y h k =
       | inl e ↦
           let same : y ≡ x = same_text-eq y x e in
           let there = any-middle x y xs ys (let P : List ℕ → Type 0 = λ z. same_text z y ≡ true in subst P same (same_text-same y)) in
-          cc (there, and-left (not (list_any (same_text x) (xs ++ y ∷ ys))) (are_distinct (xs ++ y ∷ ys)) k)
-      | inr e ↦ twice xs ys y e (and-right (not (list_any (same_text x) (xs ++ y ∷ ys))) (are_distinct (xs ++ y ∷ ys)) k)
+          cc (there, (and_parts (not (list_any (same_text x) (xs ++ y ∷ ys))) (are_distinct (xs ++ y ∷ ys)) k).0)
+      | inr e ↦ twice xs ys y e (and_parts (not (list_any (same_text x) (xs ++ y ∷ ys))) (are_distinct (xs ++ y ∷ ys)) k).1
     ]
-
-labels-append : (ds es : List Def) → labels (ds ++ es) ≡ labels ds ++ labels es
-labels-append [] es = refl
-labels-append (d ∷ ds) es = ap (λ (xs : List (List ℕ)). d.label.octets ∷ xs) (labels-append ds es)
 
 -- definitions
 
@@ -114,7 +111,7 @@ module _ (line : ℕ) (body : List Item) (s : RepeatsIn line body) where
       let f = many-first definition-law definition-solid definition-apart halves.0 rest inv.0 second-ahead inv.1 in
       let same : s.second.label.octets ≡ f.0.label.octets = spelled-label s.second halves.0 s.rest halves.2 ∙ sym (read-label f.0 halves.0 f.2 f.3) in
       let all : labels ds ≡ labels s.before ++ f.0.label.octets ∷ labels f.1 = ap labels inv.2 ∙ ap (λ (xs : List Def). labels (s.before ++ xs)) f.4
-      ∙ labels-append s.before (f.0 ∷ f.1) in
+      ∙ map-append (λ (d : Def). d.label.octets) s.before (f.0 ∷ f.1) in
       let P : List ℕ → Type 0 = λ x. list_any (same_text x) (labels s.before) ≡ true in
       let Q : List (List ℕ) → Type 0 = λ xs. are_distinct xs ≡ true in
       twice (labels s.before) (labels f.1) f.0.label.octets (subst P same s.defined) (subst Q all k)
@@ -122,8 +119,8 @@ module _ (line : ℕ) (body : List Item) (s : RepeatsIn line body) where
 -- modules
 
 all-middle : (ms : List Module) (m : Module) (ns : List Module) → HasNoDoubles (ms ++ m ∷ ns) → are_distinct (labels m.defs) ≡ true
-all-middle [] m ns h = and-left (are_distinct (labels m.defs)) (list_all (λ n. are_distinct (labels n.defs)) ns) h
-all-middle (x ∷ xs) m ns h = all-middle xs m ns (and-right (are_distinct (labels x.defs)) (list_all (λ n. are_distinct (labels n.defs)) (xs ++ m ∷ ns)) h)
+all-middle [] m ns h = (and_parts (are_distinct (labels m.defs)) (list_all (λ n. are_distinct (labels n.defs)) ns) h).0
+all-middle (x ∷ xs) m ns h = all-middle xs m ns (and_parts (are_distinct (labels x.defs)) (list_all (λ n. are_distinct (labels n.defs)) (xs ++ m ∷ ns)) h).1
 
 head-apart : apart head.stop definition.first ≡ true
 unfolding all

@@ -1,8 +1,8 @@
 -- Gaps: blank octets and comments, and where none begins.
-use Rattle.std.proofs.Common.{◌≡◌, ℕ, zero, suc, ◌+◌, ◌<◌, ◌≤◌, ◌⊎◌, Bool, true, false, cond, ◌&&◌, ◌||◌}
-use Rattle.std.proofs.Common.{Some, List, [], ◌∷◌, length, get_or, take, drop, refl}
-use Rattle.std.proofs.Common.{sym, ap, ◌∙◌, subst, inl, inr, ⊎_elim, arith, eqb, ◌-◌}
-use Rattle.std.proofs.Common.{add-zero}
+use Rattle.std.proofs.Common.{◌≡◌, ℕ, zero, suc, ◌+◌, ◌<◌, ◌≤◌, ◌⊎◌, Bool, true, false, cond, ◌&&◌}
+use Rattle.std.proofs.Common.{◌||◌, Some, List, [], ◌∷◌, length, get_or, take, drop, refl, sym, ap}
+use Rattle.std.proofs.Common.{◌∙◌, subst, inl, inr, ⊎_elim, arith, eqb, ◌-◌, add-zero}
+use Rattle.std.proofs.lemmas.Bool.{and_parts}
 use Rattle.std.specs.List.{list_all}
 use Rattle.std.specs.Bool.{then_some}
 use Rattle.std.specs.Char.{is_ascii_digit, is_ascii_hexdigit, is_ascii_lowercase}
@@ -23,13 +23,13 @@ use Rattle.smi_text.specs.lexer.Reading.{HasNoGap, IsLongestPassing, IsPartFront
 use Rattle.smi_text.specs.lexer.Reading.{hyphen_part, is_comment_rest, is_string_rest}
 use Rattle.smi_text.specs.lexer.Reading.{is_literal_rest, is_hex_letter, is_binary_letter}
 use Rattle.smi_text.specs.lexer.Reading.{is_nothing, is_remark_rest, is_sole, literal_part}
-use Rattle.smi_text.specs.lexer.Reading.{ArePassedBetween, is_space_or_tab, newlines}
-use Rattle.smi_text.specs.lexer.Reading.{part_in, part_of, symbol_part, symbol_among, symbols}
+use Rattle.smi_text.specs.lexer.Reading.{ArePassedBetween, is_space_or_tab, newlines, part_in}
+use Rattle.smi_text.specs.lexer.Reading.{part_of, symbol_part, symbol_among, symbols}
 use Rattle.smi_text.proofs.Classes.{class_is}
-use Rattle.smi_text.proofs.LexerFronts.{and_true, rest_at, rest_of_two}
+use Rattle.smi_text.proofs.LexerFronts.{rest_at, rest_of_two}
 use Rattle.smi_text.proofs.ItemsLemmas.{newlines-cons, newlines-one, skips_gap}
 use Rattle.smi_text.proofs.Parts.{none_some, front_behind_first, front_cons, part_front}
-use Rattle.smi_text.proofs.Scans.{begins-take}
+use Rattle.smi_text.proofs.Scans.{begins-take, hand_on}
 
 -- ---- a blank octet
 
@@ -80,33 +80,22 @@ skips_space text n lines here is skips =
     subst (Skips text (n + 1)) (add-zero lines)
     (subst (λ m. Skips text (n + 1) (lines + m)) plain.0 (skips_blank text n lines here plain.1 skips))
 
-pub skips_spaces : (d : ℕ) (text : List ℕ) (n lines : ℕ) → n + d ≤ length text
-    → ((k : ℕ) → n ≤ k → k < n + d → is_space_or_tab (get_or text k 0) ≡ true)
-    → Skips text n lines → Skips text (n + d) lines
-skips_spaces zero text n lines within all skips = subst (λ m. Skips text m lines) (sym (add-zero n)) skips
-skips_spaces (suc d) text n lines within all skips =
-    let place : (n + 1) + d ≡ n + suc d = omega arith in
-    subst (λ m. Skips text m lines) place
-    (skips_spaces d text (n + 1) lines (omega arith) (λ k from to. all k (omega arith) (omega arith))
-    (skips_space text n lines (omega arith) (all n (omega arith) (omega arith)) skips))
-
 -- a space, and the spaces and tabs behind it
 pub skips_run : (text : List ℕ) (n to lines : ℕ) → n < length text → get_or text n 0 ≡ 32 → ArePassedBetween is_space_or_tab text (n + 1) to
     → Skips text n lines → Skips text to lines
 skips_run text n to lines here space run skips =
     let ordered : n + 1 ≤ to = run.ordered in
     let within : to ≤ length text = run.within in
-    let place : (n + 1) + (to - (n + 1)) ≡ to = omega arith in
-    subst (λ m. Skips text m lines) place
-    (skips_spaces (to - (n + 1)) text (n + 1) lines (omega arith) (λ k from below. run.passes k from (omega arith))
-    (skips_space text n lines here (ap is_space_or_tab space) skips))
+    hand_on (λ m. Skips text m lines) (to - (n + 1)) (n + 1) to (omega arith)
+    (λ k above below. skips_space text k lines (omega arith) (run.passes k above below))
+    (skips_space text n lines here (ap is_space_or_tab space) skips)
 
 -- ---- comments
 
 hyphens_one_line : (s : List ℕ) → list_all is_hyphen s ≡ true → newlines s ≡ 0
 hyphens_one_line [] h = refl
 hyphens_one_line (c ∷ cs) h =
-    let both = and_true (is_hyphen c) (list_all is_hyphen cs) h in
+    let both = and_parts (is_hyphen c) (list_all is_hyphen cs) h in
     newlines-cons c cs ∙ ap (λ d. newlines (d ∷ []) + newlines cs) (eqb-true c 45 both.0) ∙ ap (λ n. 0 + n) (hyphens_one_line cs both.1)
 
 remark_octet : (c : ℕ) (cs : List ℕ) (a b : Bool) → is_newline c ≡ a → (is_hyphen c && begins is_hyphen cs) ≡ b

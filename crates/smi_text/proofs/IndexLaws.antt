@@ -1,21 +1,21 @@
 -- Indexes are lawful.
 use Rattle.std.proofs.Common.{◌≡◌, ℕ, zero, suc, ◌≤◌, Bool, true, false, List, [], ◌∷◌, length}
-use Rattle.std.proofs.Common.{Some, None, Ok, Err, if◌then◌else◌, refl, sym, ◌∙◌, subst}
-use Rattle.std.proofs.Common.{arith, inl}
+use Rattle.std.proofs.Common.{Some, None, Ok, Err, if◌then◌else◌, refl, sym, ◌∙◌, subst, arith}
+use Rattle.std.proofs.Common.{inl, inr}
+use Rattle.std.proofs.lemmas.Bool.{or_left, or_right}
 use Rattle.std.specs.Prelude.{codes, option_map, option_and_then}
 use Rattle.smi_text.specs.declared.lexer.token.TokenKind.TheVariants as K
 use Rattle.smi_text.specs.lexer.Token.{Item}
 use Rattle.smi_text.specs.trees.Mark.{Mark, sign, spelled}
-use Rattle.smi_text.specs.Format.{StandsAhead, pair}
-use Rattle.smi_text.specs.Format.{Parsed, a_word, a_kind, meets, begins, behind}
+use Rattle.smi_text.specs.Format.{StandsAhead, pair, Parsed, a_word, a_kind, meets, begins, behind}
 use Rattle.smi_text.specs.Format.{shaped, text, token, word, lower}
 use Rattle.smi_text.specs.Grammar.{index_parts, implied_name, index_names, read_index, with_names}
 use Rattle.smi_text.specs.trees.Spelling as say
 use Rattle.smi_text.proofs.Lawful.{Lawful}
-use Rattle.smi_text.proofs.Marks.{or-left, or-right, StandsAhead-append, StandsAhead-split}
-use Rattle.smi_text.proofs.Marks.{begins-none, begins-append, map-inv, then-inv}
+use Rattle.smi_text.proofs.Marks.{if-inv, StandsAhead-append, StandsAhead-split, begins-none}
+use Rattle.smi_text.proofs.Marks.{begins-append, map-inv, then-inv}
 use Rattle.smi_text.proofs.Many.{StandsAhead-length}
-use Rattle.smi_text.proofs.Laws.{some-inj, any-one, never-stands, token-law, lower-law, starts-with}
+use Rattle.smi_text.proofs.Laws.{some-inj, never-stands, token-law, lower-law, starts-with}
 use Rattle.smi_text.proofs.PieceLaws.{after-word}
 use Rattle.smi_text.specs.declared.trees.names.Name.{Name}
 use Rattle.smi_text.specs.declared.trees.tree.IndexParts.{IndexParts}
@@ -24,29 +24,6 @@ use Rattle.smi_text.specs.declared.trees.tree.IndexParts.{IndexParts}
 
 implied_name-law : Lawful (λ x. say.word (codes "IMPLIED") ∷ say.lower x ∷ []) implied_name
 implied_name-law = after-word (codes "IMPLIED") lower-law
-
-stands-lower : (ts rest : List Item) (x : Name) → lower.read ts ≡ Some (x, rest) → StandsAhead (spelled K.Lower x.octets true ∷ []) ts rest
-unfolding lower
-stands-lower ts rest x h = lower-law.takes ts rest x h
-
-read-lower : (ts rest : List Item) (x : Name) → StandsAhead (spelled K.Lower x.octets true ∷ []) ts rest → lower.read ts ≡ Some (x, rest)
-unfolding lower
-read-lower ts rest x h = lower-law.again x ts rest h (begins-none rest)
-
--- a comma is read and taken
-stands-comma : (ts rest : List Item) (u : Unit {0}) → (token K.Comma).read ts ≡ Some (u, rest) → StandsAhead (sign K.Comma ∷ []) ts rest
-unfolding token
-stands-comma ts rest u h = (token-law K.Comma).takes ts rest u h
-
-read-comma : (ts rest : List Item) → StandsAhead (sign K.Comma ∷ []) ts rest → (token K.Comma).read ts ≡ Some (tt, rest)
-unfolding token
-read-comma ts rest h = (token-law K.Comma).again tt ts rest h (begins-none rest)
-
-comma-begins : (ts rest : List Item) → StandsAhead (sign K.Comma ∷ []) ts rest → begins (a_kind K.Comma ∷ []) ts ≡ true
-unfolding begins
-comma-begins [] rest h = absurd h
-comma-begins (Err f ∷ ts) rest h = absurd h
-comma-begins (Ok t ∷ ts) rest h = any-one t (a_kind K.Comma) (rw h.0.0 refl)
 
 abbrev put_implied : Name × List Item → IndexParts × List Item
 put_implied p = (index_parts (p.0 ∷ []) true, p.1)
@@ -82,27 +59,24 @@ unfolding read_index behind shaped pair word text lower
 index-takes zero ts rest x h = absurd (cc)
 index-takes (suc n) ts rest x h =
     let P : IndexParts × List Item → Type 0 = λ w. StandsAhead (say.of_index_names w.0.names w.0.implied) ts w.1 in
-    elim (begins (a_word (codes "IMPLIED") ∷ []) ts) as (λ b. (if b then option_map put_implied (implied_name.read ts) else option_and_then (read_next n)
-    (lower.read ts)) ≡ Some (x, rest) → StandsAhead (say.of_index_names x.names x.implied) ts rest) [
-      | true ↦ λ k.
-          let r = map-inv put_implied (implied_name.read ts) (x, rest) k in
-          subst P r.2 (implied_name-law.takes ts r.0.1 r.0.0 r.1)
-      | false ↦ λ k.
-          let r = then-inv (read_next n) (lower.read ts) (x, rest) k in
+    elim (if-inv (begins (a_word (codes "IMPLIED") ∷ []) ts) (option_map put_implied (implied_name.read ts)) (option_and_then (read_next n)
+    (lower.read ts)) (Some (x, rest)) h) [
+      | inl k ↦ let r = map-inv put_implied (implied_name.read ts) (x, rest) k.1 in subst P r.2 (implied_name-law.takes ts r.0.1 r.0.0 r.1)
+      | inr k ↦
+          let r = then-inv (read_next n) (lower.read ts) (x, rest) k.1 in
           let y = r.0.0 in
           let mid = r.0.1 in
-          let first = stands-lower ts mid y r.1 in
+          let first = lower-law.takes ts mid y r.1 in
           let after = option_and_then (read_after n) ((token K.Comma).read mid) in
-          elim (begins (a_kind K.Comma ∷ []) mid) as (λ b. (if b then with_names (y ∷ []) after else Some (index_parts (y ∷ []) false, mid)) ≡ Some (x, rest)
-          → StandsAhead (say.of_index_names x.names x.implied) ts rest) [
-            | true ↦ λ e.
-                let s = map-inv (put_name y) after (x, rest) (sym (with_names-one y after) ∙ e) in
+          elim (if-inv (begins (a_kind K.Comma ∷ []) mid) (with_names (y ∷ []) after) (Some (index_parts (y ∷ []) false, mid)) (Some (x, rest)) r.2) [
+            | inl e ↦
+                let s = map-inv (put_name y) after (x, rest) (sym (with_names-one y after) ∙ e.1) in
                 let q = then-inv (read_after n) ((token K.Comma).read mid) s.0 s.1 in
-                subst P s.2 (joined y s.0.0.names s.0.0.implied ts mid q.0.1 s.0.1 first (stands-comma mid q.0.1 q.0.0 q.1)
+                subst P s.2 (joined y s.0.0.names s.0.0.implied ts mid q.0.1 s.0.1 first ((token-law K.Comma).takes mid q.0.1 q.0.0 q.1)
                 (index-takes n q.0.1 s.0.1 s.0.0 q.2))
-            | false ↦ λ e. subst P (some-inj {A = IndexParts × List Item} (index_parts (y ∷ []) false, mid) (x, rest) e) first
-          ] r.2
-    ] h
+            | inr e ↦ subst P (some-inj {A = IndexParts × List Item} (index_parts (y ∷ []) false, mid) (x, rest) e.1) first
+          ]
+    ]
 
 -- a name in lower case is no IMPLIED
 lower-no-word : (x : Name) (w : List ℕ) (ts rest : List Item) (ms : List Mark) → StandsAhead (spelled K.Lower x.octets true ∷ ms) ts rest
@@ -117,31 +91,26 @@ unfolding behind shaped pair word text lower
 implied-begins ts rest x h = starts-with implied_name-law refl x ts rest h
 
 index-again : (xs : List Name) (implied : Bool) (n : ℕ) (ts rest : List Item) → length ts ≤ n → StandsAhead (say.of_index_names xs implied) ts rest
-    → begins (a_kind K.Comma ∷ []) rest ≡ false → read_index n ts ≡ Some (index_parts xs implied, rest)
-unfolding read_index behind shaped pair word text lower
+    → begins (a_kind K.Comma ∷ []) rest ≡ false → read_index (suc n) ts ≡ Some (index_parts xs implied, rest)
+unfolding read_index behind shaped pair word text lower token
 index-again [] implied n ts rest k h s = absurd (never-stands ts rest h)
-index-again (x ∷ []) implied zero [] rest k h s = absurd (elim implied as (λ b. StandsAhead (say.of_index_names (x ∷ []) b) [] rest
-    → ⊥) [ true ↦ λ u. u | false ↦ λ u. u ] h)
-index-again (x ∷ []) implied zero (t ∷ ts) rest k h s = absurd (omega arith)
-index-again (x ∷ []) true (suc n) ts rest k h s =
-    rw ((implied-begins ts rest x h), (implied_name-law.again x ts rest h (begins-none rest))) refl
-index-again (x ∷ []) false (suc n) ts rest k h s =
-    rw (lower-no-word x (codes "IMPLIED") ts rest [] h, read-lower ts rest x h, s) refl
-index-again (x ∷ (y ∷ ys)) implied zero [] rest k h s = absurd h
-index-again (x ∷ (y ∷ ys)) implied zero (t ∷ ts) rest k h s = absurd (omega arith)
-index-again (x ∷ (y ∷ ys)) implied (suc n) [] rest k h s = absurd h
-index-again (x ∷ (y ∷ ys)) implied (suc n) (Err f ∷ ts) rest k h s = absurd h
+index-again (x ∷ []) true n ts rest k h s = rw ((implied-begins ts rest x h), (implied_name-law.again x ts rest h (begins-none rest))) refl
+index-again (x ∷ []) false n ts rest k h s =
+    rw (lower-no-word x (codes "IMPLIED") ts rest [] h, lower-law.again x ts rest h (begins-none rest), s) refl
+index-again (x ∷ (y ∷ ys)) implied n [] rest k h s = absurd h
+index-again (x ∷ (y ∷ ys)) implied n (Err f ∷ ts) rest k h s = absurd h
+index-again (x ∷ (y ∷ ys)) implied zero (Ok t ∷ ts) rest k h s = absurd (omega arith)
 index-again (x ∷ (y ∷ ys)) implied (suc n) (Ok t ∷ ts) rest k h s =
     let others = StandsAhead-split (sign K.Comma ∷ []) (say.of_index_names (y ∷ ys) implied) ts rest h.1 in
-    let first : lower.read (Ok t ∷ ts) ≡ Some (x, ts) = read-lower (Ok t ∷ ts) ts x (h.0, refl) in
+    let first : lower.read (Ok t ∷ ts) ≡ Some (x, ts) = lower-law.again x (Ok t ∷ ts) ts (h.0, refl) (begins-none ts) in
     let less : length others.0 ≤ n = omega (arith, StandsAhead-length (sign K.Comma ∷ []) ts others.0 others.1) in
     let next = index-again (y ∷ ys) implied n others.0 rest less others.2 s in
     rw (
       lower-no-word x (codes "IMPLIED") (Ok t ∷ ts) rest (sign K.Comma ∷ say.of_index_names
           (y ∷ ys) implied) h,
       first,
-      comma-begins ts others.0 others.1,
-      read-comma ts others.0 others.1,
+      starts-with (token-law K.Comma) refl tt ts others.0 others.1,
+      (token-law K.Comma).again tt ts others.0 others.1 (begins-none others.0),
       next,
       with_names-one,
     ) refl
@@ -151,21 +120,21 @@ lower-begins : (x : Name) (ms : List Mark) (ts rest : List Item) → StandsAhead
 unfolding begins
 lower-begins x ms [] rest h = absurd h
 lower-begins x ms (Err f ∷ ts) rest h = absurd h
-lower-begins x ms (Ok t ∷ ts) rest h = or-right (meets t (a_word (codes "IMPLIED"))) _ (rw h.0.0 refl)
+lower-begins x ms (Ok t ∷ ts) rest h = or_right (meets t (a_word (codes "IMPLIED"))) _ (rw h.0.0 refl)
 
 index-starts : (xs : List Name) (implied : Bool) (ts rest : List Item) → StandsAhead (say.of_index_names xs implied) ts rest
     → begins (a_word (codes "IMPLIED") ∷ a_kind K.Lower ∷ []) ts ≡ true
 index-starts [] implied ts rest h = absurd (never-stands ts rest h)
 index-starts (x ∷ []) true ts rest h =
     begins-append (a_word (codes "IMPLIED") ∷ []) (a_kind K.Lower ∷ []) ts
-    ∙ or-left (begins (a_word (codes "IMPLIED") ∷ []) ts) (begins (a_kind K.Lower ∷ []) ts) (implied-begins ts rest x h)
+    ∙ or_left (begins (a_word (codes "IMPLIED") ∷ []) ts) (begins (a_kind K.Lower ∷ []) ts) (implied-begins ts rest x h)
 index-starts (x ∷ []) false ts rest h = lower-begins x [] ts rest h
 index-starts (x ∷ (y ∷ ys)) implied ts rest h = lower-begins x (sign K.Comma ∷ say.of_index_names (y ∷ ys) implied) ts rest h
 
 pub index_names-law : Lawful (λ (p : IndexParts). say.of_index_names p.names p.implied) index_names
 unfolding index_names
 index_names-law = record {
-  takes = λ ts rest x h. index-takes (length ts) ts rest x h;
+  takes = λ ts rest x h. index-takes (suc (length ts)) ts rest x h;
   again = λ x ts rest h s. index-again x.names x.implied (length ts) ts rest (omega arith) h s;
   starts = λ x ts rest h. inl (index-starts x.names x.implied ts rest h);
 }

@@ -1,7 +1,8 @@
 -- Each way of making a format keeps it lawful.
 use Rattle.std.proofs.Common.{◌≡◌, ℕ, zero, suc, ◌<◌, Bool, true, false, ◌&&◌, not, List, [], ◌∷◌}
-use Rattle.std.proofs.Common.{◌++◌, length, Option, Some, None, Ok, Err, if◌then◌else◌}
-use Rattle.std.proofs.Common.{refl, sym, ◌∙◌, ap, subst, arith, inl, inr, ◌⊎◌}
+use Rattle.std.proofs.Common.{◌++◌, length, Option, Some, None, Ok, Err, if◌then◌else◌, refl, sym}
+use Rattle.std.proofs.Common.{◌∙◌, ap, subst, arith, inl, inr, ◌⊎◌}
+use Rattle.std.proofs.lemmas.Bool.{and_parts, and_from, or_left, or_right, or_parts}
 use Rattle.std.specs.Prelude.{option_map, option_and_then}
 use Rattle.std.specs.List.{list_any, flat_map}
 use Rattle.smi_text.specs.declared.lexer.token.TokenKind.{TokenKind}
@@ -11,20 +12,18 @@ use Rattle.smi_text.specs.trees.Mark.{Mark, sign, sign_text, spelled, same_kind,
 use Rattle.smi_text.specs.trees.Mark.{MarksToken}
 use Rattle.smi_text.specs.Format.{StandsAhead}
 use Rattle.smi_text.specs.trees.Reserved.{is_reserved}
-use Rattle.smi_text.specs.Format.{Format, Parsed, Ahead, a_word, a_name, a_kind, exact}
-use Rattle.smi_text.specs.Format.{meets, begins, apart, one, read_one, word, token}
-use Rattle.smi_text.specs.Format.{text, text_where, name, pair, behind, before, maybe}
-use Rattle.smi_text.specs.Format.{either, read_many, many}
-use Rattle.smi_text.specs.Format.{some_of, shaped, line_ahead, lined, with_front, lower, name_where}
-use Rattle.smi_text.specs.Format.{name_of}
+use Rattle.smi_text.specs.Format.{Format, Parsed, Ahead, a_word, a_name, a_kind, exact, meets}
+use Rattle.smi_text.specs.Format.{begins, apart, one, read_one, word, token, text, text_where}
+use Rattle.smi_text.specs.Format.{name, pair, behind, before, maybe, either, read_many, many}
+use Rattle.smi_text.specs.Format.{some_of, shaped, line_ahead, lined, with_front, lower}
+use Rattle.smi_text.specs.Format.{name_where, name_of}
 use Rattle.smi_text.specs.trees.Spelling.{put_line, of_option, of_some, nothing}
 use Rattle.smi_text.specs.declared.trees.names.Name.{Name}
 use Rattle.smi_text.proofs.Lawful.{Lawful}
 use Rattle.smi_text.proofs.NameLaws.{name_of-octets, name_of-is}
 pub use Rattle.smi_text.proofs.NameLaws.{some-inj}
-use Rattle.smi_text.proofs.Marks.{and-left, and-right, and-both, or-left, or-right, or-false}
 use Rattle.smi_text.proofs.Marks.{same_kind-eq, same_kind-same, same_text-eq, same_text-same}
-use Rattle.smi_text.proofs.Marks.{StandsAhead-append, StandsAhead-split, map-inv, then-inv}
+use Rattle.smi_text.proofs.Marks.{if-inv, StandsAhead-append, StandsAhead-split, map-inv, then-inv}
 use Rattle.smi_text.proofs.Marks.{begins-append, apart-false}
 use Rattle.smi_text.proofs.Many.{shorter, many-goes_on, many-done}
 
@@ -56,79 +55,61 @@ starts-with law solid x ts rest h =
     elim (law.starts x ts rest h) [ inl b ↦ b | inr p ↦ absurd (let e = p.0 in cc) ]
 
 begins-left : (cs ds : List Ahead) (ts : List Item) → begins cs ts ≡ true → begins (cs ++ ds) ts ≡ true
-begins-left cs ds ts h = begins-append cs ds ts ∙ or-left (begins cs ts) (begins ds ts) h
+begins-left cs ds ts h = begins-append cs ds ts ∙ or_left (begins cs ts) (begins ds ts) h
 
 begins-right : (cs ds : List Ahead) (ts : List Item) → begins ds ts ≡ true → begins (cs ++ ds) ts ≡ true
-begins-right cs ds ts h = begins-append cs ds ts ∙ or-right (begins cs ts) (begins ds ts) h
+begins-right cs ds ts h = begins-append cs ds ts ∙ or_right (begins cs ts) (begins ds ts) h
 
 neither : (cs ds : List Ahead) (ts : List Item) → begins (cs ++ ds) ts ≡ false → (begins cs ts ≡ false) × (begins ds ts ≡ false)
-neither cs ds ts h = or-false (begins cs ts) (begins ds ts) (sym (begins-append cs ds ts) ∙ h)
+neither cs ds ts h = or_parts (begins cs ts) (begins ds ts) (sym (begins-append cs ds ts) ∙ h)
 
 -- one token
 
--- what a format of one token owes
-pub record IsOne {A : Type 0} (cs : List Ahead) (mark : A → Mark) (pick : Lexeme → Option A) : Type 0 where
-  pub fits : (t : Lexeme) (x : A) → pick t ≡ Some x → MarksToken (mark x) t
-  pub picks : (t : Lexeme) (x : A) → MarksToken (mark x) t → pick t ≡ Some x
-  pub ahead : (t : Lexeme) (x : A) → MarksToken (mark x) t → list_any (meets t) cs ≡ true
+if-then : {A : Type 0} (b : Bool) (r : Option A) (y : A) → (if b then r else None) ≡ Some y → (b ≡ true) × (r ≡ Some y)
+if-then true r y h = (refl, h)
+if-then false r y h = absurd (cc)
 
-one-takes : {A : Type 0} (cs : List Ahead) (mark : A → Mark) (pick : Lexeme → Option A) → IsOne cs mark pick → (ts rest : List Item) (x : A)
-    → (one cs pick).read ts ≡ Some (x, rest) → StandsAhead (mark x ∷ []) ts rest
-one-takes cs mark pick is [] rest x h = absurd (cc)
-one-takes cs mark pick is (Err f ∷ ts) rest x h = absurd (cc)
-one-takes {A} cs mark pick is (Ok t ∷ ts) rest x h =
-    let r = map-inv (λ (y : A). (y, ts)) (pick t) (x, rest) h in
-    let P : A × List Item → Type 0 = λ w. MarksToken (mark w.0) t × (ts ≡ w.1) in
-    subst P r.2 (is.fits t r.0 r.1, refl)
+-- a token that passes a test, and what is taken from it
+module _ {A : Type 0} (cs : List Ahead) (mark : A → Mark) (test : Lexeme → Bool) (pick : Lexeme → Option A)
+    (fits : (t : Lexeme) (x : A) → test t ≡ true → pick t ≡ Some x → MarksToken (mark x) t)
+    (found : (t : Lexeme) (x : A) → MarksToken (mark x) t → (test t ≡ true) × (pick t ≡ Some x))
+    (ahead : (t : Lexeme) → test t ≡ true → list_any (meets t) cs ≡ true) where
+  one-takes : (ts rest : List Item) (x : A) → read_one (λ t. if test t then pick t else None) ts ≡ Some (x, rest) → StandsAhead (mark x ∷ []) ts rest
+  one-takes [] rest x h = absurd (cc)
+  one-takes (Err f ∷ ts) rest x h = absurd (cc)
+  one-takes (Ok t ∷ ts) rest x h =
+      let r = map-inv (λ (y : A). (y, ts)) (if test t then pick t else None) (x, rest) h in
+      let p = if-then (test t) (pick t) r.0 r.1 in
+      let P : A × List Item → Type 0 = λ w. MarksToken (mark w.0) t × (ts ≡ w.1) in
+      subst P r.2 (fits t r.0 p.0 p.1, refl)
 
-one-again : {A : Type 0} (cs : List Ahead) (mark : A → Mark) (pick : Lexeme → Option A) → IsOne cs mark pick → (x : A) (ts rest : List Item)
-    → StandsAhead (mark x ∷ []) ts rest → read_one pick ts ≡ Some (x, rest)
-one-again cs mark pick is x [] rest h = absurd h
-one-again cs mark pick is x (Err f ∷ ts) rest h = absurd h
-one-again {A} cs mark pick is x (Ok t ∷ ts) rest h = rw (is.picks t x h.0) (ap (λ (us : List Item). Some (x, us)) h.1)
+  one-again : (x : A) (ts rest : List Item) → StandsAhead (mark x ∷ []) ts rest → read_one (λ t. if test t then pick t else None) ts ≡ Some (x, rest)
+  one-again x [] rest h = absurd h
+  one-again x (Err f ∷ ts) rest h = absurd h
+  one-again x (Ok t ∷ ts) rest h = let p = found t x h.0 in rw (p.0, p.1) (ap (λ (us : List Item). Some (x, us)) h.1)
 
-one-starts : {A : Type 0} (cs : List Ahead) (mark : A → Mark) (pick : Lexeme → Option A) → IsOne cs mark pick → (x : A) (ts rest : List Item)
-    → StandsAhead (mark x ∷ []) ts rest → begins cs ts ≡ true
-unfolding begins
-one-starts cs mark pick is x [] rest h = absurd h
-one-starts cs mark pick is x (Err f ∷ ts) rest h = absurd h
-one-starts cs mark pick is x (Ok t ∷ ts) rest h = is.ahead t x h.0
+  one-starts : (x : A) (ts rest : List Item) → StandsAhead (mark x ∷ []) ts rest → begins cs ts ≡ true
+  unfolding begins
+  one-starts x [] rest h = absurd h
+  one-starts x (Err f ∷ ts) rest h = absurd h
+  one-starts x (Ok t ∷ ts) rest h = ahead t (found t x h.0).0
 
-pub one-law : {A : Type 0} (cs : List Ahead) (mark : A → Mark) (pick : Lexeme → Option A) → IsOne cs mark pick → Lawful (λ x. mark x ∷ []) (one cs pick)
-one-law cs mark pick is = record {
-  takes = one-takes cs mark pick is;
-  again = λ x ts rest h s. one-again cs mark pick is x ts rest h;
-  starts = λ x ts rest h. inl (one-starts cs mark pick is x ts rest h);
-}
-
--- a test that picks
-pub if-some : {A : Type 0} (b : Bool) (x y : A) → (if b then Some x else None) ≡ Some y → (b ≡ true) × (x ≡ y)
-if-some true x y h = (refl, cc)
-if-some false x y h = absurd (cc)
-
-pub if-true : {A : Type 0} (b : Bool) (x y : A) → b ≡ true → (if b then x else y) ≡ x
-if-true b x y h = rw h refl
+  pub one-law : Lawful (λ x. mark x ∷ []) (one cs (λ t. if test t then pick t else None))
+  one-law = record {
+    takes = one-takes;
+    again = λ x ts rest h k. one-again x ts rest h;
+    starts = λ x ts rest h. inl (one-starts x ts rest h);
+  }
 
 pub any-one : (t : Lexeme) (c : Ahead) → meets t c ≡ true → list_any (meets t) (c ∷ []) ≡ true
-any-one t c h = or-left (meets t c) false h
+any-one t c h = or_left (meets t c) false h
 
-module _ (c : Ahead) (k : TokenKind) (x : List ℕ) where
-  exact-found : (t : Lexeme) → MarksToken (spelled k x true) t → (same_kind t.kind k && same_text t.text x) ≡ true
-  exact-found t h = and-both (same_kind t.kind k) (same_text t.text x) (rw h.0 (same_kind-same k)) (rw h.1 (same_text-same x))
-
-  exact-law : ((t : Lexeme) → (same_kind t.kind k && same_text t.text x) ≡ true → meets t c ≡ true)
-      → Lawful (λ (_ : Unit {0}). spelled k x true ∷ []) (exact c k x)
-  exact-law ahead = one-law (c ∷ []) (λ _. spelled k x true) (λ t. if same_kind t.kind k && same_text t.text x then Some tt else None) (record {
-    fits = λ t u h.
-        let b = (if-some {A = Unit {0}} (same_kind t.kind k && same_text t.text x) tt u h).0 in (
-          same_kind-eq t.kind k (and-left (same_kind t.kind k) (same_text t.text x) b),
-          same_text-eq t.text x (and-right (same_kind t.kind k)
-              (same_text t.text x) b),
-          refl,
-        );
-    picks = λ t u h. if-true (same_kind t.kind k && same_text t.text x) (Some tt) None (exact-found t h);
-    ahead = λ t u h. any-one t c (ahead t (exact-found t h));
-  })
+exact-law : (c : Ahead) (k : TokenKind) (x : List ℕ) → ((t : Lexeme) → (same_kind t.kind k && same_text t.text x) ≡ true → meets t c ≡ true)
+    → Lawful (λ (_ : Unit {0}). spelled k x true ∷ []) (exact c k x)
+exact-law c k x ahead = one-law (c ∷ []) (λ _. spelled k x true) (λ t. same_kind t.kind k && same_text t.text x) (λ _. Some tt)
+    (λ t u b e. let p = and_parts (same_kind t.kind k) (same_text t.text x) b in (same_kind-eq t.kind k p.0, same_text-eq t.text x p.1, refl))
+    (λ t u h. (and_from (same_kind t.kind k) (same_text t.text x) (rw h.0 (same_kind-same k)) (rw h.1 (same_text-same x)), refl))
+    (λ t b. any-one t c (ahead t b))
 
 pub word-law : (w : List ℕ) → Lawful (λ (_ : Unit {0}). spelled Upper w true ∷ []) (word w)
 unfolding word
@@ -136,46 +117,34 @@ word-law w = exact-law (a_word w) Upper w (λ t h. h)
 
 pub token-law : (k : TokenKind) → Lawful (λ (_ : Unit {0}). sign k ∷ []) (token k)
 unfolding token
-token-law k = exact-law (a_kind k) k (sign_text k) (λ t h. and-left (same_kind t.kind k) (same_text t.text (sign_text k)) h)
+token-law k = exact-law (a_kind k) k (sign_text k) (λ t h. (and_parts (same_kind t.kind k) (same_text t.text (sign_text k)) h).0)
 
 pub text-law : (k : TokenKind) → Lawful (λ x. spelled k x true ∷ []) (text k)
 unfolding text
-text-law k = one-law (a_kind k ∷ []) (λ x. spelled k x true) (λ t. if same_kind t.kind k then Some t.text else None) (record {
-  fits = λ t x h. let p = if-some (same_kind t.kind k) t.text x h in (same_kind-eq t.kind k p.0, p.1, refl);
-  picks = λ t x h. if-true (same_kind t.kind k) (Some t.text) None (rw h.0 (same_kind-same k)) ∙ ap (λ (y : List ℕ). Some y) h.1;
-  ahead = λ t x h. any-one t (a_kind k) (rw h.0 (same_kind-same k));
-})
+text-law k = one-law (a_kind k ∷ []) (λ x. spelled k x true) (λ t. same_kind t.kind k) (λ t. Some t.text)
+    (λ t x b e. (same_kind-eq t.kind k b, some-inj t.text x e, refl))
+    (λ t x h. (rw h.0 (same_kind-same k), ap (λ (y : List ℕ). Some y) h.1))
+    (λ t b. any-one t (a_kind k) b)
 
 pub text_where-law : (k : TokenKind) (ok : List ℕ → Bool) → Lawful (λ x. spelled k x (ok x) ∷ []) (text_where k ok)
 unfolding text_where
-text_where-law k ok = one-law (a_kind k ∷ []) (λ x. spelled k x (ok x)) (λ t. if same_kind t.kind k && ok t.text then Some t.text else None) (record {
-  fits = λ t x h.
-      let p = if-some (same_kind t.kind k && ok t.text) t.text x h in
-      (same_kind-eq t.kind k (and-left (same_kind t.kind k) (ok t.text) p.0), p.1, ap ok (sym p.1) ∙ and-right (same_kind t.kind k) (ok t.text) p.0);
-  picks = λ t x h.
-      if-true (same_kind t.kind k && ok t.text) (Some t.text) None (and-both (same_kind t.kind k) (ok t.text) (rw h.0 (same_kind-same k)) (ap ok h.1 ∙ h.2))
-      ∙ ap (λ (y : List ℕ). Some y) h.1;
-  ahead = λ t x h. any-one t (a_kind k) (rw h.0 (same_kind-same k));
-})
-
-if-then : {A : Type 0} (b : Bool) (r : Option A) (y : A) → (if b then r else None) ≡ Some y → (b ≡ true) × (r ≡ Some y)
-if-then true r y h = (refl, h)
-if-then false r y h = absurd (cc)
+text_where-law k ok = one-law (a_kind k ∷ []) (λ x. spelled k x (ok x)) (λ t. same_kind t.kind k && ok t.text) (λ t. Some t.text)
+    (λ t x b e.
+    let p = and_parts (same_kind t.kind k) (ok t.text) b in
+    let same : t.text ≡ x = some-inj t.text x e in
+    (same_kind-eq t.kind k p.0, same, ap ok (sym same) ∙ p.1))
+    (λ t x h. (and_from (same_kind t.kind k) (ok t.text) (rw h.0 (same_kind-same k)) (ap ok h.1 ∙ h.2), ap (λ (y : List ℕ). Some y) h.1))
+    (λ t b. any-one t (a_kind k) (and_parts (same_kind t.kind k) (ok t.text) b).0)
 
 pub name_where-law : (cs : List Ahead) (k : TokenKind) (ok : List ℕ → Bool) → ((t : Lexeme) → same_kind t.kind k ≡ true → ok t.text ≡ true
     → list_any (meets t) cs ≡ true) → Lawful (λ (x : Name). spelled k x.octets (ok x.octets) ∷ []) (name_where cs k ok)
-name_where-law cs k ok ahead = one-law cs (λ (x : Name). spelled k x.octets (ok x.octets))
-    (λ t. if same_kind t.kind k && ok t.text then name_of t.text else None) (record {
-      fits = λ t x h.
-          let p = if-then (same_kind t.kind k && ok t.text) (name_of t.text) x h in
-          let e : x.octets ≡ t.text = name_of-is t.text x p.1 in
-          (same_kind-eq t.kind k (and-left (same_kind t.kind k) (ok t.text) p.0), sym e, ap ok e ∙ and-right (same_kind t.kind k) (ok t.text) p.0);
-      picks = λ t x h.
-          if-true (same_kind t.kind k && ok t.text) (name_of t.text) None
-          (and-both (same_kind t.kind k) (ok t.text) (rw h.0 (same_kind-same k)) (ap ok h.1 ∙ h.2))
-          ∙ ap name_of h.1 ∙ name_of-octets x;
-      ahead = λ t x h. ahead t (rw h.0 (same_kind-same k)) (ap ok h.1 ∙ h.2);
-    })
+name_where-law cs k ok ahead = one-law cs (λ (x : Name). spelled k x.octets (ok x.octets)) (λ t. same_kind t.kind k && ok t.text) (λ t. name_of t.text)
+    (λ t x b e.
+    let p = and_parts (same_kind t.kind k) (ok t.text) b in
+    let same : x.octets ≡ t.text = name_of-is t.text x e in
+    (same_kind-eq t.kind k p.0, sym same, ap ok same ∙ p.1))
+    (λ t x h. (and_from (same_kind t.kind k) (ok t.text) (rw h.0 (same_kind-same k)) (ap ok h.1 ∙ h.2), ap name_of h.1 ∙ name_of-octets x))
+    (λ t b. let p = and_parts (same_kind t.kind k) (ok t.text) b in ahead t p.0 p.1)
 
 pub lower-law : Lawful (λ (x : Name). spelled Lower x.octets true ∷ []) lower
 unfolding lower
@@ -185,7 +154,7 @@ pub name-law : Lawful (λ (x : Name). spelled Upper x.octets (not (is_reserved x
 unfolding name
 name-law =
     name_where-law (a_name ∷ []) Upper (λ x. not (is_reserved x))
-    (λ t k ok. any-one t a_name (and-both (same_kind t.kind Upper) (not (is_reserved t.text)) k ok))
+    (λ t k ok. any-one t a_name (and_from (same_kind t.kind Upper) (not (is_reserved t.text)) k ok))
 
 -- several parts
 
@@ -242,7 +211,7 @@ module _ {A B : Type 0} {s : A → List Mark} {t : B → List Mark} {f : Format 
         | inl b ↦ inl (first-of-two ts b)
         | inr p ↦ elim (g-law.starts x.1 r.0 rest r.2) [
           | inl b ↦ inl (second-of-two ts p.0 (ap (begins g.first) p.1 ∙ b))
-          | inr q ↦ inr (and-both f.empty g.empty p.0 q.0, p.1 ∙ q.1)
+          | inr q ↦ inr (and_from f.empty g.empty p.0 q.0, p.1 ∙ q.1)
         ]
       ]
 
@@ -252,17 +221,11 @@ module _ {A B : Type 0} {s : A → List Mark} {t : B → List Mark} {f : Format 
 module _ {A : Type 0} {s : A → List Mark} {f : Format A} (law : Lawful s f) (solid : f.empty ≡ false) where
   maybe-takes : (ts rest : List Item) (x : Option A) → (maybe f).read ts ≡ Some (x, rest) → StandsAhead (of_option s x) ts rest
   unfolding maybe
-  maybe-takes ts rest x =
-      elim (begins f.first ts) as (λ b. (if b then option_map put_some (f.read ts) else Some (None, ts)) ≡ Some (x, rest)
-      → StandsAhead (of_option s x) ts rest) [
-        | true ↦ λ h.
-            let r = map-inv put_some (f.read ts) (x, rest) h in
-            let P : Option A × List Item → Type 0 = λ w. StandsAhead (of_option s w.0) ts w.1 in
-            subst P r.2 (law.takes ts r.0.1 r.0.0 r.1)
-        | false ↦ λ h.
-            let e = some-inj {A = Option A × List Item} (None, ts) (x, rest) h in
-            let P : Option A × List Item → Type 0 = λ w. StandsAhead (of_option s w.0) ts w.1 in
-            subst P e refl
+  maybe-takes ts rest x h =
+      let P : Option A × List Item → Type 0 = λ w. StandsAhead (of_option s w.0) ts w.1 in
+      elim (if-inv (begins f.first ts) (option_map put_some (f.read ts)) (Some (None, ts)) (Some (x, rest)) h) [
+        | inl p ↦ let r = map-inv put_some (f.read ts) (x, rest) p.1 in subst P r.2 (law.takes ts r.0.1 r.0.0 r.1)
+        | inr p ↦ subst P (some-inj {A = Option A × List Item} (None, ts) (x, rest) p.1) refl
       ]
 
   maybe-again : (x : Option A) (ts rest : List Item) → StandsAhead (of_option s x) ts rest → begins (maybe f).stop rest ≡ false
@@ -289,16 +252,11 @@ module _ {A B : Type 0} {s : A → List Mark} {t : B → List Mark} {f : Format 
     (f-solid : f.empty ≡ false) (g-solid : g.empty ≡ false) (far : apart f.first g.first ≡ true) where
   either-takes : (ts rest : List Item) (x : A ⊎ B) → (either f g).read ts ≡ Some (x, rest) → StandsAhead (of_either s t x) ts rest
   unfolding either
-  either-takes ts rest x =
+  either-takes ts rest x h =
       let P : (A ⊎ B) × List Item → Type 0 = λ w. StandsAhead (of_either s t w.0) ts w.1 in
-      elim (begins f.first ts) as (λ b. (if b then option_map (put_left {B = B}) (f.read ts) else option_map (put_right {A = A}) (g.read ts)) ≡ Some
-      (x, rest) → StandsAhead (of_either s t x) ts rest) [
-        | true ↦ λ h.
-            let r = map-inv (put_left {B = B}) (f.read ts) (x, rest) h in
-            subst P r.2 (f-law.takes ts r.0.1 r.0.0 r.1)
-        | false ↦ λ h.
-            let r = map-inv (put_right {A = A}) (g.read ts) (x, rest) h in
-            subst P r.2 (g-law.takes ts r.0.1 r.0.0 r.1)
+      elim (if-inv (begins f.first ts) (option_map (put_left {B = B}) (f.read ts)) (option_map (put_right {A = A}) (g.read ts)) (Some (x, rest)) h) [
+        | inl p ↦ let r = map-inv (put_left {B = B}) (f.read ts) (x, rest) p.1 in subst P r.2 (f-law.takes ts r.0.1 r.0.0 r.1)
+        | inr p ↦ let r = map-inv (put_right {A = A}) (g.read ts) (x, rest) p.1 in subst P r.2 (g-law.takes ts r.0.1 r.0.0 r.1)
       ]
 
   either-again : (x : A ⊎ B) (ts rest : List Item) → StandsAhead (of_either s t x) ts rest → begins (either f g).stop rest ≡ false
@@ -325,22 +283,18 @@ front-of-one y ys us = refl
 module _ {A : Type 0} {s : A → List Mark} {f : Format A} (law : Lawful s f) (solid : f.empty ≡ false) (far : apart f.stop f.first ≡ true) where
   many-takes-from : (n : ℕ) (ts rest : List Item) (xs : List A) → read_many f n ts ≡ Some (xs, rest) → StandsAhead (flat_map s xs) ts rest
   unfolding read_many
-  many-takes-from zero ts rest xs = λ h.
-      let e = some-inj {A = List A × List Item} ([], ts) (xs, rest) h in
+  many-takes-from zero ts rest xs h =
       let P : List A × List Item → Type 0 = λ w. StandsAhead (flat_map s w.0) ts w.1 in
-      subst P e refl
-  many-takes-from (suc n) ts rest xs =
+      subst P (some-inj {A = List A × List Item} ([], ts) (xs, rest) h) refl
+  many-takes-from (suc n) ts rest xs h =
       let P : List A × List Item → Type 0 = λ w. StandsAhead (flat_map s w.0) ts w.1 in
-      elim (begins f.first ts) as (λ b. (if b then option_and_then (then_many f n) (f.read ts) else Some ([], ts)) ≡ Some (xs, rest)
-      → StandsAhead (flat_map s xs) ts rest) [
-        | true ↦ λ h.
-            let r = then-inv (then_many f n) (f.read ts) (xs, rest) h in
+      elim (if-inv (begins f.first ts) (option_and_then (then_many f n) (f.read ts)) (Some ([], ts)) (Some (xs, rest)) h) [
+        | inl p ↦
+            let r = then-inv (then_many f n) (f.read ts) (xs, rest) p.1 in
             let q = map-inv (put_first r.0.0) (read_many f n r.0.1) (xs, rest) r.2 in
             subst P q.2 (StandsAhead-append (s r.0.0) (flat_map s q.0.0) ts r.0.1 q.0.1 (law.takes ts r.0.1 r.0.0 r.1)
             (many-takes-from n r.0.1 q.0.1 q.0.0 q.1))
-        | false ↦ λ h.
-            let e = some-inj {A = List A × List Item} ([], ts) (xs, rest) h in
-            subst P e refl
+        | inr p ↦ subst P (some-inj {A = List A × List Item} ([], ts) (xs, rest) p.1) refl
       ]
 
   many-starts : (xs : List A) (ts rest : List Item) → StandsAhead (flat_map s xs) ts rest → (begins f.first ts ≡ true) ⊎ (ts ≡ rest)
@@ -365,7 +319,7 @@ module _ {A : Type 0} {s : A → List Mark} {f : Format A} (law : Lawful s f) (s
   pub many-law : Lawful (flat_map s) (many f)
   unfolding many
   many-law = record {
-    takes = λ ts rest xs h. many-takes-from (length ts) ts rest xs h;
+    takes = λ ts rest xs h. many-takes-from (suc (length ts)) ts rest xs h;
     again = λ xs ts rest h k. many-again xs ts rest h (neither f.first f.stop rest k);
     starts = λ xs ts rest h. elim (many-starts xs ts rest h) [ inl b ↦ inl b | inr e ↦ inr (refl, e) ];
   }

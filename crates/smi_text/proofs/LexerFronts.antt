@@ -1,14 +1,10 @@
 -- Steps and ends of a scan for the longest front that passes a test.
-use Rattle.std.proofs.Common.{◌≡◌, ℕ, zero, suc, ◌+◌, ◌-◌, ◌<◌, ◌≤◌, Bool, true, false, ◌&&◌, List}
-use Rattle.std.proofs.Common.{[], ◌∷◌, length, get_or, take, drop, refl, sym, ap, ◌∙◌}
-use Rattle.std.proofs.Common.{arith, length-drop, drop-cons, add-one, add-zero, zero-add, suc-add}
-use Rattle.std.proofs.lemmas.Bool.{false≢true}
+use Rattle.std.proofs.Common.{◌≡◌, ℕ, zero, suc, ◌+◌, ◌-◌, ◌<◌, ◌≤◌, Bool, true, false, List}
+use Rattle.std.proofs.Common.{[], ◌∷◌, length, get_or, take, drop, sym, ap, ◌∙◌, arith}
+use Rattle.std.proofs.Common.{length-drop, drop-cons, add-one, add-zero, zero-add, suc-add}
+use Rattle.std.proofs.lemmas.Bool.{and_parts}
 use Rattle.std.specs.List.{list_all}
 use Rattle.smi_text.specs.lexer.Reading.{GoesOn, IsLongestPassing}
-
-pub and_true : (a b : Bool) → (a && b) ≡ true → (a ≡ true) × (b ≡ true)
-and_true true b h = (refl, h)
-and_true false b h = absurd (false≢true h)
 
 -- what stands at a place, and behind it
 pub rest_at : (text : List ℕ) (n : ℕ) → n < length text → drop n text ≡ get_or text n 0 ∷ drop (n + 1) text
@@ -76,5 +72,5 @@ pub goes_on_past : (test : List ℕ → Bool) (p : ℕ → Bool) → ((c : ℕ) 
 goes_on_past test p step zero text within pass k = ap (λ m. test (take m text)) (zero-add k)
 goes_on_past test p step (suc n) [] within pass k = absurd (omega arith)
 goes_on_past test p step (suc n) (c ∷ cs) within pass k =
-    let both = and_true (p c) (list_all p (take n cs)) pass in
+    let both = and_parts (p c) (list_all p (take n cs)) pass in
     ap (λ m. test (take m (c ∷ cs))) (suc-add n k) ∙ step c (take (n + k) cs) both.0 ∙ goes_on_past test p step n cs (omega arith) both.1 k

@@ -1,8 +1,8 @@
 -- The computed items are those that `Lexes` says, and no others are.
 use Rattle.std.proofs.Common.{◌≡◌, ℕ, zero, suc, ◌+◌, ◌-◌, ◌<◌, ◌≤◌, cond, Option, Some, None, Ok}
-use Rattle.std.proofs.Common.{List, [], ◌∷◌, ◌++◌, length, take, drop, refl, sym, ap}
-use Rattle.std.proofs.Common.{◌∙◌, subst, ⊎_elim, arith, length-append, length-take-le}
-use Rattle.std.proofs.Common.{length-drop, append_assoc, slice_range}
+use Rattle.std.proofs.Common.{List, [], ◌∷◌, ◌++◌, length, take, drop, refl, sym, ap, ◌∙◌, subst}
+use Rattle.std.proofs.Common.{⊎_elim, arith, length-append, length-take-le, length-drop}
+use Rattle.std.proofs.Common.{append_assoc, slice_range}
 use Rattle.std.proofs.lemmas.Bool.{cases_lt}
 use Rattle.std.proofs.lemmas.List.{take_all, take-append-drop}
 use Rattle.std.proofs.Math.Seq.{drop-append_seam}

@@ -1,6 +1,7 @@
 -- What the kind of a token says of its text.
 use Rattle.std.proofs.Common.{◌≡◌, ℕ, Bool, true, ◌&&◌, List, ◌∷◌, Some, Result, Ok, Err, refl}
 use Rattle.std.proofs.Common.{sym, ◌∙◌, ap}
+use Rattle.std.proofs.lemmas.Bool.{and_from}
 use Rattle.std.specs.Prelude.{drop, IfOk, IfErr}
 use Rattle.std.proofs.Math.Bool.{Bool-set}
 use Rattle.std.proofs.Math.Logic.{∥∥₁_elim}
@@ -16,7 +17,7 @@ use Rattle.smi_text.specs.declared.stop.Stop.{Stop}
 use Rattle.smi_text.specs.declared.stop.Stop.TheVariants.{Memory}
 use Rattle.smi_text.specs.Returned.{ReturnsReading, is_memory}
 use Rattle.smi_text.specs.Format.{Ahead, name_of, name_where, token}
-use Rattle.smi_text.proofs.Marks.{and-both, same_kind-same, same_text-same}
+use Rattle.smi_text.proofs.Marks.{same_kind-same, same_text-same}
 use Rattle.smi_text.proofs.NameLaws.{name_of-octets}
 
 sign-of : (k : TokenKind) (x : List ℕ) → is_sign_kind k ≡ true → IsLexeme k x → x ≡ sign_text k
@@ -37,7 +38,7 @@ pub sign-read : (k : TokenKind) (t : Lexeme) (ts : List Item) → t.kind ≡ k �
 unfolding token
 sign-read k t ts e s l =
     let text : same_text t.text (sign_text t.kind) ≡ true = sign_is t.kind t.text (rw e s) l in
-    let both : (same_kind t.kind k && same_text t.text (sign_text k)) ≡ true = and-both (same_kind t.kind k) (same_text t.text (sign_text k)) (rw e (same_kind-same k)) (rw (← e) text) in
+    let both : (same_kind t.kind k && same_text t.text (sign_text k)) ≡ true = and_from (same_kind t.kind k) (same_text t.text (sign_text k)) (rw e (same_kind-same k)) (rw (← e) text) in
     rw both refl
 
 -- the octets of a name give it
@@ -49,6 +50,6 @@ pub gives-name : (cs : List Ahead) (k : TokenKind) (ok : List ℕ → Bool) (t :
     → ts ≡ drop 1 now → t.kind ≡ k → ok t.text ≡ true
     → IfOk r (λ x. (name_of t.text ≡ Some x) × (rest ≡ drop 1 now)) → IfErr r (λ e. e ≡ Memory) → ReturnsReading r rest ((name_where cs k ok).read now)
 gives-name cs k ok t ts now rest (Ok x) is tail e o h m =
-    let both : (same_kind t.kind k && ok t.text) ≡ true = and-both (same_kind t.kind k) (ok t.text) (rw e (same_kind-same k)) o in
+    let both : (same_kind t.kind k && ok t.text) ≡ true = and_from (same_kind t.kind k) (ok t.text) (rw e (same_kind-same k)) o in
     ap (name_where cs k ok).read is ∙ rw (both, h.0, tail, ← h.1) refl
 gives-name cs k ok t ts now rest (Err e) is tail f o h m = λ n. absurd (false≢true (sym n ∙ ap is_memory m))

@@ -1,8 +1,9 @@
 -- Trees with one spelling but for lines are the same but for lines: with 0 in the place of each line both stand in the same tokens.
-use Rattle.std.proofs.Common.{◌≡◌, ℕ, Bool, true, false, List, [], ◌∷◌, ◌++◌, Option, Some}
-use Rattle.std.proofs.Common.{None, if◌then◌else◌, refl, sym, ◌∙◌, ap, subst}
+use Rattle.std.proofs.Common.{◌≡◌, ℕ, Bool, true, false, List, [], ◌∷◌, ◌++◌, Option, Some, None}
+use Rattle.std.proofs.Common.{if◌then◌else◌, refl, sym, ◌∙◌, ap, subst}
 use Rattle.std.specs.Prelude.{codes, map, option_map}
 use Rattle.std.specs.List.{flat_map}
+use Rattle.std.proofs.lemmas.List.{map-append}
 use Rattle.smi_text.specs.lexer.Token.{Lexeme, Item}
 use Rattle.smi_text.specs.declared.lexer.token.TokenKind.{TokenKind}
 use Rattle.smi_text.specs.declared.lexer.token.TokenKind.TheVariants as K
@@ -52,10 +53,6 @@ bare-zeroed : (ms : List Mark) → AreBare ms → map zeroed ms ≡ ms
 bare-zeroed [] h = refl
 bare-zeroed (spelled k x ok ∷ ms) h = λ i. spelled k x ok ∷ bare-zeroed ms h i
 bare-zeroed (on_line n m ∷ ms) h = absurd h
-
-zeroed-append : (ms ns : List Mark) → map zeroed (ms ++ ns) ≡ map zeroed ms ++ map zeroed ns
-zeroed-append [] ns = refl
-zeroed-append (m ∷ ms) ns = λ i. zeroed m ∷ zeroed-append ms ns i
 
 both : (ms ns : List Mark) → AreBare ms → AreBare ns → AreBare (ms ++ ns)
 both [] ns h k = k
@@ -203,7 +200,7 @@ label x _ = refl
 lined_lists : {A : Type 0} (f : A → List Mark) (g : A → A) → ((x : A) → map zeroed (f x) ≡ f (g x)) → (xs : List A)
     → map zeroed (flat_map f xs) ≡ flat_map f (map g xs)
 lined_lists f g h [] = refl
-lined_lists f g h (x ∷ xs) = zeroed-append (f x) (flat_map f xs) ∙ (λ i. h x i ++ lined_lists f g h xs i)
+lined_lists f g h (x ∷ xs) = map-append zeroed (f x) (flat_map f xs) ∙ (λ i. h x i ++ lined_lists f g h xs i)
 
 put_line-zeroed : (line : ℕ) (ms : List Mark) → AreBare ms → map zeroed (put_line line ms) ≡ put_line 0 ms
 put_line-zeroed line [] h = refl
@@ -223,7 +220,7 @@ import_marks is = say.word (codes "IMPORTS") ∷ (flat_map say.of_import is ++ s
 imports : (o : Option (List Import)) → map zeroed (say.of_option import_marks o) ≡ say.of_option import_marks (option_map (map unlined_import) o)
 imports None = refl
 imports (Some xs) = λ i.
-    say.word (codes "IMPORTS") ∷ (zeroed-append (flat_map say.of_import xs) (sign K.Semicolon ∷ [])
+    say.word (codes "IMPORTS") ∷ (map-append zeroed (flat_map say.of_import xs) (sign K.Semicolon ∷ [])
     ∙ (λ j. lined_lists say.of_import unlined_import import_clause xs j ++ sign K.Semicolon ∷ [])) i
 
 abbrev heading_marks : List Part → List Mark
@@ -233,7 +230,7 @@ head : (name : Name) (heading : Option (List Part)) (is : Option (List Import))
     → map zeroed (say.of_head name heading is) ≡ say.of_head name heading (option_map (map unlined_import) is)
 head name heading is = λ i.
     say.upper name ∷
-    (zeroed-append (say.of_option heading_marks heading) (say.word (codes "DEFINITIONS") ∷ sign K.Assign ∷ say.word
+    (map-append zeroed (say.of_option heading_marks heading) (say.word (codes "DEFINITIONS") ∷ sign K.Assign ∷ say.word
     (codes "BEGIN") ∷ say.of_option import_marks is)
     ∙ (λ j. bare-zeroed (say.of_option heading_marks heading) (options heading_marks (λ ps. both (flat_map say.of_part ps) _ (lists say.of_part part ps) tt) heading) j
     ++ (say.word (codes "DEFINITIONS") ∷ sign K.Assign ∷ say.word (codes "BEGIN") ∷ imports is j))) i
@@ -243,9 +240,9 @@ def d = λ i. on_line 0 (label d.label d.kind i) ∷ bare-zeroed (say.of_kind d.
 
 module_text : (m : Module) → map zeroed (say.of_module m) ≡ say.of_module (unlined m)
 module_text m =
-    zeroed-append (say.of_head m.name m.heading m.imports) (flat_map say.of_def m.defs ++ say.word (codes "END") ∷ [])
+    map-append zeroed (say.of_head m.name m.heading m.imports) (flat_map say.of_def m.defs ++ say.word (codes "END") ∷ [])
     ∙ (λ i. head m.name m.heading m.imports i
-    ++ (zeroed-append (flat_map say.of_def m.defs) (say.word (codes "END") ∷ [])
+    ++ (map-append zeroed (flat_map say.of_def m.defs) (say.word (codes "END") ∷ [])
     ∙ (λ j. lined_lists say.of_def unlined_def def m.defs j ++ say.word (codes "END") ∷ [])) i)
 
 spelling-zeroed : (ms : List Module) → map zeroed (say.spelling ms) ≡ say.spelling (map unlined ms)

@@ -1,7 +1,7 @@
 -- One step of the loops that read the names of an index, and tokens between braces.
 use Rattle.std.proofs.Common.{◌≡◌, ℕ, zero, suc, ◌+◌, ◌-◌, ◌<◌, ◌≤◌, true, false, List, [], ◌∷◌}
-use Rattle.std.proofs.Common.{◌++◌, length, Some, None, Ok, Err, if◌then◌else◌, refl}
-use Rattle.std.proofs.Common.{sym, ap, arith, append_assoc}
+use Rattle.std.proofs.Common.{◌++◌, length, Some, None, Ok, Err, if◌then◌else◌, refl, sym, ap}
+use Rattle.std.proofs.Common.{arith, append_assoc}
 use Rattle.std.specs.Prelude.{◌==◌, codes}
 use Rattle.smi_text.specs.declared.lexer.token.TokenKind.{TokenKind}
 use Rattle.smi_text.specs.declared.lexer.token.TokenKind.TheVariants as K
@@ -10,8 +10,7 @@ use Rattle.smi_text.specs.declared.trees.tree.TokenText.{TokenText}
 use Rattle.smi_text.specs.declared.trees.tree.IndexParts.{IndexParts}
 use Rattle.smi_text.specs.trees.Mark.{same_kind}
 use Rattle.smi_text.specs.Format.{Parsed, a_word, a_kind, begins, word, behind, with_front, lower}
-use Rattle.smi_text.specs.Format.{shaped, pair}
-use Rattle.smi_text.specs.Format.{token, token_ahead}
+use Rattle.smi_text.specs.Format.{shaped, pair, token, token_ahead}
 use Rattle.smi_text.specs.Grammar.{index_names, read_index, with_names, index_parts, depth_after}
 use Rattle.smi_text.specs.Grammar.{is_outside, kept_text, read_balanced, balanced}
 use Rattle.smi_text.specs.declared.trees.names.Name.{Name}
@@ -19,10 +18,6 @@ use Rattle.smi_text.proofs.Laws.{lower-law, token-law}
 use Rattle.smi_text.proofs.Many.{reading-shorter, with_front-append, with_front-end}
 
 -- the names of an index
-
-with_names-none : (xs : List Name) (r : Parsed IndexParts) → r ≡ None → with_names xs r ≡ None
-unfolding with_names
-with_names-none xs r e = rw e refl
 
 pub with_names-nil : (r : Parsed IndexParts) → with_names [] r ≡ r
 unfolding with_names
@@ -42,74 +37,45 @@ comma-shorter : (ts rest : List Item) → (token K.Comma).read ts ≡ Some (tt, 
 unfolding token
 comma-shorter ts rest h = reading-shorter (token-law K.Comma) refl tt ts rest h
 
-some-token : (w : List ℕ) (ts : List Item) → begins (a_word w ∷ []) ts ≡ true → 0 < length ts
-unfolding begins
-some-token w [] b = absurd (cc)
-some-token w (t ∷ ts) b = omega arith
-
-module _ (names : List Name) (n : ℕ) (ts : List Item) (enough : length ts ≤ n) where
+module _ (names : List Name) (n : ℕ) (ts : List Item) where
   pub index-implied : (x : Name) (mid rest : List Item) → begins (a_word (codes "IMPLIED") ∷ []) ts ≡ true
       → (word (codes "IMPLIED")).read ts ≡ Some (tt, mid) → lower.read mid ≡ Some (x, rest)
-      → with_names names (read_index n ts) ≡ Some (index_parts (names ++ x ∷ []) true, rest)
+      → with_names names (read_index (suc n) ts) ≡ Some (index_parts (names ++ x ∷ []) true, rest)
   unfolding read_index behind shaped pair with_names
-  index-implied x mid rest b w e = by-bound n enough
-    where
-      by-bound : (m : ℕ) → length ts ≤ m → with_names names (read_index m ts) ≡ Some (index_parts (names ++ x ∷ []) true, rest)
-      by-bound zero k = absurd (omega (arith, some-token (codes "IMPLIED") ts b))
-      by-bound (suc m) k = rw (b, w, e) refl
+  index-implied x mid rest b w e = rw (b, w, e) refl
 
   pub index-no_name : (mid : List Item) → begins (a_word (codes "IMPLIED") ∷ []) ts ≡ true → (word (codes "IMPLIED")).read ts ≡ Some (tt, mid)
-      → lower.read mid ≡ None → with_names names (read_index n ts) ≡ None
-  unfolding read_index behind shaped pair
-  index-no_name mid b w e = with_names-none names (read_index n ts) (by-bound n)
-    where
-      by-bound : (m : ℕ) → read_index m ts ≡ None
-      by-bound zero = refl
-      by-bound (suc m) = rw (b, w, e) refl
+      → lower.read mid ≡ None → with_names names (read_index (suc n) ts) ≡ None
+  unfolding read_index behind shaped pair with_names
+  index-no_name mid b w e = rw (b, w, e) refl
 
-  pub index-stuck : begins (a_word (codes "IMPLIED") ∷ []) ts ≡ false → lower.read ts ≡ None → with_names names (read_index n ts) ≡ None
-  unfolding read_index
-  index-stuck b e = with_names-none names (read_index n ts) (by-bound n)
-    where
-      by-bound : (m : ℕ) → read_index m ts ≡ None
-      by-bound zero = refl
-      by-bound (suc m) = rw (b, e) refl
+  pub index-stuck : begins (a_word (codes "IMPLIED") ∷ []) ts ≡ false → lower.read ts ≡ None → with_names names (read_index (suc n) ts) ≡ None
+  unfolding read_index with_names
+  index-stuck b e = rw (b, e) refl
 
   pub index-last : (x : Name) (rest : List Item) → begins (a_word (codes "IMPLIED") ∷ []) ts ≡ false → lower.read ts ≡ Some (x, rest)
-      → begins (a_kind K.Comma ∷ []) rest ≡ false → with_names names (read_index n ts) ≡ Some (index_parts (names ++ x ∷ []) false, rest)
+      → begins (a_kind K.Comma ∷ []) rest ≡ false → with_names names (read_index (suc n) ts) ≡ Some (index_parts (names ++ x ∷ []) false, rest)
   unfolding read_index with_names
-  index-last x rest b e c = by-bound n enough
-    where
-      by-bound : (m : ℕ) → length ts ≤ m → with_names names (read_index m ts) ≡ Some (index_parts (names ++ x ∷ []) false, rest)
-      by-bound zero k = absurd (omega (arith, name-shorter x ts rest e))
-      by-bound (suc m) k = rw (b, e, c) refl
+  index-last x rest b e c = rw (b, e, c) refl
 
   pub index-no_comma : (x : Name) (rest : List Item) → begins (a_word (codes "IMPLIED") ∷ []) ts ≡ false → lower.read ts ≡ Some (x, rest)
-      → begins (a_kind K.Comma ∷ []) rest ≡ true → (token K.Comma).read rest ≡ None → with_names names (read_index n ts) ≡ None
+      → begins (a_kind K.Comma ∷ []) rest ≡ true → (token K.Comma).read rest ≡ None → with_names names (read_index (suc n) ts) ≡ None
   unfolding read_index with_names
-  index-no_comma x rest b e c t = with_names-none names (read_index n ts) (by-bound n)
-    where
-      by-bound : (m : ℕ) → read_index m ts ≡ None
-      by-bound zero = refl
-      by-bound (suc m) = rw (b, e, c, t) refl
+  index-no_comma x rest b e c t = rw (b, e, c, t) refl
 
-  pub index-next : (x : Name) (rest after : List Item) → begins (a_word (codes "IMPLIED") ∷ []) ts ≡ false → lower.read ts ≡ Some (x, rest)
-      → begins (a_kind K.Comma ∷ []) rest ≡ true → (token K.Comma).read rest ≡ Some (tt, after)
-      → (m : ℕ) × (length after ≤ m) × (with_names names (read_index n ts) ≡ with_names (names ++ x ∷ []) (read_index m after))
-  unfolding read_index
-  index-next x rest after b e c t = by-bound n enough
-    where
-      by-bound : (k : ℕ) → length ts ≤ k
-          → (m : ℕ) × (length after ≤ m) × (with_names names (read_index k ts) ≡ with_names (names ++ x ∷ []) (read_index m after))
-      by-bound zero h = absurd (omega (arith, name-shorter x ts rest e))
-      by-bound (suc m) h = (
-        m,
-        omega (arith, name-shorter x ts rest e, comma-shorter rest after t),
-        rw (b, e, c, t) (sym (with_names-append names (x ∷ [])
-            (read_index m after))),
-      )
+pub index-next : (names : List Name) (n : ℕ) (ts : List Item) → length ts ≤ n → (x : Name) (rest after : List Item)
+    → begins (a_word (codes "IMPLIED") ∷ []) ts ≡ false → lower.read ts ≡ Some (x, rest)
+    → begins (a_kind K.Comma ∷ []) rest ≡ true → (token K.Comma).read rest ≡ Some (tt, after)
+    → (m : ℕ) × (length after ≤ m) × (with_names names (read_index (suc n) ts) ≡ with_names (names ++ x ∷ []) (read_index (suc m) after))
+unfolding read_index
+index-next names zero ts h x rest after b e c t = absurd (omega (arith, name-shorter x ts rest e))
+index-next names (suc m) ts h x rest after b e c t = (
+  m,
+  omega (arith, name-shorter x ts rest e, comma-shorter rest after t),
+  rw (b, e, c, t) (sym (with_names-append names (x ∷ []) (read_index (suc m) after))),
+)
 
-pub index_names-starts : (ts : List Item) → index_names.read ts ≡ read_index (length ts) ts
+pub index_names-starts : (ts : List Item) → index_names.read ts ≡ read_index (suc (length ts)) ts
 unfolding index_names
 index_names-starts ts = refl
 

@@ -5,8 +5,7 @@ use Rattle.std.proofs.Common.{option_and_then, refl, sym, ◌∙◌, ap, subst, 
 use Rattle.std.proofs.Common.{append_assoc, append-nil}
 use Rattle.smi_text.specs.lexer.Token.{Item}
 use Rattle.smi_text.specs.trees.Mark.{Mark}
-use Rattle.smi_text.specs.Format.{StandsAhead}
-use Rattle.smi_text.specs.Format.{Format, Parsed, begins, read_many, many, with_front}
+use Rattle.smi_text.specs.Format.{StandsAhead, Format, Parsed, begins, read_many, many, with_front}
 use Rattle.smi_text.proofs.Lawful.{Lawful}
 
 -- tokens that are spelled by no mark are the rest; else the rest is shorter
@@ -40,18 +39,15 @@ put_one f n p = option_map (λ q. (p.0 ∷ q.0, q.1)) (read_many f n p.1)
 
 -- a longer bound reads the same
 enough : {A : Type 0} {s : A → List Mark} {f : Format A} → Lawful s f → f.empty ≡ false → (n m : ℕ) (ts : List Item) → length ts ≤ n → length ts ≤ m
-    → read_many f n ts ≡ read_many f m ts
+    → read_many f (suc n) ts ≡ read_many f (suc m) ts
 unfolding read_many begins
-enough law solid zero zero ts h k = refl
-enough law solid zero (suc m) [] h k = refl
-enough law solid (suc n) zero [] h k = refl
-enough law solid (suc n) (suc m) [] h k = refl
-enough law solid zero (suc m) (t ∷ ts) h k = absurd (omega arith)
+enough law solid n m [] h k = refl
+enough law solid zero m (t ∷ ts) h k = absurd (omega arith)
 enough law solid (suc n) zero (t ∷ ts) h k = absurd (omega arith)
 enough {A} {s} {f} law solid (suc n) (suc m) (t ∷ ts) h k =
     ap (λ (r : Parsed (List A)). if begins f.first (t ∷ ts) then r else Some ([], t ∷ ts))
     (elim (f.read (t ∷ ts)) as (λ r. f.read (t ∷ ts) ≡ r →
-    option_and_then (put_one f n) r ≡ option_and_then (put_one f m) r) [
+    option_and_then (put_one f (suc n)) r ≡ option_and_then (put_one f (suc m)) r) [
       | None ↦ λ e. refl
       | Some p ↦ λ e.
           let less : length p.1 < length (t ∷ ts) = reading-shorter law solid p.0 (t ∷ ts) p.1 e in
@@ -60,9 +56,8 @@ enough {A} {s} {f} law solid (suc n) (suc m) (t ∷ ts) h k =
 
 -- where the part begins and is not read, nor are several
 pub many-fails : {A : Type 0} (f : Format A) (ts : List Item) → begins f.first ts ≡ true → f.read ts ≡ None → (many f).read ts ≡ None
-unfolding many read_many begins
-many-fails f [] b e = absurd (cc)
-many-fails f (t ∷ ts) b e = rw (b, e) refl
+unfolding many read_many
+many-fails f ts b e = rw (b, e) refl
 
 -- a part that is read goes before the others
 pub many-goes_on : {A : Type 0} {s : A → List Mark} {f : Format A} → Lawful s f → f.empty ≡ false → (x : A) (ts rest : List Item) → begins f.first ts ≡ true
@@ -76,9 +71,8 @@ many-goes_on {A} {s} {f} law solid x (t ∷ ts) rest b e =
 
 -- where the part does not begin, there are none
 pub many-done : {A : Type 0} (f : Format A) (ts : List Item) → begins f.first ts ≡ false → (many f).read ts ≡ Some ([], ts)
-unfolding many read_many begins
-many-done f [] b = refl
-many-done f (t ∷ ts) b = rw b refl
+unfolding many read_many
+many-done f ts b = rw b refl
 
 pub with_front-append : {A : Type 0} (xs ys : List A) (r : Parsed (List A)) → with_front (xs ++ ys) r ≡ with_front xs (with_front ys r)
 unfolding with_front
@@ -101,22 +95,19 @@ with_front-nil (Some p) = refl
 -- one step of a loop that reads several parts: what is left to read, and a bound that is enough for it
 pub next-many : {A : Type 0} (f : Format A) (n : ℕ) (x : A) (ts rest : List Item) → begins f.first ts ≡ true → f.read ts ≡ Some (x, rest) → length ts ≤ n
     → length rest < length ts
-    → (m : ℕ) × (length rest ≤ m) × (read_many f n ts ≡ with_front (x ∷ []) (read_many f m rest))
+    → (m : ℕ) × (length rest ≤ m) × (read_many f (suc n) ts ≡ with_front (x ∷ []) (read_many f (suc m) rest))
 unfolding read_many with_front
 next-many f zero x ts rest b e h k = absurd (omega arith)
 next-many f (suc m) x ts rest b e h k = (m, omega arith, rw (b, e) refl)
 
-pub stuck-many : {A : Type 0} (f : Format A) (n : ℕ) (ts : List Item) → begins f.first ts ≡ true → f.read ts ≡ None → length ts ≤ n → read_many f n ts ≡ None
-unfolding read_many begins
-stuck-many f n [] b e h = absurd (cc)
-stuck-many f zero (t ∷ ts) b e h = absurd (omega arith)
-stuck-many f (suc m) (t ∷ ts) b e h = rw (b, e) refl
-
-pub end-many : {A : Type 0} (f : Format A) (n : ℕ) (ts : List Item) → begins f.first ts ≡ false → read_many f n ts ≡ Some ([], ts)
+pub stuck-many : {A : Type 0} (f : Format A) (n : ℕ) (ts : List Item) → begins f.first ts ≡ true → f.read ts ≡ None → read_many f (suc n) ts ≡ None
 unfolding read_many
-end-many f zero ts b = refl
-end-many f (suc m) ts b = rw b refl
+stuck-many f n ts b e = rw (b, e) refl
 
-pub many-starts_with : {A : Type 0} (f : Format A) (ts : List Item) → (many f).read ts ≡ read_many f (length ts) ts
+pub end-many : {A : Type 0} (f : Format A) (n : ℕ) (ts : List Item) → begins f.first ts ≡ false → read_many f (suc n) ts ≡ Some ([], ts)
+unfolding read_many
+end-many f n ts b = rw b refl
+
+pub many-starts_with : {A : Type 0} (f : Format A) (ts : List Item) → (many f).read ts ≡ read_many f (suc (length ts)) ts
 unfolding many
 many-starts_with f ts = refl

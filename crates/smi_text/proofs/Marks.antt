@@ -1,10 +1,14 @@
 -- Marks, kinds and texts: what the tests of tokens mean.
-use Rattle.std.proofs.Common.{◌≡◌, ℕ, Bool, true, false, ◌&&◌, ◌||◌, not, List, [], ◌∷◌, ◌++◌}
-use Rattle.std.proofs.Common.{Option, Some, None, Ok, Err, refl, sym, ◌∙◌, ap, subst}
-use Rattle.std.proofs.Common.{arith, inl, inr, get_or, eq-eqb}
-use Rattle.std.specs.Prelude.{option_map, option_and_then, ◌==◌}
+use Rattle.std.proofs.Common.{◌≡◌, ℕ, Bool, true, false, ◌||◌, not, List, [], ◌∷◌, ◌++◌}
+use Rattle.std.proofs.Common.{Option, Some, None, Ok, Err, refl, sym, ◌∙◌, ap, subst, inl, inr}
+use Rattle.std.proofs.Common.{get_or, eq-eqb}
+use Rattle.std.proofs.lemmas.Bool.{and_parts, false_from_ne_true, eqb-true}
+use Rattle.std.specs.Prelude.{option_map, option_and_then}
 use Rattle.std.specs.List.{list_any, list_all}
 use Rattle.std.proofs.lemmas.Bool.{or_cases}
+use Rattle.std.proofs.lemmas.List.Folds.{list_any-append}
+use Rattle.std.proofs.lemmas.Slice.Eq.{bytes_eq-Decides}
+use Rattle.std.proofs.Common.{◌⊎◌, if◌then◌else◌}
 use Rattle.smi_text.specs.declared.lexer.token.TokenKind.{TokenKind}
 use Rattle.smi_text.specs.declared.lexer.token.TokenKind.TheVariants.{Lower, Upper, Number, Text}
 use Rattle.smi_text.specs.declared.lexer.token.TokenKind.TheVariants.{Hex, Binary, Assign, Range}
@@ -12,45 +16,14 @@ use Rattle.smi_text.specs.declared.lexer.token.TokenKind.TheVariants.{OpenBrace,
 use Rattle.smi_text.specs.declared.lexer.token.TokenKind.TheVariants.{OpenParen, CloseParen}
 use Rattle.smi_text.specs.declared.lexer.token.TokenKind.TheVariants.{OpenBracket, CloseBracket}
 use Rattle.smi_text.specs.declared.lexer.token.TokenKind.TheVariants.{Less, Greater, Comma}
-use Rattle.smi_text.specs.declared.lexer.token.TokenKind.TheVariants.{Semicolon}
-use Rattle.smi_text.specs.declared.lexer.token.TokenKind.TheVariants.{Colon, Bar, Dot, Equals}
+use Rattle.smi_text.specs.declared.lexer.token.TokenKind.TheVariants.{Semicolon, Colon, Bar, Dot}
+use Rattle.smi_text.specs.declared.lexer.token.TokenKind.TheVariants.{Equals}
 use Rattle.smi_text.specs.lexer.Token.{Lexeme, Item}
 use Rattle.smi_text.specs.trees.Mark.{Mark, kind_number, same_kind, same_text}
 use Rattle.smi_text.specs.Format.{StandsAhead}
 use Rattle.smi_text.specs.trees.Reserved.{is_reserved}
 use Rattle.smi_text.specs.Format.{Ahead, a_word, a_name, a_kind, no_word, no_kind, is_this_word}
 use Rattle.smi_text.specs.Format.{meets, begins, half_apart, apart}
-
--- tests
-
-pub and-left : (a b : Bool) → (a && b) ≡ true → a ≡ true
-and-left true b h = refl
-and-left false b h = h
-
-pub and-right : (a b : Bool) → (a && b) ≡ true → b ≡ true
-and-right true b h = h
-and-right false b h = absurd (cc)
-
-pub and-both : (a b : Bool) → a ≡ true → b ≡ true → (a && b) ≡ true
-and-both a b h k = rw (h, k) refl
-
-pub or-left : (a b : Bool) → a ≡ true → (a || b) ≡ true
-or-left a b h = rw h refl
-
-pub or-right : (a b : Bool) → b ≡ true → (a || b) ≡ true
-or-right true b h = refl
-or-right false b h = h
-
-pub or-false : (a b : Bool) → (a || b) ≡ false → (a ≡ false) × (b ≡ false)
-or-false true b h = absurd (cc)
-or-false false b h = (refl, h)
-
-pub false-from : (a : Bool) → (a ≡ true → ⊥) → a ≡ false
-false-from true f = absurd (f refl)
-false-from false f = refl
-
-eqb-eq : (a b : ℕ) → (a == b) ≡ true → a ≡ b
-eqb-eq a b h = grind arith
 
 -- kinds and texts
 
@@ -65,26 +38,16 @@ kind_at Lower = refl
 kind_at _ = refl
 
 pub same_kind-eq : (a b : TokenKind) → same_kind a b ≡ true → a ≡ b
-same_kind-eq a b h = sym (kind_at a) ∙ ap (λ (n : ℕ). get_or kinds n Lower) (eqb-eq (kind_number a) (kind_number b) h) ∙ kind_at b
-
-eqb-same : (n : ℕ) → (n == n) ≡ true
-eqb-same n = eq-eqb n n refl
+same_kind-eq a b h = sym (kind_at a) ∙ ap (λ (n : ℕ). get_or kinds n Lower) (eqb-true (kind_number a) (kind_number b) h) ∙ kind_at b
 
 pub same_kind-same : (k : TokenKind) → same_kind k k ≡ true
-same_kind-same k = eqb-same (kind_number k)
+same_kind-same k = eq-eqb (kind_number k) (kind_number k) refl
 
 pub same_text-eq : (x y : List ℕ) → same_text x y ≡ true → x ≡ y
-same_text-eq [] [] h = refl
-same_text-eq [] (b ∷ y) h = absurd (cc)
-same_text-eq (a ∷ x) [] h = absurd (cc)
-same_text-eq (a ∷ x) (b ∷ y) h =
-    let e : a ≡ b = eqb-eq a b (and-left (a == b) (same_text x y) h) in
-    let f : x ≡ y = same_text-eq x y (and-right (a == b) (same_text x y) h) in
-    cc
+same_text-eq x y h = (bytes_eq-Decides x y).0 h
 
 pub same_text-same : (x : List ℕ) → same_text x x ≡ true
-same_text-same [] = refl
-same_text-same (a ∷ x) = and-both (a == a) (same_text x x) (eqb-same a) (same_text-same x)
+same_text-same x = (bytes_eq-Decides x x).1 refl
 
 -- marks one after the other
 
@@ -113,22 +76,17 @@ pub then-inv : {A B : Type 0} (k : A → Option B) (r : Option A) (y : B) → op
 then-inv k None y h = absurd (cc)
 then-inv k (Some x) y h = (x, refl, h)
 
+pub if-inv : {A : Type 0} (b : Bool) (x y z : A) → (if b then x else y) ≡ z → ((b ≡ true) × (x ≡ z)) ⊎ ((b ≡ false) × (y ≡ z))
+if-inv true x y z h = inl (refl, h)
+if-inv false x y z h = inr (refl, h)
+
 -- what stands ahead
-
-or-assoc : (a b c : Bool) → (a || (b || c)) ≡ (a || b || c)
-or-assoc true b c = refl
-or-assoc false b c = refl
-
-any-append : (t : Lexeme) (cs ds : List Ahead) → list_any (meets t) (cs ++ ds) ≡ (list_any (meets t) cs || list_any (meets t) ds)
-any-append t [] ds = refl
-any-append t (c ∷ cs) ds =
-    ap (λ (b : Bool). meets t c || b) (any-append t cs ds) ∙ or-assoc (meets t c) (list_any (meets t) cs) (list_any (meets t) ds)
 
 pub begins-append : (cs ds : List Ahead) (ts : List Item) → begins (cs ++ ds) ts ≡ (begins cs ts || begins ds ts)
 unfolding begins
 begins-append cs ds [] = refl
 begins-append cs ds (Err f ∷ ts) = refl
-begins-append cs ds (Ok t ∷ ts) = any-append t cs ds
+begins-append cs ds (Ok t ∷ ts) = list_any-append (meets t) cs ds
 
 pub begins-none : (ts : List Item) → begins [] ts ≡ false
 unfolding begins
@@ -141,10 +99,10 @@ true-not false h k = cc
 
 module _ (t : Lexeme) where
   word-kind : (w : List ℕ) → is_this_word w t ≡ true → t.kind ≡ Upper
-  word-kind w h = same_kind-eq t.kind Upper (and-left (same_kind t.kind Upper) (same_text t.text w) h)
+  word-kind w h = same_kind-eq t.kind Upper (and_parts (same_kind t.kind Upper) (same_text t.text w) h).0
 
   word-text : (w : List ℕ) → is_this_word w t ≡ true → t.text ≡ w
-  word-text w h = same_text-eq t.text w (and-right (same_kind t.kind Upper) (same_text t.text w) h)
+  word-text w h = same_text-eq t.text w (and_parts (same_kind t.kind Upper) (same_text t.text w) h).1
 
   kind-clash : (j k : TokenKind) → not (same_kind j k) ≡ true → t.kind ≡ j → t.kind ≡ k → ⊥
   kind-clash j k a h e = true-not (same_kind j k) a (rw (← h, ← e) (same_kind-same t.kind))
@@ -153,12 +111,12 @@ module _ (t : Lexeme) where
   half-sound (a_word v) (a_word w) a h k =
       true-not (same_text v w) a (rw (← word-text v h, ← word-text w k) (same_text-same t.text))
   half-sound (a_word v) a_name a h k =
-      true-not (is_reserved t.text) (and-right (same_kind t.kind Upper) (not (is_reserved t.text)) k) (rw (word-text v h) a)
+      true-not (is_reserved t.text) (and_parts (same_kind t.kind Upper) (not (is_reserved t.text)) k).1 (rw (word-text v h) a)
   half-sound (a_word v) (a_kind k) a h e = kind-clash Upper k a (word-kind v h) (same_kind-eq t.kind k e)
   half-sound (a_word v) (no_word w) a h k =
       true-not (is_this_word w t) k (let e : v ≡ w = same_text-eq v w a in rw (← e) h)
   half-sound a_name (a_kind k) a h e =
-      kind-clash Upper k a (same_kind-eq t.kind Upper (and-left (same_kind t.kind Upper) (not (is_reserved t.text)) h)) (same_kind-eq t.kind k e)
+      kind-clash Upper k a (same_kind-eq t.kind Upper (and_parts (same_kind t.kind Upper) (not (is_reserved t.text)) h).0) (same_kind-eq t.kind k e)
   half-sound (a_kind j) (a_kind k) a h e = kind-clash j k a (same_kind-eq t.kind j h) (same_kind-eq t.kind k e)
   half-sound (a_kind j) (no_kind k) a h e =
       true-not (same_kind t.kind k) e (let f : j ≡ k = same_kind-eq j k a in rw (← f) h)
@@ -168,20 +126,20 @@ module _ (t : Lexeme) where
   list-sound c [] a h k = cc
   list-sound c (d ∷ ds) a h k =
       elim (or_cases (meets t d) (list_any (meets t) ds) k) [
-        | inl e ↦ elim (or_cases (half_apart c d) (half_apart d c) (and-left (half_apart c d || half_apart d c) (list_all
-            (λ x. half_apart c x || half_apart x c) ds) a)) [
+        | inl e ↦ elim (or_cases (half_apart c d) (half_apart d c) (and_parts (half_apart c d || half_apart d c) (list_all
+            (λ x. half_apart c x || half_apart x c) ds) a).0) [
               | inl p ↦ half-sound c d p h e
               | inr p ↦ half-sound d c p e h
             ]
-        | inr e ↦ list-sound c ds (and-right (half_apart c d || half_apart d c) (list_all (λ x. half_apart c x || half_apart x c) ds) a) h e
+        | inr e ↦ list-sound c ds (and_parts (half_apart c d || half_apart d c) (list_all (λ x. half_apart c x || half_apart x c) ds) a).1 h e
       ]
 
   lists-sound : (cs ds : List Ahead) → apart cs ds ≡ true → list_any (meets t) cs ≡ true → list_any (meets t) ds ≡ true → ⊥
   lists-sound [] ds a h k = cc
   lists-sound (c ∷ cs) ds a h k =
       elim (or_cases (meets t c) (list_any (meets t) cs) h) [
-        | inl e ↦ list-sound c ds (and-left (list_all (λ x. half_apart c x || half_apart x c) ds) (apart cs ds) a) e k
-        | inr e ↦ lists-sound cs ds (and-right (list_all (λ x. half_apart c x || half_apart x c) ds) (apart cs ds) a) e k
+        | inl e ↦ list-sound c ds (and_parts (list_all (λ x. half_apart c x || half_apart x c) ds) (apart cs ds) a).0 e k
+        | inr e ↦ lists-sound cs ds (and_parts (list_all (λ x. half_apart c x || half_apart x c) ds) (apart cs ds) a).1 e k
       ]
 
 -- a token that begins one of these begins none of those
@@ -192,4 +150,4 @@ apart-sound cs ds (Err f ∷ ts) a h k = cc
 apart-sound cs ds (Ok t ∷ ts) a h k = lists-sound t cs ds a h k
 
 pub apart-false : (cs ds : List Ahead) (ts : List Item) → apart cs ds ≡ true → begins ds ts ≡ true → begins cs ts ≡ false
-apart-false cs ds ts a k = false-from (begins cs ts) (λ h. apart-sound cs ds ts a h k)
+apart-false cs ds ts a k = false_from_ne_true (begins cs ts) (λ h. apart-sound cs ds ts a h k)

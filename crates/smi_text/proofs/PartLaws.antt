@@ -1,7 +1,8 @@
 -- A stretch of octets is a part exactly where it reads as one.
 use Rattle.std.proofs.Common.{◌≡◌, ◌≢◌, ℕ, ◌≤◌, ◌⊎◌, Bool, true, false, cond, not, ◌&&◌, ◌||◌}
-use Rattle.std.proofs.Common.{Some, List, [], ◌∷◌, ◌++◌, length, refl, sym, ap, ◌∙◌, subst}
-use Rattle.std.proofs.Common.{inl, inr, ⊎_elim, arith, eqb, codes, append_assoc, append-nil, ◌+◌}
+use Rattle.std.proofs.Common.{Some, List, [], ◌∷◌, ◌++◌, length, refl, sym, ap, ◌∙◌, subst, inl}
+use Rattle.std.proofs.Common.{inr, ⊎_elim, arith, eqb, codes, append_assoc, append-nil, ◌+◌}
+use Rattle.std.proofs.lemmas.Bool.{and_parts}
 use Rattle.std.specs.List.{list_all}
 use Rattle.std.specs.Bool.{then_some}
 use Rattle.std.specs.Char.{is_ascii_digit, is_ascii_hexdigit, is_ascii_lowercase}
@@ -9,6 +10,8 @@ use Rattle.std.specs.Char.{is_ascii_uppercase}
 use Rattle.std.proofs.Math.Bool.{and-false}
 use Rattle.std.proofs.lemmas.Bool.Decides.{nat_tests}
 use Rattle.std.proofs.lemmas.Bool.{eqb-true, false≢true, not-true, or_cases}
+use Rattle.std.proofs.lemmas.List.Folds.{list_all-append}
+use Rattle.std.proofs.lemmas.Bool.{and_from}
 use Rattle.smi_text.specs.declared.lexer.class.Class.{Class}
 use Rattle.smi_text.specs.declared.lexer.class.Class.TheVariants.{Blank, Lowercase, Uppercase}
 use Rattle.smi_text.specs.declared.lexer.class.Class.TheVariants.{Digit, Hyphen, Quote, Apostrophe}
@@ -26,7 +29,6 @@ use Rattle.smi_text.specs.lexer.Reading.{is_hex_letter, is_literal_rest, is_noth
 use Rattle.smi_text.specs.lexer.Reading.{is_remark_rest, is_sole, is_string_rest, literal_part}
 use Rattle.smi_text.specs.lexer.Reading.{part_in, part_of, symbol_part, newlines}
 use Rattle.smi_text.proofs.Classes.{class_is}
-use Rattle.smi_text.proofs.LexerFronts.{and_true}
 use Rattle.smi_text.proofs.Gaps.{blank_class}
 use Rattle.smi_text.proofs.ItemsLemmas.{newlines-cons, newlines-one}
 use Rattle.smi_text.proofs.Parts.{none_some, string_step, literal_reads, literal_exact}
@@ -45,7 +47,7 @@ nothing_is (c ∷ cs) h = absurd (false≢true h)
 sole_is : (test : ℕ → Bool) (s : List ℕ) → is_sole test s ≡ true → (c : ℕ) × (s ≡ c ∷ []) × (test c ≡ true)
 sole_is test [] h = absurd (false≢true h)
 sole_is test (c ∷ cs) h =
-    let both = and_true (test c) (is_nothing cs) h in
+    let both = and_parts (test c) (is_nothing cs) h in
     (c, ap (λ s. c ∷ s) (nothing_is cs both.1), both.0)
 
 -- strings
@@ -75,7 +77,7 @@ literal_body is_digit is_letter (c ∷ cs) h = by_quote (eqb c 39) refl h (liter
         let last = sole_is is_letter cs h in
         ([], last.0, ap (λ d. d ∷ cs) (eqb-true c 39 is) ∙ ap (λ s. 39 ∷ s) last.1, refl, last.2)
     by_quote false is h rest =
-        let both = and_true (is_digit c) (is_literal_rest is_digit is_letter cs) h in
+        let both = and_parts (is_digit c) (is_literal_rest is_digit is_letter cs) h in
         let r = rest both.1 in
         (c ∷ r.0, r.1, ap (λ s. c ∷ s) r.2, ap (λ b. b && list_all is_digit r.0) both.0 ∙ r.3, r.4)
 
@@ -112,7 +114,7 @@ begins_front b (c ∷ cs) rest h = h
 -- a closing run begins with two hyphens
 run_is : (c : ℕ) (cs : List ℕ) → (is_hyphen c && begins is_hyphen cs) ≡ true → list_all is_hyphen cs ≡ true → IsRunOfHyphens (c ∷ cs)
 run_is c [] two all = absurd (false≢true (sym (and-false (is_hyphen c)) ∙ two))
-run_is c (d ∷ ds) two all = (omega arith, ap (λ b. b && list_all is_hyphen (d ∷ ds)) (and_true (is_hyphen c) (is_hyphen d) two).0 ∙ all)
+run_is c (d ∷ ds) two all = (omega arith, ap (λ b. b && list_all is_hyphen (d ∷ ds)) (and_parts (is_hyphen c) (is_hyphen d) two).0 ∙ all)
 
 remark_body : (s : List ℕ) → is_remark_rest s ≡ true
     → (remark closing : List ℕ) × (s ≡ remark ++ closing) × (is_remark remark ≡ true) × ((closing ≡ []) ⊎ IsRunOfHyphens closing)
@@ -190,13 +192,13 @@ symbol_part_is : (kind : TokenKind) (c : ℕ) (s : List ℕ) (part : Part) → I
 symbol_part_is kind c [] part first h = subst (λ p. IsPart p (c ∷ [])) (let e : lexeme kind ≡ part = cc in e) first
 symbol_part_is Colon c (d ∷ ds) part first h =
     let r = if_some (eqb d 58 && is_sole (λ e. eqb e 61) ds) (lexeme Assign) part h in
-    let both = and_true (eqb d 58) (is_sole (λ e. eqb e 61) ds) r.0 in
+    let both = and_parts (eqb d 58) (is_sole (λ e. eqb e 61) ds) r.0 in
     let last = sole_is (λ e. eqb e 61) ds both.1 in
     subst (λ p. IsPart p (c ∷ d ∷ ds)) r.1
     (ap (λ s. s ++ d ∷ ds) first ∙ ap (λ e. 58 ∷ e ∷ ds) (eqb-true d 58 both.0) ∙ ap (λ s. 58 ∷ 58 ∷ s) (last.1 ∙ ap (λ e. e ∷ []) (eqb-true last.0 61 last.2)))
 symbol_part_is Dot c (d ∷ ds) part first h =
     let r = if_some (eqb d 46 && is_nothing ds) (lexeme Range) part h in
-    let both = and_true (eqb d 46) (is_nothing ds) r.0 in
+    let both = and_parts (eqb d 46) (is_nothing ds) r.0 in
     subst (λ p. IsPart p (c ∷ d ∷ ds)) r.1
     (ap (λ s. s ++ d ∷ ds) first ∙ ap (λ e. 46 ∷ e ∷ ds) (eqb-true d 46 both.0) ∙ ap (λ s. 46 ∷ 46 ∷ s) (nothing_is ds both.1))
 symbol_part_is _ c (d ∷ ds) part first h = absurd (none_some part h)
@@ -252,14 +254,14 @@ all_other : (p : ℕ → Bool) (octet : ℕ) → ((c : ℕ) → p c ≡ true →
     → list_all (is_other octet) s ≡ true
 all_other p octet apart [] h = refl
 all_other p octet apart (c ∷ cs) h =
-    let both = and_true (p c) (list_all p cs) h in
+    let both = and_parts (p c) (list_all p cs) h in
     ap (λ b. b && list_all (is_other octet) cs) (apart c both.0) ∙ all_other p octet apart cs both.1
 
 -- strings
 string_reads : (body : List ℕ) → list_all (is_other 34) body ≡ true → is_string_rest (body ++ 34 ∷ []) ≡ true
 string_reads [] h = refl
 string_reads (c ∷ cs) h =
-    let both = and_true (is_other 34 c) (list_all (is_other 34) cs) h in
+    let both = and_parts (is_other 34 c) (list_all (is_other 34) cs) h in
     string_step c (cs ++ 34 ∷ []) both.0 ∙ string_reads cs both.1
 
 string_of : (s : List ℕ) → IsString s → part_of s ≡ Some (lexeme Text)
@@ -315,10 +317,10 @@ number_of s (sign, digits, is, signs, some, all) = ap part_of is ∙ by_sign sig
         → part_of (sign ++ digits) ≡ Some (lexeme Number)
     by_sign sign signs [] some all = absurd (some refl)
     by_sign sign (inl none) (d ∷ ds) some all =
-        let both = and_true (is_ascii_digit d) (list_all is_ascii_digit ds) all in
+        let both = and_parts (is_ascii_digit d) (list_all is_ascii_digit ds) all in
         ap (λ t. part_of (t ++ d ∷ ds)) none ∙ ap (λ class. part_in class ds) (digit_class d both.0) ∙ ap (λ b. then_some b (lexeme Number)) both.1
     by_sign sign (inr minus) (d ∷ ds) some all =
-        let both = and_true (is_ascii_digit d) (list_all is_ascii_digit ds) all in
+        let both = and_parts (is_ascii_digit d) (list_all is_ascii_digit ds) all in
         ap (λ t. part_of (t ++ d ∷ ds)) minus
         ∙ ap (λ b. cond b (then_some (is_comment_rest ds) gap) (then_some (list_all is_ascii_digit (d ∷ ds)) (lexeme Number))) (digit_no_hyphen d both.0)
         ∙ ap (λ b. then_some b (lexeme Number)) all
@@ -340,10 +342,10 @@ all_hyphens closing (inr run) = run.1
 
 hyphens_read : (closing : List ℕ) → list_all is_hyphen closing ≡ true → is_remark_rest closing ≡ true
 hyphens_read [] h = refl
-hyphens_read (c ∷ []) h = ap (λ d. is_remark_rest (d ∷ [])) (eqb-true c 45 (and_true (is_hyphen c) true h).0)
+hyphens_read (c ∷ []) h = ap (λ d. is_remark_rest (d ∷ [])) (eqb-true c 45 (and_parts (is_hyphen c) true h).0)
 hyphens_read (c ∷ d ∷ cs) h =
-    let both = and_true (is_hyphen c) (list_all is_hyphen (d ∷ cs)) h in
-    let next = and_true (is_hyphen d) (list_all is_hyphen cs) both.1 in
+    let both = and_parts (is_hyphen c) (list_all is_hyphen (d ∷ cs)) h in
+    let next = and_parts (is_hyphen d) (list_all is_hyphen cs) both.1 in
     ap (λ e. is_remark_rest (e ∷ d ∷ cs)) (eqb-true c 45 both.0) ∙ ap (λ e. is_remark_rest (45 ∷ e ∷ cs)) (eqb-true d 45 next.0) ∙ next.1
 
 remark_octet_reads : (c : ℕ) (cs closing : List ℕ) (b : Bool) → (is_hyphen c && begins is_hyphen (cs ++ closing)) ≡ b
@@ -357,8 +359,8 @@ remark_octet_reads c (d ∷ ds) closing true is alone run rest = absurd (false�
 remark_reads : (remark closing : List ℕ) → is_remark remark ≡ true → list_all is_hyphen closing ≡ true → is_remark_rest (remark ++ closing) ≡ true
 remark_reads [] closing remark_is run = hyphens_read closing run
 remark_reads (c ∷ cs) closing remark_is run =
-    let both = and_true (not (is_newline c) && not (is_hyphen c && begins is_hyphen cs)) (is_remark cs) remark_is in
-    let here = and_true (not (is_newline c)) (not (is_hyphen c && begins is_hyphen cs)) both.0 in
+    let both = and_parts (not (is_newline c) && not (is_hyphen c && begins is_hyphen cs)) (is_remark cs) remark_is in
+    let here = and_parts (not (is_newline c)) (not (is_hyphen c && begins is_hyphen cs)) both.0 in
     ap (λ b. cond b false (cond (is_hyphen c && begins is_hyphen (cs ++ closing)) (list_all is_hyphen (cs ++ closing)) (is_remark_rest (cs ++ closing))))
     (not-true (is_newline c) here.0)
     ∙ remark_octet_reads c cs closing (is_hyphen c && begins is_hyphen (cs ++ closing)) refl here.1 run (remark_reads cs closing both.1 run)
@@ -366,13 +368,13 @@ remark_reads (c ∷ cs) closing remark_is run =
 hyphens_before : (front rest : List ℕ) → list_all is_hyphen front ≡ true → is_comment_rest rest ≡ true → is_comment_rest (front ++ rest) ≡ true
 hyphens_before [] rest all h = h
 hyphens_before (c ∷ cs) rest all h =
-    let both = and_true (is_hyphen c) (list_all is_hyphen cs) all in
+    let both = and_parts (is_hyphen c) (list_all is_hyphen cs) all in
     ap (λ b. cond b (is_comment_rest (cs ++ rest)) (is_remark_rest (c ∷ cs ++ rest))) both.0 ∙ hyphens_before cs rest both.1 h
 
 comment_reads : (remark closing : List ℕ) → is_remark remark ≡ true → list_all is_hyphen closing ≡ true → is_comment_rest (remark ++ closing) ≡ true
 comment_reads [] closing remark_is run = ap is_comment_rest (sym (append-nil closing)) ∙ hyphens_before closing [] run refl
 comment_reads (c ∷ cs) closing remark_is run =
-    let both = and_true (not (is_newline c) && not (is_hyphen c && begins is_hyphen cs)) (is_remark cs) remark_is in
+    let both = and_parts (not (is_newline c) && not (is_hyphen c && begins is_hyphen cs)) (is_remark cs) remark_is in
     by_hyphen (is_hyphen c) (comment_reads cs closing both.1 run)
   where
     by_hyphen : (b : Bool) → is_comment_rest (cs ++ closing) ≡ true → cond b (is_comment_rest (cs ++ closing)) (is_remark_rest (c ∷ cs ++ closing)) ≡ true
@@ -387,8 +389,8 @@ comment_of s (opening, remark, closing, is, run, remark_is, closes) = ap part_of
     by_opening [] two all = absurd (omega arith)
     by_opening (a ∷ []) two all = absurd (omega arith)
     by_opening (a ∷ b ∷ more) two all =
-        let first = and_true (is_hyphen a) (list_all is_hyphen (b ∷ more)) all in
-        let second = and_true (is_hyphen b) (list_all is_hyphen more) first.1 in
+        let first = and_parts (is_hyphen a) (list_all is_hyphen (b ∷ more)) all in
+        let second = and_parts (is_hyphen b) (list_all is_hyphen more) first.1 in
         ap (λ c. part_of (c ∷ b ∷ more ++ remark ++ closing)) (eqb-true a 45 first.0)
         ∙ ap (λ c. part_of (45 ∷ c ∷ more ++ remark ++ closing)) (eqb-true b 45 second.0)
         ∙ ap (λ t. then_some (is_comment_rest t) gap) (append_assoc more remark closing)
@@ -406,7 +408,7 @@ is_part (lexeme kind) s h = lexeme_of_kind kind s h
 others_one_line : (s : List ℕ) → list_all (is_other 10) s ≡ true → newlines s ≡ 0
 others_one_line [] h = refl
 others_one_line (c ∷ cs) h =
-    let both = and_true (is_other 10 c) (list_all (is_other 10) cs) h in
+    let both = and_parts (is_other 10 c) (list_all (is_other 10) cs) h in
     newlines-cons c cs ∙ ap (λ n. n + newlines cs) (newlines-one c) ∙ ap (λ b. cond b 1 0 + newlines cs) (not-true (is_newline c) both.0)
     ∙ ap (λ n. 0 + n) (others_one_line cs both.1)
 
@@ -430,15 +432,12 @@ word_or false false d h = h
 word_rest_other : (s : List ℕ) → is_word_rest s ≡ true → list_all (is_other 10) s ≡ true
 word_rest_other [] h = refl
 word_rest_other (c ∷ cs) h =
-    let both = and_true (is_word_octet c || (is_hyphen c && begins is_word_octet cs)) (is_word_rest cs) h in
+    let both = and_parts (is_word_octet c || (is_hyphen c && begins is_word_octet cs)) (is_word_rest cs) h in
     ap (λ b. b && list_all (is_other 10) cs) (word_octet_other c (word_or (is_word_octet c) (is_hyphen c) (begins is_word_octet cs) both.0))
     ∙ word_rest_other cs both.1
 
-list_all-append : (p : ℕ → Bool) (xs ys : List ℕ) → list_all p xs ≡ true → list_all p ys ≡ true → list_all p (xs ++ ys) ≡ true
-list_all-append p [] ys h k = k
-list_all-append p (c ∷ cs) ys h k =
-    let both = and_true (p c) (list_all p cs) h in
-    ap (λ b. b && list_all p (cs ++ ys)) both.0 ∙ list_all-append p cs ys both.1 k
+both_pass : (p : ℕ → Bool) (xs ys : List ℕ) → list_all p xs ≡ true → list_all p ys ≡ true → list_all p (xs ++ ys) ≡ true
+both_pass p xs ys h k = list_all-append p xs ys ∙ and_from (list_all p xs) (list_all p ys) h k
 
 word_one_line : (is_first : ℕ → Bool) → ((c : ℕ) → is_first c ≡ true → (is_word_octet c || is_hyphen c) ≡ true) → (s : List ℕ) → IsWord is_first s
     → newlines s ≡ 0
@@ -454,7 +453,7 @@ upper_word c h = grind (arith, nat_tests)
 
 number_one_line : (s : List ℕ) → IsNumber s → newlines s ≡ 0
 number_one_line s (sign, digits, is, signs, some, all) =
-    ap newlines is ∙ others_one_line (sign ++ digits) (list_all-append (is_other 10) sign digits (⊎_elim (λ none. ap (list_all (is_other 10)) none)
+    ap newlines is ∙ others_one_line (sign ++ digits) (both_pass (is_other 10) sign digits (⊎_elim (λ none. ap (list_all (is_other 10)) none)
     (λ minus. ap (list_all (is_other 10)) minus) signs) (all_other is_ascii_digit 10 digit_other digits all))
 
 literal_one_line : (is_digit : ℕ → Bool) (upper lower : ℕ) → ((c : ℕ) → is_digit c ≡ true → is_other 10 c ≡ true) → is_other 10 upper ≡ true
@@ -462,7 +461,7 @@ literal_one_line : (is_digit : ℕ → Bool) (upper lower : ℕ) → ((c : ℕ) 
     → (s : List ℕ) → IsLiteral is_digit upper lower s → newlines s ≡ 0
 literal_one_line is_digit upper lower digits_other upper_other lower_other s (digits, letter, is, all, case) =
     ap newlines is ∙ others_one_line (codes "'" ++ digits ++ codes "'" ++ letter ∷ [])
-    (list_all-append (is_other 10) (codes "'" ++ digits ++ codes "'") (letter ∷ []) (list_all-append (is_other 10) (codes "'" ++ digits) (codes "'")
+    (both_pass (is_other 10) (codes "'" ++ digits ++ codes "'") (letter ∷ []) (both_pass (is_other 10) (codes "'" ++ digits) (codes "'")
     (all_other is_digit 10 digits_other digits all) refl)
     (ap (λ b. b && true) (⊎_elim (λ e. ap (is_other 10) e ∙ upper_other) (λ e. ap (is_other 10) e ∙ lower_other) case)))
 

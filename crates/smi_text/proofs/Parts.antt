@@ -1,27 +1,29 @@
 -- The parts that the scans find, behind their first octet.
 use Rattle.std.proofs.Common.{◌≡◌, ℕ, zero, suc, ◌+◌, ◌-◌, ◌<◌, ◌≤◌, Bool, true, false, cond}
-use Rattle.std.proofs.Common.{if◌then◌else◌, not, ◌&&◌, ◌⊎◌, Option, Some, None, List, []}
-use Rattle.std.proofs.Common.{◌∷◌, ◌++◌, length, get_or, take, drop, refl, sym, ap, ◌∙◌, subst}
-use Rattle.std.proofs.Common.{inl, inr, ⊎_elim, arith, eqb, add-one, length-drop}
+use Rattle.std.proofs.Common.{if◌then◌else◌, ◌&&◌, ◌⊎◌, Option, Some, None, List, [], ◌∷◌, ◌++◌}
+use Rattle.std.proofs.Common.{length, get_or, take, drop, refl, sym, ap, ◌∙◌, subst, inl, inr}
+use Rattle.std.proofs.Common.{⊎_elim, arith, eqb, add-one, length-drop}
+use Rattle.std.proofs.lemmas.Bool.{and_parts}
 use Rattle.std.specs.List.{list_all}
 use Rattle.std.specs.Bool.{then_some}
 use Rattle.std.proofs.Math.Bool.{and-false, and-true, and_assoc}
 use Rattle.std.proofs.Math.Seq.{take-add}
 use Rattle.std.specs.Option.{option_map}
 use Rattle.std.specs.Char.{is_ascii_hexdigit}
-use Rattle.std.proofs.lemmas.Bool.{cases_lt, false≢true}
+use Rattle.std.proofs.lemmas.Bool.{cases_lt}
 use Rattle.std.proofs.lemmas.List.{drop_all}
+use Rattle.std.proofs.lemmas.List.Folds.{list_all-append}
+use Rattle.std.proofs.lemmas.List.{take-append-drop}
+use Rattle.std.proofs.lemmas.Bool.{not-true}
 use Rattle.smi_text.specs.declared.lexer.token.TokenKind.{TokenKind}
 use Rattle.smi_text.specs.declared.lexer.token.TokenKind.TheVariants.{Text, Hex, Binary}
 use Rattle.smi_text.specs.lexer.Lexeme.{Part, lexeme, is_binary_digit}
 use Rattle.smi_text.specs.lexer.Reading.{HasNoLexeme, IsFirstPlace, IsLexemeFront}
 use Rattle.smi_text.specs.lexer.Reading.{IsLongestPassing, IsPartFront, is_other, is_nothing}
-use Rattle.smi_text.specs.lexer.Reading.{is_sole}
-use Rattle.smi_text.specs.lexer.Reading.{is_string_rest, is_literal_rest, string_part}
+use Rattle.smi_text.specs.lexer.Reading.{is_sole, is_string_rest, is_literal_rest, string_part}
 use Rattle.smi_text.specs.lexer.Reading.{literal_part, literal_of, is_hex_letter, is_binary_letter}
-use Rattle.smi_text.specs.lexer.Reading.{class_of}
-use Rattle.smi_text.specs.lexer.Reading.{part_in, part_of}
-use Rattle.smi_text.proofs.LexerFronts.{rest_at, and_true, longest_behind, goes_on_past}
+use Rattle.smi_text.specs.lexer.Reading.{class_of, part_in, part_of}
+use Rattle.smi_text.proofs.LexerFronts.{rest_at, longest_behind, goes_on_past}
 
 -- a front that a test decides
 pub part_front : (test : List ℕ → Bool) (reading : List ℕ → Option Part) (part : Part) (text : List ℕ) (n : ℕ)
@@ -42,18 +44,11 @@ no_front test reading part text read fails kind m h = none_some (lexeme kind) (s
 
 -- each front of octets that pass is such
 pub list_all-take : (p : ℕ → Bool) (m : ℕ) (s : List ℕ) → list_all p s ≡ true → list_all p (take m s) ≡ true
-list_all-take p zero s h = refl
-list_all-take p (suc m) [] h = refl
-list_all-take p (suc m) (c ∷ cs) h =
-    let both = and_true (p c) (list_all p cs) h in
-    ap (λ b. b && list_all p (take m cs)) both.0 ∙ list_all-take p m cs both.1
+list_all-take p m s h =
+    (and_parts (list_all p (take m s)) (list_all p (drop m s)) (sym (list_all-append p (take m s) (drop m s)) ∙ ap (list_all p) (take-append-drop m s) ∙ h)).0
 
 pub other_not : (octet c : ℕ) → is_other octet c ≡ true → eqb c octet ≡ false
-other_not octet c h = by_test (eqb c octet) h
-  where
-    by_test : (b : Bool) → not b ≡ true → b ≡ false
-    by_test false h = refl
-    by_test true h = absurd (false≢true h)
+other_not octet c h = not-true (eqb c octet) h
 
 -- ---- strings
 
@@ -64,7 +59,7 @@ string_step c s h = ap (λ b. cond b (is_nothing s) (is_string_rest s)) (other_n
 pub string_open : (s : List ℕ) → list_all (is_other 34) s ≡ true → is_string_rest s ≡ false
 string_open [] h = refl
 string_open (c ∷ cs) h =
-    let both = and_true (is_other 34 c) (list_all (is_other 34) cs) h in
+    let both = and_parts (is_other 34 c) (list_all (is_other 34) cs) h in
     string_step c cs both.0 ∙ string_open cs both.1
 
 pub string_none : (text : List ℕ) → IsFirstPlace 34 text None → IsLexemeFront string_part text None
@@ -92,7 +87,7 @@ string_some text i h =
 pub literal_open : (is_digit is_letter : ℕ → Bool) (s : List ℕ) → list_all (is_other 39) s ≡ true → is_literal_rest is_digit is_letter s ≡ false
 literal_open is_digit is_letter [] h = refl
 literal_open is_digit is_letter (c ∷ cs) h =
-    let both = and_true (is_other 39 c) (list_all (is_other 39) cs) h in
+    let both = and_parts (is_other 39 c) (list_all (is_other 39) cs) h in
     ap (λ b. cond b (is_sole is_letter cs) (is_digit c && is_literal_rest is_digit is_letter cs)) (other_not 39 c both.0)
     ∙ ap (λ b. is_digit c && b) (literal_open is_digit is_letter cs both.1) ∙ and-false (is_digit c)
 
@@ -101,7 +96,7 @@ pub literal_closed : (is_digit is_letter : ℕ → Bool) (digits s : List ℕ) �
     → is_literal_rest is_digit is_letter (digits ++ 39 ∷ s) ≡ (list_all is_digit digits && is_sole is_letter s)
 literal_closed is_digit is_letter [] s h = refl
 literal_closed is_digit is_letter (c ∷ cs) s h =
-    let both = and_true (is_other 39 c) (list_all (is_other 39) cs) h in
+    let both = and_parts (is_other 39 c) (list_all (is_other 39) cs) h in
     ap (λ b. cond b (is_sole is_letter (cs ++ 39 ∷ s)) (is_digit c && is_literal_rest is_digit is_letter (cs ++ 39 ∷ s))) (other_not 39 c both.0)
     ∙ ap (λ b. is_digit c && b) (literal_closed is_digit is_letter cs s both.1)
     ∙ sym (and_assoc (is_digit c) (list_all is_digit cs) (is_sole is_letter s))
@@ -150,7 +145,7 @@ literal_short m i text within h = literal_unclosed (take m text) (shorter m i te
     shorter (suc m) zero text within h = absurd (omega arith)
     shorter (suc m) (suc i) [] within h = refl
     shorter (suc m) (suc i) (c ∷ cs) within h =
-        let both = and_true (is_other 39 c) (list_all (is_other 39) (take i cs)) h in
+        let both = and_parts (is_other 39 c) (list_all (is_other 39) (take i cs)) h in
         ap (λ b. b && list_all (is_other 39) (take m cs)) both.0 ∙ shorter m i cs (omega arith) both.1
 
 -- a front that ends behind it

@@ -1,19 +1,18 @@
 -- Pieces of productions are lawful.
-use Rattle.std.proofs.Common.{◌≡◌, ℕ, Bool, true, false, List, [], ◌∷◌, Some, None}
-use Rattle.std.proofs.Common.{if◌then◌else◌, refl, sym, ◌∙◌, ap}
+use Rattle.std.proofs.Common.{◌≡◌, ℕ, Bool, true, false, List, [], ◌∷◌, Some, refl}
+use Rattle.std.proofs.Common.{sym, ◌∙◌, ap}
 use Rattle.std.specs.List.{list_any}
 use Rattle.smi_text.specs.declared.lexer.token.TokenKind.{TokenKind}
 use Rattle.smi_text.specs.declared.lexer.token.TokenKind.TheVariants as K
 use Rattle.smi_text.specs.lexer.Token.{Lexeme}
 use Rattle.smi_text.specs.trees.Mark.{Mark, sign, spelled}
 use Rattle.smi_text.specs.trees.Spelling as say
-use Rattle.smi_text.specs.Format.{Format, Ahead, a_kind, meets, apart, behind}
-use Rattle.smi_text.specs.Format.{pair, separated, shaped, token}
-use Rattle.smi_text.specs.Format.{word}
+use Rattle.smi_text.specs.Format.{Format, Ahead, a_kind, meets, apart, behind, pair, separated}
+use Rattle.smi_text.specs.Format.{shaped, token, word}
 use Rattle.smi_text.specs.Grammar.{kept, kept_text, braced, clause, parenthesized}
 use Rattle.smi_text.proofs.Lawful.{Lawful}
-use Rattle.smi_text.proofs.Laws.{IsOne, if-some, if-true, one-law, word-law, token-law, text-law}
-use Rattle.smi_text.proofs.Laws.{behind-law, before-law, some_of-law}
+use Rattle.smi_text.proofs.Laws.{some-inj, one-law, word-law, token-law, text-law, behind-law}
+use Rattle.smi_text.proofs.Laws.{before-law, some_of-law}
 use Rattle.smi_text.specs.declared.trees.tree.TokenText.{TokenText}
 
 -- pieces and parts
@@ -49,19 +48,11 @@ separated-law k law solid far = some_of-law law (after-sign k law) refl far (rw 
 pub same-token : (t : Lexeme) (x : TokenText) → t.kind ≡ x.kind → t.text ≡ x.text → kept_text t ≡ x
 same-token t x e f = rw (e, f) refl
 
-kept-is : (cs : List Ahead) (ok : TokenKind → List ℕ → Bool) → ((t : Lexeme) → ok t.kind t.text ≡ true → list_any (meets t) cs ≡ true)
-    → IsOne cs (λ (x : TokenText). spelled x.kind x.text (ok x.kind x.text)) (λ t. if ok t.kind t.text then Some (kept_text t) else None)
-kept-is cs ok ahead = record {
-  fits = λ t x h.
-      let p = if-some (ok t.kind t.text) (kept_text t) x h in
-      (ap (λ (y : TokenText). y.kind) p.1, ap (λ (y : TokenText). y.text) p.1, ap (λ (y : TokenText). ok y.kind y.text) (sym p.1) ∙ p.0);
-  picks = λ t x h.
-      if-true (ok t.kind t.text) (Some (kept_text t)) None (rw (h.0, h.1) (h.2))
-      ∙ ap (λ (y : TokenText). Some y) (same-token t x h.0 h.1);
-  ahead = λ t x h. ahead t (rw (h.0, h.1) (h.2));
-}
-
 pub kept-law : (cs : List Ahead) (ok : TokenKind → List ℕ → Bool) → ((t : Lexeme) → ok t.kind t.text ≡ true → list_any (meets t) cs ≡ true)
     → Lawful (λ (x : TokenText). spelled x.kind x.text (ok x.kind x.text) ∷ []) (kept cs ok)
-kept-law cs ok ahead = one-law cs (λ (x : TokenText). spelled x.kind x.text (ok x.kind x.text)) (λ t. if ok t.kind t.text then Some (kept_text t) else None)
-    (kept-is cs ok ahead)
+kept-law cs ok ahead = one-law cs (λ (x : TokenText). spelled x.kind x.text (ok x.kind x.text)) (λ t. ok t.kind t.text) (λ t. Some (kept_text t))
+    (λ t x b e.
+    let same : kept_text t ≡ x = some-inj (kept_text t) x e in
+    (ap (λ (y : TokenText). y.kind) same, ap (λ (y : TokenText). y.text) same, ap (λ (y : TokenText). ok y.kind y.text) (sym same) ∙ b))
+    (λ t x h. (rw (h.0, h.1) (h.2), ap (λ (y : TokenText). Some y) (same-token t x h.0 h.1)))
+    ahead

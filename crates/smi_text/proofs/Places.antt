@@ -1,22 +1,19 @@
 -- Where an octet stands first, and how often a newline does.
-use Rattle.std.proofs.Common.{◌≡◌, ℕ, zero, suc, ◌+◌, ◌-◌, ◌<◌, ◌≤◌, Bool, true, false, not, cond}
-use Rattle.std.proofs.Common.{◌==◌, List, [], ◌∷◌, ◌++◌, length, get_or, take, drop, Option, Some}
-use Rattle.std.proofs.Common.{None, refl, sym, ap, ◌∙◌, arith, add-one}
+use Rattle.std.proofs.Common.{◌≡◌, ℕ, zero, suc, ◌+◌, ◌-◌, ◌<◌, ◌≤◌, Bool, true, false, cond, ◌==◌}
+use Rattle.std.proofs.Common.{List, [], ◌∷◌, ◌++◌, length, get_or, take, drop, Option, Some, None}
+use Rattle.std.proofs.Common.{refl, sym, ap, ◌∙◌, arith, add-one}
 use Rattle.std.specs.List.{list_all}
 use Rattle.std.proofs.lemmas.Bool.{eqb-true}
 use Rattle.std.proofs.lemmas.List.{take_all}
 use Rattle.std.proofs.lemmas.List.Folds.{list_all_more}
 use Rattle.std.proofs.lemmas.List.{append-nil}
 use Rattle.std.specs.Iterator.{Drains, Yields}
+use Rattle.std.proofs.lemmas.Bool.{not_from_false, false_from_ne_true}
 use Rattle.memchr.specs.Find.{IsFirstByte, TakesFirst, is_byte, places, places_from}
 use Rattle.smi_text.specs.lexer.Lexeme.{is_newline}
 use Rattle.smi_text.specs.lexer.Reading.{IsFirstPlace, is_other, newlines}
 use Rattle.smi_text.proofs.ItemsLemmas.{newlines-cons, newlines-one}
 use Rattle.smi_text.proofs.LexerFronts.{rest_at}
-
-not_so : (b : Bool) → (b ≡ true → ⊥) → not b ≡ true
-not_so false h = refl
-not_so true h = absurd (h refl)
 
 -- no octet of the front is this one
 others : (octet : ℕ) (text : List ℕ) (n : ℕ) → n ≤ length text
@@ -25,7 +22,7 @@ others : (octet : ℕ) (text : List ℕ) (n : ℕ) → n ≤ length text
 others octet text zero within none = refl
 others octet text (suc n) within none =
     let before = others octet text n (omega arith) (λ k below. none k (omega arith)) in
-    let here = not_so (get_or text n 0 == octet) (none n (omega arith)) in
+    let here = not_from_false _ (false_from_ne_true (get_or text n 0 == octet) (none n (omega arith))) in
     rw (← add-one n, list_all_more (is_other octet) text n 0 (omega arith), before, here) refl
 
 pub first_place : (octet : ℕ) (text : List ℕ) (r : Option ℕ)

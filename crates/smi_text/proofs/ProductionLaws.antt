@@ -1,6 +1,8 @@
 -- Each production is lawful: it reads what its case of the grammar spells, and nothing else.
-use Rattle.std.proofs.Common.{◌≡◌, ◌++◌, ℕ, Bool, true, false, ◌&&◌, ◌||◌, not, if◌then◌else◌, List, [], ◌∷◌}
-use Rattle.std.proofs.Common.{Option, Some, None, Ok, Err, refl, sym, ap, subst, inl, inr, ◌⊎◌}
+use Rattle.std.proofs.Common.{◌≡◌, ◌++◌, ℕ, Bool, true, false, ◌&&◌, ◌||◌, not, if◌then◌else◌}
+use Rattle.std.proofs.Common.{List, [], ◌∷◌, Option, Some, None, Ok, Err, refl, sym, ap, subst}
+use Rattle.std.proofs.Common.{inl, inr, ◌⊎◌}
+use Rattle.std.proofs.lemmas.Bool.{and_parts, and_from, or_left, or_right}
 use Rattle.std.specs.Prelude.{codes, map}
 use Rattle.std.specs.List.{list_any}
 use Rattle.std.proofs.lemmas.Bool.{or_cases}
@@ -9,12 +11,12 @@ use Rattle.smi_text.specs.lexer.Token.{Lexeme, Item}
 use Rattle.smi_text.specs.trees.Mark.{Mark, sign, spelled, on_line, same_kind, same_text}
 use Rattle.smi_text.specs.trees.Spelling as say
 use Rattle.smi_text.specs.trees.Reserved.{is_reserved, macros}
-use Rattle.smi_text.specs.trees.Number.{is_arc, is_number, is_bound, is_literal, is_symbol, is_macro}
+use Rattle.smi_text.specs.trees.Number.{is_arc, is_number, is_bound, is_literal, is_symbol}
+use Rattle.smi_text.specs.trees.Number.{is_macro}
 use Rattle.smi_text.specs.Format.{StandsAhead, a_word, a_name, a_kind, meets, begins}
 use Rattle.smi_text.specs.Grammar as g
 use Rattle.smi_text.proofs.Productions.{all}
 use Rattle.smi_text.proofs.Lawful.{Lawful}
-use Rattle.smi_text.proofs.Marks.{and-left, and-right, and-both, or-left, or-right}
 use Rattle.smi_text.proofs.Laws.{never-stands, of_either, word-law, token-law, text-law}
 use Rattle.smi_text.proofs.Laws.{text_where-law, name_where-law, lower-law, name-law, pair-law}
 use Rattle.smi_text.proofs.Laws.{behind-law, before-law, maybe-law, either-law, many-law}
@@ -77,11 +79,11 @@ bound-ahead t h =
     elim (or_cases (same_kind t.kind K.Number && is_number t.text || same_kind t.kind K.Hex && is_literal 16 t.text)
     (same_kind t.kind K.Binary && is_literal 2 t.text) h) [
       | inl e ↦ elim (or_cases (same_kind t.kind K.Number && is_number t.text) (same_kind t.kind K.Hex && is_literal 16 t.text) e) [
-        | inl p ↦ rw (and-left (same_kind t.kind K.Number) (is_number t.text) p) refl
-        | inr p ↦ or-right (same_kind t.kind K.Number) _ (rw (and-left (same_kind t.kind K.Hex) (is_literal 16 t.text) p) refl)
+        | inl p ↦ rw (and_parts (same_kind t.kind K.Number) (is_number t.text) p).0 refl
+        | inr p ↦ or_right (same_kind t.kind K.Number) _ (rw (and_parts (same_kind t.kind K.Hex) (is_literal 16 t.text) p).0 refl)
       ]
-      | inr p ↦ or-right (same_kind t.kind K.Number) _ (or-right (same_kind t.kind K.Hex) _ (rw (and-left (same_kind t.kind K.Binary)
-          (is_literal 2 t.text) p) refl))
+      | inr p ↦ or_right (same_kind t.kind K.Number) _ (or_right (same_kind t.kind K.Hex) _ (rw (and_parts (same_kind t.kind K.Binary)
+          (is_literal 2 t.text) p).0 refl))
     ]
 
 pub bound-law : Lawful (λ x. say.bound x ∷ []) g.bound
@@ -124,13 +126,7 @@ base-law =
     (either-law (word-law (codes "INTEGER")) (either-law (after-word (codes "OCTET") (word-law (codes "STRING")))
     (either-law (after-word (codes "OBJECT") (word-law (codes "IDENTIFIER"))) (either-law (word-law (codes "BITS")) name-law
     refl refl refl) refl refl refl) refl refl refl) refl refl refl)
-    (λ ts rest. elim [
-      | inl u ↦ λ h. h
-      | inr (inl u) ↦ λ h. h
-      | inr (inr (inl u)) ↦ λ h. h
-      | inr (inr (inr (inl u))) ↦ λ h. h
-      | inr (inr (inr (inr x))) ↦ λ h. h
-    ])
+    (λ ts rest. elim [ inr (inr (inr (inr x))) ↦ λ h. h | _ ↦ λ h. h ])
     (λ ts rest. elim [
       | B.Integer ↦ λ h. (inl tt, refl, h)
       | B.OctetString ↦ λ h. (inr (inl tt), refl, h)
@@ -280,17 +276,7 @@ lower_definition-law =
     (either-law (group-law (codes "OBJECT-GROUP") (codes "OBJECTS")) (either-law (group-law (codes "NOTIFICATION-GROUP") (codes "NOTIFICATIONS"))
     (either-law (raw_definition-law (codes "MODULE-COMPLIANCE")) (raw_definition-law (codes "AGENT-CAPABILITIES"))
     refl refl refl) refl refl refl) refl refl refl) refl refl refl) refl refl refl) refl refl refl) refl refl refl) refl refl refl)
-    (λ ts rest. elim [
-      | inl d ↦ λ h. h
-      | inr (inl d) ↦ λ h. h
-      | inr (inr (inl d)) ↦ λ h. h
-      | inr (inr (inr (inl d))) ↦ λ h. h
-      | inr (inr (inr (inr (inl d)))) ↦ λ h. h
-      | inr (inr (inr (inr (inr (inl d))))) ↦ λ h. h
-      | inr (inr (inr (inr (inr (inr (inl d)))))) ↦ λ h. h
-      | inr (inr (inr (inr (inr (inr (inr (inl d))))))) ↦ λ h. h
-      | inr (inr (inr (inr (inr (inr (inr (inr d))))))) ↦ λ h. h
-    ])
+    (λ ts rest. elim [ inr (inr (inr (inr (inr (inr (inr (inr d))))))) ↦ λ h. h | _ ↦ λ h. h ])
     (λ ts rest. elim [
       | D.ObjectType d ↦ λ h. (inl d, refl, h)
       | D.ObjectIdentifier d ↦ λ h. (inr (inl d), refl, h)
@@ -358,14 +344,7 @@ assigned-law =
     shaped-law g.to_assigned of_assigned
     (either-law textual_convention-law (either-law choice-law (either-law tagged-law (either-law sequence-law simple_type-law
     refl refl refl) refl refl refl) refl refl refl) refl refl refl)
-    (λ ts rest. elim [
-      | inl d ↦ λ h. h
-      | inr (inl xs) ↦ λ h. h
-      | inr (inr (inl (n, t))) ↦ λ h. h
-      | inr (inr (inr (inl (inl fs)))) ↦ λ h. h
-      | inr (inr (inr (inl (inr x)))) ↦ λ h. h
-      | inr (inr (inr (inr t))) ↦ λ h. h
-    ])
+    (λ ts rest. elim [ inr (inr (inl (n, t))) ↦ λ h. h | inr (inr (inr (inl (inl fs)))) ↦ λ h. h | _ ↦ λ h. h ])
     (λ ts rest. elim [
       | D.TextualConvention d ↦ λ h. (inl d, refl, h)
       | D.Choice xs ↦ λ h. (inr (inl xs), refl, h)
@@ -432,8 +411,8 @@ macro-words : (t : Lexeme) (ws : List (List ℕ)) → same_kind t.kind K.Upper �
 macro-words t [] k h = h
 macro-words t (w ∷ ws) k h =
     elim (or_cases (same_text t.text w) (list_any (same_text t.text) ws) h) [
-      | inl e ↦ or-left (meets t (a_word w)) (list_any (meets t) (map a_word ws)) (and-both (same_kind t.kind K.Upper) (same_text t.text w) k e)
-      | inr e ↦ or-right (meets t (a_word w)) (list_any (meets t) (map a_word ws)) (macro-words t ws k e)
+      | inl e ↦ or_left (meets t (a_word w)) (list_any (meets t) (map a_word ws)) (and_from (same_kind t.kind K.Upper) (same_text t.text w) k e)
+      | inr e ↦ or_right (meets t (a_word w)) (list_any (meets t) (map a_word ws)) (macro-words t ws k e)
     ]
 
 macro-ahead : (t : Lexeme) → same_kind t.kind K.Upper ≡ true → is_macro t.text ≡ true → list_any (meets t) g.macro_words ≡ true
@@ -530,13 +509,13 @@ symbol-ahead : (t : Lexeme) → is_symbol t.kind t.text ≡ true → list_any (m
 unfolding is_symbol
 symbol-ahead t h =
     elim (or_cases (same_kind t.kind K.Lower) (same_kind t.kind K.Upper && (not (is_reserved t.text) || is_macro t.text)) h) [
-      | inl e ↦ or-left (same_kind t.kind K.Lower) _ e
+      | inl e ↦ or_left (same_kind t.kind K.Lower) _ e
       | inr e ↦
-          let upper = and-left (same_kind t.kind K.Upper) (not (is_reserved t.text) || is_macro t.text) e in
-          or-right (same_kind t.kind K.Lower) (meets t a_name || list_any (meets t) g.macro_words)
-          (elim (or_cases (not (is_reserved t.text)) (is_macro t.text) (and-right (same_kind t.kind K.Upper) (not (is_reserved t.text) || is_macro t.text) e)) [
-            | inl p ↦ or-left (meets t a_name) (list_any (meets t) g.macro_words) (and-both (same_kind t.kind K.Upper) (not (is_reserved t.text)) upper p)
-            | inr p ↦ or-right (meets t a_name) (list_any (meets t) g.macro_words) (macro-ahead t upper p)
+          let upper = (and_parts (same_kind t.kind K.Upper) (not (is_reserved t.text) || is_macro t.text) e).0 in
+          or_right (same_kind t.kind K.Lower) (meets t a_name || list_any (meets t) g.macro_words)
+          (elim (or_cases (not (is_reserved t.text)) (is_macro t.text) (and_parts (same_kind t.kind K.Upper) (not (is_reserved t.text) || is_macro t.text) e).1) [
+            | inl p ↦ or_left (meets t a_name) (list_any (meets t) g.macro_words) (and_from (same_kind t.kind K.Upper) (not (is_reserved t.text)) upper p)
+            | inr p ↦ or_right (meets t a_name) (list_any (meets t) g.macro_words) (macro-ahead t upper p)
           ])
     ]
 

@@ -1,19 +1,19 @@
 -- Raw runs of tokens are lawful.
 use Rattle.std.proofs.Common.{◌≡◌, ℕ, Bool, true, false, ◌&&◌, not, List, [], ◌∷◌, ◌++◌, Some}
 use Rattle.std.proofs.Common.{None, Ok, Err, if◌then◌else◌, refl, subst, inl, inr, ◌⊎◌}
+use Rattle.std.proofs.lemmas.Bool.{and_parts, and_from, or_parts}
 use Rattle.std.specs.Prelude.{◌==◌, codes, map}
-use Rattle.std.proofs.lemmas.Bool.{not-true}
+use Rattle.std.proofs.lemmas.Bool.{not-true, not-false}
 use Rattle.smi_text.specs.declared.lexer.token.TokenKind.TheVariants as K
-use Rattle.smi_text.specs.lexer.Token.{Lexeme, Item}
+use Rattle.smi_text.specs.lexer.Token.{Item}
 use Rattle.smi_text.specs.trees.Mark.{Mark, spelled, same_kind, same_text}
-use Rattle.smi_text.specs.Format.{StandsAhead}
-use Rattle.smi_text.specs.Format.{Parsed, no_word, no_kind, begins, with_front}
+use Rattle.smi_text.specs.Format.{StandsAhead, Parsed, no_word, no_kind, begins, with_front}
 use Rattle.smi_text.specs.trees.Spelling.{of_balanced, nothing}
 use Rattle.smi_text.specs.Grammar.{kept_text, depth_after, is_outside, balanced, before_assign}
 use Rattle.smi_text.specs.Grammar.{before_end, read_balanced}
 use Rattle.smi_text.proofs.Fronts.{is_balanced, fronts-counted}
 use Rattle.smi_text.proofs.Lawful.{Lawful}
-use Rattle.smi_text.proofs.Marks.{and-left, and-right, and-both, or-false, map-inv}
+use Rattle.smi_text.proofs.Marks.{if-inv, map-inv}
 use Rattle.smi_text.proofs.Laws.{some-inj, any-one, never-stands}
 use Rattle.smi_text.specs.declared.trees.tree.TokenText.{TokenText}
 use Rattle.smi_text.proofs.PieceLaws.{same-token, kept-law}
@@ -39,19 +39,15 @@ put_kept x p = ((x ∷ []) ++ p.0, p.1)
 abbrev read_end : List Item → Bool → Parsed (List TokenText)
 read_end items b = if b then Some ([], items) else None
 
-abbrev read_inside : ℕ → Lexeme → List Item → Bool → Parsed (List TokenText)
-read_inside depth t ts b = if b then Some ([], Ok t ∷ ts) else with_front (kept_text t ∷ []) (read_balanced (depth_after t.kind depth) ts)
-
 ended-takes : (depth : ℕ) (items rest : List Item) (xs : List TokenText) → read_end items (depth == 0) ≡ Some (xs, rest)
     → (is_balanced depth xs ≡ true) × StandsAhead (raw_marks xs) items rest
 unfolding is_balanced
 ended-takes depth items rest xs h =
-    elim (depth == 0) as (λ b. depth == 0 ≡ b → read_end items b ≡ Some (xs, rest) → (is_balanced depth xs ≡ true) × StandsAhead (raw_marks xs) items rest) [
-      | true ↦ λ b k.
-          let P : List TokenText × List Item → Type 0 = λ w. (is_balanced depth w.0 ≡ true) × StandsAhead (raw_marks w.0) items w.1 in
-          subst P (some-inj {A = List TokenText × List Item} ([], items) (xs, rest) k) (b, refl)
-      | false ↦ λ b k. absurd (cc)
-    ] refl h
+    let P : List TokenText × List Item → Type 0 = λ w. (is_balanced depth w.0 ≡ true) × StandsAhead (raw_marks w.0) items w.1 in
+    elim (if-inv (depth == 0) (Some ([], items)) None (Some (xs, rest)) h) [
+      | inl p ↦ subst P (some-inj {A = List TokenText × List Item} ([], items) (xs, rest) p.1) (p.0, refl)
+      | inr p ↦ absurd (let e = p.1 in cc)
+    ]
 
 balanced-takes : (depth : ℕ) (ts rest : List Item) (xs : List TokenText) → read_balanced depth ts ≡ Some (xs, rest)
     → (is_balanced depth xs ≡ true) × StandsAhead (raw_marks xs) ts rest
@@ -60,30 +56,29 @@ balanced-takes depth [] rest xs h = ended-takes depth [] rest xs h
 balanced-takes depth (Err f ∷ ts) rest xs h = ended-takes depth (Err f ∷ ts) rest xs h
 balanced-takes depth (Ok t ∷ ts) rest xs h =
     let P : List TokenText × List Item → Type 0 = λ w. (is_balanced depth w.0 ≡ true) × StandsAhead (raw_marks w.0) (Ok t ∷ ts) w.1 in
-    elim (is_outside t.kind depth) as (λ b. is_outside t.kind depth ≡ b → read_inside depth t ts b ≡ Some (xs, rest)
-    → (is_balanced depth xs ≡ true) × StandsAhead (raw_marks xs) (Ok t ∷ ts) rest) [
-      | true ↦ λ b k.
-          subst P (some-inj {A = List TokenText × List Item} ([], Ok t ∷ ts) (xs, rest) k) (and-right (same_kind t.kind K.CloseBrace) (depth == 0) b, refl)
-      | false ↦ λ b k.
-          let r = map-inv (put_kept (kept_text t)) (read_balanced (depth_after t.kind depth) ts) (xs, rest) k in
+    elim (if-inv (is_outside t.kind depth) (Some ([], Ok t ∷ ts)) (with_front (kept_text t ∷ []) (read_balanced (depth_after t.kind depth) ts))
+    (Some (xs, rest)) h) [
+      | inl p ↦
+          subst P (some-inj {A = List TokenText × List Item} ([], Ok t ∷ ts) (xs, rest) p.1) (
+            (and_parts (same_kind t.kind K.CloseBrace) (depth == 0) p.0).1,
+            refl,
+          )
+      | inr p ↦
+          let r = map-inv (put_kept (kept_text t)) (read_balanced (depth_after t.kind depth) ts) (xs, rest) p.1 in
           let s = balanced-takes (depth_after t.kind depth) ts r.0.1 r.0.0 r.1 in
-          subst P r.2 (and-both (not (is_outside t.kind depth)) (is_balanced (depth_after t.kind depth) r.0.0) (rw b refl) s.0, ((refl, refl, refl), s.1))
-    ] refl h
+          subst P r.2 (and_from (not (is_outside t.kind depth)) (is_balanced (depth_after t.kind depth) r.0.0) (rw p.0 refl) s.0, ((refl, refl, refl), s.1))
+    ]
 
 not-close : (b : Bool) → not (b && true) ≡ true → not b ≡ true
 not-close true h = h
 not-close false h = h
-
-not-false : (b : Bool) → not b ≡ false → b ≡ true
-not-false true h = refl
-not-false false h = absurd (cc)
 
 balanced-end : (depth : ℕ) (rest : List Item) → depth == 0 ≡ true → begins (no_kind K.CloseBrace ∷ []) rest ≡ false → read_balanced depth rest ≡ Some ([], rest)
 unfolding read_balanced begins
 balanced-end depth [] d s = rw d refl
 balanced-end depth (Err f ∷ ts) d s = rw d refl
 balanced-end depth (Ok t ∷ ts) d s =
-    rw (and-both (same_kind t.kind K.CloseBrace) (depth == 0) (not-false (same_kind t.kind K.CloseBrace) (or-false (not
+    rw (and_from (same_kind t.kind K.CloseBrace) (depth == 0) (not-false (same_kind t.kind K.CloseBrace) (or_parts (not
     (same_kind t.kind K.CloseBrace)) false s).0) d) refl
 
 balanced-again : (depth : ℕ) (xs : List TokenText) (ts rest : List Item) → is_balanced depth xs ≡ true → StandsAhead (raw_marks xs) ts rest
@@ -93,9 +88,9 @@ balanced-again depth [] ts rest b h s = rw h (balanced-end depth rest b s)
 balanced-again depth (x ∷ xs) [] rest b h s = absurd h
 balanced-again depth (x ∷ xs) (Err f ∷ ts) rest b h s = absurd h
 balanced-again depth (x ∷ xs) (Ok t ∷ ts) rest b h s =
-    let inside = not-true (is_outside x.kind depth) (and-left (not (is_outside x.kind depth)) (is_balanced (depth_after x.kind depth) xs) b) in
-    let next = balanced-again (depth_after x.kind depth) xs ts rest (and-right (not (is_outside x.kind depth)) (is_balanced
-    (depth_after x.kind depth) xs) b) h.1 s in
+    let inside = not-true (is_outside x.kind depth) (and_parts (not (is_outside x.kind depth)) (is_balanced (depth_after x.kind depth) xs) b).0 in
+    let next = balanced-again (depth_after x.kind depth) xs ts rest (and_parts (not (is_outside x.kind depth)) (is_balanced
+    (depth_after x.kind depth) xs) b).1 h.1 s in
     let e = same-token t x h.0.0 h.0.1 in
     rw (e, h.0.0, inside, next) refl
 
@@ -106,8 +101,8 @@ balanced-starts [] ts rest b h = inr h
 balanced-starts (x ∷ xs) [] rest b h = absurd h
 balanced-starts (x ∷ xs) (Err f ∷ ts) rest b h = absurd h
 balanced-starts (x ∷ xs) (Ok t ∷ ts) rest b h =
-    inl (any-one t (no_kind K.CloseBrace) (rw h.0.0 (not-close (same_kind x.kind K.CloseBrace) (and-left (not (same_kind x.kind K.CloseBrace && true))
-    (is_balanced (depth_after x.kind 0) xs) b))))
+    inl (any-one t (no_kind K.CloseBrace) (rw h.0.0 (not-close (same_kind x.kind K.CloseBrace) (and_parts (not (same_kind x.kind K.CloseBrace && true))
+    (is_balanced (depth_after x.kind 0) xs) b).0)))
 
 balanced-pieces : (xs : List TokenText) (ts rest : List Item) → StandsAhead (of_balanced xs) ts rest
     → (is_balanced 0 xs ≡ true) × StandsAhead (raw_marks xs) ts rest

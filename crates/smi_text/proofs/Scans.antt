@@ -1,12 +1,12 @@
 -- Steps and ends of the scans, each by its own test.
 use Rattle.std.proofs.Common.{◌≡◌, ℕ, zero, suc, ◌+◌, ◌<◌, ◌≤◌, Bool, true, false, cond, ◌&&◌}
-use Rattle.std.proofs.Common.{◌||◌, ◌⊎◌, List, [], ◌∷◌, length, get_or, take, drop, refl}
-use Rattle.std.proofs.Common.{sym, ap, ◌∙◌, subst, inl, inr, arith, eqb, eq-eqb, ◌-◌, add-zero}
-use Rattle.std.proofs.Common.{zero-add}
+use Rattle.std.proofs.Common.{◌||◌, ◌⊎◌, List, [], ◌∷◌, length, get_or, take, drop, refl, sym, ap}
+use Rattle.std.proofs.Common.{◌∙◌, subst, inl, inr, arith, eqb, eq-eqb, ◌-◌, zero-add}
 use Rattle.std.specs.List.{list_all}
 use Rattle.std.proofs.lemmas.Bool.{eqb-true, ne_eqb, cases_lt, false≢true}
 use Rattle.std.proofs.lemmas.List.Folds.{list_all_more}
 use Rattle.std.proofs.lemmas.List.{drop_all}
+use Rattle.std.proofs.Math.Bool.{or-true}
 use Rattle.smi_text.specs.lexer.Lexeme.{begins, is_hyphen, is_word_octet, is_word_rest}
 use Rattle.smi_text.specs.lexer.Reading.{GoesOn, IsLongestPassing, IsRemarkEnd, is_comment_rest}
 use Rattle.smi_text.specs.lexer.Reading.{IsRunBetween, is_remark_rest}
@@ -15,9 +15,11 @@ use Rattle.smi_text.proofs.LexerFronts.{longest_behind, goes_on_past}
 
 -- ---- small facts
 
-pub or_true : (b : Bool) → (b || true) ≡ true
-or_true true = refl
-or_true false = refl
+-- what each place from one to the other hands on to the next
+pub hand_on : (P : ℕ → Type 0) (d from to : ℕ) → from + d ≡ to → ((k : ℕ) → from ≤ k → k < to → P k → P (k + 1)) → P from → P to
+hand_on P zero from to e step p = subst P (let f : from ≡ to = omega (arith, e) in f) p
+hand_on P (suc d) from to e step p = hand_on P d (from + 1) to (omega (arith, e)) (λ k above below. step k (omega arith) below) (step from (omega arith)
+    (omega (arith, e)) p)
 
 pub begins-take : (test : ℕ → Bool) (k : ℕ) (s : List ℕ) → begins test s ≡ false → begins test (take k s) ≡ false
 begins-take test zero s h = refl
@@ -69,7 +71,7 @@ hyphen_step text n here hyphen pass = scan_two is_word_rest text n here (λ k. b
     both c d s hyphen pass =
         ap (λ b. (is_word_octet c || (is_hyphen c && b)) && ((b || (is_hyphen d && begins is_word_octet s)) && is_word_rest s)) pass
         ∙ ap (λ b. (is_word_octet c || (b && true)) && is_word_rest s) (eq-eqb c 45 hyphen)
-        ∙ ap (λ b. b && is_word_rest s) (or_true (is_word_octet c))
+        ∙ ap (λ b. b && is_word_rest s) (or-true (is_word_octet c))
 
 pub word_stop : (text : List ℕ) (n : ℕ) → n < length text → is_word_octet (get_or text n 0) ≡ false
     → (get_or text n 0 ≡ 45 → begins is_word_octet (drop (n + 1) text) ≡ false)
@@ -81,25 +83,13 @@ word_stop text n here fail next = scan_stop is_word_rest text n here refl (λ k.
         ap (λ b. (b || (is_hyphen c && begins is_word_octet (take k s))) && is_word_rest (take k s)) fail
         ∙ ap (λ b. b && is_word_rest (take k s)) (hyphen_alone is_word_octet c k s next)
 
--- octets of a word in a row
-pub word_steps : (d : ℕ) (text : List ℕ) (n : ℕ) → n + d ≤ length text
-    → ((k : ℕ) → n ≤ k → k < n + d → is_word_octet (get_or text k 0) ≡ true)
-    → GoesOn is_word_rest text n → GoesOn is_word_rest text (n + d)
-word_steps zero text n within all goes = subst (GoesOn is_word_rest text) (sym (add-zero n)) goes
-word_steps (suc d) text n within all goes =
-    let place : (n + 1) + d ≡ n + suc d = omega arith in
-    subst (GoesOn is_word_rest text) place
-    (word_steps d text (n + 1) (omega arith) (λ k from to. all k (omega arith) (omega arith))
-    (word_step text n (omega arith) (all n (omega arith) (omega arith)) goes))
-
 -- up to where a run of them ends
 pub word_run_goes : (text : List ℕ) (from to : ℕ) → GoesOn is_word_rest text from → IsRunBetween is_word_octet text from to
     → GoesOn is_word_rest text to
 word_run_goes text from to goes run =
     let ordered : from ≤ to = run.ordered in
     let within : to ≤ length text = run.within in
-    let place : from + (to - from) ≡ to = omega arith in
-    subst (GoesOn is_word_rest text) place (word_steps (to - from) text from (omega arith) (λ k above below. run.passes k above (omega arith)) goes)
+    hand_on (GoesOn is_word_rest text) (to - from) from to (omega arith) (λ k above below. word_step text k (omega arith) (run.passes k above below)) goes
 
 pub goes_from_start : (test : List ℕ → Bool) (text : List ℕ) → GoesOn test text 0
 goes_from_start test text = record { within = omega arith; same = λ k. ap (λ m. test (take m text)) (zero-add k) }

@@ -1,11 +1,11 @@
 -- A text among words.
-use Rattle.std.proofs.Common.{◌≡◌, ℕ, ◌+◌, ◌<◌, ◌≤◌, Bool, true, false, ◌||◌, List, [], ◌∷◌, length}
-use Rattle.std.proofs.Common.{get_or, drop, refl, sym, ap, ◌∙◌, drop-cons, add-one, Bor}
+use Rattle.std.proofs.Common.{◌≡◌, ℕ, ◌+◌, ◌<◌, ◌≤◌, Bool, true, false, ◌||◌, List, [], ◌∷◌}
+use Rattle.std.proofs.Common.{length, get_or, drop, refl, sym, ap, ◌∙◌, drop-cons, add-one, Bor}
+use Rattle.std.proofs.lemmas.Bool.{and_parts}
 use Rattle.std.specs.Prelude.{map}
 use Rattle.std.specs.List.{list_all, list_any}
 use Rattle.std.proofs.lemmas.Bool.{false≢true}
 use Rattle.std.proofs.lemmas.Slice.Eq.{bytes_eq-Decides}
-use Rattle.smi_text.proofs.LexerFronts.{and_true}
 use Rattle.std.proofs.lemmas.List.{drop_all}
 use Rattle.smi_text.specs.trees.Mark.{same_text}
 
@@ -24,7 +24,7 @@ pub other_second : (test : ℕ → Bool) (words : List (List ℕ)) (x : List ℕ
     → test (get_or x 1 0) ≡ false → list_any (same_text x) words ≡ false
 other_second test [] x all other = refl
 other_second test (w ∷ ws) x all other =
-    let both = and_true (test (get_or w 1 0)) (list_all (λ v. test (get_or v 1 0)) ws) all in
+    let both = and_parts (test (get_or w 1 0)) (list_all (λ v. test (get_or v 1 0)) ws) all in
     ap (λ b. b || list_any (same_text x) ws) (unequal (same_text x w) refl both.0) ∙ other_second test ws x both.1 other
   where
     unequal : (b : Bool) → same_text x w ≡ b → test (get_or w 1 0) ≡ true → same_text x w ≡ false

@@ -195,7 +195,7 @@ read_many f (suc n) ts =
 
 unfoldable pub many : {A : Type 0} → Format A → Format (List A)
 many f = record {
-  read = λ ts. read_many f (length ts) ts;
+  read = λ ts. read_many f (suc (length ts)) ts;
   first = f.first;
   stop = f.first ++ f.stop;
   empty = true;

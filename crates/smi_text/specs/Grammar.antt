@@ -214,7 +214,7 @@ read_index (suc n) ts =
 
 unfoldable pub index_names : Format IndexParts
 index_names = record {
-  read = λ ts. read_index (length ts) ts;
+  read = λ ts. read_index (suc (length ts)) ts;
   first = a_word (codes "IMPLIED") ∷ a_kind K.Lower ∷ [];
   stop = a_kind K.Comma ∷ [];
   empty = false;

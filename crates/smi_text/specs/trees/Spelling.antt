@@ -87,7 +87,7 @@ abbrev pub of_option : {A : Type 0} → (A → List Mark) → Option A → List 
 of_option f None = []
 of_option f (Some x) = f x
 
--- part { other }
+-- part { other part }
 abbrev pub of_some : {A : Type 0} → (A → List Mark) → (A → List Mark) → List A → List Mark
 of_some f g [] = nothing
 of_some f g (x ∷ xs) = f x ++ flat_map g xs
@@ -248,7 +248,8 @@ of_type_assignment d =
     (codes "APPLICATION") ∷ number n ∷ sign K.CloseBracket ∷ word
     (codes "IMPLICIT") ∷ []) d.tag ++ of_syntax d.syntax
 
--- the name of a definition: of a type in upper case, of a macro in upper case or its reserved word
+-- the name of a definition is in lower case, that of a type in upper case, and that of a macro in
+-- upper case or its reserved word
 abbrev pub label : Name → DefKind → Mark
 label x (D.TextualConvention d) = upper x
 label x (D.TypeAssignment d) = upper x

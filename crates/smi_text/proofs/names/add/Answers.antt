@@ -1,4 +1,5 @@
-use Rattle.std.proofs.Common.{◌≡◌, ℕ, Bool, true, false, not, ◌||◌, List, Bor, cond, refl, ◌∙◌, sym, ap, rules}
+use Rattle.std.proofs.Common.{◌≡◌, ℕ, Bool, true, false, not, ◌||◌, List, Bor, cond, refl, ◌∙◌}
+use Rattle.std.proofs.Common.{sym, ap, rules}
 use Rattle.std.specs.Ordering.{is_eq, nat_cmp, ordering_then}
 use Rattle.std.specs.declared.cmp.Ordering.{Ordering}
 use Rattle.std.specs.declared.cmp.Ordering.TheVariants.{Less, Equal, Greater}
@@ -16,13 +17,10 @@ cond-or false r = refl
 
 -- numbers that agree where the texts do make no difference to whether the texts are equal
 same_then : (first texts : Ordering) → (is_eq texts ≡ true → is_eq first ≡ true) → is_eq (ordering_then first texts) ≡ is_eq texts
-same_then Less Less agree = refl
 same_then Less Equal agree = agree refl
-same_then Less Greater agree = refl
 same_then Equal texts agree = refl
-same_then Greater Less agree = refl
 same_then Greater Equal agree = agree refl
-same_then Greater Greater agree = refl
+same_then _ _ agree = refl
 
 nat_cmp-same : (n : ℕ) → is_eq (nat_cmp n n) ≡ true
 nat_cmp-same n = search rules

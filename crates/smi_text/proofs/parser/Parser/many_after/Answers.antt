@@ -27,4 +27,4 @@ returns-in_err-item g c =
     let i = c.each.invariant in
     let p = err_from_is_err_and c.from_residual.result c.from_residual.ensures.1 in
     rw (p.1, p.2) (λ h. rw (← i.2) (with_front-none _ _ (stuck-many g.P.Production.format i.0 _ (sym c.is_ahead.ensures
-    ∙ c.each-test.true) (c.in_err-item.ensures.gives h) i.1)))
+    ∙ c.each-test.true) (c.in_err-item.ensures.gives h))))

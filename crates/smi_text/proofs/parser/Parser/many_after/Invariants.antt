@@ -1,11 +1,11 @@
-use Rattle.std.proofs.Common.{◌≡◌, ℕ, ◌≤◌, length}
+use Rattle.std.proofs.Common.{◌≡◌, ℕ, suc, ◌≤◌, length}
 use Rattle.smi_text.specs.Format.{many, read_many, with_front}
 use Rattle.smi_text.proofs.parser.Parser.many_after.Given as goal
 
 abbrev pub invariant-each : goal.invariant-each
 invariant-each g l =
     (n : ℕ) × (length l.self ≤ n)
-    × (with_front l.items.items (read_many g.P.Production.format n l.self)
+    × (with_front l.items.items (read_many g.P.Production.format (suc n) l.self)
     ≡ with_front l.fn.items.items ((many g.P.Production.format).read l.fn.self))
 
 abbrev pub decreases-each : goal.decreases-each
