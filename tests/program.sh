@@ -398,6 +398,8 @@ for syntax in 'OCTET STRING (SIZE (6))' "OCTET STRING (SIZE ('06'H))" Mac; do
     indexed column "$syntax" "99.100.101.102.103.104='cdefgh'" 99.100 6.99.100.101.102.103.104
 done
 indexed 'IMPLIED column' 'OCTET STRING (SIZE (6))' "99.100.101.102.103.104='cdefgh'" 99.100 6.99.100.101.102.103.104
+# No string has as many octets as a SIZE below zero says.
+for part in column 'IMPLIED column'; do indexed "$part" 'OCTET STRING (SIZE (-5))' 5.97.98.99.100.101 97.98; done
 indexed column 'Mac (SIZE (0..6))' '6.99.100.101.102.103.104="cdefgh"' '2.99.100="cd"' 99.100.101.102.103.104
 for syntax in Opaque 'BITS { a(0) }'; do indexed column "$syntax" 2.99.100=2.99.100 99.100 1.256; done
 indexed column 'Opaque (SIZE (4))' 99.100.101.102=99.100.101.102 99.100.101 4.99.100.101.102 99.100.101.256

@@ -10,36 +10,41 @@ use Rattle.smi_text.specs.declared.trees.tree.Module.{Module}
 use Rattle.smi_text.specs.declared.trees.tree.Def.{Def}
 use Rattle.smi_text.specs.declared.trees.tree.Range.{Range}
 use Rattle.smi_text.specs.declared.trees.tree.IndexParts.{IndexParts}
+use Rattle.smi_text.specs.declared.trees.tree.TokenText.{TokenText}
 use Rattle.smi_names.specs.meaning.Meaning.{QualifiedName}
 use Rattle.smi_tree.specs.types.Chain.{TypeOrigin}
 use Rattle.smi_tree.specs.types.Types.{Facts, HasSyntax, origin_of_object}
 use Rattle.smi_names.specs.declared.meaning.base.TypeBase.{TypeBase}
 use Rattle.smi_names.specs.declared.meaning.base.TypeBase.TheVariants as T
 use Rattle.smi_names.specs.nodes.Nodes.{Node}
-use Rattle.smi_tree.specs.columns.Parts.{IsFixedSize, HasExtent, IsPartOf}
+use Rattle.smi_tree.specs.columns.Parts.{StatesBound, IsFixedBy, HasExtent, IsPartOf}
 use Rattle.smi_tree.specs.columns.Index.{IsIndexPart, AreParts, IsIndexed, IsIndexOf, IsIndex}
 use Rattle.smi_tree.specs.columns.Index.{AreIndexesOf, index_at, is_implied}
 use Rattle.smi_tree.proofs.Lists.{get_within, same_items}
 use Rattle.smi_tree.proofs.Parting.{defined_once}
 use Rattle.smi_tree.proofs.Indexing.{index_once}
 
-fixed_once : (sizes : Option (List Range)) (n m : ℕ) → IsFixedSize sizes n → IsFixedSize sizes m → n ≡ m
+fixed_once : (sizes : Option (List Range)) (n m : ℕ) (a : (bound : TokenText) × IsFixedBy sizes bound × StatesBound bound n)
+    (b : (bound : TokenText) × IsFixedBy sizes bound × StatesBound bound m) → n ≡ m
 fixed_once sizes n m a b =
-    let one = a.only in
-    let other = b.only in
-    let same : a.range ≡ b.range = cc in
-    let states = rw same at a.single.states in
-    let also = b.single.states in
+    let one = a.1.only in
+    let other = b.1.only in
+    let same : a.1.range ≡ b.1.range = cc in
+    let here = rw same at a.1.here in
+    let there = b.1.here in
+    let bound : a.0 ≡ b.0 = cc in
+    let states = rw bound at a.2 in
+    let also = b.2 in
     cc
 
 extent_once : (sizes : Option (List Range)) (implied : Bool) (e f : Extent) → HasExtent sizes implied e → HasExtent sizes implied f → e ≡ f
 extent_once sizes implied (Fixed n) (Fixed m) a b = ap (λ k. Fixed k) (fixed_once sizes n m a b)
-extent_once sizes implied (Fixed n) Counted a b = absurd (b.0 n a)
-extent_once sizes implied (Fixed n) Implied a b = absurd (b.0 n a)
-extent_once sizes implied Counted (Fixed m) a b = absurd (a.0 m b)
+extent_once sizes implied (Fixed n) Counted a b = absurd (b.0 a.0 a.1)
+extent_once sizes implied (Fixed n) Implied a b = absurd (b.0 a.0 a.1)
+extent_once sizes implied Counted (Fixed m) a b = absurd (a.0 b.0 b.1)
 extent_once sizes implied Counted Counted a b = refl
 extent_once sizes implied Counted Implied a b = let no = a.1 in let yes = b.1 in absurd (cc)
-extent_once sizes implied Implied (Fixed m) a b = absurd (a.0 m b)
+extent_once sizes implied Implied (Fixed m) a b = absurd (a.0 b.0 b.1)
 extent_once sizes implied Implied Counted a b = let yes = a.1 in let no = b.1 in absurd (cc)
 extent_once sizes implied Implied Implied a b = refl
 

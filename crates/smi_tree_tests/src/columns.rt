@@ -149,3 +149,38 @@ static COLUMNS_OF_ROWS: [Row<'static>; 2] = [
     ("column", Some(&[IndexPart::Address, IndexPart::Number])),
     ("key", Some(&[IndexPart::Address, IndexPart::Number])),
 ];
+
+/// Rows whose index is a string of a size below zero, with IMPLIED and without, of one that is a
+/// range from there, and of no octets.
+const SIZES: &[u8] = b"M DEFINITIONS ::= BEGIN
+below OBJECT-TYPE SYNTAX OCTET STRING (SIZE (-5)) MAX-ACCESS read-only STATUS current
+  DESCRIPTION \"\" ::= { belowRow 1 }
+belowRow OBJECT-TYPE SYNTAX R MAX-ACCESS not-accessible STATUS current DESCRIPTION \"\"
+  INDEX { below } ::= { iso 1 }
+implied OBJECT-TYPE SYNTAX Opaque (SIZE (-5)) MAX-ACCESS read-only STATUS current
+  DESCRIPTION \"\" ::= { impliedRow 1 }
+impliedRow OBJECT-TYPE SYNTAX R MAX-ACCESS not-accessible STATUS current DESCRIPTION \"\"
+  INDEX { IMPLIED implied } ::= { iso 2 }
+range OBJECT-TYPE SYNTAX OCTET STRING (SIZE (-5..-5)) MAX-ACCESS read-only STATUS current
+  DESCRIPTION \"\" ::= { rangeRow 1 }
+rangeRow OBJECT-TYPE SYNTAX R MAX-ACCESS not-accessible STATUS current DESCRIPTION \"\"
+  INDEX { range } ::= { iso 3 }
+none OBJECT-TYPE SYNTAX OCTET STRING (SIZE (-0)) MAX-ACCESS read-only STATUS current
+  DESCRIPTION \"\" ::= { noneRow 1 }
+noneRow OBJECT-TYPE SYNTAX R MAX-ACCESS not-accessible STATUS current DESCRIPTION \"\"
+  INDEX { none } ::= { iso 4 }
+END
+";
+
+#[test]
+fn no_string_has_a_size_below_zero(rt: HostRuntime) -> Result<(), Fail> {
+    assert!(rt; wrong_row(rt.alloc(), SIZES, &COLUMNS_OF_SIZES)?.is_none());
+    Ok(())
+}
+
+static COLUMNS_OF_SIZES: [Row<'static>; 4] = [
+    ("below", None),
+    ("implied", None),
+    ("range", Some(&[TEXT])),
+    ("none", Some(&[IndexPart::Text(Extent::Fixed(0))])),
+];

@@ -28,28 +28,26 @@ use Rattle.smi_names.specs.declared.meaning.base.TypeBase.TheVariants as T
 abbrev pub StatesBound : TokenText → ℕ → Type 0
 StatesBound t n = bound_in t.kind t.text ≡ Some (pos n)
 
--- the range is one bound alone, and states this number; `n..n` is no single bound
-pub record IsSingleBound (range : Range) (n : ℕ) : Type 0 where
-  pub states : StatesBound range.low n
-  pub alone : range.high ≡ None
-
--- a fixed SIZE: a single bound and nothing else
-pub record IsFixedSize (sizes : Option (List Range)) (n : ℕ) : Type 0 where
+-- a fixed SIZE: one range, which is this bound alone; `n..n` is no single bound
+pub record IsFixedBy (sizes : Option (List Range)) (bound : TokenText) : Type 0 where
   pub range : Range
   pub only : sizes ≡ Some (range ∷ [])
-  pub single : IsSingleBound range n
+  pub alone : range.high ≡ None
+  pub here : range.low ≡ bound
 
-abbrev pub HasNoFixedSize : Option (List Range) → Type 0
-HasNoFixedSize sizes = (n : ℕ) → IsFixedSize sizes n → ⊥
+abbrev pub IsNotFixed : Option (List Range) → Type 0
+IsNotFixed sizes = (bound : TokenText) → IsFixedBy sizes bound → ⊥
 
--- how many numbers a string has: as many as its SIZE fixes; otherwise as its length says, or, after
--- IMPLIED, all that remain
+-- how many numbers a string has: as many as its SIZE fixes, which is no number of them where the
+-- bound is below zero; otherwise as its length says, or, after IMPLIED, all that remain
 abbrev pub HasExtent : Option (List Range) → Bool → Extent → Type 0
-HasExtent sizes implied (Fixed n) = IsFixedSize sizes n
-HasExtent sizes implied Counted = HasNoFixedSize sizes × (implied ≡ false)
-HasExtent sizes implied Implied = HasNoFixedSize sizes × (implied ≡ true)
+HasExtent sizes implied (Fixed n) =
+    (bound : TokenText) × IsFixedBy sizes bound × StatesBound bound n
+HasExtent sizes implied Counted = IsNotFixed sizes × (implied ≡ false)
+HasExtent sizes implied Implied = IsNotFixed sizes × (implied ≡ true)
 
--- the part of an object of this base and SIZE, after IMPLIED or not; Counter64 has none
+-- the part of an object of this base and SIZE, after IMPLIED or not; Counter64 has none,
+-- and a string none whose SIZE no list of numbers has
 abbrev pub IsPartOf : TypeBase → Option (List Range) → Bool → IndexPart → Type 0
 IsPartOf T.Integer sizes implied part = part ≡ P.Number
 IsPartOf T.Counter32 sizes implied part = part ≡ P.Number

@@ -7,5 +7,5 @@ use Rattle.smi_tree.proofs.columns.part.number.Goals as goal
 pub overflow_cast-result : goal.overflow_cast-result
 overflow_cast-result c =
     let most : c.in_ok-value.value ≤ℤ pos 18446744073709551615 =
-    bound_fits c.args.end.now.kind c.as_bytes.result.now c.in_ok-value.value (sym c.in_ok-value.ensures) in
+    bound_fits c.args.bound.now.kind c.as_bytes.result.now c.in_ok-value.value (sym c.in_ok-value.ensures) in
     grind (arith, ints)
