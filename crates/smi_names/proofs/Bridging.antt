@@ -2,9 +2,9 @@
 use Rattle.std.proofs.Common.{◌≡◌, ℕ, List, Some, None, refl, sym, ap, ◌∙◌, subst}
 use Rattle.smi_names.specs.chains.Chain.{Origin, numbers, after, nowhere, next_of, HasEnd, ends, leads_on, HasIdentifier, by_itself, after_another}
 use Rattle.smi_names.specs.chains.Chain.{EndsNowhere, here, further}
-use Rattle.smi_names.specs.chains.Basis.{ComesTo}
-use Rattle.smi_names.specs.declared.chains.basis.Resolution.{Resolution}
-use Rattle.smi_names.specs.declared.chains.basis.Resolution.TheVariants as R
+use Rattle.smi_names.specs.chains.Resolution.{ComesTo}
+use Rattle.smi_names.specs.declared.chains.resolution.Resolution.{Resolution}
+use Rattle.smi_names.specs.declared.chains.resolution.Resolution.TheVariants as R
 use Rattle.smi_names.specs.meaning.Names.{map_origin}
 
 module _ {A : Type 0} (f : A → ℕ) where

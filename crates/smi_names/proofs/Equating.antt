@@ -3,15 +3,15 @@ use Rattle.std.proofs.Common.{◌≡◌, ℕ, zero, suc, ◌+◌, ◌-◌, ◌<�
 use Rattle.std.proofs.Common.{is_some, MatchOption, Option, Some, None, refl, sym, ap, ◌∙◌, arith}
 use Rattle.std.proofs.lemmas.List.{get_or_past, length-map, length_push}
 use Rattle.std.proofs.lemmas.Bool.{cases_eq, cases_lt, eqb-true}
-use Rattle.std.proofs.lemmas.Option.{slice_get_past, slice_get_within, slice_get_read, get_or_from_slice_get}
+use Rattle.std.proofs.lemmas.Option.{slice_get-map, slice_get_past, slice_get_within, slice_get_read, get_or_from_slice_get}
 use Rattle.std.specs.List.{slice_get, find, position_from, HoldsAt}
 use Rattle.std.specs.Option.{option_and_then, option_map}
 use Rattle.std.specs.Borrow.{Bor}
 use Rattle.smi_names.specs.chains.Chain.{after, nowhere, next_of}
-use Rattle.smi_names.specs.chains.Basis.{ComesTo, EachComesTo}
-use Rattle.smi_names.specs.chains.Link.{origin_of_link, origin_by_link}
+use Rattle.smi_names.specs.chains.Resolution.{ComesTo, EachComesTo}
+use Rattle.smi_names.specs.chains.Link.{origin_of, origin_at}
 use Rattle.smi_names.specs.declared.chains.link.Link.{Link}
-use Rattle.smi_names.specs.declared.chains.basis.Resolution.{Resolution}
+use Rattle.smi_names.specs.declared.chains.resolution.Resolution.{Resolution}
 use Rattle.smi_text.specs.trees.Mark.{same_text}
 use Rattle.smi_text.specs.declared.trees.tree.Module.{Module}
 use Rattle.smi_text.specs.declared.trees.tree.Def.{Def}
@@ -31,23 +31,18 @@ use Rattle.smi_names.proofs.Placing.{get-push, module_found, module_missing}
 past_get : {X : Type 0} (xs : List X) (i : ℕ) → slice_get xs i ≡ None → length xs ≤ i
 past_get xs i e = elim (cases_lt i (length xs)) [ inl l ↦ let r = get_within xs i l in let h = r.1 in absurd (cc) | inr l ↦ l ]
 
-pub get-map : {A B : Type 0} (f : A → B) (xs : List A) (p : ℕ) → slice_get (map f xs) p ≡ option_map f (slice_get xs p)
-get-map f [] p = refl
-get-map f (x ∷ xs) zero = refl
-get-map f (x ∷ xs) (suc p) = get-map f xs p
-
 -- where links lead, imports do
-pub AreImportsLed-links : (d : Directory) (bs : List Link) → AreLinks d d.entries.items bs → AreImportsLed d (map (λ l. next_of (origin_of_link l)) bs)
+pub AreImportsLed-links : (d : Directory) (bs : List Link) → AreLinks d d.entries.items bs → AreImportsLed d (map (λ l. next_of (origin_of l)) bs)
 AreImportsLed-links d bs are = record {
   each = λ p e i at is.
       let b = get_within bs p (omega (arith, slice_get_within d.entries.items p e at, are.long)) in
       let a : QualifiedName = record { home = i.source.octets; name = e.name.now } in
-      let leads : origin_of_link b.0 ≡ after (place_by d a) [] = are.each p e b.0 at b.1 ∙ rw is refl in
-      get-map (λ l. next_of (origin_of_link l)) bs p ∙ rw b.1 (ap (λ o. Some (next_of o)) leads);
+      let leads : origin_of b.0 ≡ after (place_by d a) [] = are.each p e b.0 at b.1 ∙ rw is refl in
+      slice_get-map (λ l. next_of (origin_of l)) bs p ∙ rw b.1 (ap (λ o. Some (next_of o)) leads);
 }
 
 pub AreLinks-more : (d : Directory) (es : List Entry) (bs : List Link) (e : Entry) (b : Link) → AreLinks d es bs
-    → origin_of_link b ≡ map_origin (place_by d) (origin_by (place_of_entry e) (Some (content_of e).decided))
+    → origin_of b ≡ map_origin (place_by d) (origin_by (place_of_entry e) (Some (content_of e).decided))
     → AreLinks d (es ++ e ∷ []) (bs ++ b ∷ [])
 AreLinks-more d es bs e b are says = record {
   long = length_push bs b ∙ rw are.long (sym (length_push es e));
@@ -107,7 +102,7 @@ entry_at ms d dir a = by (place_in d.homes a.home) refl
 module _ (ms : List Module) (d : Directory) (dir : IsDirectory ms d) (next : List (Option ℕ)) (nexts : AreImportsLed d next) (p : ℕ) (e : Entry)
     (at : slice_get d.entries.items p ≡ Some e) (c : Content) (there : slice_get (map content_of d.entries.items) p ≡ Some c) where
   content_is : content_of e ≡ c
-  content_is = let read : slice_get (map content_of d.entries.items) p ≡ Some (content_of e) = get-map content_of d.entries.items p ∙ rw at refl in cc
+  content_is = let read : slice_get (map content_of d.entries.items) p ≡ Some (content_of e) = slice_get-map content_of d.entries.items p ∙ rw at refl in cc
 
   pub next_import : (i : Import) → decision_of e.decider ≡ imported i → (r : Option ℕ) → slice_get next p ≡ Some r
       → IsNextOf ms (map content_of d.entries.items) c.name c.decided r
@@ -115,7 +110,7 @@ module _ (ms : List Module) (d : Directory) (dir : IsDirectory ms d) (next : Lis
       let a : QualifiedName = record { home = i.source.octets; name = e.name.now } in
       let leads : slice_get next p ≡ Some (Some (place_by d a)) = nexts.each p e i at is in
       let to : r ≡ Some (place_by d a) = cc in
-      rw (sym content_is, is) (place_by d a, to, get-map content_of d.entries.items (place_by d a) ∙ entry_at ms d dir a)
+      rw (sym content_is, is) (place_by d a, to, slice_get-map content_of d.entries.items (place_by d a) ∙ entry_at ms d dir a)
 
   pub next_defined : (x : Def) → decision_of e.decider ≡ defined x → IsNextOf ms (map content_of d.entries.items) c.name c.decided None
   next_defined x is = rw (sym content_is, is) refl
@@ -123,18 +118,18 @@ module _ (ms : List Module) (d : Directory) (dir : IsDirectory ms d) (next : Lis
   pub next_root : (n : ℕ) → decision_of e.decider ≡ root n → IsNextOf ms (map content_of d.entries.items) c.name c.decided None
   next_root n is = rw (sym content_is, is) refl
 
-origin_there : (xs : List Link) (p : ℕ) (b : Link) → slice_get xs p ≡ Some b → origin_by_link xs p ≡ origin_of_link b
+origin_there : (xs : List Link) (p : ℕ) (b : Link) → slice_get xs p ≡ Some b → origin_at xs p ≡ origin_of b
 origin_there [] p b e = absurd (cc)
 origin_there (x ∷ xs) zero b e = let is : x ≡ b = cc in rw is refl
 origin_there (x ∷ xs) (suc p) b e = origin_there xs p b e
 
 -- the origin of a place is that of its name
 pub origins : (ms : List Module) (d : Directory) → IsDirectory ms d → (bs : List Link) → AreLinks d d.entries.items bs → (a : QualifiedName)
-    → origin_by_link bs (place_by d a) ≡ map_origin (place_by d) (origin ms a)
+    → origin_at bs (place_by d a) ≡ map_origin (place_by d) (origin ms a)
 origins ms d dir bs are a = by (slice_get d.entries.items (place_by d a)) refl
   where
-    origin_past : (p : ℕ) → length bs ≤ p → origin_by_link bs p ≡ nowhere
-    origin_past p l = get_or_past (map origin_of_link bs) p nowhere (omega (arith, length-map bs origin_of_link))
+    origin_past : (p : ℕ) → length bs ≤ p → origin_at bs p ≡ nowhere
+    origin_past p l = get_or_past (map origin_of bs) p nowhere (omega (arith, length-map bs origin_of))
 
     undecided : (r : Option Module) → None ≡ option_and_then (λ m. decided_as m a.name (decision m a.name)) r → origin_in a r ≡ nowhere
     undecided None e = refl
@@ -159,7 +154,7 @@ origins ms d dir bs are a = by (slice_get d.entries.items (place_by d a)) refl
             let decided : (content_of e).decided ≡ v = ap (λ x. x.decided) is in
             rw (home, name, decided) refl
 
-    by : (r : Option Entry) → slice_get d.entries.items (place_by d a) ≡ r → origin_by_link bs (place_by d a) ≡ map_origin (place_by d) (origin ms a)
+    by : (r : Option Entry) → slice_get d.entries.items (place_by d a) ≡ r → origin_at bs (place_by d a) ≡ map_origin (place_by d) (origin ms a)
     by None e =
         let none = undecided (module_named ms a.home) (rw e at (entry_at ms d dir a)) in
         rw (origin_past (place_by d a) (omega (arith, past_get d.entries.items (place_by d a) e, are.long)), none) refl
@@ -172,7 +167,7 @@ origins ms d dir bs are a = by (slice_get d.entries.items (place_by d a)) refl
 -- the origin of an entry's place is that of the entry's name, where its module is the first of its name
 entry_origin : (ms : List Module) (d : Directory) → IsDirectory ms d → (bs : List Link) → AreLinks d d.entries.items bs → (p : ℕ) (e : Entry)
     → slice_get d.entries.items p ≡ Some e → module_named ms e.«module».now.name.octets ≡ Some e.«module».now
-    → origin_by_link bs p ≡ map_origin (place_by d) (origin ms (place_of_entry e))
+    → origin_at bs p ≡ map_origin (place_by d) (origin ms (place_of_entry e))
 entry_origin ms d dir bs are p e at named =
     let within = slice_get_within d.entries.items p e at in
     let b = get_within bs p (omega (arith, within, are.long)) in
@@ -181,18 +176,18 @@ entry_origin ms d dir bs are p e at named =
     origin_there bs p b.0 b.1 ∙ are.each p e b.0 at b.1 ∙ ap (map_origin (place_by d)) (sym from)
 
 pub AreResolutions-all : (ms : List Module) (d : Directory) → IsDirectory ms d → (bs : List Link) → AreLinks d d.entries.items bs → (rs : List Resolution)
-    → length rs ≡ length bs → EachComesTo (origin_by_link bs) rs → AreResolutions ms d rs
+    → length rs ≡ length bs → EachComesTo (origin_at bs) rs → AreResolutions ms d rs
 AreResolutions-all ms d dir bs are rs long each = record {
   directory = dir;
-  comes = λ a r e. ComesTo-back (place_by d) (origin ms) (origin_by_link bs) (origins ms d dir bs are) a r
+  comes = λ a r e. ComesTo-back (place_by d) (origin ms) (origin_at bs) (origins ms d dir bs are) a r
       (rw (get_or_from_slice_get rs (place_by d a) r r e) at (each (place_by d a) r (slice_get_within rs (place_by d a) r e)));
   long = long ∙ are.long;
-  entries = λ p e r at there named. ComesTo-at (place_by d) (origin ms) (origin_by_link bs) (origins ms d dir bs are) p (place_of_entry e) r
+  entries = λ p e r at there named. ComesTo-at (place_by d) (origin ms) (origin_at bs) (origins ms d dir bs are) p (place_of_entry e) r
       (entry_origin ms d dir bs are p e at named)
       (rw (get_or_from_slice_get rs p r r there) at (each p r (slice_get_within rs p r there)));
   leads_nowhere = λ a e. from_nowhere (place_by d) (origin ms a)
       (sym (origins ms d dir bs are a)
-      ∙ get_or_past (map origin_of_link bs) (place_by d a) nowhere (omega (arith, length-map bs origin_of_link, past_get rs (place_by d a) e)));
+      ∙ get_or_past (map origin_of bs) (place_by d a) nowhere (omega (arith, length-map bs origin_of, past_get rs (place_by d a) e)));
 }
 
 -- what `get` gives

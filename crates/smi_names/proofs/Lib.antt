@@ -1,7 +1,6 @@
 pub mod Climbing
 pub mod Filling
 pub mod Sharing
-pub mod Ending
 pub mod Bridging
 pub mod Equating
 pub mod Knowing

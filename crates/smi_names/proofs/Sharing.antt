@@ -6,8 +6,8 @@ use Rattle.std.proofs.lemmas.List.Elements.{All-head, All-tail, All-set, All-wea
 use borrow.Author.Tests.{leb-false}
 use Rattle.smi_names.specs.chains.Resolving.{followed_by, resolution_at}
 use Rattle.smi_names.specs.chains.Shared.{shared, AreWithin, HasReasons, GrowsTo}
-use Rattle.smi_names.specs.declared.chains.basis.Resolution.{Resolution}
-use Rattle.smi_names.specs.declared.chains.basis.Resolution.TheVariants as R
+use Rattle.smi_names.specs.declared.chains.resolution.Resolution.{Resolution}
+use Rattle.smi_names.specs.declared.chains.resolution.Resolution.TheVariants as R
 
 -- with no numbers after it an identifier is the same
 pub followed_by_none : (o : List ℕ) → length o ≤ 128 → followed_by (R.Numbers o) [] ≡ R.Numbers o

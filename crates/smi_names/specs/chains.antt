@@ -1,8 +1,7 @@
 pub mod Chain
-pub mod Basis
+pub mod Resolution
 pub mod Order
 pub mod Search
 pub mod Resolving
-pub mod Ends
 pub mod Link
 pub mod Shared

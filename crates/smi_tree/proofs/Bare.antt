@@ -25,7 +25,8 @@ use Rattle.smi_tree.specs.Bare.{bare, IsRootOf}
 use Rattle.smi_tree.proofs.Childhood.{child-is}
 use Rattle.smi_tree.proofs.Reaching.{longest-some, longest-none}
 use Rattle.smi_tree.proofs.Sounding.{stands, root-case, root-word, leads-alike}
-use Rattle.smi_tree.proofs.Syntaxes.{no_syntax}
+use Rattle.smi_tree.specs.types.Chain.{no_type}
+use Rattle.smi_tree.proofs.Following.{no_syntax}
 
 -- the roots have no syntax and no index
 none-at : {A : Type 0} (k : ℕ) → slice_index_or {A = Option A} (None ∷ (None ∷ (None ∷ []))) k None ≡ None
@@ -35,7 +36,7 @@ none-at (suc (suc zero)) = refl
 none-at (suc (suc (suc k))) = refl
 
 root-syntax : (k : ℕ) (n : Node) → slice_get roots k ≡ Some n → IsSyntaxOf [] n None
-root-syntax = root-case (λ n. IsSyntaxOf [] n None) (no_syntax []) (no_syntax []) (no_syntax [])
+root-syntax = root-case (λ n. IsSyntaxOf [] n None) (no_syntax [] no_type refl) (no_syntax [] no_type refl) (no_syntax [] no_type refl)
 
 no_object : IsObjectType None → ⊥
 no_object (d, o, e, k) = cc

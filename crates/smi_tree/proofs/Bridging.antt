@@ -59,6 +59,13 @@ node-at ms (x ∷ ss) [] k s o e f = cc
 node-at ms (x ∷ ss) (y ∷ os) zero s o e f = cc
 node-at ms (x ∷ ss) (y ∷ os) (suc k) s o e f = node-at ms ss os k s o e f
 
+pub nodes-get : (ms : List Module) (ss : List Source) (os : List (List ℕ)) (k : ℕ) (node : Node) → slice_get (nodes_of ms ss os) k ≡ Some node
+    → (s : Source) × (o : List ℕ) × (slice_get ss k ≡ Some s) × (slice_get os k ≡ Some o) × (node ≡ node_from ms s o)
+nodes-get ms [] os k node e = absurd (cc)
+nodes-get ms (s ∷ ss) [] k node e = absurd (cc)
+nodes-get ms (s ∷ ss) (o ∷ os) zero node e = (s, o, refl, refl, cc)
+nodes-get ms (s ∷ ss) (o ∷ os) (suc k) node e = nodes-get ms ss os k node e
+
 pub node-none : (ms : List Module) (ss : List Source) (os : List (List ℕ)) (k : ℕ) → length ss ≡ length os → slice_get ss k ≡ None
     → slice_get (nodes_of ms ss os) k ≡ None
 node-none ms [] os k l e = refl

@@ -11,15 +11,14 @@ use Rattle.smi_text.specs.declared.trees.tree.Def.{Def}
 use Rattle.smi_text.specs.declared.trees.tree.Range.{Range}
 use Rattle.smi_text.specs.declared.trees.tree.IndexParts.{IndexParts}
 use Rattle.smi_text.specs.declared.trees.tree.TokenText.{TokenText}
-use Rattle.smi_names.specs.meaning.Meaning.{QualifiedName}
-use Rattle.smi_tree.specs.types.Chain.{TypeOrigin}
-use Rattle.smi_tree.specs.types.Types.{Facts, HasSyntax, origin_of_object}
+use Rattle.smi_tree.specs.types.Types.{HasSyntax, origin_of_object}
 use Rattle.smi_names.specs.declared.meaning.base.TypeBase.{TypeBase}
 use Rattle.smi_names.specs.declared.meaning.base.TypeBase.TheVariants as T
 use Rattle.smi_names.specs.nodes.Nodes.{Node}
 use Rattle.smi_tree.specs.columns.Parts.{StatesBound, IsFixedBy, HasExtent, IsPartOf}
 use Rattle.smi_tree.specs.columns.Index.{IsIndexPart, AreParts, IsIndexed, IsIndexOf, IsIndex}
 use Rattle.smi_tree.specs.columns.Index.{AreIndexesOf, index_at, is_implied}
+use Rattle.smi_tree.proofs.Choosing.{one_syntax}
 use Rattle.smi_tree.proofs.Lists.{get_within, same_items}
 use Rattle.smi_tree.proofs.Parting.{defined_once}
 use Rattle.smi_tree.proofs.Indexing.{index_once}
@@ -62,12 +61,12 @@ part_once T.Opaque sizes implied p q a b = a.2 ∙ ap (λ e. P.Octets e) (extent
 part_once T.ObjectIdentifier sizes implied p q a b = a ∙ sym b
 part_once T.Counter64 sizes implied p q a b = absurd a
 
-module _ (ms : List Module) (one : (o : TypeOrigin QualifiedName) (f g : Facts) → HasSyntax ms o f → HasSyntax ms o g → f ≡ g) where
+module _ (ms : List Module) where
   same_part : (m : Module) (x : List ℕ) (implied : Bool) (p q : IndexPart) → IsIndexPart ms m x implied p → IsIndexPart ms m x implied q → p ≡ q
   same_part m x implied p q a b =
       let same = defined_once a.named b.named in
       let syntax : HasSyntax ms (origin_of_object b.home.name.octets b.object) a.facts = rw (same.home, same.definition) at a.syntax in
-      let facts = one (origin_of_object b.home.name.octets b.object) a.facts b.facts syntax b.syntax in
+      let facts = one_syntax ms (origin_of_object b.home.name.octets b.object) a.facts b.facts syntax b.syntax in
       part_once b.facts.base b.facts.sizes implied p q (rw facts at a.reads) b.reads
 
   same_parts : (m : Module) (clause : IndexParts) (ps qs : List IndexPart) → AreParts ms m clause ps → AreParts ms m clause qs → ps ≡ qs
@@ -83,19 +82,18 @@ module _ (ms : List Module) (one : (o : TypeOrigin QualifiedName) (f g : Facts) 
       let same : a.clause ≡ b.clause = cc in
       same_parts m b.clause ps qs (rw same at a.read) b.read
 
-  pub same_index : (nodes : List Node) (column : Node) (ps qs : List IndexPart) → IsIndexOf ms nodes column ps → IsIndexOf ms nodes column qs → ps ≡ qs
+  same_index : (nodes : List Node) (column : Node) (ps qs : List IndexPart) → IsIndexOf ms nodes column ps → IsIndexOf ms nodes column qs → ps ≡ qs
   same_index nodes column ps qs a b =
       same_indexed b.index_module b.index_definition ps qs (index_once ms nodes column b.row b.row_module b.row_definition b.index_module
       b.index_definition ps b.of_row b.home b.defined b.uses a) b.indexed
 
 -- each node has one index or none, so the lists of them are the same
-module _ (ms : List Module) (nodes : List Node)
-    (one : (column : Node) (ps qs : List IndexPart) → IsIndexOf ms nodes column ps → IsIndexOf ms nodes column qs → ps ≡ qs) where
+module _ (ms : List Module) (nodes : List Node) where
   index_or_none : (node : Node) (r s : Option (List IndexPart)) → IsIndex ms nodes node r → IsIndex ms nodes node s → r ≡ s
   index_or_none node None None a b = refl
   index_or_none node None (Some qs) a b = absurd (a qs b)
   index_or_none node (Some ps) None a b = absurd (b ps a)
-  index_or_none node (Some ps) (Some qs) a b = ap (λ x. Some x) (one node ps qs a b)
+  index_or_none node (Some ps) (Some qs) a b = ap (λ x. Some x) (same_index ms nodes node ps qs a b)
 
   pub same_indexes : (is js : List (Option (List IndexPart))) → AreIndexesOf ms nodes is → AreIndexesOf ms nodes js → is ≡ js
   same_indexes is js a b = ext_get_or None is js (a.long ∙ sym b.long) (λ k inside.

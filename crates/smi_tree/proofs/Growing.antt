@@ -9,6 +9,7 @@ use Rattle.std.specs.Ordering.{nat_cmp}
 use Rattle.std.specs.BTreeMap.{get}
 use Rattle.smi_tree.specs.branches.Branches.{follower, standing_at, GrowsBranch, made}
 use Rattle.smi_tree.specs.declared.branches.branch.Branch.{Branch}
+use Rattle.smi_tree.proofs.Lists.{get_at_push}
 
 get-set_same : {X : Type 0} (xs : List X) (i : ℕ) (y : X) → i < length xs → slice_get (set xs i y) i ≡ Some y
 get-set_same [] i y l = absurd (omega arith)
@@ -22,15 +23,11 @@ get-set_other (x ∷ xs) zero (suc j) y f = refl
 get-set_other (x ∷ xs) (suc i) zero y f = refl
 get-set_other (x ∷ xs) (suc i) (suc j) y f = get-set_other xs i j y (λ e. f (ap suc e))
 
-pub get-push : {X : Type 0} (xs : List X) (j : ℕ) (y : X) → j ≢ length xs → slice_get (xs ++ y ∷ []) j ≡ slice_get xs j
+get-push : {X : Type 0} (xs : List X) (j : ℕ) (y : X) → j ≢ length xs → slice_get (xs ++ y ∷ []) j ≡ slice_get xs j
 get-push [] zero y f = absurd (f refl)
 get-push [] (suc j) y f = refl
 get-push (x ∷ xs) zero y f = refl
 get-push (x ∷ xs) (suc j) y f = get-push xs j y (λ e. f (ap suc e))
-
-pub get-push_at : {X : Type 0} (xs : List X) (y : X) → slice_get (xs ++ y ∷ []) (length xs) ≡ Some y
-get-push_at [] y = refl
-get-push_at (x ∷ xs) y = get-push_at xs y
 
 pub follower_past : (bs : List Branch) (c m : ℕ) → length bs ≤ c → follower bs c m ≡ None
 follower_past bs c m l = rw (slice_get_past bs c l)
@@ -51,14 +48,14 @@ GrowsBranch-made old e a b at n inside read stands empty standing found others n
         | inr number ↦ rw (same, here, is_a) (others m number)
       ]
       | inr other ↦ rw (get-set_other (old ++ e ∷ []) at c b other) (elim (cases_eq c (length old)) [
-        | inl end ↦ rw (end, get-push_at old e, slice_get_past old (length old) (omega arith)) (empty m)
+        | inl end ↦ rw (end, get_at_push old e, slice_get_past old (length old) (omega arith)) (empty m)
         | inr before ↦ rw (get-push old c e before)
       ])
     ])
     (λ c. elim (cases_eq c at) [
       | inl same ↦ rw (same, here, is_a) standing
       | inr other ↦ rw (get-set_other (old ++ e ∷ []) at c b other) (elim (cases_eq c (length old)) [
-        | inl end ↦ rw (end, get-push_at old e, slice_get_past old (length old) (omega arith)) stands
+        | inl end ↦ rw (end, get_at_push old e, slice_get_past old (length old) (omega arith)) stands
         | inr before ↦ rw (get-push old c e before)
       ])
     ])

@@ -14,6 +14,7 @@ use Rattle.smi_tree.specs.columns.Index.{IsColumnOf, StandsAt, IsIndexOf, IsInde
 use Rattle.smi_tree.specs.columns.Index.{IsIndexed, UsesIndexOf, clause_of, index_at}
 use Rattle.smi_tree.specs.columns.Kept.{KeptOfModule, IsOwn, AreOwnOfAll, AreRows, HasRowAt}
 use Rattle.smi_tree.specs.columns.Kept.{HasRowOrNone, indexes_of, parts_at, items_of}
+use Rattle.smi_tree.proofs.Pairing.{pair_at}
 use Rattle.smi_tree.proofs.Parting.{Same, same_own, defined_once}
 
 -- ---- a column has one row, and a row uses one clause
@@ -67,7 +68,7 @@ indexes-length : (kept : List KeptOfModule) (rows : List (Option (ℕ × ℕ))) 
 indexes-length kept [] = refl
 indexes-length kept (x ∷ rows) = let rest = indexes-length kept rows in omega arith
 
-module _ (ms : List Module) (nodes : List Node) (kept : List KeptOfModule) (own : AreOwnOfAll ms ms kept) where
+module _ (ms : List Module) (nodes : List Node) (kept : List KeptOfModule) (own : AreOwnOfAll ms kept) where
   is_index_by : (node : Node) (i k : ℕ) (h : HasRowAt ms nodes node i k) (parts : Option (List IndexPart))
       → IsOwn ms h.used.index_module h.used.index_definition parts → IsIndex ms nodes node parts
   is_index_by node i k h None none = λ parts is.
@@ -90,13 +91,13 @@ module _ (ms : List Module) (nodes : List Node) (kept : List KeptOfModule) (own 
   is_index node None none = λ parts is.
       none is.row is.of_row is.row_module is.row_definition is.index_module is.index_definition is.home is.defined is.uses
   is_index node (Some p) h =
-      let of_module = own p.0 h.used.index_module h.used.at_module in
-      let of_def = of_module.2 p.1 h.used.index_definition h.used.there in
+      let of_module = pair_at _ ms kept own p.0 h.used.index_module h.used.at_module in
+      let of_def = pair_at _ h.used.index_module.defs of_module.0.items of_module.2 p.1 h.used.index_definition h.used.there in
       let found : parts_at kept p.0 p.1 ≡ items_of of_def.0 = rw (of_module.1, of_def.1) refl in
       rw found (is_index_by node p.0 p.1 h (items_of of_def.0) of_def.2)
 
   pub are_indexes : (rows : List (Option (ℕ × ℕ))) → AreRows ms nodes rows → AreIndexesOf ms nodes (indexes_of kept rows)
   are_indexes rows are = record {
     long = indexes-length kept rows ∙ are.long;
-    each = λ k node there. let r = are.each k node there in rw (index-at kept rows k r.0 r.1) (is_index node r.0 r.2);
+    each = λ k node there. let r = pair_at _ nodes rows are k node there in rw (index-at kept rows k r.0 r.1) (is_index node r.0 r.2);
   }

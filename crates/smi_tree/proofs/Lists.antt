@@ -1,6 +1,6 @@
 -- Elements of lists by their places.
-use Rattle.std.proofs.Common.{◌≡◌, ℕ, zero, suc, ◌<◌, List, [], ◌∷◌, ◌++◌, length, get_or, Option}
-use Rattle.std.proofs.Common.{Some, None, refl, arith, ◌⊎◌, inl, inr}
+use Rattle.std.proofs.Common.{◌≡◌, ℕ, zero, suc, ◌<◌, List, [], ◌∷◌, ◌++◌, length}
+use Rattle.std.proofs.Common.{Some, refl, arith, ◌⊎◌, inl, inr}
 use Rattle.std.specs.List.{slice_get}
 
 pub get_within : {A : Type 0} (xs : List A) (j : ℕ) → j < length xs → (x : A) × (slice_get xs j ≡ Some x)
@@ -8,23 +8,12 @@ get_within [] j l = absurd (omega arith)
 get_within (x ∷ xs) zero l = (x, refl)
 get_within (x ∷ xs) (suc j) l = get_within xs j (omega arith)
 
--- what leads on is a place
-pub within_some : {A : Type 0} (xs : List (Option A)) (j : ℕ) (b : A) → get_or xs j None ≡ Some b → j < length xs
-within_some [] j b e = absurd (cc)
-within_some (x ∷ xs) zero b e = omega arith
-within_some (x ∷ xs) (suc j) b e = omega (arith, within_some xs j b e)
-
 pub get_push : {A : Type 0} (xs : List A) (y : A) (j : ℕ) (x : A) → slice_get (xs ++ y ∷ []) j ≡ Some x
     → ((j < length xs) × (slice_get xs j ≡ Some x)) ⊎ ((j ≡ length xs) × (y ≡ x))
 get_push [] y zero x e = inr (refl, cc)
 get_push [] y (suc j) x e = absurd (cc)
 get_push (z ∷ xs) y zero x e = inl (omega arith, e)
 get_push (z ∷ xs) y (suc j) x e = elim (get_push xs y j x e) [ inl h ↦ inl (omega (arith, h.0), h.1) | inr h ↦ inr (omega (arith, h.0), h.1) ]
-
-pub get_before_push : {A : Type 0} (xs : List A) (y : A) (j : ℕ) (x : A) → slice_get xs j ≡ Some x → slice_get (xs ++ y ∷ []) j ≡ Some x
-get_before_push [] y j x e = absurd (cc)
-get_before_push (z ∷ xs) y zero x e = e
-get_before_push (z ∷ xs) y (suc j) x e = get_before_push xs y j x e
 
 pub get_at_push : {A : Type 0} (xs : List A) (y : A) → slice_get (xs ++ y ∷ []) (length xs) ≡ Some y
 get_at_push [] y = refl

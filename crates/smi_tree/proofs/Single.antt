@@ -1,37 +1,28 @@
 -- Modules have one tree, by one list of nodes, of syntaxes, of indexes and of warnings.
-use Rattle.std.proofs.Common.{◌≡◌, ℕ, zero, suc, ◌<◌, List, [], ◌∷◌, ◌++◌, length, Option, Some}
+use Rattle.std.proofs.Common.{◌≡◌, List, ◌++◌, Option, Some}
 use Rattle.std.proofs.Common.{None, slice_index_or, refl, sym, ap, ◌∙◌, arith}
 use Rattle.std.proofs.lemmas.List.{ext_get_or}
-use Rattle.std.specs.List.{slice_get}
 use Rattle.smi_text.specs.declared.trees.tree.Module.{Module}
-use Rattle.smi_names.specs.meaning.Meaning.{QualifiedName}
 use Rattle.smi_names.specs.nodes.Nodes.{Node, roots, Loads}
 use Rattle.smi_names.specs.declared.nodes.warning.Warning.{Warning}
-use Rattle.smi_tree.specs.types.Chain.{TypeOrigin}
-use Rattle.smi_tree.specs.types.Types.{Facts, HasSyntax, object_in}
-use Rattle.smi_tree.specs.columns.Index.{AreIndexesOf}
-use Rattle.smi_show.specs.declared.index.part.IndexPart.{IndexPart}
+use Rattle.smi_tree.specs.types.Types.{Facts, object_in}
 use Rattle.smi_tree.specs.Shown.{IsSyntaxOf, AreSyntaxesOf}
 use Rattle.smi_tree.specs.Tree.{Contents, IsTree}
-
-there : {X : Type 0} (xs : List X) (k : ℕ) → k < length xs → (x : X) × (slice_get xs k ≡ Some x)
-there [] k l = absurd (omega arith)
-there (x ∷ xs) zero l = (x, refl)
-there (x ∷ xs) (suc k) l = there xs k (omega arith)
+use Rattle.smi_tree.proofs.Choosing.{one_syntax}
+use Rattle.smi_tree.proofs.ColumnsSingle.{same_indexes}
+use Rattle.smi_tree.proofs.Lists.{get_within}
 
 module _ (ms : List Module)
-    (loading : (before : List Module) (ns es : List Node) (ws vs : List Warning) → Loads ms before ns ws → Loads ms before es vs → (ns ≡ es) × (ws ≡ vs))
-    (syntax : (o : TypeOrigin QualifiedName) (f g : Facts) → HasSyntax ms o f → HasSyntax ms o g → f ≡ g)
-    (indexes : (nodes : List Node) (is js : List (Option (List IndexPart))) → AreIndexesOf ms nodes is → AreIndexesOf ms nodes js → is ≡ js) where
+    (loading : (before : List Module) (ns es : List Node) (ws vs : List Warning) → Loads ms before ns ws → Loads ms before es vs → (ns ≡ es) × (ws ≡ vs)) where
   syntax_or_none : (n : Node) (r s : Option Facts) → IsSyntaxOf ms n r → IsSyntaxOf ms n s → r ≡ s
   syntax_or_none n None None a b = refl
   syntax_or_none n None (Some g) a b = absurd (a g b)
   syntax_or_none n (Some f) None a b = absurd (b f a)
-  syntax_or_none n (Some f) (Some g) a b = ap (λ x. Some x) (syntax (object_in n.home n.definition) f g a b)
+  syntax_or_none n (Some f) (Some g) a b = ap (λ x. Some x) (one_syntax ms (object_in n.home n.definition) f g a b)
 
   same_syntaxes : (nodes : List Node) (fs gs : List (Option Facts)) → AreSyntaxesOf ms nodes fs → AreSyntaxesOf ms nodes gs → fs ≡ gs
   same_syntaxes nodes fs gs a b = ext_get_or None fs gs (a.long ∙ sym b.long) (λ k inside.
-      let node = there nodes k (omega (arith, a.long)) in
+      let node = get_within nodes k (omega (arith, a.long)) in
       syntax_or_none node.0 (slice_index_or fs k None) (slice_index_or gs k None) (a.each k node.0 node.1) (b.each k node.0 node.1))
 
   same_contents : (t u : Contents) → t.modules ≡ u.modules → t.nodes ≡ u.nodes → t.syntaxes ≡ u.syntaxes → t.indexes ≡ u.indexes → t ≡ u
@@ -46,6 +37,6 @@ module _ (ms : List Module)
       let load = loading ms a.ns b.ns ws vs a.loads b.loads in
       let nodes : t.nodes ≡ u.nodes = a.nodes ∙ ap (λ x. roots ++ x) load.0 ∙ sym b.nodes in (
         same_contents t u (a.passed ∙ sym b.passed) nodes (same_syntaxes u.nodes t.syntaxes u.syntaxes (rw nodes at a.syntaxes) b.syntaxes)
-            (indexes u.nodes t.indexes u.indexes (rw nodes at a.indexes) b.indexes),
+            (same_indexes ms u.nodes t.indexes u.indexes (rw nodes at a.indexes) b.indexes),
         load.1,
       )

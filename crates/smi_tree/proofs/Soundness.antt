@@ -3,7 +3,7 @@ use Rattle.std.proofs.Common.{◌≡◌, ℕ, zero, suc, ◌⊎◌, inl, inr, Bo
 use Rattle.std.proofs.Common.{◌∷◌, ◌++◌}
 use Rattle.std.proofs.Common.{Option, Some, None, is_some, refl, subst}
 use Rattle.std.specs.List.{slice_get}
-use Rattle.smi_names.specs.declared.chains.basis.Resolution.TheVariants as R
+use Rattle.smi_names.specs.declared.chains.resolution.Resolution.TheVariants as R
 use Rattle.smi_text.specs.trees.Mark.{same_text}
 use Rattle.smi_text.specs.trees.Lookup.{identifier_value_of}
 use Rattle.smi_text.specs.declared.trees.tree.Module.{Module}

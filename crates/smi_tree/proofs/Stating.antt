@@ -1,23 +1,17 @@
 -- What a type states by itself, and where it leads.
 use Rattle.std.proofs.Common.{◌≡◌, ℕ, false, List, Option, Some, None, is_some, refl}
 use Rattle.std.specs.List.{slice_get}
-use Rattle.std.specs.Option.{option_and_then, option_copied}
-use Rattle.std.specs.Borrow.{Bor}
-use Rattle.smi_text.specs.declared.trees.tree.Def.{Def}
 use Rattle.smi_text.specs.declared.trees.tree.SimpleType.{SimpleType}
 use Rattle.smi_text.specs.declared.trees.tree.Base.{Base}
 use Rattle.smi_text.specs.declared.trees.tree.Base.TheVariants as B
 use Rattle.smi_text.specs.declared.trees.names.Name.{Name}
-use Rattle.smi_names.specs.meaning.Scopes.{content_of}
 use Rattle.smi_names.specs.meaning.Known.{KnownNames, content_named}
-use Rattle.smi_names.specs.declared.meaning.entry.Entry.{Entry}
 use Rattle.smi_names.specs.declared.meaning.entry.Decider.TheVariants as D
 use Rattle.smi_tree.specs.types.Chain.{Layer}
 use Rattle.smi_tree.specs.types.Types.{base_in, name_in_base, name_in, origin_of_base}
-use Rattle.smi_tree.specs.types.Types.{origin_of_simple, simple_in, layer, type_hint, type_syntax}
-use Rattle.smi_tree.specs.types.Leads.{content_origin, LeadsTo, states, StatesIf}
+use Rattle.smi_tree.specs.types.Types.{origin_of_simple, layer}
+use Rattle.smi_tree.specs.types.Leads.{LeadsTo}
 use Rattle.smi_names.specs.declared.meaning.base.TypeBase.{TypeBase}
-use Rattle.smi_tree.specs.declared.types.leads.Field.{Field}
 
 pub named : (b : Base) (x : Name) → b ≡ B.Named x → is_some (base_in b) ≡ false → Some x.octets ≡ name_in b
 named b x e h = rw e (by (base_in (B.Named x)) (rw e at h))
@@ -55,26 +49,3 @@ leads_to_name k home hint s x q e at = leads_by_name k home (layer hint s.refine
 pub leads_to_none : (k : KnownNames) (home : List ℕ) (hint : Option (List ℕ)) (s : SimpleType) → name_in s.base ≡ None
     → LeadsTo k (origin_of_simple home hint (Some s)) None
 leads_to_none k home hint s e = leads_nowhere k home (layer hint s.refinement) s.base (base_in s.base) e
-
-states_base : (home : List ℕ) (l : Layer) (b : Base) (t : Option TypeBase) (field : Field) → StatesIf field (origin_of_base home l b t) (states field l)
-states_base home l B.Integer None field = tt
-states_base home l B.Integer (Some t) field = refl
-states_base home l B.OctetString None field = tt
-states_base home l B.OctetString (Some t) field = refl
-states_base home l B.ObjectIdentifier None field = tt
-states_base home l B.ObjectIdentifier (Some t) field = refl
-states_base home l B.Bits None field = tt
-states_base home l B.Bits (Some t) field = refl
-states_base home l (B.Named y) (Some t) field = refl
-states_base home l (B.Named y) None field = refl
-
--- a definition of a type states what its syntax and its hint state
-pub states_defined : (e : Entry) (d : Bor Def) (s : SimpleType) (field : Field) → e.decider ≡ D.Definition d
-    → option_and_then simple_in (type_syntax d.now.kind) ≡ Some s
-    → StatesIf field (content_origin (content_of e)) (states field (layer (type_hint d.now.kind) s.refinement))
-states_defined e d s field by is =
-    rw (by, is) (states_base e.module.now.name.octets (layer (type_hint d.now.kind) s.refinement) s.base (base_in s.base) field)
-
-pub is_some-copied : {X : Type 0} (r : Option (Bor X)) → is_some r ≡ is_some (option_copied r)
-is_some-copied None = refl
-is_some-copied (Some x) = refl

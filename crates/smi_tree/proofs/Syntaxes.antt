@@ -13,7 +13,7 @@ use Rattle.smi_names.specs.declared.nodes.source.Source.{Source}
 use Rattle.smi_names.specs.declared.nodes.source.Source.TheVariants as S
 use Rattle.smi_tree.specs.types.Chain.{TypeOrigin, no_type}
 use Rattle.smi_tree.specs.types.Types.{Facts, HasSyntax, HasNoSyntax, object_in, object_origin}
-use Rattle.smi_tree.specs.types.Kept.{kept_syntax}
+use Rattle.smi_tree.specs.types.Kept.{kept_syntax, AreTypesOf}
 use Rattle.smi_tree.specs.declared.types.types.Types.{Types}
 use Rattle.smi_tree.specs.Places.{definition_from}
 use Rattle.smi_tree.specs.Shown.{IsSyntaxOf, AreSyntaxesOf, syntax_from, syntaxes_from, units_of}
@@ -23,9 +23,7 @@ use Rattle.smi_tree.specs.columns.Index.{AreIndexesOf}
 use Rattle.smi_tree.specs.Tree.{IsTree}
 use Rattle.smi_tree.specs.Kept.{contents}
 use Rattle.smi_tree.proofs.Bridging.{parts, node-none}
-
-pub no_syntax : (ms : List Module) → HasNoSyntax ms no_type
-no_syntax ms f h = elim h.chain [ ]
+use Rattle.smi_tree.proofs.Following.{no_syntax}
 
 same_object : (ms : List Module) (i k : ℕ) → object_in (slice_get ms i) (gathered.def_of_module (slice_get ms i) k) ≡ object_origin ms i k
 same_object ms i k = by (slice_get ms i)
@@ -34,15 +32,14 @@ same_object ms i k = by (slice_get ms i)
     by None = refl
     by (Some m) = refl
 
-module _ (ms : List Module) (t : Types)
-    (right : (i k : ℕ) → MatchOption (kept_syntax ms t i k) (HasNoSyntax ms (object_origin ms i k)) (λ f. HasSyntax ms (object_origin ms i k) f)) where
+module _ (ms : List Module) (t : Types) (right : AreTypesOf ms t) where
   of_origin : (n : Node) (o : TypeOrigin QualifiedName) → object_in n.home n.definition ≡ o → (r : Option Facts)
       → MatchOption r (HasNoSyntax ms o) (λ f. HasSyntax ms o f) → IsSyntaxOf ms n r
   of_origin n o same None h = rw same h
   of_origin n o same (Some f) h = rw same h
 
   of_source : (s : Source) (o : List ℕ) → IsSyntaxOf ms (node_from ms s o) (syntax_from ms t s)
-  of_source (S.Root n) o = no_syntax ms
+  of_source (S.Root n) o = no_syntax ms no_type refl
   of_source (S.Definition i k) o =
       of_origin (node_from ms (S.Definition i k) o) (object_origin ms i k) (rw (parts ms (S.Definition i k) o) (same_object ms i k)) (kept_syntax ms t i k)
       (right i k)

@@ -1,9 +1,8 @@
 -- The rows of columns, and the INDEX clauses that they use.
-use Rattle.std.proofs.Common.{◌≡◌, ℕ, ◌+◌, ◌<◌, ◌≤◌, List, [], ◌∷◌, ◌++◌, length, MatchOption}
-use Rattle.std.proofs.Common.{Option, Some, None, refl, sym, ap, ◌∙◌, arith, inl, inr}
-use Rattle.std.proofs.lemmas.List.{length_push, same_from_push}
+use Rattle.std.proofs.Common.{◌≡◌, ℕ, ◌+◌, ◌≤◌, List, [], ◌∷◌, ◌++◌, length, MatchOption}
+use Rattle.std.proofs.Common.{Option, Some, None, refl, sym, ap, ◌∙◌, arith}
+use Rattle.std.proofs.lemmas.List.{same_from_push}
 use Rattle.std.proofs.lemmas.Option.{slice_get_within, get_or_from_slice_get}
-use Rattle.std.proofs.lemmas.Bool.{cases_eq}
 use Rattle.std.specs.List.{slice_get}
 use Rattle.smi_tree.specs.branches.Standing.{place_of, oid_at}
 use Rattle.smi_text.specs.declared.trees.tree.Module.{Module}
@@ -18,9 +17,9 @@ use Rattle.smi_names.specs.declared.nodes.source.Source.TheVariants as S
 use Rattle.smi_tree.specs.columns.Definitions.{qualified_name}
 use Rattle.smi_tree.specs.columns.Index.{IsObjectType, IsColumnOf, StandsAt, clause_of}
 use Rattle.smi_tree.specs.columns.Named.{IsFoundAt, IsUndefined}
-use Rattle.smi_tree.specs.columns.Kept.{UsesAt, UsesNone, HasNoRow, HasRowOrNone, AreRows}
-use Rattle.smi_tree.proofs.Lists.{get_within, get_before_push, get_at_push}
-use Rattle.smi_tree.proofs.Nodes.{oid_from, nodes-length, nodes-oids, nodes-get, nodes-at}
+use Rattle.smi_tree.specs.columns.Kept.{UsesAt, UsesNone, HasNoRow, HasRowOrNone}
+use Rattle.smi_tree.proofs.Lists.{get_within}
+use Rattle.smi_tree.proofs.Bridging.{parts, length-nodes, oids-nodes, nodes-get, node-at}
 
 -- ---- the clause that a row uses
 
@@ -68,10 +67,10 @@ module _ (ms : List Module) (ss : List Source) (os : List (List ℕ)) (long : le
   -- the node that stands for an identifier, by its place
   pub stands : (oid : List ℕ) (k : ℕ) (s : Source) (o : List ℕ) → place_of os oid ≡ Some k → slice_get ss k ≡ Some s → slice_get os k ≡ Some o
       → StandsAt (nodes_of ms ss os) oid (node_from ms s o)
-  stands oid k s o first at there = record { place = k; first = rw (nodes-oids ms ss os long) first; there = nodes-at ms ss os k s o at there }
+  stands oid k s o first at there = record { place = k; first = rw (oids-nodes ms ss os long) first; there = node-at ms ss os k s o at there }
 
   pub stands_at : (oid : List ℕ) (row : Node) (st : StandsAt (nodes_of ms ss os) oid row) → place_of os oid ≡ Some st.place
-  stands_at oid row st = rw (nodes-oids ms ss os long) at st.first
+  stands_at oid row st = rw (oids-nodes ms ss os long) at st.first
 
   pub place_is : (oid : List ℕ) (row : Node) (k : ℕ) (s : Source) → place_of os oid ≡ Some k → slice_get ss k ≡ Some s
       → StandsAt (nodes_of ms ss os) oid row → (o : List ℕ) × (row ≡ node_from ms s o)
@@ -98,7 +97,7 @@ module _ (ms : List Module) (ss : List Source) (os : List (List ℕ)) (long : le
 
     oid_is : oid_at os k ≡ node.oid
     oid_is =
-        let here : node.oid ≡ node_is.0 = ap (λ (n : Node). n.oid) node_is.2 ∙ oid_from ms s node_is.0 in
+        let here : node.oid ≡ node_is.0 = ap (λ (n : Node). n.oid) node_is.2 ∙ ap (λ (n : Node). n.oid) (parts ms s node_is.0) in
         get_or_from_slice_get os k node_is.0 [] node_is.1 ∙ sym here
 
     pub no_row_undefined : ((o : List ℕ) → None ≡ (node_from ms s o).definition) → HasNoRow ms (nodes_of ms ss os) node
@@ -128,7 +127,7 @@ module _ (ms : List Module) (ss : List Source) (os : List (List ℕ)) (long : le
           let found = rw (front_is row column) at (stands_at column.front row column.stands) in
           let same : column.stands.place ≡ r = cc in
           let inside = slice_get_within (nodes_of ms ss os) column.stands.place row column.stands.there in
-          absurd (omega (arith, nodes-length ms ss os long))
+          absurd (omega (arith, length-nodes ms ss os long))
 
       pub row_is : (d : Def) (rs : Source) (at : Option (ℕ × ℕ)) → ((o : List ℕ) → Some d ≡ (node_from ms s o).definition) → IsObjectType (Some d)
           → slice_get ss r ≡ Some rs
@@ -154,32 +153,3 @@ module _ (ms : List Module) (ss : List Source) (os : List (List ℕ)) (long : le
             };
             used = uses oid.0;
           }
-
--- the rows of the nodes before a place
-abbrev pub AreFirstRows : List Module → List Node → List (Option (ℕ × ℕ)) → ℕ → Type 0
-AreFirstRows ms nodes rows k =
-    (length rows ≡ k)
-    × ((j : ℕ) (node : Node) → j < k → slice_get nodes j ≡ Some node
-    → (at : Option (ℕ × ℕ)) × (slice_get rows j ≡ Some at) × HasRowOrNone ms nodes node at)
-
-pub AreFirstRows-more : (ms : List Module) (nodes : List Node) (rows : List (Option (ℕ × ℕ))) (k : ℕ) (at : Option (ℕ × ℕ))
-    → AreFirstRows ms nodes rows k → ((node : Node) → slice_get nodes k ≡ Some node → HasRowOrNone ms nodes node at)
-    → AreFirstRows ms nodes (rows ++ at ∷ []) (k + 1)
-AreFirstRows-more ms nodes rows k at first is = (
-  length_push rows at ∙ rw first.0 refl,
-  λ j node below there. elim (cases_eq j k) [
-    | inl here ↦
-        let end : j ≡ length rows = here ∙ sym first.0 in
-        (at, rw end (get_at_push rows at), is node (rw (← here) there))
-    | inr other ↦
-        let old = first.1 j node (omega arith) there in
-        (old.0, get_before_push rows at j old.0 old.1, old.2)
-  ],
-)
-
-pub AreRows-all : (ms : List Module) (nodes : List Node) (rows : List (Option (ℕ × ℕ))) (k : ℕ) → length nodes ≡ k → AreFirstRows ms nodes rows k
-    → AreRows ms nodes rows
-AreRows-all ms nodes rows k long first = record {
-  long = first.0 ∙ sym long;
-  each = λ j node there. first.1 j node (omega (arith, slice_get_within nodes j node there)) there;
-}

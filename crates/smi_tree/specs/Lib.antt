@@ -10,3 +10,4 @@ pub mod Naming
 pub mod branches
 pub mod types
 pub mod columns
+pub mod Pairwise

@@ -1,5 +1,4 @@
 pub mod Chain
 pub mod Types
 pub mod Leads
-pub mod Nearest
 pub mod Kept

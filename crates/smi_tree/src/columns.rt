@@ -6,10 +6,8 @@
 
 mod definitions;
 mod indexes;
-mod laws;
 mod objects;
 mod part;
 mod rows;
 
 pub use indexes::Indexes;
-pub use laws::{one_index, one_list_of_indexes};

@@ -9,8 +9,6 @@ ghost use Rattle.smi_tree.specs.Standing.{longest};
 ghost use Rattle.smi_tree.specs.branches.Standing.{HasNoBeginning, IsDeepestAt};
 ghost use Rattle.smi_tree.specs.Tree.{Contents, IsTree};
 
-use crate::columns::one_list_of_indexes;
-use crate::types::one_syntax;
 use smi_names::one_loading;
 
 /// Modules have one tree at most, with one list of warnings.
@@ -22,8 +20,6 @@ pub fn one_tree()
         → (tree ≡ other) × (warnings ≡ more) }
 {
     one_loading();
-    one_syntax();
-    one_list_of_indexes();
 }
 
 /// No modules give the tree of the roots, without warnings (RFC 2578, section 2).

@@ -1,17 +1,13 @@
 //! The syntax of objects as values are shown by it.
-ghost use Rattle.std.specs.Prelude.{◌≡◌, ℕ, List, length, option_map};
+ghost use Rattle.std.specs.Prelude.{◌≡◌, option_map};
 ghost use Rattle.std.specs.Option.{option_and_then, option_copied};
-ghost use Rattle.smi_text.specs.declared.trees.tree.Module.{Module};
-ghost use Rattle.smi_names.specs.nodes.Gathered.{nodes_of};
-ghost use Rattle.smi_names.specs.declared.nodes.source.Source.{Source};
-ghost use Rattle.smi_tree.specs.types.Kept.{facts_of, AreTypesOf};
-ghost use Rattle.smi_tree.specs.declared.types.types.Types.{Types};
+ghost use Rattle.smi_tree.specs.types.Kept.{facts_of};
 ghost use Rattle.smi_tree.specs.Places.{definition_from};
-ghost use Rattle.smi_tree.specs.Shown.{AreSyntaxesOf, syntax_from, syntaxes_from};
+ghost use Rattle.smi_tree.specs.Shown.{syntax_from};
 ghost use Rattle.smi_tree.specs.Shown.{value_base, between_quotes, units_of, shown_syntax};
 
 use crate::node::definition;
-use crate::types::{TypeSyntax, Types, kept_is_right};
+use crate::types::{TypeSyntax, Types};
 use smi_names::{Source, TypeBase};
 use smi_text::{DefKind, Module, Text};
 use smi_value::{ValueBase, ValueSyntax};
@@ -100,14 +96,4 @@ pub(crate) fn units(modules: &[Module], source: Source) -> Option<&Text>
         Some(def) => units_of(&def.kind),
         None => None,
     }
-}
-
-/// The syntaxes that are kept for nodes are those that their objects have.
-pub(crate) fn kept_syntaxes()
-    ensures { (modules : List Module) (types : Types) → AreTypesOf modules types
-        → (sources : List Source) (oids : List (List ℕ)) → length sources ≡ length oids
-        → AreSyntaxesOf modules (nodes_of modules sources oids)
-        (syntaxes_from modules types sources) }
-{
-    kept_is_right();
 }

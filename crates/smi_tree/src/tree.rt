@@ -21,7 +21,7 @@ use crate::branches::{Children, Deepest, Identifiers};
 use crate::columns::Indexes;
 use crate::node::{Node, at, definition, home, label};
 use crate::places::{LabelPlaces, Places, find, homes, labels};
-use crate::shown::{kept_syntaxes, syntax, units, value_syntax};
+use crate::shown::{syntax, units, value_syntax};
 use crate::types::{TypeSyntax, Types};
 use smi_names::{NameHash, Names, Source, Warning, gather_nodes};
 use smi_show::{IndexPart, Near};
@@ -95,7 +95,6 @@ fn resolve(alloc: Global, hash: NameHash, modules: &[Module]) -> Result<Resolved
     let sources = gathered.sources;
     let identifiers = Identifiers::new(alloc, gathered.oids)?;
     let types = Types::new(alloc, &names, modules)?;
-    kept_syntaxes();
     let indexes = Indexes::new(alloc, &names, modules, &types, &sources, &identifiers)?;
     Ok(Resolved {
         sources,

@@ -4,11 +4,9 @@
 //! Depends on module trees and on what decides their names. The tree of names keeps the types of
 //! its modules, and shows values and reads indexes by them.
 
-mod laws;
 mod leads;
 mod syntax;
 mod types;
 
-pub use laws::{kept_is_right, one_syntax};
 pub use syntax::TypeSyntax;
 pub use types::Types;

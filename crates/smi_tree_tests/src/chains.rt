@@ -1,13 +1,23 @@
-//! Chains of places: long ones in both directions, rings, and what leads into a ring or nowhere.
-//! The names of a module on such chains, which loading resolves, come to the same.
+//! Chains of names: long ones in both directions, rings, and what leads into a ring or nowhere.
 
 use crate::reading::comes_to;
-use smi_names::{Basis, NameHash, Names, Resolution, ordered, resolutions};
+use smi_names::{NameHash, Names, ordered};
 use smi_text::{Module, parse_modules};
 use std::alloc::Global;
 use std::test::Fail;
 
 const MANY: usize = 40_000;
+
+/// What a name of a module is based on.
+#[derive(Drop)]
+enum Basis {
+    /// Numbers alone.
+    Numbers(Vec<u32>),
+    /// These numbers after those of the name of a place.
+    After(usize, Vec<u32>),
+    /// A name without a meaning.
+    Nowhere,
+}
 
 /// The basis that is these numbers after those of a place.
 fn after(alloc: Global, place: usize, numbers: &[u32]) -> Result<Basis, Fail> {
@@ -34,135 +44,33 @@ fn rising(alloc: Global, count: usize, end: usize) -> Result<Vec<Basis>, Fail> {
     Ok(bases)
 }
 
-/// How many of the places resolve to this.
-fn count_of(resolutions: &[Resolution], expected: &str) -> usize {
+/// How many names of a module with these bases resolve to this.
+fn count(alloc: Global, bases: &[Basis], expected: &str) -> Result<usize, Fail> {
+    let text = module_text(alloc, bases)?;
+    let modules = parse_modules(alloc, text.as_bytes())?;
+    count_in(alloc, &modules, expected)
+}
+
+/// How many definitions of modules resolve to this.
+fn count_in(alloc: Global, modules: &[Module], expected: &str) -> Result<usize, Fail> {
+    let names = Names::new(alloc, NameHash::Fixed, modules)?;
     let mut count: usize = 0;
-    for resolution in resolutions {
-        if comes_to(Some(resolution), expected) {
+    for module in modules {
+        count = count.saturating_add(count_of(&names, module, expected));
+    }
+    Ok(count)
+}
+
+/// How many definitions of a module resolve to this.
+fn count_of<'a>(names: &Names<'a>, module: &'a Module, expected: &str) -> usize {
+    let mut count: usize = 0;
+    for def in module.defs.as_slice() {
+        let found = names.resolution(module.name.as_bytes(), def.label.as_bytes());
+        if comes_to(found, expected) {
             count = count.saturating_add(1);
         }
     }
     count
-}
-
-/// How many of the places of these bases resolve to this.
-fn count(alloc: Global, bases: Vec<Basis>, expected: &str) -> Result<usize, Fail> {
-    let resolutions = resolutions(alloc, &bases)?;
-    Ok(count_of(&resolutions, expected))
-}
-
-#[test]
-fn long_chains_end(rt: HostRuntime) -> Result<(), Fail> {
-    let alloc = rt.alloc();
-    assert!(rt; count(alloc, falling(alloc, MANY, &[])?, "1")? == MANY);
-    // The last place leads beyond itself, to a place with numbers of its own.
-    assert!(rt; count(alloc, rising_to_numbers(alloc)?, "1.3")? == MANY + 1);
-    // Without that place it leads nowhere.
-    assert!(rt; count(alloc, rising(alloc, MANY, MANY)?, "unresolved")? == MANY);
-    Ok(())
-}
-
-/// Places each of which leads to the one after it, the last of which has the numbers 1 and 3.
-fn rising_to_numbers(alloc: Global) -> Result<Vec<Basis>, Fail> {
-    let mut bases = rising(alloc, MANY, MANY)?;
-    bases.push(Basis::Numbers(Vec::from_slice(alloc, &[1, 3])?))?;
-    Ok(bases)
-}
-
-#[test]
-fn rings_have_no_end(rt: HostRuntime) -> Result<(), Fail> {
-    let alloc = rt.alloc();
-    assert!(rt; count(alloc, rising(alloc, MANY, 0)?, "cycle")? == MANY);
-    assert!(rt; count(alloc, ring_and_others(alloc)?, "cycle")? == 1002);
-    assert!(rt; count(alloc, ring_and_others(alloc)?, "2")? == 1);
-    assert!(rt; count(alloc, ring_and_others(alloc)?, "unresolved")? == 1);
-    Ok(())
-}
-
-/// A ring of places after others that lead into it; then a place of its own that leads to itself,
-/// another that leads into the ring, and two that stand apart.
-fn ring_and_others(alloc: Global) -> Result<Vec<Basis>, Fail> {
-    let mut bases = rising(alloc, 1000, 500)?;
-    push_others(alloc, &mut bases)?;
-    Ok(bases)
-}
-
-fn push_others(alloc: Global, bases: &mut Vec<Basis>) -> Result<(), Fail> {
-    bases.push(after(alloc, 1000, &[1])?)?;
-    bases.push(after(alloc, 0, &[1])?)?;
-    bases.push(Basis::Numbers(Vec::from_slice(alloc, &[2])?))?;
-    bases.push(Basis::Nowhere)?;
-    Ok(())
-}
-
-#[test]
-fn numbers_come_along_a_chain(rt: HostRuntime) -> Result<(), Fail> {
-    let bases = falling(rt.alloc(), 200, &[7])?;
-    let chain = resolutions(rt.alloc(), &bases)?;
-    assert!(rt; is_chain(&chain));
-    Ok(())
-}
-
-/// Whether each place of a chain has one number more than the one before, up to 128.
-fn is_chain(chain: &[Resolution]) -> bool {
-    comes_to(chain.get(0), "1")
-        && comes_to(chain.get(3), "1.7.7.7")
-        // The place at 127 has 128 numbers.
-        && has_numbers(chain.get(127), 128)
-        && comes_to(chain.get(128), "too long")
-        && count_of(chain, "too long") == 200 - 128
-}
-
-/// Whether a place resolves to this many numbers.
-fn has_numbers(resolution: Option<&Resolution>, count: usize) -> bool {
-    match resolution {
-        Some(Resolution::Numbers(numbers)) => numbers.len() == count,
-        _ => false,
-    }
-}
-
-#[test]
-fn names_lead_back_to_one_with_numbers(rt: HostRuntime) -> Result<(), Fail> {
-    let alloc = rt.alloc();
-    assert!(rt; are_loaded(alloc, &falling(alloc, MANY, &[])?)?);
-    Ok(())
-}
-
-#[test]
-fn names_lead_on_to_one_with_numbers(rt: HostRuntime) -> Result<(), Fail> {
-    let alloc = rt.alloc();
-    assert!(rt; are_loaded(alloc, &rising_to_numbers(alloc)?)?);
-    Ok(())
-}
-
-#[test]
-fn names_lead_nowhere(rt: HostRuntime) -> Result<(), Fail> {
-    let alloc = rt.alloc();
-    assert!(rt; are_loaded(alloc, &rising(alloc, MANY, MANY)?)?);
-    Ok(())
-}
-
-#[test]
-fn names_on_a_ring_have_no_end(rt: HostRuntime) -> Result<(), Fail> {
-    let alloc = rt.alloc();
-    assert!(rt; are_loaded(alloc, &rising(alloc, MANY, 0)?)?);
-    assert!(rt; are_loaded(alloc, &ring_and_others(alloc)?)?);
-    Ok(())
-}
-
-#[test]
-fn numbers_come_along_a_chain_of_names(rt: HostRuntime) -> Result<(), Fail> {
-    let alloc = rt.alloc();
-    assert!(rt; are_loaded(alloc, &falling(alloc, 200, &[7])?)?);
-    Ok(())
-}
-
-/// Whether the names of a module with these bases resolve to what the places do.
-fn are_loaded(alloc: Global, bases: &[Basis]) -> Result<bool, Fail> {
-    let text = module_text(alloc, bases)?;
-    let modules = parse_modules(alloc, text.as_bytes())?;
-    let resolutions = resolutions(alloc, bases)?;
-    resolve_to(alloc, &modules, &resolutions)
 }
 
 /// The text of a module that has a name for each place, with its basis.
@@ -200,35 +108,63 @@ fn push_numbers(text: &mut String, numbers: &[u32]) -> Result<(), Fail> {
     Ok(())
 }
 
-/// Whether there is one module, whose names resolve to these, in order of its definitions.
-fn resolve_to(alloc: Global, modules: &[Module], resolutions: &[Resolution]) -> Result<bool, Fail> {
-    let names = Names::new(alloc, NameHash::Fixed, modules)?;
-    match modules {
-        [module] => Ok(each_resolves_to(&names, module, resolutions)),
-        _ => Ok(false),
-    }
+#[test]
+fn long_chains_end(rt: HostRuntime) -> Result<(), Fail> {
+    let alloc = rt.alloc();
+    assert!(rt; count(alloc, &falling(alloc, MANY, &[])?, "1")? == MANY);
+    assert!(rt; count(alloc, &rising_to_numbers(alloc)?, "1.3")? == MANY + 1);
+    // Without the last place it leads nowhere.
+    assert!(rt; count(alloc, &rising(alloc, MANY, MANY)?, "unresolved")? == MANY);
+    Ok(())
 }
 
-fn each_resolves_to<'a>(names: &Names<'a>, module: &'a Module, resolutions: &[Resolution]) -> bool {
-    let defs = module.defs.as_slice();
-    for (k, def) in defs.iter().enumerate() {
-        let found = names.resolution(module.name.as_bytes(), def.label.as_bytes());
-        if !are_same(found, resolutions.get(k)) {
-            return false;
-        }
-    }
-    defs.len() == resolutions.len()
+/// Places each of which leads to the one after it, the last of which has the numbers 1 and 3.
+fn rising_to_numbers(alloc: Global) -> Result<Vec<Basis>, Fail> {
+    let mut bases = rising(alloc, MANY, MANY)?;
+    bases.push(Basis::Numbers(Vec::from_slice(alloc, &[1, 3])?))?;
+    Ok(bases)
 }
 
-/// Whether both are the same identifier, or the same reason why there is none.
-fn are_same(a: Option<&Resolution>, b: Option<&Resolution>) -> bool {
-    match (a, b) {
-        (Some(Resolution::Numbers(a)), Some(Resolution::Numbers(b))) => *a == *b,
-        (Some(Resolution::Cycle), Some(Resolution::Cycle)) => true,
-        (Some(Resolution::Unresolved), Some(Resolution::Unresolved)) => true,
-        (Some(Resolution::TooLong), Some(Resolution::TooLong)) => true,
-        _ => false,
+#[test]
+fn rings_have_no_end(rt: HostRuntime) -> Result<(), Fail> {
+    let alloc = rt.alloc();
+    assert!(rt; count(alloc, &rising(alloc, MANY, 0)?, "cycle")? == MANY);
+    assert!(rt; count(alloc, &ring_and_others(alloc)?, "cycle")? == 1002);
+    assert!(rt; count(alloc, &ring_and_others(alloc)?, "2")? == 1);
+    assert!(rt; count(alloc, &ring_and_others(alloc)?, "unresolved")? == 1);
+    Ok(())
+}
+
+/// A ring of places after others that lead into it; then a place of its own that leads to itself,
+/// another that leads into the ring, and two that stand apart.
+fn ring_and_others(alloc: Global) -> Result<Vec<Basis>, Fail> {
+    let mut bases = rising(alloc, 1000, 500)?;
+    bases.push(after(alloc, 1000, &[1])?)?;
+    bases.push(after(alloc, 0, &[1])?)?;
+    bases.push(Basis::Numbers(Vec::from_slice(alloc, &[2])?))?;
+    bases.push(Basis::Nowhere)?;
+    Ok(bases)
+}
+
+#[test]
+fn numbers_come_along_a_chain(rt: HostRuntime) -> Result<(), Fail> {
+    let alloc = rt.alloc();
+    let bases = falling(alloc, 200, &[7])?;
+    assert!(rt; count(alloc, &bases, "1")? == 1 && count(alloc, &bases, "1.7.7.7")? == 1);
+    // One name has 128 numbers, and those after it have too many.
+    assert!(rt; count(alloc, &bases, &longest(alloc)?)? == 1);
+    assert!(rt; count(alloc, &bases, "too long")? == 200 - 128);
+    Ok(())
+}
+
+/// The number 1 and 127 times 7.
+fn longest(alloc: Global) -> Result<String, Fail> {
+    let mut text = String::new(alloc);
+    text.push('1')?;
+    for _ in 0..127 {
+        text.push_str(".7")?;
     }
+    Ok(text)
 }
 
 #[test]

@@ -1,10 +1,8 @@
 -- What one step of a chain resolves to.
 use Rattle.std.specs.Prelude.{ℕ, nat_le, List, [], ◌++◌, ◌+◌, length, slice_index_or, if◌then◌else◌}
 use Rattle.smi_names.specs.chains.Chain.{Origin, numbers, after, nowhere}
-use Rattle.smi_names.specs.declared.chains.basis.Basis.{Basis}
-use Rattle.smi_names.specs.declared.chains.basis.Basis.TheVariants as B
-use Rattle.smi_names.specs.declared.chains.basis.Resolution.{Resolution}
-use Rattle.smi_names.specs.declared.chains.basis.Resolution.TheVariants as R
+use Rattle.smi_names.specs.declared.chains.resolution.Resolution.{Resolution}
+use Rattle.smi_names.specs.declared.chains.resolution.Resolution.TheVariants as R
 
 -- the numbers after an identifier, if there are at most 128 together
 abbrev pub lengthened : List ℕ → List ℕ → Resolution
@@ -19,12 +17,7 @@ followed_by R.TooLong ns = R.TooLong
 abbrev pub resolution_at : List Resolution → ℕ → Resolution
 resolution_at rs p = slice_index_or rs p R.Unresolved
 
-abbrev pub resolution_of : Basis → List Resolution → Resolution
-resolution_of (B.Numbers v) rs = lengthened [] v.items
-resolution_of (B.After p v) rs = followed_by (resolution_at rs p) v.items
-resolution_of B.Nowhere rs = R.Unresolved
-
--- the same by where a name's numbers come from
+-- by where the name's numbers come from
 abbrev pub resolution_by : Origin ℕ → List Resolution → Resolution
 resolution_by (numbers ns) rs = lengthened [] ns
 resolution_by (after p ns) rs = followed_by (resolution_at rs p) ns

@@ -1,8 +1,8 @@
 -- Resolutions of places, each kept once.
 use Rattle.std.specs.Prelude.{◌≡◌, ℕ, ◌<◌, List, [], ◌∷◌, ◌++◌, length, map, All}
 use Rattle.smi_names.specs.chains.Resolving.{resolution_at}
-use Rattle.smi_names.specs.declared.chains.basis.Resolution.{Resolution}
-use Rattle.smi_names.specs.declared.chains.basis.Resolution.TheVariants as R
+use Rattle.smi_names.specs.declared.chains.resolution.Resolution.{Resolution}
+use Rattle.smi_names.specs.declared.chains.resolution.Resolution.TheVariants as R
 
 -- what each place resolves to
 abbrev pub shared : List Resolution → List ℕ → List Resolution

@@ -4,7 +4,7 @@ use Rattle.std.specs.Prelude.{Option, Some, None, unwrap_or}
 use Rattle.smi_text.specs.trees.Mark.{same_text}
 use Rattle.std.specs.List.{slice_get}
 use Rattle.std.specs.Option.{option_and_then}
-use Rattle.smi_names.specs.chains.Link.{origin_of_link}
+use Rattle.smi_names.specs.chains.Link.{origin_of}
 use Rattle.smi_names.specs.declared.chains.link.Link.{Link}
 use Rattle.smi_text.specs.declared.trees.tree.Import.{Import}
 use Rattle.smi_names.specs.meaning.Meaning.{QualifiedName, imported, origin_by}
@@ -43,7 +43,7 @@ pub record AreLinks (d : Directory) (entries : List Entry) (links : List Link) :
   pub long : length links ≡ length entries
   pub each : (p : ℕ) (e : Entry) (l : Link) → slice_get entries p ≡ Some e
       → slice_get links p ≡ Some l
-      → origin_of_link l ≡ map_origin (place_by d) (origin_by (place_of_entry e) (Some
+      → origin_of l ≡ map_origin (place_by d) (origin_by (place_of_entry e) (Some
       (content_of e).decided))
 
 -- an import leads to the same name in the module after FROM, by its place

@@ -2,8 +2,8 @@
 use Rattle.std.specs.Prelude.{◌≡◌, ℕ, List, length, Some, None}
 use Rattle.std.specs.List.{slice_get}
 use Rattle.smi_names.specs.chains.Chain.{nowhere}
-use Rattle.smi_names.specs.chains.Basis.{ComesTo}
-use Rattle.smi_names.specs.declared.chains.basis.Resolution.{Resolution}
+use Rattle.smi_names.specs.chains.Resolution.{ComesTo}
+use Rattle.smi_names.specs.declared.chains.resolution.Resolution.{Resolution}
 use Rattle.smi_text.specs.declared.trees.tree.Module.{Module}
 use Rattle.smi_names.specs.meaning.Meaning.{QualifiedName, origin, module_named}
 use Rattle.smi_names.specs.meaning.Scopes.{place_in}

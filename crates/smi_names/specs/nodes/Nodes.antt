@@ -14,9 +14,9 @@ use Rattle.std.specs.Prelude.{
   None,
   is_some,
 }
-use Rattle.smi_names.specs.chains.Basis.{ComesTo}
-use Rattle.smi_names.specs.declared.chains.basis.Resolution.{Resolution}
-use Rattle.smi_names.specs.declared.chains.basis.Resolution.TheVariants as R
+use Rattle.smi_names.specs.chains.Resolution.{ComesTo}
+use Rattle.smi_names.specs.declared.chains.resolution.Resolution.{Resolution}
+use Rattle.smi_names.specs.declared.chains.resolution.Resolution.TheVariants as R
 use Rattle.smi_text.specs.declared.trees.tree.Module.{Module}
 use Rattle.smi_text.specs.declared.trees.tree.Def.{Def}
 use Rattle.smi_text.specs.declared.trees.tree.Part.{Part}

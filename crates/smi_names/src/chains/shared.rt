@@ -2,15 +2,15 @@
 ghost use Rattle.std.specs.Prelude.{◌≡◌, ◌<◌, ◌≤◌, ◌∷◌, [], length, map, option_map, IfOk};
 ghost use Rattle.std.specs.List.{slice_get};
 ghost use Rattle.smi_names.specs.chains.Chain.{next_of};
-ghost use Rattle.smi_names.specs.chains.Basis.{EachComesTo};
-ghost use Rattle.smi_names.specs.chains.Link.{origin_of_link, origin_by_link};
+ghost use Rattle.smi_names.specs.chains.Resolution.{EachComesTo};
+ghost use Rattle.smi_names.specs.chains.Link.{origin_of, origin_at};
 ghost use Rattle.smi_names.specs.chains.Resolving.{lengthened, followed_by};
 ghost use Rattle.smi_names.specs.chains.Resolving.{resolution_at, resolution_by};
 ghost use Rattle.smi_names.specs.chains.Shared.{shared, AreWithin, HasReasons, GrowsTo};
 
-use crate::chains::basis::{Basis, Resolution};
 use crate::chains::link::Link;
 use crate::chains::order::ordered;
+use crate::chains::resolution::Resolution;
 use snmp_oid::{MAX_LEN, Oid};
 use std::alloc::{AllocError, Global};
 
@@ -49,15 +49,18 @@ impl Shared {
     }
 }
 
-/// What the name at each place resolves to, as [`super::resolutions`] gives it.
+/// What the name at each place resolves to.
+///
+/// Each place is visited once, without recursion, so chains may be of any length and may lead back
+/// to themselves.
 pub(crate) fn shared_resolutions(alloc: Global, links: &[Link]) -> Result<Shared, AllocError>
     ensures within { IfOk result (λ s. AreWithin s.list.items s.places.items) }
     ensures length { IfOk result (λ s. length (shared s.list.items s.places.items)
         ≡ length links.now) }
-    ensures each { IfOk result (λ s. EachComesTo (origin_by_link links.now)
+    ensures each { IfOk result (λ s. EachComesTo (origin_at links.now)
         (shared s.list.items s.places.items)) }
     ensures next { IfOk result (λ s. s.next.items
-        ≡ map (λ l. next_of (origin_of_link l)) links.now) }
+        ≡ map (λ l. next_of (origin_of l)) links.now) }
 {
     // Without places nothing is kept, and no memory is asked for.
     if links.is_empty() {
@@ -80,7 +83,7 @@ pub(crate) fn shared_resolutions(alloc: Global, links: &[Link]) -> Result<Shared
 
 /// The place that the name at each place leads to.
 fn next_places(alloc: Global, links: &[Link]) -> Result<Vec<Option<usize>>, AllocError>
-    ensures { IfOk result (λ next. next.items ≡ map (λ l. next_of (origin_of_link l)) links.now) }
+    ensures { IfOk result (λ next. next.items ≡ map (λ l. next_of (origin_of l)) links.now) }
 {
     let mut next = Vec::with_capacity(alloc, links.len())?;
     'links: for link in links {
@@ -117,11 +120,9 @@ fn most(links: &[Link]) -> usize
 /// Whether a name of this link may have an identifier that isn't that of the name it leads to.
 fn is_new(link: &Link) -> bool {
     match link {
-        Link::Number(_) | Link::Child(_, _) => true,
-        Link::Same(_) => false,
-        Link::Other(Basis::Numbers(_)) => true,
-        Link::Other(Basis::After(_, numbers)) => !numbers.is_empty(),
-        Link::Other(Basis::Nowhere) => false,
+        Link::Number(_) | Link::Numbers(_) | Link::Child(_, _) => true,
+        Link::After(_, numbers) => !numbers.is_empty(),
+        Link::Same(_) | Link::Nowhere => false,
     }
 }
 
@@ -131,15 +132,15 @@ fn entered(list: &mut Vec<Resolution>, places: &[usize], link: &Link) -> Result<
     requires reasons { HasReasons list.old.items }
     requires within { AreWithin list.old.items places.now }
     ensures grown { IfOk result (λ at. GrowsTo list.old.items list.new.items at
-        (resolution_by (origin_of_link link.now) (shared list.old.items places.now))) }
+        (resolution_by (origin_of link.now) (shared list.old.items places.now))) }
 {
     match link {
         Link::Number(number) => appended(list, Oid::new(), &[*number]),
+        Link::Numbers(numbers) => appended(list, Oid::new(), numbers),
         Link::Same(place) => led(list, places, *place, &[]),
         Link::Child(place, number) => led(list, places, *place, &[*number]),
-        Link::Other(Basis::Numbers(numbers)) => appended(list, Oid::new(), numbers),
-        Link::Other(Basis::After(place, numbers)) => led(list, places, *place, numbers),
-        Link::Other(Basis::Nowhere) => Ok(UNRESOLVED),
+        Link::After(place, numbers) => led(list, places, *place, numbers),
+        Link::Nowhere => Ok(UNRESOLVED),
     }
 }
 

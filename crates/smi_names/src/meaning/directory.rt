@@ -1,7 +1,6 @@
 //! The places of names: which entry a name of a module has, and what its numbers are based on.
 ghost use Rattle.std.specs.Prelude.{◌≡◌, ◌∷◌, ℕ, List, [], length, option_map, IfOk, Some};
-ghost use Rattle.smi_names.specs.chains.Basis.{origin_of};
-ghost use Rattle.smi_names.specs.chains.Link.{origin_of_link};
+ghost use Rattle.smi_names.specs.chains.Link.{origin_of};
 ghost use Rattle.smi_names.specs.meaning.Meaning.{arcs as arcs_of, origin_by, origin_of_parts};
 ghost use Rattle.smi_names.specs.meaning.Scopes.{place_in, content_of};
 ghost use Rattle.smi_names.specs.meaning.Names.{AreEach, module_place, map_origin};
@@ -9,7 +8,7 @@ ghost use Rattle.smi_names.specs.meaning.Directory.{place_by, place_of_entry, Ar
 ghost use Rattle.smi_names.specs.meaning.Directory.{IsFound, is_entry_of, place_of_scope};
 ghost use Rattle.std.specs.List.{slice_get};
 
-use crate::chains::{Basis, Link};
+use crate::chains::Link;
 use crate::hash::NameHash;
 use crate::meaning::entry::{Decider, Entry};
 use crate::meaning::scope::{NamePlaces, put_first, scope};
@@ -157,35 +156,6 @@ impl<'a> Directory<'a> {
         place
     }
 
-    /// What the numbers of an identifier value are based on.
-    fn basis_of_parts(
-        &self,
-        alloc: Global,
-        home: &'a [u8],
-        parts: &'a [Part],
-        last: &mut Option<Found<'a>>,
-    ) -> Result<Basis, AllocError>
-        requires { IsFound self.now last.old }
-        ensures basis { IfOk result (λ basis.
-            origin_of basis ≡ map_origin (place_by self.now) (origin_of_parts home.now parts.now)) }
-        ensures last { IfOk result (λ _. IsFound self.now last.new) }
-    {
-        match parts {
-            [] => Ok(Basis::Nowhere),
-            [Part::Name(name), rest @ ..] => match arcs(alloc, rest)? {
-                Some(numbers) => {
-                    let place = self.place_again(home, name.as_bytes(), last);
-                    Ok(Basis::After(place, numbers))
-                }
-                None => Ok(Basis::Nowhere),
-            },
-            _ => match arcs(alloc, parts)? {
-                Some(numbers) => Ok(Basis::Numbers(numbers)),
-                None => Ok(Basis::Nowhere),
-            },
-        }
-    }
-
     /// What the numbers of an identifier value are based on. No list is made for one number after a
     /// name, as most have.
     fn link_of_parts(
@@ -197,19 +167,31 @@ impl<'a> Directory<'a> {
     ) -> Result<Link, AllocError>
         requires { IsFound self.now last.old }
         ensures link { IfOk result (λ link.
-            origin_of_link link
+            origin_of link
             ≡ map_origin (place_by self.now) (origin_of_parts home.now parts.now)) }
         ensures last { IfOk result (λ _. IsFound self.now last.new) }
     {
-        if let [Part::Name(name), part] = parts {
-            let Some(number) = part.number() else {
-                return Ok(Link::Other(Basis::Nowhere));
-            };
-            let place = self.place_again(home, name.as_bytes(), last);
-            return Ok(Link::Child(place, number));
+        match parts {
+            [] => Ok(Link::Nowhere),
+            [Part::Name(name), part] => match part.number() {
+                Some(number) => {
+                    let place = self.place_again(home, name.as_bytes(), last);
+                    Ok(Link::Child(place, number))
+                }
+                None => Ok(Link::Nowhere),
+            },
+            [Part::Name(name), rest @ ..] => match arcs(alloc, rest)? {
+                Some(numbers) => {
+                    let place = self.place_again(home, name.as_bytes(), last);
+                    Ok(Link::After(place, numbers))
+                }
+                None => Ok(Link::Nowhere),
+            },
+            _ => match arcs(alloc, parts)? {
+                Some(numbers) => Ok(Link::Numbers(numbers)),
+                None => Ok(Link::Nowhere),
+            },
         }
-        let basis = self.basis_of_parts(alloc, home, parts, last)?;
-        Ok(Link::Other(basis))
     }
 
     /// What the numbers of an entry's name are based on.
@@ -220,7 +202,7 @@ impl<'a> Directory<'a> {
         last: &mut Option<Found<'a>>,
     ) -> Result<Link, AllocError>
         requires { IsFound self.now last.old }
-        ensures link { IfOk result (λ link. origin_of_link link
+        ensures link { IfOk result (λ link. origin_of link
             ≡ map_origin (place_by self.now)
             (origin_by (place_of_entry entry.now) (Some (content_of entry.now).decided))) }
         ensures last { IfOk result (λ _. IsFound self.now last.new) }
@@ -230,7 +212,7 @@ impl<'a> Directory<'a> {
         match entry.decider {
             Decider::Definition(def) => match def.identifier() {
                 Some(parts) => self.link_of_parts(alloc, home, parts.as_slice(), last),
-                None => Ok(Link::Other(Basis::Nowhere)),
+                None => Ok(Link::Nowhere),
             },
             Decider::Import(import) => {
                 let place = self.place_again(import.source.as_bytes(), entry.name, last);

@@ -1,7 +1,7 @@
 //! Laws of meanings, for any modules.
 ghost use Rattle.std.specs.Prelude.{◌≡◌, ℕ, List};
-ghost use Rattle.smi_names.specs.chains.Basis.{ComesTo};
-ghost use Rattle.smi_names.specs.declared.chains.basis.Resolution.{Resolution};
+ghost use Rattle.smi_names.specs.chains.Resolution.{ComesTo};
+ghost use Rattle.smi_names.specs.declared.chains.resolution.Resolution.{Resolution};
 ghost use Rattle.smi_text.specs.declared.trees.tree.Module.{Module};
 ghost use Rattle.smi_names.specs.meaning.Meaning.{Means, QualifiedName, origin};
 

@@ -3,7 +3,7 @@ ghost use Rattle.std.specs.Prelude.{◌≡◌, IfOk, MatchOption, Some, is_some,
 ghost use Rattle.std.specs.List.{slice_get};
 ghost use Rattle.std.specs.Option.{option_and_then};
 ghost use Rattle.smi_names.specs.chains.Chain.{nowhere};
-ghost use Rattle.smi_names.specs.chains.Basis.{ComesTo};
+ghost use Rattle.smi_names.specs.chains.Resolution.{ComesTo};
 ghost use Rattle.smi_names.specs.meaning.Meaning.{origin, module_named, decision, QualifiedName};
 ghost use Rattle.smi_names.specs.meaning.Scopes.{decision_of};
 ghost use Rattle.smi_names.specs.meaning.Names.{module_place};
@@ -107,7 +107,8 @@ impl<'a> Names<'a> {
         self.resolutions.get(place)
     }
 
-    /// Three more than the identifiers that are kept: a guess at the room that nodes take.
+    /// A guess at the room that nodes take: a place for each identifier that is kept, and three for
+    /// the reasons why a name has none.
     pub(crate) fn identifiers(&self) -> usize {
         self.resolutions.list.len()
     }

@@ -18,8 +18,9 @@ use Rattle.std.specs.Prelude.{
   None,
 }
 use Rattle.std.specs.List.{slice_get}
-use Rattle.smi_names.specs.chains.Basis.{ComesTo}
-use Rattle.smi_names.specs.declared.chains.basis.Resolution.TheVariants as R
+use Rattle.smi_names.specs.chains.Resolution.{ComesTo}
+use Rattle.smi_names.specs.declared.chains.resolution.Resolution.TheVariants as R
+use Rattle.smi_tree.specs.Pairwise.{ArePairwise}
 use Rattle.smi_tree.specs.branches.Standing.{place_of}
 use Rattle.smi_show.specs.declared.index.part.IndexPart.{IndexPart}
 use Rattle.smi_text.specs.declared.trees.tree.Module.{Module}
@@ -30,7 +31,6 @@ use Rattle.smi_text.specs.declared.trees.tree.ObjectType.{ObjectType}
 use Rattle.smi_text.specs.declared.trees.tree.Index.{Index}
 use Rattle.smi_text.specs.declared.trees.tree.Index.TheVariants.{Own, Augments}
 use Rattle.smi_text.specs.declared.trees.tree.IndexParts.{IndexParts}
-use Rattle.smi_text.specs.declared.trees.names.Name.{Name}
 use Rattle.smi_names.specs.meaning.Meaning.{origin}
 use Rattle.smi_tree.specs.types.Types.{Facts, HasSyntax, origin_of_object}
 use Rattle.smi_names.specs.nodes.Nodes.{Node}
@@ -57,11 +57,10 @@ abbrev pub is_implied : IndexParts → ℕ → Bool
 is_implied clause i = clause.implied && (i + 1 == length clause.names)
 
 -- the parts for the names of an INDEX clause of this module, each for its name
-pub record AreParts (ms : List Module) (m : Module) (clause : IndexParts)
-    (parts : List IndexPart) : Type 0 where
-  pub long : length parts ≡ length clause.names
-  pub each : (i : ℕ) (name : Name) (part : IndexPart) → slice_get clause.names i ≡ Some name
-      → slice_get parts i ≡ Some part → IsIndexPart ms m name.octets (is_implied clause i) part
+abbrev pub AreParts : List Module → Module → IndexParts → List IndexPart → Type 0
+AreParts ms m clause parts =
+    ArePairwise (λ i name part. IsIndexPart ms m name.octets (is_implied clause i) part)
+    clause.names parts
 
 -- ---- INDEX and AUGMENTS
 

@@ -1,6 +1,6 @@
 -- What is kept: the parts of each INDEX clause, and for each node which of them identify its row.
 -- The relations here are for private clauses.
-use Rattle.std.specs.Prelude.{◌≡◌, ℕ, List, Bool, Option, Some, None, option_map, length, map, Vec}
+use Rattle.std.specs.Prelude.{◌≡◌, ℕ, List, Bool, Option, Some, None, option_map, map, Vec}
 use Rattle.std.specs.Prelude.{⊤}
 use Rattle.std.specs.List.{slice_get}
 use Rattle.std.specs.Option.{option_and_then}
@@ -10,6 +10,7 @@ use Rattle.smi_text.specs.declared.trees.tree.Module.{Module}
 use Rattle.smi_text.specs.declared.trees.tree.Def.{Def}
 use Rattle.smi_text.specs.declared.trees.tree.IndexParts.{IndexParts}
 use Rattle.smi_names.specs.nodes.Nodes.{Node}
+use Rattle.smi_tree.specs.Pairwise.{ArePairwise}
 use Rattle.smi_tree.specs.branches.Standing.{place_of}
 use Rattle.smi_tree.specs.declared.columns.rows.LastRow.{LastRow}
 use Rattle.smi_tree.specs.columns.Index.{
@@ -45,18 +46,13 @@ KeptOfModule = Vec KeptParts Global
 abbrev pub items_of : KeptParts → Option (List IndexPart)
 items_of kept = option_map (λ v. v.items) kept
 
--- the parts of each definition's own INDEX clause
-abbrev pub AreOwn : List Module → Module → List Def → List (KeptParts) → Type 0
-AreOwn ms m ds kept =
-    (k : ℕ) (d : Def) → slice_get ds k ≡ Some d
-    → (own : KeptParts) × (slice_get kept k ≡ Some own) × IsOwn ms m d (items_of own)
+-- the parts of the own INDEX clause of each definition of a module
+abbrev pub AreOwn : List Module → Module → List (KeptParts) → Type 0
+AreOwn ms m kept = ArePairwise (λ k d own. IsOwn ms m d (items_of own)) m.defs kept
 
--- and those of each module
-abbrev pub AreOwnOfAll : List Module → List Module → List KeptOfModule → Type 0
-AreOwnOfAll ms some kept =
-    (i : ℕ) (m : Module) → slice_get some i ≡ Some m
-    → (own : KeptOfModule) × (slice_get kept i ≡ Some own)
-    × AreOwn ms m m.defs own.items
+-- and of each module
+abbrev pub AreOwnOfAll : List Module → List KeptOfModule → Type 0
+AreOwnOfAll ms kept = ArePairwise (λ i m own. AreOwn ms m own.items) ms kept
 
 -- the parts that are kept for a definition of a module, each by its place
 abbrev pub parts_at : List KeptOfModule → ℕ → ℕ → Option (List IndexPart)
@@ -98,11 +94,8 @@ HasRowOrNone ms nodes node None = HasNoRow ms nodes node
 HasRowOrNone ms nodes node (Some at) = HasRowAt ms nodes node at.0 at.1
 
 -- for each node the definition whose INDEX clause its row uses
-pub record AreRows (ms : List Module) (nodes : List Node) (rows : List (Option (ℕ × ℕ)))
-    : Type 0 where
-  pub long : length rows ≡ length nodes
-  pub each : (k : ℕ) (node : Node) → slice_get nodes k ≡ Some node
-      → (at : Option (ℕ × ℕ)) × (slice_get rows k ≡ Some at) × HasRowOrNone ms nodes node at
+abbrev pub AreRows : List Module → List Node → List (Option (ℕ × ℕ)) → Type 0
+AreRows ms nodes rows = ArePairwise (λ k node at. HasRowOrNone ms nodes node at) nodes rows
 
 -- a row that was looked up has this place, if one was, for private clauses
 abbrev pub IsLastRow : List (List ℕ) → Option LastRow → Type 0

@@ -1,5 +1,19 @@
 -- What is kept of the types of modules, and what it gives.
-use Rattle.std.specs.Prelude.{◌≡◌, ℕ, List, MatchOption, Option, Some, None, option_map}
+use Rattle.std.specs.Prelude.{
+  ◌≡◌,
+  ℕ,
+  Bool,
+  List,
+  is_some,
+  MatchOption,
+  Option,
+  Some,
+  None,
+  option_map,
+  if◌then◌else◌,
+  Vec,
+}
+use Rattle.std.specs.Global.{Global}
 use Rattle.std.specs.List.{slice_get}
 use Rattle.std.specs.Option.{option_and_then, option_copied}
 use Rattle.smi_text.specs.declared.trees.tree.Module.{Module}
@@ -8,9 +22,10 @@ use Rattle.smi_text.specs.declared.trees.tree.DefKind.{DefKind}
 use Rattle.smi_text.specs.declared.trees.tree.SimpleType.{SimpleType}
 use Rattle.smi_text.specs.declared.trees.tree.NamedNumber.{NamedNumber}
 use Rattle.smi_text.specs.declared.trees.tree.Range.{Range}
-use Rattle.smi_names.specs.meaning.Meaning.{QualifiedName}
-use Rattle.smi_names.specs.meaning.Scopes.{Content}
-use Rattle.smi_names.specs.meaning.Known.{content_named}
+use Rattle.smi_names.specs.meaning.Meaning.{QualifiedName, or_else}
+use Rattle.smi_names.specs.meaning.Known.{KnownNames}
+use Rattle.smi_tree.specs.Pairwise.{ArePairwise}
+use Rattle.smi_tree.specs.types.Chain.{TypeOrigin}
 use Rattle.smi_tree.specs.types.Types.{
   base_in,
   names_in,
@@ -19,17 +34,17 @@ use Rattle.smi_tree.specs.types.Types.{
   type_hint,
   type_syntax,
   object_syntax,
-  type_origin,
+  origin_of_object,
   object_origin,
   def_at,
   Facts,
   HasSyntax,
   HasNoSyntax,
 }
-use Rattle.smi_tree.specs.types.Leads.{LeadsTo, at_place}
-use Rattle.smi_tree.specs.types.Nearest.{refined_facts}
+use Rattle.smi_tree.specs.types.Leads.{at_place, origin_at}
 use Rattle.smi_names.specs.declared.meaning.base.TypeBase.{TypeBase}
 use Rattle.smi_tree.specs.declared.types.syntax.TypeSyntax.{TypeSyntax}
+use Rattle.smi_tree.specs.declared.types.types.KeptSyntax.{KeptSyntax}
 use Rattle.smi_tree.specs.declared.types.types.Types.{Types}
 
 -- a syntax as definitions see it
@@ -41,69 +56,74 @@ facts_of s = record {
   sizes = option_copied s.sizes;
 }
 
--- what a definition of a type states by itself
+-- the type that a definition of a type or of an object states
 abbrev pub type_in : DefKind → Option SimpleType
-type_in kind = option_and_then simple_in (type_syntax kind)
+type_in kind = or_else (option_and_then simple_in (type_syntax kind))
+    (option_and_then simple_in (object_syntax kind))
 
-abbrev pub type_base : Def → Option TypeBase
-type_base d = option_and_then (λ s. base_in s.base) (type_in d.kind)
+abbrev pub names_of : Def → Option (List NamedNumber)
+names_of d = option_and_then (λ s. names_in s.refinement) (type_in d.kind)
 
-abbrev pub type_names : Def → Option (List NamedNumber)
-type_names d = option_and_then (λ s. names_in s.refinement) (type_in d.kind)
+abbrev pub sizes_of : Def → Option (List Range)
+sizes_of d = option_and_then (λ s. sizes_in s.refinement) (type_in d.kind)
 
-abbrev pub type_sizes : Def → Option (List Range)
-type_sizes d = option_and_then (λ s. sizes_in s.refinement) (type_in d.kind)
+-- the definition at a place, if one is given
+abbrev pub def_of : List Module → Option (ℕ × ℕ) → Option Def
+def_of ms at = option_and_then (λ p. def_at ms p.0 p.1) at
 
--- the definition at the end that a list has for a place
-abbrev pub def_by : List Module → List (Option (ℕ × ℕ)) → List (Option ℕ) → ℕ → Option Def
-def_by ms sources ends p =
-    option_and_then (λ e. option_and_then (λ s. def_at ms s.0 s.1) (at_place sources e))
-    (at_place ends p)
-
-abbrev pub found_by : {X : Type 0} → (Def → Option X) → List Module → Types → List (Option ℕ) → ℕ
-    → Option X
-found_by field ms t ends p = option_and_then field (def_by ms t.sources.items ends p)
-
--- the base type that is kept for a place, and the facts with it
-abbrev pub kept_base : List Module → Types → ℕ → Option TypeBase
-kept_base ms t p = found_by type_base ms t t.ends.items p
-
-abbrev pub kept_facts : List Module → Types → ℕ → TypeBase → Facts
-kept_facts ms t p b = record {
-  base = b;
-  hint = found_by (λ d. type_hint d.kind) ms t t.hints.items p;
-  names = found_by type_names ms t t.names.items p;
-  sizes = found_by type_sizes ms t t.sizes.items p;
+abbrev pub facts_at : List Module → KeptSyntax → Facts
+facts_at ms s = record {
+  base = s.base;
+  hint = option_and_then (λ d. type_hint d.kind) (def_of ms s.hint);
+  names = option_and_then names_of (def_of ms s.names);
+  sizes = option_and_then sizes_of (def_of ms s.sizes);
 }
 
--- the place to which an object's type leads
-abbrev pub object_lead : Types → ℕ → ℕ → Option ℕ
-object_lead t i k =
-    option_and_then (λ leads. at_place leads.items k) (slice_get t.objects.items i)
-
--- the syntax that is kept for an object: by its own base type, or by the type that it refines
-abbrev pub kept_of : List Module → Types → Option ℕ → SimpleType → Option TypeBase → Option Facts
-kept_of ms t lead s (Some b) = Some (record {
-  base = b;
-  hint = None;
-  names = names_in s.refinement;
-  sizes = sizes_in s.refinement;
-})
-kept_of ms t (Some p) s None =
-    option_map (λ b. refined_facts s.refinement (kept_facts ms t p b)) (kept_base ms t p)
-kept_of ms t None s None = None
-
+-- the syntax that is kept for a definition of a module, each by its place
 abbrev pub kept_syntax : List Module → Types → ℕ → ℕ → Option Facts
-kept_syntax ms t i k =
-    option_and_then (λ s. kept_of ms t (object_lead t i k) s (base_in s.base))
-    (option_and_then (λ d. option_and_then simple_in (object_syntax d.kind)) (def_at ms i k))
+kept_syntax ms t i k = option_map (facts_at ms)
+    (option_and_then (λ kept. at_place kept.items k) (slice_get t.objects.items i))
 
--- what is kept is right: objects lead to the names of their types, and what is kept for a name is
--- the syntax of the type that it means
-pub record AreTypesOf (ms : List Module) (t : Types) : Type 0 where
-  pub names : List Content
-  pub objects : (i k : ℕ)
-      → LeadsTo (record { modules = ms; names = names }) (object_origin ms i k) (object_lead t i k)
-  pub types : (a : QualifiedName) (p : ℕ) → slice_get names p ≡ content_named ms a
-      → MatchOption (kept_base ms t p) (HasNoSyntax ms (type_origin ms a))
-      (λ b. HasSyntax ms (type_origin ms a) (kept_facts ms t p b))
+-- a syntax or none is that of a type
+abbrev pub IsSyntax : List Module → TypeOrigin QualifiedName → Option Facts → Type 0
+IsSyntax ms o facts = MatchOption facts (HasNoSyntax ms o) (λ f. HasSyntax ms o f)
+
+-- what is kept for a definition is its syntax as an object, if it has one
+abbrev pub AreTypesOf : List Module → Types → Type 0
+AreTypesOf ms t = (i k : ℕ) → IsSyntax ms (object_origin ms i k) (kept_syntax ms t i k)
+
+-- ---- how it is found, for private clauses
+
+abbrev pub IsKept : List Module → TypeOrigin QualifiedName → Option KeptSyntax → Type 0
+IsKept ms o kept = IsSyntax ms o (option_map (facts_at ms) kept)
+
+-- the syntax of a base type, otherwise the one that a type is refined from
+abbrev pub base_or : Option TypeBase → Option KeptSyntax → Option KeptSyntax
+base_or None far = far
+base_or (Some b) far = Some (record { base = b; hint = None; names = None; sizes = None })
+
+-- the syntax of a type that the definition at a place states, with a hint or without
+abbrev pub refined_by : ℕ × ℕ → Bool → SimpleType → Option KeptSyntax → Option KeptSyntax
+refined_by at hint s far = option_map (λ f. record {
+  base = f.base;
+  hint = if hint then Some at else f.hint;
+  names = if is_some (names_in s.refinement) then Some at else f.names;
+  sizes = if is_some (sizes_in s.refinement) then Some at else f.sizes;
+}) (base_or (base_in s.base) far)
+
+-- what is given for the place to which a type leads is right
+abbrev pub IsLed : KnownNames → Option ℕ → Option KeptSyntax → Type 0
+IsLed k to far = (q : ℕ) → to ≡ Some q → IsKept k.modules (origin_at k q) far
+
+-- what a list has at the place of each name is the syntax that the name means as a type
+abbrev pub AreFollowed : KnownNames → List (Option KeptSyntax) → Type 0
+AreFollowed k types = (p : ℕ) → IsKept k.modules (origin_at k p) (at_place types p)
+
+-- the syntaxes of the definitions of a module as objects
+abbrev pub AreKeptOf : List Module → Module → List (Option KeptSyntax) → Type 0
+AreKeptOf ms m kept =
+    ArePairwise (λ k d syntax. IsKept ms (origin_of_object m.name.octets d) syntax) m.defs kept
+
+-- and of each module
+abbrev pub AreKeptOfAll : List Module → List (Vec (Option KeptSyntax) Global) → Type 0
+AreKeptOfAll ms objects = ArePairwise (λ i m kept. AreKeptOf ms m kept.items) ms objects

@@ -1,9 +1,15 @@
 //! The definitions that names lead to, by their own modules or through imports.
-ghost use Rattle.std.specs.Prelude.{◌≡◌, IfOk, MatchOption};
+ghost use Rattle.std.specs.Prelude.{◌≡◌, ℕ, IfOk, MatchOption, Option, Some};
+ghost use Rattle.std.specs.Option.{option_and_then};
+ghost use Rattle.std.specs.List.{slice_get};
 ghost use Rattle.smi_names.specs.meaning.Meaning.{QualifiedName};
-ghost use Rattle.smi_tree.specs.columns.Named.{AreNexts, IsFoundAt, IsUndefined};
+ghost use Rattle.smi_names.specs.meaning.Scopes.{Content};
+ghost use Rattle.smi_names.specs.meaning.Known.{IsNextOf};
+ghost use Rattle.smi_tree.specs.types.Leads.{at_place};
+ghost use Rattle.smi_tree.specs.columns.Named.{AreNexts, AreDefinedAt, IsDefinedAt, IsFoundAt};
+ghost use Rattle.smi_tree.specs.columns.Named.{IsUndefined};
 
-use smi_names::{Decider, Entries, Names, ends};
+use smi_names::{Decider, Entries, Names, ordered};
 use std::alloc::{AllocError, Global};
 use std::marker::Model;
 
@@ -12,24 +18,25 @@ use std::marker::Model;
 pub(crate) struct Definitions<'n, 'a> {
     /// What decides each name.
     entries: Entries<'n, 'a>,
-    /// For each name, the place of the name at which its imports end, if they do.
-    ends: Vec<Option<usize>>,
+    /// For each name, where the definition stands to which it leads, if it leads to one.
+    found: Vec<Option<(usize, usize)>>,
 }
 
 impl<'n, 'a> Model for Definitions<'n, 'a> {
     ghost use Rattle.std.specs.Prelude.{List};
     ghost use Rattle.smi_text.specs.declared.trees.tree.Module.{Module};
-    ghost use Rattle.smi_tree.specs.columns.Named.{AreEndsOfImports};
+    ghost use Rattle.smi_tree.specs.columns.Named.{AreDefinedAt};
 
     ghost Value = { List Module };
 
     ghost view = { λ s. s.entries.modules };
 
-    ghost invariant = { λ s. AreEndsOfImports s.entries.modules s.entries.names s.ends.items };
+    ghost invariant = { λ s. AreDefinedAt s.entries s.found.items };
 }
 
 impl<'n, 'a> Definitions<'n, 'a> {
-    /// The definitions that the names of modules lead to.
+    /// The definitions that the names of modules lead to. Each name is visited once, without
+    /// recursion.
     pub(crate) fn new(
         alloc: Global,
         names: &'n Names<'a>,
@@ -37,9 +44,8 @@ impl<'n, 'a> Definitions<'n, 'a> {
         ensures { IfOk result (λ definitions. definitions ≡ names.now) }
     {
         let entries = names.entries();
-        let next = next_places(alloc, &entries)?;
-        let ends = ends(alloc, &next)?;
-        Ok(Definitions { entries, ends })
+        let found = followed(alloc, &entries)?;
+        Ok(Definitions { entries, found })
     }
 
     /// The definition to which a name leads in the module of a name, by the place of its module and
@@ -49,13 +55,66 @@ impl<'n, 'a> Definitions<'n, 'a> {
             MatchOption result (IsUndefined self.now qualified)
             (λ at. IsFoundAt self.now qualified at.0 at.1) }
     {
-        let place = self.entries.place(home, name);
-        let end = (*self.ends.get(place)?)?;
-        let entry = self.entries.get(end)?;
-        match entry.decider {
-            Decider::Definition(_) => Some(entry.source),
-            Decider::Import(_) | Decider::Root(_) => None,
-        }
+        place_in(&self.found, self.entries.place(home, name))
+    }
+}
+
+/// What a list has at a place.
+fn place_in(list: &[Option<(usize, usize)>], place: usize) -> Option<(usize, usize)>
+    ensures { result ≡ at_place list.now place }
+{
+    match list.get(place) {
+        Some(found) => *found,
+        None => None,
+    }
+}
+
+/// What a list has at the place to which a name leads.
+fn led(list: &[Option<(usize, usize)>], to: Option<usize>) -> Option<(usize, usize)>
+    ensures { result ≡ option_and_then (λ p. at_place list.now p) to }
+{
+    match to {
+        Some(place) => place_in(list, place),
+        None => None,
+    }
+}
+
+/// For each name, where the definition stands to which it leads, if it leads to one.
+fn followed(
+    alloc: Global,
+    entries: &Entries<'_, '_>,
+) -> Result<Vec<Option<(usize, usize)>>, AllocError>
+    ensures { IfOk result (λ found. AreDefinedAt entries.now found.items) }
+{
+    let next = next_places(alloc, entries)?;
+    let order = ordered(alloc, &next)?;
+    let mut found = vec![in alloc; None; next.len()]?;
+    'places: for place in &order {
+        let place = *place;
+        found[place] = defined(entries, place, led(&found, next[place]));
+    }
+    Ok(found)
+}
+
+/// Where the definition stands to which the name at a place leads, given that of the name to which
+/// it leads as an import.
+fn defined(
+    entries: &Entries<'_, '_>,
+    place: usize,
+    far: Option<(usize, usize)>,
+) -> Option<(usize, usize)>
+    ensures { let k = entries.now in (to : Option ℕ)
+        → ((c : Content) → slice_get k.names place ≡ Some c
+        → IsNextOf k.modules k.names c.name c.decided to)
+        → ((q : ℕ) → to ≡ Some q → IsDefinedAt k q far) → IsDefinedAt k place result }
+{
+    let Some(entry) = entries.get(place) else {
+        return None;
+    };
+    match entry.decider {
+        Decider::Definition(_) => Some(entry.source),
+        Decider::Import(_) => far,
+        Decider::Root(_) => None,
     }
 }
 

@@ -1,7 +1,7 @@
 //! The parts of INDEX clauses, by the objects that they name.
 ghost use Rattle.std.specs.Prelude.{◌≡◌, ◌<◌, ◌↔◌, ℕ, List, length, IsTrue, IfOk, MatchOption};
 ghost use Rattle.std.specs.Option.{option_copied};
-ghost use Rattle.smi_names.specs.chains.Basis.{ComesTo};
+ghost use Rattle.smi_names.specs.chains.Resolution.{ComesTo};
 ghost use Rattle.smi_names.specs.meaning.Meaning.{origin, QualifiedName};
 ghost use Rattle.smi_tree.specs.types.Kept.{AreTypesOf};
 ghost use Rattle.smi_tree.specs.columns.Index.{IsIndexPart, clause_of, is_implied};
@@ -10,8 +10,8 @@ ghost use Rattle.smi_tree.specs.columns.Kept.{IsOwn, AreOwn, AreOwnOfAll};
 
 use crate::columns::definitions::Definitions;
 use crate::columns::part::part;
-use crate::types::{Types, one_syntax};
-use smi_names::{Names, Resolution};
+use crate::types::Types;
+use smi_names::{Names, Resolution, one_resolution};
 use smi_show::IndexPart;
 use smi_text::{Def, DefKind, Index, IndexParts, Module, Name};
 use std::alloc::{AllocError, Global};
@@ -96,6 +96,7 @@ impl<'n, 'a> Objects<'n, 'a> {
             IsTrue result ↔ ((oid : List ℕ)
             × ComesTo (origin self.now) qualified (Resolution.Numbers oid)) }
     {
+        one_resolution();
         match self.names.resolution(home, name) {
             Some(resolution) => is_identifier(resolution),
             None => false,
@@ -115,7 +116,6 @@ impl<'n, 'a> Objects<'n, 'a> {
         }
         let (module, def) = self.definitions.find(home, name)?;
         let syntax = self.types.syntax(self.modules, module, def)?;
-        one_syntax();
         part(syntax.base, syntax.sizes, implied)
     }
 
@@ -163,7 +163,7 @@ impl<'n, 'a> Objects<'n, 'a> {
         home: &'a Module,
     ) -> Result<Vec<Option<Vec<IndexPart>>>, AllocError>
         ensures { IfOk result (λ kept.
-            AreOwn self.now home.now home.now.defs kept.items) }
+            AreOwn self.now home.now kept.items) }
     {
         let defs = home.defs.as_slice();
         let mut kept = Vec::with_capacity(alloc, defs.len())?;
@@ -180,7 +180,7 @@ impl<'n, 'a> Objects<'n, 'a> {
         alloc: Global,
     ) -> Result<Vec<Vec<Option<Vec<IndexPart>>>>, AllocError>
         ensures { IfOk result (λ kept.
-            AreOwnOfAll self.now self.now kept.items) }
+            AreOwnOfAll self.now kept.items) }
     {
         let mut kept = Vec::with_capacity(alloc, self.modules.len())?;
         'modules: for home in self.modules {

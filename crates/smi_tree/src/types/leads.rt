@@ -1,29 +1,15 @@
-//! The places of names by which chains of types are followed: where each name leads, and where the
-//! nearest hint, names and SIZE stand.
-ghost use Rattle.std.specs.Prelude.{◌≡◌, ◌<◌, ℕ, List, Option, length, option_map, IfOk, Some};
+//! The places of names by which chains of types are followed.
+ghost use Rattle.std.specs.Prelude.{◌≡◌, ℕ, List, Option, option_map, IfOk, Some};
 ghost use Rattle.std.specs.Option.{option_copied};
 ghost use Rattle.std.specs.List.{slice_get};
 ghost use Rattle.smi_names.specs.meaning.Scopes.{Content, content_of};
 ghost use Rattle.smi_tree.specs.types.Types.{origin_of_simple, name_in};
-ghost use Rattle.smi_tree.specs.types.Leads.{content_origin, LeadsTo, StatesIf, IsSourceBy};
-ghost use Rattle.smi_tree.specs.types.Leads.{IsNextUntil, AreLeads, AreNextUntil, AreSources};
-ghost use Rattle.smi_tree.specs.types.Leads.{at_place};
+ghost use Rattle.smi_tree.specs.types.Leads.{content_origin, LeadsTo, AreLeads};
 
-use crate::types::syntax::{base_of, hint_of, names_of, sizes_of, type_of};
+use crate::types::syntax::{base_of, type_of};
 use smi_names::{Decider, Entries, Entry};
 use smi_text::{Base, Name, SimpleType};
 use std::alloc::{AllocError, Global};
-
-/// What the types of a chain may state.
-#[derive(Clone, Copy, Debug)]
-pub(crate) enum Field {
-    /// The display hint.
-    Hint,
-    /// The names of numbers or bits.
-    Names,
-    /// The SIZE.
-    Sizes,
-}
 
 /// The name of the type that a type refines, if that is no base type.
 fn name_of(simple: &SimpleType) -> Option<&Name>
@@ -95,81 +81,3 @@ fn lead_at(entries: &Entries<'_, '_>, place: usize) -> Option<usize>
     }
 }
 
-/// Whether a name means a type that states a field itself.
-fn states(entry: &Entry<'_>, field: Field) -> bool
-    ensures { StatesIf field (content_origin (content_of entry.now)) result }
-{
-    let Decider::Definition(def) = entry.decider else {
-        return false;
-    };
-    let Some(simple) = type_of(&def.kind) else {
-        return false;
-    };
-    match field {
-        Field::Hint => hint_of(&def.kind).is_some(),
-        Field::Names => names_of(simple).is_some(),
-        Field::Sizes => sizes_of(simple).is_some(),
-    }
-}
-
-/// The places to which names lead as types, but for those that state a field: they lead nowhere.
-pub(crate) fn leads_until(
-    alloc: Global,
-    entries: &Entries<'_, '_>,
-    leads: &[Option<usize>],
-    field: Field,
-) -> Result<Vec<Option<usize>>, AllocError>
-    ensures { IfOk result (λ next. AreNextUntil entries.now field leads.now next.items) }
-{
-    let mut next = Vec::with_capacity(alloc, entries.len())?;
-    'places: for place in 0..entries.len() {
-        next.push(lead_until(entries, leads, field, place))?;
-    }
-    Ok(next)
-}
-
-/// The place to which the name at a place leads as a type that doesn't state a field.
-fn lead_until(
-    entries: &Entries<'_, '_>,
-    leads: &[Option<usize>],
-    field: Field,
-    place: usize,
-) -> Option<usize>
-    ensures { (c : Content) → slice_get entries.now.names place ≡ Some c
-        → IsNextUntil field (content_origin c) (at_place leads.now place) result }
-{
-    // Most names lead nowhere, whatever they state.
-    let lead = (*leads.get(place)?)?;
-    match entries.get(place) {
-        Some(entry) if states(&entry, field) => None,
-        _ => Some(lead),
-    }
-}
-
-/// Where the definitions stand that decide names, by the places of the names.
-pub(crate) fn sources(
-    alloc: Global,
-    entries: &Entries<'_, '_>,
-) -> Result<Vec<Option<(usize, usize)>>, AllocError>
-    ensures { IfOk result (λ sources. AreSources entries.now sources.items) }
-{
-    let mut sources = Vec::with_capacity(alloc, entries.len())?;
-    'places: for place in 0..entries.len() {
-        sources.push(source_at(entries, place))?;
-    }
-    Ok(sources)
-}
-
-/// Where the definition stands that decides the name at a place, if one does.
-fn source_at(entries: &Entries<'_, '_>, place: usize) -> Option<(usize, usize)>
-    ensures { (c : Content) → slice_get entries.now.names place ≡ Some c
-        → IsSourceBy entries.now.modules c.decided result }
-{
-    let Some(entry) = entries.get(place) else {
-        return None;
-    };
-    match entry.decider {
-        Decider::Definition(_) => Some(entry.source),
-        Decider::Import(_) | Decider::Root(_) => None,
-    }
-}

@@ -4,7 +4,7 @@ ghost use Rattle.std.specs.Option.{option_copied, option_and_then};
 ghost use Rattle.smi_tree.specs.types.Types.{names_in, sizes_in, simple_in, type_hint};
 ghost use Rattle.smi_tree.specs.types.Types.{type_syntax};
 ghost use Rattle.smi_tree.specs.types.Types.{object_syntax, base_in};
-ghost use Rattle.smi_tree.specs.types.Kept.{type_base, type_names, type_sizes};
+ghost use Rattle.smi_tree.specs.types.Kept.{names_of, sizes_of, type_in};
 
 use smi_names::TypeBase;
 use smi_text::{Base, Def, DefKind, NamedNumber, Range, Refinement, SimpleType, Syntax, Text};
@@ -99,31 +99,31 @@ pub(crate) fn object_type_of(kind: &DefKind) -> Option<&SimpleType>
     }
 }
 
-/// The base type that a definition of a type refines by itself.
-pub(crate) fn base_in_definition(def: &Def) -> Option<TypeBase>
-    ensures { result ≡ type_base def.now }
+/// The type that a definition of a type or of an object states.
+fn type_in(kind: &DefKind) -> Option<&SimpleType>
+    ensures { option_copied result ≡ type_in kind.now }
 {
-    match type_of(&def.kind) {
-        Some(simple) => base_of(simple),
-        None => None,
+    match type_of(kind) {
+        Some(simple) => Some(simple),
+        None => object_type_of(kind),
     }
 }
 
-/// The names of numbers or bits that a definition of a type states.
+/// The names of numbers or bits that a definition of a type or of an object states.
 pub(crate) fn names_in_definition(def: &Def) -> Option<&[NamedNumber]>
-    ensures { option_copied result ≡ type_names def.now }
+    ensures { option_copied result ≡ names_of def.now }
 {
-    match type_of(&def.kind) {
+    match type_in(&def.kind) {
         Some(simple) => names_of(simple),
         None => None,
     }
 }
 
-/// The SIZE that a definition of a type states.
+/// The SIZE that a definition of a type or of an object states.
 pub(crate) fn sizes_in_definition(def: &Def) -> Option<&[Range]>
-    ensures { option_copied result ≡ type_sizes def.now }
+    ensures { option_copied result ≡ sizes_of def.now }
 {
-    match type_of(&def.kind) {
+    match type_in(&def.kind) {
         Some(simple) => sizes_of(simple),
         None => None,
     }

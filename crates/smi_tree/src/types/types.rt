@@ -1,44 +1,47 @@
 //! The types of modules, each followed to its end once.
-ghost use Rattle.std.specs.Prelude.{◌≡◌, ℕ, IfOk, MatchOption, option_map};
+ghost use Rattle.std.specs.Prelude.{◌≡◌, IfOk, MatchOption, Option, Some, option_map};
+ghost use Rattle.std.specs.Prelude.{ℕ, if◌then◌else◌};
 ghost use Rattle.std.specs.Option.{option_and_then, option_copied};
 ghost use Rattle.std.specs.List.{slice_get};
-ghost use Rattle.smi_tree.specs.types.Types.{object_origin, type_hint, def_at, HasSyntax};
-ghost use Rattle.smi_tree.specs.types.Types.{HasNoSyntax};
-ghost use Rattle.smi_tree.specs.types.Leads.{at_place, AreLeads};
-ghost use Rattle.smi_tree.specs.types.Nearest.{AreNearest, AreLeadsOf, AreObjectLeads};
-ghost use Rattle.smi_tree.specs.types.Nearest.{refined_facts};
-ghost use Rattle.smi_tree.specs.types.Kept.{AreTypesOf, facts_of, def_by, found_by, kept_base};
-ghost use Rattle.smi_tree.specs.types.Kept.{kept_facts};
-ghost use Rattle.smi_tree.specs.types.Kept.{object_lead, kept_syntax, type_names, type_sizes};
+ghost use Rattle.smi_tree.specs.types.Types.{base_in, object_origin, origin_of_object, def_at};
+ghost use Rattle.smi_tree.specs.types.Types.{HasSyntax, HasNoSyntax};
+ghost use Rattle.smi_tree.specs.types.Leads.{at_place, LeadsTo, origin_at};
+ghost use Rattle.smi_tree.specs.types.Kept.{AreFollowed, AreKeptOf, AreKeptOfAll, AreTypesOf};
+ghost use Rattle.smi_tree.specs.types.Kept.{IsKept, IsLed, base_or, def_of, facts_of};
+ghost use Rattle.smi_tree.specs.types.Kept.{kept_syntax, refined_by};
 
-use crate::types::leads::{Field, lead_of_type, leads, leads_until, sources};
+use crate::types::leads::{lead_of_type, leads};
 use crate::types::syntax::{
-    TypeSyntax, base_in_definition, base_of, hint_of, names_in_definition, names_of,
-    object_type_of, sizes_in_definition, sizes_of,
+    TypeSyntax, base_of, hint_of, names_in_definition, names_of, object_type_of,
+    sizes_in_definition, sizes_of, type_of,
 };
-use smi_names::{Entries, Names, TypeBase, ends};
-use smi_text::{Def, Module, NamedNumber, Range, SimpleType, Text};
+use smi_names::{Decider, Entries, Names, TypeBase, ordered};
+use smi_text::{Def, Module, SimpleType};
 use std::alloc::{AllocError, Global};
 
-/// The types of modules, by places of names. The modules are kept by the caller.
+/// A syntax, with the places of the definitions that state its hint, its names and its SIZE: of the
+/// module, and in that.
+#[derive(Clone, Copy, Debug)]
+pub(crate) struct KeptSyntax {
+    /// The base type at the end of the chain.
+    base: TypeBase,
+    /// Where the nearest hint stands, if there is one.
+    hint: Option<(usize, usize)>,
+    /// Where the nearest names of numbers or bits stand, if there are some.
+    names: Option<(usize, usize)>,
+    /// Where the nearest SIZE stands, if there is one.
+    sizes: Option<(usize, usize)>,
+}
+
+/// The syntax of each object of modules. The modules are kept by the caller.
 #[derive(Drop)]
 pub struct Types {
-    /// For each definition of each module, the place to which its type leads, if it is an object.
-    objects: Vec<Vec<Option<usize>>>,
-    /// For each name, where the definition stands that decides it.
-    sources: Vec<Option<(usize, usize)>>,
-    /// For each name, where its chain of types ends.
-    ends: Vec<Option<usize>>,
-    /// For each name, where the nearest hint stands, if there is one.
-    hints: Vec<Option<usize>>,
-    /// For each name, where the nearest names of numbers or bits stand, if there are some.
-    names: Vec<Option<usize>>,
-    /// For each name, where the nearest SIZE stands, if there is one.
-    sizes: Vec<Option<usize>>,
+    /// For each definition of each module its syntax, if it is an object that has one.
+    objects: Vec<Vec<Option<KeptSyntax>>>,
 }
 
 impl Types {
-    /// The types of these modules. Each name is visited a few times, without recursion.
+    /// The types of these modules. Each name is visited once, without recursion.
     pub fn new<'a>(
         alloc: Global,
         names: &Names<'a>,
@@ -48,14 +51,9 @@ impl Types {
         ensures { IfOk result (λ types. AreTypesOf modules.now types) }
     {
         let entries = names.entries();
-        let leads = leads(alloc, &entries)?;
+        let types = followed(alloc, &entries)?;
         Ok(Types {
-            objects: objects(alloc, &entries, modules)?,
-            sources: sources(alloc, &entries)?,
-            ends: ends(alloc, &leads)?,
-            hints: nearest(alloc, &entries, &leads, Field::Hint)?,
-            names: nearest(alloc, &entries, &leads, Field::Names)?,
-            sizes: nearest(alloc, &entries, &leads, Field::Sizes)?,
+            objects: objects(alloc, &entries, &types, modules)?,
         })
     }
 
@@ -89,129 +87,32 @@ impl Types {
         ensures { option_map facts_of result
             ≡ kept_syntax modules.now self.now module_place def_place }
     {
-        let Some(def) = definition_at(modules, (module_place, def_place)) else {
+        let Some(kept) = self.objects.get(module_place) else {
             return None;
         };
-        let Some(simple) = object_type_of(&def.kind) else {
+        let Some(syntax) = place_in(kept, def_place) else {
             return None;
         };
-        match base_of(simple) {
-            Some(base) => Some(TypeSyntax {
-                base,
-                names: names_of(simple),
-                hint: None,
-                sizes: sizes_of(simple),
-            }),
-            None => match self.object_lead(module_place, def_place) {
-                Some(place) => self.refined(modules, place, simple),
+        Some(TypeSyntax {
+            base: syntax.base,
+            names: match definition(modules, syntax.names) {
+                Some(def) => names_in_definition(def),
                 None => None,
             },
-        }
-    }
-
-    /// The place to which the type of a definition leads.
-    fn object_lead(&self, module_place: usize, def_place: usize) -> Option<usize>
-        ensures { result ≡ object_lead self.now module_place def_place }
-    {
-        match self.objects.get(module_place) {
-            Some(leads) => place_in(leads, def_place),
-            None => None,
-        }
-    }
-
-    /// The syntax of a type that refines the one that the name at a place means.
-    fn refined<'m>(
-        &self,
-        modules: &'m [Module],
-        place: usize,
-        simple: &'m SimpleType,
-    ) -> Option<TypeSyntax<'m>>
-        ensures { option_map facts_of result
-            ≡ option_map (λ base. refined_facts simple.now.refinement
-            (kept_facts modules.now self.now place base)) (kept_base modules.now self.now place) }
-    {
-        match self.base_at(modules, place) {
-            Some(base) => Some(TypeSyntax {
-                base,
-                names: match names_of(simple) {
-                    Some(names) => Some(names),
-                    None => self.names_at(modules, place),
-                },
-                hint: self.hint_at(modules, place),
-                sizes: match sizes_of(simple) {
-                    Some(sizes) => Some(sizes),
-                    None => self.sizes_at(modules, place),
-                },
-            }),
-            None => None,
-        }
-    }
-
-    /// The definition at the end that a list has for a place.
-    fn definition<'m>(
-        &self,
-        modules: &'m [Module],
-        ends: &[Option<usize>],
-        place: usize,
-    ) -> Option<&'m Def>
-        ensures { option_copied result
-            ≡ def_by modules.now self.now.sources.items ends.now place }
-    {
-        match place_in(ends, place) {
-            Some(end) => match self.sources.get(end) {
-                Some(Some(source)) => definition_at(modules, *source),
-                _ => None,
+            hint: match definition(modules, syntax.hint) {
+                Some(def) => hint_of(&def.kind),
+                None => None,
             },
-            None => None,
-        }
-    }
-
-    /// The base type of the type that the name at a place means.
-    fn base_at(&self, modules: &[Module], place: usize) -> Option<TypeBase>
-        ensures { result ≡ kept_base modules.now self.now place }
-    {
-        match self.definition(modules, &self.ends, place) {
-            Some(def) => base_in_definition(def),
-            None => None,
-        }
-    }
-
-    /// The nearest hint of the type that the name at a place means.
-    fn hint_at<'m>(&self, modules: &'m [Module], place: usize) -> Option<&'m Text>
-        ensures { option_copied result
-            ≡ found_by (λ d. type_hint d.kind) modules.now self.now self.now.hints.items place }
-    {
-        match self.definition(modules, &self.hints, place) {
-            Some(def) => hint_of(&def.kind),
-            None => None,
-        }
-    }
-
-    /// The nearest names of the type that the name at a place means.
-    fn names_at<'m>(&self, modules: &'m [Module], place: usize) -> Option<&'m [NamedNumber]>
-        ensures { option_copied result
-            ≡ found_by type_names modules.now self.now self.now.names.items place }
-    {
-        match self.definition(modules, &self.names, place) {
-            Some(def) => names_in_definition(def),
-            None => None,
-        }
-    }
-
-    /// The nearest SIZE of the type that the name at a place means.
-    fn sizes_at<'m>(&self, modules: &'m [Module], place: usize) -> Option<&'m [Range]>
-        ensures { option_copied result
-            ≡ found_by type_sizes modules.now self.now self.now.sizes.items place }
-    {
-        match self.definition(modules, &self.sizes, place) {
-            Some(def) => sizes_in_definition(def),
-            None => None,
-        }
+            sizes: match definition(modules, syntax.sizes) {
+                Some(def) => sizes_in_definition(def),
+                None => None,
+            },
+        })
     }
 }
 
 /// What a list has at a place.
-fn place_in(list: &[Option<usize>], place: usize) -> Option<usize>
+fn place_in(list: &[Option<KeptSyntax>], place: usize) -> Option<KeptSyntax>
     ensures { result ≡ at_place list.now place }
 {
     match list.get(place) {
@@ -220,59 +121,167 @@ fn place_in(list: &[Option<usize>], place: usize) -> Option<usize>
     }
 }
 
-/// The definition at a place of a module.
-fn definition_at(modules: &[Module], source: (usize, usize)) -> Option<&Def>
-    ensures { option_copied result ≡ def_at modules.now source.0 source.1 }
+/// The definition at a place, if one is given.
+fn definition(modules: &[Module], at: Option<(usize, usize)>) -> Option<&Def>
+    ensures { option_copied result ≡ def_of modules.now at }
 {
-    match modules.get(source.0) {
-        Some(module) => module.defs.as_slice().get(source.1),
+    match at {
+        Some((i, k)) => match modules.get(i) {
+            Some(module) => module.defs.as_slice().get(k),
+            None => None,
+        },
         None => None,
     }
 }
 
-/// For each name, the nearest place of its chain of types that states a field, or the last one.
-fn nearest(
+/// For each name, the syntax that it means as a type, if it has one.
+fn followed(
     alloc: Global,
     entries: &Entries<'_, '_>,
-    leads: &[Option<usize>],
-    field: Field,
-) -> Result<Vec<Option<usize>>, AllocError>
-    ensures { IfOk result (λ places. AreNearest entries.now field leads.now places.items) }
+) -> Result<Vec<Option<KeptSyntax>>, AllocError>
+    ensures { IfOk result (λ types. AreFollowed entries.now types.items) }
 {
-    let next = leads_until(alloc, entries, leads, field)?;
-    let places = ends(alloc, &next)?;
-    Ok(places)
+    let leads = leads(alloc, entries)?;
+    let order = ordered(alloc, &leads)?;
+    let mut types = vec![in alloc; None; leads.len()]?;
+    'places: for place in &order {
+        let place = *place;
+        types[place] = meant(entries, place, led(&types, leads[place]));
+    }
+    Ok(types)
 }
 
-/// The places to which the types of the definitions of a module lead, if they are objects.
-fn module_leads<'a>(
+/// What a list has at the place to which a type leads.
+fn led(types: &[Option<KeptSyntax>], to: Option<usize>) -> Option<KeptSyntax>
+    ensures { result ≡ option_and_then (λ p. at_place types.now p) to }
+{
+    match to {
+        Some(place) => place_in(types, place),
+        None => None,
+    }
+}
+
+/// The syntax that the name at a place means, given that of the name to which it leads.
+fn meant(entries: &Entries<'_, '_>, place: usize, far: Option<KeptSyntax>) -> Option<KeptSyntax>
+    ensures { let k = entries.now in
+        (to : Option ℕ) → LeadsTo k (origin_at k place) to → IsLed k to far
+        → IsKept k.modules (origin_at k place) result }
+{
+    let Some(entry) = entries.get(place) else {
+        return None;
+    };
+    match entry.decider {
+        Decider::Definition(def) => match type_of(&def.kind) {
+            Some(simple) => {
+                let hint = hint_of(&def.kind).is_some();
+                refined(entry.source, hint, simple, far)
+            }
+            None => None,
+        },
+        Decider::Import(_) => far,
+        Decider::Root(_) => None,
+    }
+}
+
+/// The syntax of a type that the definition at a place states, with a hint or without. What it
+/// states is nearer than what the type states that it refines.
+fn refined(
+    at: (usize, usize),
+    hint: bool,
+    simple: &SimpleType,
+    far: Option<KeptSyntax>,
+) -> Option<KeptSyntax>
+    ensures { result ≡ refined_by at hint simple.now far }
+{
+    match based(simple, far) {
+        Some(far) => Some(KeptSyntax {
+            base: far.base,
+            hint: nearer(hint, at, far.hint),
+            names: nearer(names_of(simple).is_some(), at, far.names),
+            sizes: nearer(sizes_of(simple).is_some(), at, far.sizes),
+        }),
+        None => None,
+    }
+}
+
+/// The syntax of the base type that a type refines by itself, otherwise the one that is given.
+fn based(simple: &SimpleType, far: Option<KeptSyntax>) -> Option<KeptSyntax>
+    ensures { result ≡ base_or (base_in simple.now.base) far }
+{
+    match base_of(simple) {
+        Some(base) => Some(KeptSyntax {
+            base,
+            hint: None,
+            names: None,
+            sizes: None,
+        }),
+        None => far,
+    }
+}
+
+/// The place of a definition if it states something, otherwise one that is farther.
+fn nearer(states: bool, at: (usize, usize), far: Option<(usize, usize)>) -> Option<(usize, usize)>
+    ensures { result ≡ (if states then Some at else far) }
+{
+    if states { Some(at) } else { far }
+}
+
+/// The syntax of an object of a module, by its place.
+fn object<'a>(
+    entries: &Entries<'_, 'a>,
+    types: &[Option<KeptSyntax>],
+    home: &'a Module,
+    def: &'a Def,
+    at: (usize, usize),
+) -> Option<KeptSyntax>
+    requires followed { AreFollowed entries.now types.now }
+    requires there { def_at entries.now.modules at.0 at.1 ≡ Some def.now }
+    ensures { IsKept entries.now.modules (origin_of_object home.now.name.octets def.now) result }
+{
+    match object_type_of(&def.kind) {
+        Some(simple) => {
+            let lead = lead_of_type(entries, home.name.as_bytes(), Some(simple));
+            refined(at, false, simple, led(types, lead))
+        }
+        None => None,
+    }
+}
+
+/// The syntaxes of the objects of the module at a place.
+fn module_objects<'a>(
     alloc: Global,
     entries: &Entries<'_, 'a>,
+    types: &[Option<KeptSyntax>],
     module: &'a Module,
-) -> Result<Vec<Option<usize>>, AllocError>
-    ensures { IfOk result (λ leads. AreLeadsOf entries.now «module».now leads.items) }
+    place: usize,
+) -> Result<Vec<Option<KeptSyntax>>, AllocError>
+    requires followed { AreFollowed entries.now types.now }
+    requires there { slice_get entries.now.modules place ≡ Some «module».now }
+    ensures { IfOk result (λ kept. AreKeptOf entries.now.modules «module».now kept.items) }
 {
     let defs = module.defs.as_slice();
-    let mut leads = Vec::with_capacity(alloc, defs.len())?;
-    'defs: for def in defs {
-        let home = module.name.as_bytes();
-        leads.push(lead_of_type(entries, home, object_type_of(&def.kind)))?;
+    let mut kept = Vec::with_capacity(alloc, defs.len())?;
+    'defs: for (k, def) in defs.iter().enumerate() {
+        kept.push(object(entries, types, module, def, (place, k)))?;
     }
-    Ok(leads)
+    Ok(kept)
 }
 
-/// The places to which the types of the objects of each module lead.
+/// The syntaxes of the objects of each module.
 fn objects<'a>(
     alloc: Global,
     entries: &Entries<'_, 'a>,
+    types: &[Option<KeptSyntax>],
     modules: &'a [Module],
-) -> Result<Vec<Vec<Option<usize>>>, AllocError>
-    ensures { IfOk result (λ objects. AreObjectLeads entries.now modules.now objects.items) }
+) -> Result<Vec<Vec<Option<KeptSyntax>>>, AllocError>
+    requires followed { AreFollowed entries.now types.now }
+    requires named { entries.now.modules ≡ modules.now }
+    ensures { IfOk result (λ objects. AreKeptOfAll modules.now objects.items) }
 {
     let mut objects = Vec::with_capacity(alloc, modules.len())?;
-    'modules: for module in modules {
-        let leads = module_leads(alloc, entries, module)?;
-        objects.push(leads)?;
+    'modules: for (i, module) in modules.iter().enumerate() {
+        let kept = module_objects(alloc, entries, types, module, i)?;
+        objects.push(kept)?;
     }
     Ok(objects)
 }

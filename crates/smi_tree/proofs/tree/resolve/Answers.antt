@@ -1,6 +1,6 @@
 -- What is gathered is a tree.
 use Rattle.std.proofs.Common.{◌≡◌, length, sym, ap, ◌∙◌}
-use Rattle.smi_tree.proofs.Syntaxes.{is_tree}
+use Rattle.smi_tree.proofs.Syntaxes.{is_tree, syntaxes_right}
 use Rattle.smi_tree.proofs.tree.resolve.Goals as goal
 
 pub returns : goal.returns
@@ -15,5 +15,5 @@ returns c =
     let long = found.long ∙ sym (ap (λ l. length l) same) in
     record {
       long = long;
-      tree = is_tree ms g t os c.in_ok-indexes.indexes found same (c.kept_syntaxes.ensures ms t c.in_ok-types.ensures g.sources.items os long) indexed;
+      tree = is_tree ms g t os c.in_ok-indexes.indexes found same (syntaxes_right ms t c.in_ok-types.ensures g.sources.items os long) indexed;
     }

@@ -2,14 +2,14 @@
 use Rattle.std.proofs.Common.{rules, ◌≡◌, ◌<◌, ◌∷◌, [], length, replicate, get_or, take, refl, ap, ◌∙◌, arith}
 use Rattle.std.proofs.lemmas.List.{length-set, length-map, take_all, length-replicate}
 use Rattle.std.proofs.lemmas.List.Elements.{All-get_or, All-replicate}
-use Rattle.smi_names.specs.chains.Link.{origin_of_link, origin_by_link}
+use Rattle.smi_names.specs.chains.Link.{origin_of, origin_at}
 use Rattle.smi_names.specs.chains.Chain.{next_of}
 use Rattle.smi_names.specs.chains.Order.{ComeAfterNext}
 use Rattle.smi_names.specs.chains.Resolving.{resolution_at, resolution_by}
 use Rattle.smi_names.specs.chains.Shared.{shared}
 use Rattle.smi_names.proofs.Filling.{Fills-step, Fills-start, EachComesTo-filled, nexts}
 use Rattle.smi_names.proofs.Sharing.{shared-grown, AreWithin-grown, HasReasons-grown, shared-start}
-use Rattle.smi_names.specs.declared.chains.basis.Resolution.TheVariants as R
+use Rattle.smi_names.specs.declared.chains.resolution.Resolution.TheVariants as R
 use Rattle.smi_names.proofs.chains.shared.shared_resolutions.Goals as goal
 
 pub places-init : goal.places-init
@@ -21,29 +21,29 @@ places-init c =
       length-replicate n 1,
       ([], refl),
       All-replicate (λ k. k < 3) n 1 (omega arith),
-      rw (shared-start (R.Unresolved ∷ R.Cycle ∷ R.TooLong ∷ []) n refl) (Fills-start (origin_by_link c.args.links.now) n),
+      rw (shared-start (R.Unresolved ∷ R.Cycle ∷ R.TooLong ∷ []) n refl) (Fills-start (origin_at c.args.links.now) n),
     )
 
 pub places-preserved : goal.places-preserved
 places-preserved c =
     let links = c.args.links.now in
     let order = c.in_ok-order.order.items in
-    let next : c.in_ok-next.next.items ≡ nexts origin_of_link links = search rules in
-    let seen : c.deref.result.now ≡ nexts origin_of_link links = c.deref.ensures.value ∙ next in
-    let after_next : ComeAfterNext (nexts origin_of_link links) order = rw seen at c.in_ok-order.ensures.after_next in
+    let next : c.in_ok-next.next.items ≡ nexts links = search rules in
+    let seen : c.deref.result.now ≡ nexts links = c.deref.ensures.value ∙ next in
+    let after_next : ComeAfterNext (nexts links) order = rw seen at c.in_ok-order.ensures.after_next in
     let within = rw seen at c.in_ok-order.ensures.within in
     let list : c.deref-place-items.result.now ≡ order = c.deref-place-items.ensures.value in
     let places : c.deref-in-places.result.now ≡ c.places.places.items = c.deref-in-places.ensures.value in
     let i_in : c.places.place-index < length order = omega (arith, c.places-test.true, c.deref-place-items.ensures.len, ap length list) in
     let p = get_or order c.places.place-index 0 in
-    let inside = All-get_or (λ p. p < length (nexts origin_of_link links)) order c.places.place-index 0 i_in within in
+    let inside = All-get_or (λ p. p < length (nexts links)) order c.places.place-index 0 i_in within in
     let fills = rw list at c.places.invariant.3 in
     let found = rw list at c.index-links-place.is in
     let old = c.places.list.items in
     let new = c.entered.new.list.items in
     let at = c.in_ok-places-2.field-0 in
     let rs = shared c.places.list.items c.places.places.items in
-    let r = resolution_by (origin_of_link c.index-links-place.result) (shared c.places.list.items c.places.places.items) in
+    let r = resolution_by (origin_of c.index-links-place.result) (shared c.places.list.items c.places.places.items) in
     let grown = rw places at c.in_ok-places-2.ensures.grown in
     let long : length (shared c.places.list.items c.places.places.items) ≡ length c.args.links.now =
     length-map c.places.places.items (λ k. resolution_at c.places.list.items k) ∙ c.places.invariant.0 in
@@ -52,8 +52,8 @@ places-preserved c =
       HasReasons-grown old new at r c.places.invariant.1 grown,
       AreWithin-grown old new c.places.places.items p at r c.places.invariant.2 grown,
       rw (shared-grown old new c.places.places.items p at r c.places.invariant.2 grown) (
-          Fills-step origin_of_link links order rs c.places.place-index c.index-links-place.result long fills i_in
-          (omega (arith, inside, length-map links (λ x. next_of (origin_of_link x)))) found after_next
+          Fills-step links order rs c.places.place-index c.index-links-place.result long fills i_in
+          (omega (arith, inside, length-map links (λ x. next_of (origin_of x)))) found after_next
           ),
     )
 
@@ -61,13 +61,13 @@ pub returns-clause-each : goal.returns-clause-each
 returns-clause-each c =
     let links = c.args.links.now in
     let order = c.in_ok-order.order.items in
-    let next : c.in_ok-next.next.items ≡ nexts origin_of_link links = search rules in
-    let seen : c.deref.result.now ≡ nexts origin_of_link links = c.deref.ensures.value ∙ next in
+    let next : c.in_ok-next.next.items ≡ nexts links = search rules in
+    let seen : c.deref.result.now ≡ nexts links = c.deref.ensures.value ∙ next in
     let list : c.deref-place-items.result.now ≡ order = c.deref-place-items.ensures.value in
     let ended = rw seen at c.in_ok-order.ensures.each_ended in
     let all : take c.places.place-index order ≡ order = take_all c.places.place-index order (search rules) in
     let fills = rw (list, all) at c.places.invariant.3 in
     let long : length (shared c.places.list.items c.places.places.items) ≡ length c.args.links.now =
     length-map c.places.places.items (λ k. resolution_at c.places.list.items k) ∙ c.places.invariant.0 in
-    EachComesTo-filled origin_of_link links order (shared c.places.list.items c.places.places.items) long fills
-    (λ p l h. ended p (omega (arith, length-map links (λ x. next_of (origin_of_link x)))) h)
+    EachComesTo-filled links order (shared c.places.list.items c.places.places.items) long fills
+    (λ p l h. ended p (omega (arith, length-map links (λ x. next_of (origin_of x)))) h)

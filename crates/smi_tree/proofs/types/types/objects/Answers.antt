@@ -1,26 +1,22 @@
 -- One module more.
-use Rattle.std.proofs.Common.{rules, ◌≡◌, ◌+◌, [], ◌∷◌, ◌++◌, length, refl, ap, ◌∙◌, arith}
-use Rattle.std.proofs.lemmas.List.{length_push}
+use Rattle.std.proofs.Common.{rules, ◌≡◌, ◌<◌, [], ◌∷◌, ◌++◌, length, refl}
 use Rattle.std.proofs.lemmas.Option.{slice_get_read}
-use Rattle.smi_tree.proofs.Leading.{AllAt-none, AllAt-more}
+use Rattle.smi_tree.proofs.Pairing.{first_none, first_more, first_all}
 use Rattle.smi_tree.proofs.types.types.objects.Goals as goal
 
 pub modules-init : goal.modules-init
-modules-init c = (rw c.in_ok-objects.ensures.items refl, rw c.in_ok-objects.ensures.items (AllAt-none _ _))
+modules-init c = rw c.in_ok-objects.ensures.items (first_none _ _)
 
 pub modules-preserved : goal.modules-preserved
 modules-preserved c =
-    let os = c.modules.objects.items in
-    let i = c.modules.module-index in
-    let pushed : c.push.new.self.items ≡ c.modules.objects.items ++ c.in_ok-leads.leads ∷ [] = search rules in
-    let read = slice_get_read c.args.modules.now (length c.args.modules.now) i c.module-item.result refl c.modules-test.true c.module-item.is in
-    rw pushed (
-      length_push os c.in_ok-leads.leads ∙ ap (λ n. n + 1) c.modules.invariant.0,
-      AllAt-more _ c.args.modules.now os i c.module-item.result c.in_ok-leads.leads c.modules.invariant.1 c.modules.invariant.0 read
-          c.in_ok-leads.ensures,
-    )
+    let pushed : c.push.new.self.items ≡ c.modules.objects.items ++ c.in_ok-kept.kept ∷ [] = search rules in
+    let ms = c.args.modules.now in
+    let inside : c.modules.i < length c.args.modules.now = search rules in
+    let read = slice_get_read ms (length ms) c.modules.i c.index-modules-i.result refl inside c.index-modules-i.is in
+    rw pushed (first_more _ _ c.modules.i c.modules.objects.items c.index-modules-i.result c.in_ok-kept.kept c.modules.invariant read
+    (rw c.requires.named at c.in_ok-kept.ensures))
 
 pub returns : goal.returns
 returns c =
-    let end : c.modules.module-index ≡ length c.args.modules.now = omega (arith, c.modules-test.false, c.modules.auto.module-index-end) in
-    record { long = c.modules.invariant.0 ∙ end; each = c.modules.invariant.1.each }
+    let end : c.modules.i ≡ length c.args.modules.now = search rules in
+    first_all _ _ c.modules.i c.modules.objects.items c.modules.invariant end

@@ -3,7 +3,8 @@ use Rattle.std.proofs.Common.{◌≡◌, sym, ◌∙◌}
 use Rattle.smi_names.specs.meaning.Meaning.{QualifiedName}
 use Rattle.smi_names.specs.meaning.Directory.{place_by}
 use Rattle.smi_names.specs.meaning.Scopes.{content_of}
-use Rattle.smi_names.proofs.Equating.{get-map, entry_at}
+use Rattle.std.proofs.lemmas.Option.{slice_get-map}
+use Rattle.smi_names.proofs.Equating.{entry_at}
 use Rattle.smi_names.proofs.meaning.entries.Entries.place.Goals as goal
 
 pub returns : goal.returns
@@ -11,4 +12,4 @@ returns c =
     let a : QualifiedName = record { home = c.args.home.now; name = c.args.name.now } in
     let d = c.self.inside.directory.now in
     let at : c.place.result ≡ place_by d a = c.place.ensures in
-    rw (sym c.self.view_is, at) (get-map content_of d.entries.items (place_by d a) ∙ entry_at c.self.inside.modules.now d c.self.invariant.0 a)
+    rw (sym c.self.view_is, at) (slice_get-map content_of d.entries.items (place_by d a) ∙ entry_at c.self.inside.modules.now d c.self.invariant.0 a)

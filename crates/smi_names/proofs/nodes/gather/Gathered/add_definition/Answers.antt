@@ -2,9 +2,9 @@
 use Rattle.std.proofs.Common.{rules, ◌≡◌, true, false, List, length, Option, Some, None, Result, Ok, Err, OnOk, is_some, refl, sym}
 use Rattle.std.specs.declared.alloc.AllocError.{AllocError}
 use Rattle.smi_names.specs.chains.Chain.{here}
-use Rattle.smi_names.specs.chains.Basis.{ComesTo}
-use Rattle.smi_names.specs.declared.chains.basis.Resolution.{Resolution}
-use Rattle.smi_names.specs.declared.chains.basis.Resolution.TheVariants as R
+use Rattle.smi_names.specs.chains.Resolution.{ComesTo}
+use Rattle.smi_names.specs.declared.chains.resolution.Resolution.{Resolution}
+use Rattle.smi_names.specs.declared.chains.resolution.Resolution.TheVariants as R
 use Rattle.smi_text.specs.declared.trees.tree.Module.{Module}
 use Rattle.smi_text.specs.declared.trees.tree.Def.{Def}
 use Rattle.smi_text.specs.declared.trees.tree.Part.{Part}

@@ -1,9 +1,9 @@
 -- A name that has an identifier comes to nothing else.
 use Rattle.std.proofs.Common.{rules, ◌≡◌}
-use Rattle.smi_names.specs.chains.Basis.{ComesTo}
-use Rattle.smi_names.specs.chains.Chain.{nowhere}
+use Rattle.smi_names.specs.chains.Resolution.{ComesTo}
+use Rattle.smi_names.specs.declared.chains.resolution.Resolution.TheVariants as R
+use Rattle.smi_names.specs.chains.Chain.{nowhere, here}
 use Rattle.smi_names.specs.meaning.Meaning.{origin, QualifiedName}
-use Rattle.smi_tree.proofs.Resolving.{comes_to_numbers, comes_from_somewhere}
 use Rattle.smi_tree.proofs.columns.objects.Objects.has_identifier.Goals as goal
 
 pub returns-in-Some : goal.returns-in-Some
@@ -13,7 +13,7 @@ returns-in-Some c =
     let comes : ComesTo (origin c.args.self.now) (record { home = c.args.home.now; name = c.args.name.now }) c.in-Some.resolution.now =
     rw (c.self.invariant.1, ms) at c.in-Some.ensures in (
       λ holds. let is = c.is_identifier.ensures.0 holds in (is.0, rw is.1 at comes),
-      λ some. c.is_identifier.ensures.1 (comes_to_numbers (origin c.args.self.now) p some.0 c.in-Some.resolution.now some.1 comes),
+      λ some. c.is_identifier.ensures.1 (some.0, c.one_resolution.ensures c.args.self.now p c.in-Some.resolution.now (R.Numbers some.0) comes some.1),
     )
 
 pub returns-in-None : goal.returns-in-None
@@ -22,4 +22,5 @@ returns-in-None c =
     let p : QualifiedName = record { home = c.args.home.now; name = c.args.name.now } in
     let none : origin c.args.self.now (record { home = c.args.home.now; name = c.args.name.now }) ≡ nowhere =
     rw (c.self.invariant.1, ms) at c.in-None.ensures in
-    (λ holds. absurd (search rules), λ some. absurd (comes_from_somewhere (origin c.args.self.now) p some.0 some.1 none))
+    (λ holds. absurd (search rules), λ some.
+    let same = c.one_resolution.ensures c.args.self.now p (R.Numbers some.0) R.Unresolved some.1 (here none) in absurd (cc))

@@ -3,6 +3,7 @@ use Rattle.std.proofs.Common.{rules, ◌≡◌, IsTrue}
 use Rattle.smi_tree.specs.types.Kept.{facts_of}
 use Rattle.smi_tree.specs.columns.Definitions.{qualified_name}
 use Rattle.smi_tree.specs.columns.Named.{IsFoundAt}
+use Rattle.smi_tree.proofs.Choosing.{one_syntax}
 use Rattle.smi_tree.proofs.Parting.{part_untyped, part_read}
 use Rattle.smi_tree.proofs.columns.objects.Objects.part.Goals as goal
 
@@ -23,4 +24,4 @@ returns c =
     let identifier = rw (c.as_bytes-home.ensures.octets, c.as_bytes-name.ensures.octets) at (c.has_identifier.ensures.0 holds) in
     part_read c.args.self.now c.args.home.now c.args.name.now.octets c.in_ok-module.module c.in_ok-module.def
     found c.args.implied (facts_of c.in_ok-syntax.syntax) c.part.result (rw ms at c.in_ok-syntax.ensures)
-    (c.one_syntax.ensures c.args.self.now) identifier.0 identifier.1 c.part.ensures
+    (one_syntax c.args.self.now) identifier.0 identifier.1 c.part.ensures

@@ -3,7 +3,7 @@ use Rattle.std.proofs.Common.{rules, ◌≡◌, ◌<◌, [], ◌∷◌, ◌++◌
 use Rattle.std.proofs.lemmas.Option.{slice_get_read}
 use Rattle.std.specs.List.{slice_get}
 use Rattle.smi_tree.specs.columns.Index.{IsIndexPart, is_implied}
-use Rattle.smi_tree.proofs.ColumnsListing.{AreFirst-more, AreParts-none}
+use Rattle.smi_tree.proofs.Pairing.{first_more, pair_at}
 use Rattle.smi_tree.proofs.columns.objects.Objects.parts.Goals as goal
 
 pub names-preserved : goal.names-preserved
@@ -15,8 +15,7 @@ names-preserved c =
     let is : IsIndexPart c.args.self.now c.args.home.now c.index-names-i.result.octets (is_implied c.args.clause.now c.names.i) c.in-Some.part =
     rw c.is_implied.ensures at c.in-Some.ensures in
     let pushed : c.push.new.self.items ≡ c.names.parts.items ++ c.in-Some.part ∷ [] = search rules in
-    rw pushed (AreFirst-more c.args.self.now c.args.home.now c.args.clause.now c.names.parts.items i c.index-names-i.result c.in-Some.part
-    c.names.invariant at is)
+    rw pushed (first_more _ _ i c.names.parts.items c.index-names-i.result c.in-Some.part c.names.invariant at is)
 
 pub returns-in_default : goal.returns-in_default
 returns-in_default c =
@@ -24,6 +23,4 @@ returns-in_default c =
     let inside : c.names.i < length c.as_slice-names.result.now = search rules in
     let read = slice_get_read c.as_slice-names.result.now (length c.as_slice-names.result.now) i c.index-names-i.result refl inside c.index-names-i.is in
     let at : slice_get c.args.clause.now.names c.names.i ≡ Some c.index-names-i.result = rw c.as_slice-names.ensures at read in
-    let a = c.in_default.ensures in
-    AreParts-none c.args.self.now c.args.home.now c.args.clause.now i c.index-names-i.result at (rw c.as_slice-names.ensures at inside)
-    (rw c.is_implied.ensures at c.in_default.ensures)
+    λ parts are. let part = pair_at _ _ parts are i c.index-names-i.result at in (rw c.is_implied.ensures at c.in_default.ensures) part.0 part.2

@@ -1,5 +1,7 @@
-use Rattle.smi_tree.proofs.ColumnsListing.{AreFirst}
+use Rattle.smi_tree.specs.columns.Index.{IsIndexPart, is_implied}
+use Rattle.smi_tree.proofs.Pairing.{AreFirst}
 use Rattle.smi_tree.proofs.columns.objects.Objects.parts.Given as goal
 
 abbrev pub invariant-names : goal.invariant-names
-invariant-names l = AreFirst l.self l.home l.clause l.parts.items l.i
+invariant-names l =
+    AreFirst (λ i name part. IsIndexPart l.self l.home name.octets (is_implied l.clause i) part) l.clause.names l.i l.parts.items

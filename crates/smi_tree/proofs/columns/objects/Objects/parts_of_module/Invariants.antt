@@ -1,7 +1,6 @@
-use Rattle.std.proofs.Common.{◌≡◌, length, take}
-use Rattle.smi_tree.specs.columns.Kept.{AreOwn}
+use Rattle.smi_tree.specs.columns.Kept.{IsOwn, items_of}
+use Rattle.smi_tree.proofs.Pairing.{AreFirst}
 use Rattle.smi_tree.proofs.columns.objects.Objects.parts_of_module.Given as goal
 
 abbrev pub invariant-defs : goal.invariant-defs
-invariant-defs l =
-    (length l.kept.items ≡ length (take l.def-index l.defs)) × AreOwn l.self l.home (take l.def-index l.defs) l.kept.items
+invariant-defs l = AreFirst (λ k d own. IsOwn l.self l.home d (items_of own)) l.defs l.def-index l.kept.items

@@ -1,23 +1,27 @@
 -- One node more.
 use Rattle.std.proofs.Common.{rules, ◌≡◌, [], ◌∷◌, ◌++◌, length, sym, ◌∙◌, arith}
 use Rattle.smi_names.specs.nodes.Gathered.{nodes_of}
-use Rattle.smi_tree.proofs.Nodes.{nodes-length}
-use Rattle.smi_tree.proofs.Using.{AreFirstRows-more, AreRows-all}
+use Rattle.smi_tree.proofs.Lists.{get_within}
+use Rattle.smi_tree.proofs.Bridging.{length-nodes}
+use Rattle.smi_tree.proofs.Pairing.{first_none, first_more, first_all}
 use Rattle.smi_tree.proofs.columns.objects.Objects.rows.Goals as goal
+
+pub places-init : goal.places-init
+places-init c = record { rows = rw c.in_ok-rows.ensures.items (first_none _ _); last = tt }
 
 pub places-preserved : goal.places-preserved
 places-preserved c =
-    let ms = c.args.self.now in
     let pushed : c.push.new.self.items ≡ c.places.rows.items ++ c.row.result ∷ [] = search rules in
+    let nodes = nodes_of c.args.self.now c.args.sources.now c.args.identifiers.now in
+    let long = length-nodes c.args.self.now c.args.sources.now c.args.identifiers.now c.requires in
+    let node = get_within nodes c.places.place (omega (arith, long, c.places-test.true)) in
     rw pushed (record {
-      rows = AreFirstRows-more ms (nodes_of ms c.args.sources.now c.args.identifiers.now) c.places.rows.items c.places.place c.row.result
-          c.places.invariant.rows c.row.ensures.row;
+      rows = first_more _ _ c.places.place c.places.rows.items node.0 c.row.result c.places.invariant.rows node.1 (c.row.ensures.row node.0 node.1);
       last = c.row.ensures.last;
     })
 
 pub returns : goal.returns
 returns c =
-    let ms = c.args.self.now in
     let end : c.places.place ≡ length c.args.sources.now = omega (arith, c.places-test.false, c.places.auto.place-end) in
-    let long = nodes-length ms c.args.sources.now c.args.identifiers.now c.requires in
-    AreRows-all ms (nodes_of ms c.args.sources.now c.args.identifiers.now) c.places.rows.items c.places.place (long ∙ sym end) c.places.invariant.rows
+    let long = length-nodes c.args.self.now c.args.sources.now c.args.identifiers.now c.requires in
+    first_all _ _ c.places.place c.places.rows.items c.places.invariant.rows (end ∙ sym long)

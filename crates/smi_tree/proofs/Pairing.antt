@@ -1,0 +1,37 @@
+-- A list is made item by item, each for one of another list.
+use Rattle.std.proofs.Common.{◌≡◌, ℕ, ◌+◌, inl, inr, List, [], ◌∷◌, ◌++◌, length, Some, refl, ap, ◌∙◌, arith}
+use Rattle.std.proofs.lemmas.List.{length_push}
+use Rattle.std.proofs.lemmas.Option.{slice_get_within}
+use Rattle.std.specs.List.{slice_get}
+use Rattle.smi_tree.specs.Pairwise.{ArePairwise}
+use Rattle.smi_tree.proofs.Lists.{get_within, get_push}
+
+-- this holds of the first of them, and of what the list has at their places
+pub record AreFirst {A X : Type 0} (R : ℕ → A → X → Type 0) (ts : List A) (i : ℕ) (xs : List X) : Type 0 where
+  pub long : length xs ≡ i
+  pub each : (p : ℕ) (t : A) (x : X) → slice_get ts p ≡ Some t → slice_get xs p ≡ Some x → R p t x
+
+pub first_none : {A X : Type 0} (R : ℕ → A → X → Type 0) (ts : List A) → AreFirst R ts 0 []
+first_none R ts = record { long = refl; each = λ p t x e f. absurd (cc) }
+
+pub first_more : {A X : Type 0} (R : ℕ → A → X → Type 0) (ts : List A) (i : ℕ) (xs : List X) (t : A) (x : X) → AreFirst R ts i xs
+    → slice_get ts i ≡ Some t → R i t x → AreFirst R ts (i + 1) (xs ++ x ∷ [])
+first_more R ts i xs t x first at new = record {
+  long = length_push xs x ∙ ap (λ n. n + 1) first.long;
+  each = λ p u y e f. elim (get_push xs x p y f) [
+    | inl h ↦ first.each p u y e h.1
+    | inr h ↦
+        let here : p ≡ i = h.0 ∙ first.long in
+        let same : t ≡ u = let there = rw here at e in cc in
+        rw (here, ← same, ← h.1) new
+  ];
+}
+
+pub first_all : {A X : Type 0} (R : ℕ → A → X → Type 0) (ts : List A) (i : ℕ) (xs : List X) → AreFirst R ts i xs → i ≡ length ts → ArePairwise R ts xs
+first_all R ts i xs first end = record { long = first.long ∙ end; each = first.each }
+
+pub pair_at : {A X : Type 0} (R : ℕ → A → X → Type 0) (ts : List A) (xs : List X) → ArePairwise R ts xs → (p : ℕ) (t : A) → slice_get ts p ≡ Some t
+    → (x : X) × (slice_get xs p ≡ Some x) × R p t x
+pair_at R ts xs are p t e =
+    let x = get_within xs p (omega (arith, are.long, slice_get_within ts p t e)) in
+    (x.0, x.1, are.each p t x.0 e x.1)

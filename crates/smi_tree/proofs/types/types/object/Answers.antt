@@ -1,0 +1,24 @@
+-- An object states its type and no hint.
+use Rattle.std.proofs.Common.{◌≡◌, None, Some, sym, ap}
+use Rattle.smi_tree.specs.types.Types.{origin_of_object, origin_of_simple}
+use Rattle.smi_tree.proofs.Following.{no_syntax}
+use Rattle.smi_tree.proofs.Refining.{object_states, refined_right}
+use Rattle.smi_tree.proofs.types.types.object.Goals as goal
+
+pub returns-in-Some : goal.returns-in-Some
+returns-in-Some c =
+    let k = c.args.entries.now in
+    let d = c.args.def.now in
+    let s = c.in-Some.simple.now in
+    let home = c.args.home.now.name.octets in
+    let states = object_states d.kind s (sym c.in-Some.ensures) in
+    let leads = rw c.as_bytes.ensures.octets at (c.lead_of_type-lead.ensures None) in
+    let origin : origin_of_object c.args.home.now.name.octets c.args.def.now
+    ≡ origin_of_simple c.args.home.now.name.octets None (Some c.in-Some.simple.now) =
+    ap (λ x. origin_of_simple c.args.home.now.name.octets None x) (sym c.in-Some.ensures) in
+    rw (origin, c.refined.ensures, c.led.ensures) (refined_right k c.args.at d c.requires.there s states.0 None states.1 home c.lead_of_type-lead.result _ leads
+    (λ q e. rw e (c.requires.followed q)))
+
+pub returns-in-None : goal.returns-in-None
+returns-in-None c =
+    no_syntax c.args.entries.now.modules _ (ap (λ x. origin_of_simple c.args.home.now.name.octets None x) (sym c.in-None.ensures))
