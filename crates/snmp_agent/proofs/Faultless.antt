@@ -17,12 +17,12 @@ use Rattle.snmp_agent.specs.table.Table.{MibView}
 use Rattle.snmp_agent.proofs.Unique.{one_format}
 use Rattle.snmp_agent.proofs.Statements.{blank_no_object, row_form, same_object, same_rows}
 
-good_line : (format : Format) (line : List ℕ) → IsGoodLine format line → IsBadLine format line → ⊥
+pub good_line : (format : Format) (line : List ℕ) → IsGoodLine format line → IsBadLine format line → ⊥
 good_line format line (a_blank h) bad = bad.not_blank h
 good_line format line (a_prefix object h) bad = bad.no_object h.0 h.1
 good_line format line (a_row p h) bad = bad.no_row h.name h.tag h.text (row_form format line p h)
 
-good_name : (format : Format) (line : List ℕ) → IsGoodLine format line → IsBadName format line → ⊥
+pub good_name : (format : Format) (line : List ℕ) → IsGoodLine format line → IsBadName format line → ⊥
 good_name format line (a_blank h) (inl bad) = blank_no_object line bad.0 h bad.1
 good_name format line (a_blank h) (inr bad) = bad.3.not_blank h
 good_name format line (a_prefix o h) (inl bad) = bad.2 o (subst (λ (t : List ℕ). IsObjectText format t o) (same_object line h.0 bad.0 h.1 bad.1) (h.2, h.3))
@@ -32,7 +32,7 @@ good_name format line (a_row p h) (inr bad) =
     let same = same_rows format line bad.0 bad.1 bad.2 h.name h.tag h.text bad.3 (row_form format line p h) in
     bad.4 p.name (subst (λ (n : List ℕ). IsInstanceText format n p.name) same.0 (h.named, h.instance_name))
 
-good_value : (format : Format) (line : List ℕ) → IsGoodLine format line → IsBadValue format line → ⊥
+pub good_value : (format : Format) (line : List ℕ) → IsGoodLine format line → IsBadValue format line → ⊥
 good_value format line (a_blank h) bad = bad.3.not_blank h
 good_value format line (a_prefix o h) bad = bad.3.no_object h.0 h.1
 good_value format line (a_row p h) bad =
@@ -53,7 +53,7 @@ earlier_differs format front line back other h at =
     let Q : List ℕ → Type 0 = λ l. DifferInName format l (get_or (front ++ line ∷ back) (length front) other) in
     subst P (get_or-append_seam front line back other) (subst Q (get_or-append front (line ∷ back) other at.0 at.1 ∙ at.2) here)
 
-no_fault_in : (format : Format) (lines : List (List ℕ)) (fault : TableError) → AreTable format lines → IsFirstFaultIn format lines fault → fault ≡ error.Memory
+pub no_fault_in : (format : Format) (lines : List (List ℕ)) (fault : TableError) → AreTable format lines → IsFirstFaultIn format lines fault → fault ≡ error.Memory
 no_fault_in format lines (error.BadLine n) good h =
     absurd (good_line format h.1 (line_good format h.0 h.1 h.2.back (subst (λ ls. All (IsGoodLine format) ls) h.2.parts good.each)) h.3)
 no_fault_in format lines (error.BadName n) good h =

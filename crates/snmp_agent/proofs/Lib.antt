@@ -21,6 +21,7 @@ pub mod TableDrafts
 pub mod Adding
 pub mod Each
 pub mod Faultless
+pub mod OneFault
 pub mod Finding
 pub mod Formats
 pub mod Keeping

@@ -48,9 +48,8 @@ one_view names lines v w h k =
     let P : Format → Type 0 = λ f. IsTableIn f lines w in
     one_view_in h.0 lines v w h.2 (subst P (one_format names lines h.0 k.0 h.1 k.1) k.2)
 
-pub without_mark : (names : Names) (lines : List (List ℕ)) (view : MibView) → (IsMarked lines → ⊥)
-    → (IsTableOf names lines view ↔ IsTableIn first_format lines view)
-without_mark names lines view unmarked = (
-  λ h. (let P : Format → Type 0 = λ f. IsTableIn f lines view in subst P (one_format names lines first_format h.0 unmarked h.1) h.2),
-  λ h. (first_format, unmarked, h),
-)
+-- lines without the mark are of the first format
+pub without_mark : (names : Names) (lines : List (List ℕ)) (P : Format → Type 0)
+    → (IsMarked lines → ⊥) → ((format : Format) × IsFormat names lines format × P format) ↔ P first_format
+without_mark names lines P unmarked =
+    (λ h. subst P (one_format names lines first_format h.0 unmarked h.1) h.2, λ h. (first_format, unmarked, h))

@@ -40,5 +40,5 @@ pub use laws::one_reply;
 pub use server::{Served, serve, serve_at};
 pub use table::{
     Hint, NumericNames, PutError, Resolver, Successors, Table, TableError, no_fault, one_answer,
-    one_table, table_of_lines, unmarked_table,
+    one_fault, one_table, table_of_lines, unmarked_table,
 };

@@ -23,6 +23,6 @@ pub use error::{PutError, TableError};
 pub use format::{NumericNames, Resolver};
 pub use hint::Hint;
 pub(crate) use hint::{Guesses, Last};
-pub use laws::{no_fault, one_answer, one_table, table_of_lines, unmarked_table};
+pub use laws::{no_fault, one_answer, one_fault, one_table, table_of_lines, unmarked_table};
 pub use pages::Successors;
 pub use table::Table;

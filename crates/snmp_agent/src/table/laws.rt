@@ -1,7 +1,8 @@
 //! Laws: what is true of each table, as calls that do nothing. A proof of a crate above calls them.
-ghost use Rattle.std.specs.Prelude.{◌≡◌, ◌↔◌, ℕ, List};
+ghost use Rattle.std.specs.Prelude.{◌≡◌, ◌≢◌, ◌↔◌, ℕ, List};
 ghost use Rattle.snmp_agent.specs.table.Exact.{HasOne};
 ghost use Rattle.snmp_agent.specs.table.Stated.{AreTableBy, IsTableOf, IsFirstFault, IsTableIn};
+ghost use Rattle.snmp_agent.specs.table.Stated.{IsFirstFaultIn};
 ghost use Rattle.snmp_agent.specs.table.Table.{MibView, IsGet, IsMibView, IsNext, IsNextAfter};
 ghost use Rattle.snmp_agent.specs.table.Format.{IsMarked, Names, first_format};
 
@@ -28,11 +29,21 @@ pub fn no_fault()
         → IsTableOf names lines view → IsFirstFault names lines fault → fault ≡ TableError.Memory }
 {}
 
-/// Lines without the mark of the second format state the same table whatever the names: that of the
-/// first format.
+/// Lines have one first fault at most: the first faulty line is one, and what is wrong with it.
+pub fn one_fault()
+    ensures { (names : Names) (lines : List (List ℕ)) (fault other : TableError)
+        → IsFirstFault names lines fault → IsFirstFault names lines other
+        → fault ≢ TableError.Memory → other ≢ TableError.Memory → fault ≡ other }
+{}
+
+/// Lines without the mark of the second format state the same table whatever the names, and have
+/// the same first fault: those of the first format.
 pub fn unmarked_table()
-    ensures { (names : Names) (lines : List (List ℕ)) (view : MibView) → (IsMarked lines → ⊥)
-        → (IsTableOf names lines view ↔ IsTableIn first_format lines view) }
+    ensures table { (names : Names) (lines : List (List ℕ)) (view : MibView)
+        → (IsMarked lines → ⊥) → (IsTableOf names lines view ↔ IsTableIn first_format lines view) }
+    ensures fault { (names : Names) (lines : List (List ℕ)) (fault : TableError)
+        → (IsMarked lines → ⊥)
+        → (IsFirstFault names lines fault ↔ IsFirstFaultIn first_format lines fault) }
 {}
 
 /// Each name has just one value in a reply to a Get, one binding in a reply to a GetNext, and one

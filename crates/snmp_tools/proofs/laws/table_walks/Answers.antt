@@ -15,4 +15,4 @@ returns-clause-stated c = λ path root. ap stated_job (words_are path root) ∙ 
 pub returns-clause-printed : goal.returns-clause-printed
 returns-clause-printed c = prints_rows c.bare_tree.ensures c.numbers_are_read.ensures (c.names_are_meant.ensures bare_mib.naming) c.instances_below.ensures.below c.instances_below.ensures.ordered
     c.one_answer.ensures.get c.short_rows_have_room.ensures (c.table_of_lines.ensures (names_in bare_mib.naming))
-    (c.unmarked_table.ensures (names_in bare_mib.naming))
+    (c.unmarked_table.ensures.table (names_in bare_mib.naming))
