@@ -7,6 +7,7 @@ pub mod Kept
 pub mod Lenient
 pub mod MessageLaws
 pub mod Octets
+pub mod OfType
 pub mod ShortBindings
 pub mod Shortest
 pub mod StrictMessages

@@ -8,13 +8,14 @@ use Rattle.snmp_wire.specs.ber.Number.{AreOctets, strict}
 use Rattle.snmp_wire.specs.ber.Spelling.{sequence_tag}
 use Rattle.snmp_wire.specs.ber.Value.{integer_value, octet_string, object_id}
 use Rattle.snmp_wire.specs.Canon.{canon, canon_binding, canon_bindings, canon_fields}
-use Rattle.snmp_wire.specs.Canon.{canon_opening}
+use Rattle.snmp_wire.specs.Canon.{canon_front, canon_head, canon_opening}
 use Rattle.snmp_wire.specs.Laws.{OneShortestEncoding}
 use Rattle.snmp_wire.specs.Message.{VarBind, Message}
 use Rattle.snmp_wire.specs.Range.{IsBindingInRange, IsMessageInRange}
 use Rattle.snmp_wire.specs.Shortest.{IsShortestEncoding}
 use Rattle.snmp_wire.specs.Spelling.{SpellsBinding, SpellsBindings, SpellsPdu, Strict, kind_tag}
 use Rattle.snmp_wire.specs.ber.Laws.{ShortestEncodings}
+use Rattle.snmp_wire.proofs.MessageWriting.{canon_parts}
 use Rattle.snmp_wire.proofs.Octets.{back_octets, front_octets}
 use Rattle.snmp_wire.proofs.Shortest.{binding_shortest, bindings_shortest, no_shorter}
 use Rattle.snmp_wire.proofs.Shortest.{pdu_shortest}
@@ -179,3 +180,15 @@ front_is_shortest law message n out rest size e range =
 pub shortest_size : (law : OneShortestEncoding) (message : Message) (size : ℕ) → size ≡ length (canon message) → (octets : List ℕ)
     → IsMessageInRange message → IsShortestEncoding octets message → size ≡ length octets
 shortest_size law message size e octets range is = e ∙ sym (ap length (law.one message octets (canon message) range is (law.written message range)))
+
+-- so are a head and the bindings behind it
+pub sealed_is_shortest : (law : OneShortestEncoding) (message : Message) (bindings : List VarBind) (total : ℕ) (octets : List ℕ)
+    → octets ≡ canon_head message total ++ canon_bindings bindings → total ≡ length (canon_bindings bindings)
+    → IsMessageInRange (record message { bindings = bindings }) → IsShortestEncoding octets (record message { bindings = bindings })
+unfolding canon_head canon_front canon_opening canon_fields
+sealed_is_shortest law message bindings total octets e size range =
+    let whole : Message = record message { bindings = bindings } in
+    let head : canon_head message total ≡ canon_head whole (length (canon_bindings bindings)) = ap (canon_head whole) size in
+    let written : canon whole ≡ octets =
+    canon_parts whole ∙ sym (e ∙ ap (λ (front : List ℕ). front ++ canon_bindings bindings) head) in
+    subst (λ (text : List ℕ). IsShortestEncoding text whole) written (law.written whole range)

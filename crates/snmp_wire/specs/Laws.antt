@@ -2,7 +2,7 @@
 use Rattle.std.specs.Prelude.{◌≡◌, ◌≤◌, ℕ, List, ◌++◌, length}
 use Rattle.snmp_wire.specs.Canon.{canon, canon_bindings, canon_head}
 use Rattle.snmp_wire.specs.Message.{Message}
-use Rattle.snmp_wire.specs.Range.{IsMessageInRange}
+use Rattle.snmp_wire.specs.Range.{IsMessageInRange, IsMessageOfType}
 use Rattle.snmp_wire.specs.Shortest.{IsShortestEncoding}
 use Rattle.snmp_wire.specs.Spelling.{Spells, Strict}
 
@@ -11,6 +11,10 @@ abbrev pub OneMessage : Type 0
 OneMessage =
     (m n : Message) (b c rest more : List ℕ)
     → Spells m b → Spells n c → b ++ rest ≡ c ++ more → (m ≡ n) × (b ≡ c)
+
+-- what octets encode is of its types
+abbrev pub SpeltIsOfType : Type 0
+SpeltIsOfType = (m : Message) (octets : List ℕ) → Spells m octets → IsMessageOfType m
 
 -- what encodes a message by the standard is read
 abbrev pub StrictIsRead : Type 0

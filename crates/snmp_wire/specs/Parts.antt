@@ -1,6 +1,7 @@
 -- The message that a program hands to be written.
+use Rattle.std.specs.Prelude.{List}
 use Rattle.snmp_wire.specs.declared.message.Parts.{Parts}
-use Rattle.snmp_wire.specs.Message.{Message, var_binds}
+use Rattle.snmp_wire.specs.Message.{Message, VarBind, var_binds}
 
 -- the message without where its strings and bindings lie
 abbrev pub parts_message : Parts → Message
@@ -13,3 +14,7 @@ parts_message parts = record {
   b = parts.b;
   bindings = var_binds parts.bindings.now;
 }
+
+-- the same with these bindings in place of its own
+abbrev pub with_bindings : Parts → List VarBind → Message
+with_bindings parts bindings = record (parts_message parts) { bindings = bindings }

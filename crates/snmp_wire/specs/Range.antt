@@ -5,7 +5,7 @@ use Rattle.std.specs.List.{AllByRecursion}
 use Rattle.snmp_wire.specs.Canon.{canon_bindings}
 use Rattle.snmp_wire.specs.ber.Value.{integer_value, octet_string, object_id}
 use Rattle.snmp_wire.specs.Message.{VarBind, Message}
-pub use Rattle.snmp_wire.specs.ber.Range.{IsInRange}
+pub use Rattle.snmp_wire.specs.ber.Range.{IsInRange, IsOfType}
 
 pub record IsBindingInRange (binding : VarBind) : Type 0 where
   pub name : IsInRange (object_id binding.name)
@@ -21,3 +21,18 @@ pub record IsMessageInRange (message : Message) : Type 0 where
   pub b : IsInRange (integer_value message.b)
   pub bindings : AllByRecursion IsBindingInRange message.bindings
   pub total : length (canon_bindings message.bindings) ≤ 4000000000
+
+-- ---- whatever the lengths of strings
+
+pub record IsBindingOfType (binding : VarBind) : Type 0 where
+  pub name : IsOfType (object_id binding.name)
+  pub value : IsOfType binding.value
+
+-- the parts of the message are of their types
+pub record IsMessageOfType (message : Message) : Type 0 where
+  pub version : IsOfType (integer_value message.version)
+  pub community : IsOfType (octet_string message.community)
+  pub id : IsOfType (integer_value message.id)
+  pub a : IsOfType (integer_value message.a)
+  pub b : IsOfType (integer_value message.b)
+  pub bindings : AllByRecursion IsBindingOfType message.bindings

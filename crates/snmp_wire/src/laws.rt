@@ -5,7 +5,7 @@ ghost use Rattle.snmp_wire.specs.declared.ber.error.BerError.{BerError};
 ghost use Rattle.snmp_wire.specs.Fault.{IsFault};
 ghost use Rattle.snmp_wire.specs.Laws.{EncodingIsShortest, EncodingIsStrict, HasPieces};
 ghost use Rattle.snmp_wire.specs.Laws.{OneMessage};
-ghost use Rattle.snmp_wire.specs.Laws.{OneShortestEncoding, StrictIsRead};
+ghost use Rattle.snmp_wire.specs.Laws.{OneShortestEncoding, SpeltIsOfType, StrictIsRead};
 ghost use Rattle.snmp_wire.specs.Message.{Message};
 ghost use Rattle.snmp_wire.specs.Sizes.{MessageSizes};
 ghost use Rattle.snmp_wire.specs.Spelling.{Spells};
@@ -26,6 +26,15 @@ pub fn no_fault()
     ensures { (message : Message) (octets : List ℕ) (error : BerError)
         → Spells message octets → IsFault error octets → ⊥ }
 {}
+
+/// The parts of a message that octets encode are of their types: its numbers are within their
+/// ranges, its strings are octets, and its identifiers have encodings.
+#[inline]
+pub fn spelt_is_of_type()
+    ensures { SpeltIsOfType }
+{
+    shortest_encodings();
+}
 
 /// What encodes a message by the standard is read.
 #[inline]

@@ -47,7 +47,7 @@ pub use encoded::EncodedBinding;
 pub use kind::Kind;
 pub use laws::{
     encoding_is_shortest, encoding_is_strict, message_sizes, no_fault, one_shortest_encoding,
-    one_spelling, pieces, strict_is_read,
+    one_spelling, pieces, spelt_is_of_type, strict_is_read,
 };
 pub use message::{
     MAX_DATAGRAM, MessageRef, Parts, decode, encode, encode_head, head_size, seal, size,

@@ -2,7 +2,7 @@
 ghost use Rattle.std.specs.Prelude.{◌≡◌, ℕ, List, ◌++◌, IfOk, IfErr, Ok, ◌+◌, ◌^◌, ◌<◌, ◌≤◌, ◌↔◌};
 ghost use Rattle.std.specs.Prelude.{length, drop, take, IfSome, IfNone, IsSome, All};
 ghost use Rattle.snmp_wire.specs.Fault.{IsFault};
-ghost use Rattle.snmp_wire.specs.Message.{Message, var_bind, var_binds};
+ghost use Rattle.snmp_wire.specs.Message.{Message, VarBind, var_bind, var_binds};
 ghost use Rattle.snmp_wire.specs.ber.Value.{integer_value, octet_string};
 ghost use Rattle.snmp_wire.specs.Reading as reading;
 ghost use Rattle.snmp_wire.specs.ber.Reading.{AgreesBy};
@@ -10,7 +10,7 @@ ghost use Rattle.snmp_wire.specs.Spelling.{Spells};
 ghost use Rattle.snmp_wire.specs.Canon.{IsEncodable, canon, canon_bindings, canon_front};
 ghost use Rattle.snmp_wire.specs.Canon.{canon_head};
 ghost use Rattle.snmp_wire.specs.ber.Canon.{canon_value};
-ghost use Rattle.snmp_wire.specs.Parts.{parts_message};
+ghost use Rattle.snmp_wire.specs.Parts.{parts_message, with_bindings};
 ghost use Rattle.snmp_wire.specs.Range.{IsMessageInRange};
 ghost use Rattle.snmp_wire.specs.Shortest.{IsShortestEncoding};
 ghost use Rattle.snmp_wire.specs.ber.Writing.{Writes};
@@ -308,10 +308,16 @@ pub fn encode_head(parts: &Parts<'_>, total: u64, out: &mut [u8]) -> Option<usiz
     ensures some { IfSome result (λ n.
         (n ≡ length (canon_head (parts_message parts.now) total))
         × (out.new ≡ canon_head (parts_message parts.now) total ++ drop n out.old)) }
+    ensures shortest { (bindings : List VarBind)
+        → IsMessageInRange (with_bindings parts.now bindings)
+        → total ≡ length (canon_bindings bindings)
+        → IfSome result (λ n. IsShortestEncoding (take n out.new ++ canon_bindings bindings)
+        (with_bindings parts.now bindings)) }
     ensures variant { IsSome result
         ↔ (length (canon_head (parts_message parts.now) total) ≤ length out.old) }
     ensures unchanged { IfNone result (out.new ≡ out.old) }
 {
+    one_shortest_encoding();
     let size = head_size(parts, total) as usize;
     if out.len() < size {
         return None;
@@ -336,10 +342,16 @@ pub fn seal(parts: &Parts<'_>, at: usize, len: usize, out: &mut [u8]) -> Option<
         (n ≡ length (canon_head (parts_message parts.now) len) + len)
         × (take n out.new
         ≡ canon_head (parts_message parts.now) len ++ take len (drop at out.old))) }
+    ensures shortest { (bindings : List VarBind)
+        → IsMessageInRange (with_bindings parts.now bindings)
+        → take len (drop at out.old) ≡ canon_bindings bindings
+        → IfSome result (λ n. IsShortestEncoding (take n out.new)
+        (with_bindings parts.now bindings)) }
     ensures variant { IsSome result
         ↔ (length (canon_head (parts_message parts.now) len) + len ≤ length out.old) }
     ensures unchanged { IfNone result (out.new ≡ out.old) }
 {
+    one_shortest_encoding();
     let head = head_size(parts, len as u64) as usize;
     if out.len() - len < head {
         return None;

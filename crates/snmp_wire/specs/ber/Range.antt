@@ -23,3 +23,9 @@ IsInRange (counter64 n) = n < 2 ^ 64
 IsInRange no_such_object = Unit {0}
 IsInRange no_such_instance = Unit {0}
 IsInRange end_of_mib_view = Unit {0}
+
+-- the value is within the range of its type, and a string is of octets, however many
+abbrev pub IsOfType : Datum → Type 0
+IsOfType (octet_string text) = AreOctets text
+IsOfType (opaque_octets text) = AreOctets text
+IsOfType value = IsInRange value

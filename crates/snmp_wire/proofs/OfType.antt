@@ -1,0 +1,132 @@
+-- What octets encode is of its type.
+use Rattle.std.proofs.Common.{◌≡◌, ℕ, ℤ, pos, negsuc, ◌+◌, ◌-◌, ◌*◌, ◌^◌, ◌<◌, ◌≤◌, suc, inl, inr}
+use Rattle.std.proofs.Common.{List, [], ◌∷◌, ◌++◌, length, sym, ap, subst, ◌∙◌, ⊎_elim, lit<, arith}
+use Rattle.std.proofs.Math.Nat.{mul-le-mul_right, pow-le-pow_right, pow-suc}
+use Rattle.std.proofs.lemmas.Nat.{mul-add-lt}
+use Rattle.std.proofs.lemmas.Bool.{cases_lt}
+use Rattle.std.proofs.lemmas.List.Elements.{recursion_from_All}
+use Rattle.std.specs.List.{AllByRecursion}
+use mir.Syntax.{w32}
+use mir.Val.{SFits}
+use Rattle.snmp_wire.specs.ber.Laws.{ShortestEncodings}
+use Rattle.snmp_wire.specs.ber.Number.{AreOctets, IsUnsigned, lenient, number_of, twos_complement}
+use Rattle.snmp_wire.specs.ber.Number.{unsigned}
+use Rattle.snmp_wire.specs.ber.Range.{IsOfType}
+use Rattle.snmp_wire.specs.ber.Spelling.{IsContent, SpellsValue, sequence_tag, value_tag}
+use Rattle.snmp_wire.specs.ber.Value.{Datum, integer_value, octet_string, null_value, object_id}
+use Rattle.snmp_wire.specs.ber.Value.{ip_address, counter32, gauge32, time_ticks, opaque_octets}
+use Rattle.snmp_wire.specs.ber.Value.{counter64, no_such_object, no_such_instance, end_of_mib_view}
+use Rattle.snmp_wire.specs.Message.{VarBind, Message}
+use Rattle.snmp_wire.specs.Range.{IsBindingOfType, IsMessageOfType}
+use Rattle.snmp_wire.specs.Spelling.{Spells, SpellsBindings, kind_tag}
+use Rattle.snmp_wire.proofs.Octets.{back_octets, front_octets}
+use Rattle.snmp_wire.proofs.ShortestValues.{Octets, below_power}
+use Rattle.snmp_wire.proofs.StrictNumbers.{minus, negative, positive}
+
+-- ---- numbers
+
+-- four octets of two's complement
+signed_fits : (content : List ℕ) (z : ℤ) → Octets content → 1 ≤ length content → length content ≤ 4
+    → twos_complement content ≡ z → SFits w32 z
+signed_fits [] z h some few e = absurd (omega arith)
+signed_fits (first ∷ rest) z h some few e =
+    let power : ℕ = 256 ^ length rest in
+    let u : ℕ = unsigned (first ∷ rest) in
+    let low : number_of 256 rest < power = below_power 256 rest h.1 in
+    let most : power ≤ 256 ^ 3 = pow-le-pow_right {n = 256} (lit< tt) {i = length rest} {j = 3} (omega (arith, few)) in
+    ⊎_elim
+    (λ small.
+        let bound : first * power + number_of 256 rest < power * 128 =
+        mul-add-lt first power (number_of 256 rest) 128 small low in
+        let fits : SFits w32 (pos u) = record { sfits = omega (arith, bound, most) } in
+        subst (SFits w32) (sym (positive (first ∷ rest) small) ∙ e) fits)
+    (λ large.
+        let n : ℕ = 256 ^ suc (length rest) - u - 1 in
+        let more : 256 ^ suc (length rest) ≡ power * 256 = pow-suc 256 (length rest) in
+        let high : first * power + number_of 256 rest < power * 256 =
+        mul-add-lt first power (number_of 256 rest) 256 h.0 low in
+        let least : 128 * power ≤ first * power = mul-le-mul_right power large in
+        let whole : u + (n + 1) ≡ 256 ^ suc (length rest) = omega (arith, high, more) in
+        let fits : SFits w32 (negsuc n) = record { sfits = omega (arith, least, more, most) } in
+        subst (SFits w32) (sym (minus u n (256 ^ suc (length rest)) whole) ∙ sym (negative (first ∷ rest) large) ∙ e) fits)
+    (cases_lt first 128)
+
+unsigned_fits : (width : ℕ) (content : List ℕ) (n : ℕ) → Octets content → IsUnsigned lenient width content n → n < 256 ^ width
+unsigned_fits width [] n h is = absurd (omega (arith, is.some))
+unsigned_fits width (first ∷ rest) n h is =
+    subst (λ (m : ℕ). m < 256 ^ width) is.value (elim is.few [
+      | inl few ↦
+          let below : unsigned (first ∷ rest) < 256 ^ length (first ∷ rest) = below_power 256 (first ∷ rest) h in
+          let most : 256 ^ length (first ∷ rest) ≤ 256 ^ width =
+          pow-le-pow_right {n = 256} (lit< tt) {i = length (first ∷ rest)} {j = width} few in
+          omega (arith, below, most)
+      | inr more ↦
+          let below : number_of 256 rest < 256 ^ length rest = below_power 256 rest h.1 in
+          let size : length rest ≡ width = omega (arith, more.0) in
+          let most : 256 ^ length rest ≡ 256 ^ width = ap (λ k. 256 ^ k) size in
+          let zero_first : first ≡ 0 = more.1 in
+          let whole : unsigned (first ∷ rest) ≡ number_of 256 rest = rw zero_first (omega arith) in
+          omega (arith, below, most, whole)
+    ])
+
+-- ---- values
+
+digits : (content : List ℕ) → AreOctets content → Octets content
+digits content h = recursion_from_All (λ octet. octet < 256) content h
+
+content_of_type : (value : Datum) (content : List ℕ) → AreOctets content → IsContent lenient value content → IsOfType value
+content_of_type (integer_value z) content h is = signed_fits content z (digits content h) is.some is.few is.value
+content_of_type (octet_string text) content h is = subst AreOctets is h
+content_of_type null_value content h is = tt
+content_of_type (object_id name) content h is = (is.wire, is.identifier)
+content_of_type (ip_address address) content h is = (subst AreOctets is.0 h, is.1)
+content_of_type (counter32 n) content h is = unsigned_fits 4 content n (digits content h) is
+content_of_type (gauge32 n) content h is = unsigned_fits 4 content n (digits content h) is
+content_of_type (time_ticks n) content h is = unsigned_fits 4 content n (digits content h) is
+content_of_type (opaque_octets text) content h is = subst AreOctets is h
+content_of_type (counter64 n) content h is = unsigned_fits 8 content n (digits content h) is
+content_of_type no_such_object content h is = tt
+content_of_type no_such_instance content h is = tt
+content_of_type end_of_mib_view content h is = tt
+
+module _ (laws : ShortestEncodings) where
+  value_of_type : (value : Datum) (octets : List ℕ) → AreOctets octets → SpellsValue lenient value octets → IsOfType value
+  value_of_type value octets h is =
+      content_of_type value is.content (laws.content_octets (value_tag value) is.content octets h is.element) is.is_content
+
+  -- ---- messages
+
+  bindings_of_type : (bindings : List VarBind) (octets : List ℕ) → AreOctets octets → SpellsBindings lenient bindings octets
+      → AllByRecursion IsBindingOfType bindings
+  bindings_of_type [] octets h is = tt
+  bindings_of_type (binding ∷ more) octets h (first, rest, parts, this, others) =
+      let both : AreOctets (first ++ rest) = subst AreOctets parts h in
+      let inner : AreOctets (this.name ++ this.value) =
+      laws.content_octets sequence_tag (this.name ++ this.value) first (front_octets first rest both) this.element in (
+        record {
+          name = value_of_type (object_id binding.name) this.name (front_octets this.name this.value inner) this.is_name;
+          value = value_of_type binding.value this.value (back_octets this.name this.value inner) this.is_value;
+        },
+        bindings_of_type more rest (back_octets first rest both) others,
+      )
+
+  pub message_of_type : (m : Message) (octets : List ℕ) → Spells m octets → IsMessageOfType m
+  message_of_type m octets is =
+      let pdu = is.is_pdu in
+      let inner : AreOctets (is.version ++ is.community ++ is.pdu) =
+      laws.content_octets sequence_tag (is.version ++ is.community ++ is.pdu) octets is.are_octets is.element in
+      let opening : AreOctets (is.version ++ is.community) = front_octets (is.version ++ is.community) is.pdu inner in
+      let content : AreOctets (pdu.id ++ pdu.a ++ pdu.b ++ pdu.list) =
+      laws.content_octets (kind_tag m.kind) (pdu.id ++ pdu.a ++ pdu.b ++ pdu.list) is.pdu
+      (back_octets (is.version ++ is.community) is.pdu inner) pdu.element in
+      let three : AreOctets (pdu.id ++ pdu.a ++ pdu.b) = front_octets (pdu.id ++ pdu.a ++ pdu.b) pdu.list content in
+      let two : AreOctets (pdu.id ++ pdu.a) = front_octets (pdu.id ++ pdu.a) pdu.b three in
+      let list : AreOctets pdu.list = back_octets (pdu.id ++ pdu.a ++ pdu.b) pdu.list content in
+      record {
+        version = value_of_type (integer_value m.version) is.version (front_octets is.version is.community opening) is.is_version;
+        community = value_of_type (octet_string m.community) is.community (back_octets is.version is.community opening) is.is_community;
+        id = value_of_type (integer_value m.id) pdu.id (front_octets pdu.id pdu.a two) pdu.is_id;
+        a = value_of_type (integer_value m.a) pdu.a (back_octets pdu.id pdu.a two) pdu.is_a;
+        b = value_of_type (integer_value m.b) pdu.b (back_octets (pdu.id ++ pdu.a) pdu.b three) pdu.is_b;
+        bindings = bindings_of_type m.bindings pdu.bindings (laws.content_octets sequence_tag pdu.bindings pdu.list list pdu.is_list) pdu.are_bindings;
+      }

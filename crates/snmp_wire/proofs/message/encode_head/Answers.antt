@@ -1,0 +1,18 @@
+use Rattle.std.proofs.Common.{◌≡◌, List, ◌++◌, take, drop, ap, ◌∙◌}
+use Rattle.std.proofs.Math.Seq.{take-append_seam}
+use Rattle.snmp_wire.specs.Canon.{canon_bindings, canon_head}
+use Rattle.snmp_wire.specs.Parts.{parts_message}
+use Rattle.snmp_wire.proofs.BindingWriting.{encoded}
+use Rattle.snmp_wire.proofs.OneShortest.{sealed_is_shortest}
+use Rattle.snmp_wire.proofs.message.encode_head.Goals as goal
+
+pub returns-clause-shortest : goal.returns-clause-shortest
+returns-clause-shortest c = λ bindings range total.
+    let m = parts_message c.args.parts.now in
+    let head = canon_head m c.args.total in
+    let n = c.head_size-size.result in
+    let front : take n c.put_head.new.out ≡ head =
+    ap (take n) (encoded c.put_head.ensures c.head_size-size.ensures.value)
+    ∙ ap (λ k. take k (head ++ drop n c.args.out.now)) c.head_size-size.ensures.value ∙ take-append_seam head (drop n c.args.out.now) in
+    sealed_is_shortest c.one_shortest_encoding.ensures m bindings c.args.total (take n c.put_head.new.out ++ canon_bindings bindings)
+    (ap (λ (text : List _). text ++ canon_bindings bindings) front) total range
