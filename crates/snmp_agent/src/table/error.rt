@@ -12,7 +12,7 @@ pub enum TableError {
         /// Which line.
         line: usize,
     },
-    /// The name is no numeric name, or not one that an object prefix or an instance has.
+    /// The text is no name of the format, or not one that an object prefix or an instance has.
     #[error("line {line}: bad name")]
     BadName {
         /// Which line.
