@@ -81,11 +81,11 @@ encodable binding h short = record { name = h.name; value = encodable_value bind
 longer_element : ElementSizes → (tag : ℕ) (content : List ℕ) → length content < length (canon_element tag content)
 longer_element sizes tag content = omega (arith, sizes.element tag content)
 
-longer_value : ElementSizes → (value : Datum) → length (canon_content value) < length (canon_value value)
+pub longer_value : ElementSizes → (value : Datum) → length (canon_content value) < length (canon_value value)
 unfolding canon_value
 longer_value sizes value = longer_element sizes (value_tag value) (canon_content value)
 
-longer_binding : ElementSizes → (binding : VarBind) → length (canon_value binding.value) < length (canon_binding binding)
+pub longer_binding : ElementSizes → (binding : VarBind) → length (canon_value binding.value) < length (canon_binding binding)
 unfolding canon_binding
 longer_binding sizes binding =
     omega (

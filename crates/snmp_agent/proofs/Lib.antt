@@ -4,6 +4,7 @@ pub mod Standing
 pub mod Answers
 pub mod Encodings
 pub mod OneReply
+pub mod ShortestReply
 pub mod Halving
 pub mod Lengths
 pub mod Requests

@@ -36,7 +36,7 @@ mod table;
 pub use agent::{answer, answer_near};
 pub use config::{Config, Outcome, Why};
 pub use endpoint::{Endpoint, EndpointFault};
-pub use laws::one_reply;
+pub use laws::{one_reply, shortest_reply};
 pub use server::{Served, serve, serve_at};
 pub use table::{
     Hint, NumericNames, PutError, Resolver, Successors, Table, TableError, no_fault, one_answer,
