@@ -1,6 +1,11 @@
--- When a count has risen.
-use Rattle.std.specs.Prelude.{◌≡◌, ◌<◌, ◌⊎◌, ℕ}
+-- How a count of 64 bits rises.
+use Rattle.std.specs.Prelude.{◌≡◌, ◌<◌, ℕ, ◌+◌, min}
 
--- a count of 64 bits has risen, or is at its greatest value
+-- it has risen by one, or stays at its greatest value
 abbrev pub HasRisen : ℕ → ℕ → Type 0
-HasRisen before now = (before < now) ⊎ (now ≡ 18446744073709551615)
+HasRisen before now = now ≡ min (before + 1) 18446744073709551615
+
+-- it has risen by this many, or up to its greatest value; by none it stays as it is
+abbrev pub HasRisenBy : (many before now : ℕ) → Type 0
+HasRisenBy many before now = (many ≡ 0 → now ≡ before)
+    × (0 < many → now ≡ min (before + many) 18446744073709551615)

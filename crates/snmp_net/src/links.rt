@@ -32,7 +32,7 @@ pub trait Links {
     ghost fault_count: { Self → ℕ };
 
     /// Opens a link to the agent at a UDP port of a host. A receive over it waits this many
-    /// seconds. A fault changes the count of faults.
+    /// seconds. A fault is counted.
     fn open(&mut self, host: &str, port: u16, seconds: u64) -> Result<Self::Wire, LinkFault>
         requires { 0 < seconds }
         ensures opened { IfOk result (λ wire. opens self.old host.now port seconds wire) }
@@ -40,7 +40,7 @@ pub trait Links {
         ensures count { OnOk result (fault_count self.new ≡ fault_count self.old) }
         ensures fault { OnErr result (HasRisen (fault_count self.old) (fault_count self.new)) };
 
-    /// Opens a door at a UDP port of a host. A fault changes the count of faults.
+    /// Opens a door at a UDP port of a host. A fault is counted.
     fn bind(&mut self, host: &str, port: u16) -> Result<Self::Door, LinkFault>
         ensures bound { IfOk result (λ door. binds self.old host.now port door) }
         ensures count { OnOk result (fault_count self.new ≡ fault_count self.old) }
