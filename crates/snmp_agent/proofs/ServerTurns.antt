@@ -1,8 +1,9 @@
 -- Facts about the turns of a server.
-use Rattle.std.proofs.Common.{◌≡◌, ℕ, ◌+◌, List, [], ◌∷◌, ◌++◌, take, Option, Some, None, Result}
-use Rattle.std.proofs.Common.{Ok, refl, ap, ◌∙◌, append_assoc, arith}
+use Rattle.std.proofs.Common.{◌≡◌, ℕ, zero, suc, ◌+◌, List, [], ◌∷◌, ◌++◌, take, Option, Some, None, Result}
+use Rattle.std.proofs.Common.{Ok, refl, sym, ap, ◌∙◌, subst, append_assoc, arith}
 use Rattle.std.specs.Prelude.{cond, count_by}
 use Rattle.std.proofs.lemmas.List.Sums.{sum_by-cons}
+use Rattle.snmp_io.specs.Count.{HasRisenBy}
 use Rattle.snmp_agent.specs.declared.endpoint.EndpointFault.{EndpointFault}
 use Rattle.snmp_agent.specs.declared.server.Served.{Served}
 use Rattle.snmp_agent.specs.declared.server.Turn.{Turn}
@@ -58,3 +59,27 @@ one_more_turn turn.Replied s = omega arith
 one_more_turn turn.Dropped s = omega arith
 one_more_turn turn.Idle s = omega arith
 one_more_turn turn.Failed s = omega arith
+
+-- ---- how the endpoint's count of faults rises
+
+risen_more : (n m a b c : ℕ) → HasRisenBy n a b → HasRisenBy m b c → HasRisenBy (n + m) a c
+risen_more zero zero a b c h k = (λ z. k.0 refl ∙ h.0 refl, λ some. absurd (omega (arith, some)))
+risen_more zero (suc m) a b c h k = let same = h.0 refl in let more = k.1 (omega arith) in
+    (λ z. absurd (omega (arith, z)), λ some. omega (arith, same, more))
+risen_more (suc n) zero a b c h k = let first = h.1 (omega arith) in let same = k.0 refl in
+    (λ z. absurd (omega (arith, z)), λ some. omega (arith, first, same))
+risen_more (suc n) (suc m) a b c h k = let first = h.1 (omega arith) in let more = k.1 (omega arith) in
+    (λ z. absurd (omega (arith, z)), λ some. omega (arith, first, more))
+
+faults_with : (t : Turn) (s : Served) → s.faults + (tally (t ∷ [])).faults ≡ (one_more t s).faults
+faults_with turn.Replied s = omega arith
+faults_with turn.Dropped s = omega arith
+faults_with turn.Idle s = omega arith
+faults_with turn.Failed s = omega arith
+
+-- with one more turn
+pub risen_in_turn : (t : Turn) (s more : Served) (a b c : ℕ) → more ≡ one_more t s → HasRisenBy s.faults a b
+    → HasRisenBy (tally (t ∷ [])).faults b c → HasRisenBy more.faults a c
+risen_in_turn t s more a b c is h k =
+    subst (λ (n : ℕ). HasRisenBy n a c) (faults_with t s ∙ sym (ap (λ (m : Served). m.faults) is))
+    (risen_more s.faults (tally (t ∷ [])).faults a b c h k)

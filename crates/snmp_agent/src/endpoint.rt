@@ -1,5 +1,6 @@
 //! Where an agent receives datagrams and sends its replies.
-ghost use Rattle.std.specs.Prelude.{◌≡◌, ◌≤◌, IfOk, IfSome, length};
+ghost use Rattle.std.specs.Prelude.{◌≡◌, ◌≤◌, IfOk, IfSome, OnErr, OnOk, length};
+ghost use Rattle.snmp_io.specs.Count.{HasRisen};
 
 use std::io::ErrorKind;
 use std::net::{SocketAddr, UdpSocket};
@@ -11,21 +12,32 @@ pub struct EndpointFault;
 
 /// Where an agent receives datagrams and sends its replies.
 pub trait Endpoint {
-    ghost use Rattle.std.specs.Prelude.{List, Option};
+    ghost use Rattle.std.specs.Prelude.{ℕ, List, Option};
     ghost use Rattle.snmp_agent.specs.Event.{Event, logged, event_of_receive, event_of_reply};
 
     /// What happened there so far, if that is known. For a socket it isn't.
     ghost log: { Self → Option (List Event) };
 
+    /// How many receives and replies failed.
+    ghost fault_count: { Self → ℕ };
+
     /// Receives a datagram to the front of the buffer, and returns its length, or None where none
-    /// comes in time.
+    /// comes in time. A fault is counted.
     fn receive(&mut self, buffer: &mut [u8]) -> Result<Option<usize>, EndpointFault>
         ensures bound { IfOk result (λ received. IfSome received (λ n. n ≤ length buffer.new)) }
-        ensures log { log self.new ≡ logged (log self.old) (event_of_receive result buffer.new) };
+        ensures log { log self.new ≡ logged (log self.old) (event_of_receive result buffer.new) }
+        ensures count { OnOk result (fault_count self.new ≡ fault_count self.old) }
+        ensures fault { OnErr result (HasRisen (fault_count self.old) (fault_count self.new)) };
 
-    /// Sends a reply to where the latest datagram came from.
+    /// Sends a reply to where the latest datagram came from. A fault is counted.
     fn reply(&mut self, datagram: &[u8]) -> Result<(), EndpointFault>
-        ensures { log self.new ≡ logged (log self.old) (event_of_reply result datagram.now) };
+        ensures log { log self.new ≡ logged (log self.old) (event_of_reply result datagram.now) }
+        ensures count { OnOk result (fault_count self.new ≡ fault_count self.old) }
+        ensures fault { OnErr result (HasRisen (fault_count self.old) (fault_count self.new)) };
+
+    /// How many receives and replies failed, up to 18446744073709551615.
+    fn faults(&self) -> u64
+        ensures { result ≡ fault_count self.now };
 }
 
 /// A UDP socket as an endpoint.
@@ -34,15 +46,27 @@ pub struct SocketEndpoint<'a> {
     socket: &'a UdpSocket,
     /// Where the latest datagram came from.
     sender: Option<SocketAddr>,
+    faults: u64,
 }
 
 impl<'a> SocketEndpoint<'a> {
+    ghost use Rattle.snmp_io.specs.Count.{HasRisen};
+
     /// The socket, from which nothing was received yet.
     pub fn new(socket: &'a UdpSocket) -> SocketEndpoint<'a> {
         SocketEndpoint {
             socket,
             sender: None,
+            faults: 0,
         }
+    }
+
+    /// Counts a fault, and returns it.
+    fn fault(&mut self) -> EndpointFault
+        ensures { HasRisen self.old.faults self.new.faults }
+    {
+        self.faults = self.faults.saturating_add(1);
+        EndpointFault
     }
 }
 
@@ -50,6 +74,8 @@ impl<'a> Endpoint for SocketEndpoint<'a> {
     ghost use Rattle.std.specs.Prelude.{None};
 
     ghost log = { λ _. None };
+
+    ghost fault_count = { λ endpoint. endpoint.faults };
 
     fn receive(&mut self, buffer: &mut [u8]) -> Result<Option<usize>, EndpointFault> {
         match self.socket.recv_from(buffer) {
@@ -59,18 +85,22 @@ impl<'a> Endpoint for SocketEndpoint<'a> {
             }
             Err(error) => match error.kind() {
                 ErrorKind::WouldBlock | ErrorKind::TimedOut => Ok(None),
-                _ => Err(EndpointFault),
+                _ => Err(self.fault()),
             },
         }
     }
 
     fn reply(&mut self, datagram: &[u8]) -> Result<(), EndpointFault> {
         let Some(sender) = self.sender else {
-            return Err(EndpointFault);
+            return Err(self.fault());
         };
         match self.socket.send_to(datagram, sender) {
             Ok(size) if size == datagram.len() => Ok(()),
-            _ => Err(EndpointFault),
+            _ => Err(self.fault()),
         }
+    }
+
+    fn faults(&self) -> u64 {
+        self.faults
     }
 }

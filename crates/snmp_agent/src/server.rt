@@ -1,7 +1,8 @@
 //! Serving a table: datagrams are received and replied to, one a turn.
-ghost use Rattle.std.specs.Prelude.{◌≡◌, ℕ, ◌+◌, List, length};
+ghost use Rattle.std.specs.Prelude.{◌≡◌, ℕ, ◌+◌, List, [], ◌∷◌, length};
 ghost use Rattle.snmp_agent.specs.Reply.{agent_of};
 ghost use Rattle.snmp_agent.specs.Serving.{Event, logged, IsTurn, AreTurns, tally};
+ghost use Rattle.snmp_io.specs.Count.{HasRisenBy};
 
 use crate::agent::answer_near;
 use crate::config::{Config, Outcome};
@@ -59,6 +60,8 @@ pub fn serve_at<E: Endpoint>(
         × AreTurns (agent_of table.now config.now) done events × (length done ≡ turns)
         × (result ≡ tally done)
         × (E.log endpoint.new ≡ logged (E.log endpoint.old) events) }
+    ensures faults { HasRisenBy result.faults (E.fault_count endpoint.old)
+        (E.fault_count endpoint.new) }
 {
     let mut served = Served::default();
     let mut request = [0; MAX_DATAGRAM];
@@ -84,8 +87,10 @@ fn serve_once<E: Endpoint>(
     reply: &mut [u8; MAX_DATAGRAM],
     hint: &mut Hint,
 ) -> Turn
-    ensures { (events : List Event) × IsTurn (agent_of table.now config.now) result events
+    ensures turn { (events : List Event) × IsTurn (agent_of table.now config.now) result events
         × (E.log endpoint.new ≡ logged (E.log endpoint.old) events) }
+    ensures faults { HasRisenBy (tally (result ∷ [])).faults (E.fault_count endpoint.old)
+        (E.fault_count endpoint.new) }
 {
     let size = match endpoint.receive(&mut request[..]) {
         Ok(Some(size)) => size,

@@ -105,6 +105,7 @@ fn each_sender_has_its_own_reply(rt: HostRuntime) {
 struct Failing {
     receives: u64,
     replies: u64,
+    faults: u64,
 }
 
 impl Endpoint for Failing {
@@ -112,9 +113,12 @@ impl Endpoint for Failing {
 
     ghost log = { λ _. None };
 
+    ghost fault_count = { λ endpoint. endpoint.faults };
+
     fn receive(&mut self, buffer: &mut [u8]) -> Result<Option<usize>, EndpointFault> {
         self.receives = self.receives.wrapping_add(1);
         if self.receives % 2 == 0 || buffer.len() < 40 {
+            self.faults = self.faults.saturating_add(1);
             return Err(EndpointFault);
         }
         buffer[..40].copy_from_slice(&GET);
@@ -124,10 +128,15 @@ impl Endpoint for Failing {
     fn reply(&mut self, _datagram: &[u8]) -> Result<(), EndpointFault> {
         self.replies = self.replies.wrapping_add(1);
         if self.replies % 2 == 0 {
+            self.faults = self.faults.saturating_add(1);
             Err(EndpointFault)
         } else {
             Ok(())
         }
+    }
+
+    fn faults(&self) -> u64 {
+        self.faults
     }
 }
 
@@ -137,6 +146,7 @@ fn what_fails_is_counted_and_the_next_turn_follows(rt: HostRuntime) {
     let mut endpoint = Failing {
         receives: 0,
         replies: 0,
+        faults: 0,
     };
     let served = serve_at(&mut endpoint, &table, &public(), 1000);
     let wanted = Served {
@@ -146,5 +156,5 @@ fn what_fails_is_counted_and_the_next_turn_follows(rt: HostRuntime) {
         faults: 750,
     };
     assert_served(&rt, served, wanted);
-    assert!(rt; endpoint.replies == 500);
+    assert!(rt; endpoint.replies == 500 && endpoint.faults() == 750);
 }

@@ -28,11 +28,13 @@ abbrev pub OpensTo : List MemoryAgent → (host : List ℕ) → (port : ℕ) →
 OpensTo agents host port link =
     (agent : MemoryAgent) × (agent_at agents host port ≡ Some agent) × IsLinkTo agent link
 
--- a door where no agent is reached, at which all of these requests are still to come
+-- a door where no agent is reached, at which all of these requests are still to come and nothing has
+-- failed
 abbrev pub BindsAt : List MemoryAgent → (requests : List (Bor (List ℕ))) → (host : List ℕ)
     → (port : ℕ) → MemoryDoor → Type 0
 BindsAt agents requests host port door =
     (agent_at agents host port ≡ None) × (door.requests.now ≡ requests) × (door.used ≡ 0)
+    × (door.faults ≡ 0)
 
 -- the requests that are still to come at the door
 abbrev pub ahead_of : MemoryDoor → List (List ℕ)

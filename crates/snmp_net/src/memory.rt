@@ -89,6 +89,7 @@ impl<'a> Links for MemoryLinks<'a> {
             None => Ok(MemoryDoor {
                 requests: self.requests,
                 used: 0,
+                faults: 0,
             }),
             Some(_) => Err(self.fault()),
         }
@@ -126,14 +127,18 @@ fn agent_at<'a>(agents: &'a [MemoryAgent<'a>], host: &str, port: u16) -> Option<
 pub struct MemoryDoor<'a> {
     requests: &'a [&'a [u8]],
     used: usize,
+    faults: u64,
 }
 
 impl<'a> Endpoint for MemoryDoor<'a> {
     ghost use Rattle.std.specs.Prelude.{◌≡◌, ◌<◌, ◌≤◌, ℕ, List, [], ◌∷◌, length, take, None};
-    ghost use Rattle.std.specs.Prelude.{IfOk, IfSome, IfNone, OnErr};
+    ghost use Rattle.std.specs.Prelude.{IfOk, IfSome, IfNone, OnErr, OnOk};
+    ghost use Rattle.snmp_io.specs.Count.{HasRisen};
     ghost use Rattle.snmp_net.specs.Memory.{ahead_of};
 
     ghost log = { λ _. None };
+
+    ghost fault_count = { λ door. door.faults };
 
     /// Receives the next request, and after the last nothing. One that is longer than the buffer is
     /// a fault, and never comes.
@@ -146,6 +151,8 @@ impl<'a> Endpoint for MemoryDoor<'a> {
         ensures skipped_where_too_long { OnErr result ((request : List ℕ)
             × (ahead_of self.old ≡ request ∷ ahead_of self.new)
             × (length buffer.old < length request)) }
+        ensures count { OnOk result (self.new.faults ≡ self.old.faults) }
+        ensures fault { OnErr result (HasRisen self.old.faults self.new.faults) }
     {
         let Some(request) = self.requests.get(self.used) else {
             return Ok(None);
@@ -153,13 +160,23 @@ impl<'a> Endpoint for MemoryDoor<'a> {
         self.used += 1;
         let length = request.len();
         if length > buffer.len() {
+            self.faults = self.faults.saturating_add(1);
             return Err(EndpointFault);
         }
         buffer[..length].copy_from_slice(request);
         Ok(Some(length))
     }
 
-    fn reply(&mut self, _datagram: &[u8]) -> Result<(), EndpointFault> {
+    /// Passes over no request.
+    fn reply(&mut self, _datagram: &[u8]) -> Result<(), EndpointFault>
+        ensures ahead { ahead_of self.new ≡ ahead_of self.old }
+        ensures count { OnOk result (self.new.faults ≡ self.old.faults) }
+        ensures fault { OnErr result (HasRisen self.old.faults self.new.faults) }
+    {
         Ok(())
+    }
+
+    fn faults(&self) -> u64 {
+        self.faults
     }
 }

@@ -3,13 +3,14 @@ use Rattle.snmp_agent.specs.declared.server.Served.{Served}
 use Rattle.snmp_agent.specs.declared.server.Turn.{Turn}
 use Rattle.snmp_agent.specs.Serving.{logged}
 use Rattle.snmp_agent.proofs.ServerTurns.{extended_twice, one_more, one_more_counts, one_more_turn}
+use Rattle.snmp_agent.proofs.ServerTurns.{risen_in_turn}
 use Rattle.snmp_agent.proofs.server.serve_at.Goals as goal
 use Rattle.snmp_agent.proofs.server.serve_at.Goals.{in-Replied, in-Dropped, in-Idle, in-Failed}
 
 pub turns-preserved : goal.turns-preserved
 turns-preserved g c =
     let so_far = c.turns.invariant in
-    let made = c.serve_once.ensures in
+    let made = c.serve_once.ensures.turn in
     let t : Turn = c.serve_once.result in
     let more : c.match-serve_once.served ≡ one_more t c.turns.served = elim c.match-serve_once.branch [
       | in-Replied w ↦ w.served-is ∙ sym (ap (λ (u : Turn). one_more u c.turns.served) w.in-Replied.is)
@@ -25,5 +26,6 @@ turns-preserved g c =
       made = (so_far.events, made.0, refl, so_far.made, made.1);
       count = let long : length (t ∷ so_far.done) ≡ length so_far.done + 1 = omega arith in long ∙ ap (λ n. n + 1) so_far.count;
       counted = more ∙ ap (one_more t) so_far.counted ∙ one_more_counts t so_far.done;
+      risen = risen_in_turn t c.turns.served _ _ _ _ more so_far.risen c.serve_once.ensures.faults;
       log = made.2 ∙ ap (λ log. logged log made.0) so_far.log ∙ extended_twice (g.E.Endpoint.log c.args.endpoint.now) so_far.events made.0;
     }

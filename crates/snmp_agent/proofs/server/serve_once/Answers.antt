@@ -4,28 +4,28 @@ use Rattle.snmp_agent.specs.Event.{event_of_reply}
 use Rattle.snmp_agent.proofs.ServerTurns.{both_events}
 use Rattle.snmp_agent.proofs.server.serve_once.Goals as goal
 
-pub returns-in-Ok : goal.returns-in-Ok
-returns-in-Ok g c =
+pub returns-in-Ok-clause-turn : goal.returns-in-Ok-clause-turn
+returns-in-Ok-clause-turn g c =
     let datagram : List ℕ = take c.in-Ok-Some.size c.receive.new.buffer in
     let reply : List ℕ = take c.in-Reply.length c.answer_near.new.out in (
       came datagram ∷ sent reply ∷ [],
       (datagram, reply, c.answer_near.ensures.reply c.in-Reply.length c.in-Reply.is, refl),
-      both_events _ _ _ c.receive.result c.in-Ok-Some.size c.receive.new.buffer reply c.reply.result (cc) c.receive.ensures.log c.reply.ensures
+      both_events _ _ _ c.receive.result c.in-Ok-Some.size c.receive.new.buffer reply c.reply.result (cc) c.receive.ensures.log c.reply.ensures.log
           ∙ ap (λ r. logged (g.E.Endpoint.log c.args.endpoint.now) (came datagram ∷ event_of_reply r reply)) c.in-Ok.is,
     )
 
-pub returns-in-Err-reply : goal.returns-in-Err-reply
-returns-in-Err-reply g c =
+pub returns-in-Err-reply-clause-turn : goal.returns-in-Err-reply-clause-turn
+returns-in-Err-reply-clause-turn g c =
     let datagram : List ℕ = take c.in-Ok-Some.size c.receive.new.buffer in
     let reply : List ℕ = take c.in-Reply.length c.answer_near.new.out in (
       came datagram ∷ send_failed reply ∷ [],
       inr (datagram, reply, c.answer_near.ensures.reply c.in-Reply.length c.in-Reply.is, refl),
-      both_events _ _ _ c.receive.result c.in-Ok-Some.size c.receive.new.buffer reply c.reply.result (cc) c.receive.ensures.log c.reply.ensures
+      both_events _ _ _ c.receive.result c.in-Ok-Some.size c.receive.new.buffer reply c.reply.result (cc) c.receive.ensures.log c.reply.ensures.log
           ∙ ap (λ r. logged (g.E.Endpoint.log c.args.endpoint.now) (came datagram ∷ event_of_reply r reply)) c.in-Err-reply.is,
     )
 
-pub returns-in-Dropped : goal.returns-in-Dropped
-returns-in-Dropped g c =
+pub returns-in-Dropped-clause-turn : goal.returns-in-Dropped-clause-turn
+returns-in-Dropped-clause-turn g c =
     let datagram : List ℕ = take c.in-Ok-Some.size c.receive.new.buffer in
     let received : c.receive.result ≡ Ok (Some c.in-Ok-Some.size) = cc in (
       came datagram ∷ [],
