@@ -303,6 +303,17 @@ def failing_server():
     return wrongs(*wrong)
 
 
+# The tries of a Get come three seconds apart, and are dropped; after each, two or three turns bring nothing. So of the
+# first six turns two have a try. Catches: a server that waits two seconds for a datagram, whose turns have three, or half
+# a second, whose turns have one.
+@test("six turns of snmpd have two of the datagrams that come each third second")
+def idle_turns():
+    with Server("--turns", "6") as server:
+        ran = run("snmpget", "-c", "other", "-t", "3", "-r", "2", server.place, f"{ROOT}.7")
+        return wrongs(differs(ran, (1, "", SILENT.replace("AGENT", server.place))),
+                      differs(server.end(), (0, "0 replies, 2 dropped\n", "")))
+
+
 # A write is tried 100 times. Catches: a second interruption in a row as a write that failed, and a write that is
 # tried for ever.
 @where(traces, "a write that signals interrupt several times in a row is made, and one that they always do fails",

@@ -34,6 +34,7 @@ AT_THE_EDGE = {
     "BOUND_TO_LOOPBACK": ["have one socket", "another of this machine's addresses"],
     "SECOND_SOCKET": ["open one socket, and send"],
     "ANY_FAMILY": ["of a host's addresses"],
+    "WAITS_TWO_SECONDS": ["six turns of snmpd"],
     "NO_PORT_IS_NO_FAULT": ["no port is free"],
     "LINK_IS_MEMORY": ["no port is free", "no descriptor is left"],
     "INTERRUPTED_IS_SILENCE": ["stopped thrice"],

@@ -1,6 +1,8 @@
 //! Links and doors over the machine's UDP sockets.
-ghost use Rattle.std.specs.Prelude.{◌≡◌, ◌<◌, ℕ};
+ghost use Rattle.std.specs.Prelude.{◌≡◌, ◌<◌, ◌*◌, ℕ};
+ghost use Rattle.std.specs.Duration.{as_nanos};
 ghost use Rattle.snmp_io.specs.Count.{HasRisen};
+ghost use Rattle.snmp_net.specs.Turn.{turn_seconds};
 
 use crate::links::Links;
 use crate::udp::{UdpLink, first_address};
@@ -8,9 +10,6 @@ use snmp_agent::{Config, Served, Table};
 use snmp_walk::LinkFault;
 use std::net::{Net, UdpSocket};
 use std::time::Duration;
-
-/// The seconds that a server waits for a request in each turn.
-const TURN_SECONDS: u64 = 1;
 
 /// Links and doors over UDP, of which nothing is known.
 #[derive(Drop)]
@@ -83,8 +82,13 @@ impl<N: Net> Links for MachineLinks<N> {
 /// A socket at the first IPv4 address that the host has.
 fn bound<N: Net>(net: &N, host: &str, port: u16) -> Option<UdpSocket> {
     let socket = UdpSocket::bind(net, first_address(net, host, port)?).ok()?;
-    socket
-        .set_read_timeout(Some(Duration::from_secs(TURN_SECONDS)))
-        .ok()?;
+    socket.set_read_timeout(Some(turn_time())).ok()?;
     Some(socket)
+}
+
+/// How long a server waits for a request in each turn.
+pub(crate) fn turn_time() -> Duration
+    ensures { as_nanos result ≡ turn_seconds * 1_000_000_000 }
+{
+    Duration::from_secs(1)
 }
