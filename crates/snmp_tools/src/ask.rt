@@ -11,6 +11,7 @@ ghost use Rattle.snmp_tools.specs.Planned.{AreOrdersOf, ask_words, mib_in, plan_
 ghost use Rattle.snmp_tools.specs.Seen.{seen};
 ghost use Rattle.snmp_tools.specs.Start.{IsBegun};
 
+use crate::error_output::ErrorOutput;
 use crate::failure::Failure;
 use crate::job::report;
 use crate::lines::{print_count, print_lines};
@@ -28,7 +29,7 @@ use snmp_words::Asking;
 use std::alloc::Global;
 
 /// Does a job that asks an agent, and returns the exit status.
-pub(crate) fn do_ask<F: ModuleFiles, L: Links, O: Output, E: Output>(
+pub(crate) fn do_ask<F: ModuleFiles, L: Links, O: Output, E: ErrorOutput>(
     alloc: Global,
     job: AskJob<'_, '_>,
     files: &F,
@@ -45,7 +46,7 @@ pub(crate) fn do_ask<F: ModuleFiles, L: Links, O: Output, E: Output>(
 }
 
 // Writes the lines of what is asked, and before them, on `err`, those of its modules' warnings.
-fn ask<'a, F: ModuleFiles, L: Links, O: Output, E: Output>(
+fn ask<'a, F: ModuleFiles, L: Links, O: Output, E: ErrorOutput>(
     alloc: Global,
     job: AskJob<'_, 'a>,
     files: &F,

@@ -7,7 +7,8 @@ ghost use Rattle.snmp_tools.specs.Seen.{seen};
 ghost use Rattle.snmp_tools.specs.TableWalk.{HoldsTableFile, PrintsRows, table_walk};
 ghost use Rattle.snmp_tools.specs.Usage.{AreFaultless, IsHelpOrMistake, PrintsHelp, ReportsOnly};
 
-use crate::job::{run_job, tell};
+use crate::error_output::ErrorOutput;
+use crate::job::run_job;
 use crate::laws::table_walks;
 use crate::loading::ModuleFiles;
 use snmp_io::{Output, write_all};
@@ -21,7 +22,7 @@ use std::alloc::Global;
 /// It is 0 where that was done, 2 where an agent replied with an error status, and 1 in any other
 /// case. A failure is one line on `err`, except that a mistake in the command line's syntax may
 /// take several.
-pub fn tool<F: ModuleFiles, L: Links, O: Output, E: Output>(
+pub fn tool<F: ModuleFiles, L: Links, O: Output, E: ErrorOutput>(
     alloc: Global,
     words: &[&str],
     files: &F,
@@ -51,25 +52,25 @@ pub fn tool<F: ModuleFiles, L: Links, O: Output, E: Output>(
         Ok(job) => run_job(alloc, &job, files, links, out, err),
         Err(UsageError::Parse { text, help: true }) => print_help(&text, out, err),
         Err(UsageError::Parse { text, help: false }) => {
-            tell(err, text.as_bytes());
+            err.tell(text.as_bytes());
             1
         }
         Err(UsageError::Memory) => {
-            tell(err, b"Out of memory.\n");
+            err.tell(b"Out of memory.\n");
             1
         }
     }
 }
 
 // Prints the help that was asked for, and returns the status.
-fn print_help<O: Output, E: Output>(text: &str, out: &mut O, err: &mut E) -> u8
+fn print_help<O: Output, E: ErrorOutput>(text: &str, out: &mut O, err: &mut E) -> u8
     ensures { PrintsHelp text.now (O.stream out.old) (O.stream out.new)
         (E.stream err.old) (E.stream err.new) result }
 {
     match write_all(out, text.as_bytes()) {
         Ok(()) => 0,
         Err(_) => {
-            tell(err, b"The output failed.\n");
+            err.tell(b"The output failed.\n");
             1
         }
     }

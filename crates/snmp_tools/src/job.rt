@@ -1,6 +1,5 @@
 //! A job: it is done, and what failed is reported.
 ghost use Rattle.std.specs.Prelude.{◌≡◌, ◌++◌, codes, IfOk};
-ghost use Rattle.snmp_io.specs.Output.{IsWritten};
 ghost use Rattle.snmp_words.specs.Words.{job_words};
 ghost use Rattle.snmp_tools.specs.Done.{IsJobDone};
 ghost use Rattle.snmp_tools.specs.Message.{fault_of, fault_message, outcome_of};
@@ -8,6 +7,7 @@ ghost use Rattle.snmp_tools.specs.Outcome.{IsReported};
 ghost use Rattle.snmp_tools.specs.Seen.{seen};
 
 use crate::ask::do_ask;
+use crate::error_output::ErrorOutput;
 use crate::failure::Failure;
 use crate::loading::{ModuleFiles, one_list_of_modules};
 use crate::request::AskJob;
@@ -16,7 +16,7 @@ use crate::translate::do_translate;
 use smi_show::one_meaning;
 use smi_tree::one_tree;
 use snmp_agent::{no_fault, one_table};
-use snmp_io::{Output, write_all};
+use snmp_io::Output;
 use snmp_net::Links;
 use snmp_words::Job;
 use std::alloc::{AllocError, Global};
@@ -26,7 +26,7 @@ use std::alloc::{AllocError, Global};
 ///
 /// The lines of a reply are written to `out` together, as it comes. A failure is one line on `err`;
 /// an `err` that fails itself changes nothing else.
-pub fn run_job<F: ModuleFiles, L: Links, O: Output, E: Output>(
+pub fn run_job<F: ModuleFiles, L: Links, O: Output, E: ErrorOutput>(
     alloc: Global,
     job: &Job<'_>,
     files: &F,
@@ -54,7 +54,11 @@ pub fn run_job<F: ModuleFiles, L: Links, O: Output, E: Output>(
 
 /// Reports on `err` why a job wasn't done, if it wasn't, and returns the exit status. Where memory
 /// for the message runs out, that is reported.
-pub(crate) fn report<E: Output>(alloc: Global, done: Result<(), Failure<'_>>, err: &mut E) -> u8
+pub(crate) fn report<E: ErrorOutput>(
+    alloc: Global,
+    done: Result<(), Failure<'_>>,
+    err: &mut E,
+) -> u8
     ensures { IsReported (outcome_of done.entry) (E.stream err.old) (E.stream err.new) result }
 {
     let failure = match done {
@@ -62,8 +66,8 @@ pub(crate) fn report<E: Output>(alloc: Global, done: Result<(), Failure<'_>>, er
         Err(failure) => failure,
     };
     match message_line(alloc, &failure) {
-        Ok(text) => tell(err, &text),
-        Err(_) => tell(err, b"Out of memory.\n"),
+        Ok(text) => err.tell(&text),
+        Err(_) => err.tell(b"Out of memory.\n"),
     }
     failure.status()
 }
@@ -77,11 +81,4 @@ fn message_line(alloc: Global, failure: &Failure<'_>) -> Result<Vec<u8>, AllocEr
     failure.message(&mut text)?;
     text.push(b'\n')?;
     Ok(text)
-}
-
-/// Writes a text. A fault is ignored: there is nowhere left to report it.
-pub(crate) fn tell<E: Output>(err: &mut E, text: &[u8])
-    ensures { IsWritten (E.stream err.old) text.now (E.stream err.new) }
-{
-    let _ = write_all(err, text);
 }

@@ -24,6 +24,7 @@ mod agent;
 mod ask;
 mod choices;
 mod entry;
+mod error_output;
 mod failure;
 mod job;
 mod judge;
@@ -42,6 +43,7 @@ mod translation;
 
 pub use crate::loading::{FilesError, ModuleFiles, WithoutModules, load_tree};
 pub use entry::tool;
+pub use error_output::ErrorOutput;
 pub use failure::Failure;
 pub use job::run_job;
 pub use snmp_io::{FileFault, Files, Output, OutputFault};

@@ -4,6 +4,7 @@ ghost use Rattle.snmp_tools.specs.Seen.{seen};
 ghost use Rattle.snmp_tools.specs.Serving.{IsServeRun};
 
 use crate::agent::serve_table;
+use crate::error_output::ErrorOutput;
 use crate::job::report;
 use crate::loading::ModuleFiles;
 use snmp_io::Output;
@@ -12,7 +13,7 @@ use snmp_words::ServeJob;
 use std::alloc::Global;
 
 /// Does the job of snmpd, and returns the exit status.
-pub(crate) fn do_serve<F: ModuleFiles, L: Links, O: Output, E: Output>(
+pub(crate) fn do_serve<F: ModuleFiles, L: Links, O: Output, E: ErrorOutput>(
     alloc: Global,
     job: &ServeJob<'_>,
     files: &F,

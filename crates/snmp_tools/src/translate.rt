@@ -2,6 +2,7 @@
 ghost use Rattle.snmp_words.specs.Words.{translate_words};
 ghost use Rattle.snmp_tools.specs.Translating.{IsTranslated};
 
+use crate::error_output::ErrorOutput;
 use crate::job::report;
 use crate::loading::{ModuleFiles, one_list_of_modules};
 use crate::translation::translate;
@@ -10,7 +11,7 @@ use snmp_words::TranslateJob;
 use std::alloc::Global;
 
 /// Does the job of snmptranslate, and returns the exit status.
-pub(crate) fn do_translate<F: ModuleFiles, O: Output, E: Output>(
+pub(crate) fn do_translate<F: ModuleFiles, O: Output, E: ErrorOutput>(
     alloc: Global,
     job: &TranslateJob<'_>,
     files: &F,

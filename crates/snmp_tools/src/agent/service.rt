@@ -10,6 +10,7 @@ ghost use Rattle.snmp_tools.specs.agent.Outcome.{IsServeOutcome, IsServedBy, IsS
 ghost use Rattle.snmp_tools.specs.agent.Outcome.{counts_line, listening_line};
 ghost use Rattle.snmp_tools.specs.agent.Service.{ServiceFails};
 
+use crate::error_output::ErrorOutput;
 use crate::failure::Failure;
 use crate::lines::print_text;
 use crate::loading::ModuleFiles;
@@ -28,7 +29,7 @@ use std::alloc::{AllocError, Global};
 ///
 /// The words, then the module files and then the table file are judged before a socket is opened.
 /// Warnings of the modules go to `err`; an `err` that fails changes nothing else.
-pub(crate) fn serve_table<'a, F: ModuleFiles, L: Links, O: Output, E: Output>(
+pub(crate) fn serve_table<'a, F: ModuleFiles, L: Links, O: Output, E: ErrorOutput>(
     alloc: Global,
     job: &ServeJob<'a>,
     files: &F,

@@ -6,12 +6,12 @@ ghost use Rattle.snmp_tools.specs.loading.Files.{AreModulesOf, IsFilesRefusal, n
 ghost use Rattle.snmp_tools.specs.loading.Loaded.{IsLoaded};
 ghost use Rattle.snmp_tools.specs.loading.Message.{refusal_of};
 
-use crate::job::tell;
+use crate::error_output::ErrorOutput;
 use crate::loading::error::FilesError;
 use crate::loading::read::read_modules;
 use crate::loading::warned::warning_lines;
 use smi_tree::{NameHash, Tree};
-use snmp_io::{Files, Output};
+use snmp_io::Files;
 use std::alloc::Global;
 
 /// Loads the tree of names from module files (RFC 2578, section 3), and writes the line of each
@@ -19,7 +19,7 @@ use std::alloc::Global;
 ///
 /// The first file that can't be read, or whose text has a fault anywhere, is the error, and then
 /// nothing is written. An `err` that fails changes nothing else.
-pub fn load_tree<'a, F: Files, E: Output>(
+pub fn load_tree<'a, F: Files, E: ErrorOutput>(
     alloc: Global,
     hash: NameHash,
     files: &F,
@@ -39,6 +39,6 @@ pub fn load_tree<'a, F: Files, E: Output>(
     let modules = read_modules(alloc, files, paths)?;
     let (tree, warnings) = Tree::load(alloc, hash, modules)?;
     let lines = warning_lines(alloc, &warnings)?;
-    tell(err, &lines);
+    err.tell(&lines);
     Ok(tree)
 }

@@ -6,12 +6,13 @@ ghost use Rattle.snmp_tools.specs.loading.Files.{AreModulesOf, IsFilesRefusal, n
 ghost use Rattle.snmp_tools.specs.loading.Loaded.{AreLoadedAs};
 ghost use Rattle.snmp_tools.specs.loading.Message.{refusal_of};
 
+use crate::error_output::ErrorOutput;
 use crate::loading::error::FilesError;
 use crate::loading::load::load_tree;
 use smi_show::ShowTree;
 use smi_tree::{NameHash, Roots, Tree, bare_tree};
 use snmp_io::memory::MemoryFiles;
-use snmp_io::{FileFault, Files, MachineFiles, Output};
+use snmp_io::{FileFault, Files, MachineFiles};
 use std::alloc::Global;
 use std::random::RandomSource;
 use std::rt;
@@ -22,7 +23,7 @@ pub trait ModuleFiles: Files {
     type Names: ShowTree + Drop;
 
     /// Loads the names of module files, as [`load_tree`] does.
-    fn load<'a, E: Output>(
+    fn load<'a, E: ErrorOutput>(
         &self,
         alloc: Global,
         paths: &[&'a str],
@@ -42,7 +43,7 @@ pub trait ModuleFiles: Files {
 impl<R: rt::Files + RandomSource> ModuleFiles for MachineFiles<R> {
     type Names = Tree;
 
-    fn load<'a, E: Output>(
+    fn load<'a, E: ErrorOutput>(
         &self,
         alloc: Global,
         paths: &[&'a str],
@@ -55,7 +56,7 @@ impl<R: rt::Files + RandomSource> ModuleFiles for MachineFiles<R> {
 impl ModuleFiles for MemoryFiles<'_> {
     type Names = Tree;
 
-    fn load<'a, E: Output>(
+    fn load<'a, E: ErrorOutput>(
         &self,
         alloc: Global,
         paths: &[&'a str],
@@ -86,7 +87,7 @@ impl<F: Files> Files for WithoutModules<F> {
 impl<F: Files> ModuleFiles for WithoutModules<F> {
     type Names = Roots;
 
-    fn load<'a, E: Output>(
+    fn load<'a, E: ErrorOutput>(
         &self,
         _alloc: Global,
         paths: &[&'a str],

@@ -3,6 +3,7 @@ ghost use Rattle.snmp_words.specs.Words.{translate_words};
 ghost use Rattle.snmp_tools.specs.Message.{outcome_of};
 ghost use Rattle.snmp_tools.specs.translation.Outcome.{IsTranslateOutcome};
 
+use crate::error_output::ErrorOutput;
 use crate::failure::Failure;
 use crate::loading::ModuleFiles;
 use crate::translation::names::print_names;
@@ -17,7 +18,7 @@ use std::alloc::Global;
 ///
 /// The letters and then the module files are judged before anything is printed. Warnings of the
 /// modules go to `err`; an `err` that fails changes nothing else.
-pub(crate) fn translate<'a, F: ModuleFiles, O: Output, E: Output>(
+pub(crate) fn translate<'a, F: ModuleFiles, O: Output, E: ErrorOutput>(
     alloc: Global,
     job: &TranslateJob<'a>,
     files: &F,

@@ -4,7 +4,7 @@ use Rattle.snmp_tools.proofs.ask.do_ask.Goals as goal
 pub returns : goal.returns
 returns g c = record {
   fault = outcome_of c.ask-done.result;
-  warned = g.E.Output.stream c.ask-done.new.err;
+  warned = g.E.ErrorOutput.stream c.ask-done.new.err;
   outcome = c.ask-done.ensures;
   reported = c.report.ensures;
 }

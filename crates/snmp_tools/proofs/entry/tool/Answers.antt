@@ -29,7 +29,7 @@ returns-in-Ok-clause-unstated g c = λ faultless none. let e = c.in-Ok.ensures.j
 pub returns-in-Err-Memory-clause-done : goal.returns-in-Err-Memory-clause-done
 returns-in-Err-Memory-clause-done g c = λ job taken stated.
     undone g.L.Links g.L.Wire.Link (g.F.Files.text_at c.args.files.now) c.args.links.now
-    (g.O.Output.stream c.args.out.now) (g.E.Output.stream c.args.err.now) _ c.tell-in-Err-Memory.ensures job
+    (g.O.Output.stream c.args.out.now) (g.E.ErrorOutput.stream c.args.err.now) _ c.tell-in-Err-Memory.ensures job
 
 pub returns-in-Err-Parse-default-false-clause-help_or_mistake : goal.returns-in-Err-Parse-default-false-clause-help_or_mistake
 returns-in-Err-Parse-default-false-clause-help_or_mistake g c = λ faulty.
@@ -51,7 +51,7 @@ returns-in-Ok-clause-rows_printed g c = λ path root text words holds.
 pub returns-in-Err-Memory-clause-rows_printed : goal.returns-in-Err-Memory-clause-rows_printed
 returns-in-Err-Memory-clause-rows_printed g c = λ path root text words holds.
     let done = undone g.L.Links g.L.Wire.Link
-    (g.F.Files.text_at c.args.files.now) c.args.links.now (g.O.Output.stream c.args.out.now) (g.E.Output.stream c.args.err.now) _
+    (g.F.Files.text_at c.args.files.now) c.args.links.now (g.O.Output.stream c.args.out.now) (g.E.ErrorOutput.stream c.args.err.now) _
     c.tell-in-Err-Memory.ensures (snmpwalk (numeric_walk path root)) in
     c.table_walks.ensures.printed _ path root text _ _ _ _ _ holds done.front_written done.all_written_at_status_0 done.ends_at_status_0
 

@@ -10,7 +10,7 @@ returns g c =
     let files = g.F.Files.text_at c.args.files.now in
     record {
       fault = outcome_of c.translate-done.result;
-      warned = g.E.Output.stream c.translate-done.new.err;
+      warned = g.E.ErrorOutput.stream c.translate-done.new.err;
       outcome = c.translate-done.ensures;
       is_reported = c.report.ensures;
       all_at_status_0 = λ zero.
