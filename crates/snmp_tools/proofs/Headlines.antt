@@ -21,6 +21,7 @@ use Rattle.snmp_net.specs.declared.links.Links.{Ghosts as Network}
 use Rattle.smi_names.specs.declared.nodes.warning.Warning.{Warning}
 use Rattle.smi_value.specs.declared.letters.letters.Letters.{Letters}
 use Rattle.snmp_tools.specs.agent.TableFile.{AreNamesIn, HasTable}
+use Rattle.snmp_tools.specs.loading.Loaded.{LoadFacts}
 use Rattle.snmp_tools.specs.loading.Warned.{warning_lines}
 use Rattle.snmp_tools.specs.Answer.{AreRowsOf, IsFeasible, IsOwnEnd}
 use Rattle.snmp_tools.specs.Headline.{EndsAtStatus0, IsAsk, IsMishap, IsWholeText}
@@ -119,7 +120,7 @@ own_told mib letters counts agent given turned ending.Link before between after 
 module _ (one_table : (names : Names) (ls : List (List ℕ)) (v w : MibView) → IsTableOf names ls v → IsTableOf names ls w → v ≡ w)
     (no_fault : (names : Names) (ls : List (List ℕ)) (view : MibView) (fault : TableError) → IsTableOf names ls view → IsFirstFault names ls fault → fault ≡ table_error.Memory)
     (one_list : OneList) (one_tree : OneTree) (one : OneMeaning) {N V D : Type 0} (net : Network N V D) (wire : LinkFacts V)
-    (words : AskWords) (before after : Seen N) (status : ℕ) (run : IsRun net wire words before after status) where
+    (Loads : LoadFacts) (words : AskWords) (before after : Seen N) (status : ℕ) (run : IsRun net wire Loads words before after status) where
   module _ (rows : List VarBind) (ask : IsAsk words before.files rows) where
     module _ (mib : Mib) (warnings : List Warning) (loading : AreLoaded (MayHold before.files) words.asking.mibs mib warnings) where
       both_are : (ask.mib ≡ mib) × (ask.warnings ≡ warnings)
@@ -206,22 +207,22 @@ module _ (one_table : (names : Names) (ls : List (List ℕ)) (v w : MibView) →
       abbrev End : Seen N
       End = record after { err = warned }
 
-      front : IsOutcome net wire words before End fault → IsFrontOf ask.mib ask.plan.letters (counts_in ask.plan.question) rows before.out after.out
+      front : IsOutcome net wire Loads words before End fault → IsFrontOf ask.mib ask.plan.letters (counts_in ask.plan.question) rows before.out after.out
       front (not_loaded why early same is) = ([], rows, [], refl, inl refl, nothing_taken before.out after.out [] (ap (λ (s : Seen N). s.out) same))
-      front (loaded mib warnings loading lines by) = front_by mib warnings loading warned End fault by
+      front (loaded mib warnings loading made lines by) = front_by mib warnings loading warned End fault by
 
-      all : fault ≡ None → IsOutcome net wire words before End fault
+      all : fault ≡ None → IsOutcome net wire Loads words before End fault
           → (text : List ℕ) × IsWholeText ask.mib ask.plan rows text × (after.out ≡ extended before.out text)
       all none (not_loaded why early same is) = let no : ⊥ = cc in absurd no
-      all none (loaded mib warnings loading lines by) = all_by mib warnings loading warned End fault none by
+      all none (loaded mib warnings loading made lines by) = all_by mib warnings loading warned End fault none by
 
-      ends : IsFeasible ask.plan ask.view → IsOutcome net wire words before End fault → IsReported fault warned after.err status
+      ends : IsFeasible ask.plan ask.view → IsOutcome net wire Loads words before End fault → IsReported fault warned after.err status
           → (status ≡ 0) ⊎ IsMishap ask.warnings before.out after.out before.err after.err status
       ends can (not_loaded why early same is) told =
           mishap ask.warnings before.out after.out before.err warned after.err status (inl (ap (λ (s : Seen N). s.err) same))
           (inr (want_told why before.out after.out warned after.err status (wants_early one no_fault words before.files rows ask why early)
           (subst (λ (f : Option Fault). IsReported f warned after.err status) is told)))
-      ends can (loaded mib warnings loading lines by) told =
+      ends can (loaded mib warnings loading made lines by) told =
           mishap ask.warnings before.out after.out before.err warned after.err status
           (inr (subst (λ (ws : List Warning). IsWritten before.err (warning_lines ws) warned) (sym (both_are mib warnings loading).1) lines))
           (ends_by mib warnings loading warned End can fault by after.err told)

@@ -14,6 +14,7 @@ use Rattle.snmp_words.specs.declared.job.Job.{Job}
 use Rattle.snmp_words.specs.Words.{Stated, job_words, snmpbulkwalk, snmpd, snmpget, snmptranslate}
 use Rattle.snmp_words.specs.Words.{snmpwalk}
 use Rattle.snmp_tools.specs.agent.Outcome as serve
+use Rattle.snmp_tools.specs.loading.Loaded.{LoadFacts}
 use Rattle.snmp_tools.specs.translation.Outcome as translated
 use Rattle.snmp_tools.specs.Done.{IsAskDone, IsJobDone}
 use Rattle.snmp_tools.specs.Message.{out_of_memory}
@@ -25,10 +26,10 @@ use Rattle.snmp_tools.proofs.Headlines.{writes_all, writes_front}
 use Rattle.snmp_tools.proofs.Plans.{OneList, OneTree}
 use Rattle.snmp_tools.proofs.TableNames.{OneMeaning}
 
-module _ {N V D : Type 0} (net : Network N V D) (wire : LinkFacts V) where
+module _ {N V D : Type 0} (net : Network N V D) (wire : LinkFacts V) (Loads : LoadFacts) where
   module _ (before after : Seen N) (status : ℕ) where
     abbrev Done : Stated → Type 0
-    Done words = IsJobDone net wire words before after status
+    Done words = IsJobDone net wire Loads words before after status
 
     pub of_job : (job other : Job) → job ≡ other → Done (job_words other) → Done (job_words job)
     of_job job other is done = subst (λ (j : Job). Done (job_words j)) (sym is) done
@@ -38,15 +39,15 @@ module _ {N V D : Type 0} (net : Network N V D) (wire : LinkFacts V) where
 
     pub ask_done : (one_table : (names : Names) (ls : List (List ℕ)) (v w : MibView) → IsTableOf names ls v → IsTableOf names ls w → v ≡ w)
         (no_fault : (names : Names) (ls : List (List ℕ)) (view : MibView) (fault : TableError) → IsTableOf names ls view → IsFirstFault names ls fault → fault ≡ table_error.Memory)
-        → OneList → OneTree → OneMeaning → (read words : AskWords) → read ≡ words → IsRun net wire read before after status
-        → IsAskDone net wire words before after status
+        → OneList → OneTree → OneMeaning → (read words : AskWords) → read ≡ words → IsRun net wire Loads read before after status
+        → IsAskDone net wire Loads words before after status
     ask_done one_table no_fault one_list one_tree one read words same ran =
-        let run : IsRun net wire words before after status = subst (λ (w : AskWords). IsRun net wire w before after status) same ran in
+        let run : IsRun net wire Loads words before after status = subst (λ (w : AskWords). IsRun net wire Loads w before after status) same ran in
         record {
           outcome_reported = run;
-          front_written = writes_front one_table no_fault one_list one_tree one net wire words before after status run;
-          all_written_at_status_0 = writes_all one_table no_fault one_list one_tree one net wire words before after status run;
-          ends_at_status_0 = ends_at_0 one_table no_fault one_list one_tree one net wire words before after status run;
+          front_written = writes_front one_table no_fault one_list one_tree one net wire Loads words before after status run;
+          all_written_at_status_0 = writes_all one_table no_fault one_list one_tree one net wire Loads words before after status run;
+          ends_at_status_0 = ends_at_0 one_table no_fault one_list one_tree one net wire Loads words before after status run;
         }
 
   -- memory ran out before anything was done
@@ -57,7 +58,7 @@ module _ {N V D : Type 0} (net : Network N V D) (wire : LinkFacts V) where
     abbrev After : Seen N
     After = seen files links out err_after
 
-    unasked : (words : AskWords) → IsAskDone net wire words Before After 1
+    unasked : (words : AskWords) → IsAskDone net wire Loads words Before After 1
     unasked words = record {
       outcome_reported = record {
         fault = Some out_of_memory;
@@ -70,7 +71,7 @@ module _ {N V D : Type 0} (net : Network N V D) (wire : LinkFacts V) where
       ends_at_status_0 = refused_end words files out out err err_after told;
     }
 
-    pub undone : (job : Stated) → IsJobDone net wire job Before After 1
+    pub undone : (job : Stated) → IsJobDone net wire Loads job Before After 1
     undone (snmptranslate words) = (
       refl,
       record {

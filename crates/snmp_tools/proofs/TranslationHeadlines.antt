@@ -3,7 +3,7 @@ use Rattle.std.proofs.Common.{◌≡◌, ◌∙◌, ◌++◌, ap, inl, inr, refl
 use Rattle.std.proofs.Common.{◌∷◌, Option, Some, None}
 use Rattle.std.proofs.Common.{append_assoc, append-nil}
 use Rattle.snmp_tools.specs.loading.Files.{AreModulesOf}
-use Rattle.snmp_tools.specs.loading.Loaded.{IsLoaded}
+use Rattle.snmp_tools.specs.loading.Loaded.{IsLoaded, LoadFacts}
 use Rattle.smi_value.specs.letters.Letters.{AreLetters}
 use Rattle.smi_value.specs.declared.letters.letters.Letters.{Letters}
 use Rattle.smi_value.specs.declared.letters.letters.NameForm.{NameForm}
@@ -67,11 +67,11 @@ by_tree one words files style modules tree err_before err_after Printed asked lo
   printed = printed;
 }
 
-pub all_printed : OneList → (words : TranslateWords) (files : Holdings) (before after err_before err_after : Stream) (fault : Option Fault) → fault ≡ None
-    → IsTranslateOutcome words files before after err_before err_after fault → PrintsAll words files before after
-all_printed one words files before after err_before err_after fault none (refused why refusal same same_too is) style modules asked =
+pub all_printed : OneList → (Loads : LoadFacts) (words : TranslateWords) (files : Holdings) (before after err_before err_after : Stream) (fault : Option Fault) → fault ≡ None
+    → IsTranslateOutcome Loads words files before after err_before err_after fault → PrintsAll words files before after
+all_printed one Loads words files before after err_before err_after fault none (refused why refusal same same_too is) style modules asked =
     let no : ⊥ = cc in absurd no
-all_printed one words files before after err_before err_after fault none (ran own tree styled loaded printing) style modules asked =
+all_printed one Loads words files before after err_before err_after fault none (ran own tree styled loaded made printing) style modules asked =
     by_tree one words files style modules tree err_before err_after (λ (mib : DetailMib). AreNamesPrinted mib style words.names before after) asked loaded
     (subst (λ (s : Style). AreNamesPrinted (detail_mib_of tree) s words.names before after) (one_style words own style styled asked.styled)
     (subst (IsPrinting (detail_mib_of tree) own words.names before after) none printing))
@@ -103,10 +103,10 @@ front_printing : (mib : DetailMib) (style : Style) (names : List (List ℕ)) (be
 front_printing mib style names before after None printed = front_whole mib style names before after printed
 front_printing mib style names before after (Some why) stopped = front_stopped mib style names before after why stopped stopped.stops
 
-pub front_printed : OneList → (words : TranslateWords) (files : Holdings) (before after err_before err_after : Stream) (fault : Option Fault)
-    → IsTranslateOutcome words files before after err_before err_after fault → PrintsFront words files before after
-front_printed one words files before after err_before err_after fault (refused why refusal same same_too is) style modules asked = inl same
-front_printed one words files before after err_before err_after fault (ran own tree styled loaded printing) style modules asked =
+pub front_printed : OneList → (Loads : LoadFacts) (words : TranslateWords) (files : Holdings) (before after err_before err_after : Stream) (fault : Option Fault)
+    → IsTranslateOutcome Loads words files before after err_before err_after fault → PrintsFront words files before after
+front_printed one Loads words files before after err_before err_after fault (refused why refusal same same_too is) style modules asked = inl same
+front_printed one Loads words files before after err_before err_after fault (ran own tree styled loaded made printing) style modules asked =
     inr (by_tree one words files style modules tree err_before err_after (IsFront style words.names before after) asked loaded
     (subst (λ (s : Style). IsFront s words.names before after (detail_mib_of tree)) (one_style words own style styled asked.styled)
     (front_printing (detail_mib_of tree) own words.names before after fault printing)))

@@ -15,7 +15,7 @@ use Rattle.snmp_wire.specs.Message.{VarBind}
 use Rattle.snmp_walk.specs.declared.end.WalkEnd.{WalkEnd}
 use Rattle.snmp_tools.specs.loading.Files.{AreModulesOf, IsFilesRefusal, Refusal, faulty}
 use Rattle.snmp_tools.specs.loading.Files.{no_memory, texts, unreadable}
-use Rattle.snmp_tools.specs.loading.Loaded.{AreLoadedAs}
+use Rattle.snmp_tools.specs.loading.Loaded.{AreLoadedAs, LoadFacts}
 use Rattle.snmp_tools.specs.Asking.{MibsFail}
 use Rattle.snmp_tools.specs.Message.{Fault, bad_modules, fault_of, modules_fault, out_of_memory}
 use Rattle.snmp_tools.specs.Message.{outcome_of}
@@ -45,6 +45,10 @@ pub loads_from : (files : Holdings) (given paths : List (Bor (List ℕ))) (namin
     → AreLoadedAs (MayHold files) (texts paths) naming definition_at syntax_at before after
 loads_from files given paths naming definition_at syntax_at before after same =
     subst (λ (ps : List (Bor (List ℕ))). AreLoadedAs (MayHold files) (texts ps) naming definition_at syntax_at before after) same
+
+pub loads_of : (Loads : LoadFacts) (given paths : List (Bor (List ℕ))) (before after : Stream) → given ≡ paths
+    → Loads (texts given) before after → Loads (texts paths) before after
+loads_of Loads given paths before after same = subst (λ (ps : List (Bor (List ℕ))). Loads (texts ps) before after) same
 
 -- why module files can't be had
 module _ (files : Holdings) (given paths : List (Bor (List ℕ))) (same : given ≡ paths) where

@@ -3,6 +3,7 @@ use Rattle.std.specs.Prelude.{◌≡◌, ℕ, true, false}
 use Rattle.snmp_walk.specs.declared.link.Link.{Ghosts as LinkFacts}
 use Rattle.snmp_net.specs.declared.links.Links.{Ghosts as Network}
 use Rattle.snmp_words.specs.Words.{Stated, snmpbulkwalk, snmpd, snmpget, snmptranslate, snmpwalk}
+use Rattle.snmp_tools.specs.loading.Loaded.{LoadFacts}
 use Rattle.snmp_tools.specs.Headline.{EndsAtStatus0, WritesAllAtStatus0, WritesFront}
 use Rattle.snmp_tools.specs.Outcome.{IsRun}
 use Rattle.snmp_tools.specs.Question.{AskWords, of_get, of_walk}
@@ -11,27 +12,27 @@ use Rattle.snmp_tools.specs.Serving.{IsServeRun}
 use Rattle.snmp_tools.specs.Translating.{IsTranslated}
 
 -- the job of these words, which ask an agent, was done over the world outside
-pub record IsAskDone {N V D : Type 0} (net : Network N V D) (wire : LinkFacts V) (words : AskWords)
-    (before after : Seen N) (status : ℕ) : Type 0 where
-  pub outcome_reported : IsRun net wire words before after status
+pub record IsAskDone {N V D : Type 0} (net : Network N V D) (wire : LinkFacts V)
+    (Loads : LoadFacts) (words : AskWords) (before after : Seen N) (status : ℕ) : Type 0 where
+  pub outcome_reported : IsRun net wire Loads words before after status
   pub front_written : WritesFront words before.files before.out after.out
   pub all_written_at_status_0 : WritesAllAtStatus0 words before.files before.out after.out status
   pub ends_at_status_0 : EndsAtStatus0 words before.files before.out after.out before.err after.err
       status
 
 -- The job that was stated so was done: its status is this, and the world outside went from one
--- state to the other. `net` is what is known of the network, and `wire` of its links.
--- snmptranslate asks nothing of the network.
-abbrev pub IsJobDone : {N V D : Type 0} → Network N V D → LinkFacts V → Stated
+-- state to the other. `net` is what is known of the network, `wire` of its links, and `Loads` of
+-- loads of module files. snmptranslate asks nothing of the network.
+abbrev pub IsJobDone : {N V D : Type 0} → Network N V D → LinkFacts V → LoadFacts → Stated
     → (before after : Seen N) → (status : ℕ) → Type 0
-IsJobDone {N} {V} {D} net wire (snmptranslate words) before after status =
+IsJobDone {N} {V} {D} net wire Loads (snmptranslate words) before after status =
     (after.links ≡ before.links)
-    × IsTranslated words before.files before.out after.out before.err after.err status
-IsJobDone {N} {V} {D} net wire (snmpget words) before after status =
-    IsAskDone net wire (of_get words) before after status
-IsJobDone {N} {V} {D} net wire (snmpwalk words) before after status =
-    IsAskDone net wire (of_walk false words) before after status
-IsJobDone {N} {V} {D} net wire (snmpbulkwalk words) before after status =
-    IsAskDone net wire (of_walk true words) before after status
-IsJobDone {N} {V} {D} net wire (snmpd words) before after status =
-    IsServeRun net words before after status
+    × IsTranslated Loads words before.files before.out after.out before.err after.err status
+IsJobDone {N} {V} {D} net wire Loads (snmpget words) before after status =
+    IsAskDone net wire Loads (of_get words) before after status
+IsJobDone {N} {V} {D} net wire Loads (snmpwalk words) before after status =
+    IsAskDone net wire Loads (of_walk false words) before after status
+IsJobDone {N} {V} {D} net wire Loads (snmpbulkwalk words) before after status =
+    IsAskDone net wire Loads (of_walk true words) before after status
+IsJobDone {N} {V} {D} net wire Loads (snmpd words) before after status =
+    IsServeRun net Loads words before after status

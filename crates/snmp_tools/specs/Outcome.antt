@@ -1,6 +1,7 @@
 -- What a job that asks an agent writes, and what it reports.
 use Rattle.std.specs.Prelude.{◌≡◌, ◌⊎◌, ◌+◌, ◌++◌, ℕ, Bool, true, List, codes}
 use Rattle.std.specs.Prelude.{Option, Some, None}
+use Rattle.snmp_tools.specs.loading.Loaded.{LoadFacts}
 use Rattle.snmp_tools.specs.loading.Warned.{warning_lines}
 use Rattle.smi_names.specs.declared.nodes.warning.Warning.{Warning}
 use Rattle.snmp_agent.specs.table.Table.{MibView}
@@ -100,16 +101,18 @@ pub data IsOutcomeBy {N V D : Type 0} (net : Network N V D) (wire : LinkFacts V)
       → IsOutcomeBy net wire words mib before after fault
 
 -- What a job wrote on its output and, of the warnings of its modules, on standard error: nothing
--- where it was refused before these were loaded; else their lines, and what is asked by them.
-pub data IsOutcome {N V D : Type 0} (net : Network N V D) (wire : LinkFacts V) (words : AskWords)
-    (before after : Seen N) (fault : Option Fault) : Type 0 where
+-- where it was refused before these were loaded; else their lines, before anything else, and what
+-- is asked by them.
+pub data IsOutcome {N V D : Type 0} (net : Network N V D) (wire : LinkFacts V) (Loads : LoadFacts)
+    (words : AskWords) (before after : Seen N) (fault : Option Fault) : Type 0 where
   not_loaded : (why : Fault) → IsEarlyRefusal words before.files why → after ≡ before
-      → fault ≡ Some why → IsOutcome net wire words before after fault
+      → fault ≡ Some why → IsOutcome net wire Loads words before after fault
   loaded : (mib : Mib) (warnings : List Warning)
       → AreLoaded (MayHold before.files) words.asking.mibs mib warnings
+      → Loads words.asking.mibs before.err after.err
       → IsWritten before.err (warning_lines warnings) after.err
       → IsOutcomeBy net wire words mib (record before { err = after.err }) after fault
-      → IsOutcome net wire words before after fault
+      → IsOutcome net wire Loads words before after fault
 
 -- ---- what is reported
 
@@ -123,10 +126,10 @@ IsReported (Some why) before after status =
     ⊎ IsWritten before (codes "Out of memory.\n") after)
 
 -- the outcome of a job, which is reported
-pub record IsRun {N V D : Type 0} (net : Network N V D) (wire : LinkFacts V) (words : AskWords)
-    (before after : Seen N) (status : ℕ) : Type 0 where
+pub record IsRun {N V D : Type 0} (net : Network N V D) (wire : LinkFacts V) (Loads : LoadFacts)
+    (words : AskWords) (before after : Seen N) (status : ℕ) : Type 0 where
   pub fault : Option Fault
   -- what was written of warnings comes before what is reported
   pub warned : Stream
-  pub outcome : IsOutcome net wire words before (record after { err = warned }) fault
+  pub outcome : IsOutcome net wire Loads words before (record after { err = warned }) fault
   pub reported : IsReported fault warned after.err status

@@ -37,7 +37,7 @@ pub(crate) fn do_ask<F: ModuleFiles, L: Links, O: Output, E: ErrorOutput>(
     out: &mut O,
     err: &mut E,
 ) -> u8
-    ensures { IsRun L.Links L.Wire.Link (ask_words job.entry)
+    ensures { IsRun L.Links L.Wire.Link (F.loads files.now) (ask_words job.entry)
         (seen (F.text_at files.now) links.old (O.stream out.old) (E.stream err.old))
         (seen (F.text_at files.now) links.new (O.stream out.new) (E.stream err.new)) result }
 {
@@ -54,7 +54,7 @@ fn ask<'a, F: ModuleFiles, L: Links, O: Output, E: ErrorOutput>(
     out: &mut O,
     err: &mut E,
 ) -> Result<(), Failure<'a>>
-    ensures { IsOutcome L.Links L.Wire.Link (ask_words job.entry)
+    ensures { IsOutcome L.Links L.Wire.Link (F.loads files.now) (ask_words job.entry)
         (seen (F.text_at files.now) links.old (O.stream out.old) (E.stream err.old))
         (seen (F.text_at files.now) links.new (O.stream out.new) (E.stream err.new))
         (outcome_of result) }

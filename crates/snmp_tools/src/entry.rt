@@ -37,7 +37,7 @@ pub fn tool<F: ModuleFiles, L: Links, O: Output, E: ErrorOutput>(
         (E.stream err.old) (E.stream err.new) result }
     ensures done { (job : Stated) → AreFaultless (texts_at words.now)
         → stated_job (texts_at words.now) ≡ Some job
-        → IsJobDone L.Links L.Wire.Link job
+        → IsJobDone L.Links L.Wire.Link (F.loads files.now) job
         (seen (F.text_at files.now) links.old (O.stream out.old) (E.stream err.old))
         (seen (F.text_at files.now) links.new (O.stream out.new) (E.stream err.new)) result }
     ensures unstated { AreFaultless (texts_at words.now) → stated_job (texts_at words.now) ≡ None

@@ -34,7 +34,7 @@ pub fn run_job<F: ModuleFiles, L: Links, O: Output, E: ErrorOutput>(
     out: &mut O,
     err: &mut E,
 ) -> u8
-    ensures { IsJobDone L.Links L.Wire.Link (job_words job.now)
+    ensures { IsJobDone L.Links L.Wire.Link (F.loads files.now) (job_words job.now)
         (seen (F.text_at files.now) links.old (O.stream out.old) (E.stream err.old))
         (seen (F.text_at files.now) links.new (O.stream out.new) (E.stream err.new)) result }
 {

@@ -21,7 +21,7 @@ pub(crate) fn do_serve<F: ModuleFiles, L: Links, O: Output, E: ErrorOutput>(
     out: &mut O,
     err: &mut E,
 ) -> u8
-    ensures { IsServeRun L.Links (serve_words job.now)
+    ensures { IsServeRun L.Links (F.loads files.now) (serve_words job.now)
         (seen (F.text_at files.now) links.old (O.stream out.old) (E.stream err.old))
         (seen (F.text_at files.now) links.new (O.stream out.new) (E.stream err.new)) result }
 {

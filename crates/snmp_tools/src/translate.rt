@@ -18,7 +18,7 @@ pub(crate) fn do_translate<F: ModuleFiles, O: Output, E: ErrorOutput>(
     out: &mut O,
     err: &mut E,
 ) -> u8
-    ensures { IsTranslated (translate_words job.now) (F.text_at files.now)
+    ensures { IsTranslated (F.loads files.now) (translate_words job.now) (F.text_at files.now)
         (O.stream out.old) (O.stream out.new) (E.stream err.old) (E.stream err.new) result }
 {
     one_list_of_modules();

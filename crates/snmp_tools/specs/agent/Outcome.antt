@@ -13,7 +13,7 @@ use Rattle.snmp_net.specs.declared.links.Links.{Ghosts as Network}
 use Rattle.snmp_words.specs.Words.{ServeWords}
 use Rattle.snmp_tools.specs.agent.Service.{IsPlaced, IsServeRefusal, IsTableRefusal, served_agent}
 use Rattle.snmp_tools.specs.agent.TableFile.{HasTable}
-use Rattle.snmp_tools.specs.loading.Loaded.{IsLoaded}
+use Rattle.snmp_tools.specs.loading.Loaded.{IsLoaded, LoadFacts}
 use Rattle.snmp_tools.specs.Lines.{IsTextPrinted, StopsAtText}
 use Rattle.snmp_tools.specs.Message.{Fault, ended}
 use Rattle.snmp_tools.specs.Seen.{Seen}
@@ -67,12 +67,13 @@ pub data IsServedBy {N V D : Type 0} (net : Network N V D) (words : ServeWords) 
 -- What snmpd did and, of the warnings of its modules, wrote on standard error, and why it stopped,
 -- if it stopped before its turns were done: nothing where it was refused before the modules were
 -- loaded; else their warnings were written, before anything else.
-pub data IsServeOutcome {N V D : Type 0} (net : Network N V D) (words : ServeWords)
-    (before after : Seen N) (fault : Option Fault) : Type 0 where
+pub data IsServeOutcome {N V D : Type 0} (net : Network N V D) (Loads : LoadFacts)
+    (words : ServeWords) (before after : Seen N) (fault : Option Fault) : Type 0 where
   not_loaded : (why : Fault) → IsServeRefusal words before.files why → after ≡ before
-      → fault ≡ Some why → IsServeOutcome net words before after fault
+      → fault ≡ Some why → IsServeOutcome net Loads words before after fault
   loaded : (at : IsPlaced words) (tree : Contents)
       → IsLoaded (MayHold before.files) words.mibs tree before.err after.err
+      → Loads words.mibs before.err after.err
       → IsServedBy net words at.host at.port (naming_of tree) (record before { err = after.err })
       after fault
-      → IsServeOutcome net words before after fault
+      → IsServeOutcome net Loads words before after fault

@@ -1,6 +1,6 @@
 -- What snmptranslate prints, and why it ends.
 use Rattle.std.specs.Prelude.{◌≡◌, ◌⊎◌, ◌++◌, ℕ, List, ◌∷◌, Option, Some, None}
-use Rattle.snmp_tools.specs.loading.Loaded.{IsLoaded}
+use Rattle.snmp_tools.specs.loading.Loaded.{IsLoaded, LoadFacts}
 use Rattle.smi_tree.specs.Tree.{Contents}
 use Rattle.snmp_io.specs.Files.{Holdings, MayHold}
 use Rattle.snmp_io.specs.Output.{FailsWithin, Stream, extended}
@@ -51,13 +51,15 @@ abbrev pub IsPrinting : DetailMib → Style → (names : List (List ℕ)) → (b
 IsPrinting mib style names before after None = AreNamesPrinted mib style names before after
 IsPrinting mib style names before after (Some why) = StopsWithin mib style names before after why
 
--- what snmptranslate printed, and why it stopped, if it stopped before its last name was printed
-pub data IsTranslateOutcome (words : TranslateWords) (files : Holdings)
+-- What snmptranslate printed, once the warnings of its modules were written, and why it stopped,
+-- if it stopped before its last name was printed.
+pub data IsTranslateOutcome (Loads : LoadFacts) (words : TranslateWords) (files : Holdings)
     (before after err_before err_after : Stream) (fault : Option Fault) : Type 0 where
   refused : (why : Fault) → IsTranslateRefusal words files why → after ≡ before
       → err_after ≡ err_before → fault ≡ Some why
-      → IsTranslateOutcome words files before after err_before err_after fault
+      → IsTranslateOutcome Loads words files before after err_before err_after fault
   ran : (style : Style) (tree : Contents) → IsStyleOf words style
       → IsLoaded (MayHold files) words.mibs tree err_before err_after
+      → Loads words.mibs err_before err_after
       → IsPrinting (detail_mib_of tree) style words.names before after fault
-      → IsTranslateOutcome words files before after err_before err_after fault
+      → IsTranslateOutcome Loads words files before after err_before err_after fault

@@ -37,7 +37,7 @@ pub(crate) fn serve_table<'a, F: ModuleFiles, L: Links, O: Output, E: ErrorOutpu
     out: &mut O,
     err: &mut E,
 ) -> Result<(), Failure<'a>>
-    ensures { IsServeOutcome L.Links (serve_words job.now)
+    ensures { IsServeOutcome L.Links (F.loads files.now) (serve_words job.now)
         (seen (F.text_at files.now) links.old (O.stream out.old) (E.stream err.old))
         (seen (F.text_at files.now) links.new (O.stream out.new) (E.stream err.new))
         (outcome_of result) }

@@ -1,7 +1,8 @@
 //! The names that are loaded from files, of modules or of the roots alone.
-ghost use Rattle.std.specs.Prelude.{◌≡◌, IfErr, IfOk, List, None, OnErr};
+ghost use Rattle.std.specs.Prelude.{◌≡◌, ℕ, IfErr, IfOk, List, None, OnErr, OnOk};
 ghost use Rattle.smi_text.specs.declared.trees.tree.Module.{Module};
 ghost use Rattle.snmp_io.specs.Files.{Holds, MayHold};
+ghost use Rattle.snmp_io.specs.Output.{Stream};
 ghost use Rattle.snmp_tools.specs.loading.Files.{AreModulesOf, IsFilesRefusal, no_memory, texts};
 ghost use Rattle.snmp_tools.specs.loading.Loaded.{AreLoadedAs};
 ghost use Rattle.snmp_tools.specs.loading.Message.{refusal_of};
@@ -22,6 +23,10 @@ pub trait ModuleFiles: Files {
     /// What names and values are read and shown by.
     type Names: ShowTree + Drop;
 
+    /// Whether a load of the module files at these paths may take an error output from one state
+    /// to another. Where nothing is said of it, any may.
+    ghost loads: { Self → List (List ℕ) → Stream → Stream → Type 0 } = { λ _ _ _ _. Unit {0} };
+
     /// Loads the names of module files, as [`load_tree`] does.
     fn load<'a, E: ErrorOutput>(
         &self,
@@ -32,6 +37,8 @@ pub trait ModuleFiles: Files {
         ensures loaded { IfOk result (λ names. AreLoadedAs (MayHold (Self.text_at self.now))
             (texts paths.now) (Self.Names.naming names) (Self.Names.definition_at names)
             (Self.Names.syntax_at names) (E.stream err.old) (E.stream err.new)) }
+        ensures loads { OnOk result (
+            loads self.now (texts paths.now) (E.stream err.old) (E.stream err.new)) }
         ensures refused { IfErr result (λ e.
             IsFilesRefusal (Self.text_at self.now) (texts paths.now) (refusal_of e)) }
         ensures only { (ms : List Module)

@@ -25,7 +25,7 @@ pub(crate) fn translate<'a, F: ModuleFiles, O: Output, E: ErrorOutput>(
     out: &mut O,
     err: &mut E,
 ) -> Result<(), Failure<'a>>
-    ensures { IsTranslateOutcome (translate_words job.now) (F.text_at files.now)
+    ensures { IsTranslateOutcome (F.loads files.now) (translate_words job.now) (F.text_at files.now)
         (O.stream out.old) (O.stream out.new) (E.stream err.old) (E.stream err.new)
         (outcome_of result) }
 {

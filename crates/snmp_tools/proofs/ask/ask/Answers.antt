@@ -5,7 +5,7 @@ use Rattle.snmp_tools.specs.Outcome.{loaded, not_loaded}
 use Rattle.snmp_tools.specs.Planned.{ask_words}
 use Rattle.snmp_tools.specs.Seen.{seen}
 use Rattle.snmp_tools.proofs.Steps.{at_mibs}
-use Rattle.snmp_tools.proofs.Wholes.{are_loaded, loads_from, mibs_fail, outcome_as, outcome_err}
+use Rattle.snmp_tools.proofs.Wholes.{are_loaded, loads_from, loads_of, mibs_fail, outcome_as, outcome_err}
 use Rattle.snmp_tools.proofs.ask.ask.Goals as goal
 
 pub returns-in_err-orders : goal.returns-in_err-orders
@@ -32,4 +32,5 @@ pub returns : goal.returns
 returns g c =
     let files = g.F.Files.text_at c.args.files.now in
     let is = loads_from files _ _ _ _ _ _ _ c.deref.ensures.value c.in_ok-tree.ensures.loaded in
-    loaded _ is.loaded.warnings (are_loaded files _ _ _ _ _ _ is) is.loaded.told (c.ask_by.ensures _)
+    loaded _ is.loaded.warnings (are_loaded files _ _ _ _ _ _ is)
+    (loads_of (g.F.ModuleFiles.loads c.args.files.now) _ _ _ _ c.deref.ensures.value c.in_ok-tree.ensures.loads) is.loaded.told (c.ask_by.ensures _)

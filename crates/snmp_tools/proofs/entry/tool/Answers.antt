@@ -21,14 +21,14 @@ no_error words e text help is taken refused (inr none) =
 
 pub returns-in-Ok-clause-done : goal.returns-in-Ok-clause-done
 returns-in-Ok-clause-done g c = λ job taken stated.
-    of_words g.L.Links g.L.Wire.Link _ _ _ _ job _ c.in-Ok.ensures.job stated c.run_job.ensures
+    of_words g.L.Links g.L.Wire.Link (g.F.ModuleFiles.loads c.args.files.now) _ _ _ _ job _ c.in-Ok.ensures.job stated c.run_job.ensures
 
 pub returns-in-Ok-clause-unstated : goal.returns-in-Ok-clause-unstated
 returns-in-Ok-clause-unstated g c = λ faultless none. let e = c.in-Ok.ensures.job in let no : ⊥ = cc in absurd no
 
 pub returns-in-Err-Memory-clause-done : goal.returns-in-Err-Memory-clause-done
 returns-in-Err-Memory-clause-done g c = λ job taken stated.
-    undone g.L.Links g.L.Wire.Link (g.F.Files.text_at c.args.files.now) c.args.links.now
+    undone g.L.Links g.L.Wire.Link (g.F.ModuleFiles.loads c.args.files.now) (g.F.Files.text_at c.args.files.now) c.args.links.now
     (g.O.Output.stream c.args.out.now) (g.E.ErrorOutput.stream c.args.err.now) _ c.tell-in-Err-Memory.ensures job
 
 pub returns-in-Err-Parse-default-false-clause-help_or_mistake : goal.returns-in-Err-Parse-default-false-clause-help_or_mistake
@@ -44,13 +44,13 @@ returns-in-Err-Parse-default-false-clause-help_or_mistake g c = λ faulty.
 
 pub returns-in-Ok-clause-rows_printed : goal.returns-in-Ok-clause-rows_printed
 returns-in-Ok-clause-rows_printed g c = λ path root text words holds.
-    let done = of_words g.L.Links g.L.Wire.Link _ _ _ _ (snmpwalk (numeric_walk path root)) _ c.in-Ok.ensures.job
+    let done = of_words g.L.Links g.L.Wire.Link (g.F.ModuleFiles.loads c.args.files.now) _ _ _ _ (snmpwalk (numeric_walk path root)) _ c.in-Ok.ensures.job
     (ap stated_job words ∙ c.table_walks.ensures.stated path root) c.run_job.ensures in
     c.table_walks.ensures.printed _ path root text _ _ _ _ _ holds done.front_written done.all_written_at_status_0 done.ends_at_status_0
 
 pub returns-in-Err-Memory-clause-rows_printed : goal.returns-in-Err-Memory-clause-rows_printed
 returns-in-Err-Memory-clause-rows_printed g c = λ path root text words holds.
-    let done = undone g.L.Links g.L.Wire.Link
+    let done = undone g.L.Links g.L.Wire.Link (g.F.ModuleFiles.loads c.args.files.now)
     (g.F.Files.text_at c.args.files.now) c.args.links.now (g.O.Output.stream c.args.out.now) (g.E.ErrorOutput.stream c.args.err.now) _
     c.tell-in-Err-Memory.ensures (snmpwalk (numeric_walk path root)) in
     c.table_walks.ensures.printed _ path root text _ _ _ _ _ holds done.front_written done.all_written_at_status_0 done.ends_at_status_0

@@ -14,6 +14,6 @@ returns g c =
       outcome = c.translate-done.ensures;
       is_reported = c.report.ensures;
       all_at_status_0 = λ zero.
-          all_printed c.one_list_of_modules.ensures words files _ _ _ _ _ (no_fault_at_0 _ _ _ _ c.report.ensures zero) c.translate-done.ensures;
-      front = front_printed c.one_list_of_modules.ensures words files _ _ _ _ _ c.translate-done.ensures;
+          all_printed c.one_list_of_modules.ensures (g.F.ModuleFiles.loads c.args.files.now) words files _ _ _ _ _ (no_fault_at_0 _ _ _ _ c.report.ensures zero) c.translate-done.ensures;
+      front = front_printed c.one_list_of_modules.ensures (g.F.ModuleFiles.loads c.args.files.now) words files _ _ _ _ _ c.translate-done.ensures;
     }

@@ -5,7 +5,7 @@ use Rattle.snmp_tools.specs.loading.Message.{refusal_of}
 use Rattle.snmp_tools.specs.Message.{fault_of, modules_fault}
 use Rattle.snmp_tools.specs.Seen.{seen}
 use Rattle.snmp_tools.proofs.Serving.{by_names, modules_fail}
-use Rattle.snmp_tools.proofs.Wholes.{loads_from, mibs_fail, outcome_as, outcome_err}
+use Rattle.snmp_tools.proofs.Wholes.{loads_from, loads_of, mibs_fail, outcome_as, outcome_err}
 use Rattle.snmp_tools.proofs.agent.service.serve_table.Goals as goal
 
 pub returns-in_err-place : goal.returns-in_err-place
@@ -32,5 +32,5 @@ returns g c =
       host = c.in_ok-place.place.host.now;
       port = c.in_ok-place.place.port;
       place = c.in_ok-place.ensures.place;
-    }) is.tree is.loaded
+    }) is.tree is.loaded (loads_of (g.F.ModuleFiles.loads c.args.files.now) _ _ _ _ c.deref.ensures.value c.in_ok-tree.ensures.loads)
     (by_names g.L.Links (serve_words c.args.job.now) _ _ _ _ _ _ _ is.names (c.serve_by.ensures _))

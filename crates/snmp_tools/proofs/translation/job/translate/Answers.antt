@@ -7,7 +7,7 @@ use Rattle.snmp_tools.specs.Message.{fault_of, modules_fault, outcome_of}
 use Rattle.snmp_tools.specs.translation.Outcome.{IsPrinting, ran, refused}
 use Rattle.snmp_tools.specs.translation.Text.{DetailMib}
 use Rattle.snmp_tools.proofs.Refusals.{modules_fail}
-use Rattle.snmp_tools.proofs.Wholes.{loads_from, mibs_fail, outcome_as, outcome_err}
+use Rattle.snmp_tools.proofs.Wholes.{loads_from, loads_of, mibs_fail, outcome_as, outcome_err}
 use Rattle.snmp_tools.proofs.translation.job.translate.Goals as goal
 
 pub returns-in_err-style : goal.returns-in_err-style
@@ -41,5 +41,6 @@ returns g c =
     (g.O.Output.stream c.print_names.new.out) (outcome_of c.print_names.result) in
     let is = loads_from (g.F.Files.text_at c.args.files.now) _ _ _ _ _ _ _ c.deref.ensures.value c.in_ok-tree.ensures.loaded in
     ran c.in_ok-style.style is.tree c.in_ok-style.ensures.style is.loaded
+    (loads_of (g.F.ModuleFiles.loads c.args.files.now) _ _ _ _ c.deref.ensures.value c.in_ok-tree.ensures.loads)
     (subst (λ (mib : DetailMib). P mib (texts_at c.args.job.now.names.items)) (same_mib naming _ definition_at _ is.names is.definitions)
     (subst (λ (ns : List (Bor (List ℕ))). P (mib_by naming definition_at) (texts_at ns)) names c.print_names.ensures))
