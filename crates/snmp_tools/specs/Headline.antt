@@ -59,7 +59,8 @@ WritesAllAtStatus0 words files before after status =
     (rows : List VarBind) (ask : IsAsk words files rows) → status ≡ 0
     → (text : List ℕ) × IsWholeText ask.mib ask.plan rows text × (after ≡ extended before text)
 
--- it was reported that memory ran out, and before that the modules' warnings, if it was later
+-- It was reported that memory ran out, and before that the modules' warnings, if it was later: of
+-- each a front where standard error failed.
 abbrev pub IsOutOfMemory : List Warning → (err_before err_after : Stream) → Type 0
 IsOutOfMemory warnings err_before err_after =
     (warned : Stream) × IsWritten warned (codes "Out of memory.\n") err_after

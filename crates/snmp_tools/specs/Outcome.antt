@@ -101,8 +101,8 @@ pub data IsOutcomeBy {N V D : Type 0} (net : Network N V D) (wire : LinkFacts V)
       → IsOutcomeBy net wire words mib before after fault
 
 -- What a job wrote on its output and, of the warnings of its modules, on standard error: nothing
--- where it was refused before these were loaded; else their lines, before anything else, and what
--- is asked by them.
+-- where it was refused before these were loaded; else their lines, or a front of them where that
+-- failed, before anything else, and what is asked by them.
 pub data IsOutcome {N V D : Type 0} (net : Network N V D) (wire : LinkFacts V) (Loads : LoadFacts)
     (words : AskWords) (before after : Seen N) (fault : Option Fault) : Type 0 where
   not_loaded : (why : Fault) → IsEarlyRefusal words before.files why → after ≡ before
@@ -117,7 +117,7 @@ pub data IsOutcome {N V D : Type 0} (net : Network N V D) (wire : LinkFacts V) (
 -- ---- what is reported
 
 -- The status, and the line of a fault on standard error; where memory for the line runs out, that
--- is reported.
+-- is reported. Where standard error fails, it has a front of that.
 abbrev pub IsReported : Option Fault → Stream → Stream → ℕ → Type 0
 IsReported None before after status = (status ≡ 0) × (after ≡ before)
 IsReported (Some why) before after status =

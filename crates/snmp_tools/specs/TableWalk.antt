@@ -72,7 +72,8 @@ pub data AreWalked (lines : List (List ℕ)) (root : List ℕ) (rows : List VarB
 
 -- ---- what is printed
 
--- standard error was given no octet, and then that memory ran out
+-- Standard error was given no octet, and then that memory ran out, or a front of that where it
+-- failed.
 abbrev pub IsOutOfMemoryTold : (before after : Stream) → Type 0
 IsOutOfMemoryTold before after =
     (now : Stream) × IsWritten before [] now × IsWritten now (codes "Out of memory.\n") after
