@@ -1,5 +1,5 @@
 -- What is promised of a job, by what it wrote and reported.
-use Rattle.std.proofs.Common.{◌≡◌, ℕ, true, false, List, Option, Some, refl, sym, subst, inl, inr}
+use Rattle.std.proofs.Common.{◌≡◌, ℕ, true, false, List, Some, refl, sym, subst, inl, inr}
 use Rattle.std.proofs.Common.{codes}
 use Rattle.snmp_agent.specs.declared.table.error.TableError.{TableError}
 use Rattle.snmp_agent.specs.declared.table.error.TableError.TheVariants as table_error
@@ -11,7 +11,7 @@ use Rattle.snmp_io.specs.Output.{IsWritten, Stream}
 use Rattle.snmp_net.specs.declared.links.Links.{Ghosts as Network}
 use Rattle.snmp_walk.specs.declared.link.Link.{Ghosts as LinkFacts}
 use Rattle.snmp_words.specs.declared.job.Job.{Job}
-use Rattle.snmp_words.specs.Words.{Stated, job_words, snmpbulkwalk, snmpd, snmpget, snmptranslate}
+use Rattle.snmp_words.specs.Words.{StateJob, Stated, job_words, snmpbulkwalk, snmpd, snmpget, snmptranslate}
 use Rattle.snmp_words.specs.Words.{snmpwalk}
 use Rattle.snmp_tools.specs.agent.Outcome as serve
 use Rattle.snmp_tools.specs.loading.Loaded.{LoadFacts}
@@ -26,6 +26,10 @@ use Rattle.snmp_tools.proofs.Headlines.{writes_all, writes_front}
 use Rattle.snmp_tools.proofs.Plans.{OneList, OneTree}
 use Rattle.snmp_tools.proofs.TableNames.{OneMeaning}
 
+-- words state one job
+abbrev pub OneJob : Type 0
+OneJob = (words : List (List ℕ)) (job other : Stated) → StateJob words job → StateJob words other → job ≡ other
+
 module _ {N V D : Type 0} (net : Network N V D) (wire : LinkFacts V) (Loads : LoadFacts) where
   module _ (before after : Seen N) (status : ℕ) where
     abbrev Done : Stated → Type 0
@@ -34,8 +38,8 @@ module _ {N V D : Type 0} (net : Network N V D) (wire : LinkFacts V) (Loads : Lo
     pub of_job : (job other : Job) → job ≡ other → Done (job_words other) → Done (job_words job)
     of_job job other is done = subst (λ (j : Job). Done (job_words j)) (sym is) done
 
-    pub of_words : (read stated : Stated) (words : Option Stated) → words ≡ Some read → words ≡ Some stated → Done read → Done stated
-    of_words read stated words e f done = let same : read ≡ stated = cc in subst Done same done
+    pub of_words : OneJob → (words : List (List ℕ)) (read stated : Stated) → StateJob words read → StateJob words stated → Done read → Done stated
+    of_words one words read stated h k done = subst Done (one words read stated h k) done
 
     pub ask_done : (one_table : (names : Names) (ls : List (List ℕ)) (v w : MibView) → IsTableOf names ls v → IsTableOf names ls w → v ≡ w)
         (no_fault : (names : Names) (ls : List (List ℕ)) (view : MibView) (fault : TableError) → IsTableOf names ls view → IsFirstFault names ls fault → fault ≡ table_error.Memory)

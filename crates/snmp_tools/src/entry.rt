@@ -1,7 +1,7 @@
 //! From words to status.
-ghost use Rattle.std.specs.Prelude.{◌≡◌, ℕ, List, None, Some, codes};
+ghost use Rattle.std.specs.Prelude.{◌≡◌, ℕ, List, codes};
 ghost use Rattle.std.specs.Str.Lines.{lines};
-ghost use Rattle.snmp_words.specs.Words.{AreFaulty, Stated, stated_job, texts_at};
+ghost use Rattle.snmp_words.specs.Words.{AreFaulty, StateJob, Stated, texts_at};
 ghost use Rattle.snmp_tools.specs.Done.{IsJobDone};
 ghost use Rattle.snmp_tools.specs.Seen.{seen};
 ghost use Rattle.snmp_tools.specs.TableWalk.{HoldsTableFile, PrintsRows, table_walk};
@@ -13,7 +13,7 @@ use crate::laws::table_walks;
 use crate::loading::ModuleFiles;
 use snmp_io::{Output, write_all};
 use snmp_net::Links;
-use snmp_words::{UsageError, read_words};
+use snmp_words::{UsageError, one_job, read_words};
 use std::alloc::Global;
 
 /// Does what the words of a command line ask for, the program's name among them as the first, and
@@ -36,11 +36,12 @@ pub fn tool<F: ModuleFiles, L: Links, O: Output, E: ErrorOutput>(
         → PrintsRows (lines text) root (O.stream out.old) (O.stream out.new)
         (E.stream err.old) (E.stream err.new) result }
     ensures done { (job : Stated) → AreFaultless (texts_at words.now)
-        → stated_job (texts_at words.now) ≡ Some job
+        → StateJob (texts_at words.now) job
         → IsJobDone L.Links L.Wire.Link (F.loads files.now) job
         (seen (F.text_at files.now) links.old (O.stream out.old) (E.stream err.old))
         (seen (F.text_at files.now) links.new (O.stream out.new) (E.stream err.new)) result }
-    ensures unstated { AreFaultless (texts_at words.now) → stated_job (texts_at words.now) ≡ None
+    ensures unstated { AreFaultless (texts_at words.now)
+        → ((job : Stated) → StateJob (texts_at words.now) job → ⊥)
         → ReportsOnly (codes "Out of memory.\n") (O.stream out.old) (O.stream out.new)
         (E.stream err.old) (E.stream err.new) result }
     ensures help_or_mistake { AreFaulty (texts_at words.now)
@@ -48,6 +49,7 @@ pub fn tool<F: ModuleFiles, L: Links, O: Output, E: ErrorOutput>(
         (E.stream err.old) (E.stream err.new) result }
 {
     table_walks();
+    one_job();
     match read_words(alloc, words) {
         Ok(job) => run_job(alloc, &job, files, links, out, err),
         Err(UsageError::Parse { text, help: true }) => print_help(&text, out, err),

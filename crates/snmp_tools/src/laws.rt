@@ -1,10 +1,10 @@
 //! Laws of the words and of what is promised of them, as calls that do nothing.
-ghost use Rattle.std.specs.Prelude.{◌≡◌, ℕ, List, Some, false, true};
+ghost use Rattle.std.specs.Prelude.{◌≡◌, ℕ, List, false, true};
 ghost use Rattle.std.specs.Str.Lines.{lines};
 ghost use Rattle.snmp_io.specs.Files.{Holdings};
 ghost use Rattle.snmp_io.specs.Output.{Stream};
 ghost use Rattle.snmp_words.specs.Command.{is_taken};
-ghost use Rattle.snmp_words.specs.Words.{snmpwalk, stated_job};
+ghost use Rattle.snmp_words.specs.Words.{StateJob, snmpwalk};
 ghost use Rattle.snmp_tools.specs.Headline.{EndsAtStatus0, WritesAllAtStatus0, WritesFront};
 ghost use Rattle.snmp_tools.specs.Planned.{numeric_walk};
 ghost use Rattle.snmp_tools.specs.Question.{of_walk};
@@ -23,7 +23,7 @@ use snmp_words::walks_are_taken;
 pub(crate) fn table_walks()
     ensures taken { (path root : List ℕ) → is_taken (table_walk path root) ≡ true }
     ensures stated { (path root : List ℕ)
-        → stated_job (table_walk path root) ≡ Some (snmpwalk (numeric_walk path root)) }
+        → StateJob (table_walk path root) (snmpwalk (numeric_walk path root)) }
     ensures printed { (files : Holdings) (path root text : List ℕ)
         (before after err_before err_after : Stream) (status : ℕ)
         → HoldsTableFile files path root text

@@ -1,15 +1,18 @@
 -- Texts and numbers that a command was given.
-use Rattle.std.proofs.Common.{◌≡◌, ◌∙◌, ◌++◌, ap, refl, sym, true, false, Bool, List, [], ◌∷◌, Option, Some, None}
-use Rattle.std.proofs.Common.{ℕ, ◌<◌, ◌^◌, ◌⊎◌, inl, inr, arith, Bor, unwrap_or, option_map, option_and_then}
+use Rattle.std.proofs.Common.{◌≡◌, ◌∙◌, ◌++◌, ap, ap₂, refl, subst, sym, true, false, Bool, List, [], ◌∷◌, Option, Some, None}
+use Rattle.std.proofs.Common.{ℕ, ◌⊎◌, inl, inr, arith, Bor, unwrap_or, option_map, option_and_then}
 use Rattle.std.specs.Prelude.{if◌then◌else◌, MatchOption}
 use Rattle.std.specs.List.{flat_map, join_by}
 use Rattle.std.specs.Str.Parse.{digits_value, without_leading_plus}
 use Rattle.clap.specs.Values.{IsUnsignedIn}
 use Rattle.clap.specs.ValueTests.{is_unsigned_in}
-use Rattle.clap.specs.Walk.{Row, first_of, texts}
+use Rattle.clap.specs.Simple.{subcommand_of}
+use Rattle.clap.specs.Walk.{Row, Text, first_of, texts}
 use Rattle.clap.proofs.ValueTestLemmas.{Accepts-accepts, accepts-Accepts}
 use Rattle.clap.specs.declared.builder.value_parser.ValueParser.TheVariants.{Unsigned}
-use Rattle.snmp_words.specs.Words.{IsNumberOf, StatesNumber, number_in, number_or}
+use Rattle.snmp_words.specs.Command.{snmp_app}
+use Rattle.snmp_words.specs.Words.{AreNumbersOf, IsNumberOf, Numbers, StateJob, Stated, StatesNumber}
+use Rattle.snmp_words.specs.Words.{number_in, numbers_in, readings, stated_among, stated_in}
 
 -- texts joined with nothing between
 pub joined : (given : List (Bor (List ℕ))) → join_by (λ s. s.now) [] given ≡ flat_map (λ t. t) (texts given)
@@ -32,14 +35,13 @@ number_refused low high text not_in = go (is_unsigned_in low high text) (λ e. n
     go false never = refl
 
 -- the number of an option is stated, or it is the default
-pub is_number_of : (id : List ℕ) (default low high : ℕ) (rows : List Row) → high < 2 ^ 64
-    → IsNumberOf id default low high rows (number_or id default low high rows)
-is_number_of id default low high rows room = by (first_of id rows)
+are_numbers : (rows : List Row) → AreNumbersOf rows (numbers_in rows)
+are_numbers rows id default low high = by (first_of id rows)
   where
     in_range : (text : List ℕ) (m : ℕ) → StatesNumber low high text m → is_unsigned_in low high text ≡ true
     in_range text m h = Accepts-accepts false (Unsigned low high) text (
       h.digits,
-      omega (arith, h.value, h.to),
+      omega (arith, h.value, h.fits),
       omega (arith, h.value, h.from),
       omega (arith, h.value, h.to),
     )
@@ -49,13 +51,57 @@ is_number_of id default low high rows room = by (first_of id rows)
         StatesNumber low high text n ⊎ (((m : ℕ) → StatesNumber low high text m → ⊥) × (n ≡ default))
     at text true e =
         let is : IsUnsignedIn low high text = accepts-Accepts false (Unsigned low high) text e in
-        inl (record { digits = is.0; value = refl; from = is.2; to = is.3 })
+        inl (record { digits = is.0; value = refl; fits = is.1; from = is.2; to = is.3 })
     at text false e = inr ((λ m h. let yes = in_range text m h in let no : ⊥ = cc in no), refl)
 
     by : (given : Option (List ℕ)) → let n : ℕ = unwrap_or (option_and_then (number_in low high) given) default in
         MatchOption given (n ≡ default) (λ text. StatesNumber low high text n ⊎ (((m : ℕ) → StatesNumber low high text m → ⊥) × (n ≡ default)))
     by None = refl
     by (Some text) = at text (is_unsigned_in low high text) refl
+
+-- and it is the only one
+one_number : (id : List ℕ) (default low high : ℕ) (rows : List Row) (n m : ℕ)
+    → IsNumberOf id default low high rows n → IsNumberOf id default low high rows m → n ≡ m
+one_number id default low high rows n m = by (first_of id rows)
+  where
+    by : (given : Option Text)
+        → MatchOption given (n ≡ default) (λ text. StatesNumber low high text n ⊎ (((k : ℕ) → StatesNumber low high text k → ⊥) × (n ≡ default)))
+        → MatchOption given (m ≡ default) (λ text. StatesNumber low high text m ⊎ (((k : ℕ) → StatesNumber low high text k → ⊥) × (m ≡ default)))
+        → n ≡ m
+    by None h k = h ∙ sym k
+    by (Some text) (inl h) (inl k) = h.value ∙ sym k.value
+    by (Some text) (inl h) (inr k) = absurd (k.0 n h)
+    by (Some text) (inr h) (inl k) = absurd (h.0 m k)
+    by (Some text) (inr h) (inr k) = h.1 ∙ sym k.1
+
+-- the job that is computed is the one that the words state
+pub states : (words : List Text) (job : Stated) → stated_in (subcommand_of snmp_app words) ≡ Some job → StateJob words job
+states words job = at (subcommand_of snmp_app words) refl
+  where
+    at : (given : Option (Text × List Row)) → subcommand_of snmp_app words ≡ given → stated_in given ≡ Some job → StateJob words job
+    at None is e = let no : ⊥ = cc in absurd no
+    at (Some (command, rows)) is e = record {
+      command = command;
+      rows = rows;
+      given = is;
+      numbers = numbers_in rows;
+      are_numbers = are_numbers rows;
+      stated = e;
+    }
+
+pub one_job : (words : List Text) (job other : Stated) → StateJob words job → StateJob words other → job ≡ other
+one_job words job other h k =
+    let is : (h.command, h.rows) ≡ (k.command, k.rows) = (let e = h.given in let f = k.given in cc) in
+    same _ _ is h.numbers k.numbers h.are_numbers k.are_numbers h.stated k.stated
+  where
+    same : (p q : Text × List Row) → p ≡ q → (m n : Numbers) → AreNumbersOf p.1 m → AreNumbersOf q.1 n
+        → stated_among (readings m) p ≡ Some job → stated_among (readings n) q ≡ Some other → job ≡ other
+    same p q is m n are others e f =
+        let of_q : AreNumbersOf q.1 m = subst (λ (r : Text × List Row). AreNumbersOf r.1 m) is are in
+        let numbers : m ≡ n = λ i id default low high. one_number id default low high q.1 _ _ (of_q id default low high) (others id default low high) i in
+        let both : stated_among (readings m) p ≡ stated_among (readings n) q =
+        ap₂ (λ (x : Numbers) (r : Text × List Row). stated_among (readings x) r) numbers is in
+        let jobs : Some job ≡ Some other = sym e ∙ both ∙ f in cc
 
 -- the texts that a look-up found, and none where it found nothing
 pub found_texts : (found : Option (Bor (List (Bor (List ℕ))))) (rows : Option (List (List ℕ))) (all : Bor (List (Bor (List ℕ))))

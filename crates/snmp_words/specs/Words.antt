@@ -2,7 +2,9 @@
 use Rattle.std.specs.Prelude.{
   ◌≡◌,
   ◌≢◌,
+  ◌<◌,
   ◌≤◌,
+  ◌^◌,
   ◌⊎◌,
   ⊤,
   ◌++◌,
@@ -99,10 +101,12 @@ joined_of id rows = flat_map (λ text. text) (texts_of id rows)
 abbrev pub text_or : Text → Text → List Row → Text
 text_or id default rows = unwrap_or (first_of id rows) default
 
--- the text states the number, in decimal digits with or without a plus, and it is in the range
+-- the text states the number, in decimal digits with or without a plus: it has 64 bits, and is in
+-- the range
 pub record StatesNumber (low high : ℕ) (text : Text) (n : ℕ) : Type 0 where
   pub digits : IsNumeral 10 (without_leading_plus text)
   pub value : n ≡ digits_value 10 (without_leading_plus text)
+  pub fits : n < 2 ^ 64
   pub from : low ≤ n
   pub to : n ≤ high
 
@@ -114,15 +118,23 @@ IsNumberOf id default low high rows n =
     MatchOption (first_of id rows) (n ≡ default) (λ text. StatesNumber low high text n
     ⊎ (((m : ℕ) → StatesNumber low high text m → ⊥) × (n ≡ default)))
 
+-- the numbers of options, by their ids, defaults and ranges
+abbrev pub Numbers : Type 0
+Numbers = Text → (default low high : ℕ) → ℕ
+
+abbrev pub AreNumbersOf : List Row → Numbers → Type 0
+AreNumbersOf rows numbers = (id : Text) (default low high : ℕ)
+    → IsNumberOf id default low high rows (numbers id default low high)
+
 -- the number that a text of decimal digits states, where it is in the range
 abbrev pub number_in : (low high : ℕ) → Text → Option ℕ
 number_in low high text =
     if is_unsigned_in low high text then Some (digits_value 10
     (without_leading_plus text)) else None
 
--- that number, computed: the law `numbers_are_stated` says that it is the number of the option
-abbrev pub number_or : Text → (default low high : ℕ) → List Row → ℕ
-number_or id default low high rows =
+-- the numbers of options, computed, for private clauses
+abbrev pub numbers_in : List Row → Numbers
+numbers_in rows id default low high =
     unwrap_or (option_and_then (number_in low high) (first_of id rows)) default
 
 -- the greatest number of 64 bits
@@ -137,64 +149,70 @@ translate_of_rows rows = record {
   names = texts_of (codes "names") rows;
 }
 
-abbrev pub asking_of_rows : List Row → AskingWords
-asking_of_rows rows = record {
+abbrev pub asking_of_rows : Numbers → List Row → AskingWords
+asking_of_rows numbers rows = record {
   mibs = texts_of (codes "mib") rows;
   letters = joined_of (codes "letters") rows;
   protocol = text_or (codes "protocol") (codes "2c") rows;
   community = text_or (codes "community") (codes "public") rows;
-  retries = number_or (codes "retries") 5 0 1000 rows;
-  seconds = number_or (codes "seconds") 1 1 3600 rows;
-  max_size = number_or (codes "size") 1472 1 65507 rows;
+  retries = numbers (codes "retries") 5 0 1000;
+  seconds = numbers (codes "seconds") 1 1 3600;
+  max_size = numbers (codes "size") 1472 1 65507;
   agent = text_or (codes "agent") [] rows;
 }
 
-abbrev pub get_of_rows : List Row → GetWords
-get_of_rows rows = record {
-  asking = asking_of_rows rows;
+abbrev pub get_of_rows : Numbers → List Row → GetWords
+get_of_rows numbers rows = record {
+  asking = asking_of_rows numbers rows;
   names = texts_of (codes "names") rows;
 }
 
-abbrev pub walk_of_rows : List Row → WalkWords
-walk_of_rows rows = record {
-  asking = asking_of_rows rows;
+abbrev pub walk_of_rows : Numbers → List Row → WalkWords
+walk_of_rows numbers rows = record {
+  asking = asking_of_rows numbers rows;
   letters = joined_of (codes "walk") rows;
   after = first_of (codes "after") rows;
   name = first_of (codes "name") rows;
 }
 
-abbrev pub serve_of_rows : List Row → ServeWords
-serve_of_rows rows = record {
+abbrev pub serve_of_rows : Numbers → List Row → ServeWords
+serve_of_rows numbers rows = record {
   mibs = texts_of (codes "mib") rows;
   table = text_or (codes "table") [] rows;
   community = text_or (codes "community") (codes "public") rows;
   listen = text_or (codes "listen") (codes "127.0.0.1:161") rows;
-  max_size = number_or (codes "size") 1472 1 65507 rows;
-  turns = number_or (codes "turns") most_turns 0 most_turns rows;
+  max_size = numbers (codes "size") 1472 1 65507;
+  turns = numbers (codes "turns") most_turns 0 most_turns;
 }
 
 -- the words of each command
-abbrev pub readings : List (Text × (List Row → Stated))
-readings = (codes "snmptranslate", λ rows. snmptranslate (translate_of_rows rows))
-    ∷ (codes "snmpget", λ rows. snmpget (get_of_rows rows))
-    ∷ (codes "snmpwalk", λ rows. snmpwalk (walk_of_rows rows))
-    ∷ (codes "snmpbulkwalk", λ rows. snmpbulkwalk (walk_of_rows rows))
-    ∷ (codes "snmpd", λ rows. snmpd (serve_of_rows rows)) ∷ []
+abbrev pub readings : Numbers → List (Text × (List Row → Stated))
+readings numbers = (codes "snmptranslate", λ rows. snmptranslate (translate_of_rows rows))
+    ∷ (codes "snmpget", λ rows. snmpget (get_of_rows numbers rows))
+    ∷ (codes "snmpwalk", λ rows. snmpwalk (walk_of_rows numbers rows))
+    ∷ (codes "snmpbulkwalk", λ rows. snmpbulkwalk (walk_of_rows numbers rows))
+    ∷ (codes "snmpd", λ rows. snmpd (serve_of_rows numbers rows)) ∷ []
 
 abbrev pub stated_among : List (Text × (List Row → Stated)) → Text × List Row → Option Stated
 stated_among [] p = None
 stated_among (reading ∷ more) p =
     if bytes_eq p.0 reading.0 then Some (reading.1 p.1) else stated_among more p
 
+-- the words state the job: they name its command, and give it its texts and numbers
+pub record StateJob (words : List Text) (job : Stated) : Type 0 where
+  pub command : Text
+  pub rows : List Row
+  pub given : subcommand_of snmp_app words ≡ Some (command, rows)
+  pub numbers : Numbers
+  pub are_numbers : AreNumbersOf rows numbers
+  pub stated : stated_among (readings numbers) (command, rows) ≡ Some job
+
+-- that job, computed, for private clauses
 abbrev pub stated_by : Text × List Row → Option Stated
-stated_by = stated_among readings
+stated_by p = stated_among (readings (numbers_in p.1)) p
 
 abbrev pub stated_in : Option (Text × List Row) → Option Stated
 stated_in = option_and_then stated_by
-
--- the command that the words name, with the texts and numbers that they give it
-abbrev pub stated_job : List Text → Option Stated
-stated_job words = stated_in (subcommand_of snmp_app words)
 
 -- ---- what a job holds
 
@@ -255,7 +273,7 @@ job_words (job.Serve s) = snmpd (serve_words s)
 
 -- the words state the job, and have no fault
 pub record IsJobOf (job : Job) (words : List Text) : Type 0 where
-  pub stated : stated_job words ≡ Some (job_words job)
+  pub stated : StateJob words (job_words job)
   pub faultless : faults_of words ≡ []
 
 -- ---- refusals

@@ -4,7 +4,7 @@ ghost use Rattle.std.specs.Prelude.{string_bytes};
 ghost use Rattle.clap.specs.Walk.{first_of, rows_of};
 ghost use Rattle.clap.specs.Words.{found_of, subcommand_rows_of};
 ghost use Rattle.snmp_words.specs.Words.{asking_of_rows, asking_words, get_of_rows, get_words};
-ghost use Rattle.snmp_words.specs.Words.{job_words, joined_of, number_in, number_or};
+ghost use Rattle.snmp_words.specs.Words.{job_words, joined_of, number_in, numbers_in};
 ghost use Rattle.snmp_words.specs.Words.{serve_of_rows, serve_words, stated_in, texts_at};
 ghost use Rattle.snmp_words.specs.Words.{texts_of, translate_of_rows, translate_words};
 ghost use Rattle.snmp_words.specs.Words.{walk_of_rows, walk_words};
@@ -50,7 +50,8 @@ fn translate_job<'a>(alloc: Global, given: &ArgMatches<'a>) -> Result<TranslateJ
 
 /// The job of snmpget.
 fn get_job<'a>(alloc: Global, given: &ArgMatches<'a>) -> Result<GetJob<'a>, AllocError>
-    ensures { IfOk result (λ job. get_words job ≡ get_of_rows (rows_of (found_of given.now))) }
+    ensures { let rows = rows_of (found_of given.now) in
+        IfOk result (λ job. get_words job ≡ get_of_rows (numbers_in rows) rows) }
 {
     let asking = asking_of(alloc, given)?;
     let names = all_texts(alloc, given, "names")?;
@@ -59,7 +60,8 @@ fn get_job<'a>(alloc: Global, given: &ArgMatches<'a>) -> Result<GetJob<'a>, Allo
 
 /// The job of snmpwalk or snmpbulkwalk.
 fn walk_job<'a>(alloc: Global, given: &ArgMatches<'a>) -> Result<WalkJob<'a>, AllocError>
-    ensures { IfOk result (λ job. walk_words job ≡ walk_of_rows (rows_of (found_of given.now))) }
+    ensures { let rows = rows_of (found_of given.now) in
+        IfOk result (λ job. walk_words job ≡ walk_of_rows (numbers_in rows) rows) }
 {
     let asking = asking_of(alloc, given)?;
     let letters = joined(alloc, given, "walk")?;
@@ -73,7 +75,8 @@ fn walk_job<'a>(alloc: Global, given: &ArgMatches<'a>) -> Result<WalkJob<'a>, Al
 
 /// The job of snmpd.
 fn serve_job<'a>(alloc: Global, given: &ArgMatches<'a>) -> Result<ServeJob<'a>, AllocError>
-    ensures { IfOk result (λ job. serve_words job ≡ serve_of_rows (rows_of (found_of given.now))) }
+    ensures { let rows = rows_of (found_of given.now) in
+        IfOk result (λ job. serve_words job ≡ serve_of_rows (numbers_in rows) rows) }
 {
     let mibs = all_texts(alloc, given, "mib")?;
     Ok(ServeJob {
@@ -88,8 +91,8 @@ fn serve_job<'a>(alloc: Global, given: &ArgMatches<'a>) -> Result<ServeJob<'a>, 
 
 /// How an agent is asked.
 fn asking_of<'a>(alloc: Global, given: &ArgMatches<'a>) -> Result<Asking<'a>, AllocError>
-    ensures { IfOk result (λ asking.
-        asking_words asking ≡ asking_of_rows (rows_of (found_of given.now))) }
+    ensures { let rows = rows_of (found_of given.now) in
+        IfOk result (λ asking. asking_words asking ≡ asking_of_rows (numbers_in rows) rows) }
 {
     let mibs = all_texts(alloc, given, "mib")?;
     let letters = joined(alloc, given, "letters")?;
@@ -143,7 +146,8 @@ fn joined(alloc: Global, given: &ArgMatches<'_>, id: &str) -> Result<String, All
 fn number(given: &ArgMatches<'_>, id: &str, default: u64, low: u64, high: u64) -> u64
     requires from { low ≤ default }
     requires to { default ≤ high }
-    ensures value { result ≡ number_or id.now default low high (rows_of (found_of given.now)) }
+    ensures value { let rows = rows_of (found_of given.now) in
+        result ≡ numbers_in rows id.now default low high }
     ensures from { low ≤ result }
     ensures to { result ≤ high }
 {

@@ -22,15 +22,14 @@ mod job;
 mod mistakes;
 mod options;
 
-ghost use Rattle.std.specs.Prelude.{◌≡◌, ◌<◌, ◌^◌, [], ◌∷◌, List, ℕ, Some, codes, true};
+ghost use Rattle.std.specs.Prelude.{◌≡◌, [], ◌∷◌, List, ℕ, codes, true};
 ghost use Rattle.std.specs.Prelude.{IfErr, IfOk, IfSome, OnOk};
-ghost use Rattle.clap.specs.Walk.{Row, texts};
+ghost use Rattle.clap.specs.Walk.{Text, texts};
 ghost use Rattle.clap.specs.Words.{kind_of};
 ghost use Rattle.snmp_words.specs.Command.{faults_of, is_taken};
-ghost use Rattle.snmp_words.specs.Words.{HasFaultOf, IsJobOf, IsMemory, StandsFor, get_line};
-ghost use Rattle.snmp_words.specs.Words.{IsNumberOf, job_words, number_or};
-ghost use Rattle.snmp_words.specs.Words.{snmpget, snmptranslate, snmpwalk, stated_job};
-ghost use Rattle.snmp_words.specs.Words.{translate_line, walk_line, words_of_get};
+ghost use Rattle.snmp_words.specs.Words.{HasFaultOf, IsJobOf, IsMemory, StandsFor, StateJob};
+ghost use Rattle.snmp_words.specs.Words.{Stated, get_line, job_words, snmpget, snmptranslate};
+ghost use Rattle.snmp_words.specs.Words.{snmpwalk, translate_line, walk_line, words_of_get};
 ghost use Rattle.snmp_words.specs.Words.{words_of_translation, words_of_walk};
 
 use clap::error::ErrorKind;
@@ -65,7 +64,7 @@ impl From<AllocError> for UsageError {
 /// runs out.
 pub fn read_words<'a>(alloc: Global, words: &'a [&'a str]) -> Result<Job<'a>, UsageError>
     ensures job { IfOk result (λ job.
-        stated_job (texts words.entry.now) ≡ Some (job_words job)) }
+        StateJob (texts words.entry.now) (job_words job)) }
     ensures faultless { OnOk result (faults_of (texts words.entry.now) ≡ []) }
     ensures taken { IfErr result (λ e.
         is_taken (texts words.entry.now) ≡ true → IsMemory e) }
@@ -109,11 +108,11 @@ pub fn walks_are_taken()
     ensures apart { (path numbers : List ℕ) →
         is_taken (walk_line (codes "-O" ∷ codes "n" ∷ []) path numbers) ≡ true }
     ensures joined_job { (path numbers : List ℕ) →
-        stated_job (walk_line (codes "-On" ∷ []) path numbers)
-        ≡ Some (snmpwalk (words_of_walk path numbers)) }
+        StateJob (walk_line (codes "-On" ∷ []) path numbers)
+        (snmpwalk (words_of_walk path numbers)) }
     ensures apart_job { (path numbers : List ℕ) →
-        stated_job (walk_line (codes "-O" ∷ codes "n" ∷ []) path numbers)
-        ≡ Some (snmpwalk (words_of_walk path numbers)) }
+        StateJob (walk_line (codes "-O" ∷ codes "n" ∷ []) path numbers)
+        (snmpwalk (words_of_walk path numbers)) }
 {}
 
 /// The details of any numeric name, with any two files of modules, are asked for by words that are
@@ -122,8 +121,8 @@ pub fn translations_are_taken()
     ensures taken { (first second name : List ℕ) →
         is_taken (translate_line first second name) ≡ true }
     ensures job { (first second name : List ℕ) →
-        stated_job (translate_line first second name)
-        ≡ Some (snmptranslate (words_of_translation first second name)) }
+        StateJob (translate_line first second name)
+        (snmptranslate (words_of_translation first second name)) }
 {}
 
 /// The instances of any two numeric names, of an agent on any host, with any file of modules, are
@@ -132,14 +131,17 @@ pub fn gets_are_taken()
     ensures taken { (modules host first second : List ℕ) →
         is_taken (get_line modules host first second) ≡ true }
     ensures job { (modules host first second : List ℕ) →
-        stated_job (get_line modules host first second)
-        ≡ Some (snmpget (words_of_get modules host first second)) }
+        StateJob (get_line modules host first second)
+        (snmpget (words_of_get modules host first second)) }
 {}
 
-/// The number of an option is the one that its text states, within the range, or the default.
-pub fn numbers_are_stated()
-    ensures { (id : List ℕ) (default low high : ℕ) (rows : List Row) → high < 2 ^ 64
-        → IsNumberOf id default low high rows (number_or id default low high rows) }
+/// Words state at most one job.
+///
+/// A law: the call does nothing, and its caller may use what it ensures.
+#[inline]
+pub fn one_job()
+    ensures { (words : List Text) (job other : Stated)
+        → StateJob words job → StateJob words other → job ≡ other }
 {}
 
 /// What the parser's refusal is to the user: help and the version are what was asked for.

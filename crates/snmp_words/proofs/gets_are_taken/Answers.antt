@@ -1,5 +1,6 @@
 use Rattle.std.proofs.Common.{refl}
 use Rattle.clap.proofs.OnLiterals.{clap_on_literals}
+use Rattle.snmp_words.proofs.GivenLemmas.{states}
 use Rattle.snmp_words.proofs.gets_are_taken.Goals as goal
 
 pub returns-clause-taken : goal.returns-clause-taken
@@ -8,4 +9,4 @@ returns-clause-taken c modules host first second = refl
 
 pub returns-clause-job : goal.returns-clause-job
 unfolding clap_on_literals
-returns-clause-job c modules host first second = refl
+returns-clause-job c modules host first second = states _ _ refl

@@ -3,6 +3,7 @@ use Rattle.clap.specs.Walk.{texts}
 use Rattle.clap.proofs.WalkLemmas.{both}
 use Rattle.snmp_words.specs.Words.{stated_in}
 use Rattle.snmp_words.proofs.CommandLemmas.{plain_is_local, states_job}
+use Rattle.snmp_words.proofs.GivenLemmas.{states}
 use Rattle.snmp_words.proofs.OneLemmas.{is_enough}
 use Rattle.snmp_words.proofs.job_of_one.Goals as goal
 
@@ -25,6 +26,6 @@ returns-in-Ok c =
     (found.1 _) c.in-Some-command_with_one.ensures c.in_ok-command.was in
     let rows = (c.in-Ok.ensures.matches (both _ _ enough.simple).0).1 ∙ enough.subcommand in
     record {
-      stated = ap stated_in (sym rows) ∙ c.in_ok-job_of-in-Ok.ensures;
+      stated = states _ _ (ap stated_in (sym rows) ∙ c.in_ok-job_of-in-Ok.ensures);
       faultless = sym enough.faults ∙ c.in-Ok.ensures.kinds enough.simple;
     }

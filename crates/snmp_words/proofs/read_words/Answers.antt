@@ -4,6 +4,7 @@ use Rattle.clap.specs.Faults.{is_simple_and_free}
 use Rattle.snmp_words.specs.Command.{snmp_app}
 use Rattle.snmp_words.specs.Words.{stated_in}
 use Rattle.snmp_words.proofs.CommandLemmas.{fault_of_refusal, states_job, plain_is_local}
+use Rattle.snmp_words.proofs.GivenLemmas.{states}
 use Rattle.clap.specs.Kinds.{IsAmong}
 use Rattle.clap.specs.declared.error.ErrorKind.TheVariants as ErrorKind
 use Rattle.snmp_words.proofs.read_words.Goals as goal
@@ -22,7 +23,7 @@ pub returns-in_ok-job_of-in-Ok-clause-job : goal.returns-in_ok-job_of-in-Ok-clau
 returns-in_ok-job_of-in-Ok-clause-job c =
     let app_is : app_of c.in_ok-command.command ≡ snmp_app = c.in_ok-command.ensures in
     let rows = (c.in-Ok.ensures.matches (ap is_simple app_is)).1 ∙ ap (λ (a : App). subcommand_of a (map (λ s. s.now) c.args.words.now)) app_is in
-    ap stated_in (sym rows) ∙ c.in_ok-job_of-in-Ok.ensures
+    states _ _ (ap stated_in (sym rows) ∙ c.in_ok-job_of-in-Ok.ensures)
 
 pub returns-in_ok-job_of-in-Ok-clause-faultless : goal.returns-in_ok-job_of-in-Ok-clause-faultless
 returns-in_ok-job_of-in-Ok-clause-faultless c =

@@ -1,5 +1,6 @@
 use Rattle.std.proofs.Common.{refl}
 use Rattle.clap.proofs.OnLiterals.{clap_on_literals}
+use Rattle.snmp_words.proofs.GivenLemmas.{states}
 use Rattle.snmp_words.proofs.translations_are_taken.Goals as goal
 
 pub returns-clause-taken : goal.returns-clause-taken
@@ -8,4 +9,4 @@ returns-clause-taken c first second name = refl
 
 pub returns-clause-job : goal.returns-clause-job
 unfolding clap_on_literals
-returns-clause-job c first second name = refl
+returns-clause-job c first second name = states _ _ refl

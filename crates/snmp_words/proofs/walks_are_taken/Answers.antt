@@ -1,5 +1,6 @@
 use Rattle.std.proofs.Common.{refl}
 use Rattle.clap.proofs.OnLiterals.{clap_on_literals}
+use Rattle.snmp_words.proofs.GivenLemmas.{states}
 use Rattle.snmp_words.proofs.walks_are_taken.Goals as goal
 
 pub returns-clause-joined : goal.returns-clause-joined
@@ -12,8 +13,8 @@ returns-clause-apart c path numbers = refl
 
 pub returns-clause-joined_job : goal.returns-clause-joined_job
 unfolding clap_on_literals
-returns-clause-joined_job c path numbers = refl
+returns-clause-joined_job c path numbers = states _ _ refl
 
 pub returns-clause-apart_job : goal.returns-clause-apart_job
 unfolding clap_on_literals
-returns-clause-apart_job c path numbers = refl
+returns-clause-apart_job c path numbers = states _ _ refl

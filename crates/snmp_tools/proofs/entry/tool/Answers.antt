@@ -1,8 +1,8 @@
-use Rattle.std.proofs.Common.{◌≡◌, ◌∙◌, ap, refl, inl, inr, Bool, false, true, subst, ℕ, List, []}
+use Rattle.std.proofs.Common.{◌≡◌, refl, sym, inl, inr, Bool, false, true, subst, ℕ, List, []}
 use Rattle.std.specs.Prelude.{String}
 use Rattle.std.specs.declared.alloc.Global.{Global}
 use Rattle.snmp_words.specs.Command.{faults_of, is_taken}
-use Rattle.snmp_words.specs.Words.{HasFaultOf, IsMemory, snmpwalk, stated_job, texts_at}
+use Rattle.snmp_words.specs.Words.{HasFaultOf, IsMemory, StateJob, snmpwalk, texts_at}
 use Rattle.snmp_words.specs.declared.UsageError.{UsageError}
 use Rattle.snmp_words.specs.declared.UsageError.TheVariants.{Parse}
 use Rattle.snmp_tools.specs.Planned.{numeric_walk}
@@ -21,10 +21,10 @@ no_error words e text help is taken refused (inr none) =
 
 pub returns-in-Ok-clause-done : goal.returns-in-Ok-clause-done
 returns-in-Ok-clause-done g c = λ job taken stated.
-    of_words g.L.Links g.L.Wire.Link (g.F.ModuleFiles.loads c.args.files.now) _ _ _ _ job _ c.in-Ok.ensures.job stated c.run_job.ensures
+    of_words g.L.Links g.L.Wire.Link (g.F.ModuleFiles.loads c.args.files.now) _ _ _ c.one_job.ensures _ _ job c.in-Ok.ensures.job stated c.run_job.ensures
 
 pub returns-in-Ok-clause-unstated : goal.returns-in-Ok-clause-unstated
-returns-in-Ok-clause-unstated g c = λ faultless none. let e = c.in-Ok.ensures.job in let no : ⊥ = cc in absurd no
+returns-in-Ok-clause-unstated g c = λ faultless none. absurd (none _ c.in-Ok.ensures.job)
 
 pub returns-in-Err-Memory-clause-done : goal.returns-in-Err-Memory-clause-done
 returns-in-Err-Memory-clause-done g c = λ job taken stated.
@@ -44,8 +44,9 @@ returns-in-Err-Parse-default-false-clause-help_or_mistake g c = λ faulty.
 
 pub returns-in-Ok-clause-rows_printed : goal.returns-in-Ok-clause-rows_printed
 returns-in-Ok-clause-rows_printed g c = λ path root text words holds.
-    let done = of_words g.L.Links g.L.Wire.Link (g.F.ModuleFiles.loads c.args.files.now) _ _ _ _ (snmpwalk (numeric_walk path root)) _ c.in-Ok.ensures.job
-    (ap stated_job words ∙ c.table_walks.ensures.stated path root) c.run_job.ensures in
+    let walk = snmpwalk (numeric_walk path root) in
+    let stated = subst (λ (ws : List (List ℕ)). StateJob ws walk) (sym words) (c.table_walks.ensures.stated path root) in
+    let done = of_words g.L.Links g.L.Wire.Link (g.F.ModuleFiles.loads c.args.files.now) _ _ _ c.one_job.ensures _ _ walk c.in-Ok.ensures.job stated c.run_job.ensures in
     c.table_walks.ensures.printed _ path root text _ _ _ _ _ holds done.front_written done.all_written_at_status_0 done.ends_at_status_0
 
 pub returns-in-Err-Memory-clause-rows_printed : goal.returns-in-Err-Memory-clause-rows_printed

@@ -1,6 +1,7 @@
-use Rattle.std.proofs.Common.{ap, ◌∙◌}
+use Rattle.std.proofs.Common.{List, ap, subst, sym, ℕ, ◌∙◌}
 use Rattle.snmp_words.specs.Command.{is_taken}
-use Rattle.snmp_words.specs.Words.{stated_job}
+use Rattle.snmp_words.specs.Words.{StateJob, snmpwalk}
+use Rattle.snmp_tools.specs.Planned.{numeric_walk}
 use Rattle.snmp_tools.specs.Resolved.{names_in}
 use Rattle.snmp_tools.proofs.BareNames.{bare_mib}
 use Rattle.snmp_tools.proofs.TableWalks.{prints_rows, words_are}
@@ -10,7 +11,8 @@ pub returns-clause-taken : goal.returns-clause-taken
 returns-clause-taken c = λ path root. ap is_taken (words_are path root) ∙ c.walks_are_taken.ensures.joined path _
 
 pub returns-clause-stated : goal.returns-clause-stated
-returns-clause-stated c = λ path root. ap stated_job (words_are path root) ∙ c.walks_are_taken.ensures.joined_job path _
+returns-clause-stated c = λ path root.
+    subst (λ (words : List (List ℕ)). StateJob words (snmpwalk (numeric_walk path root))) (sym (words_are path root)) (c.walks_are_taken.ensures.joined_job path _)
 
 pub returns-clause-printed : goal.returns-clause-printed
 returns-clause-printed c = prints_rows c.bare_tree.ensures c.numbers_are_read.ensures (c.names_are_meant.ensures bare_mib.naming) c.instances_below.ensures.below c.instances_below.ensures.ordered
