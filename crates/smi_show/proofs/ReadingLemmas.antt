@@ -1,7 +1,7 @@
 -- What is computed at the front of the numbers is an encoding of a part, and each encoding is computed.
 use Rattle.std.proofs.Common.{◌≡◌, ◌≢◌, ℕ, ◌≤◌, Bool, true, false, cond, leb, List, [], ◌∷◌, ◌++◌}
 use Rattle.std.proofs.Common.{length, take, drop, Option, Some, None, option_map, option_and_then}
-use Rattle.std.proofs.Common.{is_some, refl, sym, ◌∙◌, ap, subst, arith}
+use Rattle.std.proofs.Common.{is_some, refl, sym, ◌∙◌, ◌↔◌, IsTrue, ap, subst, arith}
 use Rattle.std.specs.List.{list_all}
 use Rattle.std.proofs.lemmas.Bool.{leb-true, le-leb}
 use Rattle.std.proofs.lemmas.List.{take-append-drop, length-take-le, append-nil}
@@ -215,10 +215,16 @@ pub if_read : (parts : List IndexPart) (numbers : List ℕ) → is_some (values_
     → (values : List (List ℕ)) × ReadValues parts numbers values
 if_read parts numbers h = let e = some_of (values_of parts numbers) h in (e.0, all_found parts numbers e.0 e.1)
 
-pub none_read : (part : IndexPart) (parts : List IndexPart) (numbers : List ℕ) → front_of part numbers ≡ None
-    → is_some (values_of (part ∷ parts) numbers) ≡ false
-none_read part parts numbers h = rw h refl
+-- what is stated of all parts, and what is computed
+pub as_stated : (b : Bool) (parts : List IndexPart) (numbers : List ℕ) → b ≡ is_some (values_of parts numbers)
+    → IsTrue b ↔ ((values : List (List ℕ)) × ReadValues parts numbers values)
+as_stated b parts numbers h = (λ t. if_read parts numbers (sym h ∙ t), λ read. h ∙ read_if parts numbers read)
 
-pub all_read : (numbers : List ℕ) → is_some (values_of [] numbers) ≡ true → numbers ≡ []
-all_read [] h = refl
-all_read (n ∷ more) h = let no : ⊥ = cc in absurd no
+pub as_computed : (b : Bool) (parts : List IndexPart) (numbers : List ℕ) → IsTrue b ↔ ((values : List (List ℕ)) × ReadValues parts numbers values)
+    → b ≡ is_some (values_of parts numbers)
+as_computed true parts numbers h = sym (read_if parts numbers (h.0 refl))
+as_computed false parts numbers h = at (is_some (values_of parts numbers)) refl
+  where
+    at : (b : Bool) → is_some (values_of parts numbers) ≡ b → false ≡ b
+    at true e = h.1 (if_read parts numbers e)
+    at false e = refl

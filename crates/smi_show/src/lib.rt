@@ -29,8 +29,8 @@ mod writer;
 pub use crate::details::DetailTree;
 pub use crate::index::{Extent, IndexPart};
 pub use crate::name::{
-    NameError, NameTree, Node, numbers_are_read, one_meaning, resolve, resolve_front,
-    resolve_front_into, resolve_into,
+    NameError, NameTree, Node, meanings_are_computed, numbers_are_read, one_meaning, resolve,
+    resolve_front, resolve_front_into, resolve_into,
 };
 pub use binding::{line, line_near, one_line, one_value, value_text};
 pub use smi_value::{Letters, NameForm};

@@ -15,7 +15,7 @@ mod tree;
 mod word;
 
 pub use error::NameError;
-pub use laws::{numbers_are_read, one_meaning};
+pub use laws::{meanings_are_computed, numbers_are_read, one_meaning};
 pub use meaning::{resolve, resolve_front, resolve_front_into, resolve_into};
 pub use name::{name_by_node, name_text, numeric};
 pub use smi_value::NameForm;

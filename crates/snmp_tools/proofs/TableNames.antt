@@ -32,30 +32,29 @@ one_look_up naming (names_by f) (names_by g) h k = ap names_by (λ i text. same 
     same text None None e d = e ∙ sym d
     same text None (Some o) e d = let other = (h text o).1 ((k text o).0 d) in let no : ⊥ = cc in absurd no
 
-module _ (found : (naming : Naming) (text : List ℕ) → TextMeans naming text (meaning naming text)) (one : OneMeaning) where
-  pub names_are_meant : (naming : Naming) → AreNamesIn naming (names_in naming)
-  names_are_meant naming text o = (at (meaning naming text) (found naming text), λ h. ap result_ok (one naming text (meaning naming text) (Ok o) (found naming text) h))
-    where
-      at : (read : Result (List ℕ) NameError) → TextMeans naming text read → result_ok read ≡ Some o → TextMeans naming text (Ok o)
-      at (Ok p) h e = let same : p ≡ o = cc in subst (λ (n : List ℕ). TextMeans naming text (Ok n)) same h
-      at (Err why) h e = let no : ⊥ = cc in absurd no
+pub names_are_meant : ((naming : Naming) (text : List ℕ) → TextMeans naming text (meaning naming text)) → OneMeaning
+    → (naming : Naming) → AreNamesIn naming (names_in naming)
+names_are_meant found one naming text o =
+    (at (meaning naming text) (found naming text), λ h. ap result_ok (one naming text (meaning naming text) (Ok o) (found naming text) h))
+  where
+    at : (read : Result (List ℕ) NameError) → TextMeans naming text read → result_ok read ≡ Some o → TextMeans naming text (Ok o)
+    at (Ok p) h e = let same : p ≡ o = cc in subst (λ (n : List ℕ). TextMeans naming text (Ok n)) same h
+    at (Err why) h e = let no : ⊥ = cc in absurd no
 
-  pub front_named : (naming : Naming) (text o : List ℕ) (size : ℕ) → IsIdentifier o → FrontMeans naming bar text (Ok (o, size))
+module _ (one : OneMeaning) (naming : Naming) (meant : AreNamesIn naming (names_in naming)) where
+  pub front_named : (text o : List ℕ) (size : ℕ) → IsIdentifier o → FrontMeans naming bar text (Ok (o, size))
       → IsFrontRead (names_in naming) text (Some (o, size))
-  front_named naming text o size is h = record {
+  front_named text o size is h = record {
     front = h.0;
     place = h.1;
-    named = (
-      ((names_are_meant naming h.0 o).1 h.2, is),
-      λ p k. one_name one naming h.0 p o ((names_are_meant naming h.0 p).0 k.0) h.2,
-    );
+    named = (((meant h.0 o).1 h.2, is), λ p k. one_name one naming h.0 p o ((meant h.0 p).0 k.0) h.2);
     size = h.3;
   }
 
-  pub front_unnamed : (naming : Naming) (text : List ℕ) (why : NameError) → FrontMeans naming bar text (Err why) → IsFrontRead (names_in naming) text None
-  front_unnamed naming text why h = record {
+  pub front_unnamed : (text : List ℕ) (why : NameError) → FrontMeans naming bar text (Err why) → IsFrontRead (names_in naming) text None
+  front_unnamed text why h = record {
     front = h.0;
     place = h.1;
-    named = λ p k. no_name one naming h.0 p why ((names_are_meant naming h.0 p).0 k.0) h.2;
+    named = λ p k. no_name one naming h.0 p why ((meant h.0 p).0 k.0) h.2;
     size = tt;
   }

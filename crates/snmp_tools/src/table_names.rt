@@ -6,7 +6,7 @@ ghost use Rattle.snmp_tools.specs.Message.{fault_of, out_of_memory};
 ghost use Rattle.snmp_tools.specs.agent.TableFile.{AreNamesIn, HasTable, TableFails};
 
 use crate::failure::Failure;
-use smi_show::{NameTree, one_meaning, resolve_front_into};
+use smi_show::{NameTree, meanings_are_computed, one_meaning, resolve_front_into};
 use snmp_agent::{Resolver, Table};
 use snmp_io::{FileFault, Files};
 use snmp_oid::Oid;
@@ -51,6 +51,7 @@ impl<'a, T: NameTree> Resolver for TreeNames<'a, T> {
     fn front(&self, text: &[u8]) -> Option<(Oid, usize)>
         ensures { IsFrontRead (names_in (T.naming self.now.tree.now)) text.now result }
     {
+        names_are_meant();
         one_meaning();
         let mut oid = Oid::new();
         match resolve_front_into(self.tree, text, b'|', &mut oid) {
@@ -68,5 +69,6 @@ impl<'a, T: NameTree> Resolver for TreeNames<'a, T> {
 pub(crate) fn names_are_meant()
     ensures { (naming : Naming) → AreNamesIn naming (names_in naming) }
 {
+    meanings_are_computed();
     one_meaning();
 }

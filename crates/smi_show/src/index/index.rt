@@ -1,25 +1,15 @@
 //! A whole index, read from the numbers after a column.
 ghost use Rattle.std.specs.Prelude.{◌≡◌, ℕ, ◌↔◌, List, IsTrue};
-ghost use Rattle.std.specs.Option.{is_some};
 ghost use Rattle.smi_show.specs.declared.index.part.IndexPart.{IndexPart};
 ghost use Rattle.smi_show.specs.index.Index.{ReadValues};
-ghost use Rattle.smi_show.specs.index.Reading.{values_of};
 
 use crate::index::{IndexPart, read_part};
 
 /// Whether the whole list of numbers is the encodings of the parts of an index, one after the other
 /// (RFC 2578, section 7.7).
 pub fn reads(parts: &[IndexPart], numbers: &[u32]) -> bool
-    ensures reads { IsTrue result
+    ensures { IsTrue result
         ↔ ((values : List (List ℕ)) × ReadValues parts.now numbers.now values) }
-    ensures value { result ≡ is_some (values_of parts.now numbers.now) }
-{
-    are_read(parts, numbers)
-}
-
-/// What `reads` returns, part by part.
-fn are_read(parts: &[IndexPart], numbers: &[u32]) -> bool
-    ensures { result ≡ is_some (values_of parts.now numbers.now) }
 {
     let mut left = numbers;
     'parts: for part in parts {

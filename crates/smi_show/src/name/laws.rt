@@ -10,14 +10,17 @@ ghost use Rattle.smi_show.specs.declared.name.error.NameError.{NameError};
 use crate::index::pieces_stand_for_numbers;
 use snmp_oid::names;
 
-/// A text means one thing as a name, an identifier or a fault. `computed` says which, for proofs.
+/// A text means one thing as a name, an identifier or a fault.
 pub fn one_meaning()
     ensures found { (naming : Naming) (text : List ℕ)
         → (result : Result (List ℕ) NameError) × TextMeans naming text result }
     ensures only { (naming : Naming) (text : List ℕ) (a b : Result (List ℕ) NameError)
         → TextMeans naming text a → TextMeans naming text b → a ≡ b }
-    ensures computed { (naming : Naming) (text : List ℕ)
-        → TextMeans naming text (meaning naming text) }
+{}
+
+/// What a text means is computed by a function, for proofs that need one.
+pub fn meanings_are_computed()
+    ensures { (naming : Naming) (text : List ℕ) → TextMeans naming text (meaning naming text) }
 {}
 
 /// An identifier written in numbers means itself, whatever nodes there are.

@@ -1,13 +1,15 @@
-use Rattle.std.proofs.Common.{◌≡◌, ℕ, List, Bool, IsTrue, ◌↔◌, is_some, ◌∙◌, sym}
-use Rattle.smi_show.specs.declared.index.part.IndexPart.{IndexPart}
-use Rattle.smi_show.specs.index.Index.{ReadValues}
+use Rattle.std.proofs.Common.{◌≡◌, is_some, arith, false}
+use Rattle.std.proofs.lemmas.Grind.{common_steps}
 use Rattle.smi_show.specs.index.Reading.{values_of}
-use Rattle.smi_show.proofs.ReadingLemmas.{read_if, if_read}
+use Rattle.smi_show.proofs.ReadingLemmas.{as_stated}
 use Rattle.smi_show.proofs.index.index.reads.Goals as goal
 
-tells : (b : Bool) (parts : List IndexPart) (numbers : List ℕ) → b ≡ is_some (values_of parts numbers)
-    → IsTrue b ↔ ((values : List (List ℕ)) × ReadValues parts numbers values)
-tells b parts numbers h = (λ t. if_read parts numbers (sym h ∙ t), λ read. h ∙ read_if parts numbers read)
+pub returns-in-None : goal.returns-in-None
+returns-in-None c =
+    let none : false ≡ is_some (values_of c.args.parts.now c.args.numbers.now) = grind (arith, common_steps) in
+    as_stated false c.args.parts.now c.args.numbers.now none
 
-pub returns-clause-reads : goal.returns-clause-reads
-returns-clause-reads c = tells c.are_read.result c.args.parts.now c.args.numbers.now c.are_read.ensures
+pub returns : goal.returns
+returns c =
+    let all : c.is_empty.result ≡ is_some (values_of c.args.parts.now c.args.numbers.now) = grind (arith, common_steps) in
+    as_stated c.is_empty.result c.args.parts.now c.args.numbers.now all

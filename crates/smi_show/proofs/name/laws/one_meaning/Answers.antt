@@ -7,6 +7,3 @@ returns-clause-found c = λ naming text. (meaning naming text, means naming text
 
 pub returns-clause-only : goal.returns-clause-only
 returns-clause-only c = one_meaning
-
-pub returns-clause-computed : goal.returns-clause-computed
-returns-clause-computed c = means
