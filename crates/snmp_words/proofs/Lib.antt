@@ -1,3 +1,2 @@
 pub mod CommandLemmas
 pub mod GivenLemmas
-pub mod OneLemmas

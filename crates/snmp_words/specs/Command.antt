@@ -1,9 +1,8 @@
 -- The commands of the program in clap's terms: each has rules for its words.
 use Rattle.std.specs.Prelude.{◌++◌, ◌≡◌, ℕ, Bool, true, List, [], ◌∷◌, Some, codes, Result, IfOk}
-use Rattle.clap.specs.Faults.{fault_of, is_simple_and_free}
+use Rattle.clap.specs.Faults.{fault_of}
 use Rattle.clap.specs.Kinds.{Kinds}
-use Rattle.clap.specs.Simple.{App, new_app, new_rule, on_top, subcommand_of, with_rule}
-use Rattle.clap.specs.Simple.{with_subcommand}
+use Rattle.clap.specs.Simple.{App, new_app, new_rule, on_top, with_rule, with_subcommand}
 use Rattle.clap.specs.Takes.{takes}
 use Rattle.clap.specs.Walk.{Rule, Text}
 use Rattle.clap.specs.Words.{app_of}
@@ -169,22 +168,6 @@ commands = translate_app ∷ get_app ∷ walk_app (codes "snmpwalk") ∷ walk_ap
 
 abbrev pub snmp_app : App
 snmp_app = with_commands top_app commands
-
--- snmp with one of its commands alone
-abbrev pub one_app : App → App
-one_app command = with_commands top_app (command ∷ [])
-
--- The command of this name can be read without the others: words that begin with the name, after
--- that of the program, give it the same texts, and have the same faults.
-pub record IsReadBy (name : Text) (command : App) : Type 0 where
-  pub plain : command.top.is_plain ≡ true
-  pub simple : is_simple_and_free (one_app command) ≡ true
-  pub subcommand : (first : Text) (rest : List Text)
-      → subcommand_of (one_app command) (first ∷ name ∷ rest)
-      ≡ subcommand_of snmp_app (first ∷ name ∷ rest)
-  pub faults : (first : Text) (rest : List Text)
-      → fault_of (one_app command) (first ∷ name ∷ rest)
-      ≡ fault_of snmp_app (first ∷ name ∷ rest)
 
 -- the command takes the words: they name options and subcommands that it has, with as many texts as
 -- these need, each number in its range, and no option twice that may be given once; and they don't

@@ -271,11 +271,6 @@ job_words (job.Walk w) = snmpwalk (walk_words w)
 job_words (job.BulkWalk w) = snmpbulkwalk (walk_words w)
 job_words (job.Serve s) = snmpd (serve_words s)
 
--- the words state the job, and have no fault
-pub record IsJobOf (job : Job) (words : List Text) : Type 0 where
-  pub stated : StateJob words (job_words job)
-  pub faultless : faults_of words ≡ []
-
 -- ---- refusals
 
 abbrev pub IsMemory : UsageError → Type 0

@@ -1,13 +1,12 @@
 //! The commands of the program, with the rules for their words and the help on them.
-ghost use Rattle.std.specs.Prelude.{◌≡◌, IfSome, codes, false, true};
+ghost use Rattle.std.specs.Prelude.{◌≡◌, codes, false, true};
 ghost use Rattle.clap.specs.Simple.{App, new_app, with_rule, with_subcommand};
 ghost use Rattle.clap.specs.Walk.{Rule, rule_of};
 ghost use Rattle.clap.specs.Words.{app_of};
-ghost use Rattle.snmp_words.specs.Command.{IsMade, IsReadBy, asking_rules, get_app, getting_rules};
-ghost use Rattle.snmp_words.specs.Command.{one_app, place_rules, sending_rules, serve_app};
-ghost use Rattle.snmp_words.specs.Command.{serving_rules, showing_rules, snmp_app, top_app};
-ghost use Rattle.snmp_words.specs.Command.{translate_app, translating_rules, walk_app};
-ghost use Rattle.snmp_words.specs.Command.{walking_rules, with_rules};
+ghost use Rattle.snmp_words.specs.Command.{IsMade, asking_rules, get_app, getting_rules};
+ghost use Rattle.snmp_words.specs.Command.{place_rules, sending_rules, serve_app, serving_rules};
+ghost use Rattle.snmp_words.specs.Command.{showing_rules, snmp_app, top_app, translate_app};
+ghost use Rattle.snmp_words.specs.Command.{translating_rules, walk_app, walking_rules, with_rules};
 
 use crate::options;
 use clap::{Arg, Command};
@@ -73,29 +72,6 @@ pub(crate) fn snmp_command<'a>(alloc: Global) -> Made<'a>
     let with_walk = with_command(with_get, walk_command(alloc));
     let with_bulk_walk = with_command(with_walk, bulk_walk_command(alloc));
     with_command(with_bulk_walk, serve_command(alloc))
-}
-
-/// The command `snmp` with the subcommand of this name alone, if it has one of that name.
-pub(crate) fn command_with_one<'a>(alloc: Global, name: &str) -> Option<Made<'a>>
-    ensures { IfSome result (λ made. (sub : App) × IsReadBy name.now sub
-        × IsMade made (one_app sub)) }
-{
-    let subcommand = subcommand_named(alloc, name)?;
-    Some(with_command(Ok(top_command(alloc)), subcommand))
-}
-
-/// The subcommand of this name, if there is one.
-fn subcommand_named<'a>(alloc: Global, name: &str) -> Option<Made<'a>>
-    ensures { IfSome result (λ made. (sub : App) × IsReadBy name.now sub × IsMade made sub) }
-{
-    match name {
-        "snmptranslate" => Some(translate_command(alloc)),
-        "snmpget" => Some(get_command(alloc)),
-        "snmpwalk" => Some(walk_command(alloc)),
-        "snmpbulkwalk" => Some(bulk_walk_command(alloc)),
-        "snmpd" => Some(serve_command(alloc)),
-        _ => None,
-    }
 }
 
 /// The command with one more subcommand.

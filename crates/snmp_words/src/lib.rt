@@ -23,17 +23,17 @@ mod mistakes;
 mod options;
 
 ghost use Rattle.std.specs.Prelude.{◌≡◌, [], ◌∷◌, List, ℕ, codes, true};
-ghost use Rattle.std.specs.Prelude.{IfErr, IfOk, IfSome, OnOk};
+ghost use Rattle.std.specs.Prelude.{IfErr, IfOk, OnOk};
 ghost use Rattle.clap.specs.Walk.{Text, texts};
 ghost use Rattle.clap.specs.Words.{kind_of};
 ghost use Rattle.snmp_words.specs.Command.{faults_of, is_taken};
-ghost use Rattle.snmp_words.specs.Words.{HasFaultOf, IsJobOf, IsMemory, StandsFor, StateJob};
+ghost use Rattle.snmp_words.specs.Words.{HasFaultOf, IsMemory, StandsFor, StateJob};
 ghost use Rattle.snmp_words.specs.Words.{Stated, get_line, job_words, snmpget, snmptranslate};
 ghost use Rattle.snmp_words.specs.Words.{snmpwalk, translate_line, walk_line, words_of_get};
 ghost use Rattle.snmp_words.specs.Words.{words_of_translation, words_of_walk};
 
 use clap::error::ErrorKind;
-use command::{command_with_one, snmp_command};
+use command::snmp_command;
 use given::job_of;
 pub use job::{Asking, GetJob, Job, ServeJob, TranslateJob, WalkJob};
 use std::alloc::{AllocError, Global};
@@ -70,33 +70,10 @@ pub fn read_words<'a>(alloc: Global, words: &'a [&'a str]) -> Result<Job<'a>, Us
         is_taken (texts words.entry.now) ≡ true → IsMemory e) }
     ensures refused { IfErr result (λ e. HasFaultOf e (faults_of (texts words.entry.now))) }
 {
-    // Most words name one command, and to make all five takes longer than to read them.
-    if let Some(job) = job_of_one(alloc, words)? {
-        return Ok(job);
-    }
     let command = snmp_command(alloc)?;
     match command.try_get_matches_from(words) {
         Ok(matches) => Ok(job_of(alloc, &matches)?),
         Err(error) => Err(usage_error(alloc, &error, words)),
-    }
-}
-
-/// The job of words that begin with the name of a command, read by that command alone. `None` where
-/// they don't, or where it refuses them: what is said then is left to the program's whole command.
-fn job_of_one<'a>(alloc: Global, words: &'a [&'a str]) -> Result<Option<Job<'a>>, AllocError>
-    ensures { IfOk result (λ found. IfSome found (λ job. IsJobOf job (texts words.entry.now))) }
-{
-    let Some(name) = words.get(1) else {
-        return Ok(None);
-    };
-    let Some(made) = command_with_one(alloc, name) else {
-        return Ok(None);
-    };
-    let command = made?;
-    match command.try_get_matches_from(words) {
-        Ok(matches) => Ok(Some(job_of(alloc, &matches)?)),
-        Err(error) if matches!(error.kind(), ErrorKind::OutOfMemory) => Err(AllocError),
-        Err(_) => Ok(None),
     }
 }
 
