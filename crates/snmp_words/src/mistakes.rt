@@ -135,27 +135,20 @@ pub(crate) fn text_of(
     match error.kind() {
         ErrorKind::DisplayHelp => format!(in alloc; "{error}"),
         ErrorKind::DisplayVersion => format!(in alloc; "snmp {VERSION}\n"),
-        _ => {
+        kind => {
             let text = format!(in alloc; "{error}")?;
-            explained(alloc, text.as_str(), command_of(words))
+            explained(alloc, text.as_str(), command_of(kind, words))
         }
     }
 }
 
-/// The command that the words begin with, if they begin with one.
-fn command_of<'a>(words: &[&'a str]) -> Option<&'a str> {
+/// The command that the words begin with: the parser refuses a first word that names none, and an
+/// option before the command.
+fn command_of<'a>(kind: ErrorKind, words: &[&'a str]) -> Option<&'a str> {
     match words.get(1) {
-        Some(word) if is_command(word) => Some(*word),
+        Some(word) if kind != ErrorKind::InvalidSubcommand && !word.starts_with('-') => Some(*word),
         _ => None,
     }
-}
-
-/// Whether the word names a command.
-fn is_command(word: &str) -> bool {
-    matches!(
-        word,
-        "snmptranslate" | "snmpget" | "snmpwalk" | "snmpbulkwalk" | "snmpd"
-    )
 }
 
 /// The parser's text with the tips of this program in place of its own.
