@@ -9,4 +9,4 @@ mod shown;
 
 pub use index::{one_list, reads};
 pub use part::{Extent, IndexPart, one_part_reading, read_part};
-pub use shown::{index_text, numbers_text, pieces_stand_for_numbers};
+pub use shown::{index_text, is_quotable, numbers_text, pieces_stand_for_numbers};

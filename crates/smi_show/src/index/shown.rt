@@ -444,7 +444,7 @@ fn are_quotable(value: &[u32]) -> bool
 }
 
 /// Whether the octet may stand between quotes: printable, and neither a quote nor a backslash.
-fn is_quotable(octet: u32) -> bool
+pub fn is_quotable(octet: u32) -> bool
     ensures { result ≡ is_quotable octet }
 {
     32 <= octet && octet <= 126 && !(octet == 34 || octet == 39 || octet == 92)

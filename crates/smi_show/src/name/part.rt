@@ -6,6 +6,7 @@ ghost use Rattle.smi_show.specs.index.Pieces.{is_quotable};
 ghost use Rattle.smi_show.specs.name.Word.{numeral_of, quoted_in, word_of};
 ghost use Rattle.smi_show.specs.name.Part.{outcome_in};
 
+use crate::index::is_quotable;
 use crate::name::NameError;
 use crate::name::word::{Part, Piece};
 use snmp_oid::parse_number;
@@ -54,12 +55,5 @@ fn quoted(quote: u8, rest: &[u8]) -> Option<&[u8]>
 fn are_quotable(octets: &[u8]) -> bool
     ensures { result ≡ list_all is_quotable octets.now }
 {
-    octets.iter().all(|octet| is_quotable(*octet))
-}
-
-/// Whether the octet may stand between quotes: printable, and neither a quote nor a backslash.
-fn is_quotable(octet: u8) -> bool
-    ensures { result ≡ is_quotable octet }
-{
-    32 <= octet && octet <= 126 && !(octet == 34 || octet == 39 || octet == 92)
+    octets.iter().all(|octet| is_quotable(u32::from(*octet)))
 }
