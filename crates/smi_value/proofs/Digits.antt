@@ -17,7 +17,7 @@ use Rattle.std.proofs.lemmas.Int.Digits.{digits_value_more, number_after_append}
 use Rattle.std.proofs.lemmas.Str.{digit_value_digit}
 use Rattle.std.proofs.lemmas.Str.Parse.{digits_value-take-le}
 use Rattle.std.proofs.Math.Pow.{pow_mono}
-use Rattle.smi_value.specs.hint.Number.{front_digits, begins_with_digit, StartsWithNumber}
+use Rattle.smi_value.specs.hint.Number.{front_digits, StartsWithNumber}
 use Rattle.smi_value.specs.hint.Pieces.{number_of_octets}
 use Rattle.std.proofs.lemmas.Nat.{pow-add}
 use Rattle.std.proofs.lemmas.Fmt.{decimal_digit, decimal_step}
@@ -177,29 +177,3 @@ pub decimal_three : (n : ℕ) → 100 ≤ n → n < 1000 → decimal n ≡ (48 +
 decimal_three n some low =
     let tens : n / 10 / 10 ≡ n / 100 = omega arith in
     rw (decimal_step n (omega arith) (omega arith), decimal_two (n / 10) (omega arith) (omega arith), tens)
-
--- ---- one digit at the front, and none behind it
-
-no_digits : (text : List ℕ) → begins_with_digit text ≡ false → prefix_len is_ascii_digit text ≡ 0
-no_digits [] h = refl
-no_digits (octet ∷ more) h = rw h refl
-
-pub one_starts : (digit : ℕ) (rest : List ℕ) → IsInRange 48 57 digit → begins_with_digit rest ≡ false → StartsWithNumber (digit ∷ rest) (digit - 48) rest
-one_starts digit rest range e =
-    let is : is_ascii_digit digit ≡ true = search (rules, tests) in
-    let count : prefix_len is_ascii_digit (digit ∷ rest) ≡ 1 = rw (is, no_digits rest e) refl in
-    let same : front_digits (digit ∷ rest) ≡ digit ∷ [] = ap (λ (n : ℕ). take n (digit ∷ rest)) count in
-    record {
-      some = λ no. let none : digit ∷ [] ≡ [] = sym same ∙ no in absurd (cc none);
-      value = (let value : digit - 48 ≡ digits_value 10 (digit ∷ []) = omega (arith, digit_value_digit digit range) in value
-          ∙ ap (digits_value 10) (sym same));
-      after = ap (λ (front : List ℕ). drop (length front) (digit ∷ rest)) (sym same);
-    }
-
-pub starts_at : (text rest : List ℕ) (digit : ℕ) → 1 ≤ length text → digit ≡ get_or text 0 0 → rest ≡ drop 1 text → IsInRange 48 57 digit
-    → begins_with_digit rest ≡ false → StartsWithNumber text (digit - 48) rest
-starts_at [] rest digit some e f range none = absurd (omega arith)
-starts_at (octet ∷ more) rest digit some e f range none =
-    let P : ℕ → Type 0 = λ d. StartsWithNumber (d ∷ more) (digit - 48) rest in
-    let Q : List ℕ → Type 0 = λ t. StartsWithNumber (digit ∷ t) (digit - 48) rest in
-    subst P e (subst Q f (one_starts digit rest range none))

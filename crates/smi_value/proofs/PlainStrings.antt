@@ -1,7 +1,7 @@
 -- Strings that stand between quotes as they are.
-use Rattle.std.proofs.Common.{◌≡◌, ◌≢◌, ℕ, suc, ◌+◌, ◌%◌, ◌^◌, ◌<◌, ◌≤◌, Bool, true, false, cond, ltb, eqb}
-use Rattle.std.proofs.Common.{List, [], ◌∷◌, ◌++◌, length, get_or, map, replicate, w8, refl, sym, ap, ◌∙◌, arith}
-use Rattle.std.proofs.Common.{rules, tests, codes}
+use Rattle.std.proofs.Common.{◌≡◌, ℕ, suc, ◌+◌, ◌%◌, ◌^◌, ◌<◌, ◌≤◌, Bool, true, false, cond, ltb, eqb}
+use Rattle.std.proofs.Common.{List, [], ◌∷◌, length, get_or, map, replicate, w8, refl, sym, ap, ◌∙◌, arith}
+use Rattle.std.proofs.Common.{rules, tests}
 use Rattle.std.proofs.Common.{◌||◌, not}
 use Rattle.std.specs.Bool.{◌==◌, nat_le, OnTrue}
 use Rattle.std.specs.List.{flat_map, list_all}
@@ -11,11 +11,10 @@ use Rattle.std.proofs.lemmas.List.{length-map}
 use Rattle.std.proofs.lemmas.Simd.{length-chunk, bitmask_splat, tops_compared, zip2_splat_left, mask_l-mod}
 use Rattle.std.proofs.lemmas.Simd.{none_from_empty_mask}
 use lib.Lanes.{chunk, mask_l, zip2, top}
-use Rattle.smi_value.specs.declared.letters.letters.Letters.{Letters}
 use Rattle.smi_value.specs.declared.letters.letters.StringForm.{StringForm}
 use Rattle.smi_value.specs.declared.letters.letters.StringForm.TheVariants as strings
 use Rattle.smi_value.specs.Texts.{is_printable, escaped}
-use Rattle.smi_value.specs.Pieces.{ArePlain, IsShownPlain, is_plain, dotted, string_text, type_word}
+use Rattle.smi_value.specs.Pieces.{ArePlain, IsShownPlain, is_plain, dotted}
 
 -- what the mask of a test of lanes is, with the octet that all are compared with on the left
 left_mask : (t : ℕ → ℕ → Bool) (lanes : List ℕ) (n y : ℕ) → length lanes ≡ n → n ≤ 64
@@ -95,8 +94,3 @@ pub shown_where_plain : (b : Bool) (form : StringForm) (octets : List ℕ) → (
     → OnTrue b (IsShownPlain form octets)
 shown_where_plain true form octets text h = shown_plain form octets text h
 shown_where_plain false form octets text h = tt
-
-pub plain_string : (letters : Letters) (octets : List ℕ) → octets ≢ [] → IsShownPlain letters.strings octets
-    → string_text letters octets ≡ type_word letters (codes "STRING: ") ++ (codes "\"" ++ octets ++ codes "\"")
-plain_string letters [] some h = absurd (some refl)
-plain_string letters (octet ∷ more) some h = rw (h.text, h.same) refl
