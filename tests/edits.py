@@ -3,12 +3,19 @@
 gate, which tries the most telling ones, those of crates/NAME/must-fail.
 
 usage: edits.py [CRATE..]
+       edits.py --stale
 
 The edits of a crate are tried on a copy of the repository in their place, over what `rt check` kept of it: so check
-the crate first. Each takes a processor 10 to 60 seconds, those of large crates most. The last line is
-'N passed, M failed'.
+the crate first. Each takes a processor 10 to 60 seconds, those of large crates most. Where all of a crate's were
+refused, its line in tests/edits/tried.txt has the hash of what they were tried over: its sources, definitions, proofs
+and edits, and the definitions of the crates below it, all without comments. Where one wasn't, the crate has no line.
+
+With --stale nothing is tried: each crate passes that stands as its line has it, and fails that has another line, or
+none. The last line is 'N passed, M failed'.
 """
+import hashlib
 import os
+import re
 import shutil
 import subprocess
 import sys
@@ -16,6 +23,79 @@ import tempfile
 
 TOP = os.path.dirname(os.path.dirname(os.path.abspath(__file__)))
 EDITS = os.path.join(TOP, "tests", "edits")
+TRIED = os.path.join(EDITS, "tried.txt")
+HEAD = "# Of each crate whose edits were all refused, the hash of what they were tried over: tests/edits.py wrote it.\n"
+COMMENTS = {".rt": b"//", ".antt": b"--"}
+
+
+def edits_of_crates():
+    """The edits of each crate that has some, by their names."""
+    crates = sorted(entry.name for entry in os.scandir(EDITS) if entry.is_dir())
+    return {crate: {name.removesuffix(".edit") for name in os.listdir(os.path.join(EDITS, crate))} for crate in crates}
+
+
+def crates_below(crate):
+    """The crates of the repository that a crate stands on, in order."""
+    with open(os.path.join(TOP, "crates.txt"), encoding="utf-8") as file:
+        lines = (line.partition(":") for line in file if not line.startswith("#"))
+        uses = {head.split()[0]: used.split() for head, _, used in lines if head.strip()}
+    found, left = set(), [crate]
+    while left:
+        new = {used for used in uses[left.pop()] if used in uses} - found
+        found |= new
+        left += new
+    return sorted(found)
+
+
+def statements_of(path):
+    """What a file says: its lines, but for blank ones and comments."""
+    mark = COMMENTS.get(os.path.splitext(path)[1])
+    with open(path, "rb") as file:
+        lines = (line.strip() for line in file)
+        return b"\n".join(line for line in lines if line and not (mark and line.startswith(mark)))
+
+
+def hash_of(crate):
+    """The hash of what decides whether the edits of a crate are refused."""
+    folders = [f"crates/{crate}/{part}" for part in ("src", "specs", "proofs", "must-fail")] + [f"tests/edits/{crate}"]
+    folders += [f"crates/{below}/specs" for below in crates_below(crate)]
+    hashed = hashlib.sha256()
+    for folder in folders:
+        paths = (os.path.join(at, name) for at, _, names in os.walk(os.path.join(TOP, folder)) for name in names)
+        for path in sorted(paths):
+            said = statements_of(path)
+            hashed.update(f"{os.path.relpath(path, TOP)} {len(said)}\n".encode() + said)
+    return hashed.hexdigest()
+
+
+def tried():
+    """The hash of each crate that has a line."""
+    if not os.path.exists(TRIED):
+        return {}
+    with open(TRIED, encoding="ascii") as file:
+        return dict(line.split() for line in file if not line.startswith("#"))
+
+
+def write_tried(hashes):
+    with open(TRIED, "w", encoding="ascii") as file:
+        file.write(HEAD + "".join(f"{crate} {hashes[crate]}\n" for crate in sorted(hashes)))
+
+
+def say_stale(of):
+    """Says which crates don't stand as their edits were tried, and returns how many those are."""
+    hashes, stale = tried(), 0
+    for crate in sorted({*of, *hashes}):
+        if crate not in of:
+            wrong = "it has a line and no edits"
+        elif crate not in hashes:
+            wrong = "it has no line"
+        else:
+            wrong = "" if hash_of(crate) == hashes[crate] else "it isn't what its edits were tried over"
+        if wrong:
+            print(f"{crate}: {wrong} (tests/edits.py {crate})")
+        stale += wrong != ""
+    print(f"{len({*of, *hashes}) - stale} passed, {stale} failed")
+    return stale
 
 
 def copied(room):
@@ -26,27 +106,43 @@ def copied(room):
     for crate in os.listdir(os.path.join(room, "crates")):
         place = os.path.join(room, "crates", crate, "must-fail")
         shutil.rmtree(place, ignore_errors=True)
-        if crate in os.listdir(EDITS):
+        if os.path.isdir(os.path.join(EDITS, crate)):
             shutil.copytree(os.path.join(EDITS, crate), place)
 
 
+def refused(crates, of):
+    """Tries the edits of these crates, and returns those of each that were refused."""
+    found = {crate: set() for crate in crates}
+    # Beside the checkout, so that files can have a second name there.
+    with tempfile.TemporaryDirectory(prefix=".edits-", dir=os.path.dirname(TOP)) as room:
+        copied(room)
+        tries = subprocess.Popen(["rt", "must-fail", *crates], cwd=room, stdout=subprocess.PIPE, text=True)
+        for line in tries.stdout:
+            print(line, end="", flush=True)
+            if ": refused, as it must be" in line and "only because a proof file names" not in line:
+                words = set(re.findall(r"\w+", line))
+                for crate in words.intersection(crates):
+                    found[crate] |= of[crate] & words
+        tries.wait()
+    return found
+
+
 def main(names):
-    of = {crate: len(os.listdir(os.path.join(EDITS, crate))) for crate in sorted(os.listdir(EDITS))}
+    of = edits_of_crates()
+    if names == ["--stale"]:
+        return 1 if say_stale(of) else 0
     unknown = [name for name in names if name not in of]
     if unknown:
         sys.exit(f"edits.py: no edits of {unknown[0]}; there are some of {' '.join(of)}")
     crates = names or list(of)
-    # Beside the checkout, so that files can have a second name there.
-    with tempfile.TemporaryDirectory(prefix=".edits-", dir=os.path.dirname(TOP)) as room:
-        copied(room)
-        tried = subprocess.Popen(["rt", "must-fail", *crates], cwd=room, stdout=subprocess.PIPE, text=True)
-        refused = 0
-        for line in tried.stdout:
-            print(line, end="", flush=True)
-            refused += ": refused, as it must be" in line and "only because a proof file names" not in line
-        tried.wait()
-    failed = sum(of[crate] for crate in crates) - refused
-    print(f"{refused} passed, {failed} failed")
+    before = {crate: hash_of(crate) for crate in crates}
+    found = refused(crates, of)
+    # What has changed since it was copied was tried in part at most.
+    passed = {crate: before[crate] for crate in crates if found[crate] == of[crate] and hash_of(crate) == before[crate]}
+    write_tried({crate: value for crate, value in tried().items() if crate not in crates} | passed)
+    done = sum(len(found[crate]) for crate in crates)
+    failed = sum(len(of[crate]) for crate in crates) - done
+    print(f"{done} passed, {failed} failed")
     return 1 if failed else 0
 
 
