@@ -1,9 +1,10 @@
 // A heap that refuses memory, for tests/heap.py: LD_PRELOAD=heap.so PROGRAM WORD..
 //
 // The program is run by its words again and again: its i-th request for memory is refused alone, and then with all
-// later ones, for i from 1 until a run asks for fewer, so that none is refused. Each answer is printed once: whether
-// memory was refused (`ample` or `refused`), how often it came, the status (128 and more for a signal), how many blocks
-// were kept at the end, and what was written to output and error output, in hexadecimal, `-` for nothing.
+// later ones, for i from 1 until a run asks for fewer, so that none is refused. Each answer is printed once: which
+// requests were refused (`none`, one `alone`, or one and `later` ones), how often it came, the first and the last i of
+// it, the status (128 and more for a signal), how many blocks were kept at the end, and what was written to output and
+// error output, in hexadecimal, `-` for nothing.
 #define _GNU_SOURCE
 #include <stddef.h>
 #include <stdio.h>
@@ -48,8 +49,9 @@ void free(void *block) {
 }
 
 #define ANSWERS 2048
+enum { NONE, ALONE, LATER };
 static struct answer {
-    unsigned long times;
+    unsigned long times, from, to;
     int refused, status;
     long kept;
     size_t length[2];
@@ -70,12 +72,13 @@ static void note(struct answer *got) {
     if (i == ANSWERS) _exit(99);
     if (i == count) answers[count++] = *got;
     answers[i].times++;
+    answers[i].to = got->to;
 }
 
 // One run, with the requests from `first` to `last` refused; whether any was. It returns in the run itself too, by -1,
 // which then goes on to the program's `main`.
 static int goes_on(int files[2], unsigned long first, unsigned long last) {
-    struct answer got = {0};
+    struct answer got = {.from = first, .to = first};
     *run = (struct run){first, last, 0, 0, 0};
     for (int to = 0; to < 2; to++)
         if (ftruncate(files[to], 0)) _exit(99);
@@ -90,7 +93,7 @@ static int goes_on(int files[2], unsigned long first, unsigned long last) {
     }
     int status = 0;
     waitpid(child, &status, 0);
-    got.refused = run->refused != 0;
+    got.refused = run->refused == 0 ? NONE : last == first ? ALONE : LATER;
     got.status = WIFSIGNALED(status) ? 128 + WTERMSIG(status) : WEXITSTATUS(status);
     got.kept = run->kept;
     for (int to = 0; to < 2; to++) {
@@ -99,7 +102,7 @@ static int goes_on(int files[2], unsigned long first, unsigned long last) {
         if (pread(files[to], got.text[to], got.length[to], 0) != (ssize_t)got.length[to]) _exit(99);
     }
     note(&got);
-    return got.refused;
+    return got.refused != NONE;
 }
 
 __attribute__((constructor)) static void begin(void) {
@@ -117,7 +120,8 @@ __attribute__((constructor)) static void begin(void) {
     run = NULL;
     for (size_t i = 0; i < count; i++) {
         struct answer *it = &answers[i];
-        printf("%s %lu %d %ld", it->refused ? "refused" : "ample", it->times, it->status, it->kept);
+        const char *refused = it->refused == NONE ? "none" : it->refused == ALONE ? "alone" : "later";
+        printf("%s %lu %lu %lu %d %ld", refused, it->times, it->from, it->to, it->status, it->kept);
         for (int to = 0; to < 2; to++) {
             printf(it->length[to] ? " " : " -");
             for (size_t at = 0; at < it->length[to]; at++) printf("%02x", (unsigned char)it->text[to][at]);

@@ -7,10 +7,12 @@ usage: heap.py
 Each run has its whole answer, or is refused, and what was to be changed is as it was; each block that it took is given
 back. Of a command line that is refused, what is written is whole lines from the beginning of its text, and 'Out of
 memory.' with status 1 (or that of an agent's error). Where no request was refused, the answer is the whole one, with
-the message of its own reason. The last line is 'N passed, M failed'.
+the message of its own reason; so it is where one was that can't end the call, as where that was made once more. The
+last line is 'N passed, M failed'.
 
 Catches, in wrong programs that prove as well: half a line where memory runs out; a beginning of the lines at status 0,
-or without a message; a line that is left out; a block that is kept; 'Out of memory.' where no request was refused.
+or without a message; a line that is left out; a block that is kept; 'Out of memory.' where no request was refused; a
+run that gives up wherever one is.
 """
 import os
 import shutil
@@ -19,8 +21,8 @@ import sys
 import tempfile
 
 import network
-from network import (E, GET, NULL, PROGRAM, RESPONSE, ROOT, Server, dotted, element, here, message, read, served, test,
-                     text)
+from network import (E, GET, NULL, PROGRAM, RESPONSE, ROOT, Server, dotted, element, here, integer, message, read,
+                     served, test, text)
 
 # Its own tests are run by itself.
 network.tests.clear()
@@ -38,19 +40,30 @@ def path(name, octets):
     return name
 
 
-def judged(words, is_whole, is_refused, keeps=False):
-    """What is wrong with the answers of a program, whose status, output and messages these are told."""
+def judged(words, is_whole, is_refused, keeps=False, spared=0):
+    """What is wrong with the answers of a program, whose status, output and messages these are told; the second is told
+    first whether one request was refused `alone`, or `later` ones too. Where requests are spared, none of the last, so
+    many at least, ends it alone: until then it is refused, but for one request perhaps of those for its words."""
     ran = subprocess.run(words, cwd=folder.name, env={**os.environ, "LD_PRELOAD": f"{folder.name}/heap.so"},
                          stdin=subprocess.DEVNULL, capture_output=True, text=True, timeout=300, check=False)
-    wrong, refusals = [], 0
+    wrong, refusals, wholes, last_refused, last_whole = [], 0, 0, 0, 0
     for line in ran.stdout.splitlines():
-        how, times, status, kept, *texts = line.split(" ")
-        answer = (int(status), *(bytes.fromhex(it.strip("-")).decode(errors="replace") for it in texts))
-        refusals += int(times) * (how == "refused")
-        if not (is_whole(*answer) or how == "refused" and is_refused(*answer)) or (kept != "0" and not keeps):
-            wrong.append(f"{how}, {times} times, {kept} blocks kept: {str(answer)[:300]}")
+        how, *numbers, output, said = line.split(" ")
+        times, first, last, status, kept = (int(number) for number in numbers)
+        answer = (status, *(bytes.fromhex(it.strip("-")).decode(errors="replace") for it in (output, said)))
+        whole = is_whole(*answer)
+        refusals += times * (how != "none")
+        if not (whole or how != "none" and is_refused(how, *answer)) or (kept and not keeps):
+            wrong.append(f"{how}, {times} times from the {first}. request on, {kept} blocks kept: {str(answer)[:300]}")
+        if how == "alone" and whole:
+            wholes, last_whole = wholes + times, max(last, last_whole)
+        elif how == "alone":
+            last_refused = max(last, last_refused)
     if ran.returncode or ran.stderr or refusals == 0:
         wrong.append(f"status {ran.returncode}, {ran.stderr!r}, {refusals} runs were refused memory")
+    late = last_whole - last_refused
+    if spared and (late < spared or wholes > late + 1):
+        wrong.append(f"alone, whole at {wholes} requests, and {late} of these after the last at which it is refused")
     return "\n  ".join(wrong[:5])
 
 
@@ -72,12 +85,13 @@ def shown(rows):
     return served(rows, read(ASKED)).decode(errors="replace")
 
 
-def calls(title, check, a, b, whole):
+def calls(title, check, a, b, whole, spared=0):
     @test(f"{title}, with each request for memory refused")
     def it():
         files = [path(f"{title.replace(' ', '_')}.{i}", octets) for i, octets in enumerate([a, b])]
+        refused = {"alone": [(1, "", "")], "later": [(1, "", ""), (3, "", "")]}
         return judged([CHECKS, check, *files], lambda *answer: answer == (0, whole, ""),
-                      lambda *answer: answer == (1, "", ""))
+                      lambda how, *answer: answer in refused[how], spared=spared)
 
 
 calls("Value::from_ref", "values",
@@ -87,6 +101,7 @@ calls("Table::read", "table", TABLE, ASKED, shown(ROWS))
 LINES = TABLE.splitlines(keepends=True)
 calls("Table::read in no order", "table", b"".join(LINES[i * 121 % len(LINES)] for i in range(len(LINES))), ASKED,
       shown(ROWS))
+calls("Table::read_with", "table_with", b"#snmptab 2\n" + TABLE, ASKED, shown(ROWS))
 calls("Table::put", "put", TABLE, ASKED, shown({**ROWS, E + (1, 5, 0): text(b"sextet")}))
 IN_PLACE = TABLE + b".1.3.6.1.4.1.32473.1.5.0|2|1"
 calls("Table::put in place of a value", "put", IN_PLACE, ASKED, shown({**ROWS, E + (1, 5, 0): text(b"sextet")}))
@@ -95,6 +110,10 @@ LONG = b"a string of 43 octets, more than in a place"
 calls("Table::put of a long value", "put_long", TABLE, ASKED, shown({**ROWS, E + (1, 5, 0): text(LONG)}))
 calls("Table::put of a long value in place of another", "put_long", IN_PLACE, ASKED,
       shown({**ROWS, E + (1, 5, 0): text(LONG)}))
+GIVEN = "".join(f"{dotted(name)}\n{name[-2]}\n" for name in ROWS)
+calls("run_walk by GetNext", "walk", TABLE, f"{dotted(E)}.1".encode(), GIVEN, spared=10)
+calls("run_walk by GetBulk", "bulk_walk", TABLE, f"{dotted(E)}.1".encode(), GIVEN, spared=5)
+calls("MemoryLink::reserve", "reserved", TABLE, f"{dotted(E)}.1".encode(), GIVEN, spared=2)
 LABELS = """TINY-SMI enterprises private internet TINY-MIB tiny Mac tinyState tinyTable tinyEntry TinyEntry tinyName
 tinyMac tinyKeyTable tinyKeyEntry TinyKeyEntry tinyKeyUse loopA loopB
 """
@@ -104,10 +123,21 @@ NODES = [".0", ".1", ".2", ".1.3.6.1.4.1", ".1.3.6.1.4", ".1.3.6.1"] + [f"{dotte
 calls("Tree::load", "tree", TINY, b"", "".join(f"{name}\n" for name in NODES))
 calls("write_hint", "hint", b"2d-1d-1d,1d:1d:1d.1d,1a1d:1d", bytes.fromhex("07C8051A0D1E0F002D0400"),
       "before: 1992-5-26,13:30:15.0,-4:0")
+calls("write_hint of a number", "hint", b"d-2", b"", "before: -12345.67")
 MAC = f"{dotted(E)}.2.1.2.3.119.101.115"
 calls("name_text", "name", TINY, MAC.encode(), 'before: TINY-MIB::tinyMac."wes"')
 calls("value_text", "value", TINY, MAC.encode(), "before: STRING: 0:16:3e:5a:78:8e")
 calls("line", "line", TINY, MAC.encode(), 'before: TINY-MIB::tinyMac."wes" = STRING: 0:16:3e:5a:78:8e\n')
+OF_COLUMN = E + (2, 1, 2, 3)
+calls("LineWriter::line", "lines", TINY, message(RESPONSE, 1, [
+    (OF_COLUMN + tuple(b"wes"), text(b"\0\x16\x3e\x5a\x78\x8e")), (OF_COLUMN + tuple(b"ada"), text(b"\1\2\3\4\5\6")),
+    (E + (1, 0), integer(2)), (E + (3, 1, 1, 97), integer(7, 0x42)), ((1, 3), text(b"x" * 300))]),
+      f"""before: TINY-MIB::tinyMac."wes" = STRING: 0:16:3e:5a:78:8e
+TINY-MIB::tinyMac."ada" = STRING: 1:2:3:4:5:6
+TINY-MIB::tinyState.0 = INTEGER: down(2)
+TINY-MIB::tinyKeyUse.'a' = Gauge32: 7 jobs
+iso.3 = STRING: "{'x' * 300}"
+""", spared=3)
 DETAIL = """TINY-MIB::tinyState
 tinyState OBJECT-TYPE
   -- FROM	TINY-MIB
@@ -150,7 +180,7 @@ def runs(words, output, messages="", status=0, table=THREE, modules=TINY):
         whole = whole.returncode, whole.stdout, whole.stderr
         wrong = network.differs(whole, (status, whole[1] if output is None else output, said))
         # The status of an agent's error stays where its message can't be made.
-        return wrong or judged(line, lambda *answer: answer == whole, lambda ended, wrote, said: (
+        return wrong or judged(line, lambda *answer: answer == whole, lambda _, ended, wrote, said: (
             ended in (1, status or 1) and whole[1].startswith(wrote) and wrote[-1:] in ("", "\n")
             and said in (MEMORY, warnings + MEMORY)))
 
@@ -161,7 +191,7 @@ def over_udp():
     with Server(table=THREE.decode()) as server:
         # The system's own calls take memory too, and may keep it.
         return judged([PROGRAM, "snmpwalk", "-On", "-t4", server.place, ROOT], lambda *answer: answer == (0, whole, ""),
-                      lambda status, wrote, said: (status == 1 and whole.startswith(wrote) and wrote[-1:] in ("", "\n")
+                      lambda _, status, wrote, said: (status == 1 and whole.startswith(wrote) and wrote[-1:] in ("", "\n")
                                                    and said in (MEMORY, "The link failed.\n")), keeps=True)
 
 

@@ -196,6 +196,9 @@ static int writes;
 #ifdef UNREADABLE_IS_MEMORY
 #define WRITES if (d == 2 && memmem(b, n, "cannot be read", 14)) { next(2, "Out of memory.\n", 15); return (ssize_t)n; }
 #endif
+#ifdef GIVES_UP
+#define WRITES if (d == 1 && IS_REFUSED) _exit(1);
+#endif
 #ifdef A_BLOCK_IS_KEPT
 #define WRITES block = malloc(1);
 #endif

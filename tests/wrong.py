@@ -64,8 +64,9 @@ WITHOUT_MEMORY = {
     "STATUS_0": ["snmpwalk -On table", "snmpget --help", "over UDP"],
     "LONG_IS_MEMORY": ["snmpget -v", "snmpwalk table:x", "snmptranslate x"],
     "A_BLOCK_IS_KEPT": ["snmpwalk -On table", "line, with"],
-    "ANOTHER_ANSWER": ["Value::from_ref", "Table::", "parse_modules", "Tree::load", "write_hint", "_text, with",
-                       "line, with", "detail, with"],
+    "GIVES_UP": ["run_walk", "MemoryLink::reserve", "LineWriter::line"],
+    "ANOTHER_ANSWER": ["Value::from_ref", "Table::", "run_walk", "MemoryLink::reserve", "parse_modules", "Tree::load",
+                       "write_hint", "_text, with", "line, with", "detail, with"],
 }
 # Those that attack.py catches, of snmpd and of the walkers.
 UNDER_ATTACK = {

@@ -2,13 +2,13 @@
 
 use crate::Fault;
 use crate::room::Room;
-use snmp_agent::{Config, Outcome, PutError, Table, TableError, answer};
+use snmp_agent::{Config, NumericNames, Outcome, PutError, Table, TableError, answer};
 use snmp_oid::{Oid, parse_numeric};
 use snmp_wire::{Value, ValueRef, decode};
 use std::alloc::Global;
 
 /// The agent's community and greatest message.
-const CONFIG: Config<'static> = Config {
+pub(crate) const CONFIG: Config<'static> = Config {
     community: b"public",
     max_size: 1472,
 };
@@ -29,8 +29,13 @@ pub fn values(alloc: Global, datagram: &[u8], room: &mut Room<'_>) -> Result<(),
 }
 
 /// The table that a text states.
-fn table_of(alloc: Global, text: &[u8]) -> Result<Table, Fault> {
-    match Table::read(alloc, text) {
+pub(crate) fn table_of(alloc: Global, text: &[u8]) -> Result<Table, Fault> {
+    read(Table::read(alloc, text))
+}
+
+/// The table that was read.
+fn read(table: Result<Table, TableError>) -> Result<Table, Fault> {
+    match table {
         Ok(table) => Ok(table),
         Err(TableError::Memory) => Err(Fault::Refused),
         Err(_) => Err(Fault::Wrong),
@@ -40,6 +45,18 @@ fn table_of(alloc: Global, text: &[u8]) -> Result<Table, Fault> {
 /// `Table::read`: the reply to a request over the table.
 pub fn table(alloc: Global, text: &[u8], request: &[u8], room: &mut Room<'_>) -> Result<(), Fault> {
     let table = table_of(alloc, text)?;
+    reply(&table, request, room);
+    Ok(())
+}
+
+/// `Table::read_with`: the reply to a request over the table.
+pub fn table_with(
+    alloc: Global,
+    text: &[u8],
+    request: &[u8],
+    room: &mut Room<'_>,
+) -> Result<(), Fault> {
+    let table = read(Table::read_with(alloc, text, &NumericNames))?;
     reply(&table, request, room);
     Ok(())
 }

@@ -4,6 +4,7 @@
 //! A check makes a call that takes memory, on the octets of the two files. It prints the call's
 //! whole answer, for which it takes none, with status 0; or nothing, with status 1, where memory
 //! was refused and it has seen that what was to be changed is as it was. Status 2: a wrong answer.
+//! Status 3: memory was refused, and again where what was refused was done once more.
 //! `tests/room.py` runs some over a heap that tells how much of it they hold.
 #![tactic(auto)]
 
@@ -11,9 +12,11 @@ mod agents;
 mod modules;
 mod room;
 mod texts;
+mod walks;
 
 use crate::room::Room;
 use snmp_io::{FileFault, Files, MachineFiles, MachineOutput, write_all};
+use snmp_walk::Method;
 use std::alloc::Global;
 use std::env::Env;
 use std::process::ExitCode;
@@ -27,6 +30,8 @@ const LONG: &[u8] = b"a string of 43 octets, more than in a place";
 pub(crate) enum Fault {
     /// Memory was refused, and what was to be changed is as it was.
     Refused,
+    /// The same, and memory was refused again where that was done once more.
+    Again,
     /// What was to be changed isn't as it was, or an error has no cause.
     Wrong,
 }
@@ -44,6 +49,7 @@ fn main(rt: HostRuntime) -> ExitCode {
         }
         Err(Fault::Refused) => 1,
         Err(Fault::Wrong) => 2,
+        Err(Fault::Again) => 3,
     };
     ExitCode::from(status)
 }
@@ -85,13 +91,18 @@ fn check_by(
     match check {
         "values" => agents::values(alloc, first, room),
         "table" => agents::table(alloc, first, second, room),
+        "table_with" => agents::table_with(alloc, first, second, room),
         "put" => agents::put(alloc, first, b"sextet", second, room),
         "put_long" => agents::put(alloc, first, LONG, second, room),
         "half" => agents::removed(alloc, first, second, 2, room),
         "sparse" => agents::removed(alloc, first, second, 64, room),
+        "walk" => walks::walk(alloc, first, second, Method::Next, room),
+        "bulk_walk" => walks::walk(alloc, first, second, Method::Bulk(10), room),
+        "reserved" => walks::reserved(alloc, first, second, room),
         "modules" => modules::modules(alloc, first, room),
         "tree" => modules::tree(alloc, first, room),
         "hint" => texts::hint(alloc, first, second, room),
+        "lines" => texts::lines(alloc, first, second, room),
         _ => texts::shown(alloc, check, first, second, room),
     }
 }

@@ -3,11 +3,11 @@
 use crate::Fault;
 use crate::modules::tree_of;
 use crate::room::Room;
-use smi_show::{Letters, detail, line, name_text, value_text};
+use smi_show::{Letters, LineWriter, detail, line, name_text, value_text};
 use smi_tree::Tree;
 use smi_value::{Hint, HintValue, write_hint};
 use snmp_oid::{Oid, parse_numeric};
-use snmp_wire::ValueRef;
+use snmp_wire::{ValueRef, decode};
 use std::alloc::{AllocError, Global};
 
 const BEFORE: &[u8] = b"before: ";
@@ -24,7 +24,7 @@ fn told(ended: Result<(), AllocError>, text: &[u8], room: &mut Room<'_>) -> Resu
     }
 }
 
-/// `write_hint`, of octets.
+/// `write_hint`, of octets, or of -1234567 where the hint is one of integers.
 pub fn hint(alloc: Global, hint: &[u8], octets: &[u8], room: &mut Room<'_>) -> Result<(), Fault> {
     let Ok(mut text) = Vec::from_slice(alloc, BEFORE) else {
         return Err(Fault::Refused);
@@ -32,11 +32,46 @@ pub fn hint(alloc: Global, hint: &[u8], octets: &[u8], room: &mut Room<'_>) -> R
     let Some(hint) = Hint::parse(hint) else {
         return Err(Fault::Wrong);
     };
-    if hint.is_number() {
-        return Err(Fault::Wrong);
-    }
-    let ended = write_hint(&hint, HintValue::Octets(octets), &mut text);
+    let ended = if hint.is_number() {
+        write_hint(&hint, HintValue::Number(-1234567), &mut text)
+    } else {
+        write_hint(&hint, HintValue::Octets(octets), &mut text)
+    };
     told(ended, text.as_slice(), room)
+}
+
+/// `LineWriter::line`, by the modules of a text, of each binding of a message. A line that is
+/// refused is written once more, by the same writer.
+pub fn lines(
+    alloc: Global,
+    modules: &[u8],
+    datagram: &[u8],
+    room: &mut Room<'_>,
+) -> Result<(), Fault> {
+    let tree = tree_of(alloc, modules)?;
+    let Ok(message) = decode(datagram) else {
+        return Err(Fault::Wrong);
+    };
+    let Ok(mut text) = Vec::from_slice(alloc, BEFORE) else {
+        return Err(Fault::Refused);
+    };
+    room.append(BEFORE);
+    let letters = Letters::new();
+    let mut writer = LineWriter::new(&tree);
+    'bindings: for binding in message.bindings() {
+        let (name, value) = (&binding.name, &binding.value);
+        if writer.line(&letters, name, value, &mut text).is_err() {
+            if text.as_slice() != room.octets() {
+                return Err(Fault::Wrong);
+            }
+            if writer.line(&letters, name, value, &mut text).is_err() {
+                return Err(Fault::Again);
+            }
+        }
+        let new = text.get(room.octets().len()..).unwrap_or(&[]);
+        room.append(new);
+    }
+    Ok(())
 }
 
 /// `name_text`, `value_text`, `line` or `detail`, by the modules of a text, of the instance of this

@@ -1,0 +1,94 @@
+//! Walks over an agent in memory.
+
+use crate::Fault;
+use crate::agents::{CONFIG, table_of};
+use crate::room::Room;
+use snmp_oid::parse_numeric;
+use snmp_walk::{Link, MemoryLink, Method, Mode, Sink, SinkFault, WalkCore, WalkEnd, run_walk};
+use snmp_wire::{Binding, ValueRef};
+use std::alloc::Global;
+
+/// How many requests of a walk memory is reserved for, and how many octets each has at most.
+const REQUESTS: usize = 320;
+
+const REQUEST_SIZE: usize = 1000;
+
+/// Appends the name of each of its bindings, and its value where that is a string, as lines.
+#[derive(Drop)]
+struct Rows<'r, 'a> {
+    room: &'r mut Room<'a>,
+}
+
+impl<'r, 'a> Sink for Rows<'r, 'a> {
+    ghost takes = { λ _ _ _ _. Unit {0} };
+
+    fn row(&mut self, binding: &Binding<'_>) -> Result<(), SinkFault> {
+        self.room.append_name(&binding.name);
+        if let ValueRef::Octets(string) = binding.value {
+            self.room.append_line(string);
+        }
+        Ok(())
+    }
+}
+
+/// How the walk below a root ends; what it gives is appended.
+fn walk_over(
+    link: &mut MemoryLink<'_>,
+    root: &[u8],
+    method: Method,
+    room: &mut Room<'_>,
+) -> Result<WalkEnd, Fault> {
+    let method = match method {
+        Method::Next => Method::Next,
+        Method::Bulk(repetitions) => Method::Bulk(repetitions.max(1)),
+    };
+    let Ok(root) = parse_numeric(root) else {
+        return Err(Fault::Wrong);
+    };
+    let Ok(core) = WalkCore::start(root, Mode::Plain, method, b"public", 1) else {
+        return Err(Fault::Wrong);
+    };
+    let mut rows = Rows { room };
+    Ok(run_walk(link, core, 0, &mut rows))
+}
+
+/// `run_walk` over a `MemoryLink`. Where memory for a request is refused, the link has counted a
+/// fault, and serves another walk, of which what the first gave is a front.
+pub fn walk(
+    alloc: Global,
+    text: &[u8],
+    root: &[u8],
+    method: Method,
+    room: &mut Room<'_>,
+) -> Result<(), Fault> {
+    let table = table_of(alloc, text)?;
+    let mut link = MemoryLink::new(alloc, &table, CONFIG, &[]);
+    let mut octets = [0; 16384];
+    let mut front = Room::new(&mut octets);
+    match walk_over(&mut link, root, method, &mut front)? {
+        WalkEnd::Done(_) => {
+            room.append(front.octets());
+            return Ok(());
+        }
+        WalkEnd::Link if link.faults() == 1 => {}
+        _ => return Err(Fault::Wrong),
+    }
+    match walk_over(&mut link, root, method, room)? {
+        WalkEnd::Done(_) if room.octets().starts_with(front.octets()) => Ok(()),
+        WalkEnd::Link if link.faults() == 2 => Err(Fault::Again),
+        _ => Err(Fault::Wrong),
+    }
+}
+
+/// `MemoryLink::reserve`: what is reserved is enough for a walk. Where that is refused, the link is
+/// as before, and serves one too.
+pub fn reserved(alloc: Global, text: &[u8], root: &[u8], room: &mut Room<'_>) -> Result<(), Fault> {
+    let table = table_of(alloc, text)?;
+    let mut link = MemoryLink::new(alloc, &table, CONFIG, &[]);
+    let ready = link.reserve(REQUESTS, REQUESTS * REQUEST_SIZE).is_ok();
+    match walk_over(&mut link, root, Method::Next, room)? {
+        WalkEnd::Done(_) => Ok(()),
+        WalkEnd::Link if !ready => Err(Fault::Again),
+        _ => Err(Fault::Wrong),
+    }
+}
