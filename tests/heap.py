@@ -7,8 +7,8 @@ usage: heap.py
 Each run has its whole answer, or is refused, and what was to be changed is as it was; each block that it took is given
 back. Of a command line that is refused, what is written is whole lines from the beginning of its text, and 'Out of
 memory.' with status 1 (or that of an agent's error). Where no request was refused, the answer is the whole one, with
-the message of its own reason; so it is where one was that can't end the call, as where that was made once more. The
-last line is 'N passed, M failed'.
+the message of its own reason; so it is where one was that can't end the call: memory for rows that are gathered, or
+where that was made once more. The last line is 'N passed, M failed'.
 
 Catches, in wrong programs that prove as well: half a line where memory runs out; a beginning of the lines at status 0,
 or without a message; a line that is left out; a block that is kept; 'Out of memory.' where no request was refused; a
@@ -101,6 +101,17 @@ calls("Table::read", "table", TABLE, ASKED, shown(ROWS))
 LINES = TABLE.splitlines(keepends=True)
 calls("Table::read in no order", "table", b"".join(LINES[i * 121 % len(LINES)] for i in range(len(LINES))), ASKED,
       shown(ROWS))
+# Rows in order, and among them as many in no order as tell that rows are gathered from then on: more of these, the last
+# of all, long ones, and an object. One request that is refused while rows are gathered doesn't end the reading.
+GATHERED = {E + (1, 2 * at, 0): b"%d" % at for at in range(10000)}
+GATHERED |= {E + (1, 2 * (at * 619 % 10000) + 1, 0): b"%d" % at for at in range(460)}
+GATHERED |= {E + (1, 20000, 0): b"last"} | {E + (1, at, 1): b"a long one" * 6 for at in range(20)}
+NO_ORDER = [f"{dotted(name)}|4|{string.decode()}\n" for name, string in GATHERED.items()]
+NO_ORDER.insert(-9, f"object {dotted(E)}.2\n")
+calls("Table::read of rows that are gathered", "table", "".join(NO_ORDER).encode(), ASKED,
+      shown({name: text(string) for name, string in GATHERED.items()}), spared=20)
+calls("Table::read of a name that is gathered twice", "double", "".join(NO_ORDER + NO_ORDER[10450:10451]).encode(), b"",
+      f".{len(NO_ORDER) + 1}\n", spared=20)
 calls("Table::read_with", "table_with", b"#snmptab 2\n" + TABLE, ASKED, shown(ROWS))
 calls("Table::put", "put", TABLE, ASKED, shown({**ROWS, E + (1, 5, 0): text(b"sextet")}))
 IN_PLACE = TABLE + b".1.3.6.1.4.1.32473.1.5.0|2|1"

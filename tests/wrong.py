@@ -64,7 +64,7 @@ WITHOUT_MEMORY = {
     "STATUS_0": ["snmpwalk -On table", "snmpget --help", "over UDP"],
     "LONG_IS_MEMORY": ["snmpget -v", "snmpwalk table:x", "snmptranslate x"],
     "A_BLOCK_IS_KEPT": ["snmpwalk -On table", "line, with"],
-    "GIVES_UP": ["run_walk", "MemoryLink::reserve", "LineWriter::line"],
+    "GIVES_UP": ["that are gathered", "gathered twice", "run_walk", "MemoryLink::reserve", "LineWriter::line"],
     "ANOTHER_ANSWER": ["Value::from_ref", "Table::", "run_walk", "MemoryLink::reserve", "parse_modules", "Tree::load",
                        "write_hint", "_text, with", "line, with", "detail, with"],
 }

@@ -49,6 +49,22 @@ pub fn table(alloc: Global, text: &[u8], request: &[u8], room: &mut Room<'_>) ->
     Ok(())
 }
 
+/// `Table::read`: the line at which a name stands that an earlier one has, as an identifier.
+pub fn double(alloc: Global, text: &[u8], room: &mut Room<'_>) -> Result<(), Fault> {
+    let line = match Table::read(alloc, text) {
+        Err(TableError::Double { line }) => u32::try_from(line).unwrap_or(0),
+        Err(TableError::Memory) => return Err(Fault::Refused),
+        _ => return Err(Fault::Wrong),
+    };
+    match Oid::from_slice(&[line]) {
+        Ok(line) => {
+            room.append_name(&line);
+            Ok(())
+        }
+        Err(_) => Err(Fault::Wrong),
+    }
+}
+
 /// `Table::read_with`: the reply to a request over the table.
 pub fn table_with(
     alloc: Global,

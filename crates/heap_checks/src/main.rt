@@ -92,6 +92,7 @@ fn check_by(
         "values" => agents::values(alloc, first, room),
         "table" => agents::table(alloc, first, second, room),
         "table_with" => agents::table_with(alloc, first, second, room),
+        "double" => agents::double(alloc, first, room),
         "put" => agents::put(alloc, first, b"sextet", second, room),
         "put_long" => agents::put(alloc, first, LONG, second, room),
         "half" => agents::removed(alloc, first, second, 2, room),
