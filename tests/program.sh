@@ -935,12 +935,58 @@ for ((i = 0; i < 20000; i++)); do
 done >"$got/t.tab"
 stack=256 expect 0 "$e.1.7919.0 = INTEGER: 1" '' snmpget -On "table:$got/t.tab" $e.1.7919.0
 
-# outputs
-"$program" snmpwalk --mib tiny.txt table:tiny.tab tiny >"$got/both" 2>&1
-same 'warnings come before lines' "$warnings
-$tiny" "$got/both"
-errors=/dev/full prints "$tiny" snmpwalk --mib tiny.txt table:tiny.tab tiny
-errors=/dev/full expect 1 '' '' snmpwalk -On table:no.tab .1
+# outputs: the warnings come before the lines
+one='TINY-MIB::tinyState.0 = INTEGER: up(1)'
+listening="listening on $place
+0 replies, 0 dropped"
+warns_first() {
+    "$program" "${@:2}" >"$got/both" 2>&1 </dev/null
+    same "the warnings of $2 and its lines" "$warnings"$'\n'"$1" "$got/both"
+}
+for walker in $walkers; do warns_first "$tiny" $walker --mib tiny.txt table:tiny.tab tiny; done
+warns_first "$one" snmpget --mib tiny.txt table:tiny.tab tinyState.0
+warns_first "$e.1.0
+Unknown name: nosuch" snmptranslate --mib tiny.txt -On tinyState.0 nosuch
+warns_first "$listening" snmpd --mib tiny.txt --table two.tab --listen "$place" --turns 0
+# Until its warnings are taken, as by a pipe that has room, the program prints nothing and opens no socket.
+mkfifo "$got/pipe"
+exec 9<>"$got/pipe"
+drain() { dd if="$got/pipe" iflag=nonblock bs=65536 2>/dev/null | tr -d '\0' >>"$got/err"; }
+waits() {
+    local early=''
+    : >"$got/err"
+    dd if=/dev/zero of="$got/pipe" oflag=nonblock bs=4096 2>/dev/null
+    "$program" "${@:2}" >"$got/out" 2>&9 </dev/null &
+    sleep 0.3
+    [ ! -s "$got/out" ] || early=' printed'
+    case $(readlink /proc/$!/fd/* | grep -vxF "$(readlink /proc/$$/fd/*)") in *socket:*) early+=' a socket' ;; esac
+    drain
+    wait $!
+    drain
+    count "${early:+before its warnings were taken, $2 had:$early}"
+    same "the lines of $2 after a wait" "$1" "$got/out"
+    same "the warnings of $2 after a wait" "$warnings" "$got/err"
+}
+waits "$tiny" snmpwalk --mib tiny.txt table:tiny.tab tiny
+waits "$one" snmpget --mib tiny.txt table:tiny.tab tinyState.0
+waits "$e.1.0" snmptranslate --mib tiny.txt -On tinyState.0
+waits "$listening" snmpd --mib tiny.txt --table two.tab --listen "$place" --turns 0
+# An error output that fails, as one that is full or closed, changes nothing else.
+unheard() {
+    local ended
+    errors=/dev/full expect "$1" "$2" '' "${@:3}"
+    "$program" "${@:3}" >"$got/out" 2>&- </dev/null
+    ended=$?
+    if [ $ended = "$1" ]; then count ''; else count "${*:3}, without an error output: status $ended"; fi
+    same "${*:3}, without an error output" "$2" "$got/out"
+}
+for walker in $walkers; do unheard 0 "$tiny" $walker --mib tiny.txt table:tiny.tab tiny; done
+unheard 0 "$one" snmpget --mib tiny.txt table:tiny.tab tinyState.0
+unheard 0 "$e.1.0" snmptranslate --mib tiny.txt -On tinyState.0
+unheard 0 "$listening" snmpd --mib tiny.txt --table two.tab --listen "$place" --turns 0
+unheard 1 '' snmpwalk -On table:no.tab .1
+unheard 1 '' snmpd --mib tiny.txt --table no.tab
+unheard 2 '' snmpget --mib tiny.txt --max-size 26 table:tiny.tab tinyState.0
 for words in "snmpwalk -On table:three.tab $e.1" "snmpbulkwalk -On table:three.tab $e.1" \
     "snmpget -On table:three.tab $e.1.1.0" "snmptranslate -On iso" "snmptranslate -Td iso" \
     "snmpwalk -Cp -CI table:/dev/null $e.1" "snmpd --table three.tab --listen $place --turns 0" --help --version; do
@@ -968,6 +1014,7 @@ Variables found: 3" snmpbulkwalk -On -Cp -Cr2 "$place" $e.1
 prints "$third
 $e.1.3.0 = $missing" snmpget -On "udp:$place" $e.1.10.0 $e.1.3.0
 for walker in $walkers; do prints "$three" $walker -On "udp:$place" $e.1; done
+for command in $walkers snmpget; do waits "$third" $command --mib tiny.txt -On "$place" $e.1.10.0; done
 for command in $walkers snmpget; do
     refuses "Timeout: No Response from $place." $command -r 0 -c other "$place" $e.1.10.0
     refuses 'Name cannot be sent: .3' $command "$place" .3

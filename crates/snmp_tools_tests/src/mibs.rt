@@ -1,6 +1,6 @@
 //! Names and types by module files.
 
-use crate::run::{Held, NO_LIMITS, Run, assert_runs_within, prints};
+use crate::run::{Held, NO_LIMITS, Run, assert_runs_within};
 use crate::tiny::{TINY, WARNINGS};
 use std::alloc::Global;
 use std::process::Abort;
@@ -51,11 +51,10 @@ TINY-MIB::tinyState.1 = No Such Instance currently exists at this OID\n",
     );
 }
 
-/// Asserts that the run is as well where standard error takes no more octets than one of these.
-fn assert_cut_off(rt: &impl Abort, alloc: Global, limits: &[usize], run: Run<'_>) {
+/// Asserts that the runs are as well where standard error takes no more octets than one of these.
+fn assert_cut_off(rt: &impl Abort, alloc: Global, limits: &[usize], runs: &[Run<'_>]) {
     for limit in limits {
-        let cut = prints(alloc, FILES, (usize::MAX, *limit), run);
-        assert!(rt; matches!(cut, Ok(true)), "{limit}");
+        assert_runs_within(rt, alloc, FILES, (usize::MAX, *limit), runs);
     }
 }
 
@@ -65,22 +64,50 @@ fn an_error_output_that_fails_changes_nothing_else(rt: HostRuntime) {
         &rt,
         rt.alloc(),
         &[0, 1, 64, 65, 66, 200],
-        (
-            "snmp snmpwalk --mib=tiny.txt -OS table:tiny.tab tiny",
-            LINES,
-            WARNINGS,
-            0,
-        ),
+        &[
+            (
+                "snmp snmpwalk --mib=tiny.txt -OS table:tiny.tab tiny",
+                LINES,
+                WARNINGS,
+                0,
+            ),
+            (
+                "snmp snmpget --mib=tiny.txt table:tiny.tab tinyState.0",
+                "TINY-MIB::tinyState.0 = INTEGER: up(1)\n",
+                WARNINGS,
+                0,
+            ),
+            (
+                "snmp snmpd --mib=tiny.txt --table=tiny.tab --turns=0",
+                "listening on 127.0.0.1:161\n0 replies, 0 dropped\n",
+                WARNINGS,
+                0,
+            ),
+        ],
     );
     assert_cut_off(
         &rt,
         rt.alloc(),
         &[0, 65, 200],
-        (
-            "snmp snmpwalk --mib=tiny.txt -OS table:tiny.tab nowhere",
-            "",
-            WARNINGS,
-            1,
-        ),
+        &[
+            (
+                "snmp snmpwalk --mib=tiny.txt -OS table:tiny.tab nowhere",
+                "",
+                WARNINGS,
+                1,
+            ),
+            (
+                "snmp snmpget --mib=tiny.txt --max-size=26 table:tiny.tab tinyState.0",
+                "",
+                WARNINGS,
+                2,
+            ),
+            (
+                "snmp snmpd --mib=tiny.txt --table=none.tab",
+                "",
+                WARNINGS,
+                1,
+            ),
+        ],
     );
 }
