@@ -1,6 +1,9 @@
 //! Names that are read, refused and shown.
 use crate::names::{Sample, random_oid};
-use smi_show::{Extent, IndexPart, Letters, NameError, NameForm, name_text, resolve, resolve_into};
+use smi_show::{
+    Extent, IndexPart, Letters, NameError, NameForm, name_text, resolve, resolve_front,
+    resolve_front_into, resolve_into,
+};
 use snmp_oid::Oid;
 use std::alloc::Global;
 use std::process::Abort;
@@ -137,6 +140,84 @@ fn the_first_fault_is_reported(rt: HostRuntime) {
 fn assert_faults(rt: &impl Abort, tree: &Sample<'_>) {
     for (text, fault) in &FAULTS {
         assert!(rt; is_fault(tree, text.as_bytes(), *fault), "{text}");
+    }
+}
+
+/// Texts with the octet that ends their fronts, the numbers of what these mean, and their lengths.
+static FRONTS: [(&str, u8, &[u32], usize); 9] = [
+    ("iso.3|x", b'|', &[1, 3], 5),
+    ("iso.3", b'|', &[1, 3], 5),
+    (".|.", b'|', &[], 1),
+    ("1.3||7", b'|', &[1, 3], 3),
+    ("1.3:4|5", b':', &[1, 3], 3),
+    ("TINY-MIB::1.3|2|1", b'|', &[1, 3], 13),
+    (
+        "tinyMac.\"a|b\"|4x|00",
+        b'|',
+        &[1, 3, 6, 2, 3, 97, 124, 98],
+        13,
+    ),
+    ("iso.'|'.\"||\"|x", b'|', &[1, 124, 2, 124, 124], 12),
+    ("'a|b'.1|'", b'|', &[97, 124, 98, 1], 7),
+];
+
+/// Texts whose fronts, up to the first of this octet, have these faults.
+static BAD_FRONTS: [(&str, u8, NameError); 8] = [
+    ("", b'|', NameError::Unknown),
+    ("|1.3", b'|', NameError::Unknown),
+    ("nosuch|iso", b'|', NameError::Unknown),
+    ("TINY-MIB::1.3", b':', NameError::Unknown),
+    ("iso.|3", b'|', NameError::BadNumber),
+    ("iso.4294967296|", b'|', NameError::BadNumber),
+    ("tinyMac.\"a|b", b'|', NameError::BadIndex),
+    ("tinyMac.\"a\"b|c", b'|', NameError::BadIndex),
+];
+
+#[test]
+fn the_front_of_a_text_is_read(rt: HostRuntime) {
+    let tree = Sample::new(COUNTED);
+    assert_fronts(&rt, &tree);
+}
+
+fn assert_fronts(rt: &impl Abort, tree: &Sample<'_>) {
+    for (text, stop, numbers, size) in &FRONTS {
+        assert!(rt;
+            front_means(tree, text.as_bytes(), *stop, numbers, *size),
+            "{text}"
+        );
+    }
+    for (text, stop, fault) in &BAD_FRONTS {
+        assert!(rt;
+            is_front_fault(tree, text.as_bytes(), *stop, *fault),
+            "{text}"
+        );
+    }
+}
+
+/// Whether the front of a text means the identifier of these numbers and has this length, also
+/// where it is read into an identifier that is there.
+fn front_means(tree: &Sample<'_>, text: &[u8], stop: u8, numbers: &[u32], size: usize) -> bool {
+    let mut oid = Oid::new();
+    match (
+        resolve_front(tree, text, stop),
+        resolve_front_into(tree, text, stop, &mut oid),
+    ) {
+        (Ok((found, length)), Ok(other)) => {
+            found.as_slice() == numbers && length == size && found == oid && other == size
+        }
+        _ => false,
+    }
+}
+
+/// Whether the front of a text means no identifier, for this reason.
+fn is_front_fault(tree: &Sample<'_>, text: &[u8], stop: u8, fault: NameError) -> bool {
+    let mut oid = Oid::new();
+    match (
+        resolve_front(tree, text, stop),
+        resolve_front_into(tree, text, stop, &mut oid),
+    ) {
+        (Err(found), Err(other)) => found == fault && other == fault,
+        _ => false,
     }
 }
 
