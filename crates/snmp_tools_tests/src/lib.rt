@@ -17,9 +17,13 @@ mod network;
 #[cfg(test)]
 mod opened;
 #[cfg(test)]
+mod pages;
+#[cfg(test)]
 mod run;
 #[cfg(test)]
 mod serving;
+#[cfg(test)]
+mod table_names;
 #[cfg(test)]
 mod tiny;
 #[cfg(test)]

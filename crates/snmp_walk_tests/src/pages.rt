@@ -16,9 +16,7 @@ struct Numbers {
 
 /// Whether the binding is the row of the number, with its number.
 fn is_row(binding: &Binding<'_>, number: u32) -> bool {
-    let name = binding.name.as_slice();
-    name.len() == 9
-        && name[8] == number
+    binding.name.as_slice() == [1, 3, 6, 1, 4, 1, 32473, 1, number].as_slice()
         && matches!(binding.value, ValueRef::Counter32(held) if held == number)
 }
 

@@ -1,0 +1,46 @@
+//! Walks over tables of several pages: each line that is printed.
+
+use crate::run::{NO_LIMITS, prints};
+use std::alloc::{AllocError, Global};
+
+/// The text of `count` rows, of numbers that go up by `step` and from 0 on again at the count, and
+/// the lines of a walk over them.
+fn rows_of(alloc: Global, count: u32, step: u32) -> Result<(String, String), AllocError> {
+    let mut text = String::new(alloc);
+    let mut lines = String::new(alloc);
+    for place in 0..count {
+        let number = place.wrapping_mul(step) % count.max(1);
+        write!(text, "1.3.6.1.4.1.32473.1.{number}.0|65|{number}\n")?;
+        write!(
+            lines,
+            ".1.3.6.1.4.1.32473.1.{place}.0 = Counter32: {place}\n"
+        )?;
+    }
+    Ok((text, lines))
+}
+
+/// Whether a walk prints the lines of such rows, all of them and nothing else.
+fn is_printed(alloc: Global, words: &str, count: u32, step: u32) -> Result<bool, AllocError> {
+    let (text, lines) = rows_of(alloc, count, step)?;
+    let files = [("pages.tab", text.as_bytes())];
+    prints(alloc, &files, NO_LIMITS, (words, &lines, "", 0))
+}
+
+#[test]
+fn lines_of_several_pages_come_in_order(rt: HostRuntime) {
+    // A step that has no factor in common with a count comes to each number once.
+    for &count in &[127, 128, 129, 257, 513] {
+        for &step in &[1, 101] {
+            for &words in &[
+                "snmp snmpwalk -On table:pages.tab .1.3.6.1.4.1.32473",
+                "snmp snmpbulkwalk -On -Cr50 --max-size=65507 table:pages.tab .1.3.6.1.4.1.32473.1",
+            ] {
+                let printed = is_printed(rt.alloc(), words, count, step);
+                assert!(rt;
+                    matches!(printed, Ok(true)),
+                    "{count} rows by {step}: {words}"
+                );
+            }
+        }
+    }
+}
