@@ -13,6 +13,7 @@ import glob
 import itertools
 import os
 import random
+import re
 import select
 import signal
 import socket
@@ -417,10 +418,18 @@ walks("a get without a reply is sent again", f"snmpget -On -r 1 AGENT {ROOT}.1.0
 walks("-r 0 sends a walk's request once", f"snmpwalk -r 0 AGENT {ROOT}", silent, "", SILENT, 1, asked=nexts(R))
 walks("-r 2 sends it three times", f"snmpbulkwalk -r 2 AGENT {ROOT}", silent, "", SILENT, 1, asked=bulks(10, R) * 3)
 walks("-r 0 sends a get once", f"snmpget -r 0 AGENT {ROOT}", silent, "", SILENT, 1, asked=get(R))
-walks("a request is sent six times by default", f"snmpget AGENT {ROOT}", silent, "", SILENT, 1, asked=get(R) * 6)
 walks("what was printed stays where the agent falls silent", f"snmpwalk -On -Cp -r 1 -t 4 AGENT {ROOT}",
       lambda seen: [served(ROWS, seen[-1])] if seen[-1].id == 1 else [], FIRST, SILENT, 1,
       asked=nexts(*NAMES[:2]) + nexts(*NAMES[:2])[1:])
+
+
+@test("a request is sent again as often as the help has by default")
+def retries_by_default():
+    said = subprocess.run([PROGRAM, "snmpget", "--help"], capture_output=True, text=True, timeout=60).stdout
+    retries, = re.findall(r"^ +-r <RETRIES> .* by default (\d+)$", said, re.M)
+    ran = run(["snmpget", "AGENT", ROOT], silent)
+    if (ran.status, ran.output, ran.messages, ran.asked) != (1, "", SILENT, get(R) * (1 + int(retries))):
+        return f"the help has {retries}, and sent were\n    {shown(ran.asked)}"
 
 
 # Neither shows how long a try is: only that the words reach the socket, and that the program ends.

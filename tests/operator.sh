@@ -88,6 +88,37 @@ same 'the example of snmpwalk' "$row" "$(shown snmpwalk)"
 same 'the example of snmpbulkwalk' "$row"$'\nVariables found: 1' "$(shown snmpbulkwalk)"
 same 'the example of snmpd' "listening on 127.0.0.1:$port"$'\n0 replies, 0 dropped' "$(shown snmpd)"
 
+# -- the numbers that the help has, by what the words do
+
+# The options of a command whose help has a range, with its ends.
+ranges() {
+    "$program" "$1" --help | sed -nE 's/^ +(-[a-zA-Z]|--[a-z-]+) <[A-Z]+> .* ([0-9]+) to ([0-9]+).*/\1 \2 \3/p'
+}
+
+# takes WORD..: whether the program takes the words' numbers.
+takes() {
+    case $("$program" "$@" 2>&1) in "error: invalid value"*) echo no ;; *) echo yes ;; esac
+}
+
+asking='-r
+-t
+--max-size'
+for command in $commands; do
+    case $command in
+        snmptranslate) wanted='' rest=iso ;;
+        snmpd) wanted=--max-size rest="--table /dev/null --turns 0 --listen 127.0.0.1:$port" ;;
+        *) wanted=$asking rest='table:/dev/null .1.3' ;;
+    esac
+    same "the options of $command with a range" "$wanted" "$(ranges "$command" | cut -d ' ' -f 1)"
+    while read -r option low high; do
+        case $option in --*) joined=$option= ;; *) joined=$option ;; esac
+        for number in $((low - 1)) $low $high $((high + 1)); do
+            fits=$([ "$number" -lt "$low" ] || [ "$number" -gt "$high" ] && echo no || echo yes)
+            same "$command $joined$number, where the help says $low to $high" "$fits" "$(takes "$command" "$joined$number" $rest)"
+        done
+    done < <(ranges "$command")
+done
+
 # -- the first command of README
 
 command=$(sed -n 's/^    \(\.\/snmp snmpwalk .*\)/\1/p' README.md)
@@ -95,7 +126,7 @@ same 'the first command of README' "$(sed -n 's/^    \(\.1\..* = .*\)/\1/p' READ
 
 # -- the manual
 
-# The same by the synopsis of the manual.
+# The words and options of a command by the synopsis of the manual, as `taken` has them by the help.
 stated() {
     awk -v command="$1" '
         /^\.Nm/ { on = 0 }
