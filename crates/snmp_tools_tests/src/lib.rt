@@ -1,7 +1,9 @@
 //! Tests that go through several crates: from words to lines, over files and outputs in memory; and
-//! of outputs, files, module files and translations alone.
+//! of outputs, files, messages, module files and translations alone.
 #![tactic(auto)]
 
+#[cfg(test)]
+mod ends;
 #[cfg(test)]
 mod faults;
 #[cfg(test)]
