@@ -760,6 +760,17 @@ def little_memory():
     return wrongs(*wrong, differs("whole" in kinds, True))
 
 
+# tests/program.sh walks and asks in memory with this stack. Catches: more of it taken where datagrams come.
+@test("a stack of 256 KiB is enough for snmpd, and for those who ask it")
+def small_stack():
+    before = ["prlimit", f"--stack={256 << 10}"]
+    with Server(table=stated(SOME).decode(), before=before) as server:
+        names = [dotted(name) for name in SOME][:100]
+        return wrongs(*(differs(run(*words, before=before), (0, SOME_TEXT, "")) for words in (
+            ["snmpwalk", "-On", server.place, ROOT], ["snmpbulkwalk", "-On", "-Cr50", server.place, ROOT])),
+                      differs(run("snmpget", "-Onqv", server.place, *names, before=before)[0], 0))
+
+
 # -- descriptors and ports
 
 def with_descriptors(count, *words):

@@ -73,6 +73,8 @@ with open(f"{here}/data/tiny.txt", "rb") as tiny:
     TINY = tiny.read()
 with open(f"{here}/data/tiny.tab", "rb") as tiny:
     TINY_TABLE = tiny.read()
+with open(f"{here}/data/two.tab", "rb") as two:
+    TWO_TABLE = two.read()
 # More rows than a page of a table has.
 ROWS = {E + (1, i, 0): text(b"%d" % i) for i in range(1, 300) if i != 5}
 TABLE = "".join(f"{dotted(name)}|4|{name[-2]}\n" for name in ROWS).encode()
@@ -212,12 +214,20 @@ runs(f"snmpwalk --mib MODULES {AGENT} tiny", """TINY-MIB::tinyState.0 = INTEGER:
 TINY-MIB::tinyMac."wes" = STRING: 0:16:3e:5a:78:8e
 TINY-MIB::tinyKeyUse.'wes' = Gauge32: 5 jobs
 """, WARNINGS, table=TINY_TABLE)
+TWO = """TINY-MIB::tinyState.0 = INTEGER: up(1)
+TINY-MIB::tinyMac."a|b" = STRING: 0:16:3e:5a:78:8e
+TINY-MIB::tiny.9.0 = OID: TINY-MIB::tinyMac
+"""
+runs(f"snmpbulkwalk --mib MODULES {AGENT} tiny", TWO, WARNINGS, table=TWO_TABLE)
 runs(f"snmpbulkwalk -On -Cr2 -Cp --after {ROOT}.1.0 {AGENT} {ROOT}", f"{SECOND}{THIRD}Variables found: 2\n")
 runs(f"snmpget -On {AGENT} {ROOT}.10.0 {ROOT}.3.0", f"{THIRD}{ROOT}.3.0 = {MISSING}\n")
 runs("snmptranslate --mib MODULES -Td TINY-MIB::tinyState", DETAIL, WARNINGS)
 runs("snmptranslate --mib MODULES -On TINY-MIB::tinyMac.\"wes\" iso.3", f"{MAC}\n.1.3\n", WARNINGS)
 DOOR = f"127.0.0.1:{next(network.ports)}"
 runs(f"snmpd --table TABLE --listen {DOOR} --turns 0", f"listening on {DOOR}\n0 replies, 0 dropped\n")
+DOOR = f"127.0.0.1:{next(network.ports)}"
+runs(f"snmpd --mib MODULES --table TABLE --listen {DOOR} --turns 0", f"listening on {DOOR}\n0 replies, 0 dropped\n",
+     WARNINGS, table=TWO_TABLE)
 runs("snmpget --help", None)
 runs("--version", None)
 
@@ -228,6 +238,9 @@ runs(f"snmpget -v {FAR} {AGENT} .1", "", f"Unknown version: {FAR}\n", 1)
 runs(f"snmpwalk {FAR}: .1", "", f"Bad agent address: {FAR}:\n", 1)
 runs(f"snmpwalk table:{FAR} .1", "", f"{FAR}: cannot be read\n", 1)
 runs(f"snmpwalk {AGENT} .1", "", "TABLE:2: bad line\n", 1, table=b"\n" + FAR.encode())
+runs(f"snmpget {AGENT} .1", "", "TABLE:2: bad name\n", 1, table=TWO_TABLE)
+runs(f"snmpget --mib MODULES {AGENT} .1", "", f"{WARNINGS}TABLE:2: bad value\n", 1,
+     table=b"#snmptab 2\ntinyState.0|6|tinyGone\n")
 runs("snmptranslate --mib MODULES .1", "", "MODULES:1: syntax\n", 1, modules=b"A DEFINITIONS BEGIN\nEND")
 runs(f"snmptranslate {FAR}", "", f"Unknown name: {FAR}\n", 1)
 runs(f"snmptranslate iso {FAR}", "iso\n", f"Unknown name: {FAR}\n", 1)

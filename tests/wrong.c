@@ -100,7 +100,7 @@ ssize_t sendto(int s, const void *b, size_t n, int f, const struct sockaddr *a, 
 }
 #endif
 #if defined ANY_ID || defined ANY_SENDER || defined INTERRUPTED_IS_SILENCE || defined INTERRUPTED_IS_FAULT || \
-    defined KEEPS_MEMORY || defined DIES_OF_A_DATAGRAM
+    defined KEEPS_MEMORY || defined DIES_OF_A_DATAGRAM || defined MORE_OF_THE_STACK
 // Where the id of a message stands: behind its length, its version, its community, and the PDU's tag and length.
 static __attribute__((unused)) unsigned char *id_of(unsigned char *it, size_t n) {
     size_t at = 0;
@@ -130,6 +130,10 @@ ssize_t recvfrom(int s, void *restrict b, size_t n, int f, struct sockaddr *rest
 #endif
 #ifdef KEEPS_MEMORY
     if (r >= 0) memset(block = malloc(64), 1, 64);
+#endif
+#ifdef MORE_OF_THE_STACK
+    volatile char more[128 << 10];
+    more[0] = 1;
 #endif
 #ifdef DIES_OF_A_DATAGRAM
     if (r > 2 && ((unsigned char *)b)[1] == 0x84) abort();
@@ -198,6 +202,21 @@ static int writes;
 #endif
 #ifdef GIVES_UP
 #define WRITES if (d == 1 && IS_REFUSED) _exit(1);
+#endif
+#ifdef TABLE_IS_MEMORY
+static int word_count;
+static char **words;
+__attribute__((constructor)) static void keep_words(int n, char **all) { word_count = n; words = all; }
+// Whether the text says that a table file can't be read, which a word names.
+static int is_of_table(const char *text, size_t n) {
+    for (int i = 1; i < word_count; i++) {
+        char *path = !strncmp(words[i], "table:", 6) ? words[i] + 6 : !strcmp(words[i - 1], "--table") ? words[i] : NULL;
+        size_t size = path ? strlen(path) : n;
+        if (n == size + 17 && !memcmp(text, path, size) && !memcmp(text + size, ": cannot be read\n", 17)) return 1;
+    }
+    return 0;
+}
+#define WRITES if (d == 2 && is_of_table(b, n)) { next(2, "Out of memory.\n", 15); return (ssize_t)n; }
 #endif
 #ifdef A_BLOCK_IS_KEPT
 #define WRITES block = malloc(1);

@@ -53,6 +53,8 @@ AT_THE_EDGE = {
     "TERM_ENDS_BY_ITSELF": ["a signal ends a walk at once", "ends snmpd at once", "may cut the line"],
     "LONG_IS_MEMORY": ["no refusal but for want"],
     "UNREADABLE_IS_MEMORY": ["no refusal but for want"],
+    "TABLE_IS_MEMORY": ["no refusal but for want", "no descriptor is left"],
+    "MORE_OF_THE_STACK": ["a stack of 256 KiB"],
     "STATUS_0": ["isn't read takes", "takes so many octets", "less and less memory", "ids are used up"],
     "ANOTHER_MESSAGE": ["ids are used up", "no refusal but for want"],
 }
@@ -63,6 +65,7 @@ WITHOUT_MEMORY = {
     "NOTHING_IS_SAID": ["snmpwalk -On table", "snmpd", "over UDP"],
     "STATUS_0": ["snmpwalk -On table", "snmpget --help", "over UDP"],
     "LONG_IS_MEMORY": ["snmpget -v", "snmpwalk table:x", "snmptranslate x"],
+    "TABLE_IS_MEMORY": ["snmpwalk table:x"],
     "A_BLOCK_IS_KEPT": ["snmpwalk -On table", "line, with"],
     "GIVES_UP": ["that are gathered", "gathered twice", "run_walk", "MemoryLink::reserve", "LineWriter::line"],
     "ANOTHER_ANSWER": ["Value::from_ref", "Table::", "run_walk", "MemoryLink::reserve", "parse_modules", "Tree::load",
