@@ -143,16 +143,19 @@ module _ (sizes : MessageSizes) (elements : ElementSizes) (q : Message) (h : IsM
       sizes.opening s in
       subst IsMessageInRange (sym e) (record {
         version = h.version;
-        community = (h.community, omega (
-          arith,
-          size,
-          sum,
-          sizes.head s total,
-          sizes.front s total,
-          opening,
-          longer_value elements (octet_string q.community),
-          content_size q.community,
-        ));
+        community = (
+          h.community,
+          omega (
+            arith,
+            size,
+            sum,
+            sizes.head s total,
+            sizes.front s total,
+            opening,
+            longer_value elements (octet_string q.community),
+            content_size q.community,
+          ),
+        );
         id = h.id;
         a = fits;
         b = place;

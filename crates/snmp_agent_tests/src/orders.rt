@@ -86,11 +86,7 @@ fn first_lines(alloc: Global) -> Result<Vec<u8>, AllocError> {
 
 impl Stated {
     /// The rows that stand first, in the second format where the text is marked.
-    fn of_first(
-        alloc: Global,
-        first_lines: &[u8],
-        is_marked: bool,
-    ) -> Result<Stated, AllocError> {
+    fn of_first(alloc: Global, first_lines: &[u8], is_marked: bool) -> Result<Stated, AllocError> {
         let mut text = Vec::new(alloc);
         let mut map = BTreeMap::new(alloc);
         if is_marked {

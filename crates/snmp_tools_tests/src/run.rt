@@ -71,7 +71,12 @@ pub fn prints_over(
 
 /// Whether the run over files, with no agent, prints its texts, as much of them as the outputs
 /// take, and has its status.
-fn prints(alloc: Global, files: Held<'_>, room: Room, run: Run<'_>) -> Result<bool, AllocError> {
+pub fn prints(
+    alloc: Global,
+    files: Held<'_>,
+    room: Room,
+    run: Run<'_>,
+) -> Result<bool, AllocError> {
     let mut links = MemoryLinks::new(alloc, &[], &[]);
     prints_over(alloc, files, &mut links, room, run)
 }

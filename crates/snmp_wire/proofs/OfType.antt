@@ -36,19 +36,19 @@ signed_fits (first ∷ rest) z h some few e =
     let most : power ≤ 256 ^ 3 = pow-le-pow_right {n = 256} (lit< tt) {i = length rest} {j = 3} (omega (arith, few)) in
     ⊎_elim
     (λ small.
-        let bound : first * power + number_of 256 rest < power * 128 =
-        mul-add-lt first power (number_of 256 rest) 128 small low in
-        let fits : SFits w32 (pos u) = record { sfits = omega (arith, bound, most) } in
-        subst (SFits w32) (sym (positive (first ∷ rest) small) ∙ e) fits)
+    let bound : first * power + number_of 256 rest < power * 128 =
+    mul-add-lt first power (number_of 256 rest) 128 small low in
+    let fits : SFits w32 (pos u) = record { sfits = omega (arith, bound, most) } in
+    subst (SFits w32) (sym (positive (first ∷ rest) small) ∙ e) fits)
     (λ large.
-        let n : ℕ = 256 ^ suc (length rest) - u - 1 in
-        let more : 256 ^ suc (length rest) ≡ power * 256 = pow-suc 256 (length rest) in
-        let high : first * power + number_of 256 rest < power * 256 =
-        mul-add-lt first power (number_of 256 rest) 256 h.0 low in
-        let least : 128 * power ≤ first * power = mul-le-mul_right power large in
-        let whole : u + (n + 1) ≡ 256 ^ suc (length rest) = omega (arith, high, more) in
-        let fits : SFits w32 (negsuc n) = record { sfits = omega (arith, least, more, most) } in
-        subst (SFits w32) (sym (minus u n (256 ^ suc (length rest)) whole) ∙ sym (negative (first ∷ rest) large) ∙ e) fits)
+    let n : ℕ = 256 ^ suc (length rest) - u - 1 in
+    let more : 256 ^ suc (length rest) ≡ power * 256 = pow-suc 256 (length rest) in
+    let high : first * power + number_of 256 rest < power * 256 =
+    mul-add-lt first power (number_of 256 rest) 256 h.0 low in
+    let least : 128 * power ≤ first * power = mul-le-mul_right power large in
+    let whole : u + (n + 1) ≡ 256 ^ suc (length rest) = omega (arith, high, more) in
+    let fits : SFits w32 (negsuc n) = record { sfits = omega (arith, least, more, most) } in
+    subst (SFits w32) (sym (minus u n (256 ^ suc (length rest)) whole) ∙ sym (negative (first ∷ rest) large) ∙ e) fits)
     (cases_lt first 128)
 
 unsigned_fits : (width : ℕ) (content : List ℕ) (n : ℕ) → Octets content → IsUnsigned lenient width content n → n < 256 ^ width

@@ -80,4 +80,3 @@ fn lead_at(entries: &Entries<'_, '_>, place: usize) -> Option<usize>
         None => None,
     }
 }
-

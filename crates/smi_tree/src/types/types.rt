@@ -135,10 +135,7 @@ fn definition(modules: &[Module], at: Option<(usize, usize)>) -> Option<&Def>
 }
 
 /// For each name, the syntax that it means as a type, if it has one.
-fn followed(
-    alloc: Global,
-    entries: &Entries<'_, '_>,
-) -> Result<Vec<Option<KeptSyntax>>, AllocError>
+fn followed(alloc: Global, entries: &Entries<'_, '_>) -> Result<Vec<Option<KeptSyntax>>, AllocError>
     ensures { IfOk result (λ types. AreFollowed entries.now types.items) }
 {
     let leads = leads(alloc, entries)?;

@@ -21,6 +21,8 @@ returns-in-None c =
     let ms : c.self.inside.modules.now ≡ c.args.self.now = c.self.view_is in
     let p : QualifiedName = record { home = c.args.home.now; name = c.args.name.now } in
     let none : origin c.args.self.now (record { home = c.args.home.now; name = c.args.name.now }) ≡ nowhere =
-    rw (c.self.invariant.1, ms) at c.in-None.ensures in
-    (λ holds. absurd (search rules), λ some.
-    let same = c.one_resolution.ensures c.args.self.now p (R.Numbers some.0) R.Unresolved some.1 (here none) in absurd (cc))
+    rw (c.self.invariant.1, ms) at c.in-None.ensures in (
+      λ holds. absurd (search rules),
+      λ some.
+          let same = c.one_resolution.ensures c.args.self.now p (R.Numbers some.0) R.Unresolved some.1 (here none) in absurd (cc),
+    )
