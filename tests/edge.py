@@ -765,7 +765,7 @@ def little_memory():
 def small_stack():
     before = ["prlimit", f"--stack={256 << 10}"]
     with Server(table=stated(SOME).decode(), before=before) as server:
-        names = [dotted(name) for name in SOME][:100]
+        names = [dotted(name) for name in SOME][:20]
         return wrongs(*(differs(run(*words, before=before), (0, SOME_TEXT, "")) for words in (
             ["snmpwalk", "-On", server.place, ROOT], ["snmpbulkwalk", "-On", "-Cr50", server.place, ROOT])),
                       differs(run("snmpget", "-Onqv", server.place, *names, before=before)[0], 0))
