@@ -83,8 +83,10 @@ impl Page {
 
     /// Divides the page, and returns its back: the half of its rows, or the last alone if the name
     /// comes behind it, so that rows which come in order fill their pages. So do rows that fall:
-    /// the first alone stays if the name comes before it.
-    pub fn divide(&mut self, name: &EncodedName<'_>) -> Result<Page, AllocError>
+    /// the first alone stays if the name comes before it. And so do columns that are read row by
+    /// row, if a back of less than a half may begin where the name belongs: from then on no two of
+    /// them share the page.
+    pub fn divide(&mut self, name: &EncodedName<'_>, at_name: bool) -> Result<Page, AllocError>
         requires { 1 < length self.old.rows.items }
         ensures parts { IfOk result (λ back. self.old.rows.items
             ≡ self.new.rows.items ++ back.rows.items) }
@@ -92,10 +94,14 @@ impl Page {
             ≡ self.old.rows.items) }
     {
         let count = self.rows.len();
-        let place = match (self.rows.first(), self.rows.last()) {
-            (_, Some(row)) if row.name().compare(name).is_lt() => count - 1,
-            (Some(row), _) if row.name().compare(name).is_gt() => 1,
-            _ => count / 2,
+        let half = count / 2;
+        let belongs = self
+            .rows
+            .partition_point(|row| row.name().compare(name).is_lt());
+        let place = match belongs {
+            0 => 1,
+            _ if belongs == count || at_name && belongs > half => belongs.min(count - 1),
+            _ => half,
         };
         match self.rows.split_off(place) {
             Ok(rows) => Ok(Page { rows }),

@@ -45,6 +45,10 @@ struct PutOrder {
     scattered: u32,
 }
 
+/// Up to how many pages one is divided where a name belongs, also if few rows are behind it: more
+/// such pages would make the list of pages long.
+const FEW_PAGES: usize = 1024;
+
 /// How many rows a sample has.
 const SAMPLE: u32 = 128;
 
@@ -544,7 +548,8 @@ fn divide(pages: &mut Vec<Page>, place: usize, name: &EncodedName<'_>) -> Result
     ensures place { IfOk result (IsPageWithRoom name.now pages.new.items) }
 {
     pages.reserve(1)?;
-    let back = pages[place].divide(name)?;
+    let at_name = pages.len() < FEW_PAGES;
+    let back = pages[place].divide(name, at_name)?;
     let belongs = if begins_up_to(back.rows.as_slice(), name) {
         place + 1
     } else {
