@@ -1,27 +1,36 @@
 -- Facts about the turns of a server.
 use Rattle.std.proofs.Common.{◌≡◌, ℕ, zero, suc, ◌+◌, List, [], ◌∷◌, ◌++◌, take, Option, Some, None, Result}
-use Rattle.std.proofs.Common.{Ok, refl, sym, ap, ◌∙◌, subst, append_assoc, arith}
-use Rattle.std.specs.Prelude.{cond, count_by}
-use Rattle.std.proofs.lemmas.List.Sums.{sum_by-cons}
+use Rattle.std.proofs.Common.{Ok, refl, sym, ap, ◌∙◌, subst, append-nil, append_assoc, arith}
+use Rattle.std.specs.Prelude.{cond, count_by, flat_map}
+use Rattle.std.proofs.lemmas.List.{flat_map_more, length_push}
+use Rattle.std.proofs.lemmas.List.Elements.{All-nil, All-push}
+use Rattle.std.proofs.lemmas.List.Sums.{sum_by_push}
 use Rattle.snmp_io.specs.Count.{HasRisenBy}
 use Rattle.snmp_agent.specs.declared.endpoint.EndpointFault.{EndpointFault}
 use Rattle.snmp_agent.specs.declared.server.Served.{Served}
 use Rattle.snmp_agent.specs.declared.server.Turn.{Turn}
 use Rattle.snmp_agent.specs.declared.server.Turn.TheVariants as turn
-use Rattle.snmp_agent.specs.Serving.{same_turn, tally}
+use Rattle.snmp_agent.specs.Reply.{Agent}
+use Rattle.snmp_agent.specs.Serving.{AreTurns, IsTurn, TurnDone, same_turn, tally}
 use Rattle.snmp_agent.specs.Event.{Event, came, logged, event_of_receive, event_of_reply}
 
-pub extended_twice : (log : Option (List Event)) (a b : List Event) → logged (logged log a) b ≡ logged log (a ++ b)
+pub extended_twice : {Peer : Type 0} (log : Option (List (Event Peer))) (a b : List (Event Peer)) → logged (logged log a) b ≡ logged log (a ++ b)
 extended_twice None a b = refl
 extended_twice (Some before) a b = ap (λ events. Some events) (append_assoc before a b)
 
+pub not_extended : {Peer : Type 0} (log : Option (List (Event Peer))) → log ≡ logged log []
+not_extended None = refl
+not_extended (Some before) = ap (λ events. Some events) (sym (append-nil before))
+
 -- a datagram that came, and what became of the reply
-pub both_events : (old between new : Option (List Event)) (received : Result (Option ℕ) EndpointFault) (n : ℕ) (buffer datagram : List ℕ)
-    (sent_it : Result (Unit {0}) EndpointFault) → received ≡ Ok (Some n) → between ≡ logged old (event_of_receive received buffer)
-    → new ≡ logged between (event_of_reply sent_it datagram) → new ≡ logged old (came (take n buffer) ∷ event_of_reply sent_it datagram)
-both_events old between new received n buffer datagram sent_it is first second =
-    second ∙ ap (λ log. logged log (event_of_reply sent_it datagram)) (first ∙ ap (λ r. logged old (event_of_receive r buffer)) is)
-    ∙ extended_twice old (came (take n buffer) ∷ []) (event_of_reply sent_it datagram)
+pub both_events : {Peer : Type 0} (old between new : Option (List (Event Peer))) (received : Result (Option (ℕ × Peer)) EndpointFault) (n : ℕ) (peer : Peer)
+    (buffer datagram : List ℕ) (sent_it : Result (Unit {0}) EndpointFault) → received ≡ Ok (Some (n, peer))
+    → between ≡ logged old (event_of_receive received buffer)
+    → new ≡ logged between (event_of_reply sent_it peer datagram)
+    → new ≡ logged old (came peer (take n buffer) ∷ event_of_reply sent_it peer datagram)
+both_events old between new received n peer buffer datagram sent_it is first second =
+    second ∙ ap (λ log. logged log (event_of_reply sent_it peer datagram)) (first ∙ ap (λ r. logged old (event_of_receive r buffer)) is)
+    ∙ extended_twice old (came peer (take n buffer) ∷ []) (event_of_reply sent_it peer datagram)
 
 abbrev sum : Served → ℕ
 sum s = s.replies + s.dropped + s.idle + s.faults
@@ -36,12 +45,9 @@ one_more turn.Failed served = record served { faults = served.faults + 1 }
 same_counts : (s t : Served) → s.replies ≡ t.replies → s.dropped ≡ t.dropped → s.idle ≡ t.idle → s.faults ≡ t.faults → s ≡ t
 same_counts s t e f g h = λ i. record { replies = e i; dropped = f i; idle = g i; faults = h i }
 
-count-cons : (kind t : Turn) (turns : List Turn) → count_by (same_turn kind) (t ∷ turns) ≡ cond (same_turn kind t) 1 0 + count_by (same_turn kind) turns
-count-cons kind t turns = sum_by-cons (λ u. cond (same_turn kind u) 1 0) t turns
-
-one_more_of : {a b c d : ℕ} (n : Turn → ℕ) (t : Turn) → a ≡ cond (same_turn turn.Replied t) 1 0 + n turn.Replied
-    → b ≡ cond (same_turn turn.Dropped t) 1 0 + n turn.Dropped → c ≡ cond (same_turn turn.Idle t) 1 0 + n turn.Idle
-    → d ≡ cond (same_turn turn.Failed t) 1 0 + n turn.Failed
+one_more_of : {a b c d : ℕ} (n : Turn → ℕ) (t : Turn) → a ≡ n turn.Replied + cond (same_turn turn.Replied t) 1 0
+    → b ≡ n turn.Dropped + cond (same_turn turn.Dropped t) 1 0 → c ≡ n turn.Idle + cond (same_turn turn.Idle t) 1 0
+    → d ≡ n turn.Failed + cond (same_turn turn.Failed t) 1 0
     → one_more t (record { replies = n turn.Replied; dropped = n turn.Dropped; idle = n turn.Idle; faults = n turn.Failed })
     ≡ record { replies = a; dropped = b; idle = c; faults = d }
 one_more_of n turn.Replied e f g h = same_counts _ _ (omega arith) (omega arith) (omega arith) (omega arith)
@@ -49,10 +55,32 @@ one_more_of n turn.Dropped e f g h = same_counts _ _ (omega arith) (omega arith)
 one_more_of n turn.Idle e f g h = same_counts _ _ (omega arith) (omega arith) (omega arith) (omega arith)
 one_more_of n turn.Failed e f g h = same_counts _ _ (omega arith) (omega arith) (omega arith) (omega arith)
 
-pub one_more_counts : (t : Turn) (turns : List Turn) → one_more t (tally turns) ≡ tally (t ∷ turns)
-one_more_counts t turns =
-    one_more_of (λ kind. count_by (same_turn kind) turns) t (count-cons turn.Replied t turns) (count-cons turn.Dropped t turns)
-    (count-cons turn.Idle t turns) (count-cons turn.Failed t turns)
+module _ {Peer : Type 0} where
+  count_push : (done : List (TurnDone Peer)) (d : TurnDone Peer) (kind : Turn)
+      → count_by (λ u. same_turn kind u.turn) (done ++ d ∷ []) ≡ count_by (λ u. same_turn kind u.turn) done + cond (same_turn kind d.turn) 1 0
+  count_push done d kind = sum_by_push (λ u. cond (same_turn kind u.turn) 1 0) done d
+
+  one_more_counts : (done : List (TurnDone Peer)) (d : TurnDone Peer) → one_more d.turn (tally done) ≡ tally (done ++ d ∷ [])
+  one_more_counts done d = one_more_of (λ kind. count_by (λ u. same_turn kind u.turn) done) d.turn (count_push done d turn.Replied)
+      (count_push done d turn.Dropped) (count_push done d turn.Idle) (count_push done d turn.Failed)
+
+  -- before the first turn
+  pub no_turns : (agent : Agent) (s : Served) → s ≡ record { replies = 0; dropped = 0; idle = 0; faults = 0 } → AreTurns {Peer = Peer} agent 0 s []
+  no_turns agent s none =
+      record { done = []; each = All-nil (λ (u : TurnDone Peer). IsTurn agent u.turn u.events); count = refl; by_kind = none; in_order = refl }
+
+  -- one turn more
+  pub more_turns : (agent : Agent) (n : ℕ) (s more : Served) (events : List (Event Peer)) (t : Turn) (now : List (Event Peer)) → more ≡ one_more t s
+      → AreTurns agent n s events → IsTurn agent t now → AreTurns agent (n + 1) more (events ++ now)
+  more_turns agent n s more events t now counted so_far is =
+      let d : TurnDone Peer = record { turn = t; events = now } in
+      record {
+        done = so_far.done ++ d ∷ [];
+        each = All-push (λ (u : TurnDone Peer). IsTurn agent u.turn u.events) so_far.done d so_far.each is;
+        count = length_push so_far.done d ∙ ap (λ k. k + 1) so_far.count;
+        by_kind = counted ∙ ap (one_more t) so_far.by_kind ∙ one_more_counts so_far.done d;
+        in_order = ap (λ e. e ++ now) so_far.in_order ∙ flat_map_more (λ (u : TurnDone Peer). u.events) [] so_far.done d;
+      }
 
 pub one_more_turn : (t : Turn) (s : Served) → sum (one_more t s) ≡ sum s + 1
 one_more_turn turn.Replied s = omega arith
@@ -71,7 +99,7 @@ risen_more (suc n) zero a b c h k = let first = h.1 (omega arith) in let same = 
 risen_more (suc n) (suc m) a b c h k = let first = h.1 (omega arith) in let more = k.1 (omega arith) in
     (λ z. absurd (omega (arith, z)), λ some. omega (arith, first, more))
 
-faults_with : (t : Turn) (s : Served) → s.faults + (tally (t ∷ [])).faults ≡ (one_more t s).faults
+faults_with : (t : Turn) (s : Served) → s.faults + cond (same_turn turn.Failed t) 1 0 ≡ (one_more t s).faults
 faults_with turn.Replied s = omega arith
 faults_with turn.Dropped s = omega arith
 faults_with turn.Idle s = omega arith
@@ -79,7 +107,7 @@ faults_with turn.Failed s = omega arith
 
 -- with one more turn
 pub risen_in_turn : (t : Turn) (s more : Served) (a b c : ℕ) → more ≡ one_more t s → HasRisenBy s.faults a b
-    → HasRisenBy (tally (t ∷ [])).faults b c → HasRisenBy more.faults a c
+    → HasRisenBy (cond (same_turn turn.Failed t) 1 0) b c → HasRisenBy more.faults a c
 risen_in_turn t s more a b c is h k =
     subst (λ (n : ℕ). HasRisenBy n a c) (faults_with t s ∙ sym (ap (λ (m : Served). m.faults) is))
-    (risen_more s.faults (tally (t ∷ [])).faults a b c h k)
+    (risen_more s.faults (cond (same_turn turn.Failed t) 1 0) a b c h k)

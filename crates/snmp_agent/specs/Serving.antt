@@ -1,5 +1,6 @@
 -- The turns of a server (RFC 3417, section 3): one receive each, and the agent's reply.
-use Rattle.std.specs.Prelude.{◌≡◌, ◌⊎◌, ℕ, Bool, true, false, List, [], ◌∷◌, ◌++◌, count_by}
+use Rattle.std.specs.Prelude.{◌≡◌, ◌⊎◌, ℕ, Bool, true, false, List, [], ◌∷◌, All, count_by}
+use Rattle.std.specs.Prelude.{flat_map, length}
 use Rattle.snmp_agent.specs.declared.config.Why.{Why}
 use Rattle.snmp_agent.specs.declared.server.Served.{Served}
 use Rattle.snmp_agent.specs.declared.server.Turn.{Turn}
@@ -8,26 +9,26 @@ use Rattle.snmp_agent.specs.Reply.{Agent, IsReply, IsDropped}
 use Rattle.snmp_agent.specs.Event.{Event, came, silence, receive_failed, sent, send_failed}
 pub use Rattle.snmp_agent.specs.Event.{Event, logged}
 
--- A turn: the datagram that came has its reply, or is one that the agent drops; or no datagram came
--- in time; or the receive failed, or the send of the reply.
-abbrev pub IsTurn : Agent → Turn → List Event → Type 0
-IsTurn agent turn.Replied events =
-    (datagram : List ℕ) × (reply : List ℕ) × IsReply agent datagram reply
-    × (events ≡ came datagram ∷ sent reply ∷ [])
-IsTurn agent turn.Dropped events =
-    (datagram : List ℕ) × (why : Why) × IsDropped agent datagram why × (events ≡ came datagram ∷ [])
-IsTurn agent turn.Idle events = events ≡ silence ∷ []
-IsTurn agent turn.Failed events =
+-- A turn: the datagram that came has its reply, which goes to the peer that it came from, or is one
+-- that the agent drops; or no datagram came in time; or the receive failed, or the send of the
+-- reply.
+abbrev pub IsTurn : {Peer : Type 0} → Agent → Turn → List (Event Peer) → Type 0
+IsTurn {Peer} agent turn.Replied events =
+    (peer : Peer) × (datagram : List ℕ) × (reply : List ℕ) × IsReply agent datagram reply
+    × (events ≡ came peer datagram ∷ sent peer reply ∷ [])
+IsTurn {Peer} agent turn.Dropped events =
+    (peer : Peer) × (datagram : List ℕ) × (why : Why) × IsDropped agent datagram why
+    × (events ≡ came peer datagram ∷ [])
+IsTurn {Peer} agent turn.Idle events = events ≡ silence ∷ []
+IsTurn {Peer} agent turn.Failed events =
     (events ≡ receive_failed ∷ [])
-    ⊎ ((datagram : List ℕ) × (reply : List ℕ) × IsReply agent datagram reply
-    × (events ≡ came datagram ∷ send_failed reply ∷ []))
+    ⊎ ((peer : Peer) × (datagram : List ℕ) × (reply : List ℕ) × IsReply agent datagram reply
+    × (events ≡ came peer datagram ∷ send_failed peer reply ∷ []))
 
--- the turns that were made, the latest first, with their events in the order in which they happened
-abbrev pub AreTurns : Agent → List Turn → List Event → Type 0
-AreTurns agent [] events = events ≡ []
-AreTurns agent (latest ∷ earlier) events =
-    (before : List Event) × (now : List Event) × (events ≡ before ++ now)
-    × AreTurns agent earlier before × IsTurn agent latest now
+-- a turn that was done, and what happened in it
+pub record TurnDone (Peer : Type 0) : Type 0 where
+  pub turn : Turn
+  pub events : List (Event Peer)
 
 -- the turns are of one kind
 abbrev pub same_turn : Turn → Turn → Bool
@@ -38,10 +39,20 @@ same_turn turn.Failed turn.Failed = true
 same_turn _ _ = false
 
 -- how many turns there are of each kind
-abbrev pub tally : List Turn → Served
-tally turns = record {
-  replies = count_by (same_turn turn.Replied) turns;
-  dropped = count_by (same_turn turn.Dropped) turns;
-  idle = count_by (same_turn turn.Idle) turns;
-  faults = count_by (same_turn turn.Failed) turns;
+abbrev pub tally : {Peer : Type 0} → List (TurnDone Peer) → Served
+tally done = record {
+  replies = count_by (λ t. same_turn turn.Replied t.turn) done;
+  dropped = count_by (λ t. same_turn turn.Dropped t.turn) done;
+  idle = count_by (λ t. same_turn turn.Idle t.turn) done;
+  faults = count_by (λ t. same_turn turn.Failed t.turn) done;
 }
+
+-- Just as many turns as `turns` were done, of which these are the counts, and these events happened
+-- in them, one turn after the other.
+pub record AreTurns {Peer : Type 0} (agent : Agent) (turns : ℕ) (served : Served)
+    (events : List (Event Peer)) : Type 0 where
+  pub done : List (TurnDone Peer)
+  pub each : All (λ t. IsTurn agent t.turn t.events) done
+  pub count : length done ≡ turns
+  pub by_kind : served ≡ tally done
+  pub in_order : events ≡ flat_map (λ t. t.events) done

@@ -15,23 +15,27 @@ pub trait Endpoint {
     ghost use Rattle.std.specs.Prelude.{ℕ, List, Option};
     ghost use Rattle.snmp_agent.specs.Event.{Event, logged, event_of_receive, event_of_reply};
 
+    /// Who sends a datagram, and where the reply goes.
+    type Peer: Copy;
+
     /// What happened there so far, if that is known. For a socket it isn't.
-    ghost log: { Self → Option (List Event) };
+    ghost log: { Self → Option (List (Event Self.Peer)) };
 
     /// How many receives and replies failed.
     ghost fault_count: { Self → ℕ };
 
-    /// Receives a datagram to the front of the buffer, and returns its length, or None where none
-    /// comes in time. A fault is counted.
-    fn receive(&mut self, buffer: &mut [u8]) -> Result<Option<usize>, EndpointFault>
-        ensures bound { IfOk result (λ received. IfSome received (λ n. n ≤ length buffer.new)) }
+    /// Receives a datagram to the front of the buffer, and returns its length and who sent it, or
+    /// None where none comes in time. A fault is counted.
+    fn receive(&mut self, buffer: &mut [u8]) -> Result<Option<(usize, Self::Peer)>, EndpointFault>
+        ensures bound { IfOk result (λ received. IfSome received (λ r. r.0 ≤ length buffer.new)) }
         ensures log { log self.new ≡ logged (log self.old) (event_of_receive result buffer.new) }
         ensures count { OnOk result (fault_count self.new ≡ fault_count self.old) }
         ensures fault { OnErr result (HasRisen (fault_count self.old) (fault_count self.new)) };
 
-    /// Sends a reply to where the latest datagram came from. A fault is counted.
-    fn reply(&mut self, datagram: &[u8]) -> Result<(), EndpointFault>
-        ensures log { log self.new ≡ logged (log self.old) (event_of_reply result datagram.now) }
+    /// Sends a reply to this peer. A fault is counted.
+    fn reply(&mut self, datagram: &[u8], peer: Self::Peer) -> Result<(), EndpointFault>
+        ensures log { log self.new
+            ≡ logged (log self.old) (event_of_reply result peer datagram.now) }
         ensures count { OnOk result (fault_count self.new ≡ fault_count self.old) }
         ensures fault { OnErr result (HasRisen (fault_count self.old) (fault_count self.new)) };
 
@@ -44,8 +48,6 @@ pub trait Endpoint {
 #[derive(Drop)]
 pub struct SocketEndpoint<'a> {
     socket: &'a UdpSocket,
-    /// Where the latest datagram came from.
-    sender: Option<SocketAddr>,
     faults: u64,
 }
 
@@ -54,11 +56,7 @@ impl<'a> SocketEndpoint<'a> {
 
     /// The socket, from which nothing was received yet.
     pub fn new(socket: &'a UdpSocket) -> SocketEndpoint<'a> {
-        SocketEndpoint {
-            socket,
-            sender: None,
-            faults: 0,
-        }
+        SocketEndpoint { socket, faults: 0 }
     }
 
     /// Counts a fault, and returns it.
@@ -73,16 +71,15 @@ impl<'a> SocketEndpoint<'a> {
 impl<'a> Endpoint for SocketEndpoint<'a> {
     ghost use Rattle.std.specs.Prelude.{None};
 
+    type Peer = SocketAddr;
+
     ghost log = { λ _. None };
 
     ghost fault_count = { λ endpoint. endpoint.faults };
 
-    fn receive(&mut self, buffer: &mut [u8]) -> Result<Option<usize>, EndpointFault> {
+    fn receive(&mut self, buffer: &mut [u8]) -> Result<Option<(usize, SocketAddr)>, EndpointFault> {
         match self.socket.recv_from(buffer) {
-            Ok((size, sender)) => {
-                self.sender = Some(sender);
-                Ok(Some(size))
-            }
+            Ok(came) => Ok(Some(came)),
             Err(error) => match error.kind() {
                 ErrorKind::WouldBlock | ErrorKind::TimedOut => Ok(None),
                 _ => Err(self.fault()),
@@ -90,11 +87,8 @@ impl<'a> Endpoint for SocketEndpoint<'a> {
         }
     }
 
-    fn reply(&mut self, datagram: &[u8]) -> Result<(), EndpointFault> {
-        let Some(sender) = self.sender else {
-            return Err(self.fault());
-        };
-        match self.socket.send_to(datagram, sender) {
+    fn reply(&mut self, datagram: &[u8], peer: SocketAddr) -> Result<(), EndpointFault> {
+        match self.socket.send_to(datagram, peer) {
             Ok(size) if size == datagram.len() => Ok(()),
             _ => Err(self.fault()),
         }

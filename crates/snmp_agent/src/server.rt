@@ -1,7 +1,7 @@
 //! Serving a table: datagrams are received and replied to, one a turn.
-ghost use Rattle.std.specs.Prelude.{◌≡◌, ℕ, ◌+◌, List, [], ◌∷◌, length};
+ghost use Rattle.std.specs.Prelude.{◌≡◌, ◌+◌, List, cond};
 ghost use Rattle.snmp_agent.specs.Reply.{agent_of};
-ghost use Rattle.snmp_agent.specs.Serving.{Event, logged, IsTurn, AreTurns, tally};
+ghost use Rattle.snmp_agent.specs.Serving.{Event, logged, IsTurn, AreTurns, same_turn};
 ghost use Rattle.snmp_io.specs.Count.{HasRisenBy};
 
 use crate::agent::answer_near;
@@ -56,9 +56,8 @@ pub fn serve_at<E: Endpoint>(
     turns: u64,
 ) -> Served
     ensures adds_up { result.replies + result.dropped + result.idle + result.faults ≡ turns }
-    ensures turns { (done : List Turn) × (events : List Event)
-        × AreTurns (agent_of table.now config.now) done events × (length done ≡ turns)
-        × (result ≡ tally done)
+    ensures turns { (events : List (Event E.Peer))
+        × AreTurns (agent_of table.now config.now) turns result events
         × (E.log endpoint.new ≡ logged (E.log endpoint.old) events) }
     ensures faults { HasRisenBy result.faults (E.fault_count endpoint.old)
         (E.fault_count endpoint.new) }
@@ -87,18 +86,19 @@ fn serve_once<E: Endpoint>(
     reply: &mut [u8; MAX_DATAGRAM],
     hint: &mut Hint,
 ) -> Turn
-    ensures turn { (events : List Event) × IsTurn (agent_of table.now config.now) result events
+    ensures turn { (events : List (Event E.Peer))
+        × IsTurn (agent_of table.now config.now) result events
         × (E.log endpoint.new ≡ logged (E.log endpoint.old) events) }
-    ensures faults { HasRisenBy (tally (result ∷ [])).faults (E.fault_count endpoint.old)
-        (E.fault_count endpoint.new) }
+    ensures faults { HasRisenBy (cond (same_turn Turn.Failed result) 1 0)
+        (E.fault_count endpoint.old) (E.fault_count endpoint.new) }
 {
-    let size = match endpoint.receive(&mut request[..]) {
-        Ok(Some(size)) => size,
+    let (size, peer) = match endpoint.receive(&mut request[..]) {
+        Ok(Some((size, peer))) => (size, peer),
         Ok(None) => return Turn::Idle,
         Err(_) => return Turn::Failed,
     };
     match answer_near(table, config, &request[..size], reply, hint) {
-        Outcome::Reply(length) => match endpoint.reply(&reply[..length]) {
+        Outcome::Reply(length) => match endpoint.reply(&reply[..length], peer) {
             Ok(()) => Turn::Replied,
             Err(_) => Turn::Failed,
         },

@@ -100,6 +100,27 @@ fn each_sender_has_its_own_reply(rt: HostRuntime) {
     assert!(rt; first.recv_from(&mut [0; 1472]).is_err());
 }
 
+/// The reply goes to a port that is closed by then, which the next receive of a connected socket
+/// reports as an error, once.
+#[test]
+fn a_receive_that_fails_at_a_socket_is_a_fault(rt: HostRuntime) {
+    let table = Table::read(rt.alloc(), SYS_NAME).expect(&rt, "a table");
+    let server = socket_of(&rt);
+    let client = socket_of(&rt);
+    send(&rt, &client, &server, &GET);
+    let address = client.local_addr().expect(&rt, "an address");
+    server.connect(address).expect(&rt, "a connection");
+    drop(client);
+    let served = serve(&server, &table, &public(), 3);
+    let wanted = Served {
+        replies: 1,
+        dropped: 0,
+        idle: 1,
+        faults: 1,
+    };
+    assert_served(&rt, served, wanted);
+}
+
 /// An endpoint at which each second receive fails, and each second reply.
 #[derive(Drop)]
 struct Failing {
@@ -111,21 +132,23 @@ struct Failing {
 impl Endpoint for Failing {
     ghost use Rattle.std.specs.Prelude.{None};
 
+    type Peer = ();
+
     ghost log = { λ _. None };
 
     ghost fault_count = { λ endpoint. endpoint.faults };
 
-    fn receive(&mut self, buffer: &mut [u8]) -> Result<Option<usize>, EndpointFault> {
+    fn receive(&mut self, buffer: &mut [u8]) -> Result<Option<(usize, ())>, EndpointFault> {
         self.receives = self.receives.wrapping_add(1);
         if self.receives % 2 == 0 || buffer.len() < 40 {
             self.faults = self.faults.saturating_add(1);
             return Err(EndpointFault);
         }
         buffer[..40].copy_from_slice(&GET);
-        Ok(Some(40))
+        Ok(Some((40, ())))
     }
 
-    fn reply(&mut self, _datagram: &[u8]) -> Result<(), EndpointFault> {
+    fn reply(&mut self, _datagram: &[u8], _peer: ()) -> Result<(), EndpointFault> {
         self.replies = self.replies.wrapping_add(1);
         if self.replies % 2 == 0 {
             self.faults = self.faults.saturating_add(1);

@@ -1,12 +1,11 @@
 -- Which links are opened to agents in memory.
-use Rattle.std.specs.Prelude.{◌≡◌, ℕ, ◌==◌, ◌&&◌, List, [], ◌∷◌, Option, Some, None, find, length}
+use Rattle.std.specs.Prelude.{◌≡◌, ℕ, ◌==◌, ◌&&◌, List, [], ◌∷◌, Option, Some, None, find}
 use Rattle.std.specs.Prelude.{drop, map}
 use Rattle.std.specs.Borrow.{Bor}
 use Rattle.std.specs.Str.{bytes_eq}
 use Rattle.snmp_agent.specs.declared.server.Served.{Served}
-use Rattle.snmp_agent.specs.declared.server.Turn.{Turn}
 use Rattle.snmp_agent.specs.Reply.{Agent}
-use Rattle.snmp_agent.specs.Serving.{AreTurns, Event, tally}
+use Rattle.snmp_agent.specs.Serving.{AreTurns, Event}
 use Rattle.snmp_walk.specs.Memory.{IsHonest, agents_of, agents_over, traffic_of}
 use Rattle.snmp_walk.specs.declared.memory.MemoryLink.{MemoryLink}
 use Rattle.snmp_net.specs.declared.memory.MemoryAgent.{MemoryAgent}
@@ -28,8 +27,8 @@ abbrev pub OpensTo : List MemoryAgent → (host : List ℕ) → (port : ℕ) →
 OpensTo agents host port link =
     (agent : MemoryAgent) × (agent_at agents host port ≡ Some agent) × IsLinkTo agent link
 
--- a door where no agent is reached, at which all of these requests are still to come and nothing has
--- failed
+-- a door where no agent is reached, at which all of these requests are still to come and nothing
+-- has failed
 abbrev pub BindsAt : List MemoryAgent → (requests : List (Bor (List ℕ))) → (host : List ℕ)
     → (port : ℕ) → MemoryDoor → Type 0
 BindsAt agents requests host port door =
@@ -40,8 +39,7 @@ BindsAt agents requests host port door =
 abbrev pub ahead_of : MemoryDoor → List (List ℕ)
 ahead_of door = map (λ request. request.now) (drop door.used door.requests.now)
 
--- what the agent did by turns, in this many turns
+-- the agent served this many turns, with these counts
 abbrev pub AreServed : Agent → (turns : ℕ) → Served → Type 0
 AreServed agent turns served =
-    (done : List Turn) × (events : List Event) × AreTurns agent done events
-    × (length done ≡ turns) × (served ≡ tally done)
+    (events : List (Event (Unit {0}))) × AreTurns agent turns served events

@@ -136,16 +136,18 @@ impl<'a> Endpoint for MemoryDoor<'a> {
     ghost use Rattle.snmp_io.specs.Count.{HasRisen};
     ghost use Rattle.snmp_net.specs.Memory.{ahead_of};
 
+    type Peer = ();
+
     ghost log = { λ _. None };
 
     ghost fault_count = { λ door. door.faults };
 
     /// Receives the next request, and after the last nothing. One that is longer than the buffer is
     /// a fault, and never comes.
-    fn receive(&mut self, buffer: &mut [u8]) -> Result<Option<usize>, EndpointFault>
-        ensures bound { IfOk result (λ received. IfSome received (λ n. n ≤ length buffer.new)) }
+    fn receive(&mut self, buffer: &mut [u8]) -> Result<Option<(usize, ())>, EndpointFault>
+        ensures bound { IfOk result (λ received. IfSome received (λ r. r.0 ≤ length buffer.new)) }
         ensures next { IfOk result (λ received. IfSome received
-            (λ n. ahead_of self.old ≡ take n buffer.new ∷ ahead_of self.new)) }
+            (λ r. ahead_of self.old ≡ take r.0 buffer.new ∷ ahead_of self.new)) }
         ensures silent_after_the_last { IfOk result (λ received. IfNone received
             ((ahead_of self.old ≡ []) × (ahead_of self.new ≡ []))) }
         ensures skipped_where_too_long { OnErr result ((request : List ℕ)
@@ -164,11 +166,11 @@ impl<'a> Endpoint for MemoryDoor<'a> {
             return Err(EndpointFault);
         }
         buffer[..length].copy_from_slice(request);
-        Ok(Some(length))
+        Ok(Some((length, ())))
     }
 
     /// Passes over no request.
-    fn reply(&mut self, _datagram: &[u8]) -> Result<(), EndpointFault>
+    fn reply(&mut self, _datagram: &[u8], _peer: ()) -> Result<(), EndpointFault>
         ensures ahead { ahead_of self.new ≡ ahead_of self.old }
         ensures count { OnOk result (self.new.faults ≡ self.old.faults) }
         ensures fault { OnErr result (HasRisen self.old.faults self.new.faults) }

@@ -1,11 +1,22 @@
-use Rattle.std.proofs.Common.{◌≡◌, ◌+◌, ◌∷◌, ◌++◌, refl, sym, ap, ◌∙◌, arith, length}
+use Rattle.std.proofs.Common.{◌≡◌, ◌+◌, ◌++◌, [], refl, sym, ap, ◌∙◌, arith, rules}
 use Rattle.snmp_agent.specs.declared.server.Served.{Served}
 use Rattle.snmp_agent.specs.declared.server.Turn.{Turn}
 use Rattle.snmp_agent.specs.Serving.{logged}
-use Rattle.snmp_agent.proofs.ServerTurns.{extended_twice, one_more, one_more_counts, one_more_turn}
-use Rattle.snmp_agent.proofs.ServerTurns.{risen_in_turn}
+use Rattle.snmp_agent.proofs.ServerTurns.{extended_twice, more_turns, no_turns, not_extended}
+use Rattle.snmp_agent.proofs.ServerTurns.{one_more, one_more_turn, risen_in_turn}
 use Rattle.snmp_agent.proofs.server.serve_at.Goals as goal
 use Rattle.snmp_agent.proofs.server.serve_at.Goals.{in-Replied, in-Dropped, in-Idle, in-Failed}
+
+pub turns-init : goal.turns-init
+turns-init g c =
+    let none : c.default-served.result ≡ record { replies = 0; dropped = 0; idle = 0; faults = 0 } = search rules in
+    record {
+      sum = ap (λ (s : Served). s.replies + s.dropped + s.idle + s.faults) none;
+      events = [];
+      turns = no_turns _ _ none;
+      risen = (λ _. refl, λ some. absurd (omega (arith, some, ap (λ (s : Served). s.faults) none)));
+      log = not_extended _;
+    }
 
 pub turns-preserved : goal.turns-preserved
 turns-preserved g c =
@@ -21,11 +32,8 @@ turns-preserved g c =
     let whole = ap (λ (s : Served). s.replies + s.dropped + s.idle + s.faults) more in
     record {
       sum = whole ∙ one_more_turn t c.turns.served ∙ ap (λ n. n + 1) so_far.sum;
-      done = t ∷ so_far.done;
       events = so_far.events ++ made.0;
-      made = (so_far.events, made.0, refl, so_far.made, made.1);
-      count = let long : length (t ∷ so_far.done) ≡ length so_far.done + 1 = omega arith in long ∙ ap (λ n. n + 1) so_far.count;
-      counted = more ∙ ap (one_more t) so_far.counted ∙ one_more_counts t so_far.done;
+      turns = more_turns _ c.turns.counter c.turns.served _ so_far.events t made.0 more so_far.turns made.1;
       risen = risen_in_turn t c.turns.served _ _ _ _ more so_far.risen c.serve_once.ensures.faults;
       log = made.2 ∙ ap (λ log. logged log made.0) so_far.log ∙ extended_twice (g.E.Endpoint.log c.args.endpoint.now) so_far.events made.0;
     }
