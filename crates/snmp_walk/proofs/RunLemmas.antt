@@ -18,6 +18,8 @@ use Rattle.snmp_walk.specs.Request.{first_phase}
 use Rattle.snmp_walk.specs.Judged.{MeansBy}
 use Rattle.snmp_walk.specs.Taken.{is_over, take_of}
 use Rattle.snmp_walk.specs.Standing.{IsOpening, IsPartOfWalk, IsStage, IsPaced, Reaches, Ends}
+use Rattle.snmp_walk.specs.Standing.{HasAsked, opening_gets}
+use Rattle.std.proofs.lemmas.List.Elements.{All-nil}
 use Rattle.snmp_walk.specs.Standing.{Advances, Rises, Named, IsReplyEnd, CountsAll, AdvancesAnyhow}
 use Rattle.snmp_walk.specs.Link.{Agents, IsNextFrom, IsGotFrom, IsTooLarge, IsUnanswered, AreViews}
 use Rattle.snmp_walk.specs.Link.{Outcome}
@@ -108,10 +110,21 @@ module _ (Next Got : List ℕ → VarBind → Type 0) (first : Walker) where
     last = refl;
   }
 
+  none_asked : IsOpening Got first.mode first.asked [] → opening_gets first.mode ≡ 0 → HasAsked Next Got first [] first.id
+  none_asked opening none = record {
+    front = [];
+    replies = [];
+    parts = refl;
+    opening = opening;
+    some = All-nil (λ (r : List VarBind). r ≢ []);
+    is_trail = tt;
+    ids = omega (arith, none);
+  }
+
   fresh_pace : (m : Mode) → first.mode ≡ m → IsPaced Next Got first [] first.id (first_phase m)
-  fresh_pace mode.Plain e = ([], [], refl, subst (λ (n : Mode). IsOpening Got n first.asked []) (sym e) refl, omega arith, tt)
+  fresh_pace mode.Plain e = none_asked (subst (λ (n : Mode). IsOpening Got n first.asked []) (sym e) refl) (ap opening_gets e)
   fresh_pace mode.Include e = refl
-  fresh_pace mode.NoLast e = ([], [], refl, subst (λ (n : Mode). IsOpening Got n first.asked []) (sym e) refl, omega arith, tt)
+  fresh_pace mode.NoLast e = none_asked (subst (λ (n : Mode). IsOpening Got n first.asked []) (sym e) refl) (ap opening_gets e)
 
   pub fresh_stands : IsFresh first → Reaches Next Got first first []
   fresh_stands h = record {

@@ -15,6 +15,7 @@ use Rattle.std.proofs.Common.{
   [],
   ◌∷◌,
   ◌++◌,
+  ◌≢◌,
   length,
   refl,
   sym,
@@ -31,7 +32,9 @@ use Rattle.std.proofs.Common.{
 }
 use Rattle.std.proofs.lemmas.Bool.{ltb-true, le-ltb, or_from, and_from, and_parts, eqb-true}
 use Rattle.std.proofs.lemmas.Bool.{ltb-false, eq-eqb}
-use Rattle.std.specs.Prelude.{nat_lt, ◌==◌, ◌&&◌, ◌||◌, not}
+use Rattle.std.proofs.lemmas.List.{flat_map_more, length_push}
+use Rattle.std.proofs.lemmas.List.Elements.{All-nil, All-push}
+use Rattle.std.specs.Prelude.{nat_lt, ◌==◌, ◌&&◌, ◌||◌, flat_map, not}
 use Rattle.std.specs.Bool.{nat_eq}
 use Rattle.std.specs.List.{list_any}
 use Rattle.std.specs.Cmp.Lexicographic.{pointwise, nat_list_eq_equiv}
@@ -68,7 +71,7 @@ use Rattle.snmp_walk.specs.Standing.{
   Advances,
 }
 use Rattle.snmp_walk.proofs.TrailLemmas.{last_name-append, trail-append, IsFront, chain_front}
-use Rattle.snmp_walk.proofs.TrailLemmas.{chain_has_values}
+use Rattle.snmp_walk.proofs.TrailLemmas.{chain_has_values, few_replies}
 use Rattle.snmp_walk.specs.Request.{asked_for}
 use Rattle.snmp_walk.proofs.RowLemmas.{AreLawfulReplies}
 use Rattle.snmp_walk.proofs.TestLemmas.{present, present_is}
@@ -142,12 +145,12 @@ module _ (Next Got : List ℕ → VarBind → Type 0) (Large : ℕ → VarBind �
 
   -- a plain walk that gave nothing has made no request before
   plain_pace : (given : List VarBind) (w : Walker) → w.phase ≡ phase.Rows → Reaches Next Got first w given → given ≡ [] → first.mode ≡ mode.Plain
-      → w.id ≤ first.id
+      → w.id ≡ first.id
   plain_pace given w waits h none plain =
       let p = subst (IsPaced Next Got first given w.id) waits h.paced in
-      let empty : p.1 ≡ [] = (append_none p.0 p.1 (sym p.2 ∙ none)).1 in
+      let empty : flat_map (λ r. r) p.replies ≡ [] = (append_none p.front (flat_map (λ r. r) p.replies) (sym p.parts ∙ none)).1 in
       let gets : opening_gets first.mode ≡ 0 = ap opening_gets plain in
-      omega (arith, p.4, gets, ap length empty)
+      omega (arith, p.ids, gets, ap length empty, few_replies p.replies p.some)
 
   -- a reply with a row at least takes the walk to the next id
   -- the name asked from is the last of those given below the root
@@ -161,14 +164,19 @@ module _ (Next Got : List ℕ → VarBind → Type 0) (Large : ℕ → VarBind �
       → IsTrail Next first.root w.asked rows → 1 ≤ length rows → IsPaced Next Got first (given ++ rows) (w.id + 1) phase.Rows
   more_pace given rows w waits h g trail some =
       let p = subst (IsPaced Next Got first given w.id) waits h.paced in
-      let last : w.asked ≡ last_name first.asked p.1 = asked_last given w.asked p.0 p.1 g p.2 p.3 in (
-        p.0,
-        p.1 ++ rows,
-        ap (λ (s : List VarBind). s ++ rows) p.2 ∙ append_assoc p.0 p.1 rows,
-        p.3,
-        omega (arith, p.4, some, length-append p.1 rows),
-        trail-append Next first.root first.asked p.1 rows p.5 (subst (λ (n : List ℕ). IsTrail Next first.root n rows) last trail),
-      )
+      let before : List VarBind = flat_map (λ r. r) p.replies in
+      let last : w.asked ≡ last_name first.asked before = asked_last given w.asked p.front before g p.parts p.opening in
+      let now : before ++ rows ≡ flat_map (λ r. r) (p.replies ++ rows ∷ []) = flat_map_more (λ (r : List VarBind). r) [] p.replies rows in
+      record {
+        front = p.front;
+        replies = p.replies ++ rows ∷ [];
+        parts = ap (λ (s : List VarBind). s ++ rows) p.parts ∙ append_assoc p.front before rows ∙ ap (λ (s : List VarBind). p.front ++ s) now;
+        opening = p.opening;
+        some = All-push (λ (r : List VarBind). r ≢ []) p.replies rows p.some (λ none. omega (arith, some, ap length none));
+        is_trail = subst (IsTrail Next first.root first.asked) now
+            (trail-append Next first.root first.asked before rows p.is_trail (subst (λ (n : List ℕ). IsTrail Next first.root n rows) last trail));
+        ids = omega (arith, p.ids, length_push p.replies rows);
+      }
 
   -- nothing more stands below the root
   pub closed : (given more : List VarBind) (w : Walker) (o : List ℕ) (b : Bool) → b ≡ (is_plain w.mode && (w.count + length more == 0)) → w.phase ≡ phase.Rows
@@ -182,7 +190,7 @@ module _ (Next Got : List ℕ → VarBind → Type 0) (Large : ℕ → VarBind �
       let asked : w.asked ≡ first.asked = none_asked given w.asked no_given before in
       let at : o ≡ first.asked = none_asked (given ++ more) o (ap (λ (s : List VarBind). s ++ more) no_given ∙ no_more) h' in
       let plain : first.mode ≡ mode.Plain = sym (mode_is w given h) ∙ plain_from w.mode parts.0 in
-      let pace : w.id ≤ first.id = plain_pace given w waits h no_given plain in
+      let pace : w.id ≡ first.id = plain_pace given w waits h no_given plain in
       goes given [] w phase.Last _ refl h (append-nil given ∙ no_given, asked, plain, subst (IsAtEnd Next first.root) at end) (omega (arith, pace))
   closed given more w o false e waits h before h' end =
       whole given more w o h.count h' end (λ plain none.
@@ -273,7 +281,15 @@ module _ (Next Got : List ℕ → VarBind → Type 0) (Large : ℕ → VarBind �
       let gets : opening_gets first.mode ≡ 1 = ap opening_gets stage.2 in
       goes given (if_present p) w phase.Rows _ refl h
       (record { front = if_present p; trail = []; parts = parts; opening = opening; is_trail = tt; last = name ∙ stage.1 })
-      (if_present p, [], parts, opening, omega (arith, pace, gets), tt)
+      (record {
+        front = if_present p;
+        replies = [];
+        parts = parts;
+        opening = opening;
+        some = All-nil (λ (r : List VarBind). r ≢ []);
+        is_trail = tt;
+        ids = omega (arith, pace, gets);
+      })
 
   -- the reply to the Get with which a walk ends that gave nothing
   pub reads_alone : (given : List VarBind) (w : Walker) (p : VarBind) → Reaches Next Got first w given → IsStage Next Got first given w.asked phase.Last

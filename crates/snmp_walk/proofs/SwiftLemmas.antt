@@ -2,6 +2,7 @@
 use Rattle.std.proofs.Common.{◌≡◌, ◌≢◌, ◌⊎◌, ◌≤ℤ◌, ℤ, inl, inr, ℕ, ◌+◌, ◌<◌, ◌≤◌, false, List, []}
 use Rattle.std.proofs.Common.{◌∷◌, ◌++◌, length, refl, sym, ◌∙◌, ap, subst, arith, pos}
 use Rattle.std.proofs.Common.{length-append}
+use Rattle.std.specs.Prelude.{flat_map}
 use Rattle.snmp_wire.specs.declared.kind.Kind.TheVariants as kind
 use Rattle.snmp_wire.specs.Message.{VarBind, Message, end_of_mib_view}
 use Rattle.snmp_wire.specs.Spelling.{Spells}
@@ -53,6 +54,7 @@ use Rattle.snmp_walk.proofs.HonestLemmas.{set_phase}
 use Rattle.snmp_walk.proofs.BulkLemmas.{IsOneBulk, one_bulk}
 use Rattle.snmp_walk.proofs.RoomLemmas.{room_fits, room_small, room_exception}
 use Rattle.snmp_walk.proofs.TableLemmas.{trail_rest}
+use Rattle.snmp_walk.proofs.TrailLemmas.{few_replies}
 use Rattle.snmp_walk.proofs.ViewLemmas.{view_of}
 use Rattle.snmp_walk.proofs.RowLemmas.{IsOneTable}
 
@@ -80,7 +82,8 @@ module _ (Next Got : List ℕ → VarBind → Type 0) (first : Walker) (k : ℕ)
   pub few_in : (w : Walker) (given : List VarBind) (p : Phase) → IsStage Next Got first given w.asked p → IsPaced Next Got first given w.id p
       → w.id ≤ first.id + k + gets first.mode
   few_in w given phase.First stage pace = omega (arith, pace)
-  few_in w given phase.Rows stage pace = omega (arith, pace.4, opening_is_get first.mode, bound pace.1 pace.5)
+  few_in w given phase.Rows stage pace =
+      omega (arith, pace.ids, opening_is_get first.mode, few_replies pace.replies pace.some, bound (flat_map (λ r. r) pace.replies) pace.is_trail)
   few_in w given phase.Last stage pace = let one : gets first.mode ≡ 1 = ap gets stage.2 in omega (arith, pace, one)
   few_in w given phase.Over stage pace = absurd pace
 

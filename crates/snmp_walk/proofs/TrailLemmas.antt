@@ -1,9 +1,10 @@
 -- A chain of answers is a trail up to the first that leaves the subtree.
-use Rattle.std.proofs.Common.{◌≡◌, ℕ, ◌<◌, ◌≤◌, Bool, true, false, cond, List, [], ◌∷◌, ◌++◌}
-use Rattle.std.proofs.Common.{length, refl, sym, ap, subst, arith}
+use Rattle.std.proofs.Common.{◌≡◌, ◌≢◌, ℕ, ◌+◌, ◌<◌, ◌≤◌, Bool, true, false, cond, List, [], ◌∷◌, ◌++◌}
+use Rattle.std.proofs.Common.{length, length-append, refl, sym, ap, subst, arith}
+use Rattle.std.proofs.lemmas.List.Elements.{All-head, All-tail}
 use Rattle.std.proofs.lemmas.List.Sums.{take_while-cons}
 use Rattle.std.proofs.lemmas.Bool.{and_parts, not-true, or_from}
-use Rattle.std.specs.Prelude.{not}
+use Rattle.std.specs.Prelude.{All, flat_map, not}
 use Rattle.std.specs.List.{list_any}
 use Rattle.snmp_wire.specs.Message.{VarBind}
 use Rattle.snmp_walk.specs.Names.{is_inside, is_end, is_missing, is_below, comes_after}
@@ -16,6 +17,18 @@ use Rattle.snmp_walk.proofs.TestLemmas.{inside_decided, outside}
 pub last_name-append : (o : List ℕ) (xs ys : List VarBind) → last_name o (xs ++ ys) ≡ last_name (last_name o xs) ys
 last_name-append o [] ys = refl
 last_name-append o (x ∷ xs) ys = last_name-append x.name xs ys
+
+longer : (rows : List VarBind) (more : List (List VarBind)) → rows ≢ [] → length more ≤ length (flat_map (λ r. r) more)
+    → length more + 1 ≤ length (rows ++ flat_map (λ r. r) more)
+longer [] more some few = absurd (some refl)
+longer (p ∷ rows) more some few = omega (arith, few, length-append rows (flat_map (λ r. r) more))
+
+-- there are as many rows at least as replies that each have one
+pub few_replies : (replies : List (List VarBind)) → All (λ rows. rows ≢ []) replies → length replies ≤ length (flat_map (λ rows. rows) replies)
+few_replies [] some = omega arith
+few_replies (rows ∷ more) some =
+    let rest = few_replies more (All-tail (λ (r : List VarBind). r ≢ []) rows more some) in
+    let all = longer rows more (All-head (λ (r : List VarBind). r ≢ []) rows more some) rest in omega (arith, all)
 
 module _ (Next : List ℕ → VarBind → Type 0) (root : List ℕ) where
   pub trail-append : (o : List ℕ) (xs ys : List VarBind) → IsTrail Next root o xs → IsTrail Next root (last_name o xs) ys → IsTrail Next root o (xs ++ ys)

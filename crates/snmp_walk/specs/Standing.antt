@@ -16,6 +16,8 @@ use Rattle.std.specs.Prelude.{
   [],
   ◌∷◌,
   ◌++◌,
+  All,
+  flat_map,
   length,
 }
 use Rattle.snmp_oid.specs.Identifier.{Precedes}
@@ -126,18 +128,26 @@ abbrev pub opening_gets : Mode → ℕ
 opening_gets mode.Include = 1
 opening_gets _ = 0
 
--- How far the ids have come: each request before the waiting one brought at least one row after the
--- root's own. Exceptions are the Get that a walk begins with where it includes its root, and the
--- request that found nothing, before the Get that ends a plain walk.
+-- Each request before the waiting one used one id and brought what was given: the Get that a walk
+-- begins with where it includes its root brought the root's own, if that is there, and each other
+-- request at least one row below the root.
+pub record HasAsked (Next Got : List ℕ → VarBind → Type 0) (first : Walker)
+    (given : List VarBind) (id : ℕ) : Type 0 where
+  pub front : List VarBind
+  pub replies : List (List VarBind)
+  pub parts : given ≡ front ++ flat_map (λ rows. rows) replies
+  pub opening : IsOpening Got first.mode first.asked front
+  pub some : All (λ rows. rows ≢ []) replies
+  pub is_trail : IsTrail Next first.root first.asked (flat_map (λ rows. rows) replies)
+  pub ids : id ≡ first.id + opening_gets first.mode + length replies
+
+-- How the waiting request came to its id. A plain walk that gave nothing asked once before the Get
+-- that ends it.
 abbrev pub IsPaced : (Next Got : List ℕ → VarBind → Type 0) → Walker → List VarBind → ℕ → Phase
     → Type 0
 IsPaced Next Got first given id phase.First = id ≡ first.id
-IsPaced Next Got first given id phase.Rows =
-    (front : List VarBind) × (trail : List VarBind) × (given ≡ front ++ trail)
-    × IsOpening Got first.mode first.asked front
-    × (id ≤ first.id + opening_gets first.mode + length trail)
-    × IsTrail Next first.root first.asked trail
-IsPaced Next Got first given id phase.Last = id ≤ first.id + 1
+IsPaced Next Got first given id phase.Rows = HasAsked Next Got first given id
+IsPaced Next Got first given id phase.Last = id ≡ first.id + 1
 IsPaced Next Got first given id phase.Over = ⊥
 
 -- the walk that began as `first` has given these bindings and waits for a reply
