@@ -1,11 +1,11 @@
 -- A strict form that is no longer than the written one is the written one.
 use Rattle.std.proofs.Common.{◌≡◌, ℕ, ℤ, pos, ◌+◌, ◌-ℤ◌, ◌*◌, ◌%◌, ◌^◌, ◌<◌, ◌≤◌, suc, List, []}
-use Rattle.std.proofs.Common.{◌∷◌, ◌++◌, length, drop, get_or, refl, sym, ap, subst, ◌∙◌}
+use Rattle.std.proofs.Common.{◌∷◌, ◌++◌, length, take, drop, get_or, refl, sym, ap, subst, ◌∙◌}
 use Rattle.std.proofs.Common.{◌⊎◌, inl, inr, ⊎_elim, arith, length-append}
 use Rattle.std.proofs.Math.Nat.{mul-le-mul_right}
 use Rattle.std.proofs.lemmas.Int.{ints}
 use Rattle.std.proofs.lemmas.Bool.{cases_lt, cases_order}
-use Rattle.std.proofs.lemmas.List.{map-append}
+use Rattle.std.proofs.lemmas.List.{drop_at, map-append, take_at}
 use Rattle.std.proofs.lemmas.List.Elements.{recursion_from_All}
 use Rattle.std.specs.List.{AllByRecursion, flat_map}
 use Rattle.snmp_wire.specs.ber.Canon.{canon_content, canon_element, canon_header, canon_length}
@@ -24,11 +24,11 @@ use Rattle.snmp_wire.proofs.CanonLemmas.{canon_length_long, length-octets}
 use Rattle.snmp_wire.specs.ber.ElementLaws.{canon_length_short, length-canon_element}
 use Rattle.snmp_wire.proofs.ShortestValues.{Octets, back_octets, below_power, bits_below}
 use Rattle.snmp_wire.proofs.ShortestValues.{content_octets, content_shortest, front_octets}
-use Rattle.snmp_wire.proofs.ShortestValues.{length_rises}
-use Rattle.snmp_wire.proofs.ShortestValues.{length-low_bits, length_shortest}
+use Rattle.snmp_wire.proofs.ShortestValues.{length_rises, length-low_bits, length_shortest, low_bits}
+use Rattle.snmp_wire.proofs.ShortestValues.{octets_by}
 use Rattle.snmp_wire.proofs.ShortestValues.{subidentifier_shortest, subidentifiers_shortest}
 use Rattle.snmp_wire.proofs.StrictIdentifiers.{content_is_subidentifiers, is_subidentifier}
-use Rattle.snmp_wire.proofs.StrictIdentifiers.{low_bits, small_subidentifiers}
+use Rattle.snmp_wire.proofs.StrictIdentifiers.{small_subidentifiers}
 use Rattle.snmp_wire.proofs.StrictIdentifiers.{subidentifier_octets}
 use Rattle.snmp_wire.proofs.StrictNumbers.{are_octets, length_fits, negative, octets_fit, positive}
 use Rattle.snmp_wire.proofs.StrictValues.{IsGood, good}
@@ -63,7 +63,7 @@ same_digits base (x ∷ xs) (y ∷ ys) h k size e =
 pub same_unsigned : (xs ys : List ℕ) → Octets xs → Octets ys → length xs ≡ length ys → unsigned xs ≡ unsigned ys → xs ≡ ys
 same_unsigned xs ys h k size e = same_digits 256 xs ys h k size e
 
--- the same by two's complement
+-- octets of one number in two's complement are of one unsigned number
 same_unsigned_of : (xs ys : List ℕ) → Octets xs → Octets ys → length xs ≡ length ys → twos_complement xs ≡ twos_complement ys → unsigned xs ≡ unsigned ys
 same_unsigned_of xs ys h k size e =
     let power : 256 ^ length xs ≡ 256 ^ length ys = ap (λ n. 256 ^ n) size in
@@ -90,27 +90,18 @@ same_integer xs ys h k size e = same_unsigned xs ys h k size (same_unsigned_of x
 
 -- parts of as many elements are the same where the whole is
 front_of : (a c b d : List ℕ) → length a ≡ length c → a ++ b ≡ c ++ d → a ≡ c
-front_of [] [] b d size e = refl
-front_of [] (y ∷ c) b d size e = absurd (omega (arith, size))
-front_of (x ∷ a) [] b d size e = absurd (omega (arith, size))
-front_of (x ∷ a) (y ∷ c) b d size e =
-    let first : x ≡ y = ap (λ (ds : List ℕ). get_or ds 0 0) e in
-    let rest : a ++ b ≡ c ++ d = ap (λ (ds : List ℕ). drop 1 ds) e in
-    ap (λ k. k ∷ a) first ∙ ap (λ ks. y ∷ ks) (front_of a c b d (omega (arith, size)) rest)
+front_of a c b d size e = sym (take_at a b (length a) refl) ∙ ap (take (length a)) e ∙ take_at c d (length a) (sym size)
 
 back_of : (a c b d : List ℕ) → length a ≡ length c → a ++ b ≡ c ++ d → b ≡ d
-back_of [] [] b d size e = e
-back_of [] (y ∷ c) b d size e = absurd (omega (arith, size))
-back_of (x ∷ a) [] b d size e = absurd (omega (arith, size))
-back_of (x ∷ a) (y ∷ c) b d size e = back_of a c b d (omega (arith, size)) (ap (λ (ds : List ℕ). drop 1 ds) e)
+back_of a c b d size e = sym (drop_at a b (length a) refl) ∙ ap (drop (length a)) e ∙ drop_at c d (length a) (sym size)
 
--- of two parts, neither shorter than it might be, both are as short
-pub parts_same : (a b c d : List ℕ) → length c ≤ length a → length d ≤ length b → length (a ++ b) ≤ length (c ++ d)
-    → (length a ≤ length c) × (length b ≤ length d)
-parts_same a b c d first rest whole = (
-  omega (arith, first, rest, whole, length-append a b, length-append c d),
-  omega (arith, first, rest, whole, length-append a b, length-append c d),
-)
+-- two parts that are as short as the written ones together are the written ones
+pub two_same : (a b c d : List ℕ) → length c ≤ length a → length d ≤ length b → length (a ++ b) ≤ length (c ++ d) → (length a ≤ length c → a ≡ c)
+    → (length b ≤ length d → b ≡ d) → a ++ b ≡ c ++ d
+two_same a b c d first rest whole is_first is_rest =
+    let front : length a ≤ length c = omega (arith, first, rest, whole, length-append a b, length-append c d) in
+    let back : length b ≤ length d = omega (arith, first, rest, whole, length-append a b, length-append c d) in
+    ap (λ (text : List ℕ). text ++ b) (is_first front) ∙ ap (λ (text : List ℕ). c ++ text) (is_rest back)
 
 -- ---- lengths
 
@@ -123,7 +114,7 @@ long_digits lead n fits h least short above l =
     let size : length lead ≡ suc (length l.digits) = ap length l.parts in
     let same_size : length l.digits ≡ length text = omega (arith, made, size, least, short) in
     let value : unsigned text ≡ n = octets_fit (length_size n) n (length_fits n fits) in
-    let digits : l.digits ≡ text = same_unsigned l.digits text all.1 (recursion_from_All (λ octet. octet < 256) text (are_octets (length_size n) n)) same_size
+    let digits : l.digits ≡ text = same_unsigned l.digits text all.1 (octets_by text (are_octets (length_size n) n)) same_size
     (l.value ∙ sym value) in
     l.parts ∙ ap (λ ds. (128 + length ds) ∷ ds) digits ∙ ap (λ k. (128 + k) ∷ text) (length-octets (length_size n) n) ∙ sym (canon_length_long n above)
 
@@ -135,9 +126,6 @@ length_same lead n fits h short (inr l) = ⊎_elim
     (cases_lt n 128)
 
 -- ---- identifiers
-
-octets_by : (text : List ℕ) → AreOctets text → Octets text
-octets_by text all = recursion_from_All (λ octet. octet < 256) text all
 
 -- digits that each have the high bit set are the same where their low bits are
 high_same : (xs ys : List ℕ) → Octets xs → Octets ys → AllByRecursion (λ octet. 128 ≤ octet) xs → AllByRecursion (λ octet. 128 ≤ octet) ys
@@ -191,11 +179,11 @@ subidentifiers_same content [] fits h are short = are
 subidentifiers_same content (n ∷ more) fits h (first, rest, parts, is, are) short =
     let made : List ℕ = flat_map canon_subidentifier more in
     let all : Octets (first ++ rest) = subst Octets parts h in
-    let both = parts_same first rest (canon_subidentifier n) made (subidentifier_shortest first n is) (subidentifiers_shortest rest more are)
-    (subst (λ (text : List ℕ). length text ≤ length (canon_subidentifier n ++ made)) parts short) in
     parts
-    ∙ ap (λ (text : List ℕ). text ++ rest) (subidentifier_same first n fits.0 (front_octets first rest all) is both.0)
-    ∙ ap (λ (text : List ℕ). canon_subidentifier n ++ text) (subidentifiers_same rest more fits.1 (back_octets first rest all) are both.1)
+    ∙ two_same first rest (canon_subidentifier n) made (subidentifier_shortest first n is) (subidentifiers_shortest rest more are)
+    (omega (arith, ap length parts, short))
+    (λ few. subidentifier_same first n fits.0 (front_octets first rest all) is few)
+    (λ few. subidentifiers_same rest more fits.1 (back_octets first rest all) are few)
 
 -- ---- values
 

@@ -11,26 +11,28 @@ use Rattle.snmp_wire.specs.ber.Reading.{◌>>=◌, checked, inner_at, identifier
 use Rattle.snmp_wire.specs.Reading.{Fields, fields_of, fields_at, binding_of, binding_at}
 use Rattle.snmp_wire.specs.Reading.{bindings_within, bindings_of, bindings_in}
 use Rattle.snmp_wire.specs.ber.ReadingLaws.{ok_is, bind_ok, bind_same, ok_value, is_ok_at}
-use Rattle.snmp_wire.specs.ber.ReadingLaws.{checked_err, err_checked, ok_checked}
-use Rattle.snmp_wire.specs.ber.LengthLaws.{inner_takes, element_shrinks}
+use Rattle.snmp_wire.specs.ber.ReadingLaws.{checked_err, err_checked, ok_checked, Gives, a_value, given}
+use Rattle.snmp_wire.specs.ber.ReadingLaws.{gives_any, gives_so, gives_then}
+use Rattle.snmp_wire.specs.ber.LengthLaws.{inner_gives, element_shrinks}
 
 -- a binding has octets of its own
-pub fields_shrink : (octets : List ℕ) (x : Fields × List ℕ) → fields_at octets ≡ Ok x → length x.1 < length octets
+fields_less : (octets : List ℕ) → Gives (λ x. length x.1 < length octets) (λ e. Unit {0}) (fields_at octets)
 unfolding fields_at
-fields_shrink octets x e =
-    let a = bind_ok (inner_at 0x30 octets) (λ binding. fields_of binding.0 >>= λ fields. Ok (fields, binding.1)) x e in
-    let b = bind_ok (fields_of a.0.0) (λ fields. Ok (fields, a.0.1)) x a.2 in
-    let same : a.0.1 ≡ x.1 = ap (λ (y : Fields × List ℕ). y.1) (ok_is (b.0, a.0.1) x b.2) in
-    let less : length a.0.1 < length octets = element_shrinks 0x30 octets a.0.0 a.0.1 (inner_takes 0x30 octets a.0 a.1) in
-    subst (λ (after : List ℕ). length after < length octets) same less
+fields_less octets =
+    gives_then _ (gives_so (λ x begins. element_shrinks begins) (λ e fault. tt) (inner_gives 0x30 octets)) (λ binding less.
+    gives_then _ (gives_any (fields_of binding.0)) (λ fields any. a_value (fields, binding.1) less))
 
-pub binding_shrinks : (octets : List ℕ) (x : VarBind × List ℕ) → binding_at octets ≡ Ok x → length x.1 < length octets
+binding_less : (octets : List ℕ) → Gives (λ x. length x.1 < length octets) (λ e. Unit {0}) (binding_at octets)
 unfolding binding_at
-binding_shrinks octets x e =
-    let a = bind_ok (fields_at octets) (λ fields. binding_of fields.0 >>= λ binding. Ok (binding, fields.1)) x e in
-    let b = bind_ok (binding_of a.0.0) (λ binding. Ok (binding, a.0.1)) x a.2 in
-    let same : a.0.1 ≡ x.1 = ap (λ (y : VarBind × List ℕ). y.1) (ok_is (b.0, a.0.1) x b.2) in
-    subst (λ (after : List ℕ). length after < length octets) same (fields_shrink octets a.0 a.1)
+binding_less octets =
+    gives_then _ (fields_less octets) (λ fields less.
+    gives_then _ (gives_any (binding_of fields.0)) (λ binding any. a_value (binding, fields.1) less))
+
+pub fields_shrink : (octets : List ℕ) (x : Fields × List ℕ) → fields_at octets ≡ Ok x → length x.1 < length octets
+fields_shrink octets x e = given x (fields_less octets) e
+
+binding_shrinks : (octets : List ℕ) (x : VarBind × List ℕ) → binding_at octets ≡ Ok x → length x.1 < length octets
+binding_shrinks octets x e = given x (binding_less octets) e
 
 pub binding_from : (octets : List ℕ) (fields : Fields) (after : List ℕ) (binding : VarBind) → fields_at octets ≡ Ok (fields, after)
     → binding_of fields ≡ Ok binding → binding_at octets ≡ Ok (binding, after)
@@ -104,44 +106,13 @@ check_ends octets total none so_far = sym so_far ∙ ap checked (bindings_end oc
 
 -- ---- the iterator
 
--- the first binding of octets that are bindings, and the others
-pub record Begins (octets : List ℕ) : Type 0 where
-  pub fields : Fields
-  pub after : List ℕ
-  pub binding : VarBind
-  pub are_fields : fields_at octets ≡ Ok (fields, after)
-  pub is_binding : binding_of fields ≡ Ok binding
-  pub others : IsOk (bindings_of after)
-  pub all : bindings_in octets ≡ binding ∷ bindings_in after
-
-pub begins : (octets : List ℕ) → IsOk (bindings_of octets) → 0 < length octets → Begins octets
+pub begins_ok : (octets : List ℕ) → IsOk (bindings_of octets) → 0 < length octets → IsOk (fields_at octets)
 unfolding binding_at
-begins octets ok some =
+begins_ok octets ok some =
     let whole = ok_value (bindings_of octets) ok in
     let a = bind_ok (binding_at octets) (with_rest bindings_of) whole.0 (sym (bindings_step octets some) ∙ whole.1) in
-    let b = bind_ok (bindings_of a.0.1) (λ more. Ok (a.0.0 ∷ more)) whole.0 a.2 in
     let f = bind_ok (fields_at octets) (λ fields. binding_of fields.0 >>= λ binding. Ok (binding, fields.1)) a.0 a.1 in
-    let g = bind_ok (binding_of f.0.0) (λ binding. Ok (binding, f.0.1)) a.0 f.2 in
-    let same : (g.0, f.0.1) ≡ a.0 = ok_is (g.0, f.0.1) a.0 g.2 in
-    let after_is : f.0.1 ≡ a.0.1 = ap (λ (y : VarBind × List ℕ). y.1) same in
-    let binding_is : g.0 ≡ a.0.0 = ap (λ (y : VarBind × List ℕ). y.0) same in
-    let all : bindings_in octets ≡ a.0.0 ∷ b.0 = ap (λ (r : Result (List VarBind) BerError). result_unwrap_or r []) (whole.1 ∙ sym b.2) in
-    let others_are : bindings_in a.0.1 ≡ b.0 = ap (λ (r : Result (List VarBind) BerError). result_unwrap_or r []) b.1 in
-    record {
-      fields = f.0.0;
-      after = f.0.1;
-      binding = g.0;
-      are_fields = f.1;
-      is_binding = g.1;
-      others = subst (λ (o : List ℕ). IsOk (bindings_of o)) (sym after_is) (is_ok_at (bindings_of a.0.1) b.0 b.1);
-      all = all ∙ ap (λ (more : List VarBind). a.0.0 ∷ more) (sym others_are) ∙ ap (λ (v : VarBind). v ∷ bindings_in a.0.1) (sym binding_is)
-          ∙ ap (λ (o : List ℕ). g.0 ∷ bindings_in o) (sym after_is);
-    }
-
-pub begins_ok : (octets : List ℕ) → IsOk (bindings_of octets) → 0 < length octets → IsOk (fields_at octets)
-begins_ok octets ok some =
-    let b = begins octets ok some in
-    is_ok_at (fields_at octets) (b.fields, b.after) b.are_fields
+    is_ok_at (fields_at octets) f.0 f.1
 
 -- what stands at the front is the first binding
 pub record BeginsWithBinding (octets : List ℕ) (fields : Fields) (after : List ℕ) : Type 0 where
@@ -151,18 +122,24 @@ pub record BeginsWithBinding (octets : List ℕ) (fields : Fields) (after : List
 
 pub stands : (octets : List ℕ) (fields : Fields) (after : List ℕ) → IsOk (bindings_of octets) → 0 < length octets → fields_at octets ≡ Ok (fields, after)
     → BeginsWithBinding octets fields after
+unfolding binding_at
 stands octets fields after ok some h =
-    let b = begins octets ok some in
-    let same : (b.fields, b.after) ≡ (fields, after) = ok_is (b.fields, b.after) (fields, after) (sym b.are_fields ∙ h) in
-    let fields_is : b.fields ≡ fields = ap (λ (y : Fields × List ℕ). y.0) same in
-    let after_is : b.after ≡ after = ap (λ (y : Fields × List ℕ). y.1) same in
-    let is_binding : binding_of fields ≡ Ok b.binding = ap binding_of (sym fields_is) ∙ b.is_binding in
+    let whole = ok_value (bindings_of octets) ok in
+    let a = bind_ok (binding_at octets) (with_rest bindings_of) whole.0 (sym (bindings_step octets some) ∙ whole.1) in
+    let step : binding_at octets ≡ (binding_of fields >>= λ binding. Ok (binding, after)) = rw h refl in
+    let b = bind_ok (binding_of fields) (λ binding. Ok (binding, after)) a.0 (sym step ∙ a.1) in
+    let same : (b.0, after) ≡ a.0 = ok_is (b.0, after) a.0 b.2 in
+    let more = bind_ok (bindings_of a.0.1) (λ more. Ok (a.0.0 ∷ more)) whole.0 a.2 in
+    let others : bindings_of after ≡ Ok more.0 = ap (λ (y : VarBind × List ℕ). bindings_of y.1) same ∙ more.1 in
     record {
-      is_binding = is_ok_at (binding_of fields) b.binding is_binding;
-      others = subst (λ (o : List ℕ). IsOk (bindings_of o)) after_is b.others;
+      is_binding = is_ok_at (binding_of fields) b.0 b.1;
+      others = is_ok_at (bindings_of after) more.0 others;
       all = λ binding e.
-          let binding_is : b.binding ≡ binding = ok_is b.binding binding (sym is_binding ∙ e) in
-          b.all ∙ ap (λ (v : VarBind). v ∷ bindings_in b.after) binding_is ∙ ap (λ (o : List ℕ). binding ∷ bindings_in o) after_is;
+          let one : bindings_of octets ≡ with_rest bindings_of (binding, after) =
+          bindings_step octets some ∙ rw (binding_from octets fields after binding h e) refl in
+          ap (λ (r : Result (List VarBind) BerError). result_unwrap_or r [])
+          (one ∙ ap (λ (r : Result (List VarBind) BerError). r >>= λ more. Ok (binding ∷ more)) others)
+          ∙ sym (ap (λ (r : Result (List VarBind) BerError). binding ∷ result_unwrap_or r []) others);
     }
 
 pub bindings_in_end : (octets : List ℕ) → length octets ≡ 0 → bindings_in octets ≡ []
@@ -173,14 +150,20 @@ pub record AreParts (fields : Fields) : Type 0 where
   pub name : IsOk (identifier_of fields.name)
   pub value : IsOk (typed_value fields.tag fields.content)
 
-pub parts_of : (fields : Fields) → IsOk (binding_of fields) → AreParts fields
+parts_are : (fields : Fields) (binding : VarBind) → binding_of fields ≡ Ok binding
+    → (identifier_of fields.name ≡ Ok binding.name) × (typed_value fields.tag fields.content ≡ Ok binding.value)
 unfolding binding_of
+parts_are fields binding e =
+    let n = bind_ok (identifier_of fields.name) (λ o. typed_value fields.tag fields.content >>= λ value. Ok (record { name = o; value = value })) binding e in
+    let v = bind_ok (typed_value fields.tag fields.content) (λ value. Ok (record { name = n.0; value = value })) binding n.2 in
+    let same = ok_is (record { name = n.0; value = v.0 }) binding v.2 in
+    (n.1 ∙ ap (λ (b : VarBind). Ok b.name) same, v.1 ∙ ap (λ (b : VarBind). Ok b.value) same)
+
+pub parts_of : (fields : Fields) → IsOk (binding_of fields) → AreParts fields
 parts_of fields ok =
     let whole = ok_value (binding_of fields) ok in
-    let n = bind_ok (identifier_of fields.name) (λ name. typed_value fields.tag fields.content >>= λ value. Ok
-    (record { name = name; value = value })) whole.0 whole.1 in
-    let v = bind_ok (typed_value fields.tag fields.content) (λ value. Ok (record { name = n.0; value = value })) whole.0 n.2 in
-    record { name = is_ok_at (identifier_of fields.name) n.0 n.1; value = is_ok_at (typed_value fields.tag fields.content) v.0 v.1 }
+    let parts = parts_are fields whole.0 whole.1 in
+    record { name = is_ok_at (identifier_of fields.name) _ parts.0; value = is_ok_at (typed_value fields.tag fields.content) _ parts.1 }
 
 pub binding_made : (fields : Fields) (name : List ℕ) (value : Datum) → identifier_of fields.name ≡ Ok name → typed_value fields.tag fields.content ≡ Ok value
     → binding_of fields ≡ Ok (record { name = name; value = value })
@@ -189,18 +172,10 @@ binding_made fields name value e f = rw (e, f) refl
 
 -- and of a binding that is read so
 pub name_of : (fields : Fields) (binding : VarBind) (name : List ℕ) → binding_of fields ≡ Ok binding → identifier_of fields.name ≡ Ok name → name ≡ binding.name
-unfolding binding_of
-name_of fields binding name e f =
-    let n = bind_ok (identifier_of fields.name) (λ o. typed_value fields.tag fields.content >>= λ value. Ok (record { name = o; value = value })) binding e in
-    let v = bind_ok (typed_value fields.tag fields.content) (λ value. Ok (record { name = n.0; value = value })) binding n.2 in
-    ok_is name n.0 (sym f ∙ n.1) ∙ ap (λ (b : VarBind). b.name) (ok_is (record { name = n.0; value = v.0 }) binding v.2)
+name_of fields binding name e f = ok_is name binding.name (sym f ∙ (parts_are fields binding e).0)
 
 pub value_of : (fields : Fields) (binding : VarBind) → binding_of fields ≡ Ok binding → typed_value fields.tag fields.content ≡ Ok binding.value
-unfolding binding_of
-value_of fields binding e =
-    let n = bind_ok (identifier_of fields.name) (λ o. typed_value fields.tag fields.content >>= λ value. Ok (record { name = o; value = value })) binding e in
-    let v = bind_ok (typed_value fields.tag fields.content) (λ value. Ok (record { name = n.0; value = value })) binding n.2 in
-    v.1 ∙ ap (λ (b : VarBind). Ok b.value) (ok_is (record { name = n.0; value = v.0 }) binding v.2)
+value_of fields binding e = (parts_are fields binding e).1
 
 -- the binding of fields that are one's
 pub with_fields : (fields : Fields) → IsOk (binding_of fields) → binding_of fields ≡ Ok (binding_with fields)

@@ -71,7 +71,7 @@ module _ (xs ys : List ℕ) (small : (i : ℕ) → get_or xs i 0 < 256) (other_s
       ∙ sym (bits_of ys other_small (t / 8) (t % 8) within) ∙ ap (bit_at (word_of ys)) place in
       other_bit (word_of xs) (word_of ys) t (ap (λ m. bit_at m t) (sym is) ∙ lowest_set n fits low) bits
 
--- the same at a place
+-- one of the eight octets from a place on
 at_place : (octets : List ℕ) (at k : ℕ) → k < 8 → get_or (eight_from octets at) k 0 ≡ get_or octets (at + k) 0
 at_place octets at zero h = let e : at ≡ at + 0 = omega arith in ap (λ i. get_or octets i 0) e
 at_place octets at (suc zero) h = refl

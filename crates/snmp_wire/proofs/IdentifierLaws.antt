@@ -1,4 +1,5 @@
--- What is read as an identifier is one, and what is one is read.
+-- What is read as an identifier is one, what is read as none has content at fault, and what is one is
+-- read.
 use Rattle.std.proofs.Common.{◌≡◌, ◌≢◌, ℕ, zero, suc, ◌+◌, ◌-◌, ◌*◌, ◌%◌, ◌^◌, ◌<◌, ◌≤◌, cond, eqb}
 use Rattle.std.proofs.Common.{ltb, List, [], ◌∷◌, ◌++◌, length, get_or, map, Ok, Err}
 use Rattle.std.proofs.Common.{refl, sym, ap, subst, ◌∙◌, arith, lit<, inl, inr}
@@ -8,6 +9,7 @@ use Rattle.std.proofs.lemmas.Bool.{ltb-true, ltb-false, lt-ltb, le-ltb, eqb-fals
 use Rattle.std.proofs.lemmas.Bool.{cases_lt}
 use Rattle.std.proofs.lemmas.List.{length-append, length-map}
 use Rattle.std.proofs.lemmas.List.Elements.{All-from_recursion, recursion_from_All}
+use Rattle.snmp_wire.specs.declared.ber.error.BerError.{BerError}
 use Rattle.snmp_wire.specs.declared.ber.error.BerError.TheVariants as error
 use Rattle.snmp_wire.specs.ber.Number.{number_of}
 use Rattle.snmp_wire.specs.ber.Identifier.{IsSubidentifier, AreSubidentifiers, IsObjectId}
@@ -15,7 +17,8 @@ use Rattle.snmp_wire.specs.ber.Reading.{◌>>=◌, largest_subidentifier, subide
 use Rattle.snmp_wire.specs.ber.Reading.{subidentifier_at, number_at, numbers_of, first_number}
 use Rattle.snmp_wire.specs.ber.Reading.{second_number}
 use Rattle.snmp_wire.specs.ber.Reading.{identifier_of}
-use Rattle.snmp_wire.specs.ber.ReadingLaws.{done, ok_is, bind_ok, chosen, passed, refused}
+use Rattle.snmp_wire.specs.ber.ReadingLaws.{Gives, a_fault, a_value, done, failing, given}
+use Rattle.snmp_wire.specs.ber.ReadingLaws.{gives_either, gives_so, gives_then}
 use Rattle.snmp_wire.proofs.IdentifierLemmas.{numbers_step}
 
 -- ---- subidentifiers
@@ -40,28 +43,25 @@ record TakesDigits (n : ℕ) (octets : List ℕ) (x : ℕ × List ℕ) : Type 0 
   value : value_behind n (front ++ last ∷ []) ≡ x.0
   small : x.0 ≤ largest_subidentifier
 
-digits_take : (n : ℕ) (octets : List ℕ) (x : ℕ × List ℕ) → subidentifier_from n octets ≡ Ok x → TakesDigits n octets x
+digits_give : (n : ℕ) (octets : List ℕ) → Gives (TakesDigits n octets) (λ e. error.Content ≡ e) (subidentifier_from n octets)
 unfolding subidentifier_from
-digits_take n [] x e = absurd cc
-digits_take n (octet ∷ rest) x e =
+digits_give n [] = a_fault error.Content refl
+digits_give n (octet ∷ rest) =
     let next = n * 128 + octet % 128 in
-    let q = refused (ltb largest_subidentifier next) (cond (ltb octet 128) (Ok (next, rest)) (subidentifier_from next rest)) error.Content x e in
-    let small : next ≤ largest_subidentifier = ltb-false largest_subidentifier next q.0 in
-    elim (chosen (ltb octet 128) (done (next, rest)) (subidentifier_from next rest) (Ok x) q.1) [
-      | inl h ↦ subst (TakesDigits n (octet ∷ rest)) (ok_is (next, rest) x h.1)
-          (record { front = []; last = octet; parts = refl; goes_on = tt; ends = ltb-true octet 128 h.0; value = omega arith; small = small })
-      | inr h ↦
-          let t = digits_take next rest x h.1 in
-          record {
-            front = octet ∷ t.front;
-            last = t.last;
-            parts = ap (λ (tail : List ℕ). octet ∷ tail) t.parts;
-            goes_on = (ltb-false octet 128 h.0, t.goes_on);
-            ends = t.ends;
-            value = value_behind-cons n octet (t.front ++ t.last ∷ []) ∙ t.value;
-            small = t.small;
-          }
-    ]
+    gives_either (ltb largest_subidentifier next) (λ large. a_fault error.Content refl) (λ fits.
+    let small : next ≤ largest_subidentifier = ltb-false largest_subidentifier next fits in
+    gives_either (ltb octet 128)
+    (λ last. a_value (next, rest)
+    (record { front = []; last = octet; parts = refl; goes_on = tt; ends = ltb-true octet 128 last; value = omega arith; small = small }))
+    (λ high. gives_so (λ x t. record {
+      front = octet ∷ t.front;
+      last = t.last;
+      parts = ap (λ (tail : List ℕ). octet ∷ tail) t.parts;
+      goes_on = (ltb-false octet 128 high, t.goes_on);
+      ends = t.ends;
+      value = value_behind-cons n octet (t.front ++ t.last ∷ []) ∙ t.value;
+      small = t.small;
+    }) (λ e fault. fault) (digits_give next rest)))
 
 -- no digit makes a number smaller
 value_behind_grows : (n : ℕ) (octets : List ℕ) → n ≤ value_behind n octets
@@ -93,26 +93,25 @@ front_octet : (front : List ℕ) (last : ℕ) (rest : List ℕ) (first : ℕ) (t
 front_octet [] last rest first tail e = cc
 front_octet (octet ∷ front) last rest first tail e = cc
 
-subidentifier_takes : (octets : List ℕ) (x : ℕ × List ℕ) → subidentifier_at octets ≡ Ok x → TakesSubidentifier octets x
+subidentifier_gives : (octets : List ℕ) → Gives (TakesSubidentifier octets) (λ e. error.Content ≡ e) (subidentifier_at octets)
 unfolding subidentifier_at
-subidentifier_takes [] x e = absurd cc
-subidentifier_takes (first ∷ rest) x e =
-    let q = refused (eqb first 128) (subidentifier_from 0 (first ∷ rest)) error.Content x e in
-    let t = digits_take 0 (first ∷ rest) x q.1 in
-    let text = t.front ++ t.last ∷ [] in
-    let is_subidentifier : IsSubidentifier text x.0 = record {
+subidentifier_gives [] = a_fault error.Content refl
+subidentifier_gives (first ∷ rest) = gives_either (eqb first 128) (λ zero_digit. a_fault error.Content refl) (λ other.
+    gives_so (λ x t.
+    let is_subidentifier : IsSubidentifier (t.front ++ t.last ∷ []) x.0 = record {
       front = t.front;
       last = t.last;
       parts = refl;
       goes_on = All-from_recursion (λ octet. 128 ≤ octet) t.front t.goes_on;
       ends = t.ends;
-      minimal = λ h. eqb-false first 128 q.0 (sym (front_octet t.front t.last x.1 first rest t.parts) ∙ h);
+      minimal = λ h. eqb-false first 128 other (sym (front_octet t.front t.last x.1 first rest t.parts) ∙ h);
       value = omega (arith, t.value);
     } in
-    record { text = text; is_subidentifier = is_subidentifier; parts = t.parts; small = t.small }
+    record { text = t.front ++ t.last ∷ []; is_subidentifier = is_subidentifier; parts = t.parts; small = t.small })
+    (λ e fault. fault) (digits_give 0 (first ∷ rest)))
 
 pub subidentifier_small : (octets : List ℕ) (x : ℕ × List ℕ) → subidentifier_at octets ≡ Ok x → x.0 ≤ largest_subidentifier
-subidentifier_small octets x e = (subidentifier_takes octets x e).small
+subidentifier_small octets x e = (given x (subidentifier_gives octets) e).small
 
 at_front : (front : List ℕ) (last : ℕ) (rest : List ℕ) → get_or (front ++ last ∷ []) 0 0 ≢ 128
     → subidentifier_at ((front ++ last ∷ []) ++ rest) ≡ subidentifier_from 0 ((front ++ last ∷ []) ++ rest)
@@ -138,17 +137,18 @@ subidentifier_some text n h =
 
 -- ---- numbers
 
-number_takes : (octets : List ℕ) (x : ℕ × List ℕ) → number_at octets ≡ Ok x → TakesSubidentifier octets x × (x.0 < 2 ^ 32)
+number_gives : (octets : List ℕ) → Gives (λ x. TakesSubidentifier octets x × (x.0 < 2 ^ 32)) (λ e. error.Content ≡ e) (number_at octets)
 unfolding number_at
-number_takes octets x e =
-    let b = bind_ok (subidentifier_at octets) (λ n. cond (ltb n.0 (2 ^ 32)) (Ok n) (Err error.Content)) x e in
-    let p = passed (ltb b.0.0 (2 ^ 32)) (Ok b.0) error.Content x b.2 in
-    subst (λ (y : ℕ × List ℕ). TakesSubidentifier octets y × (y.0 < 2 ^ 32)) (ok_is b.0 x p.1) (subidentifier_takes octets b.0 b.1, ltb-true b.0.0 (2 ^ 32) p.0)
+number_gives octets = gives_then _ (subidentifier_gives octets) (λ x t.
+    gives_either (ltb x.0 (2 ^ 32)) (λ small. a_value x (t, ltb-true x.0 (2 ^ 32) small)) (λ large. a_fault error.Content refl))
+
+pub number_fails : (octets : List ℕ) (e : BerError) → number_at octets ≡ Err e → error.Content ≡ e
+number_fails octets e h = failing e (number_gives octets) h
 
 -- what follows a number is shorter
 pub number_shrinks : (octets : List ℕ) (x : ℕ × List ℕ) → number_at octets ≡ Ok x → 1 + length x.1 ≤ length octets
 number_shrinks octets x e =
-    let t = (number_takes octets x e).0 in
+    let t = (given x (number_gives octets) e).0 in
     let s = t.is_subidentifier in
     omega (arith, ap length t.parts, ap length s.parts, length-append t.text x.1, length-append s.front (s.last ∷ []))
 
@@ -161,20 +161,16 @@ record AreNumbers (room : ℕ) (octets ns : List ℕ) : Type 0 where
   few : length ns ≤ room
   small : AllByRecursion (λ n. n < 2 ^ 32) ns
 
-numbers_take : (room : ℕ) (octets ns : List ℕ) → numbers_of room octets ≡ Ok ns → AreNumbers room octets ns
+numbers_give : (room : ℕ) (octets : List ℕ) → Gives (AreNumbers room octets) (λ e. error.Content ≡ e) (numbers_of room octets)
 unfolding numbers_of
-numbers_take room [] ns e = subst (AreNumbers room []) (ok_is [] ns e) (record { parts = refl; few = omega arith; small = tt })
-numbers_take zero (octet ∷ rest) ns e = absurd cc
-numbers_take (suc room) (octet ∷ rest) ns e =
-    let a = bind_ok (number_at (octet ∷ rest)) (λ n. numbers_of room n.1 >>= λ more. Ok (n.0 ∷ more)) ns e in
-    let b = bind_ok (numbers_of room a.0.1) (λ more. Ok (a.0.0 ∷ more)) ns a.2 in
-    let t = number_takes (octet ∷ rest) a.0 a.1 in
-    let more = numbers_take room a.0.1 b.0 b.1 in
-    subst (AreNumbers (suc room) (octet ∷ rest)) (ok_is (a.0.0 ∷ b.0) ns b.2) (record {
-      parts = (t.0.text, a.0.1, t.0.parts, t.0.is_subidentifier, more.parts);
-      few = let fewer = more.few in omega arith;
-      small = (t.1, more.small);
-    })
+numbers_give room [] = a_value [] (record { parts = refl; few = omega arith; small = tt })
+numbers_give zero (octet ∷ rest) = a_fault error.Content refl
+numbers_give (suc room) (octet ∷ rest) =
+    gives_then _ (number_gives (octet ∷ rest)) (λ n t. gives_then _ (numbers_give room n.1) (λ more are. a_value (n.0 ∷ more) (record {
+      parts = (t.0.text, n.1, t.0.parts, t.0.is_subidentifier, are.parts);
+      few = let fewer = are.few in omega arith;
+      small = (t.1, are.small);
+    })))
 
 numbers_again : (room : ℕ) (octets ns : List ℕ) → AreSubidentifiers octets ns → length ns ≤ room → AllByRecursion (λ n. n < 2 ^ 32) ns
     → numbers_of room octets ≡ Ok ns
@@ -218,27 +214,26 @@ splits n small =
       }
     ]
 
-pub identifier_takes : (content name : List ℕ) → identifier_of content ≡ Ok name → IsObjectId content name
+pub identifier_gives : (content : List ℕ) → Gives (IsObjectId content) (λ e. error.Content ≡ e) (identifier_of content)
 unfolding identifier_of
-identifier_takes content name e =
-    let a = bind_ok (subidentifier_at content) (λ first. numbers_of 126 first.1 >>= λ more. Ok (first_number first.0 ∷ second_number first.0 ∷ more)) name e in
-    let n = a.0.0 in
-    let b = bind_ok (numbers_of 126 a.0.1) (λ more. Ok (first_number n ∷ second_number n ∷ more)) name a.2 in
-    let t = subidentifier_takes content a.0 a.1 in
-    let more = numbers_take 126 a.0.1 b.0 b.1 in
+identifier_gives content = gives_then _ (subidentifier_gives content) (λ first t. gives_then _ (numbers_give 126 first.1) (λ more are.
+    let n = first.0 in
     let s = splits n t.small in
-    let fewer = more.few in
-    let same = both_numbers n in
-    let is_first : IsSubidentifier t.text (40 * first_number n + second_number n) = subst (IsSubidentifier t.text) (sym same) t.is_subidentifier in
-    subst (IsObjectId content) (ok_is (first_number n ∷ second_number n ∷ b.0) name b.2) (record {
+    let fewer = are.few in
+    let is_first : IsSubidentifier t.text (40 * first_number n + second_number n) =
+    subst (IsSubidentifier t.text) (sym (both_numbers n)) t.is_subidentifier in
+    a_value (first_number n ∷ second_number n ∷ more) (record {
       wire = (s.first, s.second);
       identifier = record {
         short = omega arith;
-        numbers = All-from_recursion (λ m. m < 2 ^ 32) (first_number n ∷ second_number n ∷ b.0)
-            ((let two = s.first in omega arith), (s.small, more.small));
+        numbers = All-from_recursion (λ m. m < 2 ^ 32) (first_number n ∷ second_number n ∷ more)
+            ((let two = s.first in omega arith), (s.small, are.small));
       };
-      parts = (t.text, a.0.1, t.parts, is_first, more.parts);
-    })
+      parts = (t.text, first.1, t.parts, is_first, are.parts);
+    })))
+
+pub identifier_takes : (content name : List ℕ) → identifier_of content ≡ Ok name → IsObjectId content name
+identifier_takes content name e = given name (identifier_gives content) e
 
 joins : (x y : ℕ) → x ≤ 2 → (x < 2 → y < 40) → y < 2 ^ 32 → (first_number (40 * x + y) ≡ x) × (second_number (40 * x + y) ≡ y)
     × (40 * x + y ≤ largest_subidentifier)

@@ -128,7 +128,7 @@ length-numbers_from numbers i number h e =
     length-flat_map_drop canon_subidentifier numbers i number 0 h e ∙ ap (λ n. n + length (flat_map canon_subidentifier (drop (i + 1) numbers)))
     (length-canon_subidentifier number)
 
--- the same of a list that is the name
+-- the content of a name, by the list of its numbers
 pub content_is : (numbers name : List ℕ) (first : ℕ) → IsWire name → numbers ≡ name → first ≡ 40 * get_or numbers 0 0 + get_or numbers 1 0
     → canon_content (object_id name) ≡ canon_subidentifier first ++ flat_map canon_subidentifier (take (length numbers - 2) (drop 2 numbers))
 content_is numbers name first wire same e =

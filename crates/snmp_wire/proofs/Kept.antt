@@ -15,15 +15,14 @@ use Rattle.snmp_wire.specs.Message.{end_of_mib_view}
 use Rattle.snmp_wire.specs.Range.{IsBindingInRange, IsInRange}
 use Rattle.snmp_wire.specs.Reading.{bindings_in, bindings_of}
 use Rattle.snmp_wire.specs.Spelling.{SpellsBinding}
-use Rattle.snmp_wire.specs.ber.Laws.{ContentReading, ShortestEncodings}
 use Rattle.snmp_wire.specs.ber.LengthLaws.{inner_again}
 use Rattle.snmp_wire.specs.ber.Number.{lenient}
 use Rattle.snmp_wire.specs.declared.ber.error.BerError.TheVariants as error
 use Rattle.snmp_wire.specs.ber.Reading.{content_at, identifier_of, inner_at, length_at}
 use Rattle.snmp_wire.specs.ber.ReadingLaws.{done, is_ok_at, ok_is, passed, refused}
-use Rattle.snmp_wire.proofs.Lenient.{binding_is_read}
+use Rattle.snmp_wire.proofs.IdentifierLaws.{identifier_again}
 use Rattle.snmp_wire.proofs.MessageLaws.{binding_again, bindings_again}
-use Rattle.snmp_wire.proofs.StrictMessages.{spells_binding}
+use Rattle.snmp_wire.proofs.MessageElements.{spells_binding}
 
 encodable_value : (v : Datum) → IsInRange v → IsEncodableValue v
 encodable_value (integer_value z) h = tt
@@ -61,14 +60,14 @@ four_then (a ∷ b ∷ []) long = absurd (omega arith)
 four_then (a ∷ b ∷ c ∷ []) long = absurd (omega arith)
 four_then (a ∷ b ∷ c ∷ d ∷ rest) long = refl
 
-module _ (reading : ContentReading) (laws : ShortestEncodings) (p : VarBind) (range : IsBindingInRange p) where
+module _ (p : VarBind) (range : IsBindingInRange p) where
   spells : SpellsBinding lenient p (canon_binding p)
-  spells = binding_is_read laws p (canon_binding p) (spells_binding laws p range)
+  spells = spells_binding p range
 
   pub read_again : binding_in (canon_binding p) ≡ p
   read_again =
       ap (λ octets. binding_in octets) (sym (append-nil (canon_binding p)))
-      ∙ ap (λ (read : Result (VarBind × List ℕ) BerError). (result_unwrap_or read (record { name = []; value = null_value }, [])).0) (binding_again reading p (canon_binding p) [] spells)
+      ∙ ap (λ (read : Result (VarBind × List ℕ) BerError). (result_unwrap_or read (record { name = []; value = null_value }, [])).0) (binding_again p (canon_binding p) [] spells)
 
   pub is_kept : (octets : List ℕ) → octets ≡ canon_binding p → IsKept octets
   is_kept octets e = subst IsKept (sym e) (record {
@@ -77,7 +76,7 @@ module _ (reading : ContentReading) (laws : ShortestEncodings) (p : VarBind) (ra
   })
 
   all_again : bindings_of (canon_binding p) ≡ Ok (p ∷ [])
-  all_again = bindings_again reading (p ∷ []) (canon_binding p) (canon_binding p, [], sym (append-nil (canon_binding p)), spells, refl)
+  all_again = bindings_again (p ∷ []) (canon_binding p) (canon_binding p, [], sym (append-nil (canon_binding p)), spells, refl)
 
   pub are_bindings : (octets : List ℕ) → octets ≡ canon_binding p → IsOk (bindings_of octets)
   are_bindings octets e = is_ok_at (bindings_of octets) (p ∷ []) (ap bindings_of e ∙ all_again)
@@ -103,7 +102,7 @@ module _ (reading : ContentReading) (laws : ShortestEncodings) (p : VarBind) (ra
         ap (inner_at 0x30) (e ∙ sym (append-nil (canon_binding p)))
         ∙ inner_again 0x30 (spells.name ++ spells.value) (canon_binding p) [] spells.element;
     inner = inner_again 0x06 spells.is_name.content spells.name spells.value spells.is_name.element;
-    is_name = reading.object_id_is_read spells.is_name.content p.name spells.is_name.is_content;
+    is_name = identifier_again spells.is_name.content p.name spells.is_name.is_content;
   }
 
   -- what is read of them

@@ -4,13 +4,11 @@ pub mod BindingLemmas
 pub mod FaultLaws
 pub mod Faultless
 pub mod Kept
-pub mod Lenient
+pub mod Elements
 pub mod MessageLaws
-pub mod Octets
 pub mod OfType
 pub mod ShortBindings
-pub mod Shortest
-pub mod StrictMessages
+pub mod MessageElements
 pub mod BindingWriting
 pub mod MessageWriting
 pub mod CanonLemmas

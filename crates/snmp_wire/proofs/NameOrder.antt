@@ -26,7 +26,6 @@ use Rattle.snmp_wire.specs.ber.Value.{object_id}
 use Rattle.snmp_wire.proofs.IdentifierLaws.{identifier_again, identifier_takes, subidentifier_some}
 use Rattle.snmp_wire.proofs.NameContents.{alike_back, ends_behind, ends_later, first_is_smaller}
 use Rattle.snmp_wire.proofs.NameContents.{one_text, same_number, same_texts, subidentifier_ends}
-use Rattle.snmp_wire.proofs.Octets.{back_octets, front_octets}
 use Rattle.snmp_wire.proofs.StrictIdentifiers.{is_object_id, length-name, name_octets}
 
 -- ---- the order of identifiers
@@ -51,6 +50,16 @@ never_both law o p h k = let same : Less ≡ Greater = sym ((law.less o p).1 h) 
 
 never_itself : OrderLaw → (o : List ℕ) → Precedes o o → ⊥
 never_itself law o h = never_both law o o h h
+
+-- ---- octets in two parts
+
+front_octets : (xs ys : List ℕ) → AreOctets (xs ++ ys) → AreOctets xs
+front_octets xs ys h k d lt =
+    subst (λ n. n < 256) (get_or_append_left xs ys d k lt) (h k d (omega (arith, lt, length-append xs ys)))
+
+back_octets : (xs ys : List ℕ) → AreOctets (xs ++ ys) → AreOctets ys
+back_octets xs ys h k d lt =
+    subst (λ n. n < 256) (get_or-append-add xs ys k d) (h (length xs + k) d (omega (arith, lt, length-append xs ys)))
 
 -- ---- identifiers and their subidentifiers
 

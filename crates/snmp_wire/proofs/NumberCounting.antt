@@ -11,7 +11,7 @@ use Rattle.snmp_wire.specs.ber.Reading.{IsPlainFront, checked, number_at, number
 use Rattle.snmp_wire.specs.ber.ReadingLaws.{checked_err, failed}
 use Rattle.snmp_wire.proofs.IdentifierLemmas.{check_fails, check_goes_on, numbers_end}
 use Rattle.snmp_wire.proofs.IdentifierLemmas.{numbers_full, plain_number}
-use Rattle.snmp_wire.proofs.FaultLaws.{number_fails}
+use Rattle.snmp_wire.proofs.IdentifierLaws.{number_fails}
 
 -- no room for a number
 pub no_room : (octets : List ℕ) (room : ℕ) → 0 < length octets → room < 1 → checked (numbers_of room octets) ≡ Err error.Content

@@ -4,23 +4,24 @@ use Rattle.std.proofs.Common.{List, [], ◌∷◌, ◌++◌, length, sym, ap, su
 use Rattle.std.proofs.Math.Nat.{mul-le-mul_right, pow-le-pow_right, pow-suc}
 use Rattle.std.proofs.lemmas.Nat.{mul-add-lt}
 use Rattle.std.proofs.lemmas.Bool.{cases_lt}
-use Rattle.std.proofs.lemmas.List.Elements.{recursion_from_All}
-use Rattle.std.specs.List.{AllByRecursion}
+use Rattle.std.proofs.lemmas.List.Elements.{All-from_recursion}
 use mir.Syntax.{w32}
 use mir.Val.{SFits}
-use Rattle.snmp_wire.specs.ber.Laws.{ShortestEncodings}
-use Rattle.snmp_wire.specs.ber.Number.{AreOctets, IsUnsigned, lenient, number_of, twos_complement}
+use Rattle.snmp_wire.specs.ber.Number.{IsUnsigned, lenient, number_of, twos_complement}
 use Rattle.snmp_wire.specs.ber.Number.{unsigned}
 use Rattle.snmp_wire.specs.ber.Range.{IsOfType}
-use Rattle.snmp_wire.specs.ber.Spelling.{IsContent, SpellsValue, sequence_tag, value_tag}
+use Rattle.snmp_wire.specs.ber.Spelling.{IsContent, value_tag}
 use Rattle.snmp_wire.specs.ber.Value.{Datum, integer_value, octet_string, null_value, object_id}
 use Rattle.snmp_wire.specs.ber.Value.{ip_address, counter32, gauge32, time_ticks, opaque_octets}
 use Rattle.snmp_wire.specs.ber.Value.{counter64, no_such_object, no_such_instance, end_of_mib_view}
-use Rattle.snmp_wire.specs.Message.{VarBind, Message}
-use Rattle.snmp_wire.specs.Range.{IsBindingOfType, IsMessageOfType}
-use Rattle.snmp_wire.specs.Spelling.{Spells, SpellsBindings, kind_tag}
-use Rattle.snmp_wire.proofs.Octets.{back_octets, front_octets}
-use Rattle.snmp_wire.proofs.ShortestValues.{Octets, below_power}
+use Rattle.snmp_wire.specs.Message.{Message}
+use Rattle.snmp_wire.specs.Range.{IsMessageOfType}
+use Rattle.snmp_wire.specs.Spelling.{Spells}
+use Rattle.snmp_wire.proofs.Elements.{AreOfType, Elements, SpellsAll, element_then, no_elements}
+use Rattle.snmp_wire.proofs.Elements.{value_then}
+use Rattle.snmp_wire.proofs.MessageElements.{elements_of, in_row, of_type}
+use Rattle.snmp_wire.proofs.ShortestValues.{Octets, back_octets, below_power, content_octets}
+use Rattle.snmp_wire.proofs.ShortestValues.{front_octets, octets_by}
 use Rattle.snmp_wire.proofs.StrictNumbers.{minus, negative, positive}
 
 -- ---- numbers
@@ -71,62 +72,31 @@ unsigned_fits width (first ∷ rest) n h is =
 
 -- ---- values
 
-digits : (content : List ℕ) → AreOctets content → Octets content
-digits content h = recursion_from_All (λ octet. octet < 256) content h
-
-content_of_type : (value : Datum) (content : List ℕ) → AreOctets content → IsContent lenient value content → IsOfType value
-content_of_type (integer_value z) content h is = signed_fits content z (digits content h) is.some is.few is.value
-content_of_type (octet_string text) content h is = subst AreOctets is h
+content_of_type : (value : Datum) (content : List ℕ) → Octets content → IsContent lenient value content → IsOfType value
+content_of_type (integer_value z) content h is = signed_fits content z h is.some is.few is.value
+content_of_type (octet_string text) content h is = All-from_recursion (λ octet. octet < 256) text (subst Octets is h)
 content_of_type null_value content h is = tt
 content_of_type (object_id name) content h is = (is.wire, is.identifier)
-content_of_type (ip_address address) content h is = (subst AreOctets is.0 h, is.1)
-content_of_type (counter32 n) content h is = unsigned_fits 4 content n (digits content h) is
-content_of_type (gauge32 n) content h is = unsigned_fits 4 content n (digits content h) is
-content_of_type (time_ticks n) content h is = unsigned_fits 4 content n (digits content h) is
-content_of_type (opaque_octets text) content h is = subst AreOctets is h
-content_of_type (counter64 n) content h is = unsigned_fits 8 content n (digits content h) is
+content_of_type (ip_address address) content h is = (All-from_recursion (λ octet. octet < 256) address (subst Octets is.0 h), is.1)
+content_of_type (counter32 n) content h is = unsigned_fits 4 content n h is
+content_of_type (gauge32 n) content h is = unsigned_fits 4 content n h is
+content_of_type (time_ticks n) content h is = unsigned_fits 4 content n h is
+content_of_type (opaque_octets text) content h is = All-from_recursion (λ octet. octet < 256) text (subst Octets is h)
+content_of_type (counter64 n) content h is = unsigned_fits 8 content n h is
 content_of_type no_such_object content h is = tt
 content_of_type no_such_instance content h is = tt
 content_of_type end_of_mib_view content h is = tt
 
-module _ (laws : ShortestEncodings) where
-  value_of_type : (value : Datum) (octets : List ℕ) → AreOctets octets → SpellsValue lenient value octets → IsOfType value
-  value_of_type value octets h is =
-      content_of_type value is.content (laws.content_octets (value_tag value) is.content octets h is.element) is.is_content
+are_of_type : (all : Elements) (octets : List ℕ) → Octets octets → SpellsAll lenient all octets → AreOfType all
+are_of_type no_elements octets h is = tt
+are_of_type (value_then value more) octets h (first, rest, parts, this, others) =
+    let both : Octets (first ++ rest) = subst Octets parts h in
+    let inside : Octets this.content = content_octets (value_tag value) this.content first (front_octets first rest both) this.element in
+    (content_of_type value this.content inside this.is_content, are_of_type more rest (back_octets first rest both) others)
+are_of_type (element_then tag within more) octets h (first, rest, parts, content, element, inner, others) =
+    let both : Octets (first ++ rest) = subst Octets parts h in
+    let inside : Octets content = content_octets tag content first (front_octets first rest both) element in
+    (are_of_type within content inside inner, are_of_type more rest (back_octets first rest both) others)
 
-  -- ---- messages
-
-  bindings_of_type : (bindings : List VarBind) (octets : List ℕ) → AreOctets octets → SpellsBindings lenient bindings octets
-      → AllByRecursion IsBindingOfType bindings
-  bindings_of_type [] octets h is = tt
-  bindings_of_type (binding ∷ more) octets h (first, rest, parts, this, others) =
-      let both : AreOctets (first ++ rest) = subst AreOctets parts h in
-      let inner : AreOctets (this.name ++ this.value) =
-      laws.content_octets sequence_tag (this.name ++ this.value) first (front_octets first rest both) this.element in (
-        record {
-          name = value_of_type (object_id binding.name) this.name (front_octets this.name this.value inner) this.is_name;
-          value = value_of_type binding.value this.value (back_octets this.name this.value inner) this.is_value;
-        },
-        bindings_of_type more rest (back_octets first rest both) others,
-      )
-
-  pub message_of_type : (m : Message) (octets : List ℕ) → Spells m octets → IsMessageOfType m
-  message_of_type m octets is =
-      let pdu = is.is_pdu in
-      let inner : AreOctets (is.version ++ is.community ++ is.pdu) =
-      laws.content_octets sequence_tag (is.version ++ is.community ++ is.pdu) octets is.are_octets is.element in
-      let opening : AreOctets (is.version ++ is.community) = front_octets (is.version ++ is.community) is.pdu inner in
-      let content : AreOctets (pdu.id ++ pdu.a ++ pdu.b ++ pdu.list) =
-      laws.content_octets (kind_tag m.kind) (pdu.id ++ pdu.a ++ pdu.b ++ pdu.list) is.pdu
-      (back_octets (is.version ++ is.community) is.pdu inner) pdu.element in
-      let three : AreOctets (pdu.id ++ pdu.a ++ pdu.b) = front_octets (pdu.id ++ pdu.a ++ pdu.b) pdu.list content in
-      let two : AreOctets (pdu.id ++ pdu.a) = front_octets (pdu.id ++ pdu.a) pdu.b three in
-      let list : AreOctets pdu.list = back_octets (pdu.id ++ pdu.a ++ pdu.b) pdu.list content in
-      record {
-        version = value_of_type (integer_value m.version) is.version (front_octets is.version is.community opening) is.is_version;
-        community = value_of_type (octet_string m.community) is.community (back_octets is.version is.community opening) is.is_community;
-        id = value_of_type (integer_value m.id) pdu.id (front_octets pdu.id pdu.a two) pdu.is_id;
-        a = value_of_type (integer_value m.a) pdu.a (back_octets pdu.id pdu.a two) pdu.is_a;
-        b = value_of_type (integer_value m.b) pdu.b (back_octets (pdu.id ++ pdu.a) pdu.b three) pdu.is_b;
-        bindings = bindings_of_type m.bindings pdu.bindings (laws.content_octets sequence_tag pdu.bindings pdu.list list pdu.is_list) pdu.are_bindings;
-      }
+pub message_of_type : (m : Message) (octets : List ℕ) → Spells m octets → IsMessageOfType m
+message_of_type m octets is = of_type m (are_of_type (elements_of m) octets (octets_by octets is.are_octets) (in_row lenient m octets is))

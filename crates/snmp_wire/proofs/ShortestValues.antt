@@ -5,19 +5,20 @@ use Rattle.std.proofs.Common.{subst, ◌∙◌, ⊎_elim, arith, length-append}
 use Rattle.std.proofs.Math.Nat.{mul-le-mul_right, pow-suc, pow-zero}
 use Rattle.std.proofs.lemmas.Nat.{mul-add-lt}
 use Rattle.std.proofs.lemmas.Bool.{cases_lt}
+use Rattle.std.proofs.lemmas.List.Elements.{recursion_from_All}
 use Rattle.std.specs.List.{AllByRecursion, flat_map}
 use Rattle.snmp_wire.specs.ber.Canon.{canon_content, canon_element, canon_length, canon_number}
 use Rattle.snmp_wire.specs.ber.Canon.{canon_subidentifier, canon_value, digit_count, length_size}
-use Rattle.snmp_wire.specs.ber.Canon.{number_size, octets, subidentifier_size}
+use Rattle.snmp_wire.specs.ber.Canon.{number_size, subidentifier_size}
 use Rattle.snmp_wire.specs.ber.Identifier.{AreSubidentifiers, IsSubidentifier, subidentifiers}
 use Rattle.snmp_wire.specs.ber.Length.{IsElement, IsLength, IsLongLength, IsShortLength}
 use Rattle.snmp_wire.specs.ber.Value.{Datum, integer_value, octet_string, null_value, object_id}
 use Rattle.snmp_wire.specs.ber.Value.{ip_address, counter32, gauge32, time_ticks, opaque_octets}
 use Rattle.snmp_wire.specs.ber.Value.{counter64, no_such_object, no_such_instance, end_of_mib_view}
-use Rattle.snmp_wire.specs.ber.Number.{number_of, strict, twos_complement, unsigned}
+use Rattle.snmp_wire.specs.ber.Number.{AreOctets, number_of, strict, twos_complement, unsigned}
 use Rattle.snmp_wire.specs.ber.Spelling.{IsContent, SpellsValue, value_tag}
-use Rattle.snmp_wire.proofs.CanonLemmas.{canon_length_long, count_left, count_taken, digit_some}
-use Rattle.snmp_wire.proofs.CanonLemmas.{digits_small, length-canon_number, length-octets}
+use Rattle.snmp_wire.proofs.CanonLemmas.{count_left, count_taken, digit_some}
+use Rattle.snmp_wire.proofs.CanonLemmas.{digits_small, length-canon_length_long, length-canon_number}
 use Rattle.snmp_wire.proofs.CanonLemmas.{number_small}
 use Rattle.snmp_wire.specs.ber.ElementLaws.{canon_length_short, length-canon_element}
 use Rattle.snmp_wire.proofs.IdentifierWriting.{length-canon_subidentifier}
@@ -26,6 +27,9 @@ use Rattle.snmp_wire.proofs.StrictNumbers.{minus, negative, positive}
 -- octets, by cases
 abbrev pub Octets : List ℕ → Type 0
 Octets text = AllByRecursion (λ octet. octet < 256) text
+
+pub octets_by : (text : List ℕ) → AreOctets text → Octets text
+octets_by text all = recursion_from_All (λ octet. octet < 256) text all
 
 pub front_octets : (xs ys : List ℕ) → Octets (xs ++ ys) → Octets xs
 front_octets [] ys h = tt
@@ -101,8 +105,7 @@ length_shortest lead n h is = ⊎_elim (λ s. short_form lead n s) (λ l. long_f
         ⊎_elim (λ s. omega (arith, size, ap length (canon_length_short n s), l.some))
         (λ g. let few : length_size n ≤ length l.digits = digits_fewest n (length l.digits) l.some
         (subst (λ (v : ℕ). v < 256 ^ length l.digits) l.value bound) in
-        let whole : length (canon_length n) ≡ suc (length (octets (length_size n) n)) = ap length (canon_length_long n g) in
-        omega (arith, size, whole, few, length-octets (length_size n) n))
+        omega (arith, size, length-canon_length_long n g, few))
         (cases_lt n 128)
 
 -- more content has no shorter length
@@ -119,17 +122,13 @@ pub size_rises : (m n : ℕ) → m ≤ n → length_size m ≤ length_size n
 unfolding length_size
 size_rises m n h = count_rises 256 256 3 m n h
 
-pub long_length : (n : ℕ) → 128 ≤ n → length (canon_length n) ≡ suc (length_size n)
-long_length n h = let whole : length (canon_length n) ≡ suc (length (octets (length_size n) n)) = ap length (canon_length_long n h) in
-    omega (arith, whole, length-octets (length_size n) n)
-
 pub length_rises : (m n : ℕ) → m ≤ n → length (canon_length m) ≤ length (canon_length n)
 length_rises m n h = ⊎_elim
     (λ short. ⊎_elim
     (λ less. omega (arith, ap length (canon_length_short m short), ap length (canon_length_short n less)))
-    (λ more. omega (arith, ap length (canon_length_short m short), long_length n more))
+    (λ more. omega (arith, ap length (canon_length_short m short), length-canon_length_long n more))
     (cases_lt n 128))
-    (λ long. omega (arith, long_length m long, long_length n (omega (arith, long, h)), size_rises m n h))
+    (λ long. omega (arith, length-canon_length_long m long, length-canon_length_long n (omega (arith, long, h)), size_rises m n h))
     (cases_lt m 128)
 
 -- ---- identifiers

@@ -21,9 +21,7 @@ use Rattle.snmp_wire.proofs.CanonLemmas.{septets-suc}
 use Rattle.snmp_wire.proofs.IdentifierWriting.{length-canon_subidentifier, subidentifier_most}
 use Rattle.snmp_wire.proofs.IdentifierWriting.{subidentifier_parts, subidentifier_short}
 use Rattle.snmp_wire.proofs.NumberLemmas.{number_of-push}
-
-abbrev pub low_bits : List ℕ → List ℕ
-low_bits octets = map (λ octet. octet % 128) octets
+use Rattle.snmp_wire.proofs.ShortestValues.{low_bits, length-low_bits}
 
 number_of-septets : (count n : ℕ) → number_of 128 (low_bits (septets count n)) ≡ n % 128 ^ count
 unfolding septets
@@ -36,10 +34,6 @@ number_of-septets (suc count) n =
     ∙ ap (λ rest. n / 128 ^ count % 128 * 128 ^ count + rest) (number_of-septets count n)
     ∙ sym (mod-mul n (lit< tt) (one-le-pow count 128 (lit< tt)))
     ∙ ap (λ m. n % m) (sym (pow-succ' 128 count))
-  where
-    length-low_bits : (octets : List ℕ) → length (low_bits octets) ≡ length octets
-    length-low_bits [] = refl
-    length-low_bits (x ∷ xs) = ap suc (length-low_bits xs)
 
 septets_go_on : (count n : ℕ) → All (λ octet. 128 ≤ octet) (septets count n)
 unfolding septets

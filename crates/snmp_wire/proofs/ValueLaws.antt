@@ -1,7 +1,7 @@
--- What is read as a value is one, and what is one is read.
-use Rattle.std.proofs.Common.{◌≡◌, ℕ, ℤ, ◌+◌, ◌≤◌, true, cond, eqb, ltb, leb, ◌&&◌, ◌⊎◌, List, []}
-use Rattle.std.proofs.Common.{◌∷◌, length, Result, Ok, refl, sym, ap, subst, arith, inl}
-use Rattle.std.proofs.Common.{inr}
+-- What is read as a value is one, what is read as none has a tag or content at fault, and what is one
+-- is read.
+use Rattle.std.proofs.Common.{◌≡◌, ℕ, ℤ, pos, ◌+◌, ◌≤◌, true, cond, eqb, ltb, leb, ◌&&◌, ◌⊎◌, List, []}
+use Rattle.std.proofs.Common.{◌∷◌, length, Result, Ok, refl, sym, ap, subst, arith, inl, inr}
 use Rattle.std.proofs.lemmas.Bool.{ltb-true, lt-ltb, le-leb, leb-true, eqb-true, eq-eqb, and_parts}
 use Rattle.std.proofs.lemmas.Bool.{and_from, or_cases, or_left, or_right}
 use Rattle.std.proofs.lemmas.List.{nil_from_length}
@@ -12,21 +12,24 @@ use Rattle.snmp_wire.specs.ber.Value.{Datum, integer_value, octet_string, null_v
 use Rattle.snmp_wire.specs.ber.Value.{ip_address, counter32, gauge32, time_ticks, opaque_octets}
 use Rattle.snmp_wire.specs.ber.Value.{counter64, no_such_object, no_such_instance, end_of_mib_view}
 use Rattle.snmp_wire.specs.ber.Spelling.{value_tag, IsContent}
-use Rattle.snmp_wire.specs.ber.Reading.{◌>>=◌, integer_of, has_width, unsigned_of, identifier_of}
-use Rattle.snmp_wire.specs.ber.Reading.{empty_of, ip_address_of, typed_value}
-use Rattle.snmp_wire.specs.ber.ReadingLaws.{done, ok_is, bind_ok, chosen, passed}
-use Rattle.snmp_wire.proofs.IdentifierLaws.{identifier_takes, identifier_again}
+use Rattle.snmp_wire.specs.ber.Reading.{◌>>=◌, integer_of, has_width, unsigned_of, empty_of}
+use Rattle.snmp_wire.specs.ber.Reading.{ip_address_of, typed_value}
+use Rattle.snmp_wire.specs.ber.ReadingLaws.{Gives, a_fault, a_value, done, gives_either, gives_so}
+use Rattle.snmp_wire.specs.ber.ReadingLaws.{gives_then}
+use Rattle.snmp_wire.proofs.IdentifierLaws.{identifier_again, identifier_gives}
 
 -- ---- numbers
 
-pub integer_takes : (content : List ℕ) (z : ℤ) → integer_of content ≡ Ok z → IsInteger content z
+pub integer_gives : (content : List ℕ) → Gives (IsInteger content) (λ e. error.Content ≡ e) (integer_of content)
 unfolding integer_of
-integer_takes content z e =
-    let p = passed (ltb 0 (length content) && ltb (length content) 5) (Ok (twos_complement content)) error.Content z e in
-    let both = and_parts (ltb 0 (length content)) (ltb (length content) 5) p.0 in
+integer_gives content =
+    gives_either (ltb 0 (length content) && ltb (length content) 5)
+    (λ fits.
+    let both = and_parts (ltb 0 (length content)) (ltb (length content) 5) fits in
     let some = ltb-true 0 (length content) both.0 in
     let few = ltb-true (length content) 5 both.1 in
-    record { some = omega arith; few = omega arith; value = ok_is (twos_complement content) z p.1 }
+    a_value (twos_complement content) (record { some = omega arith; few = omega arith; value = refl }))
+    (λ long. a_fault error.Content refl)
 
 pub integer_again : (content : List ℕ) (z : ℤ) → IsInteger content z → integer_of content ≡ Ok z
 unfolding integer_of
@@ -35,17 +38,19 @@ integer_again content z h =
     let few = h.few in
     rw (lt-ltb 0 (length content) (omega arith), lt-ltb (length content) 5 (omega arith)) (ap done h.value)
 
-unsigned_takes : (width : ℕ) (content : List ℕ) (n : ℕ) → unsigned_of width content ≡ Ok n → IsUnsigned lenient width content n
+unsigned_gives : (width : ℕ) (content : List ℕ) → Gives (IsUnsigned lenient width content) (λ e. error.Content ≡ e) (unsigned_of width content)
 unfolding unsigned_of
-unsigned_takes width [] n e = absurd cc
-unsigned_takes width (first ∷ rest) n e =
+unsigned_gives width [] = a_fault error.Content refl
+unsigned_gives width (first ∷ rest) =
     let len = length (first ∷ rest) in
-    let p = passed (has_width width (first ∷ rest)) (Ok (unsigned (first ∷ rest))) error.Content n e in
-    let few : (len ≤ width) ⊎ ((len ≡ width + 1) × (first ≡ 0)) = elim (or_cases (leb len width) (eqb len (width + 1) && eqb first 0) p.0) [
+    gives_either (has_width width (first ∷ rest))
+    (λ fits.
+    let few : (len ≤ width) ⊎ ((len ≡ width + 1) × (first ≡ 0)) = elim (or_cases (leb len width) (eqb len (width + 1) && eqb first 0) fits) [
       | inl h ↦ inl (leb-true len width h)
       | inr h ↦ let both = and_parts (eqb len (width + 1)) (eqb first 0) h in inr (eqb-true len (width + 1) both.0, eqb-true first 0 both.1)
     ] in
-    record { some = omega arith; few = few; value = ok_is (unsigned (first ∷ rest)) n p.1; allowed = tt }
+    a_value (unsigned (first ∷ rest)) (record { some = omega arith; few = few; value = refl; allowed = tt }))
+    (λ long. a_fault error.Content refl)
 
 has_width_from : (width first : ℕ) (rest : List ℕ) → (length (first ∷ rest) ≤ width) ⊎ ((length (first ∷ rest) ≡ width + 1) × (first ≡ 0))
     → has_width width (first ∷ rest) ≡ true
@@ -65,66 +70,72 @@ pub record IsRead (tag : ℕ) (content : List ℕ) (value : Datum) : Type 0 wher
   pub is_tag : value_tag value ≡ tag
   pub is_content : IsContent lenient value content
 
-empty_takes : (tag : ℕ) (content : List ℕ) (made value : Datum) → IsRead tag [] made → empty_of made content ≡ Ok value → IsRead tag content value
-empty_takes tag content made value made_is e =
-    let p = passed (eqb (length content) 0) (Ok made) error.Content value e in
-    let none : content ≡ [] = nil_from_length content (eqb-true (length content) 0 p.0) in
-    subst (λ (o : List ℕ). IsRead tag o value) (sym none) (subst (IsRead tag []) (ok_is made value p.1) made_is)
+empty_gives : (made : Datum) (content : List ℕ) → IsContent lenient made [] → Gives (IsRead (value_tag made) content) (λ e. error.Content ≡ e) (empty_of made content)
+empty_gives made content is =
+    gives_either (eqb (length content) 0)
+    (λ none. a_value made (record {
+      is_tag = refl;
+      is_content = subst (IsContent lenient made) (sym (nil_from_length content (eqb-true (length content) 0 none))) is;
+    })) (λ some. a_fault error.Content refl)
 
-string_takes : (tag : ℕ) (content : List ℕ) (made value : Datum) → IsRead tag content made → done made ≡ Ok value → IsRead tag content value
-string_takes tag content made value made_is e = subst (IsRead tag content) (ok_is made value e) made_is
-
-address_takes : (content : List ℕ) (value : Datum) → ip_address_of content ≡ Ok value → IsRead 0x40 content value
-address_takes content value e =
-    let p = passed (eqb (length content) 4) (Ok (ip_address content)) error.Content value e in
-    subst (IsRead 0x40 content) (ok_is (ip_address content) value p.1) (record { is_tag = refl; is_content = (refl, eqb-true (length content) 4 p.0) })
-
-number_takes : (tag width : ℕ) (content : List ℕ) (made : ℕ → Datum) (value : Datum)
-    → ((n : ℕ) → IsUnsigned lenient width content n → IsRead tag content (made n)) → (unsigned_of width content >>= λ n. Ok (made n)) ≡ Ok value
-    → IsRead tag content value
-number_takes tag width content made value made_is e =
-    let b = bind_ok (unsigned_of width content) (λ n. Ok (made n)) value e in
-    subst (IsRead tag content) (ok_is (made b.0) value b.2) (made_is b.0 (unsigned_takes width content b.0 b.1))
-
-signed_takes : (content : List ℕ) (value : Datum) → (integer_of content >>= λ z. Ok (integer_value z)) ≡ Ok value → IsRead 0x02 content value
-signed_takes content value e =
-    let b = bind_ok (integer_of content) (λ z. Ok (integer_value z)) value e in
-    subst (IsRead 0x02 content) (ok_is (integer_value b.0) value b.2) (record { is_tag = refl; is_content = integer_takes content b.0 b.1 })
-
-name_takes : (content : List ℕ) (value : Datum) → (identifier_of content >>= λ name. Ok (object_id name)) ≡ Ok value → IsRead 0x06 content value
-name_takes content value e =
-    let b = bind_ok (identifier_of content) (λ name. Ok (object_id name)) value e in
-    subst (IsRead 0x06 content) (ok_is (object_id b.0) value b.2) (record { is_tag = refl; is_content = identifier_takes content b.0 b.1 })
-
--- a reading that goes by tags
-abbrev Takes : ℕ → List ℕ → Result Datum BerError → Type 0
-Takes tag content read = (value : Datum) → read ≡ Ok value → IsRead tag content value
-
-by_tag : (known tag : ℕ) (content : List ℕ) (here others : Result Datum BerError) → Takes known content here → Takes tag content others
-    → Takes tag content (cond (eqb tag known) here others)
-by_tag known tag content here others this that value e =
-    elim (chosen (eqb tag known) here others (Ok value) e) [
-      | inl h ↦ subst (λ (t : ℕ). IsRead t content value) (sym (eqb-true tag known h.0)) (this value h.1)
-      | inr h ↦ that value h.1
-    ]
-
-pub value_takes : (tag : ℕ) (content : List ℕ) (value : Datum) → typed_value tag content ≡ Ok value → IsRead tag content value
+-- where the tag is a value's, a value of it is read, or else the content is at fault
+pub known_gives : (value : Datum) (content : List ℕ)
+    → Gives (IsRead (value_tag value) content) (λ e. error.Content ≡ e) (typed_value (value_tag value) content)
 unfolding typed_value
-value_takes tag content =
-    by_tag 0x02 tag content _ _ (signed_takes content) (
-    by_tag 0x04 tag content _ _ (λ value. string_takes 0x04 content (octet_string content) value (record { is_tag = refl; is_content = refl })) (
-    by_tag 0x05 tag content _ _ (λ value. empty_takes 0x05 content null_value value (record { is_tag = refl; is_content = refl })) (
-    by_tag 0x06 tag content _ _ (name_takes content) (
-    by_tag 0x40 tag content _ _ (address_takes content) (
-    by_tag 0x41 tag content _ _ (λ value. number_takes 0x41 4 content (λ n. counter32 n) value (λ n h. record { is_tag = refl; is_content = h })) (
-    by_tag 0x42 tag content _ _ (λ value. number_takes 0x42 4 content (λ n. gauge32 n) value (λ n h. record { is_tag = refl; is_content = h })) (
-    by_tag 0x43 tag content _ _ (λ value. number_takes 0x43 4 content (λ n. time_ticks n) value (λ n h. record { is_tag = refl; is_content = h })) (
-    by_tag 0x44 tag content _ _ (λ value. string_takes 0x44 content (opaque_octets content) value (record { is_tag = refl; is_content = refl })) (
-    by_tag 0x46 tag content _ _ (λ value. number_takes 0x46 8 content (λ n. counter64 n) value (λ n h. record { is_tag = refl; is_content = h })) (
-    by_tag 0x80 tag content _ _ (λ value. empty_takes 0x80 content no_such_object value (record { is_tag = refl; is_content = refl })) (
-    by_tag 0x81 tag content _ _ (λ value. empty_takes 0x81 content no_such_instance value (record { is_tag = refl; is_content = refl })) (
-    by_tag 0x82 tag content _ _ (λ value. empty_takes 0x82 content end_of_mib_view value (record { is_tag = refl; is_content = refl })) (
-    λ value e. absurd cc)))))))))))))
+known_gives (integer_value z) content =
+    gives_then _ (integer_gives content) (λ n h. a_value (integer_value n) (record { is_tag = refl; is_content = h }))
+known_gives (octet_string text) content = a_value (octet_string content) (record { is_tag = refl; is_content = refl })
+known_gives null_value content = empty_gives null_value content refl
+known_gives (object_id name) content =
+    gives_then _ (identifier_gives content) (λ n h. a_value (object_id n) (record { is_tag = refl; is_content = h }))
+known_gives (ip_address address) content =
+    gives_either (eqb (length content) 4)
+    (λ four. a_value (ip_address content) (record { is_tag = refl; is_content = (refl, eqb-true (length content) 4 four) }))
+    (λ other. a_fault error.Content refl)
+known_gives (counter32 n) content =
+    gives_then _ (unsigned_gives 4 content) (λ m h. a_value (counter32 m) (record { is_tag = refl; is_content = h }))
+known_gives (gauge32 n) content =
+    gives_then _ (unsigned_gives 4 content) (λ m h. a_value (gauge32 m) (record { is_tag = refl; is_content = h }))
+known_gives (time_ticks n) content =
+    gives_then _ (unsigned_gives 4 content) (λ m h. a_value (time_ticks m) (record { is_tag = refl; is_content = h }))
+known_gives (opaque_octets text) content = a_value (opaque_octets content) (record { is_tag = refl; is_content = refl })
+known_gives (counter64 n) content =
+    gives_then _ (unsigned_gives 8 content) (λ m h. a_value (counter64 m) (record { is_tag = refl; is_content = h }))
+known_gives no_such_object content = empty_gives no_such_object content refl
+known_gives no_such_instance content = empty_gives no_such_instance content refl
+known_gives end_of_mib_view content = empty_gives end_of_mib_view content refl
+
+-- the content is at fault, and the tag is a value's; or the tag is
+abbrev pub IsValueFault : ℕ → BerError → Type 0
+IsValueFault tag e = ((error.Content ≡ e) × ((value : Datum) × (tag ≡ value_tag value))) ⊎ (error.Tag ≡ e)
+
+by_tag : (known : Datum) (tag : ℕ) (content : List ℕ) (here others : Result Datum BerError)
+    → Gives (IsRead (value_tag known) content) (λ e. error.Content ≡ e) here → Gives (IsRead tag content) (IsValueFault tag) others
+    → Gives (IsRead tag content) (IsValueFault tag) (cond (eqb tag (value_tag known)) here others)
+by_tag known tag content here others this that =
+    gives_either (eqb tag (value_tag known))
+    (λ is.
+    let same : tag ≡ value_tag known = eqb-true tag (value_tag known) is in
+    gives_so (λ value read. subst (λ (t : ℕ). IsRead t content value) (sym same) read) (λ e fault. inl (fault, (known, same))) this)
+    (λ not. that)
+
+pub value_gives : (tag : ℕ) (content : List ℕ) → Gives (IsRead tag content) (IsValueFault tag) (typed_value tag content)
+unfolding typed_value
+value_gives tag content =
+    by_tag (integer_value (pos 0)) tag content _ _ (known_gives (integer_value (pos 0)) content) (
+    by_tag (octet_string []) tag content _ _ (known_gives (octet_string []) content) (
+    by_tag null_value tag content _ _ (known_gives null_value content) (
+    by_tag (object_id []) tag content _ _ (known_gives (object_id []) content) (
+    by_tag (ip_address []) tag content _ _ (known_gives (ip_address []) content) (
+    by_tag (counter32 0) tag content _ _ (known_gives (counter32 0) content) (
+    by_tag (gauge32 0) tag content _ _ (known_gives (gauge32 0) content) (
+    by_tag (time_ticks 0) tag content _ _ (known_gives (time_ticks 0) content) (
+    by_tag (opaque_octets []) tag content _ _ (known_gives (opaque_octets []) content) (
+    by_tag (counter64 0) tag content _ _ (known_gives (counter64 0) content) (
+    by_tag no_such_object tag content _ _ (known_gives no_such_object content) (
+    by_tag no_such_instance tag content _ _ (known_gives no_such_instance content) (
+    by_tag end_of_mib_view tag content _ _ (known_gives end_of_mib_view content) (
+    a_fault error.Tag (inr refl))))))))))))))
 
 pub value_again : (value : Datum) (content : List ℕ) → IsContent lenient value content → typed_value (value_tag value) content ≡ Ok value
 unfolding typed_value

@@ -2,14 +2,10 @@
 use Rattle.std.proofs.Common.{ℕ, ℤ, ◌-◌, ◌<◌, ◌≤◌, List, [], length, sym, arith, append-nil}
 use Rattle.std.proofs.Common.{length-append}
 use Rattle.snmp_wire.specs.ber.Canon.{canon_element, canon_header, canon_number, magnitude_of}
-use Rattle.snmp_wire.specs.ber.Canon.{number_size}
 use Rattle.snmp_wire.specs.ber.Writing.{Writes}
-use Rattle.snmp_wire.proofs.CanonLemmas.{digit_most, length-canon_number}
+use Rattle.snmp_wire.proofs.CanonLemmas.{length-canon_number}
+use Rattle.snmp_wire.proofs.StrictValues.{number_most}
 use Rattle.snmp_wire.specs.ber.WritingLaws.{writes_same}
-
-pub number_most : (n : ℕ) → number_size n ≤ 9
-unfolding number_size
-number_most n = digit_most 256 128 8 n
 
 -- the content of a number is short
 pub number_short : {old new : List ℕ} {start end : ℕ} (z : ℤ) → Writes old start end (canon_number z) new → end - start < 128

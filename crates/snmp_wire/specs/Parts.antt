@@ -15,6 +15,6 @@ parts_message parts = record {
   bindings = var_binds parts.bindings.now;
 }
 
--- the same with these bindings in place of its own
+-- the message with these bindings in place of its own
 abbrev pub with_bindings : Parts → List VarBind → Message
 with_bindings parts bindings = record (parts_message parts) { bindings = bindings }

@@ -1,7 +1,6 @@
 pub mod Canon
 pub mod ElementLaws
 pub mod Identifier
-pub mod Laws
 pub mod Length
 pub mod LengthLaws
 pub mod Number

@@ -260,7 +260,7 @@ fn fields_in<'a>(octets: &'a [u8]) -> (Fields<'a>, &'a [u8])
     }
 }
 
-/// The same, whatever the form of the lengths.
+/// The fields of the first of such bindings, whatever the form of the lengths.
 #[cold]
 fn long_fields_in<'a>(octets: &'a [u8]) -> (Fields<'a>, &'a [u8])
     requires some { 0 < length octets.now }

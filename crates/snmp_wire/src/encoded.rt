@@ -7,7 +7,7 @@ ghost use Rattle.snmp_wire.specs.Message.{datum, object_id, var_bind};
 ghost use Rattle.snmp_wire.specs.Range.{IsBindingInRange, IsInRange};
 
 use crate::ber::tag::{OBJECT_IDENTIFIER, SEQUENCE};
-use crate::ber::{ValueRef, content_reading, inner_at, shortest_encodings};
+use crate::ber::{ValueRef, inner_at};
 use crate::binding::{Binding, Bindings, pair_size, put_pair};
 use crate::in_place::{ELSEWHERE, IN_PLACE, Octets};
 use crate::name::EncodedName;
@@ -44,8 +44,6 @@ impl EncodedBinding {
         ensures { IfOk result
             (λ binding. binding ≡ record { name = name.now; value = datum value.now }) }
     {
-        content_reading();
-        shortest_encodings();
         let octets = encoded(alloc, name, value)?;
         Ok(EncodedBinding { octets })
     }
@@ -71,8 +69,6 @@ impl EncodedBinding {
     pub fn read_into<'a>(&'a self, into: &mut Binding<'a>)
         ensures { var_bind into.new ≡ self.now }
     {
-        content_reading();
-        shortest_encodings();
         let _ = Bindings::new(self.octets.as_slice()).read_next(into);
     }
 
@@ -94,8 +90,6 @@ fn name_in(octets: &[u8]) -> &[u8]
     requires { IsKept octets.now }
     ensures { reading.identifier_of result.now ≡ Ok (binding_in octets.now).name }
 {
-    content_reading();
-    shortest_encodings();
     match octets {
         [_, size, _, name_size, ..] if *size < 0x80 && *name_size < 0x80 => {
             let (_, behind) = octets.split_at(4);
@@ -106,14 +100,12 @@ fn name_in(octets: &[u8]) -> &[u8]
     }
 }
 
-/// The same, whatever the form of the lengths.
+/// The content of the name, whatever the form of the lengths.
 #[cold]
 fn name_in_long(octets: &[u8]) -> &[u8]
     requires { IsKept octets.now }
     ensures { reading.identifier_of result.now ≡ Ok (binding_in octets.now).name }
 {
-    content_reading();
-    shortest_encodings();
     let Ok((content, _)) = inner_at(SEQUENCE, octets) else {
         unreachable!()
     };
@@ -142,7 +134,7 @@ fn encoded(alloc: Global, name: &Oid, value: &ValueRef<'_>) -> Result<Octets, Al
     })
 }
 
-/// The same of more octets, for which it takes memory.
+/// An encoding of more octets than lie in place, for which it takes memory.
 #[inline(never)]
 fn encoded_elsewhere(
     alloc: Global,

@@ -10,15 +10,13 @@ ghost use Rattle.snmp_wire.specs.Message.{Message};
 ghost use Rattle.snmp_wire.specs.Sizes.{MessageSizes};
 ghost use Rattle.snmp_wire.specs.Spelling.{Spells};
 
-use crate::ber::{content_reading, element_sizes, shortest_encodings};
+use crate::ber::element_sizes;
 
 /// Octets encode at most one message, and no encoding is the front of another.
 #[inline]
 pub fn one_spelling()
     ensures { OneMessage }
-{
-    content_reading();
-}
+{}
 
 /// Octets that encode a message have no fault: what each error says is false of them.
 #[inline]
@@ -32,42 +30,32 @@ pub fn no_fault()
 #[inline]
 pub fn spelt_is_of_type()
     ensures { SpeltIsOfType }
-{
-    shortest_encodings();
-}
+{}
 
 /// What encodes a message by the standard is read.
 #[inline]
 pub fn strict_is_read()
     ensures { StrictIsRead }
-{
-    shortest_encodings();
-}
+{}
 
 /// What is written is an encoding by the standard; so [`decode`](crate::decode) returns the
 /// message.
 #[inline]
 pub fn encoding_is_strict()
     ensures { EncodingIsStrict }
-{
-    shortest_encodings();
-}
+{}
 
 /// No encoding by the standard is shorter than what is written.
 #[inline]
 pub fn encoding_is_shortest()
     ensures { EncodingIsShortest }
-{
-    shortest_encodings();
-}
+{}
 
 /// A message has one shortest encoding by the standard, which is the one that is written.
 #[inline]
 pub fn one_shortest_encoding()
     ensures { OneShortestEncoding }
-{
-    shortest_encodings();
-}
+{}
 
 /// A message's shortest encoding is its head, and then its bindings in turn.
 #[inline]

@@ -17,8 +17,8 @@ ghost use Rattle.snmp_wire.specs.ber.Writing.{Writes};
 
 use crate::ber::tag::{INTEGER, OCTET_STRING, SEQUENCE};
 use crate::ber::{
-    BerError, content_at, content_reading, element_at, header_size, inner_at, integer_at,
-    integer_size, put_header, put_integer, put_octet, put_short_header, put_text,
+    BerError, content_at, element_at, header_size, inner_at, integer_at, integer_size, put_header,
+    put_integer, put_octet, put_short_header, put_text,
 };
 use crate::binding::{binding_size, check_bindings, put_binding};
 use crate::kind::{kind_of, tag_of_kind};
@@ -134,7 +134,6 @@ pub fn decode(datagram: &[u8]) -> Result<MessageRef<'_>, BerError>
     // Each error comes only where its sentence holds.
     ensures fault { IfErr result (λ e. IsFault e datagram.now) }
 {
-    content_reading();
     message_of(datagram)
 }
 

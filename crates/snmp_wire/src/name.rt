@@ -87,7 +87,7 @@ impl<'a> EncodedName<'a> {
         self.content
     }
 
-    /// The same name again.
+    /// A second handle to the name.
     #[inline]
     pub fn copy(&self) -> EncodedName<'a>
         ensures { result ≡ self.now }
@@ -266,7 +266,7 @@ fn alike(octets: &[u8], others: &[u8]) -> usize
     both - 8 + eight_alike(octets, others, both - 8)
 }
 
-/// The same, octet by octet.
+/// How many octets at the front are the same, compared one by one.
 fn few_alike(octets: &[u8], others: &[u8]) -> usize
     ensures same { IsAlike octets.now others.now result }
     ensures first { result < length octets.now → result < length others.now

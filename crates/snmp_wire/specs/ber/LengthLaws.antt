@@ -1,19 +1,104 @@
--- Laws of lengths and elements, for proofs of values and messages: what is read as one is one,
--- and what is one is read.
-use Rattle.std.proofs.Common.{◌≡◌, ℕ, suc, ◌+◌, ◌-◌, ◌<◌, ◌≤◌, false, cond, eqb, ltb, ◌&&◌}
-use Rattle.std.proofs.Common.{List, [], ◌∷◌, ◌++◌, length, take, drop, Ok, Err, refl, sym, ap}
-use Rattle.std.proofs.Common.{subst, ◌∙◌, append_assoc, arith, inl, inr}
-use Rattle.std.proofs.lemmas.Bool.{ltb-true, ltb-false, lt-ltb, le-ltb, eqb-true, eq-eqb}
-use Rattle.std.proofs.lemmas.Bool.{and_parts}
+-- Laws of lengths and elements, for proofs of values and messages: what is read as one is one, what
+-- is read as none isn't, and what is one is read.
+use Rattle.std.proofs.Common.{◌≡◌, ◌≢◌, ℕ, suc, ◌+◌, ◌-◌, ◌<◌, ◌≤◌, false, cond, eqb, ltb, ◌&&◌}
+use Rattle.std.proofs.Common.{List, [], ◌∷◌, ◌++◌, length, take, drop, replicate, Ok, Err, refl, sym}
+use Rattle.std.proofs.Common.{ap, subst, ◌∙◌, append_assoc, arith, ◌⊎◌, inl, inr}
+use Rattle.std.proofs.lemmas.Bool.{ltb-true, ltb-false, lt-ltb, le-ltb, eqb-true, eqb-false, eq-eqb}
+use Rattle.std.proofs.lemmas.Bool.{and_cases, and_parts}
 use Rattle.std.proofs.lemmas.List.{take_at, drop_at, take-append-drop, length-append}
-use Rattle.std.proofs.lemmas.List.{length-take-le}
+use Rattle.std.proofs.lemmas.List.{length-replicate, length-take-le}
 use Rattle.snmp_wire.specs.declared.ber.error.BerError.{BerError}
 use Rattle.snmp_wire.specs.declared.ber.error.BerError.TheVariants as error
+use Rattle.snmp_wire.specs.Fault.{BeginsWith, EndsEarly, HasForbiddenLength}
 use Rattle.snmp_wire.specs.ber.Number.{unsigned}
-use Rattle.snmp_wire.specs.ber.Length.{IsLength, IsLongLength, IsElement}
+use Rattle.snmp_wire.specs.ber.Length.{IsLength, IsElement}
 use Rattle.snmp_wire.specs.ber.Reading.{long_length_at, length_at, content_at, inner_at}
 use Rattle.snmp_wire.specs.ber.Reading.{element_at}
-use Rattle.snmp_wire.specs.ber.ReadingLaws.{done, ok_is, bind_ok, chosen, passed, refused}
+use Rattle.snmp_wire.specs.ber.ReadingLaws.{Gives, a_fault, a_value, gives_either, gives_so}
+use Rattle.snmp_wire.specs.ber.ReadingLaws.{gives_then}
+
+-- ---- octets that end early
+
+zeros : ℕ → List ℕ
+zeros n = replicate n 0
+
+length-zeros : (n : ℕ) → length (zeros n) ≡ n
+unfolding zeros
+length-zeros n = length-replicate n 0
+
+pub some_octets : (octets : List ℕ) → 0 < length octets → octets ≢ []
+some_octets octets lt e = let none : length octets ≡ 0 = ap length e in omega arith
+
+-- the length is there, and not the whole of the content
+content_short : (tag : ℕ) (lead after : List ℕ) (n : ℕ)
+    → IsLength lead n → length after < n → EndsEarly (tag ∷ lead ++ after)
+content_short tag lead after n is_length short =
+    let missing = zeros (n - length after) in
+    let size = length-zeros (n - length after) in
+    let len : length (after ++ missing) ≡ n =
+    omega (arith, length-append after missing, size) in
+    record {
+      missing = missing;
+      some = some_octets missing (omega (arith, size));
+      tag = tag;
+      content = after ++ missing;
+      whole = record {
+        length_octets = lead;
+        is_length = subst (IsLength lead) (sym len) is_length;
+        parts = ap (λ (o : List ℕ). tag ∷ o) (append_assoc lead after missing);
+      };
+    }
+
+-- not even the length is there
+length_short : (tag first : ℕ) (rest : List ℕ)
+    → 128 < first → first < 133 → length rest < first - 128 → EndsEarly (tag ∷ first ∷ rest)
+length_short tag first rest low high short =
+    let more = zeros (first - 128 - length rest) in
+    let size = length-zeros (first - 128 - length rest) in
+    let digits = rest ++ more in
+    let len : length digits ≡ first - 128 = omega (arith, length-append rest more, size) in
+    let content = zeros (unsigned digits) in
+    let is_long : IsLength (first ∷ digits) (unsigned digits) = inr (record {
+      digits = digits;
+      some = omega arith;
+      few = omega arith;
+      value = refl;
+      parts = ap (λ (n : ℕ). n ∷ digits) (omega arith);
+    }) in
+    record {
+      missing = more ++ content;
+      some = some_octets (more ++ content) (omega (arith, length-append more content, size));
+      tag = tag;
+      content = content;
+      whole = record {
+        length_octets = first ∷ digits;
+        is_length = subst (IsLength (first ∷ digits)) (sym (length-zeros (unsigned digits))) is_long;
+        parts = ap (λ (o : List ℕ). tag ∷ first ∷ o) (sym (append_assoc rest more content));
+      };
+    }
+
+nothing_there : (tag : ℕ) → EndsEarly (tag ∷ [])
+nothing_there tag = record {
+  missing = 0 ∷ [];
+  some = some_octets (0 ∷ []) (omega arith);
+  tag = tag;
+  content = [];
+  whole = record {
+    length_octets = 0 ∷ [];
+    is_length = inl (record { small = omega arith; one = refl });
+    parts = refl;
+  };
+}
+
+pub no_octets : EndsEarly []
+unfolding nothing_there
+no_octets = record {
+  missing = 0 ∷ 0 ∷ [];
+  some = some_octets (0 ∷ 0 ∷ []) (omega arith);
+  tag = 0;
+  content = [];
+  whole = (nothing_there 0).whole;
+}
 
 -- ---- lengths
 
@@ -21,43 +106,67 @@ use Rattle.snmp_wire.specs.ber.ReadingLaws.{done, ok_is, bind_ok, chosen, passed
 abbrev pub TakesLength : List ℕ → ℕ × List ℕ → Type 0
 TakesLength octets x = (lead : List ℕ) × IsLength lead x.0 × (octets ≡ lead ++ x.1)
 
-long_length_takes : (cut : BerError) (first : ℕ) (rest : List ℕ) (x : ℕ × List ℕ)
-    → long_length_at cut first rest ≡ Ok x → TakesLength (first ∷ rest) x
+-- an element that can't be read: it is cut, or its length is forbidden
+abbrev pub IsBadElement : BerError → List ℕ → BerError → Type 0
+IsBadElement cut octets e =
+    ((cut ≡ e) × EndsEarly octets) ⊎ ((error.Length ≡ e) × HasForbiddenLength octets)
+
+forbidden : (first : ℕ) → 128 ≤ first → (ltb 128 first && ltb first 133) ≡ false
+    → (first ≡ 0x80) ⊎ (0x85 ≤ first)
+forbidden first le h =
+    elim (and_cases (ltb 128 first) (ltb first 133) h) [
+      | inl low ↦ let at_most = ltb-false 128 first low in inl (omega arith)
+      | inr high ↦ inr (ltb-false first 133 high)
+    ]
+
+long_length_gives : (cut : BerError) (tag first : ℕ) (rest : List ℕ) → 128 ≤ first
+    → Gives (TakesLength (first ∷ rest)) (IsBadElement cut (tag ∷ first ∷ rest))
+    (long_length_at cut first rest)
 unfolding long_length_at
-long_length_takes cut first rest x e =
+long_length_gives cut tag first rest large =
     let width = first - 128 in
-    let read : ℕ × List ℕ = (unsigned (take width rest), drop width rest) in
-    let p = passed (ltb 128 first && ltb first 133)
-    (cond (ltb (length rest) width) (Err cut) (Ok read)) error.Length x e in
-    let both = and_parts (ltb 128 first) (ltb first 133) p.0 in
+    gives_either (ltb 128 first && ltb first 133)
+    (λ good.
+    let both = and_parts (ltb 128 first) (ltb first 133) good in
     let low : 128 < first = ltb-true 128 first both.0 in
     let high : first < 133 = ltb-true first 133 both.1 in
-    let q = refused (ltb (length rest) width) (Ok read) cut x p.1 in
-    let room : width ≤ length rest = ltb-false (length rest) width q.0 in
+    gives_either (ltb (length rest) width)
+    (λ short. a_fault cut
+    (inl (refl, length_short tag first rest low high (ltb-true (length rest) width short))))
+    (λ long.
+    let room : width ≤ length rest = ltb-false (length rest) width long in
     let len : length (take width rest) ≡ width = length-take-le width rest room in
-    let is_long : IsLongLength (first ∷ take width rest) (unsigned (take width rest)) = record {
-      digits = take width rest;
-      some = omega arith;
-      few = omega arith;
-      value = refl;
-      parts = ap (λ n. n ∷ take width rest) (omega arith);
-    } in
-    let parts : first ∷ rest ≡ (first ∷ take width rest) ++ drop width rest =
-    ap (λ (tail : List ℕ). first ∷ tail) (sym (take-append-drop width rest)) in
-    subst (TakesLength (first ∷ rest)) (ok_is read x q.1)
-    (first ∷ take width rest, inr is_long, parts)
+    a_value (unsigned (take width rest), drop width rest) (
+      first ∷ take width rest,
+      inr (record {
+        digits = take width rest;
+        some = omega arith;
+        few = omega arith;
+        value = refl;
+        parts = ap (λ n. n ∷ take width rest) (omega arith);
+      }),
+      ap (λ (tail : List ℕ). first ∷ tail) (sym (take-append-drop width rest)),
+    )))
+    (λ bad. a_fault error.Length (inr (
+      refl,
+      record {
+        tag = tag;
+        first = first;
+        rest = rest;
+        parts = refl;
+        forbidden = forbidden first large bad;
+      },
+    )))
 
--- what is read as a length is one
-pub length_takes : (cut : BerError) (octets : List ℕ) (x : ℕ × List ℕ)
-    → length_at cut octets ≡ Ok x → TakesLength octets x
+length_gives : (cut : BerError) (tag : ℕ) (octets : List ℕ)
+    → Gives (TakesLength octets) (IsBadElement cut (tag ∷ octets)) (length_at cut octets)
 unfolding length_at
-length_takes cut [] x e = absurd cc
-length_takes cut (first ∷ rest) x e =
-    elim (chosen (ltb first 128) (done (first, rest)) (long_length_at cut first rest) (Ok x) e) [
-      | inl h ↦ subst (TakesLength (first ∷ rest)) (ok_is (first, rest) x h.1)
-          (first ∷ [], inl (record { small = ltb-true first 128 h.0; one = refl }), refl)
-      | inr h ↦ long_length_takes cut first rest x h.1
-    ]
+length_gives cut tag [] = a_fault cut (inl (refl, nothing_there tag))
+length_gives cut tag (first ∷ rest) =
+    gives_either (ltb first 128)
+    (λ small. a_value (first, rest)
+    (first ∷ [], inl (record { small = ltb-true first 128 small; one = refl }), refl))
+    (λ large. long_length_gives cut tag first rest (ltb-false first 128 large))
 
 short_length_again : (cut : BerError) (n : ℕ) (rest : List ℕ)
     → n < 128 → length_at cut (n ∷ rest) ≡ Ok (n, rest)
@@ -89,28 +198,34 @@ length_again cut lead n rest (inr s) =
 
 -- ---- elements
 
--- a content after some form of its length, and what follows
-abbrev pub TakesContent : List ℕ → List ℕ × List ℕ → Type 0
-TakesContent octets x =
-    (lead : List ℕ) × IsLength lead (length x.0) × (octets ≡ lead ++ (x.0 ++ x.1))
-
--- what is read as a content stands after its length
-pub content_takes : (cut : BerError) (octets : List ℕ) (x : List ℕ × List ℕ)
-    → content_at cut octets ≡ Ok x → TakesContent octets x
+-- what is read after a tag is the content of an element, or there is none
+pub content_gives : (cut : BerError) (tag : ℕ) (octets : List ℕ)
+    → Gives (λ x. BeginsWith tag x.0 (tag ∷ octets) x.1) (IsBadElement cut (tag ∷ octets))
+    (content_at cut octets)
 unfolding content_at
-content_takes cut octets x e =
-    let b = bind_ok (length_at cut octets)
-    (λ n. cond (ltb (length n.1) n.0) (Err cut) (Ok (take n.0 n.1, drop n.0 n.1))) x e in
-    let n = b.0.0 in
-    let after = b.0.1 in
-    let t = length_takes cut octets b.0 b.1 in
-    let q = refused (ltb (length after) n) (Ok (take n after, drop n after)) cut x b.2 in
-    let room : n ≤ length after = ltb-false (length after) n q.0 in
-    let len : length (take n after) ≡ n = length-take-le n after room in
-    let is_length : IsLength t.0 (length (take n after)) = subst (IsLength t.0) (sym len) t.1 in
-    let parts : octets ≡ t.0 ++ (take n after ++ drop n after) =
-    t.2 ∙ ap (λ (tail : List ℕ). t.0 ++ tail) (sym (take-append-drop n after)) in
-    subst (TakesContent octets) (ok_is (take n after, drop n after) x q.1) (t.0, is_length, parts)
+content_gives cut tag octets = gives_then _ (length_gives cut tag octets) (λ x t.
+    let n = x.0 in
+    let after = x.1 in
+    gives_either (ltb (length after) n)
+    (λ short. a_fault cut (inl (
+      refl,
+      subst (λ (o : List ℕ). EndsEarly (tag ∷ o)) (sym t.2)
+          (content_short tag t.0 after n t.1 (ltb-true (length after) n short)),
+    )))
+    (λ long.
+    let content = take n after in
+    let len : length content ≡ n = length-take-le n after (ltb-false (length after) n long) in
+    a_value (content, drop n after) (record {
+      element = tag ∷ t.0 ++ content;
+      is_element = record {
+        length_octets = t.0;
+        is_length = subst (IsLength t.0) (sym len) t.1;
+        parts = refl;
+      };
+      parts = ap (λ (o : List ℕ). tag ∷ o)
+          (t.2 ∙ ap (λ (o : List ℕ). t.0 ++ o) (sym (take-append-drop n after))
+          ∙ sym (append_assoc t.0 content (drop n after)));
+    })))
 
 -- a content after its length is read
 pub content_again : (cut : BerError) (lead content rest : List ℕ) → IsLength lead (length content)
@@ -126,28 +241,22 @@ content_again cut lead content rest h =
       drop_at content rest (length content) refl,
     ) refl
 
--- an element at the front, and what follows
-abbrev pub TakesElement : ℕ → List ℕ → List ℕ → List ℕ → Type 0
-TakesElement tag octets content rest =
-    (element : List ℕ) × IsElement tag content element × (octets ≡ element ++ rest)
+-- no element of a tag: none at all, or one of another
+abbrev pub IsNoInner : ℕ → List ℕ → BerError → Type 0
+IsNoInner tag octets e =
+    IsBadElement error.Length octets e
+    ⊎ ((error.Tag ≡ e) × (found : ℕ) × (after : List ℕ) × (octets ≡ found ∷ after) × (found ≢ tag))
 
-element_from : (tag : ℕ) (octets : List ℕ) (x : List ℕ × List ℕ)
-    → TakesContent octets x → TakesElement tag (tag ∷ octets) x.0 x.1
-element_from tag octets x t = (
-  tag ∷ t.0 ++ x.0,
-  record { length_octets = t.0; is_length = t.1; parts = refl },
-  ap (λ (tail : List ℕ). tag ∷ tail) (t.2 ∙ sym (append_assoc t.0 x.0 x.1)),
-)
-
--- what is read as an inner element of a tag is one
-pub inner_takes : (tag : ℕ) (octets : List ℕ) (x : List ℕ × List ℕ)
-    → inner_at tag octets ≡ Ok x → TakesElement tag octets x.0 x.1
+-- what is read as an inner element of a tag is one, or there is none
+pub inner_gives : (tag : ℕ) (octets : List ℕ)
+    → Gives (λ x. BeginsWith tag x.0 octets x.1) (IsNoInner tag octets) (inner_at tag octets)
 unfolding inner_at
-inner_takes tag [] x e = absurd cc
-inner_takes tag (found ∷ octets) x e =
-    let p = passed (eqb found tag) (content_at error.Length octets) error.Tag x e in
-    subst (λ (t : ℕ). TakesElement tag (t ∷ octets) x.0 x.1) (sym (eqb-true found tag p.0))
-    (element_from tag octets x (content_takes error.Length octets x p.1))
+inner_gives tag [] = a_fault error.Length (inl (inl (refl, no_octets)))
+inner_gives tag (found ∷ octets) = gives_either (eqb found tag)
+    (λ same. subst (λ (t : ℕ). Gives (λ x. BeginsWith t x.0 (found ∷ octets) x.1)
+    (IsNoInner tag (found ∷ octets)) (content_at error.Length octets)) (eqb-true found tag same)
+    (gives_so (λ x begins. begins) (λ e bad. inl bad) (content_gives error.Length found octets)))
+    (λ other. a_fault error.Tag (inr (refl, found, octets, refl, eqb-false found tag other)))
 
 regrouped : (tag : ℕ) (content element rest : List ℕ) (h : IsElement tag content element)
     → element ++ rest ≡ tag ∷ (h.length_octets ++ (content ++ rest))
@@ -163,16 +272,14 @@ inner_again tag content element rest h =
     ap (inner_at tag) (regrouped tag content element rest h) ∙ rw (eq-eqb tag tag refl)
     (content_again error.Length h.length_octets content rest h.is_length)
 
--- what is read as an element of any tag is one
-pub element_takes : (octets : List ℕ) (x : ℕ × List ℕ × List ℕ)
-    → element_at octets ≡ Ok x → TakesElement x.0 octets x.1 x.2
+-- what is read as an element of any tag is one, or there is none
+pub element_gives : (octets : List ℕ)
+    → Gives (λ x. BeginsWith x.0 x.1 octets x.2) (IsBadElement error.Length octets)
+    (element_at octets)
 unfolding element_at
-element_takes [] x e = absurd cc
-element_takes (tag ∷ octets) x e =
-    let b = bind_ok (content_at error.Length octets) (λ c. Ok (tag, c.0, c.1)) x e in
-    subst (λ (y : ℕ × List ℕ × List ℕ). TakesElement y.0 (tag ∷ octets) y.1 y.2)
-    (ok_is (tag, b.0.0, b.0.1) x b.2)
-    (element_from tag octets b.0 (content_takes error.Length octets b.0 b.1))
+element_gives [] = a_fault error.Length (inl (refl, no_octets))
+element_gives (tag ∷ octets) = gives_then _ (content_gives error.Length tag octets)
+    (λ c begins. a_value (tag, c.0, c.1) begins)
 
 -- an element is read, with its tag
 pub element_again : (tag : ℕ) (content element rest : List ℕ)
@@ -183,10 +290,12 @@ element_again tag content element rest h =
     ∙ rw (content_again error.Length h.length_octets content rest h.is_length) refl
 
 -- an element has octets of its own
-pub element_shrinks : (tag : ℕ) (octets content rest : List ℕ)
-    → TakesElement tag octets content rest → length rest < length octets
-element_shrinks tag octets content rest t =
-    let one : length octets ≡ length t.0 + length rest =
-    ap length t.2 ∙ length-append t.0 rest in
-    let two : length t.0 ≡ suc (length (t.1.length_octets ++ content)) = ap length t.1.parts in
+pub element_shrinks : {tag : ℕ} {octets content rest : List ℕ}
+    → BeginsWith tag content octets rest → length rest < length octets
+element_shrinks {tag} {octets} {content} {rest} begins =
+    let lead = begins.is_element.length_octets in
+    let one : length octets ≡ length begins.element + length rest =
+    ap length begins.parts ∙ length-append begins.element rest in
+    let two : length begins.element ≡ suc (length (lead ++ content)) =
+    ap length begins.is_element.parts in
     omega arith

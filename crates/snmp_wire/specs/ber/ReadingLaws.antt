@@ -1,9 +1,10 @@
 -- Laws of the steps of a reading that may fail, for proofs of values and messages.
-use Rattle.std.proofs.Common.{◌≡◌, ℕ, ◌<◌, ◌⊎◌, Bool, true, false, cond, eqb, List, length}
-use Rattle.std.proofs.Common.{Result, Ok, Err, IsOk, is_ok, refl, sym, ap, ◌∙◌, inl, inr, arith}
+use Rattle.std.proofs.Common.{◌≡◌, ◌≢◌, ℕ, ◌<◌, Bool, true, false, cond, eqb, List, [], length}
+use Rattle.std.proofs.Common.{Result, Ok, Err, IsOk, is_ok, refl, sym, ap, subst, ◌∙◌, arith}
 use Rattle.std.proofs.lemmas.Bool.{eqb-true, eqb-false}
+use Rattle.std.proofs.lemmas.List.{nil_from_length}
 use Rattle.snmp_wire.specs.declared.ber.error.BerError.{BerError}
-use Rattle.snmp_wire.specs.ber.Reading.{◌>>=◌, checked}
+use Rattle.snmp_wire.specs.ber.Reading.{◌>>=◌, checked, fault_or}
 
 -- a reading that returned x
 abbrev pub done : {A : Type 0} → A → Result A BerError
@@ -16,6 +17,10 @@ failed e = Err e
 -- one reading returns one value
 pub ok_is : {A : Type 0} (x y : A) → done x ≡ done y → x ≡ y
 ok_is x y e = cc
+
+-- and fails by one fault
+pub err_is : {A : Type 0} (d e : BerError) → failed {A = A} d ≡ failed e → d ≡ e
+err_is d e h = cc
 
 -- what is right doesn't fail
 pub never_err : {A : Type 0} (r : Result A BerError) (e : BerError) → IsOk r → r ≡ Err e → ⊥
@@ -37,23 +42,11 @@ pub bind_ok : {A B : Type 0} (r : Result A BerError) (f : A → Result B BerErro
 bind_ok (Ok x) f y e = (x, refl, e)
 bind_ok (Err d) f y e = absurd cc
 
--- where two steps failed, the first did, or else the second
-pub bind_err : {A B : Type 0} (r : Result A BerError) (f : A → Result B BerError) (d : BerError)
-    → (r >>= f) ≡ Err d → (r ≡ Err d) ⊎ ((x : A) × (r ≡ Ok x) × (f x ≡ Err d))
-bind_err (Ok x) f d e = inr (x, refl, e)
-bind_err (Err c) f d e = inl (cc)
-
 -- a first step goes on alike by steps that are alike at its value
 pub bind_same : {A B : Type 0} (r : Result A BerError) (f g : A → Result B BerError)
     → ((x : A) → r ≡ Ok x → f x ≡ g x) → (r >>= f) ≡ (r >>= g)
 bind_same (Ok x) f g h = h x refl
 bind_same (Err d) f g h = refl
-
--- a test went one way or the other
-pub chosen : {A : Type 0} (b : Bool) (x y z : A)
-    → cond b x y ≡ z → ((b ≡ true) × (x ≡ z)) ⊎ ((b ≡ false) × (y ≡ z))
-chosen true x y z e = inl (refl, e)
-chosen false x y z e = inr (refl, e)
 
 -- where a value was returned, a test that fails by false was true
 pub passed : {A : Type 0} (b : Bool) (r : Result A BerError) (d : BerError) (y : A)
@@ -95,3 +88,72 @@ some_left octets is_empty e none =
 pub none_left : (octets : List ℕ) (is_empty : Bool)
     → is_empty ≡ eqb (length octets) 0 → is_empty ≡ true → length octets ≡ 0
 none_left octets is_empty e none = eqb-true (length octets) 0 (sym e ∙ none)
+
+-- ---- what a reading gives
+
+-- a value that is so, or a fault that is
+pub data Gives {A : Type 0} (is : A → Type 0) (fails : BerError → Type 0) : Result A BerError → Type 0
+  where
+    a_value : (x : A) → is x → Gives is fails (Ok x)
+    a_fault : (e : BerError) → fails e → Gives is fails (Err e)
+
+-- what is true of each value and of each fault is given
+pub gives : {A : Type 0} {is : A → Type 0} {fails : BerError → Type 0} (r : Result A BerError)
+    → ((x : A) → r ≡ Ok x → is x) → ((e : BerError) → r ≡ Err e → fails e) → Gives is fails r
+gives (Ok x) value fault = a_value x (value x refl)
+gives (Err e) value fault = a_fault e (fault e refl)
+
+-- and it is true of what was returned
+pub given : {A : Type 0} {is : A → Type 0} {fails : BerError → Type 0} {r : Result A BerError}
+    (x : A) → Gives is fails r → r ≡ Ok x → is x
+given {A} {is} x (a_value y h) e = subst is (ok_is y x e) h
+given x (a_fault d h) e = absurd cc
+
+pub failing : {A : Type 0} {is : A → Type 0} {fails : BerError → Type 0} {r : Result A BerError}
+    (e : BerError) → Gives is fails r → r ≡ Err e → fails e
+failing d (a_value y h) e = absurd cc
+failing {A} {is} {fails} d (a_fault c h) e = subst fails (err_is {A = A} c d e) h
+
+-- two steps give what the second gives from a value of the first
+pub gives_then : {A B : Type 0} {is : A → Type 0} {also : B → Type 0} {fails : BerError → Type 0}
+    {r : Result A BerError} (f : A → Result B BerError)
+    → Gives is fails r → ((x : A) → is x → Gives also fails (f x)) → Gives also fails (r >>= f)
+gives_then f (a_value x h) next = next x h
+gives_then f (a_fault e h) next = a_fault e h
+
+-- a test gives what either side does
+pub gives_either : {A : Type 0} {is : A → Type 0} {fails : BerError → Type 0}
+    {r s : Result A BerError} (b : Bool)
+    → (b ≡ true → Gives is fails r) → (b ≡ false → Gives is fails s)
+    → Gives is fails (cond b r s)
+gives_either true first second = first refl
+gives_either false first second = second refl
+
+-- what follows is given too
+pub gives_so : {A : Type 0} {is so : A → Type 0} {fails also : BerError → Type 0}
+    {r : Result A BerError}
+    → ((x : A) → is x → so x) → ((e : BerError) → fails e → also e) → Gives is fails r
+    → Gives so also r
+gives_so value fault (a_value x h) = a_value x (value x h)
+gives_so value fault (a_fault e h) = a_fault e (fault e h)
+
+-- a value is returned where no octets are left, and a fault where some are
+pub gives_all : {A : Type 0} {is : A → Type 0} {fails : BerError → Type 0} {r : Result A BerError}
+    (d : BerError) (rest : List ℕ) → Gives is fails r → (rest ≢ [] → fails d)
+    → Gives (λ x. is x × (rest ≡ [])) fails (cond (eqb (length rest) 0) r (Err d))
+gives_all d rest h left =
+    gives_either (eqb (length rest) 0)
+    (λ none. gives_so (λ x value. (value, nil_from_length rest (eqb-true (length rest) 0 none)))
+    (λ e fault. fault) h)
+    (λ some. a_fault d (left (λ none. eqb-false (length rest) 0 some (ap length none))))
+
+-- the fault of a reading, or another
+pub gives_fault : {A : Type 0} {is : A → Type 0} (fails : BerError → Type 0)
+    {r : Result A BerError} (d : BerError) → Gives is fails r → ((x : A) → is x → fails d)
+    → fails (fault_or r d)
+gives_fault fails d (a_value x h) other = other x h
+gives_fault fails d (a_fault e h) other = h
+
+-- nothing is said of the fault
+pub gives_any : {A : Type 0} (r : Result A BerError) → Gives (λ x. Unit {0}) (λ e. Unit {0}) r
+gives_any r = gives r (λ x e. tt) (λ d e. tt)

@@ -73,7 +73,7 @@ pub enum Value {
 }
 
 impl Value {
-    /// The same value, owned. It takes memory for the octets of a string, and can't fail for any
+    /// Owns a value. It takes memory for the octets of a string, and can't fail for any
     /// other value.
     pub fn from_ref(alloc: Global, value: &ValueRef<'_>) -> Result<Value, AllocError>
         ensures same_value { IfOk result (λ v. owned v ≡ datum value.now) }

@@ -8,7 +8,7 @@ pub split_at-requires-in-len4-up : goal.split_at-requires-in-len4-up
 split_at-requires-in-len4-up c =
     let octets = c.args.octets.now in
     let within : get_or octets 3 0 ≤ length (drop 4 octets) =
-    (short_name c.content_reading.ensures c.shortest_encodings.ensures (binding_in octets) c.requires.range octets c.requires.encoding
+    (short_name (binding_in octets) c.requires.range octets c.requires.encoding
     c.in-len4-up.len_at_least c.if-size-lt128.true c.if-name_size-lt128.true).0 in
     omega (arith, c.from.ensures, ap length c.split_at.ensures.back)
 
@@ -16,7 +16,7 @@ pub returns-in-len4-up : goal.returns-in-len4-up
 returns-in-len4-up c =
     let octets = c.args.octets.now in
     let short =
-    short_name c.content_reading.ensures c.shortest_encodings.ensures (binding_in octets) c.requires.range octets c.requires.encoding
+    short_name (binding_in octets) c.requires.range octets c.requires.encoding
     c.in-len4-up.len_at_least c.if-size-lt128.true c.if-name_size-lt128.true in
     ap identifier_of (
     c.split_at-in-len4-up.ensures.front

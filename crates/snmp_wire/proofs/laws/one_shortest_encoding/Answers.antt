@@ -2,4 +2,4 @@ use Rattle.snmp_wire.proofs.OneShortest.{only_shortest, written_is_shortest}
 use Rattle.snmp_wire.proofs.laws.one_shortest_encoding.Goals as goal
 
 pub returns : goal.returns
-returns c = record { written = written_is_shortest c.shortest_encodings.ensures; one = only_shortest c.shortest_encodings.ensures }
+returns c = record { written = written_is_shortest; one = only_shortest }

@@ -2,4 +2,4 @@ use Rattle.snmp_wire.proofs.OfType.{message_of_type}
 use Rattle.snmp_wire.proofs.laws.spelt_is_of_type.Goals as goal
 
 pub returns : goal.returns
-returns c = message_of_type c.shortest_encodings.ensures
+returns c = message_of_type

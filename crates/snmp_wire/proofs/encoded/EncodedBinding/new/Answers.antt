@@ -9,11 +9,11 @@ encoded-requires c = encodable (record { name = c.args.name.now; value = datum c
 
 pub invariant_of-result : goal.invariant_of-result
 invariant_of-result c =
-    is_kept c.content_reading.ensures c.shortest_encodings.ensures (record { name = c.args.name.now; value = datum c.args.value.now })
+    is_kept (record { name = c.args.name.now; value = datum c.args.value.now })
     (record { name = c.requires.name; value = c.requires.value }) (octets_of c.in_ok-octets.octets) c.in_ok-octets.ensures
 
 pub returns : goal.returns
 returns c =
     ap binding_in c.in_ok-octets.ensures
-    ∙ read_again c.content_reading.ensures c.shortest_encodings.ensures (record { name = c.args.name.now; value = datum c.args.value.now })
+    ∙ read_again (record { name = c.args.name.now; value = datum c.args.value.now })
     (record { name = c.requires.name; value = c.requires.value })

@@ -7,7 +7,7 @@ use Rattle.snmp_wire.proofs.encoded.EncodedBinding.read_into.Goals as goal
 pub new-requires : goal.new-requires
 new-requires c =
     let p : VarBind = binding_in (octets_of c.self.inside.octets) in
-    are_bindings c.content_reading.ensures c.shortest_encodings.ensures p c.self.invariant.range c.as_slice.result.now
+    are_bindings p c.self.invariant.range c.as_slice.result.now
     (c.as_slice.ensures ∙ c.self.invariant.encoding)
 
 one : (all : List VarBind) (p q : VarBind) (rest : List VarBind) (read : Bool) → all ≡ p ∷ []
@@ -19,7 +19,7 @@ pub returns : goal.returns
 returns c =
     let p : VarBind = binding_in (octets_of c.self.inside.octets) in
     let whole : c.new.result ≡ p ∷ [] = c.new.ensures
-    ∙ one_binding c.content_reading.ensures c.shortest_encodings.ensures p c.self.invariant.range c.as_slice.result.now
+    ∙ one_binding p c.self.invariant.range c.as_slice.result.now
     (c.as_slice.ensures ∙ c.self.invariant.encoding) in
     one c.new.result p (var_bind c.read_next.new.into) c.read_next.new.self c.read_next.result whole c.read_next.ensures.some
     (λ no. (c.read_next.ensures.none no).0)

@@ -3,10 +3,11 @@ use Rattle.snmp_wire.specs.Message.{VarBind}
 use Rattle.snmp_wire.specs.Reading.{fields}
 use Rattle.snmp_wire.specs.ber.Spelling.{value_tag}
 use Rattle.snmp_wire.proofs.BindingLemmas.{value_of, with_fields}
-use Rattle.snmp_wire.proofs.ValueLaws.{value_takes}
+use Rattle.snmp_wire.specs.ber.ReadingLaws.{given}
+use Rattle.snmp_wire.proofs.ValueLaws.{value_gives}
 use Rattle.snmp_wire.proofs.binding.lent.BindingRef.tag.Goals as goal
 
 pub returns : goal.returns
 returns c =
     let f = fields c.self.inside.fields in
-    sym (value_takes f.tag f.content _ (value_of f _ (with_fields f c.self.invariant))).is_tag ∙ ap (λ (b : VarBind). value_tag b.value) c.self.view_is
+    sym (given _ (value_gives f.tag f.content) (value_of f _ (with_fields f c.self.invariant))).is_tag ∙ ap (λ (b : VarBind). value_tag b.value) c.self.view_is

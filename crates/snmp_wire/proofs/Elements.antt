@@ -1,0 +1,130 @@
+-- Elements in a row, of values or around other elements: the form of bindings, PDUs and messages. How
+-- such a row is spelt and written, and that no spelling of it is shorter, is said and proved once.
+use Rattle.std.proofs.Common.{◌≡◌, ℕ, ◌^◌, ◌<◌, ◌≤◌, List, [], ◌++◌, length, refl, ap, subst, ◌∙◌}
+use Rattle.std.proofs.Common.{arith, length-append}
+use Rattle.std.proofs.lemmas.List.Elements.{All-append, All-nil}
+use Rattle.snmp_wire.specs.ber.Canon.{canon_element, canon_value}
+use Rattle.snmp_wire.specs.ber.Length.{IsElement}
+use Rattle.snmp_wire.specs.ber.Number.{AreOctets, Form, lenient, strict}
+use Rattle.snmp_wire.specs.ber.Range.{IsInRange, IsOfType}
+use Rattle.snmp_wire.specs.ber.Spelling.{SpellsValue}
+use Rattle.snmp_wire.specs.ber.Value.{Datum}
+use Rattle.snmp_wire.proofs.BerOneShortest.{element_same, element_size, two_same, value_same}
+use Rattle.snmp_wire.proofs.LenientValues.{value_is_read}
+use Rattle.snmp_wire.proofs.ShortestValues.{Octets, back_octets, content_octets, element_shortest}
+use Rattle.snmp_wire.proofs.ShortestValues.{front_octets, value_shortest}
+use Rattle.snmp_wire.proofs.StrictValues.{element_octets, is_element, spells_value, value_octets}
+
+pub data Elements : Type 0 where
+  no_elements : Elements
+  value_then : Datum → Elements → Elements
+  element_then : ℕ → Elements → Elements → Elements
+
+-- the octets encode these elements in turn
+abbrev pub SpellsAll : Form → Elements → List ℕ → Type 0
+SpellsAll form no_elements octets = octets ≡ []
+SpellsAll form (value_then value more) octets =
+    (first : List ℕ) × (rest : List ℕ) × (octets ≡ first ++ rest) × SpellsValue form value first × SpellsAll form more rest
+SpellsAll form (element_then tag within more) octets =
+    (first : List ℕ) × (rest : List ℕ) × (octets ≡ first ++ rest) × (content : List ℕ) × IsElement tag content first
+    × SpellsAll form within content × SpellsAll form more rest
+
+-- the shortest encoding
+abbrev pub canon_all : Elements → List ℕ
+canon_all no_elements = []
+canon_all (value_then value more) = canon_value value ++ canon_all more
+canon_all (element_then tag within more) = canon_element tag (canon_all within) ++ canon_all more
+
+-- what has an encoding
+abbrev pub AreInRange : Elements → Type 0
+AreInRange no_elements = Unit {0}
+AreInRange (value_then value more) = IsInRange value × AreInRange more
+AreInRange (element_then tag within more) = (tag < 256) × (length (canon_all within) < 2 ^ 32) × AreInRange within × AreInRange more
+
+abbrev pub AreOfType : Elements → Type 0
+AreOfType no_elements = Unit {0}
+AreOfType (value_then value more) = IsOfType value × AreOfType more
+AreOfType (element_then tag within more) = AreOfType within × AreOfType more
+
+-- what is spelt by the standard is read
+pub are_read : (all : Elements) (octets : List ℕ) → SpellsAll strict all octets → SpellsAll lenient all octets
+are_read no_elements octets is = is
+are_read (value_then value more) octets (first, rest, parts, this, others) =
+    (first, rest, parts, value_is_read value first this, are_read more rest others)
+are_read (element_then tag within more) octets (first, rest, parts, content, element, inner, others) =
+    (first, rest, parts, content, element, are_read within content inner, are_read more rest others)
+
+-- what is written is spelt by the standard
+pub are_strict : (all : Elements) → AreInRange all → SpellsAll strict all (canon_all all)
+are_strict no_elements range = refl
+are_strict (value_then value more) (this, others) =
+    (canon_value value, canon_all more, refl, spells_value value this, are_strict more others)
+are_strict (element_then tag within more) (small, short, inner, others) = (
+  canon_element tag (canon_all within),
+  canon_all more,
+  refl,
+  canon_all within,
+  is_element tag (canon_all within) short,
+  are_strict within inner,
+  are_strict more others,
+)
+
+pub are_octets : (all : Elements) → AreInRange all → AreOctets (canon_all all)
+are_octets no_elements range = All-nil (λ octet. octet < 256)
+are_octets (value_then value more) (this, others) =
+    All-append (λ octet. octet < 256) (canon_value value) (canon_all more) (value_octets value this) (are_octets more others)
+are_octets (element_then tag within more) (small, short, inner, others) =
+    All-append (λ octet. octet < 256) (canon_element tag (canon_all within)) (canon_all more)
+    (element_octets tag (canon_all within) small (are_octets within inner)) (are_octets more others)
+
+-- no spelling by the standard is shorter
+pub are_shortest : (all : Elements) (octets : List ℕ) → Octets octets → SpellsAll strict all octets → length (canon_all all) ≤ length octets
+are_shortest no_elements octets h is = omega arith
+are_shortest (value_then value more) octets h (first, rest, parts, this, others) =
+    let both : Octets (first ++ rest) = subst Octets parts h in
+    omega (
+      arith,
+      ap length parts,
+      length-append first rest,
+      length-append (canon_value value) (canon_all more),
+      value_shortest value first (front_octets first rest both) this,
+      are_shortest more rest (back_octets first rest both) others,
+    )
+are_shortest (element_then tag within more) octets h (first, rest, parts, content, element, inner, others) =
+    let both : Octets (first ++ rest) = subst Octets parts h in
+    let whole : Octets first = front_octets first rest both in
+    let least = are_shortest within content (content_octets tag content first whole element) inner in
+    omega (
+      arith,
+      ap length parts,
+      length-append first rest,
+      length-append (canon_element tag (canon_all within)) (canon_all more),
+      element_shortest tag content (canon_all within) first whole element least,
+      are_shortest more rest (back_octets first rest both) others,
+    )
+
+-- and one that is no longer is the written one
+pub are_same : (all : Elements) (octets : List ℕ) → AreInRange all → Octets octets → SpellsAll strict all octets
+    → length octets ≤ length (canon_all all) → octets ≡ canon_all all
+are_same no_elements octets range h is short = is
+are_same (value_then value more) octets (small, range) h (first, rest, parts, this, others) short =
+    let both : Octets (first ++ rest) = subst Octets parts h in
+    let whole : Octets first = front_octets first rest both in
+    let behind : Octets rest = back_octets first rest both in
+    parts
+    ∙ two_same first rest (canon_value value) (canon_all more) (value_shortest value first whole this)
+    (are_shortest more rest behind others) (omega (arith, ap length parts, short))
+    (λ few. value_same value first small whole this few) (λ few. are_same more rest range behind others few)
+are_same (element_then tag within more) octets (small, fits, range, ranges) h (first, rest, parts, content, element, inner, others) short =
+    let both : Octets (first ++ rest) = subst Octets parts h in
+    let whole : Octets first = front_octets first rest both in
+    let behind : Octets rest = back_octets first rest both in
+    let inside : Octets content = content_octets tag content first whole element in
+    let made : List ℕ = canon_all within in
+    let least : length made ≤ length content = are_shortest within content inside inner in
+    parts
+    ∙ two_same first rest (canon_element tag made) (canon_all more) (element_shortest tag content made first whole element least)
+    (are_shortest more rest behind others) (omega (arith, ap length parts, short))
+    (λ few. element_same tag content made first fits whole element few
+    (are_same within content range inside inner (omega (arith, element_size tag content made first whole element least few))))
+    (λ few. are_same more rest ranges behind others few)
