@@ -118,7 +118,7 @@ fn append_single(draft: &mut Draft, format: OctetFormat, octet: u8)
 {
     match format {
         OctetFormat::Hexadecimal => append_octet_hexadecimal(draft, octet),
-        OctetFormat::Decimal => append_octet_decimal(draft, octet),
+        OctetFormat::Decimal => draft.number(u64::from(octet)),
         OctetFormat::Octal => append_base_8(draft, u64::from(octet)),
         OctetFormat::Text => draft.octet(octet),
     }
@@ -132,23 +132,6 @@ fn append_octet_hexadecimal(draft: &mut Draft, octet: u8)
         draft.octet(digit(octet));
     } else {
         draft.octets(&[digit(octet / 16), digit(octet % 16)]);
-    }
-}
-
-/// Appends an octet to the base 10.
-fn append_octet_decimal(draft: &mut Draft, octet: u8)
-    ensures { Adds draft.old (decimal octet) draft.new }
-{
-    if octet < 10 {
-        draft.octet(b'0' + octet);
-    } else if octet < 100 {
-        draft.octets(&[b'0' + octet / 10, b'0' + octet % 10]);
-    } else {
-        draft.octets(&[
-            b'0' + octet / 100,
-            b'0' + octet / 10 % 10,
-            b'0' + octet % 10,
-        ]);
     }
 }
 
