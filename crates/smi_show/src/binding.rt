@@ -78,12 +78,7 @@ pub fn line_near<T: ShowTree>(
         × (out.new.items ≡ out.old.items ++ text)) }
     ensures unchanged_on_error { OnErr result (out.new.items ≡ out.old.items) }
 {
-    let (node, syntax) = tree.deepest_with_syntax(name, near);
-    let found = Found {
-        node,
-        syntax,
-        below: None,
-    };
+    let found = tree.found_for(name, near);
     let mut draft = Draft::after(out);
     append_line(tree, letters, name, &found, value, &mut draft);
     draft.finish(out)

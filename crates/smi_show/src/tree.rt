@@ -1,7 +1,6 @@
 //! The tree of nodes that lines are shown by.
-ghost use Rattle.std.specs.Prelude.{◌≡◌, List, ℕ, Option, option_map};
+ghost use Rattle.std.specs.Prelude.{◌≡◌, List, ℕ, Option};
 ghost use Rattle.smi_value.specs.Syntax.{ObjectSyntax};
-ghost use Rattle.smi_show.specs.name.Standing.{standing_of};
 ghost use Rattle.smi_show.specs.Found.{IsFound, IsFoundBelow};
 
 use crate::details::DetailTree;
@@ -45,25 +44,9 @@ pub trait ShowTree: DetailTree {
     fn syntax(&self, oid: &Oid) -> Option<ValueSyntax<'_>>
         ensures { result ≡ syntax_at self.now oid.now };
 
-    /// What `deepest` and `syntax` return, by one search.
-    fn deepest_with_syntax(
-        &self,
-        oid: &Oid,
-        near: &mut Near,
-    ) -> (Option<Node<'_>>, Option<ValueSyntax<'_>>)
-        ensures node { option_map standing_of result.0 ≡ (Self.naming self.now).deepest oid.now }
-        ensures syntax { result.1 ≡ syntax_at self.now oid.now };
-
-    /// What `deepest_with_syntax` returns, and the identifier below which it returns the same.
+    /// What `deepest` and `syntax` return, by one search, and the identifier below which they return
+    /// the same.
     fn found_for(&self, oid: &Oid, near: &mut Near) -> Found<'_>
         ensures found { IsFound (Self.naming self.now) (syntax_at self.now) oid.now result }
-        ensures below { IsFoundBelow (Self.naming self.now) (syntax_at self.now) result }
-    {
-        let (node, syntax) = self.deepest_with_syntax(oid, near);
-        Found {
-            node,
-            syntax,
-            below: None,
-        }
-    }
+        ensures below { IsFoundBelow (Self.naming self.now) (syntax_at self.now) result };
 }

@@ -4,7 +4,7 @@ ghost use Rattle.std.specs.Option.{option_copied};
 ghost use Rattle.smi_show_tests.specs.names.Sample.{sample};
 
 use crate::names::Sample;
-use smi_show::{DetailTree, NameTree, Near, Node, ShowTree};
+use smi_show::{DetailTree, Found, NameTree, Near, Node, ShowTree};
 use smi_text::{Def, NamedNumber};
 use smi_value::{ValueBase, ValueSyntax};
 use snmp_oid::Oid;
@@ -95,11 +95,11 @@ impl ShowTree for Known<'_> {
         }
     }
 
-    fn deepest_with_syntax(
-        &self,
-        oid: &Oid,
-        _near: &mut Near,
-    ) -> (Option<Node<'_>>, Option<ValueSyntax<'_>>) {
-        (self.deepest(oid), self.syntax(oid))
+    fn found_for(&self, oid: &Oid, _near: &mut Near) -> Found<'_> {
+        Found {
+            node: self.deepest(oid),
+            syntax: self.syntax(oid),
+            below: None,
+        }
     }
 }

@@ -4,7 +4,6 @@ pub mod Bridging
 pub mod Childhood
 pub mod Syntaxes
 pub mod Reaching
-pub mod Placing
 pub mod Soundness
 pub mod Sounding
 pub mod Single

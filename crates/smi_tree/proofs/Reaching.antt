@@ -1,7 +1,7 @@
 -- The longest beginning of an identifier for which a node stands.
 use Rattle.std.proofs.Common.{◌≡◌, ◌≢◌, ℕ, zero, suc, ◌≤◌, ◌⊎◌, inl, inr, List, length, take}
-use Rattle.std.proofs.Common.{Option, Some, None, refl, arith}
-use Rattle.std.specs.Prelude.{MatchOption, ◌<◌}
+use Rattle.std.proofs.Common.{Option, Some, None, refl, sym, arith}
+use Rattle.std.specs.Prelude.{MatchOption, ◌<◌, option_map}
 use Rattle.std.proofs.lemmas.Bool.{cases_eq}
 use Rattle.smi_tree.specs.branches.Standing.{place_of, IsDeepestAt, HasNoBeginning}
 use Rattle.smi_names.specs.meaning.Meaning.{or_else}
@@ -53,6 +53,12 @@ up_to oids o (suc j) within above = by (place_of oids (take (suc j) o)) refl (up
         → Is (or_else (at_depth (suc j) r) (longest_up_to oids o j))
     by None e rest = rest (λ k more l. elim (cases_eq k (suc j)) [ inl same ↦ rw same e | inr other ↦ above k (omega arith) l ])
     by (Some place) e rest = record { within = within; here = e; none_longer = above }
+
+-- what is found is the longest
+pub longest-found : {D : Type 0} (of : D → Longest) (oids : List (List ℕ)) (o : List ℕ) (r : Option D)
+    → MatchOption r (HasNoBeginning oids o) (λ d. IsDeepestAt oids o (of d).place (of d).depth) → option_map of r ≡ longest_up_to oids o (length o)
+longest-found of oids o None h = sym (longest-none oids o h)
+longest-found of oids o (Some d) at = sym (longest-some oids o (of d).place (of d).depth at)
 
 pub longest-is : (oids : List (List ℕ)) (o : List ℕ)
     → MatchOption (longest_up_to oids o (length o)) (HasNoBeginning oids o) (λ at. IsDeepestAt oids o at.place at.depth)

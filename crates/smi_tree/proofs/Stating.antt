@@ -6,7 +6,6 @@ use Rattle.smi_text.specs.declared.trees.tree.Base.{Base}
 use Rattle.smi_text.specs.declared.trees.tree.Base.TheVariants as B
 use Rattle.smi_text.specs.declared.trees.names.Name.{Name}
 use Rattle.smi_names.specs.meaning.Known.{KnownNames, content_named}
-use Rattle.smi_names.specs.declared.meaning.entry.Decider.TheVariants as D
 use Rattle.smi_tree.specs.types.Chain.{Layer}
 use Rattle.smi_tree.specs.types.Types.{base_in, name_in_base, name_in, origin_of_base}
 use Rattle.smi_tree.specs.types.Types.{origin_of_simple, layer}

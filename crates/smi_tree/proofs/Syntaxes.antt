@@ -1,6 +1,6 @@
 -- What is kept for the sources of nodes is their syntax.
 use Rattle.std.proofs.Common.{◌≡◌, ℕ, zero, suc, List, [], ◌∷◌, MatchOption, Option, Some, None}
-use Rattle.std.proofs.Common.{slice_index_or, length, refl, sym, ap, ◌∙◌, arith}
+use Rattle.std.proofs.Common.{slice_index_or, length, refl, sym, ap, arith}
 use Rattle.std.specs.List.{slice_get}
 use Rattle.std.specs.Option.{option_and_then}
 use Rattle.smi_text.specs.declared.trees.tree.Module.{Module}
@@ -15,14 +15,12 @@ use Rattle.smi_tree.specs.types.Chain.{TypeOrigin, no_type}
 use Rattle.smi_tree.specs.types.Types.{Facts, HasSyntax, HasNoSyntax, object_in, object_origin}
 use Rattle.smi_tree.specs.types.Kept.{kept_syntax, AreTypesOf}
 use Rattle.smi_tree.specs.declared.types.types.Types.{Types}
-use Rattle.smi_tree.specs.Places.{definition_from}
-use Rattle.smi_tree.specs.Shown.{IsSyntaxOf, AreSyntaxesOf, syntax_from, syntaxes_from, units_of}
-use Rattle.smi_tree.specs.Shown.{units_at}
+use Rattle.smi_tree.specs.Shown.{IsSyntaxOf, AreSyntaxesOf, syntax_from, syntaxes_from}
 use Rattle.smi_show.specs.declared.index.part.IndexPart.{IndexPart}
 use Rattle.smi_tree.specs.columns.Index.{AreIndexesOf}
 use Rattle.smi_tree.specs.Tree.{IsTree}
 use Rattle.smi_tree.specs.Kept.{contents}
-use Rattle.smi_tree.proofs.Bridging.{parts, node-none}
+use Rattle.smi_tree.proofs.Bridging.{parts}
 use Rattle.smi_tree.proofs.Following.{no_syntax}
 
 same_object : (ms : List Module) (i k : ℕ) → object_in (slice_get ms i) (gathered.def_of_module (slice_get ms i) k) ≡ object_origin ms i k
@@ -63,21 +61,6 @@ pub kept-none : (ms : List Module) (t : Types) (ss : List Source) (k : ℕ) → 
 kept-none ms t [] k e = refl
 kept-none ms t (s ∷ ss) zero e = absurd (cc)
 kept-none ms t (s ∷ ss) (suc k) e = kept-none ms t ss k e
-
--- UNITS of a node are those of its source's definition
-pub units-there : (ms : List Module) (ss : List Source) (os : List (List ℕ)) (k : ℕ) (s : Source) → length ss ≡ length os → slice_get ss k ≡ Some s
-    → units_at (nodes_of ms ss os) k ≡ option_and_then (λ d. units_of d.kind) (definition_from ms s)
-units-there ms [] os k s l e = absurd (cc)
-units-there ms (x ∷ ss) [] k s l e = absurd (omega (arith, l))
-units-there ms (x ∷ ss) (o ∷ os) zero s l e =
-    let same : x ≡ s = cc in
-    ap (λ n. option_and_then (λ d. units_of d.kind) n.definition) (parts ms x o)
-    ∙ ap (λ z. option_and_then (λ d. units_of d.kind) (definition_from ms z)) same
-units-there ms (x ∷ ss) (o ∷ os) (suc k) s l e = let h : length ss ≡ length os = omega (arith, l) in units-there ms ss os k s h e
-
-pub units-none : (ms : List Module) (ss : List Source) (os : List (List ℕ)) (k : ℕ) → length ss ≡ length os → slice_get ss k ≡ None
-    → units_at (nodes_of ms ss os) k ≡ None
-units-none ms ss os k l e = rw (node-none ms ss os k l e) refl
 
 -- what is gathered, with the types and indexes of the modules, is a tree
 pub is_tree : (ms : List Module) (g : Gathered) (t : Types) (os : List (List ℕ)) (indexes : List (Option (List IndexPart))) → AreGathered ms g ms

@@ -11,6 +11,7 @@ use Rattle.std.specs.Prelude.{
   [],
   ◌∷◌,
   ◌++◌,
+  drop,
   ◌<◌,
   max,
   unwrap_or,
@@ -48,6 +49,10 @@ place_in_module nodes home label = position_from (is_of home label) 0 nodes
 -- the first node of the label
 abbrev pub place_anywhere : List Node → List ℕ → Option ℕ
 place_anywhere nodes label = position_from (has_label label) 0 nodes
+
+-- the first node of the label from a place on, for private clauses
+abbrev pub first_labelled : List ℕ → ℕ → List Node → Option ℕ
+first_labelled label k nodes = position_from (has_label label) k (drop k nodes)
 
 -- the identifiers of nodes
 abbrev pub oids_of : List Node → List (List ℕ)

@@ -1,5 +1,5 @@
 //! The tree as names are read and shown by it.
-ghost use Rattle.std.specs.Prelude.{◌≡◌, ◌<◌, length, Some};
+ghost use Rattle.std.specs.Prelude.{◌≡◌, option_map};
 ghost use Rattle.std.specs.Option.{option_copied};
 ghost use Rattle.smi_show.specs.name.Standing.{standing_of as seen_as};
 ghost use Rattle.smi_names.specs.nodes.Nodes.{roots};
@@ -16,16 +16,17 @@ use snmp_oid::Oid;
 
 impl Tree {
     /// The node at a place, as names see it, with the length of its identifier.
-    pub(crate) fn seen(&self, deepest: Deepest) -> Node<'_>
-        requires { deepest.place < length self.now.nodes }
-        ensures { Some (seen_as result) ≡ standing_of_longest self.now (longest_of deepest) }
+    pub(crate) fn seen(&self, deepest: Deepest) -> Option<Node<'_>>
+        ensures { option_map seen_as result ≡ standing_of_longest self.now (longest_of deepest) }
     {
-        let node = self.node(deepest.place);
-        Node {
-            home: home_name(node.home),
-            label: node.label,
-            depth: deepest.depth,
-            index: self.index_of(deepest.place),
+        match self.node_at(deepest.place) {
+            Some(node) => Some(Node {
+                home: home_name(node.home),
+                label: node.label,
+                depth: deepest.depth,
+                index: self.index_of(deepest.place),
+            }),
+            None => None,
         }
     }
 }
@@ -81,14 +82,14 @@ impl NameTree for Tree {
 
     fn deepest(&self, oid: &Oid) -> Option<Node<'_>> {
         match self.deepest(oid) {
-            Some(deepest) => Some(self.seen(deepest)),
+            Some(deepest) => self.seen(deepest),
             None => None,
         }
     }
 
     fn deepest_near(&self, oid: &Oid, near: &mut Near) -> Option<Node<'_>> {
         match self.deepest_near(oid, near) {
-            Some(deepest) => Some(self.seen(deepest)),
+            Some(deepest) => self.seen(deepest),
             None => None,
         }
     }

@@ -142,14 +142,6 @@ impl ShowTree for Roots {
         None
     }
 
-    fn deepest_with_syntax(
-        &self,
-        oid: &Oid,
-        _near: &mut Near,
-    ) -> (Option<Node<'_>>, Option<ValueSyntax<'_>>) {
-        (self.deepest(oid), self.syntax(oid))
-    }
-
     fn found_for(&self, oid: &Oid, _near: &mut Near) -> Found<'_> {
         Found {
             node: self.deepest(oid),

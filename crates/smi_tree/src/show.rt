@@ -1,6 +1,6 @@
 //! The tree as values are shown by it.
 use crate::tree::Tree;
-use smi_show::{Found, Near, Node, ShowTree};
+use smi_show::{Found, Near, ShowTree};
 use smi_value::ValueSyntax;
 use snmp_oid::Oid;
 
@@ -16,21 +16,10 @@ impl ShowTree for Tree {
         }
     }
 
-    fn deepest_with_syntax(
-        &self,
-        oid: &Oid,
-        near: &mut Near,
-    ) -> (Option<Node<'_>>, Option<ValueSyntax<'_>>) {
-        match self.deepest_near(oid, near) {
-            Some(deepest) => (Some(self.seen(deepest)), self.value_syntax(deepest.place)),
-            None => (None, None),
-        }
-    }
-
     fn found_for(&self, oid: &Oid, near: &mut Near) -> Found<'_> {
         match self.deepest_near(oid, near) {
             Some(deepest) => Found {
-                node: Some(self.seen(deepest)),
+                node: self.seen(deepest),
                 syntax: self.value_syntax(deepest.place),
                 below: self.last_on_way(deepest.place, near),
             },

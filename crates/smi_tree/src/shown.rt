@@ -1,12 +1,10 @@
 //! The syntax of objects as values are shown by it.
 ghost use Rattle.std.specs.Prelude.{◌≡◌, option_map};
-ghost use Rattle.std.specs.Option.{option_and_then, option_copied};
+ghost use Rattle.std.specs.Option.{option_copied};
 ghost use Rattle.smi_tree.specs.types.Kept.{facts_of};
-ghost use Rattle.smi_tree.specs.Places.{definition_from};
 ghost use Rattle.smi_tree.specs.Shown.{syntax_from};
 ghost use Rattle.smi_tree.specs.Shown.{value_base, between_quotes, units_of, shown_syntax};
 
-use crate::node::definition;
 use crate::types::{TypeSyntax, Types};
 use smi_names::{Source, TypeBase};
 use smi_text::{DefKind, Module, Text};
@@ -40,7 +38,7 @@ fn between_quotes(text: &Text) -> &[u8]
 }
 
 /// UNITS of an OBJECT-TYPE, if it has them.
-fn units_of(kind: &DefKind) -> Option<&Text>
+pub(crate) fn units_of(kind: &DefKind) -> Option<&Text>
     ensures { option_copied result ≡ units_of kind.now }
 {
     match kind {
@@ -84,16 +82,5 @@ pub(crate) fn syntax<'a>(
     match source {
         Source::Root(_) => None,
         Source::Definition(place, k) => types.kept(modules, place, k),
-    }
-}
-
-/// UNITS of the object of a source, if it has them.
-pub(crate) fn units(modules: &[Module], source: Source) -> Option<&Text>
-    ensures { option_copied result
-        ≡ option_and_then (λ d. units_of d.kind) (definition_from modules.now source) }
-{
-    match definition(modules, source) {
-        Some(def) => units_of(&def.kind),
-        None => None,
     }
 }

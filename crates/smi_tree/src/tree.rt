@@ -1,7 +1,7 @@
 //! The tree of names, and what it is asked for.
 ghost use Rattle.std.specs.Prelude.{◌≡◌, ◌<◌, ℕ, List, length, Some, None, IfOk, MatchOption};
 ghost use Rattle.std.specs.Prelude.{IfSome};
-ghost use Rattle.std.specs.Prelude.{is_some, false, option_map, slice_index_or};
+ghost use Rattle.std.specs.Prelude.{◌+◌, is_some, option_map, slice_index_or};
 ghost use Rattle.std.specs.Option.{option_and_then, option_copied};
 ghost use Rattle.std.specs.List.{slice_get};
 ghost use Rattle.smi_tree.specs.branches.Children.{places_left};
@@ -9,11 +9,13 @@ ghost use Rattle.smi_tree.specs.branches.Standing.{AreChildren, HasNoBeginning, 
 ghost use Rattle.smi_tree.specs.branches.Standing.{HasNoneBelow, oid_at};
 ghost use Rattle.smi_names.specs.meaning.Meaning.{module_named};
 ghost use Rattle.smi_tree.specs.Nodes.{IsFirstChild, is_labelled, oids_of, place_anywhere};
-ghost use Rattle.smi_tree.specs.Nodes.{place_in_module, is_of_module};
+ghost use Rattle.smi_tree.specs.Nodes.{place_in_module, is_of_module, first_labelled};
+ghost use Rattle.smi_names.specs.nodes.Nodes as nodes;
 ghost use Rattle.smi_tree.specs.types.Kept.{facts_of};
 ghost use Rattle.smi_tree.specs.Resolved.{IsResolved};
 ghost use Rattle.smi_tree.specs.Shown.{shown_at, units_at};
 ghost use Rattle.smi_tree.specs.Naming.{oid_of};
+ghost use Rattle.smi_tree.specs.Standing.{longest, longest_of};
 ghost use Rattle.smi_tree.specs.Tree.{IsTree, seen_node};
 ghost use Rattle.smi_names.specs.declared.nodes.warning.Warning.{Warning};
 
@@ -21,7 +23,7 @@ use crate::branches::{Children, Deepest, Identifiers};
 use crate::columns::Indexes;
 use crate::node::{Node, at, definition, home, label};
 use crate::places::{LabelPlaces, Places, find, homes, labels};
-use crate::shown::{syntax, units, value_syntax};
+use crate::shown::{syntax, units_of, value_syntax};
 use crate::types::{TypeSyntax, Types};
 use smi_names::{NameHash, Names, Source, Warning, gather_nodes};
 use smi_show::{IndexPart, Near};
@@ -50,8 +52,8 @@ pub struct Tree {
     homes: Places,
     /// The first node of each label.
     labels: Places,
-    /// For each module, the first node there of each label whose first node is elsewhere.
-    scopes: Vec<Places>,
+    /// For each node the next one of its label.
+    next: Vec<Option<usize>>,
     /// The types of the modules.
     types: Types,
     /// The index of each node.
@@ -69,7 +71,7 @@ impl Model for Tree {
 
     ghost invariant = { λ s.
         IsTreeKept s.modules.items s.sources.items s.identifiers s.types s.indexes s.homes s.labels
-        s.scopes.items };
+        s.next.items };
 }
 
 /// What modules define, resolved.
@@ -125,14 +127,14 @@ impl Tree {
             warnings,
         } = resolve(alloc, hash, &modules)?;
         let homes = homes(alloc, hash, &modules)?;
-        let LabelPlaces { labels, scopes } = labels(alloc, hash, &modules, &homes, &sources)?;
+        let LabelPlaces { labels, next } = labels(alloc, hash, &modules, &sources)?;
         let tree = Tree {
             modules,
             sources,
             identifiers,
             homes,
             labels,
-            scopes,
+            next,
             types,
             indexes,
         };
@@ -181,13 +183,29 @@ impl Tree {
         self.indexes.get(id)
     }
 
+    /// The node at a place, if there is one. Parts that a caller doesn't read aren't looked up where
+    /// this stands in its place.
+    #[inline(always)]
+    pub(crate) fn node_at(&self, id: NodeId) -> Option<Node<'_>>
+        ensures { option_map seen_node result ≡ slice_get self.now.nodes id }
+    {
+        if id < self.len() {
+            Some(self.node(id))
+        } else {
+            None
+        }
+    }
+
     /// The identifier of a node that was found.
     pub(crate) fn found(&self, place: Option<NodeId>) -> Option<&Oid>
         ensures { option_copied result ≡ oid_of self.now.nodes place }
     {
         match place {
-            Some(id) if id < self.identifiers.len() => Some(self.identifiers.get(id)),
-            _ => None,
+            Some(id) => match self.node_at(id) {
+                Some(node) => Some(node.oid),
+                None => None,
+            },
+            None => None,
         }
     }
 
@@ -196,8 +214,8 @@ impl Tree {
         ensures { option_copied result
             ≡ option_and_then (λ n. n.definition) (slice_get self.now.nodes id) }
     {
-        match at(&self.sources, id) {
-            Some(source) => definition(&self.modules, *source),
+        match self.node_at(id) {
+            Some(node) => node.definition,
             None => None,
         }
     }
@@ -213,8 +231,8 @@ impl Tree {
     fn units(&self, id: NodeId) -> Option<&Text>
         ensures { option_copied result ≡ units_at self.now.nodes id }
     {
-        match at(&self.sources, id) {
-            Some(source) => units(&self.modules, *source),
+        match self.definition_of(id) {
+            Some(def) => units_of(&def.kind),
             None => None,
         }
     }
@@ -240,41 +258,39 @@ impl Tree {
     pub fn find(&self, home: &[u8], label: &[u8]) -> Option<NodeId>
         ensures { result ≡ place_in_module self.now.nodes home.now label.now }
     {
-        // Most labels stand in one module alone: no map of that module is needed then.
-        let first = self.find_any(label)?;
-        if self.is_of(first, home) {
-            return Some(first);
+        // Most labels stand in one module alone.
+        let mut at = self.find_any(label);
+        'same: while let Some(id) = at {
+            if self.is_of(id, home) {
+                return Some(id);
+            }
+            at = self.next_of(id);
         }
-        self.find_elsewhere(home, label)
+        None
+    }
+
+    /// The next node of the label of a node.
+    fn next_of(&self, id: NodeId) -> Option<NodeId>
+        ensures { (n : nodes.Node) → slice_get self.now.nodes id ≡ Some n
+            → result ≡ first_labelled n.label (id + 1) self.now.nodes }
+    {
+        match at(&self.next, id) {
+            Some(next) => *next,
+            None => None,
+        }
     }
 
     /// Whether a node is of the module of a name.
     fn is_of(&self, id: NodeId, name: &[u8]) -> bool
         ensures { result ≡ is_of_module self.now.nodes name.now id }
     {
-        let Some(source) = at(&self.sources, id) else {
+        let Some(node) = self.node_at(id) else {
             return false;
         };
-        match home(&self.modules, *source) {
+        match node.home {
             Some(module) => module.name.as_bytes() == name,
             None => false,
         }
-    }
-
-    /// The first node of a label in the module of a name, if the first node of that label is of
-    /// another module.
-    fn find_elsewhere(&self, home: &[u8], label: &[u8]) -> Option<NodeId>
-        requires { (first : ℕ) → place_anywhere self.now.nodes label.now ≡ Some first
-            → is_of_module self.now.nodes home.now first ≡ false }
-        ensures { result ≡ place_in_module self.now.nodes home.now label.now }
-    {
-        let Some(place) = find(&self.homes, home) else {
-            return None;
-        };
-        let Some(scope) = at(&self.scopes, place) else {
-            return None;
-        };
-        find(scope, label)
     }
 
     /// The first node of a label, the roots before all others.
@@ -287,9 +303,10 @@ impl Tree {
     /// The node that stands for the longest beginning of an identifier, with the length of that
     /// beginning. What follows it is the rest.
     pub fn deepest(&self, oid: &Oid) -> Option<Deepest>
-        ensures { MatchOption result (HasNoBeginning (oids_of self.now.nodes) oid.now)
+        ensures deepest { MatchOption result (HasNoBeginning (oids_of self.now.nodes) oid.now)
             (λ deepest. IsDeepestAt (oids_of self.now.nodes) oid.now deepest.place
             deepest.depth) }
+        ensures longest { option_map longest_of result ≡ longest self.now.nodes oid.now }
     {
         self.identifiers.deepest(oid)
     }
@@ -297,9 +314,10 @@ impl Tree {
     /// The same, by a search that begins at the node of the last one, if the identifier is below
     /// it.
     pub(crate) fn deepest_near(&self, oid: &Oid, near: &mut Near) -> Option<Deepest>
-        ensures { MatchOption result (HasNoBeginning (oids_of self.now.nodes) oid.now)
+        ensures deepest { MatchOption result (HasNoBeginning (oids_of self.now.nodes) oid.now)
             (λ deepest. IsDeepestAt (oids_of self.now.nodes) oid.now deepest.place
             deepest.depth) }
+        ensures longest { option_map longest_of result ≡ longest self.now.nodes oid.now }
     {
         self.identifiers.deepest_near(oid, &mut near.place)
     }
@@ -337,8 +355,8 @@ impl Tree {
     fn has_label(&self, id: NodeId, name: &[u8]) -> bool
         ensures { result ≡ is_labelled self.now.nodes name.now id }
     {
-        match at(&self.sources, id) {
-            Some(source) => label(&self.modules, *source) == name,
+        match self.node_at(id) {
+            Some(node) => node.label == name,
             None => false,
         }
     }

@@ -194,23 +194,8 @@ fn value_text(part: IndexPart, value: &[u32], draft: &mut Draft)
 fn number_text(number: u64, draft: &mut Draft)
     ensures { Adds draft.old (codes "." ++ decimal number) draft.new }
 {
-    if number < 10 {
-        draft.octets(&[b'.', b'0' + number as u8]);
-    } else if number < 100 {
-        draft.octets(&[b'.', b'0' + (number / 10) as u8, b'0' + (number % 10) as u8]);
-    } else if number < 1000 {
-        let ones = b'0' + (number % 10) as u8;
-        let tens = number / 10;
-        draft.octets(&[
-            b'.',
-            b'0' + (tens / 10) as u8,
-            b'0' + (tens % 10) as u8,
-            ones,
-        ]);
-    } else {
-        draft.octet(b'.');
-        draft.number(number);
-    }
+    draft.octet(b'.');
+    draft.number(number);
 }
 
 /// Puts the numbers at the front into the room, four at a time, as long as they have one digit, and

@@ -1,4 +1,4 @@
-use Rattle.std.proofs.Common.{◌≡◌, ℕ, Bool, List, refl, subst, ap, sym}
+use Rattle.std.proofs.Common.{◌≡◌, ℕ, Bool, List, refl, subst}
 use Rattle.snmp_io.specs.draft.Draft.{Adds}
 use Rattle.smi_value.specs.declared.letters.letters.NameForm.{NameForm}
 use Rattle.smi_value.specs.declared.letters.letters.NameForm.TheVariants.{Numeric, Full, Label}

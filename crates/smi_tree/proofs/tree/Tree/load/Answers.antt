@@ -12,7 +12,7 @@ invariant_of-tree c =
       tree = found.tree;
       homes = homes;
       labels = places.labels;
-      scopes = places.scopes;
+      next = places.next;
     }
 
 pub returns : goal.returns
