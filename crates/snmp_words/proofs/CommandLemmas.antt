@@ -1,16 +1,17 @@
 -- What follows of a command that has a stated shape.
 use Rattle.std.proofs.Common.{◌≡◌, ◌⊎◌, ◌&&◌, ap, ap₂, refl, sym, inl, inr, true, false, not, true≢false, Bool, List, [], ◌∷◌}
-use Rattle.std.proofs.Common.{Option, Some, None, Result, Ok, IfOk, subst, cond, option_map, IsSome, is_some, find, ◌∙◌}
-use Rattle.clap.specs.Built.{AddsSubcommand}
-use Rattle.clap.specs.Simple.{App, app_of, built, Shape, argument_words, entered, label_of, names_of, rows_at, with_subcommand}
-use Rattle.clap.specs.Walk.{Row, Text, answers_to, stop_after}
+use Rattle.std.proofs.Common.{Option, Some, None, Result, Ok, subst, cond, option_map, IsSome, is_some, find, ◌∙◌}
+use Rattle.clap.specs.Built.{AddsArg, AddsSubcommand}
+use Rattle.clap.specs.Simple.{App, app_of, built, Shape, argument_words, entered, label_of, names_of, rows_at, with_rule, with_subcommand}
+use Rattle.clap.specs.Walk.{Row, Rule, Text, answers_to, stop_after}
 use Rattle.clap.specs.Kinds.{IsAmong, Kinds}
 use Rattle.clap.specs.declared.error.ErrorKind.{ErrorKind}
 use Rattle.clap.specs.declared.error.ErrorKind.TheVariants.{OutOfMemory}
 use Rattle.clap.specs.Words.{has_subcommand, subcommand_of, subcommand_rows_of}
 use Rattle.clap.specs.declared.ArgMatches.{ArgMatches}
+use Rattle.clap.specs.declared.builder.arg.Arg.{Arg}
 use Rattle.clap.specs.declared.builder.command.Command.{Command}
-use Rattle.snmp_words.specs.Command.{snmp_app}
+use Rattle.snmp_words.specs.Command.{IsArg, IsMade, snmp_app}
 use Rattle.snmp_words.specs.Words.{HasFaultOf, IsMemory, StandsFor, stated_by, stated_in}
 use Rattle.snmp_words.specs.declared.UsageError.{UsageError}
 use Rattle.snmp_words.specs.declared.UsageError.TheVariants.{Memory, Parse}
@@ -29,13 +30,14 @@ subcommand_added command sub result a b adds is sub_is plain =
     adds.shape (plain_is_local _ _ _ _ (ap (λ (x : App). x.top.is_plain) sub_is ∙ plain))
     ∙ ap₂ with_subcommand is (ap (λ (x : App). x.top) sub_is)
 
--- and where it was made so
-pub subcommand_joined : {E : Type 0} (command result : Command) (made : Result Command E) (a b : App)
-    → (added : Command) × (made ≡ Ok added) × AddsSubcommand command added result → app_of command ≡ a
-    → IfOk made (λ sub. app_of sub ≡ b) → b.top.is_plain ≡ true → app_of result ≡ with_subcommand a b.top
-subcommand_joined command result made a b (added, is_added, adds) is sub_is plain =
-    subcommand_added command added result a b adds is
-    (let P : Result Command _ → Type 0 = λ r. IfOk r (λ sub. app_of sub ≡ b) in subst P is_added sub_is) plain
+-- what was made is the command that is there
+pub made : {E : Type 0} (m : Result Command E) (command : Command) (app : App) → m ≡ Ok command → IsMade m app → app_of command ≡ app
+made m command app e is = let P : Result Command _ → Type 0 = λ r. IsMade r app in subst P e is
+
+-- a command with an argument more
+pub arg_added : (command result : Command) (arg : Arg) (app : App) (rule : Rule) → AddsArg command arg result → app_of command ≡ app → IsArg arg rule
+    → app_of result ≡ with_rule app rule
+arg_added command result arg app rule adds is is_arg = adds.shape is_arg.1 ∙ ap₂ with_rule is is_arg.0
 
 is_some-map : {X Y : Type 0} (f : X → Y) (o : Option X) → is_some (option_map f o) ≡ is_some o
 is_some-map f None = refl

@@ -1,12 +1,13 @@
 -- The commands of the program in clap's terms: each has rules for its words.
-use Rattle.std.specs.Prelude.{◌++◌, ◌≡◌, ℕ, Bool, true, List, [], ◌∷◌, Some, codes, Result, IfOk}
+use Rattle.std.specs.Prelude.{◌++◌, ◌≡◌, ℕ, Bool, true, false, List, [], ◌∷◌, Some, codes, Result, IfOk}
 use Rattle.clap.specs.Faults.{fault_of}
 use Rattle.clap.specs.Kinds.{Kinds}
 use Rattle.clap.specs.Simple.{App, new_app, new_rule, on_top, with_rule, with_subcommand}
 use Rattle.clap.specs.Takes.{takes}
-use Rattle.clap.specs.Walk.{Rule, Text}
+use Rattle.clap.specs.Walk.{Rule, Text, rule_of}
 use Rattle.clap.specs.Words.{app_of}
 use Rattle.clap.specs.declared.builder.action.ArgAction.TheVariants.{Append}
+use Rattle.clap.specs.declared.builder.arg.Arg.{Arg}
 use Rattle.clap.specs.declared.builder.command.Command.{Command}
 use Rattle.clap.specs.declared.builder.value_parser.ValueParser.TheVariants.{Unsigned}
 
@@ -92,6 +93,10 @@ abbrev pub names_rule : Rule
 names_rule = repeated (required (one_text (codes "names")))
 
 -- ---- the commands
+
+-- the argument has this rule, and is of its command alone
+abbrev pub IsArg : Arg → Rule → Type 0
+IsArg arg rule = (rule_of arg ≡ rule) × (arg.global ≡ false)
 
 -- what was made, if memory sufficed, has these rules
 abbrev pub IsMade : {E : Type 0} → Result Command E → App → Type 0

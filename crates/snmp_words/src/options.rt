@@ -1,6 +1,5 @@
 //! The options and words of the commands, each with its help.
-ghost use Rattle.std.specs.Prelude.{◌≡◌, false};
-ghost use Rattle.clap.specs.Walk.{rule_of};
+ghost use Rattle.snmp_words.specs.Command.{IsArg};
 ghost use Rattle.snmp_words.specs.Command.{after_rule, agent_rule, community_rule, details_rule};
 ghost use Rattle.snmp_words.specs.Command.{letters_rule, listen_rule, mib_rule, name_rule};
 ghost use Rattle.snmp_words.specs.Command.{names_rule, protocol_rule, retries_rule, seconds_rule};
@@ -53,8 +52,7 @@ const AGENT_HELP: &str = "The agent\n\
 
 /// `--mib FILE`
 pub(crate) fn mib_option<'a>(alloc: Global) -> Arg<'a>
-    ensures rule { rule_of result ≡ mib_rule }
-    ensures local { result.global ≡ false }
+    ensures { IsArg result mib_rule }
 {
     Arg::new(alloc, "mib")
         .long("mib")
@@ -65,8 +63,7 @@ pub(crate) fn mib_option<'a>(alloc: Global) -> Arg<'a>
 
 /// `-O LETTERS`
 pub(crate) fn letters_option<'a>(alloc: Global) -> Arg<'a>
-    ensures rule { rule_of result ≡ letters_rule }
-    ensures local { result.global ≡ false }
+    ensures { IsArg result letters_rule }
 {
     Arg::new(alloc, "letters")
         .short('O')
@@ -77,8 +74,7 @@ pub(crate) fn letters_option<'a>(alloc: Global) -> Arg<'a>
 
 /// `-T LETTERS`
 pub(crate) fn details_option<'a>(alloc: Global) -> Arg<'a>
-    ensures rule { rule_of result ≡ details_rule }
-    ensures local { result.global ≡ false }
+    ensures { IsArg result details_rule }
 {
     Arg::new(alloc, "details")
         .short('T')
@@ -88,8 +84,7 @@ pub(crate) fn details_option<'a>(alloc: Global) -> Arg<'a>
 
 /// `-v VERSION`
 pub(crate) fn protocol_option<'a>(alloc: Global) -> Arg<'a>
-    ensures rule { rule_of result ≡ protocol_rule }
-    ensures local { result.global ≡ false }
+    ensures { IsArg result protocol_rule }
 {
     Arg::new(alloc, "protocol")
         .short('v')
@@ -99,8 +94,7 @@ pub(crate) fn protocol_option<'a>(alloc: Global) -> Arg<'a>
 
 /// `-c COMMUNITY`
 pub(crate) fn community_option<'a>(alloc: Global) -> Arg<'a>
-    ensures rule { rule_of result ≡ community_rule }
-    ensures local { result.global ≡ false }
+    ensures { IsArg result community_rule }
 {
     Arg::new(alloc, "community")
         .short('c')
@@ -110,8 +104,7 @@ pub(crate) fn community_option<'a>(alloc: Global) -> Arg<'a>
 
 /// `-r RETRIES`
 pub(crate) fn retries_option<'a>(alloc: Global) -> Arg<'a>
-    ensures rule { rule_of result ≡ retries_rule }
-    ensures local { result.global ≡ false }
+    ensures { IsArg result retries_rule }
 {
     Arg::new(alloc, "retries")
         .short('r')
@@ -122,8 +115,7 @@ pub(crate) fn retries_option<'a>(alloc: Global) -> Arg<'a>
 
 /// `-t SECONDS`
 pub(crate) fn seconds_option<'a>(alloc: Global) -> Arg<'a>
-    ensures rule { rule_of result ≡ seconds_rule }
-    ensures local { result.global ≡ false }
+    ensures { IsArg result seconds_rule }
 {
     Arg::new(alloc, "seconds")
         .short('t')
@@ -134,8 +126,7 @@ pub(crate) fn seconds_option<'a>(alloc: Global) -> Arg<'a>
 
 /// `--max-size OCTETS`
 pub(crate) fn size_option<'a>(alloc: Global) -> Arg<'a>
-    ensures rule { rule_of result ≡ size_rule }
-    ensures local { result.global ≡ false }
+    ensures { IsArg result size_rule }
 {
     Arg::new(alloc, "size")
         .long("max-size")
@@ -146,8 +137,7 @@ pub(crate) fn size_option<'a>(alloc: Global) -> Arg<'a>
 
 /// `-C LETTERS`
 pub(crate) fn walk_letters_option<'a>(alloc: Global) -> Arg<'a>
-    ensures rule { rule_of result ≡ walk_letters_rule }
-    ensures local { result.global ≡ false }
+    ensures { IsArg result walk_letters_rule }
 {
     Arg::new(alloc, "walk")
         .short('C')
@@ -158,8 +148,7 @@ pub(crate) fn walk_letters_option<'a>(alloc: Global) -> Arg<'a>
 
 /// `--after NAME`
 pub(crate) fn after_option<'a>(alloc: Global) -> Arg<'a>
-    ensures rule { rule_of result ≡ after_rule }
-    ensures local { result.global ≡ false }
+    ensures { IsArg result after_rule }
 {
     Arg::new(alloc, "after")
         .long("after")
@@ -169,8 +158,7 @@ pub(crate) fn after_option<'a>(alloc: Global) -> Arg<'a>
 
 /// `--table FILE`
 pub(crate) fn table_option<'a>(alloc: Global) -> Arg<'a>
-    ensures rule { rule_of result ≡ table_rule }
-    ensures local { result.global ≡ false }
+    ensures { IsArg result table_rule }
 {
     Arg::new(alloc, "table")
         .long("table")
@@ -181,8 +169,7 @@ pub(crate) fn table_option<'a>(alloc: Global) -> Arg<'a>
 
 /// `--listen HOST:PORT`
 pub(crate) fn listen_option<'a>(alloc: Global) -> Arg<'a>
-    ensures rule { rule_of result ≡ listen_rule }
-    ensures local { result.global ≡ false }
+    ensures { IsArg result listen_rule }
 {
     Arg::new(alloc, "listen")
         .long("listen")
@@ -192,8 +179,7 @@ pub(crate) fn listen_option<'a>(alloc: Global) -> Arg<'a>
 
 /// `--turns N`
 pub(crate) fn turns_option<'a>(alloc: Global) -> Arg<'a>
-    ensures rule { rule_of result ≡ turns_rule }
-    ensures local { result.global ≡ false }
+    ensures { IsArg result turns_rule }
 {
     Arg::new(alloc, "turns")
         .long("turns")
@@ -204,8 +190,7 @@ pub(crate) fn turns_option<'a>(alloc: Global) -> Arg<'a>
 
 /// `AGENT`
 pub(crate) fn agent_word<'a>(alloc: Global) -> Arg<'a>
-    ensures rule { rule_of result ≡ agent_rule }
-    ensures local { result.global ≡ false }
+    ensures { IsArg result agent_rule }
 {
     Arg::new(alloc, "agent")
         .value_name("AGENT")
@@ -215,8 +200,7 @@ pub(crate) fn agent_word<'a>(alloc: Global) -> Arg<'a>
 
 /// `[NAME]`
 pub(crate) fn name_word<'a>(alloc: Global) -> Arg<'a>
-    ensures rule { rule_of result ≡ name_rule }
-    ensures local { result.global ≡ false }
+    ensures { IsArg result name_rule }
 {
     Arg::new(alloc, "name").value_name("NAME").help(
         "The name of the root, such as .1.3.6.1.2.1.2.2; by default 1.3.6.1.2.1",
@@ -225,8 +209,7 @@ pub(crate) fn name_word<'a>(alloc: Global) -> Arg<'a>
 
 /// `NAME..`
 pub(crate) fn names_word<'a>(alloc: Global) -> Arg<'a>
-    ensures rule { rule_of result ≡ names_rule }
-    ensures local { result.global ≡ false }
+    ensures { IsArg result names_rule }
 {
     Arg::new(alloc, "names")
         .value_name("NAME")
