@@ -16,6 +16,7 @@ use Rattle.snmp_walk.specs.Ran.{IsFreshAndHonest}
 use Rattle.snmp_walk.specs.Room.{HasRoomForEach, HasIds}
 use Rattle.snmp_walk.specs.Traffic.{Lost, Traffic}
 use Rattle.snmp_walk.specs.Walker.{Walker}
+use Rattle.snmp_walk.specs.declared.end.SinkFault.TheVariants as sink
 use Rattle.snmp_walk.specs.declared.end.WalkEnd.{WalkEnd}
 use Rattle.snmp_walk.specs.declared.end.WalkEnd.TheVariants as ending
 use Rattle.snmp_walk.specs.declared.link.Link.{Ghosts as LinkFacts}
@@ -33,79 +34,29 @@ own_end : (end : WalkEnd) → IsDoneOrStopped end → IsOwnEnd (end_in_memory en
 own_end (ending.Done n) s = tt
 own_end (ending.Sink fault) s = tt
 own_end ending.Link s = tt
-own_end (ending.Fault status index) s = absurd s
-own_end (ending.NoProgress asked) s = absurd s
-own_end ending.BadReply s = absurd s
-own_end (ending.NotIncreasing last got) s = absurd s
-own_end ending.TooManyRequests s = absurd s
-own_end ending.RequestTooLong s = absurd s
-own_end ending.NoResponse s = absurd s
+own_end end s = absurd s
 
--- the same of the end that is reported
-lawful_in : (plan : Plan) (view : MibView) (core : Walker) (rows : List VarBind) (end : WalkEnd)
-    → IsLawfulEnd (agent_over plan view) (HasNone (agent_over plan view)) core rows end
-    → IsLawfulEnd (agent_over plan view) (HasNone (agent_over plan view)) core rows (end_in_memory end)
-lawful_in plan view core rows (ending.Done n) h = h
-lawful_in plan view core rows (ending.Sink fault) h = h
-lawful_in plan view core rows ending.Link h = h
-lawful_in plan view core rows (ending.Fault status index) h = h
-lawful_in plan view core rows (ending.NoProgress asked) h = h
-lawful_in plan view core rows ending.BadReply h = h
-lawful_in plan view core rows (ending.NotIncreasing last got) h = h
-lawful_in plan view core rows ending.TooManyRequests h = h
-lawful_in plan view core rows ending.RequestTooLong h = h
-lawful_in plan view core rows ending.NoResponse h = h
+-- what is true of an end is true of the one that is reported, if it is in place of a link's failure
+in_memory : (P : WalkEnd → Type 0) → (P ending.Link → P (ending.Sink sink.Memory)) → (end : WalkEnd) → P end → P (end_in_memory end)
+in_memory P moved ending.Link h = moved h
+in_memory P moved end h = h
 
 pub printed_in : (mib : Mib) (letters : Letters) (before after : Stream) (rows refused : List VarBind) (end : WalkEnd)
     → IsPrintedUpTo mib letters before rows refused end after → IsPrintedUpTo mib letters before rows refused (end_in_memory end) after
-printed_in mib letters before after rows refused (ending.Done n) h = h
-printed_in mib letters before after rows refused (ending.Sink fault) h = h
-printed_in mib letters before after rows refused ending.Link h = h
-printed_in mib letters before after rows refused (ending.Fault status index) h = h
-printed_in mib letters before after rows refused (ending.NoProgress asked) h = h
-printed_in mib letters before after rows refused ending.BadReply h = h
-printed_in mib letters before after rows refused (ending.NotIncreasing last got) h = h
-printed_in mib letters before after rows refused ending.TooManyRequests h = h
-printed_in mib letters before after rows refused ending.RequestTooLong h = h
-printed_in mib letters before after rows refused ending.NoResponse h = h
+printed_in mib letters before after rows refused = in_memory (λ (e : WalkEnd). IsPrintedUpTo mib letters before rows refused e after) (λ h. h)
 
 done_in : (end : WalkEnd) → IsDone (end_in_memory end) → IsDone end
-done_in (ending.Done n) h = h
-done_in (ending.Sink fault) h = h
-done_in ending.Link h = h
-done_in (ending.Fault status index) h = h
-done_in (ending.NoProgress asked) h = h
-done_in ending.BadReply h = h
-done_in (ending.NotIncreasing last got) h = h
-done_in ending.TooManyRequests h = h
-done_in ending.RequestTooLong h = h
-done_in ending.NoResponse h = h
+done_in end = in_memory (λ (e : WalkEnd). IsDone e → IsDone end) (λ f h. f h) end (λ h. h)
 
 no_link : (end : WalkEnd) → end_in_memory end ≡ ending.Link → ⊥
-no_link (ending.Done n) h = cc
-no_link (ending.Sink fault) h = cc
 no_link ending.Link h = cc
-no_link (ending.Fault status index) h = cc
-no_link (ending.NoProgress asked) h = cc
-no_link ending.BadReply h = cc
-no_link (ending.NotIncreasing last got) h = cc
-no_link ending.TooManyRequests h = cc
-no_link ending.RequestTooLong h = cc
-no_link ending.NoResponse h = cc
+no_link end h = cc
 
 -- an end tells of the number of rows given
 counts_rows : (plan : Plan) (view : MibView) (first : Walker) (rows : List VarBind) (end : WalkEnd)
     → IsLawfulEnd (agent_over plan view) (HasNone (agent_over plan view)) first rows end → Counts end (length rows)
 counts_rows plan view first rows (ending.Done n) h = h.5.0
-counts_rows plan view first rows (ending.Sink fault) h = tt
-counts_rows plan view first rows ending.Link h = tt
-counts_rows plan view first rows (ending.Fault status index) h = tt
-counts_rows plan view first rows (ending.NoProgress asked) h = tt
-counts_rows plan view first rows ending.BadReply h = tt
-counts_rows plan view first rows (ending.NotIncreasing last got) h = tt
-counts_rows plan view first rows ending.TooManyRequests h = tt
-counts_rows plan view first rows ending.RequestTooLong h = tt
-counts_rows plan view first rows ending.NoResponse h = tt
+counts_rows plan view first rows end h = tt
 
 -- no deliveries lose nothing
 none_used : (used left : List (Option ℕ)) (ahead : List (Option ℕ)) → ahead ≡ used ++ left → ahead ≡ [] → used ≡ []
@@ -146,16 +97,12 @@ module _ (plan : Plan) (view : MibView) (tries : ℕ) (old new : Traffic) (rows 
     ends_in : (why : WalkEnd) → end ≡ why
         → IsEndOfGet (IsTooBig (agent_over plan view) (request_for plan os) os) ⊥ (Unit {0}) (request_for plan os) os why
         → HasReason (names os) plan view rows (end_in_memory why)
-    ends_in (ending.Done n) e h = h
-    ends_in (ending.Fault status index) e h = h
     ends_in (ending.NoProgress asked) e h = absurd h
     ends_in ending.BadReply e h = absurd h
     ends_in (ending.NotIncreasing last next) e h = absurd h
     ends_in ending.TooManyRequests e h = absurd h
-    ends_in ending.RequestTooLong e h = h
     ends_in ending.NoResponse e h = unanswered (facts.lost_without_response e)
-    ends_in ending.Link e h = tt
-    ends_in (ending.Sink fault) e h = tt
+    ends_in why e h = h
 
     is_got : IsAsked plan (names os) view rows refused (end_in_memory end)
     is_got = record {
@@ -170,7 +117,7 @@ module _ (plan : Plan) (view : MibView) (tries : ℕ) (old new : Traffic) (rows 
       (facts : WalkFacts (agent_over plan view) tries old core rows refused end new) where
     lawful : IsLawfulEnd (agent_over plan view) (HasNone (agent_over plan view)) (first_of plan.community w) rows (end_in_memory end)
     lawful = subst (λ (c : Walker). IsLawfulEnd (agent_over plan view) (HasNone (agent_over plan view)) c rows (end_in_memory end)) from.is
-        (lawful_in plan view core rows end (facts.replied none))
+        (in_memory (IsLawfulEnd (agent_over plan view) (HasNone (agent_over plan view)) core rows) (λ h. h) end (facts.replied none))
 
     begins : (whole : List VarBind) → AreRowsAfter w.after w view whole
         → (got : VarBind) × IsGet view core.asked got × (whole ≡ rows_given w.after w got (variables view))

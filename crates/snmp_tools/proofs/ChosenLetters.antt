@@ -1,30 +1,29 @@
--- What is computed of the letters of -C is what the relations say, and they say one thing.
-use Rattle.std.proofs.Common.{◌≡◌, ◌⊎◌, inl, inr, ◌∙◌, ◌++◌, ◌≤◌, ℕ, Bool, true, false, List, []}
-use Rattle.std.proofs.Common.{◌∷◌, Option, Some, None, Result, Ok, Err}
-use Rattle.std.proofs.Common.{refl, sym, ap, subst, arith}
-use Rattle.std.proofs.lemmas.Bool.{eqb-true, eqb-false}
+-- The letters of -C, read one after the other, choose what the relations say, and these say one
+-- thing.
+use Rattle.std.proofs.Common.{◌≡◌, ◌⊎◌, inl, inr, ◌∙◌, ◌+◌, ◌-◌, ◌++◌, ◌<◌, ◌≤◌, ℕ, Bool, true, false, List}
+use Rattle.std.proofs.Common.{[], ◌∷◌, Option, Some, None, Result, Ok, Err, drop, length, slice_index_or, take}
+use Rattle.std.proofs.Common.{refl, sym, ap, subst, arith, append_assoc, append-nil, length-append}
+use Rattle.std.proofs.Math.Bool.{or-true}
+use Rattle.std.proofs.lemmas.Bool.{and_parts, eqb-true, eqb-false, or_from}
+use Rattle.std.proofs.lemmas.List.{drop_at, length-take-le, take-append-drop, take_at, take_rest}
 use Rattle.std.proofs.lemmas.Bool.Decides.{nat_tests}
 use Rattle.std.specs.Prelude.{◌&&◌, ◌||◌, ◌==◌, not, nat_le, if◌then◌else◌}
 use Rattle.std.specs.Char.{is_ascii_digit}
 use Rattle.std.specs.List.{list_all}
 use Rattle.std.specs.Str.Parse.{digits_value}
-use Rattle.snmp_io.specs.Steps.{AreDone, IsFirstToFail}
+use Rattle.snmp_io.specs.Steps.{AreDone}
 use Rattle.snmp_tools.specs.Letters.{AreLettersIn, AreRepetitions, Choices, HaveChosen}
 use Rattle.snmp_tools.specs.Letters.{IsFirstUnknown, IsKnown, IsLastNumber, IsPlain, IsUnknown}
 use Rattle.snmp_tools.specs.Letters.{has}
 use Rattle.snmp_tools.specs.Letters.{no_choices}
-use Rattle.snmp_tools.specs.Choosing.{after_part, after_parts, after_whole, choices_of}
-use Rattle.snmp_tools.specs.Choosing.{letter_parts, put, repetitions_in, with_letter, with_number}
-use Rattle.snmp_tools.specs.Choosing.{without_digits}
+use Rattle.snmp_tools.specs.Choosing.{after_part, letter_parts, put, repetitions_in, with_letter}
+use Rattle.snmp_tools.specs.Choosing.{with_number, without_digits}
+use Rattle.snmp_tools.proofs.LetterLemmas.{NoDigitFirst, at_most, at_place, no_digit_at}
 
 abbrev Part : Type 0
 Part = ℕ × List ℕ
 
 -- ---- letters in a text
-
-both : (a b : Bool) → (a && b) ≡ true → (a ≡ true) × (b ≡ true)
-both true b e = (refl, e)
-both false b e = let no : ⊥ = cc in absurd no
 
 -- digits, and letters after them
 abbrev Parted : List ℕ → List ℕ × List Part → Type 0
@@ -46,7 +45,7 @@ digits_before : (digits rest : List ℕ) (more : List Part) → list_all is_asci
     → letter_parts (digits ++ rest) ≡ (digits, more)
 digits_before [] rest more all e = e
 digits_before (d ∷ digits) rest more all e =
-    let here = both (is_ascii_digit d) (list_all is_ascii_digit digits) all in
+    let here = and_parts (is_ascii_digit d) (list_all is_ascii_digit digits) all in
     rw (digits_before digits rest more here.1 e, here.0) refl
 
 parts_of : (letters : List Part) (text : List ℕ) → AreLettersIn text letters → letter_parts text ≡ ([], letters)
@@ -179,127 +178,188 @@ part_is bulk (letter, digits) old = part_by digits old bulk letter (letter == 11
 
 -- ---- all letters
 
--- the number after the last `r`, or the one before
-abbrev NumberAfter : ℕ → List Part → ℕ → Type 0
-NumberAfter old letters n =
-    ((has 114 letters ≡ false) × (n ≡ old))
-    ⊎ ((before : List Part) × (digits : List ℕ) × (after : List Part) × (letters ≡ before ++ (114, digits) ∷ after) × (has 114 after ≡ false)
-    × AreRepetitions digits n)
+-- what is true of each step is true of one
+pub among : {S : Type 0} (P : S → Type 0) (before : List S) (step : S) (after : List S) → AreDone P (before ++ step ∷ after) → P step
+among P [] step after h = h.0
+among P (s ∷ before) step after h = among P before step after h.1
 
-record AllMore (letters : List Part) (old new : Choices) : Type 0 where
-  includes_root : new.includes_root ≡ (has 105 letters || old.includes_root)
-  counts : new.counts ≡ (has 112 letters || old.counts)
-  leaves_last_get : new.leaves_last_get ≡ (has 73 letters || old.leaves_last_get)
-  repetitions : NumberAfter old.repetitions letters new.repetitions
+pub both : {S : Type 0} (P : S → Type 0) (a b : List S) → AreDone P a → AreDone P b → AreDone P (a ++ b)
+both P [] b h k = k
+both P (s ∷ a) b h k = (h.0, both P a b h.1 k)
 
-turned : (a b c : Bool) → (b || (a || c)) ≡ ((a || b) || c)
+joined : (front back : List ℕ) (a b : List Part) → AreLettersIn front a → AreLettersIn back b → AreLettersIn (front ++ back) (a ++ b)
+joined front back [] b e are = subst (λ (t : List ℕ). AreLettersIn (t ++ back) b) (sym e) are
+joined front back ((letter, digits) ∷ a) b (rest, e, none, all, more) are = (
+  rest ++ back,
+  ap (λ (t : List ℕ). t ++ back) e ∙ ap (λ (t : List ℕ). letter ∷ t) (append_assoc digits rest back),
+  none,
+  all,
+  joined rest back a b more are,
+)
+
+-- a text that doesn't begin with a digit is letters
+has_letters : (text : List ℕ) → NoDigitFirst text → (letters : List Part) × AreLettersIn text letters
+has_letters [] none = ([], refl)
+has_letters (octet ∷ text) none = at (letter_parts text) (parted text)
+  where
+    at : (parts : List ℕ × List Part) → Parted text parts → (letters : List Part) × AreLettersIn (octet ∷ text) letters
+    at (front, letters) (rest, e, all, are) = ((octet, front) ∷ letters, (rest, ap (λ (t : List ℕ). octet ∷ t) e, none, all, are))
+
+turned : (a b c : Bool) → (a || (b || c)) ≡ (b || (a || c))
 turned true true c = refl
 turned true false c = refl
-turned false true c = refl
-turned false false c = refl
+turned false b c = refl
 
-number_more : (part : Part) (more : List Part) (old middle new : ℕ)
-    → ((part.0 ≡ 114) × AreRepetitions part.1 middle) ⊎ (((part.0 == 114) ≡ false) × (middle ≡ old)) → NumberAfter middle more new
-    → NumberAfter old (part ∷ more) new
-number_more part more old middle new one (inr (before, digits, after, e, none, are)) =
-    inr (part ∷ before, digits, after, ap (λ (ps : List Part). part ∷ ps) e, none, are)
-number_more (letter, digits) more old middle new (inl (r, are)) (inl (none, same)) =
-    inr ([], digits, more, ap (λ (n : ℕ). (n, digits) ∷ more) r, none, subst (AreRepetitions digits) (sym same) are)
-number_more (letter, digits) more old middle new (inr (other, was)) (inl (none, same)) = inl (rw (other, none) refl, same ∙ was)
+has_more : (x : ℕ) (letters : List Part) (part : Part) → has x (letters ++ part ∷ []) ≡ ((part.0 == x) || has x letters)
+has_more x [] part = refl
+has_more x (p ∷ letters) part = ap (λ (b : Bool). (p.0 == x) || b) (has_more x letters part) ∙ turned (p.0 == x) (part.0 == x) (has x letters)
 
-all_more : (part : Part) (more : List Part) (old middle new : Choices) → OneMore part old middle → AllMore more middle new → AllMore (part ∷ more) old new
-all_more part more old middle new one all = record {
-  includes_root = all.includes_root ∙ ap (λ (b : Bool). has 105 more || b) one.includes_root ∙ turned (part.0 == 105) (has 105 more) old.includes_root;
-  counts = all.counts ∙ ap (λ (b : Bool). has 112 more || b) one.counts ∙ turned (part.0 == 112) (has 112 more) old.counts;
-  leaves_last_get = all.leaves_last_get ∙ ap (λ (b : Bool). has 73 more || b) one.leaves_last_get
-      ∙ turned (part.0 == 73) (has 73 more) old.leaves_last_get;
-  repetitions = number_more part more old.repetitions middle.repetitions new.repetitions one.repetitions all.repetitions;
+last_more : (letters : List Part) (part : Part) (old new : ℕ) → IsLastNumber letters old
+    → ((part.0 ≡ 114) × AreRepetitions part.1 new) ⊎ (((part.0 == 114) ≡ false) × (new ≡ old)) → IsLastNumber (letters ++ part ∷ []) new
+last_more letters (letter, digits) old new last (inl (r, are)) =
+    inr (letters, digits, [], ap (λ (n : ℕ). letters ++ (n, digits) ∷ []) r, refl, are)
+last_more letters part old new (inl (none, ten)) (inr (other, same)) =
+    inl (has_more 114 letters part ∙ or_from (part.0 == 114) (has 114 letters) other none, same ∙ ten)
+last_more letters part old new (inr (before, digits, after, e, none, are)) (inr (other, same)) = inr (
+  before,
+  digits,
+  after ++ part ∷ [],
+  ap (λ (ps : List Part). ps ++ part ∷ []) e ∙ append_assoc before ((114, digits) ∷ after) (part ∷ []),
+  has_more 114 after part ∙ or_from (part.0 == 114) (has 114 after) other none,
+  subst (AreRepetitions digits) (sym same) are,
+)
+
+-- one letter more is read
+more_chosen : (bulk : Bool) (front : List ℕ) (letter : ℕ) (digits : List ℕ) (old new : Choices) → HaveChosen bulk front old
+    → is_ascii_digit letter ≡ false → list_all is_ascii_digit digits ≡ true → PartIs bulk (letter, digits) old (Ok new)
+    → HaveChosen bulk (front ++ letter ∷ digits) new
+more_chosen bulk front letter digits old new h none all (known, one) = record {
+  letters = h.letters ++ (letter, digits) ∷ [];
+  order = joined front (letter ∷ digits) h.letters ((letter, digits) ∷ []) h.order
+      ([], ap (λ (t : List ℕ). letter ∷ t) (sym (append-nil digits)), none, all, refl);
+  known = both (IsKnown bulk) h.letters ((letter, digits) ∷ []) h.known (known, tt);
+  includes_root = one.includes_root ∙ ap (λ (b : Bool). (letter == 105) || b) h.includes_root ∙ sym (has_more 105 h.letters (letter, digits));
+  counts = one.counts ∙ ap (λ (b : Bool). (letter == 112) || b) h.counts ∙ sym (has_more 112 h.letters (letter, digits));
+  leaves_last_get = one.leaves_last_get ∙ ap (λ (b : Bool). (letter == 73) || b) h.leaves_last_get ∙ sym (has_more 73 h.letters (letter, digits));
+  repetitions = last_more h.letters (letter, digits) old.repetitions new.repetitions h.repetitions one.repetitions;
 }
 
-abbrev AllIs : Bool → List Part → Choices → Result Choices ℕ → Type 0
-AllIs bulk letters old (Ok new) = AreDone (IsKnown bulk) letters × AllMore letters old new
-AllIs bulk letters old (Err octet) = IsFirstToFail letters (IsKnown bulk) (IsUnknown bulk) octet
+-- ---- a digit is no letter
 
-error_stays : (bulk : Bool) (letters : List Part) (octet : ℕ) → Err octet ≡ after_parts bulk letters (Err octet)
-error_stays bulk [] octet = refl
-error_stays bulk (part ∷ more) octet = refl
+plain_is_high : (bulk : Bool) (letter : ℕ) → IsPlain bulk letter → 57 < letter
+plain_is_high bulk letter (inl e) = omega (arith, e)
+plain_is_high bulk letter (inr (inl e)) = omega (arith, e)
+plain_is_high bulk letter (inr (inr (snmpwalk, e))) = omega (arith, e)
 
-all_are : (bulk : Bool) (letters : List Part) (old : Choices) → AllIs bulk letters old (after_parts bulk letters (Ok old))
-all_are bulk [] old = (tt, record { includes_root = refl; counts = refl; leaves_last_get = refl; repetitions = inl (refl, refl) })
-all_are bulk (part ∷ more) old = at (after_part bulk part old) (part_is bulk part old) (λ middle. all_are bulk more middle)
-  where
-    next : (middle : Choices) → PartIs bulk part old (Ok middle) → (result : Result Choices ℕ) → AllIs bulk more middle result
-        → AllIs bulk (part ∷ more) old result
-    next middle is (Ok new) h = ((is.0, h.0), all_more part more old middle new is.1 h.1)
-    next middle is (Err octet) h = record {
-      done = part ∷ h.done;
-      failed = h.failed;
-      left = h.left;
-      order = ap (λ (ps : List Part). part ∷ ps) h.order;
-      are_done = (is.0, h.are_done);
-      fails = h.fails;
-    }
+no_digit : (bulk : Bool) (letter : ℕ) (digits : List ℕ) → is_ascii_digit letter ≡ true → IsKnown bulk (letter, digits) → ⊥
+no_digit bulk letter digits digit (inl (is, none)) = omega (arith, plain_is_high bulk letter is, at_most letter digit)
+no_digit bulk letter digits digit (inr (is_bulk, r, number)) = omega (arith, r, at_most letter digit)
 
-    at : (read : Result Choices ℕ) → PartIs bulk part old read → ((middle : Choices) → AllIs bulk more middle (after_parts bulk more (Ok middle)))
-        → AllIs bulk (part ∷ more) old (after_parts bulk more read)
-    at (Ok middle) is later = next middle is (after_parts bulk more (Ok middle)) (later middle)
-    at (Err octet) is later =
-        let fails : IsFirstToFail (part ∷ more) (IsKnown bulk) (IsUnknown bulk) octet = record {
-          done = [];
-          failed = part;
-          left = more;
-          order = refl;
-          are_done = tt;
-          fails = is;
-        } in
-        subst (AllIs bulk (part ∷ more) old) (error_stays bulk more octet) fails
+digit_tells : (bulk : Bool) (letter : ℕ) (digits : List ℕ) (octet : ℕ) → is_ascii_digit letter ≡ true → IsUnknown bulk (letter, digits) octet → octet ≡ letter
+digit_tells bulk letter digits octet digit (inl (is, more)) = absurd (omega (arith, plain_is_high bulk letter is, at_most letter digit))
+digit_tells bulk letter digits octet digit (inr (not_plain, not_known, same)) = same
 
--- ---- a text
+-- ---- a text, letter by letter
 
-abbrev TextIs : Bool → List ℕ → Result Choices ℕ → Type 0
-TextIs bulk text (Ok choices) = HaveChosen bulk text choices
-TextIs bulk text (Err octet) = IsFirstUnknown bulk text octet
+-- the letters up to a place of a text choose this, and no digit follows them
+pub record AreReadTo (bulk : Bool) (text : List ℕ) (at : ℕ) (choices : Choices) : Type 0 where
+  pub chosen : HaveChosen bulk (take at text) choices
+  pub next : (at ≡ 0) ⊎ NoDigitFirst (drop at text)
 
-or_none : (b : Bool) → (b || false) ≡ b
-or_none true = refl
-or_none false = refl
+pub none_read : (bulk : Bool) (text : List ℕ) → AreReadTo bulk text 0 no_choices
+none_read bulk text = record {
+  chosen = record {
+    letters = [];
+    order = refl;
+    known = tt;
+    includes_root = refl;
+    counts = refl;
+    leaves_last_get = refl;
+    repetitions = inl (refl, refl);
+  };
+  next = inl refl;
+}
 
-text_is : (bulk : Bool) (text : List ℕ) → TextIs bulk text (choices_of bulk text)
-text_is bulk text = at (letter_parts text) (parted text)
-  where
-    by : (letters : List Part) → AreLettersIn text letters → (result : Result Choices ℕ) → AllIs bulk letters no_choices result → TextIs bulk text result
-    by letters are (Ok new) h = record {
-      letters = letters;
-      order = are;
-      known = h.0;
-      includes_root = h.1.includes_root ∙ or_none (has 105 letters);
-      counts = h.1.counts ∙ or_none (has 112 letters);
-      leaves_last_get = h.1.leaves_last_get ∙ or_none (has 73 letters);
-      repetitions = h.1.repetitions;
-    }
-    by letters are (Err octet) h = inr (letters, are, h)
+-- a letter at a place, with the digits after it
+module _ (bulk : Bool) (text : List ℕ) (at n : ℕ) (old : Choices) (rest : List ℕ) (low : at < length text)
+    (is : rest ≡ take (length text - (at + 1)) (drop (at + 1) text)) (within : n ≤ length rest) (all : list_all is_ascii_digit (take n rest) ≡ true)
+    (maximal : n < length rest → is_ascii_digit (slice_index_or rest n 0) ≡ false) (read : AreReadTo bulk text at old) where
+  abbrev Letter : ℕ
+  Letter = slice_index_or text at 0
 
-    at : (parts : List ℕ × List Part) → Parted text parts → TextIs bulk text (after_whole bulk no_choices parts)
-    at ([], letters) (rest, e, all, are) =
-        let here : AreLettersIn text letters = subst (λ (t : List ℕ). AreLettersIn t letters) (sym e) are in
-        by letters here (after_parts bulk letters (Ok no_choices)) (all_are bulk letters no_choices)
-    at (digit ∷ digits, letters) (rest, e, all, are) = inl (digits ++ rest, e, (both (is_ascii_digit digit) (list_all is_ascii_digit digits) all).0)
+  abbrev Front : List ℕ
+  Front = take at text ++ Letter ∷ take n rest
 
-pub have_chosen : (bulk : Bool) (text : List ℕ) (choices : Choices) → choices_of bulk text ≡ Ok choices → HaveChosen bulk text choices
-have_chosen bulk text choices e = subst (TextIs bulk text) e (text_is bulk text)
+  parts : text ≡ Front ++ drop n rest
+  parts =
+      let after : rest ≡ drop (at + 1) text = is ∙ take_rest text (at + 1) in
+      sym (take-append-drop at text)
+      ∙ ap (λ (t : List ℕ). take at text ++ t) (at_place text at low ∙ ap (λ (t : List ℕ). Letter ∷ t) (sym after ∙ sym (take-append-drop n rest)))
+      ∙ sym (append_assoc (take at text) (Letter ∷ take n rest) (drop n rest))
 
-pub is_unknown : (bulk : Bool) (text : List ℕ) (octet : ℕ) → choices_of bulk text ≡ Err octet → IsFirstUnknown bulk text octet
-is_unknown bulk text octet e = subst (TextIs bulk text) e (text_is bulk text)
+  size : length Front ≡ at + (1 + n)
+  size =
+      let front : length (take at text) ≡ at = length-take-le at text (omega arith) in
+      let digits : length (take n rest) ≡ n = length-take-le n rest within in
+      length-append (take at text) (Letter ∷ take n rest) ∙ omega arith
+
+  none_after : NoDigitFirst (drop n rest)
+  none_after = no_digit_at rest n maximal
+
+  no_digit_or_first : (is_ascii_digit Letter ≡ false) ⊎ ((at ≡ 0) × (is_ascii_digit Letter ≡ true))
+  no_digit_or_first = elim (read.next) [
+    | inl zero_at ↦ by (is_ascii_digit Letter) refl zero_at
+    | inr none ↦ inl (let P : List ℕ → Type 0 = λ t. NoDigitFirst t in subst P (at_place text at low) none)
+  ]
+    where
+      by : (b : Bool) → is_ascii_digit Letter ≡ b → at ≡ 0 → (is_ascii_digit Letter ≡ false) ⊎ ((at ≡ 0) × (is_ascii_digit Letter ≡ true))
+      by true e zero_at = inr (zero_at, e)
+      by false e zero_at = inl e
+
+  pub goes_on : (new : Choices) → after_part bulk (Letter, take n rest) old ≡ Ok new → AreReadTo bulk text (at + (1 + n)) new
+  goes_on new e = by no_digit_or_first (subst (PartIs bulk (Letter, take n rest) old) e (part_is bulk (Letter, take n rest) old))
+    where
+      by : (is_ascii_digit Letter ≡ false) ⊎ ((at ≡ 0) × (is_ascii_digit Letter ≡ true)) → PartIs bulk (Letter, take n rest) old (Ok new)
+          → AreReadTo bulk text (at + (1 + n)) new
+      by (inl none) part =
+          let P : List ℕ → Type 0 = λ t. HaveChosen bulk t new in
+          let Q : List ℕ → Type 0 = λ t. NoDigitFirst t in record {
+            chosen = subst P (sym (ap (take (at + (1 + n))) parts ∙ take_at Front (drop n rest) (at + (1 + n)) size))
+                (more_chosen bulk (take at text) Letter (take n rest) old new read.chosen none all part);
+            next = inr (subst Q (sym (ap (drop (at + (1 + n))) parts ∙ drop_at Front (drop n rest) (at + (1 + n)) size)) none_after);
+          }
+      by (inr (zero_at, digit)) part = absurd (no_digit bulk Letter (take n rest) digit part.0)
+
+  pub ends : (octet : ℕ) → after_part bulk (Letter, take n rest) old ≡ Err octet → IsFirstUnknown bulk text octet
+  ends octet e = by no_digit_or_first (subst (PartIs bulk (Letter, take n rest) old) e (part_is bulk (Letter, take n rest) old))
+    where
+      whole : text ≡ take at text ++ Letter ∷ (take n rest ++ drop n rest)
+      whole = parts ∙ append_assoc (take at text) (Letter ∷ take n rest) (drop n rest)
+
+      by : (is_ascii_digit Letter ≡ false) ⊎ ((at ≡ 0) × (is_ascii_digit Letter ≡ true)) → IsUnknown bulk (Letter, take n rest) octet
+          → IsFirstUnknown bulk text octet
+      by (inl none) fails =
+          let more = has_letters (drop n rest) none_after in
+          let are = joined (take at text) (Letter ∷ (take n rest ++ drop n rest)) read.chosen.letters ((Letter, take n rest) ∷ more.0) read.chosen.order
+          (drop n rest, refl, none, all, more.1) in
+          inr (
+            read.chosen.letters ++ (Letter, take n rest) ∷ more.0,
+            subst (λ (t : List ℕ). AreLettersIn t (read.chosen.letters ++ (Letter, take n rest) ∷ more.0)) (sym whole) are,
+            record { done = read.chosen.letters; failed = (Letter, take n rest); left = more.0; order = refl; are_done = read.chosen.known; fails = fails },
+          )
+      by (inr (zero_at, digit)) fails =
+          let same = digit_tells bulk Letter (take n rest) octet digit fails in
+          inl (
+            take n rest ++ drop n rest,
+            whole ∙ ap (λ (k : ℕ). take k text ++ Letter ∷ (take n rest ++ drop n rest)) zero_at ∙ ap (λ (o : ℕ). o ∷ (take n rest ++ drop n rest)) (sym same),
+            ap is_ascii_digit same ∙ digit,
+          )
 
 -- ---- one thing is chosen
 
-or_true : (a b : Bool) → b ≡ true → (a || b) ≡ true
-or_true true b e = refl
-or_true false b e = e
-
 has_in : (before : List Part) (digits : List ℕ) (after : List Part) → has 114 (before ++ (114, digits) ∷ after) ≡ true
 has_in [] digits after = refl
-has_in (part ∷ before) digits after = or_true (part.0 == 114) (has 114 (before ++ (114, digits) ∷ after)) (has_in before digits after)
+has_in (part ∷ before) digits after = ap (λ (b : Bool). (part.0 == 114) || b) (has_in before digits after) ∙ or-true (part.0 == 114)
 
 one_last : (b c : List Part) (d e : List ℕ) (x y : List Part) → b ++ (114, d) ∷ x ≡ c ++ (114, e) ∷ y → has 114 x ≡ false → has 114 y ≡ false → d ≡ e
 one_last [] [] d e x y same p q = let first : (114, d) ≡ (114, e) = cc in ap (λ (part : Part). part.1) first
@@ -326,24 +386,15 @@ one_number letters n m (inr (before, digits, after, e, none, are)) (inl k) =
 one_number letters n m (inr (b, d, x, e, none, are)) (inr (c, f, y, g, none_too, are_too)) =
     are.0 ∙ ap (digits_value 10) (one_last b c d f x y (sym e ∙ g) none none_too) ∙ sym are_too.0
 
-same_choices : (a b : Choices) → a.includes_root ≡ b.includes_root → a.leaves_last_get ≡ b.leaves_last_get → a.counts ≡ b.counts
-    → a.repetitions ≡ b.repetitions → a ≡ b
-same_choices a b root last counts repetitions =
-    ap (λ (x : Bool). record a { includes_root = x }) root
-    ∙ ap (λ (x : Bool). record a { includes_root = b.includes_root; leaves_last_get = x }) last
-    ∙ ap (λ (x : Bool). record b { counts = x; repetitions = a.repetitions }) counts
-    ∙ ap (λ (x : ℕ). record b { repetitions = x }) repetitions
-
 pub one_choice : (bulk : Bool) (text : List ℕ) (a b : Choices) → HaveChosen bulk text a → HaveChosen bulk text b → a ≡ b
 one_choice bulk text a b h k =
     let same : h.letters ≡ k.letters = one_list text h.letters k.letters h.order k.order in
-    same_choices a b (h.includes_root ∙ ap (has 105) same ∙ sym k.includes_root)
-    (h.leaves_last_get ∙ ap (has 73) same ∙ sym k.leaves_last_get) (h.counts ∙ ap (has 112) same ∙ sym k.counts)
-    (one_number k.letters a.repetitions b.repetitions (subst (λ (ls : List Part). IsLastNumber ls a.repetitions) same h.repetitions) k.repetitions)
-
-among : {S : Type 0} (P : S → Type 0) (before : List S) (step : S) (after : List S) → AreDone P (before ++ step ∷ after) → P step
-among P [] step after h = h.0
-among P (s ∷ before) step after h = among P before step after h.1
+    let last = subst (λ (ls : List Part). IsLastNumber ls a.repetitions) same h.repetitions in λ i. record {
+      includes_root = (h.includes_root ∙ ap (has 105) same ∙ sym k.includes_root) i;
+      leaves_last_get = (h.leaves_last_get ∙ ap (has 73) same ∙ sym k.leaves_last_get) i;
+      counts = (h.counts ∙ ap (has 112) same ∙ sym k.counts) i;
+      repetitions = one_number k.letters a.repetitions b.repetitions last k.repetitions i;
+    }
 
 known_or_not : (bulk : Bool) (part : Part) (octet : ℕ) → IsKnown bulk part → IsUnknown bulk part octet → ⊥
 known_or_not bulk (letter, digits) octet (inl (is, none)) (inl (is_too, (more, some))) = let no : ⊥ = cc in no

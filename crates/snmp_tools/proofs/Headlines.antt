@@ -80,42 +80,25 @@ want_told why before after err_before err_after status (table_want path e) told 
     (Some w) err_before err_after status) e told)
 
 -- a run that ended for no reason but its own, the output's or memory's
-own_told : (mib : Mib) (letters : Letters) (counts : Bool) (agent : List ℕ) (given turned : List VarBind) (end : WalkEnd) (before between after err_before
-    err_after : Stream)
-    (fault : Option Fault) (status : ℕ)
-    → IsOwnEnd end → IsPrintedUpTo mib letters before given turned end between → IsFinished agent end counts between after fault
-    → IsReported fault err_before err_after status
-    → (status ≡ 0) ⊎ Stops before after err_before err_after status
-own_told mib letters true agent given turned (ending.Done n) before between after err_before err_after fault status own printed (inl finish) told =
-    inl (subst (λ (f : Option Fault). IsReported f err_before err_after status) finish.1 told).0
-own_told mib letters true agent given turned (ending.Done n) before between after err_before err_after fault status own printed (inr (inl finish)) told =
-    inr (want_told out_of_memory before after err_before err_after status (plain_want refl) (subst (λ
-    (f : Option Fault). IsReported f err_before err_after status) finish.1 told))
-own_told mib letters true agent given turned (ending.Done n) before between after err_before err_after fault status own printed (inr (inr finish)) told =
-    let faults : between.faults ≡ before.faults = ap (λ (s : Stream). s.faults) printed.2 in
-    let risen = subst (λ (m : ℕ). HasRisen m after.faults) faults finish.0.counted in
-    inr ((subst (λ (f : Option Fault). IsReported f err_before err_after status) finish.1 told).0, inl risen)
-own_told mib letters false agent given turned (ending.Done n) before between after err_before err_after fault status own printed finish told =
-    inl (subst (λ (f : Option Fault). IsReported f err_before err_after status) finish.1 told).0
-own_told mib letters counts agent given turned (ending.Sink sink.Memory) before between after err_before err_after fault status own printed finish told =
-    inr (line_told (ended agent (ending.Sink sink.Memory)) before after err_before err_after status refl refl
-    (subst (λ (f : Option Fault). IsReported f err_before err_after status) finish.1 told))
-own_told mib letters counts agent given turned (ending.Sink sink.Output) before between after err_before err_after fault status own printed finish told =
-    inr (
-      (subst (λ (f : Option Fault). IsReported f err_before err_after status) finish.1 told).0,
-      inl (subst (λ (s : Stream). HasRisen before.faults s.faults) (sym finish.0) printed.4.counted),
-    )
-own_told mib letters counts agent given turned (ending.Fault a b) before between after err_before err_after fault status own printed finish told = absurd own
-own_told mib letters counts agent given turned (ending.NoProgress o) before between after err_before err_after fault status own printed finish told =
-    absurd own
-own_told mib letters counts agent given turned ending.BadReply before between after err_before err_after fault status own printed finish told = absurd own
-own_told mib letters counts agent given turned (ending.NotIncreasing last got) before between after err_before err_after fault status own printed finish told
-    = absurd own
-own_told mib letters counts agent given turned ending.TooManyRequests before between after err_before err_after fault status own printed finish told = absurd
-    own
-own_told mib letters counts agent given turned ending.RequestTooLong before between after err_before err_after fault status own printed finish told = absurd own
-own_told mib letters counts agent given turned ending.NoResponse before between after err_before err_after fault status own printed finish told = absurd own
-own_told mib letters counts agent given turned ending.Link before between after err_before err_after fault status own printed finish told = absurd own
+module _ (mib : Mib) (letters : Letters) (agent : List ℕ) (given turned : List VarBind) (before between after err_before err_after : Stream)
+    (fault : Option Fault) (status : ℕ) (told : IsReported fault err_before err_after status) where
+  told_of : (other : Option Fault) → fault ≡ other → IsReported other err_before err_after status
+  told_of other same = subst (λ (f : Option Fault). IsReported f err_before err_after status) same told
+
+  own_told : (counts : Bool) (end : WalkEnd) → IsOwnEnd end → IsPrintedUpTo mib letters before given turned end between
+      → IsFinished agent end counts between after fault → (status ≡ 0) ⊎ Stops before after err_before err_after status
+  own_told true (ending.Done n) own printed (inl finish) = inl (told_of None finish.1).0
+  own_told true (ending.Done n) own printed (inr (inl finish)) =
+      inr (want_told out_of_memory before after err_before err_after status (plain_want refl) (told_of (Some out_of_memory) finish.1))
+  own_told true (ending.Done n) own printed (inr (inr finish)) =
+      let faults : between.faults ≡ before.faults = ap (λ (s : Stream). s.faults) printed.2 in
+      let risen = subst (λ (m : ℕ). HasRisen m after.faults) faults finish.0.counted in inr ((told_of _ finish.1).0, inl risen)
+  own_told false (ending.Done n) own printed finish = inl (told_of None finish.1).0
+  own_told counts (ending.Sink sink.Memory) own printed finish =
+      inr (line_told (ended agent (ending.Sink sink.Memory)) before after err_before err_after status refl refl (told_of _ finish.1))
+  own_told counts (ending.Sink sink.Output) own printed finish =
+      inr ((told_of _ finish.1).0, inl (subst (λ (s : Stream). HasRisen before.faults s.faults) (sym finish.0) printed.4.counted))
+  own_told counts end own printed finish = absurd own
 
 module _ (one_table : (names : Names) (ls : List (List ℕ)) (v w : MibView) → IsTableOf names ls v → IsTableOf names ls w → v ≡ w)
     (no_fault : (names : Names) (ls : List (List ℕ)) (view : MibView) (fault : TableError) → IsTableOf names ls view → IsFirstFault names ls fault → fault ≡ table_error.Memory)
@@ -194,8 +177,8 @@ module _ (one_table : (names : Names) (ls : List (List ℕ)) (v w : MibView) →
             (subst (λ (f : Option Fault). IsReported f warned err status) is told))
         ends_by can fault (asked plan path view for over states sent printed same) err told =
             let feasible = over_table plan for (λ p v. IsFeasible p v) path view over states can in
-            own_told mib plan.letters (counts_in plan.question) words.asking.agent printed.given printed.refused printed.end before.out printed.between end.out
-            warned err fault status (printed.facts.complete feasible.room) printed.lines printed.finish told
+            own_told mib plan.letters words.asking.agent printed.given printed.refused before.out printed.between end.out warned err fault status told
+            (counts_in plan.question) printed.end (printed.facts.complete feasible.room) printed.lines printed.finish
         ends_by can fault (not_begun why last plan for where_begun is) err told =
             let refusal = subst (λ (m : Mib). IsLastRefusal words before.files m why) (sym mib_is) last in
             inr (want_told why before.out end.out warned err status (wants_last one no_fault words before.files rows ask why can.sendable refusal)

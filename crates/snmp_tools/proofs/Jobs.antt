@@ -1,5 +1,5 @@
 -- What is promised of a job, by what it wrote and reported.
-use Rattle.std.proofs.Common.{◌≡◌, ℕ, true, false, List, Some, refl, sym, subst, inl, inr}
+use Rattle.std.proofs.Common.{◌≡◌, ℕ, true, false, List, Option, Some, refl, sym, subst, inl, inr}
 use Rattle.std.proofs.Common.{codes}
 use Rattle.snmp_agent.specs.declared.table.error.TableError.{TableError}
 use Rattle.snmp_agent.specs.declared.table.error.TableError.TheVariants as table_error
@@ -16,43 +16,72 @@ use Rattle.snmp_words.specs.Words.{snmpwalk}
 use Rattle.snmp_tools.specs.agent.Outcome as serve
 use Rattle.snmp_tools.specs.loading.Loaded.{LoadFacts}
 use Rattle.snmp_tools.specs.translation.Outcome as translated
-use Rattle.snmp_tools.specs.Done.{IsAskDone, IsJobDone}
-use Rattle.snmp_tools.specs.Message.{out_of_memory}
-use Rattle.snmp_tools.specs.Outcome.{IsRun, not_loaded}
+use Rattle.snmp_tools.specs.Done.{IsAskDone, IsJobDone, IsJobOutcome}
+use Rattle.snmp_tools.specs.Message.{Fault, out_of_memory}
+use Rattle.snmp_tools.specs.Outcome.{IsOutcome, IsReported, IsRun, not_loaded}
 use Rattle.snmp_tools.specs.Question.{AskWords, of_get, of_walk}
 use Rattle.snmp_tools.specs.Seen.{Seen, seen}
 use Rattle.snmp_tools.proofs.Headlines.{ends_at_0, refused_all, refused_end, refused_front}
 use Rattle.snmp_tools.proofs.Headlines.{writes_all, writes_front}
+use Rattle.snmp_tools.proofs.Outcomes.{no_fault_at_0}
 use Rattle.snmp_tools.proofs.Plans.{OneList, OneTree}
 use Rattle.snmp_tools.proofs.TableNames.{OneMeaning}
+use Rattle.snmp_tools.proofs.TranslationHeadlines.{all_printed, front_printed}
 
 -- words state one job
 abbrev pub OneJob : Type 0
 OneJob = (words : List (List ℕ)) (job other : Stated) → StateJob words job → StateJob words other → job ≡ other
 
 module _ {N V D : Type 0} (net : Network N V D) (wire : LinkFacts V) (Loads : LoadFacts) where
-  module _ (before after : Seen N) (status : ℕ) where
-    abbrev Done : Stated → Type 0
-    Done words = IsJobDone net wire Loads words before after status
+  pub of_words : (before after : Seen N) (status : ℕ) → OneJob → (words : List (List ℕ)) (read stated : Stated) → StateJob words read → StateJob words stated
+      → IsJobDone net wire Loads read before after status → IsJobDone net wire Loads stated before after status
+  of_words before after status one words read stated h k done =
+      subst (λ (s : Stated). IsJobDone net wire Loads s before after status) (one words read stated h k) done
 
-    pub of_job : (job other : Job) → job ≡ other → Done (job_words other) → Done (job_words job)
-    of_job job other is done = subst (λ (j : Job). Done (job_words j)) (sym is) done
+  -- the outcome of a job, and that of one that asks an agent, by the same words
+  module _ (before after : Seen N) (fault : Option Fault) where
+    pub of_job : (job other : Job) → job ≡ other → IsJobOutcome net wire Loads (job_words other) before after fault
+        → IsJobOutcome net wire Loads (job_words job) before after fault
+    of_job job other is outcome = subst (λ (j : Job). IsJobOutcome net wire Loads (job_words j) before after fault) (sym is) outcome
 
-    pub of_words : OneJob → (words : List (List ℕ)) (read stated : Stated) → StateJob words read → StateJob words stated → Done read → Done stated
-    of_words one words read stated h k done = subst Done (one words read stated h k) done
+    pub of_ask : (read words : AskWords) → read ≡ words → IsOutcome net wire Loads read before after fault → IsOutcome net wire Loads words before after fault
+    of_ask read words is outcome = subst (λ (w : AskWords). IsOutcome net wire Loads w before after fault) is outcome
 
-    pub ask_done : (one_table : (names : Names) (ls : List (List ℕ)) (v w : MibView) → IsTableOf names ls v → IsTableOf names ls w → v ≡ w)
-        (no_fault : (names : Names) (ls : List (List ℕ)) (view : MibView) (fault : TableError) → IsTableOf names ls view → IsFirstFault names ls fault → fault ≡ table_error.Memory)
-        → OneList → OneTree → OneMeaning → (read words : AskWords) → read ≡ words → IsRun net wire Loads read before after status
+  -- the outcome of a job was reported
+  module _ (one_table : (names : Names) (ls : List (List ℕ)) (v w : MibView) → IsTableOf names ls v → IsTableOf names ls w → v ≡ w)
+      (no_fault : (names : Names) (ls : List (List ℕ)) (view : MibView) (fault : TableError) → IsTableOf names ls view → IsFirstFault names ls fault → fault ≡ table_error.Memory)
+      (one_list : OneList) (one_tree : OneTree) (one : OneMeaning) (before after : Seen N) (warned : Stream) (fault : Option Fault) (status : ℕ)
+      (told : IsReported fault warned after.err status) where
+    ask_done : (words : AskWords) → IsOutcome net wire Loads words before (record after { err = warned }) fault
         → IsAskDone net wire Loads words before after status
-    ask_done one_table no_fault one_list one_tree one read words same ran =
-        let run : IsRun net wire Loads words before after status = subst (λ (w : AskWords). IsRun net wire Loads w before after status) same ran in
+    ask_done words outcome =
+        let run : IsRun net wire Loads words before after status = record { fault = fault; warned = warned; outcome = outcome; reported = told } in
         record {
           outcome_reported = run;
           front_written = writes_front one_table no_fault one_list one_tree one net wire Loads words before after status run;
           all_written_at_status_0 = writes_all one_table no_fault one_list one_tree one net wire Loads words before after status run;
           ends_at_status_0 = ends_at_0 one_table no_fault one_list one_tree one net wire Loads words before after status run;
         }
+
+    pub job_done : (job : Stated) → IsJobOutcome net wire Loads job before (record after { err = warned }) fault
+        → IsJobDone net wire Loads job before after status
+    job_done (snmptranslate words) (links, outcome) = (
+      links,
+      record {
+        fault = fault;
+        warned = warned;
+        outcome = outcome;
+        is_reported = told;
+        all_at_status_0 = λ zero.
+            all_printed one_list Loads words before.files before.out after.out before.err warned fault (no_fault_at_0 fault warned after.err status told zero)
+            outcome;
+        front = front_printed one_list Loads words before.files before.out after.out before.err warned fault outcome;
+      },
+    )
+    job_done (snmpget words) outcome = ask_done (of_get words) outcome
+    job_done (snmpwalk words) outcome = ask_done (of_walk false words) outcome
+    job_done (snmpbulkwalk words) outcome = ask_done (of_walk true words) outcome
+    job_done (snmpd words) outcome = record { fault = fault; warned = warned; outcome = outcome; reported = told }
 
   -- memory ran out before anything was done
   module _ (files : Holdings) (links : N) (out err err_after : Stream) (told : IsWritten err (codes "Out of memory.\n") err_after) where

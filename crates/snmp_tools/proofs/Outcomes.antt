@@ -1,6 +1,6 @@
 -- What a job wrote of what its words ask for.
 use Rattle.std.proofs.Common.{◌≡◌, ◌⊎◌, inl, inr, ◌++◌, ℕ, Bool, true, false, length, List, []}
-use Rattle.std.proofs.Common.{◌∷◌, Option, Some, None}
+use Rattle.std.proofs.Common.{Option, Some, None}
 use Rattle.std.proofs.Common.{refl, sym, ◌∙◌, ap, subst, append_assoc, append-nil}
 use Rattle.smi_value.specs.declared.letters.letters.Letters.{Letters}
 use Rattle.snmp_wire.specs.Message.{VarBind}
@@ -15,12 +15,7 @@ use Rattle.snmp_tools.specs.Mib.{Mib}
 use Rattle.snmp_tools.specs.Answer.{Counts}
 use Rattle.snmp_tools.specs.Outcome.{IsFinished, IsReported}
 use Rattle.snmp_io.specs.Streams.{extended-twice, front_after, whole_taken}
-
-lines_of_both : (mib : Mib) (letters : Letters) (rows more : List VarBind) (a b : List ℕ) → AreLines mib letters rows a → AreLines mib letters more b
-    → AreLines mib letters (rows ++ more) (a ++ b)
-lines_of_both mib letters [] more a b h k = subst (λ (t : List ℕ). AreLines mib letters more (t ++ b)) (sym h) k
-lines_of_both mib letters (row ∷ rows) more a b h k =
-    (h.0, h.1 ++ b, h.2, lines_of_both mib letters rows more h.1 b h.3 k, ap (λ (t : List ℕ). t ++ b) h.4 ∙ append_assoc h.0 h.1 b)
+use Rattle.snmp_tools.proofs.Printed.{lines_of_both}
 
 -- a front of the lines of some first rows
 abbrev pub IsFront : Mib → Letters → List VarBind → (before after : Stream) → Type 0
@@ -42,16 +37,7 @@ printed_front mib letters before after rows turned (ending.Sink sink.Output) h =
   lines_of_both mib letters rows turned h.0 h.1 h.2 h.3,
   front_after before (extended before h.0) after h.0 h.1 refl h.4.begun,
 )
-printed_front mib letters before after rows turned (ending.Sink sink.Memory) h = all_front mib letters before after rows turned h
-printed_front mib letters before after rows turned (ending.Done n) h = all_front mib letters before after rows turned h
-printed_front mib letters before after rows turned (ending.Fault status index) h = all_front mib letters before after rows turned h
-printed_front mib letters before after rows turned (ending.NoProgress asked) h = all_front mib letters before after rows turned h
-printed_front mib letters before after rows turned ending.BadReply h = all_front mib letters before after rows turned h
-printed_front mib letters before after rows turned (ending.NotIncreasing last got) h = all_front mib letters before after rows turned h
-printed_front mib letters before after rows turned ending.TooManyRequests h = all_front mib letters before after rows turned h
-printed_front mib letters before after rows turned ending.RequestTooLong h = all_front mib letters before after rows turned h
-printed_front mib letters before after rows turned ending.NoResponse h = all_front mib letters before after rows turned h
-printed_front mib letters before after rows turned ending.Link h = all_front mib letters before after rows turned h
+printed_front mib letters before after rows turned end h = all_front mib letters before after rows turned h
 
 -- the lines of the rows, and where that is asked for their number
 abbrev pub IsWhole : Mib → Letters → (counts : Bool) → List VarBind → List ℕ → Type 0
@@ -137,24 +123,8 @@ module _ (mib : Mib) (letters : Letters) (agent : List ℕ) (before : Stream) (r
       → ((more : List VarBind) × (rows ≡ (given ++ turned) ++ more)) → IsFrontOf mib letters counts rows before after
   finished_front counts given turned (ending.Done count) between after fault printed finish counted whole left =
       done_front counts given count between after fault (whole tt) counted printed finish
-  finished_front counts given turned (ending.Sink why) between after fault printed finish counted whole left =
-      end_front counts given turned (ending.Sink why) between after printed finish.0 left
-  finished_front counts given turned (ending.Fault status index) between after fault printed finish counted whole left =
-      end_front counts given turned (ending.Fault status index) between after printed finish.0 left
-  finished_front counts given turned (ending.NoProgress asked) between after fault printed finish counted whole left =
-      end_front counts given turned (ending.NoProgress asked) between after printed finish.0 left
-  finished_front counts given turned ending.BadReply between after fault printed finish counted whole left =
-      end_front counts given turned ending.BadReply between after printed finish.0 left
-  finished_front counts given turned (ending.NotIncreasing last got) between after fault printed finish counted whole left =
-      end_front counts given turned (ending.NotIncreasing last got) between after printed finish.0 left
-  finished_front counts given turned ending.TooManyRequests between after fault printed finish counted whole left =
-      end_front counts given turned ending.TooManyRequests between after printed finish.0 left
-  finished_front counts given turned ending.RequestTooLong between after fault printed finish counted whole left =
-      end_front counts given turned ending.RequestTooLong between after printed finish.0 left
-  finished_front counts given turned ending.NoResponse between after fault printed finish counted whole left =
-      end_front counts given turned ending.NoResponse between after printed finish.0 left
-  finished_front counts given turned ending.Link between after fault printed finish counted whole left =
-      end_front counts given turned ending.Link between after printed finish.0 left
+  finished_front counts given turned end between after fault printed finish counted whole left =
+      end_front counts given turned end between after printed finish.0 left
 
   -- no fault is reported alone where it was done and printed whole
   done_all : (counts : Bool) (given : List VarBind) (count : ℕ) (between after : Stream) → given ≡ rows → (counts ≡ true → count ≡ length given)
@@ -177,37 +147,11 @@ module _ (mib : Mib) (letters : Letters) (agent : List ℕ) (before : Stream) (r
   finished_all counts given turned (ending.Done count) between after fault none printed finish counted whole =
       done_all counts given count between after (whole tt) counted printed
       (subst (IsFinished agent (ending.Done count) counts between after) none finish)
-  finished_all counts given turned (ending.Sink why) between after fault none printed finish counted whole =
-      let e = finish.1 in let no : ⊥ = cc in absurd no
-  finished_all counts given turned (ending.Fault status index) between after fault none printed finish counted whole =
-      let e = finish.1 in let no : ⊥ = cc in absurd no
-  finished_all counts given turned (ending.NoProgress asked) between after fault none printed finish counted whole =
-      let e = finish.1 in let no : ⊥ = cc in absurd no
-  finished_all counts given turned ending.BadReply between after fault none printed finish counted whole =
-      let e = finish.1 in let no : ⊥ = cc in absurd no
-  finished_all counts given turned (ending.NotIncreasing last got) between after fault none printed finish counted whole =
-      let e = finish.1 in let no : ⊥ = cc in absurd no
-  finished_all counts given turned ending.TooManyRequests between after fault none printed finish counted whole =
-      let e = finish.1 in let no : ⊥ = cc in absurd no
-  finished_all counts given turned ending.RequestTooLong between after fault none printed finish counted whole =
-      let e = finish.1 in let no : ⊥ = cc in absurd no
-  finished_all counts given turned ending.NoResponse between after fault none printed finish counted whole =
-      let e = finish.1 in let no : ⊥ = cc in absurd no
-  finished_all counts given turned ending.Link between after fault none printed finish counted whole =
-      let e = finish.1 in let no : ⊥ = cc in absurd no
+  finished_all counts given turned end between after fault none printed finish counted whole = let e = finish.1 in let no : ⊥ = cc in absurd no
 
 -- a fault's status isn't 0
 no_status : (why : Fault) → status_of why ≡ 0 → ⊥
 no_status (ended agent (ending.Fault status index)) e = cc
-no_status (ended agent (ending.Done n)) e = cc
-no_status (ended agent (ending.Sink fault)) e = cc
-no_status (ended agent (ending.NoProgress asked)) e = cc
-no_status (ended agent ending.BadReply) e = cc
-no_status (ended agent (ending.NotIncreasing last got)) e = cc
-no_status (ended agent ending.TooManyRequests) e = cc
-no_status (ended agent ending.RequestTooLong) e = cc
-no_status (ended agent ending.NoResponse) e = cc
-no_status (ended agent ending.Link) e = cc
 no_status _ e = cc
 
 pub no_fault_at_0 : (fault : Option Fault) (before after : Stream) (status : ℕ) → IsReported fault before after status → status ≡ 0 → fault ≡ None

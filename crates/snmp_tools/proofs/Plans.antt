@@ -1,13 +1,11 @@
 -- The words ask for one plan, and the steps before its question fail for want of memory alone.
-use Rattle.std.proofs.Common.{◌≡◌, ◌⊎◌, inl, inr, ℕ, Bool, ◌<◌, ◌≤◌, length, arith, List, [], ◌∷◌}
-use Rattle.std.proofs.Common.{◌++◌, All, map, Option, Some, None, Ok}
+use Rattle.std.proofs.Common.{◌≡◌, ◌⊎◌, inl, inr, ℕ, ◌<◌, ◌≤◌, length, arith, List, [], ◌∷◌}
+use Rattle.std.proofs.Common.{All, map, Option, Some, None, Ok}
 use Rattle.std.proofs.Common.{refl, sym, ◌∙◌, ap, subst}
 use Rattle.std.proofs.lemmas.List.Elements.{All-head, All-tail}
 use Rattle.std.specs.Str.Lines.{lines}
 use Rattle.smi_value.specs.declared.letters.letters.Letters.{Letters}
-use Rattle.smi_value.specs.declared.letters.letters.NameForm.{NameForm}
-use Rattle.smi_value.specs.declared.letters.letters.StringForm.{StringForm}
-use Rattle.smi_value.specs.declared.letters.letters.TypeForm.{TypeForm}
+use Rattle.smi_value.specs.letters.Letters.{AreLetters}
 use Rattle.smi_show.specs.name.Meant.{TextMeans}
 use Rattle.snmp_oid.specs.Identifier.{IsWire, wire}
 use Rattle.snmp_wire.specs.Message.{VarBind}
@@ -16,14 +14,12 @@ use Rattle.snmp_agent.specs.declared.table.error.TableError.{TableError}
 use Rattle.snmp_agent.specs.declared.table.error.TableError.TheVariants as table_error
 use Rattle.snmp_agent.specs.table.Format.{Names}
 use Rattle.snmp_agent.specs.table.Stated.{IsTableOf, IsFirstFault}
-use Rattle.snmp_walk.specs.declared.mode.Method.{Method}
-use Rattle.snmp_walk.specs.declared.mode.Mode.{Mode}
 use Rattle.snmp_io.specs.Files.{Holdings, Holds, HoldsIfKnown, MayHold}
 use Rattle.snmp_io.specs.Steps.{AreDone, IsFirstToFail}
 use Rattle.snmp_net.specs.Address.{Address, table}
 use Rattle.snmp_tools.specs.agent.TableFile.{TableFails}
 use Rattle.snmp_tools.specs.Answer.{CanBeSent, CanGoOn}
-use Rattle.snmp_tools.specs.Asking.{AreShown, AskingFails, AskingStep, HasAgent, IsNameIfGiven}
+use Rattle.snmp_tools.specs.Asking.{AskingFails, AskingStep, HasAgent, IsNameIfGiven}
 use Rattle.snmp_tools.specs.Asking.{ReachFails}
 use Rattle.snmp_tools.specs.Asking.{agent_step, community_step, letters_step, version_step}
 use Rattle.snmp_tools.specs.Headline.{IsAsk}
@@ -37,12 +33,12 @@ use Rattle.snmp_tools.specs.Mib.{AreLoaded, Mib, mib_of}
 use Rattle.snmp_tools.specs.Question.{AreNames, AskFor, AskWords, FailsBy, FailsFor, IsAtOrBelow}
 use Rattle.snmp_tools.specs.Question.{IsDoneBy, IsEarlyRefusal, IsLastRefusal, IsLateRefusal}
 use Rattle.snmp_tools.specs.Question.{IsQuestionOf, LaterStep, LoadingStep, Plan, Question}
-use Rattle.snmp_tools.specs.Question.{Request, Walk, HasChosen, HasUnknown, goes_on_after}
+use Rattle.snmp_tools.specs.Question.{Request, HasChosen, HasUnknown, goes_on_after}
 use Rattle.snmp_tools.specs.Question.{root_text}
 use Rattle.snmp_tools.specs.Question.{get, names, subtree, walk, loading_steps, name_steps}
 use Rattle.snmp_tools.specs.Question.{reach_step, reaching_steps, sent_steps}
 use Rattle.snmp_tools.specs.Question.{below_step, name_step, reach_step, sent_step}
-use Rattle.snmp_tools.proofs.ChosenLetters.{no_choice, one_choice}
+use Rattle.snmp_tools.proofs.ChosenLetters.{among, both, no_choice, one_choice}
 use Rattle.snmp_tools.proofs.TableNames.{OneMeaning, no_name, one_look_up, one_name}
 
 pub held_is : (held : Option (Option (List ℕ))) (text other : List ℕ) → HoldsIfKnown held (Some text) → held ≡ Some (Some other) → text ≡ other
@@ -72,25 +68,18 @@ one_load one_list one_tree files paths a b v w e f =
     let both = one_tree f.modules e.tree f.tree v w (subst (λ (ms : List Module). IsTree ms e.tree v) same e.loads) f.loads in
     (e.is ∙ ap mib_of both.0 ∙ sym f.is, both.1)
 
--- letters of the same forms are the same
-same_letters : (a b : Letters) → a.names ≡ b.names → a.types ≡ b.types → a.strings ≡ b.strings → a.value_alone ≡ b.value_alone
-    → a.numeric_enumerations ≡ b.numeric_enumerations → a.raw_ticks ≡ b.raw_ticks → a.numeric_index ≡ b.numeric_index → a.no_units ≡ b.no_units → a ≡ b
-same_letters a b forms types strings value_alone enumerations ticks index units =
-    ap (λ (x : NameForm). record a { names = x }) forms
-    ∙ ap (λ (x : TypeForm). record a { names = b.names; types = x }) types
-    ∙ ap (λ (x : StringForm). record a { names = b.names; types = b.types; strings = x }) strings
-    ∙ ap (λ (x : Bool). record a { names = b.names; types = b.types; strings = b.strings; value_alone = x }) value_alone
-    ∙ ap (λ (x : Bool). record b { numeric_enumerations = x; raw_ticks = a.raw_ticks; numeric_index = a.numeric_index; no_units = a.no_units }) enumerations
-    ∙ ap (λ (x : Bool). record b { raw_ticks = x; numeric_index = a.numeric_index; no_units = a.no_units }) ticks
-    ∙ ap (λ (x : Bool). record b { numeric_index = x; no_units = a.no_units }) index
-    ∙ ap (λ (x : Bool). record b { no_units = x }) units
-
-pub one_reading : (text : List ℕ) (a b : Letters) → AreShown text a → AreShown text b → a ≡ b
-one_reading text a b x y =
-    let p = x.read in
-    let q = y.read in
-    same_letters a b (p.n_f_s_S ∙ sym q.n_f_s_S) (p.q_Q ∙ sym q.q_Q) (p.x_a ∙ sym q.x_a) (p.v ∙ sym q.v) (p.e ∙ sym q.e) (p.t ∙ sym q.t) (p.b ∙ sym q.b)
-    (p.U ∙ sym q.U)
+-- a text of letters says one thing
+pub one_reading : (text : List ℕ) (a b : Letters) → AreLetters text a → AreLetters text b → a ≡ b
+one_reading text a b p q = λ i. record {
+  names = (p.n_f_s_S ∙ sym q.n_f_s_S) i;
+  types = (p.q_Q ∙ sym q.q_Q) i;
+  strings = (p.x_a ∙ sym q.x_a) i;
+  value_alone = (p.v ∙ sym q.v) i;
+  numeric_enumerations = (p.e ∙ sym q.e) i;
+  raw_ticks = (p.t ∙ sym q.t) i;
+  numeric_index = (p.b ∙ sym q.b) i;
+  no_units = (p.U ∙ sym q.U) i;
+}
 
 one_chosen : (request : Request) (a b : Choices) → HasChosen request a → HasChosen request b → a ≡ b
 one_chosen (get texts) a b h k = h ∙ sym k
@@ -114,23 +103,6 @@ one_names one mib (text ∷ texts) (x ∷ a) [] e f = absurd f
 one_names one mib (text ∷ texts) (x ∷ a) (y ∷ b) e f =
     ap (λ (n : List ℕ). n ∷ a) (one_name one mib.naming text x y e.0 f.0) ∙ ap (λ (ns : List (List ℕ)). y ∷ ns) (one_names one mib texts a b e.1 f.1)
 
--- walks of the same parts are the same, and plans
-same_walk : (v w : Walk) → v.root ≡ w.root → v.after ≡ w.after → v.mode ≡ w.mode → v.method ≡ w.method → v.counts ≡ w.counts → v ≡ w
-same_walk v w root after mode method counts =
-    ap (λ (x : List ℕ). record v { root = x }) root
-    ∙ ap (λ (x : Option (List ℕ)). record v { root = w.root; after = x }) after
-    ∙ ap (λ (x : Mode). record w { mode = x; method = v.method; counts = v.counts }) mode
-    ∙ ap (λ (x : Method). record w { method = x; counts = v.counts }) method
-    ∙ ap (λ (x : Bool). record w { counts = x }) counts
-
-same_plan : (p q : Plan) → p.agent ≡ q.agent → p.community ≡ q.community → p.max_size ≡ q.max_size → p.letters ≡ q.letters → p.question ≡ q.question → p ≡ q
-same_plan p q agent community size letters question =
-    ap (λ (x : Address). record p { agent = x }) agent
-    ∙ ap (λ (x : List ℕ). record p { agent = q.agent; community = x }) community
-    ∙ ap (λ (x : ℕ). record p { agent = q.agent; community = q.community; max_size = x }) size
-    ∙ ap (λ (x : Letters). record q { letters = x; question = p.question }) letters
-    ∙ ap (λ (x : Question). record q { question = x }) question
-
 -- a request asks for one question
 one_question : OneMeaning → (request : Request) (choices : Choices) (mib : Mib) (a b : Question) → IsQuestionOf request choices mib a → IsQuestionOf request choices mib b
     → a ≡ b
@@ -140,16 +112,25 @@ one_question one (get texts) choices mib (subtree v) b p q = absurd p
 one_question one (walk bulk letters after name) choices mib (names a) b p q = absurd p
 one_question one (walk bulk letters after name) choices mib (subtree v) (names b) p q = absurd q
 one_question one (walk bulk letters after name) choices mib (subtree v) (subtree w) p q =
-    ap subtree (same_walk v w (one_name one mib.naming (root_text name) v.root w.root p.root q.root)
-    (one_after one mib after v.after w.after p.goes_on q.goes_on) (p.mode ∙ sym q.mode) (p.method ∙ sym q.method) (p.counts ∙ sym q.counts))
+    λ i. subtree record {
+      root = one_name one mib.naming (root_text name) v.root w.root p.root q.root i;
+      after = one_after one mib after v.after w.after p.goes_on q.goes_on i;
+      mode = (p.mode ∙ sym q.mode) i;
+      method = (p.method ∙ sym q.method) i;
+      counts = (p.counts ∙ sym q.counts) i;
+    }
 
 pub one_plan : OneMeaning → (words : AskWords) (mib : Mib) (p q : Plan) → AskFor words mib p → AskFor words mib q → HasAgent words.asking.agent q.agent → p ≡ q
 one_plan one words mib p q a b only =
     let choice : a.choices ≡ b.choices = one_chosen words.request a.choices b.choices a.chosen b.chosen in
-    same_plan p q (only.1 p.agent a.agent) (a.community ∙ sym b.community) (a.max_size ∙ sym b.max_size)
-    (one_reading words.asking.letters p.letters q.letters a.letters b.letters)
-    (one_question one words.request b.choices mib p.question q.question
-    (subst (λ (c : Choices). IsQuestionOf words.request c mib p.question) choice a.question) b.question)
+    let question = one_question one words.request b.choices mib p.question q.question
+    (subst (λ (c : Choices). IsQuestionOf words.request c mib p.question) choice a.question) b.question in λ i. record {
+      agent = only.1 p.agent a.agent i;
+      community = (a.community ∙ sym b.community) i;
+      max_size = (a.max_size ∙ sym b.max_size) i;
+      letters = one_reading words.asking.letters p.letters q.letters a.letters.read b.letters.read i;
+      question = question i;
+    }
 
 -- a fault whose message says that memory ran out
 pub data IsWant (why : Fault) : Type 0 where
@@ -158,15 +139,6 @@ pub data IsWant (why : Fault) : Type 0 where
 
 pub other_way : (n m : ℕ) → n < m → m ≤ n → ⊥
 other_way n m low high = omega (arith, low, high)
-
--- a step among others is as they are
-picked : {S : Type 0} (P : S → Type 0) (before : List S) (step : S) (after : List S) → AreDone P (before ++ step ∷ after) → P step
-picked P [] step after h = h.0
-picked P (s ∷ before) step after h = picked P before step after h.1
-
-both : {S : Type 0} (P : S → Type 0) (a b : List S) → AreDone P a → AreDone P b → AreDone P (a ++ b)
-both P [] b h k = k
-both P (s ∷ a) b h k = (h.0, both P a b h.1 k)
 
 module _ (one : OneMeaning)
     (no_fault : (names : Names) (ls : List (List ℕ)) (view : MibView) (fault : TableError) → IsTableOf names ls view → IsFirstFault names ls fault → fault ≡ table_error.Memory)
@@ -273,7 +245,7 @@ module _ (one : OneMeaning)
 
   pub wants_early : IsEarlyRefusal words files why → IsWant why
   wants_early (inl e) = plain_want e
-  wants_early (inr h) = picked WantsFor h.done h.failed h.left (subst (AreDone WantsFor) h.order loading_want) h.fails
+  wants_early (inr h) = among WantsFor h.done h.failed h.left (subst (AreDone WantsFor) h.order loading_want) h.fails
 
   pub wants_late : IsLateRefusal words files ask.mib why → IsWant why
   wants_late late = by_reason late.fails
@@ -281,10 +253,10 @@ module _ (one : OneMeaning)
       by_reason : (why ≡ out_of_memory) ⊎ IsFirstToFail (reaching_steps words.request) (IsDoneBy words files ask.mib) (FailsBy words files ask.mib) why
           → IsWant why
       by_reason (inl e) = plain_want e
-      by_reason (inr h) = picked Wants h.done h.failed h.left (subst (AreDone Wants) h.order reaching_want) h.fails
+      by_reason (inr h) = among Wants h.done h.failed h.left (subst (AreDone Wants) h.order reaching_want) h.fails
 
   pub wants_last : CanBeSent ask.plan.question → IsLastRefusal words files ask.mib why → IsWant why
   wants_last can last =
       let h = last.fails in
-      picked Wants h.done h.failed h.left
+      among Wants h.done h.failed h.left
       (subst (AreDone Wants) h.order (sending_want words.request ask.asked.choices ask.plan.question ask.asked.question can)) h.fails

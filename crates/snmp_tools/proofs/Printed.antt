@@ -1,6 +1,6 @@
 -- What a printer writes of the rows that it is given.
 use Rattle.std.proofs.Common.{◌≡◌, ◌++◌, ℕ, List, [], ◌∷◌, Result, Ok, Err, sym, refl, ◌∙◌, ap}
-use Rattle.std.proofs.Common.{subst, append-nil}
+use Rattle.std.proofs.Common.{subst, append-nil, append_assoc}
 use Rattle.smi_value.specs.declared.letters.letters.Letters.{Letters}
 use Rattle.snmp_wire.specs.Message.{VarBind}
 use Rattle.snmp_walk.specs.declared.end.SinkFault.{SinkFault}
@@ -13,6 +13,12 @@ use Rattle.snmp_io.specs.Output.{FailsWithin, Stream, extended}
 use Rattle.snmp_io.specs.Streams.{extended-nil, extended-twice}
 use Rattle.snmp_tools.specs.Lines.{AreLines, ArePrinted, IsPrintedUpTo, TakesLine}
 use Rattle.snmp_tools.specs.Mib.{Mib}
+
+pub lines_of_both : (mib : Mib) (letters : Letters) (rows more : List VarBind) (a b : List ℕ) → AreLines mib letters rows a → AreLines mib letters more b
+    → AreLines mib letters (rows ++ more) (a ++ b)
+lines_of_both mib letters [] more a b h k = subst (λ (t : List ℕ). AreLines mib letters more (t ++ b)) (sym h) k
+lines_of_both mib letters (row ∷ rows) more a b h k =
+    (h.0, h.1 ++ b, h.2, lines_of_both mib letters rows more h.1 b h.3 k, ap (λ (t : List ℕ). t ++ b) h.4 ∙ append_assoc h.0 h.1 b)
 
 -- a sink that stays what it is, and whose states are seen as what is known of an output
 module _ {S : Type 0} (takes : S → VarBind → Result (Unit {0}) SinkFault → S → Type 0) (stream : S → Stream) (Is : S → Type 0) (mib : Mib) (letters : Letters)
@@ -48,28 +54,12 @@ module _ {S : Type 0} (takes : S → VarBind → Result (Unit {0}) SinkFault →
 
   pub stays_to_the_end : (old new : S) (rows turned : List VarBind) (why : WalkEnd) → Is old → Took takes old rows turned why new → Is new
   stays_to_the_end old new rows turned (ending.Sink why) is h = stays h.0 new h.2.0 (Err why) (stayed old h.0 rows is h.1) h.2.2
-  stays_to_the_end old new rows turned (ending.Done n) is h = stayed old new rows is h.0
-  stays_to_the_end old new rows turned (ending.Fault status index) is h = stayed old new rows is h.0
-  stays_to_the_end old new rows turned (ending.NoProgress asked) is h = stayed old new rows is h.0
-  stays_to_the_end old new rows turned ending.BadReply is h = stayed old new rows is h.0
-  stays_to_the_end old new rows turned (ending.NotIncreasing last got) is h = stayed old new rows is h.0
-  stays_to_the_end old new rows turned ending.TooManyRequests is h = stayed old new rows is h.0
-  stays_to_the_end old new rows turned ending.RequestTooLong is h = stayed old new rows is h.0
-  stays_to_the_end old new rows turned ending.NoResponse is h = stayed old new rows is h.0
-  stays_to_the_end old new rows turned ending.Link is h = stayed old new rows is h.0
+  stays_to_the_end old new rows turned why is h = stayed old new rows is h.0
 
   pub printed_up_to : (old new : S) (rows turned : List VarBind) (why : WalkEnd) → Is old → Took takes old rows turned why new
       → IsPrintedUpTo mib letters (stream old) rows turned why (stream new)
   printed_up_to old new rows turned (ending.Sink why) is h = refused old h.0 new rows turned why is h.1 h.2
-  printed_up_to old new rows turned (ending.Done n) is h = printed old new rows is h.0
-  printed_up_to old new rows turned (ending.Fault status index) is h = printed old new rows is h.0
-  printed_up_to old new rows turned (ending.NoProgress asked) is h = printed old new rows is h.0
-  printed_up_to old new rows turned ending.BadReply is h = printed old new rows is h.0
-  printed_up_to old new rows turned (ending.NotIncreasing last got) is h = printed old new rows is h.0
-  printed_up_to old new rows turned ending.TooManyRequests is h = printed old new rows is h.0
-  printed_up_to old new rows turned ending.RequestTooLong is h = printed old new rows is h.0
-  printed_up_to old new rows turned ending.NoResponse is h = printed old new rows is h.0
-  printed_up_to old new rows turned ending.Link is h = printed old new rows is h.0
+  printed_up_to old new rows turned why is h = printed old new rows is h.0
 
 -- a printer: it keeps its tree, its letters and its output
 module _ {S R N : Type 0} (tree : S → R) (letters : S → Letters) (name : S → N) (stream : S → Stream) (mib : R → Mib) where

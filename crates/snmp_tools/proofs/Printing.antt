@@ -2,7 +2,6 @@
 use Rattle.std.proofs.Common.{◌≡◌, ◌∙◌, ◌++◌, ◌+◌, ◌<◌, ap, refl, sym, subst, ℕ, List, [], ◌∷◌}
 use Rattle.std.proofs.Common.{Bor, take, drop, length, get_or}
 use Rattle.std.proofs.Common.{append_assoc, append-nil}
-use Rattle.std.proofs.lemmas.List.{drop_more, map-append, take-append-drop, take_more}
 use Rattle.snmp_io.specs.Output.{Stream, extended}
 use Rattle.snmp_io.specs.Streams.{extended-twice}
 use Rattle.snmp_words.specs.Words.{texts_at}
@@ -11,6 +10,7 @@ use Rattle.snmp_tools.specs.translation.Outcome.{AreNamesPrinted, IsNamePrinted,
 use Rattle.snmp_tools.specs.translation.Outcome.{StopsWithin}
 use Rattle.snmp_tools.specs.translation.Text.{AreTextsOf, DetailMib, IsTextOf}
 use Rattle.snmp_tools.specs.declared.translation.style.Style.{Style}
+use Rattle.snmp_tools.proofs.Texts.{texts-parts}
 
 -- the text of one name more
 pub AreTextsOf-more : (mib : DetailMib) (style : Style) (names : List (List ℕ)) (name text one : List ℕ)
@@ -32,18 +32,6 @@ more_printed mib style names name before middle after (text, texts, is) (one, is
   AreTextsOf-more mib style names name text one texts is_text,
   is_too ∙ ap (λ (s : Stream). extended s one) is ∙ extended-twice before text one,
 )
-
-pub texts-more : (names : List (Bor (List ℕ))) (i : ℕ) (d : Bor (List ℕ)) → i < length names
-    → texts_at (take (i + 1) names) ≡ texts_at (take i names) ++ (get_or names i d).now ∷ []
-texts-more names i d inside =
-    ap texts_at (take_more names i d inside) ∙ map-append (λ (p : Bor (List ℕ)). p.now) (take i names) (get_or names i d ∷ [])
-
-texts-parts : (names : List (Bor (List ℕ))) (i : ℕ) (d : Bor (List ℕ)) → i < length names
-    → texts_at names ≡ texts_at (take i names) ++ (get_or names i d).now ∷ texts_at (drop (i + 1) names)
-texts-parts names i d inside =
-    ap texts_at (sym (take-append-drop i names))
-    ∙ map-append (λ (p : Bor (List ℕ)). p.now) (take i names) (drop i names)
-    ∙ ap (λ (rest : List (Bor (List ℕ))). texts_at (take i names) ++ texts_at rest) (drop_more names i d inside)
 
 -- it stops at the first name that isn't printed
 pub stopped_at : (mib : DetailMib) (style : Style) (names : List (Bor (List ℕ))) (i : ℕ) (d : Bor (List ℕ)) (before middle after : Stream)

@@ -2,8 +2,6 @@
 use Rattle.std.proofs.Common.{◌≡◌, ◌∙◌, ◌⊎◌, inl, inr, ◌++◌, ◌+◌, ◌<◌, ap, ap₂, refl, sym, subst}
 use Rattle.std.proofs.Common.{ℕ, List, [], ◌∷◌, Bor, Option, Some}
 use Rattle.std.proofs.Common.{take, drop, length, get_or, unwrap_or, append_assoc, append-nil}
-use Rattle.std.proofs.lemmas.List.{drop_more, map-append, take-append-drop, take_more}
-use Rattle.snmp_io.specs.draft.Draft.{Adds, Grows, Written}
 use Rattle.smi_text.specs.lexer.Lexes.{Lexes}
 use Rattle.smi_text.specs.lexer.Token.{Item, Lexeme, tokens_of}
 use Rattle.smi_text.specs.trees.Mark.{Stands}
@@ -14,6 +12,7 @@ use Rattle.snmp_io.specs.Files.{Holdings, Holds, HoldsIfKnown, MayHold}
 use Rattle.snmp_io.specs.Steps.{AreDone}
 use Rattle.snmp_tools.specs.loading.Files.{AreModulesIn, AreModulesOf, FileFails, IsFilesRefusal}
 use Rattle.snmp_tools.specs.loading.Files.{MayHoldModules, Refusal, no_memory, texts}
+use Rattle.snmp_tools.proofs.Texts.{texts-parts}
 
 pub AreModulesOf-more : (Held : (path text : List ℕ) → Type 0) (paths : List (List ℕ)) (path : List ℕ) (ms first : List Module)
     → AreModulesOf Held paths ms → AreModulesIn Held path first → AreModulesOf Held (paths ++ path ∷ []) (ms ++ first)
@@ -56,26 +55,6 @@ one_list lexing reading files [] ms ns none none_too = none ∙ sym none_too
 one_list lexing reading files (path ∷ paths) ms ns (first, rest, is, more, whole) (first', rest', is', more', whole') =
     whole ∙ ap₂ (λ (xs ys : List Module). xs ++ ys) (one_in lexing reading files path first first' is is')
     (one_list lexing reading files paths rest rest' more more') ∙ sym whole'
-
-pub texts-more : (paths : List (Bor (List ℕ))) (i : ℕ) (d : Bor (List ℕ)) → i < length paths
-    → texts (take (i + 1) paths) ≡ texts (take i paths) ++ (get_or paths i d).now ∷ []
-texts-more paths i d inside =
-    ap texts (take_more paths i d inside) ∙ map-append (λ (p : Bor (List ℕ)). p.now) (take i paths) (get_or paths i d ∷ [])
-
--- one text after another
-pub adds-both : (first middle last : Written) (s t : List ℕ) → Adds first s middle → Adds middle t last → Adds first (s ++ t) last
-adds-both first middle last s t one two = record {
-  grows = two.goes_on first s one.grows;
-  goes_on = λ (begin : Written) (text : List ℕ) g. subst (λ (u : List ℕ). Grows begin u last) (append_assoc text s t)
-      (two.goes_on begin (text ++ s) (one.goes_on begin text g));
-}
-
-texts-parts : (paths : List (Bor (List ℕ))) (i : ℕ) (d : Bor (List ℕ)) → i < length paths
-    → texts paths ≡ texts (take i paths) ++ (get_or paths i d).now ∷ texts (drop (i + 1) paths)
-texts-parts paths i d inside =
-    ap texts (sym (take-append-drop i paths))
-    ∙ map-append (λ (p : Bor (List ℕ)). p.now) (take i paths) (drop i paths)
-    ∙ ap (λ (rest : List (Bor (List ℕ))). texts (take i paths) ++ texts rest) (drop_more paths i d inside)
 
 -- each of the files whose modules were read holds modules
 are_read : (files : Holdings) (paths : List (List ℕ)) (ms : List Module) → AreModulesOf (MayHold files) paths ms → AreDone (MayHoldModules files) paths

@@ -1,5 +1,5 @@
 -- Why nothing is printed.
-use Rattle.std.proofs.Common.{◌≡◌, ◌⊎◌, inl, inr, refl, ℕ, [], ◌∷◌, Some, None}
+use Rattle.std.proofs.Common.{◌≡◌, ◌⊎◌, inl, inr, refl, ℕ, [], Some, None}
 use Rattle.smi_value.specs.letters.Letters.{first_other}
 use Rattle.snmp_io.specs.Files.{Holdings}
 use Rattle.snmp_words.specs.Words.{TranslateWords}
@@ -9,37 +9,18 @@ use Rattle.snmp_tools.specs.translation.Refusal.{IsTranslateRefusal, Translation
 use Rattle.snmp_tools.specs.translation.Refusal.{details_step, letters_step, modules_step}
 use Rattle.snmp_tools.specs.translation.Style.{IsStyleOf, first_other_of_t}
 use Rattle.snmp_tools.specs.declared.translation.style.Style.{Style}
+use Rattle.snmp_tools.proofs.Steps.{first, later}
 
 pub letters_fail : (words : TranslateWords) (files : Holdings) (octet : ℕ) → first_other words.letters ≡ Some octet
     → TranslationFails words files (bad_letter octet)
-letters_fail words files octet other = record {
-  done = [];
-  failed = letters_step;
-  left = details_step ∷ modules_step ∷ [];
-  order = refl;
-  are_done = tt;
-  fails = (octet, other, refl);
-}
+letters_fail words files octet other = first _ _ _ letters_step _ (octet, other, refl)
 
 pub details_fail : (words : TranslateWords) (files : Holdings) (octet : ℕ) → first_other words.letters ≡ None
     → first_other_of_t words.details ≡ Some octet → TranslationFails words files (bad_letter octet)
-details_fail words files octet known other = record {
-  done = letters_step ∷ [];
-  failed = details_step;
-  left = modules_step ∷ [];
-  order = refl;
-  are_done = (known, tt);
-  fails = (octet, other, refl);
-}
+details_fail words files octet known other = later _ _ _ letters_step _ known (first _ _ _ details_step _ (octet, other, refl))
 
 pub modules_fail : (words : TranslateWords) (files : Holdings) (style : Style) (why : Fault) → IsStyleOf words style
     → (why ≡ out_of_memory) ⊎ MibsFail files words.mibs why → IsTranslateRefusal words files why
 modules_fail words files style why styled (inl none) = inl none
-modules_fail words files style why styled (inr fails) = inr (record {
-  done = letters_step ∷ details_step ∷ [];
-  failed = modules_step;
-  left = [];
-  order = refl;
-  are_done = (styled.known, (styled.known_of_t, tt));
-  fails = fails;
-})
+modules_fail words files style why styled (inr fails) =
+    inr (later _ _ _ letters_step _ styled.known (later _ _ _ details_step _ styled.known_of_t (first _ _ _ modules_step [] fails)))

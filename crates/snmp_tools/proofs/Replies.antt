@@ -13,7 +13,7 @@ use Rattle.snmp_io.specs.Output.{FailsWithin, Stream, appended, extended}
 use Rattle.snmp_io.specs.Streams.{appended-twice, extended-twice}
 use Rattle.snmp_tools.specs.Lines.{AreLines, IsLineOf}
 use Rattle.snmp_tools.specs.Mib.{Mib}
-use Rattle.snmp_tools.proofs.Printed.{prints}
+use Rattle.snmp_tools.proofs.Printed.{lines_of_both, prints}
 
 -- a front of two texts ends within the first or takes the whole of it
 abbrev Ends : (line rest front left : List ℕ) → Type 0
@@ -35,18 +35,6 @@ no_more : (more left : List ℕ) → [] ≡ more ++ left → more ≡ []
 no_more [] left e = refl
 no_more (x ∷ more) left e = let no : ⊥ = cc in absurd no
 
--- the lines of bindings, and of one more
-pub one_line_more : (mib : Mib) (letters : Letters) (rows : List VarBind) (p : VarBind) (text line : List ℕ)
-    → AreLines mib letters rows text → IsLineOf mib letters p line → AreLines mib letters (rows ++ p ∷ []) (text ++ line)
-one_line_more mib letters [] p text line none is = (line, [], is, refl, ap (λ t. t ++ line) none ∙ sym (append-nil line))
-one_line_more mib letters (q ∷ rows) p text line (first, rest, here, more, whole) is = (
-  first,
-  rest ++ line,
-  here,
-  one_line_more mib letters rows p rest line more is,
-  ap (λ t. t ++ line) whole ∙ append_assoc first rest line,
-)
-
 -- the line of one more, by what is the tree and are the letters from the start
 pub next_line : {R : Type 0} (mib : R → Mib) (tree first : R) (letters from : Letters) (rows : List VarBind) (p : VarBind) (text line all : List ℕ)
     → tree ≡ first → letters ≡ from → AreLines (mib first) from rows text → IsLineOf (mib tree) letters p line → all ≡ text ++ line
@@ -55,7 +43,8 @@ next_line {R} mib tree first letters from rows p text line all same_tree same_le
     let P : R → Type 0 = λ r. IsLineOf (mib r) letters p line in
     let Q : Letters → Type 0 = λ l. IsLineOf (mib first) l p line in
     let W : List ℕ → Type 0 = λ t. AreLines (mib first) from (rows ++ p ∷ []) t in
-    subst W (sym e) (one_line_more (mib first) from rows p text line lines (subst Q same_letters (subst P same_tree is)))
+    subst W (sym e)
+    (lines_of_both (mib first) from rows (p ∷ []) text line lines (line, [], subst Q same_letters (subst P same_tree is), refl, sym (append-nil line)))
 
 -- what holds where memory didn't run out
 pub at_ok : {E P : Type 0} (result : Result (Unit {0}) E) → false ≡ is_err result → OnOk result P → P

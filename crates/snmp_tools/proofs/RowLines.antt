@@ -1,7 +1,8 @@
 -- The lines of rows where no object has a syntax: those of `RowText`.
 use Rattle.std.proofs.Common.{◌≡◌, refl, ap, ◌∙◌, subst, ℕ, Bool, true, false, List, [], ◌∷◌, ◌++◌}
 use Rattle.std.proofs.Common.{Option, None, append-nil}
-use Rattle.std.specs.Prelude.{codes, if◌then◌else◌, ◌&&◌, decimal}
+use Rattle.std.proofs.lemmas.Bool.{and_parts}
+use Rattle.std.specs.Prelude.{codes, if◌then◌else◌, decimal}
 use Rattle.std.specs.Fmt.{signed_decimal}
 use Rattle.std.specs.List.{flat_map, list_all}
 use Rattle.snmp_oid.specs.Numeric.{numeric_text}
@@ -45,15 +46,11 @@ HasNoSyntax mib = (o : List ℕ) → mib.syntax_at o ≡ None
 
 -- ---- strings
 
-both : (a b : Bool) → a && b ≡ true → (a ≡ true) × (b ≡ true)
-both true b e = (refl, e)
-both false b e = let no : ⊥ = cc in absurd no
-
 -- no dots are written where each octet is printable
 without_dots : (xs : List ℕ) → list_all is_printable xs ≡ true → flat_map (λ x. escaped (dotted x)) xs ≡ flat_map escaped xs
 without_dots [] e = refl
 without_dots (x ∷ xs) e =
-    let parts = both (is_printable x) (list_all is_printable xs) e in
+    let parts = and_parts (is_printable x) (list_all is_printable xs) e in
     let first : escaped (dotted x) ≡ escaped x = ap (λ (b : Bool). escaped (if b then x else 46)) parts.0 in
     let rest = without_dots xs parts.1 in
     ap (λ (t : List ℕ). t ++ flat_map (λ y. escaped (dotted y)) xs) first ∙ ap (λ (t : List ℕ). escaped x ++ t) rest

@@ -18,39 +18,20 @@ use Rattle.snmp_tools.specs.Asking.{MibsFail}
 use Rattle.snmp_tools.specs.Lines.{IsTextPrinted}
 use Rattle.snmp_tools.specs.Message.{Fault, bad_agent, long_community, out_of_memory}
 use Rattle.snmp_tools.specs.Seen.{Seen}
+use Rattle.snmp_tools.proofs.Steps.{first, later}
 
 pub community_fails : (words : ServeWords) (files : Holdings) → 255 < length words.community → ServiceFails words files long_community
-community_fails words files long = record {
-  done = [];
-  failed = community_step;
-  left = place_step ∷ modules_step ∷ [];
-  order = refl;
-  are_done = tt;
-  fails = (long, refl);
-}
+community_fails words files long = first _ _ _ community_step _ (long, refl)
 
 pub place_fails : (words : ServeWords) (files : Holdings) → length words.community ≤ 255
     → ((host : List ℕ) (port : ℕ) → IsHostAndPort words.listen host port → ⊥) → ServiceFails words files (bad_agent words.listen)
-place_fails words files short none = record {
-  done = community_step ∷ [];
-  failed = place_step;
-  left = modules_step ∷ [];
-  order = refl;
-  are_done = (short, tt);
-  fails = (none, refl);
-}
+place_fails words files short none = later _ _ _ community_step _ short (first _ _ _ place_step _ (none, refl))
 
 pub modules_fail : (words : ServeWords) (files : Holdings) (host : List ℕ) (port : ℕ) (why : Fault) → length words.community ≤ 255
     → IsHostAndPort words.listen host port → (why ≡ out_of_memory) ⊎ MibsFail files words.mibs why → IsServeRefusal words files why
 modules_fail words files host port why short place (inl none) = inl none
-modules_fail words files host port why short place (inr fails) = inr (record {
-  done = community_step ∷ place_step ∷ [];
-  failed = modules_step;
-  left = [];
-  order = refl;
-  are_done = (short, ((host, port, place), tt));
-  fails = fails;
-})
+modules_fail words files host port why short place (inr fails) =
+    inr (later _ _ _ community_step _ short (later _ _ _ place_step _ (host, port, place) (first _ _ _ modules_step [] fails)))
 
 -- what was served, by an agent of the words' community, and the line of its counts
 pub counted : (Serves : Agent → ℕ → Served → Type 0) (words : ServeWords) (view : MibView) (before middle after : Stream) (community : List ℕ)

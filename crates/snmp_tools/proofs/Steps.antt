@@ -3,8 +3,7 @@ use Rattle.std.proofs.Common.{◌≡◌, ◌⊎◌, inl, inr, ◌++◌, ◌+◌,
 use Rattle.std.proofs.Common.{Bor, Option, Some, None, Ok, length, map, take, drop}
 use Rattle.std.proofs.Common.{get_or}
 use Rattle.std.proofs.Common.{option_map, unwrap_or, refl, sym, ◌∙◌, ap, subst, append_assoc}
-use Rattle.std.proofs.Common.{arith, drop-cons}
-use Rattle.std.proofs.lemmas.List.{map-append, take-append-drop, take_more}
+use Rattle.std.proofs.Common.{arith}
 use Rattle.std.proofs.lemmas.List.Elements.{All-head, All-tail, AllZip-push}
 use Rattle.smi_show.specs.name.Meant.{TextMeans}
 use Rattle.snmp_oid.specs.Identifier.{IsWire, wire}
@@ -31,6 +30,7 @@ use Rattle.snmp_tools.specs.Question.{reaching_steps, root_text, sent_step}
 use Rattle.snmp_tools.specs.Question.{sent_steps}
 use Rattle.snmp_tools.specs.Start.{BeginFails, ResumeFails}
 use Rattle.snmp_tools.specs.declared.plan.Orders.{Orders}
+use Rattle.snmp_tools.proofs.Texts.{texts-more, texts-parts}
 
 -- the text of a reference that may be there, or another's
 pub text_or : (o : Option (Bor (List ℕ))) (d : Bor (List ℕ)) → (unwrap_or o d).now ≡ unwrap_or (option_map (λ s. s.now) o) d.now
@@ -102,25 +102,21 @@ pub more_names : (mib : Mib) (texts : List (Bor (List ℕ))) (i : ℕ) (d : Bor 
     → AreNames mib (texts_at (take i texts)) os → TextMeans mib.naming (get_or texts i d).now (Ok o)
     → AreNames mib (texts_at (take (i + 1) texts)) (os ++ o ∷ [])
 more_names mib texts i d os o inside are means =
-    let parts : texts_at (take (i + 1) texts) ≡ texts_at (take i texts) ++ (get_or texts i d).now ∷ [] =
-    ap texts_at (take_more texts i d inside) ∙ map-append (λ t. t.now) (take i texts) (get_or texts i d ∷ []) in
-    subst (λ (ts : List (List ℕ)). AreNames mib ts (os ++ o ∷ [])) (sym parts)
+    subst (λ (ts : List (List ℕ)). AreNames mib ts (os ++ o ∷ [])) (sym (texts-more texts i d inside))
     (AllZip-push (λ text name. TextMeans mib.naming text (Ok name)) (texts_at (take i texts)) os (get_or texts i d).now o are means)
 
-module _ (mib : Mib) (texts : List (Bor (List ℕ))) (i : ℕ) (text d : Bor (List ℕ)) (inside : i < length texts) (is : text ≡ get_or texts i d)
-    (os : List (List ℕ)) (are : AreNames mib (texts_at (take i texts)) os) where
-  pub first_unnamed : (why : Fault) → NameFails mib.naming text.now why → IsFirstToFail (texts_at texts) (HasMeaning mib) (NameFails mib.naming) why
-  first_unnamed why fails =
-      let parts : texts ≡ take i texts ++ text ∷ drop (suc i) texts =
-      sym (take-append-drop i texts) ∙ ap (λ (s : List (Bor (List ℕ))). take i texts ++ s) (drop-cons texts i d inside
-      ∙ ap (λ (t : Bor (List ℕ)). t ∷ drop (suc i) texts) (sym is)) in record {
-        done = texts_at (take i texts);
-        failed = text.now;
-        left = texts_at (drop (suc i) texts);
-        order = ap texts_at parts ∙ map-append (λ t. t.now) (take i texts) (text ∷ drop (suc i) texts);
-        are_done = are_named mib (texts_at (take i texts)) os are;
-        fails = fails;
-      }
+-- the first text that states none
+pub first_unnamed : (mib : Mib) (texts : List (Bor (List ℕ))) (i : ℕ) (d : Bor (List ℕ)) (os : List (List ℕ)) (why : Fault) → i < length texts
+    → AreNames mib (texts_at (take i texts)) os → NameFails mib.naming (get_or texts i d).now why
+    → IsFirstToFail (texts_at texts) (HasMeaning mib) (NameFails mib.naming) why
+first_unnamed mib texts i d os why inside are fails = record {
+  done = texts_at (take i texts);
+  failed = (get_or texts i d).now;
+  left = texts_at (drop (i + 1) texts);
+  order = texts-parts texts i d inside;
+  are_done = are_named mib (texts_at (take i texts)) os are;
+  fails = fails;
+}
 
 -- the name that can't be sent is the first
 pub first_unsent : (mib : Mib) (texts : List (Bor (List ℕ))) (os : List (List ℕ)) (i : ℕ) (text d : Bor (List ℕ)) (o e : List ℕ)
@@ -147,35 +143,29 @@ module _ (words : AskWords) (files : Holdings) (why : Fault) where
   abbrev Refused : List LoadingStep → Type 0
   Refused steps = IsFirstToFail steps Done Fails why
 
-  fails : (step : LoadingStep) (left : List LoadingStep) → Fails step why → Refused (step ∷ left)
-  fails step left f = first Done Fails why step left f
-
-  goes_on : (step : LoadingStep) (steps : List LoadingStep) → Done step → Refused steps → Refused (step ∷ steps)
-  goes_on step steps d h = later Done Fails why step steps d h
-
   -- before any module file is read
   pub at_showing : ShowingFails words.asking why → IsEarlyRefusal words files why
-  at_showing (inl f) = inr (fails (asking version_step) _ f)
-  at_showing (inr f) = inr (goes_on (asking version_step) _ f.0 (fails (asking letters_step) _ f.1))
+  at_showing (inl f) = inr (first Done Fails why (asking version_step) _ f)
+  at_showing (inr f) = inr (later Done Fails why (asking version_step) _ f.0 (first Done Fails why (asking letters_step) _ f.1))
 
   module _ (v : Done (asking version_step)) (l : Done (asking letters_step)) where
     shown : (steps : List LoadingStep) → Refused steps → Refused (asking version_step ∷ asking letters_step ∷ steps)
-    shown steps h = goes_on (asking version_step) _ v (goes_on (asking letters_step) _ l h)
+    shown steps h = later Done Fails why (asking version_step) _ v (later Done Fails why (asking letters_step) _ l h)
 
     pub at_choices : Fails choices_step why → IsEarlyRefusal words files why
-    at_choices f = inr (shown _ (fails choices_step _ f))
+    at_choices f = inr (shown _ (first Done Fails why choices_step _ f))
 
     module _ (c : Done choices_step) where
       pub at_agent : AgentFails words.asking why → IsEarlyRefusal words files why
-      at_agent (inl f) = inr (shown _ (goes_on choices_step _ c (fails (asking community_step) _ f)))
-      at_agent (inr f) = inr (shown _ (goes_on choices_step _ c (goes_on (asking community_step) _ f.0 (fails (asking agent_step) _ f.1))))
+      at_agent (inl f) = inr (shown _ (later Done Fails why choices_step _ c (first Done Fails why (asking community_step) _ f)))
+      at_agent (inr f) = inr (shown _ (later Done Fails why choices_step _ c (later Done Fails why (asking community_step) _ f.0 (first Done Fails why (asking agent_step) _ f.1))))
 
   module _ (orders : Orders) (are : AreOrdersOf words orders) where
     pub at_mibs : (why ≡ out_of_memory) ⊎ MibsFail files words.asking.mibs why → IsEarlyRefusal words files why
     at_mibs (inl e) = inl e
     at_mibs (inr f) =
-        inr (shown are.version (orders.letters, are.letters) _ (goes_on choices_step _ (chosen orders.choices, are.chosen)
-        (goes_on (asking community_step) _ are.short_community (goes_on (asking agent_step) _ (address_of orders.agent, are.agent) (fails mibs_step _ f)))))
+        inr (shown are.version (orders.letters, are.letters) _ (later Done Fails why choices_step _ (chosen orders.choices, are.chosen)
+        (later Done Fails why (asking community_step) _ are.short_community (later Done Fails why (asking agent_step) _ (address_of orders.agent, are.agent) (first Done Fails why mibs_step _ f)))))
 
     module _ (mib : Mib) (known : IsMibOf (MayHold files) words.asking mib) where
       loading_done : AreDone Done loading_steps
@@ -202,12 +192,6 @@ module _ (words : AskWords) (files : Holdings) (why : Fault) where
       abbrev RefusedBy : List LaterStep → Type 0
       RefusedBy steps = IsFirstToFail steps DoneBy FailsLater why
 
-      fails_by : (step : LaterStep) (left : List LaterStep) → FailsLater step why → RefusedBy (step ∷ left)
-      fails_by step left f = first DoneBy FailsLater why step left f
-
-      goes_on_by : (step : LaterStep) (steps : List LaterStep) → DoneBy step → RefusedBy steps → RefusedBy (step ∷ steps)
-      goes_on_by step steps d h = later DoneBy FailsLater why step steps d h
-
       loaded : (why ≡ out_of_memory) ⊎ RefusedBy (reaching_steps words.request) → IsLateRefusal words files mib why
       loaded h = record { loaded = loading_done; fails = h }
 
@@ -216,11 +200,11 @@ module _ (words : AskWords) (files : Holdings) (why : Fault) where
       at_names (get texts) (inl e) = inl e
       at_names (get texts) (inr h) =
           inr (mapped name_step (HasMeaning mib) DoneBy (λ text d. d) (NameFails mib.naming) FailsLater why (λ text f. f) texts h)
-      at_names (walk bulk letters after name) (inl f) = inr (fails_by (name_step (root_text name)) _ f)
+      at_names (walk bulk letters after name) (inl f) = inr (first DoneBy FailsLater why (name_step (root_text name)) _ f)
       at_names (walk bulk letters after name) (inr f) =
-          let rest : RefusedBy (name_step f.1.0 ∷ []) = fails_by (name_step f.1.0) [] f.1.2 in
+          let rest : RefusedBy (name_step f.1.0 ∷ []) = first DoneBy FailsLater why (name_step f.1.0) [] f.1.2 in
           let P : Option (List ℕ) → Type 0 = λ given. RefusedBy (goes_on_after (λ text. name_step text ∷ []) given) in
-          inr (goes_on_by (name_step (root_text name)) _ f.0 (subst P (sym f.1.1) rest))
+          inr (later DoneBy FailsLater why (name_step (root_text name)) _ f.0 (subst P (sym f.1.1) rest))
 
       pub names_refused : NamesFail words.request mib why → IsLateRefusal words files mib why
       names_refused f = by_names (at_names words.request f)
@@ -248,11 +232,11 @@ module _ (words : AskWords) (files : Holdings) (why : Fault) where
       resumed root after text None planned h e means f = let no : ⊥ = cc in absurd no
       resumed root after text (Some t) planned h e means (inl f) =
           let same : h.0 ≡ after = cc in
-          fails_by (below_step text t) _ (root, after, means, subst (λ (n : List ℕ). TextMeans mib.naming t (Ok n)) same h.1, (f.0, f.1))
+          first DoneBy FailsLater why (below_step text t) _ (root, after, means, subst (λ (n : List ℕ). TextMeans mib.naming t (Ok n)) same h.1, (f.0, f.1))
       resumed root after text (Some t) planned h e means (inr f) =
           let same : h.0 ≡ after = cc in
-          goes_on_by (below_step text t) _ (root, after, means, subst (λ (n : List ℕ). TextMeans mib.naming t (Ok n)) same h.1, f.0)
-          (fails_by (sent_step t) [] (after, subst (λ (n : List ℕ). TextMeans mib.naming t (Ok n)) same h.1, f.1, f.2))
+          later DoneBy FailsLater why (below_step text t) _ (root, after, means, subst (λ (n : List ℕ). TextMeans mib.naming t (Ok n)) same h.1, f.0)
+          (first DoneBy FailsLater why (sent_step t) [] (after, subst (λ (n : List ℕ). TextMeans mib.naming t (Ok n)) same h.1, f.1, f.2))
 
       at_sent : (request : Request) (choices : Choices) (question : Question) → IsQuestionOf request choices mib question
           → BeginFails request question why → RefusedBy (sent_steps request)
@@ -261,9 +245,9 @@ module _ (words : AskWords) (files : Holdings) (why : Fault) where
       at_sent (get texts) choices (subtree w) q f = absurd q
       at_sent (walk bulk letters after name) choices (names os) q f = absurd q
       at_sent (walk bulk letters after name) choices (subtree w) q (inl f) =
-          fails_by (sent_step (root_text name)) _ (w.root, q.root, f.0, f.1)
+          first DoneBy FailsLater why (sent_step (root_text name)) _ (w.root, q.root, f.0, f.1)
       at_sent (walk bulk letters after name) choices (subtree w) q (inr f) =
-          goes_on_by (sent_step (root_text name)) _ (w.root, q.root, f.0)
+          later DoneBy FailsLater why (sent_step (root_text name)) _ (w.root, q.root, f.0)
           (resumed w.root f.1.0 (root_text name) after w.after q.goes_on f.1.1 q.root f.1.2)
 
       module _ (plan : Plan) (asked : AskFor words mib plan) where
@@ -273,7 +257,7 @@ module _ (words : AskWords) (files : Holdings) (why : Fault) where
         unreached agent only (inl e) = loaded (inl e)
         unreached agent only (inr f) =
             loaded (inr (after_all DoneBy FailsLater why (name_steps words.request) (reach_step ∷ [])
-            (names_done words.request asked.choices plan.question asked.question) (fails_by reach_step [] (agent, only, f))))
+            (names_done words.request asked.choices plan.question asked.question) (first DoneBy FailsLater why reach_step [] (agent, only, f))))
 
         -- a name can't be sent, or the walk can't go on after it
         pub unsent : (agent : Address) → HasAgent words.asking.agent agent → IsReached files mib agent → BeginFails words.request plan.question why

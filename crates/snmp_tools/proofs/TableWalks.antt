@@ -1,14 +1,14 @@
 -- What the headline says of a walk of a table file in numbers: which lines are printed.
 use Rattle.std.proofs.Common.{◌≡◌, ◌≢◌, ◌⊎◌, inl, inr, refl, sym, ap, ◌∙◌, subst, ℕ, zero, suc}
 use Rattle.std.proofs.Common.{◌+◌, ◌<◌, ◌≤◌, Bool, false, List, [], ◌∷◌}
-use Rattle.std.proofs.Common.{◌↔◌, ◌++◌, length, true, Some, None, Ok, arith, append-nil}
+use Rattle.std.proofs.Common.{◌↔◌, ◌++◌, length, Some, None, Ok, arith, append-nil}
 use Rattle.std.proofs.Common.{append_assoc}
-use Rattle.std.specs.Prelude.{AllPairs, Contains, codes, drop, filter, if◌then◌else◌}
-use Rattle.std.specs.Prelude.{slice_index_or}
+use Rattle.std.specs.Prelude.{AllPairs, Contains, codes, drop, filter, not, slice_index_or}
 use Rattle.std.specs.List.{flat_map}
 use Rattle.std.specs.FinMap.{get}
 use Rattle.std.specs.Str.Lines.{lines}
 use Rattle.std.proofs.lemmas.List.Concat.{flat_map-append}
+use Rattle.std.proofs.lemmas.List.Filters.{length-filter_both}
 use Rattle.std.proofs.lemmas.List.Kept.{AllPairs-cons}
 use Rattle.snmp_oid.specs.Identifier.{IsBelow, IsIdentifier, IsWire, Precedes, wire}
 use Rattle.snmp_oid.specs.Numeric.{numeric_text}
@@ -220,14 +220,8 @@ wire_is [] h = absurd h
 wire_is (x ∷ []) h = absurd h
 wire_is (x ∷ y ∷ more) h = refl
 
-kept_or_not : (b : Bool) (row : VarBind) (kept more : List VarBind) → length kept ≤ length more
-    → length (if b then row ∷ kept else kept) ≤ length (row ∷ more)
-kept_or_not true row kept more h = omega (arith, h)
-kept_or_not false row kept more h = omega (arith, h)
-
 filter_is_short : (test : VarBind → Bool) (rows : List VarBind) → length (filter test rows) ≤ length rows
-filter_is_short test [] = omega arith
-filter_is_short test (row ∷ more) = kept_or_not (test row) row (filter test more) more (filter_is_short test more)
+filter_is_short test rows = omega (arith, length-filter_both test (λ row. not (test row)) (λ row. refl) rows)
 
 only_is_long : (got : VarBind) (rows : List VarBind) → length rows ≤ length (or_only got rows)
 only_is_long got [] = omega arith

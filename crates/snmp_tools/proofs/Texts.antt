@@ -1,8 +1,10 @@
 -- Texts that are appended one after the other, or printed.
-use Rattle.std.proofs.Common.{◌≡◌, ◌∙◌, ap, ℕ, List, ◌++◌, Option, Some, None, inl, inr, subst}
-use Rattle.std.proofs.Common.{sym, append_assoc}
+use Rattle.std.proofs.Common.{◌≡◌, ◌∙◌, ◌+◌, ◌<◌, ap, ℕ, List, [], ◌∷◌, ◌++◌, Option, Some, None, inl, inr}
+use Rattle.std.proofs.Common.{Bor, subst, sym, append_assoc, drop, get_or, length, take}
+use Rattle.std.proofs.lemmas.List.{drop_more, map-append, take-append-drop, take_more}
 use Rattle.snmp_io.specs.draft.Draft.{Written, Grows, Adds}
 use Rattle.snmp_io.specs.Output.{FailsWithin, Stream, extended}
+use Rattle.snmp_words.specs.Words.{texts_at}
 use Rattle.snmp_tools.specs.Lines.{IsTextPrinted, StopsAtText}
 use Rattle.snmp_tools.specs.Message.{Fault}
 
@@ -20,6 +22,20 @@ pub adds_after : (old middle new : Written) (a b c : List ℕ) → Adds old a mi
 adds_after old middle new a b c one two =
     let P : List ℕ → Type 0 = λ t. Adds old t new in
     subst P (sym (append_assoc a b c)) (adds_both old middle new a (b ++ c) one two)
+
+-- the texts behind references, up to a place and one more
+pub texts-more : (texts : List (Bor (List ℕ))) (i : ℕ) (d : Bor (List ℕ)) → i < length texts
+    → texts_at (take (i + 1) texts) ≡ texts_at (take i texts) ++ (get_or texts i d).now ∷ []
+texts-more texts i d inside =
+    ap texts_at (take_more texts i d inside) ∙ map-append (λ (p : Bor (List ℕ)). p.now) (take i texts) (get_or texts i d ∷ [])
+
+-- all of them, about a place
+pub texts-parts : (texts : List (Bor (List ℕ))) (i : ℕ) (d : Bor (List ℕ)) → i < length texts
+    → texts_at texts ≡ texts_at (take i texts) ++ (get_or texts i d).now ∷ texts_at (drop (i + 1) texts)
+texts-parts texts i d inside =
+    ap texts_at (sym (take-append-drop i texts))
+    ∙ map-append (λ (p : Bor (List ℕ)). p.now) (take i texts) (drop i texts)
+    ∙ ap (λ (rest : List (Bor (List ℕ))). texts_at (take i texts) ++ texts_at rest) (drop_more texts i d inside)
 
 -- a text that was printed
 pub printed : (before after : Stream) (text line : List ℕ) (fault : Option Fault) → text ≡ line → fault ≡ None → IsTextPrinted before text after fault

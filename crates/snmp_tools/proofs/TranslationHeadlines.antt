@@ -1,17 +1,11 @@
 -- What the outcome says of the texts of all names.
-use Rattle.std.proofs.Common.{◌≡◌, ◌∙◌, ◌++◌, ap, inl, inr, refl, sym, subst, ℕ, Bool, List, []}
+use Rattle.std.proofs.Common.{◌≡◌, ◌∙◌, ◌++◌, inl, inr, refl, sym, subst, ℕ, List, []}
 use Rattle.std.proofs.Common.{◌∷◌, Option, Some, None}
 use Rattle.std.proofs.Common.{append_assoc, append-nil}
-use Rattle.snmp_tools.specs.loading.Files.{AreModulesOf}
 use Rattle.snmp_tools.specs.loading.Loaded.{IsLoaded, LoadFacts}
-use Rattle.smi_value.specs.letters.Letters.{AreLetters}
-use Rattle.smi_value.specs.declared.letters.letters.Letters.{Letters}
-use Rattle.smi_value.specs.declared.letters.letters.NameForm.{NameForm}
-use Rattle.smi_value.specs.declared.letters.letters.StringForm.{StringForm}
-use Rattle.smi_value.specs.declared.letters.letters.TypeForm.{TypeForm}
 use Rattle.smi_text.specs.declared.trees.tree.Module.{Module}
 use Rattle.smi_tree.specs.Tree.{Contents, IsTree}
-use Rattle.snmp_io.specs.Files.{Holdings, Holds, MayHold}
+use Rattle.snmp_io.specs.Files.{Holdings, MayHold}
 use Rattle.snmp_io.specs.Output.{Stream, extended}
 use Rattle.snmp_io.specs.Streams.{front_after, whole_taken}
 use Rattle.snmp_words.specs.Words.{TranslateWords}
@@ -23,38 +17,15 @@ use Rattle.snmp_tools.specs.translation.Outcome.{StopsAtName, StopsWithin, ran, 
 use Rattle.snmp_tools.specs.translation.Style.{IsStyleOf}
 use Rattle.snmp_tools.specs.translation.Text.{DetailMib, detail_mib_of}
 use Rattle.snmp_tools.specs.declared.translation.style.Style.{Style}
+use Rattle.snmp_tools.proofs.Plans.{OneList, one_reading}
 use Rattle.snmp_tools.proofs.Printing.{AreTextsOf-more}
-
--- letters of the same forms are the same
-same_letters : (a b : Letters) → a.names ≡ b.names → a.types ≡ b.types → a.strings ≡ b.strings → a.value_alone ≡ b.value_alone
-    → a.numeric_enumerations ≡ b.numeric_enumerations → a.raw_ticks ≡ b.raw_ticks → a.numeric_index ≡ b.numeric_index → a.no_units ≡ b.no_units → a ≡ b
-same_letters a b names types strings value_alone enumerations ticks index units =
-    ap (λ (x : NameForm). record a { names = x }) names
-    ∙ ap (λ (x : TypeForm). record a { names = b.names; types = x }) types
-    ∙ ap (λ (x : StringForm). record a { names = b.names; types = b.types; strings = x }) strings
-    ∙ ap (λ (x : Bool). record a { names = b.names; types = b.types; strings = b.strings; value_alone = x }) value_alone
-    ∙ ap (λ (x : Bool). record b { numeric_enumerations = x; raw_ticks = a.raw_ticks; numeric_index = a.numeric_index; no_units = a.no_units }) enumerations
-    ∙ ap (λ (x : Bool). record b { raw_ticks = x; numeric_index = a.numeric_index; no_units = a.no_units }) ticks
-    ∙ ap (λ (x : Bool). record b { numeric_index = x; no_units = a.no_units }) index
-    ∙ ap (λ (x : Bool). record b { no_units = x }) units
-
-one_reading : (text : List ℕ) (a b : Letters) → AreLetters text a → AreLetters text b → a ≡ b
-one_reading text a b p q =
-    same_letters a b (p.n_f_s_S ∙ sym q.n_f_s_S) (p.q_Q ∙ sym q.q_Q) (p.x_a ∙ sym q.x_a) (p.v ∙ sym q.v) (p.e ∙ sym q.e) (p.t ∙ sym q.t) (p.b ∙ sym q.b)
-    (p.U ∙ sym q.U)
-
-same_style : (a b : Style) → a.letters ≡ b.letters → a.details ≡ b.details → a ≡ b
-same_style a b letters details =
-    ap (λ (x : Letters). record a { letters = x }) letters ∙ ap (λ (x : Bool). record b { details = x }) details
 
 -- words state one style
 one_style : (words : TranslateWords) (a b : Style) → IsStyleOf words a → IsStyleOf words b → a ≡ b
-one_style words a b p q = same_style a b (one_reading words.letters a.letters b.letters p.letters q.letters) (p.details ∙ sym q.details)
-
--- files that are known to hold texts have one list of modules
-abbrev OneList : Type 0
-OneList = (files : Holdings) (paths : List (List ℕ)) (ms ns : List Module) → AreModulesOf (Holds files) paths ms
-    → AreModulesOf (MayHold files) paths ns → ms ≡ ns
+one_style words a b p q = λ i. record {
+  letters = one_reading words.letters a.letters b.letters p.letters q.letters i;
+  details = (p.details ∙ sym q.details) i;
+}
 
 -- by the tree that was loaded
 by_tree : OneList → (words : TranslateWords) (files : Holdings) (style : Style) (modules : List Module) (tree : Contents) (err_before err_after : Stream)

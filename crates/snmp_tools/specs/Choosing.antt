@@ -1,9 +1,9 @@
--- What the letters of -C choose, computed, for private clauses.
+-- What one letter of -C chooses, computed, for private clauses.
 use Rattle.std.specs.Prelude.{ℕ, Bool, true, not, ◌&&◌, ◌==◌, nat_le, if◌then◌else◌}
 use Rattle.std.specs.Prelude.{List, [], ◌∷◌, Option, Some, None, Result, Ok, Err}
 use Rattle.std.specs.Char.{is_ascii_digit}
 use Rattle.std.specs.Str.Parse.{digits_value}
-use Rattle.snmp_tools.specs.Letters.{Choices, no_choices}
+use Rattle.snmp_tools.specs.Letters.{Choices}
 
 -- one more octet before the digits at the front and the letters after them
 abbrev pub put : ℕ → List ℕ × List (ℕ × List ℕ) → List ℕ × List (ℕ × List ℕ)
@@ -44,17 +44,3 @@ abbrev pub after_part : Bool → ℕ × List ℕ → Choices → Result Choices 
 after_part bulk (letter, digits) choices =
     if bulk && (letter == 114) then with_number letter choices (repetitions_in digits)
     else without_digits letter digits (with_letter bulk letter choices)
-
-abbrev pub after_parts : Bool → List (ℕ × List ℕ) → Result Choices ℕ → Result Choices ℕ
-after_parts bulk [] choices = choices
-after_parts bulk (part ∷ more) (Err octet) = Err octet
-after_parts bulk (part ∷ more) (Ok choices) = after_parts bulk more (after_part bulk part choices)
-
--- the choices after a text, or the first octet of it that has no meaning
-abbrev pub after_whole : Bool → Choices → List ℕ × List (ℕ × List ℕ) → Result Choices ℕ
-after_whole bulk choices ([], letters) = after_parts bulk letters (Ok choices)
-after_whole bulk choices (digit ∷ digits, letters) = Err digit
-
--- what the letters of -C choose, or the first octet of them that has no meaning
-abbrev pub choices_of : Bool → List ℕ → Result Choices ℕ
-choices_of bulk text = after_whole bulk no_choices (letter_parts text)

@@ -1,15 +1,18 @@
 -- What is promised of a job, by the words that state it.
-use Rattle.std.specs.Prelude.{◌≡◌, ℕ, true, false}
+use Rattle.std.specs.Prelude.{◌≡◌, ℕ, true, false, Option}
 use Rattle.snmp_walk.specs.declared.link.Link.{Ghosts as LinkFacts}
 use Rattle.snmp_net.specs.declared.links.Links.{Ghosts as Network}
 use Rattle.snmp_words.specs.Words.{Stated, snmpbulkwalk, snmpd, snmpget, snmptranslate, snmpwalk}
 use Rattle.snmp_tools.specs.loading.Loaded.{LoadFacts}
 use Rattle.snmp_tools.specs.Headline.{EndsAtStatus0, WritesAllAtStatus0, WritesFront}
-use Rattle.snmp_tools.specs.Outcome.{IsRun}
+use Rattle.snmp_tools.specs.Message.{Fault}
+use Rattle.snmp_tools.specs.Outcome.{IsOutcome, IsRun}
 use Rattle.snmp_tools.specs.Question.{AskWords, of_get, of_walk}
 use Rattle.snmp_tools.specs.Seen.{Seen}
 use Rattle.snmp_tools.specs.Serving.{IsServeRun}
 use Rattle.snmp_tools.specs.Translating.{IsTranslated}
+use Rattle.snmp_tools.specs.agent.Outcome.{IsServeOutcome}
+use Rattle.snmp_tools.specs.translation.Outcome.{IsTranslateOutcome}
 
 -- the job of these words, which ask an agent, was done over the world outside
 pub record IsAskDone {N V D : Type 0} (net : Network N V D) (wire : LinkFacts V)
@@ -36,3 +39,18 @@ IsJobDone {N} {V} {D} net wire Loads (snmpbulkwalk words) before after status =
     IsAskDone net wire Loads (of_walk true words) before after status
 IsJobDone {N} {V} {D} net wire Loads (snmpd words) before after status =
     IsServeRun net Loads words before after status
+
+-- what it did, and why not all of it was done, before that is reported, for private clauses
+abbrev pub IsJobOutcome : {N V D : Type 0} → Network N V D → LinkFacts V → LoadFacts → Stated
+    → (before after : Seen N) → Option Fault → Type 0
+IsJobOutcome {N} {V} {D} net wire Loads (snmptranslate words) before after fault =
+    (after.links ≡ before.links)
+    × IsTranslateOutcome Loads words before.files before.out after.out before.err after.err fault
+IsJobOutcome {N} {V} {D} net wire Loads (snmpget words) before after fault =
+    IsOutcome net wire Loads (of_get words) before after fault
+IsJobOutcome {N} {V} {D} net wire Loads (snmpwalk words) before after fault =
+    IsOutcome net wire Loads (of_walk false words) before after fault
+IsJobOutcome {N} {V} {D} net wire Loads (snmpbulkwalk words) before after fault =
+    IsOutcome net wire Loads (of_walk true words) before after fault
+IsJobOutcome {N} {V} {D} net wire Loads (snmpd words) before after fault =
+    IsServeOutcome net Loads words before after fault

@@ -78,10 +78,10 @@ question_of (planned.Walk w) = question.subtree (walk_of w)
 
 abbrev pub plan_of : Plan → question.Plan
 plan_of p = record {
-  agent = address_of p.agent;
-  community = p.community.now;
-  max_size = p.max_size;
-  letters = p.letters;
+  agent = address_of p.orders.agent;
+  community = p.orders.community.now;
+  max_size = p.orders.max_size;
+  letters = p.orders.letters;
   question = question_of p.question;
 }
 

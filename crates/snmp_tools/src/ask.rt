@@ -6,14 +6,13 @@ ghost use Rattle.snmp_io.specs.Output.{Stream};
 ghost use Rattle.snmp_tools.specs.Answer.{CanBeSent, IsAsked, IsAskedOver, end_in_memory};
 ghost use Rattle.snmp_tools.specs.Message.{outcome_of};
 ghost use Rattle.snmp_tools.specs.Mib.{IsMibOf};
-ghost use Rattle.snmp_tools.specs.Outcome.{IsFinished, IsOutcome, IsOutcomeBy, IsRun, IsShown};
+ghost use Rattle.snmp_tools.specs.Outcome.{IsFinished, IsOutcome, IsOutcomeBy, IsShown};
 ghost use Rattle.snmp_tools.specs.Planned.{AreOrdersOf, ask_words, mib_in, plan_of, question_of};
 ghost use Rattle.snmp_tools.specs.Seen.{seen};
 ghost use Rattle.snmp_tools.specs.Start.{IsBegun};
 
 use crate::error_output::ErrorOutput;
 use crate::failure::Failure;
-use crate::job::report;
 use crate::lines::{print_count, print_lines};
 use crate::loading::ModuleFiles;
 use crate::plan::{Orders, Plan};
@@ -28,25 +27,8 @@ use snmp_walk::{Link, MemoryLink, SinkFault, WalkEnd};
 use snmp_words::Asking;
 use std::alloc::Global;
 
-/// Does a job that asks an agent, and returns the exit status.
-pub(crate) fn do_ask<F: ModuleFiles, L: Links, O: Output, E: ErrorOutput>(
-    alloc: Global,
-    job: AskJob<'_, '_>,
-    files: &F,
-    links: &mut L,
-    out: &mut O,
-    err: &mut E,
-) -> u8
-    ensures { IsRun L.Links L.Wire.Link (F.loads files.now) (ask_words job.entry)
-        (seen (F.text_at files.now) links.old (O.stream out.old) (E.stream err.old))
-        (seen (F.text_at files.now) links.new (O.stream out.new) (E.stream err.new)) result }
-{
-    let done = ask(alloc, job, files, links, out, err);
-    report(alloc, done, err)
-}
-
-// Writes the lines of what is asked, and before them, on `err`, those of its modules' warnings.
-fn ask<'a, F: ModuleFiles, L: Links, O: Output, E: ErrorOutput>(
+/// Writes the lines of what is asked, and before them, on `err`, those of its modules' warnings.
+pub(crate) fn ask<'a, F: ModuleFiles, L: Links, O: Output, E: ErrorOutput>(
     alloc: Global,
     job: AskJob<'_, 'a>,
     files: &F,
@@ -84,7 +66,7 @@ fn ask_by<'a, T: ShowTree, F: Files, L: Links, O: Output>(
 {
     let asking = job.asking;
     let plan = Plan::read(alloc, job, orders, tree)?;
-    match plan.agent {
+    match plan.orders.agent {
         AgentAddress::Table(path) => {
             let table = table_at(alloc, tree, files, path)?;
             let begun = begin(&plan, job.request)?;
@@ -112,7 +94,7 @@ fn print_over<'a, T: ShowTree, L: Link, O: Output>(
     asking: &Asking<'a>,
     out: &mut O,
 ) -> Result<(), Failure<'a>>
-    requires begun { IsBegun plan.now.community.now (question_of plan.now.question) begun }
+    requires begun { IsBegun plan.now.orders.community.now (question_of plan.now.question) begun }
     requires sendable { CanBeSent (question_of plan.now.question) }
     ensures { IsShown (IsAskedOver L.Link link.old link.new (asking.now.retries + 1)
         (plan_of plan.now) (plan_of plan.now).question)
@@ -120,7 +102,7 @@ fn print_over<'a, T: ShowTree, L: Link, O: Output>(
         asking.now.agent.now (O.stream out.old) (O.stream out.new) (outcome_of result) }
 {
     let retries = asking.retries as u32;
-    let (community, letters) = (plan.community, plan.letters);
+    let (community, letters) = (plan.orders.community, plan.orders.letters);
     let mut text = Vec::new(alloc);
     let end = print_lines(
         link, begun, community, retries, tree, letters, &mut text, out,
@@ -139,21 +121,21 @@ fn print_in_memory<'a, T: ShowTree, O: Output>(
     asking: &Asking<'a>,
     out: &mut O,
 ) -> Result<(), Failure<'a>>
-    requires begun { IsBegun plan.now.community.now (question_of plan.now.question) begun }
+    requires begun { IsBegun plan.now.orders.community.now (question_of plan.now.question) begun }
     requires sendable { CanBeSent (question_of plan.now.question) }
     ensures { IsShown (IsAsked (plan_of plan.now) (plan_of plan.now).question table.now)
         (mib_in (T.naming tree.now) (T.syntax_at tree.now)) (plan_of plan.now)
         asking.now.agent.now (O.stream out.old) (O.stream out.new) (outcome_of result) }
 {
     let config = Config {
-        community: plan.community,
-        max_size: plan.max_size,
+        community: plan.orders.community,
+        max_size: plan.orders.max_size,
     };
     table.is_mib_view();
     one_answer();
     let mut link = MemoryLink::new(alloc, table, config, &[]);
     let retries = asking.retries as u32;
-    let (community, letters) = (plan.community, plan.letters);
+    let (community, letters) = (plan.orders.community, plan.orders.letters);
     let mut text = Vec::new(alloc);
     let end = print_lines(
         &mut link, begun, community, retries, tree, letters, &mut text, out,

@@ -1,5 +1,5 @@
 //! Why a job wasn't done: its message on standard error, and its status.
-ghost use Rattle.std.specs.Prelude.{◌≡◌, ◌++◌, ◌∷◌, codes, decimal, OnOk, OnErr};
+ghost use Rattle.std.specs.Prelude.{◌≡◌, ◌++◌, ◌∷◌, codes, OnOk, OnErr};
 ghost use Rattle.std.specs.Fmt.{signed_decimal};
 ghost use Rattle.snmp_oid.specs.Numeric.{numeric_text};
 ghost use Rattle.snmp_io.specs.draft.Draft.{Adds};
@@ -7,7 +7,7 @@ ghost use Rattle.snmp_tools.specs.Message.{end_message, error_status_text, name_
 ghost use Rattle.snmp_tools.specs.Message.{status_name};
 ghost use Rattle.snmp_tools.specs.Message.{table_message};
 
-use crate::loading::FilesError;
+use crate::loading::{FilesError, at_line, unreadable_text};
 use smi_show::NameError;
 use snmp_agent::TableError;
 use snmp_io::Draft;
@@ -83,7 +83,7 @@ impl Failure<'_> {
             Failure::Agent(word) => text_and_word(out, b"Bad agent address: ", word),
             Failure::Name(text, error) => text_and_word(out, name_fault(error), text),
             Failure::Modules(why) => why.message(out),
-            Failure::Unreadable(path) => word_and_text(out, path, b": cannot be read"),
+            Failure::Unreadable(path) => unreadable_text(path, out),
             Failure::Table(path, fault) => table_message(fault, path, out),
             Failure::NotWire(text) => text_and_word(out, b"Name cannot be sent: ", text),
             Failure::AfterOutsideRoot(text) => text_and_word(out, b"Not below the root: ", text),
@@ -135,13 +135,6 @@ fn text_and_word(out: &mut Draft, text: &[u8], word: &str)
     two_texts(out, text, word.as_bytes());
 }
 
-// A text after a word.
-fn word_and_text(out: &mut Draft, word: &str, text: &[u8])
-    ensures { Adds out.old (word.now ++ text.now) out.new }
-{
-    two_texts(out, word.as_bytes(), text);
-}
-
 // What is wrong with the text of a name.
 fn name_fault<'a>(error: &NameError) -> &'a [u8]
     ensures { result.now ≡ name_fault error.now }
@@ -159,21 +152,12 @@ fn table_message(fault: &TableError, path: &str, out: &mut Draft)
     ensures { Adds out.old (table_message path.now fault.now) out.new }
 {
     match fault {
-        TableError::BadLine { line } => at_line(out, path, *line, b": bad line"),
-        TableError::BadName { line } => at_line(out, path, *line, b": bad name"),
-        TableError::BadValue { line } => at_line(out, path, *line, b": bad value"),
-        TableError::Double { line } => at_line(out, path, *line, b": double name"),
+        TableError::BadLine { line } => at_line(path, *line, b"bad line", out),
+        TableError::BadName { line } => at_line(path, *line, b"bad name", out),
+        TableError::BadValue { line } => at_line(path, *line, b"bad value", out),
+        TableError::Double { line } => at_line(path, *line, b"double name", out),
         TableError::Memory => out.octets(b"Out of memory."),
     }
-}
-
-// A path, a line, and what is wrong there.
-fn at_line(out: &mut Draft, path: &str, line: usize, what: &[u8])
-    ensures { Adds out.old (path.now ++ codes ":" ++ decimal line ++ what.now) out.new }
-{
-    two_texts(out, path.as_bytes(), b":");
-    out.number(line as u64);
-    out.octets(what);
 }
 
 // How a walk ended.

@@ -1,18 +1,18 @@
 //! A job: it is done, and what failed is reported.
 ghost use Rattle.std.specs.Prelude.{◌≡◌, ◌++◌, codes, IfOk};
 ghost use Rattle.snmp_words.specs.Words.{job_words};
-ghost use Rattle.snmp_tools.specs.Done.{IsJobDone};
+ghost use Rattle.snmp_tools.specs.Done.{IsJobDone, IsJobOutcome};
 ghost use Rattle.snmp_tools.specs.Message.{fault_of, fault_message, outcome_of};
 ghost use Rattle.snmp_tools.specs.Outcome.{IsReported};
 ghost use Rattle.snmp_tools.specs.Seen.{seen};
 
-use crate::ask::do_ask;
+use crate::agent::serve_table;
+use crate::ask::ask;
 use crate::error_output::ErrorOutput;
 use crate::failure::Failure;
 use crate::loading::{ModuleFiles, one_list_of_modules};
 use crate::request::AskJob;
-use crate::serve::do_serve;
-use crate::translate::do_translate;
+use crate::translation::translate;
 use smi_show::one_meaning;
 use smi_tree::one_tree;
 use snmp_agent::{no_fault, one_table};
@@ -43,22 +43,36 @@ pub fn run_job<F: ModuleFiles, L: Links, O: Output, E: ErrorOutput>(
     one_list_of_modules();
     one_tree();
     one_meaning();
+    let done = try_job(alloc, job, files, links, out, err);
+    report(alloc, done, err)
+}
+
+// Does a job, and returns why not all of it was done, if it wasn't.
+fn try_job<'a, F: ModuleFiles, L: Links, O: Output, E: ErrorOutput>(
+    alloc: Global,
+    job: &Job<'a>,
+    files: &F,
+    links: &mut L,
+    out: &mut O,
+    err: &mut E,
+) -> Result<(), Failure<'a>>
+    ensures { IsJobOutcome L.Links L.Wire.Link (F.loads files.now) (job_words job.now)
+        (seen (F.text_at files.now) links.old (O.stream out.old) (E.stream err.old))
+        (seen (F.text_at files.now) links.new (O.stream out.new) (E.stream err.new))
+        (outcome_of result) }
+{
     match job {
-        Job::Translate(translate) => do_translate(alloc, translate, files, out, err),
-        Job::Get(get) => do_ask(alloc, AskJob::of_get(get), files, links, out, err),
-        Job::Walk(walk) => do_ask(alloc, AskJob::of_walk(false, walk), files, links, out, err),
-        Job::BulkWalk(walk) => do_ask(alloc, AskJob::of_walk(true, walk), files, links, out, err),
-        Job::Serve(serve) => do_serve(alloc, serve, files, links, out, err),
+        Job::Translate(words) => translate(alloc, words, files, out, err),
+        Job::Get(get) => ask(alloc, AskJob::of_get(get), files, links, out, err),
+        Job::Walk(walk) => ask(alloc, AskJob::of_walk(false, walk), files, links, out, err),
+        Job::BulkWalk(walk) => ask(alloc, AskJob::of_walk(true, walk), files, links, out, err),
+        Job::Serve(serve) => serve_table(alloc, serve, files, links, out, err),
     }
 }
 
-/// Reports on `err` why a job wasn't done, if it wasn't, and returns the exit status. Where memory
-/// for the message runs out, that is reported.
-pub(crate) fn report<E: ErrorOutput>(
-    alloc: Global,
-    done: Result<(), Failure<'_>>,
-    err: &mut E,
-) -> u8
+// Reports on `err` why a job wasn't done, if it wasn't, and returns the exit status. Where memory
+// for the message runs out, that is reported.
+fn report<E: ErrorOutput>(alloc: Global, done: Result<(), Failure<'_>>, err: &mut E) -> u8
     ensures { IsReported (outcome_of done.entry) (E.stream err.old) (E.stream err.new) result }
 {
     let failure = match done {

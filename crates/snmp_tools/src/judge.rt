@@ -1,16 +1,13 @@
 //! Judges the words of a job that asks an agent: the plan that they ask for, or the first of them
 //! that has no meaning.
-ghost use Rattle.std.specs.Prelude.{◌≡◌, ◌↔◌, ◌≤◌, ℕ, List, Some, Ok, codes, length};
-ghost use Rattle.std.specs.Prelude.{IfErr, IfNone, IfOk, IfSome, IsTrue, OnOk, option_map};
+ghost use Rattle.std.specs.Prelude.{◌≡◌, ◌↔◌, ◌≤◌, codes, length, IfErr, IfOk, IsTrue};
 ghost use Rattle.std.specs.Prelude.{string_bytes};
-ghost use Rattle.smi_show.specs.name.Meant.{TextMeans};
 ghost use Rattle.snmp_words.specs.Words.{asking_words};
 ghost use Rattle.snmp_net.specs.Address.{address_of};
-ghost use Rattle.snmp_tools.specs.Asking.{AreShown, HasAgent, IsNameIfGiven, NameFails};
+ghost use Rattle.snmp_tools.specs.Asking.{AreShown, HasAgent};
 ghost use Rattle.snmp_tools.specs.Chosen.{chosen};
 ghost use Rattle.snmp_tools.specs.Message.{fault_of};
 ghost use Rattle.snmp_io.specs.Files.{Holdings};
-ghost use Rattle.snmp_tools.specs.Mib.{Mib};
 ghost use Rattle.snmp_tools.specs.Planned.{AgentFails, AreOrdersOf, NamesFail, ShowingFails};
 ghost use Rattle.snmp_tools.specs.Planned.{ask_words, mib_in, plan_of, question_of, request_of};
 ghost use Rattle.snmp_tools.specs.Question.{AskFor, HasChosen, IsEarlyRefusal, IsQuestionOf};
@@ -18,12 +15,11 @@ ghost use Rattle.snmp_tools.specs.Question.{counts_in};
 
 use crate::choices::Choices;
 use crate::failure::Failure;
-use crate::names::read_names;
+use crate::names::{name, name_if_given, read_names};
 use crate::plan::{Orders, Plan, Question, Walk};
 use crate::request::{AskJob, Request};
-use smi_show::{Letters, NameTree, ShowTree, resolve, resolve_into};
+use smi_show::{Letters, ShowTree};
 use snmp_net::AgentAddress;
-use snmp_oid::Oid;
 use snmp_words::Asking;
 use std::alloc::Global;
 
@@ -79,13 +75,7 @@ impl<'a> Plan<'a> {
             (mib_in (T.naming tree.now) (T.syntax_at tree.now)) (fault_of e)) }
     {
         let question = Question::read(alloc, job.request, orders.choices, tree)?;
-        Ok(Plan {
-            agent: orders.agent,
-            community: orders.community,
-            max_size: orders.max_size,
-            letters: orders.letters,
-            question,
-        })
+        Ok(Plan { orders, question })
     }
 }
 
@@ -176,47 +166,4 @@ fn is_2c(word: &str) -> bool
     ensures { IsTrue result ↔ word.now ≡ codes "2c" }
 {
     word == "2c"
-}
-
-/// The name that a text states.
-pub(crate) fn name<'a, T: NameTree>(tree: &T, text: &'a str) -> Result<Oid, Failure<'a>>
-    ensures ok { IfOk result (λ o. TextMeans (T.naming tree.now) text.entry.now (Ok o)) }
-    ensures err { IfErr result (λ e. NameFails (T.naming tree.now) text.entry.now (fault_of e)) }
-{
-    match resolve(tree, text.as_bytes()) {
-        Ok(name) => Ok(name),
-        Err(error) => Err(Failure::Name(text, error)),
-    }
-}
-
-/// Reads the name that a text states into an identifier that is there.
-pub(crate) fn read_name<'a, T: NameTree>(
-    tree: &T,
-    text: &'a str,
-    oid: &mut Oid,
-) -> Result<(), Failure<'a>>
-    ensures ok { OnOk result (TextMeans (T.naming tree.now) text.entry.now (Ok oid.new)) }
-    ensures err { IfErr result (λ e. NameFails (T.naming tree.now) text.entry.now (fault_of e)) }
-{
-    match resolve_into(tree, text.as_bytes(), oid) {
-        Ok(()) => Ok(()),
-        Err(error) => Err(Failure::Name(text, error)),
-    }
-}
-
-// The name that a text states, where there is a text.
-fn name_if_given<'a, T: NameTree>(
-    tree: &T,
-    text: Option<&'a str>,
-) -> Result<Option<Oid>, Failure<'a>>
-    ensures ok { (mib : Mib) → mib.naming ≡ T.naming tree.now
-        → IfOk result (IsNameIfGiven mib (option_map (λ t. t.now) text.entry)) }
-    ensures err { IfErr result (λ e.
-        (t : List ℕ) × (option_map (λ t. t.now) text.entry ≡ Some t)
-        × NameFails (T.naming tree.now) t (fault_of e)) }
-{
-    match text {
-        None => Ok(None),
-        Some(text) => Ok(Some(name(tree, text)?)),
-    }
 }

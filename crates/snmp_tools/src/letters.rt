@@ -6,8 +6,9 @@ ghost use Rattle.std.specs.List.{list_all};
 ghost use Rattle.std.specs.Str.Parse.{digits_value};
 ghost use Rattle.snmp_walk.specs.Walker.{IsMethod};
 ghost use Rattle.snmp_tools.specs.Chosen.{chosen};
-ghost use Rattle.snmp_tools.specs.Choosing.{after_part, choices_of, repetitions_in};
-ghost use Rattle.snmp_tools.specs.Letters.{method_of, mode_of, no_choices};
+ghost use Rattle.snmp_tools.specs.Choosing.{after_part, repetitions_in};
+ghost use Rattle.snmp_tools.specs.Letters.{HaveChosen, IsFirstUnknown, method_of, mode_of};
+ghost use Rattle.snmp_tools.specs.Letters.{no_choices};
 ghost use Rattle.snmp_tools.specs.Planned.{request_of};
 ghost use Rattle.snmp_tools.specs.Question.{HasChosen, HasUnknown};
 
@@ -19,8 +20,9 @@ impl Choices {
     ghost use Rattle.std.specs.Prelude.{◌≡◌, MatchResult, Ok, Err};
     ghost use Rattle.snmp_walk.specs.Walker.{IsMethod};
     ghost use Rattle.snmp_tools.specs.Chosen.{chosen};
-    ghost use Rattle.snmp_tools.specs.Choosing.{after_part, choices_of};
-    ghost use Rattle.snmp_tools.specs.Letters.{method_of, mode_of, no_choices};
+    ghost use Rattle.snmp_tools.specs.Choosing.{after_part};
+    ghost use Rattle.snmp_tools.specs.Letters.{HaveChosen, IsFirstUnknown, method_of, mode_of};
+    ghost use Rattle.snmp_tools.specs.Letters.{no_choices};
     ghost use Rattle.snmp_tools.specs.Planned.{request_of};
     ghost use Rattle.snmp_tools.specs.Question.{HasChosen, HasUnknown};
 
@@ -51,8 +53,8 @@ impl Choices {
     // Reads the letters of `-C`, for snmpbulkwalk or for snmpwalk. The error is the first octet
     // that has no meaning.
     fn read(letters: &str, bulk: bool) -> Result<Choices, u8>
-        ensures { MatchResult result (λ c. choices_of bulk letters.now ≡ Ok (chosen c))
-            (λ octet. choices_of bulk letters.now ≡ Err octet) }
+        ensures { MatchResult result (λ c. HaveChosen bulk letters.now (chosen c))
+            (IsFirstUnknown bulk letters.now) }
     {
         let letters = letters.as_bytes();
         let mut choices = Choices::none();

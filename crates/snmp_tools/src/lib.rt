@@ -35,10 +35,8 @@ mod loading;
 mod names;
 mod plan;
 mod request;
-mod serve;
 mod start;
 mod table_names;
-mod translate;
 mod translation;
 
 pub use crate::loading::{FilesError, ModuleFiles, WithoutModules, load_tree};

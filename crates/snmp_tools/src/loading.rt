@@ -10,6 +10,7 @@ mod read;
 mod warned;
 
 pub use error::FilesError;
+pub(crate) use error::{at_line, unreadable_text};
 pub use load::load_tree;
 pub use modules::{ModuleFiles, WithoutModules};
 pub use read::{one_list_of_modules, read_modules};

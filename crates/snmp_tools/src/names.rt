@@ -1,8 +1,9 @@
-//! The names of a Get: each is looked up, and must have an encoding.
-ghost use Rattle.std.specs.Prelude.{◌≡◌, ◌⊎◌, List, ℕ, All, IfErr, IfOk, OnOk};
+//! Names that texts state: each is looked up, and those of a Get must have an encoding.
+ghost use Rattle.std.specs.Prelude.{◌≡◌, ◌⊎◌, List, ℕ, All, IfErr, IfOk, Ok, OnOk, Some, option_map};
+ghost use Rattle.smi_show.specs.name.Meant.{TextMeans};
 ghost use Rattle.snmp_oid.specs.Identifier.{IsWire, wire};
 ghost use Rattle.snmp_words.specs.Words.{texts_at};
-ghost use Rattle.snmp_tools.specs.Asking.{NameFails};
+ghost use Rattle.snmp_tools.specs.Asking.{IsNameIfGiven, NameFails};
 ghost use Rattle.snmp_tools.specs.Question.{AreNames, HasMeaning, HasSendable, HasUnsendable};
 ghost use Rattle.snmp_tools.specs.Message.{fault_of, out_of_memory};
 ghost use Rattle.snmp_tools.specs.Mib.{Mib};
@@ -10,10 +11,52 @@ ghost use Rattle.snmp_tools.specs.Planned.{mib_in};
 ghost use Rattle.snmp_io.specs.Steps.{IsFirstToFail};
 
 use crate::failure::Failure;
-use crate::judge::name;
-use smi_show::ShowTree;
+use smi_show::{NameTree, ShowTree, resolve, resolve_into};
 use snmp_oid::Oid;
 use std::alloc::Global;
+
+/// The name that a text states.
+pub(crate) fn name<'a, T: NameTree>(tree: &T, text: &'a str) -> Result<Oid, Failure<'a>>
+    ensures ok { IfOk result (λ o. TextMeans (T.naming tree.now) text.entry.now (Ok o)) }
+    ensures err { IfErr result (λ e. NameFails (T.naming tree.now) text.entry.now (fault_of e)) }
+{
+    match resolve(tree, text.as_bytes()) {
+        Ok(name) => Ok(name),
+        Err(error) => Err(Failure::Name(text, error)),
+    }
+}
+
+/// Reads the name that a text states into an identifier that is there.
+pub(crate) fn read_name<'a, T: NameTree>(
+    tree: &T,
+    text: &'a str,
+    oid: &mut Oid,
+) -> Result<(), Failure<'a>>
+    ensures ok { OnOk result (TextMeans (T.naming tree.now) text.entry.now (Ok oid.new)) }
+    ensures err { IfErr result (λ e. NameFails (T.naming tree.now) text.entry.now (fault_of e)) }
+{
+    match resolve_into(tree, text.as_bytes(), oid) {
+        Ok(()) => Ok(()),
+        Err(error) => Err(Failure::Name(text, error)),
+    }
+}
+
+/// The name that a text states, where there is a text.
+pub(crate) fn name_if_given<'a, T: NameTree>(
+    tree: &T,
+    text: Option<&'a str>,
+) -> Result<Option<Oid>, Failure<'a>>
+    ensures ok { (mib : Mib) → mib.naming ≡ T.naming tree.now
+        → IfOk result (IsNameIfGiven mib (option_map (λ t. t.now) text.entry)) }
+    ensures err { IfErr result (λ e.
+        (t : List ℕ) × (option_map (λ t. t.now) text.entry ≡ Some t)
+        × NameFails (T.naming tree.now) t (fault_of e)) }
+{
+    match text {
+        None => Ok(None),
+        Some(text) => Ok(Some(name(tree, text)?)),
+    }
+}
 
 /// The names that texts state, in order, or the first of the texts that states none.
 pub(crate) fn read_names<'a, T: ShowTree>(

@@ -55,17 +55,8 @@ pub(crate) enum Question {
 /// A question, to whom, and how the answer is shown.
 #[derive(Debug, Drop)]
 pub(crate) struct Plan<'a> {
-    /// Where the agent is.
-    pub(crate) agent: AgentAddress<'a>,
-    /// The community of requests and of the agent.
-    pub(crate) community: &'a [u8],
-    /// The greatest size of the agent's messages, in octets.
-    pub(crate) max_size: usize,
-    /// How its lines are shown.
-    pub(crate) letters: Letters,
+    /// To whom, and how the answer is shown.
+    pub(crate) orders: Orders<'a>,
     /// What is asked.
     pub(crate) question: Question,
-    ghost short_community: { length community.now ≤ 255 },
-    ghost some_size: { 1 ≤ max_size },
-    ghost datagram_size: { max_size ≤ 65507 },
 }

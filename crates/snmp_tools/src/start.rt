@@ -43,7 +43,7 @@ pub(crate) fn begin<'p, 'a>(
     requires { (choices : Choices) × (mib : Mib)
         × IsQuestionOf (request_of request) choices mib (question_of plan.now.question) }
     ensures ok { IfOk result
-        (IsBegun plan.now.community.now (question_of plan.now.question)) }
+        (IsBegun plan.now.orders.community.now (question_of plan.now.question)) }
     ensures sendable { OnOk result (CanBeSent (question_of plan.now.question)) }
     ensures err { IfErr result (λ e. BeginFails (request_of request.entry)
         (question_of plan.now.question) (fault_of e)) }
@@ -60,7 +60,7 @@ pub(crate) fn begin<'p, 'a>(
             Request::Get(_) => unreachable!(),
             Request::Walk { after, name, .. } => {
                 let (root_text, after_text) = (name.unwrap_or(MIB_2), after.unwrap_or(""));
-                Ok(Begun::Walk(start(walk, plan.community, root_text, after_text)?))
+                Ok(Begun::Walk(start(walk, plan.orders.community, root_text, after_text)?))
             }
         },
     }

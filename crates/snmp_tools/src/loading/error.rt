@@ -49,8 +49,8 @@ impl FilesError<'_> {
     }
 }
 
-// That the file at a path can't be read.
-fn unreadable_text(path: &str, draft: &mut Draft)
+/// That the file at a path can't be read.
+pub(crate) fn unreadable_text(path: &str, draft: &mut Draft)
     ensures { Adds draft.old (path.now ++ codes ": cannot be read") draft.new }
 {
     draft.octets(path.as_bytes());
@@ -80,8 +80,8 @@ fn fault_text(path: &str, fault: &ParseError, draft: &mut Draft)
     }
 }
 
-// What is wrong in a line of the file at a path.
-fn at_line(path: &str, line: usize, what: &[u8], draft: &mut Draft)
+/// What is wrong in a line of the file at a path.
+pub(crate) fn at_line(path: &str, line: usize, what: &[u8], draft: &mut Draft)
     ensures { Adds draft.old (at_line path.now line what.now) draft.new }
 {
     draft.octets(path.as_bytes());

@@ -6,8 +6,8 @@ ghost use Rattle.snmp_tools.specs.translation.Outcome.{IsNamePrinted, IsPrinting
 ghost use Rattle.snmp_tools.specs.translation.Text.{IsShown};
 
 use crate::failure::Failure;
-use crate::judge::read_name;
 use crate::lines::print_text;
+use crate::names::read_name;
 use crate::translation::style::Style;
 use smi_show::{DetailTree, detail, name_text};
 use snmp_io::Output;

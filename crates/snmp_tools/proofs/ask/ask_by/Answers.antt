@@ -1,71 +1,49 @@
-use Rattle.std.proofs.Common.{◌≡◌, ap, inl, inr, refl, subst}
+use Rattle.std.proofs.Common.{ap, inl, inr, refl, subst}
 use Rattle.snmp_net.specs.Address.{address_of, table, udp}
 use Rattle.snmp_tools.specs.Asking.{HasAgent}
 use Rattle.snmp_tools.specs.Message.{fault_of}
 use Rattle.snmp_tools.specs.Outcome.{asked, asked_over, not_begun, not_linked, refused}
-use Rattle.snmp_tools.specs.Planned.{ask_words, mib_in, plan_of}
-use Rattle.snmp_tools.specs.Question.{IsPlanFor}
+use Rattle.snmp_tools.specs.Planned.{ask_words}
 use Rattle.snmp_tools.proofs.Steps.{names_refused, unreached, unsent}
 use Rattle.snmp_tools.proofs.Wholes.{outcome_err, with_facts}
 use Rattle.snmp_tools.proofs.ask.ask_by.Goals as goal
 
 pub returns-in_err-plan : goal.returns-in_err-plan
 returns-in_err-plan g c = λ err.
-    let mib = mib_in (g.T.NameTree.naming c.args.tree.now) (g.T.ShowTree.syntax_at c.args.tree.now) in
-    let files = g.F.Files.text_at c.args.files.now in
-    let words = ask_words c.args.job in
     let why = fault_of c.in_err-plan.field-0.0 in
-    refused why (names_refused words files why c.args.orders c.requires.orders mib c.requires.known c.in_err-plan.ensures.refused) refl
+    refused why (names_refused _ _ why c.args.orders c.requires.orders _ c.requires.known c.in_err-plan.ensures.refused) refl
     (outcome_err _ _ c.from_residual.ensures.1)
 
 pub returns-in_err-table-in-Table : goal.returns-in_err-table-in-Table
 returns-in_err-table-in-Table g c = λ err.
-    let mib = mib_in (g.T.NameTree.naming c.args.tree.now) (g.T.ShowTree.syntax_at c.args.tree.now) in
-    let files = g.F.Files.text_at c.args.files.now in
-    let words = ask_words c.args.job in
-    let plan = plan_of c.in_ok-plan.plan in
-    let over : plan.agent ≡ table c.in-Table.path.now = ap address_of c.in-Table.is in
-    let only = subst (HasAgent words.asking.agent) over c.in_ok-plan.ensures.only in
+    let only = subst (HasAgent (ask_words c.args.job).asking.agent) (ap address_of c.in-Table.is) c.in_ok-plan.ensures.only in
     let why = fault_of c.in_err-table-in-Table.field-0.0 in
-    refused why (unreached words files why c.args.orders c.requires.orders mib c.requires.known plan c.in_ok-plan.ensures.asked (table c.in-Table.path.now) only
+    refused why (unreached _ _ why c.args.orders c.requires.orders _ c.requires.known _ c.in_ok-plan.ensures.asked (table c.in-Table.path.now) only
     c.in_err-table-in-Table.ensures.err) refl (outcome_err _ _ c.from_residual-in_err-table-in-Table.ensures.1)
 
 pub returns-in_err-begun-in-Table : goal.returns-in_err-begun-in-Table
 returns-in_err-begun-in-Table g c = λ err.
-    let mib = mib_in (g.T.NameTree.naming c.args.tree.now) (g.T.ShowTree.syntax_at c.args.tree.now) in
-    let files = g.F.Files.text_at c.args.files.now in
-    let words = ask_words c.args.job in
-    let plan = plan_of c.in_ok-plan.plan in
-    let over : plan.agent ≡ table c.in-Table.path.now = ap address_of c.in-Table.is in
-    let only = subst (HasAgent words.asking.agent) over c.in_ok-plan.ensures.only in
+    let over = ap address_of c.in-Table.is in
+    let only = subst (HasAgent (ask_words c.args.job).asking.agent) over c.in_ok-plan.ensures.only in
     let why = fault_of c.in_err-begun-in-Table.field-0.0 in
-    let for : IsPlanFor words files mib plan = record { known = c.requires.known; asked = c.in_ok-plan.ensures.asked; only = c.in_ok-plan.ensures.only } in
-    not_begun why (unsent words files why c.args.orders c.requires.orders mib c.requires.known plan c.in_ok-plan.ensures.asked (table c.in-Table.path.now) only
-    (_, c.in_ok-table-in-Table.ensures.table) c.in_err-begun-in-Table.ensures.err) plan for (inl (c.in-Table.path.now, over, refl))
-    (outcome_err _ _ c.from_residual-in_err-begun-in-Table.ensures.1)
+    not_begun why (unsent _ _ why c.args.orders c.requires.orders _ c.requires.known _ c.in_ok-plan.ensures.asked (table c.in-Table.path.now) only
+    (_, c.in_ok-table-in-Table.ensures.table) c.in_err-begun-in-Table.ensures.err) _
+    record { known = c.requires.known; asked = c.in_ok-plan.ensures.asked; only = c.in_ok-plan.ensures.only }
+    (inl (c.in-Table.path.now, over, refl)) (outcome_err _ _ c.from_residual-in_err-begun-in-Table.ensures.1)
 
 pub returns-in-Table : goal.returns-in-Table
 returns-in-Table g c = λ err.
-    let mib = mib_in (g.T.NameTree.naming c.args.tree.now) (g.T.ShowTree.syntax_at c.args.tree.now) in
-    let files = g.F.Files.text_at c.args.files.now in
-    let words = ask_words c.args.job in
-    let plan = plan_of c.in_ok-plan.plan in
-    let for : IsPlanFor words files mib plan = record { known = c.requires.known; asked = c.in_ok-plan.ensures.asked; only = c.in_ok-plan.ensures.only } in
-    asked plan c.in-Table.path.now _ for (ap address_of c.in-Table.is) c.in_ok-table-in-Table.ensures.table c.in_ok-begun-in-Table.ensures.sendable
-    c.print_in_memory.ensures refl
+    asked _ c.in-Table.path.now _ record { known = c.requires.known; asked = c.in_ok-plan.ensures.asked; only = c.in_ok-plan.ensures.only }
+    (ap address_of c.in-Table.is) c.in_ok-table-in-Table.ensures.table c.in_ok-begun-in-Table.ensures.sendable c.print_in_memory.ensures refl
 
 pub returns-in_err-begun-in-Udp : goal.returns-in_err-begun-in-Udp
 returns-in_err-begun-in-Udp g c = λ err.
-    let mib = mib_in (g.T.NameTree.naming c.args.tree.now) (g.T.ShowTree.syntax_at c.args.tree.now) in
-    let files = g.F.Files.text_at c.args.files.now in
-    let words = ask_words c.args.job in
-    let plan = plan_of c.in_ok-plan.plan in
-    let over : plan.agent ≡ udp c.in-Udp.at.host.now c.in-Udp.at.port = ap address_of c.in-Udp.is in
-    let only = subst (HasAgent words.asking.agent) over c.in_ok-plan.ensures.only in
+    let over = ap address_of c.in-Udp.is in
+    let only = subst (HasAgent (ask_words c.args.job).asking.agent) over c.in_ok-plan.ensures.only in
     let why = fault_of c.in_err-begun-in-Udp.field-0.0 in
-    let for : IsPlanFor words files mib plan = record { known = c.requires.known; asked = c.in_ok-plan.ensures.asked; only = c.in_ok-plan.ensures.only } in
-    not_begun why (unsent words files why c.args.orders c.requires.orders mib c.requires.known plan c.in_ok-plan.ensures.asked
-    (udp c.in-Udp.at.host.now c.in-Udp.at.port) only tt c.in_err-begun-in-Udp.ensures.err) plan for
+    not_begun why (unsent _ _ why c.args.orders c.requires.orders _ c.requires.known _ c.in_ok-plan.ensures.asked
+    (udp c.in-Udp.at.host.now c.in-Udp.at.port) only tt c.in_err-begun-in-Udp.ensures.err) _
+    record { known = c.requires.known; asked = c.in_ok-plan.ensures.asked; only = c.in_ok-plan.ensures.only }
     (inr (
       c.in-Udp.at.host.now,
       c.in-Udp.at.port,
@@ -76,22 +54,16 @@ returns-in_err-begun-in-Udp g c = λ err.
 
 pub returns-in-Err : goal.returns-in-Err
 returns-in-Err g c = λ err.
-    let mib = mib_in (g.T.NameTree.naming c.args.tree.now) (g.T.ShowTree.syntax_at c.args.tree.now) in
-    let files = g.F.Files.text_at c.args.files.now in
-    let words = ask_words c.args.job in
-    let plan = plan_of c.in_ok-plan.plan in
-    let for : IsPlanFor words files mib plan = record { known = c.requires.known; asked = c.in_ok-plan.ensures.asked; only = c.in_ok-plan.ensures.only } in
-    not_linked plan c.in-Udp.at.host.now c.in-Udp.at.port for (ap address_of c.in-Udp.is) c.in-Err.ensures.fault refl refl
+    not_linked _ c.in-Udp.at.host.now c.in-Udp.at.port
+    record { known = c.requires.known; asked = c.in_ok-plan.ensures.asked; only = c.in_ok-plan.ensures.only }
+    (ap address_of c.in-Udp.is) c.in-Err.ensures.fault refl refl
 
 pub returns : goal.returns
 returns g c = λ err.
-    let mib = mib_in (g.T.NameTree.naming c.args.tree.now) (g.T.ShowTree.syntax_at c.args.tree.now) in
-    let files = g.F.Files.text_at c.args.files.now in
-    let words = ask_words c.args.job in
-    let plan = plan_of c.in_ok-plan.plan in
-    let for : IsPlanFor words files mib plan = record { known = c.requires.known; asked = c.in_ok-plan.ensures.asked; only = c.in_ok-plan.ensures.only } in
-    asked_over plan c.in-Udp.at.host.now c.in-Udp.at.port for (ap address_of c.in-Udp.is) c.in_ok-begun-in-Udp.ensures.sendable
-    (with_facts _ _ mib _ _ _ _ _ _ (λ given turned end h. record {
+    asked_over _ c.in-Udp.at.host.now c.in-Udp.at.port
+    record { known = c.requires.known; asked = c.in_ok-plan.ensures.asked; only = c.in_ok-plan.ensures.only }
+    (ap address_of c.in-Udp.is) c.in_ok-begun-in-Udp.ensures.sendable
+    (with_facts _ _ _ _ _ _ _ _ _ (λ given turned end h. record {
       link = c.in-Ok.link;
       after = c.print_over.new.link;
       opened = c.in-Ok.ensures.opened;

@@ -7,7 +7,7 @@ use Rattle.snmp_tools.proofs.ask.print_over.Goals as goal
 
 pub print_lines-end-requires-clause-sendable : goal.print_lines-end-requires-clause-sendable
 print_lines-end-requires-clause-sendable g c =
-    can_run c.args.plan.now.community.now (question_of c.args.plan.now.question) c.args.begun c.requires.begun c.requires.sendable
+    can_run c.args.plan.now.orders.community.now (question_of c.args.plan.now.question) c.args.begun c.requires.begun c.requires.sendable
 
 pub returns : goal.returns
 returns g c =

@@ -1,5 +1,5 @@
 use Rattle.std.proofs.Common.{◌≡◌, ◌⊎◌, ◌+◌, ◌++◌, Bool, false, List, [], ◌∷◌, Result, Ok, Err}
-use Rattle.std.proofs.Common.{inr, refl, subst, sym, take}
+use Rattle.std.proofs.Common.{inr, subst, sym, take}
 use Rattle.std.specs.Prelude.{if◌then◌else◌}
 use Rattle.std.specs.Result.{is_err, is_ok}
 use Rattle.snmp_words.specs.Words.{texts_at}
@@ -32,5 +32,5 @@ returns-in_err-oid-clause-err g c =
     let f = c.in_err-oid.field-0.0 in
     if_err (λ e. (fault_of e ≡ out_of_memory) ⊎ IsFirstToFail (texts_at c.args.texts.now) (HasMeaning mib) (NameFails mib.naming) (fault_of e)) _ f
     c.from_residual.ensures.1
-    (inr (first_unnamed mib c.args.texts.now c.texts.text-index _ _ c.texts-test.true refl c.texts.names.items c.texts.invariant (fault_of f)
+    (inr (first_unnamed mib c.args.texts.now c.texts.text-index _ c.texts.names.items (fault_of f) c.texts-test.true c.texts.invariant
     c.in_err-oid.ensures.err))

@@ -19,7 +19,7 @@ returns-in-Agent c =
 
 pub returns-in-Unreadable : goal.returns-in-Unreadable
 returns-in-Unreadable c =
-    subst (λ (f : Failure). Adds c.args.out.now (fault_message (fault_of f)) c.word_and_text.new.out) (sym c.in-Unreadable.is) c.word_and_text.ensures
+    subst (λ (f : Failure). Adds c.args.out.now (fault_message (fault_of f)) c.unreadable_text.new.draft) (sym c.in-Unreadable.is) c.unreadable_text.ensures
 
 pub returns-in-NotWire : goal.returns-in-NotWire
 returns-in-NotWire c =

@@ -2,7 +2,8 @@ use Rattle.std.proofs.Common.{◌++◌, subst, sym, ℕ, List}
 use Rattle.std.proofs.lemmas.Result.{err_from_is_err_and}
 use Rattle.snmp_io.specs.Files.{MayHold}
 use Rattle.snmp_tools.specs.loading.Files.{AreModulesOf}
-use Rattle.snmp_tools.proofs.Reading.{AreModulesOf-more, held_among, refused_at, texts-more}
+use Rattle.snmp_tools.proofs.Reading.{AreModulesOf-more, held_among, refused_at}
+use Rattle.snmp_tools.proofs.Texts.{texts-more}
 use Rattle.snmp_tools.proofs.loading.read.read_modules.Goals as goal
 
 pub returns-in_err-found-clause-refused : goal.returns-in_err-found-clause-refused

@@ -4,7 +4,8 @@ use Rattle.snmp_io.specs.Streams.{extended-nil}
 use Rattle.snmp_words.specs.Words.{texts_at}
 use Rattle.snmp_tools.specs.translation.Outcome.{AreNamesPrinted, IsPrinting}
 use Rattle.snmp_tools.specs.translation.Text.{DetailMib}
-use Rattle.snmp_tools.proofs.Printing.{more_printed, stopped_at, texts-more}
+use Rattle.snmp_tools.proofs.Printing.{more_printed, stopped_at}
+use Rattle.snmp_tools.proofs.Texts.{texts-more}
 use Rattle.snmp_tools.proofs.Wholes.{outcome_err}
 use Rattle.snmp_tools.proofs.translation.names.print_names.Goals as goal
 

@@ -5,7 +5,7 @@ use Rattle.smi_show.specs.name.Naming.{Naming}
 use Rattle.snmp_tools.specs.Asking.{IsNameIfGiven, NameFails}
 use Rattle.snmp_tools.specs.Message.{fault_of}
 use Rattle.snmp_tools.proofs.Wholes.{if_err}
-use Rattle.snmp_tools.proofs.judge.name_if_given.Goals as goal
+use Rattle.snmp_tools.proofs.names.name_if_given.Goals as goal
 
 pub returns-in_err-name-in-Some-clause-err : goal.returns-in_err-name-in-Some-clause-err
 returns-in_err-name-in-Some-clause-err g c =
