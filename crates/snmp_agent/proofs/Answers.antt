@@ -1,5 +1,5 @@
 -- There is an answer to each name.
-use Rattle.std.proofs.Common.{◌≡◌, ℕ, List, [], ◌∷◌, refl}
+use Rattle.std.proofs.Common.{◌≡◌, ℕ, List, [], ◌∷◌, ◌++◌, refl}
 use Rattle.snmp_wire.specs.declared.kind.Kind.{Kind}
 use Rattle.snmp_wire.specs.declared.kind.Kind.TheVariants as kind
 use Rattle.snmp_wire.specs.Message.{VarBind}
@@ -49,6 +49,12 @@ module _ (gets : HasGets) (nexts : HasNexts) where
 pub all_given : HasNextsAfter → (view : MibView) (round : ℕ) (names : List VarBind) → (given : List VarBind) × AreGiven view round names given
 all_given nexts view round names =
     each (λ asked given. IsNextAfter view round asked.name given) (λ (asked : VarBind). let one = nexts view round asked.name in (one.0, one.1)) names
+
+pub answers_both : (R : VarBind → VarBind → Type 0) (a b x y : List VarBind) → AreAnswers R a x → AreAnswers R b y → AreAnswers R (a ++ b) (x ++ y)
+answers_both R [] b [] y h k = k
+answers_both R [] b (p ∷ x) y h k = absurd h
+answers_both R (q ∷ a) b [] y h k = absurd h
+answers_both R (q ∷ a) b (p ∷ x) y h k = (h.0, answers_both R a b x y h.1 k)
 
 -- ---- one answer
 

@@ -9,12 +9,13 @@ use Rattle.snmp_wire.specs.Laws.{HasPieces}
 use Rattle.snmp_wire.specs.Sizes.{MessageSizes}
 use Rattle.snmp_agent.specs.table.Table.{MibView}
 use Rattle.snmp_agent.specs.Reply.{Fits, IsBulk, IsLongestFront, bulk, no_error, response}
+use Rattle.snmp_agent.specs.declared.room.Draft.{Draft}
 use Rattle.snmp_agent.specs.Answering.{HoldsBindings, IsResponseWritten, IsResponseTooLong}
-use Rattle.snmp_agent.specs.Answering.{HasNoRoom, HoldsFront, IsRoom, PassesLimit, whole_size}
+use Rattle.snmp_agent.specs.Answering.{IsRoom, whole_size, held}
 use Rattle.snmp_agent.proofs.Requests.{bare, response_size, sealed, sealed_size}
-use Rattle.snmp_agent.proofs.Lengths.{longer, beyond}
-use Rattle.snmp_agent.proofs.Drafts.{passes}
-use Rattle.snmp_agent.proofs.Fronts.{drafted}
+use Rattle.snmp_agent.proofs.Lengths.{longer, within, beyond}
+use Rattle.snmp_agent.proofs.Drafts.{longer_by}
+use Rattle.snmp_agent.proofs.Fronts.{HasNoRoom, HoldsFront}
 use Rattle.snmp_agent.proofs.Answers.{HasNextsAfter}
 use Rattle.snmp_agent.proofs.Rounds.{all_bulk}
 
@@ -30,52 +31,51 @@ further (q ∷ added) more (p ∷ ahead) rest e long =
     let found = further added more ahead rest others (omega (arith, long)) in
     (found.0, found.1, found.2, found.3, ap (λ ps. p ∷ ps) found.4 ∙ ap (λ r. r ∷ (added ++ found.0 ∷ found.2)) (sym same))
 
-module _ (sizes : MessageSizes) (q : Message) (limit room : ℕ) (is_room : IsRoom (response q no_error (pos 0) []) limit room) where
-  -- no longer front fits where the next binding has no room
-  is_longest : (all added more : List VarBind) (total : ℕ) (out : List ℕ) → all ≡ added ++ more
-      → HoldsBindings (response q no_error (pos 0) []) limit added total out → HasNoRoom room total more
-      → (ahead rest : List VarBind) → all ≡ ahead ++ rest → Fits limit (response q no_error (pos 0) ahead) → length ahead ≤ length added
-  is_longest all added more total out front draft no_room ahead rest e fits = ⊎_elim
-      (λ long.
-      let found = further added more ahead rest (sym front ∙ e) long in
-      let none : room < total + length (canon_binding found.0) = subst (λ (ps : List VarBind). HasNoRoom room total ps) found.3 no_room in
-      let large : limit < whole_size (response q no_error (pos 0) []) (total + length (canon_binding found.0)) = beyond sizes (response q no_error
-      (pos 0) []) limit room (total + length (canon_binding found.0)) is_room none in
-      let past : PassesLimit (response q no_error (pos 0) []) limit (added ++ found.0 ∷ found.2) = passes sizes (response q no_error
-      (pos 0) []) limit added found.2 found.0 total out draft large in
-      let here : PassesLimit (response q no_error (pos 0) []) limit ahead = subst (λ (ps : List VarBind). PassesLimit (response q no_error
-      (pos 0) []) limit ps) (sym found.4) past in
-      absurd (omega (arith, here, response_size sizes q no_error (pos 0) ahead)))
-      (λ short. short)
-      (cases_lt (length added) (length ahead))
+-- no longer front fits where the next binding has no room
+is_longest : MessageSizes → (q : Message) (limit room : ℕ) → IsRoom (response q no_error (pos 0) []) limit room → (all added more : List VarBind) (total : ℕ)
+    → all ≡ added ++ more → total ≡ length (canon_bindings added) → HasNoRoom room total more → (ahead rest : List VarBind) → all ≡ ahead ++ rest
+    → Fits limit (response q no_error (pos 0) ahead) → length ahead ≤ length added
+is_longest sizes q limit room is_room all added more total front size no_room ahead rest e fits = ⊎_elim
+    (λ long.
+    let found = further added more ahead rest (sym front ∙ e) long in
+    let none : room < total + length (canon_binding found.0) = subst (λ (ps : List VarBind). HasNoRoom room total ps) found.3 no_room in
+    let large : room < length (canon_bindings ahead) = omega
+    (arith, none, size, ap (λ ps. length (canon_bindings ps)) found.4, longer_by added found.2 found.0) in
+    let past : limit < whole_size (response q no_error (pos 0) []) (length (canon_bindings ahead)) = beyond sizes (response q no_error (pos 0) []) limit room
+    (length (canon_bindings ahead)) is_room large in
+    absurd (omega (arith, past, response_size sizes q no_error (pos 0) ahead)))
+    (λ short. short)
+    (cases_lt (length added) (length ahead))
 
 -- what was written is the Response
-pub bulk_sent : MessageSizes → HasPieces → (view : MibView) (limit room : ℕ) (q m : Message) (all : List VarBind) (total n : ℕ) (old out new : List ℕ)
-    → q.kind ≡ kind.GetBulkRequest
-    → IsBulk view q all
-    → m ≡ response q no_error (pos 0) [] → IsRoom m limit room → HoldsFront room 0 old all total out → n ≡ whole_size m total
-    → take n new ≡ canon_head m total ++ take total out → IsResponseWritten view limit q n new
-bulk_sent sizes pieces view limit room q m all total n old out new is asked parts room_is here size octets =
-    let is_room : IsRoom (response q no_error (pos 0) []) limit room = subst (λ (x : Message). IsRoom x limit room) parts room_is in
-    let draft : HoldsBindings (response q no_error (pos 0) []) limit here.added total out = drafted sizes (response q no_error
-    (pos 0) []) limit room total old out here.added is_room here.extends in
-    let long : n ≡ length (canon (response q no_error (pos 0) here.added)) = size ∙ ap (λ (x : Message). whole_size x total) parts
-    ∙ sealed_size sizes q no_error (pos 0) limit here.added total out draft in
-    let text : take n new ≡ canon (response q no_error (pos 0) here.added) = octets ∙ ap (λ (x : Message). canon_head x total ++ take total out) parts
-    ∙ sealed pieces q no_error (pos 0) limit here.added total out draft in
-    let fits : length (canon (response q no_error (pos 0) here.added)) ≤ limit = omega (
-      arith,
-      sealed_size sizes q no_error
-          (pos 0) limit here.added total out draft,
-      draft.fits,
-    ) in
+pub bulk_sent : MessageSizes → HasPieces → (view : MibView) (limit room : ℕ) (q m : Message) (all : List VarBind) (draft : Draft) (n : ℕ) (out new : List ℕ)
+    → q.kind ≡ kind.GetBulkRequest → IsBulk view q all → m ≡ response q no_error (pos 0) [] → IsRoom m limit room
+    → HoldsFront room [] all (held draft out) → length (take draft.total out) ≡ draft.total → n ≡ whole_size m draft.total
+    → take n new ≡ canon_head m draft.total ++ take draft.total out → IsResponseWritten view limit q n new
+bulk_sent sizes pieces view limit room q m all draft n out new is asked parts room_is here long size octets =
+    let total = draft.total in
+    let r = response q no_error (pos 0) [] in
+    let is_room : IsRoom r limit room = subst (λ (x : Message). IsRoom x limit room) parts room_is in
+    let sized : total ≡ length (canon_bindings here.added) = sym long ∙ ap length here.octets in
+    let held : HoldsBindings r limit here.added total out = record {
+      total_size = sized;
+      octets = here.octets;
+      fits = within sizes r limit room total is_room (omega (arith, long, here.fits));
+    } in
+    let whole = sealed_size sizes q no_error (pos 0) limit here.added total out held in
     let longest : IsLongestFront limit q all here.added = record {
       more = here.more;
       front = here.front;
-      fits = λ some. fits;
-      longest = is_longest sizes q limit room is_room all here.added here.more total out here.front draft here.no_room;
-    } in
-    (response q no_error (pos 0) here.added, bulk all here.added is asked longest refl, fits, text, long)
+      fits = λ some. omega (arith, whole, held.fits);
+      longest = is_longest sizes q limit room is_room all here.added here.more total here.front sized
+          (subst (λ (k : ℕ). HasNoRoom room k here.more) long here.no_room);
+    } in (
+      response q no_error (pos 0) here.added,
+      bulk all here.added is asked longest refl,
+      omega (arith, whole, held.fits),
+      octets ∙ ap (λ (x : Message). canon_head x total ++ take total out) parts ∙ sealed pieces q no_error (pos 0) limit here.added total out held,
+      size ∙ ap (λ (x : Message). whole_size x total) parts ∙ whole,
+    )
 
 -- where not even a Response without bindings fits, none is sent
 pub bulk_unsent : MessageSizes → HasPieces → HasNextsAfter → (view : MibView) (limit : ℕ) (q m : Message) → q.kind ≡ kind.GetBulkRequest

@@ -1,53 +1,53 @@
 -- Replies in the making.
-use Rattle.std.proofs.Common.{◌≡◌, ℕ, ◌+◌, ◌≤◌, ◌<◌, List, [], ◌∷◌, ◌++◌, length, take, refl, sym}
-use Rattle.std.proofs.Common.{ap, subst, ◌∙◌, arith, length-append, append_assoc, Option}
-use Rattle.std.proofs.Common.{Some, None, IfNone}
+use Rattle.std.proofs.Common.{◌≡◌, ◌≢◌, ℕ, ◌+◌, ◌<◌, List, [], ◌∷◌, ◌++◌, length, take, refl, sym}
+use Rattle.std.proofs.Common.{ap, subst, ◌∙◌, arith, length-append, Option, Some, None, IfNone}
+use Rattle.std.proofs.lemmas.List.{append-nil}
 use Rattle.std.proofs.lemmas.Grind.{flat_map-append}
 use Rattle.snmp_wire.specs.Message.{VarBind, Message}
 use Rattle.snmp_wire.specs.Canon.{canon_binding, canon_bindings}
 use Rattle.snmp_wire.specs.Sizes.{MessageSizes}
-use Rattle.snmp_agent.specs.Reply.{AreAnswers}
-use Rattle.snmp_agent.specs.Answering.{HoldsBindings, PassesLimit, whole_size}
-use Rattle.snmp_agent.proofs.Requests.{canon_bindings-push}
-use Rattle.snmp_agent.proofs.Lengths.{longer}
+use Rattle.snmp_agent.specs.declared.room.Draft.{Draft}
+use Rattle.snmp_agent.specs.Answering.{HoldsBindings, IsRoom, PassesLimit, held}
+use Rattle.snmp_agent.proofs.Fronts.{HasNoRoom, HoldsFront}
+use Rattle.snmp_agent.proofs.Lengths.{within, beyond}
 
-pub empty_draft : (m : Message) (limit : ℕ) (out : List ℕ) → whole_size m 0 ≤ limit → HoldsBindings m limit [] 0 out
+-- how many octets there are with one more binding, and others behind it
+pub longer_by : (front rest : List VarBind) (p : VarBind)
+    → length (canon_bindings (front ++ p ∷ rest)) ≡ length (canon_bindings front) + (length (canon_binding p) + length (canon_bindings rest))
 unfolding canon_bindings
-empty_draft m limit out fits = record { total_size = refl; octets = refl; fits = fits }
+longer_by front rest p =
+    ap length (flat_map-append canon_binding front (p ∷ rest)) ∙ length-append (canon_bindings front) (canon_bindings (p ∷ rest))
+    ∙ ap (λ k. length (canon_bindings front) + k) (length-append (canon_binding p) (canon_bindings rest))
 
--- one more binding behind the others
-pub longer_draft : (m : Message) (limit : ℕ) (given : List VarBind) (p : VarBind) (total n : ℕ) (out new : List ℕ) → HoldsBindings m limit given total out
-    → n ≡ total + length (canon_binding p) → take n new ≡ take total out ++ canon_binding p → whole_size m n ≤ limit
-    → HoldsBindings m limit (given ++ p ∷ []) n new
-longer_draft m limit given p total n out new draft size octets fits =
-    let more : canon_bindings (given ++ p ∷ []) ≡ canon_bindings given ++ canon_binding p = canon_bindings-push given p in
-    record {
-      total_size = let sum : length (canon_bindings (given ++ p ∷ [])) ≡ length (canon_bindings given) + length (canon_binding p) = ap length more
-          ∙ length-append (canon_bindings given) (canon_binding p) in omega (arith, draft.total_size);
-      octets = octets ∙ ap (λ front. front ++ canon_binding p) draft.octets ∙ sym more;
-      fits = fits;
-    }
+module _ (sizes : MessageSizes) (m : Message) (limit room : ℕ) (is_room : IsRoom m limit room) (draft : Draft) (out : List ℕ) (given : List VarBind)
+    (size : length (take draft.total out) ≡ draft.total) (front : HoldsFront (room + 1) [] given (held draft out)) where
+  -- what a draft holds that had room for one octet more keeps to the limit where it isn't full
+  pub kept : draft.left ≢ 0 → HoldsBindings m limit given draft.total out
+  kept some = by_more front.more refl
+    where
+      by_more : (more : List VarBind) → more ≡ front.more → HoldsBindings m limit given draft.total out
+      by_more [] e =
+          let all : given ≡ front.added = front.front ∙ ap (λ ps. front.added ++ ps) (sym e) ∙ append-nil front.added in
+          let octets : take draft.total out ≡ canon_bindings given = front.octets ∙ ap canon_bindings (sym all) in
+          record {
+            total_size = sym size ∙ ap length octets;
+            octets = octets;
+            fits = within sizes m limit room draft.total is_room (omega (arith, size, front.fits));
+          }
+      by_more (p ∷ more) e = absurd (some (front.full (λ none. let never : p ∷ more ≡ [] = e ∙ none in cc)))
 
--- where one more binding doesn't fit, neither do more behind it
-pub passes : MessageSizes → (m : Message) (limit : ℕ) (given rest : List VarBind) (p : VarBind) (total : ℕ) (out : List ℕ)
-    → HoldsBindings m limit given total out
-    → limit < whole_size m (total + length (canon_binding p)) → PassesLimit m limit (given ++ p ∷ rest)
-unfolding canon_bindings
-passes sizes m limit given rest p total out draft large =
-    let sum : length (canon_bindings (given ++ p ∷ rest)) ≡ length (canon_bindings given) + (length (canon_binding p) + length (canon_bindings rest)) =
-    ap length (flat_map-append canon_binding given (p ∷ rest)) ∙ length-append (canon_bindings given) (canon_bindings (p ∷ rest))
-    ∙ ap (λ k. length (canon_bindings given) + k) (length-append (canon_binding p) (canon_bindings rest)) in
-    let bound : whole_size m (total + length (canon_binding p)) ≤ whole_size m (length (canon_bindings (given ++ p ∷ rest))) = longer sizes m (total + length
-    (canon_binding p)) (length (canon_bindings (given ++ p ∷ rest))) (omega (arith, sum, draft.total_size)) in
-    omega (arith, bound)
-
--- behind an answered binding the others are to be answered
-pub step : (R : VarBind → VarBind → Type 0) (all asked later given : List VarBind) (first p : VarBind) → asked ≡ first ∷ later → R first p
-    → ((rest : List VarBind) → AreAnswers R asked rest → AreAnswers R all (given ++ rest))
-    → (rest : List VarBind) → AreAnswers R later rest → AreAnswers R all ((given ++ p ∷ []) ++ rest)
-step R all asked later given first p e answer more rest h =
-    subst (λ (gs : List VarBind). AreAnswers R all gs) (sym (append_assoc given (p ∷ []) rest)) (more (p ∷ rest) (subst (λ
-    (bs : List VarBind). AreAnswers R bs (p ∷ rest)) (sym e) (answer, h)))
+  -- and where it is full, they pass it
+  pub past : draft.left ≡ 0 → PassesLimit m limit given
+  past full = beyond sizes m limit room (length (canon_bindings given)) is_room (by_more front.more refl)
+    where
+      by_more : (more : List VarBind) → more ≡ front.more → room < length (canon_bindings given)
+      by_more [] e =
+          let all : given ≡ front.added = front.front ∙ ap (λ ps. front.added ++ ps) (sym e) ∙ append-nil front.added in
+          omega (arith, ap (λ ps. length (canon_bindings ps)) all, ap length front.octets, front.whole (sym e))
+      by_more (p ∷ more) e =
+          let all : given ≡ front.added ++ p ∷ more = front.front ∙ ap (λ ps. front.added ++ ps) (sym e) in
+          let large : room + 1 < length (take draft.total out) + length (canon_binding p) = subst (λ (ps : List VarBind). HasNoRoom (room + 1) (length (take draft.total out)) ps) (sym e) front.no_room in
+          omega (arith, ap (λ ps. length (canon_bindings ps)) all, longer_by front.added more p, ap length front.octets, large)
 
 -- what holds in any case holds where there is nothing
 pub none_anyway : {A : Type 0} {P : Type 0} (o : Option A) → P → IfNone o P

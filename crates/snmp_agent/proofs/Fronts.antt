@@ -1,106 +1,137 @@
--- Fronts of lists of bindings in the output.
-use Rattle.std.proofs.Common.{◌≡◌, ◌≢◌, ℕ, ◌+◌, ◌≤◌, ◌<◌, List, [], ◌∷◌, ◌++◌, length, take, refl}
-use Rattle.std.proofs.Common.{sym, ap, subst, ◌∙◌, arith, length-append, append_assoc}
+-- What drafts hold.
+use Rattle.std.proofs.Common.{◌≡◌, ◌≢◌, ℕ, ◌+◌, ◌-◌, ◌≤◌, ◌<◌, List, [], ◌∷◌, ◌++◌, length, refl}
+use Rattle.std.proofs.Common.{⊎_elim, sym, ap, subst, ◌∙◌, arith, length-append, append_assoc}
 use Rattle.std.proofs.lemmas.List.{append-nil}
-use Rattle.std.proofs.lemmas.Grind.{flat_map-append}
-use Rattle.snmp_wire.specs.Message.{VarBind, Message}
-use Rattle.snmp_wire.specs.Canon.{canon_binding, canon_bindings}
-use Rattle.snmp_wire.specs.Sizes.{MessageSizes}
-use Rattle.snmp_agent.proofs.Lengths.{within}
-use Rattle.snmp_agent.specs.Answering.{IsRoom, Extends, HasNoRoom, HoldsFront, HoldsBindings}
+use Rattle.std.proofs.lemmas.Bool.Decides.{nat_tests}
+use Rattle.std.proofs.lemmas.Bool.{cases_lt}
+use Rattle.snmp_wire.specs.Message.{VarBind}
+use Rattle.snmp_wire.specs.Canon.{canon_binding, canon_bindings, canon_element, canon_header}
+use Rattle.snmp_agent.specs.Reply.{AreAnswers}
+use Rattle.snmp_agent.specs.Answering.{Held, add, fill, Adds, Fills}
 
-bindings-append : (a b : List VarBind) → canon_bindings (a ++ b) ≡ canon_bindings a ++ canon_bindings b
-unfolding canon_bindings
-bindings-append a b = flat_map-append canon_binding a b
+-- no binding is encoded by nothing
+some_octets : (p : VarBind) → 0 < length (canon_binding p)
+unfolding canon_binding canon_element canon_header
+some_octets p = omega arith
 
-no_bindings : canon_bindings [] ≡ []
-unfolding canon_bindings
-no_bindings = refl
+-- a binding that has room
+added : (h : Held) (p : VarBind) → length (canon_binding p) ≤ h.left
+    → add h p ≡ record { octets = h.octets ++ canon_binding p; left = h.left - length (canon_binding p) }
+unfolding add
+added h p fits = grind (arith, nat_tests)
 
-one_binding : (p : VarBind) → canon_bindings (p ∷ []) ≡ canon_binding p
-unfolding canon_bindings
-one_binding p = append-nil (canon_binding p)
+-- and one that has none
+refused : (h : Held) (p : VarBind) → h.left < length (canon_binding p) → add h p ≡ record { octets = h.octets; left = 0 }
+unfolding add
+refused h p large = grind (arith, nat_tests)
 
--- ---- what stands behind what was there
+-- what is held with one more binding
+pub held_more : (h : Held) (p : VarBind) (octets : List ℕ) (left : ℕ) → octets ≡ h.octets ++ canon_binding p → left + length (canon_binding p) ≡ h.left
+    → record { octets = octets; left = left } ≡ add h p
+held_more h p octets left more size =
+    let rest : left ≡ h.left - length (canon_binding p) = omega (arith, size) in
+    (λ i. record { octets = more i; left = rest i }) ∙ sym (added h p (omega (arith, size)))
 
-pub nothing_more : (room start : ℕ) (old : List ℕ) → start ≤ room → Extends room start old [] start old
-nothing_more room start old fits = record {
-  size = omega (arith, ap length no_bindings);
-  octets = sym (append-nil (take start old)) ∙ ap (λ octets. take start old ++ octets) (sym no_bindings);
-  fits = fits;
-}
+pub held_full : (h : Held) (p : VarBind) (octets : List ℕ) (left : ℕ) → octets ≡ h.octets → left ≡ 0 → h.left < length (canon_binding p)
+    → record { octets = octets; left = left } ≡ add h p
+held_full h p octets left same full large = (λ i. record { octets = same i; left = full i }) ∙ sym (refused h p large)
 
-pub more_behind : (room start middle end : ℕ) (old between new : List ℕ) (a b : List VarBind) → Extends room start old a middle between
-    → Extends room middle between b end new → Extends room start old (a ++ b) end new
-more_behind room start middle end old between new a b first second = record {
-  size =
-      let sum : length (canon_bindings (a ++ b)) ≡ length (canon_bindings a) + length (canon_bindings b) = ap length (bindings-append a b)
-      ∙ length-append (canon_bindings a) (canon_bindings b) in
-      omega (arith, first.size, second.size);
-  octets =
-      second.octets ∙ ap (λ octets. octets ++ canon_bindings b) first.octets ∙ append_assoc (take start old) (canon_bindings a) (canon_bindings b)
-      ∙ ap (λ octets. take start old ++ octets) (sym (bindings-append a b));
-  fits = second.fits;
-}
+pub fill_both : (h : Held) (a b : List VarBind) → fill h (a ++ b) ≡ fill (fill h a) b
+fill_both h [] b = refl
+fill_both h (p ∷ a) b = fill_both (add h p) a b
 
-pub one_more : (room start total n : ℕ) (old between new : List ℕ) (added : List VarBind) (p : VarBind) → Extends room start old added total between
-    → n ≡ total + length (canon_binding p) → take n new ≡ take total between ++ canon_binding p → n ≤ room → Extends room start old (added ++ p ∷ []) n new
-one_more room start total n old between new added p so_far size octets fits = more_behind room start total n old between new added (p ∷ []) so_far (record {
-  size = size ∙ ap (λ k. total + k) (ap length (sym (one_binding p)));
-  octets = octets ∙ ap (λ more. take total between ++ more) (sym (one_binding p));
-  fits = fits;
-})
+add_full : (h : Held) (p : VarBind) → h.left ≡ 0 → add h p ≡ h
+add_full h p full = refused h p (omega (arith, some_octets p)) ∙ (λ i. record { octets = h.octets; left = sym full i })
 
--- what stands behind nothing is all
-pub drafted : MessageSizes → (m : Message) (limit room total : ℕ) (old out : List ℕ) (added : List VarBind) → IsRoom m limit room
-    → Extends room 0 old added total out
-    → HoldsBindings m limit added total out
-drafted sizes m limit room total old out added is_room h = record {
-  total_size = omega
-      (arith, h.size);
-  octets = h.octets;
-  fits = within sizes m limit room total is_room h.fits;
-}
+-- a draft that is full takes nothing more
+pub fill_full : (h : Held) (more : List VarBind) → h.left ≡ 0 → fill h more ≡ h
+fill_full h [] full = refl
+fill_full h (p ∷ more) full = ap (λ (g : Held). fill g more) (add_full h p full) ∙ fill_full h more full
+
+-- ---- a list that is worked off
+
+-- what the rest is given, added now, is what all are given, added at the beginning
+abbrev pub Goes : (AreAll AreRest : List VarBind → Type 0) → Held → Held → Type 0
+Goes AreAll AreRest old now = (rest : List VarBind) → AreRest rest → (all : List VarBind) × AreAll all × (fill old all ≡ fill now rest)
+
+pub goes_next : (R : VarBind → VarBind → Type 0) (AreAll : List VarBind → Type 0) (asked later : List VarBind) (first : VarBind) (old now new : Held)
+    → asked ≡ first ∷ later → Adds (R first) now new → Goes AreAll (AreAnswers R asked) old now → Goes AreAll (AreAnswers R later) old new
+goes_next R AreAll asked later first old now new e more go = λ rest h.
+    let found = go (more.0 ∷ rest) (subst (λ (bs : List VarBind). AreAnswers R bs (more.0 ∷ rest)) (sym e) (more.1, h)) in
+    (found.0, found.1, found.2 ∙ ap (λ (g : Held). fill g rest) (sym more.2))
+
+pub goes_end : (AreAll AreRest : List VarBind → Type 0) (old now : Held) → Goes AreAll AreRest old now → AreRest [] → Fills AreAll old now
+goes_end AreAll AreRest old now go none = let found = go [] none in (found.0, found.1, sym found.2)
+
+pub goes_full : (AreAll AreRest : List VarBind → Type 0) (old now : Held) → Goes AreAll AreRest old now → (rest : List VarBind) × AreRest rest → now.left ≡ 0
+    → Fills AreAll old now
+goes_full AreAll AreRest old now go rest full =
+    let found = go rest.0 rest.1 in
+    (found.0, found.1, sym (found.2 ∙ fill_full now rest.0 full))
 
 -- ---- fronts
 
-pub whole_front : (room start : ℕ) (old : List ℕ) (all : List VarBind) (total : ℕ) (out : List ℕ) → Extends room start old all total out
-    → HoldsFront room start old all total out
-whole_front room start old all total out h = record { added = all; more = []; front = sym (append-nil all); extends = h; no_room = tt }
+-- the first of these bindings has no room after so many octets
+abbrev pub HasNoRoom : ℕ → ℕ → List VarBind → Type 0
+HasNoRoom room total [] = Unit {0}
+HasNoRoom room total (p ∷ more) = room < total + length (canon_binding p)
 
-pub front_behind : (room start middle end : ℕ) (old between new : List ℕ) (a b : List VarBind) → Extends room start old a middle between
-    → HoldsFront room middle between b end new → HoldsFront room start old (a ++ b) end new
-front_behind room start middle end old between new a b first second = record {
-  added = a ++ second.added;
-  more = second.more;
-  front = ap (λ rest. a ++ rest) second.front ∙ sym (append_assoc a second.added second.more);
-  extends = more_behind room start middle end old between new a second.added first second.extends;
-  no_room = second.no_room;
+-- a front of these bindings is held; all of them, unless the draft is full and had no room for the next
+pub record HoldsFront (room : ℕ) (start : List ℕ) (all : List VarBind) (end : Held) : Type 0 where
+  pub added : List VarBind
+  pub more : List VarBind
+  pub front : all ≡ added ++ more
+  pub octets : end.octets ≡ start ++ canon_bindings added
+  pub fits : length end.octets + end.left ≤ room
+  pub no_room : HasNoRoom room (length end.octets) more
+  pub whole : more ≡ [] → length end.octets + end.left ≡ room
+  pub full : more ≢ [] → end.left ≡ 0
+
+bindings-first : (p : VarBind) (more : List VarBind) → canon_bindings (p ∷ more) ≡ canon_binding p ++ canon_bindings more
+unfolding canon_bindings
+bindings-first p more = refl
+
+pub no_bindings : canon_bindings [] ≡ []
+unfolding canon_bindings
+no_bindings = refl
+
+pub front_of : (room : ℕ) (h : Held) (all : List VarBind) → length h.octets + h.left ≡ room → HoldsFront room h.octets all (fill h all)
+front_of room h [] is = record {
+  added = [];
+  more = [];
+  front = refl;
+  octets = sym (append-nil h.octets) ∙ ap (λ octets. h.octets ++ octets) (sym no_bindings);
+  fits = omega arith;
+  no_room = tt;
+  whole = λ e. is;
+  full = λ e. absurd (e refl);
 }
-
-still_no_room : (room total : ℕ) (more rest : List VarBind) → HasNoRoom room total more → more ≢ [] → HasNoRoom room total (more ++ rest)
-still_no_room room total [] rest h some = absurd (some refl)
-still_no_room room total (p ∷ more) rest h some = h
-
--- where one has no room, what follows doesn't matter
-pub front_before : (room start : ℕ) (old : List ℕ) (all rest : List VarBind) (total : ℕ) (out : List ℕ) → (h : HoldsFront room start old all total out)
-    → h.more ≢ []
-    → HoldsFront room start old (all ++ rest) total out
-front_before room start old all rest total out h some = record {
-  added = h.added;
-  more = h.more ++ rest;
-  front = ap (λ ps. ps ++ rest) h.front ∙ append_assoc h.added h.more rest;
-  extends = h.extends;
-  no_room = still_no_room room total h.more rest h.no_room some;
-}
-
-not_none : (p : VarBind) (more : List VarBind) → p ∷ more ≢ []
-not_none p more e = cc
-
--- where the next one has no room
-pub stopped : (room start : ℕ) (old : List ℕ) (added : List VarBind) (p : VarBind) (rest : List VarBind) (total : ℕ) (between out : List ℕ)
-    → Extends room start old added total between → out ≡ between → room < total + length (canon_binding p)
-    → (front : HoldsFront room start old (added ++ p ∷ rest) total out) × (front.more ≢ [])
-stopped room start old added p rest total between out h same large =
-    let kept : Extends room start old added total out = subst (λ (octets : List ℕ). Extends room start old added total octets) (sym same) h in
-    (record { added = added; more = p ∷ rest; front = refl; extends = kept; no_room = large }, not_none p rest)
+front_of room h (p ∷ more) is = ⊎_elim
+    (λ large.
+    let same : fill h (p ∷ more) ≡ record { octets = h.octets; left = 0 } = ap (λ (g : Held). fill g more) (refused h p large)
+    ∙ fill_full (record { octets = h.octets; left = 0 }) more refl in
+    subst (λ (end : Held). HoldsFront room h.octets (p ∷ more) end) (sym same) (record {
+      added = [];
+      more = p ∷ more;
+      front = refl;
+      octets = sym (append-nil h.octets) ∙ ap (λ octets. h.octets ++ octets) (sym no_bindings);
+      fits = omega arith;
+      no_room = omega arith;
+      whole = λ e. let never : ⊥ = cc in absurd never;
+      full = λ e. refl;
+    }))
+    (λ fits.
+    let next : Held = record { octets = h.octets ++ canon_binding p; left = h.left - length (canon_binding p) } in
+    let rest = front_of room next more (omega (arith, length-append h.octets (canon_binding p))) in
+    subst (λ (g : Held). HoldsFront room h.octets (p ∷ more) (fill g more)) (sym (added h p fits)) (record {
+      added = p ∷ rest.added;
+      more = rest.more;
+      front = ap (λ ps. p ∷ ps) rest.front;
+      octets = rest.octets ∙ append_assoc h.octets (canon_binding p) (canon_bindings rest.added)
+          ∙ ap (λ octets. h.octets ++ octets) (sym (bindings-first p rest.added));
+      fits = rest.fits;
+      no_room = rest.no_room;
+      whole = rest.whole;
+      full = rest.full;
+    }))
+    (cases_lt h.left (length (canon_binding p)))

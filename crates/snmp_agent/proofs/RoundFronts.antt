@@ -1,65 +1,59 @@
--- Rounds in the output.
-use Rattle.std.proofs.Common.{◌≡◌, ◌≢◌, ◌⊎◌, inl, inr, ℕ, suc, ◌+◌, ◌-◌, ◌<◌, List, [], ◌∷◌, ◌++◌}
-use Rattle.std.proofs.Common.{sym, subst, refl, arith, append_assoc}
+-- Rounds that are added to a draft.
+use Rattle.std.proofs.Common.{◌≡◌, ◌⊎◌, inl, inr, ℕ, suc, ◌+◌, ◌-◌, ◌<◌, List, [], ◌∷◌, sym}
+use Rattle.std.proofs.Common.{ap, subst, ◌∙◌, refl, arith}
+use Rattle.std.proofs.lemmas.List.{append-nil}
 use Rattle.snmp_wire.specs.Message.{VarBind}
 use Rattle.snmp_agent.specs.table.Table.{MibView}
 use Rattle.snmp_agent.specs.Reply.{AreEnds, joined}
-use Rattle.snmp_agent.specs.Answering.{AreGiven, AreRoundsFrom, HasRow, Extends, HoldsFront}
+use Rattle.snmp_agent.specs.Answering.{AreGiven, AreRoundsFrom, FillsRounds, HasRow, Held, fill}
 use Rattle.snmp_agent.proofs.Answers.{HasNextsAfter}
-use Rattle.snmp_agent.proofs.Rounds.{ends_decided, all_rounds, joined-append, joined-push}
-use Rattle.snmp_agent.proofs.Fronts.{more_behind, front_behind, front_before}
+use Rattle.snmp_agent.proofs.Rounds.{ends_decided, all_rounds}
+use Rattle.snmp_agent.proofs.Fronts.{fill_both, fill_full}
 
--- the rounds that are done, and with those that are left all rounds
-abbrev pub WithOthers : MibView → List VarBind → ℕ → ℕ → List (List VarBind) → Type 0
-WithOthers view names repetitions i done = (left : ℕ) (rest : List (List VarBind)) → i + left ≡ repetitions → AreRoundsFrom view names i left rest
-    → AreRoundsFrom view names 0 repetitions (done ++ rest)
+-- the rounds that are left, added now, are all rounds, added at the beginning
+abbrev pub RoundsGo : MibView → List VarBind → ℕ → ℕ → Held → Held → Type 0
+RoundsGo view names repetitions i old now = (left : ℕ) (rest : List (List VarBind)) → i + left ≡ repetitions → AreRoundsFrom view names i left rest
+    → (rounds : List (List VarBind)) × AreRoundsFrom view names 0 repetitions rounds × (fill old (joined rounds) ≡ fill now (joined rest))
 
--- one more round
-pub others_next : (view : MibView) (names : List VarBind) (repetitions i : ℕ) (done : List (List VarBind)) (round : List VarBind)
-    → WithOthers view names repetitions i done → AreGiven view i names round → HasRow round
-    → WithOthers view names repetitions (i + 1) (done ++ round ∷ [])
-others_next view names repetitions i done round others given row left rest e h =
-    let same : i + suc left ≡ repetitions = omega (arith, e) in
-    subst (λ (rounds : List (List VarBind)). AreRoundsFrom view names 0 repetitions rounds) (sym (append_assoc done (round ∷ []) rest)) (others (suc left)
-    (round ∷ rest) same (given, inr (row, h)))
+module _ (view : MibView) (names : List VarBind) (repetitions : ℕ) (old : Held) where
+  pub rounds_first : RoundsGo view names repetitions 0 old old
+  rounds_first left rest e h =
+      let same : left ≡ repetitions = omega (arith, e) in
+      (rest, subst (λ (k : ℕ). AreRoundsFrom view names 0 k rest) same h, refl)
 
-module _ (room start : ℕ) (old : List ℕ) where
-  pub written_next : (total end : ℕ) (between new : List ℕ) (done : List (List VarBind)) (round : List VarBind)
-      → Extends room start old (joined done) total between → Extends room total between round end new
-      → Extends room start old (joined (done ++ round ∷ [])) end new
-  written_next total end between new done round first second =
-      subst (λ (ps : List VarBind). Extends room start old ps end new) (sym (joined-push done round)) (more_behind room start total end old between new
-      (joined done) round first second)
+  -- one more round
+  pub rounds_next : (i : ℕ) (now new : Held) (round : List VarBind) → RoundsGo view names repetitions i old now → AreGiven view i names round → HasRow round
+      → new ≡ fill now round → RoundsGo view names repetitions (i + 1) old new
+  rounds_next i now new round go given row same left rest e h =
+      let found = go (suc left) (round ∷ rest) (omega (arith, e)) (given, inr (row, h)) in
+      (found.0, found.1, found.2 ∙ fill_both now round (joined rest) ∙ ap (λ (g : Held). fill g (joined rest)) (sym same))
+
+  pub rounds_end : (i : ℕ) (now : Held) → i + 0 ≡ repetitions → RoundsGo view names repetitions i old now → FillsRounds view names repetitions old now
+  rounds_end i now e go = let found = go 0 [] e tt in (found.0, found.1, sym found.2)
 
   -- a round that no other follows, or that has no room
-  pub closed_round : HasNextsAfter
-      → (view : MibView) (names : List VarBind) (repetitions i total end : ℕ) (between new : List ℕ) (done : List (List VarBind)) (round : List VarBind)
-      → i < repetitions
-      → WithOthers view names repetitions i done → Extends room start old (joined done) total between → AreGiven view i names round
-      → (front : HoldsFront room total between round end new)
-      → (HasRow round → front.more ≢ [])
-      → (rounds : List (List VarBind)) × AreRoundsFrom view names 0 repetitions rounds × HoldsFront room start old (joined rounds) end new
-  closed_round nexts view names repetitions i total end between new done round below others written given front unless = by_ends (ends_decided round)
+  pub rounds_over : HasNextsAfter → (i : ℕ) (now new : Held) (round : List VarBind) → i < repetitions → RoundsGo view names repetitions i old now
+      → AreGiven view i names round → new ≡ fill now round → (new.left ≡ 0) ⊎ AreEnds round → FillsRounds view names repetitions old new
+  rounds_over nexts i now new round below go given same over = by_ends (ends_decided round)
     where
       left : ℕ
       left = repetitions - (i + 1)
 
-      same : i + suc left ≡ repetitions
-      same = omega (arith, below)
+      e : i + suc left ≡ repetitions
+      e = omega (arith, below)
 
-      by_ends : AreEnds round ⊎ HasRow round
-          → (rounds : List (List VarBind)) × AreRoundsFrom view names 0 repetitions rounds × HoldsFront room start old (joined rounds) end new
-      by_ends (inl ends) = (
-        done ++ round ∷ [],
-        others (suc left) (round ∷ []) same (given, inl (ends, refl)),
-        subst (λ (ps : List VarBind). HoldsFront room start old ps end new) (sym (joined-push done round)) (front_behind room start total end old between new
-            (joined done) round written front),
-      )
+      by_ends : AreEnds round ⊎ HasRow round → FillsRounds view names repetitions old new
+      by_ends (inl ends) =
+          let found = go (suc left) (round ∷ []) e (given, inl (ends, refl)) in
+          (found.0, found.1, same ∙ sym (found.2 ∙ ap (fill now) (append-nil round)))
       by_ends (inr row) =
-          let rest = all_rounds nexts view names (i + 1) left in (
-            done ++ round ∷ rest.0,
-            others (suc left) (round ∷ rest.0) same (given, inr (row, rest.1)),
-            subst (λ (ps : List VarBind). HoldsFront room start old ps end new) (sym (joined-append done (round ∷ rest.0)))
-                (front_behind room start total end old between new (joined done) (round ++ joined rest.0) written (front_before room total between round
-                (joined rest.0) end new front (unless row))),
+          let rest = all_rounds nexts view names (i + 1) left in
+          let found = go (suc left) (round ∷ rest.0) e (given, inr (row, rest.1)) in
+          let full : new.left ≡ 0 = elim over [
+            | inl none ↦ none
+            | inr ends ↦ absurd (row ends)
+          ] in (
+            found.0,
+            found.1,
+            sym (found.2 ∙ fill_both now round (joined rest.0) ∙ ap (λ (g : Held). fill g (joined rest.0)) (sym same) ∙ fill_full new (joined rest.0) full),
           )

@@ -1,8 +1,6 @@
 -- The rounds of a GetBulk.
-use Rattle.std.proofs.Common.{◌≡◌, ◌⊎◌, inl, inr, ℕ, zero, suc, ◌+◌, ◌≤◌, ◌<◌, List, [], ◌∷◌, ◌++◌}
+use Rattle.std.proofs.Common.{◌≡◌, ◌↔◌, ◌⊎◌, inl, inr, ℕ, zero, suc, ◌+◌, ◌≤◌, ◌<◌, List, [], ◌∷◌, ◌++◌}
 use Rattle.std.proofs.Common.{length, take, drop, refl, sym, ap, subst, ◌∙◌, arith}
-use Rattle.std.proofs.Common.{append_assoc}
-use Rattle.std.proofs.lemmas.List.{append-nil}
 use Rattle.snmp_wire.specs.Message.{Datum, integer_value, octet_string, null_value, object_id}
 use Rattle.snmp_wire.specs.Message.{ip_address, counter32, gauge32, time_ticks, opaque_octets}
 use Rattle.snmp_wire.specs.Message.{counter64, no_such_object, no_such_instance, end_of_mib_view}
@@ -39,17 +37,11 @@ ends_decided (p ∷ more) = elim (is_end p.value) [
   | inr none ↦ inr (λ h. none h.0)
 ]
 
-pub ends_push : (ps : List VarBind) (p : VarBind) → AreEnds ps → p.value ≡ end_of_mib_view → AreEnds (ps ++ p ∷ [])
-ends_push [] p ends end = (end, tt)
-ends_push (q ∷ more) p ends end = (ends.0, ends_push more p ends.1 end)
-
-pub row_in_front : (ps rest : List VarBind) → HasRow ps → HasRow (ps ++ rest)
-row_in_front [] rest row ends = row tt
-row_in_front (p ∷ more) rest row ends = row_in_front more rest (λ h. row (ends.0, h)) ends.1
-
-pub row_pushed : (ps : List VarBind) (p : VarBind) → (p.value ≡ end_of_mib_view → ⊥) → HasRow (ps ++ p ∷ [])
-row_pushed [] p other ends = other ends.0
-row_pushed (q ∷ more) p other ends = row_pushed more p other ends.1
+pub ends_both : (a b : List VarBind) → (AreEnds a × AreEnds b) ↔ AreEnds (a ++ b)
+ends_both [] b = (λ h. h.1, λ h. (tt, h))
+ends_both (p ∷ a) b =
+    let rest = ends_both a b in
+    (λ h. (h.0.0, rest.0 (h.0.1, h.1)), λ h. let more = rest.1 h.1 in ((h.0, more.0), more.1))
 
 -- ---- what is left
 
@@ -145,13 +137,6 @@ are_rounds view repetitions names rounds h = record {
 }
 
 -- ---- all bindings
-
-pub joined-append : (a b : List (List VarBind)) → joined (a ++ b) ≡ joined a ++ joined b
-joined-append [] b = refl
-joined-append (round ∷ more) b = ap (λ rest. round ++ rest) (joined-append more b) ∙ sym (append_assoc round (joined more) (joined b))
-
-pub joined-push : (done : List (List VarBind)) (round : List VarBind) → joined (done ++ round ∷ []) ≡ joined done ++ round
-joined-push done round = joined-append done (round ∷ []) ∙ ap (λ rest. joined done ++ rest) (append-nil round)
 
 -- what the first names and the rounds of the others are given is all that is asked for
 pub is_bulk : (view : MibView) (q : Message) (singles : List VarBind) (rounds : List (List VarBind)) → AreGiven view 0 (take (or_zero q.a) q.bindings) singles

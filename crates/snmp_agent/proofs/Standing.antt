@@ -1,13 +1,13 @@
 -- Places among the variables of a view, and what names are given there.
 use Rattle.std.proofs.Common.{◌≡◌, ℕ, zero, suc, ◌+◌, ◌<◌, List, [], ◌∷◌, ◌++◌, map, length, take}
 use Rattle.std.proofs.Common.{drop, get_or, refl, sym, ap, subst, ◌∙◌, add-one, arith}
-use Rattle.std.proofs.Common.{Option, Some, None}
-use Rattle.std.proofs.Common.{IfSome, IfNone, slice_set}
+use Rattle.std.proofs.Common.{slice_set}
+use Rattle.std.proofs.lemmas.List.Elements.{All-nil, All-cons, All-head, All-tail}
 use Rattle.snmp_oid.specs.Identifier.{IsWire}
 use Rattle.snmp_wire.specs.Message.{Datum, VarBind}
 use Rattle.snmp_wire.specs.Message.Datum.{end_of_mib_view}
 use Rattle.snmp_agent.specs.table.Table.{MibView, IsMibView, IsInstanceValue, IsNext, IsNextAfter}
-use Rattle.snmp_agent.specs.table.Places.{var_of}
+use Rattle.snmp_agent.specs.table.Places.{var_of, last_name}
 use Rattle.snmp_agent.specs.table.Pages.{AreBehind}
 use Rattle.snmp_agent.specs.Reply.{AreEnds}
 use Rattle.snmp_agent.specs.Answering.{AreGiven}
@@ -15,17 +15,7 @@ use Rattle.snmp_agent.specs.Standing.{Standing, Stands, AreStanding, AreWireName
 use Rattle.snmp_agent.specs.Standing.{next_at, passed}
 use Rattle.snmp_agent.proofs.Answering.{next_name}
 use Rattle.snmp_agent.proofs.Following.{IsOrder, first_next, end_next, behind_first, first_row}
-
--- ---- what is said of a binding that is known
-
-pub some_binding : (R : VarBind → Type 0) (P : VarBind → ℕ → Type 0) (p : VarBind) (o : Option ℕ) → R p → IfSome o (λ n. P p n)
-    → IfSome o (λ n. (q : VarBind) × R q × P q n)
-some_binding R P p None is h = tt
-some_binding R P p (Some n) is h = (p, is, h)
-
-pub no_binding : (R Q : VarBind → Type 0) (p : VarBind) (o : Option ℕ) → R p → IfNone o (Q p) → IfNone o ((q : VarBind) × R q × Q q)
-no_binding R Q p None is h = (p, is, h)
-no_binding R Q p (Some n) is h = tt
+use Rattle.snmp_agent.proofs.Following.{asked_past, behind_past}
 
 -- ---- what comes next at a place
 
@@ -82,7 +72,7 @@ row_there view place mib behind some = by_rows place.name place.rows behind some
     by_rows o [] h none e = none refl
     by_rows o (p ∷ es) h none e = not_end p.1 (mib.values (var_of p) (first_row view o p es h)) e
 
-at_end : (view : MibView) (place : Standing) → IsMibView view → AreBehind view place.name place.rows → (next_at place).value ≡ end_of_mib_view
+pub at_end : (view : MibView) (place : Standing) → IsMibView view → AreBehind view place.name place.rows → (next_at place).value ≡ end_of_mib_view
     → place.rows ≡ []
 at_end view place mib behind end = by_rows place.name place.rows behind end
   where
@@ -100,6 +90,23 @@ stands_first view o place wire same behind = record {
   chain = λ q is. subst (λ (p : List ℕ). IsNext view p q) same is;
 }
 
+last_wire : (view : MibView) → IsMibView view → (rounds : ℕ) (o : List ℕ) (back : List (List ℕ × Datum)) → AreBehind view o back → IsWire o
+    → IsWire (last_name o (take rounds back))
+last_wire view mib zero o back h wire = wire
+last_wire view mib (suc rounds) o [] h wire = wire
+last_wire view mib (suc rounds) o (e ∷ back) h wire =
+    last_wire view mib rounds e.0 back (behind_first view o e back h) (mib.names (var_of e) (first_row view o e back h)).wire
+
+-- and behind as many rows as there were rounds
+pub stands_later : IsOrder → (view : MibView) → IsMibView view → (rounds : ℕ) (o : List ℕ) (back : List (List ℕ × Datum)) (place : Standing) → IsWire o
+    → AreBehind view o back → place.name ≡ last_name o (take rounds back) → place.rows ≡ drop rounds back → Stands view rounds o place
+stands_later order view mib rounds o back place wire behind same rest = record {
+  wire = subst IsWire (sym same) (last_wire view mib rounds o back behind wire);
+  behind = subst (λ (es : List (List ℕ × Datum)). AreBehind view place.name es) (sym rest)
+      (subst (λ (p : List ℕ). AreBehind view p (drop rounds back)) (sym same) (behind_past view rounds o back behind));
+  chain = λ q is. asked_past order view rounds o behind.0 back behind.1 q (subst (λ (p : List ℕ). IsNext view p q) same is);
+}
+
 pub standing_pushed : (view : MibView) (round : ℕ) (names : List VarBind) (places : List Standing) (p : VarBind) (place : Standing)
     → AreStanding view round names places → Stands view round p.name place → AreStanding view round (names ++ p ∷ []) (places ++ place ∷ [])
 standing_pushed view round [] [] p place h last = (last, tt)
@@ -108,10 +115,11 @@ standing_pushed view round (q ∷ names) [] p place h last = absurd h
 standing_pushed view round (q ∷ names) (x ∷ places) p place h last = (h.0, standing_pushed view round names places p place h.1 last)
 
 pub standing_wire : (view : MibView) (round : ℕ) (names : List VarBind) (places : List Standing) → AreStanding view round names places → AreWireNames places
-standing_wire view round [] [] h = tt
+standing_wire view round [] [] h = All-nil _
 standing_wire view round [] (x ∷ places) h = absurd h
 standing_wire view round (q ∷ names) [] h = absurd h
-standing_wire view round (q ∷ names) (x ∷ places) h = (h.0.wire, standing_wire view round names places h.1)
+standing_wire view round (q ∷ names) (x ∷ places) h =
+    All-cons (λ (place : Standing). IsWire place.name) x places h.0.wire (standing_wire view round names places h.1)
 
 pub standing_given : IsOrder → (view : MibView) (round : ℕ) (names : List VarBind) (places : List Standing) → AreStanding view round names places
     → AreGiven view round names (map next_at places)
@@ -131,74 +139,40 @@ standing_passed order view mib round (q ∷ names) (x ∷ places) h =
 
 pub ends_given : (places : List Standing) → AreAtEnd places → AreEnds (map next_at places)
 ends_given [] h = tt
-ends_given (x ∷ places) h = (end_there x h.0, ends_given places h.1)
+ends_given (x ∷ places) h = (
+  end_there x (All-head (λ (place : Standing). place.rows ≡ []) x places h),
+  ends_given places (All-tail (λ (place : Standing). place.rows ≡ []) x places h),
+)
 
 pub given_ends : (view : MibView) → IsMibView view → (round : ℕ) (names : List VarBind) (places : List Standing) → AreStanding view round names places
     → AreEnds (map next_at places) → AreAtEnd places
-given_ends view mib round [] [] h ends = tt
+given_ends view mib round [] [] h ends = All-nil _
 given_ends view mib round [] (x ∷ places) h ends = absurd h
 given_ends view mib round (q ∷ names) [] h ends = absurd h
 given_ends view mib round (q ∷ names) (x ∷ places) h ends =
-    (at_end view x mib h.0.behind ends.0, given_ends view mib round names places h.1 ends.1)
+    All-cons (λ (place : Standing). place.rows ≡ []) x places (at_end view x mib h.0.behind ends.0)
+    (given_ends view mib round names places h.1 ends.1)
 
 -- ---- one place after the other
 
 -- the place at the index i, where those before it are moved, and j is the index behind it
 pub record IsMovedAt (places : List Standing) (i j : ℕ) (place : Standing) : Type 0 where
   pub moved : slice_set (map passed (take i places) ++ drop i places) i (passed place) ≡ map passed (take j places) ++ drop j places
-  pub front : take j places ≡ take i places ++ place ∷ []
-  pub whole : places ≡ take i places ++ place ∷ drop j places
+  pub here : drop i places ≡ place ∷ drop j places
 
 moved_at : (places : List Standing) (i : ℕ) (place : Standing) → i < length places
     → place ≡ get_or (map passed (take i places) ++ drop i places) i place → IsMovedAt places i (suc i) place
 moved_at [] i place low at = absurd (omega (arith, low))
 moved_at (x ∷ places) zero place low at = record {
   moved = ap (λ (y : Standing). passed y ∷ places) at;
-  front = ap (λ (y : Standing). y ∷ []) (sym at);
-  whole = ap (λ (y : Standing). y ∷ places) (sym at);
+  here = ap (λ (y : Standing). y ∷ places) (sym at);
 }
 moved_at (x ∷ places) (suc i) place low at =
     let rest = moved_at places i place (omega (arith, low)) at in
-    record {
-      moved = ap (λ (ps : List Standing). passed x ∷ ps) rest.moved;
-      front = ap (λ (ps : List Standing). x ∷ ps) rest.front;
-      whole = ap (λ (ps : List Standing). x ∷ ps) rest.whole;
-    }
+    record { moved = ap (λ (ps : List Standing). passed x ∷ ps) rest.moved; here = rest.here }
 
 pub moved_one : (places now : List Standing) (i : ℕ) (place : Standing) → now ≡ map passed (take i places) ++ drop i places → i < length places
     → place ≡ get_or now i place → IsMovedAt places i (i + 1) place
 moved_one places now i place moved low at =
     subst (λ (j : ℕ). IsMovedAt places i j place) (sym (add-one i))
     (moved_at places i place low (at ∙ ap (λ (ps : List Standing). get_or ps i place) moved))
-
-given-append : (a b : List Standing) → map next_at (a ++ b) ≡ map next_at a ++ map next_at b
-given-append [] b = refl
-given-append (x ∷ a) b = ap (λ (ps : List VarBind). next_at x ∷ ps) (given-append a b)
-
-pub given_front : (places : List Standing) (i j : ℕ) (place : Standing) → IsMovedAt places i j place
-    → map next_at (take j places) ≡ map next_at (take i places) ++ next_at place ∷ []
-given_front places i j place h = ap (λ (ps : List Standing). map next_at ps) h.front ∙ given-append (take i places) (place ∷ [])
-
-pub given_whole : (places : List Standing) (i j : ℕ) (place : Standing) → IsMovedAt places i j place
-    → map next_at (take i places) ++ next_at place ∷ map next_at (drop j places) ≡ map next_at places
-given_whole places i j place h =
-    sym (given-append (take i places) (place ∷ drop j places)) ∙ sym (ap (λ (ps : List Standing). map next_at ps) h.whole)
-
-pub wire_at : (places front back : List Standing) (place : Standing) → places ≡ front ++ place ∷ back → AreWireNames places → IsWire place.name
-wire_at places front back place e h = in_front front (subst AreWireNames e h)
-  where
-    in_front : (ps : List Standing) → AreWireNames (ps ++ place ∷ back) → IsWire place.name
-    in_front [] k = k.0
-    in_front (x ∷ ps) k = in_front ps k.1
-
-pub at_end_pushed : (places : List Standing) (place : Standing) → AreAtEnd places → place.rows ≡ [] → AreAtEnd (places ++ place ∷ [])
-at_end_pushed [] place h last = (last, tt)
-at_end_pushed (x ∷ places) place h last = (h.0, at_end_pushed places place h.1 last)
-
-pub at_end_front : (places more : List Standing) → AreAtEnd (places ++ more) → AreAtEnd places
-at_end_front [] more h = tt
-at_end_front (x ∷ places) more h = (h.0, at_end_front places more h.1)
-
-pub at_end_last : (places : List Standing) (place : Standing) → AreAtEnd (places ++ place ∷ []) → place.rows ≡ []
-at_end_last [] place h = h.0
-at_end_last (x ∷ places) place h = at_end_last places place h.1

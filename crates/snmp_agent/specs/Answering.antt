@@ -1,7 +1,7 @@
 -- How replies are made: what private functions are proved to find and to write. No clause of a
 -- public call is stated by these.
-use Rattle.std.specs.Prelude.{◌≡◌, ◌≢◌, ◌⊎◌, ℕ, zero, suc, ℤ, pos, ◌+◌, ◌≤◌, ◌<◌, List, [], ◌∷◌}
-use Rattle.std.specs.Prelude.{◌++◌, length, take}
+use Rattle.std.specs.Prelude.{◌≡◌, ◌⊎◌, ℕ, zero, suc, ℤ, pos, ◌+◌, ◌≤◌, ◌<◌, List, [], ◌∷◌}
+use Rattle.std.specs.Prelude.{◌++◌, ◌-◌, length, take, cond, leb}
 use Rattle.snmp_oid.specs.Identifier.{IsWire}
 use Rattle.snmp_wire.specs.declared.kind.Kind.{Kind}
 use Rattle.snmp_wire.specs.declared.kind.Kind.TheVariants as kind
@@ -11,10 +11,9 @@ use Rattle.snmp_wire.specs.Message.{counter64, no_such_object, no_such_instance,
 use Rattle.snmp_wire.specs.Message.{VarBind, Message}
 use Rattle.snmp_wire.specs.Canon.{canon, canon_binding, canon_bindings, canon_head}
 use Rattle.snmp_agent.specs.table.Table.{MibView, IsGet, IsNext, IsNextAfter}
-use Rattle.snmp_agent.specs.declared.bulk.Progress.{Progress}
-use Rattle.snmp_agent.specs.declared.bulk.Progress.TheVariants as progress
+use Rattle.snmp_agent.specs.declared.room.Draft.{Draft}
 use Rattle.snmp_agent.specs.Reply.{AreAnswers, AreEnds, IsResponse, not_writable, no_error}
-use Rattle.snmp_agent.specs.Reply.{failed_place}
+use Rattle.snmp_agent.specs.Reply.{failed_place, joined}
 
 -- the kinds of request that are given one binding for each of their own
 abbrev pub IsPaired : Kind → Type 0
@@ -114,63 +113,50 @@ abbrev pub IsResponseTooLong : MibView → ℕ → Message → Type 0
 IsResponseTooLong view limit q = (r : Message) × IsResponse view limit q r
     × (limit < length (canon r))
 
--- the binding's encoding follows the first `total` octets of the old output, and all keeps to the
--- room
-abbrev pub IsAppended : ℕ → ℕ → List ℕ → VarBind → ℕ → List ℕ → Type 0
-IsAppended room total old p n out = (n ≡ total + length (canon_binding p))
-    × (take n out ≡ take total old ++ canon_binding p) × (n ≤ room)
-
--- the binding has no room after `total` octets
-abbrev pub IsTooLong : ℕ → ℕ → VarBind → Type 0
-IsTooLong room total p = room < total + length (canon_binding p)
-
--- ---- GetBulk
-
 -- `room` is the most octets that the bindings of the message may take where it keeps to the limit
 pub record IsRoom (m : Message) (limit room : ℕ) : Type 0 where
   pub fits : whole_size m room ≤ limit
   pub most : limit < whole_size m (room + 1)
 
--- the encodings of these bindings follow the first `start` octets of the old output, and all keeps
--- to the room
-pub record Extends (room start : ℕ) (old : List ℕ) (added : List VarBind) (total : ℕ)
-    (out : List ℕ) : Type 0 where
-  pub size : total ≡ start + length (canon_bindings added)
-  pub octets : take total out ≡ take start old ++ canon_bindings added
-  pub fits : total ≤ room
+-- ---- a draft
 
--- the first of these bindings has no room after `total` octets
-abbrev pub HasNoRoom : ℕ → ℕ → List VarBind → Type 0
-HasNoRoom room total [] = Unit {0}
-HasNoRoom room total (p ∷ more) = room < total + length (canon_binding p)
+-- what a draft holds: the encodings of its bindings, and how many more octets have room
+pub record Held : Type 0 where
+  pub octets : List ℕ
+  pub left : ℕ
 
--- a front of these bindings is written, and there is no room for one more of them
-pub record HoldsFront (room start : ℕ) (old : List ℕ) (all : List VarBind) (total : ℕ)
-    (out : List ℕ) : Type 0 where
-  pub added : List VarBind
-  pub more : List VarBind
-  pub front : all ≡ added ++ more
-  pub extends : Extends room start old added total out
-  pub no_room : HasNoRoom room total more
+-- in the front of this output
+abbrev pub held : Draft → List ℕ → Held
+held draft out = record { octets = take draft.total out; left = draft.left }
+
+-- with these octets behind the others, where they have room; where they haven't, nothing has
+abbrev pub put : Held → List ℕ → Held
+put h octets = cond (leb (length octets) h.left)
+    (record { octets = h.octets ++ octets; left = h.left - length octets })
+    (record { octets = h.octets; left = 0 })
+
+-- with the encoding of one more binding
+unfoldable pub add : Held → VarBind → Held
+add h p = put h (canon_binding p)
+
+-- with those of more bindings, one after the other
+abbrev pub fill : Held → List VarBind → Held
+fill h [] = h
+fill h (p ∷ more) = fill (add h p) more
+
+-- one binding is added, of which this is true
+abbrev pub Adds : (VarBind → Type 0) → Held → Held → Type 0
+Adds IsGiven old new = (p : VarBind) × IsGiven p × (new ≡ add old p)
+
+-- bindings are added of which this is true
+abbrev pub Fills : (List VarBind → Type 0) → Held → Held → Type 0
+Fills AreAll old new = (all : List VarBind) × AreAll all × (new ≡ fill old all)
+
+-- ---- GetBulk
 
 -- what the names are given in the round after `round` others
 abbrev pub AreGiven : MibView → ℕ → List VarBind → List VarBind → Type 0
 AreGiven view round = AreAnswers (λ asked given. IsNextAfter view round asked.name given)
-
--- How far a list of bindings was written: all of it, where more may follow, or a front of it. A
--- front is all of it only where no more may follow.
-abbrev pub IsProgress : (IsAll MayGoOn : List VarBind → Type 0) → ℕ → ℕ → List ℕ → Progress
-    → List ℕ → Type 0
-IsProgress IsAll MayGoOn room start old (progress.Open total) out = (all : List VarBind)
-    × IsAll all × MayGoOn all × Extends room start old all total out
-IsProgress IsAll MayGoOn room start old (progress.Closed total) out =
-    (all : List VarBind) × IsAll all × (front : HoldsFront room start old all total out)
-    × (MayGoOn all → front.more ≢ [])
-
--- the names that are left where more may follow
-abbrev pub Leaves : Progress → List VarBind → List VarBind → Type 0
-Leaves (progress.Open total) names left = left ≡ names
-Leaves (progress.Closed total) names left = Unit {0}
 
 -- a round that another may follow: not endOfMibView throughout
 abbrev pub HasRow : List VarBind → Type 0
@@ -184,3 +170,8 @@ AreRoundsFrom view names i (suc left) [] = ⊥
 AreRoundsFrom view names i (suc left) (round ∷ more) =
     AreGiven view i names round × ((AreEnds round × (more ≡ [])) ⊎ ((AreEnds round
     → ⊥) × AreRoundsFrom view names (i + 1) left more))
+
+-- the rounds of the names are added
+abbrev pub FillsRounds : MibView → List VarBind → ℕ → Held → Held → Type 0
+FillsRounds view names repetitions old new = (rounds : List (List VarBind))
+    × AreRoundsFrom view names 0 repetitions rounds × (new ≡ fill old (joined rounds))

@@ -1,13 +1,11 @@
 -- Where the names that repeat in a GetBulk stand among the variables of a view. No clause of a
 -- public call is stated by these.
-use Rattle.std.specs.Prelude.{◌≡◌, ℕ, List, [], ◌∷◌, map}
+use Rattle.std.specs.Prelude.{◌≡◌, ℕ, List, [], ◌∷◌, ◌++◌, All}
 use Rattle.snmp_oid.specs.Identifier.{IsWire}
 use Rattle.snmp_wire.specs.Message.{Datum, VarBind, end_of_mib_view}
 use Rattle.snmp_agent.specs.table.Table.{MibView, IsNext, IsNextAfter}
 use Rattle.snmp_agent.specs.table.Pages.{AreBehind}
 use Rattle.snmp_agent.specs.table.Places.{var_of}
-use Rattle.snmp_agent.specs.declared.bulk.Progress.{Progress}
-use Rattle.snmp_agent.specs.declared.bulk.Progress.TheVariants as progress
 use Rattle.snmp_agent.specs.declared.place.Given.{Given}
 use Rattle.snmp_agent.specs.declared.place.Given.TheVariants as given
 
@@ -56,15 +54,13 @@ AreStanding view round (asked ∷ more) (place ∷ places) = Stands view round a
 
 -- the names at the places have encodings
 abbrev pub AreWireNames : List Standing → Type 0
-AreWireNames [] = Unit {0}
-AreWireNames (place ∷ places) = IsWire place.name × AreWireNames places
+AreWireNames places = All (λ (place : Standing). IsWire place.name) places
 
 -- no variable is left at any place
 abbrev pub AreAtEnd : List Standing → Type 0
-AreAtEnd [] = Unit {0}
-AreAtEnd (place ∷ places) = (place.rows ≡ []) × AreAtEnd places
+AreAtEnd places = All (λ (place : Standing). place.rows ≡ []) places
 
--- all places are moved where no binding of the round was left out
-abbrev pub AreMoved : List Standing → Progress → List Standing → Type 0
-AreMoved places (progress.Open total) moved = moved ≡ map passed places
-AreMoved places (progress.Closed total) moved = Unit {0}
+-- the first of the names stand at the places, and the others are left
+abbrev pub StandIn : MibView → ℕ → List VarBind → List Standing → List VarBind → Type 0
+StandIn view round names places others = (first : List VarBind) × (names ≡ first ++ others)
+    × AreStanding view round first places

@@ -12,7 +12,8 @@ ghost use Rattle.snmp_agent.specs.Answering.{IsResponseTooLong, whole_status, wh
 
 use crate::bulk::append_bulk;
 use crate::config::{Config, Outcome, Why};
-use crate::draft::{Draft, append_answers, room_for_bindings};
+use crate::draft::{append_answers, room_for_bindings};
+use crate::room::Draft;
 use crate::table::{Guesses, Hint, Last, Table, one_answer};
 use snmp_wire::{
     Kind, MAX_DATAGRAM, MessageRef, Parts, decode, encode_head, head_size, message_sizes, pieces,
@@ -161,9 +162,8 @@ fn bulk_reply<'a>(
     let parts = response(request, NO_ERROR, 0);
     match room_for_bindings(&parts, config.max_size) {
         Some(room) => {
-            let draft = Draft { room, total: 0 };
-            let total = append_bulk(table, request, draft, out, hint);
-            seal(&parts, 0, total, &mut out[..])
+            let draft = append_bulk(table, request, Draft::new(room), out, hint);
+            seal(&parts, 0, draft.total, &mut out[..])
         }
         None => None,
     }

@@ -2,61 +2,46 @@
 //!
 //! They are written to the front of the output, as those of other replies are, and end before the
 //! first that has no room.
-ghost use Rattle.std.specs.Prelude.{◌≡◌, ◌≤◌, ◌↔◌, List, [], ◌∷◌, ◌++◌, length, take, drop};
-ghost use Rattle.std.specs.Prelude.{map, IsTrue};
-ghost use Rattle.snmp_wire.specs.Message.{VarBind, datum, end_of_mib_view};
-ghost use Rattle.snmp_agent.specs.Reply.{IsBulk, joined, or_zero};
-ghost use Rattle.snmp_agent.specs.Answering.{IsWritable, AreWritable, HoldsFront, AreGiven};
-ghost use Rattle.snmp_agent.specs.Answering.{IsProgress, Leaves, HasRow, AreRoundsFrom};
+ghost use Rattle.std.specs.Prelude.{◌≡◌, ◌≢◌, ◌↔◌, List, [], ◌∷◌, ◌++◌, take, drop, map};
+ghost use Rattle.std.specs.Prelude.{IsTrue};
+ghost use Rattle.snmp_wire.specs.Message.{VarBind};
+ghost use Rattle.snmp_agent.specs.Reply.{AreEnds, IsBulk, or_zero};
+ghost use Rattle.snmp_agent.specs.Answering.{AreWritable, AreGiven, Fills, FillsRounds, fill, held};
 ghost use Rattle.snmp_oid.specs.Identifier.{IsWire};
-ghost use Rattle.snmp_agent.specs.Standing.{AreStanding, AreWireNames, AreAtEnd};
-ghost use Rattle.snmp_agent.specs.Standing.{AreMoved, next_at};
+ghost use Rattle.snmp_agent.specs.Standing.{AreStanding, AreWireNames, AreAtEnd, StandIn};
+ghost use Rattle.snmp_agent.specs.Standing.{next_at, passed};
 
-use crate::draft::{Draft, append_next, blank};
+use crate::draft::append_next;
 use crate::place::Place;
+use crate::room::Draft;
 use crate::table::{Guesses, Table, one_answer};
 use arrayvec::ArrayVec;
 use snmp_oid::order;
-use snmp_wire::{BindingRef, Bindings, MAX_DATAGRAM, MessageRef, ValueRef};
+use snmp_wire::{BindingRef, Bindings, MAX_DATAGRAM, MessageRef};
 
 /// How many names keep their places from one round to the next, at most.
 const MAX_PLACES: usize = 64;
 
-/// How far bindings were written, and how many octets they and those before them take.
-pub enum Progress {
-    /// All of them, and more may follow.
-    Open(usize),
-    /// Those before the first that has no room; or all of them, which are endOfMibView throughout.
-    Closed(usize),
-}
-
-/// Writes the bindings of the reply to a GetBulk after those of the draft, as many as fit, and
-/// returns how many octets they take together.
+/// Writes the bindings of the reply to a GetBulk after those of the draft, as many as fit.
 pub fn append_bulk<'a>(
     table: &'a Table,
     request: &MessageRef<'a>,
     draft: Draft,
     out: &mut [u8; MAX_DATAGRAM],
     hint: &mut Guesses<'_>,
-) -> usize
+) -> Draft
     requires { AreWritable request.now.bindings }
-    ensures { (all : List VarBind) × IsBulk table.now request.now all
-        × HoldsFront draft.room draft.total out.old all result out.new }
+    ensures { Fills (IsBulk table.now request.now) (held draft out.old) (held result out.new) }
 {
     one_answer();
     let mut bindings = request.bindings();
     let count = or_zero(request.a());
-    match append_singles(table, count, &mut bindings, draft, out, hint) {
-        Progress::Closed(total) => total,
-        Progress::Open(total) => {
-            let repetitions = or_zero(request.b());
-            let draft = Draft {
-                room: draft.room,
-                total,
-            };
-            append_repeaters(table, repetitions, bindings, draft, out, hint)
-        }
+    let draft = append_singles(table, count, &mut bindings, draft, out, hint);
+    if draft.is_full() {
+        return draft;
     }
+    let repetitions = or_zero(request.b());
+    append_repeaters(table, repetitions, bindings, draft, out, hint)
 }
 
 /// The number, or 0 where it is negative (RFC 3416, section 4.2.3).
@@ -67,7 +52,7 @@ fn or_zero(number: i32) -> usize
 }
 
 /// Takes the first `count` bindings, or all where there are fewer, and writes what a GetNext gives
-/// for each.
+/// for each, until there is no room.
 fn append_singles<'a>(
     table: &'a Table,
     count: usize,
@@ -75,32 +60,27 @@ fn append_singles<'a>(
     draft: Draft,
     out: &mut [u8; MAX_DATAGRAM],
     hint: &mut Guesses<'_>,
-) -> Progress
+) -> Draft
     requires { AreWritable bindings.old }
-    ensures progress { IsProgress (AreGiven table.now 0 (take count bindings.old))
-        (λ all. Unit {0}) draft.room draft.total out.old result out.new }
-    ensures left { Leaves result (drop count bindings.old) bindings.new }
+    ensures filled { Fills (AreGiven table.now 0 (take count bindings.old)) (held draft out.old)
+        (held result out.new) }
+    ensures left { result.left ≢ 0 → bindings.new ≡ drop count bindings.old }
 {
     one_answer();
-    let mut total = draft.total;
+    let mut draft = draft;
     'singles: for _ in 0..count {
         let Some(asked) = bindings.next_ref() else {
-            return Progress::Open(total);
+            return draft;
         };
-        let written = Draft {
-            room: draft.room,
-            total,
-        };
-        match append_next(table, &asked, written, out, hint) {
-            Some(end) => total = end,
-            None => return Progress::Closed(total),
+        draft = append_next(table, &asked, draft, out, hint);
+        if draft.is_full() {
+            return draft;
         }
     }
-    Progress::Open(total)
+    draft
 }
 
-/// Writes the rounds of the bindings, at most `repetitions`, and returns how many octets there are
-/// then.
+/// Writes the rounds of the bindings, at most `repetitions`.
 fn append_repeaters<'a>(
     table: &'a Table,
     repetitions: usize,
@@ -108,11 +88,10 @@ fn append_repeaters<'a>(
     draft: Draft,
     out: &mut [u8; MAX_DATAGRAM],
     hint: &mut Guesses<'_>,
-) -> usize
+) -> Draft
     requires { AreWritable bindings }
-    ensures { (rounds : List (List VarBind))
-        × AreRoundsFrom table.now bindings.entry 0 repetitions rounds
-        × HoldsFront draft.room draft.total out.old (joined rounds) result out.new }
+    ensures { FillsRounds table.now bindings.entry repetitions (held draft out.old)
+        (held result out.new) }
 {
     let mut others = bindings.left();
     match (others.next_ref(), others.next_ref()) {
@@ -130,41 +109,39 @@ fn append_column<'a>(
     draft: Draft,
     out: &mut [u8; MAX_DATAGRAM],
     hint: &mut Guesses<'_>,
-) -> usize
+) -> Draft
     requires { IsWire asked.name }
-    ensures { (rounds : List (List VarBind))
-        × AreRoundsFrom table.now (asked.entry ∷ []) 0 repetitions rounds
-        × HoldsFront draft.room draft.total out.old (joined rounds) result out.new }
+    ensures { FillsRounds table.now (asked.entry ∷ []) repetitions (held draft out.old)
+        (held result out.new) }
 {
     one_answer();
     order();
     table.is_mib_view();
-    let mut total = draft.total;
+    let mut draft = draft;
     let mut place = Place::of_walk(table, asked.name(), hint);
     'rounds: for _ in 0..repetitions {
         let is_last = place.is_at_end();
         let left = place.left();
-        let written = Draft {
-            room: draft.room,
-            total,
-        };
-        match place.append_next(written, out) {
-            Some(end) => total = end,
-            None => {
-                hint.keep_last(left);
-                return total;
-            }
+        let total = draft.total;
+        draft = place.append_next(draft, out);
+        if draft.is_full() {
+            hint.keep_last(if draft.total == total {
+                left
+            } else {
+                place.left()
+            });
+            return draft;
         }
         if is_last {
-            return total;
+            return draft;
         }
     }
     hint.keep_last(place.left());
-    total
+    draft
 }
 
-/// Writes the rounds of several bindings, as [`append_repeaters`] does. Where they are few, their
-/// places are kept.
+/// Writes the rounds of several bindings, as [`append_repeaters`] does. The places of the first are
+/// kept.
 fn append_columns<'a>(
     table: &'a Table,
     repetitions: usize,
@@ -172,22 +149,16 @@ fn append_columns<'a>(
     draft: Draft,
     out: &mut [u8; MAX_DATAGRAM],
     hint: &mut Guesses<'_>,
-) -> usize
+) -> Draft
     requires { AreWritable bindings }
-    ensures { (rounds : List (List VarBind))
-        × AreRoundsFrom table.now bindings.entry 0 repetitions rounds
-        × HoldsFront draft.room draft.total out.old (joined rounds) result out.new }
+    ensures { FillsRounds table.now bindings.entry repetitions (held draft out.old)
+        (held result out.new) }
 {
     let mut others = bindings.left();
     let mut places = ArrayVec::new();
     keep_places(table, &mut others, &mut places, hint);
-    match others.next_ref() {
-        Some(_) => append_rounds(table, repetitions, bindings, draft, out),
-        None => {
-            let places = places.as_mut_slice();
-            append_kept_rounds(table, repetitions, &bindings, places, draft, out)
-        }
-    }
+    let places = places.as_mut_slice();
+    append_rounds(table, repetitions, &bindings, places, others, draft, out)
 }
 
 /// Takes the first bindings, as many as there is room for or all where there are fewer, and adds
@@ -200,8 +171,8 @@ fn keep_places<'a>(
 )
     requires writable { AreWritable bindings.old }
     requires none { places.old.items ≡ [] }
-    ensures { (names : List VarBind) × (bindings.old ≡ names ++ bindings.new)
-        × AreStanding table.now 0 names places.new.items }
+    ensures standing { StandIn table.now 0 bindings.old places.new.items bindings.new }
+    ensures writable { AreWritable bindings.new }
 {
     'names: while !places.is_full() {
         let Some(asked) = bindings.next_ref() else {
@@ -211,133 +182,99 @@ fn keep_places<'a>(
     }
 }
 
-/// Writes the rounds of bindings that stand at these places: each begins where the one before
-/// ended, and nothing is searched.
-fn append_kept_rounds<'a>(
+/// Writes the rounds of the bindings. The first of them stand at these places, where each round
+/// begins where the one before ended, and nothing is searched; the others are searched in each
+/// round, and a reply has room for few of those.
+fn append_rounds<'a>(
     table: &'a Table,
     repetitions: usize,
     bindings: &Bindings<'a>,
     places: &mut [Place<'a>],
+    others: Bindings<'a>,
     draft: Draft,
     out: &mut [u8; MAX_DATAGRAM],
-) -> usize
-    requires { AreStanding table.now 0 bindings.now places.old }
-    ensures { (rounds : List (List VarBind))
-        × AreRoundsFrom table.now bindings.now 0 repetitions rounds
-        × HoldsFront draft.room draft.total out.old (joined rounds) result out.new }
+) -> Draft
+    requires standing { StandIn table.now 0 bindings.now places.old others }
+    requires writable { AreWritable others }
+    ensures { FillsRounds table.now bindings.now repetitions (held draft out.old)
+        (held result out.new) }
 {
     one_answer();
     order();
     table.is_mib_view();
-    let mut total = draft.total;
-    'rounds: for _ in 0..repetitions {
-        let written = Draft {
-            room: draft.room,
-            total,
-        };
-        match append_places(places, written, out) {
-            Progress::Open(end) => total = end,
-            Progress::Closed(end) => return end,
-        }
-    }
-    total
-}
-
-/// Writes what comes next at each place, and moves the places behind that.
-fn append_places(places: &mut [Place<'_>], draft: Draft, out: &mut [u8; MAX_DATAGRAM]) -> Progress
-    requires { AreWireNames places.old }
-    ensures progress { IsProgress (λ all. all ≡ map next_at places.old)
-        (λ all. AreAtEnd places.old → ⊥) draft.room draft.total out.old result out.new }
-    ensures moved { AreMoved places.old result places.new }
-{
-    let mut total = draft.total;
-    let mut over = true;
-    'places: for place in places.iter_mut() {
-        let is_last = place.is_at_end();
-        let written = Draft {
-            room: draft.room,
-            total,
-        };
-        match place.append_next(written, out) {
-            Some(end) => total = end,
-            None => return Progress::Closed(total),
-        }
-        over = over && is_last;
-    }
-    if over {
-        Progress::Closed(total)
-    } else {
-        Progress::Open(total)
-    }
-}
-
-/// Writes the rounds of many bindings, as [`append_repeaters`] does. Each is searched anew in each
-/// round, and a reply has room for few of them.
-fn append_rounds(
-    table: &Table,
-    repetitions: usize,
-    bindings: Bindings<'_>,
-    draft: Draft,
-    out: &mut [u8; MAX_DATAGRAM],
-) -> usize
-    requires { AreWritable bindings }
-    ensures { (rounds : List (List VarBind))
-        × AreRoundsFrom table.now bindings.entry 0 repetitions rounds
-        × HoldsFront draft.room draft.total out.old (joined rounds) result out.new }
-{
-    one_answer();
-    let mut total = draft.total;
+    let mut draft = draft;
     'rounds: for round in 0..repetitions {
-        let written = Draft {
-            room: draft.room,
-            total,
-        };
-        match append_round(table, round, bindings.left(), written, out) {
-            Progress::Open(end) => total = end,
-            Progress::Closed(end) => return end,
+        let are_over = are_at_end(places);
+        draft = append_places(places, draft, out);
+        let (end, is_over) = append_others(table, round, others.left(), are_over, draft, out);
+        draft = end;
+        if is_over {
+            return draft;
+        }
+        if draft.is_full() {
+            return draft;
         }
     }
-    total
+    draft
 }
 
-/// Writes what each binding is given in the round after `round` others.
-fn append_round<'a>(
+/// Whether no row is left at any place.
+fn are_at_end(places: &[Place<'_>]) -> bool
+    ensures { IsTrue result ↔ AreAtEnd places.now }
+{
+    'places: for place in places {
+        if !place.is_at_end() {
+            return false;
+        }
+    }
+    true
+}
+
+/// Writes what comes next at each place, and moves the places behind that, until there is no room.
+fn append_places(places: &mut [Place<'_>], draft: Draft, out: &mut [u8; MAX_DATAGRAM]) -> Draft
+    requires { AreWireNames places.old }
+    ensures filled { held result out.new ≡ fill (held draft out.old) (map next_at places.old) }
+    ensures moved { result.left ≢ 0 → places.new ≡ map passed places.old }
+{
+    let mut draft = draft;
+    'places: for place in places.iter_mut() {
+        draft = place.append_next(draft, out);
+        if draft.is_full() {
+            return draft;
+        }
+    }
+    draft
+}
+
+/// Writes what each binding is given in the round after `round` others, until there is no room.
+/// Whether there was, and these are over, as others are said to be.
+fn append_others<'a>(
     table: &'a Table,
     round: usize,
     mut bindings: Bindings<'a>,
+    are_over: bool,
     draft: Draft,
     out: &mut [u8; MAX_DATAGRAM],
-) -> Progress
+) -> (Draft, bool)
     requires { AreWritable bindings }
-    ensures { IsProgress (AreGiven table.now round bindings.entry) HasRow draft.room draft.total
-        out.old result out.new }
+    ensures { (all : List VarBind) × AreGiven table.now round bindings.entry all
+        × (held result.0 out.new ≡ fill (held draft out.old) all)
+        × (IsTrue result.1 → IsTrue are_over × AreEnds all)
+        × (result.0.left ≢ 0 → IsTrue are_over → AreEnds all → IsTrue result.1) }
 {
     one_answer();
-    let mut total = draft.total;
-    let mut over = true;
-    let mut given = blank();
+    order();
+    table.is_mib_view();
+    let mut draft = draft;
+    let mut are_over = are_over;
     'bindings: while let Some(asked) = bindings.next_ref() {
-        table.read_next_after(&asked.name(), round, &mut given);
-        let written = Draft {
-            room: draft.room,
-            total,
-        };
-        match written.append(out, &given) {
-            Some(end) => total = end,
-            None => return Progress::Closed(total),
+        if draft.is_full() {
+            return (draft, false);
         }
-        over = over && is_end(&given.value);
+        let mut place = Place::after_rounds(table, asked.name(), round);
+        let is_last = place.is_at_end();
+        are_over = are_over && is_last;
+        draft = place.append_next(draft, out);
     }
-    if over {
-        Progress::Closed(total)
-    } else {
-        Progress::Open(total)
-    }
-}
-
-/// Whether the value is endOfMibView.
-fn is_end(value: &ValueRef<'_>) -> bool
-    ensures { IsTrue result ↔ (datum value.now ≡ end_of_mib_view) }
-{
-    matches!(value, ValueRef::EndOfMibView)
+    (draft, are_over)
 }

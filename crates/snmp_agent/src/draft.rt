@@ -1,19 +1,19 @@
 //! A reply that is being written: its bindings are written to the front of the output one after the
 //! other, and are moved to make room for the head once they are all there.
-ghost use Rattle.std.specs.Prelude.{◌≡◌, ◌+◌, ◌≤◌, ◌<◌, ◌++◌, List, [], length, take, IfSome};
-ghost use Rattle.std.specs.Prelude.{IfNone, IsTrue, ◌↔◌};
+ghost use Rattle.std.specs.Prelude.{◌≡◌, ◌+◌, ◌≤◌, ◌<◌, List, [], length, IfSome, IfNone, IsTrue};
+ghost use Rattle.std.specs.Prelude.{◌↔◌};
 ghost use Rattle.std.specs.FinMap.{get};
 ghost use Rattle.snmp_wire.specs.Message.{VarBind, var_bind, datum, null_value};
-ghost use Rattle.snmp_wire.specs.Canon.{canon_binding, canon_bindings};
 ghost use Rattle.snmp_wire.specs.Parts.{parts_message};
 ghost use Rattle.snmp_agent.specs.Reply.{AreAnswers};
 ghost use Rattle.snmp_agent.specs.Answering.{IsPaired, IsAnswer, IsWritable, AreWritable};
 ghost use Rattle.snmp_agent.specs.Answering.{IsShortValue, HoldsBindings, IsRoom, PassesLimit};
-ghost use Rattle.snmp_agent.specs.Answering.{whole_size, IsAppended, IsTooLong};
+ghost use Rattle.snmp_agent.specs.Answering.{whole_size, Adds, add, held};
 ghost use Rattle.snmp_agent.specs.table.Table.{IsGet, IsNext};
 
 use crate::config::Config;
 use crate::place::{Given, append_end};
+use crate::room::Draft;
 use crate::table::{Guesses, Table, one_answer};
 use snmp_oid::order;
 use snmp_wire::{
@@ -46,12 +46,15 @@ pub fn append_answers<'a>(
     one_answer();
     message_sizes();
     let room = room_for_bindings(parts, config.max_size)?;
-    let mut total = 0;
+    // One octet more than there is room for, so that the bindings fit where the draft isn't full.
+    let mut draft = Draft::new(room + 1);
     'bindings: while let Some(asked) = bindings.next_ref() {
-        let draft = Draft { room, total };
-        total = append_answer(table, kind, &asked, draft, out, hint)?;
+        draft = append_answer(table, kind, &asked, draft, out, hint);
+        if draft.is_full() {
+            return None;
+        }
     }
-    Some(total)
+    Some(draft.total)
 }
 
 /// A binding for others to be read into.
@@ -67,7 +70,7 @@ pub fn blank<'a>() -> Binding<'a>
 
 /// Writes what the reply to a request of this kind has for one of its bindings after those of the
 /// draft: for a Get the variable of its name, for a GetNext the one after it, and for a Set the
-/// binding itself. None, and nothing is written, where there is no room for it.
+/// binding itself.
 fn append_answer(
     table: &Table,
     kind: Kind,
@@ -75,13 +78,10 @@ fn append_answer(
     draft: Draft,
     out: &mut [u8; MAX_DATAGRAM],
     hint: &mut Guesses<'_>,
-) -> Option<usize>
+) -> Draft
     requires paired { IsPaired kind }
     requires writable { IsWritable asked.now }
-    ensures written { IfSome result (λ n. (p : VarBind) × IsAnswer table.now kind asked.now p
-        × IsAppended draft.room draft.total out.old p n out.new) }
-    ensures too_long { IfNone result ((p : VarBind) × IsAnswer table.now kind asked.now p
-        × IsTooLong draft.room draft.total p) }
+    ensures { Adds (IsAnswer table.now kind asked.now) (held draft out.old) (held result out.new) }
 {
     match kind {
         Kind::GetRequest => append_get(table, asked, draft, out, hint),
@@ -97,12 +97,9 @@ fn append_get(
     draft: Draft,
     out: &mut [u8; MAX_DATAGRAM],
     hint: &mut Guesses<'_>,
-) -> Option<usize>
+) -> Draft
     requires { IsWritable asked.now }
-    ensures written { IfSome result (λ n. (p : VarBind) × IsGet table.now asked.now.name p
-        × IsAppended draft.room draft.total out.old p n out.new) }
-    ensures too_long { IfNone result ((p : VarBind) × IsGet table.now asked.now.name p
-        × IsTooLong draft.room draft.total p) }
+    ensures { Adds (IsGet table.now asked.now.name) (held draft out.old) (held result out.new) }
 {
     match table.row_near(&asked.name(), hint) {
         Some(row) => draft.append_row(out, row),
@@ -119,13 +116,10 @@ fn append_exception(
     asked: &BindingRef<'_>,
     draft: Draft,
     out: &mut [u8; MAX_DATAGRAM],
-) -> Option<usize>
+) -> Draft
     requires writable { IsWritable asked.now }
     requires none { get table.now.rows asked.now.name ≡ None }
-    ensures written { IfSome result (λ n. (p : VarBind) × IsGet table.now asked.now.name p
-        × IsAppended draft.room draft.total out.old p n out.new) }
-    ensures too_long { IfNone result ((p : VarBind) × IsGet table.now asked.now.name p
-        × IsTooLong draft.room draft.total p) }
+    ensures { Adds (IsGet table.now asked.now.name) (held draft out.old) (held result out.new) }
 {
     let mut binding = blank();
     asked.name().read_into(&mut binding.name);
@@ -141,13 +135,9 @@ pub fn append_next(
     draft: Draft,
     out: &mut [u8; MAX_DATAGRAM],
     hint: &mut Guesses<'_>,
-) -> Option<usize>
+) -> Draft
     requires { IsWritable asked.now }
-    ensures written { IfSome result (λ n. (p : VarBind) × IsNext table.now asked.now.name p
-        × IsAppended draft.room draft.total out.old p n out.new) }
-    ensures too_long { IfNone result ((p : VarBind) × IsNext table.now asked.now.name p
-        × IsTooLong draft.room draft.total p) }
-    ensures unchanged_on_none { IfNone result (out.new ≡ out.old) }
+    ensures { Adds (IsNext table.now asked.now.name) (held draft out.old) (held result out.new) }
 {
     order();
     let name = asked.name();
@@ -164,81 +154,60 @@ pub fn append_next(
 /// Writes a binding of a request as it was asked, as [`append_answer`] does. Not inlined: its copy,
 /// of over a thousand octets, is set to zeros as the function begins.
 #[inline(never)]
-fn append_same(asked: &BindingRef<'_>, draft: Draft, out: &mut [u8; MAX_DATAGRAM]) -> Option<usize>
+fn append_same(asked: &BindingRef<'_>, draft: Draft, out: &mut [u8; MAX_DATAGRAM]) -> Draft
     requires { IsWritable asked.now }
-    ensures written { IfSome result (λ n.
-        IsAppended draft.room draft.total out.old asked.now n out.new) }
-    ensures too_long { IfNone result (IsTooLong draft.room draft.total asked.now) }
+    ensures { held result out.new ≡ add (held draft out.old) asked.now }
 {
     let mut binding = blank();
     asked.read_into(&mut binding);
     draft.append(out, &binding)
 }
 
-/// The bindings of a reply that is being written, in the front of an output.
-#[derive(Clone, Copy)]
-pub struct Draft {
-    /// How many octets they may take.
-    pub room: usize,
-    /// How many octets those that are written take.
-    pub total: usize,
-    ghost fits: { total ≤ room },
-    ghost datagram: { room ≤ 65507 },
-}
-
 impl Draft {
-    ghost use Rattle.std.specs.Prelude.{◌≡◌, ◌+◌, ◌≤◌, ◌<◌, ◌++◌, length, take, IfSome, IfNone};
+    ghost use Rattle.std.specs.Prelude.{◌≡◌};
     ghost use Rattle.snmp_wire.specs.Message.{var_bind};
-    ghost use Rattle.snmp_wire.specs.Canon.{canon_binding};
-    ghost use Rattle.snmp_agent.specs.Answering.{IsWritable, IsAppended, IsTooLong};
+    ghost use Rattle.snmp_agent.specs.Answering.{IsWritable, add, put, held};
 
-    /// Writes a row after the others, as [`Draft::append`] does, by a copy of its octets.
+    /// Writes a row after the others, by a copy of its octets.
     #[inline]
-    pub fn append_row(self, out: &mut [u8; MAX_DATAGRAM], row: &EncodedBinding) -> Option<usize>
-        ensures written { IfSome result (λ n. IsAppended self.room self.total out.old
-            row.now n out.new) }
-        ensures too_long { IfNone result (IsTooLong self.room self.total row.now) }
-        ensures unchanged_on_none { IfNone result (out.new ≡ out.old) }
+    pub fn append_row(self, out: &mut [u8; MAX_DATAGRAM], row: &EncodedBinding) -> Draft
+        ensures { held result out.new ≡ add (held self out.old) row.now }
     {
         self.append_octets(out, row.octets())
     }
 
-    /// Writes octets after the others, and returns how many there are then. None, and nothing is
-    /// written, where there is no room for them.
-    fn append_octets(self, out: &mut [u8; MAX_DATAGRAM], octets: &[u8]) -> Option<usize>
-        ensures written { IfSome result (λ n. (n ≡ self.total + length octets.now)
-            × (take n out.new ≡ take self.total out.old ++ octets.now) × (n ≤ self.room)) }
-        ensures too_long { IfNone result (self.room < self.total + length octets.now) }
-        ensures unchanged_on_none { IfNone result (out.new ≡ out.old) }
+    /// Writes octets after the others.
+    fn append_octets(self, out: &mut [u8; MAX_DATAGRAM], octets: &[u8]) -> Draft
+        ensures { held result out.new ≡ put (held self out.old) octets.now }
     {
-        if octets.len() > self.room - self.total {
-            return None;
+        if octets.len() > self.left {
+            return self.full();
         }
         let end = self.total + octets.len();
         out[self.total..end].copy_from_slice(octets);
-        Some(end)
+        Draft {
+            total: end,
+            left: self.left - octets.len(),
+        }
     }
 
-    /// Writes a binding after the others, and returns how many octets they take then. None, and
-    /// nothing is written, where there is no room for it.
-    pub fn append(self, out: &mut [u8; MAX_DATAGRAM], binding: &Binding<'_>) -> Option<usize>
+    /// Writes a binding after the others.
+    pub fn append(self, out: &mut [u8; MAX_DATAGRAM], binding: &Binding<'_>) -> Draft
         requires { IsWritable (var_bind binding.now) }
-        ensures written { IfSome result (λ n.
-            (n ≡ self.total + length (canon_binding (var_bind binding.now)))
-            × (take n out.new ≡ take self.total out.old ++ canon_binding (var_bind binding.now))
-            × (n ≤ self.room)) }
-        ensures too_long { IfNone result (self.room < self.total + length (canon_binding (var_bind
-            binding.now))) }
-        ensures unchanged_on_none { IfNone result (out.new ≡ out.old) }
+        ensures { held result out.new ≡ add (held self out.old) (var_bind binding.now) }
     {
         if !is_short(&binding.value) {
             element_sizes();
-            return None;
+            return self.full();
         }
-        match encode_binding(binding, &mut out[self.total..self.room]) {
-            Some(size) => Some(self.total + size),
-            None => None,
+        let room = self.total + self.left;
+        if let Some(size) = encode_binding(binding, &mut out[self.total..room]) {
+            return Draft {
+                total: self.total + size,
+                left: self.left - size,
+            };
         }
+        self.full()
     }
 }
 
@@ -248,7 +217,7 @@ pub fn room_for_bindings(parts: &Parts<'_>, max_size: usize) -> Option<usize>
     requires community { length parts.now.community.now ≤ 255 }
     requires datagram { max_size ≤ 65507 }
     ensures room { IfSome result (IsRoom (parts_message parts.now) max_size) }
-    ensures within_max_size { IfSome result (λ room. room ≤ max_size) }
+    ensures below_max_size { IfSome result (λ room. room < max_size) }
     ensures none { IfNone result (max_size < whole_size (parts_message parts.now) 0) }
 {
     message_sizes();

@@ -30,6 +30,7 @@ mod draft;
 mod endpoint;
 mod laws;
 mod place;
+mod room;
 mod server;
 mod table;
 

@@ -1,12 +1,14 @@
 //! Where the names that repeat in a GetBulk stand among the rows of a table.
-ghost use Rattle.std.specs.Prelude.{◌≡◌, IfSome, IfNone};
+ghost use Rattle.std.specs.Prelude.{◌≡◌};
 ghost use Rattle.snmp_oid.specs.Identifier.{IsWire};
 ghost use Rattle.snmp_wire.specs.Message.{end_of_mib_view};
-ghost use Rattle.snmp_agent.specs.Answering.{IsAppended, IsTooLong};
+ghost use Rattle.snmp_agent.specs.Answering.{add, held};
 ghost use Rattle.snmp_agent.specs.Standing.{name_of};
 
-use crate::draft::{Draft, blank};
+use crate::draft::blank;
+use crate::room::Draft;
 use crate::table::{Guesses, Successors, Table};
+use snmp_oid::order;
 use snmp_wire::{EncodedBinding, EncodedName, MAX_DATAGRAM, ValueRef};
 use std::marker::Model;
 
@@ -52,10 +54,10 @@ impl<'a> Default for Place<'a> {
 }
 
 impl<'a> Place<'a> {
-    ghost use Rattle.std.specs.Prelude.{◌≡◌, ◌↔◌, [], IfSome, IfNone, IsTrue};
+    ghost use Rattle.std.specs.Prelude.{◌≡◌, ◌↔◌, [], IsTrue};
     ghost use Rattle.snmp_oid.specs.Identifier.{IsWire};
-    ghost use Rattle.snmp_agent.specs.Answering.{IsAppended, IsTooLong};
-    ghost use Rattle.snmp_agent.specs.Standing.{next_at, passed};
+    ghost use Rattle.snmp_agent.specs.Answering.{add, held};
+    ghost use Rattle.snmp_agent.specs.Standing.{Stands, next_at, passed};
     ghost use Rattle.snmp_agent.specs.table.Pages.{AreBehind};
 
     /// The place of a name that a request asks from.
@@ -82,6 +84,26 @@ impl<'a> Place<'a> {
         }
     }
 
+    /// The place of a name that was given so many rows before.
+    pub fn after_rounds(table: &'a Table, name: EncodedName<'a>, rounds: usize) -> Place<'a>
+        requires { IsWire name }
+        ensures { Stands table.now rounds name.entry result }
+    {
+        order();
+        table.is_mib_view();
+        let mut rows = table.after(&name);
+        match rows.skip_rows(rounds) {
+            Some(row) => Place {
+                given: Given::Row(row),
+                rows,
+            },
+            None => Place {
+                given: Given::Asked(name),
+                rows,
+            },
+        }
+    }
+
     /// How many rows of their page are left, and how many pages after that.
     #[inline]
     pub fn left(&self) -> (usize, usize) {
@@ -97,14 +119,11 @@ impl<'a> Place<'a> {
     }
 
     /// Writes what a GetNext gives at the place after the bindings of a draft, and moves the place
-    /// behind that. None, and nothing is written, where there is no room for it.
+    /// behind that.
     #[inline]
-    pub fn append_next(&mut self, draft: Draft, out: &mut [u8; MAX_DATAGRAM]) -> Option<usize>
+    pub fn append_next(&mut self, draft: Draft, out: &mut [u8; MAX_DATAGRAM]) -> Draft
         requires { IsWire self.old.name }
-        ensures written { IfSome result
-            (λ n. IsAppended draft.room draft.total out.old (next_at self.old) n out.new) }
-        ensures too_long { IfNone result (IsTooLong draft.room draft.total (next_at self.old)) }
-        ensures unchanged_on_none { IfNone result (out.new ≡ out.old) }
+        ensures added { held result out.new ≡ add (held draft out.old) (next_at self.old) }
         ensures moved { self.new ≡ passed self.old }
     {
         match self.rows.next_row() {
@@ -117,16 +136,13 @@ impl<'a> Place<'a> {
     }
 }
 
-/// Writes the name of what was given last with `EndOfMibView`, as [`Place::append_next`] does. Not
+/// Writes the name of what was given last with `EndOfMibView`, after the bindings of a draft. Not
 /// inlined: its binding, of over a thousand octets, is set to zeros as the function begins.
 #[inline(never)]
-pub fn append_end(given: &Given<'_>, draft: Draft, out: &mut [u8; MAX_DATAGRAM]) -> Option<usize>
+pub fn append_end(given: &Given<'_>, draft: Draft, out: &mut [u8; MAX_DATAGRAM]) -> Draft
     requires { IsWire (name_of given.now) }
-    ensures written { IfSome result (λ n. IsAppended draft.room draft.total out.old
-        (record { name = name_of given.now; value = end_of_mib_view }) n out.new) }
-    ensures too_long { IfNone result (IsTooLong draft.room draft.total
-        (record { name = name_of given.now; value = end_of_mib_view })) }
-    ensures unchanged_on_none { IfNone result (out.new ≡ out.old) }
+    ensures { held result out.new ≡ add (held draft out.old)
+        (record { name = name_of given.now; value = end_of_mib_view }) }
 {
     let mut binding = blank();
     match given {

@@ -4,6 +4,7 @@ ghost use Rattle.std.specs.Prelude.{IfSome, IsTrue, Some};
 ghost use Rattle.std.specs.Ordering.{nat_cmp};
 ghost use Rattle.std.specs.Cmp.Lexicographic.{slice_cmp};
 ghost use Rattle.std.specs.FinMap.{find, from_sorted};
+ghost use Rattle.std.specs.Option.{option_map_or};
 ghost use Rattle.snmp_wire.specs.Message.{Datum};
 ghost use Rattle.snmp_agent.specs.table.Places.{entry_of, last_name};
 ghost use Rattle.snmp_agent.specs.table.Pages.{ArePages, IsPageOf, IsLongPage, IsPageWithRoom};
@@ -607,6 +608,7 @@ impl<'a> Successors<'a> {
     ghost use Rattle.std.specs.Prelude.{◌≡◌, ◌↔◌, ◌∷◌, [], ℕ, List, take, drop, IfSome, IfNone};
     ghost use Rattle.std.specs.Prelude.{IsTrue};
     ghost use Rattle.snmp_wire.specs.Message.{var_bind};
+    ghost use Rattle.std.specs.Option.{option_map_or};
     ghost use Rattle.snmp_agent.specs.table.Places.{entry_of, last_name};
     ghost use Rattle.snmp_agent.specs.table.Pages.{AreBehind};
     ghost use Rattle.snmp_agent.specs.table.Table.{MibView, IsNext};
@@ -663,10 +665,22 @@ impl<'a> Successors<'a> {
         ensures left { self.new ≡ drop count self.old }
         ensures name { name.new ≡ last_name name.old (take count self.old) }
     {
+        if let Some(row) = self.skip_rows(count) {
+            row.name().read_into(name);
+        }
+    }
+
+    /// Skips as many rows, or all where there are fewer, and returns the last of them.
+    pub(crate) fn skip_rows(&mut self, count: usize) -> Option<&'a EncodedBinding>
+        ensures left { self.new ≡ drop count self.old }
+        ensures last { (o : List ℕ) → option_map_or (λ row. row.now.name) result o
+            ≡ last_name o (take count self.old) }
+    {
         let mut left = count;
+        let mut last = None;
         'pages: while left > self.rows.len() {
             left -= self.rows.len();
-            set_to_last(name, self.rows);
+            last = last_of(self.rows, last);
             match self.pages.split_first() {
                 Some((page, pages)) => {
                     self.rows = page.rows.as_slice();
@@ -679,8 +693,8 @@ impl<'a> Successors<'a> {
             }
         }
         let (passed, rows) = self.rows.split_at(left);
-        set_to_last(name, passed);
         self.rows = rows;
+        last_of(passed, last)
     }
 }
 
@@ -695,11 +709,17 @@ impl<'a> Default for Successors<'a> {
     }
 }
 
-/// Changes a name to that of the last row, if there is one.
-fn set_to_last(name: &mut Oid, rows: &[EncodedBinding])
-    ensures { name.new ≡ last_name name.old (entries_of rows.now) }
+/// The last of the rows, or the one before them where there is none.
+#[inline]
+fn last_of<'a>(
+    rows: &'a [EncodedBinding],
+    before: Option<&'a EncodedBinding>,
+) -> Option<&'a EncodedBinding>
+    ensures { (o : List ℕ) → option_map_or (λ row. row.now.name) result o
+        ≡ last_name (option_map_or (λ row. row.now.name) before.entry o) (entries_of rows.now) }
 {
-    if let Some(row) = rows.last() {
-        row.name().read_into(name);
+    match rows.last() {
+        Some(row) => Some(row),
+        None => before,
     }
 }

@@ -1,23 +1,42 @@
-use Rattle.std.proofs.Common.{arith}
+use Rattle.std.proofs.Common.{◌≡◌, ◌≤◌, [], length, take, sym, ap, subst, ◌∙◌, arith}
+use Rattle.std.proofs.lemmas.List.{length-take-le}
 use Rattle.std.proofs.lemmas.Option.{IfSome_then}
 use Rattle.snmp_wire.specs.Parts.{parts_message}
+use Rattle.snmp_agent.specs.declared.room.Draft.{Draft}
+use Rattle.snmp_agent.specs.Answering.{Held, whole_size, held, fill}
 use Rattle.snmp_agent.proofs.BulkReplies.{bulk_sent, bulk_unsent}
+use Rattle.snmp_agent.proofs.Fronts.{HoldsFront, front_of}
 use Rattle.snmp_agent.proofs.Lengths.{not_none, within}
 use Rattle.snmp_agent.proofs.agent.bulk_reply.Goals as goal
+use Rattle.snmp_agent.proofs.agent.bulk_reply.Goals.{After-append_bulk-draft}
+
+front : (c : After-append_bulk-draft) → HoldsFront c.in-Some.room [] c.append_bulk-draft.ensures.0 (held c.append_bulk-draft.result c.append_bulk-draft.new.out)
+front c =
+    let all = c.append_bulk-draft.ensures in
+    let none : record { octets = []; left = c.in-Some.room } ≡ held c.new.result c.args.out.now = λ i. record {
+      octets = take (sym c.new.ensures.empty i) c.args.out.now;
+      left = sym c.new.ensures.room i;
+    } in
+    subst (λ (h : Held). HoldsFront c.in-Some.room [] all.0 h) (sym (all.2 ∙ ap (λ (h : Held). fill h all.0) (sym none)))
+    (front_of c.in-Some.room (record { octets = []; left = c.in-Some.room }) all.0 (omega arith))
 
 pub returns-in-Some-clause-sent : goal.returns-in-Some-clause-sent
 returns-in-Some-clause-sent c =
-    let all = c.append_bulk-total.ensures in
+    let all = c.append_bulk-draft.ensures in
+    let draft : Draft = c.append_bulk-draft.result in
     IfSome_then c.seal.result c.seal.ensures.some (λ n h. bulk_sent c.message_sizes.ensures c.pieces.ensures c.args.table.now c.args.config.now.max_size
-    c.in-Some.room c.args.request.now (parts_message c.response-parts.result) all.0 c.append_bulk-total.result n c.args.out.now c.append_bulk-total.new.out
-    c.seal.new.out c.requires.bulk all.1 c.response-parts.ensures c.in-Some.ensures.room all.2 h.0 h.1)
+    c.in-Some.room c.args.request.now (parts_message c.response-parts.result) all.0 draft n c.append_bulk-draft.new.out
+    c.seal.new.out c.requires.bulk all.1 c.response-parts.ensures c.in-Some.ensures.room (front (goal.at.returns-in-Some-clause-sent c).After-append_bulk-draft)
+    (length-take-le _ _ (omega arith)) h.0 h.1)
 
 pub returns-in-Some-clause-none : goal.returns-in-Some-clause-none
 returns-in-Some-clause-none c =
-    let all = c.append_bulk-total.ensures in
-    let fits = within c.message_sizes.ensures (parts_message c.response-parts.result) c.args.config.now.max_size c.in-Some.room c.append_bulk-total.result
-    c.in-Some.ensures.room all.2.extends.fits in
-    not_none _ c.seal.result (c.seal.ensures.variant.1 (omega (arith, fits, c.args.config.now.datagram, c.append_bulk-total.array_long)))
+    let draft : Draft = c.append_bulk-draft.result in
+    let here = front (goal.at.returns-in-Some-clause-none c).After-append_bulk-draft in
+    let long : length (take draft.total c.append_bulk-draft.new.out) ≡ draft.total = length-take-le _ _ (omega arith) in
+    let fits : whole_size (parts_message c.response-parts.result) draft.total ≤ c.args.config.now.max_size = within c.message_sizes.ensures (parts_message c.response-parts.result) c.args.config.now.max_size c.in-Some.room draft.total
+    c.in-Some.ensures.room (omega (arith, long, here.fits)) in
+    not_none _ c.seal.result (c.seal.ensures.variant.1 (omega (arith, fits, c.args.config.now.datagram, c.append_bulk-draft.array_long)))
 
 pub returns-in-None-clause-none : goal.returns-in-None-clause-none
 returns-in-None-clause-none c =

@@ -4,8 +4,8 @@ use Rattle.std.proofs.lemmas.Int.{to_z-of_z}
 use Rattle.std.proofs.Common.{rules, ◌≡◌, refl, ℤ, List, ◌++◌, drop, sym, ap, ◌∙◌, subst}
 use Rattle.snmp_wire.specs.Message.{VarBind}
 use Rattle.snmp_agent.specs.Reply.{joined, or_zero}
-use Rattle.snmp_agent.specs.Answering.{AreWritable}
-use Rattle.snmp_agent.proofs.Fronts.{front_behind, front_before}
+use Rattle.snmp_agent.specs.Answering.{AreWritable, Held, fill, held}
+use Rattle.snmp_agent.proofs.Fronts.{fill_both, fill_full}
 use Rattle.snmp_agent.proofs.Rounds.{all_rounds, bulk_of, writable_drop}
 use Rattle.snmp_agent.proofs.bulk.append_bulk.Goals as goal
 
@@ -16,34 +16,37 @@ number handed fits e = to_z-of_z w32 handed fits ∙ e
 pub append_repeaters-requires : goal.append_repeaters-requires
 append_repeaters-requires c =
     let bindings : AreWritable c.bindings-bindings.result = subst (λ (bs : List VarBind). AreWritable bs) (sym c.bindings-bindings.ensures) c.requires in
-    subst (λ (bs : List VarBind). AreWritable bs) (sym c.in-Open.ensures.left) (writable_drop c.or_zero-count.result c.bindings-bindings.result bindings)
+    let left : c.append_singles-draft.new.bindings ≡ drop c.or_zero-count.result c.bindings-bindings.result = c.append_singles-draft.ensures.left (λ full.
+    let is = c.is_full.ensures.1 full in let isnt = c.if-is_full.false in absurd (cc)) in
+    subst (λ (bs : List VarBind). AreWritable bs) (sym left) (writable_drop c.or_zero-count.result c.bindings-bindings.result bindings)
 
-pub returns-in-Closed : goal.returns-in-Closed
-returns-in-Closed c =
-    let singles = c.in-Closed.ensures.progress in
+pub returns-then-is_full : goal.returns-then-is_full
+returns-then-is_full c =
+    let singles = c.append_singles-draft.ensures.filled in
     let q = c.args.request.now in
     let count : c.or_zero-count.result ≡ or_zero q.a = c.or_zero-count.ensures ∙ ap or_zero (number c.a.result (search rules) c.a.ensures) in
     let names = drop c.or_zero-count.result c.bindings-bindings.result in
-    let rounds = all_rounds c.one_answer.ensures.get_bulk c.args.table.now names 0 (or_zero q.b) in (
+    let rounds = all_rounds c.one_answer.ensures.get_bulk c.args.table.now names 0 (or_zero q.b) in
+    let now : Held = held c.append_singles-draft.result c.append_singles-draft.new.out in (
       singles.0 ++ joined rounds.0,
       bulk_of c.args.table.now q c.or_zero-count.result
           (or_zero q.b) c.bindings-bindings.result names singles.0 rounds.0 count refl c.bindings-bindings.ensures refl singles.1 rounds.1,
-      front_before c.args.draft.room c.args.draft.total c.args.out.now singles.0 (joined rounds.0) c.in-Closed.total c.append_singles.new.out singles.2
-          (singles.3 tt),
+      sym (fill_both (held c.args.draft c.args.out.now) singles.0 (joined rounds.0) ∙ ap (λ (h : Held). fill h (joined rounds.0)) (sym singles.2)
+          ∙ fill_full now (joined rounds.0) (c.is_full.ensures.0 c.if-is_full.true)),
     )
 
-pub returns-in-Open : goal.returns-in-Open
-returns-in-Open c =
-    let singles = c.in-Open.ensures.progress in
+pub returns : goal.returns
+returns c =
+    let singles = c.append_singles-draft.ensures.filled in
     let rounds = c.append_repeaters.ensures in
     let q = c.args.request.now in
     let count : c.or_zero-count.result ≡ or_zero q.a = c.or_zero-count.ensures ∙ ap or_zero (number c.a.result (search rules) c.a.ensures) in
     let repetitions : c.or_zero-repetitions.result ≡ or_zero q.b = c.or_zero-repetitions.ensures
-    ∙ ap or_zero (number c.b.result (search rules) c.b.ensures) in (
+    ∙ ap or_zero (number c.b.result (search rules) c.b.ensures) in
+    let left : c.append_singles-draft.new.bindings ≡ drop c.or_zero-count.result c.bindings-bindings.result = c.append_singles-draft.ensures.left (λ full.
+    let is = c.is_full.ensures.1 full in let isnt = c.if-is_full.false in absurd (cc)) in (
       singles.0 ++ joined rounds.0,
-      bulk_of c.args.table.now q c.or_zero-count.result c.or_zero-repetitions.result c.bindings-bindings.result c.append_singles.new.bindings singles.0
-          rounds.0 count repetitions c.bindings-bindings.ensures c.in-Open.ensures.left
-          singles.1 rounds.1,
-      front_behind c.args.draft.room c.args.draft.total c.in-Open.total c.append_repeaters.result c.args.out.now c.append_singles.new.out
-          c.append_repeaters.new.out singles.0 (joined rounds.0) singles.3 rounds.2,
+      bulk_of c.args.table.now q c.or_zero-count.result c.or_zero-repetitions.result c.bindings-bindings.result c.append_singles-draft.new.bindings singles.0
+          rounds.0 count repetitions c.bindings-bindings.ensures left singles.1 rounds.1,
+      rounds.2 ∙ ap (λ (h : Held). fill h (joined rounds.0)) singles.2 ∙ sym (fill_both (held c.args.draft c.args.out.now) singles.0 (joined rounds.0)),
     )

@@ -1,83 +1,69 @@
-use Rattle.std.proofs.Common.{◌≡◌, ◌<◌, ◌+◌, List, [], ◌∷◌, ◌++◌, map, length, take, drop}
-use Rattle.std.proofs.Common.{slice_set, true, refl, sym, ap, subst, ◌∙◌, arith}
-use Rattle.std.proofs.lemmas.Bool.{false≢true}
+use Rattle.std.proofs.Common.{◌≡◌, ◌<◌, ◌≤◌, ◌+◌, List, ◌∷◌, ◌++◌, map, length, take, drop}
+use Rattle.std.proofs.Common.{slice_set, refl, sym, ap, subst, ◌∙◌, arith}
+use Rattle.std.proofs.lemmas.List.{append-nil, take_all, drop_all}
+use Rattle.std.proofs.lemmas.List.Elements.{All-drop, All-head}
 use Rattle.snmp_oid.specs.Identifier.{IsWire}
-use Rattle.snmp_wire.specs.Message.{VarBind}
-use Rattle.snmp_agent.specs.Answering.{Extends, IsAppended, IsTooLong}
-use Rattle.snmp_agent.specs.Standing.{Standing, AreAtEnd, next_at, passed}
-use Rattle.snmp_agent.proofs.Fronts.{nothing_more, one_more, stopped}
-use Rattle.snmp_agent.proofs.Standing.{IsMovedAt, moved_one, given_front, given_whole, wire_at}
-use Rattle.snmp_agent.proofs.Standing.{at_end_pushed, at_end_front, at_end_last}
+use Rattle.snmp_agent.specs.Answering.{Held, add, fill, held}
+use Rattle.snmp_agent.specs.Standing.{Standing, AreWireNames, next_at, passed}
+use Rattle.snmp_agent.proofs.Fronts.{fill_full}
+use Rattle.snmp_agent.proofs.Standing.{IsMovedAt, moved_one}
 use Rattle.snmp_agent.proofs.bulk.append_places.Goals as goal
-use Rattle.snmp_agent.proofs.bulk.append_places.Goals.{then-over, else-over}
+use Rattle.snmp_agent.proofs.bulk.append_places.Goals.{After-place-item, After-append_next-draft}
 
 pub places-init : goal.places-init
-places-init c = record {
-  moved = refl;
-  written = nothing_more c.args.draft.room c.args.draft.total c.args.out.now c.args.draft.fits;
-  ends = λ e. tt;
-  row = λ e h. let never : ⊥ = cc in never;
-}
+places-init c = record { moved = refl; others = refl }
 
-pub append_next-requires : goal.append_next-requires
-append_next-requires c =
-    let places = c.args.places.now in
-    let i = c.places.place-index in
-    let place = c.place-item.result in
-    let low : i < length places = omega (arith, c.places-test.true, c.places.auto.places) in
-    let step : IsMovedAt places i (i + 1) place = moved_one places c.places.places i place c.places.invariant.moved low c.place-item.is in
-    subst (λ (x : Standing). IsWire x.name) c.place-item.is (wire_at places (take i places) (drop (i + 1) places) place step.whole c.requires)
+step : (c : After-place-item) → IsMovedAt c.args.places.now c.places.place-index (c.places.place-index + 1) c.place-item.result
+step c =
+    let low : c.places.place-index < length c.args.places.now = omega (arith, c.places-test.true, c.places.auto.places) in
+    moved_one c.args.places.now c.places.places c.places.place-index c.place-item.result c.places.invariant.moved low c.place-item.is
 
-pub returns-in-None-clause-progress : goal.returns-in-None-clause-progress
-returns-in-None-clause-progress c =
-    let places = c.args.places.now in
+pub append_next-draft-requires : goal.append_next-draft-requires
+append_next-draft-requires c =
     let i = c.places.place-index in
-    let place = c.place-item.result in
-    let low : i < length places = omega (arith, c.places-test.true, c.places.auto.places) in
-    let step : IsMovedAt places i (i + 1) place = moved_one places c.places.places i place c.places.invariant.moved low c.place-item.is in
-    let large : IsTooLong c.args.draft.room c.places.total (next_at place) = subst (λ
-    (x : Standing). IsTooLong c.args.draft.room c.places.total (next_at x)) (sym c.place-item.is) c.in-None.ensures.too_long in
-    let front = stopped c.args.draft.room c.args.draft.total c.args.out.now (map next_at (take i places)) (next_at place)
-    (map next_at (drop (i + 1) places)) c.places.total c.places.out c.append_next.new.out c.places.invariant.written
-    c.in-None.ensures.unchanged_on_none large in (
-      map next_at (take i places) ++ next_at place ∷ map next_at (drop (i + 1) places),
-      given_whole places i (i + 1) place step,
-      front.0,
-      λ some. front.1,
-    )
+    let h : AreWireNames (c.place-item.result ∷ drop (i + 1) c.args.places.now) = subst AreWireNames (step (goal.at.append_next-draft-requires c).After-place-item).here
+    (All-drop (λ (place : Standing). IsWire place.name) i c.args.places.now c.requires) in
+    subst (λ (x : Standing). IsWire x.name) c.place-item.is
+    (All-head (λ (place : Standing). IsWire place.name) c.place-item.result (drop (i + 1) c.args.places.now) h)
+
+others : (c : After-append_next-draft) → IsMovedAt c.args.places.now c.places.place-index (c.places.place-index + 1) c.place-item.result → fill (held c.args.draft c.args.out.now) (map next_at c.args.places.now)
+    ≡ fill (held c.append_next-draft.result c.append_next-draft.new.out) (map next_at (drop (c.places.place-index + 1) c.args.places.now))
+others c step =
+    let rest = map next_at (drop (c.places.place-index + 1) c.args.places.now) in
+    let new : held c.append_next-draft.result c.append_next-draft.new.out ≡ add (held c.places.draft c.places.out) (next_at c.place-item.result) =
+    c.append_next-draft.ensures.added ∙ ap (λ (x : Standing). add (held c.places.draft c.places.out) (next_at x)) (sym c.place-item.is) in
+    c.places.invariant.others
+    ∙ ap (λ (ps : List Standing). fill (held c.places.draft c.places.out) (map next_at ps)) step.here
+    ∙ ap (λ (h : Held). fill h rest) (sym new)
+
+pub returns-then-is_full-clause-filled : goal.returns-then-is_full-clause-filled
+returns-then-is_full-clause-filled c =
+    sym (others (goal.at.returns-then-is_full-clause-filled c).After-append_next-draft (step (goal.at.returns-then-is_full-clause-filled c).After-place-item)
+    ∙ fill_full (held c.append_next-draft.result c.append_next-draft.new.out) (map next_at (drop (c.places.place-index + 1) c.args.places.now))
+    (c.is_full.ensures.0 c.if-is_full.true))
 
 pub places-preserved : goal.places-preserved
 places-preserved c =
-    let so_far = c.places.invariant in
     let places = c.args.places.now in
     let i = c.places.place-index in
-    let place = c.place-item.result in
-    let low : i < length places = omega (arith, c.places-test.true, c.places.auto.places) in
-    let step : IsMovedAt places i (i + 1) place = moved_one places c.places.places i place so_far.moved low c.place-item.is in
-    let more : IsAppended c.args.draft.room c.places.total c.places.out (next_at place) c.in-Some.end c.append_next.new.out = subst (λ
-    (x : Standing). IsAppended c.args.draft.room c.places.total c.places.out (next_at x) c.in-Some.end c.append_next.new.out) (sym c.place-item.is)
-    c.in-Some.ensures.written in
-    let last = subst (λ (x : Standing). (c.is_at_end-is_last.result ≡ true → x.rows ≡ []) × (x.rows ≡ [] → c.is_at_end-is_last.result ≡ true))
-    (sym c.place-item.is) c.is_at_end-is_last.ensures in
+    let moved = λ (x : Standing). slice_set (map passed (take i places) ++ drop i places) i x in
     record {
       moved =
-          ap (λ (ps : List Standing). slice_set ps i c.append_next.new.self) so_far.moved
-          ∙ ap (λ (x : Standing). slice_set (map passed (take i places) ++ drop i places) i x) c.append_next.ensures.moved
-          ∙ ap (λ (x : Standing). slice_set (map passed (take i places) ++ drop i places) i (passed x)) (sym c.place-item.is) ∙ step.moved;
-      written = subst (λ (ps : List VarBind). Extends c.args.draft.room c.args.draft.total c.args.out.now ps c.in-Some.end c.append_next.new.out)
-          (sym (given_front places i (i + 1) place step))
-          (one_more c.args.draft.room c.args.draft.total c.places.total c.in-Some.end c.args.out.now c.places.out c.append_next.new.out
-          (map next_at (take i places)) (next_at place) so_far.written more.0 more.1 more.2);
-      ends = λ e. elim c.if-over.branch [
-        | then-over w ↦
-            subst (λ (ps : List Standing). AreAtEnd ps) (sym step.front)
-            (at_end_pushed (take i places) place (so_far.ends w.if-over.true) (last.0 (sym w.over-is ∙ e)))
-        | else-over w ↦ absurd (false≢true (sym w.if-over.false ∙ sym w.over-is ∙ e))
-      ];
-      row = λ e h.
-          let all : AreAtEnd (take i places ++ place ∷ []) = subst (λ (ps : List Standing). AreAtEnd ps) step.front h in
-          elim c.if-over.branch [
-            | then-over w ↦ false≢true (sym e ∙ w.over-is ∙ last.1 (at_end_last (take i places) place all))
-            | else-over w ↦ so_far.row w.if-over.false (at_end_front (take i places) (place ∷ []) all)
-          ];
+          ap (λ (ps : List Standing). slice_set ps i c.append_next-draft.new.self) c.places.invariant.moved ∙ ap moved c.append_next-draft.ensures.moved
+          ∙ ap (λ (x : Standing). moved (passed x)) (sym c.place-item.is) ∙ (step (goal.at.places-preserved c).After-place-item).moved;
+      others = others (goal.at.places-preserved c).After-append_next-draft (step (goal.at.places-preserved c).After-place-item);
     }
+
+pub returns-clause-filled : goal.returns-clause-filled
+returns-clause-filled c =
+    let places = c.args.places.now in
+    let all : length places ≤ c.places.place-index = omega (arith, c.places-test.false, c.places.auto.places) in
+    sym (c.places.invariant.others ∙ ap (λ (ps : List Standing). fill (held c.places.draft c.places.out) (map next_at ps)) (drop_all c.places.place-index places all))
+
+pub returns-clause-moved : goal.returns-clause-moved
+returns-clause-moved c = λ some.
+    let places = c.args.places.now in
+    let i = c.places.place-index in
+    let all : length places ≤ i = omega (arith, c.places-test.false, c.places.auto.places) in
+    c.places.invariant.moved ∙ ap (λ (ps : List Standing). map passed (take i places) ++ ps) (drop_all i places all) ∙ append-nil (map passed (take i places))
+    ∙ ap (map passed) (take_all i places all)

@@ -1,48 +1,94 @@
-use Rattle.std.proofs.Common.{◌≡◌, ◌+◌, ℕ, List, [], ◌∷◌, ◌++◌, subst, arith}
-use Rattle.std.proofs.lemmas.List.{append-nil}
+use Rattle.std.proofs.Common.{◌≡◌, ◌≢◌, ◌⊎◌, inl, inr, ◌+◌, List, ◌++◌, map, sym, ap, subst, ◌∙◌, arith}
 use Rattle.snmp_wire.specs.Message.{VarBind}
-use Rattle.snmp_agent.specs.Reply.{joined}
-use Rattle.snmp_agent.specs.Answering.{AreGiven, AreRoundsFrom}
-use Rattle.snmp_agent.proofs.Fronts.{nothing_more, whole_front}
-use Rattle.snmp_agent.proofs.RoundFronts.{others_next, written_next, closed_round}
+use Rattle.snmp_agent.specs.table.Table.{IsNextAfter}
+use Rattle.snmp_agent.specs.Reply.{AreEnds}
+use Rattle.snmp_agent.specs.Answering.{AreGiven, FillsRounds, HasRow, Held, fill, held}
+use Rattle.snmp_agent.specs.Standing.{Standing, AreStanding, next_at}
+use Rattle.snmp_agent.proofs.Answers.{answers_both}
+use Rattle.snmp_agent.proofs.Fronts.{fill_both, fill_full}
+use Rattle.snmp_agent.proofs.Rounds.{ends_both}
+use Rattle.snmp_agent.proofs.RoundFronts.{rounds_first, rounds_next, rounds_end, rounds_over}
+use Rattle.snmp_agent.proofs.Standing.{standing_wire, standing_given, standing_passed, ends_given}
+use Rattle.snmp_agent.proofs.Standing.{given_ends}
 use Rattle.snmp_agent.proofs.bulk.append_rounds.Goals as goal
+use Rattle.snmp_agent.proofs.bulk.append_rounds.Goals.{After-append_others-is_over}
 
 pub rounds-init : goal.rounds-init
 rounds-init c = record {
-  done = [];
-  others = λ left rest e h. let same : left ≡ c.args.repetitions = omega (arith, e) in subst (λ
-      (k : ℕ). AreRoundsFrom c.args.table.now c.args.bindings 0 k rest) same h;
-  written = nothing_more c.args.draft.room c.args.draft.total c.args.out.now c.args.draft.fits;
+  rounds = rounds_first c.args.table.now c.args.bindings.now c.args.repetitions (held c.args.draft c.args.out.now);
+  standing = c.requires.standing;
 }
 
-pub returns-in-Closed : goal.returns-in-Closed
-returns-in-Closed c =
-    let so_far = c.rounds.invariant in
-    let round = c.in-Closed.ensures in
-    closed_round c.args.draft.room c.args.draft.total c.args.out.now c.one_answer.ensures.get_bulk c.args.table.now c.args.bindings c.args.repetitions
-    c.rounds.round c.rounds.total c.in-Closed.end c.rounds.out c.append_round.new.out
-    so_far.done round.0 c.rounds-test.true so_far.others so_far.written (subst (λ
-    (bs : List VarBind). AreGiven c.args.table.now c.rounds.round bs round.0) c.left.ensures round.1) round.2 round.3
+pub append_places-draft-requires : goal.append_places-draft-requires
+append_places-draft-requires c =
+    let standing = c.rounds.invariant.standing in standing_wire c.args.table.now c.rounds.round standing.0 c.rounds.places standing.2
+
+-- what the round gives
+abbrev round : (c : After-append_others-is_over) → List VarBind
+round c = map next_at c.rounds.places ++ c.append_others-is_over.ensures.0
+
+given : (c : After-append_others-is_over) → AreGiven c.args.table.now c.rounds.round c.args.bindings.now (round c)
+given c =
+    let view = c.args.table.now in
+    let standing = c.rounds.invariant.standing in
+    let others : AreGiven view c.rounds.round c.args.others c.append_others-is_over.ensures.0 = subst (λ (bs : List VarBind). AreGiven view c.rounds.round bs c.append_others-is_over.ensures.0) c.left.ensures
+    c.append_others-is_over.ensures.1 in
+    subst (λ (bs : List VarBind). AreGiven view c.rounds.round bs (round c)) (sym standing.1)
+    (answers_both (λ asked given. IsNextAfter view c.rounds.round asked.name given) standing.0 c.args.others (map next_at c.rounds.places)
+    c.append_others-is_over.ensures.0
+    (standing_given c.order.ensures.less view c.rounds.round standing.0 c.rounds.places standing.2) others)
+
+new : (c : After-append_others-is_over) → held c.append_others-is_over.result.0 c.append_others-is_over.new.out ≡ fill (held c.rounds.draft c.rounds.out) (round c)
+new c =
+    c.append_others-is_over.ensures.2 ∙ ap (λ (h : Held). fill h c.append_others-is_over.ensures.0) c.append_places-draft.ensures.filled
+    ∙ sym (fill_both (held c.rounds.draft c.rounds.out) (map next_at c.rounds.places) c.append_others-is_over.ensures.0)
+
+-- the last round
+over : (c : After-append_others-is_over) → (c.append_others-is_over.result.0.left ≡ 0) ⊎ AreEnds (round c)
+    → FillsRounds c.args.table.now c.args.bindings.now c.args.repetitions (held c.args.draft c.args.out.now)
+    (held c.append_others-is_over.result.0 c.append_others-is_over.new.out)
+over c is =
+    rounds_over c.args.table.now c.args.bindings.now c.args.repetitions (held c.args.draft c.args.out.now) c.one_answer.ensures.get_bulk c.rounds.round
+    (held c.rounds.draft c.rounds.out) (held c.append_others-is_over.result.0 c.append_others-is_over.new.out) (round c) c.rounds-test.true c.rounds.invariant.rounds
+    (given c) (new c) is
+
+pub returns-then-is_over : goal.returns-then-is_over
+returns-then-is_over c =
+    let ends = c.append_others-is_over.ensures.3 c.if-is_over.true in
+    over (goal.at.returns-then-is_over c).After-append_others-is_over
+    (inr ((ends_both (map next_at c.rounds.places) c.append_others-is_over.ensures.0).0 (ends_given c.rounds.places (c.are_at_end-are_over.ensures.0 ends.0), ends.1)))
+
+pub returns-then-is_full : goal.returns-then-is_full
+returns-then-is_full c = over (goal.at.returns-then-is_full c).After-append_others-is_over (inl (c.is_full.ensures.0 c.if-is_full.true))
 
 pub rounds-preserved : goal.rounds-preserved
 rounds-preserved c =
-    let so_far = c.rounds.invariant in
-    let round = c.in-Open.ensures in
+    let view = c.args.table.now in
+    let k = (goal.at.rounds-preserved c).After-append_others-is_over in
+    let standing = c.rounds.invariant.standing in
+    let some : c.append_others-is_over.result.0.left ≢ 0 = λ full. let is = c.is_full.ensures.1 full in let isnt = c.if-is_full.false in absurd (cc) in
+    let room : c.append_places-draft.result.left ≢ 0 = λ full.
+    some (ap (λ (h : Held). h.left) (c.append_others-is_over.ensures.2
+    ∙ fill_full (held c.append_places-draft.result c.append_places-draft.new.out) c.append_others-is_over.ensures.0 full) ∙ full) in
+    let row : HasRow (round k) = λ ends.
+    let parts = (ends_both (map next_at c.rounds.places) c.append_others-is_over.ensures.0).1 ends in
+    let all = c.are_at_end-are_over.ensures.1 (given_ends view c.is_mib_view.ensures c.rounds.round standing.0 c.rounds.places standing.2 parts.0) in
+    let is = c.append_others-is_over.ensures.4 some all parts.1 in
+    let isnt = c.if-is_over.false in
+    absurd (cc) in
     record {
-      done = so_far.done ++ round.0 ∷ [];
-      others = others_next c.args.table.now c.args.bindings c.args.repetitions c.rounds.round so_far.done round.0 so_far.others (subst (λ
-          (bs : List VarBind). AreGiven c.args.table.now c.rounds.round bs round.0) c.left.ensures round.1) round.2;
-      written = written_next c.args.draft.room c.args.draft.total c.args.out.now c.rounds.total c.in-Open.end c.rounds.out c.append_round.new.out so_far.done
-          round.0 so_far.written round.3;
+      rounds = rounds_next view c.args.bindings.now c.args.repetitions (held c.args.draft c.args.out.now) c.rounds.round
+          (held c.rounds.draft c.rounds.out) (held c.append_others-is_over.result.0 c.append_others-is_over.new.out) (round k) c.rounds.invariant.rounds
+          (given k) row (new k);
+      standing = (
+        standing.0,
+        standing.1,
+        subst (λ (ps : List Standing). AreStanding view (c.rounds.round + 1) standing.0 ps) (sym (c.append_places-draft.ensures.moved room))
+            (standing_passed c.order.ensures.less view c.is_mib_view.ensures c.rounds.round standing.0 c.rounds.places standing.2),
+      );
     }
 
 pub returns : goal.returns
 returns c =
-    let so_far = c.rounds.invariant in
-    let end : c.rounds.round + 0 ≡ c.args.repetitions = omega (arith, c.rounds-test.false) in
-    let whole : AreRoundsFrom c.args.table.now c.args.bindings 0 c.args.repetitions (so_far.done ++ []) = so_far.others 0 [] end tt in
-    let same : so_far.done ++ [] ≡ so_far.done = append-nil so_far.done in (
-      so_far.done,
-      subst (λ (rs : List (List VarBind)). AreRoundsFrom c.args.table.now c.args.bindings 0 c.args.repetitions rs) same whole,
-      whole_front c.args.draft.room c.args.draft.total c.args.out.now (joined so_far.done) c.rounds.total c.rounds.out so_far.written,
-    )
+    rounds_end c.args.table.now c.args.bindings.now c.args.repetitions (held c.args.draft c.args.out.now) c.rounds.round
+    (held c.rounds.draft c.rounds.out) (omega (arith, c.rounds-test.false)) c.rounds.invariant.rounds

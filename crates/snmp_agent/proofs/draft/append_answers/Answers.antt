@@ -1,14 +1,17 @@
-use Rattle.std.proofs.Common.{◌≡◌, ◌+◌, List, [], ◌∷◌, ◌++◌, length, sym, subst, arith}
-use Rattle.std.proofs.lemmas.List.{append-nil}
+use Rattle.std.proofs.Common.{◌≡◌, ◌+◌, List, ℕ, [], ◌∷◌, length, take, sym, ap, subst, arith}
+use Rattle.std.proofs.lemmas.List.{length-take-le}
 use Rattle.snmp_wire.specs.Message.{VarBind}
-use Rattle.snmp_wire.specs.Canon.{canon_binding, canon_bindings}
+use Rattle.snmp_wire.specs.Canon.{canon_bindings}
 use Rattle.snmp_wire.specs.Parts.{parts_message}
+use Rattle.snmp_agent.specs.declared.room.Draft.{Draft}
 use Rattle.snmp_agent.specs.Reply.{AreAnswers}
-use Rattle.snmp_agent.specs.Answering.{IsAnswer, AreWritable}
+use Rattle.snmp_agent.specs.Answering.{IsAnswer, AreWritable, Held, fill, held}
 use Rattle.snmp_agent.proofs.Answers.{all_answered}
-use Rattle.snmp_agent.proofs.Lengths.{longer, within, beyond}
-use Rattle.snmp_agent.proofs.Drafts.{empty_draft, longer_draft, passes, step, none_anyway}
+use Rattle.snmp_agent.proofs.Lengths.{longer}
+use Rattle.snmp_agent.proofs.Drafts.{kept, past, none_anyway}
+use Rattle.snmp_agent.proofs.Fronts.{Goes, goes_next, goes_end, goes_full, HoldsFront, front_of}
 use Rattle.snmp_agent.proofs.draft.append_answers.Goals as goal
+use Rattle.snmp_agent.proofs.draft.append_answers.Goals.{After-append_answer-draft}
 
 pub returns-in_err-room-clause-too_long : goal.returns-in_err-room-clause-too_long
 returns-in_err-room-clause-too_long c =
@@ -25,61 +28,68 @@ returns-in_err-room-clause-too_long c =
     )
 
 pub bindings-init : goal.bindings-init
-bindings-init c = (
-  [],
-  λ rest h. h,
-  empty_draft _ _ _ (within c.message_sizes.ensures (parts_message c.args.parts.now) c.args.config.now.max_size c.in_ok-room.room 0 c.in_ok-room.ensures.room
-      (omega arith)),
-  c.requires.writable,
-  omega arith,
-)
+bindings-init c =
+    let none : record { octets = []; left = c.in_ok-room.room + 1 } ≡ held c.new-draft.result c.args.out.now = λ i. record {
+      octets = take (sym c.new-draft.ensures.empty i) c.args.out.now;
+      left = sym c.new-draft.ensures.room i;
+    } in
+    record { others = λ rest h. (rest, h, ap (λ (g : Held). fill g rest) none); some = omega (arith, c.new-draft.ensures.room); long = omega (arith, c.new-draft.ensures.empty); writable = c.requires.writable }
 
-pub append_answer-requires-clause-writable : goal.append_answer-requires-clause-writable
-append_answer-requires-clause-writable c =
-    let left : c.bindings.bindings ≡ c.in-Some.asked ∷ c.next_ref.new.self = c.in-Some.ensures.some in
-    let writable : AreWritable (c.in-Some.asked ∷ c.next_ref.new.self) = subst (λ
-    (bs : List VarBind). AreWritable bs) left c.bindings.invariant.3 in writable.0
+writable : (asked later : List VarBind) (first : VarBind) → asked ≡ first ∷ later → AreWritable asked → AreWritable (first ∷ later)
+writable asked later first e h = subst (λ (bs : List VarBind). AreWritable bs) e h
 
-pub returns-in_err-total-clause-too_long : goal.returns-in_err-total-clause-too_long
-returns-in_err-total-clause-too_long c =
+pub append_answer-draft-requires-clause-writable : goal.append_answer-draft-requires-clause-writable
+append_answer-draft-requires-clause-writable c =
+    (writable c.bindings.bindings c.next_ref.new.self (c.in-Some.asked) c.in-Some.ensures.some c.bindings.invariant.writable).0
+
+next : (c : After-append_answer-draft)
+    → Goes (AreAnswers (IsAnswer c.args.table.now c.args.kind) c.args.bindings)
+    (AreAnswers (IsAnswer c.args.table.now c.args.kind) c.next_ref.new.self) (record { octets = []; left = c.in_ok-room.room + 1 })
+    (held c.append_answer-draft.result c.append_answer-draft.new.out)
+next c =
     let R = IsAnswer c.args.table.now c.args.kind in
-    let so_far = c.bindings.invariant in
-    let long = c.in_err-total.ensures.too_long in
-    let p : VarBind = long.0 in
-    let left : c.bindings.bindings ≡ c.in-Some.asked ∷ c.next_ref.new.self = c.in-Some.ensures.some in
+    goes_next R (AreAnswers R c.args.bindings) c.bindings.bindings c.next_ref.new.self (c.in-Some.asked) (record { octets = []; left = c.in_ok-room.room + 1 })
+    (held c.bindings.draft c.bindings.out) (held c.append_answer-draft.result c.append_answer-draft.new.out) c.in-Some.ensures.some c.append_answer-draft.ensures
+    c.bindings.invariant.others
+
+-- what was added is a front
+front : (room : ℕ) (all : List VarBind) (end : Held) → end ≡ fill (record { octets = []; left = room }) all → HoldsFront room [] all end
+front room all end same =
+    subst (λ (h : Held). HoldsFront room [] all h) (sym same) (front_of room (record { octets = []; left = room }) all (omega arith))
+
+pub returns-then-is_full-clause-too_long : goal.returns-then-is_full-clause-too_long
+returns-then-is_full-clause-too_long c =
+    let R = IsAnswer c.args.table.now c.args.kind in
+    let draft : Draft = c.append_answer-draft.result in
+    let room = c.in_ok-room.room in
     let later = all_answered c.one_answer.ensures.get c.one_answer.ensures.get_next c.args.table.now c.args.kind c.next_ref.new.self c.requires.paired in
-    none_anyway c.from_residual-in_err-total.result (
-      so_far.0 ++ p ∷ later.0,
-      so_far.1 (p ∷ later.0) (subst (λ (bs : List VarBind). AreAnswers R bs (p ∷ later.0)) (sym left) (long.1, later.1)),
-      passes c.message_sizes.ensures (parts_message c.args.parts.now) c.args.config.now.max_size so_far.0 later.0 p c.bindings.total c.bindings.out so_far.2
-          (beyond c.message_sizes.ensures (parts_message c.args.parts.now) c.args.config.now.max_size c.in_ok-room.room (c.bindings.total + length
-          (canon_binding p)) c.in_ok-room.ensures.room long.2),
+    let full = c.is_full.ensures.0 c.if-is_full.true in
+    let found = goes_full (AreAnswers R c.args.bindings) (AreAnswers R c.next_ref.new.self) (record { octets = []; left = room + 1 })
+    (held draft c.append_answer-draft.new.out) (next (goal.at.returns-then-is_full-clause-too_long c).After-append_answer-draft) later full in (
+      found.0,
+      found.1,
+      past c.message_sizes.ensures (parts_message c.args.parts.now) c.args.config.now.max_size room c.in_ok-room.ensures.room draft c.append_answer-draft.new.out
+          found.0 (length-take-le _ _ (omega arith)) (front (room + 1) found.0 (held draft c.append_answer-draft.new.out) found.2) full,
     )
 
 pub bindings-preserved : goal.bindings-preserved
-bindings-preserved c =
-    let R = IsAnswer c.args.table.now c.args.kind in
-    let so_far = c.bindings.invariant in
-    let given = c.in_ok-total.ensures.written in
-    let p : VarBind = given.0 in
-    let first : VarBind = c.in-Some.asked in
-    let left : c.bindings.bindings ≡ first ∷ c.next_ref.new.self = c.in-Some.ensures.some in
-    let written = given.2 in
-    let writable : AreWritable (first ∷ c.next_ref.new.self) = subst (λ (bs : List VarBind). AreWritable bs) left so_far.3 in (
-      so_far.0 ++ p ∷ [],
-      step R c.args.bindings c.bindings.bindings c.next_ref.new.self so_far.0 first p left given.1 so_far.1,
-      longer_draft (parts_message c.args.parts.now) c.args.config.now.max_size so_far.0 p c.bindings.total c.in_ok-total.total c.bindings.out
-          c.append_answer.new.out so_far.2 written.0 written.1
-          (within c.message_sizes.ensures
-          (parts_message c.args.parts.now) c.args.config.now.max_size c.in_ok-room.room c.in_ok-total.total c.in_ok-room.ensures.room written.2),
-      writable.1,
-      written.2,
-    )
+bindings-preserved c = record {
+  others = next (goal.at.bindings-preserved c).After-append_answer-draft;
+  some = λ full. let is = c.is_full.ensures.1 full in let isnt = c.if-is_full.false in absurd (cc);
+  long = omega arith;
+  writable = (writable c.bindings.bindings c.next_ref.new.self (c.in-Some.asked) c.in-Some.ensures.some c.bindings.invariant.writable).1;
+}
 
 pub returns-clause-written : goal.returns-clause-written
 returns-clause-written c =
     let R = IsAnswer c.args.table.now c.args.kind in
-    let so_far = c.bindings.invariant in
+    let draft : Draft = c.bindings.draft in
+    let room = c.in_ok-room.room in
     let none : c.bindings.bindings ≡ [] = c.in_default.ensures.none.0 in
-    let all : AreAnswers R c.args.bindings (so_far.0 ++ []) = so_far.1 [] (subst (λ (bs : List VarBind). AreAnswers R bs []) (sym none) tt) in
-    (so_far.0, subst (λ (gs : List VarBind). AreAnswers R c.args.bindings gs) (append-nil so_far.0) all, so_far.2)
+    let found = goes_end (AreAnswers R c.args.bindings) (AreAnswers R c.bindings.bindings) (record { octets = []; left = room + 1 })
+    (held draft c.bindings.out) c.bindings.invariant.others (subst (λ (bs : List VarBind). AreAnswers R bs []) (sym none) tt) in (
+      found.0,
+      found.1,
+      kept c.message_sizes.ensures (parts_message c.args.parts.now) c.args.config.now.max_size room c.in_ok-room.ensures.room draft c.bindings.out
+          found.0 (length-take-le _ _ (omega arith)) (front (room + 1) found.0 (held draft c.bindings.out) found.2) c.bindings.invariant.some,
+    )

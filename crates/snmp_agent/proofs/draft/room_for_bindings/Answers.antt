@@ -1,5 +1,6 @@
-use Rattle.std.proofs.Common.{◌-◌, ◌≤◌, length, arith}
-use Rattle.snmp_wire.specs.Canon.{canon_head}
+use Rattle.std.proofs.Common.{ℕ, ◌-◌, ◌≤◌, ◌<◌, length, arith}
+use Rattle.snmp_wire.specs.Canon.{canon_head, canon_header}
+use Rattle.snmp_wire.specs.Message.{Message}
 use Rattle.snmp_wire.specs.Parts.{parts_message}
 use Rattle.snmp_agent.proofs.draft.room_for_bindings.Goals as goal
 
@@ -20,3 +21,10 @@ octets-init c =
       c.head_size-longest.ensures.value,
       c.if-head-max_size.false,
     )
+
+some_head : (m : Message) (total : ℕ) → 0 < length (canon_head m total)
+unfolding canon_head canon_header
+some_head m total = omega arith
+
+pub returns-clause-below_max_size : goal.returns-clause-below_max_size
+returns-clause-below_max_size c = omega (arith, some_head (parts_message c.args.parts.now) c.octets.room, c.octets.invariant)

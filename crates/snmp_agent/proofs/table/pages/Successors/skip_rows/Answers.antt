@@ -1,10 +1,11 @@
 use Rattle.std.proofs.Common.{◌≡◌, ◌-◌, ◌≤◌, ◌++◌, List, ℕ, length, take, drop, ◌∙◌, ap, sym}
 use Rattle.std.proofs.Common.{arith}
+use Rattle.std.specs.Option.{option_map_or}
 use Rattle.snmp_wire.specs.Message.{Datum, VarBind}
 use Rattle.snmp_agent.specs.table.Places.{last_name}
 use Rattle.snmp_agent.specs.table.Pages.{entries_in, entries_of}
 use Rattle.snmp_agent.proofs.Following.{drop_rows, take_rows}
-use Rattle.snmp_agent.proofs.table.pages.Successors.skip.Goals as goal
+use Rattle.snmp_agent.proofs.table.pages.Successors.skip_rows.Goals as goal
 
 pub pages-preserved-in-Some : goal.pages-preserved-in-Some
 pages-preserved-in-Some c =
@@ -16,7 +17,8 @@ pages-preserved-in-Some c =
     ∙ sym (ap entries_in c.in-Some.ensures.cases.0) in
     record {
       left = ap (drop (c.pages.left - length rows)) whole ∙ drop_rows rows more c.pages.left few ∙ c.pages.invariant.left;
-      last = ap (λ (es : List (List ℕ × Datum)). last_name c.set_to_last.new.name (take (c.pages.left - length rows) es)) whole
-          ∙ ap (λ (o : List ℕ). last_name o (take (c.pages.left - length rows) more)) c.set_to_last.ensures
-          ∙ take_rows c.pages.name rows more c.pages.left few ∙ c.pages.invariant.last;
+      last = λ o.
+          ap (λ (es : List (List ℕ × Datum)). last_name (option_map_or (λ row. row.now.name) c.last_of-last.result o) (take (c.pages.left - length rows) es)) whole
+          ∙ ap (λ (p : List ℕ). last_name p (take (c.pages.left - length rows) more)) (c.last_of-last.ensures o)
+          ∙ take_rows (option_map_or (λ row. row.now.name) c.pages.last o) rows more c.pages.left few ∙ c.pages.invariant.last o;
     }
