@@ -6,12 +6,11 @@ use Rattle.std.proofs.lemmas.Int.{to_z-of_z}
 use Rattle.std.proofs.Common.{◌≡◌, ℕ, ℤ, pos, Bool, true, false, not, nat_eq, ◌⊎◌, inl, inr, ◌+◌}
 use Rattle.std.proofs.Common.{◌≤◌, List, [], ◌∷◌, ◌++◌, length, take, refl, sym, ap, subst}
 use Rattle.std.proofs.Common.{◌∙◌, arith}
-use Rattle.std.proofs.lemmas.Grind.{flat_map-append}
 use Rattle.std.proofs.lemmas.List.{append-nil}
 use Rattle.snmp_wire.specs.declared.kind.Kind.{Kind}
 use Rattle.snmp_wire.specs.declared.kind.Kind.TheVariants as kind
 use Rattle.snmp_wire.specs.Message.{VarBind, Message}
-use Rattle.snmp_wire.specs.Canon.{canon, canon_binding, canon_bindings, canon_fields, canon_front}
+use Rattle.snmp_wire.specs.Canon.{canon, canon_bindings, canon_fields, canon_front}
 use Rattle.snmp_wire.specs.Canon.{canon_head, canon_opening}
 use Rattle.snmp_wire.specs.Laws.{HasPieces}
 use Rattle.snmp_wire.specs.Sizes.{MessageSizes}
@@ -27,13 +26,6 @@ pub same_head : (q : Message) (status index : ℤ) (bindings : List VarBind) (to
     → canon_head (response q status index []) total ≡ canon_head (response q status index bindings) total
 unfolding canon_head canon_front canon_opening canon_fields
 same_head q status index bindings total = refl
-
--- one more binding
-pub canon_bindings-push : (bindings : List VarBind) (binding : VarBind)
-    → canon_bindings (bindings ++ binding ∷ []) ≡ canon_bindings bindings ++ canon_binding binding
-unfolding canon_bindings
-canon_bindings-push bindings binding = flat_map-append canon_binding bindings (binding ∷ [])
-    ∙ ap (λ octets. canon_bindings bindings ++ octets) (append-nil (canon_binding binding))
 
 -- the bindings of a Set are its own answers
 own : (asked given : List VarBind) → AreAnswers (λ a g. g ≡ a) asked given → given ≡ asked

@@ -5,9 +5,7 @@ use Rattle.std.specs.Prelude.{◌++◌, ◌-◌, length, take, cond, leb}
 use Rattle.snmp_oid.specs.Identifier.{IsWire}
 use Rattle.snmp_wire.specs.declared.kind.Kind.{Kind}
 use Rattle.snmp_wire.specs.declared.kind.Kind.TheVariants as kind
-use Rattle.snmp_wire.specs.Message.{Datum, object_id, integer_value, octet_string, null_value}
-use Rattle.snmp_wire.specs.Message.{ip_address, counter32, gauge32, time_ticks, opaque_octets}
-use Rattle.snmp_wire.specs.Message.{counter64, no_such_object, no_such_instance, end_of_mib_view}
+use Rattle.snmp_wire.specs.Message.{Datum, object_id, octet_string, opaque_octets}
 use Rattle.snmp_wire.specs.Message.{VarBind, Message}
 use Rattle.snmp_wire.specs.Canon.{canon, canon_binding, canon_bindings, canon_head}
 use Rattle.snmp_agent.specs.table.Table.{MibView, IsGet, IsNext, IsNextAfter}
@@ -20,38 +18,19 @@ abbrev pub IsPaired : Kind → Type 0
 IsPaired kind.GetRequest = Unit {0}
 IsPaired kind.GetNextRequest = Unit {0}
 IsPaired kind.SetRequest = Unit {0}
-IsPaired kind.GetBulkRequest = ⊥
-IsPaired kind.Response = ⊥
-IsPaired kind.InformRequest = ⊥
-IsPaired kind.Trap = ⊥
-IsPaired kind.Report = ⊥
+IsPaired _ = ⊥
 
 -- what the reply to a request of the kind has for one of its bindings
 abbrev pub IsAnswer : MibView → Kind → VarBind → VarBind → Type 0
 IsAnswer view kind.GetRequest asked given = IsGet view asked.name given
 IsAnswer view kind.GetNextRequest asked given = IsNext view asked.name given
 IsAnswer view kind.SetRequest asked given = given ≡ asked
-IsAnswer view kind.GetBulkRequest asked given = ⊥
-IsAnswer view kind.Response asked given = ⊥
-IsAnswer view kind.InformRequest asked given = ⊥
-IsAnswer view kind.Trap asked given = ⊥
-IsAnswer view kind.Report asked given = ⊥
+IsAnswer view _ asked given = ⊥
 
 -- a value that has an encoding, whatever its length
 abbrev pub HasEncoding : Datum → Type 0
 HasEncoding (object_id name) = IsWire name
-HasEncoding (integer_value z) = Unit {0}
-HasEncoding (octet_string text) = Unit {0}
-HasEncoding null_value = Unit {0}
-HasEncoding (ip_address address) = Unit {0}
-HasEncoding (counter32 n) = Unit {0}
-HasEncoding (gauge32 n) = Unit {0}
-HasEncoding (time_ticks n) = Unit {0}
-HasEncoding (opaque_octets text) = Unit {0}
-HasEncoding (counter64 n) = Unit {0}
-HasEncoding no_such_object = Unit {0}
-HasEncoding no_such_instance = Unit {0}
-HasEncoding end_of_mib_view = Unit {0}
+HasEncoding _ = Unit {0}
 
 -- a binding whose name and value have encodings
 pub record IsWritable (binding : VarBind) : Type 0 where
@@ -66,17 +45,7 @@ AreWritable (binding ∷ more) = IsWritable binding × AreWritable more
 abbrev pub IsShortValue : Datum → Type 0
 IsShortValue (octet_string text) = length text ≤ 65535
 IsShortValue (opaque_octets text) = length text ≤ 65535
-IsShortValue (object_id name) = Unit {0}
-IsShortValue (integer_value z) = Unit {0}
-IsShortValue null_value = Unit {0}
-IsShortValue (ip_address address) = Unit {0}
-IsShortValue (counter32 n) = Unit {0}
-IsShortValue (gauge32 n) = Unit {0}
-IsShortValue (time_ticks n) = Unit {0}
-IsShortValue (counter64 n) = Unit {0}
-IsShortValue no_such_object = Unit {0}
-IsShortValue no_such_instance = Unit {0}
-IsShortValue end_of_mib_view = Unit {0}
+IsShortValue _ = Unit {0}
 
 -- how many octets a message has whose bindings take `total`
 abbrev pub whole_size : Message → ℕ → ℕ

@@ -119,14 +119,17 @@ impl<'h> Guesses<'h> {
         self.last.pages = left.1;
     }
 
-    /// A guess of where a name stands; none where no names are kept.
+    /// A guess of where a name stands: nowhere, unless it is kept.
     #[inline]
-    pub(crate) fn guess(&self, name: &EncodedName<'_>) -> Option<Guess> {
+    pub(crate) fn guess(&self, name: &EncodedName<'_>) -> Guess {
         if self.kept.is_empty() {
-            return None;
+            return Guess::of(0, 0);
         }
         let hash = hash_of(name.content());
-        let [later, earlier] = *self.kept.get(place_of(hash))?;
+        let Some(pair) = self.kept.get(place_of(hash)) else {
+            return Guess::of(hash, 0);
+        };
+        let [later, earlier] = *pair;
         let kept = if later % 256 == hash % 256 {
             later
         } else if earlier % 256 == hash % 256 {
@@ -134,7 +137,7 @@ impl<'h> Guesses<'h> {
         } else {
             0
         };
-        Some(Guess::of(hash, kept))
+        Guess::of(hash, kept)
     }
 
     /// Keeps where a name stands: the place of its page, and how many rows of that have the name or

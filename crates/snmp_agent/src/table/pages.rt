@@ -17,7 +17,7 @@ use crate::table::hint::{Guess, Guesses};
 use crate::table::late::{Late, sort_falling};
 use crate::table::page::{PAGE_ROWS, Page};
 use crate::table::search::{
-    begins_up_to, ends_before, find_row, page_near, page_of, place_after, place_near, row_at,
+    begins_up_to, ends_before, find_row, page_near, page_of, place_near, row_at,
 };
 use snmp_oid::order;
 use snmp_wire::{Binding, EncodedBinding, EncodedName, Oid, ValueRef};
@@ -104,20 +104,8 @@ impl Pages {
         }
     }
 
-    /// The row of this name.
-    pub fn find(&self, name: &EncodedName<'_>) -> Option<&EncodedBinding>
-        ensures value { option_map (λ row. row.now.value) result
-            ≡ get self.now name.now }
-        ensures name { IfSome result (λ row. row.now.name ≡ name.now) }
-    {
-        let pages = self.list.as_slice();
-        let page = pages.get(page_of(pages, name))?;
-        let rows = page.rows.as_slice();
-        row_at(rows, name, place_after(rows, name))
-    }
-
-    /// The same. Nothing is searched where the hint is right; else it is told where the name
-    /// stands.
+    /// The row of this name. Nothing is searched where the hint is right; else it is told where the
+    /// name stands.
     pub fn find_near(
         &self,
         name: &EncodedName<'_>,
@@ -127,9 +115,7 @@ impl Pages {
             ≡ get self.now name.now }
         ensures name { IfSome result (λ row. row.now.name ≡ name.now) }
     {
-        let Some(guess) = hint.guess(name) else {
-            return self.find(name);
-        };
+        let guess = hint.guess(name);
         let pages = self.list.as_slice();
         if let Some(row) = row_guessed(pages, name, guess) {
             return Some(row);
@@ -142,27 +128,8 @@ impl Pages {
         row_at(rows, name, place)
     }
 
-    /// The rows after this name.
-    pub fn after(&self, name: &EncodedName<'_>) -> Successors<'_>
-        ensures { (front : List (List ℕ × Datum)) × StandsApart self.now name.now front result }
-    {
-        let pages = self.list.as_slice();
-        let place = page_of(pages, name);
-        let Some(page) = pages.get(place) else {
-            return Successors {
-                rows: &[],
-                pages: &[],
-            };
-        };
-        let (_, pages) = pages.split_at(place + 1);
-        let rows = page.rows.as_slice();
-        let (_, rows) = rows.split_at(place_after(rows, name));
-        Successors { rows, pages }
-    }
-
-    /// The rows after this name, as [`Pages::after`] finds them, for a walk: it mostly asks from
-    /// the row that was given last. Nothing is searched where the hint is right; else it is told
-    /// where the name stands.
+    /// The rows after this name, for a walk: it mostly asks from the row that was given last.
+    /// Nothing is searched where the hint is right; else it is told where the name stands.
     // Hot: each request of a walk, in which the row is mostly the one that was given last.
     #[inline(always)]
     pub fn after_last(&self, name: &EncodedName<'_>, hint: &mut Guesses<'_>) -> Successors<'_>
@@ -205,9 +172,7 @@ impl Pages {
     pub fn after_near(&self, name: &EncodedName<'_>, hint: &mut Guesses<'_>) -> Successors<'_>
         ensures { (front : List (List ℕ × Datum)) × StandsApart self.now name.now front result }
     {
-        let Some(guess) = hint.guess(name) else {
-            return self.after(name);
-        };
+        let guess = hint.guess(name);
         let pages = self.list.as_slice();
         if let Some(rows) = rows_guessed(pages, name, guess) {
             return rows;

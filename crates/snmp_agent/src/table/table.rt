@@ -8,7 +8,7 @@ use crate::table::error::{PutError, TableError};
 use crate::table::format::{
     FirstFormat, LineFormat, NumericNames, Resolver, SecondFormat, is_marked,
 };
-use crate::table::hint::Guesses;
+use crate::table::hint::{Guesses, Last};
 use crate::table::pages::{Pages, Successors};
 use snmp_oid::order;
 use snmp_wire::{Binding, EncodedBinding, EncodedName, MAX_CONTENT, Oid, ValueRef};
@@ -181,7 +181,11 @@ impl Table {
             return None;
         }
         let mut content = [0; MAX_CONTENT];
-        self.rows.find(&EncodedName::write(name, &mut content))
+        let mut last = Last::default();
+        self.rows.find_near(
+            &EncodedName::write(name, &mut content),
+            &mut Guesses::without_names(&mut last),
+        )
     }
 
     /// The value that a Get of the name gives: that of its instance; else `NoSuchObject` where no
@@ -217,7 +221,9 @@ impl Table {
     pub fn after(&self, name: &EncodedName<'_>) -> Successors<'_>
         ensures { AreBehind self.now name.now result }
     {
-        self.rows.after(name)
+        let mut last = Last::default();
+        self.rows
+            .after_near(name, &mut Guesses::without_names(&mut last))
     }
 
     /// The same. Nothing is searched where the hint is right.

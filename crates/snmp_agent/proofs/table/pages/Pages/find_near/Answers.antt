@@ -65,9 +65,9 @@ returns-clause-value c =
     (subst (λ (ps : List Page). slice_get ps c.page_near-at.result ≡ Some page) c.as_slice-pages.ensures.value at))
     ∙ sym (get_in o pages c.self.invariant) ∙ ap (λ (m : FinMap (slice_cmp nat_cmp) Datum). get m o) c.self.view_is
 
-pub returns-in-Some-row_guessed-clause-value : goal.returns-in-Some-row_guessed-clause-value
-returns-in-Some-row_guessed-clause-value c =
+pub returns-in-Some-clause-value : goal.returns-in-Some-clause-value
+returns-in-Some-clause-value c =
     let pages = c.self.inside.list.items in
     let o = c.args.name.now in
-    sym c.in-Some-row_guessed.ensures.value ∙ ap (λ (ps : List Page). find (slice_cmp nat_cmp) o (entries_in ps)) c.as_slice-pages.ensures.value
+    sym c.in-Some.ensures.value ∙ ap (λ (ps : List Page). find (slice_cmp nat_cmp) o (entries_in ps)) c.as_slice-pages.ensures.value
     ∙ sym (get_in o pages c.self.invariant) ∙ ap (λ (m : FinMap (slice_cmp nat_cmp) Datum). get m o) c.self.view_is

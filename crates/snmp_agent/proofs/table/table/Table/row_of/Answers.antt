@@ -10,4 +10,4 @@ returns-then-not-is_wire c =
 
 pub returns : goal.returns
 returns c =
-    c.find.ensures.value ∙ ap (get c.self.inside.rows) c.write.ensures ∙ ap (λ (v : MibView). get v.rows c.args.name.now) c.self.view_is
+    c.find_near.ensures.value ∙ ap (get c.self.inside.rows) c.write.ensures ∙ ap (λ (v : MibView). get v.rows c.args.name.now) c.self.view_is
