@@ -60,6 +60,10 @@ impl<'a> MemoryLinks<'a> {
 }
 
 impl<'a> Links for MemoryLinks<'a> {
+    ghost use Rattle.std.specs.Prelude.{◌≡◌, ◌+◌};
+    ghost use Rattle.snmp_io.specs.Count.{HasRisenBy};
+    ghost use Rattle.snmp_agent.specs.Reply.{agent_of};
+
     type Wire = MemoryLink<'a>;
 
     type Door = MemoryDoor<'a>;
@@ -95,13 +99,19 @@ impl<'a> Links for MemoryLinks<'a> {
         }
     }
 
+    /// Serves the requests that come at the door, which counts each fault.
     fn serve(
         &mut self,
         door: &mut MemoryDoor<'a>,
         table: &Table,
         config: &Config<'_>,
         turns: u64,
-    ) -> Served {
+    ) -> Served
+        ensures adds_up { result.replies + result.dropped + result.idle + result.faults ≡ turns }
+        ensures served { AreServed (agent_of table.now config.now) turns result }
+        ensures faults { HasRisenBy result.faults door.old.faults door.new.faults }
+        ensures count { self.new.faults ≡ self.old.faults }
+    {
         serve_at(door, table, config, turns)
     }
 
