@@ -46,7 +46,8 @@ module _ (sizes : MessageSizes) (m : Message) (limit room : ℕ) (is_room : IsRo
           omega (arith, ap (λ ps. length (canon_bindings ps)) all, ap length front.octets, front.whole (sym e))
       by_more (p ∷ more) e =
           let all : given ≡ front.added ++ p ∷ more = front.front ∙ ap (λ ps. front.added ++ ps) (sym e) in
-          let large : room + 1 < length (take draft.total out) + length (canon_binding p) = subst (λ (ps : List VarBind). HasNoRoom (room + 1) (length (take draft.total out)) ps) (sym e) front.no_room in
+          let large : room + 1 < length (take draft.total out) + length (canon_binding p) =
+          subst (λ (ps : List VarBind). HasNoRoom (room + 1) (length (take draft.total out)) ps) (sym e) front.no_room in
           omega (arith, ap (λ ps. length (canon_bindings ps)) all, longer_by front.added more p, ap length front.octets, large)
 
 -- what holds in any case holds where there is nothing

@@ -73,7 +73,7 @@ pub fn answer_near(
     answer_by(table, config, request, out, &mut hint.lend())
 }
 
-/// The same, by a hint that is lent for the request.
+/// The outcome of [`answer_near`], by a hint that is lent for the request.
 fn answer_by(
     table: &Table,
     config: &Config<'_>,

@@ -72,7 +72,7 @@ impl<'a> Place<'a> {
         }
     }
 
-    /// The same for the name of a walk, which mostly asks from the row that was given last.
+    /// The place of a name that a walk asks from, mostly that of the row that was given last.
     pub fn of_walk(table: &'a Table, name: EncodedName<'a>, hint: &mut Guesses<'_>) -> Place<'a>
         ensures name { result.name ≡ name.entry }
         ensures behind { AreBehind table.now name.entry result.rows }

@@ -156,8 +156,8 @@ impl<'h> Guesses<'h> {
         pair[0] = page << 16 | row << 8 | guess.hash % 256;
     }
 
-    /// The same of the name of the row that was given last. Walks that are made in turn each find
-    /// their row by its name, where another row was given since. Not inlined: a walk that is alone
+    /// Keeps where the row stands that was given last, by its name. Walks that are made in turn
+    /// each find their row so, where another row was given since. Not inlined: a walk that is alone
     /// doesn't come here.
     #[inline(never)]
     pub(crate) fn keep_passed(&mut self, name: &EncodedName<'_>, page: usize, row: usize) {

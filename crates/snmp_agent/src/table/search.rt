@@ -23,7 +23,7 @@ pub fn page_of(pages: &[Page], name: &EncodedName<'_>) -> usize
     page_between(pages, name, 0, pages.len())
 }
 
-/// The same. Nothing is searched where the guess is right.
+/// [`page_of`] the name. Nothing is searched where the guess is right.
 pub fn page_near(pages: &[Page], name: &EncodedName<'_>, guess: usize) -> usize
     requires { ArePages pages.now }
     ensures { IsPageOf name.now pages.now result }
@@ -32,8 +32,8 @@ pub fn page_near(pages: &[Page], name: &EncodedName<'_>, guess: usize) -> usize
     page_between(pages, name, begun, end)
 }
 
-/// The same, where the pages before the one place begin up to the name, and those from the other
-/// on don't.
+/// [`page_of`] the name, where the pages before the one place begin up to it, and those from the
+/// other on don't.
 #[inline(always)]
 fn page_between(pages: &[Page], name: &EncodedName<'_>, from: usize, to: usize) -> usize
     requires rising { ArePages pages.now }
@@ -143,7 +143,7 @@ pub fn place_after(rows: &[EncodedBinding], name: &EncodedName<'_>) -> usize
     place_between(rows, name, 0, rows.len())
 }
 
-/// The same. Nothing is searched where the guess is right.
+/// [`place_after`] the name. Nothing is searched where the guess is right.
 pub fn place_near(rows: &[EncodedBinding], name: &EncodedName<'_>, guess: usize) -> usize
     requires { IsRising rows.now }
     ensures bound { result ≤ length rows.now }
@@ -154,8 +154,8 @@ pub fn place_near(rows: &[EncodedBinding], name: &EncodedName<'_>, guess: usize)
     place_between(rows, name, passed, end)
 }
 
-/// The same, where the rows before the one place have the name or one before it, and those from the
-/// other on don't.
+/// [`place_after`] the name, where the rows before the one place have it or one before it, and
+/// those from the other on don't.
 #[inline(always)]
 fn place_between(rows: &[EncodedBinding], name: &EncodedName<'_>, from: usize, to: usize) -> usize
     requires rising { IsRising rows.now }

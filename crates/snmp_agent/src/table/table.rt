@@ -226,7 +226,7 @@ impl Table {
             .after_near(name, &mut Guesses::without_names(&mut last))
     }
 
-    /// The same. Nothing is searched where the hint is right.
+    /// The rows behind a name, in order. Nothing is searched where the hint is right.
     pub(crate) fn after_near(
         &self,
         name: &EncodedName<'_>,
@@ -237,7 +237,7 @@ impl Table {
         self.rows.after_near(name, hint)
     }
 
-    /// The same for a walk, which mostly asks from the row that was given last.
+    /// The rows behind a name, for a walk, which mostly asks from the row that was given last.
     #[inline(always)]
     pub(crate) fn after_last(
         &self,

@@ -34,7 +34,8 @@ returns-in-Some-clause-none c =
     let draft : Draft = c.append_bulk-draft.result in
     let here = front (goal.at.returns-in-Some-clause-none c).After-append_bulk-draft in
     let long : length (take draft.total c.append_bulk-draft.new.out) ≡ draft.total = length-take-le _ _ (omega arith) in
-    let fits : whole_size (parts_message c.response-parts.result) draft.total ≤ c.args.config.now.max_size = within c.message_sizes.ensures (parts_message c.response-parts.result) c.args.config.now.max_size c.in-Some.room draft.total
+    let fits : whole_size (parts_message c.response-parts.result) draft.total ≤ c.args.config.now.max_size =
+    within c.message_sizes.ensures (parts_message c.response-parts.result) c.args.config.now.max_size c.in-Some.room draft.total
     c.in-Some.ensures.room (omega (arith, long, here.fits)) in
     not_none _ c.seal.result (c.seal.ensures.variant.1 (omega (arith, fits, c.args.config.now.datagram, c.append_bulk-draft.array_long)))
 

@@ -29,7 +29,8 @@ given c = (
 
 -- the last round
 over : (c : After-append_next-draft) → (c.append_next-draft.result.left ≡ 0) ⊎ AreEnds (next_at c.rounds.place ∷ [])
-    → FillsRounds c.args.table.now (c.args.asked ∷ []) c.args.repetitions (held c.args.draft c.args.out.now) (held c.append_next-draft.result c.append_next-draft.new.out)
+    → FillsRounds c.args.table.now (c.args.asked ∷ []) c.args.repetitions (held c.args.draft c.args.out.now)
+    (held c.append_next-draft.result c.append_next-draft.new.out)
 over c is =
     rounds_over c.args.table.now (c.args.asked ∷ []) c.args.repetitions (held c.args.draft c.args.out.now) c.one_answer.ensures.get_bulk c.rounds.counter
     (held c.rounds.draft c.rounds.out) (held c.append_next-draft.result c.append_next-draft.new.out) (next_at c.rounds.place ∷ []) c.rounds-test.true

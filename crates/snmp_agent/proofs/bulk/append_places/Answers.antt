@@ -21,12 +21,14 @@ step c =
 pub append_next-draft-requires : goal.append_next-draft-requires
 append_next-draft-requires c =
     let i = c.places.place-index in
-    let h : AreWireNames (c.place-item.result ∷ drop (i + 1) c.args.places.now) = subst AreWireNames (step (goal.at.append_next-draft-requires c).After-place-item).here
+    let h : AreWireNames (c.place-item.result ∷ drop (i + 1) c.args.places.now) =
+    subst AreWireNames (step (goal.at.append_next-draft-requires c).After-place-item).here
     (All-drop (λ (place : Standing). IsWire place.name) i c.args.places.now c.requires) in
     subst (λ (x : Standing). IsWire x.name) c.place-item.is
     (All-head (λ (place : Standing). IsWire place.name) c.place-item.result (drop (i + 1) c.args.places.now) h)
 
-others : (c : After-append_next-draft) → IsMovedAt c.args.places.now c.places.place-index (c.places.place-index + 1) c.place-item.result → fill (held c.args.draft c.args.out.now) (map next_at c.args.places.now)
+others : (c : After-append_next-draft) → IsMovedAt c.args.places.now c.places.place-index (c.places.place-index + 1) c.place-item.result
+    → fill (held c.args.draft c.args.out.now) (map next_at c.args.places.now)
     ≡ fill (held c.append_next-draft.result c.append_next-draft.new.out) (map next_at (drop (c.places.place-index + 1) c.args.places.now))
 others c step =
     let rest = map next_at (drop (c.places.place-index + 1) c.args.places.now) in
@@ -58,7 +60,8 @@ pub returns-clause-filled : goal.returns-clause-filled
 returns-clause-filled c =
     let places = c.args.places.now in
     let all : length places ≤ c.places.place-index = omega (arith, c.places-test.false, c.places.auto.places) in
-    sym (c.places.invariant.others ∙ ap (λ (ps : List Standing). fill (held c.places.draft c.places.out) (map next_at ps)) (drop_all c.places.place-index places all))
+    sym (c.places.invariant.others ∙ ap (λ (ps : List Standing). fill (held c.places.draft c.places.out) (map next_at ps))
+    (drop_all c.places.place-index places all))
 
 pub returns-clause-moved : goal.returns-clause-moved
 returns-clause-moved c = λ some.

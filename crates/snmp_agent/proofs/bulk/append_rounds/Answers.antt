@@ -31,14 +31,16 @@ given : (c : After-append_others-is_over) → AreGiven c.args.table.now c.rounds
 given c =
     let view = c.args.table.now in
     let standing = c.rounds.invariant.standing in
-    let others : AreGiven view c.rounds.round c.args.others c.append_others-is_over.ensures.0 = subst (λ (bs : List VarBind). AreGiven view c.rounds.round bs c.append_others-is_over.ensures.0) c.left.ensures
+    let others : AreGiven view c.rounds.round c.args.others c.append_others-is_over.ensures.0 =
+    subst (λ (bs : List VarBind). AreGiven view c.rounds.round bs c.append_others-is_over.ensures.0) c.left.ensures
     c.append_others-is_over.ensures.1 in
     subst (λ (bs : List VarBind). AreGiven view c.rounds.round bs (round c)) (sym standing.1)
     (answers_both (λ asked given. IsNextAfter view c.rounds.round asked.name given) standing.0 c.args.others (map next_at c.rounds.places)
     c.append_others-is_over.ensures.0
     (standing_given c.order.ensures.less view c.rounds.round standing.0 c.rounds.places standing.2) others)
 
-new : (c : After-append_others-is_over) → held c.append_others-is_over.result.0 c.append_others-is_over.new.out ≡ fill (held c.rounds.draft c.rounds.out) (round c)
+new : (c : After-append_others-is_over) → held c.append_others-is_over.result.0 c.append_others-is_over.new.out
+    ≡ fill (held c.rounds.draft c.rounds.out) (round c)
 new c =
     c.append_others-is_over.ensures.2 ∙ ap (λ (h : Held). fill h c.append_others-is_over.ensures.0) c.append_places-draft.ensures.filled
     ∙ sym (fill_both (held c.rounds.draft c.rounds.out) (map next_at c.rounds.places) c.append_others-is_over.ensures.0)
@@ -49,14 +51,16 @@ over : (c : After-append_others-is_over) → (c.append_others-is_over.result.0.l
     (held c.append_others-is_over.result.0 c.append_others-is_over.new.out)
 over c is =
     rounds_over c.args.table.now c.args.bindings.now c.args.repetitions (held c.args.draft c.args.out.now) c.one_answer.ensures.get_bulk c.rounds.round
-    (held c.rounds.draft c.rounds.out) (held c.append_others-is_over.result.0 c.append_others-is_over.new.out) (round c) c.rounds-test.true c.rounds.invariant.rounds
+    (held c.rounds.draft c.rounds.out) (held c.append_others-is_over.result.0 c.append_others-is_over.new.out) (round c) c.rounds-test.true
+    c.rounds.invariant.rounds
     (given c) (new c) is
 
 pub returns-then-is_over : goal.returns-then-is_over
 returns-then-is_over c =
     let ends = c.append_others-is_over.ensures.3 c.if-is_over.true in
     over (goal.at.returns-then-is_over c).After-append_others-is_over
-    (inr ((ends_both (map next_at c.rounds.places) c.append_others-is_over.ensures.0).0 (ends_given c.rounds.places (c.are_at_end-are_over.ensures.0 ends.0), ends.1)))
+    (inr ((ends_both (map next_at c.rounds.places) c.append_others-is_over.ensures.0).0
+    (ends_given c.rounds.places (c.are_at_end-are_over.ensures.0 ends.0), ends.1)))
 
 pub returns-then-is_full : goal.returns-then-is_full
 returns-then-is_full c = over (goal.at.returns-then-is_full c).After-append_others-is_over (inl (c.is_full.ensures.0 c.if-is_full.true))

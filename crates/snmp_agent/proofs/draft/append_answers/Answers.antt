@@ -33,7 +33,12 @@ bindings-init c =
       octets = take (sym c.new-draft.ensures.empty i) c.args.out.now;
       left = sym c.new-draft.ensures.room i;
     } in
-    record { others = λ rest h. (rest, h, ap (λ (g : Held). fill g rest) none); some = omega (arith, c.new-draft.ensures.room); long = omega (arith, c.new-draft.ensures.empty); writable = c.requires.writable }
+    record {
+      others = λ rest h. (rest, h, ap (λ (g : Held). fill g rest) none);
+      some = omega (arith, c.new-draft.ensures.room);
+      long = omega (arith, c.new-draft.ensures.empty);
+      writable = c.requires.writable;
+    }
 
 writable : (asked later : List VarBind) (first : VarBind) → asked ≡ first ∷ later → AreWritable asked → AreWritable (first ∷ later)
 writable asked later first e h = subst (λ (bs : List VarBind). AreWritable bs) e h
@@ -49,7 +54,8 @@ next : (c : After-append_answer-draft)
 next c =
     let R = IsAnswer c.args.table.now c.args.kind in
     goes_next R (AreAnswers R c.args.bindings) c.bindings.bindings c.next_ref.new.self (c.in-Some.asked) (record { octets = []; left = c.in_ok-room.room + 1 })
-    (held c.bindings.draft c.bindings.out) (held c.append_answer-draft.result c.append_answer-draft.new.out) c.in-Some.ensures.some c.append_answer-draft.ensures
+    (held c.bindings.draft c.bindings.out) (held c.append_answer-draft.result c.append_answer-draft.new.out) c.in-Some.ensures.some
+    c.append_answer-draft.ensures
     c.bindings.invariant.others
 
 -- what was added is a front
@@ -68,7 +74,8 @@ returns-then-is_full-clause-too_long c =
     (held draft c.append_answer-draft.new.out) (next (goal.at.returns-then-is_full-clause-too_long c).After-append_answer-draft) later full in (
       found.0,
       found.1,
-      past c.message_sizes.ensures (parts_message c.args.parts.now) c.args.config.now.max_size room c.in_ok-room.ensures.room draft c.append_answer-draft.new.out
+      past c.message_sizes.ensures (parts_message c.args.parts.now) c.args.config.now.max_size room c.in_ok-room.ensures.room
+          draft c.append_answer-draft.new.out
           found.0 (length-take-le _ _ (omega arith)) (front (room + 1) found.0 (held draft c.append_answer-draft.new.out) found.2) full,
     )
 

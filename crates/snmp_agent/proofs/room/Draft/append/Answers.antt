@@ -20,5 +20,6 @@ returns-in-Some c = held_more (held c.args.self c.args.out.now) (var_bind c.args
     (grind (arith, common_steps, c.in-Some.ensures.some, c.in-Some.ensures.variant))
 
 pub returns : goal.returns
-returns c = held_full (held c.args.self c.args.out.now) (var_bind c.args.binding.now) _ _ (grind (arith, common_steps, c.full-2.ensures.same, take-put_mid_below))
+returns c = held_full (held c.args.self c.args.out.now) (var_bind c.args.binding.now) _ _
+    (grind (arith, common_steps, c.full-2.ensures.same, take-put_mid_below))
     c.full-2.ensures.full (grind (arith, common_steps, c.in_default.ensures.variant))
