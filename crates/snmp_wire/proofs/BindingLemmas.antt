@@ -1,13 +1,13 @@
 -- Reading bindings one after the other.
 use Rattle.std.proofs.Common.{◌≡◌, ℕ, zero, suc, ◌<◌, ◌≤◌, List, [], ◌∷◌, length, Result, Ok, Err}
-use Rattle.std.proofs.Common.{IsOk, refl, sym, ap, subst, ◌∙◌, arith}
+use Rattle.std.proofs.Common.{IsOk, refl, sym, ap, ◌∙◌, arith}
 use Rattle.std.specs.Result.{result_unwrap_or}
 use Rattle.std.proofs.lemmas.List.{nil_from_length}
 use Rattle.snmp_wire.specs.declared.ber.error.BerError.{BerError}
 use Rattle.snmp_wire.specs.ber.Value.{Datum}
 use Rattle.snmp_wire.specs.Lent.{binding_with}
 use Rattle.snmp_wire.specs.Message.{VarBind, null_value}
-use Rattle.snmp_wire.specs.ber.Reading.{◌>>=◌, checked, inner_at, identifier_of, typed_value}
+use Rattle.snmp_wire.specs.ber.Reading.{◌>>=◌, checked, identifier_of, typed_value}
 use Rattle.snmp_wire.specs.Reading.{Fields, fields_of, fields_at, binding_of, binding_at}
 use Rattle.snmp_wire.specs.Reading.{bindings_within, bindings_of, bindings_in}
 use Rattle.snmp_wire.specs.ber.ReadingLaws.{ok_is, bind_ok, bind_same, ok_value, is_ok_at}

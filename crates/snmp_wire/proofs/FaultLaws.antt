@@ -50,23 +50,22 @@ bad_tag : (octets : List ℕ) (place : Place) (tag : ℕ) (after : List ℕ) (e 
 bad_tag octets place tag after e stands bad is = subst (λ (d : BerError). IsFault d octets) is
     (record { place = place; here = tag ∷ after; expected = stands; tag = tag; after = after; parts = refl; bad = bad })
 
-left_over : (octets : List ℕ) (place : Place) (here : List ℕ) (tag : ℕ) (content after : List ℕ) (e : BerError) → Expects octets place here
-    → place ≢ at_message → next_behind place ≡ None → AllowsTag place tag → BeginsWith tag content here after
-    → after ≢ [] → error.Content ≡ e → IsFault e octets
-left_over octets place here tag content after e stands inner last allowed begins some is =
-    subst (λ (d : BerError). IsFault d octets) is (inr (record {
-      place = place;
-      here = here;
-      expected = stands;
-      is_inner = inner;
-      is_last = last;
-      tag = tag;
-      content = content;
-      after = after;
-      allowed = allowed;
-      begins = begins;
-      some = some;
-    }))
+left_over : (octets : List ℕ) (place : Place) (here : List ℕ) (tag : ℕ) (content after : List ℕ) → Expects octets place here
+    → place ≢ at_message → next_behind place ≡ None → AllowsTag place tag → BeginsWith tag content here after → after ≢ []
+    → IsFault error.Content octets
+left_over octets place here tag content after stands inner last allowed begins some = inr (record {
+  place = place;
+  here = here;
+  expected = stands;
+  is_inner = inner;
+  is_last = last;
+  tag = tag;
+  content = content;
+  after = after;
+  allowed = allowed;
+  begins = begins;
+  some = some;
+})
 
 bad_content : (octets : List ℕ) (place : Place) (here : List ℕ) (tag : ℕ) (content after : List ℕ) (e : BerError) → Expects octets place here
     → first_inside place ≡ None → AllowsTag place tag → BeginsWith tag content here after
@@ -224,7 +223,7 @@ module _ (octets : List ℕ) where
       (λ e due. due)
       (gives_all {is = λ fields. fields ≡ made} _ value.2 (a_value made refl) (λ some. gives_fault (λ e. IsFault e octets) error.Content
       (value_reads name.1 value.0 value.1 value.2 behind_it follows)
-      (λ read is. left_over octets at_value name.1 value.0 value.1 value.2 error.Content behind_it (λ is. cc) refl (read, sym is.is_tag) follows some refl)))))
+      (λ read is. left_over octets at_value name.1 value.0 value.1 value.2 behind_it (λ is. cc) refl (read, sym is.is_tag) follows some)))))
 
   binding_reads : (here : List ℕ) → Expects octets at_binding here → Gives (IsBinding here) (λ e. IsFault e octets) (binding_at here)
   unfolding binding_at fields_at binding_of
@@ -289,7 +288,7 @@ module _ (octets : List ℕ) where
       gives_then _ (inner_reads at_list 0x30 b.1 list_stands (λ is. cc) (λ t allowed. allowed)) (λ list l.
       gives_then _ (gives_all error.Content list.1
       (bindings_read (length list.0) list.0 (omega arith) (λ some. inside at_list at_binding b.1 0x30 list.0 list.1 list_stands refl l refl some))
-      (λ some. left_over octets at_list b.1 0x30 list.0 list.1 error.Content list_stands (λ is. cc) refl refl l some refl)) (λ bindings both.
+      (λ some. left_over octets at_list b.1 0x30 list.0 list.1 list_stands (λ is. cc) refl refl l some)) (λ bindings both.
       let fields : SpellsAll lenient (elements_in_pdu (message_with version community found id.0 a.0 b.0 bindings)) content = (
         i.1.element,
         id.1,
@@ -323,7 +322,7 @@ module _ (octets : List ℕ) where
       gives_then _ (element_reads at_pdu community.1 pdu_stands (λ is. cc)) (λ pdu p.
       gives_then _ (gives_all _ pdu.2 (kind_reads community.1 pdu.0 pdu.1 pdu.2 pdu_stands p)
       (λ some. gives_fault (λ e. IsFault e octets) error.Content (kind_reads community.1 pdu.0 pdu.1 pdu.2 pdu_stands p)
-      (λ found is. left_over octets at_pdu community.1 pdu.0 pdu.1 pdu.2 error.Content pdu_stands (λ is. cc) refl (found, sym is) p some refl)))
+      (λ found is. left_over octets at_pdu community.1 pdu.0 pdu.1 pdu.2 pdu_stands (λ is. cc) refl (found, sym is) p some)))
       (λ found k.
       pdu_reads version.0 community.0 found pdu.1 (λ m. SpellsAll lenient (elements_of m) octets)
       (inside at_pdu at_id community.1 pdu.0 pdu.1 pdu.2 pdu_stands (found, sym k.0) p refl tt)

@@ -1,6 +1,6 @@
 -- What is read as an identifier is one, what is read as none has content at fault, and what is one is
 -- read.
-use Rattle.std.proofs.Common.{◌≡◌, ◌≢◌, ℕ, zero, suc, ◌+◌, ◌-◌, ◌*◌, ◌%◌, ◌^◌, ◌<◌, ◌≤◌, cond, eqb}
+use Rattle.std.proofs.Common.{◌≡◌, ◌≢◌, ℕ, zero, suc, ◌+◌, ◌-◌, ◌*◌, ◌%◌, ◌^◌, ◌<◌, ◌≤◌, eqb}
 use Rattle.std.proofs.Common.{ltb, List, [], ◌∷◌, ◌++◌, length, get_or, map, Ok, Err}
 use Rattle.std.proofs.Common.{refl, sym, ap, subst, ◌∙◌, arith, lit<, inl, inr}
 use Rattle.std.specs.List.{AllByRecursion}
@@ -13,7 +13,7 @@ use Rattle.snmp_wire.specs.declared.ber.error.BerError.{BerError}
 use Rattle.snmp_wire.specs.declared.ber.error.BerError.TheVariants as error
 use Rattle.snmp_wire.specs.ber.Number.{number_of}
 use Rattle.snmp_wire.specs.ber.Identifier.{IsSubidentifier, AreSubidentifiers, IsObjectId}
-use Rattle.snmp_wire.specs.ber.Reading.{◌>>=◌, largest_subidentifier, subidentifier_from}
+use Rattle.snmp_wire.specs.ber.Reading.{largest_subidentifier, subidentifier_from}
 use Rattle.snmp_wire.specs.ber.Reading.{subidentifier_at, number_at, numbers_of, first_number}
 use Rattle.snmp_wire.specs.ber.Reading.{second_number}
 use Rattle.snmp_wire.specs.ber.Reading.{identifier_of}

@@ -1,7 +1,7 @@
 -- Bindings that are kept as their encodings: what is written is read again.
 use Rattle.std.proofs.Common.{◌≡◌, ℕ, List, [], ◌∷◌, ◌++◌, Result, Ok, IsOk, refl, sym, ap, subst}
 use Rattle.std.proofs.Common.{◌∙◌}
-use Rattle.std.proofs.Common.{◌<◌, ◌≤◌, length, get_or, take, drop, cond, eqb, ltb, Err, arith}
+use Rattle.std.proofs.Common.{◌<◌, ◌≤◌, length, get_or, take, drop, cond, eqb, ltb, Err}
 use Rattle.std.proofs.lemmas.Bool.{lt-ltb, ltb-false}
 use Rattle.std.proofs.lemmas.List.{append-nil, take-append-drop}
 use Rattle.std.specs.Result.{result_unwrap_or}
@@ -19,7 +19,8 @@ use Rattle.snmp_wire.specs.ber.LengthLaws.{inner_again}
 use Rattle.snmp_wire.specs.ber.Number.{lenient}
 use Rattle.snmp_wire.specs.declared.ber.error.BerError.TheVariants as error
 use Rattle.snmp_wire.specs.ber.Reading.{content_at, identifier_of, inner_at, length_at}
-use Rattle.snmp_wire.specs.ber.ReadingLaws.{done, is_ok_at, ok_is, passed, refused}
+use Rattle.snmp_wire.specs.ber.ReadingLaws.{Gives, a_value, done, is_ok_at, ok_is, passed, refused}
+use Rattle.snmp_wire.proofs.ShortBindings.{four_then}
 use Rattle.snmp_wire.proofs.IdentifierLaws.{identifier_again}
 use Rattle.snmp_wire.proofs.MessageLaws.{binding_again, bindings_again}
 use Rattle.snmp_wire.proofs.MessageElements.{spells_binding}
@@ -52,13 +53,6 @@ short_inner tag found size rest content after small e =
     let r = refused (ltb (length rest) size) (Ok (take size rest, drop size rest)) error.Length (content, after) q in
     let both = ok_is (take size rest, drop size rest) (content, after) r.1 in
     (ltb-false (length rest) size r.0, ap (λ (x : List ℕ × List ℕ). x.0) both, ap (λ (x : List ℕ × List ℕ). x.1) both)
-
-four_then : (l : List ℕ) → 4 ≤ length l → l ≡ get_or l 0 0 ∷ get_or l 1 0 ∷ get_or l 2 0 ∷ get_or l 3 0 ∷ drop 4 l
-four_then [] long = absurd (omega arith)
-four_then (a ∷ []) long = absurd (omega arith)
-four_then (a ∷ b ∷ []) long = absurd (omega arith)
-four_then (a ∷ b ∷ c ∷ []) long = absurd (omega arith)
-four_then (a ∷ b ∷ c ∷ d ∷ rest) long = refl
 
 module _ (p : VarBind) (range : IsBindingInRange p) where
   spells : SpellsBinding lenient p (canon_binding p)
@@ -105,25 +99,16 @@ module _ (p : VarBind) (range : IsBindingInRange p) where
     is_name = identifier_again spells.is_name.content p.name spells.is_name.is_content;
   }
 
-  -- what is read of them
-  pub outer_ok : (octets : List ℕ) → octets ≡ canon_binding p → IsOk (inner_at 0x30 octets)
-  outer_ok octets e = let h = has_name octets e in is_ok_at (inner_at 0x30 octets) (h.content, []) h.outer
+  -- so the content is read, then the name in it, and no fault is met
+  abbrev InContent : List ℕ × List ℕ → Type 0
+  InContent content = Gives (λ name. identifier_of name.0 ≡ Ok p.name) (λ fault. ⊥) (inner_at 0x06 content.0)
 
-  module _ (octets : List ℕ) (e : octets ≡ canon_binding p) (content after : List ℕ) (outer : inner_at 0x30 octets ≡ Ok (content, after)) where
-    content_is : content ≡ (has_name octets e).content
-    content_is = let h = has_name octets e in ap (λ (x : List ℕ × List ℕ). x.0) (ok_is (content, after) (h.content, []) (sym outer ∙ h.outer))
-
-    inner_is : inner_at 0x06 content ≡ Ok ((has_name octets e).name, (has_name octets e).value)
-    inner_is = ap (inner_at 0x06) content_is ∙ (has_name octets e).inner
-
-    pub inner_ok : IsOk (inner_at 0x06 content)
-    inner_ok = is_ok_at (inner_at 0x06 content) ((has_name octets e).name, (has_name octets e).value) inner_is
-
-    pub name_read : (name value : List ℕ) → inner_at 0x06 content ≡ Ok (name, value) → identifier_of name ≡ Ok p.name
-    name_read name value inner =
-        let h = has_name octets e in
-        let same : name ≡ h.name = ap (λ (x : List ℕ × List ℕ). x.0) (ok_is (name, value) (h.name, h.value) (sym inner ∙ inner_is)) in
-        ap identifier_of same ∙ h.is_name
+  pub name_gives : (octets : List ℕ) → octets ≡ canon_binding p → Gives InContent (λ fault. ⊥) (inner_at 0x30 octets)
+  name_gives octets e =
+      let h = has_name octets e in
+      let inner : InContent (h.content, []) =
+      subst (Gives (λ name. identifier_of name.0 ≡ Ok p.name) (λ fault. ⊥)) (sym h.inner) (a_value (h.name, h.value) h.is_name) in
+      subst (Gives InContent (λ fault. ⊥)) (sym h.outer) (a_value (h.content, []) inner)
 
   -- the name behind the first four octets, where both lengths have one octet
   pub short_name : (octets : List ℕ) → octets ≡ canon_binding p → 4 ≤ length octets → get_or octets 1 0 < 128 → get_or octets 3 0 < 128

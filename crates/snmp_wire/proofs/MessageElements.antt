@@ -11,7 +11,7 @@ use Rattle.snmp_wire.specs.Message.{VarBind, Message}
 use Rattle.snmp_wire.specs.Range.{IsBindingInRange, IsBindingOfType, IsMessageInRange, IsMessageOfType}
 use Rattle.snmp_wire.specs.Spelling.{SpellsBinding, SpellsBindings, SpellsMessage, SpellsPdu, Spells}
 use Rattle.snmp_wire.specs.Spelling.{Strict, kind_tag}
-use Rattle.snmp_wire.specs.ber.Canon.{canon_element, canon_value}
+use Rattle.snmp_wire.specs.ber.Canon.{canon_value}
 use Rattle.snmp_wire.specs.ber.Length.{IsElement}
 use Rattle.snmp_wire.specs.ber.Number.{AreOctets, Form, lenient, strict}
 use Rattle.snmp_wire.specs.ber.Spelling.{sequence_tag}
@@ -193,50 +193,30 @@ bindings_in_range : (bindings : List VarBind) → AllByRecursion IsBindingInRang
 bindings_in_range [] range = tt
 bindings_in_range (binding ∷ more) (this, others) = (
   lit< tt,
-  omega (
-    arith,
-    length-append (canon_value (object_id binding.name)) (canon_value binding.value ++ []),
-    length-append (canon_value binding.value) [],
-    value_short (object_id binding.name) this.name,
-    value_short binding.value this.value,
-  ),
+  simp length-append (omega (arith, value_short (object_id binding.name) this.name, value_short binding.value this.value)),
   (this.name, (this.value, tt)),
   bindings_in_range more others,
 )
 
 in_range : (message : Message) → IsMessageInRange message → AreInRange (elements_of message)
 in_range message range =
-    let id : List ℕ = canon_value (integer_value message.id) in
-    let a : List ℕ = canon_value (integer_value message.a) in
-    let b : List ℕ = canon_value (integer_value message.b) in
     let bindings : List ℕ = canon_all (elements_of_bindings message.bindings) in
-    let list : List ℕ = canon_element sequence_tag bindings in
     let total : length bindings ≤ 4000000000 = subst (λ (o : List ℕ). length o ≤ 4000000000) (bindings_are message.bindings) range.total in
-    let fields : length (canon_all (elements_in_pdu message)) ≤ 4000200000 = omega (
+    let fields : length (canon_all (elements_in_pdu message)) ≤ 4000200000 = simp length-append (omega (
       arith,
-      length-append id (a ++ (b ++ (list ++ []))),
-      length-append a (b ++ (list ++ [])),
-      length-append b (list ++ []),
-      length-append list [],
       element_most sequence_tag bindings,
       total,
       value_short (integer_value message.id) range.id,
       value_short (integer_value message.a) range.a,
       value_short (integer_value message.b) range.b,
-    ) in
-    let version : List ℕ = canon_value (integer_value message.version) in
-    let community : List ℕ = canon_value (octet_string message.community) in
-    let pdu : List ℕ = canon_element (kind_tag message.kind) (canon_all (elements_in_pdu message)) in
-    let content : length (canon_all (elements_in_message message)) < 2 ^ 32 = omega (
+    )) in
+    let content : length (canon_all (elements_in_message message)) < 2 ^ 32 = simp length-append (omega (
       arith,
-      length-append version (community ++ (pdu ++ [])),
-      length-append community (pdu ++ []),
-      length-append pdu [],
       element_most (kind_tag message.kind) (canon_all (elements_in_pdu message)),
       fields,
       value_short (integer_value message.version) range.version,
       value_short (octet_string message.community) range.community,
-    ) in
+    )) in
     let list_range : AreInRange (element_then sequence_tag (elements_of_bindings message.bindings) no_elements) =
     (lit< tt, omega (arith, total), bindings_in_range message.bindings range.bindings, tt) in
     let pdu_range : AreInRange (element_then (kind_tag message.kind) (elements_in_pdu message) no_elements) =

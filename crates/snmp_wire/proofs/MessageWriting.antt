@@ -1,6 +1,7 @@
 -- Messages: the parts before the bindings, how long they are, and how they are written.
 use Rattle.std.proofs.Common.{◌≡◌, ℕ, ℤ, ◌+◌, ◌-◌, ◌≤◌, List, ◌++◌, length, sym, ap, ◌∙◌, arith}
 use Rattle.std.proofs.Common.{append_assoc, length-append}
+use Rattle.std.proofs.Math.Nat.{add_assoc}
 use Rattle.std.proofs.lemmas.Int.{to_z-of_z}
 use mir.Syntax.{w32}
 use mir.Val.{SFits, of_z, to_z}
@@ -20,11 +21,7 @@ use Rattle.snmp_wire.specs.ber.WritingLaws.{writes_same, writes_then}
 pub length-canon_fields : (message : Message) → length (canon_fields message)
     ≡ length (canon_value (integer_value message.id)) + length (canon_value (integer_value message.a)) + length (canon_value (integer_value message.b))
 unfolding canon_fields
-length-canon_fields message = omega (
-  arith,
-  length-append (canon_value (integer_value message.id) ++ canon_value (integer_value message.a)) (canon_value (integer_value message.b)),
-  length-append (canon_value (integer_value message.id)) (canon_value (integer_value message.a)),
-)
+length-canon_fields message = simp length-append
 
 pub length-canon_opening : (message : Message) → length (canon_opening message)
     ≡ length (canon_value (integer_value message.version)) + length (canon_value (octet_string message.community))
@@ -35,13 +32,7 @@ pub length-canon_front : (message : Message) (total : ℕ) → length (canon_fro
     ≡ length (canon_opening message) + length (canon_header (kind_tag message.kind) (pdu_size message total)) + length (canon_fields message) + length
     (canon_header sequence_tag total)
 unfolding canon_front
-length-canon_front message total = omega (
-  arith,
-  length-append (canon_opening message) (canon_header (kind_tag message.kind) (pdu_size message total)
-      ++ (canon_fields message ++ canon_header sequence_tag total)),
-  length-append (canon_header (kind_tag message.kind) (pdu_size message total)) (canon_fields message ++ canon_header sequence_tag total),
-  length-append (canon_fields message) (canon_header sequence_tag total),
-)
+length-canon_front message total = simp (length-append, add_assoc)
 
 pub length-canon_head : (message : Message) (total : ℕ) → length (canon_head message total)
     ≡ length (canon_header sequence_tag (length (canon_front message total) + total)) + length (canon_front message total)
@@ -70,9 +61,12 @@ sizes_head message total version community id a b list pdu header v c i x y l p 
     omega (arith, front, whole, length-canon_head message total)
 
 -- a number that was handed over
+pub length-handed : (z : ℤ) → SFits w32 z → length (canon_value (integer_value (to_z w32 (of_z w32 z)))) ≡ length (canon_value (integer_value z))
+length-handed z fits = ap (λ y. length (canon_value (integer_value y))) (to_z-of_z w32 z fits)
+
 pub handed : (z : ℤ) (size : ℕ) → SFits w32 z → size ≡ length (canon_value (integer_value (to_z w32 (of_z w32 z))))
     → size ≡ length (canon_value (integer_value z))
-handed z size fits e = e ∙ ap (λ y. length (canon_value (integer_value y))) (to_z-of_z w32 z fits)
+handed z size fits e = e ∙ length-handed z fits
 
 pub written_number : {old new : List ℕ} {start end : ℕ} (z : ℤ) → SFits w32 z → Writes old start end (canon_value (integer_value (to_z w32 (of_z w32 z)))) new
     → Writes old start end (canon_value (integer_value z)) new
@@ -80,15 +74,14 @@ written_number z fits w = writes_same w (ap (λ y. canon_value (integer_value y)
 
 -- what stands behind the tag of the PDU is written
 pub writes_fields : {old o1 o2 o3 o4 : List ℕ} {list b a id end : ℕ} (message : Message) (total : ℕ)
-    → Writes old list end (canon_header sequence_tag total) o1 → Writes o1 b list (canon_value (integer_value message.b)) o2
-    → Writes o2 a b (canon_value (integer_value message.a)) o3 → Writes o3 id a (canon_value (integer_value message.id)) o4
+    → SFits w32 message.b → SFits w32 message.a → SFits w32 message.id → Writes old list end (canon_header sequence_tag total) o1
+    → Writes o1 b list (canon_value (integer_value (to_z w32 (of_z w32 message.b)))) o2
+    → Writes o2 a b (canon_value (integer_value (to_z w32 (of_z w32 message.a)))) o3
+    → Writes o3 id a (canon_value (integer_value (to_z w32 (of_z w32 message.id)))) o4
     → Writes old id end (canon_fields message ++ canon_header sequence_tag total) o4
 unfolding canon_fields
-writes_fields message total w1 w2 w3 w4 = writes_same (writes_then (writes_then (writes_then w1 w2) w3) w4)
-    (sym (append_assoc (canon_value (integer_value message.id)) (canon_value (integer_value message.a))
-    (canon_value (integer_value message.b) ++ canon_header sequence_tag total))
-    ∙ sym (append_assoc (canon_value (integer_value message.id) ++ canon_value (integer_value message.a)) (canon_value (integer_value message.b))
-    (canon_header sequence_tag total)))
+writes_fields message total b a id w1 w2 w3 w4 = writes_same (writes_then (writes_then (writes_then w1
+    (written_number message.b b w2)) (written_number message.a a w3)) (written_number message.id id w4)) (simp append_assoc)
 
 -- how many octets they are, with the bindings
 pub pdu_content : {old new : List ℕ} {id end : ℕ} (message : Message) (total : ℕ)
@@ -96,18 +89,15 @@ pub pdu_content : {old new : List ℕ} {id end : ℕ} (message : Message) (total
 pdu_content message total w = omega (arith, w.begins, length-append (canon_fields message) (canon_header sequence_tag total))
 
 -- the front of the message is written
-pub writes_front : {old o1 o2 o3 o4 : List ℕ} {version community pdu id end : ℕ} (message : Message) (total tag : ℕ) → tag ≡ kind_tag message.kind
+pub writes_front : {old o1 o2 o3 o4 : List ℕ} {version community pdu id end : ℕ} (message : Message) (total tag : ℕ) → tag ≡ kind_tag message.kind → SFits w32 message.version
     → Writes old id end (canon_fields message ++ canon_header sequence_tag total) o1 → Writes o1 pdu id (canon_header tag (end - id + total)) o2
-    → Writes o2 community pdu (canon_value (octet_string message.community)) o3 → Writes o3 version community (canon_value (integer_value message.version)) o4
+    → Writes o2 community pdu (canon_value (octet_string message.community)) o3
+    → Writes o3 version community (canon_value (integer_value (to_z w32 (of_z w32 message.version)))) o4
     → Writes old version end (canon_front message total) o4
 unfolding canon_front canon_opening
-writes_front {old} {o1} {o2} {o3} {o4} {version} {community} {pdu} {id} {end} message total tag e w1 w2 w3 w4 =
-    writes_same (writes_then (writes_then (writes_then w1 w2) w3) w4)
-    (ap (λ header. canon_value (integer_value message.version) ++ (canon_value (octet_string message.community)
-    ++ (header ++ (canon_fields message ++ canon_header sequence_tag total))))
-    (ap (λ t. canon_header t (end - id + total)) e ∙ ap (canon_header (kind_tag message.kind)) (pdu_content message total w1))
-    ∙ sym (append_assoc (canon_value (integer_value message.version)) (canon_value (octet_string message.community))
-    (canon_header (kind_tag message.kind) (pdu_size message total) ++ (canon_fields message ++ canon_header sequence_tag total))))
+writes_front {old} {o1} {o2} {o3} {o4} {version} {community} {pdu} {id} {end} message total tag e fits w1 w2 w3 w4 =
+    let size : end - id + total ≡ pdu_size message total = pdu_content message total w1 in
+    writes_same (writes_then (writes_then (writes_then w1 w2) w3) (written_number message.version fits w4)) (rw (e, size) (simp append_assoc))
 
 -- and the message's own header before it
 pub writes_head : {old mid new : List ℕ} {start version end : ℕ} (message : Message) (total : ℕ) → Writes old version end (canon_front message total) mid
@@ -119,12 +109,22 @@ writes_head {old} {mid} {new} {start} {version} {end} message total w v =
 
 -- Each part has room before those that are written.
 
-pub length-handed : (z : ℤ) → SFits w32 z → length (canon_value (integer_value (to_z w32 (of_z w32 z)))) ≡ length (canon_value (integer_value z))
-length-handed z fits = ap (λ y. length (canon_value (integer_value y))) (to_z-of_z w32 z fits)
-
 pub list_fits : (message : Message) (total end : ℕ) → length (canon_head message total) ≤ end
     → length (canon_fields message) + length (canon_header sequence_tag total) ≤ end
 list_fits message total end room = omega (arith, room, length-canon_head message total, length-canon_front message total)
+
+pub fields_fit : (message : Message) (total end : ℕ) → SFits w32 message.b → SFits w32 message.a → SFits w32 message.id
+    → length (canon_head message total) ≤ end
+    → length (canon_value (integer_value (to_z w32 (of_z w32 message.id)))) + length (canon_value (integer_value (to_z w32 (of_z w32 message.a))))
+    + length (canon_value (integer_value (to_z w32 (of_z w32 message.b)))) + length (canon_header sequence_tag total) ≤ end
+fields_fit message total end b a id room = omega (
+  arith,
+  length-handed message.b b,
+  length-handed message.a a,
+  length-handed message.id id,
+  list_fits message total end room,
+  length-canon_fields message,
+)
 
 pub pdu_header_fits : {old new : List ℕ} {id end : ℕ} (message : Message) (total tag : ℕ) → tag ≡ kind_tag message.kind
     → Writes old id end (canon_fields message ++ canon_header sequence_tag total) new → length (canon_head message total) ≤ end
@@ -172,28 +172,7 @@ message_header_fits {old} {new} {version} {end} message total w room =
 -- a message is its head and its bindings
 pub canon_parts : (message : Message) → canon message ≡ canon_head message (length (canon_bindings message.bindings)) ++ canon_bindings message.bindings
 unfolding canon canon_head canon_front canon_element
-canon_parts message =
-    let octets : List ℕ = canon_bindings message.bindings in
-    let total : ℕ = length octets in
-    let list : List ℕ = canon_header sequence_tag total in
-    let fields : List ℕ = canon_fields message in
-    let opening : List ℕ = canon_opening message in
-    let header : List ℕ = canon_header (kind_tag message.kind) (pdu_size message total) in
-    let inner : length (fields ++ (list ++ octets)) ≡ pdu_size message total =
-    omega (arith, length-append fields (list ++ octets), length-append list octets) in
-    let pdu : canon_header (kind_tag message.kind) (length (fields ++ (list ++ octets))) ++ (fields ++ (list ++ octets)) ≡ (header ++ (fields ++ list))
-    ++ octets =
-    ap (λ n. canon_header (kind_tag message.kind) n ++ (fields ++ (list ++ octets))) inner
-    ∙ ap (λ content. header ++ content) (sym (append_assoc fields list octets))
-    ∙ sym (append_assoc header (fields ++ list) octets) in
-    let content : opening ++ (canon_header (kind_tag message.kind) (length (fields ++ (list ++ octets))) ++ (fields ++ (list ++ octets)))
-    ≡ (opening ++ (header ++ (fields ++ list))) ++ octets =
-    ap (λ rest. opening ++ rest) pdu ∙ sym (append_assoc opening (header ++ (fields ++ list)) octets) in
-    let size : length ((opening ++ (header ++ (fields ++ list))) ++ octets) ≡ length (opening ++ (header ++ (fields ++ list))) + total =
-    length-append (opening ++ (header ++ (fields ++ list))) octets in
-    ap (λ rest. canon_header sequence_tag (length rest) ++ rest) content
-    ∙ ap (λ n. canon_header sequence_tag n ++ ((opening ++ (header ++ (fields ++ list))) ++ octets)) size
-    ∙ sym (append_assoc (canon_header sequence_tag (length (opening ++ (header ++ (fields ++ list))) + total)) (opening ++ (header ++ (fields ++ list))) octets)
+canon_parts message = simp (append_assoc, length-append, add_assoc)
 
 pub length-canon : (message : Message) → length (canon message) ≡ length (canon_head message (length (canon_bindings message.bindings))) + length
     (canon_bindings message.bindings)

@@ -29,6 +29,13 @@ short_binding name tag content rest small =
     inner_again 0x30 inner (0x30 ∷ length inner ∷ inner) rest is_binding in
     rw (parts, ← size, whole, read) refl
 
+pub four_then : (l : List ℕ) → 4 ≤ length l → l ≡ get_or l 0 0 ∷ get_or l 1 0 ∷ get_or l 2 0 ∷ get_or l 3 0 ∷ drop 4 l
+four_then [] long = absurd (omega arith)
+four_then (a ∷ []) long = absurd (omega arith)
+four_then (a ∷ b ∷ []) long = absurd (omega arith)
+four_then (a ∷ b ∷ c ∷ []) long = absurd (omega arith)
+four_then (a ∷ b ∷ c ∷ d ∷ rest) long = refl
+
 two_then : (l : List ℕ) → 2 ≤ length l → l ≡ get_or l 0 0 ∷ get_or l 1 0 ∷ drop 2 l
 two_then [] long = absurd (omega arith)
 two_then (a ∷ []) long = absurd (omega arith)
@@ -81,11 +88,8 @@ short_at : (octets : List ℕ) (size n v : ℕ) → 4 ≤ length octets → get_
       },
       drop v (drop 2 (drop n (drop 4 octets))),
     )
-short_at [] size n v long s i z m small fits is_v parts = absurd (omega arith)
-short_at (a ∷ []) size n v long s i z m small fits is_v parts = absurd (omega arith)
-short_at (a ∷ b ∷ []) size n v long s i z m small fits is_v parts = absurd (omega arith)
-short_at (a ∷ b ∷ c ∷ []) size n v long s i z m small fits is_v parts = absurd (omega arith)
-short_at (a ∷ b ∷ c ∷ d ∷ elements) size n v long s i z m small fits is_v parts = rw (s, i, ← z, ← m) (short_behind size n v elements small fits is_v parts)
+short_at octets size n v long s i z m small fits is_v parts =
+    ap fields_at (four_then octets long) ∙ rw (s, i, ← z, ← m) (short_behind size n v (drop 4 octets) small fits is_v parts)
 
 -- as the code cuts it
 pub record Cuts (octets elements name value behind content rest : List ℕ) (n v : ℕ) : Type 0 where

@@ -34,6 +34,7 @@ pub fn spelt_is_of_type()
 
 /// What encodes a message by the standard is read.
 #[inline]
+#[tactic(auto, using(crate::proofs::MessageElements::strict_is_read))]
 pub fn strict_is_read()
     ensures { StrictIsRead }
 {}
@@ -41,12 +42,14 @@ pub fn strict_is_read()
 /// What is written is an encoding by the standard; so [`decode`](crate::decode) returns the
 /// message.
 #[inline]
+#[tactic(auto, using(crate::proofs::MessageElements::strict_canon))]
 pub fn encoding_is_strict()
     ensures { EncodingIsStrict }
 {}
 
 /// No encoding by the standard is shorter than what is written.
 #[inline]
+#[tactic(auto, using(crate::proofs::MessageElements::no_shorter))]
 pub fn encoding_is_shortest()
     ensures { EncodingIsShortest }
 {}
@@ -59,6 +62,7 @@ pub fn one_shortest_encoding()
 
 /// A message's shortest encoding is its head, and then its bindings in turn.
 #[inline]
+#[tactic(auto, using(crate::proofs::MessageWriting::canon_parts))]
 pub fn pieces()
     ensures { HasPieces }
 {}

@@ -1,5 +1,4 @@
--- What octets encode: values, variable bindings and messages in BER (RFC 3416, section 3; RFC 1901,
--- section 3; RFC 3417, section 8; X.690).
+-- What octets encode: values in BER (RFC 3416, section 3; RFC 3417, section 8; X.690).
 use Rattle.std.specs.Prelude.{◌≡◌, ℕ, List, [], length}
 use Rattle.snmp_wire.specs.ber.Number.{IsInteger, IsUnsigned, Form}
 use Rattle.snmp_wire.specs.ber.Length.{IsElement}

@@ -1,5 +1,4 @@
--- Values, variable bindings and messages as the standard has them (RFC 3416, section 3; RFC 1901,
--- section 3), without where they lie in memory.
+-- Values as the standard has them (RFC 3416, section 3), without where they lie in memory.
 use Rattle.std.specs.Prelude.{ℕ, ℤ, List}
 use Rattle.snmp_wire.specs.declared.ber.value.ValueRef.{ValueRef}
 use Rattle.snmp_wire.specs.declared.ber.value.ValueRef.TheVariants as value
