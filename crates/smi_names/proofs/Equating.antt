@@ -19,7 +19,7 @@ use Rattle.smi_text.specs.declared.trees.tree.Import.{Import}
 use Rattle.smi_names.specs.meaning.Meaning.{QualifiedName, Decision, decision, defined, imported, root, origin, origin_by, origin_in, module_named}
 use Rattle.smi_names.specs.meaning.Scopes.{NamePlaces, Content, content_of, decision_of, place_in, known, decided_as, IsDecided}
 use Rattle.smi_names.specs.meaning.Names.{map_origin, IsSourced}
-use Rattle.smi_names.specs.meaning.Directory.{place_by, place_of_entry, is_entry_of, AreLinks, AreImportsLed}
+use Rattle.smi_names.specs.meaning.Directory.{place_by, place_of_entry, is_entry_of, AreLinks}
 use Rattle.smi_names.specs.meaning.Known.{IsNextOf}
 use Rattle.smi_names.specs.meaning.Resolved.{IsDirectory, AreResolutions}
 use Rattle.smi_names.specs.declared.meaning.entry.Entry.{Entry}
@@ -30,16 +30,6 @@ use Rattle.smi_names.proofs.Placing.{get-push, module_found, module_missing}
 
 past_get : {X : Type 0} (xs : List X) (i : ℕ) → slice_get xs i ≡ None → length xs ≤ i
 past_get xs i e = elim (cases_lt i (length xs)) [ inl l ↦ let r = get_within xs i l in let h = r.1 in absurd (cc) | inr l ↦ l ]
-
--- where links lead, imports do
-pub AreImportsLed-links : (d : Directory) (bs : List Link) → AreLinks d d.entries.items bs → AreImportsLed d (map (λ l. next_of (origin_of l)) bs)
-AreImportsLed-links d bs are = record {
-  each = λ p e i at is.
-      let b = get_within bs p (omega (arith, slice_get_within d.entries.items p e at, are.long)) in
-      let a : QualifiedName = record { home = i.source.octets; name = e.name.now } in
-      let leads : origin_of b.0 ≡ after (place_by d a) [] = are.each p e b.0 at b.1 ∙ rw is refl in
-      slice_get-map (λ l. next_of (origin_of l)) bs p ∙ rw b.1 (ap (λ o. Some (next_of o)) leads);
-}
 
 pub AreLinks-more : (d : Directory) (es : List Entry) (bs : List Link) (e : Entry) (b : Link) → AreLinks d es bs
     → origin_of b ≡ map_origin (place_by d) (origin_by (place_of_entry e) (Some (content_of e).decided))
@@ -99,24 +89,22 @@ entry_at ms d dir a = by (place_in d.homes a.home) refl
         rw (s.1, found.2) (inner m s.0 (dir.named.each i m s.0 at s.1 a.name) (place_in s.0 a.name) refl)
 
 -- where the name at a place leads as an import
-module _ (ms : List Module) (d : Directory) (dir : IsDirectory ms d) (next : List (Option ℕ)) (nexts : AreImportsLed d next) (p : ℕ) (e : Entry)
-    (at : slice_get d.entries.items p ≡ Some e) (c : Content) (there : slice_get (map content_of d.entries.items) p ≡ Some c) where
-  content_is : content_of e ≡ c
-  content_is = let read : slice_get (map content_of d.entries.items) p ≡ Some (content_of e) = slice_get-map content_of d.entries.items p ∙ rw at refl in cc
-
-  pub next_import : (i : Import) → decision_of e.decider ≡ imported i → (r : Option ℕ) → slice_get next p ≡ Some r
-      → IsNextOf ms (map content_of d.entries.items) c.name c.decided r
-  next_import i is r read =
-      let a : QualifiedName = record { home = i.source.octets; name = e.name.now } in
-      let leads : slice_get next p ≡ Some (Some (place_by d a)) = nexts.each p e i at is in
-      let to : r ≡ Some (place_by d a) = cc in
-      rw (sym content_is, is) (place_by d a, to, slice_get-map content_of d.entries.items (place_by d a) ∙ entry_at ms d dir a)
-
-  pub next_defined : (x : Def) → decision_of e.decider ≡ defined x → IsNextOf ms (map content_of d.entries.items) c.name c.decided None
-  next_defined x is = rw (sym content_is, is) refl
-
-  pub next_root : (n : ℕ) → decision_of e.decider ≡ root n → IsNextOf ms (map content_of d.entries.items) c.name c.decided None
-  next_root n is = rw (sym content_is, is) refl
+pub next_import : (ms : List Module) (d : Directory) → IsDirectory ms d → (bs : List Link) → AreLinks d d.entries.items bs → (p : ℕ) (c : Content)
+    → slice_get (map content_of d.entries.items) p ≡ Some c → (i : Import) → c.decided ≡ imported i
+    → (l : Link) × (slice_get bs p ≡ Some l) × IsNextOf ms (map content_of d.entries.items) c.name c.decided (next_of (origin_of l))
+next_import ms d dir bs are p c there i is = by (slice_get d.entries.items p) refl
+  where
+    by : (r : Option Entry) → slice_get d.entries.items p ≡ r
+        → (l : Link) × (slice_get bs p ≡ Some l) × IsNextOf ms (map content_of d.entries.items) c.name c.decided (next_of (origin_of l))
+    by None at = let none = rw at at (slice_get-map content_of d.entries.items p) in absurd (cc)
+    by (Some e) at =
+        let read = rw at at (slice_get-map content_of d.entries.items p) in
+        let same : content_of e ≡ c = cc in
+        let b = get_within bs p (omega (arith, slice_get_within d.entries.items p e at, are.long)) in
+        let a : QualifiedName = record { home = i.source.octets; name = e.name.now } in
+        let decided : (content_of e).decided ≡ imported i = ap (λ x. x.decided) same ∙ is in
+        let leads : origin_of b.0 ≡ after (place_by d a) [] = are.each p e b.0 at b.1 ∙ rw decided refl in
+        (b.0, b.1, rw (sym same, decided, leads) (place_by d a, refl, slice_get-map content_of d.entries.items (place_by d a) ∙ entry_at ms d dir a))
 
 origin_there : (xs : List Link) (p : ℕ) (b : Link) → slice_get xs p ≡ Some b → origin_at xs p ≡ origin_of b
 origin_there [] p b e = absurd (cc)
@@ -233,19 +221,14 @@ resolved_entry ms d rs is p i m x r at named entry got = by (slice_get d.entries
         let home : e.«module».now ≡ m = cc in
         rw (home, name) at (is.entries p e y.now there got (rw home named))
 
-pub decided_at : (a : QualifiedName) (s : Option Entry) (r : Option Module)
-    → option_map content_of s ≡ option_and_then (λ m. decided_as m a.name (decision m a.name)) r
-    → option_map (λ e. decision_of e.decider) s ≡ option_and_then (λ m. decision m a.name) r
-decided_at a None None e = refl
-decided_at a (Some x) None e = absurd (cc)
-decided_at a s (Some m) e = step s (decision m a.name) e
+pub decided_at : (x : List ℕ) (s : Option Content) (r : Option Module) → s ≡ option_and_then (λ m. decided_as m x (decision m x)) r
+    → option_map (λ c. c.decided) s ≡ option_and_then (λ m. decision m x) r
+decided_at x s None e = rw e refl
+decided_at x s (Some m) e = rw e (step (decision m x))
   where
-    step : (s : Option Entry) (v : Option Decision) → option_map content_of s ≡ decided_as m a.name v → option_map (λ e. decision_of e.decider) s ≡ v
-    step None None e = refl
-    step None (Some v) e = absurd (cc)
-    step (Some x) None e = absurd (cc)
-    step (Some x) (Some v) e =
-        let is : content_of x ≡ record { home = m; name = a.name; decided = v } = cc in ap (λ c. Some c.decided) is
+    step : (v : Option Decision) → option_map (λ (c : Content). c.decided) (decided_as m x v) ≡ v
+    step None = refl
+    step (Some v) = refl
 
 pub loaded : (t : Module → Bool) (j : ℕ) (ms : List Module) → is_some (position_from t j ms) ≡ is_some (find t ms)
 loaded t j [] = refl

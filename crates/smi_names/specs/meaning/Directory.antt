@@ -45,10 +45,3 @@ pub record AreLinks (d : Directory) (entries : List Entry) (links : List Link) :
       → slice_get links p ≡ Some l
       → origin_of l ≡ map_origin (place_by d) (origin_by (place_of_entry e) (Some
       (content_of e).decided))
-
--- an import leads to the same name in the module after FROM, by its place
-pub record AreImportsLed (d : Directory) (next : List (Option ℕ)) : Type 0 where
-  pub each : (p : ℕ) (e : Entry) (i : Import) → slice_get d.entries.items p ≡ Some e
-      → decision_of e.decider ≡ imported i
-      → slice_get next p
-      ≡ Some (Some (place_by d (record { home = i.source.octets; name = e.name.now })))

@@ -31,8 +31,6 @@ pub(crate) struct Shared {
     pub(crate) list: Vec<Resolution>,
     /// For each place, the place of its resolution in the list.
     pub(crate) places: Vec<usize>,
-    /// For each place, the place that its name leads to, if it leads to one.
-    pub(crate) next: Vec<Option<usize>>,
 }
 
 impl Shared {
@@ -59,15 +57,12 @@ pub(crate) fn shared_resolutions(alloc: Global, links: &[Link]) -> Result<Shared
         ≡ length links.now) }
     ensures each { IfOk result (λ s. EachComesTo (origin_at links.now)
         (shared s.list.items s.places.items)) }
-    ensures next { IfOk result (λ s. s.next.items
-        ≡ map (λ l. next_of (origin_of l)) links.now) }
 {
     // Without places nothing is kept, and no memory is asked for.
     if links.is_empty() {
         return Ok(Shared {
             list: Vec::new(alloc),
             places: Vec::new(alloc),
-            next: Vec::new(alloc),
         });
     }
     let next = next_places(alloc, links)?;
@@ -78,7 +73,7 @@ pub(crate) fn shared_resolutions(alloc: Global, links: &[Link]) -> Result<Shared
         let place = *place;
         places[place] = entered(&mut list, &places, &links[place])?;
     }
-    Ok(Shared { list, places, next })
+    Ok(Shared { list, places })
 }
 
 /// The place that the name at each place leads to.

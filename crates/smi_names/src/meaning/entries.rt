@@ -6,6 +6,7 @@ ghost use Rattle.smi_names.specs.meaning.Names.{IsSourced};
 ghost use Rattle.smi_names.specs.meaning.Known.{content_named, IsNextOf};
 ghost use Rattle.smi_names.specs.declared.meaning.entry.Entry.{Entry};
 
+use crate::chains::Link;
 use crate::meaning::directory::Directory;
 use crate::meaning::entry::{Decider, Entry};
 use smi_text::Module;
@@ -18,15 +19,15 @@ use std::marker::Model;
 pub struct Entries<'s, 'a> {
     pub(crate) modules: &'a [Module],
     pub(crate) directory: &'s Directory<'a>,
-    /// For each name, the place of the name that it leads to, if it leads to one.
-    pub(crate) next: &'s [Option<usize>],
+    /// What the numbers of each name are based on.
+    pub(crate) links: &'s [Link],
 }
 
 impl<'s, 'a> Model for Entries<'s, 'a> {
     ghost use Rattle.std.specs.Prelude.{map};
     ghost use Rattle.smi_names.specs.meaning.Scopes.{content_of};
     ghost use Rattle.smi_names.specs.meaning.Known.{KnownNames};
-    ghost use Rattle.smi_names.specs.meaning.Directory.{AreImportsLed};
+    ghost use Rattle.smi_names.specs.meaning.Directory.{AreLinks};
     ghost use Rattle.smi_names.specs.meaning.Resolved.{IsDirectory};
 
     ghost Value = { KnownNames };
@@ -37,7 +38,7 @@ impl<'s, 'a> Model for Entries<'s, 'a> {
     } };
 
     ghost invariant = { λ s. IsDirectory s.modules.now s.directory.now
-        × AreImportsLed s.directory.now s.next.now };
+        × AreLinks s.directory.now s.directory.now.entries.items s.links.now };
 }
 
 impl<'s, 'a> Entries<'s, 'a> {
@@ -64,9 +65,9 @@ impl<'s, 'a> Entries<'s, 'a> {
         ensures { (c : Content) → slice_get self.now.names place ≡ Some c
             → IsNextOf self.now.modules self.now.names c.name c.decided result }
     {
-        let entry = self.directory.entries.get(place)?;
+        let entry = self.get(place)?;
         match entry.decider {
-            Decider::Import(_) => *self.next.get(place)?,
+            Decider::Import(_) => self.links.get(place)?.next(),
             Decider::Definition(_) | Decider::Root(_) => None,
         }
     }

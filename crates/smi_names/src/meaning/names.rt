@@ -8,7 +8,7 @@ ghost use Rattle.smi_names.specs.meaning.Meaning.{origin, module_named, decision
 ghost use Rattle.smi_names.specs.meaning.Scopes.{decision_of};
 ghost use Rattle.smi_names.specs.meaning.Names.{module_place};
 
-use crate::chains::{Resolution, Shared, shared_resolutions};
+use crate::chains::{Link, Resolution, Shared, shared_resolutions};
 use crate::hash::NameHash;
 use crate::meaning::directory::{Directory, find, homes, scopes};
 use crate::meaning::entries::Entries;
@@ -24,6 +24,8 @@ use std::marker::Model;
 pub struct Names<'a> {
     modules: &'a [Module],
     directory: Directory<'a>,
+    /// What the numbers of each entry's name are based on.
+    links: Vec<Link>,
     resolutions: Shared,
 }
 
@@ -31,7 +33,7 @@ impl<'a> Model for Names<'a> {
     ghost use Rattle.std.specs.Prelude.{List};
     ghost use Rattle.smi_text.specs.declared.trees.tree.Module.{Module};
     ghost use Rattle.smi_names.specs.chains.Shared.{shared, AreWithin};
-    ghost use Rattle.smi_names.specs.meaning.Directory.{AreImportsLed};
+    ghost use Rattle.smi_names.specs.meaning.Directory.{AreLinks};
     ghost use Rattle.smi_names.specs.meaning.Resolved.{AreResolutions};
 
     ghost Value = { List Module };
@@ -41,7 +43,7 @@ impl<'a> Model for Names<'a> {
     ghost invariant = { λ s. AreWithin s.resolutions.list.items s.resolutions.places.items
         × AreResolutions s.modules.now s.directory
         (shared s.resolutions.list.items s.resolutions.places.items)
-        × AreImportsLed s.directory s.resolutions.next.items };
+        × AreLinks s.directory s.directory.entries.items s.links.items };
 }
 
 impl<'a> Names<'a> {
@@ -65,6 +67,7 @@ impl<'a> Names<'a> {
         Ok(Names {
             modules,
             directory,
+            links,
             resolutions,
         })
     }
@@ -118,8 +121,8 @@ impl<'a> Names<'a> {
         ensures { option_map decision_of result
             ≡ option_and_then (λ m. decision m name.now) (module_named self.now home.now) }
     {
-        let place = self.directory.place(home, name);
-        let entry = self.directory.entries.get(place)?;
+        let entries = self.entries();
+        let entry = entries.get(entries.place(home, name))?;
         Some(entry.decider)
     }
 
@@ -130,7 +133,7 @@ impl<'a> Names<'a> {
         Entries {
             modules: self.modules,
             directory: &self.directory,
-            next: self.resolutions.next.as_slice(),
+            links: self.links.as_slice(),
         }
     }
 

@@ -210,7 +210,7 @@ pub(crate) fn scope<'a>(
         × (entries.new.items ≡ entries.old.items ++ added)
         × All (IsEntryOf «module».now place) added × All IsDecided added) }
 {
-    let mut scope = IndexMap::with_hasher(alloc, hash);
+    let mut scope = IndexMap::with_capacity_and_hasher(alloc, module.defs.len(), hash)?;
     enter_definitions(entries, &mut scope, module, place)?;
     enter_imports(entries, &mut scope, module, place, import_clauses(module))?;
     enter_roots(entries, &mut scope, module, place)?;

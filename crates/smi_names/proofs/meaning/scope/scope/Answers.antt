@@ -7,7 +7,7 @@ use Rattle.smi_names.proofs.meaning.scope.scope.Goals as goal
 
 pub returns-clause-decided : goal.returns-clause-decided
 returns-clause-decided c = λ x.
-    let empty : place_in c.with_hasher-scope.result x ≡ None = rw c.with_hasher-scope.ensures.empty refl in
+    let empty : place_in c.in_ok-scope.scope x ≡ None = rw c.in_ok-scope.ensures.empty refl in
     let first = c.in_ok-enter_definitions.ensures.entered in
     let clauses = c.import_clauses.ensures in
     let second = rw clauses at c.in_ok-enter_imports.ensures.entered in
@@ -19,4 +19,4 @@ returns-clause-grown c =
     let first = c.in_ok-enter_definitions.ensures.entered in
     let second = rw (c.import_clauses.ensures) at c.in_ok-enter_imports.ensures.entered in
     let all = KnowsMore-then _ _ _ _ _ _ _ _ _ _ (KnowsMore-then _ _ _ _ _ _ _ _ _ _ first second) c.in_ok-enter_roots.ensures.entered in
-    (all.added, all.grown, all.of, decided_all _ _ _ _ _ _ _ all (λ x. rw c.with_hasher-scope.ensures.empty refl) (λ x. refl))
+    (all.added, all.grown, all.of, decided_all _ _ _ _ _ _ _ all (λ x. rw c.in_ok-scope.ensures.empty refl) (λ x. refl))

@@ -3,7 +3,7 @@ use Rattle.std.proofs.Common.{◌≡◌}
 use Rattle.smi_names.specs.chains.Shared.{shared}
 use Rattle.smi_names.specs.meaning.Resolved.{IsDirectory}
 use Rattle.smi_names.specs.declared.meaning.directory.Directory.{Directory}
-use Rattle.smi_names.proofs.Equating.{AreResolutions-all, AreImportsLed-links}
+use Rattle.smi_names.proofs.Equating.{AreResolutions-all}
 use Rattle.smi_names.proofs.meaning.names.Names.new.Goals as goal
 
 pub invariant_of-result : goal.invariant_of-result
@@ -18,5 +18,5 @@ invariant_of-result c =
     let rs = shared shared_by.list.items shared_by.places.items in (
       c.in_ok-resolutions.ensures.within,
       AreResolutions-all c.args.modules.now d dir links c.in_ok-links.ensures rs long each,
-      rw (rw list at c.in_ok-resolutions.ensures.next) (AreImportsLed-links d links c.in_ok-links.ensures),
+      c.in_ok-links.ensures,
     )
