@@ -44,8 +44,8 @@ pub trait ShowTree: DetailTree {
     fn syntax(&self, oid: &Oid) -> Option<ValueSyntax<'_>>
         ensures { result ≡ syntax_at self.now oid.now };
 
-    /// What `deepest` and `syntax` return, by one search, and the identifier below which they return
-    /// the same.
+    /// What `deepest` and `syntax` return, by one search, and the identifier below which they
+    /// return the same.
     fn found_for(&self, oid: &Oid, near: &mut Near) -> Found<'_>
         ensures found { IsFound (Self.naming self.now) (syntax_at self.now) oid.now result }
         ensures below { IsFoundBelow (Self.naming self.now) (syntax_at self.now) result };

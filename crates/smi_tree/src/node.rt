@@ -1,8 +1,9 @@
 //! The nodes of a tree, by where each comes from.
 ghost use Rattle.std.specs.Prelude.{◌≡◌};
 ghost use Rattle.std.specs.List.{slice_get};
-ghost use Rattle.std.specs.Option.{option_copied};
+ghost use Rattle.std.specs.Option.{option_and_then, option_copied};
 ghost use Rattle.smi_tree.specs.Places.{home_from, label_from, definition_from};
+ghost use Rattle.smi_tree.specs.types.Leads.{at_place};
 
 use smi_names::{Source, root_label};
 use smi_text::{Def, Module};
@@ -26,6 +27,26 @@ pub(crate) fn at<T>(items: &[T], place: usize) -> Option<&T>
     ensures { option_copied result ≡ slice_get items.now place }
 {
     items.get(place)
+}
+
+/// What a list has at a place.
+pub(crate) fn kept<T: Copy>(list: &[Option<T>], place: usize) -> Option<T>
+    ensures { result ≡ at_place list.now place }
+{
+    match list.get(place) {
+        Some(found) => *found,
+        None => None,
+    }
+}
+
+/// What a list has at the place to which something leads, if it leads to one.
+pub(crate) fn led<T: Copy>(list: &[Option<T>], to: Option<usize>) -> Option<T>
+    ensures { result ≡ option_and_then (λ p. at_place list.now p) to }
+{
+    match to {
+        Some(place) => kept(list, place),
+        None => None,
+    }
 }
 
 /// The module of a source, None for a root.

@@ -21,7 +21,7 @@ ghost use Rattle.smi_names.specs.declared.nodes.warning.Warning.{Warning};
 
 use crate::branches::{Children, Deepest, Identifiers};
 use crate::columns::Indexes;
-use crate::node::{Node, at, definition, home, label};
+use crate::node::{Node, at, definition, home, kept, label};
 use crate::places::{LabelPlaces, Places, find, homes, labels};
 use crate::shown::{syntax, units_of, value_syntax};
 use crate::types::{TypeSyntax, Types};
@@ -183,8 +183,8 @@ impl Tree {
         self.indexes.get(id)
     }
 
-    /// The node at a place, if there is one. Parts that a caller doesn't read aren't looked up where
-    /// this stands in its place.
+    /// The node at a place, if there is one. It stands in the place of its calls, so that parts
+    /// which a caller doesn't read aren't looked up.
     #[inline(always)]
     pub(crate) fn node_at(&self, id: NodeId) -> Option<Node<'_>>
         ensures { option_map seen_node result ≡ slice_get self.now.nodes id }
@@ -194,6 +194,13 @@ impl Tree {
         } else {
             None
         }
+    }
+
+    /// The identifiers of the nodes.
+    fn oids(&self) -> &Identifiers
+        ensures { result.now ≡ oids_of self.now.nodes }
+    {
+        &self.identifiers
     }
 
     /// The identifier of a node that was found.
@@ -274,10 +281,7 @@ impl Tree {
         ensures { (n : nodes.Node) → slice_get self.now.nodes id ≡ Some n
             → result ≡ first_labelled n.label (id + 1) self.now.nodes }
     {
-        match at(&self.next, id) {
-            Some(next) => *next,
-            None => None,
-        }
+        kept(&self.next, id)
     }
 
     /// Whether a node is of the module of a name.
@@ -328,14 +332,14 @@ impl Tree {
         ensures at { IfSome result (λ o. o.now ≡ oid_at (oids_of self.now.nodes) id) }
         ensures last { IfSome result (λ o. HasNoneBelow (oids_of self.now.nodes) o.now) }
     {
-        self.identifiers.last_on_way(id, near.place)
+        self.oids().last_on_way(id, near.place)
     }
 
     /// The nodes that stand for the identifiers one number longer, in order of that number.
     pub fn children(&self, oid: &Oid) -> Children<'_>
         ensures { AreChildren (oids_of self.now.nodes) oid.now (places_left result) }
     {
-        self.identifiers.children(oid)
+        self.oids().children(oid)
     }
 
     /// The first of the children of an identifier that has a label.

@@ -1,14 +1,13 @@
 //! The definitions that names lead to, by their own modules or through imports.
 ghost use Rattle.std.specs.Prelude.{◌≡◌, ℕ, IfOk, MatchOption, Option, Some};
-ghost use Rattle.std.specs.Option.{option_and_then};
 ghost use Rattle.std.specs.List.{slice_get};
 ghost use Rattle.smi_names.specs.meaning.Meaning.{QualifiedName};
 ghost use Rattle.smi_names.specs.meaning.Scopes.{Content};
 ghost use Rattle.smi_names.specs.meaning.Known.{IsNextOf};
-ghost use Rattle.smi_tree.specs.types.Leads.{at_place};
 ghost use Rattle.smi_tree.specs.columns.Named.{AreNexts, AreDefinedAt, IsDefinedAt, IsFoundAt};
 ghost use Rattle.smi_tree.specs.columns.Named.{IsUndefined};
 
+use crate::node::{kept, led};
 use smi_names::{Decider, Entries, Names, ordered};
 use std::alloc::{AllocError, Global};
 use std::marker::Model;
@@ -55,27 +54,7 @@ impl<'n, 'a> Definitions<'n, 'a> {
             MatchOption result (IsUndefined self.now qualified)
             (λ at. IsFoundAt self.now qualified at.0 at.1) }
     {
-        place_in(&self.found, self.entries.place(home, name))
-    }
-}
-
-/// What a list has at a place.
-fn place_in(list: &[Option<(usize, usize)>], place: usize) -> Option<(usize, usize)>
-    ensures { result ≡ at_place list.now place }
-{
-    match list.get(place) {
-        Some(found) => *found,
-        None => None,
-    }
-}
-
-/// What a list has at the place to which a name leads.
-fn led(list: &[Option<(usize, usize)>], to: Option<usize>) -> Option<(usize, usize)>
-    ensures { result ≡ option_and_then (λ p. at_place list.now p) to }
-{
-    match to {
-        Some(place) => place_in(list, place),
-        None => None,
+        kept(&self.found, self.entries.place(home, name))
     }
 }
 

@@ -1,15 +1,16 @@
 //! The types of modules, each followed to its end once.
 ghost use Rattle.std.specs.Prelude.{◌≡◌, IfOk, MatchOption, Option, Some, option_map};
 ghost use Rattle.std.specs.Prelude.{ℕ, if◌then◌else◌};
-ghost use Rattle.std.specs.Option.{option_and_then, option_copied};
+ghost use Rattle.std.specs.Option.{option_copied};
 ghost use Rattle.std.specs.List.{slice_get};
 ghost use Rattle.smi_tree.specs.types.Types.{base_in, object_origin, origin_of_object, def_at};
 ghost use Rattle.smi_tree.specs.types.Types.{HasSyntax, HasNoSyntax};
-ghost use Rattle.smi_tree.specs.types.Leads.{at_place, LeadsTo, origin_at};
+ghost use Rattle.smi_tree.specs.types.Leads.{LeadsTo, origin_at};
 ghost use Rattle.smi_tree.specs.types.Kept.{AreFollowed, AreKeptOf, AreKeptOfAll, AreTypesOf};
 ghost use Rattle.smi_tree.specs.types.Kept.{IsKept, IsLed, base_or, def_of, facts_of};
 ghost use Rattle.smi_tree.specs.types.Kept.{kept_syntax, refined_by};
 
+use crate::node::{kept, led};
 use crate::types::leads::{lead_of_type, leads};
 use crate::types::syntax::{
     TypeSyntax, base_of, hint_of, names_in_definition, names_of, object_type_of,
@@ -87,10 +88,10 @@ impl Types {
         ensures { option_map facts_of result
             ≡ kept_syntax modules.now self.now module_place def_place }
     {
-        let Some(kept) = self.objects.get(module_place) else {
+        let Some(objects) = self.objects.get(module_place) else {
             return None;
         };
-        let Some(syntax) = place_in(kept, def_place) else {
+        let Some(syntax) = kept(objects, def_place) else {
             return None;
         };
         Some(TypeSyntax {
@@ -108,16 +109,6 @@ impl Types {
                 None => None,
             },
         })
-    }
-}
-
-/// What a list has at a place.
-fn place_in(list: &[Option<KeptSyntax>], place: usize) -> Option<KeptSyntax>
-    ensures { result ≡ at_place list.now place }
-{
-    match list.get(place) {
-        Some(found) => *found,
-        None => None,
     }
 }
 
@@ -146,16 +137,6 @@ fn followed(alloc: Global, entries: &Entries<'_, '_>) -> Result<Vec<Option<KeptS
         types[place] = meant(entries, place, led(&types, leads[place]));
     }
     Ok(types)
-}
-
-/// What a list has at the place to which a type leads.
-fn led(types: &[Option<KeptSyntax>], to: Option<usize>) -> Option<KeptSyntax>
-    ensures { result ≡ option_and_then (λ p. at_place types.now p) to }
-{
-    match to {
-        Some(place) => place_in(types, place),
-        None => None,
-    }
 }
 
 /// The syntax that the name at a place means, given that of the name to which it leads.

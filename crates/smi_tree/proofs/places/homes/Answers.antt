@@ -6,7 +6,10 @@ use Rattle.smi_tree.proofs.Scoping.{position-here}
 use Rattle.smi_tree.proofs.places.homes.Goals as goal
 
 pub modules-init : goal.modules-init
-modules-init c = record { within = omega arith; homes = λ x. rw (drop_all (length c.args.modules.now) c.args.modules.now (omega arith), c.with_hasher-homes.ensures.empty) refl }
+modules-init c = record {
+  within = omega arith;
+  homes = λ x. rw (drop_all (length c.args.modules.now) c.args.modules.now (omega arith), c.with_hasher-homes.ensures.empty) refl;
+}
 
 pub modules-preserved : goal.modules-preserved
 modules-preserved c =
