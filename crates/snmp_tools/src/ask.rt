@@ -28,7 +28,7 @@ use snmp_words::Asking;
 use std::alloc::Global;
 
 /// Writes the lines of what is asked, and before them, on `err`, those of its modules' warnings.
-pub(crate) fn ask<'a, F: ModuleFiles, L: Links, O: Output, E: ErrorOutput>(
+pub(crate) fn ask<'a, F: ModuleFiles<E>, L: Links, O: Output, E: ErrorOutput>(
     alloc: Global,
     job: AskJob<'_, 'a>,
     files: &F,

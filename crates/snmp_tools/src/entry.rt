@@ -22,7 +22,7 @@ use std::alloc::Global;
 /// It is 0 where that was done, 2 where an agent replied with an error status, and 1 in any other
 /// case. A failure is one line on `err`, except that a mistake in the command line's syntax may
 /// take several.
-pub fn tool<F: ModuleFiles, L: Links, O: Output, E: ErrorOutput>(
+pub fn tool<F: ModuleFiles<E>, L: Links, O: Output, E: ErrorOutput>(
     alloc: Global,
     words: &[&str],
     files: &F,

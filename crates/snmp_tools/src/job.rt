@@ -26,7 +26,7 @@ use std::alloc::{AllocError, Global};
 ///
 /// The lines of a reply are written to `out` together, as it comes. A failure is one line on `err`;
 /// an `err` that fails itself changes nothing else.
-pub fn run_job<F: ModuleFiles, L: Links, O: Output, E: ErrorOutput>(
+pub fn run_job<F: ModuleFiles<E>, L: Links, O: Output, E: ErrorOutput>(
     alloc: Global,
     job: &Job<'_>,
     files: &F,
@@ -48,7 +48,7 @@ pub fn run_job<F: ModuleFiles, L: Links, O: Output, E: ErrorOutput>(
 }
 
 // Does a job, and returns why not all of it was done, if it wasn't.
-fn try_job<'a, F: ModuleFiles, L: Links, O: Output, E: ErrorOutput>(
+fn try_job<'a, F: ModuleFiles<E>, L: Links, O: Output, E: ErrorOutput>(
     alloc: Global,
     job: &Job<'a>,
     files: &F,

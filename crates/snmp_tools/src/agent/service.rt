@@ -29,7 +29,7 @@ use std::alloc::{AllocError, Global};
 ///
 /// The words, then the module files and then the table file are judged before a socket is opened.
 /// Warnings of the modules go to `err`; an `err` that fails changes nothing else.
-pub(crate) fn serve_table<'a, F: ModuleFiles, L: Links, O: Output, E: ErrorOutput>(
+pub(crate) fn serve_table<'a, F: ModuleFiles<E>, L: Links, O: Output, E: ErrorOutput>(
     alloc: Global,
     job: &ServeJob<'a>,
     files: &F,

@@ -19,7 +19,10 @@ use std::random::RandomSource;
 use std::rt;
 
 /// Files, with the names that are loaded from them: of their modules, or of the roots alone.
-pub trait ModuleFiles: Files {
+///
+/// Loads write their warnings on an error output of the type `E`. A job that is generic in `E` has
+/// only the one that it was given, so it can't load over another before it acts.
+pub trait ModuleFiles<E: ErrorOutput>: Files {
     /// What names and values are read and shown by.
     type Names: ShowTree + Drop;
 
@@ -28,7 +31,7 @@ pub trait ModuleFiles: Files {
     ghost loads: { Self → List (List ℕ) → Stream → Stream → Type 0 } = { λ _ _ _ _. Unit {0} };
 
     /// Loads the names of module files, as [`load_tree`] does.
-    fn load<'a, E: ErrorOutput>(
+    fn load<'a>(
         &self,
         alloc: Global,
         paths: &[&'a str],
@@ -47,10 +50,10 @@ pub trait ModuleFiles: Files {
         ensures untold { OnErr result (E.stream err.new ≡ E.stream err.old) };
 }
 
-impl<R: rt::Files + RandomSource> ModuleFiles for MachineFiles<R> {
+impl<E: ErrorOutput, R: rt::Files + RandomSource> ModuleFiles<E> for MachineFiles<R> {
     type Names = Tree;
 
-    fn load<'a, E: ErrorOutput>(
+    fn load<'a>(
         &self,
         alloc: Global,
         paths: &[&'a str],
@@ -60,10 +63,10 @@ impl<R: rt::Files + RandomSource> ModuleFiles for MachineFiles<R> {
     }
 }
 
-impl ModuleFiles for MemoryFiles<'_> {
+impl<E: ErrorOutput> ModuleFiles<E> for MemoryFiles<'_> {
     type Names = Tree;
 
-    fn load<'a, E: ErrorOutput>(
+    fn load<'a>(
         &self,
         alloc: Global,
         paths: &[&'a str],
@@ -91,10 +94,10 @@ impl<F: Files> Files for WithoutModules<F> {
     }
 }
 
-impl<F: Files> ModuleFiles for WithoutModules<F> {
+impl<E: ErrorOutput, F: Files> ModuleFiles<E> for WithoutModules<F> {
     type Names = Roots;
 
-    fn load<'a, E: ErrorOutput>(
+    fn load<'a>(
         &self,
         _alloc: Global,
         paths: &[&'a str],

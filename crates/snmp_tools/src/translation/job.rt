@@ -18,7 +18,7 @@ use std::alloc::Global;
 ///
 /// The letters and then the module files are judged before anything is printed. Warnings of the
 /// modules go to `err`; an `err` that fails changes nothing else.
-pub(crate) fn translate<'a, F: ModuleFiles, O: Output, E: ErrorOutput>(
+pub(crate) fn translate<'a, F: ModuleFiles<E>, O: Output, E: ErrorOutput>(
     alloc: Global,
     job: &TranslateJob<'a>,
     files: &F,
