@@ -40,6 +40,7 @@ impl<'a> MemoryLinks<'a> {
         requests: &'a [&'a [u8]],
     ) -> MemoryLinks<'a>
         ensures agents { result.agents.now ≡ agents.now }
+        ensures requests { result.requests.now ≡ requests.now }
         ensures no_fault { result.faults ≡ 0 }
     {
         MemoryLinks {
