@@ -1,18 +1,16 @@
 -- Elements in a row, of values or around other elements: the form of bindings, PDUs and messages. How
 -- such a row is spelt and written, and that no spelling of it is shorter, is said and proved once.
-use Rattle.std.proofs.Common.{◌≡◌, ℕ, ◌^◌, ◌<◌, ◌≤◌, List, [], ◌++◌, length, refl, ap, subst, ◌∙◌}
-use Rattle.std.proofs.Common.{arith, length-append}
-use Rattle.std.proofs.lemmas.List.Elements.{All-append, All-nil}
+use Rattle.std.proofs.Common.{◌≡◌, ℕ, ◌^◌, ◌<◌, List, [], ◌++◌, length, refl, sym, subst}
 use Rattle.snmp_wire.specs.ber.Canon.{canon_element, canon_value}
 use Rattle.snmp_wire.specs.ber.Length.{IsElement}
-use Rattle.snmp_wire.specs.ber.Number.{AreOctets, Form, lenient, strict}
+use Rattle.snmp_wire.specs.ber.Number.{Form, lenient, strict}
 use Rattle.snmp_wire.specs.ber.Range.{IsInRange, IsOfType}
 use Rattle.snmp_wire.specs.ber.Spelling.{SpellsValue}
 use Rattle.snmp_wire.specs.ber.Value.{Datum}
-use Rattle.snmp_wire.proofs.BerOneShortest.{element_same, element_size, two_same, value_same}
+use Rattle.snmp_wire.proofs.Digits.{Octets, back_octets, both_octets, front_octets}
 use Rattle.snmp_wire.proofs.LenientValues.{value_is_read}
-use Rattle.snmp_wire.proofs.ShortestValues.{Octets, back_octets, content_octets, element_shortest}
-use Rattle.snmp_wire.proofs.ShortestValues.{front_octets, value_shortest}
+use Rattle.snmp_wire.proofs.Shortest.{IsNoShorter, both_texts, content_octets, element_least}
+use Rattle.snmp_wire.proofs.Shortest.{same_text, value_least}
 use Rattle.snmp_wire.proofs.StrictValues.{element_octets, is_element, spells_value, value_octets}
 
 pub data Elements : Type 0 where
@@ -69,62 +67,24 @@ are_strict (element_then tag within more) (small, short, inner, others) = (
   are_strict more others,
 )
 
-pub are_octets : (all : Elements) → AreInRange all → AreOctets (canon_all all)
-are_octets no_elements range = All-nil (λ octet. octet < 256)
+pub are_octets : (all : Elements) → AreInRange all → Octets (canon_all all)
+are_octets no_elements range = tt
 are_octets (value_then value more) (this, others) =
-    All-append (λ octet. octet < 256) (canon_value value) (canon_all more) (value_octets value this) (are_octets more others)
+    both_octets (canon_value value) (canon_all more) (value_octets value this) (are_octets more others)
 are_octets (element_then tag within more) (small, short, inner, others) =
-    All-append (λ octet. octet < 256) (canon_element tag (canon_all within)) (canon_all more)
-    (element_octets tag (canon_all within) small (are_octets within inner)) (are_octets more others)
+    both_octets (canon_element tag (canon_all within)) (canon_all more) (element_octets tag (canon_all within) small (are_octets within inner))
+    (are_octets more others)
 
--- no spelling by the standard is shorter
-pub are_shortest : (all : Elements) (octets : List ℕ) → Octets octets → SpellsAll strict all octets → length (canon_all all) ≤ length octets
-are_shortest no_elements octets h is = omega arith
-are_shortest (value_then value more) octets h (first, rest, parts, this, others) =
+-- no spelling by the standard is shorter, and one that is no longer is the written one
+pub are_least : (all : Elements) (octets : List ℕ) → Octets octets → SpellsAll strict all octets → IsNoShorter (canon_all all) octets
+are_least no_elements octets h is = same_text is
+are_least (value_then value more) octets h (first, rest, parts, this, others) =
     let both : Octets (first ++ rest) = subst Octets parts h in
-    omega (
-      arith,
-      ap length parts,
-      length-append first rest,
-      length-append (canon_value value) (canon_all more),
-      value_shortest value first (front_octets first rest both) this,
-      are_shortest more rest (back_octets first rest both) others,
-    )
-are_shortest (element_then tag within more) octets h (first, rest, parts, content, element, inner, others) =
+    subst (IsNoShorter (canon_value value ++ canon_all more)) (sym parts)
+    (both_texts (value_least value first (front_octets first rest both) this) (are_least more rest (back_octets first rest both) others))
+are_least (element_then tag within more) octets h (first, rest, parts, content, element, inner, others) =
     let both : Octets (first ++ rest) = subst Octets parts h in
     let whole : Octets first = front_octets first rest both in
-    let least = are_shortest within content (content_octets tag content first whole element) inner in
-    omega (
-      arith,
-      ap length parts,
-      length-append first rest,
-      length-append (canon_element tag (canon_all within)) (canon_all more),
-      element_shortest tag content (canon_all within) first whole element least,
-      are_shortest more rest (back_octets first rest both) others,
-    )
-
--- and one that is no longer is the written one
-pub are_same : (all : Elements) (octets : List ℕ) → AreInRange all → Octets octets → SpellsAll strict all octets
-    → length octets ≤ length (canon_all all) → octets ≡ canon_all all
-are_same no_elements octets range h is short = is
-are_same (value_then value more) octets (small, range) h (first, rest, parts, this, others) short =
-    let both : Octets (first ++ rest) = subst Octets parts h in
-    let whole : Octets first = front_octets first rest both in
-    let behind : Octets rest = back_octets first rest both in
-    parts
-    ∙ two_same first rest (canon_value value) (canon_all more) (value_shortest value first whole this)
-    (are_shortest more rest behind others) (omega (arith, ap length parts, short))
-    (λ few. value_same value first small whole this few) (λ few. are_same more rest range behind others few)
-are_same (element_then tag within more) octets (small, fits, range, ranges) h (first, rest, parts, content, element, inner, others) short =
-    let both : Octets (first ++ rest) = subst Octets parts h in
-    let whole : Octets first = front_octets first rest both in
-    let behind : Octets rest = back_octets first rest both in
-    let inside : Octets content = content_octets tag content first whole element in
-    let made : List ℕ = canon_all within in
-    let least : length made ≤ length content = are_shortest within content inside inner in
-    parts
-    ∙ two_same first rest (canon_element tag made) (canon_all more) (element_shortest tag content made first whole element least)
-    (are_shortest more rest behind others) (omega (arith, ap length parts, short))
-    (λ few. element_same tag content made first fits whole element few
-    (are_same within content range inside inner (omega (arith, element_size tag content made first whole element least few))))
-    (λ few. are_same more rest ranges behind others few)
+    subst (IsNoShorter (canon_element tag (canon_all within) ++ canon_all more)) (sym parts)
+    (both_texts (element_least whole element (are_least within content (content_octets whole element) inner))
+    (are_least more rest (back_octets first rest both) others))

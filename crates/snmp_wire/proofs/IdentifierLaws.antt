@@ -20,6 +20,7 @@ use Rattle.snmp_wire.specs.ber.Reading.{identifier_of}
 use Rattle.snmp_wire.specs.ber.ReadingLaws.{Gives, a_fault, a_value, done, failing, given}
 use Rattle.snmp_wire.specs.ber.ReadingLaws.{gives_either, gives_so, gives_then}
 use Rattle.snmp_wire.proofs.IdentifierLemmas.{numbers_step}
+use Rattle.snmp_wire.proofs.StrictIdentifiers.{subidentifier_some}
 
 -- ---- subidentifiers
 
@@ -128,12 +129,6 @@ subidentifier_again text n rest h small =
     let minimal : get_or t 0 0 ≢ 128 = λ e. h.minimal (ap (λ (o : List ℕ). get_or o 0 0) h.parts ∙ e) in
     let read = digits_again 0 h.front h.last rest (recursion_from_All (λ octet. 128 ≤ octet) h.front h.goes_on) h.ends (omega arith) in
     ap (λ (o : List ℕ). subidentifier_at (o ++ rest)) h.parts ∙ at_front h.front h.last rest minimal ∙ read ∙ ap (λ (v : ℕ). done (v, rest)) value
-
--- a subidentifier has octets
-pub subidentifier_some : (text : List ℕ) (n : ℕ) → IsSubidentifier text n → 0 < length text
-subidentifier_some text n h =
-    let one : length text ≡ length h.front + 1 = ap length h.parts ∙ length-append h.front (h.last ∷ []) in
-    omega arith
 
 -- ---- numbers
 

@@ -1,62 +1,39 @@
 -- Identifiers: subidentifiers, how long they are, and how they are written.
 use Rattle.std.proofs.Common.{◌≡◌, ℕ, ◌+◌, ◌-◌, ◌*◌, ◌/◌, ◌%◌, ◌^◌, ◌<◌, ◌≤◌, suc, List, [], ◌∷◌}
-use Rattle.std.proofs.Common.{◌++◌, length, take, drop, set, get_or, refl, sym, ap, subst}
-use Rattle.std.proofs.Common.{◌∙◌, arith, length-append, take_all}
-use Rattle.std.proofs.Math.Nat.{div-div-eq-div-mul, div-one, pow-suc}
-use Rattle.std.specs.List.{flat_map}
+use Rattle.std.proofs.Common.{◌++◌, length, take, drop, get_or, refl, sym, ap, ◌∙◌, arith}
+use Rattle.std.proofs.Common.{length-append, take_all}
+use Rattle.std.proofs.lemmas.Grind.{flat_map-append}
+use Rattle.std.proofs.lemmas.List.{append-nil, drop_all, drop_more, length-map, take-append-drop}
+use Rattle.std.proofs.lemmas.Nat.{le_or_l, le_or_r}
+use Rattle.std.specs.Int.Bits.{bit_or}
+use Rattle.std.specs.List.{AllByRecursion, flat_map}
 use Rattle.snmp_oid.specs.Identifier.{IsWire}
-use Rattle.snmp_wire.specs.ber.Canon.{digit_count, canon_content, canon_subidentifier, septets}
-use Rattle.snmp_wire.specs.ber.Canon.{subidentifier_size}
+use Rattle.snmp_wire.specs.ber.Canon.{AreShort, canon_content, canon_subidentifier, digits, eight_from}
+use Rattle.snmp_wire.specs.ber.Canon.{septets, subidentifier_size}
 use Rattle.snmp_wire.specs.ber.Value.{object_id}
 use Rattle.snmp_wire.specs.ber.Writing.{Writes}
 use Rattle.snmp_wire.proofs.CanonLemmas.{count_left, count_taken, digit_most, digit_some}
-use Rattle.snmp_wire.proofs.CanonLemmas.{length-septets, septets-suc, below_128}
-use Rattle.snmp_wire.specs.ber.WritingLaws.{flat_map-drop, flat_map_rest, length-flat_map_drop}
-use Rattle.snmp_wire.specs.ber.WritingLaws.{writes_same, writes_then}
-use Rattle.std.specs.Int.Bits.{bit_or}
-use Rattle.snmp_wire.proofs.WritingLemmas.{writes_none, writes_octet}
+use Rattle.snmp_wire.proofs.Digits.{length-digits}
+use Rattle.snmp_wire.specs.ber.WritingLaws.{length-flat_map_drop, writes_same, writes_then}
 
--- one digit to the base 128 before those that are written
-pub writes_septet : (old out : List ℕ) (at end n rest : ℕ) → Writes old at end (septets (end - at) n) out → rest ≡ n / 128 ^ (end - at) → 0 < at → at ≤ end
-    → at ≤ length out → Writes old (at - 1) end (septets (end - (at - 1)) n) (set out (at - 1) (128 + rest % 128))
-writes_septet old out at end n rest w e some h within =
-    let one_more : end - (at - 1) ≡ suc (end - at) = omega arith in
-    let digits : septets (end - (at - 1)) n ≡ (128 + rest % 128) ∷ septets (end - at) n = ap (λ k. septets k n) one_more ∙ septets-suc (end - at) n
-    ∙ ap (λ r. (128 + r % 128) ∷ septets (end - at) n) (sym e) in
-    subst (λ (text : List ℕ). Writes old (at - 1) end text (set out (at - 1) (128 + rest % 128))) (sym digits)
-    (writes_octet w (at - 1) (128 + rest % 128) (omega arith) within)
-
-pub rest_septets : (at end n rest : ℕ) → rest ≡ n / 128 ^ (end - at) → 0 < at → at ≤ end → rest / 128 ≡ n / 128 ^ (end - (at - 1))
-rest_septets at end n rest e some h =
-    let one_more : end - (at - 1) ≡ suc (end - at) = omega arith in
-    ap (λ r. r / 128) e ∙ div-div-eq-div-mul n (128 ^ (end - at)) 128 ∙ ap (λ m. n / m) (sym (pow-suc 128 (end - at))) ∙ sym (ap (λ k. n / 128 ^ k) one_more)
-
-pub writes_no_septet : (out : List ℕ) (end n : ℕ) → Writes out end end (septets (end - end) n) out
+pub length-septets : (count n : ℕ) → length (septets count n) ≡ count
 unfolding septets
-writes_no_septet out end n =
-    let none : 0 ≡ end - end = omega arith in
-    subst (λ (count : ℕ). Writes out end end (septets count n) out) none (writes_none out end)
+length-septets count n = length-map (digits 128 count n) (λ digit. 128 + digit) ∙ length-digits 128 count n
 
-pub all_septets : (old out : List ℕ) (at end count n : ℕ) → Writes old at end (septets (end - at) n) out → at ≡ end - count → count ≤ end
-    → Writes old (end - count) end (septets count n) out
-all_septets old out at end count n w e room =
-    let all : end - at ≡ count = omega arith in
-    subst (λ (start : ℕ). Writes old start end (septets count n) out) e (subst (λ (k : ℕ). Writes old at end (septets k n) out) all w)
+pub septets-suc : (count n : ℕ) → septets (suc count) n ≡ (128 + n / 128 ^ count % 128) ∷ septets count n
+unfolding septets digits
+septets-suc count n = refl
 
-pub rest-no_septet : (end n : ℕ) → n ≡ n / 128 ^ (end - end)
-rest-no_septet end n = let none : 0 ≡ end - end = omega arith in sym (div-one n) ∙ ap (λ k. n / 128 ^ k) none
-
--- the last digit alone, where there is no other
-pub subidentifier_short : (n : ℕ) → n < 128 → canon_subidentifier n ≡ (n % 128) ∷ []
-unfolding canon_subidentifier subidentifier_size septets
-subidentifier_short n h = ap (λ count. septets (count - 1) (n / 128) ++ (n % 128) ∷ []) (count_taken 128 128 3 n h)
+-- a subidentifier of one octet is that octet
+pub subidentifier_short : (n : ℕ) → n < 128 → canon_subidentifier n ≡ n ∷ []
+unfolding canon_subidentifier subidentifier_size septets digits
+subidentifier_short n h =
+    let same : n % 128 ≡ n = omega (arith, h) in
+    ap (λ count. septets (count - 1) (n / 128) ++ (n % 128) ∷ []) (count_taken 128 128 3 n h) ∙ ap (λ m. m ∷ []) same
 
 pub subidentifier_one : (n : ℕ) → n < 128 → 1 ≡ subidentifier_size n
 unfolding subidentifier_size
 subidentifier_one n h = sym (count_taken 128 128 3 n h)
-
-pub short_itself : (n : ℕ) → n < 128 → n ∷ [] ≡ canon_subidentifier n
-short_itself n h = let same : n ≡ n % 128 = omega (arith, h) in ap (λ m. m ∷ []) same ∙ sym (subidentifier_short n h)
 
 pub subidentifier_parts : (n : ℕ) → canon_subidentifier n ≡ septets (subidentifier_size n - 1) (n / 128) ++ (n % 128) ∷ []
 unfolding canon_subidentifier
@@ -82,29 +59,22 @@ pub writes_subidentifier : {old mid new : List ℕ} {start middle end : ℕ} (n 
     → Writes old start end (canon_subidentifier n) new
 writes_subidentifier n count e w v = writes_same (writes_then w v) (ap (λ k. septets (k - 1) (n / 128) ++ (n % 128) ∷ []) e ∙ sym (subidentifier_parts n))
 
--- a subidentifier of two octets
+-- subidentifiers of two octets and of three
 pub subidentifier_two : (n : ℕ) → 128 ≤ n → n < 16384 → 2 ≡ subidentifier_size n
 unfolding subidentifier_size
-subidentifier_two n more below =
-    let first = count_left 128 128 3 n more in
-    let second : digit_count 128 (128 * 128) 3 n ≡ 1 = count_taken 128 (128 * 128) 2 n below in
-    sym (first ∙ ap (λ k. 1 + k) second)
+subidentifier_two n more below = sym (count_left 128 128 3 n more ∙ ap (λ k. 1 + k) (count_taken 128 (128 * 128) 2 n below))
 
-pub one_septet : (n : ℕ) → n < 128 → (128 + n) ∷ [] ≡ septets 1 n
-unfolding septets
-one_septet n below = let same : n / 1 % 128 ≡ n = omega (arith, below) in sym (ap (λ m. (128 + m) ∷ []) same)
-
--- a subidentifier of three octets
 pub subidentifier_three : (n : ℕ) → 16384 ≤ n → n < 2097152 → 3 ≡ subidentifier_size n
 unfolding subidentifier_size
-subidentifier_three n more below =
-    let first = count_left 128 128 3 n (omega (arith, more)) in
-    let second = count_left 128 (128 * 128) 2 n more in
-    let third : digit_count 128 (128 * 128 * 128) 2 n ≡ 1 = count_taken 128 (128 * 128 * 128) 1 n below in
-    sym (first ∙ ap (λ k. 1 + k) (second ∙ ap (λ k. 1 + k) third))
+subidentifier_three n more below = sym (count_left 128 128 3 n (omega (arith, more))
+    ∙ ap (λ k. 1 + k) (count_left 128 (128 * 128) 2 n more ∙ ap (λ k. 1 + k) (count_taken 128 (128 * 128 * 128) 1 n below)))
+
+pub one_septet : (n : ℕ) → n < 128 → (128 + n) ∷ [] ≡ septets 1 n
+unfolding septets digits
+one_septet n below = let same : n / 1 % 128 ≡ n = omega (arith, below) in sym (ap (λ m. (128 + m) ∷ []) same)
 
 pub two_septets : (m : ℕ) → m < 16384 → (128 + m / 128) ∷ (128 + m % 128) ∷ [] ≡ septets 2 m
-unfolding septets
+unfolding septets digits
 two_septets m below =
     let high : m / 128 % 128 ≡ m / 128 = omega (arith, below) in
     let low : m / 1 % 128 ≡ m % 128 = omega arith in
@@ -147,52 +117,114 @@ length-content numbers name wire same =
 
 -- ---- numbers of one octet each
 
-plain_octet : (numbers : List ℕ) (i number : ℕ) → i < length numbers → number ≡ get_or numbers i 0 → number < 128
-    → flat_map canon_subidentifier (drop i numbers) ≡ number ∷ flat_map canon_subidentifier (drop (i + 1) numbers)
-plain_octet numbers i number h e low =
-    let same : number % 128 ≡ number = omega (arith, low) in
-    let one : canon_subidentifier number ≡ number ∷ [] = subidentifier_short number low ∙ ap (λ n. n ∷ []) same in
-    flat_map-drop canon_subidentifier numbers i number 0 h e ∙ ap (λ octets. octets ++ flat_map canon_subidentifier (drop (i + 1) numbers)) one
+-- they are written as they are
+plain_then : (xs ys : List ℕ) → AllByRecursion (λ n. n < 128) xs → flat_map canon_subidentifier (xs ++ ys) ≡ xs ++ flat_map canon_subidentifier ys
+plain_then [] ys h = refl
+plain_then (x ∷ xs) ys h = ap (λ (o : List ℕ). o ++ flat_map canon_subidentifier (xs ++ ys)) (subidentifier_short x h.0)
+    ∙ ap (λ (o : List ℕ). x ∷ o) (plain_then xs ys h.1)
 
-pub plain_before : (numbers : List ℕ) (left a b c d : ℕ) → 4 ≤ left → left ≤ length numbers → a ≡ get_or numbers (left - 4) 0
-    → b ≡ get_or numbers (left - 3) 0 → c ≡ get_or numbers (left - 2) 0 → d ≡ get_or numbers (left - 1) 0
-    → bit_or (bit_or (bit_or a b) c) d < 128 → flat_map canon_subidentifier (drop (left - 4) numbers) ≡ (a ∷ b ∷ c ∷ d ∷ [])
-    ++ flat_map canon_subidentifier (drop left numbers)
-plain_before numbers left a b c d some within is_a is_b is_c is_d low =
-    let small = below_128 a b c d low in
-    let i : ℕ = left - 4 in
-    let second : left - 3 ≡ i + 1 = omega (arith, some) in
-    let third : left - 2 ≡ i + 1 + 1 = omega (arith, some) in
-    let fourth : left - 1 ≡ i + 1 + 1 + 1 = omega (arith, some) in
-    let last : i + 1 + 1 + 1 + 1 ≡ left = omega (arith, some) in
-    let at_a = plain_octet numbers i a (omega (arith, some)) is_a small.0 in
-    let at_b = plain_octet numbers (i + 1) b (omega (arith, some)) (is_b ∙ ap (λ k. get_or numbers k 0) second) small.1 in
-    let at_c = plain_octet numbers (i + 1 + 1) c (omega (arith, some)) (is_c ∙ ap (λ k. get_or numbers k 0) third) small.2 in
-    let at_d = plain_octet numbers (i + 1 + 1 + 1) d (omega (arith, some)) (is_d ∙ ap (λ k. get_or numbers k 0) fourth) small.3 in
-    at_a ∙ ap (λ more. a ∷ more) (at_b ∙ ap (λ more. b ∷ more) (at_c ∙ ap (λ more. c ∷ more)
-    (at_d ∙ ap (λ k. d ∷ flat_map canon_subidentifier (drop k numbers)) last)))
+-- the numbers from a place on are the one there, and those behind it
+number_then : (numbers : List ℕ) (i next : ℕ) → i + 1 ≡ next → next ≤ length numbers → drop i numbers ≡ get_or numbers i 0 ∷ drop next numbers
+number_then numbers i next e h = drop_more numbers i 0 (omega (arith, e, h)) ∙ ap (λ k. get_or numbers i 0 ∷ drop k numbers) e
 
--- four octets more before those that are written
-pub writes_four : {old mid new : List ℕ} {start middle end : ℕ} (numbers octets : List ℕ) (left : ℕ)
-    → flat_map canon_subidentifier (drop (left - 4) numbers) ≡ octets ++ flat_map canon_subidentifier (drop left numbers)
-    → Writes old middle end (flat_map canon_subidentifier (drop left numbers)) mid → Writes mid start middle octets new
-    → Writes old start end (flat_map canon_subidentifier (drop (left - 4) numbers)) new
-writes_four numbers octets left e w v = writes_same (writes_then w v) (sym e)
+eight_then : (numbers : List ℕ) (from : ℕ) → from + 8 ≤ length numbers → drop from numbers ≡ eight_from numbers from ++ drop (from + 8) numbers
+eight_then numbers from h = rw (
+  number_then numbers from (from + 1) (omega arith) (omega (arith, h)),
+  number_then numbers (from + 1) (from + 2) (omega arith) (omega (arith, h)),
+  number_then numbers (from + 2) (from + 3) (omega arith) (omega (arith, h)),
+  number_then numbers (from + 3) (from + 4) (omega arith) (omega (arith, h)),
+  number_then numbers (from + 4) (from + 5) (omega arith) (omega (arith, h)),
+  number_then numbers (from + 5) (from + 6) (omega arith) (omega (arith, h)),
+  number_then numbers (from + 6) (from + 7) (omega arith) (omega (arith, h)),
+  number_then numbers (from + 7) (from + 8) (omega arith) h,
+) refl
 
-pub four_fit : {old mid : List ℕ} {middle end : ℕ} (numbers octets : List ℕ) (left : ℕ) → length octets ≡ 4
-    → flat_map canon_subidentifier (drop (left - 4) numbers) ≡ octets ++ flat_map canon_subidentifier (drop left numbers)
-    → Writes old middle end (flat_map canon_subidentifier (drop left numbers)) mid → length (flat_map canon_subidentifier numbers) ≤ end → 4 ≤ middle
-four_fit numbers octets left four e w room =
+-- each of four numbers is below 128 where the four have no higher bit
+below_128 : (a b c d : ℕ) → bit_or (bit_or (bit_or a b) c) d < 128 → (a < 128) × (b < 128) × (c < 128) × (d < 128)
+below_128 a b c d low =
+    let ab = bit_or a b in
+    let abc = bit_or ab c in
+    let abc_low : abc < 128 = omega (arith, le_or_l abc d, low) in
+    let ab_low : ab < 128 = omega (arith, le_or_l ab c, abc_low) in
+    (omega (arith, le_or_l a b, ab_low), omega (arith, le_or_r a b, ab_low), omega (arith, le_or_r ab c, abc_low), omega (arith, le_or_r abc d, low))
+
+pub eight_low : (numbers : List ℕ) (from : ℕ)
+    → bit_or (bit_or (bit_or (bit_or (get_or numbers from 0) (get_or numbers (from + 1) 0)) (get_or numbers (from + 2) 0)) (get_or numbers (from + 3) 0))
+    (bit_or (bit_or (bit_or (get_or numbers (from + 4) 0) (get_or numbers (from + 5) 0)) (get_or numbers (from + 6) 0)) (get_or numbers (from + 7) 0)) < 128
+    → AreShort numbers from
+eight_low numbers from h =
+    let at : ℕ → ℕ = λ k. get_or numbers (from + k) 0 in
+    let low : ℕ = bit_or (bit_or (bit_or (get_or numbers from 0) (at 1)) (at 2)) (at 3) in
+    let high : ℕ = bit_or (bit_or (bit_or (at 4) (at 5)) (at 6)) (at 7) in
+    let lows = below_128 (get_or numbers from 0) (at 1) (at 2) (at 3) (omega (arith, le_or_l low high, h)) in
+    let highs = below_128 (at 4) (at 5) (at 6) (at 7) (omega (arith, le_or_r low high, h)) in
+    record {
+      first = lows.0;
+      second = lows.1;
+      third = lows.2;
+      fourth = lows.3;
+      fifth = highs.0;
+      sixth = highs.1;
+      seventh = highs.2;
+      eighth = highs.3;
+    }
+
+-- eight of them before the last number, and the others before these
+pub nine : (numbers : List ℕ) (number : ℕ) → 9 ≤ length numbers → AreShort numbers (length numbers - 9) → number ≡ get_or numbers (length numbers - 1) 0
+    → flat_map canon_subidentifier (take (length numbers - 9) numbers) ++ (eight_from numbers (length numbers - 9) ++ canon_subidentifier number)
+    ≡ flat_map canon_subidentifier numbers
+nine numbers number h s e =
+    let k : ℕ = length numbers - 9 in
+    let front : List ℕ = take k numbers in
+    let eight : List ℕ = eight_from numbers k in
+    let at_last : k + 8 ≡ length numbers - 1 = omega (arith, h) in
+    let last : drop (k + 8) numbers ≡ number ∷ [] = ap (λ i. drop i numbers) at_last
+    ∙ number_then numbers (length numbers - 1) (length numbers) (omega (arith, h)) (omega arith)
+    ∙ ap (λ (more : List ℕ). get_or numbers (length numbers - 1) 0 ∷ more) (drop_all (length numbers) numbers (omega arith)) ∙ ap (λ n. n ∷ []) (sym e) in
+    let parts : front ++ (eight ++ number ∷ []) ≡ numbers =
+    sym (ap (λ (more : List ℕ). front ++ more) (eight_then numbers k (omega (arith, h)) ∙ ap (λ (more : List ℕ). eight ++ more) last))
+    ∙ take-append-drop k numbers in
+    let short : AllByRecursion (λ n. n < 128) eight = (s.first, (s.second, (s.third, (s.fourth, (s.fifth, (s.sixth, (s.seventh, (s.eighth, tt)))))))) in
+    sym (flat_map-append canon_subidentifier front (eight ++ number ∷ [])
+    ∙ ap (λ (more : List ℕ). flat_map canon_subidentifier front ++ more)
+    (plain_then eight (number ∷ []) short ∙ ap (λ (more : List ℕ). eight ++ more) (append-nil (canon_subidentifier number))))
+    ∙ ap (flat_map canon_subidentifier) parts
+
+pub nine_counted : (numbers : List ℕ) (number : ℕ) → 9 ≤ length numbers → AreShort numbers (length numbers - 9)
+    → number ≡ get_or numbers (length numbers - 1) 0
+    → length (flat_map canon_subidentifier numbers)
+    ≡ length (flat_map canon_subidentifier (take (length numbers - 9) numbers)) + (8 + subidentifier_size number)
+nine_counted numbers number h s e =
+    let front : List ℕ = flat_map canon_subidentifier (take (length numbers - 9) numbers) in
+    let eight : List ℕ = eight_from numbers (length numbers - 9) in
     omega (
       arith,
-      four,
-      ap length e ∙ length-append octets (flat_map canon_subidentifier (drop left numbers)),
-      flat_map_rest canon_subidentifier numbers (left - 4),
-      w.begins,
+      ap length (nine numbers number h s e),
+      length-append front (eight ++ canon_subidentifier number),
+      length-append eight (canon_subidentifier number),
+      length-canon_subidentifier number,
     )
+
+pub none_before : (numbers : List ℕ) → length numbers ≡ 9 → flat_map canon_subidentifier (take (length numbers - 9) numbers) ≡ []
+none_before numbers e = let none : length numbers - 9 ≡ 0 = omega (arith, e) in ap (λ k. flat_map canon_subidentifier (take k numbers)) none
 
 pub small_before : (numbers : List ℕ) (left : ℕ) → bit_or (bit_or (bit_or (get_or numbers (left - 4) 0) (get_or numbers (left - 3) 0))
     (get_or numbers (left - 2) 0)) (get_or numbers (left - 1) 0) < 128
     → (get_or numbers (left - 4) 0 < 128) × (get_or numbers (left - 3) 0 < 128) × (get_or numbers (left - 2) 0 < 128) × (get_or numbers (left - 1) 0 < 128)
 small_before numbers left low = below_128 (get_or numbers (left - 4) 0) (get_or numbers (left - 3) 0) (get_or numbers (left - 2) 0)
     (get_or numbers (left - 1) 0) low
+
+pub plain_before : (numbers : List ℕ) (left : ℕ) → 4 ≤ left → left ≤ length numbers → bit_or (bit_or (bit_or (get_or numbers (left - 4) 0)
+    (get_or numbers (left - 3) 0)) (get_or numbers (left - 2) 0)) (get_or numbers (left - 1) 0) < 128
+    → flat_map canon_subidentifier (drop (left - 4) numbers) ≡ (get_or numbers (left - 4) 0 ∷ get_or numbers (left - 3) 0 ∷ get_or numbers (left - 2) 0
+    ∷ get_or numbers (left - 1) 0 ∷ []) ++ flat_map canon_subidentifier (drop left numbers)
+plain_before numbers left some within low =
+    let small = small_before numbers left low in
+    let four = get_or numbers (left - 4) 0 ∷ get_or numbers (left - 3) 0 ∷ get_or numbers (left - 2) 0 ∷ get_or numbers (left - 1) 0 ∷ [] in
+    let parts : drop (left - 4) numbers ≡ four ++ drop left numbers = rw (
+      number_then numbers (left - 4) (left - 3) (omega (arith, some)) (omega (arith, some, within)),
+      number_then numbers (left - 3) (left - 2) (omega (arith, some)) (omega (arith, some, within)),
+      number_then numbers (left - 2) (left - 1) (omega (arith, some)) (omega (arith, some, within)),
+      number_then numbers (left - 1) left (omega (arith, some)) within,
+    ) refl in
+    ap (flat_map canon_subidentifier) parts ∙ plain_then four (drop left numbers) (small.0, (small.1, (small.2, (small.3, tt))))

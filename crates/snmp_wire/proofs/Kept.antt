@@ -8,10 +8,8 @@ use Rattle.std.specs.Result.{result_unwrap_or}
 use Rattle.snmp_wire.specs.declared.ber.error.BerError.{BerError}
 use Rattle.snmp_wire.specs.Canon.{IsEncodable, IsEncodableValue, canon_binding}
 use Rattle.snmp_wire.specs.Encoded.{IsKept, binding_in}
-use Rattle.snmp_wire.specs.Message.{VarBind, Datum, integer_value, octet_string, null_value}
-use Rattle.snmp_wire.specs.Message.{object_id, ip_address, counter32, gauge32, time_ticks}
-use Rattle.snmp_wire.specs.Message.{opaque_octets, counter64, no_such_object, no_such_instance}
-use Rattle.snmp_wire.specs.Message.{end_of_mib_view}
+use Rattle.snmp_wire.specs.Message.{VarBind, Datum, octet_string, null_value, object_id}
+use Rattle.snmp_wire.specs.Message.{opaque_octets}
 use Rattle.snmp_wire.specs.Range.{IsBindingInRange, IsInRange}
 use Rattle.snmp_wire.specs.Reading.{bindings_in, bindings_of}
 use Rattle.snmp_wire.specs.Spelling.{SpellsBinding}
@@ -26,19 +24,10 @@ use Rattle.snmp_wire.proofs.MessageLaws.{binding_again, bindings_again}
 use Rattle.snmp_wire.proofs.MessageElements.{spells_binding}
 
 encodable_value : (v : Datum) → IsInRange v → IsEncodableValue v
-encodable_value (integer_value z) h = tt
 encodable_value (octet_string text) h = h.1
-encodable_value null_value h = tt
 encodable_value (object_id name) h = h.0
-encodable_value (ip_address address) h = tt
-encodable_value (counter32 n) h = tt
-encodable_value (gauge32 n) h = tt
-encodable_value (time_ticks n) h = tt
 encodable_value (opaque_octets text) h = h.1
-encodable_value (counter64 n) h = tt
-encodable_value no_such_object h = tt
-encodable_value no_such_instance h = tt
-encodable_value end_of_mib_view h = tt
+encodable_value v h = tt
 
 pub encodable : (p : VarBind) → IsInRange (object_id p.name) → IsInRange p.value → IsEncodable p
 encodable p name value = record { name = name.0; value = encodable_value p.value value }

@@ -17,9 +17,10 @@ use Rattle.snmp_wire.specs.ber.Number.{AreOctets, Form, lenient, strict}
 use Rattle.snmp_wire.specs.ber.Spelling.{sequence_tag}
 use Rattle.snmp_wire.specs.ber.Value.{integer_value, octet_string, object_id}
 use Rattle.snmp_wire.proofs.Elements.{AreInRange, AreOfType, Elements, SpellsAll, are_octets, are_read}
-use Rattle.snmp_wire.proofs.Elements.{are_same, are_shortest, are_strict, canon_all, element_then}
+use Rattle.snmp_wire.proofs.Elements.{are_least, are_strict, canon_all, element_then}
 use Rattle.snmp_wire.proofs.Elements.{no_elements, value_then}
-use Rattle.snmp_wire.proofs.ShortestValues.{octets_by}
+use Rattle.snmp_wire.proofs.Digits.{by_octets, octets_by}
+use Rattle.snmp_wire.proofs.Shortest.{IsNoShorter}
 use Rattle.snmp_wire.proofs.StrictValues.{element_most, value_short}
 
 -- ---- their elements
@@ -181,13 +182,7 @@ message_is message = rw (← bindings_are message.bindings) (simp (append_assoc,
 
 kind_fits : (k : Kind) → kind_tag k < 256
 kind_fits kind.GetRequest = lit< tt
-kind_fits kind.GetNextRequest = lit< tt
-kind_fits kind.Response = lit< tt
-kind_fits kind.SetRequest = lit< tt
-kind_fits kind.GetBulkRequest = lit< tt
-kind_fits kind.InformRequest = lit< tt
-kind_fits kind.Trap = lit< tt
-kind_fits kind.Report = lit< tt
+kind_fits k = lit< tt
 
 bindings_in_range : (bindings : List VarBind) → AllByRecursion IsBindingInRange bindings → AreInRange (elements_of_bindings bindings)
 bindings_in_range [] range = tt
@@ -223,7 +218,7 @@ in_range message range =
     (kind_fits message.kind, omega (arith, fields), (range.id, (range.a, (range.b, list_range))), tt) in
     (lit< tt, content, (range.version, (range.community, pdu_range)), tt)
 
--- ---- the
+-- ---- what is written is spelt
 
 pub spells_binding : (binding : VarBind) → IsBindingInRange binding → SpellsBinding lenient binding (canon_binding binding)
 spells_binding binding range =
@@ -239,20 +234,15 @@ pub strict_canon : (message : Message) → IsMessageInRange message → Strict m
 strict_canon message range =
     let all : Elements = elements_of message in
     subst (Strict message) (sym (message_is message))
-    (of_row strict message (canon_all all) (are_octets all (in_range message range)) (are_strict all (in_range message range)))
+    (of_row strict message (canon_all all) (by_octets (canon_all all) (are_octets all (in_range message range))) (are_strict all (in_range message range)))
 
--- none by the standard is shorter
+-- none by the standard is shorter, and one that is no longer is the one that is written
+pub message_least : (message : Message) (octets : List ℕ) → Strict message octets → IsNoShorter (canon message) octets
+message_least message octets is = subst (λ (made : List ℕ). IsNoShorter made octets) (sym (message_is message))
+    (are_least (elements_of message) octets (octets_by octets is.are_octets) (in_row strict message octets is))
+
 pub no_shorter : (message : Message) (octets : List ℕ) → Strict message octets → length (canon message) ≤ length octets
-no_shorter message octets is =
-    omega (arith, ap length (message_is message), are_shortest (elements_of message) octets (octets_by octets is.are_octets) (in_row strict message octets is))
-
--- and one that is no longer is the one that is written
-pub message_same : (message : Message) (octets : List ℕ) → IsMessageInRange message → Strict message octets → length octets ≤ length (canon message)
-    → octets ≡ canon message
-message_same message octets range is short =
-    are_same (elements_of message) octets (in_range message range) (octets_by octets is.are_octets) (in_row strict message octets is)
-    (omega (arith, ap length (message_is message), short))
-    ∙ sym (message_is message)
+no_shorter message octets is = (message_least message octets is).least
 
 -- ---- types
 

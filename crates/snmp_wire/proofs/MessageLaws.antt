@@ -74,13 +74,7 @@ bindings_again (binding ∷ more) octets h =
 pub kind_again : (found : Kind) → kind_of (kind_tag found) ≡ Ok found
 unfolding kind_of
 kind_again kind.GetRequest = refl
-kind_again kind.GetNextRequest = refl
-kind_again kind.Response = refl
-kind_again kind.SetRequest = refl
-kind_again kind.GetBulkRequest = refl
-kind_again kind.InformRequest = refl
-kind_again kind.Trap = refl
-kind_again kind.Report = refl
+kind_again found = refl
 
 -- ---- messages
 

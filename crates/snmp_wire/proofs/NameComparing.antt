@@ -1,10 +1,11 @@
 -- What the first octets that differ tell of two names.
 use Rattle.std.proofs.Common.{◌≡◌, ℕ, ◌<◌, ◌≤◌, ◌⊎◌, ◌↔◌, inl, inr, List, [], ◌∷◌, ◌++◌, length}
 use Rattle.std.proofs.Common.{get_or, take, drop, refl, sym, ap, subst, ◌∙◌}
-use Rattle.std.proofs.Common.{⊎_elim, arith, length-append, length-drop}
+use Rattle.std.proofs.Common.{⊎_elim, Ok, arith, length-append, length-drop}
 use Rattle.std.proofs.lemmas.Bool.{cases_lt}
 use Rattle.std.proofs.lemmas.List.{ext_get_or, get_or-take, length-take-le, take-append-drop}
 use Rattle.std.proofs.lemmas.List.{get_or_append_left}
+use Rattle.std.proofs.lemmas.List.Elements.{All-from_get_or}
 use Rattle.std.specs.Ordering.{MatchOrdering, nat_cmp}
 use Rattle.std.specs.Cmp.{ranked}
 use Rattle.std.specs.Cmp.Lexicographic.{slice_cmp}
@@ -14,6 +15,8 @@ use Rattle.snmp_oid.specs.Identifier.{IsBelow, Precedes}
 use Rattle.snmp_wire.specs.Name.{EndsAt, IsAlike}
 use Rattle.snmp_wire.specs.ber.Identifier.{IsObjectId}
 use Rattle.snmp_wire.specs.ber.Number.{AreOctets}
+use Rattle.snmp_wire.specs.ber.Reading.{identifier_of}
+use Rattle.snmp_wire.proofs.IdentifierLaws.{identifier_takes}
 use Rattle.snmp_wire.proofs.NameContents.{alike_back, ends_here, one_end}
 use Rattle.snmp_wire.proofs.NameOrder.{EndsFirst, OrderLaw, below_from_contents, below_from_names}
 use Rattle.snmp_wire.proofs.NameOrder.{names_differ, one_name}
@@ -26,8 +29,18 @@ pub record Beside (content other o p : List ℕ) (at : ℕ) : Type 0 where
   pub are : IsObjectId other p
   pub alike : IsAlike content other at
 
-turned : (content other o p : List ℕ) (at : ℕ) → Beside content other o p at → Beside other content p o at
-turned content other o p at b = record {
+pub beside : {content other o p : List ℕ} {at : ℕ} → ((k : ℕ) → get_or content k 0 < 256) → ((k : ℕ) → get_or other k 0 < 256)
+    → identifier_of content ≡ Ok o → identifier_of other ≡ Ok p → IsAlike content other at → Beside content other o p at
+beside {content} {other} {o} {p} small other_small e f alike = record {
+  octets = All-from_get_or (λ octet. octet < 256) content 0 (λ k low. small k);
+  other_octets = All-from_get_or (λ octet. octet < 256) other 0 (λ k low. other_small k);
+  is = identifier_takes content o e;
+  are = identifier_takes other p f;
+  alike = alike;
+}
+
+turned : {content other o p : List ℕ} {at : ℕ} → Beside content other o p at → Beside other content p o at
+turned {content} {other} {o} {p} {at} b = record {
   octets = b.other_octets;
   other_octets = b.octets;
   is = b.are;
@@ -71,7 +84,7 @@ longer_below content other o p at b e longer = below_from_contents content other
 pub one_ends : OrderLaw → (content other o p : List ℕ) (at : ℕ) → Beside content other o p at → (at ≡ length content) ⊎ (at ≡ length other)
     → nat_cmp (length content) (length other) ≡ slice_cmp nat_cmp o p
 one_ends law content other o p at b end = decided law o p (length content) (length other)
-    (λ less. inl (longer_below other content p o at (turned content other o p at b) (at_end (λ e. e) (λ e. omega (arith, e, less, b.alike.short))) less))
+    (λ less. inl (longer_below other content p o at (turned b) (at_end (λ e. e) (λ e. omega (arith, e, less, b.alike.short))) less))
     (λ same. let e : at ≡ length content = at_end (λ e. e) (λ e. omega (arith, e, same)) in
     let equal : content ≡ other = sym (all_of content at e) ∙ same_front content other at b.alike ∙ all_of other at (omega (arith, e, same)) in
     one_name content o p b.is (subst (λ (t : List ℕ). IsObjectId t p) (sym equal) b.are))
@@ -95,9 +108,11 @@ below_decided content root o p at b longer differs = (
         (cases_lt at (length root))
 
 -- no shorter name is below a root
-pub none_below : (content root o p : List ℕ) → AreOctets content → AreOctets root → IsObjectId content o → IsObjectId root p
-    → length content ≤ length root → IsBelow o p → ⊥
-none_below content root o p h k is are short below = longer (below_from_names content root o p h k is are below)
+pub nothing_alike : (content other : List ℕ) → IsAlike content other 0
+nothing_alike content other = record { short = omega arith; other_short = omega arith; same = λ k low. absurd (omega (arith, low)) }
+
+pub none_below : {content root o p : List ℕ} {at : ℕ} → Beside content root o p at → length content ≤ length root → IsBelow o p → ⊥
+none_below {content} {root} {o} {p} b short below = longer (below_from_names content root o p b.octets b.other_octets b.is b.are below)
   where
     longer : IsBelow content root → ⊥
     longer ([], some, e) = some refl
@@ -105,29 +120,31 @@ none_below content root o p h k is are short below = longer (below_from_names co
 
 -- ---- where two octets differ
 
+-- a number of each decides, where the smaller one's subidentifier ends first, or at once
+differ_decide : OrderLaw → {content other o p : List ℕ} {at : ℕ} (x y : ℕ) → Beside content other o p at → at < length content → at < length other
+    → (x ≡ y → ⊥) → (x < y → EndsFirst content other at) → (y < x → EndsFirst other content at) → nat_cmp x y ≡ slice_cmp nat_cmp o p
+differ_decide law {content} {other} {o} {p} {at} x y b low other_low differ this that = decided law o p x y
+    (λ less. names_differ law content other o p at b.octets b.other_octets b.is b.are b.alike low other_low (this less))
+    (λ same. absurd (differ same))
+    (λ more. let t = turned b in names_differ law other content p o at t.octets t.other_octets t.is t.are t.alike other_low low (that more))
+
 -- the one ends first
 pub ends_decide : OrderLaw → (content other o p : List ℕ) (at end last : ℕ) → Beside content other o p at → at < length content → at < length other
     → EndsAt content at end → EndsAt other at last → (end ≡ last → ⊥) → nat_cmp end last ≡ slice_cmp nat_cmp o p
-ends_decide law content other o p at end last b low other_low e f differ = decided law o p end last
-    (λ less. names_differ law content other o p at b.octets b.other_octets b.is b.are b.alike low other_low
-    (λ d l g h. inl (omega (arith, less, one_end content at d end g e, one_end other at l last h f))))
-    (λ same. absurd (differ same))
-    (λ more. names_differ law other content p o at b.other_octets b.octets b.are b.is (alike_back content other at b.alike) other_low low
-    (λ d l g h. inl (omega (arith, more, one_end other at d last g f, one_end content at l end h e))))
+ends_decide law content other o p at end last b low other_low e f differ = differ_decide law end last b low other_low differ
+    (λ less d l g h. inl (omega (arith, less, one_end content at d end g e, one_end other at l last h f)))
+    (λ more d l g h. inl (omega (arith, more, one_end other at d last g f, one_end content at l end h e)))
 
-pub octets_decide : OrderLaw → (content other o p : List ℕ) (at : ℕ) → Beside content other o p at → at < length content → at < length other
-    → (get_or content at 0 ≡ get_or other at 0 → ⊥)
-    → (get_or content at 0 < get_or other at 0 → EndsFirst content other at) → (get_or other at 0 < get_or content at 0 → EndsFirst other content at)
-    → nat_cmp (get_or content at 0) (get_or other at 0) ≡ slice_cmp nat_cmp o p
-octets_decide law content other o p at b low other_low differ this that = decided law o p (get_or content at 0) (get_or other at 0)
-    (λ less. names_differ law content other o p at b.octets b.other_octets b.is b.are b.alike low other_low (this less))
-    (λ same. absurd (differ same))
-    (λ more. names_differ law other content p o at b.other_octets b.octets b.are b.is (alike_back content other at b.alike) other_low low (that more))
-
--- where both octets are in turn the smaller, its subidentifier ends first, or at once
+-- where either octet is the smaller, its subidentifier ends first, or at once
 abbrev pub EndsBy : List ℕ → List ℕ → ℕ → Type 0
 EndsBy content other at =
     (get_or content at 0 < get_or other at 0 → EndsFirst content other at) × (get_or other at 0 < get_or content at 0 → EndsFirst other content at)
+
+pub octets_decide : OrderLaw → (content other o p : List ℕ) (at : ℕ) → Beside content other o p at → at < length content → at < length other
+    → (get_or content at 0 ≡ get_or other at 0 → ⊥) → EndsBy content other at
+    → nat_cmp (get_or content at 0) (get_or other at 0) ≡ slice_cmp nat_cmp o p
+octets_decide law content other o p at b low other_low differ way =
+    differ_decide law (get_or content at 0) (get_or other at 0) b low other_low differ way.0 way.1
 
 pub both_go_on : (content other : List ℕ) (at end last : ℕ) → EndsAt content at end → EndsAt other at last → end ≡ last → EndsBy content other at
 both_go_on content other at end last e f same = (

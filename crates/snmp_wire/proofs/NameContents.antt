@@ -8,16 +8,18 @@ use Rattle.std.proofs.lemmas.Bool.{cases_lt}
 use Rattle.std.proofs.lemmas.Nat.{mul-add-lt}
 use Rattle.std.proofs.lemmas.List.{append-nil, ext_get_or, get_or-append-add, get_or_append_left}
 use Rattle.std.proofs.lemmas.List.{map-append}
-use Rattle.std.proofs.lemmas.List.Elements.{All-get_or, recursion_from_All}
-use Rattle.std.specs.List.{AllByRecursion}
+use Rattle.std.proofs.lemmas.List.Elements.{All-get_or}
 use Rattle.snmp_oid.specs.Identifier.{PartsBelow}
 use Rattle.snmp_wire.specs.Name.{ComesFirst, EndsAt, IsAlike}
-use Rattle.snmp_wire.specs.ber.Identifier.{IsSubidentifier}
-use Rattle.snmp_wire.specs.ber.Number.{AreOctets, number_of}
-use Rattle.snmp_wire.proofs.BerOneShortest.{same_subidentifier}
-use Rattle.snmp_wire.proofs.IdentifierLaws.{subidentifier_some}
-use Rattle.snmp_wire.proofs.ShortestValues.{below_power, bits_below, length-low_bits, low_bits}
-use Rattle.snmp_wire.proofs.ShortestValues.{subidentifier_bound}
+use Rattle.snmp_wire.specs.ber.Canon.{canon_content}
+use Rattle.snmp_wire.specs.ber.Identifier.{AreSubidentifiers, IsObjectId, IsSubidentifier}
+use Rattle.snmp_wire.specs.ber.Identifier.{subidentifiers}
+use Rattle.snmp_wire.specs.ber.Number.{number_of}
+use Rattle.snmp_wire.specs.ber.Value.{object_id}
+use Rattle.snmp_wire.proofs.Digits.{AreDigits, Octets, back_octets, below_power, by_octets, front_octets}
+use Rattle.snmp_wire.proofs.StrictIdentifiers.{bits_below, is_object_id, length-low_bits, low_bits}
+use Rattle.snmp_wire.proofs.StrictIdentifiers.{name_octets, same_subidentifier, subidentifier_bound}
+use Rattle.snmp_wire.proofs.StrictIdentifiers.{subidentifier_some}
 
 -- ---- where a subidentifier ends
 
@@ -106,7 +108,7 @@ same_number text n m is are = sym is.value ∙ are.value
 -- ---- which of two is the greater
 
 -- of as many digits the number with the greater at the first difference
-digits_rise : (base : ℕ) (front after behind : List ℕ) (c d : ℕ) → c < d → length after ≡ length behind → AllByRecursion (λ digit. digit < base) after
+digits_rise : (base : ℕ) (front after behind : List ℕ) (c d : ℕ) → c < d → length after ≡ length behind → AreDigits base after
     → number_of base (front ++ c ∷ after) < number_of base (front ++ d ∷ behind)
 digits_rise base [] after behind c d less size small =
     let bound : c * base ^ length after + number_of base after < base ^ length after * d =
@@ -120,15 +122,14 @@ digits_rise base (z ∷ front) after behind c d less size small =
     omega (arith, ap (λ k. z * base ^ k) sizes, digits_rise base front after behind c d less size small)
 
 -- one of several octets has a first digit
-least_of_several : (text : List ℕ) (n : ℕ) → AreOctets text → IsSubidentifier text n → 1 < length text → 128 ^ (length text - 1) ≤ n
+least_of_several : (text : List ℕ) (n : ℕ) → Octets text → IsSubidentifier text n → 1 < length text → 128 ^ (length text - 1) ≤ n
 least_of_several [] n all is several = absurd (omega arith)
 least_of_several (octet ∷ rest) n all is several =
     let end = subidentifier_ends (octet ∷ rest) [] n is in
     let nil : (octet ∷ rest) ++ [] ≡ octet ∷ rest = append-nil (octet ∷ rest) in
     let first : get_or ((octet ∷ rest) ++ []) 0 0 ≡ octet = ap (λ (octets : List ℕ). get_or octets 0 0) nil in
     let high : 128 ≤ octet = omega (arith, end.goes_on 0 (omega arith) (omega (arith, several)), first) in
-    let low : octet < 256 = All-get_or (λ o. o < 256) (octet ∷ rest) 0 0 (omega arith) all in
-    let digit : 1 ≤ octet % 128 = ⊎_elim (λ zero_digit. absurd (is.minimal (omega (arith, zero_digit, high, low)))) (λ some. some) (cases_lt (octet % 128) 1) in
+    let digit : 1 ≤ octet % 128 = ⊎_elim (λ zero_digit. absurd (is.minimal (omega (arith, zero_digit, high, all.0)))) (λ some. some) (cases_lt (octet % 128) 1) in
     let power : 1 * 128 ^ length (low_bits rest) ≤ octet % 128 * 128 ^ length (low_bits rest) = mul-le-mul_right (128 ^ length (low_bits rest)) digit in
     let places : length (low_bits rest) ≡ length (octet ∷ rest) - 1 = omega (arith, length-low_bits rest) in
     omega (arith, power, ap (λ k. 128 ^ k) places, is.value)
@@ -146,7 +147,7 @@ beside text other n m k is are size low =
     inr (subst (λ (j : ℕ). get_or text j 0 < 128) last end.ends, subst (λ (j : ℕ). get_or other j 0 < 128) last other_end.ends))
     (cases_lt k (length text - 1))
 
-parts_rise : (text other : List ℕ) (n m : ℕ) → AreOctets text → AreOctets other → IsSubidentifier text n → IsSubidentifier other m
+parts_rise : (text other : List ℕ) (n m : ℕ) → Octets text → Octets other → IsSubidentifier text n → IsSubidentifier other m
     → length text ≡ length other → PartsBelow text other → n < m
 parts_rise text other n m all others is are size p =
     let k : ℕ = length p.front in
@@ -154,8 +155,8 @@ parts_rise text other n m all others is are size p =
     let other_count : length other ≡ length p.front + suc (length p.behind) = ap length p.that ∙ length-append p.front (p.larger ∷ p.behind) in
     let at_smaller : get_or text k 0 ≡ p.smaller = ap (λ (octets : List ℕ). get_or octets k 0) p.this ∙ get_or-append_seam p.front p.smaller p.after 0 in
     let at_larger : get_or other k 0 ≡ p.larger = ap (λ (octets : List ℕ). get_or octets k 0) p.that ∙ get_or-append_seam p.front p.larger p.behind 0 in
-    let fits : get_or text k 0 < 256 = All-get_or (λ o. o < 256) text k 0 (omega (arith, count)) all in
-    let other_fits : get_or other k 0 < 256 = All-get_or (λ o. o < 256) other k 0 (omega (arith, other_count)) others in
+    let fits : get_or text k 0 < 256 = All-get_or (λ o. o < 256) text k 0 (omega (arith, count)) (by_octets text all) in
+    let other_fits : get_or other k 0 < 256 = All-get_or (λ o. o < 256) other k 0 (omega (arith, other_count)) (by_octets other others) in
     let digit : p.smaller % 128 < p.larger % 128 = ⊎_elim
     (λ both. omega (arith, both.0, both.1, at_smaller, at_larger, fits, other_fits, p.is_smaller))
     (λ both. omega (arith, both.0, both.1, at_smaller, at_larger, p.is_smaller))
@@ -170,7 +171,7 @@ parts_rise text other n m all others is are size p =
     let rises = digits_rise 128 (low_bits p.front) (low_bits p.after) (low_bits p.behind) (p.smaller % 128) (p.larger % 128) digit sizes (bits_below p.after) in
     omega (arith, rises, ap (number_of 128) this, ap (number_of 128) that, is.value, are.value)
 
-pub first_is_smaller : (text other : List ℕ) (n m : ℕ) → AreOctets text → AreOctets other → IsSubidentifier text n → IsSubidentifier other m
+pub first_is_smaller : (text other : List ℕ) (n m : ℕ) → Octets text → Octets other → IsSubidentifier text n → IsSubidentifier other m
     → ComesFirst text other → n < m
 first_is_smaller text other n m all others is are (inl shorter) =
     let some = subidentifier_some text n is in
@@ -186,12 +187,26 @@ first_is_smaller text other n m all others is are (inr (size, inl below)) =
 first_is_smaller text other n m all others is are (inr (size, inr parts)) = parts_rise text other n m all others is are size parts
 
 -- a number has one text
-pub one_text : (text other : List ℕ) (n : ℕ) → AreOctets text → AreOctets other → IsSubidentifier text n → IsSubidentifier other n → text ≡ other
+one_text : (text other : List ℕ) (n : ℕ) → Octets text → Octets other → IsSubidentifier text n → IsSubidentifier other n → text ≡ other
 one_text text other n h k is are = ⊎_elim
     (λ less. absurd (omega (arith, first_is_smaller text other n n h k is are (inl less))))
     (λ no_less. ⊎_elim
     (λ less. absurd (omega (arith, first_is_smaller other text n n k h are is (inl less))))
-    (λ no_more. same_subidentifier text other n (recursion_from_All (λ octet. octet < 256) text h) (recursion_from_All (λ octet. octet < 256) other k)
-    (omega (arith, no_less, no_more)) is are)
+    (λ no_more. same_subidentifier text other n h k (omega (arith, no_less, no_more)) is are)
     (cases_lt (length other) (length text)))
     (cases_lt (length text) (length other))
+
+-- subidentifiers have one content
+pub one_content_of : (ns content other : List ℕ) → Octets content → Octets other → AreSubidentifiers content ns → AreSubidentifiers other ns → content ≡ other
+one_content_of [] content other h k are others = are ∙ sym others
+one_content_of (n ∷ ns) content other h k (text, rest, parts, is, are) (text2, rest2, parts2, is2, are2) =
+    let all : Octets (text ++ rest) = subst Octets parts h in
+    let all2 : Octets (text2 ++ rest2) = subst Octets parts2 k in
+    let first : text ≡ text2 = one_text text text2 n (front_octets text rest all) (front_octets text2 rest2 all2) is is2 in
+    let others : rest ≡ rest2 = one_content_of ns rest rest2 (back_octets text rest all) (back_octets text2 rest2 all2) are are2 in
+    parts ∙ ap (λ (t : List ℕ). t ++ rest) first ∙ ap (λ (t : List ℕ). text2 ++ t) others ∙ sym parts2
+
+-- the content of a name is the one that is written
+pub canonical : (content name : List ℕ) → Octets content → IsObjectId content name → content ≡ canon_content (object_id name)
+canonical content name h is = one_content_of (subidentifiers name) content (canon_content (object_id name)) h (name_octets name) is.parts
+    (is_object_id name is.wire is.identifier).parts

@@ -2,12 +2,15 @@
 use Rattle.std.proofs.Common.{◌≡◌, ℕ, ◌+◌, ◌-◌, ◌*◌, ◌<◌, ◌≤◌, ◌⊎◌, ◌↔◌, inl, inr, List, [], ◌∷◌}
 use Rattle.std.proofs.Common.{◌++◌, length, get_or, take, drop, refl, sym, ap, subst, ◌∙◌}
 use Rattle.std.proofs.Common.{⊎_elim, Result, IsOk, arith, length-append, append_assoc}
-use Rattle.std.proofs.lemmas.Bool.{cases_lt}
+use Rattle.std.proofs.lemmas.Bool.{cases_lt, cases_order}
+use Rattle.std.proofs.lemmas.Grind.{flat_map-append}
 use Rattle.std.proofs.lemmas.List.{append_cancel_left, ext_get_or, get_or-append-add}
 use Rattle.std.proofs.lemmas.List.{get_or_append_left, get_or-take, length-take-le}
 use Rattle.std.proofs.lemmas.List.{take-append-drop}
 use Rattle.std.proofs.lemmas.List.{drop_more}
-use Rattle.std.specs.Ordering.{nat_cmp}
+use Rattle.std.specs.Cmp.{nat_cmp_is, ranked}
+use Rattle.std.specs.List.{flat_map}
+use Rattle.std.specs.Ordering.{MatchOrdering, nat_cmp}
 use Rattle.std.specs.Result.{result_unwrap_or}
 use Rattle.std.specs.Cmp.Lexicographic.{slice_cmp}
 use Rattle.std.specs.declared.cmp.Ordering.{Ordering}
@@ -19,14 +22,18 @@ use Rattle.snmp_wire.specs.ber.Identifier.{AreSubidentifiers, IsObjectId, IsSubi
 use Rattle.snmp_wire.specs.ber.Identifier.{subidentifiers}
 use Rattle.snmp_wire.specs.ber.Number.{AreOctets}
 use Rattle.snmp_wire.specs.declared.ber.error.BerError.{BerError}
-use Rattle.snmp_wire.specs.ber.Canon.{canon_content}
+use Rattle.snmp_wire.specs.ber.Canon.{canon_content, canon_subidentifier}
 use Rattle.snmp_wire.specs.ber.Reading.{identifier_of}
 use Rattle.snmp_wire.specs.ber.ReadingLaws.{is_ok_at, ok_is, ok_value}
 use Rattle.snmp_wire.specs.ber.Value.{object_id}
-use Rattle.snmp_wire.proofs.IdentifierLaws.{identifier_again, identifier_takes, subidentifier_some}
-use Rattle.snmp_wire.proofs.NameContents.{alike_back, ends_behind, ends_later, first_is_smaller}
-use Rattle.snmp_wire.proofs.NameContents.{one_text, same_number, same_texts, subidentifier_ends}
-use Rattle.snmp_wire.proofs.StrictIdentifiers.{is_object_id, length-name, name_octets}
+use Rattle.snmp_wire.proofs.Digits.{Octets, back_octets, front_octets, octets_by}
+use Rattle.snmp_wire.proofs.IdentifierLaws.{identifier_again, identifier_takes}
+use Rattle.snmp_wire.proofs.IdentifierWriting.{length-canon_subidentifier, subidentifier_some as size_some}
+use Rattle.snmp_wire.proofs.NameContents.{alike_back, canonical, ends_behind, ends_later}
+use Rattle.snmp_wire.proofs.NameContents.{first_is_smaller, one_content_of, same_number, same_texts}
+use Rattle.snmp_wire.proofs.NameContents.{subidentifier_ends}
+use Rattle.snmp_wire.proofs.StrictIdentifiers.{content_is_subidentifiers, length-name}
+use Rattle.snmp_wire.proofs.StrictIdentifiers.{subidentifier_some}
 
 -- ---- the order of identifiers
 
@@ -51,64 +58,33 @@ never_both law o p h k = let same : Less ≡ Greater = sym ((law.less o p).1 h) 
 never_itself : OrderLaw → (o : List ℕ) → Precedes o o → ⊥
 never_itself law o h = never_both law o o h h
 
--- ---- octets in two parts
-
-front_octets : (xs ys : List ℕ) → AreOctets (xs ++ ys) → AreOctets xs
-front_octets xs ys h k d lt =
-    subst (λ n. n < 256) (get_or_append_left xs ys d k lt) (h k d (omega (arith, lt, length-append xs ys)))
-
-back_octets : (xs ys : List ℕ) → AreOctets (xs ++ ys) → AreOctets ys
-back_octets xs ys h k d lt =
-    subst (λ n. n < 256) (get_or-append-add xs ys k d) (h (length xs + k) d (omega (arith, lt, length-append xs ys)))
-
 -- ---- identifiers and their subidentifiers
 
-first_rises : (x y z w : ℕ) → x < z → z ≤ 2 → (x < 2 → y < 40) → 40 * x + y < 40 * z + w
-first_rises x y z w less top second = let few : y < 40 = second (omega (arith, less, top)) in omega (arith, few, less)
+-- names compare as their subidentifiers do
+same_order : (o p : List ℕ) → IsWire o → IsWire p → slice_cmp nat_cmp o p ≡ slice_cmp nat_cmp (subidentifiers o) (subidentifiers p)
+same_order [] p wire other = absurd wire
+same_order (x ∷ []) p wire other = absurd wire
+same_order (x ∷ y ∷ more) [] wire other = absurd other
+same_order (x ∷ y ∷ more) (z ∷ []) wire other = absurd other
+same_order (x ∷ y ∷ more) (z ∷ w ∷ others) wire other = by_first (cases_order x z)
+  where
+    second : x ≡ z → (r : Ordering) → MatchOrdering r (y < w) (y ≡ w) (w < y) → r ≡ nat_cmp (40 * x + y) (40 * z + w)
+    second same Less h = nat_cmp_is (40 * x + y) (40 * z + w) Less (omega (arith, same, h))
+    second same Equal h = nat_cmp_is (40 * x + y) (40 * z + w) Equal (omega (arith, same, h))
+    second same Greater h = nat_cmp_is (40 * x + y) (40 * z + w) Greater (omega (arith, same, h))
 
-first_same : (x y z w : ℕ) → x ≤ 2 → z ≤ 2 → (x < 2 → y < 40) → (z < 2 → w < 40) → 40 * x + y ≡ 40 * z + w → (x ≡ z) × (y ≡ w)
-first_same x y z w h k second third e = ⊎_elim
-    (λ less. absurd (omega (arith, first_rises x y z w less k second, e)))
-    (λ no_less. ⊎_elim
-    (λ less. absurd (omega (arith, first_rises z w x y less h third, e)))
-    (λ no_more. (omega (arith, no_less, no_more), omega (arith, no_less, no_more, e)))
-    (cases_lt z x))
-    (cases_lt x z)
+    by_first : (x ≡ z) ⊎ ((x < z) ⊎ (z < x)) → slice_cmp nat_cmp (x ∷ y ∷ more) (z ∷ w ∷ others) ≡ slice_cmp nat_cmp ((40 * x + y) ∷ more) ((40 * z + w) ∷ others)
+    by_first (inl same) = rw (← nat_cmp_is x z Equal same, second same (nat_cmp y w) (ranked y w (nat_cmp y w) refl)) refl
+    by_first (inr (inl less)) =
+        rw (← nat_cmp_is x z Less less, ← nat_cmp_is (40 * x + y) (40 * z + w) Less (omega (arith, less, other.0, wire.1))) refl
+    by_first (inr (inr more)) =
+        rw (← nat_cmp_is x z Greater more, ← nat_cmp_is (40 * x + y) (40 * z + w) Greater (omega (arith, more, wire.0, other.1))) refl
 
-numbers_part : (front after behind : List ℕ) (smaller larger : ℕ) → smaller < larger → IsWire (front ++ smaller ∷ after) → IsWire (front ++ larger ∷ behind)
-    → PartsBelow (subidentifiers (front ++ smaller ∷ after)) (subidentifiers (front ++ larger ∷ behind))
-numbers_part [] [] behind x z less wire other = absurd wire
-numbers_part [] (y ∷ after) [] x z less wire other = absurd other
-numbers_part [] (y ∷ after) (w ∷ behind) x z less wire other = record {
-  front = [];
-  smaller = 40 * x + y;
-  larger = 40 * z + w;
-  after = after;
-  behind = behind;
-  this = refl;
-  that = refl;
-  is_smaller = first_rises x y z w less other.0 wire.1;
-}
-numbers_part (x ∷ []) after behind y w less wire other = record {
-  front = [];
-  smaller = 40 * x + y;
-  larger = 40 * x + w;
-  after = after;
-  behind = behind;
-  this = refl;
-  that = refl;
-  is_smaller = omega (arith, less);
-}
-numbers_part (x ∷ y ∷ front) after behind smaller larger less wire other = record {
-  front = (40 * x + y) ∷ front;
-  smaller = smaller;
-  larger = larger;
-  after = after;
-  behind = behind;
-  this = refl;
-  that = refl;
-  is_smaller = less;
-}
+pub names_rise : OrderLaw → (o p : List ℕ) → IsWire o → IsWire p → Precedes o p → Precedes (subidentifiers o) (subidentifiers p)
+names_rise law o p wire other h = (law.less (subidentifiers o) (subidentifiers p)).0 (sym (same_order o p wire other) ∙ (law.less o p).1 h)
+
+pub names_fall : OrderLaw → (o p : List ℕ) → IsWire o → IsWire p → Precedes (subidentifiers o) (subidentifiers p) → Precedes o p
+names_fall law o p wire other h = (law.less o p).0 (same_order o p wire other ∙ (law.less (subidentifiers o) (subidentifiers p)).1 h)
 
 -- what follows a name follows its subidentifiers
 follows : (p rest : List ℕ) → IsWire p → subidentifiers (p ++ rest) ≡ subidentifiers p ++ rest
@@ -125,55 +101,24 @@ followed (x ∷ y ∷ more) (z ∷ []) rest wire other e = absurd other
 followed (x ∷ y ∷ more) (z ∷ w ∷ others) rest wire other e =
     let first : 40 * x + y ≡ 40 * z + w = ap (λ (ns : List ℕ). get_or ns 0 0) e in
     let tails : more ≡ others ++ rest = ap (λ (ns : List ℕ). drop 1 ns) e in
-    let same = first_same x y z w wire.0 other.0 wire.1 other.1 first in
-    ap (λ n. n ∷ y ∷ more) same.0 ∙ ap (λ n. z ∷ n ∷ more) same.1 ∙ ap (λ (ns : List ℕ). z ∷ w ∷ ns) tails
-
-pub names_rise : (o p : List ℕ) → IsWire o → IsWire p → Precedes o p → Precedes (subidentifiers o) (subidentifiers p)
-names_rise o p wire other (inl below) = inl (below.0, below.1, ap subidentifiers below.2 ∙ follows o below.0 wire)
-names_rise o p wire other (inr parts) =
-    let P : List ℕ → List ℕ → Type 0 = λ a b. PartsBelow (subidentifiers a) (subidentifiers b) in
-    let this : IsWire (parts.front ++ parts.smaller ∷ parts.after) = subst IsWire parts.this wire in
-    let that : IsWire (parts.front ++ parts.larger ∷ parts.behind) = subst IsWire parts.that other in
-    let made = numbers_part parts.front parts.after parts.behind parts.smaller parts.larger parts.is_smaller this that in
-    inr (subst (λ (a : List ℕ). P a p) (sym parts.this) (subst (λ (b : List ℕ). P (parts.front ++ parts.smaller ∷ parts.after) b) (sym parts.that) made))
-
-pub names_fall : OrderLaw → (o p : List ℕ) → IsWire o → IsWire p → Precedes (subidentifiers o) (subidentifiers p) → Precedes o p
-names_fall law o p wire other h = by_way (three_ways law o p)
-  where
-    by_way : Precedes o p ⊎ ((o ≡ p) ⊎ Precedes p o) → Precedes o p
-    by_way (inl less) = less
-    by_way (inr (inl same)) = absurd (never_itself law (subidentifiers p) (subst (λ (q : List ℕ). Precedes (subidentifiers q) (subidentifiers p)) same h))
-    by_way (inr (inr more)) = absurd (never_both law (subidentifiers o) (subidentifiers p) h (names_rise p o other wire more))
+    let same : x ≡ z = ⊎_elim (λ equal. equal)
+    (⊎_elim (λ less. absurd (omega (arith, less, other.0, wire.1, first))) (λ more. absurd (omega (arith, more, wire.0, other.1, first))))
+    (cases_order x z) in
+    let next : y ≡ w = omega (arith, same, first) in
+    ap (λ n. n ∷ y ∷ more) same ∙ ap (λ n. z ∷ n ∷ more) next ∙ ap (λ (ns : List ℕ). z ∷ w ∷ ns) tails
 
 -- ---- contents of subidentifiers
 
--- subidentifiers have one content
-one_content_of : (ns content other : List ℕ) → AreOctets content → AreOctets other → AreSubidentifiers content ns → AreSubidentifiers other ns → content ≡ other
-one_content_of [] content other h k are others = are ∙ sym others
-one_content_of (n ∷ ns) content other h k (text, rest, parts, is, are) (text2, rest2, parts2, is2, are2) =
-    let all : AreOctets (text ++ rest) = subst AreOctets parts h in
-    let all2 : AreOctets (text2 ++ rest2) = subst AreOctets parts2 k in
-    let first : text ≡ text2 = one_text text text2 n (front_octets text rest all) (front_octets text2 rest2 all2) is is2 in
-    let others : rest ≡ rest2 = one_content_of ns rest rest2 (back_octets text rest all) (back_octets text2 rest2 all2) are are2 in
-    parts ∙ ap (λ (t : List ℕ). t ++ rest) first ∙ ap (λ (t : List ℕ). text2 ++ t) others ∙ sym parts2
-
--- the content of some subidentifiers, and of those that follow them
-split_content : (ns ms content : List ℕ) → AreSubidentifiers content (ns ++ ms)
-    → (front : List ℕ) × (back : List ℕ) × (content ≡ front ++ back) × AreSubidentifiers front ns × AreSubidentifiers back ms
-split_content [] ms content are = ([], content, refl, refl, are)
-split_content (n ∷ ns) ms content (text, rest, parts, is, are) =
-    let more = split_content ns ms rest are in (
-      text ++ more.0,
-      more.1,
-      parts ∙ ap (λ (t : List ℕ). text ++ t) more.2 ∙ sym (append_assoc text more.0 more.1),
-      (text, more.0, refl, is, more.3),
-      more.4,
-    )
-
-none_of_none : (ns content : List ℕ) → AreSubidentifiers content ns → content ≡ [] → ns ≡ []
-none_of_none [] content are e = refl
-none_of_none (n ∷ ns) content (text, rest, parts, is, are) e =
-    absurd (omega (arith, subidentifier_some text n is, length-append text rest, ap length (sym parts ∙ e)))
+-- the content of some numbers has octets
+none_of_none : (rest : List ℕ) → flat_map canon_subidentifier rest ≡ [] → rest ≡ []
+none_of_none [] e = refl
+none_of_none (n ∷ more) e = absurd (omega (
+  arith,
+  ap length e,
+  length-append (canon_subidentifier n) (flat_map canon_subidentifier more),
+  length-canon_subidentifier n,
+  size_some n,
+))
 
 alike_equal : (octets others : List ℕ) (count : ℕ) → octets ≡ others → count ≤ length octets → IsAlike octets others count
 alike_equal octets others count e h = record {
@@ -298,13 +243,13 @@ one_more_before n ns ms p = record {
   is_smaller = p.is_smaller;
 }
 
-pub first_differs : (ns ms content other : List ℕ) (at : ℕ) → AreOctets content → AreOctets other → AreSubidentifiers content ns → AreSubidentifiers other ms
+pub first_differs : (ns ms content other : List ℕ) (at : ℕ) → Octets content → Octets other → AreSubidentifiers content ns → AreSubidentifiers other ms
     → IsAlike content other at → at < length content → at < length other → EndsFirst content other at → PartsBelow ns ms
 first_differs [] ms content other at h k are others alike low other_low first = absurd (omega (arith, ap length are, low))
 first_differs (n ∷ ns) [] content other at h k are others alike low other_low first = absurd (omega (arith, ap length others, other_low))
 first_differs (n ∷ ns) (m ∷ ms) content other at h k (text, rest, parts, is, are) (text2, rest2, parts2, is2, are2) alike low other_low first =
-    let all : AreOctets (text ++ rest) = subst AreOctets parts h in
-    let all2 : AreOctets (text2 ++ rest2) = subst AreOctets parts2 k in
+    let all : Octets (text ++ rest) = subst Octets parts h in
+    let all2 : Octets (text2 ++ rest2) = subst Octets parts2 k in
     let alike2 : IsAlike (text ++ rest) (text2 ++ rest2) at = subst (λ (t : List ℕ). IsAlike (text ++ rest) t at) parts2
     (subst (λ (t : List ℕ). IsAlike t other at) parts alike) in
     let first2 : EndsFirst (text ++ rest) (text2 ++ rest2) at = subst (λ (t : List ℕ). EndsFirst (text ++ rest) t at) parts2
@@ -340,7 +285,7 @@ pub one_name : (content o p : List ℕ) → IsObjectId content o → IsObjectId 
 one_name content o p is are = ok_is o p (sym (identifier_again content o is) ∙ identifier_again content p are)
 
 pub one_content : (content other o : List ℕ) → AreOctets content → AreOctets other → IsObjectId content o → IsObjectId other o → content ≡ other
-one_content content other o h k is are = one_content_of (subidentifiers o) content other h k is.parts are.parts
+one_content content other o h k is are = one_content_of (subidentifiers o) content other (octets_by content h) (octets_by other k) is.parts are.parts
 
 -- a content that is read is a name's
 pub is_name : (content : List ℕ) → IsOk (identifier_of content) → IsObjectId content (identifier_in content)
@@ -359,21 +304,18 @@ pub content_octets : (content octets name : List ℕ) → octets ≡ content →
 content_octets content octets name same h is = subst (λ (t : List ℕ). IsContentOctets t × (identifier_in t ≡ name)) (sym same)
     (record { read = is_ok_at (identifier_of content) name (identifier_again content name is); octets = h }, identifier_is content name is)
 
--- and the one that is written
-pub canonical : (content name : List ℕ) → AreOctets content → IsObjectId content name → content ≡ canon_content (object_id name)
-canonical content name h is = one_content content (canon_content (object_id name)) name h (name_octets name) is (is_object_id name is.wire is.identifier)
-
 pub content_short : (name : List ℕ) → length name ≤ 128 → length (canon_content (object_id name)) ≤ 640
 content_short name few = omega (arith, length-name name, few)
 
 pub below_from_names : (content root o p : List ℕ) → AreOctets content → AreOctets root → IsObjectId content o → IsObjectId root p → IsBelow o p
     → IsBelow content root
-below_from_names content root o p h k is are (rest, some, e) =
-    let split = split_content (subidentifiers p) rest content
-    (subst (λ (ns : List ℕ). AreSubidentifiers content ns) (ap subidentifiers e ∙ follows p rest are.wire) is.parts) in
-    let front : split.0 ≡ root = one_content_of (subidentifiers p) split.0 root
-    (front_octets split.0 split.1 (subst AreOctets split.2 h)) k split.3 are.parts in
-    (split.1, λ none. some (none_of_none rest split.1 split.4 none), split.2 ∙ ap (λ (t : List ℕ). t ++ split.1) front)
+below_from_names content root o p h k is are (rest, some, e) = (
+  flat_map canon_subidentifier rest,
+  λ none. some (none_of_none rest none),
+  canonical content o (octets_by content h) is ∙ content_is_subidentifiers o
+      ∙ ap (flat_map canon_subidentifier) (ap subidentifiers e ∙ follows p rest are.wire) ∙ flat_map-append canon_subidentifier (subidentifiers p) rest
+      ∙ ap (λ (t : List ℕ). t ++ flat_map canon_subidentifier rest) (sym (canonical root p (octets_by root k) are ∙ content_is_subidentifiers p)),
+)
 
 pub below_from_contents : (content root o p : List ℕ) → IsObjectId content o → IsObjectId root p → IsBelow content root → IsBelow o p
 below_from_contents content root o p is are (rest, some, e) =
@@ -387,7 +329,7 @@ below_from_contents content root o p is are (rest, some, e) =
 pub names_differ : OrderLaw → (content other o p : List ℕ) (at : ℕ) → AreOctets content → AreOctets other → IsObjectId content o → IsObjectId other p
     → IsAlike content other at → at < length content → at < length other → EndsFirst content other at → Precedes o p
 names_differ law content other o p at h k is are alike low other_low first = names_fall law o p is.wire are.wire
-    (inr (first_differs (subidentifiers o) (subidentifiers p) content other at h k is.parts are.parts alike low other_low first))
+    (inr (first_differs (subidentifiers o) (subidentifiers p) content other at (octets_by content h) (octets_by other k) is.parts are.parts alike low other_low first))
 
 -- of two subidentifiers the smaller comes first
 smaller_is_first : OrderLaw → (text other : List ℕ) (n m : ℕ) → AreOctets text → AreOctets other → IsSubidentifier text n → IsSubidentifier other m
@@ -395,11 +337,11 @@ smaller_is_first : OrderLaw → (text other : List ℕ) (n m : ℕ) → AreOctet
 smaller_is_first law text other n m h k is are less = ⊎_elim
     (λ shorter. inl shorter)
     (λ no_shorter. ⊎_elim
-    (λ longer. absurd (omega (arith, less, first_is_smaller other text m n k h are is (inl longer))))
+    (λ longer. absurd (omega (arith, less, first_is_smaller other text m n (octets_by other k) (octets_by text h) are is (inl longer))))
     (λ no_longer. let size : length text ≡ length other = omega (arith, no_shorter, no_longer) in
     ⊎_elim (λ first. inr (size, first))
     (λ others. absurd (⊎_elim (λ same. omega (arith, less, same_number text n m is (subst (λ (t : List ℕ). IsSubidentifier t m) (sym same) are)))
-    (λ last. omega (arith, less, first_is_smaller other text m n k h are is (inr (sym size, last)))) others))
+    (λ last. omega (arith, less, first_is_smaller other text m n (octets_by other k) (octets_by text h) are is (inr (sym size, last)))) others))
     (three_ways law text other))
     (cases_lt (length other) (length text)))
     (cases_lt (length text) (length other))
@@ -409,6 +351,6 @@ encoded law = record {
   one_name = one_name;
   one_content = one_content;
   below = λ content root o p h k is are. (below_from_names content root o p h k is are, below_from_contents content root o p is are);
-  names_order = λ o p wire other. (names_rise o p wire other, names_fall law o p wire other);
-  octets_order = λ text other n m h k is are. (smaller_is_first law text other n m h k is are, first_is_smaller text other n m h k is are);
+  names_order = λ o p wire other. (names_rise law o p wire other, names_fall law o p wire other);
+  octets_order = λ text other n m h k is are. (smaller_is_first law text other n m h k is are, first_is_smaller text other n m (octets_by text h) (octets_by other k) is are);
 }

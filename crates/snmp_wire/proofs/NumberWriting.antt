@@ -9,10 +9,10 @@ use Rattle.std.proofs.lemmas.Bool.Decides.{nat_tests}
 use lib.IntN.{nat_abs}
 use lib.Signed.{le_z, lt_z}
 use mir.Syntax.{w32}
-use Rattle.snmp_wire.specs.ber.Canon.{canon_number, digit_count, number_size, octets}
+use Rattle.snmp_wire.specs.ber.Canon.{canon_number, digits, number_size, octets}
 use Rattle.snmp_wire.specs.ber.Writing.{Writes}
-use Rattle.snmp_wire.proofs.CanonLemmas.{digit_some, digits_fit, number_small, octets_from_zero}
-use Rattle.snmp_wire.proofs.CanonLemmas.{octets-suc}
+use Rattle.snmp_wire.proofs.CanonLemmas.{number_small, number_some, octets_from_zero, sized}
+use Rattle.snmp_wire.proofs.Digits.{digits-suc}
 use Rattle.snmp_wire.specs.ber.WritingLaws.{writes_same, writes_then}
 
 -- the least number that wants one octet more, as a power of 2
@@ -25,16 +25,14 @@ octet_limit (suc m) =
 
 pub number_large : (n least : ℕ) → n < 2 ^ 64 → 128 * 256 ^ least ≤ n → suc (suc least) ≤ number_size n
 unfolding number_size
-number_large n least all h = ⊎_elim
-    (λ below. let fits : n < 128 * 256 ^ (digit_count 256 128 8 n - 1) = digits_fit 256 128 8 n (omega (arith, all)) in
-    let fewer : 256 ^ (digit_count 256 128 8 n - 1) ≤ 256 ^ least = pow-le-pow_right {n = 256} (lit< tt) (omega (arith, below)) in
-    omega (arith, fits, fewer, h))
-    (λ above. above)
-    (cases_lt (digit_count 256 128 8 n) (suc (suc least)))
-
-number_some : (n : ℕ) → 1 ≤ number_size n
-unfolding number_size
-number_some n = digit_some 256 128 8 n
+number_large n least all h =
+    let s = sized 256 128 8 n (omega (arith, all)) in
+    ⊎_elim
+    (λ above. omega (arith, s.size, above))
+    (λ below.
+    let fewer : 256 ^ s.less ≤ 256 ^ least = pow-le-pow_right {n = 256} (lit< tt) (omega (arith, below)) in
+    absurd (omega (arith, s.below, fewer, h)))
+    (cases_lt least s.less)
 
 octets_least : (n k m : ℕ) → 8 * m ≤ suc k → 2 ^ k ≤ n → n < 2 ^ 64 → 1 + m ≤ number_size n
 octets_least n k zero fits low all = number_some n
@@ -66,7 +64,7 @@ size_five n low high =
 
 -- the octets of a number of 32 bits
 pub four_octets : (n : ℕ) → to_be_bytes w32 n ≡ octets 4 n
-unfolding octets
+unfolding digits
 four_octets n = ap (λ m. (n / 256 ^ 3 % 256) ∷ (n / 256 ^ 2 % 256) ∷ (n / 256 ^ 1 % 256) ∷ (m % 256) ∷ []) (sym (div-one n))
 
 pub four_octets_fit : (n : ℕ) → 8388608 ≤ n → n < 2 ^ 32 → 4 ≤ number_size n
@@ -81,7 +79,7 @@ writes_four_octets n low high w = writes_same w (ap (λ k. octets k n) (sym (siz
 
 -- a zero octet stands before a highest bit
 five_octets : (n : ℕ) → n < 2 ^ 32 → 0 ∷ octets 4 n ≡ octets 5 n
-five_octets n h = let zero_octet : n / 256 ^ 4 % 256 ≡ 0 = omega (arith, h) in sym (octets-suc 4 n ∙ ap (λ d. d ∷ octets 4 n) zero_octet)
+five_octets n h = let zero_octet : n / 256 ^ 4 % 256 ≡ 0 = omega (arith, h) in sym (digits-suc 256 4 n ∙ ap (λ d. d ∷ octets 4 n) zero_octet)
 
 pub writes_five_octets : {old mid new : List ℕ} {start middle end : ℕ} (n : ℕ) → 2147483648 ≤ n → n < 2 ^ 32 → Writes old middle end (octets 4 n) mid
     → Writes mid start middle (0 ∷ []) new → Writes old start end (canon_number (pos n)) new
@@ -89,11 +87,11 @@ writes_five_octets n low high w v = writes_same (writes_then w v) (five_octets n
 
 -- one octet, and two
 pub one_octet : (n : ℕ) → (n % 256) ∷ [] ≡ octets 1 n
-unfolding octets
+unfolding digits
 one_octet n = ap (λ m. (m % 256) ∷ []) (sym (div-one n))
 
 pub two_octets : (n : ℕ) → (n / 256 % 256) ∷ (n % 256) ∷ [] ≡ octets 2 n
-unfolding octets
+unfolding digits
 two_octets n = ap (λ m. (n / 256 % 256) ∷ (m % 256) ∷ []) (sym (div-one n))
 
 -- a number from 0 to 127 is its octet

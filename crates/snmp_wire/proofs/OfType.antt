@@ -4,13 +4,12 @@ use Rattle.std.proofs.Common.{List, [], ◌∷◌, ◌++◌, length, sym, ap, su
 use Rattle.std.proofs.Math.Nat.{mul-le-mul_right, pow-le-pow_right, pow-suc}
 use Rattle.std.proofs.lemmas.Nat.{mul-add-lt}
 use Rattle.std.proofs.lemmas.Bool.{cases_lt}
-use Rattle.std.proofs.lemmas.List.Elements.{All-from_recursion}
 use mir.Syntax.{w32}
 use mir.Val.{SFits}
 use Rattle.snmp_wire.specs.ber.Number.{IsUnsigned, lenient, number_of, twos_complement}
 use Rattle.snmp_wire.specs.ber.Number.{unsigned}
 use Rattle.snmp_wire.specs.ber.Range.{IsOfType}
-use Rattle.snmp_wire.specs.ber.Spelling.{IsContent, value_tag}
+use Rattle.snmp_wire.specs.ber.Spelling.{IsContent}
 use Rattle.snmp_wire.specs.ber.Value.{Datum, integer_value, octet_string, null_value, object_id}
 use Rattle.snmp_wire.specs.ber.Value.{ip_address, counter32, gauge32, time_ticks, opaque_octets}
 use Rattle.snmp_wire.specs.ber.Value.{counter64, no_such_object, no_such_instance, end_of_mib_view}
@@ -20,8 +19,9 @@ use Rattle.snmp_wire.specs.Spelling.{Spells}
 use Rattle.snmp_wire.proofs.Elements.{AreOfType, Elements, SpellsAll, element_then, no_elements}
 use Rattle.snmp_wire.proofs.Elements.{value_then}
 use Rattle.snmp_wire.proofs.MessageElements.{elements_of, in_row, of_type}
-use Rattle.snmp_wire.proofs.ShortestValues.{Octets, back_octets, below_power, content_octets}
-use Rattle.snmp_wire.proofs.ShortestValues.{front_octets, octets_by}
+use Rattle.snmp_wire.proofs.Digits.{Octets, back_octets, below_power, by_octets, front_octets}
+use Rattle.snmp_wire.proofs.Digits.{octets_by}
+use Rattle.snmp_wire.proofs.Shortest.{content_octets}
 use Rattle.snmp_wire.proofs.StrictNumbers.{minus, negative, positive}
 
 -- ---- numbers
@@ -74,28 +74,25 @@ unsigned_fits width (first ∷ rest) n h is =
 
 content_of_type : (value : Datum) (content : List ℕ) → Octets content → IsContent lenient value content → IsOfType value
 content_of_type (integer_value z) content h is = signed_fits content z h is.some is.few is.value
-content_of_type (octet_string text) content h is = All-from_recursion (λ octet. octet < 256) text (subst Octets is h)
-content_of_type null_value content h is = tt
+content_of_type (octet_string text) content h is = by_octets text (subst Octets is h)
 content_of_type (object_id name) content h is = (is.wire, is.identifier)
-content_of_type (ip_address address) content h is = (All-from_recursion (λ octet. octet < 256) address (subst Octets is.0 h), is.1)
+content_of_type (ip_address address) content h is = (by_octets address (subst Octets is.0 h), is.1)
 content_of_type (counter32 n) content h is = unsigned_fits 4 content n h is
 content_of_type (gauge32 n) content h is = unsigned_fits 4 content n h is
 content_of_type (time_ticks n) content h is = unsigned_fits 4 content n h is
-content_of_type (opaque_octets text) content h is = All-from_recursion (λ octet. octet < 256) text (subst Octets is h)
+content_of_type (opaque_octets text) content h is = by_octets text (subst Octets is h)
 content_of_type (counter64 n) content h is = unsigned_fits 8 content n h is
-content_of_type no_such_object content h is = tt
-content_of_type no_such_instance content h is = tt
-content_of_type end_of_mib_view content h is = tt
+content_of_type value content h is = tt
 
 are_of_type : (all : Elements) (octets : List ℕ) → Octets octets → SpellsAll lenient all octets → AreOfType all
 are_of_type no_elements octets h is = tt
 are_of_type (value_then value more) octets h (first, rest, parts, this, others) =
     let both : Octets (first ++ rest) = subst Octets parts h in
-    let inside : Octets this.content = content_octets (value_tag value) this.content first (front_octets first rest both) this.element in
+    let inside : Octets this.content = content_octets (front_octets first rest both) this.element in
     (content_of_type value this.content inside this.is_content, are_of_type more rest (back_octets first rest both) others)
 are_of_type (element_then tag within more) octets h (first, rest, parts, content, element, inner, others) =
     let both : Octets (first ++ rest) = subst Octets parts h in
-    let inside : Octets content = content_octets tag content first (front_octets first rest both) element in
+    let inside : Octets content = content_octets (front_octets first rest both) element in
     (are_of_type within content inside inner, are_of_type more rest (back_octets first rest both) others)
 
 pub message_of_type : (m : Message) (octets : List ℕ) → Spells m octets → IsMessageOfType m

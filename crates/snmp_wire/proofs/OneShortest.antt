@@ -8,7 +8,7 @@ use Rattle.snmp_wire.specs.Laws.{OneShortestEncoding}
 use Rattle.snmp_wire.specs.Message.{VarBind, Message}
 use Rattle.snmp_wire.specs.Range.{IsMessageInRange}
 use Rattle.snmp_wire.specs.Shortest.{IsShortestEncoding}
-use Rattle.snmp_wire.proofs.MessageElements.{message_same, no_shorter, strict_canon}
+use Rattle.snmp_wire.proofs.MessageElements.{message_least, no_shorter, strict_canon}
 use Rattle.snmp_wire.proofs.MessageWriting.{canon_parts}
 
 pub written_is_shortest : (message : Message) → IsMessageInRange message → IsShortestEncoding (canon message) message
@@ -16,7 +16,7 @@ written_is_shortest message range = record { strict = strict_canon message range
 
 pub shortest_is_written : (message : Message) (text : List ℕ) → IsMessageInRange message → IsShortestEncoding text message
     → text ≡ canon message
-shortest_is_written message text range is = message_same message text range is.strict (is.shortest (canon message) (strict_canon message range))
+shortest_is_written message text range is = (message_least message text is.strict).one (is.shortest (canon message) (strict_canon message range))
 
 pub only_shortest : (message : Message) (text other : List ℕ) → IsMessageInRange message → IsShortestEncoding text message
     → IsShortestEncoding other message

@@ -1,160 +1,169 @@
--- Identifiers as they are written are forms by the standard.
-use Rattle.std.proofs.Common.{◌≡◌, ℕ, ◌+◌, ◌-◌, ◌*◌, ◌/◌, ◌%◌, ◌^◌, ◌<◌, ◌≤◌, suc, zero, List, []}
-use Rattle.std.proofs.Common.{◌∷◌, ◌++◌, length, get_or, refl, sym, ap, subst, ◌∙◌}
-use Rattle.std.proofs.Common.{⊎_elim, lit<, arith, length-append, All}
-use Rattle.std.proofs.Math.Nat.{div-lt_iff_lt-mul, le-div_iff_mul-le, mod-add-div', mod-eq_of_lt}
-use Rattle.std.proofs.Math.Nat.{mod-lt, mod-mod, mod-one, one-le-pow, pow-suc, pow-succ'}
-use Rattle.std.proofs.Math.Arith.{mod-mul}
-use Rattle.std.proofs.lemmas.Bool.{cases_lt}
-use Rattle.std.proofs.lemmas.List.{map-append}
-use Rattle.std.proofs.lemmas.List.Elements.{All-append, All-cons, All-nil, recursion_from_All}
+-- Identifiers as they are written are forms by the standard, and the only ones.
+use Rattle.std.proofs.Common.{◌≡◌, ◌≢◌, ℕ, ◌+◌, ◌-◌, ◌*◌, ◌/◌, ◌%◌, ◌^◌, ◌<◌, ◌≤◌, suc, zero, List}
+use Rattle.std.proofs.Common.{[], ◌∷◌, ◌++◌, length, get_or, map, refl, sym, ap, subst, ◌∙◌, lit<}
+use Rattle.std.proofs.Common.{arith, length-append}
+use Rattle.std.proofs.Math.Nat.{div-lt_iff_lt-mul, le-div_iff_mul-le, mod-lt, one-le-pow, pow-suc}
+use Rattle.std.proofs.lemmas.List.{length-map, map-append}
+use Rattle.std.proofs.lemmas.List.Elements.{All-from_recursion, recursion_from_All}
 use Rattle.std.specs.List.{AllByRecursion, flat_map}
 use Rattle.snmp_oid.specs.Identifier.{IsIdentifier, IsWire}
-use Rattle.snmp_wire.specs.ber.Canon.{canon_content, canon_subidentifier, digit_count, septets}
+use Rattle.snmp_wire.specs.ber.Canon.{canon_content, canon_subidentifier, digits, septets}
 use Rattle.snmp_wire.specs.ber.Canon.{subidentifier_size}
 use Rattle.snmp_wire.specs.ber.Identifier.{AreSubidentifiers, IsObjectId, IsSubidentifier}
 use Rattle.snmp_wire.specs.ber.Identifier.{subidentifiers}
 use Rattle.snmp_wire.specs.ber.Value.{object_id}
-use Rattle.snmp_wire.specs.ber.Number.{AreOctets, number_of}
-use Rattle.snmp_wire.proofs.CanonLemmas.{digit_some, digits_fit, digits_needed, length-septets}
-use Rattle.snmp_wire.proofs.CanonLemmas.{septets-suc}
-use Rattle.snmp_wire.proofs.IdentifierWriting.{length-canon_subidentifier, subidentifier_most}
-use Rattle.snmp_wire.proofs.IdentifierWriting.{subidentifier_parts, subidentifier_short}
-use Rattle.snmp_wire.proofs.NumberLemmas.{number_of-push}
-use Rattle.snmp_wire.proofs.ShortestValues.{low_bits, length-low_bits}
+use Rattle.snmp_wire.specs.ber.Number.{number_of}
+use Rattle.snmp_wire.proofs.CanonLemmas.{digits_needed, sized}
+use Rattle.snmp_wire.proofs.Digits.{AreDigits, Octets, below_power, both_octets, digits_are, digits_value}
+use Rattle.snmp_wire.proofs.Digits.{front_octets, number_of-push}
+use Rattle.snmp_wire.proofs.IdentifierWriting.{length-canon_subidentifier, length-septets}
+use Rattle.snmp_wire.proofs.IdentifierWriting.{subidentifier_most, subidentifier_parts}
 
-number_of-septets : (count n : ℕ) → number_of 128 (low_bits (septets count n)) ≡ n % 128 ^ count
-unfolding septets
-number_of-septets zero n = sym (mod-one n)
-number_of-septets (suc count) n =
+-- ---- digits of seven bits
+
+abbrev pub low_bits : List ℕ → List ℕ
+low_bits text = map (λ octet. octet % 128) text
+
+pub bits_below : (text : List ℕ) → AreDigits 128 (low_bits text)
+bits_below [] = tt
+bits_below (x ∷ xs) = (omega arith, bits_below xs)
+
+pub length-low_bits : (text : List ℕ) → length (low_bits text) ≡ length text
+length-low_bits text = length-map text (λ octet. octet % 128)
+
+low_septets : (count n : ℕ) → low_bits (septets count n) ≡ digits 128 count n
+unfolding septets digits
+low_septets zero n = refl
+low_septets (suc count) n =
     let digit : (128 + n / 128 ^ count % 128) % 128 ≡ n / 128 ^ count % 128 = omega arith in
-    ap (λ k. (128 + n / 128 ^ count % 128) % 128 * 128 ^ k + number_of 128 (low_bits (septets count n)))
-    (length-low_bits (septets count n) ∙ length-septets count n)
-    ∙ ap (λ d. d * 128 ^ count + number_of 128 (low_bits (septets count n))) digit
-    ∙ ap (λ rest. n / 128 ^ count % 128 * 128 ^ count + rest) (number_of-septets count n)
-    ∙ sym (mod-mul n (lit< tt) (one-le-pow count 128 (lit< tt)))
-    ∙ ap (λ m. n % m) (sym (pow-succ' 128 count))
+    ap (λ d. d ∷ low_bits (septets count n)) digit ∙ ap (λ ds. (n / 128 ^ count % 128) ∷ ds) (low_septets count n)
 
-septets_go_on : (count n : ℕ) → All (λ octet. 128 ≤ octet) (septets count n)
+abbrev AreHigh : List ℕ → Type 0
+AreHigh text = AllByRecursion (λ octet. 128 ≤ octet) text
+
+high_septets : (count n : ℕ) → AreHigh (septets count n)
+unfolding septets digits
+high_septets zero n = tt
+high_septets (suc count) n = (omega arith, high_septets count n)
+
+septet_octets : (count n : ℕ) → Octets (septets count n)
+unfolding septets digits
+septet_octets zero n = tt
+septet_octets (suc count) n = (omega arith, septet_octets count n)
+
+-- octets with the high bit set are the digits of their number
+septets_are : (front : List ℕ) → Octets front → AreHigh front → front ≡ septets (length front) (number_of 128 (low_bits front))
 unfolding septets
-septets_go_on zero n = All-nil (λ octet. 128 ≤ octet)
-septets_go_on (suc count) n = All-cons (λ octet. 128 ≤ octet) (128 + n / 128 ^ count % 128) (septets count n) (omega arith) (septets_go_on count n)
-
-septets_are_octets : (count n : ℕ) → AreOctets (septets count n)
-unfolding septets
-septets_are_octets zero n = All-nil (λ octet. octet < 256)
-septets_are_octets (suc count) n = All-cons (λ octet. octet < 256) (128 + n / 128 ^ count % 128) (septets count n) (omega arith) (septets_are_octets count n)
-
--- a number of several digits
-record Long (n : ℕ) : Type 0 where
-  pub more : ℕ
-  pub size : subidentifier_size n ≡ suc (suc more)
-  pub low : 128 * 128 ^ more ≤ n
-  pub high : n < 128 * 128 ^ suc more
-
-long : (n : ℕ) → 128 ≤ n → n < 2 ^ 35 → Long n
-unfolding subidentifier_size
-long n some h =
-    let count : ℕ = digit_count 128 128 4 n in
-    let fits : n < 128 * 128 ^ (count - 1) = digits_fit 128 128 4 n (omega arith) in
-    let several : 2 ≤ count = at_least_two count n some fits (digit_some 128 128 4 n) in
-    let size : count ≡ suc (suc (count - 2)) = omega arith in
-    let same : count - 1 ≡ suc (count - 2) = omega arith in
-    record {
-      more = count - 2;
-      size = size;
-      low = digits_needed 128 128 4 n (count - 2) size;
-      high = subst (λ (k : ℕ). n < 128 * 128 ^ k) same fits;
-    }
+septets_are front h high = marked front h high ∙ ap (map (λ digit. 128 + digit)) (digits_are 128 (low_bits front) (lit< tt) (bits_below front)
+    ∙ ap (λ k. digits 128 k (number_of 128 (low_bits front))) (length-low_bits front))
   where
-    at_least_two : (count n : ℕ) → 128 ≤ n → n < 128 * 128 ^ (count - 1) → 1 ≤ count → 2 ≤ count
-    at_least_two zero n some fits one = omega arith
-    at_least_two (suc zero) n some fits one = omega (arith, fits)
-    at_least_two (suc (suc k)) n some fits one = omega arith
+    marked : (front : List ℕ) → Octets front → AreHigh front → front ≡ map (λ digit. 128 + digit) (low_bits front)
+    marked [] h high = refl
+    marked (x ∷ xs) h high =
+        let same : x ≡ 128 + x % 128 = omega (arith, h.0, high.0) in
+        ap (λ d. d ∷ xs) same ∙ ap (λ ds. (128 + x % 128) ∷ ds) (marked xs h.1 high.1)
 
-one_less : (k : ℕ) → suc (suc k) - 1 ≡ suc k
-one_less k = omega arith
+-- ---- subidentifiers
+
+-- a subidentifier has octets
+pub subidentifier_some : (text : List ℕ) (n : ℕ) → IsSubidentifier text n → 0 < length text
+subidentifier_some text n is = omega (arith, ap length is.parts, length-append is.front (is.last ∷ []))
+
+-- and is below the power of them
+pub subidentifier_bound : (text : List ℕ) (n : ℕ) → IsSubidentifier text n → n < 128 ^ length text
+subidentifier_bound text n is = subst (λ (v : ℕ). v < 128 ^ length text) is.value
+    (subst (λ (k : ℕ). number_of 128 (low_bits text) < 128 ^ k) (length-low_bits text) (below_power 128 (low_bits text) (bits_below text)))
+
+front_value : (front : List ℕ) (last : ℕ) → number_of 128 (low_bits (front ++ last ∷ [])) ≡ number_of 128 (low_bits front) * 128 + last % 128
+front_value front last = ap (number_of 128) (map-append (λ octet. octet % 128) front (last ∷ []))
+    ∙ number_of-push 128 (low_bits front) (last % 128)
+
+-- its octets are its digits
+text_is : (text : List ℕ) (n : ℕ) → Octets text → IsSubidentifier text n → text ≡ septets (length text - 1) (n / 128) ++ (n % 128) ∷ []
+text_is text n h is =
+    let v : ℕ = number_of 128 (low_bits is.front) in
+    let value : v * 128 + is.last % 128 ≡ n = sym (front_value is.front is.last) ∙ sym (ap (λ o. number_of 128 (low_bits o)) is.parts) ∙ is.value in
+    let size : length is.front ≡ length text - 1 = omega (arith, ap length is.parts, length-append is.front (is.last ∷ [])) in
+    let high : v ≡ n / 128 = omega (arith, value) in
+    let low : is.last ≡ n % 128 = omega (arith, value, is.ends) in
+    let front : is.front ≡ septets (length text - 1) (n / 128) =
+    septets_are is.front (front_octets is.front (is.last ∷ []) (subst Octets is.parts h)) (recursion_from_All (λ octet. 128 ≤ octet) is.front is.goes_on)
+    ∙ ap (λ k. septets k v) size ∙ ap (septets (length text - 1)) high in
+    is.parts ∙ ap (λ (o : List ℕ). o ++ is.last ∷ []) front ∙ ap (λ l. septets (length text - 1) (n / 128) ++ l ∷ []) low
+
+-- so texts of as many octets are the same
+pub same_subidentifier : (xs ys : List ℕ) (n : ℕ) → Octets xs → Octets ys → length xs ≡ length ys → IsSubidentifier xs n → IsSubidentifier ys n → xs ≡ ys
+same_subidentifier xs ys n h k size is are =
+    text_is xs n h is ∙ ap (λ count. septets (count - 1) (n / 128) ++ (n % 128) ∷ []) size ∙ sym (text_is ys n k are)
+
+not_padded : (count m last : ℕ) → last < 128 → m < 128 ^ count → ((k : ℕ) → count ≡ suc k → 128 ^ k ≤ m) → get_or (septets count m ++ last ∷ []) 0 0 ≢ 128
+unfolding septets digits
+not_padded zero m last low high least e = omega (arith, low, e)
+not_padded (suc k) m last low high least e =
+    let some : 1 ≤ m / 128 ^ k = (le-div_iff_mul-le (one-le-pow k 128 (lit< tt))).1 (omega (arith, least k refl)) in
+    let small : m / 128 ^ k < 128 = (div-lt_iff_lt-mul (one-le-pow k 128 (lit< tt))).1 (omega (arith, high, pow-suc 128 k)) in
+    omega (arith, e, some, small)
 
 pub is_subidentifier : (n : ℕ) → n < 2 ^ 35 → IsSubidentifier (canon_subidentifier n) n
-is_subidentifier n h = ⊎_elim (λ short. one_octet n short) (λ large. several n h large (long n large h)) (cases_lt n 128)
-  where
-    one_octet : (n : ℕ) → n < 128 → IsSubidentifier (canon_subidentifier n) n
-    one_octet n short =
-        let same : n % 128 ≡ n = mod-eq_of_lt short in
-        let text : canon_subidentifier n ≡ n ∷ [] = subidentifier_short n short ∙ ap (λ d. d ∷ []) same in
-        record {
-          front = [];
-          last = n;
-          parts = text;
-          goes_on = All-nil (λ octet. 128 ≤ octet);
-          ends = short;
-          minimal = λ e. omega (arith, ap (λ octets. get_or octets 0 0) text, e);
-          value = ap (λ octets. number_of 128 (low_bits octets)) text ∙ (let value : n % 128 * 128 ^ 0 + 0 ≡ n = omega (arith, same) in value);
-        }
+unfolding subidentifier_size
+is_subidentifier n h =
+    let s = sized 128 128 4 n (omega arith) in
+    let m : ℕ = n / 128 in
+    let last : ℕ = n % 128 in
+    let count : subidentifier_size n - 1 ≡ s.less = omega (arith, s.size) in
+    let text : canon_subidentifier n ≡ septets s.less m ++ last ∷ [] = subidentifier_parts n ∙ ap (λ k. septets k m ++ last ∷ []) count in
+    let high : m < 128 ^ s.less = omega (arith, s.below) in
+    let least : (k : ℕ) → s.less ≡ suc k → 128 ^ k ≤ m = λ k e. omega (arith, digits_needed 128 128 4 n k (s.size ∙ ap suc e)) in
+    record {
+      front = septets s.less m;
+      last = last;
+      parts = text;
+      goes_on = All-from_recursion (λ octet. 128 ≤ octet) (septets s.less m) (high_septets s.less m);
+      ends = mod-lt n (lit< tt);
+      minimal = λ e. not_padded s.less m last (omega arith) high least (sym (ap (λ (octets : List ℕ). get_or octets 0 0) text) ∙ e);
+      value = ap (λ octets. number_of 128 (low_bits octets)) text ∙ front_value (septets s.less m) last
+          ∙ ap (λ v. v * 128 + last % 128) (ap (number_of 128) (low_septets s.less m) ∙ digits_value 128 s.less m (lit< tt) high)
+          ∙ (let sum : m * 128 + last % 128 ≡ n = omega arith in sum);
+    }
 
-    several : (n : ℕ) → n < 2 ^ 35 → 128 ≤ n → Long n → IsSubidentifier (canon_subidentifier n) n
-    several n h large l =
-        let m : ℕ = n / 128 in
-        let text : canon_subidentifier n ≡ septets (suc l.more) m ++ (n % 128) ∷ [] = subidentifier_parts n
-        ∙ ap (λ k. septets (k - 1) m ++ (n % 128) ∷ []) l.size ∙ ap (λ k. septets k m ++ (n % 128) ∷ []) (one_less l.more) in
-        let low : 128 ^ l.more ≤ m = (le-div_iff_mul-le (lit< tt)).1 (omega (arith, l.low)) in
-        let high : m < 128 ^ suc l.more = (div-lt_iff_lt-mul (lit< tt)).1 (omega (arith, l.high)) in
-        let digit_low : 1 ≤ m / 128 ^ l.more = (le-div_iff_mul-le (one-le-pow l.more 128 (lit< tt))).1 (omega (arith, low)) in
-        let digit_high : m / 128 ^ l.more < 128 = (div-lt_iff_lt-mul (one-le-pow l.more 128 (lit< tt))).1 (omega (arith, high, pow-suc 128 l.more)) in
-        let digit : m / 128 ^ l.more % 128 ≡ m / 128 ^ l.more = mod-eq_of_lt digit_high in
-        let first : get_or (canon_subidentifier n) 0 0 ≡ 128 + m / 128 ^ l.more % 128 =
-        ap (λ octets. get_or octets 0 0) (text ∙ ap (λ front. front ++ (n % 128) ∷ []) (septets-suc l.more m)) in
-        let sum : m * 128 + n % 128 % 128 ≡ n = omega (arith, mod-mod n 128, mod-add-div' n 128) in
-        record {
-          front = septets (suc l.more) m;
-          last = n % 128;
-          parts = text;
-          goes_on = septets_go_on (suc l.more) m;
-          ends = mod-lt n (lit< tt);
-          minimal = λ e. omega (arith, first, e, digit, digit_low);
-          value = ap (λ octets. number_of 128 (low_bits octets)) text
-              ∙ ap (number_of 128) (map-append (λ octet. octet % 128) (septets (suc l.more) m) ((n % 128) ∷ []))
-              ∙ number_of-push 128 (low_bits (septets (suc l.more) m)) (n % 128 % 128)
-              ∙ ap (λ v. v * 128 + n % 128 % 128) (number_of-septets (suc l.more) m ∙ mod-eq_of_lt high)
-              ∙ sum;
-        }
+pub subidentifier_octets : (n : ℕ) → Octets (canon_subidentifier n)
+subidentifier_octets n = subst Octets (sym (subidentifier_parts n))
+    (both_octets (septets (subidentifier_size n - 1) (n / 128)) ((n % 128) ∷ []) (septet_octets (subidentifier_size n - 1) (n / 128)) (omega arith, tt))
 
-pub subidentifier_octets : (n : ℕ) → AreOctets (canon_subidentifier n)
-subidentifier_octets n = subst AreOctets (sym (subidentifier_parts n))
-    (All-append (λ octet. octet < 256) (septets (subidentifier_size n - 1) (n / 128)) ((n % 128) ∷ []) (septets_are_octets (subidentifier_size n - 1) (n / 128))
-    (All-cons (λ octet. octet < 256) (n % 128) [] (omega arith) (All-nil (λ octet. octet < 256))))
+-- ---- identifiers
 
-pub are_subidentifiers : (numbers : List ℕ) → AllByRecursion (λ n. n < 2 ^ 35) numbers → AreSubidentifiers (flat_map canon_subidentifier numbers) numbers
+are_subidentifiers : (numbers : List ℕ) → AllByRecursion (λ n. n < 2 ^ 35) numbers → AreSubidentifiers (flat_map canon_subidentifier numbers) numbers
 are_subidentifiers [] h = refl
 are_subidentifiers (n ∷ more) h = (canon_subidentifier n, flat_map canon_subidentifier more, refl, is_subidentifier n h.0, are_subidentifiers more h.1)
 
-all_octets : (numbers : List ℕ) → AreOctets (flat_map canon_subidentifier numbers)
-all_octets [] = All-nil (λ octet. octet < 256)
-all_octets (n ∷ more) = All-append (λ octet. octet < 256) (canon_subidentifier n) (flat_map canon_subidentifier more) (subidentifier_octets n) (all_octets more)
+all_octets : (numbers : List ℕ) → Octets (flat_map canon_subidentifier numbers)
+all_octets [] = tt
+all_octets (n ∷ more) = both_octets (canon_subidentifier n) (flat_map canon_subidentifier more) (subidentifier_octets n) (all_octets more)
 
-pub small_subidentifiers : (name : List ℕ) → IsWire name → AllByRecursion (λ n. n < 2 ^ 32) name → AllByRecursion (λ n. n < 2 ^ 35) (subidentifiers name)
-small_subidentifiers [] wire h = tt
-small_subidentifiers (x ∷ []) wire h = tt
-small_subidentifiers (x ∷ y ∷ rest) wire h = (omega (arith, wire.0, h.1.0), wider rest h.1.1)
+pub small_subidentifiers : (name : List ℕ) → IsWire name → IsIdentifier name → AllByRecursion (λ n. n < 2 ^ 35) (subidentifiers name)
+small_subidentifiers name wire identifier = by_numbers name wire (recursion_from_All (λ n. n < 2 ^ 32) name identifier.numbers)
   where
     wider : (numbers : List ℕ) → AllByRecursion (λ n. n < 2 ^ 32) numbers → AllByRecursion (λ n. n < 2 ^ 35) numbers
     wider [] h = tt
     wider (n ∷ more) h = (omega (arith, h.0), wider more h.1)
+
+    by_numbers : (name : List ℕ) → IsWire name → AllByRecursion (λ n. n < 2 ^ 32) name → AllByRecursion (λ n. n < 2 ^ 35) (subidentifiers name)
+    by_numbers [] wire h = tt
+    by_numbers (x ∷ []) wire h = tt
+    by_numbers (x ∷ y ∷ rest) wire h = (omega (arith, wire.0, h.1.0), wider rest h.1.1)
 
 pub content_is_subidentifiers : (name : List ℕ) → canon_content (object_id name) ≡ flat_map canon_subidentifier (subidentifiers name)
 unfolding canon_content
 content_is_subidentifiers name = refl
 
 pub is_object_id : (name : List ℕ) → IsWire name → IsIdentifier name → IsObjectId (canon_content (object_id name)) name
-is_object_id name wire identifier = record {
-  wire = wire;
-  identifier = identifier;
-  parts = subst (λ (content : List ℕ). AreSubidentifiers content (subidentifiers name)) (sym (content_is_subidentifiers name))
-      (are_subidentifiers (subidentifiers name) (small_subidentifiers name wire (recursion_from_All (λ n. n < 2 ^ 32) name identifier.numbers)));
-}
+unfolding canon_content
+is_object_id name wire identifier =
+    record { wire = wire; identifier = identifier; parts = are_subidentifiers (subidentifiers name) (small_subidentifiers name wire identifier) }
 
-pub name_octets : (name : List ℕ) → AreOctets (canon_content (object_id name))
-name_octets name = subst AreOctets (sym (content_is_subidentifiers name)) (all_octets (subidentifiers name))
+pub name_octets : (name : List ℕ) → Octets (canon_content (object_id name))
+unfolding canon_content
+name_octets name = all_octets (subidentifiers name)
 
 -- a subidentifier has five octets at most
 length-subidentifiers : (numbers : List ℕ) → length (flat_map canon_subidentifier numbers) ≤ 5 * length numbers
@@ -168,10 +177,7 @@ length-subidentifiers (n ∷ more) = omega (
 )
 
 pub length-name : (name : List ℕ) → length (canon_content (object_id name)) ≤ 5 * length name
-length-name name = let bound : length (flat_map canon_subidentifier (subidentifiers name)) ≤ 5 * length name = fewer name in
-    subst (λ (content : List ℕ). length content ≤ 5 * length name) (sym (content_is_subidentifiers name)) bound
-  where
-    fewer : (name : List ℕ) → length (flat_map canon_subidentifier (subidentifiers name)) ≤ 5 * length name
-    fewer [] = omega arith
-    fewer (x ∷ []) = omega arith
-    fewer (x ∷ y ∷ rest) = omega (arith, length-subidentifiers ((40 * x + y) ∷ rest))
+unfolding canon_content
+length-name [] = omega arith
+length-name (x ∷ []) = omega arith
+length-name (x ∷ y ∷ rest) = omega (arith, length-subidentifiers ((40 * x + y) ∷ rest))

@@ -1,17 +1,17 @@
--- Messages as they are written are spelt by the standard.
-use Rattle.std.proofs.Common.{ℕ, ◌+◌, ◌^◌, ◌<◌, ◌≤◌, List, [], ◌++◌, length, ℤ, pos, negsuc, refl}
-use Rattle.std.proofs.Common.{lit<, lit≤, arith}
-use Rattle.std.proofs.lemmas.List.Elements.{All-append, All-cons, All-nil}
+-- Values as they are written are spelt by the standard.
+use Rattle.std.proofs.Common.{◌≡◌, ℕ, ◌+◌, ◌^◌, ◌<◌, ◌≤◌, List, [], length, ℤ, pos, refl, sym, ap}
+use Rattle.std.proofs.Common.{subst, lit<, lit≤, arith}
 use Rattle.snmp_wire.specs.ber.Canon.{canon_content, canon_element, canon_header, canon_length}
-use Rattle.snmp_wire.specs.ber.Canon.{canon_number, canon_value, number_size}
+use Rattle.snmp_wire.specs.ber.Canon.{canon_number, canon_value, magnitude_of, number_size}
 use Rattle.snmp_wire.specs.ber.Length.{IsElement}
 use Rattle.snmp_wire.specs.ber.Value.{Datum, integer_value, octet_string, null_value, object_id}
 use Rattle.snmp_wire.specs.ber.Value.{ip_address, counter32, gauge32, time_ticks, opaque_octets}
 use Rattle.snmp_wire.specs.ber.Value.{counter64, no_such_object, no_such_instance, end_of_mib_view}
-use Rattle.snmp_wire.specs.ber.Number.{AreOctets, strict}
+use Rattle.snmp_wire.specs.ber.Number.{strict}
 use Rattle.snmp_wire.specs.ber.Range.{IsInRange}
 use Rattle.snmp_wire.specs.ber.Spelling.{IsContent, SpellsValue, value_tag}
 use Rattle.snmp_wire.proofs.CanonLemmas.{digit_most, length-canon_number}
+use Rattle.snmp_wire.proofs.Digits.{Octets, both_octets, octets_by}
 use Rattle.snmp_wire.specs.ber.ElementLaws.{length-canon_element}
 use Rattle.snmp_wire.proofs.StrictIdentifiers.{is_object_id, length-name, name_octets}
 use Rattle.snmp_wire.proofs.StrictNumbers.{is_integer, is_length, is_unsigned_of}
@@ -23,10 +23,9 @@ pub is_element : (tag : ℕ) (content : List ℕ) → length content < 2 ^ 32 �
 unfolding canon_element canon_header
 is_element tag content h = record { length_octets = canon_length (length content); is_length = is_length (length content) h; parts = refl }
 
-pub element_octets : (tag : ℕ) (content : List ℕ) → tag < 256 → AreOctets content → AreOctets (canon_element tag content)
+pub element_octets : (tag : ℕ) (content : List ℕ) → tag < 256 → Octets content → Octets (canon_element tag content)
 unfolding canon_element canon_header
-element_octets tag content h all = All-cons (λ octet. octet < 256) tag (canon_length (length content) ++ content) h
-    (All-append (λ octet. octet < 256) (canon_length (length content)) content (length_octets (length content)) all)
+element_octets tag content h all = (h, both_octets (canon_length (length content)) content (length_octets (length content)) all)
 
 pub element_most : (tag : ℕ) (content : List ℕ) → length (canon_element tag content) ≤ 6 + length content
 element_most tag content = omega (arith, length-canon_element tag content, length-canon_length (length content))
@@ -38,48 +37,37 @@ unfolding number_size
 number_most n = digit_most 256 128 8 n
 
 pub length-number : (z : ℤ) → length (canon_number z) ≤ 9
-length-number (pos n) = omega (arith, length-canon_number (pos n), number_most n)
-length-number (negsuc n) = omega (arith, length-canon_number (negsuc n), number_most n)
+length-number z = omega (arith, length-canon_number z, number_most (magnitude_of z))
 
 -- the content of a value in range: a form by the standard, of octets, not too long
 pub record IsGood (value : Datum) : Type 0 where
   pub is_content : IsContent strict value (canon_content value)
-  pub are_octets : AreOctets (canon_content value)
+  pub are_octets : Octets (canon_content value)
   pub short : length (canon_content value) ≤ 65535
 
-pub none : AreOctets []
-none = All-nil (λ octet. octet < 256)
+good_number : {value : Datum} (z : ℤ) → canon_content value ≡ canon_number z → IsContent strict value (canon_number z) → IsGood value
+good_number {value} z e is = record {
+  is_content = subst (IsContent strict value) (sym e) is;
+  are_octets = subst Octets (sym e) (number_octets z);
+  short = omega (arith, ap length e, length-number z);
+}
 
 pub good : (value : Datum) → IsInRange value → IsGood value
 unfolding canon_content
-good (integer_value z) h = record { is_content = is_integer z h; are_octets = number_octets z; short = omega (arith, length-number z) }
-good (octet_string text) h = record { is_content = refl; are_octets = h.0; short = h.1 }
-good null_value h = record { is_content = refl; are_octets = none; short = omega arith }
+good (integer_value z) h = good_number z refl (is_integer z h)
+good (octet_string text) h = record { is_content = refl; are_octets = octets_by text h.0; short = h.1 }
 good (object_id name) h = record { is_content = is_object_id name h.0 h.1; are_octets = name_octets name; short = omega (arith, length-name name, h.1.short) }
-good (ip_address address) h = record { is_content = (refl, h.1); are_octets = h.0; short = omega (arith, h.1) }
-good (counter32 n) h = record { is_content = is_unsigned_of 4 n (lit≤ tt) h; are_octets = number_octets (pos n); short = omega (arith, length-number (pos n)) }
-good (gauge32 n) h = record { is_content = is_unsigned_of 4 n (lit≤ tt) h; are_octets = number_octets (pos n); short = omega (arith, length-number (pos n)) }
-good (time_ticks n) h = record { is_content = is_unsigned_of 4 n (lit≤ tt) h; are_octets = number_octets (pos n); short = omega (arith, length-number (pos n)) }
-good (opaque_octets text) h = record { is_content = refl; are_octets = h.0; short = h.1 }
-good (counter64 n) h = record { is_content = is_unsigned_of 8 n (lit≤ tt) h; are_octets = number_octets (pos n); short = omega (arith, length-number (pos n)) }
-good no_such_object h = record { is_content = refl; are_octets = none; short = omega arith }
-good no_such_instance h = record { is_content = refl; are_octets = none; short = omega arith }
-good end_of_mib_view h = record { is_content = refl; are_octets = none; short = omega arith }
+good (ip_address address) h = record { is_content = (refl, h.1); are_octets = octets_by address h.0; short = omega (arith, h.1) }
+good (counter32 n) h = good_number (pos n) refl (is_unsigned_of 4 n (lit≤ tt) h)
+good (gauge32 n) h = good_number (pos n) refl (is_unsigned_of 4 n (lit≤ tt) h)
+good (time_ticks n) h = good_number (pos n) refl (is_unsigned_of 4 n (lit≤ tt) h)
+good (opaque_octets text) h = record { is_content = refl; are_octets = octets_by text h.0; short = h.1 }
+good (counter64 n) h = good_number (pos n) refl (is_unsigned_of 8 n (lit≤ tt) h)
+good value h = record { is_content = refl; are_octets = tt; short = omega arith }
 
-pub tag_fits : (value : Datum) → value_tag value < 256
-tag_fits (integer_value z) = lit< tt
-tag_fits (octet_string text) = lit< tt
+tag_fits : (value : Datum) → value_tag value < 256
 tag_fits null_value = lit< tt
-tag_fits (object_id name) = lit< tt
-tag_fits (ip_address address) = lit< tt
-tag_fits (counter32 n) = lit< tt
-tag_fits (gauge32 n) = lit< tt
-tag_fits (time_ticks n) = lit< tt
-tag_fits (opaque_octets text) = lit< tt
-tag_fits (counter64 n) = lit< tt
-tag_fits no_such_object = lit< tt
-tag_fits no_such_instance = lit< tt
-tag_fits end_of_mib_view = lit< tt
+tag_fits value = lit< tt
 
 -- octets that are a strict form of something, and not too long
 pub spells_value : (value : Datum) → IsInRange value → SpellsValue strict value (canon_value value)
@@ -88,7 +76,7 @@ spells_value value h =
     let g : IsGood value = good value h in
     record { content = canon_content value; is_content = g.is_content; element = is_element (value_tag value) (canon_content value) (omega (arith, g.short)) }
 
-pub value_octets : (value : Datum) → IsInRange value → AreOctets (canon_value value)
+pub value_octets : (value : Datum) → IsInRange value → Octets (canon_value value)
 unfolding canon_value
 value_octets value h = element_octets (value_tag value) (canon_content value) (tag_fits value) (good value h).are_octets
 

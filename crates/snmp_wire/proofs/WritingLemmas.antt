@@ -1,6 +1,7 @@
 -- What writers leave: nothing, an octet more, a text.
-use Rattle.std.proofs.Common.{◌≡◌, ℕ, ◌+◌, ◌-◌, ◌<◌, ◌≤◌, List, [], ◌∷◌, ◌++◌, length, take, drop}
-use Rattle.std.proofs.Common.{set, refl, sym, ap, ◌∙◌, arith, length-drop}
+use Rattle.std.proofs.Common.{◌≡◌, ℕ, suc, ◌+◌, ◌-◌, ◌/◌, ◌^◌, ◌<◌, ◌≤◌, List, [], ◌∷◌, ◌++◌}
+use Rattle.std.proofs.Common.{length, take, drop, set, refl, sym, ap, subst, ◌∙◌, arith, length-drop}
+use Rattle.std.proofs.Math.Nat.{div-div-eq-div-mul, div-one, pow-suc, pow-zero}
 use Rattle.std.proofs.lemmas.List.{append-nil, drop-set, drop_all, drop_at, length-take-le}
 use Rattle.std.proofs.lemmas.List.{take-set, take_all, take_at}
 use Rattle.std.specs.List.{flat_map}
@@ -24,6 +25,36 @@ writes_octet {old} {at} {end} {text} {mid} w start octet e h = record {
 -- a single octet
 pub writes_one : (old : List ℕ) (end octet : ℕ) → 1 ≤ end → end ≤ length old → Writes old (end - 1) end (octet ∷ []) (set old (end - 1) octet)
 writes_one old end octet some within = writes_octet (writes_none old end) (end - 1) octet (omega arith) within
+
+-- ---- digits, each before those that are written
+
+pub writes_no_digit : (text : ℕ → List ℕ) (out : List ℕ) (end : ℕ) → [] ≡ text 0 → Writes out end end (text (end - end)) out
+writes_no_digit text out end none = let here : 0 ≡ end - end = omega arith in writes_same (writes_none out end) (none ∙ ap text here)
+
+pub writes_digit : {old out : List ℕ} {at end : ℕ} (text : ℕ → List ℕ) (digit : ℕ) → digit ∷ text (end - at) ≡ text (suc (end - at))
+    → Writes old at end (text (end - at)) out → 0 < at → at ≤ end → at ≤ length out
+    → Writes old (at - 1) end (text (end - (at - 1))) (set out (at - 1) digit)
+writes_digit {old} {out} {at} {end} text digit step w some h within =
+    let one_more : suc (end - at) ≡ end - (at - 1) = omega arith in
+    writes_same (writes_octet w (at - 1) digit (omega arith) within) (step ∙ ap text one_more)
+
+pub all_digits : {old out : List ℕ} {at end : ℕ} (text : ℕ → List ℕ) (count : ℕ) → Writes old at end (text (end - at)) out → at ≡ end - count
+    → count ≤ end → Writes old (end - count) end (text count) out
+all_digits {old} {out} {at} {end} text count w e room =
+    let all : end - at ≡ count = omega arith in
+    subst (λ (start : ℕ). Writes old start end (text count) out) e (writes_same w (ap text all))
+
+-- what is left of a number whose digits they are
+pub rest_none : (base end n : ℕ) → n ≡ n / base ^ (end - end)
+rest_none base end n = let none : 0 ≡ end - end = omega arith in subst (λ (k : ℕ). n ≡ n / base ^ k) none (rw pow-zero (sym (div-one n)))
+
+pub rest_digits : (base at end n rest : ℕ) → rest ≡ n / base ^ (end - at) → 0 < at → at ≤ end → rest / base ≡ n / base ^ (end - (at - 1))
+rest_digits base at end n rest e some h =
+    let one_more : end - (at - 1) ≡ suc (end - at) = omega arith in
+    ap (λ r. r / base) e ∙ div-div-eq-div-mul n (base ^ (end - at)) base
+    ∙ ap (λ m. n / m) (sym (ap (λ k. base ^ k) one_more ∙ pow-suc base (end - at)))
+
+-- ---- texts
 
 -- a text copied into its place
 pub writes_copy : (old text : List ℕ) (start end : ℕ) → start + length text ≡ end → end ≤ length old

@@ -11,9 +11,9 @@ use Rattle.snmp_wire.specs.Spelling.{kind_tag}
 unfoldable pub use Rattle.snmp_wire.specs.ber.Canon.{canon_content, canon_element, canon_header}
 unfoldable pub use Rattle.snmp_wire.specs.ber.Canon.{canon_length, canon_number}
 unfoldable pub use Rattle.snmp_wire.specs.ber.Canon.{canon_subidentifier}
-unfoldable pub use Rattle.snmp_wire.specs.ber.Canon.{canon_value, length_size, number_size, octets}
+unfoldable pub use Rattle.snmp_wire.specs.ber.Canon.{canon_value, digits, length_size, number_size}
 unfoldable pub use Rattle.snmp_wire.specs.ber.Canon.{septets, subidentifier_size}
-pub use Rattle.snmp_wire.specs.ber.Canon.{IsEncodableValue, digit_count, magnitude_of}
+pub use Rattle.snmp_wire.specs.ber.Canon.{IsEncodableValue, digit_count, magnitude_of, octets}
 
 unfoldable pub canon_binding : VarBind → List ℕ
 canon_binding binding =

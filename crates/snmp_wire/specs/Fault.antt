@@ -49,30 +49,21 @@ pub data Place : Type 0 where
 -- the place of the first element in the one at this place, where that is made of elements
 abbrev pub first_inside : Place → Option Place
 first_inside at_message = Some at_version
-first_inside at_version = None
-first_inside at_community = None
 first_inside at_pdu = Some at_id
-first_inside at_id = None
-first_inside at_a = None
-first_inside at_b = None
 first_inside at_list = Some at_binding
 first_inside at_binding = Some at_name
-first_inside at_name = None
-first_inside at_value = None
+first_inside place = None
 
 -- the place of the element that follows in the same one, if any
 abbrev pub next_behind : Place → Option Place
-next_behind at_message = None
 next_behind at_version = Some at_community
 next_behind at_community = Some at_pdu
-next_behind at_pdu = None
 next_behind at_id = Some at_a
 next_behind at_a = Some at_b
 next_behind at_b = Some at_list
-next_behind at_list = None
 next_behind at_binding = Some at_binding
 next_behind at_name = Some at_value
-next_behind at_value = None
+next_behind place = None
 
 -- the tags that a place allows
 abbrev pub AllowsTag : Place → ℕ → Type 0
@@ -90,17 +81,8 @@ AllowsTag at_value tag = (value : Datum) × (tag ≡ value_tag value)
 
 -- A binding stands only where octets are left; each other element must be there.
 abbrev pub Calls : Place → List ℕ → Type 0
-Calls at_message here = Unit {0}
-Calls at_version here = Unit {0}
-Calls at_community here = Unit {0}
-Calls at_pdu here = Unit {0}
-Calls at_id here = Unit {0}
-Calls at_a here = Unit {0}
-Calls at_b here = Unit {0}
-Calls at_list here = Unit {0}
 Calls at_binding here = here ≢ []
-Calls at_name here = Unit {0}
-Calls at_value here = Unit {0}
+Calls place here = Unit {0}
 
 -- an element of the place must stand at the front of `here`, which is what is left of the element
 -- round it

@@ -1,13 +1,12 @@
 -- The shortest encoding: each length in the shortest form, each whole number in the fewest octets
 -- (X.690, 8.1.3, 8.3 and 8.19; RFC 3417, section 8).
 use Rattle.std.specs.Prelude.{ℕ, ℤ, pos, negsuc, ◌+◌, ◌-◌, ◌*◌, ◌/◌, ◌%◌, ◌^◌, ◌<◌, ◌≤◌, suc, zero}
-use Rattle.std.specs.Prelude.{List, [], ◌∷◌, ◌++◌, length, get_or, nat_lt, if◌then◌else◌}
+use Rattle.std.specs.Prelude.{List, [], ◌∷◌, ◌++◌, length, get_or, map, nat_lt, if◌then◌else◌}
 use Rattle.std.specs.List.{flat_map}
 use Rattle.snmp_oid.specs.Identifier.{IsWire}
 use Rattle.snmp_wire.specs.ber.Identifier.{subidentifiers}
-use Rattle.snmp_wire.specs.ber.Value.{Datum, integer_value, octet_string, null_value, object_id}
-use Rattle.snmp_wire.specs.ber.Value.{ip_address, counter32, gauge32, time_ticks, opaque_octets}
-use Rattle.snmp_wire.specs.ber.Value.{counter64, no_such_object, no_such_instance, end_of_mib_view}
+use Rattle.snmp_wire.specs.ber.Value.{Datum, integer_value, octet_string, object_id, ip_address}
+use Rattle.snmp_wire.specs.ber.Value.{counter32, gauge32, time_ticks, opaque_octets, counter64}
 use Rattle.snmp_wire.specs.ber.Spelling.{value_tag}
 
 -- how many digits a number has to a base: one below the limit, and one more for each further power
@@ -17,10 +16,14 @@ digit_count base limit zero n = 1
 digit_count base limit (suc more) n =
     if nat_lt n limit then 1 else 1 + digit_count base (limit * base) more n
 
--- the number's lowest digits to the base 256, `count` of them, the most significant first
-unfoldable pub octets : ℕ → ℕ → List ℕ
-octets zero n = []
-octets (suc count) n = (n / 256 ^ count % 256) ∷ octets count n
+-- the number's lowest digits to a base, `count` of them, the most significant first
+unfoldable pub digits : ℕ → ℕ → ℕ → List ℕ
+digits base zero n = []
+digits base (suc count) n = (n / base ^ count % base) ∷ digits base count n
+
+-- the number's lowest octets
+abbrev pub octets : ℕ → ℕ → List ℕ
+octets count n = digits 256 count n
 
 -- how many octets two's complement takes for a number from 0, the first bit being the sign
 unfoldable pub number_size : ℕ → ℕ
@@ -49,11 +52,9 @@ canon_length n = if nat_lt n 128 then n ∷ [] else (128 + length_size n) ∷ oc
 unfoldable pub subidentifier_size : ℕ → ℕ
 subidentifier_size n = digit_count 128 128 4 n
 
--- the number's lowest digits to the base 128, `count` of them, with the bit that says that the
--- subidentifier goes on
+-- the number's lowest digits to the base 128, with the bit that says that the subidentifier goes on
 unfoldable pub septets : ℕ → ℕ → List ℕ
-septets zero n = []
-septets (suc count) n = (128 + n / 128 ^ count % 128) ∷ septets count n
+septets count n = map (λ digit. 128 + digit) (digits 128 count n)
 
 -- a subidentifier in the fewest octets (X.690, 8.19.2)
 unfoldable pub canon_subidentifier : ℕ → List ℕ
@@ -91,7 +92,6 @@ canon_element tag content = canon_header tag (length content) ++ content
 unfoldable pub canon_content : Datum → List ℕ
 canon_content (integer_value z) = canon_number z
 canon_content (octet_string text) = text
-canon_content null_value = []
 canon_content (object_id name) = flat_map canon_subidentifier (subidentifiers name)
 canon_content (ip_address address) = address
 canon_content (counter32 n) = canon_number (pos n)
@@ -99,25 +99,14 @@ canon_content (gauge32 n) = canon_number (pos n)
 canon_content (time_ticks n) = canon_number (pos n)
 canon_content (opaque_octets text) = text
 canon_content (counter64 n) = canon_number (pos n)
-canon_content no_such_object = []
-canon_content no_such_instance = []
-canon_content end_of_mib_view = []
+canon_content value = []
 
 unfoldable pub canon_value : Datum → List ℕ
 canon_value value = canon_element (value_tag value) (canon_content value)
 
 -- what an encoding may hold: an identifier that has one, or a string of at most 65535 octets
 abbrev pub IsEncodableValue : Datum → Type 0
-IsEncodableValue (integer_value z) = Unit {0}
 IsEncodableValue (octet_string text) = length text ≤ 65535
-IsEncodableValue null_value = Unit {0}
 IsEncodableValue (object_id name) = IsWire name
-IsEncodableValue (ip_address address) = Unit {0}
-IsEncodableValue (counter32 n) = Unit {0}
-IsEncodableValue (gauge32 n) = Unit {0}
-IsEncodableValue (time_ticks n) = Unit {0}
 IsEncodableValue (opaque_octets text) = length text ≤ 65535
-IsEncodableValue (counter64 n) = Unit {0}
-IsEncodableValue no_such_object = Unit {0}
-IsEncodableValue no_such_instance = Unit {0}
-IsEncodableValue end_of_mib_view = Unit {0}
+IsEncodableValue value = Unit {0}

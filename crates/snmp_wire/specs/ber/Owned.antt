@@ -23,16 +23,6 @@ owned value.EndOfMibView = end_of_mib_view
 
 -- the value is no string, so its copy takes no memory
 abbrev pub HasNoString : Datum → Type 0
-HasNoString (integer_value z) = Unit {0}
 HasNoString (octet_string text) = ⊥
-HasNoString null_value = Unit {0}
-HasNoString (object_id name) = Unit {0}
-HasNoString (ip_address address) = Unit {0}
-HasNoString (counter32 n) = Unit {0}
-HasNoString (gauge32 n) = Unit {0}
-HasNoString (time_ticks n) = Unit {0}
 HasNoString (opaque_octets text) = ⊥
-HasNoString (counter64 n) = Unit {0}
-HasNoString no_such_object = Unit {0}
-HasNoString no_such_instance = Unit {0}
-HasNoString end_of_mib_view = Unit {0}
+HasNoString value = Unit {0}

@@ -27,7 +27,6 @@ value_tag end_of_mib_view = 0x82
 abbrev pub IsContent : Form → Datum → List ℕ → Type 0
 IsContent form (integer_value z) content = IsInteger content z
 IsContent form (octet_string text) content = content ≡ text
-IsContent form null_value content = content ≡ []
 IsContent form (object_id name) content = IsObjectId content name
 IsContent form (ip_address address) content = (content ≡ address) × (length address ≡ 4)
 IsContent form (counter32 n) content = IsUnsigned form 4 content n
@@ -35,9 +34,7 @@ IsContent form (gauge32 n) content = IsUnsigned form 4 content n
 IsContent form (time_ticks n) content = IsUnsigned form 4 content n
 IsContent form (opaque_octets text) content = content ≡ text
 IsContent form (counter64 n) content = IsUnsigned form 8 content n
-IsContent form no_such_object content = content ≡ []
-IsContent form no_such_instance content = content ≡ []
-IsContent form end_of_mib_view content = content ≡ []
+IsContent form value content = content ≡ []
 
 -- the octets encode the value: an element of its tag
 pub record SpellsValue (form : Form) (value : Datum) (octets : List ℕ) : Type 0 where

@@ -1,10 +1,8 @@
-use Rattle.std.proofs.Common.{◌≡◌, ℕ, ◌<◌, ◌⊎◌, inl, inr, List, length, get_or, ◌∙◌, arith, Ok}
-use Rattle.std.proofs.lemmas.List.Elements.{All-from_get_or}
+use Rattle.std.proofs.Common.{◌≡◌, ℕ, ◌<◌, ◌⊎◌, inl, inr, List, length, ◌∙◌, arith, Ok}
 use Rattle.snmp_wire.specs.ber.Reading.{identifier_of}
-use Rattle.snmp_wire.proofs.IdentifierLaws.{identifier_takes}
 use Rattle.snmp_wire.proofs.NameOrder.{OrderLaw}
-use Rattle.snmp_wire.proofs.NameComparing.{Beside, EndsBy, both_go_on, ends_decide, octets_decide}
-use Rattle.snmp_wire.proofs.NameComparing.{one_ends, one_is_last}
+use Rattle.snmp_wire.proofs.NameComparing.{Beside, EndsBy, beside, both_go_on, ends_decide}
+use Rattle.snmp_wire.proofs.NameComparing.{octets_decide, one_ends, one_is_last}
 use Rattle.snmp_wire.proofs.name.compare_contents.Goals as goal
 use Rattle.snmp_wire.proofs.name.compare_contents.Goals.{After-alike-at}
 use Rattle.snmp_wire.proofs.name.compare_contents.Goals.{then-octet-ge128+then-beside-ge128+else-end-other_end}
@@ -18,15 +16,7 @@ law c = record { less = c.order.ensures.less; equal = c.order.ensures.equal; gre
 stand : (c : After-alike-at) (o p : List ℕ) → identifier_of c.args.content.now ≡ Ok o → identifier_of c.args.other.now ≡ Ok p
     → Beside c.args.content.now c.args.other.now o p c.alike-at.result
 stand c o p e f =
-    let small : (k : ℕ) → k < length c.args.content.now → get_or c.args.content.now k 0 < 256 = λ k low. grind arith in
-    let other_small : (k : ℕ) → k < length c.args.other.now → get_or c.args.other.now k 0 < 256 = λ k low. grind arith in
-    record {
-      octets = All-from_get_or (λ octet. octet < 256) c.args.content.now 0 small;
-      other_octets = All-from_get_or (λ octet. octet < 256) c.args.other.now 0 other_small;
-      is = identifier_takes c.args.content.now o e;
-      are = identifier_takes c.args.other.now p f;
-      alike = c.alike-at.ensures.same;
-    }
+    beside (λ k. omega (arith, c.type_inv.content k)) (λ k. omega (arith, c.type_inv.other k)) e f c.alike-at.ensures.same
 
 pub returns-then-at-content : goal.returns-then-at-content
 returns-then-at-content c = λ o p e f.
@@ -64,4 +54,4 @@ returns c = λ o p e f.
         | else-octet-ge128-via-else-octet-ge128 v ↦ one_is_last content other k low other_low (inl v.if-octet-ge128.false)
       ]
     ] in
-    c.cmp-2.ensures ∙ octets_decide (law at) content other o p k b low other_low (c.alike-at.ensures.first low other_low) way.0 way.1
+    c.cmp-2.ensures ∙ octets_decide (law at) content other o p k b low other_low (c.alike-at.ensures.first low other_low) way

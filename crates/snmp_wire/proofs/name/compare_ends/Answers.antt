@@ -1,27 +1,14 @@
 use Rattle.std.proofs.Common.{◌≡◌, ℕ, ◌+◌, ◌<◌, ◌≤◌, ◌⊎◌, inl, inr, List, length, get_or}
-use Rattle.std.proofs.Common.{Ok, refl, subst, ◌∙◌, arith}
+use Rattle.std.proofs.Common.{refl, subst, ◌∙◌, arith}
 use Rattle.std.proofs.lemmas.Bool.{cases_lt}
-use Rattle.std.proofs.lemmas.List.Elements.{All-from_get_or}
-use Rattle.snmp_wire.specs.Name.{EndsAt, IsAlike}
-use Rattle.snmp_wire.specs.ber.Reading.{identifier_of}
-use Rattle.snmp_wire.proofs.IdentifierLaws.{identifier_takes}
+use Rattle.snmp_wire.specs.Name.{EndsAt}
 use Rattle.snmp_wire.proofs.NameOrder.{OrderLaw}
-use Rattle.snmp_wire.proofs.NameComparing.{Beside, EndsBy, both_go_on, octets_decide, one_ends}
-use Rattle.snmp_wire.proofs.NameComparing.{one_is_last}
+use Rattle.snmp_wire.proofs.NameComparing.{Beside, EndsBy, beside, both_go_on, octets_decide}
+use Rattle.snmp_wire.proofs.NameComparing.{one_ends, one_is_last}
 use Rattle.snmp_wire.proofs.name.compare_ends.Goals as goal
 use Rattle.snmp_wire.proofs.name.compare_ends.Goals.{else-octet-ge128-via-else-octet-ge128}
 use Rattle.snmp_wire.proofs.name.compare_ends.Goals.{else-octet-ge128-via-then-octet-ge128+else-beside-ge128}
 use Rattle.snmp_wire.proofs.name.compare_ends.Goals.{else-octet-ge128-via-then-octet-ge128+then-beside-ge128+else-not-both_end}
-
-stand : (content other o p : List ℕ) (at : ℕ) → ((k : ℕ) → get_or content k 0 < 256) → ((k : ℕ) → get_or other k 0 < 256)
-    → identifier_of content ≡ Ok o → identifier_of other ≡ Ok p → IsAlike content other at → Beside content other o p at
-stand content other o p at small other_small e f alike = record {
-  octets = All-from_get_or (λ octet. octet < 256) content 0 (λ k low. small k);
-  other_octets = All-from_get_or (λ octet. octet < 256) other 0 (λ k low. other_small k);
-  is = identifier_takes content o e;
-  are = identifier_takes other p f;
-  alike = alike;
-}
 
 -- a subidentifier goes on from a place whose octet says so
 goes_on_to : (content : List ℕ) (at : ℕ) → 128 ≤ get_or content at 0 → EndsAt content (at + 1) (at + 1) → EndsAt content at (at + 1)
@@ -40,7 +27,7 @@ returns-then-at-both c = λ o p e f.
     let content = c.args.content.now in
     let other = c.args.other.now in
     let at = c.words_alike-at.result in
-    let b = stand content other o p at (λ k. omega (arith, c.type_inv.content k)) (λ k. omega (arith, c.type_inv.other k)) e f c.words_alike-at.ensures.same in
+    let b : Beside content other o p at = beside (λ k. omega (arith, c.type_inv.content k)) (λ k. omega (arith, c.type_inv.other k)) e f c.words_alike-at.ensures.same in
     let end : (at ≡ length content) ⊎ (at ≡ length other) = elim (cases_lt (length content) (length other)) [
       | inl less ↦ inl (omega (arith, less, c.min-both.ensures, c.if-at-both.true))
       | inr more ↦ inr (omega (arith, more, c.min-both.ensures, c.if-at-both.true))
@@ -56,7 +43,7 @@ returns c = λ o p e f.
     let some : at < c.min-both.result = omega (arith, c.words_alike-at.ensures.within, c.if-at-both.false) in
     let low : at < length content = omega (arith, c.min-both.ensures, some) in
     let other_low : at < length other = omega (arith, c.min-both.ensures, some) in
-    let b = stand content other o p at (λ k. omega (arith, c.type_inv.content k)) (λ k. omega (arith, c.type_inv.other k)) e f c.words_alike-at.ensures.same in
+    let b : Beside content other o p at = beside (λ k. omega (arith, c.type_inv.content k)) (λ k. omega (arith, c.type_inv.other k)) e f c.words_alike-at.ensures.same in
     let way : EndsBy content other at = elim c.else-octet-ge128.branch [
       | else-octet-ge128-via-then-octet-ge128+then-beside-ge128+else-not-both_end w ↦
           let ends = w.both_end.ensures w.if-not-both_end.false in
@@ -65,4 +52,4 @@ returns c = λ o p e f.
       | else-octet-ge128-via-then-octet-ge128+else-beside-ge128 w ↦ one_is_last content other at low other_low (inr w.if-beside-ge128.false)
       | else-octet-ge128-via-else-octet-ge128 w ↦ one_is_last content other at low other_low (inl w.if-octet-ge128.false)
     ] in
-    c.cmp-2.ensures ∙ octets_decide law content other o p at b low other_low (c.words_alike-at.ensures.first some) way.0 way.1
+    c.cmp-2.ensures ∙ octets_decide law content other o p at b low other_low (c.words_alike-at.ensures.first some) way

@@ -1,5 +1,6 @@
-use Rattle.snmp_wire.proofs.ShortNumbers.{eight_low, is_below}
+use Rattle.std.proofs.lemmas.Bool.{ltb-true}
+use Rattle.snmp_wire.proofs.IdentifierWriting.{eight_low}
 use Rattle.snmp_wire.proofs.ber.identifier.are_short.Goals as goal
 
 pub returns : goal.returns
-returns c = λ short. eight_low c.args.numbers.now c.args.from (is_below _ 128 short)
+returns c = λ short. eight_low c.args.numbers.now c.args.from (ltb-true _ 128 short)

@@ -1,4 +1,4 @@
-use Rattle.std.proofs.Common.{refl, arith}
+use Rattle.std.proofs.Common.{arith}
 use Rattle.snmp_wire.proofs.IdentifierWriting.{plain_before, small_before}
 use Rattle.snmp_wire.proofs.ber.identifier.four_before.Goals as goal
 
@@ -17,5 +17,5 @@ overflow_cast-result-then-a-b-lt128-3 c = let small = small_before c.args.number
 pub returns-then-a-b-lt128 : goal.returns-then-a-b-lt128
 returns-then-a-b-lt128 c = (
   c.if-left-lt4.false,
-  plain_before c.args.numbers.now c.args.left _ _ _ _ c.if-left-lt4.false c.requires refl refl refl refl c.if-a-b-lt128.true,
+  plain_before c.args.numbers.now c.args.left c.if-left-lt4.false c.requires c.if-a-b-lt128.true,
 )

@@ -1,18 +1,25 @@
-use Rattle.std.proofs.Common.{[], ◌∷◌, refl, arith}
+use Rattle.std.proofs.Common.{◌-◌, [], ◌∷◌, length, drop, sym, ap, ◌∙◌, arith, length-append}
+use Rattle.std.specs.List.{flat_map}
 use Rattle.snmp_wire.specs.ber.Canon.{canon_subidentifier}
-use Rattle.snmp_wire.proofs.IdentifierWriting.{four_fit, writes_four}
-use Rattle.snmp_wire.specs.ber.WritingLaws.{piece_fits, writes_piece}
+use Rattle.snmp_wire.specs.ber.WritingLaws.{flat_map_rest, piece_fits, writes_piece, writes_same}
+use Rattle.snmp_wire.specs.ber.WritingLaws.{writes_then}
 use Rattle.snmp_wire.proofs.ber.identifier.put_other_numbers.Goals as goal
 
 pub put_text-start-requires-clause-room : goal.put_text-start-requires-clause-room
 put_text-start-requires-clause-room c =
-    four_fit c.args.numbers.now (c.in-Some.a ∷ c.in-Some.b ∷ c.in-Some.c ∷ c.in-Some.d ∷ []) c.numbers.left refl c.in-Some.ensures.1
-    c.numbers.invariant.written c.requires.room
+    let numbers = c.args.numbers.now in
+    let four = c.in-Some.a ∷ c.in-Some.b ∷ c.in-Some.c ∷ c.in-Some.d ∷ [] in
+    omega (
+      arith,
+      ap length c.in-Some.ensures.1 ∙ length-append four (flat_map canon_subidentifier (drop c.numbers.left numbers)),
+      flat_map_rest canon_subidentifier numbers (c.numbers.left - 4),
+      c.numbers.invariant.written.begins,
+      c.requires.room,
+    )
 
 pub numbers-preserved-in-Some : goal.numbers-preserved-in-Some
 numbers-preserved-in-Some c = record {
-  written = writes_four c.args.numbers.now
-      (c.in-Some.a ∷ c.in-Some.b ∷ c.in-Some.c ∷ c.in-Some.d ∷ []) c.numbers.left c.in-Some.ensures.1 c.numbers.invariant.written c.put_text-start.ensures;
+  written = writes_same (writes_then c.numbers.invariant.written c.put_text-start.ensures) (sym c.in-Some.ensures.1);
   within = omega (arith, c.numbers.invariant.within);
 }
 

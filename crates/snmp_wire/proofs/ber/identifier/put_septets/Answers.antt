@@ -1,23 +1,27 @@
-use Rattle.std.proofs.Common.{arith}
-use Rattle.snmp_wire.proofs.IdentifierWriting.{writes_no_septet, rest-no_septet, writes_septet}
-use Rattle.snmp_wire.proofs.IdentifierWriting.{rest_septets, all_septets}
+use Rattle.std.proofs.Common.{◌+◌, ◌-◌, ◌%◌, ◌∷◌, refl, sym, ap, ◌∙◌, arith}
+use Rattle.snmp_wire.specs.ber.Canon.{digits, septets}
+use Rattle.snmp_wire.proofs.IdentifierWriting.{septets-suc}
+use Rattle.snmp_wire.proofs.WritingLemmas.{all_digits, rest_digits, rest_none, writes_digit, writes_no_digit}
 use Rattle.snmp_wire.proofs.ber.identifier.put_septets.Goals as goal
 
 pub septets-init : goal.septets-init
+unfolding digits septets
 septets-init c = record {
   above = omega arith;
-  written = writes_no_septet c.args.out.now c.args.end c.args.number;
-  rest = rest-no_septet c.args.end c.args.number;
+  written = writes_no_digit (λ k. septets k c.args.number) c.args.out.now c.args.end refl;
+  rest = rest_none 128 c.args.end c.args.number;
 }
 
 pub septets-preserved : goal.septets-preserved
-septets-preserved c = record {
-  above = omega arith;
-  written = writes_septet c.args.out.now c.septets.out c.septets.at c.args.end c.args.number c.septets.rest c.septets.invariant.written
-      c.septets.invariant.rest (omega arith) c.septets.auto.at (omega arith);
-  rest = rest_septets c.septets.at c.args.end c.args.number c.septets.rest c.septets.invariant.rest (omega arith) c.septets.auto.at;
-}
+septets-preserved c =
+    let n = c.args.number in
+    let count = c.args.end - c.septets.at in record {
+      above = omega arith;
+      written = writes_digit (λ k. septets k n) (128 + c.septets.rest % 128)
+          (ap (λ rest. (128 + rest % 128) ∷ septets count n) c.septets.invariant.rest ∙ sym (septets-suc count n)) c.septets.invariant.written
+          (omega arith) c.septets.auto.at (omega arith);
+      rest = rest_digits 128 c.septets.at c.args.end n c.septets.rest c.septets.invariant.rest (omega arith) c.septets.auto.at;
+    }
 
 pub returns : goal.returns
-returns c = all_septets c.args.out.now c.septets.out c.septets.at c.args.end c.args.count c.args.number c.septets.invariant.written
-    (omega arith) c.requires.room
+returns c = all_digits (λ k. septets k c.args.number) c.args.count c.septets.invariant.written (omega arith) c.requires.room

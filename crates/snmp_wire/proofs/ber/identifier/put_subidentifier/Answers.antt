@@ -1,9 +1,8 @@
-use Rattle.std.proofs.Common.{◌/◌, arith}
-use Rattle.snmp_wire.proofs.IdentifierWriting.{length-canon_subidentifier, short_itself}
-use Rattle.snmp_wire.proofs.IdentifierWriting.{subidentifier_some, writes_subidentifier}
-use Rattle.snmp_wire.proofs.IdentifierWriting.{subidentifier_two}
-use Rattle.snmp_wire.proofs.IdentifierWriting.{one_septet}
-use Rattle.snmp_wire.proofs.IdentifierWriting.{subidentifier_three, two_septets}
+use Rattle.std.proofs.Common.{◌/◌, sym, arith}
+use Rattle.snmp_wire.proofs.IdentifierWriting.{length-canon_subidentifier, one_septet}
+use Rattle.snmp_wire.proofs.IdentifierWriting.{subidentifier_short, subidentifier_some}
+use Rattle.snmp_wire.proofs.IdentifierWriting.{subidentifier_three, subidentifier_two, two_septets}
+use Rattle.snmp_wire.proofs.IdentifierWriting.{writes_subidentifier}
 use Rattle.snmp_wire.specs.ber.WritingLaws.{writes_same, writes_then}
 use Rattle.snmp_wire.proofs.ber.identifier.put_subidentifier.Goals as goal
 
@@ -11,7 +10,7 @@ pub put_octet-last-requires-clause-room : goal.put_octet-last-requires-clause-ro
 put_octet-last-requires-clause-room c = omega (arith, length-canon_subidentifier c.args.number, subidentifier_some c.args.number)
 
 pub returns-then-number-lt128 : goal.returns-then-number-lt128
-returns-then-number-lt128 c = writes_same c.put_octet.ensures (short_itself c.args.number c.if-number-lt128.true)
+returns-then-number-lt128 c = writes_same c.put_octet.ensures (sym (subidentifier_short c.args.number c.if-number-lt128.true))
 
 pub put_octet-requires-then-number-lt16384-clause-room : goal.put_octet-requires-then-number-lt16384-clause-room
 put_octet-requires-then-number-lt16384-clause-room c = omega (

@@ -1,22 +1,27 @@
-use Rattle.std.proofs.Common.{arith}
-use Rattle.snmp_wire.proofs.CanonLemmas.{writes_no_digit, rest-none, writes_digit, rest_digits}
-use Rattle.snmp_wire.proofs.CanonLemmas.{all_digits}
+use Rattle.std.proofs.Common.{◌-◌, ◌%◌, ◌∷◌, refl, sym, ap, ◌∙◌, arith}
+use Rattle.snmp_wire.specs.ber.Canon.{digits, octets}
+use Rattle.snmp_wire.proofs.Digits.{digits-suc}
+use Rattle.snmp_wire.proofs.WritingLemmas.{all_digits, rest_digits, rest_none, writes_digit, writes_no_digit}
 use Rattle.snmp_wire.proofs.ber.number.put_many_octets.Goals as goal
 
 pub octets-init : goal.octets-init
+unfolding digits
 octets-init c = record {
   above = omega arith;
-  written = writes_no_digit c.args.out.now c.args.end c.args.number;
-  rest = rest-none c.args.end c.args.number;
+  written = writes_no_digit (λ k. octets k c.args.number) c.args.out.now c.args.end refl;
+  rest = rest_none 256 c.args.end c.args.number;
 }
 
 pub octets-preserved : goal.octets-preserved
-octets-preserved c = record {
-  above = omega arith;
-  written = writes_digit c.args.out.now c.octets.out c.octets.at c.args.end c.args.number c.octets.rest c.octets.invariant.written c.octets.invariant.rest
-      (omega arith) c.octets.auto.at (omega arith);
-  rest = rest_digits c.octets.at c.args.end c.args.number c.octets.rest c.octets.invariant.rest (omega arith) c.octets.auto.at;
-}
+octets-preserved c =
+    let n = c.args.number in
+    let count = c.args.end - c.octets.at in record {
+      above = omega arith;
+      written = writes_digit (λ k. octets k n) (c.octets.rest % 256)
+          (ap (λ rest. (rest % 256) ∷ octets count n) c.octets.invariant.rest ∙ sym (digits-suc 256 count n)) c.octets.invariant.written
+          (omega arith) c.octets.auto.at (omega arith);
+      rest = rest_digits 256 c.octets.at c.args.end n c.octets.rest c.octets.invariant.rest (omega arith) c.octets.auto.at;
+    }
 
 pub returns : goal.returns
-returns c = all_digits c.args.out.now c.octets.out c.octets.at c.args.end c.args.count c.args.number c.octets.invariant.written (omega arith) c.requires.room
+returns c = all_digits (λ k. octets k c.args.number) c.args.count c.octets.invariant.written (omega arith) c.requires.room

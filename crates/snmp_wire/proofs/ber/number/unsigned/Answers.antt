@@ -1,5 +1,5 @@
 use Rattle.std.proofs.Common.{arith}
-use Rattle.snmp_wire.proofs.NumberLemmas.{number_of-more, octet_more, octet_fits}
+use Rattle.snmp_wire.proofs.Digits.{number_of-more, octet_more, octet_fits}
 use Rattle.snmp_wire.proofs.ber.number.unsigned.Goals as goal
 
 pub overflow_mul-sum : goal.overflow_mul-sum

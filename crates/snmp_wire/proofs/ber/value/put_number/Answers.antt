@@ -1,6 +1,7 @@
 use Rattle.std.proofs.Common.{length, pos, ap, arith, sym, ◌∙◌}
 use Rattle.snmp_wire.specs.ber.Canon.{canon_number}
-use Rattle.snmp_wire.proofs.CanonLemmas.{length-from_zero, length-octets}
+use Rattle.snmp_wire.proofs.CanonLemmas.{length-from_zero}
+use Rattle.snmp_wire.proofs.Digits.{length-digits}
 use Rattle.snmp_wire.specs.ber.ElementLaws.{content_fits, header_fits, writes_element}
 use Rattle.snmp_wire.proofs.ElementLemmas.{sized_header_fits, writes_sized}
 use Rattle.snmp_wire.proofs.NumberWriting.{fifth_octet_fits, four_octets_fit, size_five, size_four}
@@ -52,7 +53,7 @@ put_octet-start-requires-clause-room c =
       content_fits c.args.tag c.args.end (canon_number (pos c.args.number)) c.requires.room,
       length-from_zero c.args.number,
       c.put_four-start.ensures.begins,
-      length-octets 4 c.args.number,
+      length-digits 256 4 c.args.number,
     )
 
 pub put_short_header-requires-else-number-2-clause-room : goal.put_short_header-requires-else-number-2-clause-room

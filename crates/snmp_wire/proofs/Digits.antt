@@ -1,0 +1,123 @@
+-- Numbers and their digits.
+use Rattle.std.proofs.Common.{◌≡◌, ℕ, zero, suc, ◌+◌, ◌*◌, ◌/◌, ◌%◌, ◌^◌, ◌<◌, List, [], ◌∷◌, ◌++◌}
+use Rattle.std.proofs.Common.{length, get_or, take, refl, sym, ap, ◌∙◌, add-one, lit<, arith}
+use Rattle.std.proofs.Math.Nat.{add-mul-div_left, add-mul-mod_self_left, div-eq_of_lt, mod-eq_of_lt}
+use Rattle.std.proofs.Math.Nat.{mod-lt, mod-one, mul_assoc, one-le-pow, pow-le-pow_right, pow-suc}
+use Rattle.std.proofs.Math.Nat.{pow-succ', pow-zero}
+use Rattle.std.proofs.Math.Arith.{mod-mul}
+use Rattle.std.proofs.lemmas.Nat.{mul-add-lt}
+use Rattle.std.proofs.lemmas.List.{length_push, take_more}
+use Rattle.std.proofs.lemmas.List.Elements.{All-from_recursion, recursion_from_All}
+use Rattle.std.specs.List.{AllByRecursion}
+use Rattle.snmp_wire.specs.ber.Canon.{digits}
+use Rattle.snmp_wire.specs.ber.Number.{AreOctets, number_of}
+
+-- one more digit at the end
+pub number_of-push : (base : ℕ) (xs : List ℕ) (digit : ℕ) → number_of base (xs ++ digit ∷ []) ≡ number_of base xs * base + digit
+number_of-push base [] digit = rw pow-zero (omega arith)
+number_of-push base (first ∷ rest) digit =
+    let more = number_of-push base rest digit in
+    let longer : base ^ length (rest ++ digit ∷ []) ≡ base ^ length rest * base = ap (λ n. base ^ n) (length_push rest digit)
+    ∙ rw add-one (pow-suc base (length rest)) in
+    omega (arith, more, ap (λ n. first * n) longer)
+
+-- the step of a loop over the digits
+pub number_of-more : (base : ℕ) (xs : List ℕ) (i : ℕ) → i < length xs
+    → number_of base (take (i + 1) xs) ≡ number_of base (take i xs) * base + get_or xs i 0
+number_of-more base xs i lt = ap (number_of base) (take_more xs i 0 lt) ∙ number_of-push base (take i xs) (get_or xs i 0)
+
+-- with one more octet a number is still below its bound
+pub octet_more : (i sum octet : ℕ) → sum < 256 ^ i → octet < 256 → sum * 256 + octet < 256 ^ (i + 1)
+octet_more i sum octet below small = rw (add-one, pow-suc) (omega arith)
+
+-- eight octets fit 64 bits
+pub octet_fits : (i sum : ℕ) → i < 8 → sum < 256 ^ i → sum * 256 + 255 < 2 ^ 64
+octet_fits i sum lt below = omega (arith, pow-le-pow_right {n = 256} (lit< tt) {i = i} {j = 7} (omega arith))
+
+-- ---- the digits of a number
+
+-- digits of a base
+abbrev pub AreDigits : ℕ → List ℕ → Type 0
+AreDigits base xs = AllByRecursion (λ digit. digit < base) xs
+
+pub below_power : (base : ℕ) (xs : List ℕ) → AreDigits base xs → number_of base xs < base ^ length xs
+below_power base [] h = omega (arith, pow-zero base)
+below_power base (digit ∷ rest) h =
+    omega (arith, mul-add-lt digit (base ^ length rest) (number_of base rest) base h.0 (below_power base rest h.1), pow-suc base (length rest))
+
+pub length-digits : (base count n : ℕ) → length (digits base count n) ≡ count
+unfolding digits
+length-digits base zero n = refl
+length-digits base (suc count) n = ap suc (length-digits base count n)
+
+pub digits-suc : (base count n : ℕ) → digits base (suc count) n ≡ (n / base ^ count % base) ∷ digits base count n
+unfolding digits
+digits-suc base count n = refl
+
+pub are_digits : (base count n : ℕ) → 0 < base → AreDigits base (digits base count n)
+unfolding digits
+are_digits base zero n some = tt
+are_digits base (suc count) n some = (mod-lt (n / base ^ count) some, are_digits base count n some)
+
+-- they are those of the number, as far as they go
+pub number_of-digits : (base count n : ℕ) → 0 < base → number_of base (digits base count n) ≡ n % base ^ count
+unfolding digits
+number_of-digits base zero n some = rw pow-zero (sym (mod-one n))
+number_of-digits base (suc count) n some =
+    ap (λ k. n / base ^ count % base * base ^ k + number_of base (digits base count n)) (length-digits base count n)
+    ∙ ap (λ rest. n / base ^ count % base * base ^ count + rest) (number_of-digits base count n some)
+    ∙ sym (mod-mul n some (one-le-pow count base some))
+    ∙ ap (λ m. n % m) (sym (pow-succ' base count))
+
+pub digits_value : (base count n : ℕ) → 0 < base → n < base ^ count → number_of base (digits base count n) ≡ n
+digits_value base count n some h = number_of-digits base count n some ∙ mod-eq_of_lt h
+
+-- higher digits are left out
+pub digits-add : (base count a b : ℕ) → 0 < base → digits base count (a + base ^ count * b) ≡ digits base count a
+unfolding digits
+digits-add base zero a b some = refl
+digits-add base (suc count) a b some =
+    let whole : base ^ suc count * b ≡ base ^ count * (base * b) = ap (λ p. p * b) (pow-suc base count) ∙ mul_assoc (base ^ count) base b in
+    let digit : (a + base ^ suc count * b) / base ^ count % base ≡ a / base ^ count % base =
+    ap (λ m. (a + m) / base ^ count % base) whole ∙ ap (λ m. m % base) (add-mul-div_left a (base * b) (one-le-pow count base some))
+    ∙ add-mul-mod_self_left (a / base ^ count) base b in
+    ap (λ d. d ∷ digits base count (a + base ^ suc count * b)) digit
+    ∙ ap (λ ds. (a / base ^ count % base) ∷ ds) (ap (λ m. digits base count (a + m)) whole ∙ digits-add base count a (base * b) some)
+
+-- digits are those of their number
+pub digits_are : (base : ℕ) (xs : List ℕ) → 0 < base → AreDigits base xs → xs ≡ digits base (length xs) (number_of base xs)
+unfolding digits
+digits_are base [] some h = refl
+digits_are base (x ∷ xs) some h =
+    let rest : ℕ = number_of base xs in
+    let power : ℕ = base ^ length xs in
+    let turned : x * power + rest ≡ rest + power * x = omega arith in
+    let quotient : (rest + power * x) / power ≡ x =
+    omega (arith, add-mul-div_left rest x (one-le-pow (length xs) base some), div-eq_of_lt (below_power base xs h.1)) in
+    let digit : (x * power + rest) / power % base ≡ x = ap (λ m. m / power % base) turned ∙ ap (λ q. q % base) quotient ∙ mod-eq_of_lt h.0 in
+    let others : digits base (length xs) (x * power + rest) ≡ xs =
+    ap (digits base (length xs)) turned ∙ digits-add base (length xs) rest x some ∙ sym (digits_are base xs some h.1) in
+    sym (ap (λ d. d ∷ digits base (length xs) (x * power + rest)) digit ∙ ap (λ ds. x ∷ ds) others)
+
+-- ---- octets
+
+abbrev pub Octets : List ℕ → Type 0
+Octets text = AreDigits 256 text
+
+pub both_octets : (xs ys : List ℕ) → Octets xs → Octets ys → Octets (xs ++ ys)
+both_octets [] ys h k = k
+both_octets (x ∷ xs) ys h k = (h.0, both_octets xs ys h.1 k)
+
+pub front_octets : (xs ys : List ℕ) → Octets (xs ++ ys) → Octets xs
+front_octets [] ys h = tt
+front_octets (x ∷ xs) ys h = (h.0, front_octets xs ys h.1)
+
+pub back_octets : (xs ys : List ℕ) → Octets (xs ++ ys) → Octets ys
+back_octets [] ys h = h
+back_octets (x ∷ xs) ys h = back_octets xs ys h.1
+
+pub octets_by : (text : List ℕ) → AreOctets text → Octets text
+octets_by text all = recursion_from_All (λ octet. octet < 256) text all
+
+pub by_octets : (text : List ℕ) → Octets text → AreOctets text
+by_octets text all = All-from_recursion (λ octet. octet < 256) text all
