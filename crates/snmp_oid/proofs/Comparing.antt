@@ -1,8 +1,8 @@
 -- Comparisons of numbers: a common front changes nothing, and the first pair that differs decides.
 use Rattle.std.proofs.Common.{◌≡◌, ℕ, suc, ◌+◌, ◌<◌, ◌≤◌, List, [], ◌∷◌, ◌++◌, length, take, drop}
 use Rattle.std.proofs.Common.{get_or, refl, sym, ◌∙◌, ap, subst, arith, length-drop}
-use Rattle.std.proofs.lemmas.List.{take-append-drop}
-use Rattle.std.proofs.Math.Seq.{drop-cons, take-suc}
+use Rattle.std.proofs.lemmas.List.{take-append-drop, take_more}
+use Rattle.std.proofs.Math.Seq.{drop-cons}
 use Rattle.std.specs.Ordering.{nat_cmp, ordering_then}
 use Rattle.std.specs.Cmp.{ranked, nat_cmp_is}
 use Rattle.std.specs.Cmp.Lexicographic.{slice_cmp}
@@ -12,17 +12,13 @@ use Rattle.std.specs.declared.cmp.Ordering.TheVariants.{Less, Equal, Greater}
 -- a common front changes nothing
 front_alike : (front o p : List ℕ) → slice_cmp nat_cmp o p ≡ slice_cmp nat_cmp (front ++ o) (front ++ p)
 front_alike [] o p = refl
-front_alike (n ∷ front) o p =
-    let same : Equal ≡ nat_cmp n n = nat_cmp_is n n Equal refl in
-    let P : Ordering → Type 0 = λ r. slice_cmp nat_cmp o p ≡ ordering_then r (slice_cmp nat_cmp (front ++ o) (front ++ p)) in
-    subst P same (front_alike front o p)
+front_alike (n ∷ front) o p = rw (← nat_cmp_is n n Equal refl) (front_alike front o p)
 
-pub behind_alike : (i : ℕ) (o p : List ℕ) → take i o ≡ take i p → slice_cmp nat_cmp (drop i o) (drop i p) ≡ slice_cmp nat_cmp o p
+behind_alike : (i : ℕ) (o p : List ℕ) → take i o ≡ take i p → slice_cmp nat_cmp (drop i o) (drop i p) ≡ slice_cmp nat_cmp o p
 behind_alike i o p same =
-    let P : List ℕ → Type 0 = λ s. slice_cmp nat_cmp (drop i o) (drop i p) ≡ slice_cmp nat_cmp s p in
-    let Q : List ℕ → Type 0 = λ s. slice_cmp nat_cmp (drop i o) (drop i p) ≡ slice_cmp nat_cmp (take i o ++ drop i o) s in
     let whole : take i o ++ drop i p ≡ p = ap (λ (s : List ℕ). s ++ drop i p) same ∙ take-append-drop i p in
-    subst P (take-append-drop i o) (subst Q whole (front_alike (take i o) (drop i o) (drop i p)))
+    front_alike (take i o) (drop i o) (drop i p)
+    ∙ ap (λ (s : List ℕ). slice_cmp nat_cmp s (take i o ++ drop i p)) (take-append-drop i o) ∙ ap (slice_cmp nat_cmp o) whole
 
 decides_by : (n m : ℕ) (rest r : Ordering) → r ≡ nat_cmp n m → (n ≡ m → ⊥) → r ≡ ordering_then r rest
 decides_by n m rest Less is differ = refl
@@ -35,23 +31,15 @@ pub first_decides : (i : ℕ) (o p : List ℕ) → i < length o → i < length p
 first_decides i o p h k same differ =
     let n = get_or o i 0 in
     let m = get_or p i 0 in
-    let P : List ℕ → Type 0 = λ s. nat_cmp n m ≡ slice_cmp nat_cmp s (drop i p) in
-    let Q : List ℕ → Type 0 = λ s. nat_cmp n m ≡ slice_cmp nat_cmp (n ∷ drop (suc i) o) s in
-    let here : nat_cmp n m ≡ slice_cmp nat_cmp (n ∷ drop (suc i) o) (m ∷ drop (suc i) p) =
-    decides_by n m (slice_cmp nat_cmp (drop (suc i) o) (drop (suc i) p)) (nat_cmp n m) refl differ in
-    subst P (sym (drop-cons o i 0 h)) (subst Q (sym (drop-cons p i 0 k)) here) ∙ behind_alike i o p same
+    let here : nat_cmp n m ≡ slice_cmp nat_cmp (drop i o) (drop i p) =
+    rw (drop-cons o i 0 h, drop-cons p i 0 k) (decides_by n m (slice_cmp nat_cmp (drop (suc i) o) (drop (suc i) p)) (nat_cmp n m) refl differ) in
+    here ∙ behind_alike i o p same
 
 -- one more equal pair
 pub one_more_alike : (i : ℕ) (o p : List ℕ) → i < length o → i < length p → take i o ≡ take i p → get_or o i 0 ≡ get_or p i 0
     → take (i + 1) o ≡ take (i + 1) p
 one_more_alike i o p h k same equal =
-    let P : ℕ → Type 0 = λ j. take j o ≡ take j p in
-    let next : take (suc i) o ≡ take (suc i) p = take-suc o i 0 h
-    ∙ ap (λ (s : List ℕ). s ++ get_or o i 0 ∷ []) same
-    ∙ ap (λ n. take i p ++ n ∷ []) equal
-    ∙ sym (take-suc p i 0 k) in
-    let e : suc i ≡ i + 1 = omega arith in
-    subst P e next
+    take_more o i 0 h ∙ ap (λ (s : List ℕ). s ++ get_or o i 0 ∷ []) same ∙ ap (λ n. take i p ++ n ∷ []) equal ∙ sym (take_more p i 0 k)
 
 -- where one ends and all is alike, the longer comes after
 ends : (n m both : ℕ) (s t : List ℕ) → length s + both ≡ n → length t + both ≡ m → (both < n → both < m → ⊥) → nat_cmp n m ≡ slice_cmp nat_cmp s t

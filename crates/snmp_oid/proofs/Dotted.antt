@@ -2,7 +2,7 @@
 use Rattle.std.proofs.Common.{◌≡◌, ◌≢◌, ℕ, Bool, true, false, not, cond, ◌&&◌, ◌==◌, List, [], ◌∷◌}
 use Rattle.std.proofs.Common.{◌++◌, length, All, Option, Some, None, MatchOption, refl}
 use Rattle.std.proofs.Common.{sym, ◌∙◌, ap, subst, arith}
-use Rattle.std.proofs.lemmas.Bool.{ne_eqb}
+use Rattle.std.proofs.lemmas.Bool.{and_parts, ne_eqb}
 use Rattle.std.proofs.lemmas.List.Elements.{All-head, All-tail, All-cons, All-nil, All-weaker}
 use Rattle.std.proofs.lemmas.List.Splits.{slice_split_at, slice_split_none}
 use Rattle.std.proofs.lemmas.List.Splits.{join_with_byte-slice_split, length-slice_split}
@@ -32,18 +32,13 @@ AreNumerals (p ∷ ps) (n ∷ ns) = IsNumeral p n × AreNumerals ps ns
 abbrev pub HasNoDot : List ℕ → Type 0
 HasNoDot part = All (λ octet. octet ≢ dot) part
 
-both_true : (a b : Bool) → a && b ≡ true → (a ≡ true) × (b ≡ true)
-both_true true true e = (refl, refl)
-both_true true false e = let no : ⊥ = cc in absurd no
-both_true false b e = let no : ⊥ = cc in absurd no
-
 digit_is_no_dot : (octet : ℕ) → is_ascii_digit octet ≡ true → octet ≢ dot
 digit_is_no_dot octet yes_digit same = let P : ℕ → Type 0 = λ n. is_ascii_digit n ≡ true in let no : false ≡ true = subst P same yes_digit in cc
 
 pub digits_have_no_dot : (part : List ℕ) → all_ascii_digits part ≡ true → HasNoDot part
 digits_have_no_dot [] e = All-nil (λ octet. octet ≢ dot)
 digits_have_no_dot (octet ∷ rest) e =
-    let both = both_true (is_ascii_digit octet) (all_ascii_digits rest) e in
+    let both = and_parts (is_ascii_digit octet) (all_ascii_digits rest) e in
     All-cons (λ octet. octet ≢ dot) octet rest (digit_is_no_dot octet both.0) (digits_have_no_dot rest both.1)
 
 tests_false : (part : List ℕ) → HasNoDot part → All (λ octet. (octet == dot) ≡ false) part
@@ -62,13 +57,10 @@ some_part text none = omega (arith, length-slice_split (λ octet. octet == dot) 
 -- what is dotted has numerals for parts
 pub numerals_from_dotted : (o text : List ℕ) → IsDotted text o → AreNumerals (parts text) o
 numerals_from_dotted [] text h = absurd h
-numerals_from_dotted (n ∷ []) text h =
-    let P : List (List ℕ) → Type 0 = λ ps. AreNumerals ps (n ∷ []) in
-    subst P (sym (parts_of_last text (digits_have_no_dot text h.digits))) (h, tt)
+numerals_from_dotted (n ∷ []) text h = rw (parts_of_last text (digits_have_no_dot text h.digits)) (h, tt)
 numerals_from_dotted (n ∷ m ∷ more) text h =
-    let P : List (List ℕ) → Type 0 = λ ps. AreNumerals ps (n ∷ m ∷ more) in
     let first : parts text ≡ h.0 ∷ parts h.1 = ap parts h.2 ∙ parts_of_first h.0 h.1 (digits_have_no_dot h.0 h.3.digits) in
-    subst P (sym first) (h.3, numerals_from_dotted (m ∷ more) h.1 h.4)
+    rw first (h.3, numerals_from_dotted (m ∷ more) h.1 h.4)
 
 joined_is_dotted : (ps : List (List ℕ)) (o : List ℕ) → ps ≢ [] → AreNumerals ps o → IsDotted (join_with_byte dot ps) o
 joined_is_dotted [] o some h = absurd (some refl)
@@ -82,8 +74,7 @@ joined_is_dotted (p ∷ q ∷ ps) (n ∷ m ∷ more) some h = (p, join_with_byte
 -- and the other way round
 pub dotted_from_numerals : (o text : List ℕ) → AreNumerals (parts text) o → IsDotted text o
 dotted_from_numerals o text h =
-    let P : List ℕ → Type 0 = λ t. IsDotted t o in
-    subst P (join_with_byte-slice_split dot text) (joined_is_dotted (parts text) o (some_part text) h)
+    subst (λ (t : List ℕ). IsDotted t o) (join_with_byte-slice_split dot text) (joined_is_dotted (parts text) o (some_part text) h)
 
 -- one list of numbers
 pub same_numerals : (ps : List (List ℕ)) (o p : List ℕ) → AreNumerals ps o → AreNumerals ps p → o ≡ p

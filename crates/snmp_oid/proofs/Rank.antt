@@ -5,8 +5,12 @@ use Rattle.std.proofs.Common.{subst, arith, lit<, length-append}
 use Rattle.std.proofs.Math.Nat.{pow-suc, one-le-pow, mul-le-mul_right}
 use Rattle.std.proofs.lemmas.List.{append-nil, drop_at, append_assoc}
 use Rattle.std.proofs.lemmas.List.Elements.{All-drop, All-head, All-tail}
+use Rattle.std.specs.Cmp.Lexicographic.{slice_cmp}
+use Rattle.std.specs.Ordering.{nat_cmp}
+use Rattle.std.specs.declared.cmp.Ordering.{Ordering}
+use Rattle.std.specs.declared.cmp.Ordering.TheVariants.{Less, Equal, Greater}
 use Rattle.snmp_oid.specs.Identifier.{Precedes, IsIdentifier, rank_in, rank}
-use Rattle.snmp_oid.proofs.IdentifierLemmas.{three_ways}
+use Rattle.snmp_oid.proofs.IdentifierLemmas.{Says, compared}
 
 -- one more digit
 power_step : (digits : ℕ) → 0 < digits → 4294967297 ^ digits ≡ 4294967297 ^ (digits - 1) * 4294967297
@@ -69,10 +73,10 @@ rank_rises o p is (inr parts) =
     subst P (sym parts.this) (subst Q (sym parts.that) (rises_behind 128 parts.front (parts.smaller ∷ parts.after) (parts.larger ∷ parts.behind)
     (rises_at_once (128 - length parts.front) parts.smaller parts.larger parts.after parts.behind (omega (arith, count, is.short)) small parts.is_smaller)))
 
-rank_tells : (o p : List ℕ) → IsIdentifier p → rank o < rank p → Precedes o p ⊎ ((o ≡ p) ⊎ Precedes p o) → Precedes o p
-rank_tells o p is less (inl h) = h
-rank_tells o p is less (inr (inl same)) = absurd (omega (arith, ap rank same))
-rank_tells o p is less (inr (inr h)) = absurd (omega (arith, rank_rises p o is h))
+rank_tells : (o p : List ℕ) (r : Ordering) → Says r o p → IsIdentifier p → rank o < rank p → Precedes o p
+rank_tells o p Less h is less = h
+rank_tells o p Equal same is less = absurd (omega (arith, ap rank same))
+rank_tells o p Greater h is less = absurd (omega (arith, rank_rises p o is h))
 
 pub ordered_as_ranks : (o p : List ℕ) → IsIdentifier o → IsIdentifier p → Precedes o p ↔ (rank o < rank p)
-ordered_as_ranks o p is are = (rank_rises o p is, λ less. rank_tells o p are less (three_ways o p))
+ordered_as_ranks o p is are = (rank_rises o p is, λ less. rank_tells o p (slice_cmp nat_cmp o p) (compared o p) are less)
