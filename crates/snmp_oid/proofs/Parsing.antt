@@ -2,11 +2,12 @@
 use Rattle.std.proofs.Common.{◌≡◌, ◌≢◌, ℕ, min, ◌+◌, ◌-◌, ◌≤◌, ◌<◌, ◌⊎◌, inl, inr, Bool, true}
 use Rattle.std.proofs.Common.{false, List, [], ◌∷◌, ◌++◌, length, take, drop, get_or}
 use Rattle.std.proofs.Common.{slice_index, Option, Some, None, refl, sym, ◌∙◌, ap, subst, arith}
-use Rattle.std.proofs.Common.{length-append, append_assoc}
+use Rattle.std.proofs.Common.{length-append, append_assoc, ⊎_elim}
 use Rattle.std.proofs.lemmas.Bool.{cases_order}
 use Rattle.std.proofs.Common.{MatchOption, All, map, ◌&&◌}
 use Rattle.std.specs.Char.{is_ascii_digit}
 use Rattle.std.specs.List.{flat_map}
+use Rattle.std.specs.Str.{all_ascii_digits}
 use Rattle.std.proofs.lemmas.List.Elements.{All-head, All-tail}
 use Rattle.std.proofs.lemmas.List.{append-nil, take-append-drop, take_all, take-append-le}
 use Rattle.std.proofs.lemmas.List.{get_or-drop, get_or_append_left, length_push, drop_at}
@@ -14,7 +15,7 @@ use Rattle.std.proofs.lemmas.List.{drop-drop, length-take}
 use Rattle.std.proofs.Math.Seq.{get_or-append_seam}
 use Rattle.snmp_oid.specs.Numeric.{dot, IsNumeral, IsDotted, IsNumericName, BeginsPart, part_at}
 use Rattle.snmp_oid.specs.Numeric.{IsFirstBadPart, IsPartRead, AreDigitsRead}
-use Rattle.snmp_oid.proofs.Dotted.{parts, parts_left, AreNumerals, Splits, parts_of, to_dot_is}
+use Rattle.snmp_oid.proofs.Dotted.{parts, parts_left, AreNumerals, parts_of, to_dot_is}
 use Rattle.snmp_oid.proofs.Dotted.{numerals_from_dotted, dotted_from_numerals, same_numerals}
 use Rattle.snmp_oid.proofs.Dotted.{digits_have_no_dot, numerals_more, part_is_numeral}
 use Rattle.snmp_oid.proofs.Numeral.{IsFrontRead, front_numeral, digit_small}
@@ -50,27 +51,24 @@ no_empty_first rest o h = (part_is_numeral [] [] (parts rest) o (numerals_from_d
 
 pub dotted_from_name : (text dotted o : List ℕ) → text ≢ dot ∷ [] → IsBehindDot text dotted → IsNumericName text o → IsDotted dotted o
 dotted_from_name text dotted o more front (inl h) = absurd (more h.0)
-dotted_from_name text dotted o more (inl front) (inr (inl h)) = let P : List ℕ → Type 0 = λ t. IsDotted t o in subst P (sym front.0) h
-dotted_from_name text dotted o more (inr front) (inr (inl h)) = let P : List ℕ → Type 0 = λ t. IsDotted t o in
-    absurd (no_empty_first dotted o (subst P front h))
+dotted_from_name text dotted o more (inl front) (inr (inl h)) = rw front.0 h
+dotted_from_name text dotted o more (inr front) (inr (inl h)) = absurd (no_empty_first dotted o (rw front at h))
 dotted_from_name text dotted o more (inl front) (inr (inr h)) = absurd (front.1 (ap (λ (t : List ℕ). get_or t 0 0) h.1))
 dotted_from_name text dotted o more (inr front) (inr (inr h)) =
-    let P : List ℕ → Type 0 = λ t. IsDotted t o in
     let same : h.0 ≡ dotted = cc (h.1, front) in
-    subst P same h.2
+    rw same at h.2
 
 pub name_from_dotted : (text dotted o : List ℕ) → IsBehindDot text dotted → IsDotted dotted o → IsNumericName text o
-name_from_dotted text dotted o (inl front) h = let P : List ℕ → Type 0 = λ t. IsDotted t o in inr (inl (subst P front.0 h))
+name_from_dotted text dotted o (inl front) h = inr (inl (rw front.0 at h))
 name_from_dotted text dotted o (inr front) h = inr (inr (dotted, front, h))
 
 -- a dot alone names the empty identifier and no other
 pub dot_alone : (text o : List ℕ) → text ≡ dot ∷ [] → IsNumericName text o → o ≡ []
 dot_alone text o is (inl h) = h.1
-dot_alone text o is (inr (inl h)) = let P : List ℕ → Type 0 = λ t. IsDotted t o in absurd (no_empty_first [] o (subst P is h))
+dot_alone text o is (inr (inl h)) = absurd (no_empty_first [] o (rw is at h))
 dot_alone text o is (inr (inr h)) =
     let none : h.0 ≡ [] = cc (h.1, is) in
-    let P : List ℕ → Type 0 = λ t. IsDotted t o in
-    absurd ((part_is_numeral [] [] [] o (numerals_from_dotted o [] (subst P none h.2))).1.some refl)
+    absurd ((part_is_numeral [] [] [] o (numerals_from_dotted o [] (rw none at h.2))).1.some refl)
 
 -- a text names one list of numbers
 same_dotted : (text o p : List ℕ) → IsDotted text o → IsDotted text p → o ≡ p
@@ -80,12 +78,11 @@ pub one_name : (text o p : List ℕ) → IsNumericName text o → IsNumericName 
 one_name text o p (inl h) g = h.1 ∙ sym (dot_alone text p h.0 g)
 one_name text o p (inr h) (inl g) = dot_alone text o g.0 (inr h) ∙ sym g.1
 one_name text o p (inr (inl h)) (inr (inl g)) = same_dotted text o p h g
-one_name text o p (inr (inl h)) (inr (inr g)) = let P : List ℕ → Type 0 = λ t. IsDotted t o in absurd (no_empty_first g.0 o (subst P g.1 h))
-one_name text o p (inr (inr h)) (inr (inl g)) = let P : List ℕ → Type 0 = λ t. IsDotted t p in absurd (no_empty_first h.0 p (subst P h.1 g))
+one_name text o p (inr (inl h)) (inr (inr g)) = absurd (no_empty_first g.0 o (rw g.1 at h))
+one_name text o p (inr (inr h)) (inr (inl g)) = absurd (no_empty_first h.0 p (rw h.1 at g))
 one_name text o p (inr (inr h)) (inr (inr g)) =
-    let P : List ℕ → Type 0 = λ t. IsDotted t p in
     let same : g.0 ≡ h.0 = cc (h.1, g.1) in
-    same_dotted h.0 o p h.2 (subst P same g.2)
+    same_dotted h.0 o p h.2 (rw same at g.2)
 
 -- there is one first bad part
 pub one_bad_part : (text : List ℕ) (at k : ℕ) → IsFirstBadPart text at → IsFirstBadPart text k → at ≡ k
@@ -131,70 +128,51 @@ parse_begins text dotted kept more (inr front) none = record {
     none_at_first text dotted k front low (inl part) = part.1 (ap (λ (t : List ℕ). get_or t 0 0) front)
     none_at_first text dotted k front low (inr part) = omega arith
 
--- the octets of a part that stands at a place
-octet_of_part : (text here part : List ℕ) (behind : Option (List ℕ)) (at j : ℕ) → drop at text ≡ here → Splits here part behind → j < length part
-    → get_or text (at + j) 0 ≢ dot
-octet_of_part text here part None at j stands h low same =
-    let this : get_or text (at + j) 0 ≡ get_or part j 0 = sym (get_or-drop at text j 0) ∙ ap (λ (t : List ℕ). get_or t j 0) (stands ∙ h.1) in
-    h.0 j 0 low (sym this ∙ same)
-octet_of_part text here part (Some rest) at j stands h low same =
-    let this : get_or text (at + j) 0 ≡ get_or part j 0 = sym (get_or-drop at text j 0) ∙ ap (λ (t : List ℕ). get_or t j 0) (stands ∙ h.1)
-    ∙ get_or_append_left part (dot ∷ rest) 0 j low in
-    h.0 j 0 low (sym this ∙ same)
+-- a text begins with its first part
+begins_with : (here part : List ℕ) (behind : Option (List ℕ)) → MatchOption behind (here ≡ part) (λ rest. here ≡ part ++ dot ∷ rest)
+    → (more : List ℕ) × (here ≡ part ++ more)
+begins_with here part None is = ([], is ∙ sym (append-nil part))
+begins_with here part (Some rest) is = (dot ∷ rest, is)
 
--- no part begins inside one
-none_inside : (text here part : List ℕ) (behind : Option (List ℕ)) (at k : ℕ) → drop at text ≡ here → Splits here part behind → at < k
-    → k < at + length part + 1 → BeginsPart text k → ⊥
-none_inside text here part behind at k stands h above below (inl begins) = omega arith
-none_inside text here part behind at k stands h above below (inr begins) =
-    let P : ℕ → Type 0 = λ i. get_or text i 0 ≡ dot in
-    let place : k - 1 ≡ at + (k - 1 - at) = omega arith in
-    octet_of_part text here part behind at (k - 1 - at) stands h (omega arith) (subst P place begins.2)
+module _ (text : List ℕ) {here : List ℕ} {number : Option ℕ} {behind : Option (List ℕ)} (r : IsPartRead here number behind) (at : ℕ)
+    (stands : drop at text ≡ here) where
+  -- no part begins inside one
+  none_inside : (k : ℕ) → at < k → k < at + length r.part + 1 → BeginsPart text k → ⊥
+  none_inside k above below (inl begins) = omega arith
+  none_inside k above below (inr begins) =
+      let j : ℕ = k - 1 - at in
+      let low : j < length r.part = omega arith in
+      let place : k - 1 ≡ at + j = omega arith in
+      let front = begins_with here r.part behind r.parts in
+      let octet : get_or text (k - 1) 0 ≡ get_or r.part j 0 = ap (λ i. get_or text i 0) place ∙ sym (get_or-drop at text j 0)
+      ∙ ap (λ (t : List ℕ). get_or t j 0) (stands ∙ front.1) ∙ get_or_append_left r.part front.0 0 j low in
+      r.plain j 0 low (sym octet ∙ begins.2)
 
-part_at_is : (text here part : List ℕ) (behind : Option (List ℕ)) (at : ℕ) → drop at text ≡ here → Splits here part behind → part_at text at ≡ part
-part_at_is text here part behind at stands h = ap (λ (t : List ℕ). part_at t 0) stands ∙ to_dot_is here part behind h
+  part_at_is : part_at text at ≡ r.part
+  part_at_is = ap (λ (t : List ℕ). part_at t 0) stands ∙ to_dot_is here r.part behind (r.plain, r.parts)
 
-before_here : (text here part : List ℕ) (behind : Option (List ℕ)) (at n : ℕ) → drop at text ≡ here → Splits here part behind → IsNumeral part n
-    → ((k : ℕ) → k < at → BeginsPart text k → (m : ℕ) × IsNumeral (part_at text k) m)
-    → (k : ℕ) → k < at + length part + 1 → BeginsPart text k → (k ≡ at) ⊎ ((k < at) ⊎ (at < k)) → (m : ℕ) × IsNumeral (part_at text k) m
-before_here text here part behind at n stands h one before k low begins (inl same) =
-    let P : List ℕ → Type 0 = λ t. IsNumeral t n in
-    (n, subst P (sym (ap (part_at text) same ∙ part_at_is text here part behind at stands h)) one)
-before_here text here part behind at n stands h one before k low begins (inr (inl below)) = before k below begins
-before_here text here part behind at n stands h one before k low begins (inr (inr above)) =
-    absurd (none_inside text here part behind at k stands h above low begins)
-
-before_more : (text here part : List ℕ) (behind : Option (List ℕ)) (at n : ℕ) → drop at text ≡ here → Splits here part behind → IsNumeral part n
-    → ((k : ℕ) → k < at → BeginsPart text k → (m : ℕ) × IsNumeral (part_at text k) m)
-    → (k : ℕ) → k < at + length part + 1 → BeginsPart text k → (m : ℕ) × IsNumeral (part_at text k) m
-before_more text here part behind at n stands h one before k low begins =
-    before_here text here part behind at n stands h one before k low begins (cases_order k at)
+  before_more : (n : ℕ) → IsNumeral r.part n → ((k : ℕ) → k < at → BeginsPart text k → (m : ℕ) × IsNumeral (part_at text k) m)
+      → (k : ℕ) → k < at + length r.part + 1 → BeginsPart text k → (m : ℕ) × IsNumeral (part_at text k) m
+  before_more n one before k low begins = ⊎_elim
+      (λ same. (n, subst (λ (t : List ℕ). IsNumeral t n) (sym (ap (part_at text) same ∙ part_at_is)) one))
+      (⊎_elim (λ below. before k below begins) (λ above. absurd (none_inside k above low begins)))
+      (cases_order k at)
 
 -- what stands behind the part
-length_behind : (here part rest : List ℕ) → here ≡ part ++ dot ∷ rest → length here ≡ length part + 1 + length rest
-length_behind here part rest is = omega (arith, ap length is, length-append part (dot ∷ rest))
-
-stands_behind : (text here part : List ℕ) (behind : Option (List ℕ)) (at : ℕ) → StandsAt text (Some here) at → Splits here part behind
-    → StandsAt text behind (at + length part + 1)
-stands_behind text here part None at stands h = omega (arith, stands.1, ap length h.1)
-stands_behind text here part (Some rest) at stands h =
-    let rests : drop (length part + 1) here ≡ rest = ap (drop (length part + 1)) h.1 ∙ drop_behind part rest in
-    let place : drop (at + length part + 1) text ≡ rest = ap (λ n. drop n text) (place_is at (length part)) ∙ sym (drop-drop (length part + 1) at text)
-    ∙ ap (drop (length part + 1)) stands.0 ∙ rests in
+stands_behind : (text here part : List ℕ) (behind : Option (List ℕ)) (at : ℕ) → StandsAt text (Some here) at
+    → MatchOption behind (here ≡ part) (λ rest. here ≡ part ++ dot ∷ rest) → StandsAt text behind (at + length part + 1)
+stands_behind text here part None at stands is = omega (arith, stands.1, ap length is)
+stands_behind text here part (Some rest) at stands is =
+    let size : length here ≡ length part + 1 + length rest = omega (arith, ap length is, length-append part (dot ∷ rest)) in
+    let place : drop (at + length part) text ≡ dot ∷ rest =
+    sym (drop-drop (length part) at text) ∙ ap (drop (length part)) (stands.0 ∙ is) ∙ drop_at part (dot ∷ rest) (length part) refl in
     let octet : get_or text (at + length part) 0 ≡ dot = sym (get_or-drop at text (length part) 0)
-    ∙ ap (λ (t : List ℕ). get_or t (length part) 0) (stands.0 ∙ h.1) ∙ get_or-append_seam part dot rest 0 in
-    let P : ℕ → Type 0 = λ i. get_or text i 0 ≡ dot in
+    ∙ ap (λ (t : List ℕ). get_or t (length part) 0) (stands.0 ∙ is) ∙ get_or-append_seam part dot rest 0 in
     let before : at + length part ≡ at + length part + 1 - 1 = omega arith in (
-      place,
-      omega (arith, stands.1, length_behind here part rest h.1),
-      inr (omega (arith, stands.1, length_behind here part rest h.1), omega arith, subst P before octet),
+      sym (drop-drop 1 (at + length part) text) ∙ ap (drop 1) place,
+      omega (arith, stands.1, size),
+      inr (omega (arith, stands.1, size), omega arith, subst (λ (i : ℕ). get_or text i 0 ≡ dot) before octet),
     )
-  where
-    drop_behind : (part rest : List ℕ) → drop (length part + 1) (part ++ dot ∷ rest) ≡ rest
-    drop_behind part rest = sym (drop-drop 1 (length part) (part ++ dot ∷ rest)) ∙ ap (drop 1) (drop_at part (dot ∷ rest) (length part) refl)
-
-    place_is : (at n : ℕ) → at + n + 1 ≡ at + (n + 1)
-    place_is at n = omega arith
 
 -- a number is kept, or there is no room for it
 abbrev pub Keeps : List ℕ → Bool → ℕ → List ℕ → Bool → Type 0
@@ -221,89 +199,77 @@ keeps_more numbers kept new too_long now n first long (inr keeps) =
     )
 
 -- one more part
-pub parse_more : (text here part : List ℕ) (behind : Option (List ℕ)) (kept new : List ℕ) (too_long now : Bool) (n : ℕ)
-    → IsParsedTo text (Some here) kept too_long → Splits here part behind → IsNumeral part n → Keeps kept too_long n new now → IsParsedTo text behind new now
-parse_more text here part behind kept new too_long now n h split one keeps = record {
-  more = h.more;
-  dotted = h.dotted;
-  front = h.front;
-  done = h.done ++ part ∷ [];
-  numbers = h.numbers ++ n ∷ [];
-  are = numerals_more h.done h.numbers part n h.are one;
-  whole = h.whole ∙ ap (λ (ps : List (List ℕ)). h.done ++ ps) (parts_of here part behind split) ∙ sym (append_assoc h.done (part ∷ []) (parts_left behind));
-  first = (keeps_more h.numbers kept new too_long now n h.first h.long keeps).0;
-  short = (keeps_more h.numbers kept new too_long now n h.first h.long keeps).1;
-  long = (keeps_more h.numbers kept new too_long now n h.first h.long keeps).2;
-  at = h.at + length part + 1;
-  stands = stands_behind text here part behind h.at h.stands split;
-  before = before_more text here part behind h.at n h.stands.0 split one h.before;
-}
+pub parse_more : {text here : List ℕ} {behind : Option (List ℕ)} {kept : List ℕ} {too_long : Bool} (new : List ℕ) (now : Bool) {n : ℕ}
+    → IsParsedTo text (Some here) kept too_long → IsPartRead here (Some n) behind → Keeps kept too_long n new now → IsParsedTo text behind new now
+parse_more {text} {here} {behind} {kept} {too_long} new now {n} h r keeps =
+    let more = keeps_more h.numbers kept new too_long now n h.first h.long keeps in record {
+      more = h.more;
+      dotted = h.dotted;
+      front = h.front;
+      done = h.done ++ r.part ∷ [];
+      numbers = h.numbers ++ n ∷ [];
+      are = numerals_more h.done h.numbers r.part n h.are r.read;
+      whole = h.whole ∙ ap (λ (ps : List (List ℕ)). h.done ++ ps) (parts_of here r.part behind (r.plain, r.parts))
+          ∙ sym (append_assoc h.done (r.part ∷ []) (parts_left behind));
+      first = more.0;
+      short = more.1;
+      long = more.2;
+      at = h.at + length r.part + 1;
+      stands = stands_behind text here r.part behind h.at h.stands r.parts;
+      before = before_more text r h.at h.stands.0 n r.read h.before;
+    }
 
 -- a part of one digit
-digit_splits : (digit : ℕ) (rest : List ℕ) → is_ascii_digit digit ≡ true → Splits (digit ∷ dot ∷ rest) (digit ∷ []) (Some rest)
-digit_splits digit rest is_digit = (digits_have_no_dot (digit ∷ []) (ap (λ b. b && true) is_digit), refl)
-
-digit_numeral : (digit : ℕ) → is_ascii_digit digit ≡ true → IsNumeral (digit ∷ []) (digit - 48)
-digit_numeral digit is_digit = record {
-  some = λ none. cc;
-  digits = ap (λ b. b && true) is_digit;
-  value = omega arith;
-  fits = omega (arith, digit_small digit is_digit);
-}
+digit_read : (digit : ℕ) (rest : List ℕ) → is_ascii_digit digit ≡ true → IsPartRead (digit ∷ dot ∷ rest) (Some (digit - 48)) (Some rest)
+digit_read digit rest is_digit =
+    let digits : all_ascii_digits (digit ∷ []) ≡ true = ap (λ b. b && true) is_digit in record {
+      part = digit ∷ [];
+      plain = digits_have_no_dot (digit ∷ []) digits;
+      parts = refl;
+      read = record { some = λ none. cc; digits = digits; value = omega arith; fits = omega (arith, digit_small digit is_digit) };
+    }
 
 -- parts of a digit each
 parse_each : (digits text here rest kept : List ℕ) (too_long : Bool) → IsParsedTo text (Some here) kept too_long
     → All (λ digit. is_ascii_digit digit ≡ true) digits → here ≡ flat_map (λ digit. digit ∷ dot ∷ []) digits ++ rest → length kept + length digits ≤ 128
     → IsParsedTo text (Some rest) (kept ++ map (λ digit. digit - 48) digits) too_long
-parse_each [] text here rest kept too_long h are parts room =
-    let P : List ℕ → Type 0 = λ left. IsParsedTo text (Some left) (kept ++ []) too_long in
-    let Q : List ℕ → Type 0 = λ numbers. IsParsedTo text (Some here) numbers too_long in
-    subst P parts (subst Q (sym (append-nil kept)) h)
+parse_each [] text here rest kept too_long h are parts room = rw (append-nil kept) (rw parts at h)
 parse_each (digit ∷ digits) text here rest kept too_long h are parts room =
     let is_digit : is_ascii_digit digit ≡ true = All-head (λ x. is_ascii_digit x ≡ true) digit digits are in
     let behind : List ℕ = flat_map (λ x. x ∷ dot ∷ []) digits ++ rest in
     let next : List ℕ = kept ++ (digit - 48) ∷ [] in
-    let P : List ℕ → Type 0 = λ left. IsParsedTo text (Some left) kept too_long in
-    let Q : List ℕ → Type 0 = λ numbers. IsParsedTo text (Some rest) numbers too_long in
     let one : IsParsedTo text (Some behind) next too_long =
-    parse_more text (digit ∷ dot ∷ behind) (digit ∷ []) (Some behind) kept next too_long too_long (digit - 48)
-    (subst P parts h) (digit_splits digit behind is_digit) (digit_numeral digit is_digit) (inl (omega (arith, room), refl, refl)) in
-    subst Q (append_assoc kept ((digit - 48) ∷ []) (map (λ x. x - 48) digits))
+    parse_more next too_long (rw parts at h) (digit_read digit behind is_digit) (inl (omega (arith, room), refl, refl)) in
+    rw (← append_assoc kept ((digit - 48) ∷ []) (map (λ x. x - 48) digits))
     (parse_each digits text behind rest next too_long one (All-tail (λ x. is_ascii_digit x ≡ true) digit digits are) refl
     (omega (arith, room, length_push kept (digit - 48))))
 
-pub parse_digits : (count : ℕ) (text here rest kept new : List ℕ) (too_long : Bool) → IsParsedTo text (Some here) kept too_long
+pub parse_digits : {count : ℕ} {text here rest kept new : List ℕ} {too_long : Bool} → IsParsedTo text (Some here) kept too_long
     → AreDigitsRead count here rest kept new → IsParsedTo text (Some rest) new too_long
-parse_digits count text here rest kept new too_long h read =
-    let P : List ℕ → Type 0 = λ numbers. IsParsedTo text (Some rest) numbers too_long in
-    subst P (sym read.numbers)
-    (parse_each read.digits text here rest kept too_long h read.are read.parts (omega (arith, read.room, read.size)))
+parse_digits {count} {text} {here} {rest} {kept} {new} {too_long} h read =
+    rw read.numbers (parse_each read.digits text here rest kept too_long h read.are read.parts (omega (arith, read.room, read.size)))
 
 -- a part that is no numeral is the first bad one, and the text names nothing
-pub bad_part_here : (text here part : List ℕ) (behind : Option (List ℕ)) (kept : List ℕ) (too_long : Bool) → IsParsedTo text (Some here) kept too_long
-    → Splits here part behind
-    → ((n : ℕ) → IsNumeral part n → ⊥) → IsFirstBadPart text (length text - length here)
-bad_part_here text here part behind kept too_long h split bad =
-    let P : ℕ → Type 0 = λ k. IsFirstBadPart text k in
+pub bad_part_here : {text here : List ℕ} {behind : Option (List ℕ)} {kept : List ℕ} {too_long : Bool} → IsParsedTo text (Some here) kept too_long
+    → IsPartRead here None behind → IsFirstBadPart text (length text - length here)
+bad_part_here {text} {here} h r =
     let place : h.at ≡ length text - length here = omega (arith, h.stands.1) in
-    let this : IsFirstBadPart text h.at = record {
+    subst (λ (k : ℕ). IsFirstBadPart text k) place (record {
       more = h.more;
       part = h.stands.2;
-      bad = λ n one. bad n (let Q : List ℕ → Type 0 = λ t. IsNumeral t n in subst Q (part_at_is text here part behind h.at h.stands.0 split) one);
+      bad = λ n one. r.read n (subst (λ (t : List ℕ). IsNumeral t n) (part_at_is text r h.at h.stands.0) one);
       before = h.before;
-    } in
-    subst P place this
+    })
 
-pub bad_part_no_name : (text here part : List ℕ) (behind : Option (List ℕ)) (kept : List ℕ) (too_long : Bool) → IsParsedTo text (Some here) kept too_long
-    → Splits here part behind
-    → ((n : ℕ) → IsNumeral part n → ⊥) → (o : List ℕ) → IsNumericName text o → ⊥
-bad_part_no_name text here part behind kept too_long h split bad o name =
-    let P : List (List ℕ) → Type 0 = λ ps. AreNumerals ps o in
-    let all : AreNumerals (h.done ++ part ∷ parts_left behind) o =
-    subst P (h.whole ∙ ap (λ (ps : List (List ℕ)). h.done ++ ps) (parts_of here part behind split))
+pub bad_part_no_name : {text here : List ℕ} {behind : Option (List ℕ)} {kept : List ℕ} {too_long : Bool} → IsParsedTo text (Some here) kept too_long
+    → IsPartRead here None behind → (o : List ℕ) → IsNumericName text o → ⊥
+bad_part_no_name {text} {here} {behind} h r o name =
+    let all : AreNumerals (h.done ++ r.part ∷ parts_left behind) o =
+    subst (λ (ps : List (List ℕ)). AreNumerals ps o)
+    (h.whole ∙ ap (λ (ps : List (List ℕ)). h.done ++ ps) (parts_of here r.part behind (r.plain, r.parts)))
     (numerals_from_dotted o h.dotted (dotted_from_name text h.dotted o h.more h.front name)) in
-    let one = part_is_numeral h.done part (parts_left behind) o all in
-    bad one.0 one.1
+    let one = part_is_numeral h.done r.part (parts_left behind) o all in
+    r.read one.0 one.1
 
 -- at the end the text names the numbers read
 pub parsed_name : (text kept : List ℕ) (too_long : Bool) (h : IsParsedTo text None kept too_long) → IsNumericName text h.numbers
