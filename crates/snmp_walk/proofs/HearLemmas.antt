@@ -1,8 +1,8 @@
 -- What a try hears, receive by receive, and what tries hear together.
 use Rattle.std.proofs.Common.{◌≡◌, ◌≢◌, ◌⊎◌, inl, inr, ℕ, zero, suc, ◌+◌, ◌*◌, ◌<◌, ◌≤◌, true}
 use Rattle.std.proofs.Common.{false, List, [], ◌∷◌, ◌++◌, length, replicate, refl, sym, ◌∙◌}
-use Rattle.std.proofs.Common.{ap, subst, arith, append-nil, append_assoc, length-append, Option}
-use Rattle.std.proofs.Common.{Some, None}
+use Rattle.std.proofs.Common.{ap, subst, arith, append-nil, append_assoc, add-one, length-append}
+use Rattle.std.proofs.Common.{Option, Some, None}
 use Rattle.std.proofs.lemmas.Bool.{false≢true}
 use Rattle.std.proofs.lemmas.Grind.{replicate_next}
 use Rattle.std.specs.List.{slice_get}
@@ -10,7 +10,7 @@ use Rattle.snmp_wire.specs.Message.{Message}
 use Rattle.snmp_wire.specs.Spelling.{Spells}
 use Rattle.snmp_walk.specs.Taken.{awaits}
 use Rattle.snmp_walk.specs.Link.{Agents, OneOf, IsReplyFrom, IsUnanswered}
-use Rattle.snmp_walk.specs.Traffic.{Traffic, latest, datagram_at, received, Gives, Receives}
+use Rattle.snmp_walk.specs.Traffic.{Traffic, latest, datagram_at, Gives, Receives}
 use Rattle.snmp_walk.specs.Traffic.{IsNothing, IsOther, resent, Lost}
 use Rattle.snmp_walk.specs.Heard.{IsAsked, Hears}
 use Rattle.snmp_walk.specs.Moved.{IsMoved}
@@ -30,11 +30,7 @@ found sent (suc k) d e = one_of sent k d e
 pub one_append : (xs ys : List (List ℕ)) (d : List ℕ) → OneOf (xs ++ ys) d → OneOf xs d ⊎ OneOf ys d
 one_append [] ys d one = inr one
 one_append (x ∷ xs) ys d (inl e) = inl (inl e)
-one_append (x ∷ xs) ys d (inr one) = further (one_append xs ys d one)
-  where
-    further : OneOf xs d ⊎ OneOf ys d → OneOf (x ∷ xs) d ⊎ OneOf ys d
-    further (inl h) = inl (inr h)
-    further (inr h) = inr h
+one_append (x ∷ xs) ys d (inr one) = elim (one_append xs ys d one) [ inl h ↦ inl (inr h) | inr h ↦ inr h ]
 
 pub one_same : (n : ℕ) (q d : List ℕ) → OneOf (replicate n q) d → d ≡ q
 one_same zero q d one = absurd one
@@ -66,25 +62,16 @@ module _ (agents : Agents) (community : List ℕ) (id : ℕ) (q : List ℕ) (old
       let own = asked.own octets (subst (λ (x : List ℕ). IsReplyFrom agents x octets) same reply) in
       false≢true (stray own.0 own.1 ∙ own.2)
 
-  more_used : (used rest : List (Option ℕ)) (e : Option ℕ) (t c : ℕ) → Lost agents old.sent q (used ++ e ∷ rest) t c
-      → Lost agents old.sent q ((used ++ e ∷ []) ++ rest) t c
-  more_used used rest e t c lost = subst (λ (es : List (Option ℕ)). Lost agents old.sent q es t c) (sym (append_assoc used (e ∷ []) rest)) lost
-
   -- one more receive gave another reply
   other_heard : (count : ℕ) (now left : Traffic) (e : Option ℕ) (next : List (Option ℕ)) → now.ahead ≡ e ∷ next → left.ahead ≡ next
       → IsOther agents old.sent q e → count < 64
       → Waits agents q old count now → Waits agents q old (count + 1) left
   other_heard count now left e next ahead rest_is other less w = record {
     used = w.used ++ e ∷ [];
-    parts = w.parts ∙ ap (λ (es : List (Option ℕ)). w.used ++ es) ahead ∙ sym (append_assoc w.used (e ∷ []) next)
-        ∙ ap (λ (es : List (Option ℕ)). (w.used ++ e ∷ []) ++ es) (sym rest_is);
+    parts = simp (w.parts, ahead, rest_is, append_assoc);
     few = omega (arith, w.few, length-append w.used (e ∷ []));
-    under = λ more t rest lost.
-        let under_63 : count ≢ 63 = λ is. omega (arith, more, is) in
-        more_used w.used rest e (suc t) 0 (w.under less t (e ∷ rest) (inr (inr (other, under_63, lost))));
-    over = λ all t rest lost.
-        let at_63 : count ≡ 63 = omega (arith, all) in
-        more_used w.used rest e (suc t) 0 (w.under less t (e ∷ rest) (inr (inl (other, at_63, lost))));
+    under = λ more t rest lost. rw append_assoc (w.under less t (e ∷ rest) (inr (inr (other, (λ is. omega (arith, more, is)), lost))));
+    over = λ all t rest lost. rw append_assoc (w.under less t (e ∷ rest) (inr (inl (other, omega (arith, all), lost))));
   }
 
   -- it is the reply to another datagram
@@ -98,12 +85,10 @@ module _ (agents : Agents) (community : List ℕ) (id : ℕ) (q : List ℕ) (old
       → Receives agents now.sent ahead (Some octets) left.ahead
       → ((m : Message) → Spells m octets → false ≡ awaits community id m) → Waits agents q old count now → Waits agents q old (count + 1) left
   stray_heard count now left octets same less [] is r stray w =
-      let given : Gives agents (Some q) (Some octets) = subst (λ (d : Option (List ℕ)). Gives agents d (Some octets)) (ap latest same ∙ last) r.1 in
-      absurd (not_own q octets given stray refl)
+      absurd (not_own q octets (rw (same, last) at r.1) stray refl)
   stray_heard count now left octets same less (None ∷ next) is r stray w = let e = r.1 in let no : ⊥ = cc in absurd no
   stray_heard count now left octets same less (Some k ∷ next) is r stray w =
-      let given : Gives agents (datagram_at old.sent k) (Some octets) = subst (λ (s : List (List ℕ)). Gives agents (datagram_at s k) (Some octets)) same r.1 in
-      other_heard count now left (Some k) next is r.0 (of_other (datagram_at old.sent k) k octets refl given stray) less w
+      other_heard count now left (Some k) next is r.0 (of_other (datagram_at old.sent k) k octets refl (rw same at r.1) stray) less w
 
   -- nothing came, by this delivery
   nothing_heard : (count : ℕ) (now left : Traffic) (e : Option ℕ) (next : List (Option ℕ)) → now.ahead ≡ e ∷ next → left.ahead ≡ next
@@ -111,64 +96,47 @@ module _ (agents : Agents) (community : List ℕ) (id : ℕ) (q : List ℕ) (old
       → Waits agents q old count now → (silent : Type 0) → Hears agents q old silent left
   nothing_heard count now left e next ahead rest_is none less w silent = record {
     used = w.used ++ e ∷ [];
-    parts = w.parts ∙ ap (λ (es : List (Option ℕ)). w.used ++ es) ahead ∙ sym (append_assoc w.used (e ∷ []) next)
-        ∙ ap (λ (es : List (Option ℕ)). (w.used ++ e ∷ []) ++ es) (sym rest_is);
+    parts = simp (w.parts, ahead, rest_is, append_assoc);
     few = omega (arith, w.few, less, length-append w.used (e ∷ []));
-    lost = λ s. inr (λ t rest lost. subst (λ (n : ℕ). Lost agents old.sent q ((w.used ++ e ∷ []) ++ rest) n 0) (add_one t)
-        (more_used w.used rest e (suc t) 0 (w.under less t (e ∷ rest) (inl (none, lost)))));
+    lost = λ s. inr (λ t rest lost. rw (add-one, append_assoc) (w.under less t (e ∷ rest) (inl (none, lost))));
   }
-    where
-      add_one : (t : ℕ) → suc t ≡ t + 1
-      add_one t = omega arith
 
   -- a receive of nothing
   pub none_heard : (count : ℕ) (now left : Traffic) → now.sent ≡ old.sent → count < 64 → (ahead : List (Option ℕ)) → now.ahead ≡ ahead
       → Receives agents now.sent ahead None left.ahead → Waits agents q old count now → (silent : Type 0) → Hears agents q old silent left
   none_heard count now left same less [] is r w silent = record {
     used = w.used;
-    parts = w.parts ∙ ap (λ (es : List (Option ℕ)). w.used ++ es) (is ∙ sym r.0);
+    parts = simp (w.parts, is, r.0);
     few = omega (arith, w.few, less);
-    lost = λ s. inl (subst (λ (d : Option (List ℕ)). Gives agents d None) (ap latest same ∙ last) r.1);
+    lost = λ s. inl (rw (same, last) at r.1);
   }
   none_heard count now left same less (None ∷ next) is r w silent = nothing_heard count now left None next is r.0 tt less w silent
-  none_heard count now left same less (Some k ∷ next) is r w silent =
-      nothing_heard count now left (Some k) next is r.0 (subst (λ (s : List (List ℕ)). Gives agents (datagram_at s k) None) same r.1) less w silent
+  none_heard count now left same less (Some k ∷ next) is r w silent = nothing_heard count now left (Some k) next is r.0 (rw same at r.1) less w silent
 
   -- a receive of the reply that is waited for
   pub reply_heard : (now left : Traffic) (octets : List ℕ) → now.sent ≡ old.sent → (ahead : List (Option ℕ)) → now.ahead ≡ ahead
       → Receives agents now.sent ahead (Some octets) left.ahead → (m : Message) → Spells m octets → awaits community id m ≡ true → IsReplyFrom agents q octets
-  reply_heard now left octets same [] is r m spelt awaited = subst (λ (d : Option (List ℕ)). Gives agents d (Some octets)) (ap latest same ∙ last) r.1
+  reply_heard now left octets same [] is r m spelt awaited = rw (same, last) at r.1
   reply_heard now left octets same (None ∷ next) is r m spelt awaited = let e = r.1 in let no : ⊥ = cc in absurd no
-  reply_heard now left octets same (Some k ∷ next) is r m spelt awaited = by_datagram (datagram_at old.sent k) refl (subst (λ (s : List
-      (List ℕ)). Gives agents (datagram_at s k) (Some octets)) same r.1)
+  reply_heard now left octets same (Some k ∷ next) is r m spelt awaited = by_datagram (datagram_at old.sent k) refl (rw same at r.1)
     where
-      by_other : (d : List ℕ) → IsReplyFrom agents d octets → (d ≡ q) ⊎ ((o : List ℕ) (n : Message) → IsReplyFrom agents d o → Spells n o
-          → awaits community id n ≡ false) → IsReplyFrom agents q octets
-      by_other d given (inl e) = subst (λ (x : List ℕ). IsReplyFrom agents x octets) e given
-      by_other d given (inr f) = absurd (false≢true (sym (f octets m given spelt) ∙ awaited))
-
       by_datagram : (d : Option (List ℕ)) → datagram_at old.sent k ≡ d → Gives agents d (Some octets) → IsReplyFrom agents q octets
       by_datagram None e given = let no : ⊥ = cc in absurd no
-      by_datagram (Some d) e given = by_other d given (asked.others d (found old.sent k d e))
+      by_datagram (Some d) e given = elim (asked.others d (found old.sent k d e)) [
+        | inl same ↦ subst (λ (x : List ℕ). IsReplyFrom agents x octets) same given
+        | inr f ↦ absurd (false≢true (sym (f octets m given spelt) ∙ awaited))
+      ]
 
 -- the receive that ended the try used one delivery at most
 pub heard_used : (agents : Agents) (q : List ℕ) (old now left : Traffic) (count : ℕ) (reply : Option (List ℕ)) → count < 64 → (ahead : List (Option ℕ))
     → now.ahead ≡ ahead
     → Receives agents now.sent ahead reply left.ahead → Waits agents q old count now → (silent : Type 0) → (silent → ⊥) → Hears agents q old silent left
 heard_used agents q old now left count reply less [] is r w silent never =
-    record {
-      used = w.used;
-      parts = w.parts ∙ ap (λ (es : List (Option ℕ)). w.used ++ es) (is
-          ∙ sym r.0);
-      few = omega (arith, w.few, less);
-      lost = λ s. absurd (never s);
-    }
+    record { used = w.used; parts = simp (w.parts, is, r.0); few = omega (arith, w.few, less); lost = λ s. absurd (never s) }
 heard_used agents q old now left count reply less (e ∷ next) is r w silent never =
-    let left_is : left.ahead ≡ next = left_of e reply r in
     record {
       used = w.used ++ e ∷ [];
-      parts = w.parts ∙ ap (λ (es : List (Option ℕ)). w.used ++ es) is ∙ sym (append_assoc w.used (e ∷ []) next)
-          ∙ ap (λ (es : List (Option ℕ)). (w.used ++ e ∷ []) ++ es) (sym left_is);
+      parts = simp (w.parts, is, left_of e reply r, append_assoc);
       few = omega (arith, w.few, less, length-append w.used (e ∷ []));
       lost = λ s. absurd (never s);
     }
@@ -200,10 +168,7 @@ missing_first agents q old all = record {
   used = [];
   parts = refl;
   few = omega arith;
-  lost = inr (λ t rest e lost.
-      let same : t ≡ all = omega (arith, e) in
-      subst (λ (n : ℕ). Lost agents (old.sent ++ q ∷ []) q rest n 0) same (subst (λ (s : List (List ℕ)). Lost agents (s ++ q ∷ []) q rest t 0)
-      (append-nil old.sent) lost));
+  lost = inr (λ t rest e lost. let same : t ≡ all = omega (arith, e) in rw (← same) (rw append-nil at lost));
 }
 
 sent_more : (sent : List (List ℕ)) (q : List ℕ) (count : ℕ) → sent ++ replicate (count + 1) q ≡ (sent ++ replicate count q) ++ q ∷ []
@@ -217,33 +182,18 @@ missing_more agents q old between now count all silent s sent before ahead h m =
   used = m.used ++ h.used;
   parts = m.parts ∙ ap (λ (es : List (Option ℕ)). m.used ++ es) (sym ahead ∙ h.parts) ∙ sym (append_assoc m.used h.used now.ahead);
   few = omega (arith, m.few, h.few, length-append m.used h.used);
-  lost = both m.lost (h.lost s);
+  lost = elim m.lost [
+    | inl u ↦ inl u
+    | inr f ↦ elim (h.lost s) [
+      | inl u ↦ inl u
+      | inr g ↦ inr (λ t rest e lost.
+          let first : Lost agents (between.sent ++ q ∷ []) q rest t 0 =
+          subst (λ (x : List (List ℕ)). Lost agents (x ++ q ∷ []) q rest t 0) (sent_more old.sent q count ∙ sym sent) lost in
+          let sum : count + (t + 1) ≡ all = omega (arith, e) in
+          rw append_assoc (f (t + 1) (h.used ++ rest) sum (rw sent at (g t rest (resent_lost agents q between.sent rest t first)))))
+    ]
+  ];
 }
-  where
-    Here : Type 0
-    Here = IsUnanswered agents q
-        ⊎ ((t : ℕ) (rest : List (Option ℕ)) → count + 1 + t ≡ all → Lost agents ((old.sent ++ replicate (count + 1) q) ++ q ∷ []) q rest t 0
-        → Lost agents (old.sent ++ q ∷ []) q ((m.used ++ h.used) ++ rest) all 0)
-
-    both : IsUnanswered agents q
-        ⊎ ((t : ℕ) (rest : List (Option ℕ)) → count + t ≡ all → Lost agents ((old.sent ++ replicate count q) ++ q ∷ []) q rest t 0
-        → Lost agents (old.sent ++ q ∷ []) q (m.used ++ rest) all 0)
-        → IsUnanswered agents q
-        ⊎ ((t : ℕ) (rest : List (Option ℕ)) → Lost agents (resent between.sent q t) q rest t 0 → Lost agents between.sent q (h.used ++ rest) (t + 1) 0)
-        → IsUnanswered agents q
-        ⊎ ((t : ℕ) (rest : List (Option ℕ)) → count + 1 + t ≡ all → Lost agents ((old.sent ++ replicate (count + 1) q) ++ q ∷ []) q rest t 0
-        → Lost agents (old.sent ++ q ∷ []) q ((m.used ++ h.used) ++ rest) all 0)
-    both (inl u) b = inl u
-    both (inr f) (inl u) = inl u
-    both (inr f) (inr g) = inr (λ t rest e lost.
-        let first : Lost agents (between.sent ++ q ∷ []) q rest t 0 =
-        subst (λ (x : List (List ℕ)). Lost agents (x ++ q ∷ []) q rest t 0) (sent_more old.sent q count ∙ sym sent) lost in
-        let then_this = g t rest (resent_lost agents q between.sent rest t first) in
-        let before_this : Lost agents ((old.sent ++ replicate count q) ++ q ∷ []) q (h.used ++ rest) (t + 1) 0 =
-        subst (λ (x : List (List ℕ)). Lost agents x q (h.used ++ rest) (t + 1) 0) sent then_this in
-        let sum : count + (t + 1) ≡ all = omega (arith, e) in
-        subst (λ (es : List (Option ℕ)). Lost agents (old.sent ++ q ∷ []) q es all 0) (sym (append_assoc m.used h.used rest)) (f (t + 1)
-        (h.used ++ rest) sum before_this))
 
 -- what tries used, and that they lost the request
 abbrev pub Uses : Agents → List ℕ → Traffic → (times tries : ℕ) → Type 0 → Traffic → Type 0
@@ -254,15 +204,15 @@ Uses agents q old times tries silent now =
 -- no try brought a reply
 pub missing_all : (agents : Agents) (q : List ℕ) (old now : Traffic) (count all : ℕ) → count ≡ all → Missing agents q old count all now → (silent : Type 0)
     → Uses agents q old count all silent now
-missing_all agents q old now count all same m silent = (m.used, m.parts, m.few, λ s. by_lost m.lost)
-  where
-    by_lost : IsUnanswered agents q
-        ⊎ ((t : ℕ) (rest : List (Option ℕ)) → count + t ≡ all → Lost agents ((old.sent ++ replicate count q) ++ q ∷ []) q rest t 0
-        → Lost agents (old.sent ++ q ∷ []) q (m.used ++ rest) all 0)
-        → IsUnanswered agents q ⊎ Lost agents (old.sent ++ q ∷ []) q m.used all 0
-    by_lost (inl u) = inl u
-    by_lost (inr f) = inr (subst (λ (es : List (Option ℕ)). Lost agents (old.sent ++ q ∷ []) q es all 0) (append-nil m.used) (f 0 [] (omega
-        (arith, same)) refl))
+missing_all agents q old now count all same m silent = (
+  m.used,
+  m.parts,
+  m.few,
+  λ s. elim m.lost [
+    | inl u ↦ inl u
+    | inr f ↦ inr (rw append-nil at (f 0 [] (omega (arith, same)) refl))
+  ],
+)
 
 -- the last try was cut off, or brought one
 pub heard_more : (agents : Agents) (q : List ℕ) (old before between now : Traffic) (count all : ℕ) (heard silent : Type 0) → between.ahead ≡ before.ahead
@@ -281,13 +231,6 @@ pub missing_used : (agents : Agents) (q : List ℕ) (old now later : Traffic) (c
 missing_used agents q old now later count all silent same m never =
     (m.used, m.parts ∙ ap (λ (es : List (Option ℕ)). m.used ++ es) (sym same), m.few, λ s. absurd (never s))
 
--- what a link of these agents received, which are those of another
-pub received_by : (before after : Agents) → before ≡ after → (sent : List (List ℕ)) (ahead left : List (Option ℕ)) (r x : Option ℕ) (buffer : List ℕ) → r ≡ x
-    → Receives before sent ahead (received r buffer) left → Receives after sent ahead (received x buffer) left
-received_by before after same sent ahead left r x buffer is h =
-    subst (λ (a : Agents). Receives a sent ahead (received x buffer) left) same
-    (subst (λ (y : Option ℕ). Receives before sent ahead (received y buffer) left) is h)
-
 pub latest_is : (sent : List (List ℕ)) (q : List ℕ) → latest (sent ++ q ∷ []) ≡ Some q
 latest_is [] q = refl
 latest_is (d ∷ []) q = refl
@@ -296,12 +239,10 @@ latest_is (d ∷ e ∷ sent) q = latest_is (e ∷ sent) q
 -- a request that was sent again is no other
 pub asked_still : (agents : Agents) (community : List ℕ) (id : ℕ) (q : List ℕ) (sent : List (List ℕ)) (n : ℕ) → IsAsked agents community id q sent
     → IsAsked agents community id q (sent ++ replicate n q)
-asked_still agents community id q sent n a = record { own = a.own; others = λ d one. by_part d (one_append sent (replicate n q) d one) }
-  where
-    by_part : (d : List ℕ) → OneOf sent d ⊎ OneOf (replicate n q) d
-        → (d ≡ q) ⊎ ((octets : List ℕ) (m : Message) → IsReplyFrom agents d octets → Spells m octets → awaits community id m ≡ false)
-    by_part d (inl one) = a.others d one
-    by_part d (inr one) = inl (one_same n q d one)
+asked_still agents community id q sent n a = record {
+  own = a.own;
+  others = λ d one. elim (one_append sent (replicate n q) d one) [ inl earlier ↦ a.others d earlier | inr again ↦ inl (one_same n q d again) ];
+}
 
 -- the request was tried `count` times without a fault, and sent once more
 module _ {L : Type 0} (facts : LinkFacts L) (keeping : (link : L) → facts.honest link → facts.keeps link) (q : List ℕ) (count : ℕ) (old before between : L)
@@ -313,16 +254,14 @@ module _ {L : Type 0} (facts : LinkFacts L) (keeping : (link : L) → facts.hone
   tries_sent k = sent_all (λ f. f) ((tries_on facts count tried sent).sent k)
 
   -- what an honest link with this request as the latest shows, where its reply alone is awaited
-  pub shown : {W : Type 0} (community : W → List ℕ) (id : W → ℕ) (v w : W) → v ≡ w → (Shows : Agents → List ℕ → Type 0)
+  pub shown : (community : List ℕ) (id : ℕ) (Shows : Agents → List ℕ → Type 0)
       → ((r : List ℕ) → facts.honest between → latest (facts.traffic between).sent ≡ Some r
-      → IsAsked (facts.agents between) (community v) (id v) r (facts.traffic between).sent → Shows (facts.agents between) r)
-      → facts.honest old → IsAsked (facts.agents old) (community w) (id w) q (facts.traffic old).sent → Shows (facts.agents old) q
-  shown community id v w same Shows by h asked =
+      → IsAsked (facts.agents between) community id r (facts.traffic between).sent → Shows (facts.agents between) r)
+      → facts.honest old → IsAsked (facts.agents old) community id q (facts.traffic old).sent → Shows (facts.agents old) q
+  shown community id Shows by h asked =
       let k = keeping old h in
       let agents : facts.agents between ≡ facts.agents old = sent.agents ∙ tried.agents in
-      let still = asked_still (facts.agents old) (community w) (id w) q (facts.traffic old).sent (count + 1) asked in
-      let asked_now = subst (IsAsked (facts.agents old) (community w) (id w) q) (sym (tries_sent k)) still in
-      let asked_by = subst (λ (a : Agents). IsAsked a (community w) (id w) q (facts.traffic between).sent) (sym agents) asked_now in
+      let asked_now : IsAsked (facts.agents between) community id q (facts.traffic between).sent =
+      rw (agents, tries_sent k) (asked_still (facts.agents old) community id q (facts.traffic old).sent (count + 1) asked) in
       subst (λ (a : Agents). Shows a q) agents (by q (sent.honest (tried.honest h))
-      (ap latest (try_sent k) ∙ latest_is ((facts.traffic old).sent ++ replicate count q) q)
-      (subst (λ x. IsAsked (facts.agents between) (community x) (id x) q (facts.traffic between).sent) (sym same) asked_by))
+      (ap latest (try_sent k) ∙ latest_is ((facts.traffic old).sent ++ replicate count q) q) asked_now)

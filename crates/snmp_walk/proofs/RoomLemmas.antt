@@ -1,24 +1,8 @@
 -- How long a single_response of one binding is: no longer with an exception in place of the value, nor with a lesser id.
 use Rattle.std.proofs.Common.{◌≡◌, ℕ, ◌^◌, ◌<◌, ◌≤◌, List, [], ◌∷◌, ◌++◌, length, arith}
 use Rattle.std.proofs.Common.{length-append, pos}
-use Rattle.snmp_wire.specs.Message.{
-  Datum,
-  VarBind,
-  Message,
-  integer_value,
-  octet_string,
-  null_value,
-  object_id,
-  ip_address,
-  counter32,
-  gauge32,
-  time_ticks,
-  opaque_octets,
-  counter64,
-  no_such_object,
-  no_such_instance,
-  end_of_mib_view,
-}
+use Rattle.snmp_wire.specs.Message.{Datum, VarBind, Message, integer_value, object_id}
+use Rattle.snmp_wire.specs.Message.{no_such_object, no_such_instance, end_of_mib_view}
 use Rattle.snmp_wire.specs.Spelling.{value_tag, kind_tag, sequence_tag}
 use Rattle.snmp_wire.specs.Canon.{
   number_size,
@@ -60,19 +44,10 @@ module _ (codec : Codec) where
 
   exception_content : (v : Datum) → IsException v → length (canon_content v) ≤ 0
   unfolding canon_content
-  exception_content (integer_value n) h = absurd h
-  exception_content (octet_string s) h = absurd h
-  exception_content null_value h = absurd h
-  exception_content (object_id o) h = absurd h
-  exception_content (ip_address a) h = absurd h
-  exception_content (counter32 n) h = absurd h
-  exception_content (gauge32 n) h = absurd h
-  exception_content (time_ticks n) h = absurd h
-  exception_content (opaque_octets s) h = absurd h
-  exception_content (counter64 n) h = absurd h
   exception_content no_such_object h = omega arith
   exception_content no_such_instance h = omega arith
   exception_content end_of_mib_view h = omega arith
+  exception_content v h = absurd h
 
   longer_number : (n k : ℕ) → n ≤ k → number_size n ≤ number_size k
   unfolding number_size

@@ -7,23 +7,7 @@ use Rattle.std.specs.Prelude.{not}
 use Rattle.std.specs.Bool.{Decides}
 use Rattle.std.specs.Ordering.{is_lt}
 use Rattle.snmp_oid.specs.Identifier.{Precedes}
-use Rattle.snmp_wire.specs.Message.{
-  Datum,
-  VarBind,
-  integer_value,
-  octet_string,
-  null_value,
-  object_id,
-  ip_address,
-  counter32,
-  gauge32,
-  time_ticks,
-  opaque_octets,
-  counter64,
-  no_such_object,
-  no_such_instance,
-  end_of_mib_view,
-}
+use Rattle.snmp_wire.specs.Message.{Datum, VarBind, no_such_object, no_such_instance, end_of_mib_view}
 use Rattle.snmp_walk.specs.Instances.{IsInside, IsMissing}
 use Rattle.snmp_walk.specs.Names.{is_below, is_end, is_missing, is_inside, comes_after}
 use Rattle.snmp_walk.specs.Standing.{IsGivenIfPresent}
@@ -32,38 +16,17 @@ use Rattle.snmp_walk.proofs.NameLemmas.{below_decided}
 use Rattle.snmp_walk.proofs.OrderLemmas.{less_precedes}
 
 pub end_decided : (v : Datum) → Decides (is_end v) (v ≡ end_of_mib_view)
-end_decided (integer_value n) = ((λ e. absurd (false≢true e)), (λ e. let no : ⊥ = cc in absurd no))
-end_decided (octet_string s) = ((λ e. absurd (false≢true e)), (λ e. let no : ⊥ = cc in absurd no))
-end_decided null_value = ((λ e. absurd (false≢true e)), (λ e. let no : ⊥ = cc in absurd no))
-end_decided (object_id o) = ((λ e. absurd (false≢true e)), (λ e. let no : ⊥ = cc in absurd no))
-end_decided (ip_address a) = ((λ e. absurd (false≢true e)), (λ e. let no : ⊥ = cc in absurd no))
-end_decided (counter32 n) = ((λ e. absurd (false≢true e)), (λ e. let no : ⊥ = cc in absurd no))
-end_decided (gauge32 n) = ((λ e. absurd (false≢true e)), (λ e. let no : ⊥ = cc in absurd no))
-end_decided (time_ticks n) = ((λ e. absurd (false≢true e)), (λ e. let no : ⊥ = cc in absurd no))
-end_decided (opaque_octets s) = ((λ e. absurd (false≢true e)), (λ e. let no : ⊥ = cc in absurd no))
-end_decided (counter64 n) = ((λ e. absurd (false≢true e)), (λ e. let no : ⊥ = cc in absurd no))
-end_decided no_such_object = ((λ e. absurd (false≢true e)), (λ e. let no : ⊥ = cc in absurd no))
-end_decided no_such_instance = ((λ e. absurd (false≢true e)), (λ e. let no : ⊥ = cc in absurd no))
 end_decided end_of_mib_view = ((λ _. refl), (λ _. refl))
+end_decided v = ((λ e. absurd (false≢true e)), (λ e. let no : ⊥ = cc in absurd no))
 
 missing_from : (v : Datum) → (v ≡ no_such_object) ⊎ (v ≡ no_such_instance) → is_missing v ≡ true
 missing_from v (inl e) = ap is_missing e
 missing_from v (inr e) = ap is_missing e
 
 missing_tells : (v : Datum) → is_missing v ≡ true → (v ≡ no_such_object) ⊎ (v ≡ no_such_instance)
-missing_tells (integer_value n) e = absurd (false≢true e)
-missing_tells (octet_string s) e = absurd (false≢true e)
-missing_tells null_value e = absurd (false≢true e)
-missing_tells (object_id o) e = absurd (false≢true e)
-missing_tells (ip_address a) e = absurd (false≢true e)
-missing_tells (counter32 n) e = absurd (false≢true e)
-missing_tells (gauge32 n) e = absurd (false≢true e)
-missing_tells (time_ticks n) e = absurd (false≢true e)
-missing_tells (opaque_octets s) e = absurd (false≢true e)
-missing_tells (counter64 n) e = absurd (false≢true e)
 missing_tells no_such_object e = inl refl
 missing_tells no_such_instance e = inr refl
-missing_tells end_of_mib_view e = absurd (false≢true e)
+missing_tells v e = absurd (false≢true e)
 
 pub missing_decided : (b : VarBind) → Decides (is_missing b.value) (IsMissing b)
 missing_decided b = (missing_tells b.value, missing_from b.value)

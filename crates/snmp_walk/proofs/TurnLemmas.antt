@@ -21,14 +21,8 @@ use Rattle.snmp_wire.specs.Spelling.{Spells}
 use Rattle.snmp_walk.specs.Run.{IsHeard, IsFrom, Turns, goes_on as turn_on, ends, is_refused}
 use Rattle.snmp_walk.specs.Course.{Heard, end_of}
 use Rattle.snmp_walk.specs.Course as heard
-use Rattle.snmp_walk.specs.Read.{
-  rows_in,
-  Delivers,
-  is_stray,
-  goes_on as delivered_on,
-  ends as delivered_last,
-  is_refused as delivered_part,
-}
+use Rattle.snmp_walk.specs.Read.{rows_in, leads_to, Delivers, all_given}
+use Rattle.snmp_walk.specs.Read.{is_refused as delivered_part}
 
 pub still_waits : (p : Phase) → is_over p ≡ false → p ≢ phase.Over
 still_waits p e over = false≢true (sym e ∙ ap is_over over)
@@ -87,27 +81,21 @@ pub record IsTaken (Tried : Outcome → Type 0) (agents : Agents) (honest : Type
   pub new_is : new ≡ (take_of w message).1
   pub news : HasNews given
 
-taken_message : (Tried : Outcome → Type 0) (agents : Agents) (honest : Type 0) (w : Walker) (m : Message) (datagram : List ℕ) (given : Step)
-    (new : Walker) → is_over w.phase ≡ false
-    → Tried (outcome.answered datagram) → Spells m datagram → is_awaited w m ≡ true → IsFrom agents honest w m
-    → given ≡ (take_of w m).0 → new ≡ (take_of w m).1 → IsTaken Tried agents honest w given new
-taken_message Tried agents honest w m datagram given new waits tried spelt awaited from e f = record {
-  message = m;
-  datagram = datagram;
-  tried = tried;
-  spelt = spelt;
-  from = from;
-  given_is = e;
-  new_is = f;
-  news = subst HasNews (sym e) (news_by w m (is_awaited w m) awaited waits);
-}
-
 pub is_taken : (Tried : Outcome → Type 0) (agents : Agents) (honest : Type 0) (w : Walker) (m : Message) (given : Step) (new : Walker)
     → is_over w.phase ≡ false
     → IsHeard Tried agents honest w m → (given, new) ≡ take_of w m → IsTaken Tried agents honest w given new
 is_taken Tried agents honest w m given new waits h taken =
-    taken_message Tried agents honest w m h.datagram given new waits h.tried h.spelt h.awaited h.from
-    (ap (λ (x : Step × Walker). x.0) taken) (ap (λ (x : Step × Walker). x.1) taken)
+    let is = ap (λ (x : Step × Walker). x.0) taken in
+    record {
+      message = m;
+      datagram = h.datagram;
+      tried = h.tried;
+      spelt = h.spelt;
+      from = h.from;
+      given_is = is;
+      new_is = ap (λ (x : Step × Walker). x.1) taken;
+      news = subst HasNews (sym is) (news_by w m (is_awaited w m) h.awaited waits);
+    }
 
 -- where a result is None or an error, what holds then
 pub if_silent : {X E : Type 0} (r : Result (Option X) E) (o : Option X) (P : Type 0) → r ≡ Ok o → o ≡ None → IfOk r (λ x. IfNone x P) → P
@@ -132,26 +120,22 @@ abbrev pub HasEnd : Heard → Type 0
 HasEnd heard.goes_on = Unit {0}
 HasEnd (heard.ends why) = (why ≡ ending.Link → ⊥) × (why ≡ ending.NoResponse → ⊥)
 
-reply_has_end : (why : WalkEnd) → IsReplyEnd why → HasEnd (heard.ends why)
-reply_has_end why own = (λ e. subst IsReplyEnd e own, λ e. subst IsReplyEnd e own)
-
-sink_has_end : (fault : SinkFault) → HasEnd (heard.ends (ending.Sink fault))
-sink_has_end fault = (λ e. cc, λ e. cc)
+leads_end : (given : Step) → HasNews given → HasEnd (leads_to given)
+leads_end (step.Last rows why) own = (λ e. subst IsReplyEnd e own, λ e. subst IsReplyEnd e own)
+leads_end given own = tt
 
 module _ {S : Type 0} (takes : S → VarBind → Result (Unit {0}) SinkFault → S → Type 0) (s t : S) where
   has_end : (given : Step) (what : Heard) → Delivers takes given s what t → HasNews given → HasEnd what
-  has_end given what (is_stray e f g) news = subst HasEnd (sym f) tt
-  has_end given what (delivered_on rows e f g) news = subst HasEnd (sym f) tt
-  has_end given what (delivered_last rows why e f g) news = subst HasEnd (sym f) (reply_has_end why (subst HasNews e news))
-  has_end given what (delivered_part fault rows p left between e f g k) news = subst HasEnd (sym f) (sink_has_end fault)
+  has_end given what (all_given f g) news = subst HasEnd (sym f) (leads_end given news)
+  has_end given what (delivered_part fault rows p left between e f g k) news = subst HasEnd (sym f) (λ e. cc, λ e. cc)
 
   turned : (Tried : Outcome → Type 0) (agents : Agents) (honest : Type 0) (w : Walker) (given : Step) (new : Walker) (what : Heard)
       → IsTaken Tried agents honest w given new → Delivers takes given s what t → (r : List VarBind) × Turns takes Tried agents honest w s r (end_of what) new t
-  turned Tried agents honest w given new what h (is_stray e f g) = absurd (subst HasNews e h.news)
-  turned Tried agents honest w given new what h (delivered_on rows e f g) =
-      (rows, turn_on h.message h.datagram h.from h.tried h.spelt (sym h.given_is ∙ e) h.new_is g (ap end_of f))
-  turned Tried agents honest w given new what h (delivered_last rows why e f g) =
-      (rows, ends h.message h.datagram why h.from h.tried h.spelt (sym h.given_is ∙ e) g (ap end_of f))
+  turned Tried agents honest w step.Stray new what h (all_given f g) = absurd h.news
+  turned Tried agents honest w (step.Rows rows) new what h (all_given f g) =
+      (rows, turn_on h.message h.datagram h.from h.tried h.spelt (sym h.given_is) h.new_is g (ap end_of f))
+  turned Tried agents honest w (step.Last rows why) new what h (all_given f g) =
+      (rows, ends h.message h.datagram why h.from h.tried h.spelt (sym h.given_is) g (ap end_of f))
   turned Tried agents honest w given new what h (delivered_part fault rows p left between e f g k) =
       (rows, is_refused h.message h.datagram fault p left between h.from h.tried h.spelt (ap rows_in (sym h.given_is) ∙ e) g k (ap end_of f))
 

@@ -3,23 +3,7 @@ use Rattle.std.proofs.Common.{◌≡◌, inl, inr, ℕ, true, false, List, [], �
 use Rattle.std.proofs.Common.{subst}
 use Rattle.std.proofs.lemmas.Bool.{false≢true}
 use Rattle.std.specs.Ordering.{is_lt}
-use Rattle.snmp_wire.specs.Message.{
-  Datum,
-  VarBind,
-  integer_value,
-  octet_string,
-  null_value,
-  object_id,
-  ip_address,
-  counter32,
-  gauge32,
-  time_ticks,
-  opaque_octets,
-  counter64,
-  no_such_object,
-  no_such_instance,
-  end_of_mib_view,
-}
+use Rattle.snmp_wire.specs.Message.{Datum, VarBind, no_such_object, no_such_instance, end_of_mib_view}
 use Rattle.snmp_agent.specs.table.Table.{MibView, IsInstanceValue, IsMibView, IsGet, variable}
 use Rattle.snmp_agent.specs.table.Table.{unknown_object, unknown_instance, IsNext, successor}
 use Rattle.snmp_agent.specs.table.Table.{end_of_view}
@@ -29,34 +13,13 @@ use Rattle.snmp_walk.proofs.OrderLemmas.{less_precedes}
 use Rattle.snmp_walk.proofs.RowLemmas.{AreLawfulReplies}
 
 pub value_no_end : (v : Datum) → IsInstanceValue v → is_end v ≡ false
-value_no_end (integer_value n) h = refl
-value_no_end (octet_string s) h = refl
-value_no_end null_value h = refl
-value_no_end (object_id o) h = refl
-value_no_end (ip_address a) h = refl
-value_no_end (counter32 n) h = refl
-value_no_end (gauge32 n) h = refl
-value_no_end (time_ticks n) h = refl
-value_no_end (opaque_octets s) h = refl
-value_no_end (counter64 n) h = refl
-value_no_end no_such_object h = refl
-value_no_end no_such_instance h = refl
 value_no_end end_of_mib_view h = absurd h
+value_no_end v h = refl
 
 pub value_no_miss : (v : Datum) → IsInstanceValue v → is_missing v ≡ false
-value_no_miss (integer_value n) h = refl
-value_no_miss (octet_string s) h = refl
-value_no_miss null_value h = refl
-value_no_miss (object_id o) h = refl
-value_no_miss (ip_address a) h = refl
-value_no_miss (counter32 n) h = refl
-value_no_miss (gauge32 n) h = refl
-value_no_miss (time_ticks n) h = refl
-value_no_miss (opaque_octets s) h = refl
-value_no_miss (counter64 n) h = refl
 value_no_miss no_such_object h = absurd h
 value_no_miss no_such_instance h = absurd h
-value_no_miss end_of_mib_view h = refl
+value_no_miss v h = refl
 
 next_rises : (view : MibView) (o : List ℕ) (p : VarBind) → IsNext view o p → is_end p.value ≡ false → comes_after o p.name ≡ true
 next_rises view o p (successor s) e = ap is_lt (less_precedes o p.name s.behind)

@@ -4,7 +4,6 @@ use Rattle.std.specs.Prelude.{◌≡◌, ℕ, true, List, [], ◌∷◌, ◌++�
 use Rattle.snmp_wire.specs.Message.{VarBind, Message}
 use Rattle.snmp_wire.specs.Spelling.{Spells}
 use Rattle.snmp_walk.specs.declared.end.SinkFault.{SinkFault}
-use Rattle.snmp_walk.specs.declared.end.WalkEnd.{WalkEnd}
 use Rattle.snmp_walk.specs.declared.end.WalkEnd.TheVariants as ending
 use Rattle.snmp_walk.specs.declared.rows.Step.{Step}
 use Rattle.snmp_walk.specs.declared.rows.Step.TheVariants as step
@@ -19,15 +18,15 @@ rows_in step.Stray = []
 rows_in (step.Rows rows) = rows
 rows_in (step.Last rows why) = rows
 
+-- whether it ends the walk or the Get
+abbrev pub leads_to : Step → Heard
+leads_to (step.Last rows why) = heard.ends why
+leads_to _ = heard.goes_on
+
 -- what came of a step whose bindings were given to the sink, until it refused one
 pub data Delivers {S : Type 0} (takes : S → VarBind → Result (Unit {0}) SinkFault → S → Type 0)
     (given : Step) (before : S) (what : Heard) (after : S) : Type 0 where
-  is_stray : given ≡ step.Stray → what ≡ heard.goes_on → after ≡ before
-      → Delivers takes given before what after
-  goes_on : (rows : List VarBind) → given ≡ step.Rows rows → what ≡ heard.goes_on
-      → Given takes before rows after → Delivers takes given before what after
-  ends : (rows : List VarBind) (why : WalkEnd) → given ≡ step.Last rows why
-      → what ≡ heard.ends why → Given takes before rows after
+  all_given : what ≡ leads_to given → Given takes before (rows_in given) after
       → Delivers takes given before what after
   is_refused : (fault : SinkFault) (rows : List VarBind) (p : VarBind) (left : List VarBind)
       (between : S) → rows_in given ≡ rows ++ p ∷ left → what ≡ heard.ends (ending.Sink fault)

@@ -1,10 +1,13 @@
 use Rattle.std.proofs.Common.{◌∙◌, ap, refl}
 use Rattle.snmp_walk.specs.Course.{step_of}
-use Rattle.snmp_walk.specs.Read.{rows_in, goes_on, ends, is_refused}
+use Rattle.snmp_walk.specs.Read.{rows_in, all_given, is_refused}
 use Rattle.snmp_walk.proofs.tries.deliver.Goals as goal
 
+pub returns-in-Stray : goal.returns-in-Stray
+returns-in-Stray g c = rw c.in-Stray.is (all_given refl refl)
+
 pub returns-in-Ok : goal.returns-in-Ok
-returns-in-Ok g c = goes_on c.in-GoesOn.rows (ap (λ j. step_of j c.args.end.now) c.in-GoesOn.is) refl c.in-Ok.ensures.ok
+returns-in-Ok g c = rw c.in-GoesOn.is (all_given refl c.in-Ok.ensures.ok)
 
 pub returns-in-Err : goal.returns-in-Err
 returns-in-Err g c =
@@ -12,7 +15,7 @@ returns-in-Err g c =
     is_refused c.in-Err.fault r.0 r.1 r.2 r.4 (ap (λ j. rows_in (step_of j c.args.end.now)) c.in-GoesOn.is ∙ r.3) refl r.5 r.6
 
 pub returns-in-Ok-rows : goal.returns-in-Ok-rows
-returns-in-Ok-rows g c = ends c.in-Ends.rows c.args.end.now (ap (λ j. step_of j c.args.end.now) c.in-Ends.is) refl c.in-Ok-rows.ensures.ok
+returns-in-Ok-rows g c = rw c.in-Ends.is (all_given refl c.in-Ok-rows.ensures.ok)
 
 pub returns-in-Err-rows : goal.returns-in-Err-rows
 returns-in-Err-rows g c =

@@ -1,14 +1,7 @@
 use Rattle.std.proofs.Common.{◌≡◌, ◌+◌, ◌<◌, ◌∙◌, ap, subst, refl, arith, replicate, ℕ, List, []}
 use Rattle.std.proofs.Common.{◌∷◌, Option, Some, None, Ok}
-use Rattle.std.specs.Prelude.{Result, Err, IsErr, IfSome}
-use Rattle.snmp_wire.specs.Message.{VarBind, Message}
-use Rattle.snmp_walk.specs.declared.end.SinkFault.{SinkFault}
-use Rattle.snmp_walk.specs.declared.rows.Step.{Step}
-use Rattle.snmp_walk.specs.Course.{heard_of}
-use Rattle.snmp_walk.specs.declared.end.WalkEnd.{WalkEnd}
+use Rattle.std.specs.Prelude.{Result, Err, IsErr}
 use Rattle.snmp_walk.specs.declared.link.Link.{Ghosts as LinkFacts}
-use Rattle.snmp_walk.specs.declared.tries.Course.{Course}
-use Rattle.snmp_walk.specs.Read.{IsRead, IsReadAs}
 use Rattle.snmp_walk.specs.Link.{IsReplyFrom, Outcome}
 use Rattle.snmp_walk.specs.Link as outcome
 use Rattle.snmp_walk.specs.Traffic.{Traffic, latest}
@@ -18,7 +11,7 @@ use Rattle.snmp_walk.proofs.HearLemmas.{Missing, missing_first, missing_more, mi
 use Rattle.snmp_walk.proofs.HearLemmas.{missing_used, heard_more, try_sent, tries_sent, shown}
 use Rattle.snmp_walk.proofs.MoveLemmas.{is_bad, never_bad, ok_fine, sent_all, sent_none}
 use Rattle.snmp_walk.proofs.MoveLemmas.{moves_none, moves_on, moves_as, went, tries_on}
-use Rattle.snmp_walk.specs.Tries.{AreMissed, AreReceives, IsNotAwaited}
+use Rattle.snmp_walk.specs.Tries.{AreMissed, IsNotAwaited}
 use Rattle.snmp_walk.proofs.TryLemmas.{tries_first, tries_more, tried_so, unsent}
 use Rattle.snmp_walk.proofs.TurnLemmas.{if_some, if_silent, if_cut, on_cut}
 use Rattle.snmp_walk.proofs.tries.exchange.Goals as goal
@@ -27,40 +20,18 @@ never_ok : {M E : Type 0} (r : Result (Option M) E) → IsErr r → r ≡ Ok Non
 never_ok (Ok x) is other = let no : ⊥ = cc in no
 never_ok (Err e) is other = let no : ⊥ = cc in no
 
--- the waiter and the sink are as they were, and what is said of the datagram is of the request
-read_now : {W S : Type 0} (Of Comes From Reply : List ℕ → Type 0) (community : W → List ℕ) (id : W → ℕ) (reads : W → Message → Step → W → Type 0)
-    (takes : S → VarBind → Result (Unit {0}) SinkFault → S → Type 0) (v w : W) (s t : S) (new : W) (after : S) (o : Option Course) (h : Course)
-    (end : WalkEnd) → v ≡ w → s ≡ t → o ≡ Some h
-    → IfSome o (λ x. IsRead Of From (community v) (id v) (reads v) takes s (heard_of x end) new after) → ((octets : List ℕ) → Of octets → Comes octets)
-    → ((octets : List ℕ) → From octets → Reply octets) → IsRead Comes Reply (community w) (id w) (reads w) takes t (heard_of h end) new after
-read_now Of Comes From Reply community id reads takes v w s t new after o h end e f is read over by =
-    let here = if_some o (λ x. IsRead Of From (community v) (id v) (reads v) takes s (heard_of x end) new after) h is read in
-    record {
-      datagram = here.datagram;
-      comes = over here.datagram here.comes;
-      reply = by here.datagram here.reply;
-      is_read = subst (λ x. IsReadAs here.datagram (community w) (id w) (reads w) takes x new after (heard_of h end)) f
-          (subst (λ x. IsReadAs here.datagram (community x) (id x) (reads x) takes s new after (heard_of h end)) e here.is_read);
-    }
-
-received_for : {L W : Type 0} (facts : LinkFacts L) (community : W → List ℕ) (id : W → ℕ) (v w : W) (old new : L) (what : Outcome)
-    → v ≡ w → (strays : List (List ℕ)) × AreReceives facts (IsNotAwaited (community v) (id v)) old what new strays
-    → (strays : List (List ℕ)) × AreReceives facts (IsNotAwaited (community w) (id w)) old what new strays
-received_for facts community id v w old new what e h =
-    (h.0, subst (λ x. AreReceives facts (IsNotAwaited (community x) (id x)) old what new h.0) e h.1)
-
 -- the request was sent once more, and then the link moved without sending: a reply came, or the link failed
-module _ {L W : Type 0} (facts : LinkFacts L) (keeping : (link : L) → facts.honest link → facts.keeps link) (community : W → List ℕ) (id : W → ℕ) (v w : W)
-    (same : v ≡ w) (q : List ℕ) (count tries : ℕ) (few : count < tries) (old before between now : L)
+module _ {L : Type 0} (facts : LinkFacts L) (keeping : (link : L) → facts.honest link → facts.keeps link) (community : List ℕ) (id : ℕ) (q : List ℕ)
+    (count tries : ℕ) (few : count < tries) (old before between now : L)
     (tried : IsMoved facts old (replicate count q) ⊥ before) (sent : IsMoved facts before (q ∷ []) ⊥ between) where
   exchanged_on : {over : Type 0} → IsMoved facts between [] over now → (facts.honest before → (facts.traffic between).ahead ≡ (facts.traffic before).ahead)
       → (heard : Type 0) → ((r : List ℕ) → facts.honest between → latest (facts.traffic between).sent ≡ Some r
-      → IsAsked (facts.agents between) (community v) (id v) r (facts.traffic between).sent
+      → IsAsked (facts.agents between) community id r (facts.traffic between).sent
       → Hears (facts.agents between) r (facts.traffic between) heard (facts.traffic now))
-      → (facts.honest old → IsAsked (facts.agents old) (community w) (id w) q (facts.traffic old).sent
+      → (facts.honest old → IsAsked (facts.agents old) community id q (facts.traffic old).sent
       → Missing (facts.agents old) q (facts.traffic old) count tries (facts.traffic before))
       → (silent failed : Type 0) → (silent → ⊥) → facts.keeps old
-      → Exchanges (facts.agents old) (facts.honest old × IsAsked (facts.agents old) (community w) (id w) q (facts.traffic old).sent) tries q
+      → Exchanges (facts.agents old) (facts.honest old × IsAsked (facts.agents old) community id q (facts.traffic old).sent) tries q
       (facts.traffic old) silent failed (facts.traffic now)
   exchanged_on rest ahead heard hears lost silent failed never keeps = record {
     times = count + 1;
@@ -70,7 +41,7 @@ module _ {L W : Type 0} (facts : LinkFacts L) (keeping : (link : L) → facts.ho
     all = λ s. absurd (never s);
     honestly = λ h. heard_more (facts.agents old) q (facts.traffic old) (facts.traffic before) (facts.traffic between) (facts.traffic now) count tries heard silent
         (ahead (tried.honest h.0))
-        (shown facts keeping q count old before between tried sent community id v w same (λ a r. Hears a r (facts.traffic between) heard (facts.traffic now))
+        (shown facts keeping q count old before between tried sent community id (λ a r. Hears a r (facts.traffic between) heard (facts.traffic now))
         hears h.0 h.1) (lost h.0 h.1) never;
   }
 
@@ -91,6 +62,7 @@ tries-preserved g c =
     let sent = went g.L.Link (never_bad _ _ c.in_ok-send.was) c.send.ensures.moves in
     let heard = went g.L.Link (never_bad _ _ c.in_ok-course.was) c.hear.ensures.moves in
     let now = g.L.Link.traffic c.hear.new.link in
+    let same = if_silent c.hear.result _ _ c.in_ok-course.was c.in_default.is c.hear.ensures.silent in
     record {
       moved = tries_on g.L.Link c.tries.counter inv.moved (moves_on g.L.Link sent heard);
       lost = λ h asked. missing_more (g.L.Link.agents c.args.link.now) q (g.L.Link.traffic c.args.link.now) (g.L.Link.traffic c.send.new.self) now
@@ -98,14 +70,12 @@ tries-preserved g c =
           (try_sent g.L.Link g.met.L.Link.keeping q c.tries.counter c.args.link.now c.tries.link c.send.new.self inv.moved sent
           (g.met.L.Link.keeping c.args.link.now h)) (g.L.Link.traffic c.tries.link) (c.in_ok-send.ensures.ahead (inv.moved.honest h))
           (shown g.L.Link g.met.L.Link.keeping q c.tries.counter c.args.link.now c.tries.link c.send.new.self inv.moved sent
-          g.W.Waiter.community g.W.Waiter.id c.tries.waiter c.args.waiter.now inv.waiter
-          (λ a r. Hears a r (g.L.Link.traffic c.send.new.self) (c.hear.result ≡ Ok None) now) c.hear.ensures.heard h asked) (inv.lost h asked);
-      waiter = (if_silent c.hear.result _ _ c.in_ok-course.was c.in_default.is c.hear.ensures.silent).0 ∙ inv.waiter;
-      sink = (if_silent c.hear.result _ _ c.in_ok-course.was c.in_default.is c.hear.ensures.silent).1 ∙ inv.sink;
-      missing = tries_more g.L.Link _ q
-          c.tries.counter c.args.link.now c.tries.link c.send.new.self c.hear.new.link inv.missing (c.in_ok-send.ensures.sends, sent)
-          (received_for g.L.Link g.W.Waiter.community g.W.Waiter.id c.tries.waiter c.args.waiter.now c.send.new.self c.hear.new.link outcome.missed
-          inv.waiter (if_silent c.hear.result _ _ c.in_ok-course.was c.in_default.is c.hear.ensures.unanswered));
+          (g.W.Waiter.community c.args.waiter.now) (g.W.Waiter.id c.args.waiter.now)
+          (λ a r. Hears a r (g.L.Link.traffic c.send.new.self) (c.hear.result ≡ Ok None) now) (rw inv.waiter at c.hear.ensures.heard) h asked) (inv.lost h asked);
+      waiter = same.0 ∙ inv.waiter;
+      sink = same.1 ∙ inv.sink;
+      missing = tries_more g.L.Link _ q c.tries.counter c.args.link.now c.tries.link c.send.new.self c.hear.new.link inv.missing (c.in_ok-send.ensures.sends, sent)
+          (rw inv.waiter at (if_silent c.hear.result _ _ c.in_ok-course.was c.in_default.is c.hear.ensures.unanswered));
     }
 
 pub returns-clause-unanswered : goal.returns-clause-unanswered
@@ -119,19 +89,16 @@ pub returns-in-Some-clause-read : goal.returns-in-Some-clause-read
 returns-in-Some-clause-read g c =
     let inv = c.tries.invariant in
     let few : c.tries.counter < c.args.retries + 1 = omega arith in
-    read_now _ _ _ _ g.W.Waiter.community g.W.Waiter.id g.W.Waiter.reads g.S.Sink.takes c.tries.waiter c.args.waiter.now c.tries.sink
-    c.args.sink.now _ _
-    c.in_ok-course.field-0 c.in-Some.course c.hear.new.end inv.waiter inv.sink c.in-Some.is c.in_ok-course.ensures.read
-    (λ octets heard.
-    tried_so g.L.Link _ c.args.request.now c.tries.counter
-    (c.args.retries + 1) c.args.link.now c.tries.link c.send.new.self c.hear.new.link (outcome.answered octets) (λ e. let no : ⊥ = cc in no) few inv.missing
-    (c.in_ok-send.ensures.sends, went g.L.Link (never_bad _ _ c.in_ok-send.was) c.send.ensures.moves)
-    (received_for g.L.Link g.W.Waiter.community g.W.Waiter.id c.tries.waiter c.args.waiter.now c.send.new.self c.hear.new.link (outcome.answered octets)
-    inv.waiter heard))
-    (λ octets reply h asked.
-    shown g.L.Link g.met.L.Link.keeping c.args.request.now c.tries.counter c.args.link.now c.tries.link c.send.new.self inv.moved
-    (went g.L.Link (never_bad _ _ c.in_ok-send.was) c.send.ensures.moves)
-    g.W.Waiter.community g.W.Waiter.id c.tries.waiter c.args.waiter.now inv.waiter (λ a r. IsReplyFrom a r octets) reply h asked)
+    let sent = went g.L.Link (never_bad _ _ c.in_ok-send.was) c.send.ensures.moves in
+    let here = if_some c.in_ok-course.field-0 _ c.in-Some.course c.in-Some.is c.in_ok-course.ensures.read in
+    rw (← inv.waiter, ← inv.sink) (record {
+      datagram = here.datagram;
+      comes = tried_so g.L.Link _ c.args.request.now c.tries.counter (c.args.retries + 1) c.args.link.now c.tries.link c.send.new.self c.hear.new.link
+          (outcome.answered here.datagram) (λ e. cc) few (rw (← inv.waiter) at inv.missing) (c.in_ok-send.ensures.sends, sent) here.comes;
+      reply = λ h asked. shown g.L.Link g.met.L.Link.keeping c.args.request.now c.tries.counter c.args.link.now c.tries.link c.send.new.self inv.moved sent
+          (g.W.Waiter.community c.tries.waiter) (g.W.Waiter.id c.tries.waiter) (λ a r. IsReplyFrom a r here.datagram) here.reply h asked;
+      is_read = here.is_read;
+    })
 
 pub returns-in_err-send-clause-cut_off : goal.returns-in_err-send-clause-cut_off
 returns-in_err-send-clause-cut_off g c =
@@ -150,10 +117,9 @@ returns-in_err-course-clause-cut_off g c =
     let few : c.tries.counter < c.args.retries + 1 = omega arith in
     on_cut c.from_residual-in_err-course.result _
     (tried_so g.L.Link _ c.args.request.now c.tries.counter
-    (c.args.retries + 1) c.args.link.now c.tries.link c.send.new.self c.hear.new.link outcome.cut_off (λ e. let no : ⊥ = cc in no) few inv.missing
+    (c.args.retries + 1) c.args.link.now c.tries.link c.send.new.self c.hear.new.link outcome.cut_off (λ e. cc) few inv.missing
     (c.in_ok-send.ensures.sends, went g.L.Link (never_bad _ _ c.in_ok-send.was) c.send.ensures.moves)
-    (received_for g.L.Link g.W.Waiter.community g.W.Waiter.id c.tries.waiter c.args.waiter.now c.send.new.self c.hear.new.link outcome.cut_off inv.waiter
-    (if_cut c.hear.result _ _ c.in_err-course.was c.hear.ensures.cut_off)))
+    (rw inv.waiter at (if_cut c.hear.result _ _ c.in_err-course.was c.hear.ensures.cut_off)))
 
 pub returns-in_err-send-clause-moves : goal.returns-in_err-send-clause-moves
 returns-in_err-send-clause-moves g c = (
@@ -205,17 +171,17 @@ returns-in_err-send-clause-exchanged g c = λ keeps.
 pub returns-in_err-course-clause-exchanged : goal.returns-in_err-course-clause-exchanged
 returns-in_err-course-clause-exchanged g c =
     let inv = c.tries.invariant in
-    exchanged_on g.L.Link g.met.L.Link.keeping g.W.Waiter.community g.W.Waiter.id c.tries.waiter c.args.waiter.now inv.waiter c.args.request.now
+    exchanged_on g.L.Link g.met.L.Link.keeping (g.W.Waiter.community c.args.waiter.now) (g.W.Waiter.id c.args.waiter.now) c.args.request.now
     c.tries.counter (c.args.retries + 1) (omega arith) c.args.link.now c.tries.link c.send.new.self c.hear.new.link inv.moved
-    (went g.L.Link (never_bad _ _ c.in_ok-send.was) c.send.ensures.moves) c.hear.ensures.moves c.in_ok-send.ensures.ahead _ c.hear.ensures.heard inv.lost _ _
+    (went g.L.Link (never_bad _ _ c.in_ok-send.was) c.send.ensures.moves) c.hear.ensures.moves c.in_ok-send.ensures.ahead _ (rw inv.waiter at c.hear.ensures.heard) inv.lost _ _
     (λ s. never_ok _ c.from_residual-in_err-course.ensures.0 s)
 
 pub returns-in-Some-clause-exchanged : goal.returns-in-Some-clause-exchanged
 returns-in-Some-clause-exchanged g c =
     let inv = c.tries.invariant in
-    exchanged_on g.L.Link g.met.L.Link.keeping g.W.Waiter.community g.W.Waiter.id c.tries.waiter c.args.waiter.now inv.waiter c.args.request.now
+    exchanged_on g.L.Link g.met.L.Link.keeping (g.W.Waiter.community c.args.waiter.now) (g.W.Waiter.id c.args.waiter.now) c.args.request.now
     c.tries.counter (c.args.retries + 1) (omega arith) c.args.link.now c.tries.link c.send.new.self c.hear.new.link inv.moved
-    (went g.L.Link (never_bad _ _ c.in_ok-send.was) c.send.ensures.moves) c.hear.ensures.moves c.in_ok-send.ensures.ahead _ c.hear.ensures.heard inv.lost _ _
+    (went g.L.Link (never_bad _ _ c.in_ok-send.was) c.send.ensures.moves) c.hear.ensures.moves c.in_ok-send.ensures.ahead _ (rw inv.waiter at c.hear.ensures.heard) inv.lost _ _
     (λ s. let no : ⊥ = cc in no)
 
 pub returns-clause-exchanged : goal.returns-clause-exchanged
