@@ -2,30 +2,17 @@
 use Rattle.std.proofs.Common.{◌≡◌, ℕ, zero, suc, List, sym, subst}
 use Rattle.snmp_oid.specs.Identifier.{IsWire}
 use Rattle.snmp_wire.specs.Message.{Datum, VarBind}
-use Rattle.snmp_wire.specs.Message.Datum.{integer_value, octet_string, null_value, object_id}
-use Rattle.snmp_wire.specs.Message.Datum.{ip_address, counter32, gauge32, time_ticks}
-use Rattle.snmp_wire.specs.Message.Datum.{opaque_octets}
-use Rattle.snmp_wire.specs.Message.Datum.{counter64, no_such_object, no_such_instance}
-use Rattle.snmp_wire.specs.Message.Datum.{end_of_mib_view}
+use Rattle.snmp_wire.specs.Message.Datum.{no_such_object, no_such_instance, end_of_mib_view}
 use Rattle.snmp_agent.specs.table.Table.{MibView, IsMibView, IsInstanceValue, IsAnswerValue, IsGet}
 use Rattle.snmp_agent.specs.table.Table.{variable, unknown_object, unknown_instance, IsNext}
 use Rattle.snmp_agent.specs.table.Table.{successor}
 use Rattle.snmp_agent.specs.table.Table.{end_of_view, IsNextAfter}
 
 instance_answer : (v : Datum) → IsInstanceValue v → IsAnswerValue v
-instance_answer (integer_value z) h = h
-instance_answer (octet_string octets) h = h
-instance_answer null_value h = h
-instance_answer (object_id o) h = h
-instance_answer (ip_address octets) h = h
-instance_answer (counter32 n) h = h
-instance_answer (gauge32 n) h = h
-instance_answer (time_ticks n) h = h
-instance_answer (opaque_octets octets) h = h
-instance_answer (counter64 n) h = h
 instance_answer no_such_object h = absurd h
 instance_answer no_such_instance h = absurd h
 instance_answer end_of_mib_view h = absurd h
+instance_answer _ h = h
 
 -- at a binding that equals a record
 at_binding : (Q : VarBind → Type 0) (p q : VarBind) → p ≡ q → Q q → Q p

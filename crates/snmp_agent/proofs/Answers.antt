@@ -33,11 +33,7 @@ module _ (gets : HasGets) (nexts : HasNexts) where
   answered view kind.GetRequest asked h = let one = gets view asked.name in (one.0, one.1)
   answered view kind.GetNextRequest asked h = let one = nexts view asked.name in (one.0, one.1)
   answered view kind.SetRequest asked h = (asked, refl)
-  answered view kind.GetBulkRequest asked h = absurd h
-  answered view kind.Response asked h = absurd h
-  answered view kind.InformRequest asked h = absurd h
-  answered view kind.Trap asked h = absurd h
-  answered view kind.Report asked h = absurd h
+  answered view _ asked h = absurd h
 
   -- each binding of a request has an answer
   pub all_answered : (view : MibView) (k : Kind) (asked : List VarBind) → IsPaired k → (given : List VarBind) × AreAnswers (IsAnswer view k) asked given

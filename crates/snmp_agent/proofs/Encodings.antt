@@ -1,10 +1,7 @@
 -- Which bindings have an encoding, and how long it is.
 use Rattle.std.proofs.Common.{ℕ, ◌<◌, List, [], ◌∷◌, ◌++◌, length, ⊎_elim, arith, length-append}
 use Rattle.std.proofs.lemmas.Bool.{cases_lt}
-use Rattle.snmp_wire.specs.Message.{Datum, object_id, integer_value, octet_string, null_value}
-use Rattle.snmp_wire.specs.Message.{ip_address, counter32, gauge32, time_ticks, opaque_octets}
-use Rattle.snmp_wire.specs.Message.{counter64, no_such_object, no_such_instance, end_of_mib_view}
-use Rattle.snmp_wire.specs.Message.{VarBind, Message}
+use Rattle.snmp_wire.specs.Message.{Datum, object_id, octet_string, opaque_octets, VarBind, Message}
 use Rattle.snmp_wire.specs.Number.{lenient}
 use Rattle.snmp_wire.specs.Spelling.{IsContent, SpellsBindings, Spells, sequence_tag, value_tag}
 use Rattle.snmp_wire.specs.Canon.{IsEncodable, IsEncodableValue, canon_binding, canon_content}
@@ -17,18 +14,7 @@ use Rattle.snmp_agent.specs.Answering.{HasEncoding, IsWritable, AreWritable, IsS
 
 read_value : (value : Datum) (content : List ℕ) → IsContent lenient value content → HasEncoding value
 read_value (object_id name) content h = h.wire
-read_value (integer_value z) content h = tt
-read_value (octet_string text) content h = tt
-read_value null_value content h = tt
-read_value (ip_address address) content h = tt
-read_value (counter32 n) content h = tt
-read_value (gauge32 n) content h = tt
-read_value (time_ticks n) content h = tt
-read_value (opaque_octets text) content h = tt
-read_value (counter64 n) content h = tt
-read_value no_such_object content h = tt
-read_value no_such_instance content h = tt
-read_value end_of_mib_view content h = tt
+read_value _ content h = tt
 
 read_bindings : (bindings : List VarBind) (octets : List ℕ) → SpellsBindings lenient bindings octets → AreWritable bindings
 read_bindings [] octets h = tt
@@ -44,35 +30,15 @@ read_message q octets h = read_bindings q.bindings h.is_pdu.bindings h.is_pdu.ar
 -- what a table answers has an encoding
 pub answer_value : (value : Datum) → IsAnswerValue value → HasEncoding value
 answer_value (object_id name) h = h.0
-answer_value (integer_value z) h = tt
-answer_value (octet_string text) h = tt
-answer_value null_value h = tt
-answer_value (ip_address address) h = tt
-answer_value (counter32 n) h = tt
-answer_value (gauge32 n) h = tt
-answer_value (time_ticks n) h = tt
-answer_value (opaque_octets text) h = tt
-answer_value (counter64 n) h = tt
-answer_value no_such_object h = tt
-answer_value no_such_instance h = tt
-answer_value end_of_mib_view h = tt
+answer_value _ h = tt
 
 -- ---- what is written
 
 encodable_value : (value : Datum) → HasEncoding value → IsShortValue value → IsEncodableValue value
 encodable_value (object_id name) h short = h
-encodable_value (integer_value z) h short = tt
 encodable_value (octet_string text) h short = short
-encodable_value null_value h short = tt
-encodable_value (ip_address address) h short = tt
-encodable_value (counter32 n) h short = tt
-encodable_value (gauge32 n) h short = tt
-encodable_value (time_ticks n) h short = tt
 encodable_value (opaque_octets text) h short = short
-encodable_value (counter64 n) h short = tt
-encodable_value no_such_object h short = tt
-encodable_value no_such_instance h short = tt
-encodable_value end_of_mib_view h short = tt
+encodable_value _ h short = tt
 
 pub encodable : (binding : VarBind) → IsWritable binding → IsShortValue binding.value → IsEncodable binding
 encodable binding h short = record { name = h.name; value = encodable_value binding.value h.value short }
@@ -99,17 +65,7 @@ long_content : (value : Datum) → (IsShortValue value → ⊥) → 65535 < leng
 unfolding canon_content
 long_content (octet_string text) long = ⊎_elim (λ h. absurd (long (omega arith))) (λ h. h) (cases_lt (length text) 65536)
 long_content (opaque_octets text) long = ⊎_elim (λ h. absurd (long (omega arith))) (λ h. h) (cases_lt (length text) 65536)
-long_content (object_id name) long = absurd (long tt)
-long_content (integer_value z) long = absurd (long tt)
-long_content null_value long = absurd (long tt)
-long_content (ip_address address) long = absurd (long tt)
-long_content (counter32 n) long = absurd (long tt)
-long_content (gauge32 n) long = absurd (long tt)
-long_content (time_ticks n) long = absurd (long tt)
-long_content (counter64 n) long = absurd (long tt)
-long_content no_such_object long = absurd (long tt)
-long_content no_such_instance long = absurd (long tt)
-long_content end_of_mib_view long = absurd (long tt)
+long_content _ long = absurd (long tt)
 
 -- a binding with a longer string than any datagram has
 pub long_binding : ElementSizes → (binding : VarBind) → (IsShortValue binding.value → ⊥) → 65535 < length (canon_binding binding)

@@ -8,10 +8,10 @@ use Rattle.std.specs.FinSet.{contains, contains-from_list}
 use Rattle.snmp_oid.specs.Identifier.{IsIdentifier}
 use Rattle.snmp_wire.specs.Message.{Datum, VarBind}
 use Rattle.snmp_wire.specs.Range.{IsInRange}
-use Rattle.snmp_wire.specs.Message.Datum.{integer_value, octet_string, null_value, object_id}
-use Rattle.snmp_wire.specs.Message.Datum.{ip_address, counter32, gauge32, time_ticks}
+use Rattle.snmp_wire.specs.Message.Datum.{octet_string, null_value, object_id}
+use Rattle.snmp_wire.specs.Message.Datum.{ip_address}
 use Rattle.snmp_wire.specs.Message.Datum.{opaque_octets}
-use Rattle.snmp_wire.specs.Message.Datum.{counter64, no_such_object, no_such_instance}
+use Rattle.snmp_wire.specs.Message.Datum.{no_such_object, no_such_instance}
 use Rattle.snmp_wire.specs.Message.Datum.{end_of_mib_view}
 use Rattle.snmp_agent.specs.table.Table.{IsRow, IsInstanceName, IsInstanceValue, IsMibView}
 use Rattle.snmp_agent.specs.table.Table.{MibView}
@@ -36,19 +36,8 @@ is_identifier (second_format names) text o h = meant names h.1 where
   meant (names_by meaning) k = k.1
 
 pub instance_value : (format : Format) (tag text : List ℕ) (v : Datum) → IsValueText format tag text v → IsInstanceValue v
-instance_value format tag text (integer_value z) h = h.2
-instance_value format tag text (octet_string octets) h = h.1
-instance_value format tag text null_value h = h
 instance_value format tag text (object_id o) h = (h.2, is_identifier format text o h.1)
-instance_value format tag text (ip_address octets) h = (h.1.four, h.1.small)
-instance_value format tag text (counter32 n) h = h.2
-instance_value format tag text (gauge32 n) h = h.2
-instance_value format tag text (time_ticks n) h = h.2
-instance_value format tag text (opaque_octets octets) h = h.2
-instance_value format tag text (counter64 n) h = h.2
-instance_value format tag text no_such_object h = h
-instance_value format tag text no_such_instance h = h
-instance_value format tag text end_of_mib_view h = h
+instance_value format tag text _ h = assumption
 
 pub stated_name : (format : Format) (line : List ℕ) (p : VarBind) → States format line (instance p) → IsInstanceName p.name
 stated_name format line p h = h.instance_name
@@ -70,19 +59,14 @@ pub name_in_range : (o : List ℕ) → IsInstanceName o → IsInRange (object_id
 name_in_range o h = (h.wire, h.identifier)
 
 pub value_in_range : (v : Datum) → IsInstanceValue v → IsInRange v
-value_in_range (integer_value z) h = h
 value_in_range (octet_string octets) h = (h.1, h.0)
-value_in_range null_value h = tt
-value_in_range (object_id o) h = h
 value_in_range (ip_address octets) h = (h.1, h.0)
-value_in_range (counter32 n) h = h
-value_in_range (gauge32 n) h = h
-value_in_range (time_ticks n) h = h
 value_in_range (opaque_octets octets) h = (h.1, h.0)
-value_in_range (counter64 n) h = h
+value_in_range null_value h = tt
 value_in_range no_such_object h = tt
 value_in_range no_such_instance h = tt
 value_in_range end_of_mib_view h = tt
+value_in_range _ h = h
 
 -- the view of these entries and object prefixes
 abbrev pub view_from : List (List ℕ × Datum) → List (List ℕ) → MibView

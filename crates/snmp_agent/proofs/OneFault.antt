@@ -56,26 +56,12 @@ module _ (format : Format) (line : List ℕ) where
     one_wrong : (fault other : TableError) → number_of fault ≡ number_of other
         → IsWrong format front line fault → IsWrong format front line other → fault ≡ other
     one_wrong (error.BadLine n) (error.BadLine m) e h k = ap error.BadLine e
-    one_wrong (error.BadLine n) (error.BadName m) e h k = absurd (formed_name k h)
-    one_wrong (error.BadLine n) (error.BadValue m) e h k = absurd (formed_value k h)
-    one_wrong (error.BadLine n) (error.Double m) e h k = absurd (stated_line k h)
-    one_wrong (error.BadName n) (error.BadLine m) e h k = absurd (formed_name h k)
     one_wrong (error.BadName n) (error.BadName m) e h k = ap error.BadName e
-    one_wrong (error.BadName n) (error.BadValue m) e h k = absurd (named_value k h)
-    one_wrong (error.BadName n) (error.Double m) e h k = absurd (stated_name k h)
-    one_wrong (error.BadValue n) (error.BadLine m) e h k = absurd (formed_value h k)
-    one_wrong (error.BadValue n) (error.BadName m) e h k = absurd (named_value h k)
     one_wrong (error.BadValue n) (error.BadValue m) e h k = ap error.BadValue e
-    one_wrong (error.BadValue n) (error.Double m) e h k = absurd (stated_value k h)
-    one_wrong (error.Double n) (error.BadLine m) e h k = absurd (stated_line h k)
-    one_wrong (error.Double n) (error.BadName m) e h k = absurd (stated_name h k)
-    one_wrong (error.Double n) (error.BadValue m) e h k = absurd (stated_value h k)
     one_wrong (error.Double n) (error.Double m) e h k = ap error.Double e
-    one_wrong error.Memory other e h k = absurd h
-    one_wrong (error.BadLine n) error.Memory e h k = absurd k
-    one_wrong (error.BadName n) error.Memory e h k = absurd k
-    one_wrong (error.BadValue n) error.Memory e h k = absurd k
-    one_wrong (error.Double n) error.Memory e h k = absurd k
+    one_wrong error.Memory _ e h k = absurd h
+    one_wrong _ error.Memory e h k = absurd k
+    one_wrong _ _ e h k = absurd (search (formed_name, formed_value, named_value, stated_line, stated_name, stated_value))
 
 -- ---- which line it is
 
@@ -87,23 +73,13 @@ record IsFaulty (format : Format) (lines : List (List ℕ)) (fault : TableError)
 
 faulty : (format : Format) (lines : List (List ℕ)) (fault : TableError)
     → IsFirstFaultIn format lines fault → fault ≢ error.Memory → IsFaulty format lines fault
-faulty format lines (error.BadLine n) h other =
-    record { front = h.0; line = h.1; behind = h.2; wrong = h.3 }
-faulty format lines (error.BadName n) h other =
-    record { front = h.0; line = h.1; behind = h.2; wrong = h.3 }
-faulty format lines (error.BadValue n) h other =
-    record { front = h.0; line = h.1; behind = h.2; wrong = h.3 }
-faulty format lines (error.Double n) h other =
-    record { front = h.0; line = h.1; behind = h.2; wrong = h.3 }
 faulty format lines error.Memory h other = absurd (other refl)
+faulty format lines _ h other = record { front = h.0; line = h.1; behind = h.2; wrong = h.3 }
 
 first : (format : Format) (lines : List (List ℕ)) (fault : TableError)
     → IsFaulty format lines fault → IsFirstFaultIn format lines fault
-first format lines (error.BadLine n) h = (h.front, h.line, h.behind, h.wrong)
-first format lines (error.BadName n) h = (h.front, h.line, h.behind, h.wrong)
-first format lines (error.BadValue n) h = (h.front, h.line, h.behind, h.wrong)
-first format lines (error.Double n) h = (h.front, h.line, h.behind, h.wrong)
 first format lines error.Memory h = absurd h.wrong
+first format lines _ h = (h.front, h.line, h.behind, h.wrong)
 
 -- of two lines with their fronts one is the other, or stands before it
 abbrev AreOrdered : (front : List (List ℕ)) → (line : List ℕ) → (other : List (List ℕ)) → (later : List ℕ) → Type 0

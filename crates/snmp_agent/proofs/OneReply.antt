@@ -120,15 +120,6 @@ module _ (view : MibView) (names : List VarBind) where
 
 -- ---- responses
 
-get_and_next : kind.GetRequest ≡ kind.GetNextRequest → ⊥
-get_and_next e = cc
-
-get_and_set : kind.GetRequest ≡ kind.SetRequest → ⊥
-get_and_set e = cc
-
-next_and_set : kind.GetNextRequest ≡ kind.SetRequest → ⊥
-next_and_set e = cc
-
 module _ (gets : HasGets) (nexts : HasNexts) (later_nexts : HasNextsAfter) (view : MibView) (q : Message) where
   same_bulk : (a b : List VarBind) → IsBulk view q a → IsBulk view q b → a ≡ b
   same_bulk a b h k =
@@ -146,22 +137,22 @@ module _ (gets : HasGets) (nexts : HasNexts) (later_nexts : HasNextsAfter) (view
       e ∙ ap (response q no_error (pos 0))
       (same_answers (λ asked given. IsGet view asked.name given) (λ asked p t g h. both (IsGet view asked.name) (gets view asked.name) p t g h)
       q.bindings a b answers others) ∙ sym f
-  same_whole r s (got a is answers e) (got_next b same others f) = absurd (get_and_next (sym is ∙ same))
-  same_whole r s (got a is answers e) (unwritten same f) = absurd (get_and_set (sym is ∙ same))
-  same_whole r s (got_next a is answers e) (got b same others f) = absurd (get_and_next (sym same ∙ is))
+  same_whole r s (got a is answers e) (got_next b same others f) = absurd (cc)
+  same_whole r s (got a is answers e) (unwritten same f) = absurd (cc)
+  same_whole r s (got_next a is answers e) (got b same others f) = absurd (cc)
   same_whole r s (got_next a is answers e) (got_next b same others f) =
       e ∙ ap (response q no_error (pos 0))
       (same_answers (λ asked given. IsNext view asked.name given) (λ asked p t g h. both (IsNext view asked.name) (nexts view asked.name) p t g h)
       q.bindings a b answers others) ∙ sym f
-  same_whole r s (got_next a is answers e) (unwritten same f) = absurd (next_and_set (sym is ∙ same))
-  same_whole r s (unwritten is e) (got b same others f) = absurd (get_and_set (sym same ∙ is))
-  same_whole r s (unwritten is e) (got_next b same others f) = absurd (next_and_set (sym same ∙ is))
+  same_whole r s (got_next a is answers e) (unwritten same f) = absurd (cc)
+  same_whole r s (unwritten is e) (got b same others f) = absurd (cc)
+  same_whole r s (unwritten is e) (got_next b same others f) = absurd (cc)
   same_whole r s (unwritten is e) (unwritten same f) = e ∙ sym f
 
   no_bulk : (r : Message) → IsWhole view q r → q.kind ≡ kind.GetBulkRequest → ⊥
-  no_bulk r (got a is answers e) same = let no : kind.GetRequest ≡ kind.GetBulkRequest = sym is ∙ same in cc
-  no_bulk r (got_next a is answers e) same = let no : kind.GetNextRequest ≡ kind.GetBulkRequest = sym is ∙ same in cc
-  no_bulk r (unwritten is e) same = let no : kind.SetRequest ≡ kind.GetBulkRequest = sym is ∙ same in cc
+  no_bulk r (got a is answers e) same = cc
+  no_bulk r (got_next a is answers e) same = cc
+  no_bulk r (unwritten is e) same = cc
 
   same_response : (limit : ℕ) (r s : Message) → IsResponse view limit q r → IsResponse view limit q s → r ≡ s
   same_response limit r s (whole h fits) (whole k fit) = same_whole r s h k

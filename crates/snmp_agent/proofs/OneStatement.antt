@@ -33,19 +33,12 @@ tag_number (digit ∷ next ∷ more) = cond (eqb next 120) (digit - 48) (10 * (d
 
 -- it is the tag of the value's encoding
 tag_of_value : (format : Format) (tag text : List ℕ) (v : Datum) → IsValueText format tag text v → tag_number tag ≡ value_tag v
-tag_of_value format tag text (integer_value z) h = ap tag_number h.0
 tag_of_value format tag text (octet_string octets) h = elim h.0 [ inl here ↦ ap tag_number here.0 | inr here ↦ ap tag_number here.0 ]
 tag_of_value format tag text null_value h = absurd h
-tag_of_value format tag text (object_id o) h = ap tag_number h.0
-tag_of_value format tag text (ip_address octets) h = ap tag_number h.0
-tag_of_value format tag text (counter32 n) h = ap tag_number h.0
-tag_of_value format tag text (gauge32 n) h = ap tag_number h.0
-tag_of_value format tag text (time_ticks n) h = ap tag_number h.0
-tag_of_value format tag text (opaque_octets octets) h = ap tag_number h.0
-tag_of_value format tag text (counter64 n) h = ap tag_number h.0
 tag_of_value format tag text no_such_object h = absurd h
 tag_of_value format tag text no_such_instance h = absurd h
 tag_of_value format tag text end_of_mib_view h = absurd h
+tag_of_value format tag text _ h = ap tag_number h.0
 
 no_minus : (text digits : List ℕ) (n : ℕ) → IsDecimal text n → text ≡ codes "-" ++ digits → ⊥
 no_minus text digits n h e = let wrong : false ≡ true = subst (λ (t : List ℕ). all_ascii_digits t ≡ true) e h.digits in absurd (cc)

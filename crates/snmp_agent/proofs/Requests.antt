@@ -39,11 +39,7 @@ by_kind : (view : MibView) (q : Message) (given : List VarBind) (k : Kind) → q
 by_kind view q given kind.GetRequest e h answers = got given e answers refl
 by_kind view q given kind.GetNextRequest e h answers = got_next given e answers refl
 by_kind view q given kind.SetRequest e h answers = unwritten e (ap (λ bs. response q not_writable (failed_place q.bindings) bs) (own q.bindings given answers))
-by_kind view q given kind.GetBulkRequest e h answers = absurd h
-by_kind view q given kind.Response e h answers = absurd h
-by_kind view q given kind.InformRequest e h answers = absurd h
-by_kind view q given kind.Trap e h answers = absurd h
-by_kind view q given kind.Report e h answers = absurd h
+by_kind view q given _ e h answers = absurd h
 
 -- the Response to a request whose bindings are answered, whatever its size
 pub whole_response : (view : MibView) (q : Message) (given : List VarBind) → IsPaired q.kind → AreAnswers (IsAnswer view q.kind) q.bindings given
@@ -118,24 +114,15 @@ other_kind {found} {theirs} e get next bulk set served = by_cases theirs e serve
     by_cases kind.GetNextRequest is h = next is
     by_cases kind.SetRequest is h = set is
     by_cases kind.GetBulkRequest is h = bulk is
-    by_cases kind.Response is h = h
-    by_cases kind.InformRequest is h = h
-    by_cases kind.Trap is h = h
-    by_cases kind.Report is h = h
+    by_cases _ is h = h
 
 -- what is served and is no GetBulk has one binding for each of the request's
 pub paired_kind : {found theirs : Kind} → found ≡ theirs → (found ≡ kind.GetBulkRequest → ⊥) → IsServed theirs → IsPaired theirs
 paired_kind {found} {theirs} e other served = by_cases theirs e served
   where
     by_cases : (k : Kind) → found ≡ k → IsServed k → IsPaired k
-    by_cases kind.GetRequest is h = tt
-    by_cases kind.GetNextRequest is h = tt
-    by_cases kind.SetRequest is h = tt
     by_cases kind.GetBulkRequest is h = absurd (other is)
-    by_cases kind.Response is h = absurd h
-    by_cases kind.InformRequest is h = absurd h
-    by_cases kind.Trap is h = absurd h
-    by_cases kind.Report is h = absurd h
+    by_cases _ is h = h
 
 -- ---- replies
 

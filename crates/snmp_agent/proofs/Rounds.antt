@@ -1,10 +1,7 @@
 -- The rounds of a GetBulk.
 use Rattle.std.proofs.Common.{◌≡◌, ◌↔◌, ◌⊎◌, inl, inr, ℕ, zero, suc, ◌+◌, ◌≤◌, ◌<◌, List, [], ◌∷◌, ◌++◌}
 use Rattle.std.proofs.Common.{length, take, drop, refl, sym, ap, subst, ◌∙◌, arith}
-use Rattle.snmp_wire.specs.Message.{Datum, integer_value, octet_string, null_value, object_id}
-use Rattle.snmp_wire.specs.Message.{ip_address, counter32, gauge32, time_ticks, opaque_octets}
-use Rattle.snmp_wire.specs.Message.{counter64, no_such_object, no_such_instance, end_of_mib_view}
-use Rattle.snmp_wire.specs.Message.{VarBind, Message}
+use Rattle.snmp_wire.specs.Message.{Datum, end_of_mib_view, VarBind, Message}
 use Rattle.snmp_agent.specs.table.Table.{MibView}
 use Rattle.snmp_agent.specs.Reply.{AreEnds, AreRounds, IsBulk, joined, or_zero}
 use Rattle.snmp_agent.specs.Answering.{AreGiven, AreRoundsFrom, AreWritable, HasRow}
@@ -13,19 +10,8 @@ use Rattle.snmp_agent.proofs.Answers.{HasNextsAfter, all_given}
 -- ---- endOfMibView throughout
 
 is_end : (v : Datum) → (v ≡ end_of_mib_view) ⊎ (v ≡ end_of_mib_view → ⊥)
-is_end (integer_value z) = inr (λ e. cc)
-is_end (octet_string text) = inr (λ e. cc)
-is_end null_value = inr (λ e. cc)
-is_end (object_id name) = inr (λ e. cc)
-is_end (ip_address address) = inr (λ e. cc)
-is_end (counter32 n) = inr (λ e. cc)
-is_end (gauge32 n) = inr (λ e. cc)
-is_end (time_ticks n) = inr (λ e. cc)
-is_end (opaque_octets text) = inr (λ e. cc)
-is_end (counter64 n) = inr (λ e. cc)
-is_end no_such_object = inr (λ e. cc)
-is_end no_such_instance = inr (λ e. cc)
 is_end end_of_mib_view = inl refl
+is_end _ = inr (λ e. cc)
 
 pub ends_decided : (ps : List VarBind) → AreEnds ps ⊎ HasRow ps
 ends_decided [] = inl tt
