@@ -4,24 +4,22 @@ use Rattle.std.proofs.Common.{eqb}
 use Rattle.std.specs.Char.{is_ascii_lowercase, is_ascii_uppercase, is_ascii_digit}
 use Rattle.std.proofs.lemmas.Bool.{eqb-true}
 use Rattle.smi_text.specs.declared.lexer.class.Class.{Class}
-use Rattle.smi_text.specs.declared.lexer.class.Class.TheVariants.{Blank, Lowercase, Uppercase}
-use Rattle.smi_text.specs.declared.lexer.class.Class.TheVariants.{Digit, Hyphen, Quote, Apostrophe}
-use Rattle.smi_text.specs.declared.lexer.class.Class.TheVariants.{Symbol, Other}
+use Rattle.smi_text.specs.declared.lexer.class.Class.TheVariants as C
 use Rattle.smi_text.specs.declared.lexer.token.TokenKind.{TokenKind}
 use Rattle.smi_text.specs.lexer.Lexeme.{IsLexeme, is_blank}
 use Rattle.smi_text.specs.lexer.Reading.{class_of, symbol_among, symbols}
 
 -- what an octet of the class is
 abbrev pub HasClass : Class → ℕ → Type 0
-HasClass Blank c = is_blank c ≡ true
-HasClass Lowercase c = is_ascii_lowercase c ≡ true
-HasClass Uppercase c = is_ascii_uppercase c ≡ true
-HasClass Digit c = is_ascii_digit c ≡ true
-HasClass Hyphen c = c ≡ 45
-HasClass Quote c = c ≡ 34
-HasClass Apostrophe c = c ≡ 39
-HasClass (Symbol kind) c = IsLexeme kind (c ∷ [])
-HasClass Other c = Unit {0}
+HasClass C.Blank c = is_blank c ≡ true
+HasClass C.Lowercase c = is_ascii_lowercase c ≡ true
+HasClass C.Uppercase c = is_ascii_uppercase c ≡ true
+HasClass C.Digit c = is_ascii_digit c ≡ true
+HasClass C.Hyphen c = c ≡ 45
+HasClass C.Quote c = c ≡ 34
+HasClass C.Apostrophe c = c ≡ 39
+HasClass (C.Symbol kind) c = IsLexeme kind (c ∷ [])
+HasClass C.Other c = Unit {0}
 
 either : (c : ℕ) (b : Bool) (x y : Class) → (b ≡ true → HasClass x c) → HasClass y c → HasClass (cond b x y) c
 either c true x y first second = first refl
@@ -35,18 +33,18 @@ AreLexemes (symbol ∷ others) = IsLexeme symbol.1 (symbol.0 ∷ []) × AreLexem
 among : (table : List (ℕ × TokenKind)) (c : ℕ) → AreLexemes table → HasClass (symbol_among table c) c
 among [] c all = tt
 among (symbol ∷ others) c all =
-    either c (eqb c symbol.0) (Symbol symbol.1) (symbol_among others c)
+    either c (eqb c symbol.0) (C.Symbol symbol.1) (symbol_among others c)
     (λ same. subst (λ d. IsLexeme symbol.1 (d ∷ [])) (sym (eqb-true c symbol.0 same)) all.0) (among others c all.1)
 
 pub has_class : (c : ℕ) → HasClass (class_of c) c
 has_class c =
-    either c (is_blank c) Blank _ (λ h. h)
-    (either c (is_ascii_lowercase c) Lowercase _ (λ h. h)
-    (either c (is_ascii_uppercase c) Uppercase _ (λ h. h)
-    (either c (is_ascii_digit c) Digit _ (λ h. h)
-    (either c (eqb c 45) Hyphen _ (eqb-true c 45)
-    (either c (eqb c 34) Quote _ (eqb-true c 34)
-    (either c (eqb c 39) Apostrophe _ (eqb-true c 39)
+    either c (is_blank c) C.Blank _ (λ h. h)
+    (either c (is_ascii_lowercase c) C.Lowercase _ (λ h. h)
+    (either c (is_ascii_uppercase c) C.Uppercase _ (λ h. h)
+    (either c (is_ascii_digit c) C.Digit _ (λ h. h)
+    (either c (eqb c 45) C.Hyphen _ (eqb-true c 45)
+    (either c (eqb c 34) C.Quote _ (eqb-true c 34)
+    (either c (eqb c 39) C.Apostrophe _ (eqb-true c 39)
     (among symbols c symbol_texts)))))))
   where
     symbol_texts : AreLexemes symbols

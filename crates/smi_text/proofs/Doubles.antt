@@ -7,14 +7,13 @@ use Rattle.std.specs.List.{flat_map, list_any, list_all}
 use Rattle.std.proofs.lemmas.Bool.{or_cases}
 use Rattle.std.proofs.lemmas.List.{map-append}
 use Rattle.std.proofs.lemmas.List.Folds.{list_any-append}
-use Rattle.smi_text.specs.lexer.Token.{Item}
+use Rattle.smi_text.specs.lexer.Token.{Lexeme, Item}
 use Rattle.smi_text.specs.trees.Mark.{Mark, same_text}
 use Rattle.smi_text.specs.Format.{StandsAhead, Format, Parsed, begins, apart, with_front, before}
 use Rattle.smi_text.specs.Format.{many, pair, shaped, word, lower}
 use Rattle.smi_text.specs.Grammar.{to_module, definition, file, head, module_text}
 use Rattle.smi_text.specs.trees.Spelling.{of_def, of_head, spelling}
-use Rattle.smi_text.specs.Text.{HasNoDoubles}
-use Rattle.smi_text.specs.Returned.{RepeatsIn, RepeatsAgain}
+use Rattle.smi_text.specs.Text.{HasNoDoubles, HasSecond, DefinesAgain}
 use Rattle.smi_text.specs.trees.Lookup.{labels, are_distinct}
 use Rattle.smi_text.specs.declared.modules.Head.{Head}
 use Rattle.smi_text.specs.declared.trees.tree.Def.{Def}
@@ -27,12 +26,7 @@ use Rattle.smi_text.proofs.Productions.{all}
 use Rattle.smi_text.proofs.ProductionLaws.{definition-law, head-law, module_text-law}
 use Rattle.smi_text.proofs.Shorter.{definition-solid, module_text-solid}
 use Rattle.smi_text.proofs.DefinitionLists.{read-label, spelled-label}
-
-front-inv : {A : Type 0} (x : A) (r : Parsed (List A)) (xs : List A) (rest : List Item) → with_front (x ∷ []) r ≡ Some (xs, rest)
-    → (more : List A) × (xs ≡ x ∷ more)
-unfolding with_front
-front-inv x None xs rest h = absurd (cc)
-front-inv {A} x (Some p) xs rest h = (p.0, sym (ap (λ (q : List A × List Item). q.0) (some-inj {A = List A × List Item} (x ∷ p.0, p.1) (xs, rest) h)))
+use Rattle.smi_text.proofs.Tokens.{all_tokens, taken-tokens}
 
 fronts-inv : {A : Type 0} (xs : List A) (r : Parsed (List A)) (ys : List A) (rest : List Item) → with_front xs r ≡ Some (ys, rest)
     → (zs : List A) × (r ≡ Some (zs, rest)) × (ys ≡ xs ++ zs)
@@ -67,8 +61,8 @@ module _ {A : Type 0} {s : A → List Mark} {f : Format A} (law : Lawful s f) (s
       elim (f.read ts) as (λ r. f.read ts ≡ r → (x : A) × (more : List A) × (mid : List Item) × (f.read ts ≡ Some (x, mid)) × (xs ≡ x ∷ more)) [
         | None ↦ λ e. absurd (cc (h, many-fails f ts b e))
         | Some p ↦ λ e.
-            let q = front-inv p.0 ((many f).read p.1) xs rest (sym (many-goes_on law solid p.0 ts p.1 b e) ∙ h) in
-            (p.0, q.0, p.1, e, q.1)
+            let q = fronts-inv (p.0 ∷ []) ((many f).read p.1) xs rest (sym (many-goes_on law solid p.0 ts p.1 b e) ∙ h) in
+            (p.0, q.0, p.1, e, q.2)
       ] refl
 
 -- names that stand twice
@@ -94,27 +88,26 @@ definition-apart : apart definition.stop definition.first ≡ true
 unfolding all
 definition-apart = refl
 
-module _ (line : ℕ) (body : List Item) (s : RepeatsIn line body) where
-  halves : (mid : List Item) × StandsAhead (flat_map of_def s.before) body mid × StandsAhead (of_def s.second) mid s.rest
-  halves = StandsAhead-split (flat_map of_def s.before) (of_def s.second) body s.rest s.stands
+module _ (line : ℕ) (body : List Lexeme) (s : HasSecond line body) where
+  halves : (mid : List Item) × StandsAhead (flat_map of_def s.before) (all_tokens body) mid × StandsAhead (of_def s.second) mid (all_tokens s.rest)
+  halves = StandsAhead-split (flat_map of_def s.before) (of_def s.second) (all_tokens body) (all_tokens s.rest)
+      (taken-tokens (flat_map of_def s.before ++ of_def s.second) body s.rest s.stands)
 
   second-ahead : begins definition.first halves.0 ≡ true
-  second-ahead = starts-with definition-law definition-solid s.second halves.0 s.rest halves.2
+  second-ahead = starts-with definition-law definition-solid s.second halves.0 (all_tokens s.rest) halves.2
 
-  body-ahead : begins definition.first body ≡ true
-  body-ahead = begin-again definition-law definition-solid definition-apart s.before body halves.0 halves.1 second-ahead
+  body-ahead : begins definition.first (all_tokens body) ≡ true
+  body-ahead = begin-again definition-law definition-solid definition-apart s.before (all_tokens body) halves.0 halves.1 second-ahead
 
-  definitions-twice : (ds : List Def) (rest : List Item) → (many definition).read body ≡ Some (ds, rest) → are_distinct (labels ds) ≡ true → ⊥
+  definitions-twice : (ds : List Def) (rest : List Item) → (many definition).read (all_tokens body) ≡ Some (ds, rest) → are_distinct (labels ds) ≡ true → ⊥
   definitions-twice ds rest h k =
-      let e = many-before definition-law definition-solid definition-apart s.before body halves.0 halves.1 second-ahead in
+      let e = many-before definition-law definition-solid definition-apart s.before (all_tokens body) halves.0 halves.1 second-ahead in
       let inv = fronts-inv s.before ((many definition).read halves.0) ds rest (sym e ∙ h) in
       let f = many-first definition-law definition-solid definition-apart halves.0 rest inv.0 second-ahead inv.1 in
-      let same : s.second.label.octets ≡ f.0.label.octets = spelled-label s.second halves.0 s.rest halves.2 ∙ sym (read-label f.0 halves.0 f.2 f.3) in
+      let same : s.second.label.octets ≡ f.0.label.octets = spelled-label s.second halves.0 (all_tokens s.rest) halves.2 ∙ sym (read-label f.0 halves.0 f.2 f.3) in
       let all : labels ds ≡ labels s.before ++ f.0.label.octets ∷ labels f.1 = ap labels inv.2 ∙ ap (λ (xs : List Def). labels (s.before ++ xs)) f.4
       ∙ map-append (λ (d : Def). d.label.octets) s.before (f.0 ∷ f.1) in
-      let P : List ℕ → Type 0 = λ x. list_any (same_text x) (labels s.before) ≡ true in
-      let Q : List (List ℕ) → Type 0 = λ xs. are_distinct xs ≡ true in
-      twice (labels s.before) (labels f.1) f.0.label.octets (subst P same s.defined) (subst Q all k)
+      twice (labels s.before) (labels f.1) f.0.label.octets (rw same at s.defined) (rw all at k)
 
 -- modules
 
@@ -155,28 +148,28 @@ module-inv ts body h m rest e r =
           ] refl
     ] refl
 
-module _ (line : ℕ) (tokens : List Item) (d : RepeatsAgain line tokens) where
-  opened : (mid : List Item) × StandsAhead (spelling d.modules) tokens mid × StandsAhead (of_head d.name d.heading d.imports) mid d.body
-  opened = StandsAhead-split (spelling d.modules) (of_head d.name d.heading d.imports) tokens d.body d.stands
+module _ (line : ℕ) (tokens : List Lexeme) (d : DefinesAgain line tokens) where
+  opened : (mid : List Item) × StandsAhead (spelling d.modules) (all_tokens tokens) mid × StandsAhead (of_head d.name d.heading d.imports) mid (all_tokens d.body)
+  opened = StandsAhead-split (spelling d.modules) (of_head d.name d.heading d.imports) (all_tokens tokens) (all_tokens d.body)
+      (taken-tokens (spelling d.modules ++ of_head d.name d.heading d.imports) tokens d.body d.stands)
 
   abbrev top : Head
   top = record { name = d.name; heading = d.heading; imports = d.imports }
 
-  head-read : head.read opened.0 ≡ Some (top, d.body)
-  head-read = head-law.again top opened.0 d.body opened.2
-      (apart-false head.stop definition.first d.body head-apart (body-ahead line d.body d.twice))
+  head-read : head.read opened.0 ≡ Some (top, all_tokens d.body)
+  head-read = head-law.again top opened.0 (all_tokens d.body) opened.2
+      (apart-false head.stop definition.first (all_tokens d.body) head-apart (body-ahead line d.body d.twice))
 
   module-ahead : begins module_text.first opened.0 ≡ true
   module-ahead = module-first opened.0
-      ∙ starts-with head-law head-solid top opened.0 d.body opened.2
+      ∙ starts-with head-law head-solid top opened.0 (all_tokens d.body) opened.2
 
-  pub file-twice : (ns : List Module) → file.read tokens ≡ Some (ns, []) → HasNoDoubles ns → ⊥
+  pub file-twice : (ns : List Module) → file.read (all_tokens tokens) ≡ Some (ns, []) → HasNoDoubles ns → ⊥
   unfolding file
   file-twice ns h k =
-      let e = many-before module_text-law module_text-solid module-apart d.modules tokens opened.0 opened.1 module-ahead in
+      let e = many-before module_text-law module_text-solid module-apart d.modules (all_tokens tokens) opened.0 opened.1 module-ahead in
       let inv = fronts-inv d.modules ((many module_text).read opened.0) ns [] (sym e ∙ h) in
       let f = many-first module_text-law module_text-solid module-apart opened.0 [] inv.0 module-ahead inv.1 in
-      let defs = module-inv opened.0 d.body top f.0 f.2 head-read f.3 in
+      let defs = module-inv opened.0 (all_tokens d.body) top f.0 f.2 head-read f.3 in
       let all : ns ≡ d.modules ++ f.0 ∷ f.1 = inv.2 ∙ ap (λ (xs : List Module). d.modules ++ xs) f.4 in
-      let P : List Module → Type 0 = λ ms. HasNoDoubles ms in
-      definitions-twice line d.body d.twice f.0.defs defs.0 defs.1 (all-middle d.modules f.0 f.1 (subst P all k))
+      definitions-twice line d.body d.twice f.0.defs defs.0 defs.1 (all-middle d.modules f.0 f.1 (rw all at k))

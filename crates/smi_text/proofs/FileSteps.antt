@@ -4,16 +4,16 @@ use Rattle.std.proofs.Common.{Some, None, refl, sym, ◌∙◌, ap, subst, Bor}
 use Rattle.std.specs.Prelude.{codes}
 use Rattle.std.specs.List.{flat_map, list_any}
 use Rattle.std.specs.BTreeSet.{BTreeSet}
-use Rattle.smi_text.specs.lexer.Token.{Item}
+use Rattle.smi_text.specs.lexer.Token.{Item, tokens_of}
 use Rattle.smi_text.specs.trees.Mark.{same_text}
 use Rattle.smi_text.specs.Format.{StandsAhead}
 use Rattle.smi_text.specs.Names.{has}
 use Rattle.smi_text.specs.Format.{begins, many, with_front, shaped, pair, before, word, lower}
 use Rattle.smi_text.specs.Grammar.{definition, head, module_text, file}
 use Rattle.smi_text.specs.trees.Spelling.{of_def, of_head, of_module, spelling}
-use Rattle.smi_text.specs.Text.{HasNoDoubles}
+use Rattle.smi_text.specs.Text.{HasNoDoubles, HasSecond}
 use Rattle.smi_text.specs.trees.Lookup.{labels, are_distinct}
-use Rattle.smi_text.specs.Returned.{RepeatsIn, is_memory, error_of, text_ahead, NewDefinitionFault}
+use Rattle.smi_text.specs.Returned.{is_memory, error_of, text_ahead, NewDefinitionFault}
 use Rattle.smi_text.specs.Returned.{ReadsDefinitions, DefinitionsFault, ReadsModule, ModuleFault}
 use Rattle.smi_text.specs.Returned.{ReadsModules, ModulesFault}
 use Rattle.smi_text.specs.declared.stop.Stop.{Stop}
@@ -32,6 +32,7 @@ use Rattle.smi_text.proofs.ProductionLaws.{definition-law, head-law, module_text
 use Rattle.smi_text.proofs.Shorter.{definition-solid, module_text-solid}
 use Rattle.smi_text.proofs.DefinitionLists.{read-label, stands-more, distinct-more, among-more}
 use Rattle.smi_text.proofs.DefinitionLists.{no-doubles-more, nothing-begins}
+use Rattle.smi_text.proofs.Tokens.{taken-stands, Stands-append}
 
 -- definitions
 
@@ -81,13 +82,14 @@ module _ (names : BTreeSet (ℕ × Bor (List ℕ))) (defs : List Def) (from now 
           distinct = distinct-more defs d have.distinct (ap (λ (z : List ℕ). list_any (same_text z) (labels defs)) same-label ∙ sym (have.named x) ∙ new);
         }
 
-    pub has_read-second : has names x ≡ true → RepeatsIn d.line from
+    pub has_read-second : has names x ≡ true → HasSecond d.line (tokens_of from)
     has_read-second again = record {
       before = defs;
       once = have.distinct;
       second = d;
-      rest = rest;
-      stands = StandsAhead-append (flat_map of_def defs) (of_def d) from now rest have.stands (definition-law.takes now rest d read);
+      rest = tokens_of rest;
+      stands = taken-stands (flat_map of_def defs ++ of_def d) from rest
+          (StandsAhead-append (flat_map of_def defs) (of_def d) from now rest have.stands (definition-law.takes now rest d read));
       defined = ap (λ (z : List ℕ). list_any (same_text z) (labels defs)) same-label ∙ sym (have.named x) ∙ again;
       on_line = refl;
     }
@@ -100,8 +102,7 @@ pub definitions-fault : (names : BTreeSet (ℕ × Bor (List ℕ))) (defs : List 
 definitions-fault names defs from now have x ahead label (E.Lex fault) f = has_read-stuck names defs from now have ahead f
 definitions-fault names defs from now have x ahead label (E.Syntax line) f = has_read-stuck names defs from now have ahead f
 definitions-fault names defs from now have x ahead label (E.DoubleName line) f =
-    let P : ℕ → Type 0 = λ n. RepeatsIn n from in
-    subst P f.1.on_line (has_read-second names defs from now have x f.1.def f.1.rest ahead label f.1.read f.0)
+    rw f.1.on_line at (has_read-second names defs from now have x f.1.def f.1.rest ahead label f.1.read f.0)
 definitions-fault names defs from now have x ahead label E.Memory f = tt
 
 -- a stop is a fault of the module
@@ -121,8 +122,8 @@ module _ (ts mid : List Item) (h : Head) (read : head.read ts ≡ Some (h, mid))
     name = h.name;
     heading = h.heading;
     imports = h.imports;
-    body = mid;
-    stands = head-law.takes ts mid h read;
+    body = tokens_of mid;
+    stands = taken-stands (of_head h.name h.heading h.imports) ts mid (head-law.takes ts mid h read);
     twice = f;
   }
   module-defs E.Memory f = tt
@@ -198,7 +199,8 @@ module _ (ms : List Module) (from now : List Item) (have : HasModules ms from no
     heading = f.heading;
     imports = f.imports;
     body = f.body;
-    stands = StandsAhead-append (spelling ms) (of_head f.name f.heading f.imports) from now f.body have.stands f.stands;
+    stands = Stands-append (spelling ms) (of_head f.name f.heading f.imports) (tokens_of from) (tokens_of now) f.body
+        (taken-stands (spelling ms) from now have.stands) f.stands;
     twice = f.twice;
   }
   has_modules-fault E.Memory some f = tt

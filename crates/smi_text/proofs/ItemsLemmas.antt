@@ -1,7 +1,7 @@
 -- The computed items of a text: what its longest front makes of them.
-use Rattle.std.proofs.Common.{◌≡◌, ℕ, zero, suc, ◌+◌, ◌<◌, ◌≤◌, ◌⊎◌, cond, Option, Some, None, Ok}
+use Rattle.std.proofs.Common.{◌≡◌, ℕ, zero, suc, ◌+◌, ◌<◌, ◌≤◌, cond, Option, Some, None, Ok}
 use Rattle.std.proofs.Common.{Err, List, [], ◌∷◌, length, take, drop, refl, sym, ap, ◌∙◌, subst}
-use Rattle.std.proofs.Common.{inl, inr, arith, zero-add, length-take-le}
+use Rattle.std.proofs.Common.{inl, inr, arith, zero-add, add-zero, length-take-le}
 use Rattle.std.proofs.lemmas.Bool.{cases_lt}
 use Rattle.std.proofs.lemmas.List.{drop-drop}
 use Rattle.std.proofs.lemmas.List.Sums.{sum_by-append}
@@ -9,7 +9,7 @@ use Rattle.smi_text.specs.declared.lexer.token.TokenKind.{TokenKind}
 use Rattle.smi_text.specs.lexer.Lexeme.{Part, gap, lexeme, is_newline}
 use Rattle.smi_text.specs.lexer.Lexes.{fault_on}
 use Rattle.smi_text.specs.lexer.Reading.{HasNoGap, HasNoLexeme, IsPartFront, Skips, part_of}
-use Rattle.smi_text.specs.lexer.Reading.{part_or_shorter, longest_front, front_items, front_rest}
+use Rattle.smi_text.specs.lexer.Reading.{longest_front, front_items, front_rest}
 use Rattle.smi_text.specs.lexer.Reading.{part_items, items_at, newlines}
 use Rattle.smi_text.proofs.Parts.{none_some}
 
@@ -18,19 +18,15 @@ use Rattle.smi_text.proofs.Parts.{none_some}
 pub longest_is : (n : ℕ) (text : List ℕ) (part : Part) (k : ℕ) → IsPartFront part_of text part k → 0 < k → k ≤ n → n ≤ length text
     → longest_front n text ≡ Some (part, k)
 longest_is zero text part k front some above within = absurd (omega arith)
-longest_is (suc n) text part k front some above within = by_place (cases_lt n k) (λ shorter. longest_is n text part k front some shorter (omega arith))
-  where
-    by_place : (n < k) ⊎ (k ≤ n) → (k ≤ n → longest_front n text ≡ Some (part, k)) → longest_front (suc n) text ≡ Some (part, k)
-    by_place (inl here) below =
-        let same : k ≡ suc n = omega arith in
-        ap (λ r. part_or_shorter (suc n) r (longest_front n text)) (ap (λ m. part_of (take m text)) (sym same) ∙ front.reads)
-        ∙ ap (λ m. Some (part, m)) (sym same)
-    by_place (inr shorter) below =
-        ap (λ r. part_or_shorter (suc n) r (longest_front n text)) (front.longest (suc n) (omega arith) within) ∙ below shorter
+longest_is (suc n) text part k front some above within =
+    elim (cases_lt n k) [
+      | inl here ↦ let same : suc n ≡ k = omega arith in rw (same, front.reads) refl
+      | inr shorter ↦ rw (front.longest (suc n) (omega arith) within) (longest_is n text part k front some shorter (omega arith))
+    ]
 
 pub longest_none : (n : ℕ) (text : List ℕ) → ((m : ℕ) → part_of (take m text) ≡ None) → longest_front n text ≡ None
 longest_none zero text none = refl
-longest_none (suc n) text none = ap (λ r. part_or_shorter (suc n) r (longest_front n text)) (none (suc n)) ∙ longest_none n text none
+longest_none (suc n) text none = rw (none (suc n)) (longest_none n text none)
 
 -- no part is empty
 pub front_some : (text : List ℕ) (part : Part) (k : ℕ) → IsPartFront part_of text part k → 0 < k
@@ -49,17 +45,12 @@ newlines-one c = zero-add (cond (is_newline c) 1 0)
 -- octets that are read give no item
 pub items-skipped : (k at before : ℕ) (text : List ℕ) → items_at k at before text ≡ items_at 0 (at + k) (before + newlines (take k text)) (drop k text)
 unfolding items_at
-items-skipped zero at before text =
-    let place : at ≡ at + 0 = omega arith in
-    let line : before ≡ before + 0 = omega arith in
-    ap (λ a. items_at 0 a before text) place ∙ ap (λ b. items_at 0 (at + 0) b text) line
+items-skipped zero at before text = simp add-zero
 items-skipped (suc k) at before [] = refl
 items-skipped (suc k) at before (c ∷ cs) =
     let place : (at + 1) + k ≡ at + suc k = omega arith in
     let line : (before + newlines (c ∷ [])) + newlines (take k cs) ≡ before + newlines (c ∷ take k cs) = omega (arith, newlines-cons c (take k cs)) in
-    items-skipped k (at + 1) (before + newlines (c ∷ [])) cs
-    ∙ ap (λ a. items_at 0 a ((before + newlines (c ∷ [])) + newlines (take k cs)) (drop k cs)) place
-    ∙ ap (λ b. items_at 0 (at + suc k) b (drop k cs)) line
+    cc (items-skipped k (at + 1) (before + newlines (c ∷ [])) cs)
 
 -- the longest front gives its item, before those of the rest
 pub items-front : (text : List ℕ) (part : Part) (k at before : ℕ) → IsPartFront part_of text part k
@@ -71,13 +62,8 @@ items-front (c ∷ cs) part zero at before front = absurd (none_some part front.
 items-front (c ∷ cs) part (suc k) at before front =
     let found : longest_front (length (c ∷ cs)) (c ∷ cs) ≡ Some (part, suc k) = longest_is (length (c ∷ cs)) (c ∷ cs) part (suc k) front
     (omega arith) front.within (omega arith) in
-    let place : (at + 1) + k ≡ at + suc k = omega arith in
-    let line : (before + newlines (c ∷ [])) + newlines (take k cs) ≡ before + newlines (c ∷ take k cs) = omega (arith, newlines-cons c (take k cs)) in
     ap (λ f. front_items at before (c ∷ cs) f (items_at (front_rest f) (at + 1) (before + newlines (c ∷ [])) cs)) found
-    ∙ ap (part_items at before part (c ∷ take k cs))
-    (items-skipped k (at + 1) (before + newlines (c ∷ [])) cs
-    ∙ ap (λ a. items_at 0 a ((before + newlines (c ∷ [])) + newlines (take k cs)) (drop k cs)) place
-    ∙ ap (λ b. items_at 0 (at + suc k) b (drop k cs)) line)
+    ∙ ap (part_items at before part (c ∷ take k cs)) (items-skipped (suc k) at before (c ∷ cs))
 
 -- where nothing begins, the fault is all
 pub items-none : (c : ℕ) (cs : List ℕ) (at before : ℕ) → ((m : ℕ) → part_of (take m (c ∷ cs)) ≡ None)
@@ -97,10 +83,7 @@ pub skips_gap : (text : List ℕ) (n lines k more : ℕ) → IsPartFront part_of
 skips_gap text n lines k more front ended skips at before =
     let place : (at + n) + k ≡ at + (n + k) = omega arith in
     let line : (before + lines) + newlines (take k (drop n text)) ≡ before + (lines + more) = omega (arith, ended) in
-    skips at before ∙ items-front (drop n text) gap k (at + n) (before + lines) front
-    ∙ ap (λ a. items_at 0 a ((before + lines) + newlines (take k (drop n text))) (drop k (drop n text))) place
-    ∙ ap (λ b. items_at 0 (at + (n + k)) b (drop k (drop n text))) line
-    ∙ ap (items_at 0 (at + (n + k)) (before + (lines + more))) (drop-drop k n text)
+    cc (skips at before, items-front (drop n text) gap k (at + n) (before + lines) front, drop-drop k n text)
 
 -- ---- one call of `next`
 
@@ -141,6 +124,4 @@ module _ (unread text : List ℕ) (at before n ended : ℕ) (skips : Skips unrea
       ∷ items_at 0 ((at + n) + k) ((before + ended) + newlines (take k text)) (drop k text)
   next_gives_token kind k front =
       let len : length (take k text) ≡ k = length-take-le k text front.within in
-      behind_gaps ∙ items-front text (lexeme kind) k (at + n) (before + ended) front
-      ∙ ap (λ m. Ok (record { kind = kind; span = record { start = at + n; «end» = (at + n) + m }; text = take k text; line = (before + ended) + 1 })
-      ∷ items_at 0 ((at + n) + k) ((before + ended) + newlines (take k text)) (drop k text)) len
+      cc (behind_gaps, items-front text (lexeme kind) k (at + n) (before + ended) front)

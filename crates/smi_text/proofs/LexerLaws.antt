@@ -1,6 +1,6 @@
 -- The computed items are those that `Lexes` says, and no others are.
 use Rattle.std.proofs.Common.{◌≡◌, ℕ, zero, suc, ◌+◌, ◌-◌, ◌<◌, ◌≤◌, cond, Option, Some, None, Ok}
-use Rattle.std.proofs.Common.{List, [], ◌∷◌, ◌++◌, length, take, drop, refl, sym, ap, ◌∙◌, subst}
+use Rattle.std.proofs.Common.{List, [], ◌∷◌, ◌++◌, length, take, drop, refl, sym, ap, ◌∙◌}
 use Rattle.std.proofs.Common.{⊎_elim, arith, length-append, length-take-le, length-drop}
 use Rattle.std.proofs.Common.{append_assoc, slice_range}
 use Rattle.std.proofs.lemmas.Bool.{cases_lt}
@@ -66,9 +66,7 @@ behind : (before text : List ℕ) (n : ℕ) → n ≤ length text
     → items_at 0 (length (before ++ take n text)) (newlines (before ++ take n text)) (drop n text) ≡ items_at 0 (length before + n)
     (newlines before + newlines (take n text)) (drop n text)
 behind before text n within =
-    ap (λ at. items_at 0 at (newlines (before ++ take n text)) (drop n text)) (length-append before (take n text)
-    ∙ ap (λ k. length before + k) (length-take-le n text within))
-    ∙ ap (λ lines. items_at 0 (length before + n) lines (drop n text)) (sum_by-append (λ c. cond (is_newline c) 1 0) before (take n text))
+    rw (length-append, length-take-le n text within, sum_by-append (λ c. cond (is_newline c) 1 0) before (take n text)) refl
 
 -- no front at all is a part
 none_of : (text : List ℕ) → Finds (length text) text None → (m : ℕ) → part_of (take m text) ≡ None
@@ -81,7 +79,7 @@ none_of text none m = ⊎_elim
 
 -- a text has the items that are computed
 pub lexes : (n : ℕ) (before text : List ℕ) → length text ≤ n → Lexes before text (items_at 0 (length before) (newlines before) text)
-lexes n before [] within = subst (Lexes before []) (sym (items-nothing (length before) (newlines before))) ends
+lexes n before [] within = rw (items-nothing (length before) (newlines before)) ends
 lexes zero before (c ∷ cs) within = absurd (omega arith)
 lexes (suc n) before (c ∷ cs) within = by_front (longest_front (length (c ∷ cs)) (c ∷ cs)) (finds (length (c ∷ cs)) (c ∷ cs)) (lexes n)
   where
@@ -90,12 +88,10 @@ lexes (suc n) before (c ∷ cs) within = by_front (longest_front (length (c ∷ 
         (c ∷ cs)))
         → Lexes before (c ∷ cs) (items_at 0 (length before) (newlines before) (c ∷ cs))
     by_part gap k front rest =
-        subst (Lexes before (c ∷ cs)) (behind before (c ∷ cs) k front.within ∙ sym (items-front (c ∷ cs) gap k (length before) (newlines before) front))
+        rw (items-front (c ∷ cs) gap k (length before) (newlines before) front, ← behind before (c ∷ cs) k front.within)
         (passes k (longest-front gap k (c ∷ cs) front) rest)
     by_part (lexeme kind) k front rest =
-        subst (Lexes before (c ∷ cs))
-        (ap (λ items. Ok (lexeme_behind before kind (take k (c ∷ cs))) ∷ items) (behind before (c ∷ cs) k front.within)
-        ∙ sym (items-front (c ∷ cs) (lexeme kind) k (length before) (newlines before) front))
+        rw (items-front (c ∷ cs) (lexeme kind) k (length before) (newlines before) front, ← behind before (c ∷ cs) k front.within)
         (gives kind k (longest-front (lexeme kind) k (c ∷ cs) front) rest)
 
     by_front : (found : Option (Part × ℕ)) → Finds (length (c ∷ cs)) (c ∷ cs) found
@@ -103,7 +99,7 @@ lexes (suc n) before (c ∷ cs) within = by_front (longest_front (length (c ∷ 
         → Lexes before (c ∷ cs) (items_at 0 (length before) (newlines before) (c ∷ cs))
     by_front None none below =
         let all = none_of (c ∷ cs) none in
-        subst (Lexes before (c ∷ cs)) (sym (items-none c cs (length before) (newlines before) all))
+        rw (items-none c cs (length before) (newlines before) all)
         (breaks c cs (λ part m h. none_some part (sym (all m) ∙ is_part part (take m (c ∷ cs)) h)))
     by_front (Some found) is below =
         let front : IsPartFront part_of (c ∷ cs) found.0 found.1 = record { within = is.0; reads = is.1; longest = is.2 } in
@@ -135,14 +131,13 @@ earlier source low high (t ∷ ts) below h = (omega (arith, h.0), h.1, h.2, h.3,
 span_of : (before text : List ℕ) (n : ℕ) → n ≤ length text → take n text ≡ slice_range (before ++ text) (length before) (length before + length (take n text))
 span_of before text n within =
     let len : (length before + length (take n text)) - length before ≡ n = omega (arith, length-take-le n text within) in
-    sym (ap (λ s. take ((length before + length (take n text)) - length before) s) (drop-append_seam before text) ∙ ap (λ k. take k text) len)
+    rw (drop-append_seam before text, len) refl
 
 pub in_order : {before text : List ℕ} {items : List Item} → Lexes before text items → AreInOrder (before ++ text) (length before) (tokens_of items)
 in_order ends = tt
 in_order (passes {before} {text} {items} n longest rest) =
     earlier (before ++ text) (length before) (length (before ++ take n text)) (tokens_of items) (omega (arith, length-append before (take n text)))
-    (subst (λ s. AreInOrder s (length (before ++ take n text)) (tokens_of items)) (append_assoc before (take n text) (drop n text)
-    ∙ ap (λ s. before ++ s) (take-append-drop n text)) (in_order rest))
+    (rw (append_assoc, take-append-drop) at (in_order rest))
 in_order (gives {before} {text} {items} kind n longest rest) =
     let some : 0 < n = front_some text (lexeme kind) n (front-longest (lexeme kind) n text longest) in
     let len = length-take-le n text longest.within in (
@@ -150,8 +145,6 @@ in_order (gives {before} {text} {items} kind n longest rest) =
       omega (arith, len),
       omega (arith, len, longest.within, length-append before text),
       span_of before text n longest.within,
-      subst (λ at. AreInOrder (before ++ text) at (tokens_of items)) (length-append before (take n text))
-          (subst (λ s. AreInOrder s (length (before ++ take n text)) (tokens_of items)) (append_assoc before (take n text) (drop n text)
-          ∙ ap (λ s. before ++ s) (take-append-drop n text)) (in_order rest)),
+      rw (append_assoc, take-append-drop, length-append) at (in_order rest),
     )
 in_order (breaks c cs none) = tt

@@ -10,14 +10,7 @@ use Rattle.std.proofs.lemmas.List.Folds.{list_any-append}
 use Rattle.std.proofs.lemmas.Slice.Eq.{bytes_eq-Decides}
 use Rattle.std.proofs.Common.{◌⊎◌, if◌then◌else◌}
 use Rattle.smi_text.specs.declared.lexer.token.TokenKind.{TokenKind}
-use Rattle.smi_text.specs.declared.lexer.token.TokenKind.TheVariants.{Lower, Upper, Number, Text}
-use Rattle.smi_text.specs.declared.lexer.token.TokenKind.TheVariants.{Hex, Binary, Assign, Range}
-use Rattle.smi_text.specs.declared.lexer.token.TokenKind.TheVariants.{OpenBrace, CloseBrace}
-use Rattle.smi_text.specs.declared.lexer.token.TokenKind.TheVariants.{OpenParen, CloseParen}
-use Rattle.smi_text.specs.declared.lexer.token.TokenKind.TheVariants.{OpenBracket, CloseBracket}
-use Rattle.smi_text.specs.declared.lexer.token.TokenKind.TheVariants.{Less, Greater, Comma}
-use Rattle.smi_text.specs.declared.lexer.token.TokenKind.TheVariants.{Semicolon, Colon, Bar, Dot}
-use Rattle.smi_text.specs.declared.lexer.token.TokenKind.TheVariants.{Equals}
+use Rattle.smi_text.specs.declared.lexer.token.TokenKind.TheVariants as K
 use Rattle.smi_text.specs.lexer.Token.{Lexeme, Item}
 use Rattle.smi_text.specs.trees.Mark.{Mark, kind_number, same_kind, same_text}
 use Rattle.smi_text.specs.Format.{StandsAhead}
@@ -29,16 +22,16 @@ use Rattle.smi_text.specs.Format.{meets, begins, half_apart, apart}
 
 kinds : List TokenKind
 kinds =
-    Lower ∷ Upper ∷ Number ∷ Text ∷ Hex ∷ Binary ∷ Assign ∷ Range ∷ OpenBrace ∷ CloseBrace ∷ OpenParen ∷ CloseParen ∷
-    OpenBracket ∷ CloseBracket ∷ Less ∷ Greater ∷ Comma ∷ Semicolon ∷ Colon ∷ Bar ∷ Dot ∷ Equals ∷ []
+    K.Lower ∷ K.Upper ∷ K.Number ∷ K.Text ∷ K.Hex ∷ K.Binary ∷ K.Assign ∷ K.Range ∷ K.OpenBrace ∷ K.CloseBrace ∷ K.OpenParen ∷ K.CloseParen ∷
+    K.OpenBracket ∷ K.CloseBracket ∷ K.Less ∷ K.Greater ∷ K.Comma ∷ K.Semicolon ∷ K.Colon ∷ K.Bar ∷ K.Dot ∷ K.Equals ∷ []
 
-kind_at : (k : TokenKind) → get_or kinds (kind_number k) Lower ≡ k
+kind_at : (k : TokenKind) → get_or kinds (kind_number k) K.Lower ≡ k
 unfolding kinds
-kind_at Lower = refl
+kind_at K.Lower = refl
 kind_at _ = refl
 
 pub same_kind-eq : (a b : TokenKind) → same_kind a b ≡ true → a ≡ b
-same_kind-eq a b h = sym (kind_at a) ∙ ap (λ (n : ℕ). get_or kinds n Lower) (eqb-true (kind_number a) (kind_number b) h) ∙ kind_at b
+same_kind-eq a b h = sym (kind_at a) ∙ ap (λ (n : ℕ). get_or kinds n K.Lower) (eqb-true (kind_number a) (kind_number b) h) ∙ kind_at b
 
 pub same_kind-same : (k : TokenKind) → same_kind k k ≡ true
 same_kind-same k = eq-eqb (kind_number k) (kind_number k) refl
@@ -98,11 +91,11 @@ true-not true h k = cc
 true-not false h k = cc
 
 module _ (t : Lexeme) where
-  word-kind : (w : List ℕ) → is_this_word w t ≡ true → t.kind ≡ Upper
-  word-kind w h = same_kind-eq t.kind Upper (and_parts (same_kind t.kind Upper) (same_text t.text w) h).0
+  word-kind : (w : List ℕ) → is_this_word w t ≡ true → t.kind ≡ K.Upper
+  word-kind w h = same_kind-eq t.kind K.Upper (and_parts (same_kind t.kind K.Upper) (same_text t.text w) h).0
 
   word-text : (w : List ℕ) → is_this_word w t ≡ true → t.text ≡ w
-  word-text w h = same_text-eq t.text w (and_parts (same_kind t.kind Upper) (same_text t.text w) h).1
+  word-text w h = same_text-eq t.text w (and_parts (same_kind t.kind K.Upper) (same_text t.text w) h).1
 
   kind-clash : (j k : TokenKind) → not (same_kind j k) ≡ true → t.kind ≡ j → t.kind ≡ k → ⊥
   kind-clash j k a h e = true-not (same_kind j k) a (rw (← h, ← e) (same_kind-same t.kind))
@@ -111,12 +104,12 @@ module _ (t : Lexeme) where
   half-sound (a_word v) (a_word w) a h k =
       true-not (same_text v w) a (rw (← word-text v h, ← word-text w k) (same_text-same t.text))
   half-sound (a_word v) a_name a h k =
-      true-not (is_reserved t.text) (and_parts (same_kind t.kind Upper) (not (is_reserved t.text)) k).1 (rw (word-text v h) a)
-  half-sound (a_word v) (a_kind k) a h e = kind-clash Upper k a (word-kind v h) (same_kind-eq t.kind k e)
+      true-not (is_reserved t.text) (and_parts (same_kind t.kind K.Upper) (not (is_reserved t.text)) k).1 (rw (word-text v h) a)
+  half-sound (a_word v) (a_kind k) a h e = kind-clash K.Upper k a (word-kind v h) (same_kind-eq t.kind k e)
   half-sound (a_word v) (no_word w) a h k =
       true-not (is_this_word w t) k (let e : v ≡ w = same_text-eq v w a in rw (← e) h)
   half-sound a_name (a_kind k) a h e =
-      kind-clash Upper k a (same_kind-eq t.kind Upper (and_parts (same_kind t.kind Upper) (not (is_reserved t.text)) h).0) (same_kind-eq t.kind k e)
+      kind-clash K.Upper k a (same_kind-eq t.kind K.Upper (and_parts (same_kind t.kind K.Upper) (not (is_reserved t.text)) h).0) (same_kind-eq t.kind k e)
   half-sound (a_kind j) (a_kind k) a h e = kind-clash j k a (same_kind-eq t.kind j h) (same_kind-eq t.kind k e)
   half-sound (a_kind j) (no_kind k) a h e =
       true-not (same_kind t.kind k) e (let f : j ≡ k = same_kind-eq j k a in rw (← f) h)

@@ -2,7 +2,7 @@
 use Rattle.std.proofs.Common.{◌≡◌, ℕ, zero, suc, ◌+◌, ◌-◌, ◌<◌, ◌≤◌, Bool, true, false, cond}
 use Rattle.std.proofs.Common.{if◌then◌else◌, ◌&&◌, ◌⊎◌, Option, Some, None, List, [], ◌∷◌, ◌++◌}
 use Rattle.std.proofs.Common.{length, get_or, take, drop, refl, sym, ap, ◌∙◌, subst, inl, inr}
-use Rattle.std.proofs.Common.{⊎_elim, arith, eqb, add-one, length-drop}
+use Rattle.std.proofs.Common.{arith, eqb, add-one, length-drop}
 use Rattle.std.proofs.lemmas.Bool.{and_parts}
 use Rattle.std.specs.List.{list_all}
 use Rattle.std.specs.Bool.{then_some}
@@ -10,11 +10,10 @@ use Rattle.std.proofs.Math.Bool.{and-false, and-true, and_assoc}
 use Rattle.std.proofs.Math.Seq.{take-add}
 use Rattle.std.specs.Option.{option_map}
 use Rattle.std.specs.Char.{is_ascii_hexdigit}
-use Rattle.std.proofs.lemmas.Bool.{cases_lt}
+use Rattle.std.proofs.lemmas.Bool.{cases_lt, not-true}
 use Rattle.std.proofs.lemmas.List.{drop_all}
 use Rattle.std.proofs.lemmas.List.Folds.{list_all-append}
-use Rattle.std.proofs.lemmas.List.{take-append-drop}
-use Rattle.std.proofs.lemmas.Bool.{not-true}
+use Rattle.std.proofs.lemmas.List.{take-append-drop, take_all, take-take, length-take}
 use Rattle.smi_text.specs.declared.lexer.token.TokenKind.{TokenKind}
 use Rattle.smi_text.specs.declared.lexer.token.TokenKind.TheVariants.{Text, Hex, Binary}
 use Rattle.smi_text.specs.lexer.Lexeme.{Part, lexeme, is_binary_digit}
@@ -88,8 +87,7 @@ pub literal_open : (is_digit is_letter : ℕ → Bool) (s : List ℕ) → list_a
 literal_open is_digit is_letter [] h = refl
 literal_open is_digit is_letter (c ∷ cs) h =
     let both = and_parts (is_other 39 c) (list_all (is_other 39) cs) h in
-    ap (λ b. cond b (is_sole is_letter cs) (is_digit c && is_literal_rest is_digit is_letter cs)) (other_not 39 c both.0)
-    ∙ ap (λ b. is_digit c && b) (literal_open is_digit is_letter cs both.1) ∙ and-false (is_digit c)
+    rw (other_not 39 c both.0, literal_open is_digit is_letter cs both.1) (and-false (is_digit c))
 
 -- behind the second quote the letter decides
 pub literal_closed : (is_digit is_letter : ℕ → Bool) (digits s : List ℕ) → list_all (is_other 39) digits ≡ true
@@ -97,9 +95,7 @@ pub literal_closed : (is_digit is_letter : ℕ → Bool) (digits s : List ℕ) �
 literal_closed is_digit is_letter [] s h = refl
 literal_closed is_digit is_letter (c ∷ cs) s h =
     let both = and_parts (is_other 39 c) (list_all (is_other 39) cs) h in
-    ap (λ b. cond b (is_sole is_letter (cs ++ 39 ∷ s)) (is_digit c && is_literal_rest is_digit is_letter (cs ++ 39 ∷ s))) (other_not 39 c both.0)
-    ∙ ap (λ b. is_digit c && b) (literal_closed is_digit is_letter cs s both.1)
-    ∙ sym (and_assoc (is_digit c) (list_all is_digit cs) (is_sole is_letter s))
+    rw (other_not 39 c both.0, literal_closed is_digit is_letter cs s both.1) (sym (and_assoc (is_digit c) (list_all is_digit cs) (is_sole is_letter s)))
 
 -- what stands behind a literal's digits decides
 abbrev pub literal_behind : List ℕ → List ℕ → Option Part
@@ -109,70 +105,54 @@ literal_behind digits s =
 
 pub literal_reads : (digits s : List ℕ) → list_all (is_other 39) digits ≡ true → literal_part (digits ++ 39 ∷ s) ≡ literal_behind digits s
 literal_reads digits s h =
-    ap (λ b. if b then Some (lexeme Hex) else then_some (is_literal_rest is_binary_digit is_binary_letter (digits ++ 39 ∷ s)) (lexeme Binary))
-    (literal_closed is_ascii_hexdigit is_hex_letter digits s h)
-    ∙ ap (λ b. if list_all is_ascii_hexdigit digits && is_sole is_hex_letter s then Some (lexeme Hex) else then_some b (lexeme Binary))
-    (literal_closed is_binary_digit is_binary_letter digits s h)
-
-literal_fails : (digits s : List ℕ) → is_sole is_hex_letter s ≡ false → is_sole is_binary_letter s ≡ false → literal_behind digits s ≡ None
-literal_fails digits s hex binary =
-    ap (λ b. if list_all is_ascii_hexdigit digits && b then Some (lexeme Hex) else then_some (list_all is_binary_digit digits && is_sole is_binary_letter s)
-    (lexeme Binary)) hex
-    ∙ ap (λ b. if b then Some (lexeme Hex) else then_some (list_all is_binary_digit digits && is_sole is_binary_letter s) (lexeme Binary)) (and-false
-    (list_all is_ascii_hexdigit digits))
-    ∙ ap (λ b. then_some (list_all is_binary_digit digits && b) (lexeme Binary)) binary
-    ∙ ap (λ b. then_some b (lexeme Binary)) (and-false (list_all is_binary_digit digits))
+    rw (literal_closed is_ascii_hexdigit is_hex_letter digits s h, literal_closed is_binary_digit is_binary_letter digits s h) refl
 
 pub literal_exact : (digits : List ℕ) (letter : ℕ) → literal_behind digits (letter ∷ []) ≡ literal_of digits letter
-literal_exact digits letter =
-    ap (λ b. if list_all is_ascii_hexdigit digits && b then Some (lexeme Hex) else then_some (list_all is_binary_digit digits &&
-    (is_binary_letter letter && true)) (lexeme Binary)) (and-true (is_hex_letter letter))
-    ∙ ap (λ b. if list_all is_ascii_hexdigit digits && is_hex_letter letter then Some (lexeme Hex) else then_some (list_all is_binary_digit digits && b)
-    (lexeme Binary)) (and-true (is_binary_letter letter))
+literal_exact digits letter = rw (and-true (is_hex_letter letter), and-true (is_binary_letter letter)) refl
+
+literal_unended : (digits : List ℕ) → literal_behind digits [] ≡ None
+literal_unended digits = rw (and-false (list_all is_ascii_hexdigit digits), and-false (list_all is_binary_digit digits)) refl
 
 literal_unclosed : (s : List ℕ) → list_all (is_other 39) s ≡ true → literal_part s ≡ None
-literal_unclosed s h =
-    ap (λ b. if b then Some (lexeme Hex) else then_some (is_literal_rest is_binary_digit is_binary_letter s) (lexeme Binary))
-    (literal_open is_ascii_hexdigit is_hex_letter s h)
-    ∙ ap (λ b. then_some b (lexeme Binary)) (literal_open is_binary_digit is_binary_letter s h)
+literal_unclosed s h = rw (literal_open is_ascii_hexdigit is_hex_letter s h, literal_open is_binary_digit is_binary_letter s h) refl
 
--- a front that ends before the second quote
-literal_short : (m i : ℕ) (text : List ℕ) → m ≤ i → list_all (is_other 39) (take i text) ≡ true → literal_part (take m text) ≡ None
-literal_short m i text within h = literal_unclosed (take m text) (shorter m i text within h)
-  where
-    shorter : (m i : ℕ) (text : List ℕ) → m ≤ i → list_all (is_other 39) (take i text) ≡ true → list_all (is_other 39) (take m text) ≡ true
-    shorter zero i text within h = refl
-    shorter (suc m) zero text within h = absurd (omega arith)
-    shorter (suc m) (suc i) [] within h = refl
-    shorter (suc m) (suc i) (c ∷ cs) within h =
-        let both = and_parts (is_other 39 c) (list_all (is_other 39) (take i cs)) h in
-        ap (λ b. b && list_all (is_other 39) (take m cs)) both.0 ∙ shorter m i cs (omega arith) both.1
-
--- a front that ends behind it
-literal_long : (k i : ℕ) (text : List ℕ) → i < length text → get_or text i 0 ≡ 39 → list_all (is_other 39) (take i text) ≡ true
+-- a front that ends behind the second quote
+literal_long : (k i : ℕ) (text : List ℕ) → IsFirstPlace 39 text (Some i)
     → literal_part (take (i + suc k) text) ≡ literal_behind (take i text) (take k (drop (i + 1) text))
-literal_long k i text here quote h =
-    ap literal_part (take-add i (suc k) text ∙ ap (λ s. take i text ++ take (suc k) s) (rest_at text i here ∙ ap (λ c. c ∷ drop (i + 1) text) quote))
-    ∙ literal_reads (take i text) (take k (drop (i + 1) text)) h
+literal_long k i text h =
+    ap literal_part (take-add i (suc k) text ∙ ap (λ s. take i text ++ take (suc k) s) (rw h.1 at (rest_at text i h.0)))
+    ∙ literal_reads (take i text) (take k (drop (i + 1) text)) h.2
+
+-- each front ends before the second quote or behind it
+literal_at : (text : List ℕ) (i : ℕ) → IsFirstPlace 39 text (Some i) → (m : ℕ)
+    → (literal_part (take m text) ≡ None)
+    ⊎ ((k : ℕ) × (m ≡ i + suc k) × (literal_part (take m text) ≡ literal_behind (take i text) (take k (drop (i + 1) text))))
+literal_at text i h m =
+    elim (cases_lt i m) [
+      | inl long ↦
+          let place : m ≡ i + suc (m - (i + 1)) = omega arith in
+          inr (m - (i + 1), place, ap (λ j. literal_part (take j text)) place ∙ literal_long (m - (i + 1)) i text h)
+      | inr short ↦ inl (literal_unclosed (take m text) (rw (take-take m i text short) at (list_all-take (is_other 39) m (take i text) h.2)))
+    ]
 
 pub literal_none : (text : List ℕ) → IsFirstPlace 39 text None → IsLexemeFront literal_part text None
 literal_none text h kind m is = none_some (lexeme kind) (sym (literal_unclosed (take m text) (list_all-take (is_other 39) m text h)) ∙ is)
 
 -- no letter follows the second quote
 pub literal_ends : (text : List ℕ) (i : ℕ) → IsFirstPlace 39 text (Some i) → i + 1 ≡ length text → IsLexemeFront literal_part text None
-literal_ends text i h last kind m is = none_some (lexeme kind) (sym (fails m (cases_lt i m)) ∙ is)
-  where
-    nothing : (k : ℕ) → literal_behind (take i text) (take k []) ≡ None
-    nothing zero = literal_fails (take i text) [] refl refl
-    nothing (suc k) = literal_fails (take i text) [] refl refl
+literal_ends text i h last kind m is =
+    elim (literal_at text i h m) [
+      | inl none ↦ none_some (lexeme kind) (sym none ∙ is)
+      | inr p ↦ none_some (lexeme kind) (sym (p.2 ∙ rw (drop_all (i + 1) text (omega arith), take_all {A = ℕ} p.0 [] (omega arith)) (literal_unended (take i text))) ∙ is)
+    ]
 
-    fails : (m : ℕ) → (i < m) ⊎ (m ≤ i) → literal_part (take m text) ≡ None
-    fails m (inr short) = literal_short m i text short h.2
-    fails m (inl long) =
-        let place : m ≡ i + suc (m - (i + 1)) = omega arith in
-        let rest : drop (i + 1) text ≡ [] = drop_all (i + 1) text (omega arith) in
-        ap (λ j. literal_part (take j text)) place ∙ literal_long (m - (i + 1)) i text h.0 h.1 h.2
-        ∙ ap (λ s. literal_behind (take i text) (take (m - (i + 1)) s)) rest ∙ nothing (m - (i + 1))
+-- one octet behind it is the letter, and more are no literal
+literal_letter : (digits : List ℕ) (c : ℕ) (cs : List ℕ) (k : ℕ) → (literal_behind digits (take k (c ∷ cs)) ≡ None) ⊎ (take k (c ∷ cs) ≡ c ∷ [])
+literal_letter digits c cs zero = inl (literal_unended digits)
+literal_letter digits c cs (suc zero) = inr refl
+literal_letter digits c [] (suc (suc k)) = inr refl
+literal_letter digits c (d ∷ ds) (suc (suc k)) =
+    inl (rw (and-false (is_hex_letter c), and-false (is_binary_letter c)) (literal_unended digits))
 
 -- the letter decides
 pub literal_front : (text : List ℕ) (i : ℕ) → IsFirstPlace 39 text (Some i) → i + 1 < length text
@@ -180,52 +160,32 @@ pub literal_front : (text : List ℕ) (i : ℕ) → IsFirstPlace 39 text (Some i
     → IsLexemeFront literal_part text (option_map (λ kind. (kind, i + 2)) found)
 literal_front text i h next found kind_is = by_kind found kind_is
   where
-    letter : drop (i + 1) text ≡ get_or text (i + 1) 0 ∷ drop (i + 2) text
-    letter = rest_at text (i + 1) next ∙ ap (λ m. get_or text (i + 1) 0 ∷ drop m text) (let e : (i + 1) + 1 ≡ i + 2 = omega arith in e)
+    rest : (k : ℕ) → literal_behind (take i text) (take k (drop (i + 1) text))
+        ≡ literal_behind (take i text) (take k (get_or text (i + 1) 0 ∷ drop ((i + 1) + 1) text))
+    rest k = ap (λ s. literal_behind (take i text) (take k s)) (rest_at text (i + 1) next)
 
-    long : (k : ℕ) → literal_part (take (i + suc (suc k)) text) ≡ literal_behind (take i text) (get_or text (i + 1) 0 ∷ take k (drop (i + 2) text))
-    long k = literal_long (suc k) i text h.0 h.1 h.2 ∙ ap (λ s. literal_behind (take i text) (take (suc k) s)) letter
-
-    fails_long : (k : ℕ) (s : List ℕ) → 0 < length s → literal_behind (take i text) (get_or text (i + 1) 0 ∷ take (suc k) s) ≡ None
-    fails_long k [] some = absurd (omega arith)
-    fails_long k (d ∷ ds) some = literal_fails (take i text) (get_or text (i + 1) 0 ∷ d ∷ take k ds) (and-false (is_hex_letter (get_or text (i + 1) 0)))
-        (and-false (is_binary_letter (get_or text (i + 1) 0)))
-
-    exact : literal_part (take (i + 2) text) ≡ literal_of (take i text) (get_or text (i + 1) 0)
-    exact = long 0 ∙ literal_exact (take i text) (get_or text (i + 1) 0)
-
-    -- each front is too short, the literal, or too long
-    by_rest : (k : ℕ) (rest : List ℕ) → drop (i + 2) text ≡ rest
-        → (literal_part (take (i + suc (suc (suc k))) text) ≡ None)
-        ⊎ (literal_part (take (i + suc (suc (suc k))) text) ≡ literal_of (take i text) (get_or text (i + 1) 0))
-    by_rest k [] e = inr (long (suc k) ∙ ap (λ s. literal_behind (take i text) (get_or text (i + 1) 0 ∷ take (suc k) s)) e
-        ∙ literal_exact (take i text) (get_or text (i + 1) 0))
-    by_rest k (d ∷ ds) e = inl (long (suc k) ∙ ap (λ s. literal_behind (take i text) (get_or text (i + 1) 0 ∷ take (suc k) s)) e
-        ∙ fails_long k (d ∷ ds) (omega arith))
-
-    behind : (k : ℕ) → (literal_part (take (i + suc k) text) ≡ None) ⊎ (literal_part (take (i + suc k) text) ≡ literal_of (take i text) (get_or text (i + 1) 0))
-    behind zero = inl (literal_long 0 i text h.0 h.1 h.2 ∙ literal_fails (take i text) [] refl refl)
-    behind (suc zero) = inr (long 0 ∙ literal_exact (take i text) (get_or text (i + 1) 0))
-    behind (suc (suc k)) = by_rest k (drop (i + 2) text) refl
-
-    each : (m : ℕ) → (i < m) ⊎ (m ≤ i) → (literal_part (take m text) ≡ None) ⊎ (literal_part (take m text) ≡ literal_of (take i text) (get_or text (i + 1) 0))
-    each m (inr short) = inl (literal_short m i text short h.2)
-    each m (inl long) =
-        let place : i + suc (m - (i + 1)) ≡ m = omega arith in
-        subst (λ j. (literal_part (take j text) ≡ None)
-        ⊎ (literal_part (take j text) ≡ literal_of (take i text) (get_or text (i + 1) 0))) place (behind (m - (i + 1)))
+    -- each front is no literal, or this one
+    each : (m : ℕ) → (literal_part (take m text) ≡ None)
+        ⊎ ((m ≤ length text → m ≡ i + 2) × (literal_part (take m text) ≡ literal_of (take i text) (get_or text (i + 1) 0)))
+    each m =
+        elim (literal_at text i h m) [
+          | inl none ↦ inl none
+          | inr p ↦ elim (literal_letter (take i text) (get_or text (i + 1) 0) (drop ((i + 1) + 1) text) p.0) [
+            | inl none ↦ inl (p.2 ∙ rest p.0 ∙ none)
+            | inr one ↦ inr (
+              λ within. omega (arith, p.1, ap length one, length-take p.0 (get_or text (i + 1) 0 ∷ drop ((i + 1) + 1) text), length-drop ((i + 1) + 1) text),
+              p.2 ∙ rest p.0 ∙ ap (literal_behind (take i text)) one ∙ literal_exact (take i text) (get_or text (i + 1) 0),
+            )
+          ]
+        ]
 
     by_kind : (found : Option TokenKind) → option_map lexeme found ≡ literal_of (take i text) (get_or text (i + 1) 0)
         → IsLexemeFront literal_part text (option_map (λ kind. (kind, i + 2)) found)
-    by_kind None kind_is = λ kind m is. ⊎_elim (λ none. none_some (lexeme kind) (sym none ∙ is)) (λ same. none_some (lexeme kind) (kind_is ∙ sym same
-        ∙ is)) (each m (cases_lt i m))
-    by_kind (Some kind) kind_is = record {
+    by_kind None none = λ kind m is. elim (each m) [ inl e ↦ none_some (lexeme kind) (sym e ∙ is) | inr p ↦ none_some (lexeme kind) (none ∙ sym p.1 ∙ is) ]
+    by_kind (Some kind) some = record {
       within = omega arith;
-      reads = exact ∙ sym kind_is;
-      longest = λ m above within.
-          let place : m ≡ i + suc (suc (suc (m - (i + 3)))) = omega arith in
-          ap (λ j. literal_part (take j text)) place ∙ long (suc (m - (i + 3)))
-          ∙ fails_long (m - (i + 3)) (drop (i + 2) text) (omega (arith, length-drop (i + 2) text));
+      reads = literal_long 1 i text h ∙ rest 1 ∙ literal_exact (take i text) (get_or text (i + 1) 0) ∙ sym some;
+      longest = λ m above within. elim (each m) [ inl e ↦ e | inr p ↦ absurd (omega (arith, p.0 within)) ];
     }
 
 -- ---- with the first octet

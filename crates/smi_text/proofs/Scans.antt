@@ -1,12 +1,11 @@
 -- Steps and ends of the scans, each by its own test.
 use Rattle.std.proofs.Common.{◌≡◌, ℕ, zero, suc, ◌+◌, ◌<◌, ◌≤◌, Bool, true, false, cond, ◌&&◌}
-use Rattle.std.proofs.Common.{◌||◌, ◌⊎◌, List, [], ◌∷◌, length, get_or, take, drop, refl, sym, ap}
-use Rattle.std.proofs.Common.{◌∙◌, subst, inl, inr, arith, eqb, eq-eqb, ◌-◌, zero-add}
+use Rattle.std.proofs.Common.{◌||◌, List, [], ◌∷◌, length, get_or, take, drop, refl, sym, ap}
+use Rattle.std.proofs.Common.{◌∙◌, subst, inl, inr, arith, ◌-◌, zero-add}
 use Rattle.std.specs.List.{list_all}
-use Rattle.std.proofs.lemmas.Bool.{eqb-true, ne_eqb, cases_lt, false≢true}
+use Rattle.std.proofs.lemmas.Bool.{eqb-true, ne_eqb, cases_lt, false≢true, false_from_ne_true}
 use Rattle.std.proofs.lemmas.List.Folds.{list_all_more}
 use Rattle.std.proofs.lemmas.List.{drop_all}
-use Rattle.std.proofs.Math.Bool.{or-true}
 use Rattle.smi_text.specs.lexer.Lexeme.{begins, is_hyphen, is_word_octet, is_word_rest}
 use Rattle.smi_text.specs.lexer.Reading.{GoesOn, IsLongestPassing, IsRemarkEnd, is_comment_rest}
 use Rattle.smi_text.specs.lexer.Reading.{IsRunBetween, is_remark_rest}
@@ -46,11 +45,11 @@ passing_stop p text n here fail = scan_stop (list_all p) text n here refl (λ k.
 -- ---- a hyphen that nothing of this kind follows
 
 pub hyphen_alone : (next : ℕ → Bool) (c k : ℕ) (s : List ℕ) → (c ≡ 45 → begins next s ≡ false) → (is_hyphen c && begins next (take k s)) ≡ false
-hyphen_alone next c k s alone = by_test (is_hyphen c) refl
-  where
-    by_test : (b : Bool) → eqb c 45 ≡ b → (b && begins next (take k s)) ≡ false
-    by_test true is = begins-take next k s (alone (eqb-true c 45 is))
-    by_test false is = refl
+hyphen_alone next c k s alone =
+    elim (is_hyphen c) as (λ b. is_hyphen c ≡ b → (b && begins next (take k s)) ≡ false) [
+      | true ↦ λ is. begins-take next k s (alone (eqb-true c 45 is))
+      | false ↦ λ is. refl
+    ] refl
 
 -- ---- words
 
@@ -64,24 +63,13 @@ word_step text n here pass =
 -- a hyphen, and one of these
 pub hyphen_step : (text : List ℕ) (n : ℕ) → n + 1 < length text → get_or text n 0 ≡ 45 → is_word_octet (get_or text (n + 1) 0) ≡ true
     → GoesOn is_word_rest text n → GoesOn is_word_rest text (n + 2)
-hyphen_step text n here hyphen pass = scan_two is_word_rest text n here (λ k. both (get_or text n 0) (get_or text (n + 1) 0) (take k (drop
-    (n + 2) text)) hyphen pass)
-  where
-    both : (c d : ℕ) (s : List ℕ) → c ≡ 45 → is_word_octet d ≡ true → is_word_rest (c ∷ d ∷ s) ≡ is_word_rest s
-    both c d s hyphen pass =
-        ap (λ b. (is_word_octet c || (is_hyphen c && b)) && ((b || (is_hyphen d && begins is_word_octet s)) && is_word_rest s)) pass
-        ∙ ap (λ b. (is_word_octet c || (b && true)) && is_word_rest s) (eq-eqb c 45 hyphen)
-        ∙ ap (λ b. b && is_word_rest s) (or-true (is_word_octet c))
+hyphen_step text n here hyphen pass = scan_two is_word_rest text n here (λ k. rw (hyphen, pass) refl)
 
 pub word_stop : (text : List ℕ) (n : ℕ) → n < length text → is_word_octet (get_or text n 0) ≡ false
     → (get_or text n 0 ≡ 45 → begins is_word_octet (drop (n + 1) text) ≡ false)
     → GoesOn is_word_rest text n → IsLongestPassing is_word_rest text n
-word_stop text n here fail next = scan_stop is_word_rest text n here refl (λ k. stops (get_or text n 0) k (drop (n + 1) text) fail next)
-  where
-    stops : (c : ℕ) (k : ℕ) (s : List ℕ) → is_word_octet c ≡ false → (c ≡ 45 → begins is_word_octet s ≡ false) → is_word_rest (c ∷ take k s) ≡ false
-    stops c k s fail next =
-        ap (λ b. (b || (is_hyphen c && begins is_word_octet (take k s))) && is_word_rest (take k s)) fail
-        ∙ ap (λ b. b && is_word_rest (take k s)) (hyphen_alone is_word_octet c k s next)
+word_stop text n here fail next =
+    scan_stop is_word_rest text n here refl (λ k. rw (fail, hyphen_alone is_word_octet (get_or text n 0) k (drop (n + 1) text) next) refl)
 
 -- up to where a run of them ends
 pub word_run_goes : (text : List ℕ) (from to : ℕ) → GoesOn is_word_rest text from → IsRunBetween is_word_octet text from to
@@ -114,25 +102,19 @@ word_ends text n stops next goes = elim (cases_lt n (length text)) [
 pub remark_step : (text : List ℕ) (n : ℕ) → n < length text → (get_or text n 0 ≡ 10 → ⊥)
     → (get_or text n 0 ≡ 45 → begins is_hyphen (drop (n + 1) text) ≡ false)
     → GoesOn is_remark_rest text n → GoesOn is_remark_rest text (n + 1)
-remark_step text n here plain alone = scan_step is_remark_rest text n here (λ k. one (get_or text n 0) k (drop (n + 1) text) plain alone)
-  where
-    one : (c k : ℕ) (s : List ℕ) → (c ≡ 10 → ⊥) → (c ≡ 45 → begins is_hyphen s ≡ false) → is_remark_rest (c ∷ take k s) ≡ is_remark_rest (take k s)
-    one c k s plain alone =
-        ap (λ b. cond b false (cond (is_hyphen c && begins is_hyphen (take k s)) (list_all is_hyphen (take k s)) (is_remark_rest (take k s))))
-        (ne_eqb c 10 plain)
-        ∙ ap (λ b. cond b (list_all is_hyphen (take k s)) (is_remark_rest (take k s))) (hyphen_alone is_hyphen c k s alone)
+remark_step text n here plain alone =
+    scan_step is_remark_rest text n here
+    (λ k. rw (ne_eqb (get_or text n 0) 10 plain, hyphen_alone is_hyphen (get_or text n 0) k (drop (n + 1) text) alone) refl)
 
 -- where a remark has ended, a closing run is all that may follow
 pub closing_run : (k : ℕ) (s : List ℕ) → IsRemarkEnd s → is_remark_rest (take k s) ≡ list_all is_hyphen (take k s)
 closing_run zero s h = refl
 closing_run (suc k) [] h = refl
-closing_run (suc zero) (c ∷ []) h = subst (λ d. is_remark_rest (d ∷ []) ≡ list_all is_hyphen (d ∷ [])) (sym h) refl
-closing_run (suc (suc k)) (c ∷ []) h = subst (λ d. is_remark_rest (d ∷ []) ≡ list_all is_hyphen (d ∷ [])) (sym h) refl
-closing_run (suc k) (c ∷ d ∷ cs) (inl newline) = subst (λ e. is_remark_rest (e ∷ take k (d ∷ cs)) ≡ list_all is_hyphen (e ∷ take k (d ∷ cs))) (sym newline) refl
-closing_run (suc zero) (c ∷ d ∷ cs) (inr run) = subst (λ e. is_remark_rest (e ∷ []) ≡ list_all is_hyphen (e ∷ [])) (sym run.0) refl
-closing_run (suc (suc k)) (c ∷ d ∷ cs) (inr run) =
-    subst (λ e. is_remark_rest (e ∷ d ∷ take k cs) ≡ list_all is_hyphen (e ∷ d ∷ take k cs)) (sym run.0)
-    (subst (λ e. is_remark_rest (45 ∷ e ∷ take k cs) ≡ list_all is_hyphen (45 ∷ e ∷ take k cs)) (sym run.1) refl)
+closing_run (suc zero) (c ∷ []) h = rw h refl
+closing_run (suc (suc k)) (c ∷ []) h = rw h refl
+closing_run (suc k) (c ∷ d ∷ cs) (inl newline) = rw newline refl
+closing_run (suc zero) (c ∷ d ∷ cs) (inr run) = rw run.0 refl
+closing_run (suc (suc k)) (c ∷ d ∷ cs) (inr run) = rw (run.0, run.1) refl
 
 -- ---- comments
 
@@ -144,16 +126,12 @@ remark_begins (suc k) (c ∷ cs) h = ap (λ b. cond b (is_comment_rest (take k c
 
 -- no hyphen stands behind the longest run
 pub run_closed : (text : List ℕ) (n : ℕ) → IsLongestPassing (list_all is_hyphen) text n → begins is_hyphen (drop n text) ≡ false
-run_closed text n front = closed (cases_lt n (length text))
-  where
-    closed : (n < length text) ⊎ (length text ≤ n) → begins is_hyphen (drop n text) ≡ false
-    closed (inr past) = begins_past is_hyphen text n past
-    closed (inl here) = begins_at is_hyphen text n here ∙ unequal (is_hyphen (get_or text n 0)) refl
-      where
-        unequal : (b : Bool) → is_hyphen (get_or text n 0) ≡ b → is_hyphen (get_or text n 0) ≡ false
-        unequal false h = h
-        unequal true h = absurd (false≢true (sym (front.longest (n + 1) (omega arith) (omega arith)) ∙ list_all_more is_hyphen text n 0 here
-            ∙ ap (λ b. b && is_hyphen (get_or text n 0)) front.passes ∙ h))
+run_closed text n front =
+    elim (cases_lt n (length text)) [
+      | inl here ↦ begins_at is_hyphen text n here ∙ false_from_ne_true (is_hyphen (get_or text n 0)) (λ h.
+          false≢true (sym (front.longest (n + 1) (omega arith) (omega arith)) ∙ list_all_more is_hyphen text n 0 here ∙ rw (front.passes, h) refl))
+      | inr past ↦ begins_past is_hyphen text n past
+    ]
 
 -- a comment behind its first two hyphens: the opening run, the remark, the closing run
 pub comment_front : (text remark closing : List ℕ) (o n r : ℕ) → IsLongestPassing (list_all is_hyphen) text o → remark ≡ drop o text

@@ -1,5 +1,5 @@
 -- What marks take of the items of a text, and what they say of its tokens.
-use Rattle.std.proofs.Common.{◌≡◌, ℕ, List, [], ◌∷◌, Some, None, Ok, Err, refl, ap}
+use Rattle.std.proofs.Common.{◌≡◌, List, [], ◌∷◌, ◌++◌, Some, None, Ok, Err, refl, ap}
 use Rattle.std.specs.Prelude.{map}
 use Rattle.smi_text.specs.lexer.Token.{Lexeme, Item, tokens_of, first_fault}
 use Rattle.smi_text.specs.trees.Mark.{Mark, Stands}
@@ -7,15 +7,13 @@ use Rattle.smi_text.specs.trees.Spelling.{spelling}
 use Rattle.smi_text.specs.declared.trees.tree.Module.{Module}
 use Rattle.smi_text.specs.Format.{StandsAhead}
 use Rattle.smi_text.specs.Grammar.{file}
-use Rattle.smi_text.specs.Returned.{RepeatsIn, RepeatsAgain}
-use Rattle.smi_text.specs.Text.{HasSecond, DefinesAgain}
 use Rattle.smi_text.proofs.DefinitionLists.{file-reads}
 
 -- tokens of which none is a fault
-abbrev all_tokens : List Lexeme → List Item
+abbrev pub all_tokens : List Lexeme → List Item
 all_tokens ts = map (λ t. Ok t) ts
 
-taken-tokens : (ms : List Mark) (ts rest : List Lexeme) → Stands ms ts rest → StandsAhead ms (all_tokens ts) (all_tokens rest)
+pub taken-tokens : (ms : List Mark) (ts rest : List Lexeme) → Stands ms ts rest → StandsAhead ms (all_tokens ts) (all_tokens rest)
 taken-tokens [] ts rest h = ap all_tokens h
 taken-tokens (m ∷ ms) [] rest h = h
 taken-tokens (m ∷ ms) (t ∷ ts) rest h = (h.0, taken-tokens ms ts rest h.1)
@@ -44,25 +42,8 @@ taken-no_fault (m ∷ ms) [] h = refl
 taken-no_fault (m ∷ ms) (Err f ∷ items) h = absurd h
 taken-no_fault (m ∷ ms) (Ok t ∷ items) h = taken-no_fault ms items h.1
 
-second-token : (line : ℕ) (items : List Item) → RepeatsIn line items → HasSecond line (tokens_of items)
-second-token line items r = record {
-  before = r.before;
-  once = r.once;
-  second = r.second;
-  rest = tokens_of r.rest;
-  stands = taken-stands _ items r.rest r.stands;
-  defined = r.defined;
-  on_line = r.on_line;
-}
-
-pub double-token : (line : ℕ) (items : List Item) → RepeatsAgain line items → DefinesAgain line (tokens_of items)
-double-token line items r = record {
-  modules = r.modules;
-  once = r.once;
-  name = r.name;
-  heading = r.heading;
-  imports = r.imports;
-  body = tokens_of r.body;
-  stands = taken-stands _ items r.body r.stands;
-  twice = second-token line r.body r.twice;
-}
+-- marks one after the other
+pub Stands-append : (xs ys : List Mark) (ts mid rest : List Lexeme) → Stands xs ts mid → Stands ys mid rest → Stands (xs ++ ys) ts rest
+Stands-append [] ys ts mid rest h k = rw h k
+Stands-append (x ∷ xs) ys [] mid rest h k = absurd h
+Stands-append (x ∷ xs) ys (t ∷ ts) mid rest h k = (h.0, Stands-append xs ys ts mid rest h.1 k)

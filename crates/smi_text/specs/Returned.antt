@@ -2,19 +2,18 @@
 use Rattle.std.specs.Prelude.{◌≡◌, ℕ, Bool, true, false, List, [], ◌∷◌, ◌++◌, Option, Some, None}
 use Rattle.std.specs.Prelude.{Result, Ok, Err}
 use Rattle.std.specs.Borrow.{Bor}
-use Rattle.smi_text.specs.lexer.Token.{Lexeme, Item}
-use Rattle.std.specs.List.{flat_map, list_any}
+use Rattle.smi_text.specs.lexer.Token.{Lexeme, Item, tokens_of}
 use Rattle.smi_text.specs.declared.stop.Stop.{Stop}
 use Rattle.smi_text.specs.declared.stop.Stop.TheVariants.{Syntax, Lex, Memory}
 use Rattle.smi_text.specs.declared.error.ParseError.{ParseError}
 use Rattle.smi_text.specs.declared.error.ParseError.TheVariants as E
-use Rattle.smi_text.specs.trees.Mark.{same_text}
-use Rattle.smi_text.specs.Format.{Parsed, StandsAhead, token_ahead, begins, many}
+use Rattle.smi_text.specs.trees.Mark.{Stands}
+use Rattle.smi_text.specs.Format.{Parsed, token_ahead, begins, many}
 use Rattle.smi_text.specs.Grammar.{definition, module_text, file}
-use Rattle.smi_text.specs.trees.Spelling.{of_def, of_head, spelling}
+use Rattle.smi_text.specs.trees.Spelling.{of_head}
 use Rattle.smi_text.specs.trees.Lookup.{labels, are_distinct}
 use Rattle.smi_text.specs.declared.trees.names.Name.{Name}
-use Rattle.smi_text.specs.Text.{HasNoDoubles, BreaksOff}
+use Rattle.smi_text.specs.Text.{HasNoDoubles, BreaksOff, HasSecond, DefinesAgain}
 use Rattle.smi_text.specs.declared.trees.tree.Module.{Module}
 use Rattle.smi_text.specs.declared.trees.tree.Part.{Part}
 use Rattle.smi_text.specs.declared.trees.tree.Import.{Import}
@@ -53,17 +52,6 @@ abbrev pub IsLabelAhead : Option (Bor (List ℕ)) → List Item → Type 0
 IsLabelAhead None tokens = begins definition.first tokens ≡ false
 IsLabelAhead (Some x) tokens = (begins definition.first tokens ≡ true) × (x.now ≡ text_ahead tokens)
 
--- the items begin with definitions; the last of them stands on this line, and is the first to
--- define a name a second time
-pub record RepeatsIn (line : ℕ) (items : List Item) : Type 0 where
-  pub before : List Def
-  pub once : are_distinct (labels before) ≡ true
-  pub second : Def
-  pub rest : List Item
-  pub stands : StandsAhead (flat_map of_def before ++ of_def second) items rest
-  pub defined : list_any (same_text second.label.octets) (labels before) ≡ true
-  pub on_line : second.line ≡ line
-
 pub record ReadsDefinitions (defs : List Def) (tokens rest : List Item) : Type 0 where
   pub read : (many definition).read tokens ≡ Some (defs, rest)
   pub distinct : are_distinct (labels defs) ≡ true
@@ -92,7 +80,7 @@ NewDefinitionFault E.Memory defined tokens = Unit {0}
 abbrev pub DefinitionsFault : ParseError → List Item → Type 0
 DefinitionsFault (E.Lex fault) tokens = (many definition).read tokens ≡ None
 DefinitionsFault (E.Syntax line) tokens = (many definition).read tokens ≡ None
-DefinitionsFault (E.DoubleName line) tokens = RepeatsIn line tokens
+DefinitionsFault (E.DoubleName line) tokens = HasSecond line (tokens_of tokens)
 DefinitionsFault E.Memory tokens = Unit {0}
 
 pub record ReadsModule (m : Module) (tokens rest : List Item) : Type 0 where
@@ -100,39 +88,28 @@ pub record ReadsModule (m : Module) (tokens rest : List Item) : Type 0 where
   pub distinct : are_distinct (labels m.defs) ≡ true
 
 -- a module up to the second definition of a name
-pub record OpensTwice (line : ℕ) (tokens : List Item) : Type 0 where
+pub record OpensTwice (line : ℕ) (tokens : List Lexeme) : Type 0 where
   pub name : Name
   pub heading : Option (List Part)
   pub imports : Option (List Import)
-  pub body : List Item
-  pub stands : StandsAhead (of_head name heading imports) tokens body
-  pub twice : RepeatsIn line body
+  pub body : List Lexeme
+  pub stands : Stands (of_head name heading imports) tokens body
+  pub twice : HasSecond line body
 
 abbrev pub ModuleFault : ParseError → List Item → Type 0
 ModuleFault (E.Lex fault) tokens = module_text.read tokens ≡ None
 ModuleFault (E.Syntax line) tokens = module_text.read tokens ≡ None
-ModuleFault (E.DoubleName line) tokens = OpensTwice line tokens
+ModuleFault (E.DoubleName line) tokens = OpensTwice line (tokens_of tokens)
 ModuleFault E.Memory tokens = Unit {0}
 
 pub record ReadsModules (ms : List Module) (tokens : List Item) : Type 0 where
   pub read : file.read tokens ≡ Some (ms, [])
   pub distinct : HasNoDoubles ms
 
--- such definitions stand in a module, after modules none of which defines a name twice
-pub record RepeatsAgain (line : ℕ) (items : List Item) : Type 0 where
-  pub modules : List Module
-  pub once : HasNoDoubles modules
-  pub name : Name
-  pub heading : Option (List Part)
-  pub imports : Option (List Import)
-  pub body : List Item
-  pub stands : StandsAhead (spelling modules ++ of_head name heading imports) items body
-  pub twice : RepeatsIn line body
-
 abbrev pub ModulesFault : ParseError → List Item → Type 0
 ModulesFault (E.Lex fault) tokens = (ms : List Module) → file.read tokens ≡ Some (ms, []) → ⊥
 ModulesFault (E.Syntax line) tokens = (ms : List Module) → file.read tokens ≡ Some (ms, []) → ⊥
-ModulesFault (E.DoubleName line) tokens = RepeatsAgain line tokens
+ModulesFault (E.DoubleName line) tokens = DefinesAgain line (tokens_of tokens)
 ModulesFault E.Memory tokens = Unit {0}
 
 -- the error that is reported for the one with which the reading of a text stopped: for one of the

@@ -8,14 +8,7 @@ use Rattle.std.specs.List.{list_all}
 use Rattle.std.specs.Char.{is_ascii_lowercase, is_ascii_uppercase, is_ascii_digit}
 use Rattle.std.specs.Char.{is_ascii_hexdigit, is_ascii_alphanumeric}
 use Rattle.smi_text.specs.declared.lexer.token.TokenKind.{TokenKind}
-use Rattle.smi_text.specs.declared.lexer.token.TokenKind.TheVariants.{Lower, Upper, Number, Text}
-use Rattle.smi_text.specs.declared.lexer.token.TokenKind.TheVariants.{Hex, Binary, Assign, Range}
-use Rattle.smi_text.specs.declared.lexer.token.TokenKind.TheVariants.{OpenBrace, CloseBrace}
-use Rattle.smi_text.specs.declared.lexer.token.TokenKind.TheVariants.{OpenParen, CloseParen}
-use Rattle.smi_text.specs.declared.lexer.token.TokenKind.TheVariants.{OpenBracket, CloseBracket}
-use Rattle.smi_text.specs.declared.lexer.token.TokenKind.TheVariants.{Less, Greater, Comma}
-use Rattle.smi_text.specs.declared.lexer.token.TokenKind.TheVariants.{Semicolon, Colon, Bar, Dot}
-use Rattle.smi_text.specs.declared.lexer.token.TokenKind.TheVariants.{Equals}
+use Rattle.smi_text.specs.declared.lexer.token.TokenKind.TheVariants as K
 use lib.Chars.{codes}
 
 -- ---- octets
@@ -72,28 +65,28 @@ IsLiteral is_digit upper lower text = (digits : List ℕ) × (letter : ℕ)
     × IsTrue (list_all is_digit digits) × ((letter ≡ upper) ⊎ (letter ≡ lower))
 
 abbrev pub IsLexeme : TokenKind → List ℕ → Type 0
-IsLexeme Lower text = IsWord is_ascii_lowercase text
-IsLexeme Upper text = IsWord is_ascii_uppercase text
-IsLexeme Number text = IsNumber text
-IsLexeme Text text = IsString text
-IsLexeme Hex text = IsLiteral is_ascii_hexdigit 72 104 text
-IsLexeme Binary text = IsLiteral is_binary_digit 66 98 text
-IsLexeme Assign text = text ≡ codes "::="
-IsLexeme Range text = text ≡ codes ".."
-IsLexeme OpenBrace text = text ≡ codes "{"
-IsLexeme CloseBrace text = text ≡ codes "}"
-IsLexeme OpenParen text = text ≡ codes "("
-IsLexeme CloseParen text = text ≡ codes ")"
-IsLexeme OpenBracket text = text ≡ codes "["
-IsLexeme CloseBracket text = text ≡ codes "]"
-IsLexeme Less text = text ≡ codes "<"
-IsLexeme Greater text = text ≡ codes ">"
-IsLexeme Comma text = text ≡ codes ","
-IsLexeme Semicolon text = text ≡ codes ";"
-IsLexeme Colon text = text ≡ codes ":"
-IsLexeme Bar text = text ≡ codes "|"
-IsLexeme Dot text = text ≡ codes "."
-IsLexeme Equals text = text ≡ codes "="
+IsLexeme K.Lower text = IsWord is_ascii_lowercase text
+IsLexeme K.Upper text = IsWord is_ascii_uppercase text
+IsLexeme K.Number text = IsNumber text
+IsLexeme K.Text text = IsString text
+IsLexeme K.Hex text = IsLiteral is_ascii_hexdigit 72 104 text
+IsLexeme K.Binary text = IsLiteral is_binary_digit 66 98 text
+IsLexeme K.Assign text = text ≡ codes "::="
+IsLexeme K.Range text = text ≡ codes ".."
+IsLexeme K.OpenBrace text = text ≡ codes "{"
+IsLexeme K.CloseBrace text = text ≡ codes "}"
+IsLexeme K.OpenParen text = text ≡ codes "("
+IsLexeme K.CloseParen text = text ≡ codes ")"
+IsLexeme K.OpenBracket text = text ≡ codes "["
+IsLexeme K.CloseBracket text = text ≡ codes "]"
+IsLexeme K.Less text = text ≡ codes "<"
+IsLexeme K.Greater text = text ≡ codes ">"
+IsLexeme K.Comma text = text ≡ codes ","
+IsLexeme K.Semicolon text = text ≡ codes ";"
+IsLexeme K.Colon text = text ≡ codes ":"
+IsLexeme K.Bar text = text ≡ codes "|"
+IsLexeme K.Dot text = text ≡ codes "."
+IsLexeme K.Equals text = text ≡ codes "="
 
 -- ---- gaps
 

@@ -10,18 +10,9 @@ use Rattle.std.specs.Bool.{then_some}
 use Rattle.std.specs.Char.{is_ascii_lowercase, is_ascii_uppercase, is_ascii_digit}
 use Rattle.std.specs.Char.{is_ascii_hexdigit}
 use Rattle.smi_text.specs.declared.lexer.class.Class.{Class}
-use Rattle.smi_text.specs.declared.lexer.class.Class.TheVariants.{Blank, Lowercase, Uppercase}
-use Rattle.smi_text.specs.declared.lexer.class.Class.TheVariants.{Digit, Hyphen, Quote}
-use Rattle.smi_text.specs.declared.lexer.class.Class.TheVariants.{Apostrophe, Symbol, Other}
+use Rattle.smi_text.specs.declared.lexer.class.Class.TheVariants as C
 use Rattle.smi_text.specs.declared.lexer.token.TokenKind.{TokenKind}
-use Rattle.smi_text.specs.declared.lexer.token.TokenKind.TheVariants.{Lower, Upper, Number, Text}
-use Rattle.smi_text.specs.declared.lexer.token.TokenKind.TheVariants.{Hex, Binary, Assign, Range}
-use Rattle.smi_text.specs.declared.lexer.token.TokenKind.TheVariants.{OpenBrace, CloseBrace}
-use Rattle.smi_text.specs.declared.lexer.token.TokenKind.TheVariants.{OpenParen, CloseParen}
-use Rattle.smi_text.specs.declared.lexer.token.TokenKind.TheVariants.{OpenBracket, CloseBracket}
-use Rattle.smi_text.specs.declared.lexer.token.TokenKind.TheVariants.{Less, Greater, Comma}
-use Rattle.smi_text.specs.declared.lexer.token.TokenKind.TheVariants.{Semicolon, Colon, Bar, Dot}
-use Rattle.smi_text.specs.declared.lexer.token.TokenKind.TheVariants.{Equals}
+use Rattle.smi_text.specs.declared.lexer.token.TokenKind.TheVariants as K
 use Rattle.smi_text.specs.lexer.Token.{Lexeme, Item}
 use Rattle.smi_text.specs.lexer.Lexes.{fault_on}
 use Rattle.smi_text.specs.lexer.Lexeme.{Part, gap, lexeme, is_blank, is_hyphen, is_newline}
@@ -32,25 +23,25 @@ use Rattle.smi_text.specs.lexer.Lexeme.{is_binary_digit, begins, is_word_rest}
 -- the symbols of one octet
 abbrev pub symbols : List (ℕ × TokenKind)
 symbols =
-    (123, OpenBrace) ∷ (125, CloseBrace) ∷ (40, OpenParen) ∷ (41, CloseParen) ∷
-    (91, OpenBracket) ∷ (93, CloseBracket)
-    ∷ (60, Less) ∷ (62, Greater) ∷ (44, Comma) ∷ (59, Semicolon) ∷ (58, Colon) ∷ (124, Bar) ∷
-    (46, Dot) ∷ (61, Equals) ∷ []
+    (123, K.OpenBrace) ∷ (125, K.CloseBrace) ∷ (40, K.OpenParen) ∷ (41, K.CloseParen) ∷
+    (91, K.OpenBracket) ∷ (93, K.CloseBracket)
+    ∷ (60, K.Less) ∷ (62, K.Greater) ∷ (44, K.Comma) ∷ (59, K.Semicolon) ∷ (58, K.Colon) ∷ (124, K.Bar) ∷
+    (46, K.Dot) ∷ (61, K.Equals) ∷ []
 
 abbrev pub symbol_among : List (ℕ × TokenKind) → ℕ → Class
-symbol_among [] c = Other
-symbol_among (symbol ∷ others) c = if c == symbol.0 then Symbol symbol.1 else symbol_among others c
+symbol_among [] c = C.Other
+symbol_among (symbol ∷ others) c = if c == symbol.0 then C.Symbol symbol.1 else symbol_among others c
 
 -- what an octet may begin
 abbrev pub class_of : ℕ → Class
 class_of c =
-    if is_blank c then Blank
-    else (if is_ascii_lowercase c then Lowercase
-    else (if is_ascii_uppercase c then Uppercase
-    else (if is_ascii_digit c then Digit
-    else (if c == 45 then Hyphen
-    else (if c == 34 then Quote
-    else (if c == 39 then Apostrophe
+    if is_blank c then C.Blank
+    else (if is_ascii_lowercase c then C.Lowercase
+    else (if is_ascii_uppercase c then C.Uppercase
+    else (if is_ascii_digit c then C.Digit
+    else (if c == 45 then C.Hyphen
+    else (if c == 34 then C.Quote
+    else (if c == 39 then C.Apostrophe
     else symbol_among symbols c))))))
 
 abbrev pub is_nothing : List ℕ → Bool
@@ -92,41 +83,41 @@ abbrev pub is_binary_letter : ℕ → Bool
 is_binary_letter c = c == 66 || c == 98
 
 abbrev pub string_part : List ℕ → Option Part
-string_part cs = then_some (is_string_rest cs) (lexeme Text)
+string_part cs = then_some (is_string_rest cs) (lexeme K.Text)
 
 abbrev pub literal_part : List ℕ → Option Part
 literal_part cs =
-    if is_literal_rest is_ascii_hexdigit is_hex_letter cs then Some (lexeme Hex)
-    else then_some (is_literal_rest is_binary_digit is_binary_letter cs) (lexeme Binary)
+    if is_literal_rest is_ascii_hexdigit is_hex_letter cs then Some (lexeme K.Hex)
+    else then_some (is_literal_rest is_binary_digit is_binary_letter cs) (lexeme K.Binary)
 
 -- the kind of literal that these digits and this letter make, if they make one
 abbrev pub literal_of : List ℕ → ℕ → Option Part
 literal_of digits letter =
-    if list_all is_ascii_hexdigit digits && is_hex_letter letter then Some (lexeme Hex)
-    else then_some (list_all is_binary_digit digits && is_binary_letter letter) (lexeme Binary)
+    if list_all is_ascii_hexdigit digits && is_hex_letter letter then Some (lexeme K.Hex)
+    else then_some (list_all is_binary_digit digits && is_binary_letter letter) (lexeme K.Binary)
 
 abbrev pub hyphen_part : List ℕ → Option Part
 hyphen_part [] = None
 hyphen_part (c ∷ cs) = if is_hyphen c then then_some (is_comment_rest cs) gap else then_some
-    (list_all is_ascii_digit (c ∷ cs)) (lexeme Number)
+    (list_all is_ascii_digit (c ∷ cs)) (lexeme K.Number)
 
 abbrev pub symbol_part : TokenKind → List ℕ → Option Part
 symbol_part kind [] = Some (lexeme kind)
-symbol_part Colon (c ∷ cs) = then_some (c == 58 && is_sole (λ d. d == 61) cs) (lexeme Assign)
-symbol_part Dot (c ∷ cs) = then_some (c == 46 && is_nothing cs) (lexeme Range)
+symbol_part K.Colon (c ∷ cs) = then_some (c == 58 && is_sole (λ d. d == 61) cs) (lexeme K.Assign)
+symbol_part K.Dot (c ∷ cs) = then_some (c == 46 && is_nothing cs) (lexeme K.Range)
 symbol_part _ (c ∷ cs) = None
 
 -- the part that an octet of this class and the octets after it are, if they are one
 abbrev pub part_in : Class → List ℕ → Option Part
-part_in Blank cs = then_some (is_nothing cs) gap
-part_in Lowercase cs = then_some (is_word_rest cs) (lexeme Lower)
-part_in Uppercase cs = then_some (is_word_rest cs) (lexeme Upper)
-part_in Digit cs = then_some (list_all is_ascii_digit cs) (lexeme Number)
-part_in Hyphen cs = hyphen_part cs
-part_in Quote cs = string_part cs
-part_in Apostrophe cs = literal_part cs
-part_in (Symbol kind) cs = symbol_part kind cs
-part_in Other cs = None
+part_in C.Blank cs = then_some (is_nothing cs) gap
+part_in C.Lowercase cs = then_some (is_word_rest cs) (lexeme K.Lower)
+part_in C.Uppercase cs = then_some (is_word_rest cs) (lexeme K.Upper)
+part_in C.Digit cs = then_some (list_all is_ascii_digit cs) (lexeme K.Number)
+part_in C.Hyphen cs = hyphen_part cs
+part_in C.Quote cs = string_part cs
+part_in C.Apostrophe cs = literal_part cs
+part_in (C.Symbol kind) cs = symbol_part kind cs
+part_in C.Other cs = None
 
 unfoldable pub part_of : List ℕ → Option Part
 part_of [] = None

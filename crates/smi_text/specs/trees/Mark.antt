@@ -2,40 +2,33 @@
 use Rattle.std.specs.Prelude.{◌≡◌, ℕ, ◌==◌, Bool, true, List, [], ◌∷◌, codes}
 use Rattle.std.specs.Str.{bytes_eq}
 use Rattle.smi_text.specs.declared.lexer.token.TokenKind.{TokenKind}
-use Rattle.smi_text.specs.declared.lexer.token.TokenKind.TheVariants.{Lower, Upper, Number, Text}
-use Rattle.smi_text.specs.declared.lexer.token.TokenKind.TheVariants.{Hex, Binary, Assign, Range}
-use Rattle.smi_text.specs.declared.lexer.token.TokenKind.TheVariants.{OpenBrace, CloseBrace}
-use Rattle.smi_text.specs.declared.lexer.token.TokenKind.TheVariants.{OpenParen, CloseParen}
-use Rattle.smi_text.specs.declared.lexer.token.TokenKind.TheVariants.{OpenBracket, CloseBracket}
-use Rattle.smi_text.specs.declared.lexer.token.TokenKind.TheVariants.{Less, Greater, Comma}
-use Rattle.smi_text.specs.declared.lexer.token.TokenKind.TheVariants.{Semicolon, Colon, Bar, Dot}
-use Rattle.smi_text.specs.declared.lexer.token.TokenKind.TheVariants.{Equals}
+use Rattle.smi_text.specs.declared.lexer.token.TokenKind.TheVariants as K
 use Rattle.smi_text.specs.lexer.Token.{Lexeme}
 
 -- the number of a kind among the kinds
 abbrev pub kind_number : TokenKind → ℕ
-kind_number Lower = 0
-kind_number Upper = 1
-kind_number Number = 2
-kind_number Text = 3
-kind_number Hex = 4
-kind_number Binary = 5
-kind_number Assign = 6
-kind_number Range = 7
-kind_number OpenBrace = 8
-kind_number CloseBrace = 9
-kind_number OpenParen = 10
-kind_number CloseParen = 11
-kind_number OpenBracket = 12
-kind_number CloseBracket = 13
-kind_number Less = 14
-kind_number Greater = 15
-kind_number Comma = 16
-kind_number Semicolon = 17
-kind_number Colon = 18
-kind_number Bar = 19
-kind_number Dot = 20
-kind_number Equals = 21
+kind_number K.Lower = 0
+kind_number K.Upper = 1
+kind_number K.Number = 2
+kind_number K.Text = 3
+kind_number K.Hex = 4
+kind_number K.Binary = 5
+kind_number K.Assign = 6
+kind_number K.Range = 7
+kind_number K.OpenBrace = 8
+kind_number K.CloseBrace = 9
+kind_number K.OpenParen = 10
+kind_number K.CloseParen = 11
+kind_number K.OpenBracket = 12
+kind_number K.CloseBracket = 13
+kind_number K.Less = 14
+kind_number K.Greater = 15
+kind_number K.Comma = 16
+kind_number K.Semicolon = 17
+kind_number K.Colon = 18
+kind_number K.Bar = 19
+kind_number K.Dot = 20
+kind_number K.Equals = 21
 
 abbrev pub same_kind : TokenKind → TokenKind → Bool
 same_kind a b = kind_number a == kind_number b
@@ -47,22 +40,22 @@ same_text = bytes_eq
 -- the text of a sign, whose kind has one; a word, a number, a string and a literal have theirs from
 -- the tree
 abbrev pub sign_text : TokenKind → List ℕ
-sign_text Assign = codes "::="
-sign_text Range = codes ".."
-sign_text OpenBrace = codes "{"
-sign_text CloseBrace = codes "}"
-sign_text OpenParen = codes "("
-sign_text CloseParen = codes ")"
-sign_text OpenBracket = codes "["
-sign_text CloseBracket = codes "]"
-sign_text Less = codes "<"
-sign_text Greater = codes ">"
-sign_text Comma = codes ","
-sign_text Semicolon = codes ";"
-sign_text Colon = codes ":"
-sign_text Bar = codes "|"
-sign_text Dot = codes "."
-sign_text Equals = codes "="
+sign_text K.Assign = codes "::="
+sign_text K.Range = codes ".."
+sign_text K.OpenBrace = codes "{"
+sign_text K.CloseBrace = codes "}"
+sign_text K.OpenParen = codes "("
+sign_text K.CloseParen = codes ")"
+sign_text K.OpenBracket = codes "["
+sign_text K.CloseBracket = codes "]"
+sign_text K.Less = codes "<"
+sign_text K.Greater = codes ">"
+sign_text K.Comma = codes ","
+sign_text K.Semicolon = codes ";"
+sign_text K.Colon = codes ":"
+sign_text K.Bar = codes "|"
+sign_text K.Dot = codes "."
+sign_text K.Equals = codes "="
 sign_text _ = []
 
 -- what the tree says of one token

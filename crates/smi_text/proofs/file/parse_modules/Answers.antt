@@ -1,5 +1,5 @@
-use Rattle.std.proofs.Common.{◌≡◌, ℕ, List, [], Some, ◌∙◌, sym, ap, subst}
-use Rattle.smi_text.specs.lexer.Token.{Item, tokens_of, first_fault}
+use Rattle.std.proofs.Common.{◌≡◌, ℕ, List, [], Some, ◌∙◌, sym, ap}
+use Rattle.smi_text.specs.lexer.Token.{Item, tokens_of}
 use Rattle.smi_text.specs.lexer.Lexes.{Lexes}
 use Rattle.smi_text.specs.declared.error.ParseError.{ParseError}
 use Rattle.smi_text.specs.declared.error.ParseError.TheVariants as E
@@ -13,15 +13,15 @@ use Rattle.smi_text.proofs.Laws.{some-inj}
 use Rattle.smi_text.proofs.DefinitionLists.{file-reads}
 use Rattle.smi_text.proofs.ProductionLaws.{file-law}
 use Rattle.smi_text.proofs.Doubles.{file-twice}
-use Rattle.smi_text.proofs.Tokens.{taken-whole, taken-stands, taken-no_fault, double-token}
+use Rattle.smi_text.proofs.Tokens.{taken-whole, taken-stands, taken-no_fault, tokens-read}
 use Rattle.smi_text.proofs.file.parse_modules.Goals as goal
 
 module _ (text : List ℕ) (items : List Item) (lexed : Lexes [] text items) (sole : (others : List Item) → Lexes [] text others → others ≡ items) where
+  spelled : (ms : List Module) → AreSpelledBy ms text → Stands (spelling ms) (tokens_of items) []
+  spelled ms s = rw (sole s.items s.lexed) at s.spelled
+
   reads : (ms : List Module) → AreSpelledBy ms text → file.read items ≡ Some (ms, [])
-  reads ms s =
-      let same : s.items ≡ items = sole s.items s.lexed in
-      let P : List Item → Type 0 = λ ts. Stands (spelling ms) (tokens_of ts) [] in
-      file-reads ms items (taken-whole (spelling ms) items (ap first_fault (sym same) ∙ s.whole) (subst P same s.spelled))
+  reads ms s = file-reads ms items (taken-whole (spelling ms) items (rw (sole s.items s.lexed) at s.whole) (spelled ms s))
 
   found : (ms : List Module) → ReadsModules ms items → AreSpelledBy ms text × HasNoDoubles ms
   found ms r =
@@ -47,17 +47,15 @@ module _ (text : List ℕ) (items : List Item) (lexed : Lexes [] text items) (so
 
   cause : (stop error : ParseError) → ModulesFault stop items → IsCauseOf stop error text → IsCause error text
   cause (E.Lex fault) error f e = lex-cause error f e
-  cause (E.Syntax line) error f e = let P : ParseError → Type 0 = λ r. IsCause r text in subst P (sym e) (λ ms s. f ms (reads ms s))
-  cause (E.DoubleName line) error f e =
-      let P : ParseError → Type 0 = λ r. IsCause r text in
-      subst P (sym e) (record { items = items; lexed = lexed; again = double-token line items f })
-  cause E.Memory error f e = let P : ParseError → Type 0 = λ r. IsCause r text in subst P (sym e) tt
+  cause (E.Syntax line) error f e = rw e (λ ms s. f ms (reads ms s))
+  cause (E.DoubleName line) error f e = rw e (record { items = items; lexed = lexed; again = f })
+  cause E.Memory error f e = rw e tt
 
   refused : (stop error : ParseError) → ModulesFault stop items → IsCauseOf stop error text → (ms : List Module) → AreSpelledBy ms text → HasNoDoubles ms
       → error ≡ E.Memory
   refused (E.Lex fault) error f e ms s n = absurd (f ms (reads ms s))
   refused (E.Syntax line) error f e ms s n = absurd (f ms (reads ms s))
-  refused (E.DoubleName line) error f e ms s n = absurd (file-twice line items f ms (reads ms s) n)
+  refused (E.DoubleName line) error f e ms s n = absurd (file-twice line (tokens_of items) f ms (tokens-read ms (tokens_of items) (spelled ms s)) n)
   refused E.Memory error f e ms s n = e
 
 pub returns-in-Ok-clause-found : goal.returns-in-Ok-clause-found
