@@ -1,6 +1,9 @@
 -- The first octet in which two words of eight differ: where the lowest bit is set in which they differ.
 use Rattle.std.proofs.Common.{◌≡◌, ℕ, zero, suc, ◌+◌, ◌-◌, ◌*◌, ◌/◌, ◌%◌, ◌^◌, ◌<◌, ◌≤◌, ◌⊎◌, inl}
-use Rattle.std.proofs.Common.{inr, List, [], ◌∷◌, get_or, refl, sym, ap, ◌∙◌, arith}
+use Rattle.std.proofs.Common.{inr, List, [], ◌∷◌, length, get_or, drop, refl, sym, ap, ◌∙◌, arith}
+use Rattle.std.proofs.Math.ListN.{get_or-eq_default}
+use Rattle.std.proofs.lemmas.Bool.{cases_lt}
+use Rattle.std.proofs.lemmas.List.{get_or-drop, get_or_append_left}
 use Rattle.std.specs.Int.{w64, bit_at, from_le_bytes, trailing_zeros}
 use Rattle.std.specs.Int.Bits.{bit_xor}
 use Rattle.std.specs.Int.Count.{trailing_of_zero}
@@ -9,6 +12,7 @@ use Rattle.std.proofs.lemmas.Nat.Bits.{bit_at_xor, bit_at-zero, bit_at-lt, bit_a
 use Rattle.std.proofs.lemmas.Nat.Bits.{bit_at_cat_high, bit_at-trailing_zeros}
 use Rattle.std.proofs.lemmas.Nat.Bits.{same_from_bits_below}
 use Rattle.snmp_wire.specs.ber.Canon.{eight_from}
+use Rattle.snmp_wire.proofs.IdentifierWriting.{eight_then}
 
 -- the number of octets, the lowest first
 word_of : List ℕ → ℕ
@@ -72,27 +76,15 @@ module _ (xs ys : List ℕ) (small : (i : ℕ) → get_or xs i 0 < 256) (other_s
       other_bit (word_of xs) (word_of ys) t (ap (λ m. bit_at m t) (sym is) ∙ lowest_set n fits low) bits
 
 -- one of the eight octets from a place on
-at_place : (octets : List ℕ) (at k : ℕ) → k < 8 → get_or (eight_from octets at) k 0 ≡ get_or octets (at + k) 0
-at_place octets at zero h = let e : at ≡ at + 0 = omega arith in ap (λ i. get_or octets i 0) e
-at_place octets at (suc zero) h = refl
-at_place octets at (suc (suc zero)) h = refl
-at_place octets at (suc (suc (suc zero))) h = refl
-at_place octets at (suc (suc (suc (suc zero)))) h = refl
-at_place octets at (suc (suc (suc (suc (suc zero))))) h = refl
-at_place octets at (suc (suc (suc (suc (suc (suc zero)))))) h = refl
-at_place octets at (suc (suc (suc (suc (suc (suc (suc zero))))))) h = refl
-at_place octets at (suc (suc (suc (suc (suc (suc (suc (suc k)))))))) h = absurd (omega arith)
+at_place : (octets : List ℕ) (at k : ℕ) → at + 8 ≤ length octets → k < 8 → get_or (eight_from octets at) k 0 ≡ get_or octets (at + k) 0
+at_place octets at k fits low = sym (get_or_append_left (eight_from octets at) (drop (at + 8) octets) 0 k low)
+    ∙ ap (λ (o : List ℕ). get_or o k 0) (sym (eight_then octets at fits)) ∙ get_or-drop at octets k 0
 
-eight_small : (octets : List ℕ) (at : ℕ) → ((i : ℕ) → get_or octets i 0 < 256) → (i : ℕ) → get_or (eight_from octets at) i 0 < 256
-eight_small octets at small zero = small at
-eight_small octets at small (suc zero) = small (at + 1)
-eight_small octets at small (suc (suc zero)) = small (at + 2)
-eight_small octets at small (suc (suc (suc zero))) = small (at + 3)
-eight_small octets at small (suc (suc (suc (suc zero)))) = small (at + 4)
-eight_small octets at small (suc (suc (suc (suc (suc zero))))) = small (at + 5)
-eight_small octets at small (suc (suc (suc (suc (suc (suc zero)))))) = small (at + 6)
-eight_small octets at small (suc (suc (suc (suc (suc (suc (suc zero))))))) = small (at + 7)
-eight_small octets at small (suc (suc (suc (suc (suc (suc (suc (suc i)))))))) = omega arith
+eight_small : (octets : List ℕ) (at : ℕ) → at + 8 ≤ length octets → ((i : ℕ) → get_or octets i 0 < 256) → (i : ℕ) → get_or (eight_from octets at) i 0 < 256
+eight_small octets at fits small i = elim (cases_lt i 8) [
+  | inl low ↦ omega (arith, at_place octets at i fits low, small (at + i))
+  | inr past ↦ omega (arith, get_or-eq_default (eight_from octets at) 0 past)
+]
 
 eight_word : (octets : List ℕ) (at : ℕ) → from_le_bytes w64 (eight_from octets at) ≡ word_of (eight_from octets at)
 unfolding word_of
@@ -104,23 +96,24 @@ pub record AreAlike (octets others : List ℕ) (at count : ℕ) : Type 0 where
   pub same : (k : ℕ) → k < count → get_or octets (at + k) 0 ≡ get_or others (at + k) 0
   pub first : count < 8 → get_or octets (at + count) 0 ≡ get_or others (at + count) 0 → ⊥
 
-pub words_alike : (octets others : List ℕ) (at n : ℕ) → ((i : ℕ) → get_or octets i 0 < 256) → ((i : ℕ) → get_or others i 0 < 256) → n < 2 ^ 64
+pub words_alike : (octets others : List ℕ) (at n : ℕ) → at + 8 ≤ length octets → at + 8 ≤ length others → ((i : ℕ) → get_or octets i 0 < 256)
+    → ((i : ℕ) → get_or others i 0 < 256) → n < 2 ^ 64
     → n ≡ bit_xor (from_le_bytes w64 (eight_from octets at)) (from_le_bytes w64 (eight_from others at))
     → AreAlike octets others at (trailing_zeros w64 n / 8)
-words_alike octets others at n small other_small fits is =
+words_alike octets others at n long other_long small other_small fits is =
     let xs : List ℕ = eight_from octets at in
     let ys : List ℕ = eight_from others at in
     let word : n ≡ bit_xor (word_of xs) (word_of ys) =
     is ∙ ap (λ a. bit_xor a (from_le_bytes w64 ys)) (eight_word octets at) ∙ ap (bit_xor (word_of xs)) (eight_word others at) in
     let most : trailing_zeros w64 n ≤ 64 = trailing_le 64 n in
+    let these : (i : ℕ) → get_or xs i 0 < 256 = eight_small octets at long small in
+    let those : (i : ℕ) → get_or ys i 0 < 256 = eight_small others at other_long other_small in
     record {
       most = omega arith;
       same = λ k low.
-          sym (at_place octets at k (omega arith))
-          ∙ same_before xs ys (eight_small octets at small) (eight_small others at other_small) n fits word k low
-          ∙ at_place others at k (omega arith);
+          sym (at_place octets at k long (omega arith)) ∙ same_before xs ys these those n fits word k low
+          ∙ at_place others at k other_long (omega arith);
       first = λ low same.
-          let within : trailing_zeros w64 n / 8 < 8 = low in
-          other_at xs ys (eight_small octets at small) (eight_small others at other_small) n fits word (omega arith)
-          (at_place octets at (trailing_zeros w64 n / 8) low ∙ same ∙ sym (at_place others at (trailing_zeros w64 n / 8) low));
+          other_at xs ys these those n fits word (omega arith) (at_place octets at (trailing_zeros w64 n / 8) long low ∙ same
+          ∙ sym (at_place others at (trailing_zeros w64 n / 8) other_long low));
     }

@@ -1,9 +1,11 @@
 -- Headers and elements behind contents whose sizes are known.
-use Rattle.std.proofs.Common.{◌≡◌, ℕ, ◌-◌, ◌≤◌, List, [], ◌∷◌, length, ap, subst, arith}
-use Rattle.snmp_wire.specs.ber.Canon.{canon_element, canon_header, canon_length}
+use Rattle.std.proofs.Common.{◌≡◌, ℕ, ℤ, ◌-◌, ◌<◌, ◌≤◌, List, [], ◌∷◌, length, sym, ap, subst}
+use Rattle.std.proofs.Common.{arith, append-nil, length-append}
+use Rattle.snmp_wire.specs.ber.Canon.{canon_element, canon_header, canon_length, canon_number}
 use Rattle.snmp_wire.specs.ber.ElementLaws.{header_fits, writes_element}
 use Rattle.snmp_wire.specs.ber.Writing.{Writes}
 use Rattle.snmp_wire.specs.ber.WritingLaws.{writes_same, writes_then}
+use Rattle.snmp_wire.proofs.StrictValues.{length-number}
 
 -- a tag before a length
 pub writes_tag : {old mid new : List ℕ} {start middle end : ℕ} (tag size : ℕ) → Writes old middle end (canon_length size) mid
@@ -23,3 +25,16 @@ pub writes_sized : {old mid new content : List ℕ} {start middle end : ℕ} (ta
 writes_sized {old} {mid} {new} {content} {start} {middle} {end} tag size e w v =
     let same : size ≡ end - middle = omega (arith, e, w.begins) in
     writes_element tag w (writes_same v (ap (canon_header tag) same))
+
+-- the content of a number is short
+pub number_short : {old new : List ℕ} {start end : ℕ} (z : ℤ) → Writes old start end (canon_number z) new → end - start < 128
+number_short {old} {new} {start} {end} z w = omega (arith, w.begins, length-number z)
+
+pub empty_fits : (tag end : ℕ) → length (canon_element tag []) ≤ end → length (canon_header tag 0) ≤ end
+unfolding canon_element
+empty_fits tag end room = omega (arith, room, length-append (canon_header tag 0) [])
+
+pub writes_empty : {old new : List ℕ} {start end : ℕ} (tag : ℕ) → Writes old start end (canon_header tag 0) new
+    → Writes old start end (canon_element tag []) new
+unfolding canon_element
+writes_empty {old} {new} {start} {end} tag w = writes_same w (sym (append-nil (canon_header tag 0)))

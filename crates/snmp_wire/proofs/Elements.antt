@@ -3,12 +3,11 @@
 use Rattle.std.proofs.Common.{◌≡◌, ℕ, ◌^◌, ◌<◌, List, [], ◌++◌, length, refl, sym, subst}
 use Rattle.snmp_wire.specs.ber.Canon.{canon_element, canon_value}
 use Rattle.snmp_wire.specs.ber.Length.{IsElement}
-use Rattle.snmp_wire.specs.ber.Number.{Form, lenient, strict}
+use Rattle.snmp_wire.specs.ber.Number.{Form, IsUnsigned, lenient, strict}
 use Rattle.snmp_wire.specs.ber.Range.{IsInRange, IsOfType}
-use Rattle.snmp_wire.specs.ber.Spelling.{SpellsValue}
-use Rattle.snmp_wire.specs.ber.Value.{Datum}
+use Rattle.snmp_wire.specs.ber.Spelling.{IsContent, SpellsValue}
+use Rattle.snmp_wire.specs.ber.Value.{Datum, counter32, gauge32, time_ticks, counter64}
 use Rattle.snmp_wire.proofs.Digits.{Octets, back_octets, both_octets, front_octets}
-use Rattle.snmp_wire.proofs.LenientValues.{value_is_read}
 use Rattle.snmp_wire.proofs.Shortest.{IsNoShorter, both_texts, content_octets, element_least}
 use Rattle.snmp_wire.proofs.Shortest.{same_text, value_least}
 use Rattle.snmp_wire.proofs.StrictValues.{element_octets, is_element, spells_value, value_octets}
@@ -45,6 +44,19 @@ AreOfType (value_then value more) = IsOfType value × AreOfType more
 AreOfType (element_then tag within more) = AreOfType within × AreOfType more
 
 -- what is spelt by the standard is read
+unsigned_is_read : {width : ℕ} {content : List ℕ} {n : ℕ} → IsUnsigned strict width content n → IsUnsigned lenient width content n
+unsigned_is_read is = record { some = is.some; few = is.few; value = is.value; allowed = tt }
+
+content_is_read : (value : Datum) (content : List ℕ) → IsContent strict value content → IsContent lenient value content
+content_is_read (counter32 n) content is = unsigned_is_read is
+content_is_read (gauge32 n) content is = unsigned_is_read is
+content_is_read (time_ticks n) content is = unsigned_is_read is
+content_is_read (counter64 n) content is = unsigned_is_read is
+content_is_read value content is = is
+
+value_is_read : (value : Datum) (text : List ℕ) → SpellsValue strict value text → SpellsValue lenient value text
+value_is_read value text is = record { content = is.content; is_content = content_is_read value is.content is.is_content; element = is.element }
+
 pub are_read : (all : Elements) (octets : List ℕ) → SpellsAll strict all octets → SpellsAll lenient all octets
 are_read no_elements octets is = is
 are_read (value_then value more) octets (first, rest, parts, this, others) =

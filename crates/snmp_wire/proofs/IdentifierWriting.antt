@@ -127,7 +127,7 @@ plain_then (x ∷ xs) ys h = ap (λ (o : List ℕ). o ++ flat_map canon_subident
 number_then : (numbers : List ℕ) (i next : ℕ) → i + 1 ≡ next → next ≤ length numbers → drop i numbers ≡ get_or numbers i 0 ∷ drop next numbers
 number_then numbers i next e h = drop_more numbers i 0 (omega (arith, e, h)) ∙ ap (λ k. get_or numbers i 0 ∷ drop k numbers) e
 
-eight_then : (numbers : List ℕ) (from : ℕ) → from + 8 ≤ length numbers → drop from numbers ≡ eight_from numbers from ++ drop (from + 8) numbers
+pub eight_then : (numbers : List ℕ) (from : ℕ) → from + 8 ≤ length numbers → drop from numbers ≡ eight_from numbers from ++ drop (from + 8) numbers
 eight_then numbers from h = rw (
   number_then numbers from (from + 1) (omega arith) (omega (arith, h)),
   number_then numbers (from + 1) (from + 2) (omega arith) (omega (arith, h)),

@@ -19,7 +19,6 @@ pub mod IdentifierLemmas
 pub mod IdentifierWriting
 pub mod KnownLemmas
 pub mod NumberCounting
-pub mod LenientValues
 pub mod Digits
 pub mod NameComparing
 pub mod NameContents
@@ -30,5 +29,4 @@ pub mod StrictIdentifiers
 pub mod StrictNumbers
 pub mod StrictValues
 pub mod ValueLaws
-pub mod ValueWriting
 pub mod WritingLemmas

@@ -248,12 +248,10 @@ pub first_differs : (ns ms content other : List ℕ) (at : ℕ) → Octets conte
 first_differs [] ms content other at h k are others alike low other_low first = absurd (omega (arith, ap length are, low))
 first_differs (n ∷ ns) [] content other at h k are others alike low other_low first = absurd (omega (arith, ap length others, other_low))
 first_differs (n ∷ ns) (m ∷ ms) content other at h k (text, rest, parts, is, are) (text2, rest2, parts2, is2, are2) alike low other_low first =
-    let all : Octets (text ++ rest) = subst Octets parts h in
-    let all2 : Octets (text2 ++ rest2) = subst Octets parts2 k in
-    let alike2 : IsAlike (text ++ rest) (text2 ++ rest2) at = subst (λ (t : List ℕ). IsAlike (text ++ rest) t at) parts2
-    (subst (λ (t : List ℕ). IsAlike t other at) parts alike) in
-    let first2 : EndsFirst (text ++ rest) (text2 ++ rest2) at = subst (λ (t : List ℕ). EndsFirst (text ++ rest) t at) parts2
-    (subst (λ (t : List ℕ). EndsFirst t other at) parts first) in
+    let all : Octets (text ++ rest) = rw parts at h in
+    let all2 : Octets (text2 ++ rest2) = rw parts2 at k in
+    let alike2 : IsAlike (text ++ rest) (text2 ++ rest2) at = rw (parts, parts2) at alike in
+    let first2 : EndsFirst (text ++ rest) (text2 ++ rest2) at = rw (parts, parts2) at first in
     ⊎_elim
     (λ inside. ⊎_elim
     (λ inside2. let less : n < m = first_is_smaller text text2 n m (front_octets text rest all) (front_octets text2 rest2 all2) is is2
@@ -268,8 +266,8 @@ first_differs (n ∷ ns) (m ∷ ms) content other at h k (text, rest, parts, is,
     (cases_lt at (length text2)))
     (λ past. let same : text ≡ text2 = same_texts text rest text2 rest2 n m at is is2 alike2 past in
     let number : n ≡ m = same_number text n m is (subst (λ (t : List ℕ). IsSubidentifier t m) (sym same) is2) in
-    let alike3 : IsAlike (text ++ rest) (text ++ rest2) at = subst (λ (t : List ℕ). IsAlike (text ++ rest) (t ++ rest2) at) (sym same) alike2 in
-    let first3 : EndsFirst (text ++ rest) (text ++ rest2) at = subst (λ (t : List ℕ). EndsFirst (text ++ rest) (t ++ rest2) at) (sym same) first2 in
+    let alike3 : IsAlike (text ++ rest) (text ++ rest2) at = rw (← same) at alike2 in
+    let first3 : EndsFirst (text ++ rest) (text ++ rest2) at = rw (← same) at first2 in
     let size : length content ≡ length text + length rest = ap length parts ∙ length-append text rest in
     let size2 : length other ≡ length text + length rest2 = ap length parts2 ∙ length-append text2 rest2
     ∙ ap (λ (t : List ℕ). length t + length rest2) (sym same) in

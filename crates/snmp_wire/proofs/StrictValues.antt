@@ -32,12 +32,9 @@ element_most tag content = omega (arith, length-canon_element tag content, lengt
 
 -- ---- values
 
-pub number_most : (n : ℕ) → number_size n ≤ 9
-unfolding number_size
-number_most n = digit_most 256 128 8 n
-
 pub length-number : (z : ℤ) → length (canon_number z) ≤ 9
-length-number z = omega (arith, length-canon_number z, number_most (magnitude_of z))
+unfolding number_size
+length-number z = omega (arith, length-canon_number z, digit_most 256 128 8 (magnitude_of z))
 
 -- the content of a value in range: a form by the standard, of octets, not too long
 pub record IsGood (value : Datum) : Type 0 where

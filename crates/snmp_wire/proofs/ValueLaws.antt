@@ -85,7 +85,6 @@ unfolding typed_value
 known_gives (integer_value z) content =
     gives_then _ (integer_gives content) (λ n h. a_value (integer_value n) (record { is_tag = refl; is_content = h }))
 known_gives (octet_string text) content = a_value (octet_string content) (record { is_tag = refl; is_content = refl })
-known_gives null_value content = empty_gives null_value content refl
 known_gives (object_id name) content =
     gives_then _ (identifier_gives content) (λ n h. a_value (object_id n) (record { is_tag = refl; is_content = h }))
 known_gives (ip_address address) content =
@@ -101,9 +100,7 @@ known_gives (time_ticks n) content =
 known_gives (opaque_octets text) content = a_value (opaque_octets content) (record { is_tag = refl; is_content = refl })
 known_gives (counter64 n) content =
     gives_then _ (unsigned_gives 8 content) (λ m h. a_value (counter64 m) (record { is_tag = refl; is_content = h }))
-known_gives no_such_object content = empty_gives no_such_object content refl
-known_gives no_such_instance content = empty_gives no_such_instance content refl
-known_gives end_of_mib_view content = empty_gives end_of_mib_view content refl
+known_gives value content = empty_gives value content refl
 
 -- the content is at fault, and the tag is a value's; or the tag is
 abbrev pub IsValueFault : ℕ → BerError → Type 0
@@ -141,7 +138,6 @@ pub value_again : (value : Datum) (content : List ℕ) → IsContent lenient val
 unfolding typed_value
 value_again (integer_value z) content h = rw (integer_again content z h) refl
 value_again (octet_string text) content h = ap (λ (o : List ℕ). done (octet_string o)) h
-value_again null_value content h = ap (empty_of null_value) h
 value_again (object_id name) content h = rw (identifier_again content name h) refl
 value_again (ip_address address) content h = rw (h.0, eq-eqb (length address) 4 h.1) refl
 value_again (counter32 n) content h = rw (unsigned_again 4 content n h) refl
@@ -149,6 +145,4 @@ value_again (gauge32 n) content h = rw (unsigned_again 4 content n h) refl
 value_again (time_ticks n) content h = rw (unsigned_again 4 content n h) refl
 value_again (opaque_octets text) content h = ap (λ (o : List ℕ). done (opaque_octets o)) h
 value_again (counter64 n) content h = rw (unsigned_again 8 content n h) refl
-value_again no_such_object content h = ap (empty_of no_such_object) h
-value_again no_such_instance content h = ap (empty_of no_such_instance) h
-value_again end_of_mib_view content h = ap (empty_of end_of_mib_view) h
+value_again value content h = ap (empty_of value) h

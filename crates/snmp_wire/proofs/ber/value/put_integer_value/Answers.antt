@@ -3,7 +3,7 @@ use Rattle.std.proofs.lemmas.Int.{to_z-of_z}
 use mir.Syntax.{w32}
 use Rattle.snmp_wire.specs.ber.Canon.{canon_number}
 use Rattle.snmp_wire.specs.ber.ElementLaws.{content_fits, header_fits, writes_element}
-use Rattle.snmp_wire.proofs.ValueWriting.{number_short}
+use Rattle.snmp_wire.proofs.ElementLemmas.{number_short}
 use Rattle.snmp_wire.specs.ber.WritingLaws.{writes_same}
 use Rattle.snmp_wire.proofs.ber.value.put_integer_value.Goals as goal
 
