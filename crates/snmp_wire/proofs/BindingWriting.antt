@@ -14,17 +14,13 @@ use Rattle.snmp_wire.specs.ber.ElementLaws.{header_short, content_fits, element_
 use Rattle.snmp_wire.specs.ber.ElementLaws.{sizes_value, writes_element}
 use Rattle.snmp_wire.specs.ber.WritingLaws.{writes_same, writes_then}
 
-pub binding_is : (binding : VarBind) → canon_binding binding ≡ canon_element sequence_tag (canon_value (object_id binding.name) ++ canon_value binding.value)
-unfolding canon_binding
-binding_is binding = refl
-
 pub sizes_binding : (header name value : ℕ) (binding : VarBind) → name ≡ length (canon_value (object_id binding.name))
     → value ≡ length (canon_value binding.value) → header ≡ 1 + length (canon_length (name + value)) → header + (name + value) ≡ length (canon_binding binding)
+unfolding canon_binding
 sizes_binding header name value binding n v h =
     let content : name + value ≡ length (canon_value (object_id binding.name) ++ canon_value binding.value) =
     omega (arith, n, v, length-append (canon_value (object_id binding.name)) (canon_value binding.value)) in
     element_size sequence_tag header (name + value) (canon_value (object_id binding.name) ++ canon_value binding.value) content h
-    ∙ ap length (sym (binding_is binding))
 
 -- three headers of two octets each
 pub sizes_short : (name value : ℕ) (binding : VarBind) → name ≡ length (canon_content (object_id binding.name)) → value ≡ length (canon_content binding.value)
@@ -49,11 +45,12 @@ sizes_long header name_header name value_header value binding n v hn hv h =
 
 length-content : (end : ℕ) (binding : VarBind) → length (canon_binding binding) ≤ end
     → length (canon_value (object_id binding.name)) + length (canon_value binding.value) ≤ end
-length-content end binding room =
-    let whole : length (canon_value (object_id binding.name) ++ canon_value binding.value) ≤ end =
-    content_fits sequence_tag end (canon_value (object_id binding.name) ++ canon_value binding.value)
-    (subst (λ (octets : List ℕ). length octets ≤ end) (binding_is binding) room) in
-    omega (arith, whole, length-append (canon_value (object_id binding.name)) (canon_value binding.value))
+unfolding canon_binding
+length-content end binding room = omega (
+  arith,
+  content_fits sequence_tag end (canon_value (object_id binding.name) ++ canon_value binding.value) room,
+  length-append (canon_value (object_id binding.name)) (canon_value binding.value),
+)
 
 pub binding_value_fits : (end : ℕ) (binding : VarBind) → length (canon_binding binding) ≤ end → length (canon_value binding.value) ≤ end
 binding_value_fits end binding room = omega (arith, length-content end binding room)
@@ -65,13 +62,14 @@ binding_name_fits {old} {mid} {middle} {end} binding w room = omega (arith, leng
 pub binding_header_fits : {old mid new : List ℕ} {start middle end : ℕ} (binding : VarBind) → Writes old middle end (canon_value binding.value) mid
     → Writes mid start middle (canon_value (object_id binding.name)) new → length (canon_binding binding) ≤ end
     → length (canon_header sequence_tag (end - start)) ≤ start
-binding_header_fits {old} {mid} {new} {start} {middle} {end} binding w v room =
-    header_fits sequence_tag (writes_then w v) (subst (λ (octets : List ℕ). length octets ≤ end) (binding_is binding) room)
+unfolding canon_binding
+binding_header_fits binding w v room = header_fits sequence_tag (writes_then w v) room
 
 pub writes_binding : {old mid out new : List ℕ} {start name middle end : ℕ} (binding : VarBind) → Writes old middle end (canon_value binding.value) mid
     → Writes mid name middle (canon_value (object_id binding.name)) out → Writes out start name (canon_header sequence_tag (end - name)) new
     → Writes old start end (canon_binding binding) new
-writes_binding binding w v u = writes_same (writes_element sequence_tag (writes_then w v) u) (sym (binding_is binding))
+unfolding canon_binding
+writes_binding binding w v u = writes_element sequence_tag (writes_then w v) u
 
 -- a text that fills the front of a slice
 pub encoded : {old new text : List ℕ} {start size : ℕ} → Writes old start size text new → size ≡ length text → new ≡ text ++ drop size old

@@ -5,7 +5,7 @@ use Rattle.snmp_wire.specs.ber.Canon.{canon_element, canon_header, canon_length,
 use Rattle.snmp_wire.specs.ber.ElementLaws.{header_fits, writes_element}
 use Rattle.snmp_wire.specs.ber.Writing.{Writes}
 use Rattle.snmp_wire.specs.ber.WritingLaws.{writes_same, writes_then}
-use Rattle.snmp_wire.proofs.StrictValues.{length-number}
+use Rattle.snmp_wire.proofs.Shortest.{length-number}
 
 -- a tag before a length
 pub writes_tag : {old mid new : List ℕ} {start middle end : ℕ} (tag size : ℕ) → Writes old middle end (canon_length size) mid

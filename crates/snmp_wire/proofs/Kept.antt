@@ -1,7 +1,6 @@
 -- Bindings that are kept as their encodings: what is written is read again.
 use Rattle.std.proofs.Common.{◌≡◌, ℕ, List, [], ◌∷◌, ◌++◌, Result, Ok, IsOk, refl, sym, ap, subst}
-use Rattle.std.proofs.Common.{◌∙◌}
-use Rattle.std.proofs.Common.{◌<◌, ◌≤◌, length, get_or, take, drop, cond, eqb, ltb, Err}
+use Rattle.std.proofs.Common.{◌∙◌, ◌<◌, ◌≤◌, length, get_or, take, drop, cond, eqb, ltb, Err}
 use Rattle.std.proofs.lemmas.Bool.{lt-ltb, ltb-false}
 use Rattle.std.proofs.lemmas.List.{append-nil, take-append-drop}
 use Rattle.std.specs.Result.{result_unwrap_or}
@@ -18,9 +17,8 @@ use Rattle.snmp_wire.specs.ber.Number.{lenient}
 use Rattle.snmp_wire.specs.declared.ber.error.BerError.TheVariants as error
 use Rattle.snmp_wire.specs.ber.Reading.{content_at, identifier_of, inner_at, length_at}
 use Rattle.snmp_wire.specs.ber.ReadingLaws.{Gives, a_value, done, is_ok_at, ok_is, passed, refused}
-use Rattle.snmp_wire.proofs.ShortBindings.{four_then}
-use Rattle.snmp_wire.proofs.IdentifierLaws.{identifier_again}
-use Rattle.snmp_wire.proofs.MessageLaws.{binding_again, bindings_again}
+use Rattle.snmp_wire.proofs.MessageLaws.{four_then, binding_again, bindings_again}
+use Rattle.snmp_wire.proofs.IdentifierReading.{identifier_again}
 use Rattle.snmp_wire.proofs.MessageElements.{spells_binding}
 
 encodable_value : (v : Datum) → IsInRange v → IsEncodableValue v
@@ -53,7 +51,7 @@ module _ (p : VarBind) (range : IsBindingInRange p) where
       ∙ ap (λ (read : Result (VarBind × List ℕ) BerError). (result_unwrap_or read (record { name = []; value = null_value }, [])).0) (binding_again p (canon_binding p) [] spells)
 
   pub is_kept : (octets : List ℕ) → octets ≡ canon_binding p → IsKept octets
-  is_kept octets e = subst IsKept (sym e) (record {
+  is_kept octets e = rw e (record {
     range = subst IsBindingInRange (sym read_again) range;
     encoding = ap canon_binding (sym read_again);
   })

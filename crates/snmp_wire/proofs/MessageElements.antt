@@ -1,27 +1,133 @@
--- Bindings and messages as elements in a row: what is spelt and written of them.
-use Rattle.std.proofs.Common.{◌≡◌, ℕ, ◌^◌, ◌<◌, ◌≤◌, List, [], ◌∷◌, ◌++◌, length, refl, sym, ap}
-use Rattle.std.proofs.Common.{subst, ◌∙◌, append_assoc, lit<, arith, length-append}
+-- Elements in a row, of values or around other elements: the form of bindings, PDUs and messages.
+-- How such a row is spelt and written, and that no spelling of it is shorter, is said and proved
+-- once.
+use Rattle.std.proofs.Common.{◌≡◌, ℕ, ◌^◌, ◌<◌, List, [], ◌++◌, length, refl, sym, subst, ◌≤◌, ◌∷◌}
+use Rattle.std.proofs.Common.{ap, ◌∙◌, append_assoc, lit<, arith, length-append, ℤ, pos, negsuc}
+use Rattle.std.proofs.Common.{◌+◌, ◌-◌, ◌*◌, suc, inl, inr, ⊎_elim, take}
 use Rattle.std.proofs.lemmas.List.{append-nil}
+use Rattle.std.proofs.Math.Nat.{mul-le-mul_right, pow-le-pow_right, pow-suc}
+use Rattle.std.proofs.lemmas.Nat.{mul-add-lt}
+use Rattle.std.proofs.lemmas.Bool.{cases_lt}
+use Rattle.std.proofs.Math.Seq.{take-append_seam}
 use Rattle.std.specs.List.{AllByRecursion}
+use mir.Syntax.{w32}
+use mir.Val.{SFits}
+use Rattle.snmp_wire.specs.ber.Canon.{canon_element, canon_value}
+use Rattle.snmp_wire.specs.ber.Length.{IsElement}
+use Rattle.snmp_wire.specs.ber.Number.{Form, IsUnsigned, lenient, strict, AreOctets, number_of}
+use Rattle.snmp_wire.specs.ber.Number.{twos_complement, unsigned}
+use Rattle.snmp_wire.specs.ber.Range.{IsInRange, IsOfType}
+use Rattle.snmp_wire.specs.ber.Spelling.{IsContent, SpellsValue, sequence_tag}
+use Rattle.snmp_wire.specs.ber.Value.{Datum, counter32, gauge32, time_ticks, counter64}
+use Rattle.snmp_wire.specs.ber.Value.{integer_value, octet_string, object_id, ip_address}
+use Rattle.snmp_wire.specs.ber.Value.{opaque_octets}
 use Rattle.snmp_wire.specs.declared.kind.Kind.{Kind}
 use Rattle.snmp_wire.specs.declared.kind.Kind.TheVariants as kind
-use Rattle.snmp_wire.specs.Canon.{canon, canon_binding, canon_bindings, canon_fields}
-use Rattle.snmp_wire.specs.Canon.{canon_opening}
+use Rattle.snmp_wire.specs.Canon.{canon, canon_binding, canon_bindings, canon_fields, canon_opening}
+use Rattle.snmp_wire.specs.Canon.{canon_front, canon_head}
 use Rattle.snmp_wire.specs.Message.{VarBind, Message}
-use Rattle.snmp_wire.specs.Range.{IsBindingInRange, IsBindingOfType, IsMessageInRange, IsMessageOfType}
-use Rattle.snmp_wire.specs.Spelling.{SpellsBinding, SpellsBindings, SpellsMessage, SpellsPdu, Spells}
-use Rattle.snmp_wire.specs.Spelling.{Strict, kind_tag}
-use Rattle.snmp_wire.specs.ber.Canon.{canon_value}
-use Rattle.snmp_wire.specs.ber.Length.{IsElement}
-use Rattle.snmp_wire.specs.ber.Number.{AreOctets, Form, lenient, strict}
-use Rattle.snmp_wire.specs.ber.Spelling.{sequence_tag}
-use Rattle.snmp_wire.specs.ber.Value.{integer_value, octet_string, object_id}
-use Rattle.snmp_wire.proofs.Elements.{AreInRange, AreOfType, Elements, SpellsAll, are_octets, are_read}
-use Rattle.snmp_wire.proofs.Elements.{are_least, are_strict, canon_all, element_then}
-use Rattle.snmp_wire.proofs.Elements.{no_elements, value_then}
-use Rattle.snmp_wire.proofs.Digits.{by_octets, octets_by}
-use Rattle.snmp_wire.proofs.Shortest.{IsNoShorter}
-use Rattle.snmp_wire.proofs.StrictValues.{element_most, value_short}
+use Rattle.snmp_wire.specs.Range.{IsBindingInRange, IsBindingOfType, IsMessageInRange}
+use Rattle.snmp_wire.specs.Range.{IsMessageOfType}
+use Rattle.snmp_wire.specs.Spelling.{SpellsBinding, SpellsBindings, SpellsMessage, SpellsPdu}
+use Rattle.snmp_wire.specs.Spelling.{Spells, Strict, kind_tag}
+use Rattle.snmp_wire.specs.Laws.{OneShortestEncoding}
+use Rattle.snmp_wire.specs.Shortest.{IsShortestEncoding}
+use Rattle.snmp_wire.proofs.Digits.{Octets, back_octets, both_octets, front_octets, by_octets}
+use Rattle.snmp_wire.proofs.Digits.{octets_by, below_power}
+use Rattle.snmp_wire.proofs.Shortest.{IsNoShorter, both_texts, content_octets, element_least}
+use Rattle.snmp_wire.proofs.Shortest.{same_text, value_least, element_octets, is_element}
+use Rattle.snmp_wire.proofs.Shortest.{spells_value, value_octets, element_most, value_short}
+use Rattle.snmp_wire.proofs.Shortest.{signed_fits, minus, negative, positive}
+use Rattle.snmp_wire.proofs.MessageWriting.{canon_parts}
+
+pub data Elements : Type 0 where
+  no_elements : Elements
+  value_then : Datum → Elements → Elements
+  element_then : ℕ → Elements → Elements → Elements
+
+-- the octets encode these elements in turn
+abbrev pub SpellsAll : Form → Elements → List ℕ → Type 0
+SpellsAll form no_elements octets = octets ≡ []
+SpellsAll form (value_then value more) octets =
+    (first : List ℕ) × (rest : List ℕ) × (octets ≡ first ++ rest) × SpellsValue form value first × SpellsAll form more rest
+SpellsAll form (element_then tag within more) octets =
+    (first : List ℕ) × (rest : List ℕ) × (octets ≡ first ++ rest) × (content : List ℕ) × IsElement tag content first
+    × SpellsAll form within content × SpellsAll form more rest
+
+-- the shortest encoding
+abbrev pub canon_all : Elements → List ℕ
+canon_all no_elements = []
+canon_all (value_then value more) = canon_value value ++ canon_all more
+canon_all (element_then tag within more) = canon_element tag (canon_all within) ++ canon_all more
+
+-- what has an encoding
+abbrev pub AreInRange : Elements → Type 0
+AreInRange no_elements = Unit {0}
+AreInRange (value_then value more) = IsInRange value × AreInRange more
+AreInRange (element_then tag within more) = (tag < 256) × (length (canon_all within) < 2 ^ 32) × AreInRange within × AreInRange more
+
+abbrev pub AreOfType : Elements → Type 0
+AreOfType no_elements = Unit {0}
+AreOfType (value_then value more) = IsOfType value × AreOfType more
+AreOfType (element_then tag within more) = AreOfType within × AreOfType more
+
+-- what is spelt by the standard is read
+unsigned_is_read : {width : ℕ} {content : List ℕ} {n : ℕ} → IsUnsigned strict width content n → IsUnsigned lenient width content n
+unsigned_is_read is = record { some = is.some; few = is.few; value = is.value; allowed = tt }
+
+content_is_read : (value : Datum) (content : List ℕ) → IsContent strict value content → IsContent lenient value content
+content_is_read (counter32 n) content is = unsigned_is_read is
+content_is_read (gauge32 n) content is = unsigned_is_read is
+content_is_read (time_ticks n) content is = unsigned_is_read is
+content_is_read (counter64 n) content is = unsigned_is_read is
+content_is_read value content is = is
+
+value_is_read : (value : Datum) (text : List ℕ) → SpellsValue strict value text → SpellsValue lenient value text
+value_is_read value text is = record { content = is.content; is_content = content_is_read value is.content is.is_content; element = is.element }
+
+pub are_read : (all : Elements) (octets : List ℕ) → SpellsAll strict all octets → SpellsAll lenient all octets
+are_read no_elements octets is = is
+are_read (value_then value more) octets (first, rest, parts, this, others) =
+    (first, rest, parts, value_is_read value first this, are_read more rest others)
+are_read (element_then tag within more) octets (first, rest, parts, content, element, inner, others) =
+    (first, rest, parts, content, element, are_read within content inner, are_read more rest others)
+
+-- what is written is spelt by the standard
+pub are_strict : (all : Elements) → AreInRange all → SpellsAll strict all (canon_all all)
+are_strict no_elements range = refl
+are_strict (value_then value more) (this, others) =
+    (canon_value value, canon_all more, refl, spells_value value this, are_strict more others)
+are_strict (element_then tag within more) (small, short, inner, others) = (
+  canon_element tag (canon_all within),
+  canon_all more,
+  refl,
+  canon_all within,
+  is_element tag (canon_all within) short,
+  are_strict within inner,
+  are_strict more others,
+)
+
+pub are_octets : (all : Elements) → AreInRange all → Octets (canon_all all)
+are_octets no_elements range = tt
+are_octets (value_then value more) (this, others) =
+    both_octets (canon_value value) (canon_all more) (value_octets value this) (are_octets more others)
+are_octets (element_then tag within more) (small, short, inner, others) =
+    both_octets (canon_element tag (canon_all within)) (canon_all more) (element_octets tag (canon_all within) small (are_octets within inner))
+    (are_octets more others)
+
+-- no spelling by the standard is shorter, and one that is no longer is the written one
+pub are_least : (all : Elements) (octets : List ℕ) → Octets octets → SpellsAll strict all octets → IsNoShorter (canon_all all) octets
+are_least no_elements octets h is = same_text is
+are_least (value_then value more) octets h (first, rest, parts, this, others) =
+    let both : Octets (first ++ rest) = subst Octets parts h in
+    rw parts
+    (both_texts (value_least value first (front_octets first rest both) this) (are_least more rest (back_octets first rest both) others))
+are_least (element_then tag within more) octets h (first, rest, parts, content, element, inner, others) =
+    let both : Octets (first ++ rest) = subst Octets parts h in
+    let whole : Octets first = front_octets first rest both in
+    rw parts
+    (both_texts (element_least whole element (are_least within content (content_octets whole element) inner))
+    (are_least more rest (back_octets first rest both) others))
 
 -- ---- their elements
 
@@ -68,8 +174,7 @@ module _ (form : Form) where
       → SpellsAll form (elements_of_bindings bindings) octets
   bindings_in_row [] octets is = is
   bindings_in_row (binding ∷ more) octets (first, rest, parts, this, others) =
-      subst (SpellsAll form (elements_of_bindings (binding ∷ more))) (sym parts)
-      (binding_in_row binding (elements_of_bindings more) first rest this (bindings_in_row more rest others))
+      rw parts (binding_in_row binding (elements_of_bindings more) first rest this (bindings_in_row more rest others))
 
   pub in_row : (message : Message) (octets : List ℕ) → SpellsMessage form message octets → SpellsAll form (elements_of message) octets
   in_row message octets is =
@@ -259,3 +364,88 @@ of_type message ((version, (community, ((id, (a, (b, (bindings, last)))), end)))
   b = b;
   bindings = bindings_of_type message.bindings bindings;
 }
+
+-- ---- numbers
+
+unsigned_fits : (width : ℕ) (content : List ℕ) (n : ℕ) → Octets content → IsUnsigned lenient width content n → n < 256 ^ width
+unsigned_fits width [] n h is = absurd (omega (arith, is.some))
+unsigned_fits width (first ∷ rest) n h is =
+    subst (λ (m : ℕ). m < 256 ^ width) is.value (elim is.few [
+      | inl few ↦
+          let below : unsigned (first ∷ rest) < 256 ^ length (first ∷ rest) = below_power 256 (first ∷ rest) h in
+          let most : 256 ^ length (first ∷ rest) ≤ 256 ^ width =
+          pow-le-pow_right {n = 256} (lit< tt) {i = length (first ∷ rest)} {j = width} few in
+          omega (arith, below, most)
+      | inr more ↦
+          let below : number_of 256 rest < 256 ^ length rest = below_power 256 rest h.1 in
+          let size : length rest ≡ width = omega (arith, more.0) in
+          let most : 256 ^ length rest ≡ 256 ^ width = ap (λ k. 256 ^ k) size in
+          let zero_first : first ≡ 0 = more.1 in
+          let whole : unsigned (first ∷ rest) ≡ number_of 256 rest = rw zero_first (omega arith) in
+          omega (arith, below, most, whole)
+    ])
+
+-- ---- values
+
+content_of_type : (value : Datum) (content : List ℕ) → Octets content → IsContent lenient value content → IsOfType value
+content_of_type (integer_value z) content h is = signed_fits content z h is
+content_of_type (octet_string text) content h is = by_octets text (subst Octets is h)
+content_of_type (object_id name) content h is = (is.wire, is.identifier)
+content_of_type (ip_address address) content h is = (by_octets address (subst Octets is.0 h), is.1)
+content_of_type (counter32 n) content h is = unsigned_fits 4 content n h is
+content_of_type (gauge32 n) content h is = unsigned_fits 4 content n h is
+content_of_type (time_ticks n) content h is = unsigned_fits 4 content n h is
+content_of_type (opaque_octets text) content h is = by_octets text (subst Octets is h)
+content_of_type (counter64 n) content h is = unsigned_fits 8 content n h is
+content_of_type value content h is = tt
+
+are_of_type : (all : Elements) (octets : List ℕ) → Octets octets → SpellsAll lenient all octets → AreOfType all
+are_of_type no_elements octets h is = tt
+are_of_type (value_then value more) octets h (first, rest, parts, this, others) =
+    let both : Octets (first ++ rest) = subst Octets parts h in
+    let inside : Octets this.content = content_octets (front_octets first rest both) this.element in
+    (content_of_type value this.content inside this.is_content, are_of_type more rest (back_octets first rest both) others)
+are_of_type (element_then tag within more) octets h (first, rest, parts, content, element, inner, others) =
+    let both : Octets (first ++ rest) = subst Octets parts h in
+    let inside : Octets content = content_octets (front_octets first rest both) element in
+    (are_of_type within content inside inner, are_of_type more rest (back_octets first rest both) others)
+
+pub message_of_type : (m : Message) (octets : List ℕ) → Spells m octets → IsMessageOfType m
+message_of_type m octets is = of_type m (are_of_type (elements_of m) octets (octets_by octets is.are_octets) (in_row lenient m octets is))
+
+-- ---- a message has one shortest encoding: the one that is written
+
+pub written_is_shortest : (message : Message) → IsMessageInRange message → IsShortestEncoding (canon message) message
+written_is_shortest message range = record { strict = strict_canon message range; shortest = no_shorter message }
+
+pub shortest_is_written : (message : Message) (text : List ℕ) → IsMessageInRange message → IsShortestEncoding text message
+    → text ≡ canon message
+shortest_is_written message text range is = (message_least message text is.strict).one (is.shortest (canon message) (strict_canon message range))
+
+pub only_shortest : (message : Message) (text other : List ℕ) → IsMessageInRange message → IsShortestEncoding text message
+    → IsShortestEncoding other message
+    → text ≡ other
+only_shortest message text other range is too = shortest_is_written message text range is ∙ sym (shortest_is_written message other range too)
+
+-- so is the front of what a writer left
+pub front_is_shortest : (law : OneShortestEncoding) (message : Message) (n : ℕ) (out rest : List ℕ) → n ≡ length (canon message)
+    → out ≡ canon message ++ rest → IsMessageInRange message → IsShortestEncoding (take n out) message
+front_is_shortest law message n out rest size e range =
+    let front : canon message ≡ take n out = sym (ap (take n) e ∙ ap (λ k. take k (canon message ++ rest)) size ∙ take-append_seam (canon message) rest) in
+    subst (λ (text : List ℕ). IsShortestEncoding text message) front (law.written message range)
+
+pub shortest_size : (law : OneShortestEncoding) (message : Message) (size : ℕ) → size ≡ length (canon message) → (octets : List ℕ)
+    → IsMessageInRange message → IsShortestEncoding octets message → size ≡ length octets
+shortest_size law message size e octets range is = e ∙ sym (ap length (law.one message octets (canon message) range is (law.written message range)))
+
+-- so are a head and the bindings behind it
+pub sealed_is_shortest : (law : OneShortestEncoding) (message : Message) (bindings : List VarBind) (total : ℕ) (octets : List ℕ)
+    → octets ≡ canon_head message total ++ canon_bindings bindings → total ≡ length (canon_bindings bindings)
+    → IsMessageInRange (record message { bindings = bindings }) → IsShortestEncoding octets (record message { bindings = bindings })
+unfolding canon_head canon_front canon_opening canon_fields
+sealed_is_shortest law message bindings total octets e size range =
+    let whole : Message = record message { bindings = bindings } in
+    let head : canon_head message total ≡ canon_head whole (length (canon_bindings bindings)) = ap (canon_head whole) size in
+    let written : canon whole ≡ octets =
+    canon_parts whole ∙ sym (e ∙ ap (λ (front : List ℕ). front ++ canon_bindings bindings) head) in
+    subst (λ (text : List ℕ). IsShortestEncoding text whole) written (law.written whole range)

@@ -1,13 +1,19 @@
--- Contents stand for identifiers, and for their order.
-use Rattle.std.proofs.Common.{◌≡◌, ℕ, ◌+◌, ◌-◌, ◌*◌, ◌<◌, ◌≤◌, ◌⊎◌, ◌↔◌, inl, inr, List, [], ◌∷◌}
-use Rattle.std.proofs.Common.{◌++◌, length, get_or, take, drop, refl, sym, ap, subst, ◌∙◌}
-use Rattle.std.proofs.Common.{⊎_elim, Result, IsOk, arith, length-append, append_assoc}
+-- Contents stand for identifiers, and for their order: where subidentifiers end, which of two is
+-- the greater, and what the first octets that differ tell of two names.
+use Rattle.std.proofs.Common.{◌≡◌, ℕ, ◌+◌, ◌-◌, ◌*◌, ◌%◌, ◌^◌, ◌<◌, ◌≤◌, ◌⊎◌, inl, inr, List, []}
+use Rattle.std.proofs.Common.{◌∷◌, ◌++◌, length, get_or, refl, sym, ap, subst, ◌∙◌, suc, ⊎_elim}
+use Rattle.std.proofs.Common.{arith, lit<, length-append, ◌↔◌, take, drop, Result, IsOk}
+use Rattle.std.proofs.Common.{append_assoc, Ok, length-drop, take_all}
+use Rattle.std.proofs.lemmas.List.{take-append-le}
+use Rattle.std.proofs.Math.Nat.{mul-le-mul_right, pow-le-pow_right}
+use Rattle.std.proofs.Math.Seq.{get_or-append_seam}
 use Rattle.std.proofs.lemmas.Bool.{cases_lt, cases_order}
+use Rattle.std.proofs.lemmas.Nat.{mul-add-lt}
+use Rattle.std.proofs.lemmas.List.{append-nil, ext_get_or, get_or-append-add, get_or_append_left}
+use Rattle.std.proofs.lemmas.List.{map-append, append_cancel_left, get_or-take, length-take-le}
+use Rattle.std.proofs.lemmas.List.{take-append-drop, drop_more}
+use Rattle.std.proofs.lemmas.List.Elements.{All-get_or, All-from_get_or}
 use Rattle.std.proofs.lemmas.Grind.{flat_map-append}
-use Rattle.std.proofs.lemmas.List.{append_cancel_left, ext_get_or, get_or-append-add}
-use Rattle.std.proofs.lemmas.List.{get_or_append_left, get_or-take, length-take-le}
-use Rattle.std.proofs.lemmas.List.{take-append-drop}
-use Rattle.std.proofs.lemmas.List.{drop_more}
 use Rattle.std.specs.Cmp.{nat_cmp_is, ranked}
 use Rattle.std.specs.List.{flat_map}
 use Rattle.std.specs.Ordering.{MatchOrdering, nat_cmp}
@@ -15,25 +21,219 @@ use Rattle.std.specs.Result.{result_unwrap_or}
 use Rattle.std.specs.Cmp.Lexicographic.{slice_cmp}
 use Rattle.std.specs.declared.cmp.Ordering.{Ordering}
 use Rattle.std.specs.declared.cmp.Ordering.TheVariants.{Less, Equal, Greater}
-use Rattle.snmp_oid.specs.Identifier.{IsBelow, IsWire, PartsBelow, Precedes}
-use Rattle.snmp_wire.specs.Name.{ComesFirst, EncodedNames, EndsAt, IsAlike, IsContentOctets}
+use Rattle.snmp_oid.specs.Identifier.{PartsBelow, IsBelow, IsWire, Precedes}
+use Rattle.snmp_wire.specs.Name.{ComesFirst, EndsAt, IsAlike, EncodedNames, IsContentOctets}
 use Rattle.snmp_wire.specs.Name.{identifier_in}
+use Rattle.snmp_wire.specs.ber.Canon.{canon_content, canon_subidentifier}
 use Rattle.snmp_wire.specs.ber.Identifier.{AreSubidentifiers, IsObjectId, IsSubidentifier}
 use Rattle.snmp_wire.specs.ber.Identifier.{subidentifiers}
-use Rattle.snmp_wire.specs.ber.Number.{AreOctets}
+use Rattle.snmp_wire.specs.ber.Number.{number_of, AreOctets}
+use Rattle.snmp_wire.specs.ber.Value.{object_id}
 use Rattle.snmp_wire.specs.declared.ber.error.BerError.{BerError}
-use Rattle.snmp_wire.specs.ber.Canon.{canon_content, canon_subidentifier}
 use Rattle.snmp_wire.specs.ber.Reading.{identifier_of}
 use Rattle.snmp_wire.specs.ber.ReadingLaws.{is_ok_at, ok_is, ok_value}
-use Rattle.snmp_wire.specs.ber.Value.{object_id}
-use Rattle.snmp_wire.proofs.Digits.{Octets, back_octets, front_octets, octets_by}
-use Rattle.snmp_wire.proofs.IdentifierLaws.{identifier_again, identifier_takes}
-use Rattle.snmp_wire.proofs.IdentifierWriting.{length-canon_subidentifier, subidentifier_some as size_some}
-use Rattle.snmp_wire.proofs.NameContents.{alike_back, canonical, ends_behind, ends_later}
-use Rattle.snmp_wire.proofs.NameContents.{first_is_smaller, one_content_of, same_number, same_texts}
-use Rattle.snmp_wire.proofs.NameContents.{subidentifier_ends}
-use Rattle.snmp_wire.proofs.StrictIdentifiers.{content_is_subidentifiers, length-name}
-use Rattle.snmp_wire.proofs.StrictIdentifiers.{subidentifier_some}
+use Rattle.snmp_wire.proofs.Digits.{AreDigits, Octets, back_octets, below_power, by_octets}
+use Rattle.snmp_wire.proofs.Digits.{front_octets, octets_by}
+use Rattle.snmp_wire.proofs.IdentifierWriting.{bits_below, is_object_id, length-low_bits, low_bits}
+use Rattle.snmp_wire.proofs.IdentifierWriting.{name_octets, same_subidentifier, subidentifier_bound}
+use Rattle.snmp_wire.proofs.IdentifierWriting.{subidentifier_some, length-canon_subidentifier}
+use Rattle.snmp_wire.proofs.IdentifierWriting.{size_some, content_is_subidentifiers, length-name}
+use Rattle.snmp_wire.proofs.IdentifierReading.{identifier_again, identifier_takes}
+
+-- ---- where a subidentifier ends
+
+pub subidentifier_ends : (text rest : List ℕ) (n : ℕ) → IsSubidentifier text n → EndsAt (text ++ rest) 0 (length text - 1)
+subidentifier_ends text rest n is =
+    let size : length text ≡ length is.front + 1 = ap length is.parts ∙ length-append is.front (is.last ∷ []) in
+    let at_last : length text - 1 ≡ length is.front = omega (arith, size) in
+    let last : get_or (text ++ rest) (length is.front) 0 ≡ is.last = get_or_append_left text rest 0 (length is.front) (omega (arith, size))
+    ∙ ap (λ (octets : List ℕ). get_or octets (length is.front) 0) is.parts ∙ get_or-append_seam is.front is.last [] 0 in
+    record {
+      behind = omega arith;
+      within = omega (arith, length-append text rest, size);
+      goes_on = λ k low less.
+          let here : get_or (text ++ rest) k 0 ≡ get_or is.front k 0 = get_or_append_left text rest 0 k (omega (arith, size))
+          ∙ ap (λ (octets : List ℕ). get_or octets k 0) is.parts ∙ get_or_append_left is.front (is.last ∷ []) 0 k (omega (arith, size)) in
+          let high : 128 ≤ get_or is.front k 0 = All-get_or (λ octet. 128 ≤ octet) is.front k 0 (omega (arith, size)) is.goes_on in
+          omega (arith, here, high);
+      ends = omega (arith, ap (λ k. get_or (text ++ rest) k 0) at_last, last, is.ends);
+    }
+
+-- it ends at one place
+pub one_end : (octets : List ℕ) (at end other : ℕ) → EndsAt octets at end → EndsAt octets at other → end ≡ other
+one_end octets at end other h k = ⊎_elim
+    (λ less. absurd (omega (arith, h.ends, k.goes_on end h.behind less)))
+    (λ no_less. ⊎_elim
+    (λ less. absurd (omega (arith, k.ends, h.goes_on other k.behind less)))
+    (λ no_more. omega (arith, no_less, no_more))
+    (cases_lt other end))
+    (cases_lt end other)
+
+-- and from a later octet of it at the same
+pub ends_later : (octets : List ℕ) (at later end : ℕ) → at ≤ later → later ≤ end → EndsAt octets at end → EndsAt octets later end
+ends_later octets at later end h le e = record {
+  behind = le;
+  within = e.within;
+  goes_on = λ k low less. e.goes_on k (omega (arith, h, low)) less;
+  ends = e.ends;
+}
+
+-- an octet below 128 is the last
+pub ends_here : (octets : List ℕ) (at : ℕ) → at < length octets → get_or octets at 0 < 128 → EndsAt octets at at
+ends_here octets at within low = record { behind = omega arith; within = within; goes_on = λ k ge lt. absurd (omega (arith, ge, lt)); ends = low }
+
+-- behind others
+pub ends_behind : (front octets : List ℕ) (at end : ℕ) → EndsAt octets at end → EndsAt (front ++ octets) (length front + at) (length front + end)
+ends_behind front octets at end e = record {
+  behind = omega (arith, e.behind);
+  within = omega (arith, length-append front octets, e.within);
+  goes_on = λ k low less.
+      let here : length front + (k - length front) ≡ k = omega (arith, low) in
+      let same : get_or (front ++ octets) k 0 ≡ get_or octets (k - length front) 0 =
+      ap (λ j. get_or (front ++ octets) j 0) (sym here) ∙ get_or-append-add front octets (k - length front) 0 in
+      omega (arith, same, e.goes_on (k - length front) (omega (arith, low)) (omega (arith, low, less)));
+  ends = omega (arith, get_or-append-add front octets end 0, e.ends);
+}
+
+-- so it is in octets that are the same
+ends_alike : (octets others : List ℕ) (count end : ℕ) → IsAlike octets others count → end < count → EndsAt octets 0 end → EndsAt others 0 end
+ends_alike octets others count end h less e = record {
+  behind = omega arith;
+  within = omega (arith, h.other_short, less);
+  goes_on = λ k low lt. omega (arith, h.same k (omega (arith, lt, less)), e.goes_on k low lt);
+  ends = omega (arith, h.same end less, e.ends);
+}
+
+pub alike_back : (octets others : List ℕ) (count : ℕ) → IsAlike octets others count → IsAlike others octets count
+alike_back octets others count h = record { short = h.other_short; other_short = h.short; same = λ k low. sym (h.same k low) }
+
+same_front : (content other : List ℕ) (at : ℕ) → IsAlike content other at → take at content ≡ take at other
+same_front content other at h = ext_get_or 0 (take at content) (take at other)
+    (length-take-le at content h.short ∙ sym (length-take-le at other h.other_short))
+    (λ k low. let below : k < at = omega (arith, low, length-take-le at content h.short) in
+    get_or-take at content k 0 below ∙ h.same k below ∙ sym (get_or-take at other k 0 below))
+
+-- the subidentifiers at the front of octets that are the same are the same
+pub same_texts : (text rest other more : List ℕ) (n m count : ℕ) → IsSubidentifier text n → IsSubidentifier other m
+    → IsAlike (text ++ rest) (other ++ more) count → length text ≤ count → text ≡ other
+same_texts text rest other more n m count is are h enough =
+    let some = subidentifier_some text n is in
+    let some_other = subidentifier_some other m are in
+    let end : length text - 1 ≡ length other - 1 = one_end (other ++ more) 0 (length text - 1) (length other - 1)
+    (ends_alike (text ++ rest) (other ++ more) count (length text - 1) h (omega (arith, some, enough)) (subidentifier_ends text rest n is))
+    (subidentifier_ends other more m are) in
+    let size : length text ≡ length other = omega (arith, end, some, some_other) in
+    ext_get_or 0 text other size (λ k low.
+    sym (get_or_append_left text rest 0 k low) ∙ h.same k (omega (arith, low, enough)) ∙ get_or_append_left other more 0 k (omega (arith, low, size)))
+
+-- a text is one number's
+pub same_number : (text : List ℕ) (n m : ℕ) → IsSubidentifier text n → IsSubidentifier text m → n ≡ m
+same_number text n m is are = sym is.value ∙ are.value
+
+-- ---- which of two is the greater
+
+-- of as many digits the number with the greater at the first difference
+digits_rise : (base : ℕ) (front after behind : List ℕ) (c d : ℕ) → c < d → length after ≡ length behind → AreDigits base after
+    → number_of base (front ++ c ∷ after) < number_of base (front ++ d ∷ behind)
+digits_rise base [] after behind c d less size small =
+    let bound : c * base ^ length after + number_of base after < base ^ length after * d =
+    mul-add-lt c (base ^ length after) (number_of base after) d less (below_power base after small) in
+    let same : base ^ length after ≡ base ^ length behind = ap (λ k. base ^ k) size in
+    let turned : d * base ^ length behind ≡ base ^ length after * d = ap (λ p. d * p) (sym same) ∙ omega arith in
+    omega (arith, bound, turned)
+digits_rise base (z ∷ front) after behind c d less size small =
+    let sizes : length (front ++ c ∷ after) ≡ length (front ++ d ∷ behind) =
+    omega (arith, length-append front (c ∷ after), length-append front (d ∷ behind), size) in
+    omega (arith, ap (λ k. z * base ^ k) sizes, digits_rise base front after behind c d less size small)
+
+-- one of several octets has a first digit
+least_of_several : (text : List ℕ) (n : ℕ) → Octets text → IsSubidentifier text n → 1 < length text → 128 ^ (length text - 1) ≤ n
+least_of_several [] n all is several = absurd (omega arith)
+least_of_several (octet ∷ rest) n all is several =
+    let end = subidentifier_ends (octet ∷ rest) [] n is in
+    let nil : (octet ∷ rest) ++ [] ≡ octet ∷ rest = append-nil (octet ∷ rest) in
+    let first : get_or ((octet ∷ rest) ++ []) 0 0 ≡ octet = ap (λ (octets : List ℕ). get_or octets 0 0) nil in
+    let high : 128 ≤ octet = omega (arith, end.goes_on 0 (omega arith) (omega (arith, several)), first) in
+    let digit : 1 ≤ octet % 128 = ⊎_elim (λ zero_digit. absurd (is.minimal (omega (arith, zero_digit, high, all.0)))) (λ some. some) (cases_lt (octet % 128) 1) in
+    let power : 1 * 128 ^ length (low_bits rest) ≤ octet % 128 * 128 ^ length (low_bits rest) = mul-le-mul_right (128 ^ length (low_bits rest)) digit in
+    let places : length (low_bits rest) ≡ length (octet ∷ rest) - 1 = omega (arith, length-low_bits rest) in
+    omega (arith, power, ap (λ k. 128 ^ k) places, is.value)
+
+-- the octets at a place of two texts of one length both go on, or both don't
+octets_beside : (text other : List ℕ) (n m k : ℕ) → IsSubidentifier text n → IsSubidentifier other m → length text ≡ length other → k < length text
+    → ((128 ≤ get_or text k 0) × (128 ≤ get_or other k 0)) ⊎ ((get_or text k 0 < 128) × (get_or other k 0 < 128))
+octets_beside text other n m k is are size low =
+    let whole : text ++ [] ≡ text = append-nil text in
+    let end : EndsAt text 0 (length text - 1) = subst (λ (octets : List ℕ). EndsAt octets 0 (length text - 1)) whole (subidentifier_ends text [] n is) in
+    let other_end : EndsAt other 0 (length text - 1) = subst (λ (j : ℕ). EndsAt other 0 (j - 1)) (sym size)
+    (subst (λ (octets : List ℕ). EndsAt octets 0 (length other - 1)) (append-nil other) (subidentifier_ends other [] m are)) in
+    ⊎_elim (λ less. inl (end.goes_on k (omega arith) less, other_end.goes_on k (omega arith) less))
+    (λ no_less. let last : length text - 1 ≡ k = omega (arith, no_less, low) in
+    inr (subst (λ (j : ℕ). get_or text j 0 < 128) last end.ends, subst (λ (j : ℕ). get_or other j 0 < 128) last other_end.ends))
+    (cases_lt k (length text - 1))
+
+parts_rise : (text other : List ℕ) (n m : ℕ) → Octets text → Octets other → IsSubidentifier text n → IsSubidentifier other m
+    → length text ≡ length other → PartsBelow text other → n < m
+parts_rise text other n m all others is are size p =
+    let k : ℕ = length p.front in
+    let count : length text ≡ length p.front + suc (length p.after) = ap length p.this ∙ length-append p.front (p.smaller ∷ p.after) in
+    let other_count : length other ≡ length p.front + suc (length p.behind) = ap length p.that ∙ length-append p.front (p.larger ∷ p.behind) in
+    let at_smaller : get_or text k 0 ≡ p.smaller = ap (λ (octets : List ℕ). get_or octets k 0) p.this ∙ get_or-append_seam p.front p.smaller p.after 0 in
+    let at_larger : get_or other k 0 ≡ p.larger = ap (λ (octets : List ℕ). get_or octets k 0) p.that ∙ get_or-append_seam p.front p.larger p.behind 0 in
+    let fits : get_or text k 0 < 256 = All-get_or (λ o. o < 256) text k 0 (omega (arith, count)) (by_octets text all) in
+    let other_fits : get_or other k 0 < 256 = All-get_or (λ o. o < 256) other k 0 (omega (arith, other_count)) (by_octets other others) in
+    let digit : p.smaller % 128 < p.larger % 128 = ⊎_elim
+    (λ both. omega (arith, both.0, both.1, at_smaller, at_larger, fits, other_fits, p.is_smaller))
+    (λ both. omega (arith, both.0, both.1, at_smaller, at_larger, p.is_smaller))
+    (octets_beside text other n m k is are size (omega (arith, count))) in
+    let low : List ℕ → List ℕ = λ octets. low_bits octets in
+    let this : low_bits text ≡ low_bits p.front ++ (p.smaller % 128) ∷ low_bits p.after =
+    ap low p.this ∙ map-append (λ octet. octet % 128) p.front (p.smaller ∷ p.after) in
+    let that : low_bits other ≡ low_bits p.front ++ (p.larger % 128) ∷ low_bits p.behind =
+    ap low p.that ∙ map-append (λ octet. octet % 128) p.front (p.larger ∷ p.behind) in
+    let sizes : length (low_bits p.after) ≡ length (low_bits p.behind) =
+    omega (arith, length-low_bits p.after, length-low_bits p.behind, count, other_count, size) in
+    let rises = digits_rise 128 (low_bits p.front) (low_bits p.after) (low_bits p.behind) (p.smaller % 128) (p.larger % 128) digit sizes (bits_below p.after) in
+    omega (arith, rises, ap (number_of 128) this, ap (number_of 128) that, is.value, are.value)
+
+below_longer : (o p : List ℕ) → IsBelow o p → length p < length o
+below_longer o p ([], some, e) = absurd (some refl)
+below_longer o p (x ∷ rest, some, e) = omega (arith, ap length e, length-append p (x ∷ rest))
+
+pub first_is_smaller : (text other : List ℕ) (n m : ℕ) → Octets text → Octets other → IsSubidentifier text n → IsSubidentifier other m
+    → ComesFirst text other → n < m
+first_is_smaller text other n m all others is are (inl shorter) =
+    let some = subidentifier_some text n is in
+    let least : 128 ^ (length other - 1) ≤ m = least_of_several other m others are (omega (arith, shorter, some)) in
+    let fewer : 128 ^ length text ≤ 128 ^ (length other - 1) = pow-le-pow_right {n = 128} (lit< tt) (omega (arith, shorter)) in
+    omega (arith, least, fewer, subidentifier_bound text n is)
+first_is_smaller text other n m all others is are (inr (size, inl below)) = absurd (omega (arith, size, below_longer other text below))
+first_is_smaller text other n m all others is are (inr (size, inr parts)) = parts_rise text other n m all others is are size parts
+
+-- a number has one text
+one_text : (text other : List ℕ) (n : ℕ) → Octets text → Octets other → IsSubidentifier text n → IsSubidentifier other n → text ≡ other
+one_text text other n h k is are = ⊎_elim
+    (λ less. absurd (omega (arith, first_is_smaller text other n n h k is are (inl less))))
+    (λ no_less. ⊎_elim
+    (λ less. absurd (omega (arith, first_is_smaller other text n n k h are is (inl less))))
+    (λ no_more. same_subidentifier text other n h k (omega (arith, no_less, no_more)) is are)
+    (cases_lt (length other) (length text)))
+    (cases_lt (length text) (length other))
+
+-- subidentifiers have one content
+pub one_content_of : (ns content other : List ℕ) → Octets content → Octets other → AreSubidentifiers content ns → AreSubidentifiers other ns → content ≡ other
+one_content_of [] content other h k are others = are ∙ sym others
+one_content_of (n ∷ ns) content other h k (text, rest, parts, is, are) (text2, rest2, parts2, is2, are2) =
+    let all : Octets (text ++ rest) = subst Octets parts h in
+    let all2 : Octets (text2 ++ rest2) = subst Octets parts2 k in
+    let first : text ≡ text2 = one_text text text2 n (front_octets text rest all) (front_octets text2 rest2 all2) is is2 in
+    let others : rest ≡ rest2 = one_content_of ns rest rest2 (back_octets text rest all) (back_octets text2 rest2 all2) are are2 in
+    parts ∙ ap (λ (t : List ℕ). t ++ rest) first ∙ ap (λ (t : List ℕ). text2 ++ t) others ∙ sym parts2
+
+-- the content of a name is the one that is written
+pub canonical : (content name : List ℕ) → Octets content → IsObjectId content name → content ≡ canon_content (object_id name)
+canonical content name h is = one_content_of (subidentifiers name) content (canon_content (object_id name)) h (name_octets name) is.parts
+    (is_object_id name is.wire is.identifier).parts
 
 -- ---- the order of identifiers
 
@@ -211,11 +411,8 @@ text_first text octets other others n m at is are h first low other_low =
     (subidentifier_ends other others m are) in
     ⊎_elim (λ less. inl (omega (arith, less)))
     (λ both. let size : length text ≡ length other = omega (arith, both.0, low, other_low) in
-    let front : take at text ≡ take at other = ext_get_or 0 (take at text) (take at other)
-    (length-take-le at text (omega (arith, low)) ∙ sym (length-take-le at other (omega (arith, other_low))))
-    (λ k less. let below : k < at = omega (arith, less, length-take-le at text (omega (arith, low))) in
-    get_or-take at text k 0 below ∙ sym (get_or_append_left text octets 0 k (omega (arith, below, low))) ∙ h.same k below
-    ∙ get_or_append_left other others 0 k (omega (arith, below, other_low)) ∙ sym (get_or-take at other k 0 below)) in
+    let front : take at text ≡ take at other = sym (take-append-le at text octets (omega (arith, low)))
+    ∙ same_front (text ++ octets) (other ++ others) at h ∙ take-append-le at other others (omega (arith, other_low)) in
     inr (
       size,
       inr (record {
@@ -352,3 +549,137 @@ encoded law = record {
   names_order = λ o p wire other. (names_rise law o p wire other, names_fall law o p wire other);
   octets_order = λ text other n m h k is are. (smaller_is_first law text other n m h k is are, first_is_smaller text other n m (octets_by text h) (octets_by other k) is are);
 }
+
+-- ---- what the first octets that differ tell of two names
+
+-- two contents, the names that they are, and how many octets at their front are the same
+pub record Beside (content other o p : List ℕ) (at : ℕ) : Type 0 where
+  pub octets : AreOctets content
+  pub other_octets : AreOctets other
+  pub is : IsObjectId content o
+  pub are : IsObjectId other p
+  pub alike : IsAlike content other at
+
+pub beside : {content other o p : List ℕ} {at : ℕ} → ((k : ℕ) → get_or content k 0 < 256) → ((k : ℕ) → get_or other k 0 < 256)
+    → identifier_of content ≡ Ok o → identifier_of other ≡ Ok p → IsAlike content other at → Beside content other o p at
+beside {content} {other} {o} {p} small other_small e f alike = record {
+  octets = All-from_get_or (λ octet. octet < 256) content 0 (λ k low. small k);
+  other_octets = All-from_get_or (λ octet. octet < 256) other 0 (λ k low. other_small k);
+  is = identifier_takes content o e;
+  are = identifier_takes other p f;
+  alike = alike;
+}
+
+turned : {content other o p : List ℕ} {at : ℕ} → Beside content other o p at → Beside other content p o at
+turned {content} {other} {o} {p} {at} b = record {
+  octets = b.other_octets;
+  other_octets = b.octets;
+  is = b.are;
+  are = b.is;
+  alike = alike_back content other at b.alike;
+}
+
+-- names compare as numbers do that decide
+decided : OrderLaw → (o p : List ℕ) (x y : ℕ) → (x < y → Precedes o p) → (x ≡ y → o ≡ p) → (y < x → Precedes p o)
+    → nat_cmp x y ≡ slice_cmp nat_cmp o p
+decided law o p x y less same more = by_rank (nat_cmp x y) (ranked x y (nat_cmp x y) refl)
+  where
+    by_rank : (r : Ordering) → MatchOrdering r (x < y) (x ≡ y) (y < x) → r ≡ slice_cmp nat_cmp o p
+    by_rank Less h = sym ((law.less o p).1 (less h))
+    by_rank Equal h = sym ((law.equal o p).1 (same h))
+    by_rank Greater h = sym ((law.greater o p).1 (more h))
+
+-- ---- where one of two contents is at its end
+
+-- the longer begins with the shorter
+goes_behind : (content other : List ℕ) (at : ℕ) → IsAlike content other at → at ≡ length other → length other < length content → IsBelow content other
+goes_behind content other at h e longer = (
+  drop at content,
+  λ none. omega (arith, ap length none, length-drop at content, e, longer),
+  sym (take-append-drop at content) ∙ ap (λ (t : List ℕ). t ++ drop at content) (same_front content other at h ∙ take_all at other (omega (arith, e))),
+)
+
+longer_below : (content other o p : List ℕ) (at : ℕ) → Beside content other o p at → at ≡ length other → length other < length content → IsBelow o p
+longer_below content other o p at b e longer = below_from_contents content other o p b.is b.are (goes_behind content other at b.alike e longer)
+
+pub one_ends : OrderLaw → (content other o p : List ℕ) (at : ℕ) → Beside content other o p at → (at ≡ length content) ⊎ (at ≡ length other)
+    → nat_cmp (length content) (length other) ≡ slice_cmp nat_cmp o p
+one_ends law content other o p at b end = decided law o p (length content) (length other)
+    (λ less. inl (longer_below other content p o at (turned b) (at_end (λ e. e) (λ e. omega (arith, e, less, b.alike.short))) less))
+    (λ same. let e : at ≡ length content = at_end (λ e. e) (λ e. omega (arith, e, same)) in
+    let equal : content ≡ other = sym (take_all at content (omega (arith, e))) ∙ same_front content other at b.alike ∙ take_all at other (omega (arith, e, same)) in
+    one_name content o p b.is (subst (λ (t : List ℕ). IsObjectId t p) (sym equal) b.are))
+    (λ more. inl (longer_below content other o p at b (at_end (λ e. omega (arith, e, more, b.alike.other_short)) (λ e. e)) more))
+  where
+    at_end : {n : ℕ} → (at ≡ length content → at ≡ n) → (at ≡ length other → at ≡ n) → at ≡ n
+    at_end {n} this that = ⊎_elim this that end
+
+-- a name is below a root where its content is longer, and no octet of the root's differs
+pub below_decided : (content root o p : List ℕ) (at : ℕ) → Beside content root o p at → length root < length content
+    → (at < length content → at < length root → get_or content at 0 ≡ get_or root at 0 → ⊥) → (at ≡ length root) ↔ IsBelow o p
+below_decided content root o p at b longer differs = (
+  λ e. longer_below content root o p at b e longer,
+  λ below. whole (below_from_names content root o p b.octets b.other_octets b.is b.are below),
+)
+  where
+    whole : IsBelow content root → at ≡ length root
+    whole (rest, some, e) = ⊎_elim
+        (λ less. absurd (differs (omega (arith, less, longer)) less (ap (λ (t : List ℕ). get_or t at 0) e ∙ get_or_append_left root rest 0 at less)))
+        (λ no_less. omega (arith, no_less, b.alike.other_short))
+        (cases_lt at (length root))
+
+-- no shorter name is below a root
+pub nothing_alike : (content other : List ℕ) → IsAlike content other 0
+nothing_alike content other = record { short = omega arith; other_short = omega arith; same = λ k low. absurd (omega (arith, low)) }
+
+pub none_below : {content root o p : List ℕ} {at : ℕ} → Beside content root o p at → length content ≤ length root → IsBelow o p → ⊥
+none_below {content} {root} {o} {p} b short below =
+    omega (arith, short, below_longer content root (below_from_names content root o p b.octets b.other_octets b.is b.are below))
+
+-- ---- where two octets differ
+
+-- a number of each decides, where the smaller one's subidentifier ends first, or at once
+differ_decide : OrderLaw → {content other o p : List ℕ} {at : ℕ} (x y : ℕ) → Beside content other o p at → at < length content → at < length other
+    → (x ≡ y → ⊥) → (x < y → EndsFirst content other at) → (y < x → EndsFirst other content at) → nat_cmp x y ≡ slice_cmp nat_cmp o p
+differ_decide law {content} {other} {o} {p} {at} x y b low other_low differ this that = decided law o p x y
+    (λ less. names_differ law content other o p at b.octets b.other_octets b.is b.are b.alike low other_low (this less))
+    (λ same. absurd (differ same))
+    (λ more. let t = turned b in names_differ law other content p o at t.octets t.other_octets t.is t.are t.alike other_low low (that more))
+
+-- the one ends first
+pub ends_decide : OrderLaw → (content other o p : List ℕ) (at end last : ℕ) → Beside content other o p at → at < length content → at < length other
+    → EndsAt content at end → EndsAt other at last → (end ≡ last → ⊥) → nat_cmp end last ≡ slice_cmp nat_cmp o p
+ends_decide law content other o p at end last b low other_low e f differ = differ_decide law end last b low other_low differ
+    (λ less d l g h. inl (omega (arith, less, one_end content at d end g e, one_end other at l last h f)))
+    (λ more d l g h. inl (omega (arith, more, one_end other at d last g f, one_end content at l end h e)))
+
+-- where either octet is the smaller, its subidentifier ends first, or at once
+abbrev pub EndsBy : List ℕ → List ℕ → ℕ → Type 0
+EndsBy content other at =
+    (get_or content at 0 < get_or other at 0 → EndsFirst content other at) × (get_or other at 0 < get_or content at 0 → EndsFirst other content at)
+
+pub octets_decide : OrderLaw → (content other o p : List ℕ) (at : ℕ) → Beside content other o p at → at < length content → at < length other
+    → (get_or content at 0 ≡ get_or other at 0 → ⊥) → EndsBy content other at
+    → nat_cmp (get_or content at 0) (get_or other at 0) ≡ slice_cmp nat_cmp o p
+octets_decide law content other o p at b low other_low differ way =
+    differ_decide law (get_or content at 0) (get_or other at 0) b low other_low differ way.0 way.1
+
+pub both_go_on : (content other : List ℕ) (at end last : ℕ) → EndsAt content at end → EndsAt other at last → end ≡ last → EndsBy content other at
+both_go_on content other at end last e f same = (
+  λ less d l g h. inr (one_end content at d end g e ∙ same ∙ one_end other at last l f h, less),
+  λ more d l g h. inr (one_end other at d last g f ∙ sym same ∙ one_end content at end l e h, more),
+)
+
+-- a last octet ends at once
+last_first : (content other : List ℕ) (at : ℕ) → at < length content → get_or content at 0 < 128 → get_or content at 0 < get_or other at 0
+    → EndsFirst content other at
+last_first content other at low last less d l g h =
+    let here : d ≡ at = one_end content at d at g (ends_here content at low last) in
+    ⊎_elim (λ later. inl (omega (arith, here, later))) (λ no_later. inr (omega (arith, here, no_later, h.behind), less)) (cases_lt at l)
+
+pub one_is_last : (content other : List ℕ) (at : ℕ) → at < length content → at < length other
+    → (get_or content at 0 < 128) ⊎ (get_or other at 0 < 128) → EndsBy content other at
+one_is_last content other at low other_low last = (
+  λ less. last_first content other at low (⊎_elim (λ h. h) (λ h. omega (arith, h, less)) last) less,
+  λ more. last_first other content at other_low (⊎_elim (λ h. omega (arith, h, more)) (λ h. h) last) more,
+)

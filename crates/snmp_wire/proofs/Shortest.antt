@@ -1,25 +1,234 @@
--- No form by the standard is shorter than the one that is written, and one that is no longer is that.
-use Rattle.std.proofs.Common.{◌≡◌, ℕ, ℤ, pos, negsuc, ◌+◌, ◌-◌, ◌*◌, ◌^◌, ◌<◌, ◌≤◌, suc, List, []}
-use Rattle.std.proofs.Common.{◌∷◌, ◌++◌, length, get_or, refl, sym, ap, subst, ◌∙◌, inl, inr}
-use Rattle.std.proofs.Common.{⊎_elim, lit<, arith, length-append}
-use Rattle.std.proofs.Math.Nat.{mul-le-mul_right, pow-suc}
-use Rattle.std.proofs.lemmas.Nat.{mul-add-lt}
+-- Numbers, lengths, elements and values as they are written are forms by the standard. None is
+-- shorter, and one that is no longer is the one that is written.
+use Rattle.std.proofs.Common.{◌≡◌, ℕ, ℤ, pos, negsuc, ◌+◌, ◌-◌, ◌-ℤ◌, ◌*◌, ◌/◌, ◌%◌, ◌^◌, ◌<◌, ◌≤◌}
+use Rattle.std.proofs.Common.{suc, List, ◌∷◌, length, get_or, sym, ap, subst, ◌∙◌, inl, inr, ⊎_elim}
+use Rattle.std.proofs.Common.{lit<, arith, refl, lit≤, [], ◌++◌, length-append}
+use Rattle.std.proofs.Math.Nat.{div-eq_of_lt, div-lt_iff_lt-mul, le-div_iff_mul-le, one-le-pow}
+use Rattle.std.proofs.Math.Nat.{pow-le-pow_right, pow-suc, mul-le-mul_right}
+use Rattle.std.proofs.lemmas.Int.{ints}
 use Rattle.std.proofs.lemmas.Bool.{cases_lt}
-use Rattle.snmp_wire.specs.ber.Canon.{canon_content, canon_element, canon_header, canon_length}
-use Rattle.snmp_wire.specs.ber.Canon.{canon_number, canon_value, length_size, number_size, octets}
-use Rattle.snmp_wire.specs.ber.Length.{IsElement, IsLength, IsLongLength}
+use Rattle.std.proofs.lemmas.Bool.Decides.{nat_tests}
+use Rattle.std.proofs.lemmas.Nat.{mul-add-lt}
+use mir.Val.{SFits}
+use mir.Syntax.{w32}
+use Rattle.snmp_wire.specs.ber.Canon.{canon_length, canon_number, length_size, magnitude_of}
+use Rattle.snmp_wire.specs.ber.Canon.{number_size, octets, canon_content, canon_element}
+use Rattle.snmp_wire.specs.ber.Canon.{canon_header, canon_value}
+use Rattle.snmp_wire.specs.ber.Length.{IsLength, IsElement, IsLongLength}
+use Rattle.snmp_wire.specs.ber.Number.{IsInteger, IsUnsigned, strict, twos_complement, unsigned}
+use Rattle.snmp_wire.specs.ber.Number.{number_of}
+use Rattle.snmp_wire.specs.ber.ElementLaws.{canon_length_short, length-canon_element}
 use Rattle.snmp_wire.specs.ber.Value.{Datum, integer_value, octet_string, null_value, object_id}
 use Rattle.snmp_wire.specs.ber.Value.{ip_address, counter32, gauge32, time_ticks, opaque_octets}
-use Rattle.snmp_wire.specs.ber.Value.{counter64, no_such_object, no_such_instance, end_of_mib_view}
-use Rattle.snmp_wire.specs.ber.Number.{number_of, strict, twos_complement, unsigned}
+use Rattle.snmp_wire.specs.ber.Value.{counter64}
+use Rattle.snmp_wire.specs.ber.Range.{IsInRange}
 use Rattle.snmp_wire.specs.ber.Spelling.{IsContent, SpellsValue, value_tag}
-use Rattle.snmp_wire.proofs.CanonLemmas.{canon_length_long, digits_small, length-canon_length_long}
-use Rattle.snmp_wire.proofs.CanonLemmas.{length-canon_length_short, length-canon_number, length_rises}
-use Rattle.snmp_wire.proofs.CanonLemmas.{number_small, octets_from_below, octets_from_zero}
-use Rattle.snmp_wire.proofs.Digits.{Octets, back_octets, below_power, digits_are, front_octets}
-use Rattle.snmp_wire.specs.ber.ElementLaws.{canon_length_short, length-canon_element}
-use Rattle.snmp_wire.proofs.NameContents.{canonical}
-use Rattle.snmp_wire.proofs.StrictNumbers.{minus, negative, positive}
+use Rattle.snmp_wire.proofs.CanonLemmas.{canon_length_long, digit_most, digit_some}
+use Rattle.snmp_wire.proofs.CanonLemmas.{length-canon_length_long, length-canon_length_short}
+use Rattle.snmp_wire.proofs.CanonLemmas.{length-canon_number, number_small, number_some}
+use Rattle.snmp_wire.proofs.CanonLemmas.{octets_from_below, octets_from_zero, sized, digits_small}
+use Rattle.snmp_wire.proofs.CanonLemmas.{length_rises}
+use Rattle.snmp_wire.proofs.Digits.{Octets, are_digits, digits_value, digits-suc, length-digits}
+use Rattle.snmp_wire.proofs.Digits.{both_octets, octets_by, back_octets, below_power, digits_are}
+use Rattle.snmp_wire.proofs.Digits.{front_octets}
+use Rattle.snmp_wire.proofs.IdentifierWriting.{is_object_id, length-name, name_octets}
+use Rattle.snmp_wire.proofs.NameOrder.{canonical}
+
+-- ---- numbers
+
+-- the first octet
+first_octet : (count n : ℕ) → get_or (octets (suc count) n) 0 0 ≡ n / 256 ^ count % 256
+first_octet count n = ap (λ ds. get_or ds 0 0) (digits-suc 256 count n)
+
+first_below : (count n : ℕ) → n < 128 * 256 ^ count → get_or (octets (suc count) n) 0 0 < 128
+first_below count n h =
+    let small : n / 256 ^ count < 128 = (div-lt_iff_lt-mul (one-le-pow count 256 (lit< tt))).1 h in
+    omega (arith, first_octet count n, small)
+
+first_above : (count n : ℕ) → 128 * 256 ^ count ≤ n → n < 256 ^ suc count → 128 ≤ get_or (octets (suc count) n) 0 0
+first_above count n low high =
+    let large : 128 ≤ n / 256 ^ count = (le-div_iff_mul-le (one-le-pow count 256 (lit< tt))).1 low in
+    let small : n / 256 ^ count < 256 = (div-lt_iff_lt-mul (one-le-pow count 256 (lit< tt))).1 (omega (arith, pow-suc 256 count)) in
+    omega (arith, first_octet count n, large, small)
+
+-- a number of so many octets of two's complement, one less of them given
+sized_number : (n : ℕ) → n < 2 ^ 64 → (less : ℕ) × (number_size n ≡ suc less) × (n < 128 * 256 ^ less)
+unfolding number_size
+sized_number n h = let s = sized 256 128 8 n (omega arith) in (s.less, s.size, s.below)
+
+pub positive : (content : List ℕ) → get_or content 0 0 < 128 → twos_complement content ≡ pos (unsigned content)
+positive content h = grind (arith, nat_tests)
+
+pub negative : (content : List ℕ) → 128 ≤ get_or content 0 0 → twos_complement content ≡ pos (unsigned content) -ℤ pos (256 ^ length content)
+negative content h = grind (arith, nat_tests)
+
+pub minus : (u n power : ℕ) → u + (n + 1) ≡ power → pos u -ℤ pos power ≡ negsuc n
+minus u n power e = omega (arith, ints)
+
+-- from zero
+unsigned_is_strict : (n : ℕ) → n < 2 ^ 64 → (get_or (canon_number (pos n)) 0 0 < 128) × (unsigned (canon_number (pos n)) ≡ n)
+unsigned_is_strict n h =
+    let s = sized_number n h in
+    let text : octets (suc s.0) n ≡ canon_number (pos n) = ap (λ k. octets k n) (sym s.1) ∙ octets_from_zero n in (
+      subst (λ (content : List ℕ). get_or content 0 0 < 128) text (first_below s.0 n s.2),
+      sym (ap unsigned text) ∙ digits_value 256 (suc s.0) n (lit< tt) (omega (arith, s.2, pow-suc 256 s.0)),
+    )
+
+-- below zero
+negative_value : (n : ℕ) → n < 2 ^ 31 → twos_complement (canon_number (negsuc n)) ≡ negsuc n
+negative_value n small =
+    let s = sized_number n (omega arith) in
+    let size : ℕ = suc s.0 in
+    let u : ℕ = 256 ^ size - (n + 1) in
+    let text : octets size u ≡ canon_number (negsuc n) = ap (λ k. octets k (256 ^ k - (n + 1))) (sym s.1) ∙ octets_from_below n in
+    let power : 256 ^ size ≡ 256 ^ s.0 * 256 = pow-suc 256 s.0 in
+    let fits : u < 256 ^ size = omega (arith, s.2, power, one-le-pow s.0 256 (lit< tt)) in
+    let large : 128 * 256 ^ s.0 ≤ u = omega (arith, s.2, power) in
+    sym (ap twos_complement text) ∙ negative (octets size u) (first_above s.0 u large fits)
+    ∙ ap (λ v. pos v -ℤ pos (256 ^ length (octets size u))) (digits_value 256 size u (lit< tt) fits)
+    ∙ ap (λ k. pos u -ℤ pos (256 ^ k)) (length-digits 256 size u)
+    ∙ minus u n (256 ^ size) (omega (arith, s.2, power))
+
+pub is_integer : (z : ℤ) → SFits w32 z → IsInteger (canon_number z) z
+is_integer z fits = record {
+  some = omega (arith, length-canon_number z, number_some (magnitude_of z));
+  few = omega (arith, length-canon_number z, number_small (magnitude_of z) 3 (omega (arith, small z fits)));
+  value = value z fits;
+}
+  where
+    small : (z : ℤ) → SFits w32 z → magnitude_of z < 2 ^ 31
+    small (pos n) fits = omega (arith, fits)
+    small (negsuc n) fits = omega (arith, fits)
+
+    value : (z : ℤ) → SFits w32 z → twos_complement (canon_number z) ≡ z
+    value (pos n) fits = let u = unsigned_is_strict n (omega (arith, fits)) in positive (canon_number (pos n)) u.0 ∙ ap pos u.1
+    value (negsuc n) fits = negative_value n (omega (arith, fits))
+
+-- a number of at most `width` octets, or one more where its high bit is set
+pub is_unsigned_of : (width n : ℕ) → width ≤ 8 → n < 256 ^ width → IsUnsigned strict width (canon_number (pos n)) n
+is_unsigned_of width n narrow h =
+    let wide : 256 ^ width ≤ 256 ^ 8 = pow-le-pow_right (lit< tt) narrow in
+    let size : length (canon_number (pos n)) ≡ number_size n = length-canon_number (pos n) in
+    let u = unsigned_is_strict n (omega (arith, h, wide)) in
+    let most : number_size n ≤ 1 + width = number_small n width (omega (arith, h)) in
+    record {
+      some = omega (arith, size, number_some n);
+      few = ⊎_elim (λ short. inl (omega (arith, size, short))) (λ long. inr
+          (omega (arith, size, long, most), zero_first width n h (omega (arith, long, most)))) (cases_lt (number_size n) (width + 1));
+      value = u.1;
+      allowed = u.0;
+    }
+  where
+    zero_first : (width n : ℕ) → n < 256 ^ width → number_size n ≡ suc width → get_or (canon_number (pos n)) 0 0 ≡ 0
+    zero_first width n h e =
+        let text : octets (suc width) n ≡ canon_number (pos n) = ap (λ k. octets k n) (sym e) ∙ octets_from_zero n in
+        let none : n / 256 ^ width ≡ 0 = div-eq_of_lt h in
+        sym (ap (λ content. get_or content 0 0) text) ∙ first_octet width n ∙ ap (λ d. d % 256) none
+
+pub number_octets : (z : ℤ) → Octets (canon_number z)
+number_octets (pos n) = subst Octets (octets_from_zero n) (are_digits 256 (number_size n) n (lit< tt))
+number_octets (negsuc n) = subst Octets (octets_from_below n) (are_digits 256 (number_size n) (256 ^ number_size n - (n + 1)) (lit< tt))
+
+-- ---- lengths
+
+length_fits : (n : ℕ) → n < 2 ^ 32 → n < 256 ^ length_size n
+unfolding length_size
+length_fits n h =
+    let s = sized 256 256 3 n (omega arith) in
+    subst (λ (k : ℕ). n < 256 ^ k) (sym s.size) (omega (arith, s.below, pow-suc 256 s.less))
+
+pub is_length : (n : ℕ) → n < 2 ^ 32 → IsLength (canon_length n) n
+unfolding length_size
+is_length n h = ⊎_elim
+    (λ short. inl (record { small = short; one = canon_length_short n short }))
+    (λ long. let size = length-digits 256 (length_size n) n in inr (record {
+      digits = octets (length_size n) n;
+      some = omega (arith, size, digit_some 256 256 3 n);
+      few = omega (arith, size, digit_most 256 256 3 n);
+      value = digits_value 256 (length_size n) n (lit< tt) (length_fits n h);
+      parts = canon_length_long n long ∙ ap (λ k. (128 + k) ∷ octets (length_size n) n) (sym size);
+    }))
+    (cases_lt n 128)
+
+pub length_octets : (n : ℕ) → Octets (canon_length n)
+unfolding length_size
+length_octets n = ⊎_elim
+    (λ short. subst Octets (sym (canon_length_short n short)) (omega (arith, short), tt))
+    (λ long. subst Octets (sym (canon_length_long n long)) (omega (arith, digit_most 256 256 3 n), are_digits 256 (length_size n) n (lit< tt)))
+    (cases_lt n 128)
+
+pub length-canon_length : (n : ℕ) → length (canon_length n) ≤ 5
+unfolding length_size
+length-canon_length n = ⊎_elim
+    (λ short. omega (arith, length-canon_length_short n short))
+    (λ long. omega (arith, length-canon_length_long n long, digit_most 256 256 3 n))
+    (cases_lt n 128)
+
+-- ---- elements
+
+pub is_element : (tag : ℕ) (content : List ℕ) → length content < 2 ^ 32 → IsElement tag content (canon_element tag content)
+unfolding canon_element canon_header
+is_element tag content h = record { length_octets = canon_length (length content); is_length = is_length (length content) h; parts = refl }
+
+pub element_octets : (tag : ℕ) (content : List ℕ) → tag < 256 → Octets content → Octets (canon_element tag content)
+unfolding canon_element canon_header
+element_octets tag content h all = (h, both_octets (canon_length (length content)) content (length_octets (length content)) all)
+
+pub element_most : (tag : ℕ) (content : List ℕ) → length (canon_element tag content) ≤ 6 + length content
+element_most tag content = omega (arith, length-canon_element tag content, length-canon_length (length content))
+
+-- ---- values
+
+pub length-number : (z : ℤ) → length (canon_number z) ≤ 9
+unfolding number_size
+length-number z = omega (arith, length-canon_number z, digit_most 256 128 8 (magnitude_of z))
+
+-- the content of a value in range: a form by the standard, of octets, not too long
+pub record IsGood (value : Datum) : Type 0 where
+  pub is_content : IsContent strict value (canon_content value)
+  pub are_octets : Octets (canon_content value)
+  pub short : length (canon_content value) ≤ 65535
+
+good_number : {value : Datum} (z : ℤ) → canon_content value ≡ canon_number z → IsContent strict value (canon_number z) → IsGood value
+good_number {value} z e is = record {
+  is_content = subst (IsContent strict value) (sym e) is;
+  are_octets = subst Octets (sym e) (number_octets z);
+  short = omega (arith, ap length e, length-number z);
+}
+
+pub good : (value : Datum) → IsInRange value → IsGood value
+unfolding canon_content
+good (integer_value z) h = good_number z refl (is_integer z h)
+good (octet_string text) h = record { is_content = refl; are_octets = octets_by text h.0; short = h.1 }
+good (object_id name) h = record { is_content = is_object_id name h.0 h.1; are_octets = name_octets name; short = omega (arith, length-name name, h.1.short) }
+good (ip_address address) h = record { is_content = (refl, h.1); are_octets = octets_by address h.0; short = omega (arith, h.1) }
+good (counter32 n) h = good_number (pos n) refl (is_unsigned_of 4 n (lit≤ tt) h)
+good (gauge32 n) h = good_number (pos n) refl (is_unsigned_of 4 n (lit≤ tt) h)
+good (time_ticks n) h = good_number (pos n) refl (is_unsigned_of 4 n (lit≤ tt) h)
+good (opaque_octets text) h = record { is_content = refl; are_octets = octets_by text h.0; short = h.1 }
+good (counter64 n) h = good_number (pos n) refl (is_unsigned_of 8 n (lit≤ tt) h)
+good value h = record { is_content = refl; are_octets = tt; short = omega arith }
+
+tag_fits : (value : Datum) → value_tag value < 256
+tag_fits null_value = lit< tt
+tag_fits value = lit< tt
+
+-- octets that are a strict form of something, and not too long
+pub spells_value : (value : Datum) → IsInRange value → SpellsValue strict value (canon_value value)
+unfolding canon_value
+spells_value value h =
+    let g : IsGood value = good value h in
+    record { content = canon_content value; is_content = g.is_content; element = is_element (value_tag value) (canon_content value) (omega (arith, g.short)) }
+
+pub value_octets : (value : Datum) → IsInRange value → Octets (canon_value value)
+unfolding canon_value
+value_octets value h = element_octets (value_tag value) (canon_content value) (tag_fits value) (good value h).are_octets
+
+pub value_short : (value : Datum) → IsInRange value → length (canon_value value) ≤ 65541
+unfolding canon_value
+value_short value h = omega (arith, element_most (value_tag value) (canon_content value), (good value h).short)
+
+-- ---- no form by the standard is shorter than the one that is written, and one that is no longer is that
 
 -- the text is as long as the one that is made, or longer; where it is no longer it is the same
 pub record IsNoShorter (made text : List ℕ) : Type 0 where
@@ -41,39 +250,49 @@ both_texts {a} {b} {c} {d} this that = record {
 
 -- ---- numbers
 
--- in two's complement
-number_least : (content : List ℕ) (z : ℤ) → Octets content → 1 ≤ length content → twos_complement content ≡ z → IsNoShorter (canon_number z) content
-number_least [] z h some e = absurd (omega (arith, some))
-number_least (first ∷ rest) z h some e =
+-- octets of two's complement hold the number, and where it takes as many they are the ones that are written
+number_is : (first : ℕ) (rest : List ℕ) (z : ℤ) → Octets (first ∷ rest) → twos_complement (first ∷ rest) ≡ z
+    → (magnitude_of z < 128 * 256 ^ length rest) × (suc (length rest) ≡ number_size (magnitude_of z) → first ∷ rest ≡ canon_number z)
+number_is first rest z h e =
     let power : ℕ = 256 ^ length rest in
     let u : ℕ = unsigned (first ∷ rest) in
     let low : number_of 256 rest < power = below_power 256 rest h.1 in
     let are : first ∷ rest ≡ octets (suc (length rest)) u = digits_are 256 (first ∷ rest) (lit< tt) h in
+    let P : ℤ → Type 0 = λ y.
+    (magnitude_of y < 128 * 256 ^ length rest) × (suc (length rest) ≡ number_size (magnitude_of y) → first ∷ rest ≡ canon_number y) in
     ⊎_elim
     (λ small.
     let bound : first * power + number_of 256 rest < power * 128 = mul-add-lt first power (number_of 256 rest) 128 small low in
-    let size : number_size u ≤ 1 + length rest = number_small u (length rest) (omega (arith, bound)) in
-    subst (λ (y : ℤ). IsNoShorter (canon_number y) (first ∷ rest)) (sym (positive (first ∷ rest) small) ∙ e) (record {
-      least = omega (arith, length-canon_number (pos u), size);
-      one = λ short.
-          let same : suc (length rest) ≡ number_size u = omega (arith, short, length-canon_number (pos u), size) in
-          are ∙ ap (λ k. octets k u) same ∙ octets_from_zero u;
-    }))
+    subst P (sym (positive (first ∷ rest) small) ∙ e) (omega (arith, bound), λ same. are ∙ ap (λ k. octets k u) same ∙ octets_from_zero u))
     (λ large.
     let n : ℕ = 256 ^ suc (length rest) - u - 1 in
     let whole : 256 ^ suc (length rest) ≡ power * 256 = pow-suc 256 (length rest) in
     let high : first * power + number_of 256 rest < power * 256 = mul-add-lt first power (number_of 256 rest) 256 h.0 low in
     let least : 128 * power ≤ first * power = mul-le-mul_right power large in
-    let size : number_size n ≤ 1 + length rest = number_small n (length rest) (omega (arith, least, whole, high)) in
-    let value : negsuc n ≡ z = sym (minus u n (256 ^ suc (length rest)) (omega (arith, high, whole))) ∙ sym (negative (first ∷ rest) large) ∙ e in
-    subst (λ (y : ℤ). IsNoShorter (canon_number y) (first ∷ rest)) value (record {
-      least = omega (arith, length-canon_number (negsuc n), size);
-      one = λ short.
-          let same : suc (length rest) ≡ number_size n = omega (arith, short, length-canon_number (negsuc n), size) in
-          let back : u ≡ 256 ^ suc (length rest) - (n + 1) = omega (arith, high, whole) in
-          are ∙ ap (octets (suc (length rest))) back ∙ ap (λ k. octets k (256 ^ k - (n + 1))) same ∙ octets_from_below n;
-    }))
+    let back : u ≡ 256 ^ suc (length rest) - (n + 1) = omega (arith, high, whole) in
+    subst P (sym (minus u n (256 ^ suc (length rest)) (omega (arith, high, whole))) ∙ sym (negative (first ∷ rest) large) ∙ e) (
+      omega (arith, least, whole, high),
+      λ same. are ∙ ap (octets (suc (length rest))) back ∙ ap (λ k. octets k (256 ^ k - (n + 1))) same ∙ octets_from_below n,
+    ))
     (cases_lt first 128)
+
+number_least : (content : List ℕ) (z : ℤ) → Octets content → 1 ≤ length content → twos_complement content ≡ z → IsNoShorter (canon_number z) content
+number_least [] z h some e = absurd (omega (arith, some))
+number_least (first ∷ rest) z h some e =
+    let is = number_is first rest z h e in
+    let size : number_size (magnitude_of z) ≤ 1 + length rest = number_small (magnitude_of z) (length rest) is.0 in
+    record { least = omega (arith, length-canon_number z, size); one = λ short. is.1 (omega (arith, short, length-canon_number z, size)) }
+
+-- four octets are of 32 bits
+pub signed_fits : (content : List ℕ) (z : ℤ) → Octets content → IsInteger content z → SFits w32 z
+signed_fits [] z h is = absurd (omega (arith, is.some))
+signed_fits (first ∷ rest) z h is =
+    let most : 256 ^ length rest ≤ 256 ^ 3 = pow-le-pow_right {n = 256} (lit< tt) {i = length rest} {j = 3} (omega (arith, is.few)) in
+    fits z (omega (arith, (number_is first rest z h is.value).0, most))
+  where
+    fits : (z : ℤ) → magnitude_of z < 2 ^ 31 → SFits w32 z
+    fits (pos n) small = record { sfits = omega (arith, small) }
+    fits (negsuc n) small = record { sfits = omega (arith, small) }
 
 unsigned_least : (content : List ℕ) (n : ℕ) → Octets content → 1 ≤ length content → get_or content 0 0 < 128 → unsigned content ≡ n
     → IsNoShorter (canon_number (pos n)) content

@@ -1,7 +1,7 @@
 -- What is read as a value is one, what is read as none has a tag or content at fault, and what is one
 -- is read.
-use Rattle.std.proofs.Common.{◌≡◌, ℕ, ℤ, pos, ◌+◌, ◌≤◌, true, cond, eqb, ltb, leb, ◌&&◌, ◌⊎◌, List, []}
-use Rattle.std.proofs.Common.{◌∷◌, length, Result, Ok, refl, sym, ap, subst, arith, inl, inr}
+use Rattle.std.proofs.Common.{◌≡◌, ℕ, ℤ, pos, ◌+◌, ◌≤◌, true, cond, eqb, ltb, leb, ◌&&◌, ◌⊎◌, List}
+use Rattle.std.proofs.Common.{[], ◌∷◌, length, Result, Ok, refl, sym, ap, subst, arith, inl, inr}
 use Rattle.std.proofs.lemmas.Bool.{ltb-true, lt-ltb, le-leb, leb-true, eqb-true, eq-eqb, and_parts}
 use Rattle.std.proofs.lemmas.Bool.{and_from, or_cases, or_left, or_right}
 use Rattle.std.proofs.lemmas.List.{nil_from_length}
@@ -12,11 +12,10 @@ use Rattle.snmp_wire.specs.ber.Value.{Datum, integer_value, octet_string, null_v
 use Rattle.snmp_wire.specs.ber.Value.{ip_address, counter32, gauge32, time_ticks, opaque_octets}
 use Rattle.snmp_wire.specs.ber.Value.{counter64, no_such_object, no_such_instance, end_of_mib_view}
 use Rattle.snmp_wire.specs.ber.Spelling.{value_tag, IsContent}
-use Rattle.snmp_wire.specs.ber.Reading.{integer_of, has_width, unsigned_of, empty_of}
-use Rattle.snmp_wire.specs.ber.Reading.{typed_value}
+use Rattle.snmp_wire.specs.ber.Reading.{integer_of, has_width, unsigned_of, empty_of, typed_value}
 use Rattle.snmp_wire.specs.ber.ReadingLaws.{Gives, a_fault, a_value, done, gives_either, gives_so}
 use Rattle.snmp_wire.specs.ber.ReadingLaws.{gives_then}
-use Rattle.snmp_wire.proofs.IdentifierLaws.{identifier_again, identifier_gives}
+use Rattle.snmp_wire.proofs.IdentifierReading.{identifier_again, identifier_gives}
 
 -- ---- numbers
 

@@ -80,11 +80,6 @@ writes_element {old} {mid} {new} {content} {start} {middle} {end} tag w v =
 
 -- ---- values
 
-value_is : (value : Datum)
-    → canon_value value ≡ canon_element (value_tag value) (canon_content value)
-unfolding canon_value
-value_is value = refl
-
 -- the content of an INTEGER
 pub content_number : (z : ℤ) → canon_content (integer_value z) ≡ canon_number z
 unfolding canon_content
@@ -99,30 +94,28 @@ content_text text = refl
 pub sizes_value : (header size : ℕ) (value : Datum)
     → size ≡ length (canon_content value) → header ≡ 1 + length (canon_length size)
     → header + size ≡ length (canon_value value)
+unfolding canon_value
 sizes_value header size value s h =
     element_size (value_tag value) header size (canon_content value) s h
-    ∙ ap length (sym (value_is value))
 
 -- a content has room where its value has
 pub value_content_fits : (end : ℕ) (value : Datum)
     → length (canon_value value) ≤ end → length (canon_content value) ≤ end
-value_content_fits end value room =
-    content_fits (value_tag value) end (canon_content value)
-    (subst (λ (octets : List ℕ). length octets ≤ end) (value_is value) room)
+unfolding canon_value
+value_content_fits end value room = content_fits (value_tag value) end (canon_content value) room
 
 -- and its header has room before it
 pub value_header_fits : {old mid : List ℕ} {middle end : ℕ} (tag : ℕ) (value : Datum)
     → tag ≡ value_tag value → Writes old middle end (canon_content value) mid
     → length (canon_value value) ≤ end → length (canon_header tag (end - middle)) ≤ middle
-value_header_fits {old} {mid} {middle} {end} tag value e w room =
-    header_fits tag w (subst (λ (octets : List ℕ). length octets ≤ end)
-    (value_is value ∙ ap (λ t. canon_element t (canon_content value)) (sym e)) room)
+unfolding canon_value
+value_header_fits tag value e w room = header_fits tag w (rw e room)
 
 -- a header is written before the content of its value
 pub writes_value : {old mid new : List ℕ} {start middle end : ℕ} (tag : ℕ) (value : Datum)
     → tag ≡ value_tag value → Writes old middle end (canon_content value) mid
     → Writes mid start middle (canon_header tag (end - middle)) new
     → Writes old start end (canon_value value) new
+unfolding canon_value
 writes_value tag value e w v =
-    writes_same (writes_element tag w v)
-    (ap (λ t. canon_element t (canon_content value)) e ∙ sym (value_is value))
+    writes_same (writes_element tag w v) (ap (λ t. canon_element t (canon_content value)) e)

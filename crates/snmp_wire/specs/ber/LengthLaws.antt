@@ -19,12 +19,8 @@ use Rattle.snmp_wire.specs.ber.ReadingLaws.{gives_then}
 
 -- ---- octets that end early
 
-zeros : ℕ → List ℕ
+abbrev zeros : ℕ → List ℕ
 zeros n = replicate n 0
-
-length-zeros : (n : ℕ) → length (zeros n) ≡ n
-unfolding zeros
-length-zeros n = length-replicate n 0
 
 pub some_octets : (octets : List ℕ) → 0 < length octets → octets ≢ []
 some_octets octets lt e = let none : length octets ≡ 0 = ap length e in omega arith
@@ -34,7 +30,7 @@ content_short : (tag : ℕ) (lead after : List ℕ) (n : ℕ)
     → IsLength lead n → length after < n → EndsEarly (tag ∷ lead ++ after)
 content_short tag lead after n is_length short =
     let missing = zeros (n - length after) in
-    let size = length-zeros (n - length after) in
+    let size = length-replicate {A = ℕ} (n - length after) 0 in
     let len : length (after ++ missing) ≡ n =
     omega (arith, length-append after missing, size) in
     record {
@@ -54,7 +50,7 @@ length_short : (tag first : ℕ) (rest : List ℕ)
     → 128 < first → first < 133 → length rest < first - 128 → EndsEarly (tag ∷ first ∷ rest)
 length_short tag first rest low high short =
     let more = zeros (first - 128 - length rest) in
-    let size = length-zeros (first - 128 - length rest) in
+    let size = length-replicate {A = ℕ} (first - 128 - length rest) 0 in
     let digits = rest ++ more in
     let len : length digits ≡ first - 128 = omega (arith, length-append rest more, size) in
     let content = zeros (unsigned digits) in
@@ -72,7 +68,7 @@ length_short tag first rest low high short =
       content = content;
       whole = record {
         length_octets = first ∷ digits;
-        is_length = subst (IsLength (first ∷ digits)) (sym (length-zeros (unsigned digits))) is_long;
+        is_length = subst (IsLength (first ∷ digits)) (sym (length-replicate {A = ℕ} (unsigned digits) 0)) is_long;
         parts = ap (λ (o : List ℕ). tag ∷ first ∷ o) (sym (append_assoc rest more content));
       };
     }

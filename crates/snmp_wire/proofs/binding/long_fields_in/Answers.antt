@@ -1,5 +1,5 @@
 use Rattle.snmp_wire.specs.ber.ReadingLaws.{never_err}
-use Rattle.snmp_wire.proofs.BindingLemmas.{begins_ok}
+use Rattle.snmp_wire.proofs.MessageLaws.{begins_ok}
 use Rattle.snmp_wire.proofs.binding.long_fields_in.Goals as goal
 
 pub unreachable-requires : goal.unreachable-requires

@@ -1,6 +1,6 @@
 use Rattle.snmp_wire.specs.ber.Value.{datum}
 use Rattle.snmp_wire.specs.Reading.{fields}
-use Rattle.snmp_wire.proofs.BindingLemmas.{parts_of, binding_made}
+use Rattle.snmp_wire.proofs.MessageLaws.{parts_of, binding_made}
 use Rattle.snmp_wire.proofs.binding.read_binding.Goals as goal
 
 pub push_identifier-requires-clause-is_identifier : goal.push_identifier-requires-clause-is_identifier

@@ -1,5 +1,5 @@
 use Rattle.snmp_wire.specs.Reading.{fields}
-use Rattle.snmp_wire.proofs.BindingLemmas.{BeginsWithBinding, stands}
+use Rattle.snmp_wire.proofs.MessageLaws.{BeginsWithBinding, stands}
 use Rattle.snmp_wire.proofs.binding.read_long.Goals as goal
 use Rattle.snmp_wire.proofs.binding.read_long.Goals.{After-long_fields_in}
 

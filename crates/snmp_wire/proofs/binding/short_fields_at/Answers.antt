@@ -1,4 +1,4 @@
-use Rattle.snmp_wire.proofs.ShortBindings.{Cuts, short_fields}
+use Rattle.snmp_wire.proofs.MessageLaws.{Cuts, short_fields}
 use Rattle.snmp_wire.proofs.binding.short_fields_at.Goals as goal
 
 pub returns-else-name_size-value_size : goal.returns-else-name_size-value_size

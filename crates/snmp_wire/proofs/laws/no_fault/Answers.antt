@@ -1,4 +1,4 @@
-use Rattle.snmp_wire.proofs.Faultless.{no_fault_of}
+use Rattle.snmp_wire.proofs.Faults.{no_fault_of}
 use Rattle.snmp_wire.proofs.laws.no_fault.Goals as goal
 
 pub returns : goal.returns

@@ -1,4 +1,4 @@
-use Rattle.snmp_wire.proofs.OneShortest.{only_shortest, written_is_shortest}
+use Rattle.snmp_wire.proofs.MessageElements.{only_shortest, written_is_shortest}
 use Rattle.snmp_wire.proofs.laws.one_shortest_encoding.Goals as goal
 
 pub returns : goal.returns

@@ -9,7 +9,7 @@ use Rattle.snmp_wire.specs.Spelling.{Spells}
 use Rattle.snmp_wire.specs.ber.Reading.{AgreesBy}
 use Rattle.snmp_wire.specs.Reading.{message_of}
 use Rattle.snmp_wire.proofs.MessageLaws.{message_again}
-use Rattle.snmp_wire.proofs.FaultLaws.{message_faults, message_takes}
+use Rattle.snmp_wire.proofs.Faults.{message_faults, message_takes}
 use Rattle.snmp_wire.proofs.message.decode.Goals as goal
 
 are_octets : (octets : List ℕ) → ((i : ℕ) → get_or octets i 0 < 256) → AreOctets octets

@@ -3,7 +3,7 @@ use Rattle.std.proofs.Math.Seq.{take-append_seam}
 use Rattle.snmp_wire.specs.Canon.{canon_bindings, canon_head}
 use Rattle.snmp_wire.specs.Parts.{parts_message}
 use Rattle.snmp_wire.proofs.BindingWriting.{encoded}
-use Rattle.snmp_wire.proofs.OneShortest.{sealed_is_shortest}
+use Rattle.snmp_wire.proofs.MessageElements.{sealed_is_shortest}
 use Rattle.snmp_wire.proofs.message.encode_head.Goals as goal
 
 pub returns-clause-shortest : goal.returns-clause-shortest

@@ -10,7 +10,7 @@ use Rattle.snmp_wire.specs.ber.Writing.{Writes}
 use Rattle.snmp_wire.specs.ber.ElementLaws.{content_number, value_content_fits, value_header_fits}
 use Rattle.snmp_wire.specs.ber.ElementLaws.{writes_value}
 use Rattle.snmp_wire.specs.ber.WritingLaws.{writes_same}
-use Rattle.snmp_wire.proofs.NumberWriting.{short_number}
+use Rattle.snmp_wire.proofs.CanonLemmas.{short_number}
 use Rattle.snmp_wire.proofs.message.put_integer_element.Goals as goal
 use Rattle.snmp_wire.proofs.message.put_integer_element.Goals.{After-put_octet-start}
 

@@ -3,7 +3,7 @@ use Rattle.std.proofs.lemmas.Bool.{cases_lt}
 use Rattle.snmp_wire.specs.ber.Identifier.{IsObjectId, subidentifiers}
 use Rattle.snmp_wire.specs.ber.ReadingLaws.{ok_value}
 use Rattle.snmp_wire.specs.ber.Reading.{identifier_of}
-use Rattle.snmp_wire.proofs.IdentifierLaws.{identifier_takes}
+use Rattle.snmp_wire.proofs.IdentifierReading.{identifier_takes}
 use Rattle.snmp_wire.proofs.NameOrder.{content_ends}
 use Rattle.snmp_wire.proofs.name.last_octet.Goals as goal
 

@@ -1,57 +1,44 @@
-use Rattle.std.proofs.Common.{◌≡◌, ℕ, ◌+◌, ◌-◌, ◌<◌, ◌≤◌, ◌⊎◌, inl, inr, List, length, get_or}
-use Rattle.std.proofs.Common.{subst, arith}
+use Rattle.std.proofs.Common.{◌≡◌, ℕ, ◌+◌, ◌-◌, ◌<◌, ◌≤◌, inl, inr, List, length, get_or, arith}
 use Rattle.std.proofs.lemmas.Bool.{cases_lt}
 use Rattle.snmp_wire.specs.Name.{IsAlike}
+use Rattle.snmp_wire.proofs.NameOrder.{nothing_alike}
 use Rattle.snmp_wire.proofs.name.words_alike.Goals as goal
 
--- alike from a place on for some octets
-abbrev AreAlike : (octets others : List ℕ) (from count : ℕ) → Type 0
-AreAlike octets others from count = (k : ℕ) → k < count → get_or octets (from + k) 0 ≡ get_or others (from + k) 0
-
 module _ (octets others : List ℕ) where
-  at_front : (count : ℕ) → AreAlike octets others 0 count → (k : ℕ) → k < count → get_or octets k 0 ≡ get_or others k 0
-  at_front count same k low =
-      let P : ℕ → Type 0 = λ i. get_or octets i 0 ≡ get_or others i 0 in
-      let place : 0 + k ≡ k = omega arith in
-      subst P place (same k low)
-
-  -- the first eight
-  eight_alike : (count : ℕ) → 8 ≤ count → 8 ≤ length octets → 8 ≤ length others → AreAlike octets others 0 count → IsAlike octets others 8
-  eight_alike count all these those same = record {
-    short = these;
-    other_short = those;
-    same = λ k low. at_front count same k (omega (arith, low, all));
-  }
-
-  behind : (count from more : ℕ) → IsAlike octets others count → from ≤ count → AreAlike octets others from more
-      → (k : ℕ) → k < from + more → (k < count) ⊎ (count ≤ k) → get_or octets k 0 ≡ get_or others k 0
-  behind count from more h near same k low (inl before) = h.same k before
-  behind count from more h near same k low (inr after) =
-      let P : ℕ → Type 0 = λ i. get_or octets i 0 ≡ get_or others i 0 in
-      let place : from + (k - from) ≡ k = omega (arith, near, after) in
-      subst P place (same (k - from) (omega (arith, low, near, after)))
-
-  -- more, of eight that begin among these or right behind them
+  -- more, of some that begin among those that are alike or right behind them
   more_alike : (count from more : ℕ) → IsAlike octets others count → from ≤ count → from + more ≤ length octets → from + more ≤ length others
-      → AreAlike octets others from more → IsAlike octets others (from + more)
+      → ((k : ℕ) → k < more → get_or octets (from + k) 0 ≡ get_or others (from + k) 0) → IsAlike octets others (from + more)
   more_alike count from more h near these those same = record {
     short = these;
     other_short = those;
-    same = λ k low. behind count from more h near same k low (cases_lt k count);
+    same = λ k low. elim (cases_lt k count) [
+      | inl before ↦ h.same k before
+      | inr after ↦
+          let place : from + (k - from) ≡ k = omega (arith, near, after) in
+          rw place at (same (k - from) (omega (arith, low, near, after)))
+    ];
   }
 
+  -- the first eight
+  eight_alike : (count : ℕ) → 8 ≤ count → 8 ≤ length octets → 8 ≤ length others
+      → ((k : ℕ) → k < count → get_or octets (0 + k) 0 ≡ get_or others (0 + k) 0) → IsAlike octets others 8
+  eight_alike count all these those same =
+      more_alike 0 0 8 (nothing_alike octets others) (omega arith) these those (λ k low. same k (omega (arith, low, all)))
+
 pub returns-then-first-lt8-clause-same : goal.returns-then-first-lt8-clause-same
-returns-then-first-lt8-clause-same c = record {
-  short = omega (arith, c.requires.these, c.requires.at_least_8, c.if-first-lt8.true);
-  other_short = omega (arith, c.requires.others, c.requires.at_least_8, c.if-first-lt8.true);
-  same = at_front c.args.octets.now c.args.others.now c.eight_alike-first.result c.eight_alike-first.ensures.same;
-}
+returns-then-first-lt8-clause-same c =
+    let octets = c.args.octets.now in
+    let others = c.args.others.now in
+    let first = c.eight_alike-first.result in
+    let front : 0 + first ≡ first = omega arith in
+    rw front at (more_alike octets others 0 0 first (nothing_alike octets others) (omega arith)
+    (omega (arith, c.requires.these, c.requires.at_least_8, c.if-first-lt8.true))
+    (omega (arith, c.requires.others, c.requires.at_least_8, c.if-first-lt8.true)) c.eight_alike-first.ensures.same)
 
 pub returns-then-first-lt8-clause-first : goal.returns-then-first-lt8-clause-first
 returns-then-first-lt8-clause-first c = λ low e.
-    let P : ℕ → Type 0 = λ i. get_or c.args.octets.now i 0 ≡ get_or c.args.others.now i 0 in
     let place : c.eight_alike-first.result ≡ 0 + c.eight_alike-first.result = omega arith in
-    c.eight_alike-first.ensures.first c.if-first-lt8.true (subst P place e)
+    c.eight_alike-first.ensures.first c.if-first-lt8.true (rw (← place) e)
 
 pub returns-then-both-le16-clause-same : goal.returns-then-both-le16-clause-same
 returns-then-both-le16-clause-same c =

@@ -1,7 +1,7 @@
 use Rattle.std.proofs.Common.{arith}
 use Rattle.std.proofs.lemmas.Result.{err_from_is_err_and}
 use Rattle.snmp_wire.specs.ber.ReadingLaws.{some_left, none_left}
-use Rattle.snmp_wire.proofs.NumberCounting.{counted_ends, counted_fails, counted_more}
+use Rattle.snmp_wire.proofs.IdentifierReading.{counted_ends, counted_fails, counted_more}
 use Rattle.snmp_wire.proofs.ber.identifier.check_numbers.Goals as goal
 
 pub some_numbers_at-requires : goal.some_numbers_at-requires

@@ -1,4 +1,4 @@
-use Rattle.snmp_wire.proofs.IdentifierLemmas.{plain_fronts}
+use Rattle.snmp_wire.proofs.IdentifierReading.{plain_fronts}
 use Rattle.snmp_wire.proofs.ber.identifier.eight_at.Goals as goal
 
 pub returns-then-are_low-2 : goal.returns-then-are_low-2

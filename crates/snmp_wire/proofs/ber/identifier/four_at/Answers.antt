@@ -1,4 +1,4 @@
-use Rattle.snmp_wire.proofs.IdentifierLemmas.{plain_front}
+use Rattle.snmp_wire.proofs.IdentifierReading.{plain_front}
 use Rattle.snmp_wire.proofs.ber.identifier.four_at.Goals as goal
 
 pub returns-then-are_low : goal.returns-then-are_low

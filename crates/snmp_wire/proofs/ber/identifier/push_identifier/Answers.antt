@@ -1,4 +1,4 @@
-use Rattle.snmp_wire.proofs.IdentifierLaws.{subidentifier_small}
+use Rattle.snmp_wire.proofs.IdentifierReading.{subidentifier_small}
 use Rattle.snmp_wire.proofs.ber.identifier.push_identifier.Goals as goal
 
 pub first_number-requires : goal.first_number-requires

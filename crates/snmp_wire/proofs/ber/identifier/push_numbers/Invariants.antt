@@ -1,6 +1,6 @@
 use Rattle.std.proofs.Common.{◌≡◌, ◌-◌, ◌++◌, length, Ok}
 use Rattle.snmp_wire.specs.ber.Reading.{numbers_of, numbers_in}
-use Rattle.snmp_wire.proofs.IdentifierLemmas.{with_front}
+use Rattle.snmp_wire.proofs.IdentifierReading.{with_front}
 use Rattle.snmp_wire.proofs.ber.identifier.push_numbers.Given as goal
 
 abbrev pub invariant-numbers : goal.invariant-numbers

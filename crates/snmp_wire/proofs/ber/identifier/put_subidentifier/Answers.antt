@@ -1,13 +1,13 @@
 use Rattle.std.proofs.Common.{◌/◌, sym, arith}
 use Rattle.snmp_wire.proofs.IdentifierWriting.{length-canon_subidentifier, one_septet}
-use Rattle.snmp_wire.proofs.IdentifierWriting.{subidentifier_short, subidentifier_some}
+use Rattle.snmp_wire.proofs.IdentifierWriting.{subidentifier_short, size_some}
 use Rattle.snmp_wire.proofs.IdentifierWriting.{subidentifier_three, subidentifier_two, two_septets}
 use Rattle.snmp_wire.proofs.IdentifierWriting.{writes_subidentifier}
 use Rattle.snmp_wire.specs.ber.WritingLaws.{writes_same, writes_then}
 use Rattle.snmp_wire.proofs.ber.identifier.put_subidentifier.Goals as goal
 
 pub put_octet-last-requires-clause-room : goal.put_octet-last-requires-clause-room
-put_octet-last-requires-clause-room c = omega (arith, length-canon_subidentifier c.args.number, subidentifier_some c.args.number)
+put_octet-last-requires-clause-room c = omega (arith, length-canon_subidentifier c.args.number, size_some c.args.number)
 
 pub returns-then-number-lt128 : goal.returns-then-number-lt128
 returns-then-number-lt128 c = writes_same c.put_octet.ensures (sym (subidentifier_short c.args.number c.if-number-lt128.true))
@@ -55,4 +55,4 @@ pub returns : goal.returns
 returns c = writes_subidentifier c.args.number c.septets_size.result c.septets_size.ensures.value c.put_octet-last.ensures c.put_septets.ensures
 
 pub put_octet-requires-clause-room : goal.put_octet-requires-clause-room
-put_octet-requires-clause-room c = omega (arith, length-canon_subidentifier c.args.number, subidentifier_some c.args.number)
+put_octet-requires-clause-room c = omega (arith, length-canon_subidentifier c.args.number, size_some c.args.number)

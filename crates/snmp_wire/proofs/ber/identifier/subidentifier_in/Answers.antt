@@ -1,17 +1,17 @@
-use Rattle.snmp_wire.proofs.KnownLemmas.{subidentifier_some, subidentifier_plain}
-use Rattle.snmp_wire.proofs.KnownLemmas.{subidentifier_longer, subidentifier_of_two}
-use Rattle.snmp_wire.proofs.KnownLemmas.{subidentifier_longest, subidentifier_of_three}
+use Rattle.snmp_wire.proofs.IdentifierReading.{read_some, subidentifier_plain, subidentifier_longer}
+use Rattle.snmp_wire.proofs.IdentifierReading.{subidentifier_of_two, subidentifier_longest}
+use Rattle.snmp_wire.proofs.IdentifierReading.{subidentifier_of_three}
 use Rattle.snmp_wire.proofs.ber.identifier.subidentifier_in.Goals as goal
 
 pub bounds-octets-0 : goal.bounds-octets-0
-bounds-octets-0 c = subidentifier_some c.args.octets.now c.requires
+bounds-octets-0 c = read_some c.args.octets.now c.requires
 
 pub split_at-requires : goal.split_at-requires
-split_at-requires c = subidentifier_some c.args.octets.now c.requires
+split_at-requires c = read_some c.args.octets.now c.requires
 
 pub returns-then-high-lt128 : goal.returns-then-high-lt128
 returns-then-high-lt128 c = rw (c.from.ensures, c.split_at.ensures.back)
-    (subidentifier_plain c.args.octets.now (subidentifier_some c.args.octets.now c.requires) c.if-high-lt128.true)
+    (subidentifier_plain c.args.octets.now (read_some c.args.octets.now c.requires) c.if-high-lt128.true)
 
 pub bounds-octets-1 : goal.bounds-octets-1
 bounds-octets-1 c = subidentifier_longer c.args.octets.now c.requires c.if-high-lt128.false

@@ -1,5 +1,5 @@
 use Rattle.std.proofs.Common.{◌∙◌}
-use Rattle.snmp_wire.proofs.NumberWriting.{four_octets}
+use Rattle.snmp_wire.proofs.CanonLemmas.{four_octets}
 use Rattle.snmp_wire.specs.ber.WritingLaws.{writes_same}
 use Rattle.snmp_wire.proofs.ber.number.put_four.Goals as goal
 

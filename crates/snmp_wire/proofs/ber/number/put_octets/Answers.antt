@@ -1,6 +1,6 @@
 use Rattle.std.proofs.Common.{ap, sym, ◌∙◌}
 use Rattle.snmp_wire.specs.ber.Canon.{octets}
-use Rattle.snmp_wire.proofs.NumberWriting.{one_octet, two_octets}
+use Rattle.snmp_wire.proofs.CanonLemmas.{one_octet, two_octets}
 use Rattle.snmp_wire.specs.ber.WritingLaws.{writes_same, writes_then}
 use Rattle.snmp_wire.proofs.ber.number.put_octets.Goals as goal
 

@@ -1,5 +1,5 @@
 use Rattle.std.proofs.Common.{arith, sym}
-use Rattle.snmp_wire.proofs.NumberWriting.{size_five, size_four}
+use Rattle.snmp_wire.proofs.CanonLemmas.{size_five, size_four}
 use Rattle.snmp_wire.proofs.ber.number.unsigned32_size.Goals as goal
 
 pub returns-then-number-2-clause-value : goal.returns-then-number-2-clause-value

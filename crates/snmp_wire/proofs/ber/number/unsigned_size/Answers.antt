@@ -1,5 +1,5 @@
 use Rattle.std.proofs.Common.{arith, sym}
-use Rattle.snmp_wire.proofs.NumberWriting.{size_of_bits, size_one}
+use Rattle.snmp_wire.proofs.CanonLemmas.{size_of_bits, size_one}
 use Rattle.snmp_wire.proofs.ber.number.unsigned_size.Goals as goal
 
 pub returns-then-number-lt128-clause-value : goal.returns-then-number-lt128-clause-value

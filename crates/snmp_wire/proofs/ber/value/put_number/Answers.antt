@@ -1,11 +1,11 @@
 use Rattle.std.proofs.Common.{length, pos, ap, arith, sym, ◌∙◌}
 use Rattle.snmp_wire.specs.ber.Canon.{canon_number}
-use Rattle.snmp_wire.proofs.CanonLemmas.{length-from_zero}
+use Rattle.snmp_wire.proofs.CanonLemmas.{length-from_zero, fifth_octet_fits, four_octets_fit}
+use Rattle.snmp_wire.proofs.CanonLemmas.{size_five, size_four, writes_five_octets}
+use Rattle.snmp_wire.proofs.CanonLemmas.{writes_four_octets}
 use Rattle.snmp_wire.proofs.Digits.{length-digits}
 use Rattle.snmp_wire.specs.ber.ElementLaws.{content_fits, header_fits, writes_element}
 use Rattle.snmp_wire.proofs.ElementLemmas.{number_short, sized_header_fits, writes_sized}
-use Rattle.snmp_wire.proofs.NumberWriting.{fifth_octet_fits, four_octets_fit, size_five, size_four}
-use Rattle.snmp_wire.proofs.NumberWriting.{writes_five_octets, writes_four_octets}
 use Rattle.snmp_wire.specs.ber.WritingLaws.{writes_same}
 use Rattle.snmp_wire.proofs.ber.value.put_number.Goals as goal
 

@@ -1,7 +1,7 @@
 use Rattle.std.proofs.Common.{refl, sym, ◌∙◌}
 use Rattle.snmp_wire.specs.Reading.{fields}
 use Rattle.snmp_wire.specs.ber.ReadingLaws.{some_left, none_left}
-use Rattle.snmp_wire.proofs.BindingLemmas.{stands, bindings_in_end}
+use Rattle.snmp_wire.proofs.MessageLaws.{stands, bindings_in_end}
 use Rattle.snmp_wire.proofs.binding.Bindings.read_next.Goals as goal
 
 pub returns-then-is_empty-clause-none : goal.returns-then-is_empty-clause-none

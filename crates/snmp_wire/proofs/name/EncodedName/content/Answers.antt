@@ -1,8 +1,7 @@
 use Rattle.std.proofs.Common.{List, ℕ, length, ap, subst, arith}
 use Rattle.snmp_wire.specs.ber.Identifier.{IsObjectId}
 use Rattle.snmp_wire.proofs.Digits.{octets_by}
-use Rattle.snmp_wire.proofs.NameContents.{canonical}
-use Rattle.snmp_wire.proofs.NameOrder.{content_short, is_name}
+use Rattle.snmp_wire.proofs.NameOrder.{canonical, content_short, is_name}
 use Rattle.snmp_wire.proofs.name.EncodedName.content.Goals as goal
 
 pub returns-clause-encodes : goal.returns-clause-encodes

@@ -1,7 +1,7 @@
 use Rattle.std.proofs.Common.{refl, true≢false, sym}
 use Rattle.snmp_wire.specs.ber.ReadingLaws.{err_checked, never_err, is_ok_at}
 use Rattle.snmp_wire.specs.ber.Reading.{identifier_of}
-use Rattle.snmp_wire.proofs.IdentifierLaws.{identifier_again, identifier_takes}
+use Rattle.snmp_wire.proofs.IdentifierReading.{identifier_again, identifier_takes}
 use Rattle.snmp_wire.proofs.name.EncodedName.read.Goals as goal
 
 pub returns-in-Ok-clause-some : goal.returns-in-Ok-clause-some

@@ -3,9 +3,9 @@ use Rattle.snmp_wire.specs.ber.Canon.{canon_content}
 use Rattle.snmp_wire.specs.ber.Reading.{identifier_of}
 use Rattle.snmp_wire.specs.ber.ReadingLaws.{is_ok_at, ok_is}
 use Rattle.snmp_wire.specs.ber.Value.{object_id}
-use Rattle.snmp_wire.proofs.IdentifierLaws.{identifier_again}
+use Rattle.snmp_wire.proofs.IdentifierReading.{identifier_again}
 use Rattle.snmp_wire.proofs.NameOrder.{content_short}
-use Rattle.snmp_wire.proofs.StrictIdentifiers.{is_object_id}
+use Rattle.snmp_wire.proofs.IdentifierWriting.{is_object_id}
 use Rattle.snmp_wire.proofs.WritingLemmas.{written_to_end}
 use Rattle.snmp_wire.proofs.name.EncodedName.write.Goals as goal
 use Rattle.snmp_wire.proofs.name.EncodedName.write.Goals.{After-put_identifier-start}

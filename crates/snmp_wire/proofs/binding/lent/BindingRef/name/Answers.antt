@@ -1,7 +1,7 @@
 use Rattle.std.proofs.Common.{◌∙◌, ap}
 use Rattle.snmp_wire.specs.Message.{VarBind}
 use Rattle.snmp_wire.specs.Reading.{fields}
-use Rattle.snmp_wire.proofs.BindingLemmas.{name_of, parts_of, with_fields}
+use Rattle.snmp_wire.proofs.MessageLaws.{name_of, parts_of, with_fields}
 use Rattle.snmp_wire.proofs.binding.lent.BindingRef.name.Goals as goal
 
 pub of-requires : goal.of-requires

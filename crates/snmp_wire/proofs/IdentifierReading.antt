@@ -1,0 +1,587 @@
+-- Reading identifiers, a subidentifier or a number at a time: what is read as one is one, what is
+-- read as none has content at fault, and what is one is read.
+use Rattle.std.proofs.Common.{◌≡◌, ℕ, ◌+◌, ◌*◌, ◌%◌, ◌^◌, ◌<◌, ◌≤◌, cond, eqb, ltb, List, [], ◌∷◌}
+use Rattle.std.proofs.Common.{length, get_or, drop, Result, Ok, Err, IsOk, refl, sym, ◌∙◌, arith}
+use Rattle.std.proofs.Common.{zero, suc, ◌-◌, ◌++◌, take, All, ap, append_assoc, ◌≢◌, map, subst}
+use Rattle.std.proofs.Common.{lit<, inl, inr, ⊎_elim}
+use Rattle.std.proofs.lemmas.Bool.{ltb-true, lt-ltb, le-ltb, ltb-false, eqb-false, ne_eqb, cases_lt}
+use Rattle.std.proofs.lemmas.Grind.{common_steps}
+use Rattle.std.proofs.lemmas.List.Elements.{All-head, All-tail, All-cons, All-nil, All-append}
+use Rattle.std.proofs.lemmas.List.Elements.{All-from_recursion, recursion_from_All}
+use Rattle.std.proofs.lemmas.List.{at_drop_more, at_drop_all, length_push, append-nil}
+use Rattle.std.proofs.lemmas.List.{nil_from_length, length-append, length-map}
+use Rattle.std.proofs.Math.Nat.{pow-suc, one-le-pow, mul-le-mul_left}
+use Rattle.std.specs.Result.{result_unwrap_or}
+use Rattle.std.specs.List.{AllByRecursion}
+use Rattle.snmp_wire.specs.declared.ber.error.BerError.{BerError}
+use Rattle.snmp_wire.specs.declared.ber.error.BerError.TheVariants as error
+use Rattle.snmp_wire.specs.ber.Reading.{◌>>=◌, subidentifier_from, subidentifier_at, number_at}
+use Rattle.snmp_wire.specs.ber.Reading.{checked, largest_subidentifier, numbers_of, numbers_in}
+use Rattle.snmp_wire.specs.ber.Reading.{IsPlainFront, first_number, second_number, identifier_of}
+use Rattle.snmp_wire.specs.ber.ReadingLaws.{done, passed, refused, ok_value, failed, ok_is}
+use Rattle.snmp_wire.specs.ber.ReadingLaws.{checked_err, is_ok_at, Gives, a_fault, a_value, failing}
+use Rattle.snmp_wire.specs.ber.ReadingLaws.{given, gives_either, gives_so, gives_then}
+use Rattle.snmp_wire.specs.ber.Number.{number_of}
+use Rattle.snmp_wire.specs.ber.Identifier.{IsSubidentifier, AreSubidentifiers, IsObjectId}
+use Rattle.snmp_wire.proofs.IdentifierWriting.{subidentifier_some}
+
+-- the first step of what is right
+pub first_ok : {A B : Type 0} (r : Result A BerError) (f : A → Result B BerError) → IsOk (r >>= f) → IsOk r
+first_ok (Ok x) f h = refl
+first_ok (Err d) f h = absurd cc
+
+-- ---- subidentifiers
+
+pub read_some : (octets : List ℕ) → IsOk (subidentifier_at octets) → 0 < length octets
+unfolding subidentifier_at
+read_some [] h = absurd cc
+read_some (octet ∷ rest) h = omega arith
+
+pub subidentifier_plain : (octets : List ℕ) → 0 < length octets → get_or octets 0 0 < 128 → subidentifier_at octets ≡ Ok (get_or octets 0 0, drop 1 octets)
+unfolding subidentifier_at subidentifier_from
+subidentifier_plain [] some small = absurd (omega arith)
+subidentifier_plain (octet ∷ rest) some small =
+    let same : octet % 128 ≡ octet = omega (arith, small) in
+    grind (arith, common_steps)
+
+pub subidentifier_longer : (octets : List ℕ) → IsOk (subidentifier_at octets) → 128 ≤ get_or octets 0 0 → 1 < length octets
+unfolding subidentifier_at subidentifier_from
+subidentifier_longer [] h large = absurd cc
+subidentifier_longer (octet ∷ []) h large = absurd (grind (arith, common_steps))
+subidentifier_longer (octet ∷ low ∷ rest) h large = omega arith
+
+pub subidentifier_of_two : (octets : List ℕ) → IsOk (subidentifier_at octets) → 128 ≤ get_or octets 0 0 → get_or octets 1 0 < 128
+    → subidentifier_at octets ≡ Ok (get_or octets 0 0 % 128 * 128 + get_or octets 1 0, drop 2 octets)
+unfolding subidentifier_at subidentifier_from
+subidentifier_of_two [] h large small = absurd cc
+subidentifier_of_two (octet ∷ []) h large small = absurd (grind (arith, common_steps))
+subidentifier_of_two (octet ∷ low ∷ rest) h large small = grind (arith, common_steps)
+
+pub subidentifier_longest : (octets : List ℕ) → IsOk (subidentifier_at octets) → 128 ≤ get_or octets 0 0 → 128 ≤ get_or octets 1 0
+    → 2 < length octets
+unfolding subidentifier_at subidentifier_from
+subidentifier_longest [] h large more = absurd cc
+subidentifier_longest (octet ∷ []) h large more = absurd (grind (arith, common_steps))
+subidentifier_longest (octet ∷ low ∷ []) h large more = absurd (grind (arith, common_steps))
+subidentifier_longest (octet ∷ low ∷ last ∷ rest) h large more = omega arith
+
+pub subidentifier_of_three : (octets : List ℕ) → IsOk (subidentifier_at octets) → 128 ≤ get_or octets 0 0 → 128 ≤ get_or octets 1 0
+    → get_or octets 2 0 < 128
+    → subidentifier_at octets ≡ Ok ((get_or octets 0 0 % 128 * 128 + get_or octets 1 0 % 128) * 128 + get_or octets 2 0, drop 3 octets)
+unfolding subidentifier_at subidentifier_from
+subidentifier_of_three [] h large more small = absurd cc
+subidentifier_of_three (octet ∷ []) h large more small = absurd (grind (arith, common_steps))
+subidentifier_of_three (octet ∷ low ∷ []) h large more small = absurd (grind (arith, common_steps))
+subidentifier_of_three (octet ∷ low ∷ last ∷ rest) h large more small = grind (arith, common_steps)
+
+pub digits_ok : (octets : List ℕ) → IsOk (subidentifier_at octets) → subidentifier_at octets ≡ subidentifier_from 0 octets
+unfolding subidentifier_at
+digits_ok [] h = absurd cc
+digits_ok (octet ∷ rest) h =
+    let x = ok_value (subidentifier_at (octet ∷ rest)) h in
+    x.1 ∙ sym ((refused (eqb octet 128) (subidentifier_from 0 (octet ∷ rest)) error.Content x.0 x.1).1)
+
+pub number_subidentifier : (octets : List ℕ) → IsOk (number_at octets) → IsOk (subidentifier_at octets)
+unfolding number_at
+number_subidentifier octets h = first_ok (subidentifier_at octets) (λ n. cond (ltb n.0 (2 ^ 32)) (Ok n) (Err error.Content)) h
+
+small_number : (read : Result (ℕ × List ℕ) BerError) (n : ℕ) (rest : List ℕ) (y : ℕ × List ℕ) → read ≡ Ok (n, rest)
+    → (read >>= λ n. cond (ltb n.0 (2 ^ 32)) (Ok n) (Err error.Content)) ≡ Ok y → n < 2 ^ 32
+small_number read n rest y e h =
+    let tested : cond (ltb n (2 ^ 32)) (Ok (n, rest)) (Err error.Content) ≡ Ok y = rw e at h in
+    ltb-true n (2 ^ 32) (passed (ltb n (2 ^ 32)) (done (n, rest)) error.Content y tested).0
+
+pub number_small : (octets : List ℕ) (n : ℕ) (rest : List ℕ) → IsOk (number_at octets) → subidentifier_at octets ≡ Ok (n, rest) → n < 2 ^ 32
+unfolding number_at
+number_small octets n rest h e =
+    let x = ok_value (number_at octets) h in
+    small_number (subidentifier_at octets) n rest x.0 e x.1
+
+pub number_is : (octets : List ℕ) (n : ℕ) (rest : List ℕ) → IsOk (number_at octets) → subidentifier_at octets ≡ Ok (n, rest) → number_at octets ≡ Ok (n, rest)
+unfolding number_at
+number_is octets n rest h e = rw (e, lt-ltb n (2 ^ 32) (number_small octets n rest h e)) refl
+
+-- ---- the loop over the octets of a subidentifier
+
+abbrev next_of : ℕ → List ℕ → ℕ → ℕ
+next_of n octets i = n * 128 + get_or octets i 0 % 128
+
+from_step : (n : ℕ) (octets : List ℕ) (i : ℕ) → i < length octets → subidentifier_from n (drop i octets)
+    ≡ cond (ltb largest_subidentifier (next_of n octets i)) (Err error.Content)
+    (cond (ltb (get_or octets i 0) 128) (Ok (next_of n octets i, drop (i + 1) octets)) (subidentifier_from (next_of n octets i) (drop (i + 1) octets)))
+unfolding subidentifier_from
+from_step n octets i lt = at_drop_more (subidentifier_from n) octets i 0 lt
+
+pub digit_is_large : (n : ℕ) (octets : List ℕ) (i : ℕ) → i < length octets → largest_subidentifier < n * 128 + get_or octets i 0 % 128
+    → subidentifier_from n (drop i octets) ≡ Err error.Content
+digit_is_large n octets i lt large = from_step n octets i lt ∙ rw (lt-ltb largest_subidentifier (next_of n octets i) large) refl
+
+pub digit_is_last : (n : ℕ) (octets : List ℕ) (i : ℕ) → i < length octets → n * 128 + get_or octets i 0 % 128 ≤ largest_subidentifier → get_or octets i 0 < 128
+    → subidentifier_from n (drop i octets) ≡ Ok (n * 128 + get_or octets i 0 % 128, drop (i + 1) octets)
+digit_is_last n octets i lt small last = from_step n octets i lt ∙ rw (
+  le-ltb largest_subidentifier (next_of n octets i) small,
+  lt-ltb (get_or octets i 0) 128 last,
+) refl
+
+pub digit_goes_on : (n : ℕ) (octets : List ℕ) (i : ℕ) → i < length octets → n * 128 + get_or octets i 0 % 128 ≤ largest_subidentifier → 128 ≤ get_or octets i 0
+    → subidentifier_from n (drop i octets) ≡ subidentifier_from (n * 128 + get_or octets i 0 % 128) (drop (i + 1) octets)
+digit_goes_on n octets i lt small more = from_step n octets i lt ∙ rw (
+  le-ltb largest_subidentifier (next_of n octets i) small,
+  le-ltb (get_or octets i 0) 128 more,
+) refl
+
+pub digits_end : (n : ℕ) (octets : List ℕ) (i : ℕ) → length octets ≤ i → subidentifier_from n (drop i octets) ≡ Err error.Content
+unfolding subidentifier_from
+digits_end n octets i le = at_drop_all (subidentifier_from n) octets i le
+
+-- ---- the loops over numbers
+
+pub numbers_full : (octets : List ℕ) → 0 < length octets → numbers_of 0 octets ≡ Err error.Content
+unfolding numbers_of
+numbers_full [] some = absurd (omega arith)
+numbers_full (octet ∷ rest) some = refl
+
+pub numbers_end : (room : ℕ) (octets : List ℕ) → length octets ≡ 0 → numbers_of room octets ≡ Ok []
+unfolding numbers_of
+numbers_end room octets none = ap (numbers_of room) (nil_from_length octets none)
+
+pub numbers_step : (room : ℕ) (octets : List ℕ) → 0 < length octets → 0 < room
+    → numbers_of room octets ≡ (number_at octets >>= λ n. numbers_of (room - 1) n.1 >>= λ more. Ok (n.0 ∷ more))
+unfolding numbers_of
+numbers_step room [] some has_room = absurd (omega arith)
+numbers_step zero (octet ∷ rest) some has_room = absurd (omega arith)
+numbers_step (suc room) (octet ∷ rest) some has_room =
+    let less : suc room - 1 ≡ room = omega arith in
+    rw less refl
+
+pub check_fails : (room : ℕ) (octets : List ℕ) (e : BerError) (total : Result (Unit {0}) BerError) → 0 < length octets → 0 < room → number_at octets ≡ Err e
+    → checked (numbers_of room octets) ≡ total → total ≡ Err e
+check_fails room octets e total some has_room h so_far = sym so_far ∙ checked_err (numbers_of room octets) e
+    (numbers_step room octets some has_room ∙ rw h refl)
+
+forget : (n : ℕ) (read : Result (List ℕ) BerError) → checked (read >>= λ more. Ok (n ∷ more)) ≡ checked read
+forget n (Ok more) = refl
+forget n (Err e) = refl
+
+pub check_goes_on : (room : ℕ) (octets : List ℕ) (n : ℕ) (after : List ℕ) (total : Result (Unit {0}) BerError) → 0 < length octets → 0 < room
+    → number_at octets ≡ Ok (n, after)
+    → checked (numbers_of room octets) ≡ total → checked (numbers_of (room - 1) after) ≡ total
+check_goes_on room octets n after total some has_room h so_far =
+    let one : numbers_of room octets ≡ (numbers_of (room - 1) after >>= λ more. Ok (n ∷ more)) = numbers_step room octets some has_room ∙ rw h refl in
+    sym (ap checked one ∙ forget n (numbers_of (room - 1) after)) ∙ so_far
+
+-- what was read before, and what is still read
+abbrev pub with_front : List ℕ → Result (List ℕ) BerError → Result (List ℕ) BerError
+with_front front read = read >>= λ more. Ok (front ++ more)
+
+pub push_has_room : (front octets whole : List ℕ) (room : ℕ) → 0 < length octets → with_front front (numbers_of room octets) ≡ Ok whole → 0 < room
+push_has_room front octets whole zero some so_far =
+    let full : with_front front (numbers_of 0 octets) ≡ Err error.Content = rw (numbers_full octets some) refl in
+    absurd (let both : done whole ≡ failed error.Content = sym so_far ∙ full in cc)
+push_has_room front octets whole (suc room) some so_far = omega arith
+
+regroup : (front : List ℕ) (n : ℕ) (read : Result (List ℕ) BerError) → with_front front (read >>= λ more. Ok (n ∷ more)) ≡ with_front (front ++ n ∷ []) read
+regroup front n (Ok more) = ap done (sym (append_assoc front (n ∷ []) more))
+regroup front n (Err e) = refl
+
+pub push_goes_on : (front octets whole : List ℕ) (n : ℕ) (after : List ℕ) → 0 < length octets → number_at octets ≡ Ok (n, after)
+    → with_front front (numbers_of (128 - length front) octets) ≡ Ok whole
+    → with_front (front ++ n ∷ []) (numbers_of (128 - length (front ++ n ∷ [])) after) ≡ Ok whole
+push_goes_on front octets whole n after some h so_far =
+    let room : 0 < 128 - length front = push_has_room front octets whole (128 - length front) some so_far in
+    let one : numbers_of (128 - length front) octets ≡ (numbers_of (128 - length front - 1) after >>= λ more. Ok (n ∷ more)) =
+    numbers_step (128 - length front) octets some room ∙ rw h refl in
+    let less : 128 - length (front ++ n ∷ []) ≡ 128 - length front - 1 = omega (arith, length_push front n) in
+    rw less (sym (ap (with_front front) one ∙ regroup front n (numbers_of (128 - length front - 1) after)) ∙ so_far)
+
+pub push_ends : (front octets whole : List ℕ) (room : ℕ) → length octets ≡ 0 → with_front front (numbers_of room octets) ≡ Ok whole → front ≡ whole
+push_ends front octets whole room none so_far =
+    let e : with_front front (numbers_of room octets) ≡ Ok front = rw (numbers_end room octets none) (ap done (append-nil front)) in
+    ok_is front whole (sym e ∙ so_far)
+
+kept : (read : Result (List ℕ) BerError) (front : List ℕ) → IsOk read → with_front front read ≡ Ok (front ++ result_unwrap_or read [])
+kept (Ok more) front h = refl
+kept (Err e) front h = absurd cc
+
+pub start : (front octets : List ℕ) → length front ≡ 2 → IsOk (numbers_of 126 octets)
+    → with_front front (numbers_of (128 - length front) octets) ≡ Ok (front ++ numbers_in octets)
+start front octets two h =
+    let room : 128 - length front ≡ 126 = omega arith in
+    rw room (kept (numbers_of 126 octets) front h)
+
+-- ---- numbers of one octet each
+
+pub plain_number : (n : ℕ) (rest : List ℕ) → n < 128 → number_at (n ∷ rest) ≡ Ok (n, rest)
+unfolding number_at subidentifier_at subidentifier_from
+plain_number n rest lt =
+    let same : n % 128 ≡ n = omega (arith, lt) in
+    grind (arith, common_steps)
+
+abbrev is_plain : ℕ → Type 0
+is_plain n = n < 128
+
+pub check_skips : (numbers rest : List ℕ) (room : ℕ) → All (λ n. n < 128) numbers → length numbers ≤ room
+    → checked (numbers_of (room - length numbers) rest) ≡ checked (numbers_of room (numbers ++ rest))
+check_skips [] rest room plain fits =
+    let none : room - length {A = ℕ} [] ≡ room = omega arith in
+    rw none refl
+check_skips (n ∷ ns) rest room plain fits =
+    let one = check_goes_on room (n ∷ (ns ++ rest)) n (ns ++ rest) _ (omega arith) (omega arith)
+    (plain_number n (ns ++ rest) (All-head is_plain n ns plain)) refl in
+    let less : room - length (n ∷ ns) ≡ room - 1 - length ns = omega arith in
+    rw less (check_skips ns rest (room - 1) (All-tail is_plain n ns plain) (omega arith) ∙ one)
+
+pub push_fits : (front numbers rest whole : List ℕ) → length front ≤ 128 → All (λ n. n < 128) numbers
+    → with_front front (numbers_of (128 - length front) (numbers ++ rest)) ≡ Ok whole → length front + length numbers ≤ 128
+push_fits front [] rest whole short plain so_far = omega arith
+push_fits front (n ∷ ns) rest whole short plain so_far =
+    let room = push_has_room front (n ∷ (ns ++ rest)) whole (128 - length front) (omega arith) so_far in
+    let more = push_goes_on front (n ∷ (ns ++ rest)) whole n (ns ++ rest) (omega arith) (plain_number n (ns ++ rest) (All-head is_plain n ns plain)) so_far in
+    let all = push_fits (front ++ n ∷ []) ns rest whole (omega (arith, length_push front n)) (All-tail is_plain n ns plain) more in
+    omega (arith, length_push front n)
+
+pub push_skips : (front numbers rest whole : List ℕ) → All (λ n. n < 128) numbers
+    → with_front front (numbers_of (128 - length front) (numbers ++ rest)) ≡ Ok whole
+    → with_front (front ++ numbers) (numbers_of (128 - length (front ++ numbers)) rest) ≡ Ok whole
+push_skips front [] rest whole plain so_far = rw (append-nil front) so_far
+push_skips front (n ∷ ns) rest whole plain so_far =
+    let more = push_goes_on front (n ∷ (ns ++ rest)) whole n (ns ++ rest) (omega arith) (plain_number n (ns ++ rest) (All-head is_plain n ns plain)) so_far in
+    let all = push_skips (front ++ n ∷ []) ns rest whole (All-tail is_plain n ns plain) more in
+    let same : (front ++ n ∷ []) ++ ns ≡ front ++ (n ∷ ns) = append_assoc front (n ∷ []) ns in
+    rw same at all
+
+-- four octets without high bits
+abbrev pub AreLow : List ℕ → ℕ → Type 0
+AreLow octets i = (get_or octets i 0 < 128) × (get_or octets (i + 1) 0 < 128) × (get_or octets (i + 2) 0 < 128) × (get_or octets (i + 3) 0 < 128)
+
+pub plain_front : (octets : List ℕ) → 4 ≤ length octets → AreLow octets 0 → IsPlainFront 4 (take 4 octets) (drop 4 octets) octets
+plain_front [] long low = absurd (omega arith)
+plain_front (a ∷ []) long low = absurd (omega arith)
+plain_front (a ∷ b ∷ []) long low = absurd (omega arith)
+plain_front (a ∷ b ∷ c ∷ []) long low = absurd (omega arith)
+plain_front (a ∷ b ∷ c ∷ d ∷ rest) long low = (
+  refl,
+  refl,
+  All-cons is_plain a (b ∷ c ∷ d ∷ []) low.0 (All-cons is_plain b (c ∷ d ∷ []) low.1
+      (All-cons is_plain c (d ∷ []) low.2 (All-cons is_plain d [] low.3 (All-nil is_plain)))),
+)
+
+-- eight, as four and four
+pub plain_fronts : (octets : List ℕ) → 8 ≤ length octets → AreLow octets 0 → AreLow octets 4 → IsPlainFront 8 (take 8 octets) (drop 8 octets) octets
+plain_fronts [] long low high = absurd (omega arith)
+plain_fronts (a ∷ []) long low high = absurd (omega arith)
+plain_fronts (a ∷ b ∷ []) long low high = absurd (omega arith)
+plain_fronts (a ∷ b ∷ c ∷ []) long low high = absurd (omega arith)
+plain_fronts (a ∷ b ∷ c ∷ d ∷ more) long low high =
+    let front = plain_front (a ∷ b ∷ c ∷ d ∷ []) (omega arith) low in
+    let back = plain_front more (omega arith) high in
+    let all : All is_plain ((a ∷ b ∷ c ∷ d ∷ []) ++ take 4 more) = All-append is_plain (a ∷ b ∷ c ∷ d ∷ []) (take 4 more) front.2 back.2 in
+    (ap (λ (tail : List ℕ). a ∷ b ∷ c ∷ d ∷ tail) back.0, omega (arith, back.1), all)
+
+pub check_plain : (count : ℕ) (numbers rest octets : List ℕ) (room : ℕ) → IsPlainFront count numbers rest octets → count ≤ room
+    → checked (numbers_of (room - count) rest) ≡ checked (numbers_of room octets)
+check_plain count numbers rest octets room front fits =
+    let skipped = check_skips numbers rest room front.2 (omega (arith, front.1)) in
+    rw front.0 (rw front.1 at skipped)
+
+pub plain_fits : (count : ℕ) (front numbers rest octets whole : List ℕ) → 0 < length octets → IsPlainFront count numbers rest octets
+    → with_front front (numbers_of (128 - length front) octets) ≡ Ok whole → length front + count ≤ 128
+plain_fits count front numbers rest octets whole some plain so_far =
+    let room = push_has_room front octets whole (128 - length front) some so_far in
+    let fits = push_fits front numbers rest whole (omega arith) plain.2 (rw plain.0 at so_far) in
+    omega (arith, fits, plain.1)
+
+pub push_plain : (count : ℕ) (front numbers rest octets whole : List ℕ) → IsPlainFront count numbers rest octets
+    → with_front front (numbers_of (128 - length front) octets) ≡ Ok whole
+    → with_front (front ++ numbers) (numbers_of (128 - length (front ++ numbers)) rest) ≡ Ok whole
+push_plain count front numbers rest octets whole plain so_far = push_skips front numbers rest whole plain.2 (rw plain.0 at so_far)
+
+pub number_ok : (front octets whole : List ℕ) → 0 < length octets → with_front front (numbers_of (128 - length front) octets) ≡ Ok whole
+    → IsOk (number_at octets)
+number_ok front octets whole some so_far =
+    let room = push_has_room front octets whole (128 - length front) some so_far in
+    let step : with_front front (number_at octets >>= λ n. numbers_of (128 - length front - 1) n.1 >>= λ more. Ok (n.0 ∷ more)) ≡ Ok whole =
+    rw (numbers_step (128 - length front) octets some room) at so_far in
+    first_ok (number_at octets) _ (first_ok _ _ (is_ok_at _ whole step))
+
+-- ---- subidentifiers
+
+abbrev digits : List ℕ → List ℕ
+digits octets = map (λ octet. octet % 128) octets
+
+-- the digits read before are n
+abbrev value_behind : ℕ → List ℕ → ℕ
+value_behind n octets = n * 128 ^ length octets + number_of 128 (digits octets)
+
+value_behind-cons : (n octet : ℕ) (octets : List ℕ) → value_behind n (octet ∷ octets) ≡ value_behind (n * 128 + octet % 128) octets
+value_behind-cons n octet octets =
+    omega (arith, ap (λ p. n * p) (pow-suc 128 (length octets)), ap (λ k. octet % 128 * 128 ^ k) (length-map octets (λ o. o % 128)))
+
+record TakesDigits (n : ℕ) (octets : List ℕ) (x : ℕ × List ℕ) : Type 0 where
+  front : List ℕ
+  last : ℕ
+  parts : octets ≡ (front ++ last ∷ []) ++ x.1
+  goes_on : AllByRecursion (λ octet. 128 ≤ octet) front
+  ends : last < 128
+  value : value_behind n (front ++ last ∷ []) ≡ x.0
+  small : x.0 ≤ largest_subidentifier
+
+digits_give : (n : ℕ) (octets : List ℕ) → Gives (TakesDigits n octets) (λ e. error.Content ≡ e) (subidentifier_from n octets)
+unfolding subidentifier_from
+digits_give n [] = a_fault error.Content refl
+digits_give n (octet ∷ rest) =
+    let next = n * 128 + octet % 128 in
+    gives_either (ltb largest_subidentifier next) (λ large. a_fault error.Content refl) (λ fits.
+    let small : next ≤ largest_subidentifier = ltb-false largest_subidentifier next fits in
+    gives_either (ltb octet 128)
+    (λ last. a_value (next, rest)
+    (record { front = []; last = octet; parts = refl; goes_on = tt; ends = ltb-true octet 128 last; value = omega arith; small = small }))
+    (λ high. gives_so (λ x t. record {
+      front = octet ∷ t.front;
+      last = t.last;
+      parts = ap (λ (tail : List ℕ). octet ∷ tail) t.parts;
+      goes_on = (ltb-false octet 128 high, t.goes_on);
+      ends = t.ends;
+      value = value_behind-cons n octet (t.front ++ t.last ∷ []) ∙ t.value;
+      small = t.small;
+    }) (λ e fault. fault) (digits_give next rest)))
+
+-- no digit makes a number smaller
+value_behind_grows : (n : ℕ) (octets : List ℕ) → n ≤ value_behind n octets
+value_behind_grows n octets = omega (arith, mul-le-mul_left n (one-le-pow (length octets) 128 (lit< tt)))
+
+digits_again : (n : ℕ) (front : List ℕ) (last : ℕ) (rest : List ℕ) → AllByRecursion (λ octet. 128 ≤ octet) front → last < 128
+    → value_behind n (front ++ last ∷ []) ≤ largest_subidentifier
+    → subidentifier_from n ((front ++ last ∷ []) ++ rest) ≡ Ok (value_behind n (front ++ last ∷ []), rest)
+unfolding subidentifier_from
+digits_again n [] last rest goes_on ends small =
+    let next : n * 128 + last % 128 ≡ value_behind n (last ∷ []) = omega arith in
+    rw (le-ltb largest_subidentifier (n * 128 + last % 128) (omega arith), lt-ltb last 128 ends) (ap (λ (v : ℕ). done (v, rest)) next)
+digits_again n (octet ∷ front) last rest goes_on ends small =
+    let next = n * 128 + octet % 128 in
+    let same = value_behind-cons n octet (front ++ last ∷ []) in
+    let grows = value_behind_grows next (front ++ last ∷ []) in
+    let more = digits_again next front last rest goes_on.1 ends (omega arith) in
+    rw (le-ltb largest_subidentifier next (omega arith), le-ltb octet 128 goes_on.0) (more ∙ ap (λ (v : ℕ). done (v, rest)) (sym same))
+
+-- a subidentifier at the front, and what follows
+record TakesSubidentifier (octets : List ℕ) (x : ℕ × List ℕ) : Type 0 where
+  text : List ℕ
+  is_subidentifier : IsSubidentifier text x.0
+  parts : octets ≡ text ++ x.1
+  small : x.0 ≤ largest_subidentifier
+
+front_octet : (front : List ℕ) (last : ℕ) (rest : List ℕ) (first : ℕ) (tail : List ℕ) → first ∷ tail ≡ (front ++ last ∷ []) ++ rest
+    → get_or (front ++ last ∷ []) 0 0 ≡ first
+front_octet [] last rest first tail e = cc
+front_octet (octet ∷ front) last rest first tail e = cc
+
+subidentifier_gives : (octets : List ℕ) → Gives (TakesSubidentifier octets) (λ e. error.Content ≡ e) (subidentifier_at octets)
+unfolding subidentifier_at
+subidentifier_gives [] = a_fault error.Content refl
+subidentifier_gives (first ∷ rest) = gives_either (eqb first 128) (λ zero_digit. a_fault error.Content refl) (λ other.
+    gives_so (λ x t.
+    let is_subidentifier : IsSubidentifier (t.front ++ t.last ∷ []) x.0 = record {
+      front = t.front;
+      last = t.last;
+      parts = refl;
+      goes_on = All-from_recursion (λ octet. 128 ≤ octet) t.front t.goes_on;
+      ends = t.ends;
+      minimal = λ h. eqb-false first 128 other (sym (front_octet t.front t.last x.1 first rest t.parts) ∙ h);
+      value = omega (arith, t.value);
+    } in
+    record { text = t.front ++ t.last ∷ []; is_subidentifier = is_subidentifier; parts = t.parts; small = t.small })
+    (λ e fault. fault) (digits_give 0 (first ∷ rest)))
+
+pub subidentifier_small : (octets : List ℕ) (x : ℕ × List ℕ) → subidentifier_at octets ≡ Ok x → x.0 ≤ largest_subidentifier
+subidentifier_small octets x e = (given x (subidentifier_gives octets) e).small
+
+at_front : (front : List ℕ) (last : ℕ) (rest : List ℕ) → get_or (front ++ last ∷ []) 0 0 ≢ 128
+    → subidentifier_at ((front ++ last ∷ []) ++ rest) ≡ subidentifier_from 0 ((front ++ last ∷ []) ++ rest)
+unfolding subidentifier_at
+at_front [] last rest ne = rw (ne_eqb last 128 ne) refl
+at_front (octet ∷ front) last rest ne = rw (ne_eqb octet 128 ne) refl
+
+subidentifier_again : (text : List ℕ) (n : ℕ) (rest : List ℕ) → IsSubidentifier text n → n ≤ largest_subidentifier
+    → subidentifier_at (text ++ rest) ≡ Ok (n, rest)
+subidentifier_again text n rest h small =
+    let t = h.front ++ h.last ∷ [] in
+    let is_value : number_of 128 (digits t) ≡ n = ap (λ (o : List ℕ). number_of 128 (digits o)) (sym h.parts) ∙ h.value in
+    let value : value_behind 0 t ≡ n = omega (arith, is_value) in
+    let minimal : get_or t 0 0 ≢ 128 = λ e. h.minimal (ap (λ (o : List ℕ). get_or o 0 0) h.parts ∙ e) in
+    let read = digits_again 0 h.front h.last rest (recursion_from_All (λ octet. 128 ≤ octet) h.front h.goes_on) h.ends (omega arith) in
+    ap (λ (o : List ℕ). subidentifier_at (o ++ rest)) h.parts ∙ at_front h.front h.last rest minimal ∙ read ∙ ap (λ (v : ℕ). done (v, rest)) value
+
+-- ---- numbers
+
+number_gives : (octets : List ℕ) → Gives (λ x. TakesSubidentifier octets x × (x.0 < 2 ^ 32)) (λ e. error.Content ≡ e) (number_at octets)
+unfolding number_at
+number_gives octets = gives_then _ (subidentifier_gives octets) (λ x t.
+    gives_either (ltb x.0 (2 ^ 32)) (λ small. a_value x (t, ltb-true x.0 (2 ^ 32) small)) (λ large. a_fault error.Content refl))
+
+pub number_fails : (octets : List ℕ) (e : BerError) → number_at octets ≡ Err e → error.Content ≡ e
+number_fails octets e h = failing e (number_gives octets) h
+
+-- what follows a number is shorter
+pub number_shrinks : (octets : List ℕ) (x : ℕ × List ℕ) → number_at octets ≡ Ok x → 1 + length x.1 ≤ length octets
+number_shrinks octets x e =
+    let t = (given x (number_gives octets) e).0 in
+    let s = t.is_subidentifier in
+    omega (arith, ap length t.parts, ap length s.parts, length-append t.text x.1, length-append s.front (s.last ∷ []))
+
+number_again : (text : List ℕ) (n : ℕ) (rest : List ℕ) → IsSubidentifier text n → n < 2 ^ 32 → number_at (text ++ rest) ≡ Ok (n, rest)
+unfolding number_at
+number_again text n rest h lt = rw (subidentifier_again text n rest h (omega arith), lt-ltb n (2 ^ 32) lt) refl
+
+record AreNumbers (room : ℕ) (octets ns : List ℕ) : Type 0 where
+  parts : AreSubidentifiers octets ns
+  few : length ns ≤ room
+  small : AllByRecursion (λ n. n < 2 ^ 32) ns
+
+numbers_give : (room : ℕ) (octets : List ℕ) → Gives (AreNumbers room octets) (λ e. error.Content ≡ e) (numbers_of room octets)
+unfolding numbers_of
+numbers_give room [] = a_value [] (record { parts = refl; few = omega arith; small = tt })
+numbers_give zero (octet ∷ rest) = a_fault error.Content refl
+numbers_give (suc room) (octet ∷ rest) =
+    gives_then _ (number_gives (octet ∷ rest)) (λ n t. gives_then _ (numbers_give room n.1) (λ more are. a_value (n.0 ∷ more) (record {
+      parts = (t.0.text, n.1, t.0.parts, t.0.is_subidentifier, are.parts);
+      few = let fewer = are.few in omega arith;
+      small = (t.1, are.small);
+    })))
+
+numbers_again : (room : ℕ) (octets ns : List ℕ) → AreSubidentifiers octets ns → length ns ≤ room → AllByRecursion (λ n. n < 2 ^ 32) ns
+    → numbers_of room octets ≡ Ok ns
+unfolding numbers_of
+numbers_again room octets [] parts few small = ap (numbers_of room) parts
+numbers_again room octets (n ∷ more) parts few small =
+    let text = parts.0 in
+    let rest = parts.1 in
+    let some : 0 < length (text ++ rest) = omega (arith, subidentifier_some text n parts.3, length-append text rest) in
+    let others = numbers_again (room - 1) rest more parts.4 (omega arith) small.1 in
+    ap (numbers_of room) parts.2 ∙ numbers_step room (text ++ rest) some (omega arith) ∙ rw (number_again text n rest parts.3 small.0, others) refl
+
+-- ---- identifiers
+
+-- the first two numbers of a subidentifier
+splits : (n : ℕ) → n ≤ largest_subidentifier → (first_number n ≤ 2) × (first_number n < 2 → second_number n < 40) × (second_number n < 2 ^ 32)
+    × (40 * first_number n + second_number n ≡ n)
+splits n small =
+    elim (cases_lt n 80) [
+      | inl lt ↦ rw (lt-ltb n 80 lt) (omega arith, (λ _. omega arith), omega arith, omega arith)
+      | inr le ↦ rw (le-ltb n 80 le) (omega arith, (λ h. omega arith), omega arith, omega arith)
+    ]
+
+pub identifier_gives : (content : List ℕ) → Gives (IsObjectId content) (λ e. error.Content ≡ e) (identifier_of content)
+unfolding identifier_of
+identifier_gives content = gives_then _ (subidentifier_gives content) (λ first t. gives_then _ (numbers_give 126 first.1) (λ more are.
+    let n = first.0 in
+    let s = splits n t.small in
+    let fewer = are.few in
+    let is_first : IsSubidentifier t.text (40 * first_number n + second_number n) =
+    rw s.3 t.is_subidentifier in
+    a_value (first_number n ∷ second_number n ∷ more) (record {
+      wire = (s.0, s.1);
+      identifier = record {
+        short = omega arith;
+        numbers = All-from_recursion (λ m. m < 2 ^ 32) (first_number n ∷ second_number n ∷ more)
+            (omega (arith, s.0), (s.2, are.small));
+      };
+      parts = (t.text, first.1, t.parts, is_first, are.parts);
+    })))
+
+pub identifier_takes : (content name : List ℕ) → identifier_of content ≡ Ok name → IsObjectId content name
+identifier_takes content name e = given name (identifier_gives content) e
+
+joins : (x y : ℕ) → x ≤ 2 → (x < 2 → y < 40) → y < 2 ^ 32 → (first_number (40 * x + y) ≡ x) × (second_number (40 * x + y) ≡ y)
+    × (40 * x + y ≤ largest_subidentifier)
+joins x y first second small =
+    elim (cases_lt x 2) [
+      | inl lt ↦ let few = second lt in rw (lt-ltb (40 * x + y) 80 (omega arith)) (omega arith, omega arith, omega arith)
+      | inr le ↦ rw (le-ltb (40 * x + y) 80 (omega arith)) (omega arith, omega arith, omega arith)
+    ]
+
+pub identifier_again : (content name : List ℕ) → IsObjectId content name → identifier_of content ≡ Ok name
+unfolding identifier_of
+identifier_again content [] h = absurd h.wire
+identifier_again content (x ∷ []) h = absurd h.wire
+identifier_again content (x ∷ y ∷ more) h =
+    let small = recursion_from_All (λ n. n < 2 ^ 32) (x ∷ y ∷ more) h.identifier.numbers in
+    let j = joins x y h.wire.0 h.wire.1 small.1.0 in
+    let text = h.parts.0 in
+    let rest = h.parts.1 in
+    let short = h.identifier.short in
+    let others = numbers_again 126 rest more h.parts.4 (omega arith) small.1.1 in
+    ap identifier_of h.parts.2 ∙ rw (subidentifier_again text (40 * x + y) rest h.parts.3 j.2, others)
+    (ap (λ (v : ℕ). done (v ∷ second_number (40 * x + y) ∷ more)) j.0 ∙ ap (λ (v : ℕ). done (x ∷ v ∷ more)) j.1)
+
+-- ---- numbers are checked first, and whether there are more than 126 of them is looked at last
+
+-- no room for a number
+pub no_room : (octets : List ℕ) (room : ℕ) → 0 < length octets → room < 1 → checked (numbers_of room octets) ≡ Err error.Content
+no_room octets zero some less = checked_err (numbers_of 0 octets) error.Content (numbers_full octets some)
+no_room octets (suc room) some less = absurd (omega arith)
+
+-- no room for numbers of one octet each
+skips_full : (numbers rest : List ℕ) (room : ℕ) → All (λ n. n < 128) numbers → room < length numbers
+    → checked (numbers_of room (numbers ++ rest)) ≡ Err error.Content
+skips_full [] rest room plain less = absurd (omega arith)
+skips_full (n ∷ ns) rest zero plain less = no_room (n ∷ (ns ++ rest)) 0 (omega arith) (omega arith)
+skips_full (n ∷ ns) rest (suc room) plain less =
+    let one = check_goes_on (suc room) (n ∷ (ns ++ rest)) n (ns ++ rest) _ (omega arith) (omega arith)
+    (plain_number n (ns ++ rest) (All-head (λ n. n < 128) n ns plain)) refl in
+    let room_left : suc room - 1 ≡ room = omega arith in
+    sym one ∙ ap (λ k. checked (numbers_of k (ns ++ rest))) room_left ∙ skips_full ns rest room (All-tail (λ n. n < 128) n ns plain) (omega arith)
+
+pub plain_full : (count : ℕ) (numbers rest octets : List ℕ) → IsPlainFront count numbers rest octets → (room : ℕ) → room < count
+    → checked (numbers_of room octets) ≡ Err error.Content
+plain_full count numbers rest octets front room less =
+    ap (λ (o : List ℕ). checked (numbers_of room o)) front.0 ∙ skips_full numbers rest room front.2 (omega (arith, less, front.1))
+
+pub plain_length : (count : ℕ) (numbers rest octets : List ℕ) → IsPlainFront count numbers rest octets → count + length rest ≤ length octets
+plain_length count numbers rest octets front = omega (arith, ap length front.0, length-append numbers rest, front.1)
+
+pub number_refused : (octets : List ℕ) (e : BerError) → 0 < length octets → number_at octets ≡ Err e → (room : ℕ)
+    → checked (numbers_of room octets) ≡ Err e
+number_refused octets e some h zero = no_room octets 0 some (omega arith) ∙ ap (λ (d : BerError). failed d) (number_fails octets e h)
+number_refused octets e some h (suc room) = check_fails (suc room) octets e _ some (omega arith) h refl
+
+-- ---- the loop
+
+-- what the check of octets comes to that `count` numbers come before
+abbrev pub counted : ℕ → List ℕ → Result (Unit {0}) BerError
+counted count octets = cond (ltb 126 count) (Err error.Content) (checked (numbers_of (126 - count) octets))
+
+too_many : (count : ℕ) (octets : List ℕ) → 126 < count → counted count octets ≡ Err error.Content
+too_many count octets h = rw (lt-ltb 126 count h) refl
+
+not_many : (count : ℕ) (octets : List ℕ) → count ≤ 126 → counted count octets ≡ checked (numbers_of (126 - count) octets)
+not_many count octets h = rw (le-ltb 126 count h) refl
+
+pub counted_more : (count some : ℕ) (after octets : List ℕ) (total : Result (Unit {0}) BerError)
+    → ((room : ℕ) → some ≤ room → checked (numbers_of (room - some) after) ≡ checked (numbers_of room octets))
+    → ((room : ℕ) → room < some → checked (numbers_of room octets) ≡ Err error.Content)
+    → counted count octets ≡ total → counted (count + some) after ≡ total
+counted_more count some after octets total fits full so_far =
+    ⊎_elim
+    (λ many. too_many (count + some) after (omega (arith, many)) ∙ sym (too_many count octets many))
+    (λ few.
+    ⊎_elim
+    (λ less. too_many (count + some) after (omega (arith, less, few)) ∙ sym (not_many count octets few ∙ full (126 - count) less))
+    (λ enough.
+    let room : 126 - (count + some) ≡ 126 - count - some = omega arith in
+    not_many (count + some) after (omega (arith, enough, few)) ∙ ap (λ k. checked (numbers_of k after)) room
+    ∙ fits (126 - count) enough ∙ sym (not_many count octets few))
+    (cases_lt (126 - count) some))
+    (cases_lt 126 count) ∙ so_far
+
+pub counted_fails : (count : ℕ) (octets : List ℕ) (e : BerError) (total : Result (Unit {0}) BerError) → 0 < length octets
+    → ((room : ℕ) → checked (numbers_of room octets) ≡ Err e) → counted count octets ≡ total → total ≡ Err e
+counted_fails count octets e total some read so_far =
+    sym so_far ∙ ⊎_elim
+    (λ many. too_many count octets many ∙ sym (no_room octets 0 some (omega arith)) ∙ read 0)
+    (λ few. not_many count octets few ∙ read (126 - count))
+    (cases_lt 126 count)
+
+pub counted_ends : (count : ℕ) (octets : List ℕ) (total : Result (Unit {0}) BerError) → count ≤ 126 → length octets ≡ 0
+    → counted count octets ≡ total → total ≡ Ok tt
+counted_ends count octets total few none so_far = sym so_far ∙ not_many count octets few ∙ ap checked (numbers_end (126 - count) octets none)
