@@ -35,7 +35,7 @@ use Rattle.snmp_walk.proofs.TestLemmas.{no_end}
 use Rattle.snmp_walk.proofs.ViewLemmas.{view_of, only_one, get_name, get_value}
 use Rattle.snmp_walk.proofs.JoinLemmas.{get_one}
 use Rattle.snmp_walk.proofs.GotLemmas.{asked_alone, brought, no_set}
-use Rattle.snmp_walk.proofs.HonestLemmas.{own}
+use Rattle.snmp_walk.proofs.HonestLemmas.{no_drop, own as spelt_own}
 use Rattle.snmp_walk.proofs.GetEndLemmas.{IsByReply, IsFrontOfReply, IsGot, MayEnd, by_reply}
 use Rattle.snmp_walk.proofs.GetEndLemmas.{for_more, for_names, for_none, for_nothing}
 use Rattle.snmp_walk.proofs.GetEndLemmas.{front_of_reply}
@@ -47,13 +47,7 @@ use Rattle.snmp_walk.specs.Ran.{IsFreshAndHonest, IsGetTried, IsGotOver, IsRun}
 use Rattle.snmp_walk.specs.Tries.{AreTried, IsNotAwaited}
 use Rattle.snmp_walk.specs.declared.link.Link.{Ghosts as LinkFacts}
 
--- what is given name by name
-got_from_answers : (view : MibView) (names : List (List ℕ)) (bindings : List VarBind)
-    → AreAnswers (λ asked given. IsGet view asked.name given) (asked_names names) bindings → AreGot view names bindings
-got_from_answers view [] [] h = tt
-got_from_answers view (o ∷ names) (p ∷ bindings) h = (h.0, got_from_answers view names bindings h.1)
-got_from_answers view names bindings h = absurd h
-
+-- Gets of the names give one list
 one_got : (view : MibView) → IsMibView view → (names : List (List ℕ)) (a b : List VarBind) → AreGot view names a → AreGot view names b → a ≡ b
 one_got view good [] [] [] h k = refl
 one_got view good (o ∷ names) (p ∷ a) (q ∷ b) h k =
@@ -86,7 +80,7 @@ module _ (codec : Codec) (agents : Agents) (lawful : AreLawful agents) (tries : 
   GivesAll view m = (all : List VarBind) × AreGot view names all × (m ≡ response Request (pos 0) (pos 0) all)
 
   from_whole : (view : MibView) (m : Message) → IsWhole view Request m → GivesAll view m
-  from_whole view m (got bindings k answers e) = (bindings, got_from_answers view names bindings answers, e)
+  from_whole view m (got bindings k answers e) = (bindings, answers, e)
   from_whole view m (got_next bindings k answers e) = let no : ⊥ = cc in absurd no
   from_whole view m (unwritten k e) = let no : ⊥ = cc in absurd no
 
@@ -123,31 +117,15 @@ module _ (codec : Codec) (agents : Agents) (lawful : AreLawful agents) (tries : 
     ]
   ]
 
-  -- no agent drops the request
-  the_request : HasRoomForGet agents Request names → (q : Message) → Spells q (canon Request) → q ≡ Request
-  the_request room q spelt = (codec.one q Request (canon Request) (canon Request) [] [] spelt (own room.request_fits) refl).0
-
   response_fits : HasRoomForGet agents Request names → (view : MibView) → OneOf agents.tables view → (m : Message)
       → IsResponse view agents.max_size Request m → Fits agents.max_size m
   response_fits room view one m is =
       elim (from_response view m is) [ inl h ↦ h.1 | inr h ↦ absurd (h.1.2 (room.response_fits view h.1.0 one h.1.1)) ]
 
-  no_drop : HasRoomForGet agents Request names → (view : MibView) → OneOf agents.tables view → (cause : Why)
-      → IsDropped (agent_in agents view) (canon Request) cause → ⊥
-  no_drop room view one why.Undecodable d = d Request (own room.request_fits)
-  no_drop room view one why.Version d = d.2 (ap (λ (m : Message). m.version) (the_request room d.0 d.1))
-  no_drop room view one why.Community d = d.3 (ap (λ (m : Message). m.community) (the_request room d.0 d.1) ∙ room.community)
-  no_drop room view one why.Pdu d =
-      let is : d.0.kind ≡ kind.GetRequest = ap (λ (m : Message). m.kind) (the_request room d.0 d.1) in
-      d.4 (subst IsServed (sym is) tt)
-  no_drop room view one why.TooLong d =
-      let same : d.0 ≡ Request = the_request room d.0 d.2.spelt in
-      d.4 (response_fits room view one d.1 (subst (λ (q : Message). IsResponse view agents.max_size q d.1) same d.3))
-
   -- where there is room, and no deliveries are ahead, a reply comes
   never_lost : HasRoomForGet agents Request names → old.ahead ≡ [] → IsLostGet agents tries old (canon Request) new → ⊥
   never_lost room none lost = elim lost.lost [
-    | inl u ↦ no_drop room u.view u.one u.why u.dropped
+    | inl u ↦ no_drop codec Request (own room.request_fits) refl (agent_in agents u.view) room.community tt (response_fits room u.view u.one) u.why u.dropped
     | inr h ↦
         let lost_none : Lost agents (old.sent ++ canon Request ∷ []) (canon Request) [] tries 0 =
         subst (λ (used : List (Option ℕ)). Lost agents (old.sent ++ canon Request ∷ []) (canon Request) used tries 0)
@@ -332,7 +310,7 @@ module _ {W S : Type 0} (facts : LinkFacts W) (link : W) (tries : ℕ) (communit
           → IsMovedByTries facts link (take n octets) tries failed after → IsOver after sunk end
       got_asked sunk end g short silent failed quiet there back keeping exchanged moves =
           let m = tries_as facts is there back moves in
-          got_over (λ _. own codec Asked ranged no_set) after sunk end g
+          got_over (λ _. spelt_own codec Asked ranged no_set) after sunk end g
           (λ s fresh.
           lost_exchange codec (facts.agents link) (facts.honest link) lawful tries community id names ranged (take n octets) is (facts.traffic link)
           (facts.traffic after) silent failed (quiet s) (exchanged (keeping fresh.0)) fresh.0 fresh.1)

@@ -4,7 +4,7 @@ use Rattle.std.proofs.Common.{◌++◌, length, take, drop, get_or, refl, sym, �
 use Rattle.std.proofs.Common.{arith, length-append, append-nil, add-one, drop-cons}
 use Rattle.std.proofs.lemmas.Bool.{and_parts}
 use Rattle.std.proofs.lemmas.Grind.{flat_map-append}
-use Rattle.std.proofs.lemmas.List.{take_all, take-append-drop, take_more}
+use Rattle.std.proofs.lemmas.List.{take_all, take-append-drop, take_more, map-append}
 use Rattle.std.specs.Prelude.{◌&&◌, not, pos, Ok, Err}
 use Rattle.std.specs.Bool.{nat_eq}
 use Rattle.std.specs.Cmp.Lexicographic.{pointwise}
@@ -26,26 +26,14 @@ use Rattle.std.specs.Ordering.{int_eq}
 abbrev pub is_for : List ℕ → VarBind → Bool
 is_for o p = pointwise nat_eq p.name (wire o) && not (is_end p.value)
 
-next_name : (names : List (List ℕ)) (i : ℕ) (o : List ℕ) → i < length names → o ≡ get_or names i o → drop i names ≡ o ∷ drop (i + 1) names
-next_name names i o h e = drop-cons names i o h ∙ ap (λ (x : List ℕ). x ∷ drop (suc i) names) (sym e) ∙ ap (λ (n : ℕ). o ∷ drop n names) (sym (add-one i))
-
 pub for_more : (names : List (List ℕ)) (i : ℕ) (o : List ℕ) (p : VarBind) (more : List VarBind) → i < length names → o ≡ get_or names i o → is_for o p ≡ true
     → are_for (drop i names) (p ∷ more) ≡ are_for (drop (i + 1) names) more
-for_more names i o p more h e is =
-    ap (λ (ns : List (List ℕ)). are_for ns (p ∷ more)) (next_name names i o h e) ∙ ap (λ (b : Bool). b && are_for (drop (i + 1) names) more) is
+for_more names i o p more h e is = rw (drop-cons names i o h, ← e, add-one, is)
 
 pub for_none : (names : List (List ℕ)) (i : ℕ) (o : List ℕ) → i < length names → o ≡ get_or names i o → are_for (drop i names) [] ≡ false
-for_none names i o h e = ap (λ (ns : List (List ℕ)). are_for ns []) (next_name names i o h e)
+for_none names i o h e = rw (drop-cons names i o h)
 
 -- one more name
-asked_push : (names : List (List ℕ)) (o : List ℕ) → asked_names (names ++ o ∷ []) ≡ asked_names names ++ record { name = wire o; value = null_value } ∷ []
-asked_push [] o = refl
-asked_push (n ∷ names) o = ap (λ (ps : List VarBind). record { name = wire n; value = null_value } ∷ ps) (asked_push names o)
-
-asked_append : (names more : List (List ℕ)) → asked_names (names ++ more) ≡ asked_names names ++ asked_names more
-asked_append [] more = refl
-asked_append (n ∷ names) more = ap (λ (ps : List VarBind). record { name = wire n; value = null_value } ∷ ps) (asked_append names more)
-
 canon_append : (ps qs : List VarBind) → canon_bindings (ps ++ qs) ≡ canon_bindings ps ++ canon_bindings qs
 unfolding canon_bindings
 canon_append ps qs = flat_map-append canon_binding ps qs
@@ -54,25 +42,17 @@ pub canon_one : (p : VarBind) → canon_bindings (p ∷ []) ≡ canon_binding p
 unfolding canon_bindings
 canon_one p = append-nil (canon_binding p)
 
-taken_more : (names : List (List ℕ)) (i : ℕ) (o : List ℕ) → i < length names → o ≡ get_or names i o → take (i + 1) names ≡ take i names ++ o ∷ []
-taken_more names i o h e = take_more names i o h ∙ ap (λ (x : List ℕ). take i names ++ x ∷ []) (sym e)
-
 pub written_more : (names : List (List ℕ)) (i : ℕ) (o : List ℕ) (p : VarBind) → i < length names → o ≡ get_or names i o
     → p ≡ record { name = wire o; value = null_value }
     → canon_bindings (asked_names (take (i + 1) names)) ≡ canon_bindings (asked_names (take i names)) ++ canon_binding p
-written_more names i o p h e is =
-    ap (λ (ns : List (List ℕ)). canon_bindings (asked_names ns)) (taken_more names i o h e) ∙ ap canon_bindings (asked_push (take i names) o)
-    ∙ canon_append (asked_names (take i names)) (record { name = wire o; value = null_value } ∷ [])
-    ∙ ap (λ (octets : List ℕ). canon_bindings (asked_names (take i names)) ++ octets) (canon_one (record { name = wire o; value = null_value })
-    ∙ ap canon_binding (sym is))
+written_more names i o p h e is = rw (take_more names i o h, ← e, is, map-append, canon_append, canon_one)
 
 -- a front is no longer than all
 pub longer_all : (names : List (List ℕ)) (i : ℕ) → length (canon_bindings (asked_names (take i names))) ≤ length (canon_bindings (asked_names names))
 longer_all names i =
-    let parts : names ≡ take i names ++ drop i names = sym (take-append-drop i names) in
     let whole : canon_bindings (asked_names names) ≡ canon_bindings (asked_names (take i names)) ++ canon_bindings (asked_names (drop i names)) =
-    ap (λ (ns : List (List ℕ)). canon_bindings (asked_names ns)) parts ∙ ap canon_bindings (asked_append (take i names) (drop i names))
-    ∙ canon_append (asked_names (take i names)) (asked_names (drop i names)) in
+    ap (λ (ns : List (List ℕ)). canon_bindings (asked_names ns)) (sym (take-append-drop i names))
+    ∙ ap canon_bindings (map-append _ (take i names) (drop i names)) ∙ canon_append (asked_names (take i names)) (asked_names (drop i names)) in
     omega (arith, ap length whole, length-append (canon_bindings (asked_names (take i names))) (canon_bindings (asked_names (drop i names))))
 
 -- what stands before the bindings is the same, whatever they are
@@ -104,9 +84,8 @@ none_written = (omega arith, refl, refl)
 -- there are as many bindings as names
 pub for_length : (names : List (List ℕ)) (ps : List VarBind) → are_for names ps ≡ true → length ps ≡ length names
 for_length [] [] e = refl
-for_length [] (p ∷ ps) e = let no : ⊥ = cc in absurd no
-for_length (o ∷ names) [] e = let no : ⊥ = cc in absurd no
 for_length (o ∷ names) (p ∷ ps) e = let rest = for_length names ps (and_parts (is_for o p) (are_for names ps) e).1 in omega (arith, rest)
+for_length names ps e = let no : ⊥ = cc in absurd no
 
 pub taken_whole : (names : List (List ℕ)) (ps : List VarBind) → are_for names ps ≡ true → take (length names) ps ≡ ps
 taken_whole names ps e = take_all (length names) ps (omega (arith, for_length names ps e))
@@ -118,18 +97,7 @@ range_push (q ∷ ps) p h k = (h.0, range_push ps p h.1 k)
 pub range_more : (names : List (List ℕ)) (i : ℕ) (o : List ℕ) → i < length names → o ≡ get_or names i o
     → IsBindingInRange (record { name = wire o; value = null_value })
     → AllByRecursion IsBindingInRange (asked_names (take i names)) → AllByRecursion IsBindingInRange (asked_names (take (i + 1) names))
-range_more names i o h e here front =
-    subst (AllByRecursion IsBindingInRange) (sym (ap asked_names (taken_more names i o h e) ∙ asked_push (take i names) o))
-    (range_push (asked_names (take i names)) (record { name = wire o; value = null_value }) front here)
-
--- a reply doesn't fail the link
-pub no_link_of : (names : List (List ℕ)) (m : Message) (end : WalkEnd) → answers_of names m ≡ Err end → end ≡ ending.Link → ⊥
-no_link_of names m end e link = by_status (int_eq m.a (pos 0)) (are_for names m.bindings) e
-  where
-    by_status : (b c : Bool) → cond b (cond c (Ok m.bindings) (Err ending.BadReply)) (Err (ending.Fault m.a m.b)) ≡ Err end → ⊥
-    by_status true true is = cc
-    by_status true false is = cc
-    by_status false c is = cc
+range_more names i o h e here front = rw (take_more names i o h, ← e, map-append) (range_push _ _ front here)
 
 -- without an error status, and of just these names
 pub answered_all : (names : List (List ℕ)) (m : Message) (rows : List VarBind) → int_eq m.a (pos 0) ≡ true → are_for names m.bindings ≡ true

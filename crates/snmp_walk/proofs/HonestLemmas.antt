@@ -18,6 +18,9 @@ use Rattle.snmp_walk.specs.Codec.{Codec}
 use Rattle.snmp_agent.specs.table.Table.{MibView, IsInstanceValue, IsMibView, IsGet, variable}
 use Rattle.snmp_agent.specs.table.Table.{unknown_object, unknown_instance, IsNext, successor}
 use Rattle.snmp_agent.specs.table.Table.{end_of_view}
+use Rattle.snmp_agent.specs.declared.config.Why.{Why}
+use Rattle.snmp_agent.specs.declared.config.Why.TheVariants as why
+use Rattle.snmp_agent.specs.Reply.{Agent, IsDropped, IsServed}
 use Rattle.snmp_agent.specs.Reply.{response, AreAnswers, got, got_next, unwritten, Fits}
 use Rattle.snmp_agent.specs.Reply.{IsBulk, IsLongestFront, IsResponse, whole, shortened, bulk}
 use Rattle.snmp_agent.specs.Reply.{no_error}
@@ -172,6 +175,20 @@ module _ (codec : Codec) (q : Message) (ranged : IsMessageInRange q) (no_set : q
         named = ap (λ (x : Message). x.community) (sym same) ∙ agent.is_request.named;
         is_response = is_response;
       }
+
+-- an agent doesn't drop a request of its community, where it has room for each Response to it
+pub no_drop : Codec → (q : Message) → Spells q (canon q) → q.version ≡ pos 1 → (agent : Agent) → q.community ≡ agent.community → IsServed q.kind
+    → ((r : Message) → IsResponse agent.view agent.max_size q r → Fits agent.max_size r) → (cause : Why) → IsDropped agent (canon q) cause → ⊥
+no_drop codec q own version agent named served fits = elim [
+  | why.Undecodable ↦ λ d. d q own
+  | why.Version ↦ λ d. d.2 (ap (λ (m : Message). m.version) (same d.0 d.1) ∙ version)
+  | why.Community ↦ λ d. d.3 (ap (λ (m : Message). m.community) (same d.0 d.1) ∙ named)
+  | why.Pdu ↦ λ d. d.4 (subst (λ (m : Message). IsServed m.kind) (sym (same d.0 d.1)) served)
+  | why.TooLong ↦ λ d. d.4 (fits d.1 (subst (λ (m : Message). IsResponse agent.view agent.max_size m d.1) (same d.0 d.2.spelt) d.3))
+]
+  where
+    same : (m : Message) → Spells m (canon q) → m ≡ q
+    same m spelt = (codec.one m q (canon q) (canon q) [] [] spelt own refl).0
 
 -- the answers to a request of one name
 pub one_answer : (R : VarBind → VarBind → Type 0) (o : List ℕ) (bindings : List VarBind) → AreAnswers R (record { name = o; value = null_value } ∷ []) bindings

@@ -36,52 +36,18 @@ other_id community id m other less e = false_from_ne_true (awaits community id m
     let numbers : other ≡ id = cc in
     absurd (omega (arith, less, numbers)))
 
--- what was heard
-heard_of : Codec → (Tried : Outcome → Type 0) (agents : Agents) (honest : Type 0) (w : Walker) (m : Message) (datagram : List ℕ) → is_over w.phase ≡ false
-    → IsWalker w
-    → Tried (outcome.answered datagram) → Spells m datagram → awaits w.community w.id m ≡ true
-    → (honest → AreLawful agents × IsReplyFrom agents (canon (request_of w)) datagram) → IsHeard Tried agents honest w m
-heard_of codec Tried agents honest w m datagram waits good tried spelt awaited reply = record {
-  datagram = datagram;
-  tried = tried;
-  spelt = spelt;
-  awaited = and_from (not (is_over w.phase)) (awaits w.community w.id m) (ap not waits) awaited;
-  from = λ h.
-      let fact = reply h in
-      let given = honest_reply codec agents fact.0 w good waits datagram fact.1 in
-      let same = one_spelt codec given.0 m datagram given.1 spelt in (
-        subst (IsReplyTo (IsNextFrom agents) (IsGotFrom agents) (IsTooLarge agents) w) same given.2,
-        subst (IsFullReply agents w) same given.3,
-      );
-}
-
 -- where what was sent before are requests of this walk, the replies to the waiting one alone are awaited
-pub asked_of : Codec → (agents : Agents) (sent : List (List ℕ)) (w : Walker) → AreLawful agents → IsWalker w → is_over w.phase ≡ false → IsEarlier sent w
+asked_of : Codec → (agents : Agents) (sent : List (List ℕ)) (w : Walker) → AreLawful agents → IsWalker w → is_over w.phase ≡ false → IsEarlier sent w
     → IsAsked agents w.community w.id (canon (request_of w)) sent
 asked_of codec agents sent w lawful good waits earlier = record {
   own = λ octets reply. let given = honest_reply codec agents lawful w good waits octets reply in
       (given.0, given.1, (response_to_decided w.community w.id given.0).1 given.2.response);
-  others = λ d one. by_walker d (earlier d one);
-}
-  where
-    by_walker : (d : List ℕ) → IsSentBefore w d
-        → (d ≡ canon (request_of w)) ⊎ ((octets : List ℕ) (m : Message) → IsReplyFrom agents d octets → Spells m octets → awaits w.community w.id m ≡ false)
-    by_walker d (inl e) = inl e
-    by_walker d (inr v) = inr (λ octets m reply spelt.
+  others = λ d one. elim (earlier d one) [
+    | inl e ↦ inl e
+    | inr v ↦ inr (λ octets m reply spelt.
         let given = honest_reply codec agents lawful v.0 v.1 v.2 octets (subst (λ (x : List ℕ). IsReplyFrom agents x octets) v.4 reply) in
         other_id w.community w.id m v.0.id v.3 (ap (λ (n : Message). n.id) (one_spelt codec m given.0 octets spelt given.1) ∙ given.2.response.id_is))
-
-pub exchanges_by : (agents : Agents) (honest same_honest : Type 0) (tries : ℕ) (q : List ℕ) (old : Traffic)
-    (silent same_silent failed same_failed : Type 0) (new : Traffic)
-    → (same_honest → honest) → (same_silent → silent) → (failed → same_failed) → Exchanges agents honest tries q old silent failed new
-    → Exchanges agents same_honest tries q old same_silent same_failed new
-exchanges_by agents honest same_honest tries q old silent same_silent failed same_failed new f g k x = record {
-  times = x.times;
-  some = λ fine. x.some (λ s. fine (k s));
-  few = x.few;
-  sent = x.sent;
-  all = λ s. x.all (g s);
-  honestly = λ h. let u = x.honestly (f h) in (u.0, u.1, u.2, λ s. u.3 (g s));
+  ];
 }
 
 module _ (codec : Codec) (agents : Agents) (honest : Type 0) (w : Walker) (q : List ℕ) (is : q ≡ canon (request_of w)) (waits : is_over w.phase ≡ false)
@@ -95,17 +61,30 @@ module _ (codec : Codec) (agents : Agents) (honest : Type 0) (w : Walker) (q : L
       → (r : IsRead (λ octets. Tried q (outcome.answered octets)) (λ octets. honest → IsAsked agents w.community w.id q sent → IsReplyFrom agents q octets) w.community w.id reads takes before what
       new after)
       → IsHeard (Tried (canon (request_of w))) agents (honest × IsEarlier sent w) w r.is_read.message
-  heard_by Tried sent reads takes before what new after r =
-      heard_of codec (Tried (canon (request_of w))) agents (honest × IsEarlier sent w) w r.is_read.message r.datagram waits good
-      (subst (λ (x : List ℕ). Tried x (outcome.answered r.datagram)) is r.comes) r.is_read.spelt r.is_read.awaited
-      (λ h. (lawful h.0, subst (λ (x : List ℕ). IsReplyFrom agents x r.datagram) is (r.reply h.0 (asked_by sent h.0 h.1))))
+  heard_by Tried sent reads takes before what new after r = record {
+    datagram = r.datagram;
+    tried = subst (λ (x : List ℕ). Tried x (outcome.answered r.datagram)) is r.comes;
+    spelt = r.is_read.spelt;
+    awaited = and_from (not (is_over w.phase)) (awaits w.community w.id r.is_read.message) (ap not waits) r.is_read.awaited;
+    from = λ h.
+        let reply = subst (λ (x : List ℕ). IsReplyFrom agents x r.datagram) is (r.reply h.0 (asked_by sent h.0 h.1)) in
+        let given = honest_reply codec agents (lawful h.0) w good waits r.datagram reply in
+        let same = one_spelt codec given.0 r.is_read.message r.datagram given.1 r.is_read.spelt in (
+          subst (IsReplyTo (IsNextFrom agents) (IsGotFrom agents) (IsTooLarge agents) w) same given.2,
+          subst (IsFullReply agents w) same given.3,
+        );
+  }
 
   pub exchanged_by : (tries : ℕ) (old : Traffic) (silent same_silent failed same_failed : Type 0) (new : Traffic)
       → (same_silent → silent) → (failed → same_failed)
       → Exchanges agents (honest × IsAsked agents w.community w.id q old.sent) tries q old silent failed new
       → Exchanges agents (honest × IsEarlier old.sent w) tries (canon (request_of w)) old same_silent same_failed new
   exchanged_by tries old silent same_silent failed same_failed new f k x =
-      subst (λ (y : List ℕ). Exchanges agents (honest × IsEarlier old.sent w) tries y old same_silent same_failed new) is
-      (exchanges_by agents (honest × IsAsked agents w.community w.id q old.sent) (honest × IsEarlier old.sent w) tries q old
-      silent same_silent failed same_failed new
-      (λ h. (h.0, asked_by old.sent h.0 h.1)) f k x)
+      subst (λ (y : List ℕ). Exchanges agents (honest × IsEarlier old.sent w) tries y old same_silent same_failed new) is (record {
+        times = x.times;
+        some = λ fine. x.some (λ s. fine (k s));
+        few = x.few;
+        sent = x.sent;
+        all = λ s. x.all (f s);
+        honestly = λ h. let u = x.honestly (h.0, asked_by old.sent h.0 h.1) in (u.0, u.1, u.2, λ s. u.3 (f s));
+      })

@@ -61,18 +61,11 @@ use Rattle.snmp_wire.specs.declared.ber.value.ValueRef.TheVariants as value
 use Rattle.snmp_walk.specs.Walker.{Walker}
 use Rattle.snmp_walk.specs.Request.{request_of}
 
-cond_bound : (b : Bool) (x y n : ℕ) → x ≤ n → y ≤ n → cond b x y ≤ n
-cond_bound true x y n h k = h
-cond_bound false x y n h k = k
-
 digit_bound : (base limit more n : ℕ) → digit_count base limit more n ≤ more + 1
 digit_bound base limit zero n = omega arith
 digit_bound base limit (suc more) n =
-    cond_bound (nat_lt n limit) 1 (1 + digit_count base (limit * base) more n) (suc more + 1) (omega arith) (omega (
-      arith,
-      digit_bound base
-          (limit * base) more n,
-    ))
+    let rest = digit_bound base (limit * base) more n in
+    elim (nat_lt n limit) as (λ b. cond b 1 (1 + digit_count base (limit * base) more n) ≤ suc more + 1) [ true ↦ omega arith | false ↦ omega (arith, rest) ]
 
 octets_length : (count n : ℕ) → length (octets count n) ≡ count
 unfolding octets
@@ -85,15 +78,13 @@ number_bound (pos n) = omega (arith, octets_length (number_size n) n, digit_boun
 number_bound (negsuc n) =
     omega (arith, octets_length (number_size n) (256 ^ number_size n - (n + 1)), digit_bound 256 128 8 n)
 
-length_cond : (b : Bool) (x y : List ℕ) (n : ℕ) → length x ≤ n → length y ≤ n → length (cond b x y) ≤ n
-length_cond true x y n h k = h
-length_cond false x y n h k = k
-
 length_bound : (n : ℕ) → length (canon_length n) ≤ 5
 unfolding canon_length length_size
 length_bound n =
-    length_cond (nat_lt n 128) (n ∷ []) ((128 + length_size n) ∷ octets (length_size n) n) 5 (omega arith)
-    (omega (arith, octets_length (length_size n) n, digit_bound 256 256 3 n))
+    elim (nat_lt n 128) as (λ b. length (cond b (n ∷ []) ((128 + length_size n) ∷ octets (length_size n) n)) ≤ 5) [
+      | true ↦ omega arith
+      | false ↦ omega (arith, octets_length (length_size n) n, digit_bound 256 256 3 n)
+    ]
 
 header_bound : (tag size : ℕ) → length (canon_header tag size) ≤ 6
 unfolding canon_header

@@ -49,25 +49,14 @@ next_news w (b ∷ more) = news_cond _ (stops w [] ending.BadReply) (reads w (b 
     (news_cond _ (stops w _ _) (cond _ (closes w _) (goes_on w phase.Rows _)) tt (news_cond _ (closes w _) (goes_on w phase.Rows _) (closes_news w _)
     (goes_news w phase.Rows _)))
 
-first_news : (w : Walker) (g : Option VarBind) → HasNews (reads_first w g).0
-first_news w None = tt
-first_news w (Some b) = goes_news w phase.Rows _
-
-last_news : (w : Walker) (g : Option VarBind) → HasNews (reads_last w g).0
-last_news w None = tt
-last_news w (Some b) = tt
-
 for_news : (p : Phase) (w : Walker) (bindings : List VarBind) → is_over p ≡ false → HasNews (reads_for p w bindings).0
-for_news phase.First w bindings e = first_news w (got w.asked bindings)
+for_news phase.First w bindings e = elim (got w.asked bindings) as (λ g. HasNews (reads_first w g).0) [ None ↦ tt | Some b ↦ goes_news w phase.Rows _ ]
 for_news phase.Rows w bindings e = next_news w bindings
-for_news phase.Last w bindings e = last_news w (got w.asked bindings)
+for_news phase.Last w bindings e = elim (got w.asked bindings) as (λ g. HasNews (reads_last w g).0) [ None ↦ tt | Some b ↦ tt ]
 for_news phase.Over w bindings e = absurd (false≢true (sym e))
 
-reply_news : (w : Walker) (m : Message) → is_over w.phase ≡ false → HasNews (reads_reply w m).0
-reply_news w m e = news_cond _ (reads_for w.phase w m.bindings) (stops w [] (ending.Fault m.a m.b)) (for_news w.phase w m.bindings e) tt
-
 news_by : (w : Walker) (m : Message) (b : Bool) → b ≡ true → is_over w.phase ≡ false → HasNews (cond b (reads_reply w m) (step.Stray, w)).0
-news_by w m true e waits = reply_news w m waits
+news_by w m true e waits = news_cond _ (reads_for w.phase w m.bindings) (stops w [] (ending.Fault m.a m.b)) (for_news w.phase w m.bindings waits) tt
 news_by w m false e waits = absurd (false≢true e)
 
 -- a message was taken
@@ -154,9 +143,6 @@ module _ {S : Type 0} (takes : S → VarBind → Result (Unit {0}) SinkFault →
 pub same_end : (x y : WalkEnd) → Some x ≡ Some y → x ≡ y
 same_end x y e = cc
 
-pub no_end : None ≡ Some ending.NoResponse → ⊥
-no_end e = cc
-
 pub link_end : Some ending.Link ≡ Some ending.NoResponse → ⊥
 link_end e = cc
 
@@ -168,9 +154,9 @@ no_link_end e = cc
 
 -- no reply leads to these ends
 pub not_silent : (what : Heard) → HasEnd what → end_of what ≡ Some ending.NoResponse → ⊥
-not_silent heard.goes_on h e = no_end e
-not_silent (heard.ends why) h e = h.1 (same_end why ending.NoResponse e)
+not_silent heard.goes_on h e = cc
+not_silent (heard.ends why) h e = h.1 cc
 
 pub not_link : (what : Heard) → HasEnd what → end_of what ≡ Some ending.Link → ⊥
-not_link heard.goes_on h e = no_link_end e
-not_link (heard.ends why) h e = h.0 (same_end why ending.Link e)
+not_link heard.goes_on h e = cc
+not_link (heard.ends why) h e = h.0 cc

@@ -35,7 +35,7 @@ use Rattle.snmp_wire.specs.ber.Value.{null_value}
 use Rattle.snmp_wire.specs.Message.{VarBind, Message, end_of_mib_view}
 use Rattle.snmp_wire.specs.Canon.{canon}
 use Rattle.snmp_wire.specs.Spelling.{Spells}
-use Rattle.snmp_agent.specs.Reply.{IsResponse, Fits, response}
+use Rattle.snmp_agent.specs.Reply.{AreAnswers, IsResponse, Fits, response}
 use Rattle.snmp_walk.specs.declared.end.WalkEnd.{WalkEnd}
 use Rattle.snmp_walk.specs.declared.rows.Step.{Step}
 use Rattle.snmp_walk.specs.declared.rows.Step.TheVariants as step
@@ -118,10 +118,8 @@ IsBrought Tried agents honest community id names m =
 
 -- the bindings are what Gets of these names give of the table, each at its name's place
 abbrev pub AreGot : MibView → (names : List (List ℕ)) → List VarBind → Type 0
-AreGot view [] [] = Unit {0}
-AreGot view [] (p ∷ more) = ⊥
-AreGot view (o ∷ names) [] = ⊥
-AreGot view (o ∷ names) (p ∷ more) = IsGet view (wire o) p × AreGot view names more
+AreGot view names bindings = AreAnswers (λ asked given. IsGet view asked.name given)
+    (asked_names names) bindings
 
 -- There is room: the request has the agents' community and fits a datagram, and the agents'
 -- messages have room for the Response with what Gets of the names give.

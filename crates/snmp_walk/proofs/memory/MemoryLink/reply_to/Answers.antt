@@ -1,18 +1,18 @@
 use Rattle.std.proofs.Common.{inr}
-use Rattle.snmp_walk.proofs.MemoryLemmas.{counted, given_reply, given_none}
+use Rattle.snmp_walk.proofs.MemoryLemmas.{counted}
 use Rattle.snmp_walk.proofs.memory.MemoryLink.reply_to.Goals as goal
 
 pub returns-in-Reply-clause-reply : goal.returns-in-Reply-clause-reply
-returns-in-Reply-clause-reply c =
-    given_reply c.args.self.now.tables.now c.args.self.now.config c.table_for-table.result.now
-    c.in_ok-datagram.datagram.now _ _ c.table_for-table.ensures.one c.in_ok-datagram.ensures.some
-    (c.answer_near.ensures.reply c.in-Reply.length c.in-Reply.is)
+returns-in-Reply-clause-reply c = rw c.in_ok-datagram.ensures.some
+    (c.table_for-table.result.now, c.table_for-table.ensures.one, c.answer_near.ensures.reply c.in-Reply.length c.in-Reply.is)
 
 pub returns-in-Dropped-clause-reply : goal.returns-in-Dropped-clause-reply
-returns-in-Dropped-clause-reply c =
-    given_none c.args.self.now.tables.now c.args.self.now.config c.table_for-table.result.now
-    c.in_ok-datagram.datagram.now _ _ c.table_for-table.ensures.one c.in_ok-datagram.ensures.some
-    (c.answer_near.ensures.dropped _ c.in-Dropped.is)
+returns-in-Dropped-clause-reply c = rw c.in_ok-datagram.ensures.some (record {
+  view = c.table_for-table.result.now;
+  one = c.table_for-table.ensures.one;
+  why = _;
+  dropped = c.answer_near.ensures.dropped _ c.in-Dropped.is;
+})
 
 pub returns-in-Reply-clause-table : goal.returns-in-Reply-clause-table
 returns-in-Reply-clause-table c = record {
