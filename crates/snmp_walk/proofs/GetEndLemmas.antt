@@ -2,6 +2,7 @@
 use Rattle.std.proofs.Common.{◌≡◌, ◌≢◌, ◌⊎◌, inl, inr, ◌++◌, ◌<◌, ℕ, pos, Bool, true, false, cond}
 use Rattle.std.proofs.Common.{List, [], ◌∷◌, length, map}
 use Rattle.std.proofs.Common.{Result, Ok, Err, refl, sym, ◌∙◌, ap, subst, append_assoc, append-nil}
+use Rattle.std.proofs.Common.{length-append, arith}
 use Rattle.std.proofs.lemmas.Bool.{eqb-true, false≢true}
 use Rattle.std.proofs.lemmas.Bool.Decides.{Decides-and, Decides-not, Decides-like, Decides-int_eq}
 use Rattle.std.specs.Prelude.{not, ◌&&◌, ◌==◌}
@@ -32,12 +33,8 @@ pub for_more : (o : List ℕ) (names : List (List ℕ)) (p : VarBind) (more : Li
     → ((p.name ≡ wire o) × (p.value ≡ end_of_mib_view → ⊥)) × AreFor names more → AreFor (o ∷ names) (p ∷ more)
 for_more o names p more h = record {
   named = ap (λ (n : List ℕ). n ∷ map wire names) (sym h.0.0) ∙ ap (λ (ns : List (List ℕ)). p.name ∷ ns) h.1.named;
-  values = λ q one. by_place q one;
+  values = λ q one end. elim one [ inl same ↦ h.0.1 (ap (λ (x : VarBind). x.value) (sym same) ∙ end) | inr later ↦ h.1.values q later end ];
 }
-  where
-    by_place : (q : VarBind) → OneOf (p ∷ more) q → q.value ≡ end_of_mib_view → ⊥
-    by_place q (inl same) end = h.0.1 (ap (λ (x : VarBind). x.value) (sym same) ∙ end)
-    by_place q (inr one) end = h.1.values q one end
 
 for_fewer : (o : List ℕ) (names : List (List ℕ)) (p : VarBind) (more : List VarBind) → AreFor (o ∷ names) (p ∷ more)
     → ((p.name ≡ wire o) × (p.value ≡ end_of_mib_view → ⊥)) × AreFor names more
@@ -132,8 +129,8 @@ module _ {S : Type 0} (takes : S → VarBind → Result (Unit {0}) SinkFault →
         ends = tt;
       },
     )
-    by_step (Err cause) means what (is_refused fault [] p left between parts e given turned) = let no : ⊥ = cc in absurd no
-    by_step (Err cause) means what (is_refused fault (q ∷ rows) p left between parts e given turned) = let no : ⊥ = cc in absurd no
+    by_step (Err cause) means what (is_refused fault rows p left between parts e given turned) =
+        absurd (omega (arith, ap length parts, length-append rows (p ∷ left)))
 
     pub by_reply : (given : Step) (what : Heard) → given ≡ step_of (length names) (answers_of names m) → Delivers takes given before what after
         → (end : WalkEnd) × (what ≡ heard.ends end) × IsByReply end × IsGot end

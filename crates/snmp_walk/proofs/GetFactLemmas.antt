@@ -39,7 +39,7 @@ use Rattle.snmp_walk.proofs.HonestLemmas.{no_drop, own as spelt_own}
 use Rattle.snmp_walk.proofs.GetEndLemmas.{IsByReply, IsFrontOfReply, IsGot, MayEnd, by_reply}
 use Rattle.snmp_walk.proofs.GetEndLemmas.{for_more, for_names, for_none, for_nothing}
 use Rattle.snmp_walk.proofs.GetEndLemmas.{front_of_reply}
-use Rattle.snmp_walk.proofs.MoveLemmas.{moves_as, moves_none, tries_as}
+use Rattle.snmp_walk.proofs.MoveLemmas.{moves_as, moves_none, nil_front, tries_as}
 use Rattle.snmp_walk.specs.Link.{Outcome}
 use Rattle.snmp_walk.specs.Link as outcome
 use Rattle.snmp_walk.specs.Moved.{IsMoved, IsMovedByTries}
@@ -60,11 +60,6 @@ for_got view good [] [] h = for_nothing
 for_got view good (o ∷ names) (p ∷ bindings) h =
     for_more o names p bindings ((get_name view (wire o) p h.0, no_end p.value (get_value view good (wire o) p h.0)), for_got view good names bindings h.1)
 for_got view good names bindings h = absurd h
-
--- no deliveries lose nothing
-none_used : (used left : List (Option ℕ)) (ahead : List (Option ℕ)) → ahead ≡ used ++ left → ahead ≡ [] → used ≡ []
-none_used [] left ahead e none = refl
-none_used (d ∷ used) left ahead e none = let no : ⊥ = cc in absurd no
 
 module _ (codec : Codec) (agents : Agents) (lawful : AreLawful agents) (tries : ℕ) (some : 0 < tries) (old new : Traffic) (community : List ℕ) (id : ℕ)
     (names : List (List ℕ))
@@ -129,7 +124,7 @@ module _ (codec : Codec) (agents : Agents) (lawful : AreLawful agents) (tries : 
     | inr h ↦
         let lost_none : Lost agents (old.sent ++ canon Request ∷ []) (canon Request) [] tries 0 =
         subst (λ (used : List (Option ℕ)). Lost agents (old.sent ++ canon Request ∷ []) (canon Request) used tries 0)
-        (none_used h.0 new.ahead old.ahead h.1 none) h.2 in
+        (nil_front h.0 new.ahead (sym none ∙ h.1)) h.2 in
         omega (arith, some, lost_none)
   ]
 

@@ -27,7 +27,7 @@ found : (sent : List (List ℕ)) (k : ℕ) (d : List ℕ) → datagram_at sent k
 found sent zero d e = let no : ⊥ = cc in absurd no
 found sent (suc k) d e = one_of sent k d e
 
-pub one_append : (xs ys : List (List ℕ)) (d : List ℕ) → OneOf (xs ++ ys) d → OneOf xs d ⊎ OneOf ys d
+pub one_append : {X : Type 0} (xs ys : List X) (d : X) → OneOf (xs ++ ys) d → OneOf xs d ⊎ OneOf ys d
 one_append [] ys d one = inr one
 one_append (x ∷ xs) ys d (inl e) = inl (inl e)
 one_append (x ∷ xs) ys d (inr one) = elim (one_append xs ys d one) [ inl h ↦ inl (inr h) | inr h ↦ inr h ]

@@ -200,6 +200,9 @@ module _ (precedes : (o p : List ℕ) → slice_cmp nat_cmp o p ≡ Less → Pre
     are_rows : AreRowsFrom root o rows
     cut : IsCut root (last_name o rows) rest
 
+  no_rows : (root o : List ℕ) (bindings : List VarBind) → IsCut root o bindings → IsSplit root o bindings
+  no_rows root o bindings cut = record { rows = []; rest = bindings; parts = refl; are_rows = tt; cut = cut }
+
   split_by : (root o : List ℕ) (b : VarBind) (more : List VarBind) (inside rises : Bool) → inside ≡ is_inside root b → rises ≡ comes_after o b.name
       → IsSplit root b.name more → IsSplit root o (b ∷ more)
   split_by root o b more true true e f s = record {
@@ -209,23 +212,12 @@ module _ (precedes : (o p : List ℕ) → slice_cmp nat_cmp o p ≡ Less → Pre
     are_rows = ((inside_decided root b).0 (sym e), (after_decided o b.name).0 (sym f), s.are_rows);
     cut = s.cut;
   }
-  split_by root o b more true false e f s = record {
-    rows = [];
-    rest = b ∷ more;
-    parts = refl;
-    are_rows = tt;
-    cut = inr ((inside_decided root b).0 (sym e), λ h. false≢true (f ∙ (after_decided o b.name).1 h));
-  }
-  split_by root o b more false rises e f s = record {
-    rows = [];
-    rest = b ∷ more;
-    parts = refl;
-    are_rows = tt;
-    cut = inl (λ h. false≢true (e ∙ (inside_decided root b).1 h));
-  }
+  split_by root o b more true false e f s =
+      no_rows root o (b ∷ more) (inr ((inside_decided root b).0 (sym e), λ h. false≢true (f ∙ (after_decided o b.name).1 h)))
+  split_by root o b more false rises e f s = no_rows root o (b ∷ more) (inl (λ h. false≢true (e ∙ (inside_decided root b).1 h)))
 
   split : (root o : List ℕ) (bindings : List VarBind) → IsSplit root o bindings
-  split root o [] = record { rows = []; rest = []; parts = refl; are_rows = tt; cut = tt }
+  split root o [] = no_rows root o [] tt
   split root o (b ∷ more) = split_by root o b more (is_inside root b) (comes_after o b.name) refl refl (split root b.name more)
 
   -- a step, and the walk after it

@@ -1,8 +1,8 @@
 -- Moves of a link, one after another.
-use Rattle.std.proofs.Common.{◌≡◌, ℕ, zero, suc, ◌+◌, ◌*◌, ◌≤◌, List, [], ◌∷◌, ◌++◌, length}
+use Rattle.std.proofs.Common.{◌≡◌, ℕ, zero, suc, ◌+◌, ◌*◌, ◌<◌, ◌≤◌, List, [], ◌∷◌, ◌++◌, length}
 use Rattle.std.proofs.Common.{replicate, refl, sym, ◌∙◌, ap, subst, arith}
 use Rattle.std.proofs.Common.{append-nil, append_assoc, length-append}
-use Rattle.std.proofs.Math.Nat.{suc-mul}
+use Rattle.std.proofs.lemmas.List.{nil_from_length}
 use Rattle.std.proofs.lemmas.Grind.{replicate_next}
 use Rattle.std.specs.Prelude.{Result, Ok, Err, IsErr, false, true}
 use Rattle.snmp_io.specs.Count.{HasRisen}
@@ -18,7 +18,10 @@ octets-append (x ∷ xs) ys = let rest = octets-append xs ys in omega (arith, re
 
 pub octets-replicate : (n : ℕ) (q : List ℕ) → octets_in (replicate n q) ≡ n * length q
 octets-replicate zero q = omega arith
-octets-replicate (suc n) q = let rest = octets-replicate n q in let one = suc-mul n (length q) in omega (arith, rest, one)
+octets-replicate (suc n) q = omega (arith, octets-replicate n q)
+
+pub nil_front : {X : Type 0} (front left : List X) → [] ≡ front ++ left → front ≡ []
+nil_front front left e = nil_from_length front (omega (arith, ap length e, length-append front left))
 
 pub sent_nothing : (failed : Type 0) {before after : List (List ℕ)} → after ≡ before → AreSent [] failed before after
 sent_nothing failed {before} e = record { front = []; left = []; parts = refl; sent = e ∙ sym (append-nil before); all = λ fine. refl }
@@ -28,11 +31,8 @@ sent_all {tried} {before} fine h =
     h.sent ∙ ap (λ (s : List (List ℕ)). before ++ s) (sym (h.parts ∙ ap (λ (s : List (List ℕ)). h.front ++ s) (h.all fine) ∙ append-nil h.front))
 
 pub sent_none : {before after : List (List ℕ)} {failed : Type 0} → AreSent [] failed before after → after ≡ before
-sent_none {before} h = h.sent ∙ ap (λ (s : List (List ℕ)). before ++ s) (empty h.front h.left h.parts) ∙ append-nil before
-  where
-    empty : (front left : List (List ℕ)) → [] ≡ front ++ left → front ≡ []
-    empty [] left e = refl
-    empty (d ∷ front) left e = let no : ⊥ = cc in absurd no
+sent_none {before} h =
+    h.sent ∙ ap (λ (s : List (List ℕ)). before ++ s) (nil_front h.front h.left h.parts) ∙ append-nil before
 
 sent_more : (tried more before between after : List (List ℕ)) (failed : Type 0) → between ≡ before ++ tried → AreSent more failed between after
     → AreSent (tried ++ more) failed before after
@@ -139,6 +139,12 @@ module _ {W : Type 0} (facts : LinkFacts W) where
       → IsMoved facts between (q ∷ []) failed new → IsMoved facts old (replicate (n + 1) q) failed new
   tries_on {old} {between} {new} {q} {failed} n m t =
       subst (λ (d : List (List ℕ)). IsMoved facts old d failed new) (sym (replicate_next n q)) (moves_on m t)
+
+  -- one try more of this request, after which the link moved without a send
+  pub try_moved : {old between now new : W} {q : List ℕ} {tries : ℕ} {failed other : Type 0} (n : ℕ) → n < tries → IsMoved facts old (replicate n q) ⊥ between
+      → IsMoved facts between (q ∷ []) ⊥ now → (failed → other) → (other → failed) → IsMoved facts now [] failed new
+      → IsMovedByTries facts old q tries other new
+  try_moved n less m sent there back rest = (n + 1, omega (arith, less), omega arith, tries_on n m (moves_on sent (moves_as there back rest)))
 
   -- tries of this very request, whose failure is said in other words
   pub tries_as : {old new : W} {q r : List ℕ} {tries : ℕ} {failed other : Type 0} → q ≡ r → (failed → other) → (other → failed)

@@ -86,13 +86,9 @@ length_bound n =
       | false ↦ omega (arith, octets_length (length_size n) n, digit_bound 256 256 3 n)
     ]
 
-header_bound : (tag size : ℕ) → length (canon_header tag size) ≤ 6
-unfolding canon_header
-header_bound tag size = omega (arith, length_bound size)
-
-element_bound : (tag : ℕ) (content : List ℕ) (n : ℕ) → length content ≤ n → length (canon_element tag content) ≤ 6 + n
-unfolding canon_element
-element_bound tag content n h = omega (arith, h, header_bound tag (length content), length-append (canon_header tag (length content)) content)
+element_bound : (tag : ℕ) (content : List ℕ) → length (canon_element tag content) ≤ 6 + length content
+unfolding canon_element canon_header
+element_bound tag content = omega (arith, length_bound (length content), length-append (canon_header tag (length content)) content)
 
 septets_length : (count n : ℕ) → length (septets count n) ≡ count
 unfolding septets
@@ -101,14 +97,7 @@ septets_length (suc count) n = omega (arith, septets_length count n)
 
 subidentifier_bound : (n : ℕ) → length (canon_subidentifier n) ≤ 5
 unfolding canon_subidentifier subidentifier_size
-subidentifier_bound n =
-    omega (
-      arith,
-      length-append (septets (subidentifier_size n - 1) (n / 128)) (n % 128 ∷ []),
-      septets_length (subidentifier_size n - 1)
-          (n / 128),
-      digit_bound 128 128 4 n,
-    )
+subidentifier_bound n = omega (arith, length-append {A = ℕ}, septets_length, digit_bound 128 128 4 n)
 
 pub each_bound : (xs : List ℕ) → length (flat_map canon_subidentifier xs) ≤ 5 * length xs
 each_bound [] = omega arith
@@ -119,44 +108,33 @@ parts_bound [] = omega arith
 parts_bound (x ∷ []) = omega arith
 parts_bound (x ∷ y ∷ name) = omega arith
 
+value_bound : (value : Datum) → length (canon_value value) ≤ 6 + length (canon_content value)
+unfolding canon_value
+value_bound value = element_bound (value_tag value) (canon_content value)
+
 integer_bound : (z : ℤ) → length (canon_value (integer_value z)) ≤ 15
-unfolding canon_value canon_content
-integer_bound z = element_bound (value_tag (integer_value z)) (canon_number z) 9 (number_bound z)
+unfolding canon_content
+integer_bound z = omega (arith, value_bound (integer_value z), number_bound z)
 
 name_bound : (name : List ℕ) → length (canon_value (object_id name)) ≤ 6 + 5 * length name
-unfolding canon_value canon_content
-name_bound name =
-    element_bound (value_tag (object_id name)) (flat_map canon_subidentifier (subidentifiers name)) (5 * length name) (omega (
-      arith,
-      each_bound
-          (subidentifiers name),
-      parts_bound name,
-    ))
+unfolding canon_content
+name_bound name = omega (arith, value_bound (object_id name), each_bound (subidentifiers name), parts_bound name)
 
 text_bound : (text : List ℕ) → length (canon_value (octet_string text)) ≤ 6 + length text
-unfolding canon_value canon_content
-text_bound text = element_bound (value_tag (octet_string text)) text (length text) (omega arith)
+unfolding canon_content
+text_bound text = value_bound (octet_string text)
 
 -- a binding takes at most 18 octets besides its name's numbers and its value's content
 pub binding_bound : (name : List ℕ) (value : Datum)
     → length (canon_binding (record { name = name; value = value })) ≤ 18 + 5 * length name + length (canon_content value)
-unfolding canon_binding canon_value
-binding_bound name value =
-    let text = canon_value (object_id name) in
-    let content : length (canon_value value) ≤ 6 + length (canon_content value) =
-    element_bound (value_tag value) (canon_content value) (length (canon_content value)) (omega arith) in
-    let both : length (text ++ canon_value value) ≤ 12 + 5 * length name + length (canon_content value) =
-    omega (arith, name_bound name, content, length-append text (canon_value value)) in
-    let whole = element_bound sequence_tag (text ++ canon_value value) (12 + 5 * length name + length (canon_content value)) both in
-    omega (arith, whole)
+unfolding canon_binding
+binding_bound name value = omega (arith, element_bound, length-append {A = ℕ}, name_bound name, value_bound value)
 
 -- one binding alone
 pub one_bound : (name : List ℕ) (value : Datum)
     → length (canon_bindings (record { name = name; value = value } ∷ [])) ≤ 18 + 5 * length name + length (canon_content value)
 unfolding canon_bindings
-one_bound name value =
-    let b : VarBind = record { name = name; value = value } in
-    omega (arith, binding_bound name value, length-append (canon_binding b) [])
+one_bound name value = omega (arith, binding_bound name value, length-append {A = ℕ})
 
 no_content : length (canon_content null_value) ≤ 0
 unfolding canon_content
@@ -168,37 +146,7 @@ name_short name h = omega (arith, h, one_bound name null_value, no_content)
 -- a message takes at most 84 octets besides its community and its bindings
 pub message_bound : (m : Message) → length (canon m) ≤ 84 + length m.community + length (canon_bindings m.bindings)
 unfolding canon canon_opening canon_fields
-message_bound m =
-    let n = length (canon_bindings m.bindings) in
-    let id = canon_value (integer_value m.id) in
-    let a = canon_value (integer_value m.a) in
-    let b = canon_value (integer_value m.b) in
-    let list = canon_element sequence_tag (canon_bindings m.bindings) in
-    let fields : length (canon_fields m) ≤ 45 = omega (
-      arith,
-      integer_bound m.id,
-      integer_bound m.a,
-      integer_bound m.b,
-      length-append
-          (id ++ a) b,
-      length-append id a,
-    ) in
-    let list_bound : length list ≤ 6 + n = element_bound sequence_tag (canon_bindings m.bindings) n (omega arith) in
-    let pdu_content : length (canon_fields m ++ list) ≤ 51 + n = omega (arith, fields, list_bound, length-append (canon_fields m) list) in
-    let pdu = canon_element (kind_tag m.kind) (canon_fields m ++ list) in
-    let pdu_bound : length pdu ≤ 6 + (51 + n) = element_bound (kind_tag m.kind) (canon_fields m ++ list) (51 + n) pdu_content in
-    let opening : length (canon_opening m) ≤ 21 + length m.community =
-    omega (
-      arith,
-      integer_bound m.version,
-      text_bound m.community,
-      length-append (canon_value (integer_value m.version)) (canon_value
-          (octet_string m.community)),
-    ) in
-    let content : length (canon_opening m ++ pdu) ≤ 78 + length m.community + n =
-    omega (arith, opening, pdu_bound, length-append (canon_opening m) pdu) in
-    let whole = element_bound sequence_tag (canon_opening m ++ pdu) (78 + length m.community + n) content in
-    omega (arith, whole)
+message_bound m = omega (arith, element_bound, integer_bound, text_bound, length-append {A = ℕ})
 
 -- no request of a walk is longer than 1,000 octets
 pub request_short : (w : Walker) → length w.community ≤ 255 → length w.asked ≤ 128 → length (canon (request_of w)) ≤ 1000

@@ -32,35 +32,23 @@ named_after (p ∷ front) rows name h = inr (named_after front rows name h)
 -- the last name is the one before all, or one of theirs
 last_named : (o : List ℕ) (rows : List VarBind) → (last_name o rows ≡ o) ⊎ IsNameIn rows (last_name o rows)
 last_named o [] = inl refl
-last_named o (p ∷ rows) = by_rest (last_named p.name rows)
-  where
-    by_rest : (last_name p.name rows ≡ p.name) ⊎ IsNameIn rows (last_name p.name rows)
-        → (last_name p.name rows ≡ o) ⊎ IsNameIn (p ∷ rows) (last_name p.name rows)
-    by_rest (inl e) = inr (inl e)
-    by_rest (inr h) = inr (inr h)
+last_named o (p ∷ rows) = inr (last_named p.name rows)
 
 asks_more : (first : Walker) (rows more : List VarBind) (p : Phase) (by : Walker) → AsksFor first rows p by → AsksFor first (rows ++ more) p by
-asks_more first rows more phase.First by h = h
 asks_more first rows more phase.Rows by (inl e) = inl e
 asks_more first rows more phase.Rows by (inr h) = inr (named_more rows more by.asked h)
-asks_more first rows more phase.Last by h = h
-asks_more first rows more phase.Over by h = h
+asks_more first rows more p by h = h
 
 asks_stage : (first : Walker) (given : List VarBind) (p : Phase) (by : Walker) → IsStage Rises Named first given by.asked p
     → IsPaced Rises Named first given by.id p → AsksFor first given p by
 asks_stage first given phase.First by h paced = (h.1, h.2, paced)
 asks_stage first given phase.Last by h paced = (h.1, h.2)
 asks_stage first given phase.Over by h paced = absurd h
-asks_stage first given phase.Rows by h paced = by_last (last_named first.asked h.trail)
-  where
-    name : List ℕ
-    name = by.asked
-
-    by_last : (last_name first.asked h.trail ≡ first.asked) ⊎ IsNameIn h.trail (last_name first.asked h.trail) → (name ≡ first.asked) ⊎ IsNameIn given name
-    by_last (inl e) = inl (h.last ∙ e)
-    by_last (inr n) =
-        inr (subst (λ (rows : List VarBind). IsNameIn rows name) (sym h.parts)
-        (named_after h.front h.trail name (subst (IsNameIn h.trail) (sym h.last) n)))
+asks_stage first given phase.Rows by h paced = elim (last_named first.asked h.trail) [
+  | inl e ↦ inl (h.last ∙ e)
+  | inr n ↦ inr (subst (λ (rows : List VarBind). IsNameIn rows by.asked) (sym h.parts)
+      (named_after h.front h.trail by.asked (subst (IsNameIn h.trail) (sym h.last) n)))
+]
 
 -- what the waiting walk asks
 pub asks_now : (first w : Walker) (given rows : List VarBind) → Reaches Rises Named first w given → Asks first (given ++ rows) w
@@ -102,10 +90,11 @@ sent_push (u ∷ requests) t =
     ∙ sym (append_assoc (replicate u.times (canon (request_of u.by))) (sent_by requests) (replicate t.times (canon (request_of t.by))))
 
 pub each_push : (requests : List Try) (t : Try) → IsEachSent requests → 0 < t.times → IsEachSent (requests ++ t ∷ [])
-each_push [] t each some u (inl same) = subst (λ (v : Try). 0 < v.times) (sym same) some
-each_push [] t each some u (inr never) = absurd never
-each_push (v ∷ requests) t each some u (inl same) = each u (inl same)
-each_push (v ∷ requests) t each some u (inr one) = each_push requests t (λ x o. each x (inr o)) some u one
+each_push requests t each some u one = elim (one_append requests (t ∷ []) u one) [
+  | inl earlier ↦ each u earlier
+  | inr (inl same) ↦ subst (λ (v : Try). 0 < v.times) (sym same) some
+  | inr (inr never) ↦ absurd never
+]
 
 -- the requests before the waiting one
 pub record Sends (tries : ℕ) (first : Walker) (given : List VarBind) (old : Traffic) (next : ℕ) (now : Traffic) : Type 0 where
@@ -147,12 +136,11 @@ before_more w v good waits less d (inr u) = inr (u.0, u.1, u.2, omega (arith, u.
 
 pub earlier_more : (w v : Walker) (sent later : List (List ℕ)) (times : ℕ) → IsWalker w → is_over w.phase ≡ false → w.id < v.id
     → later ≡ sent ++ replicate times (canon (request_of w)) → IsEarlier sent w → IsEarlier later v
-earlier_more w v sent later times good waits less e h d one = by_part (one_append sent (replicate times (canon (request_of w))) d (subst (λ (s : List
-    (List ℕ)). OneOf s d) e one))
-  where
-    by_part : OneOf sent d ⊎ OneOf (replicate times (canon (request_of w))) d → IsSentBefore v d
-    by_part (inl o) = before_more w v good waits less d (h d o)
-    by_part (inr o) = before_more w v good waits less d (inl (one_same times (canon (request_of w)) d o))
+earlier_more w v sent later times good waits less e h d one =
+    elim (one_append sent (replicate times (canon (request_of w))) d (subst (λ (s : List (List ℕ)). OneOf s d) e one)) [
+      | inl o ↦ before_more w v good waits less d (h d o)
+      | inr o ↦ before_more w v good waits less d (inl (one_same times (canon (request_of w)) d o))
+    ]
 
 pub earlier_first : (sent : List (List ℕ)) (w : Walker) → sent ≡ [] → IsEarlier sent w
 earlier_first sent w none d one = absurd (subst (λ (s : List (List ℕ)). OneOf s d) none one)

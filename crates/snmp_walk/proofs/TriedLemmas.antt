@@ -24,7 +24,7 @@ few_sent tries first rows id [] h = omega arith
 few_sent tries first rows id (t ∷ more) h =
     let q : List ℕ = canon (request_of t.by) in
     let rest = few_sent tries first rows (id + 1) more h.4 in
-    omega (arith, rest, h.2, suc-mul (length more) tries, length-append (replicate t.times q) (sent_by more), length-replicate t.times q)
+    omega (arith, rest, h.2, length-append (replicate t.times q) (sent_by more), length-replicate t.times q)
 
 module _ {W : Type 0} (facts : LinkFacts W) where
   -- Requests of at most 1,000 octets moved the link: `to` is the id of the next.
@@ -55,10 +55,7 @@ module _ {W : Type 0} (facts : LinkFacts W) where
       let q : List ℕ = canon (request_of w) in
       let n : ℕ = length h.by.requests in
       let longer : length (h.by.requests ++ one ∷ []) ≡ n + 1 = omega (arith, length-append h.by.requests (one ∷ [])) in
-      let more : (n + 1) * tries ≡ n * tries + tries = add-mul n 1 tries ∙ (let last : n * tries + 1 * tries ≡ n * tries + tries = omega arith in last) in
-      let octets : (n + 1) * tries * 1000 ≡ n * tries * 1000 + tries * 1000 = ap (λ (k : ℕ). k * 1000) more ∙ add-mul (n * tries) tries 1000 in
       let own : t.0 * length q ≤ t.0 * 1000 = mul-le-mul_left t.0 size in
-      let all : t.0 * 1000 ≤ tries * 1000 = mul-le-mul_right 1000 t.1 in
       let sum : octets_in (sent_by (h.by.requests ++ one ∷ [])) ≡ octets_in (sent_by h.by.requests) + t.0 * length q =
       ap octets_in (sent_push h.by.requests one) ∙ octets-append (sent_by h.by.requests) (replicate t.0 q)
       ∙ ap (λ (k : ℕ). octets_in (sent_by h.by.requests) + k) (octets-replicate t.0 q) in
@@ -72,7 +69,7 @@ module _ {W : Type 0} (facts : LinkFacts W) where
         };
         ids = omega (arith, h.ids, longer);
         short = subst (λ (k : ℕ). octets_in (sent_by (h.by.requests ++ one ∷ [])) ≤ k * tries * 1000) (sym longer)
-            (omega (arith, octets, own, all, h.short, sum));
+            (omega (arith, own, t.1, h.short, sum));
       }
 
   -- where it was ready for as many requests and one more, it didn't fail
@@ -83,6 +80,5 @@ module _ {W : Type 0} (facts : LinkFacts W) where
       let few = few_sent tries first given first.id h.by.requests h.by.are_tries in
       let most : length h.by.requests * tries ≤ (k + 3) * tries =
       mul-le-mul_right tries (let least : length h.by.requests ≤ k + 3 = omega (arith, h.ids, few_ids) in least) in
-      let octets : length h.by.requests * tries * 1000 ≤ (k + 3) * tries * 1000 = mul-le-mul_right 1000 most in
       (h.by.moved.ready ((k + 3) * tries - length tried) ((k + 3) * tries * 1000 - octets_in tried)
-      (by_equal (facts.ready old) ((k + 3) * tries) _ ((k + 3) * tries * 1000) _ (omega (arith, most, few)) (omega (arith, octets, h.short)) ready)).0
+      (by_equal (facts.ready old) ((k + 3) * tries) _ ((k + 3) * tries * 1000) _ (omega (arith, most, few)) (omega (arith, most, h.short)) ready)).0

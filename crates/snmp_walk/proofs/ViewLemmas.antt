@@ -55,8 +55,4 @@ views_answer agents h = record {
 
 -- with one table each answer is that table's
 pub only_one : (view v : MibView) (tables : List MibView) → tables ≡ view ∷ [] → OneOf tables v → v ≡ view
-only_one view v tables e one = from_one (subst (λ (t : List MibView). OneOf t v) e one)
-  where
-    from_one : OneOf (view ∷ []) v → v ≡ view
-    from_one (inl same) = same
-    from_one (inr never) = absurd never
+only_one view v tables e one = elim (subst (λ (t : List MibView). OneOf t v) e one) [ inl same ↦ same | inr never ↦ absurd never ]

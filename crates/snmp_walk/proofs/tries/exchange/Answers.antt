@@ -10,7 +10,7 @@ use Rattle.snmp_walk.specs.Moved.{IsMoved}
 use Rattle.snmp_walk.proofs.HearLemmas.{Missing, missing_first, missing_more, missing_all}
 use Rattle.snmp_walk.proofs.HearLemmas.{missing_used, heard_more, try_sent, tries_sent, shown}
 use Rattle.snmp_walk.proofs.MoveLemmas.{is_bad, never_bad, ok_fine, sent_all, sent_none}
-use Rattle.snmp_walk.proofs.MoveLemmas.{moves_none, moves_on, moves_as, went, tries_on}
+use Rattle.snmp_walk.proofs.MoveLemmas.{try_moved, moves_none, moves_on, moves_as, went, tries_on}
 use Rattle.snmp_walk.specs.Tries.{AreMissed, IsNotAwaited}
 use Rattle.snmp_walk.proofs.TryLemmas.{tries_first, tries_more, tried_so, unsent}
 use Rattle.snmp_walk.proofs.TurnLemmas.{if_some, if_silent, if_cut, on_cut}
@@ -132,23 +132,13 @@ returns-in_err-send-clause-moves g c = (
 
 pub returns-in_err-course-clause-moves : goal.returns-in_err-course-clause-moves
 returns-in_err-course-clause-moves g c =
-    let sent = went g.L.Link (never_bad _ _ c.in_ok-send.was) c.send.ensures.moves in (
-      c.tries.counter + 1,
-      omega arith,
-      omega arith,
-      tries_on g.L.Link c.tries.counter c.tries.invariant.moved (moves_on g.L.Link sent
-          (moves_as g.L.Link (λ f. c.from_residual-in_err-course.ensures.0) (λ f. is_bad _ _ c.in_err-course.was) c.hear.ensures.moves)),
-    )
+    try_moved g.L.Link c.tries.counter (omega arith) c.tries.invariant.moved (went g.L.Link (never_bad _ _ c.in_ok-send.was) c.send.ensures.moves)
+    (λ f. c.from_residual-in_err-course.ensures.0) (λ f. is_bad _ _ c.in_err-course.was) c.hear.ensures.moves
 
 pub returns-in-Some-clause-moves : goal.returns-in-Some-clause-moves
 returns-in-Some-clause-moves g c =
-    let sent = went g.L.Link (never_bad _ _ c.in_ok-send.was) c.send.ensures.moves in (
-      c.tries.counter + 1,
-      omega arith,
-      omega arith,
-      tries_on g.L.Link c.tries.counter c.tries.invariant.moved (moves_on g.L.Link sent
-          (moves_as g.L.Link (λ f. absurd (never_bad _ _ c.in_ok-course.was f)) (λ f. absurd (ok_fine f)) c.hear.ensures.moves)),
-    )
+    try_moved g.L.Link c.tries.counter (omega arith) c.tries.invariant.moved (went g.L.Link (never_bad _ _ c.in_ok-send.was) c.send.ensures.moves)
+    (λ f. absurd (never_bad _ _ c.in_ok-course.was f)) (λ f. absurd (ok_fine f)) c.hear.ensures.moves
 
 pub returns-clause-moves : goal.returns-clause-moves
 returns-clause-moves g c = (c.tries.counter, omega arith, omega arith, moves_as g.L.Link (λ f. absurd f) (λ f. absurd (ok_fine f)) c.tries.invariant.moved)
