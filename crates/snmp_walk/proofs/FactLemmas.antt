@@ -1,6 +1,6 @@
 -- Over one table the facts of a run are about its rows.
-use Rattle.std.proofs.Common.{◌≡◌, ◌≢◌, ◌⊎◌, inl, inr, ℕ, ◌+◌, ◌<◌, List, [], ◌∷◌, ◌++◌, length}
-use Rattle.std.proofs.Common.{refl, sym, ◌∙◌, ap, subst, arith, length-append, Option}
+use Rattle.std.proofs.Common.{◌≡◌, ◌≢◌, inl, inr, ℕ, ◌+◌, ◌*◌, ◌≤◌, ◌<◌, List, [], ◌∷◌, ◌++◌}
+use Rattle.std.proofs.Common.{length, sym, ◌∙◌, ap, subst, arith, length-append, Option}
 use Rattle.snmp_wire.specs.Message.{VarBind}
 use Rattle.snmp_agent.specs.table.Table.{MibView, IsMibView, IsGet, IsNext}
 use Rattle.snmp_agent.specs.table.Listing.{variables}
@@ -8,15 +8,19 @@ use Rattle.snmp_walk.specs.declared.end.WalkEnd.{WalkEnd}
 use Rattle.snmp_walk.specs.declared.end.WalkEnd.TheVariants as ending
 use Rattle.snmp_walk.specs.Walker.{Walker, IsWalker}
 use Rattle.snmp_walk.specs.Standing.{Reaches, IsPartOfWalk, IsWholeWalk}
-use Rattle.snmp_walk.specs.Link.{Agents, OneOf, IsNextFrom, IsGotFrom, AreViews, IsUnanswered}
+use Rattle.snmp_walk.specs.Link.{Agents, OneOf, IsNextFrom, IsGotFrom, AreViews}
 use Rattle.snmp_walk.specs.Facts.{IsFresh, IsLastSent, IsEndedBy, IsLawfulEnd, HasNoReply, HasNone}
-use Rattle.snmp_walk.specs.Facts.{IsDone, TableFacts, WalkFacts, SendFacts}
+use Rattle.snmp_walk.specs.Facts.{IsDone, TableFacts, WalkFacts, SendFacts, gets}
 use Rattle.snmp_walk.specs.Codec.{Codec}
 use Rattle.snmp_walk.proofs.JoinLemmas.{variables_rise, variables_are, next_first, get_one}
 use Rattle.snmp_walk.proofs.JoinLemmas.{get_row, after_precedes}
 use Rattle.snmp_walk.proofs.TableLemmas.{part_is, whole_is}
 use Rattle.snmp_walk.proofs.ViewLemmas.{only_one}
-use Rattle.snmp_walk.proofs.SwiftLemmas.{left_end, swift_end, few_in, trail_in_rest}
+use Rattle.snmp_walk.proofs.SwiftLemmas.{left_end, swift_end, few_in, trail_in_rest, HasFew}
+use Rattle.snmp_walk.proofs.TrailLemmas.{last_name-append}
+use Rattle.std.proofs.lemmas.List.{nil_from_length}
+use Rattle.snmp_walk.specs.Trail.{last_name}
+use Rattle.snmp_walk.specs.Tables.{HoldsNames}
 use Rattle.snmp_walk.proofs.TablesLemmas.{once, rises, part_from, common_in, common_in_whole}
 use Rattle.snmp_walk.proofs.TablesLemmas.{few_rows, whole_some}
 use Rattle.snmp_walk.proofs.PartLemmas.{part_front}
@@ -25,7 +29,7 @@ use Rattle.snmp_walk.specs.Walk.{rest_of}
 use Rattle.snmp_walk.specs.Room.{HasRoomForEach}
 use Rattle.snmp_walk.proofs.SendLemmas.{Sends, AreUsed}
 use Rattle.snmp_walk.specs.Run.{IsEachSent, Try, sent_by}
-use Rattle.snmp_walk.specs.Request.{request_of}
+use Rattle.snmp_walk.specs.Request.{request_of, asked_for}
 use Rattle.snmp_wire.specs.Canon.{canon}
 use Rattle.snmp_walk.specs.Traffic.{Traffic, Lost}
 use Rattle.snmp_walk.proofs.RowLemmas.{IsOneTable}
@@ -48,114 +52,101 @@ one_table codec agents first view got views e answer =
 lawful_whole : (agents : Agents) (Silent : Walker → Type 0) (first : Walker) (rows : List VarBind) (end : WalkEnd) → IsDone end
     → IsLawfulEnd agents Silent first rows end → IsWholeWalk (IsNextFrom agents) (IsGotFrom agents) first rows
 lawful_whole agents Silent first rows (ending.Done n) d h = h.5.1
-lawful_whole agents Silent first rows (ending.Fault a b) d h = absurd d
-lawful_whole agents Silent first rows (ending.NoProgress o) d h = absurd d
-lawful_whole agents Silent first rows ending.BadReply d h = absurd d
-lawful_whole agents Silent first rows (ending.NotIncreasing o p) d h = absurd d
-lawful_whole agents Silent first rows ending.TooManyRequests d h = absurd d
-lawful_whole agents Silent first rows ending.RequestTooLong d h = absurd d
-lawful_whole agents Silent first rows ending.NoResponse d h = absurd d
-lawful_whole agents Silent first rows ending.Link d h = absurd d
-lawful_whole agents Silent first rows (ending.Sink fault) d h = absurd d
+lawful_whole agents Silent first rows _ d h = absurd d
 
 -- where no delivery was ahead, none was lost
 none_lost : (agents : Agents) (tries : ℕ) (old new : Traffic) (w : Walker) → 0 < tries → old.ahead ≡ [] → HasNoReply agents tries old new w → HasNone agents w
-none_lost agents tries old new w some none h = by_lost h.lost
-  where
-    no_use : (before used left : List (Option ℕ)) → [] ≡ before ++ (used ++ left) → used ≡ []
-    no_use [] [] left e = refl
-    no_use [] (x ∷ used) left e = let no : ⊥ = cc in absurd no
-    no_use (x ∷ before) used left e = let no : ⊥ = cc in absurd no
-
-    by_lost : IsUnanswered agents (canon (request_of w))
-        ⊎ ((before : List (Option ℕ)) × (used : List (Option ℕ)) × (old.ahead ≡ before ++ (used ++ new.ahead))
-        × Lost agents (h.earlier ++ canon (request_of w) ∷ []) (canon (request_of w)) used tries 0) → HasNone agents w
-    by_lost (inl u) = u
-    by_lost (inr l) =
-        let empty : l.1 ≡ [] = no_use l.0 l.1 new.ahead (sym none ∙ l.2) in
-        let zero_tries : tries ≡ 0 = subst (λ (es : List (Option ℕ)). Lost agents (h.earlier ++ canon (request_of w) ∷ []) (canon
-        (request_of w)) es tries 0) empty l.3 in
-        absurd (omega (arith, some, zero_tries))
+none_lost agents tries old new w some none h = elim h.lost [
+  | inl u ↦ u
+  | inr l ↦
+      let unused : l.1 ≡ [] = nil_from_length l.1 (omega (
+        arith,
+        ap length (sym l.2 ∙ none),
+        length-append l.0 (l.1 ++ new.ahead),
+        length-append l.1 new.ahead,
+      )) in
+      let zero_tries : tries ≡ 0 = subst (λ (es : List (Option ℕ)). Lost agents (h.earlier ++ canon (request_of w) ∷ []) (canon
+      (request_of w)) es tries 0) unused l.3 in
+      absurd (omega (arith, some, zero_tries))
+]
 
 -- the same end, with what is known of silence
 pub lawful_by : (agents : Agents) (Silent Other : Walker → Type 0) (first : Walker) (rows : List VarBind) (end : WalkEnd) → ((w : Walker) → Silent w → Other w)
     → IsLawfulEnd agents Silent first rows end → IsLawfulEnd agents Other first rows end
-lawful_by agents Silent Other first rows (ending.Done n) by h = h
-lawful_by agents Silent Other first rows (ending.Fault a b) by h = h
-lawful_by agents Silent Other first rows (ending.NoProgress o) by h = h
-lawful_by agents Silent Other first rows ending.BadReply by h = h
-lawful_by agents Silent Other first rows (ending.NotIncreasing o p) by h = h
-lawful_by agents Silent Other first rows ending.TooManyRequests by h = h
-lawful_by agents Silent Other first rows ending.RequestTooLong by h = h
 lawful_by agents Silent Other first rows ending.NoResponse by h = (h.0, h.1, h.2, by h.0 h.3)
-lawful_by agents Silent Other first rows ending.Link by h = h
-lawful_by agents Silent Other first rows (ending.Sink fault) by h = h
+lawful_by agents Silent Other first rows _ by h = h
 
 -- there is room for each binding of the one table
 only_room : (agents : Agents) (first : Walker) (view : MibView) → agents.tables ≡ view ∷ [] → HasRoomForEach agents view first → (v : MibView)
     → OneOf agents.tables v → HasRoomForEach agents v first
 only_room agents first view e rooms v one = subst (λ (u : MibView). HasRoomForEach agents u first) (sym (only_one view v agents.tables e one)) rooms
 
-table_facts : Codec → (agents : Agents) (tries : ℕ) (old new : Traffic) (first : Walker) (rows refused : List VarBind) (end : WalkEnd) → 0 < tries
-    → IsFresh first
-    → AreViews agents.tables
-    → IsPartOfWalk (IsNextFrom agents) (IsGotFrom agents) first (rows ++ refused) → IsLawfulEnd agents (HasNoReply agents tries old new) first rows end
-    → TableFacts agents old first rows refused end
-table_facts codec agents tries old new first rows refused end some fresh views part lawful =
-    let s = fresh.begins.0 in
-    let begins = fresh.begins.1 in
-    let given = part_front (IsNextFrom agents) (IsGotFrom agents) first rows refused part in
-    let rising = rises codec agents views first s begins rows given in
-    record {
-      from_tables = part_from codec agents views first s begins (rows ++ refused) part;
-      common_names = λ name of each front last e passed. once rows name rising
-          (common_in codec agents views first s begins rows given name of each front last e
-          (false_from_ne_true (comes_after last.name name) (λ after. passed (after_precedes codec last.name name after))));
-      common_at_done = λ done name of each.
-          once rows name rising (common_in_whole codec agents views first s begins rows (lawful_whole agents
-          (HasNoReply agents tries old new) first rows end done
-          lawful) name of each);
-      some_at_done = λ done plain.
-          whole_some (IsNextFrom agents) (IsGotFrom agents) first rows (lawful_whole agents (HasNoReply agents tries old new) first rows end done lawful) plain;
-      done_unless_lost_in_tables = λ names all rooms ids.
-          left_end codec agents first views rooms (length names) (few_rows codec agents views first s begins names all) ids
-          (HasNoReply agents tries old new) rows end lawful;
-      done_unless_stopped_in_tables = λ names all rooms ids none.
-          swift_end codec agents first views rooms (length names) (few_rows codec agents views first s begins names all) ids rows end
-          (lawful_by agents (HasNoReply agents tries old new) (HasNone agents) first rows end (λ w h. none_lost agents tries old new w some none h) lawful);
-    }
+-- a trail has no more rows than the one table has below the root, or than there are names
+module _ (codec : Codec) (agents : Agents) (views : AreViews agents.tables) (first : Walker) (fresh : IsFresh first) where
+  pub in_table : (view : MibView) → agents.tables ≡ view ∷ []
+      → HasFew (IsNextFrom agents) first (length (rest_of first.root first.asked (variables view)))
+  in_table view e =
+      let got = codec.got view first.asked in
+      trail_in_rest agents first view got.0 (one_table codec agents first view got.0 views e got.1) fresh.begins.0 fresh.begins.1
 
-pub facts : Codec → (agents : Agents) (tries : ℕ) (old new : Traffic) (first : Walker) (rows refused : List VarBind) (end : WalkEnd) → 0 < tries → IsFresh first
-    → AreViews agents.tables
-    → IsPartOfWalk (IsNextFrom agents) (IsGotFrom agents) first (rows ++ refused) → IsLawfulEnd agents (HasNoReply agents tries old new) first rows end
-    → IsEndedBy agents (HasNoReply agents tries old new) (IsLastSent tries end new) first rows end
-    → WalkFacts agents tries old first rows refused end new
-facts codec agents tries old new first rows refused end some fresh views part lawful last = record {
-  part = part;
-  lawful = lawful;
-  last_request = last;
-  replied = λ none. lawful_by agents (HasNoReply agents tries old new) (HasNone agents) first rows end
-      (λ w h. none_lost agents tries old new w some none h) lawful;
-  beginning = λ view got e answer.
-      part_is (variables view) got (IsNextFrom agents) (IsGotFrom agents) first
-      (one_table codec agents first view got views e answer) fresh.begins.0 fresh.begins.1
-      (rows ++ refused) part;
-  all_at_done = λ view got e answer done.
-      whole_is (variables view) got (IsNextFrom agents) (IsGotFrom agents) first
-      (one_table codec agents first view got views e answer) fresh.begins.0 fresh.begins.1 rows
-      (lawful_whole agents (HasNoReply agents tries old new) first rows end done lawful);
-  done_unless_lost = λ view e rooms ids.
-      let got = codec.got view first.asked in
-      left_end codec agents first views (only_room agents first view e rooms) (length (rest_of first.root first.asked (variables view)))
-      (trail_in_rest agents first view got.0 (one_table codec agents first view got.0 views e got.1) fresh.begins.0 fresh.begins.1) ids
-      (HasNoReply agents tries old new) rows end lawful;
-  done_unless_stopped = λ view e rooms ids none.
-      let got = codec.got view first.asked in
-      swift_end codec agents first views (only_room agents first view e rooms) (length (rest_of first.root first.asked (variables view)))
-      (trail_in_rest agents first view got.0 (one_table codec agents first view got.0 views e got.1) fresh.begins.0 fresh.begins.1) ids rows end
-      (lawful_by agents (HasNoReply agents tries old new) (HasNone agents) first rows end (λ w h. none_lost agents tries old new w some none h) lawful);
-  of_tables = table_facts codec agents tries old new first rows refused end some fresh views part lawful;
-}
+  pub in_names : (names : List (List ℕ)) → HoldsNames agents first names → HasFew (IsNextFrom agents) first (length names)
+  in_names = few_rows codec agents views first fresh.begins.0 fresh.begins.1
+
+module _ (codec : Codec) (agents : Agents) (tries : ℕ) (old new : Traffic) (first : Walker) (rows refused : List VarBind) (end : WalkEnd) (some : 0 < tries)
+    (fresh : IsFresh first) (views : AreViews agents.tables) (part : IsPartOfWalk (IsNextFrom agents) (IsGotFrom agents) first (rows ++ refused))
+    (lawful : IsLawfulEnd agents (HasNoReply agents tries old new) first rows end) where
+  -- nothing was lost
+  replied : old.ahead ≡ [] → IsLawfulEnd agents (HasNone agents) first rows end
+  replied none = lawful_by agents (HasNoReply agents tries old new) (HasNone agents) first rows end
+      (λ w h. none_lost agents tries old new w some none h) lawful
+
+  whole : IsDone end → IsWholeWalk (IsNextFrom agents) (IsGotFrom agents) first rows
+  whole done = lawful_whole agents (HasNoReply agents tries old new) first rows end done lawful
+
+  table_facts : TableFacts agents old first rows refused end
+  table_facts =
+      let s = fresh.begins.0 in
+      let begins = fresh.begins.1 in
+      let given = part_front (IsNextFrom agents) (IsGotFrom agents) first rows refused part in
+      let rising = rises codec agents views first s begins rows given in
+      record {
+        from_tables = part_from codec agents views first s begins (rows ++ refused) part;
+        common_names = λ name of each front last e passed. once rows name rising
+            (common_in codec agents views first s begins rows given name of each
+            (λ none. absurd (omega (arith, ap length (sym e ∙ none), length-append front (last ∷ []))))
+            (ap (λ (n : List ℕ). comes_after n name) (ap (last_name first.asked) e ∙ last_name-append first.asked front (last ∷ []))
+            ∙ false_from_ne_true (comes_after last.name name) (λ after. passed (after_precedes codec last.name name after))));
+        common_at_done = λ done name of each. once rows name rising (common_in_whole codec agents views first s begins rows (whole done) name of each);
+        some_at_done = λ done plain. whole_some (IsNextFrom agents) (IsGotFrom agents) first rows (whole done) plain;
+        done_unless_lost_in_tables = λ names all rooms ids.
+            left_end codec agents first views rooms (length names) (in_names codec agents views first fresh names all) ids
+            (HasNoReply agents tries old new) rows end lawful;
+        done_unless_stopped_in_tables = λ names all rooms ids none.
+            swift_end codec agents first views rooms (length names) (in_names codec agents views first fresh names all) ids rows end (replied none);
+      }
+
+  pub facts : IsEndedBy agents (HasNoReply agents tries old new) (IsLastSent tries end new) first rows end
+      → WalkFacts agents tries old first rows refused end new
+  facts last = record {
+    part = part;
+    lawful = lawful;
+    last_request = last;
+    replied = replied;
+    beginning = λ view got e answer.
+        part_is (variables view) got (IsNextFrom agents) (IsGotFrom agents) first
+        (one_table codec agents first view got views e answer) fresh.begins.0 fresh.begins.1
+        (rows ++ refused) part;
+    all_at_done = λ view got e answer done.
+        whole_is (variables view) got (IsNextFrom agents) (IsGotFrom agents) first
+        (one_table codec agents first view got views e answer) fresh.begins.0 fresh.begins.1 rows (whole done);
+    done_unless_lost = λ view e rooms ids.
+        left_end codec agents first views (only_room agents first view e rooms) (length (rest_of first.root first.asked (variables view)))
+        (in_table codec agents views first fresh view e) ids (HasNoReply agents tries old new) rows end lawful;
+    done_unless_stopped = λ view e rooms ids none.
+        swift_end codec agents first views (only_room agents first view e rooms) (length (rest_of first.root first.asked (variables view)))
+        (in_table codec agents views first fresh view e) ids rows end (replied none);
+    of_tables = table_facts;
+  }
 
 -- what a run sent
 pub send_facts : Codec → (agents : Agents) (honest Roomy : Type 0) (tries : ℕ) (old new : Traffic) (first w : Walker) (rows given : List VarBind)
@@ -177,28 +168,18 @@ send_facts codec agents honest Roomy tries old new first w rows given end fresh 
   used = λ k.
       let u = (honestly k).0 in
       (u.used, u.parts, omega (arith, u.few, ap length h.sent, length-append old.sent (sent_by h.requests)));
-  few_of_table = λ k view e.
-      let f = honestly k in
-      let got = codec.got view first.asked in
-      let ids = few_in (IsNextFrom agents) (IsGotFrom agents) first (length (rest_of first.root first.asked (variables view)))
-      (trail_in_rest agents first view got.0 (one_table codec agents first view got.0 f.1 e got.1) fresh.begins.0 fresh.begins.1) w given w.phase f.2.stage
-      f.2.paced in
-      omega (arith, h.ids, ids);
-  few_of_tables = λ k names all.
-      let f = honestly k in
-      let ids = few_in (IsNextFrom agents) (IsGotFrom agents) first (length names)
-      (few_rows codec agents f.1 first fresh.begins.0 fresh.begins.1 names all) w given w.phase f.2.stage f.2.paced in
-      omega (arith, h.ids, ids);
-  few_of_table_where_all_fit = λ k room view e.
-      let f = honestly k in
-      let got = codec.got view first.asked in
-      let few = fast_few (IsNextFrom agents) (IsGotFrom agents) Roomy first w given (length (rest_of first.root first.asked (variables view)))
-      (trail_in_rest agents first view got.0 (one_table codec agents first view got.0 f.1 e got.1) fresh.begins.0 fresh.begins.1) w.phase f.2.stage f.2.paced f.3
-      (less room) in
-      (few.0, few.1, omega (arith, h.ids, few.2));
-  few_of_tables_where_all_fit = λ k room names all.
-      let f = honestly k in
-      let few = fast_few (IsNextFrom agents) (IsGotFrom agents) Roomy first w given (length names)
-      (few_rows codec agents f.1 first fresh.begins.0 fresh.begins.1 names all) w.phase f.2.stage f.2.paced f.3 (less room) in
-      (few.0, few.1, omega (arith, h.ids, few.2));
+  few_of_table = λ k view e. few k _ (in_table codec agents (honestly k).1 first fresh view e);
+  few_of_tables = λ k names all. few k _ (in_names codec agents (honestly k).1 first fresh names all);
+  few_of_table_where_all_fit = λ k room view e. fast k room _ (in_table codec agents (honestly k).1 first fresh view e);
+  few_of_tables_where_all_fit = λ k room names all. fast k room _ (in_names codec agents (honestly k).1 first fresh names all);
 }
+  where
+    few : honest → (n : ℕ) → HasFew (IsNextFrom agents) first n → length h.requests ≤ n + 1 + gets first.mode
+    few k n bound = omega (arith, h.ids, few_in (IsNextFrom agents) (IsGotFrom agents) first n bound w given (honestly k).2)
+
+    fast : honest → AreRoomy agents h.requests → (k : ℕ) → HasFew (IsNextFrom agents) first k
+        → (n : ℕ) × (asked_for first.method * n ≤ k) × (length h.requests ≤ n + 1 + gets first.mode)
+    fast honest room k bound =
+        let f = honestly honest in
+        let few = fast_few (IsNextFrom agents) (IsGotFrom agents) Roomy first w given k bound w.phase f.2.stage f.2.paced f.3 (less room) in
+        (few.0, few.1, omega (arith, h.ids, few.2))

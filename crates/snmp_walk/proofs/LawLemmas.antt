@@ -1,7 +1,7 @@
 -- What the lists of a walk hold, and what is left of them after a name.
-use Rattle.std.proofs.Common.{◌≡◌, ◌⊎◌, inl, inr, ℕ, ◌≤◌, Bool, true, false, cond, List, [], ◌∷◌}
+use Rattle.std.proofs.Common.{◌≡◌, inl, inr, ℕ, ◌≤◌, Bool, true, false, cond, List, [], ◌∷◌}
 use Rattle.std.proofs.Common.{◌++◌, length, refl, sym, ◌∙◌, ap, subst, arith}
-use Rattle.std.proofs.lemmas.Bool.{false≢true, false_from_ne_true}
+use Rattle.std.proofs.lemmas.Bool.{cond_both, false≢true, false_from_ne_true}
 use Rattle.std.specs.Prelude.{filter}
 use Rattle.std.specs.Ordering.{nat_cmp, is_lt}
 use Rattle.std.specs.Cmp.Lexicographic.{slice_cmp}
@@ -20,105 +20,52 @@ use Rattle.snmp_walk.proofs.NameLemmas.{below_from_test, test_from_below}
 use Rattle.snmp_walk.proofs.OrderLemmas.{less_from_after, after-trans, after-irrefl, less_precedes}
 use Rattle.snmp_walk.proofs.ViewLemmas.{get_name}
 use Rattle.snmp_walk.proofs.TableLemmas.{all_after, rest_from_wire}
-use Rattle.snmp_walk.proofs.JoinLemmas.{IsIn, row_in, in_row, variables_rise, variables_are}
-use Rattle.snmp_walk.proofs.JoinLemmas.{get_row}
+use Rattle.snmp_walk.proofs.JoinLemmas.{one_after, kept, keeps, row_in, in_row, variables_rise}
+use Rattle.snmp_walk.proofs.JoinLemmas.{variables_are, get_row}
 use Rattle.snmp_walk.proofs.RowLemmas.{AreAfter, AreRising}
 
--- membership in a filtered list
-kept_by : (test : VarBind → Bool) (p q : VarBind) (rows : List VarBind) (b : Bool) → b ≡ test q
-    → OneOf (cond b (q ∷ filter test rows) (filter test rows)) p → (OneOf (filter test rows) p → OneOf rows p × (test p ≡ true))
-    → ((p ≡ q) ⊎ OneOf rows p) × (test p ≡ true)
-kept_by test p q rows true e (inl same) later = (inl same, ap test same ∙ sym e)
-kept_by test p q rows true e (inr i) later = let h = later i in (inr h.0, h.1)
-kept_by test p q rows false e i later = let h = later i in (inr h.0, h.1)
-
-kept : (test : VarBind → Bool) (p : VarBind) (rows : List VarBind) → OneOf (filter test rows) p → OneOf rows p × (test p ≡ true)
-kept test p [] i = absurd i
-kept test p (q ∷ rows) i = kept_by test p q rows (test q) refl i (kept test p rows)
-
-keeps_by : (test : VarBind → Bool) (p q : VarBind) (rows : List VarBind) (b : Bool) → b ≡ test q → test p ≡ true → (p ≡ q) ⊎ OneOf rows p
-    → (OneOf rows p → OneOf (filter test rows) p) → OneOf (cond b (q ∷ filter test rows) (filter test rows)) p
-keeps_by test p q rows true e h (inl same) later = inl same
-keeps_by test p q rows true e h (inr i) later = inr (later i)
-keeps_by test p q rows false e h (inl same) later = absurd (false≢true (e ∙ ap test (sym same) ∙ h))
-keeps_by test p q rows false e h (inr i) later = later i
-
-keeps : (test : VarBind → Bool) (p : VarBind) (rows : List VarBind) → test p ≡ true → OneOf rows p → OneOf (filter test rows) p
-keeps test p [] h i = absurd i
-keeps test p (q ∷ rows) h i = keeps_by test p q rows (test q) refl h i (keeps test p rows h)
-
-one_from_in : (p : VarBind) (rows : List VarBind) → IsIn p rows → OneOf rows p
-one_from_in p [] i = absurd i
-one_from_in p (q ∷ rows) (inl same) = inl same
-one_from_in p (q ∷ rows) (inr i) = inr (one_from_in p rows i)
-
-in_from_one : (p : VarBind) (rows : List VarBind) → OneOf rows p → IsIn p rows
-in_from_one p [] i = absurd i
-in_from_one p (q ∷ rows) (inl same) = inl same
-in_from_one p (q ∷ rows) (inr i) = inr (in_from_one p rows i)
-
 -- a filtered list rises as the whole one
-after_kept_by : (test : VarBind → Bool) (x : List ℕ) (q : VarBind) (rows : List VarBind) (b : Bool) → comes_after x q.name ≡ true
-    → AreAfter x (filter test rows) → AreAfter x (cond b (q ∷ filter test rows) (filter test rows))
-after_kept_by test x q rows true e h = (e, h)
-after_kept_by test x q rows false e h = h
-
 after_kept : (test : VarBind → Bool) (x : List ℕ) (rows : List VarBind) → AreAfter x rows → AreAfter x (filter test rows)
 after_kept test x [] h = tt
-after_kept test x (q ∷ rows) h = after_kept_by test x q rows (test q) h.0 (after_kept test x rows h.1)
-
-rising_kept_by : (test : VarBind → Bool) (q : VarBind) (rows : List VarBind) (b : Bool) → AreAfter q.name (filter test rows)
-    → AreRising (filter test rows) → AreRising (cond b (q ∷ filter test rows) (filter test rows))
-rising_kept_by test q rows true a h = (a, h)
-rising_kept_by test q rows false a h = h
+after_kept test x (q ∷ rows) h =
+    let rest = after_kept test x rows h.1 in cond_both (test q) (q ∷ filter test rows) (filter test rows) (AreAfter x) (λ _. (h.0, rest)) (λ _. rest)
 
 rising_kept : (test : VarBind → Bool) (rows : List VarBind) → AreRising rows → AreRising (filter test rows)
 rising_kept test [] h = tt
-rising_kept test (q ∷ rows) h = rising_kept_by test q rows (test q) (after_kept test q.name rows h.0) (rising_kept test rows h.1)
+rising_kept test (q ∷ rows) h =
+    let rest = rising_kept test rows h.1 in
+    cond_both (test q) (q ∷ filter test rows) (filter test rows) AreRising (λ _. (after_kept test q.name rows h.0, rest)) (λ _. rest)
 
 -- what rises is ordered
 module _ (precedes : (o p : List ℕ) → comes_after o p ≡ true → Precedes o p) where
-  each_after : (x : List ℕ) (rows : List VarBind) → AreAfter x rows → (q : VarBind) → OneOf rows q → Precedes x q.name
-  each_after x [] h q i = absurd i
-  each_after x (r ∷ rows) h q (inl same) = precedes x q.name (ap (λ (b : VarBind). comes_after x b.name) same ∙ h.0)
-  each_after x (r ∷ rows) h q (inr i) = each_after x rows h.1 q i
-
   pub ordered_from_rising : (rows : List VarBind) → AreRising rows → AreOrdered rows
   ordered_from_rising [] h = tt
-  ordered_from_rising (p ∷ rows) h = (each_after p.name rows h.0, ordered_from_rising rows h.1)
+  ordered_from_rising (p ∷ rows) h = ((λ q i. precedes p.name q.name (one_after p.name rows q h.0 i)), ordered_from_rising rows h.1)
 
 -- after one of the names of a rising list the rest of it is left
 not_before : (o p : List ℕ) → comes_after o p ≡ true → comes_after p o ≡ false
 not_before o p h = false_from_ne_true (comes_after p o) (λ k. false≢true (sym (after-irrefl o) ∙ after-trans o p o h k))
 
-after_at : (q p : VarBind) (front more : List VarBind) → AreAfter q.name (front ++ p ∷ more) → comes_after q.name p.name ≡ true
-after_at q p [] more h = h.0
-after_at q p (r ∷ front) more h = after_at q p front more h.1
+one_there : (p : VarBind) (front more : List VarBind) → OneOf (front ++ p ∷ more) p
+one_there p [] more = inl refl
+one_there p (q ∷ front) more = inr (one_there p front more)
 
 pub left_after : (p : VarBind) (front more : List VarBind) → AreRising (front ++ p ∷ more) → rows_after p.name (front ++ p ∷ more) ≡ more
 left_after p [] more h = rw (after-irrefl p.name) (all_after p.name more h.0)
-left_after p (q ∷ front) more h = rw (not_before q.name p.name (after_at q p front more h.0)) (left_after p front more h.1)
+left_after p (q ∷ front) more h = rw (not_before q.name p.name (one_after q.name (front ++ p ∷ more) p h.0 (one_there p front more))) (left_after p front more h.1)
 
 left_of : (rows : List VarBind) (p : VarBind) (front more : List VarBind) → AreRising rows → rows ≡ front ++ p ∷ more → more ≡ rows_after p.name rows
 left_of rows p front more h e =
     sym (ap (rows_after p.name) e ∙ left_after p front more (subst AreRising e h))
 
 -- rows after a name, of those after an earlier one
-later_by : (o p : List ℕ) (q : VarBind) (rows : List VarBind) (b : Bool) → b ≡ comes_after o q.name → comes_after o p ≡ true
-    → rows_after p (rows_after o rows) ≡ rows_after p rows → rows_after p (cond b (q ∷ rows_after o rows) (rows_after o rows)) ≡ rows_after p (q ∷ rows)
-later_by o p q rows true e h same = ap (λ (s : List VarBind). cond (comes_after p q.name) (q ∷ s) s) same
-later_by o p q rows false e h same =
-    let not_after : comes_after p q.name ≡ false =
-    false_from_ne_true (comes_after p q.name) (λ k. false≢true (e ∙ after-trans o p q.name h k)) in
-    same ∙ rw not_after refl
-
 later_rows : (o p : List ℕ) (rows : List VarBind) → comes_after o p ≡ true → rows_after p (rows_after o rows) ≡ rows_after p rows
 later_rows o p [] h = refl
-later_rows o p (q ∷ rows) h = later_by o p q rows (comes_after o q.name) refl h (later_rows o p rows h)
-
-one_there : (p : VarBind) (front more : List VarBind) → OneOf (front ++ p ∷ more) p
-one_there p [] more = inl refl
-one_there p (q ∷ front) more = inr (one_there p front more)
+later_rows o p (q ∷ rows) h =
+    let same = later_rows o p rows h in
+    cond_both (comes_after o q.name) (q ∷ rows_after o rows) (rows_after o rows) (λ s. rows_after p s ≡ rows_after p (q ∷ rows))
+    (λ _. ap (λ (s : List VarBind). cond (comes_after p q.name) (q ∷ s) s) same)
+    (λ e. same ∙ rw (false_from_ne_true (comes_after p q.name) (λ k. false≢true (sym e ∙ after-trans o p q.name h k))))
 
 -- names as they are sent
 pub wire_long : (name : List ℕ) → 3 ≤ length name → wire name ≡ name
@@ -149,11 +96,11 @@ module _ (view : MibView) (good : IsMibView view) (root : List ℕ) where
   pub is_row_below : (p : VarBind) → OneOf Below p → IsRow view p × IsBelow p.name root
   is_row_below p i =
       let h = kept (λ row. is_below row.name root) p (variables view) i in
-      (in_row view good p (in_from_one p (variables view) h.0), below_from_test root p.name h.1)
+      (in_row view good p h.0, below_from_test root p.name h.1)
 
   pub has_row_below : (p : VarBind) → IsRow view p × IsBelow p.name root → OneOf Below p
   has_row_below p h =
-      keeps (λ row. is_below row.name root) p (variables view) (test_from_below root p.name h.1) (one_from_in p (variables view) (row_in view good p h.0))
+      keeps (λ row. is_below row.name root) p (variables view) (test_from_below root p.name h.1) (row_in view good p h.0)
 
   module _ (precedes : (o p : List ℕ) → slice_cmp nat_cmp o p ≡ Less → Precedes o p) where
     precedes_after : (o p : List ℕ) → comes_after o p ≡ true → Precedes o p
@@ -189,8 +136,8 @@ module _ (view : MibView) (good : IsMibView view) (root : List ℕ) where
   rest_only : (got p : VarBind) (front more rows : List VarBind) → rows ≡ Below → or_only got rows ≡ front ++ p ∷ more
       → more ≡ rest_of root p.name (variables view)
   rest_only got p [] more [] same e = let none : [] ≡ more = cc in sym none ∙ ap (rows_after p.name) same
-  rest_only got p (q ∷ []) more [] same e = let no : ⊥ = cc in absurd no
-  rest_only got p (q ∷ r ∷ front) more [] same e = let no : ⊥ = cc in absurd no
+  rest_only got p (q ∷ []) more [] same e = absurd cc
+  rest_only got p (q ∷ r ∷ front) more [] same e = absurd cc
   rest_only got p front more (q ∷ rows) same e = rest_below p front more (sym same ∙ e)
 
   rest_named : (got p : VarBind) (front more : List VarBind) (b : Bool) → got.name ≡ wire root → cond b [] (got ∷ []) ++ Below ≡ front ++ p ∷ more

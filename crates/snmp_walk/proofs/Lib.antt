@@ -17,7 +17,7 @@ pub mod MoveLemmas
 pub mod RunLemmas
 pub mod ViewLemmas
 pub mod JoinLemmas
-pub mod EndLemmas
+pub mod CaseLemmas
 pub mod RisingLemmas
 pub mod PartLemmas
 pub mod TablesLemmas

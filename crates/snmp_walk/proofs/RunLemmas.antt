@@ -54,12 +54,9 @@ use Rattle.snmp_wire.specs.Canon.{canon}
 use Rattle.snmp_walk.proofs.JudgedLemmas.{means_by}
 use Rattle.snmp_walk.proofs.ViewLemmas.{views_answer}
 use Rattle.snmp_walk.specs.Codec.{Codec}
-use Rattle.snmp_walk.proofs.FactLemmas.{one_table, facts, lawful_by, send_facts}
-use Rattle.snmp_walk.proofs.SwiftLemmas.{few_in, gets_one, trail_in_rest}
-use Rattle.snmp_walk.proofs.TablesLemmas.{few_rows}
-use Rattle.snmp_walk.specs.Walk.{rest_of}
-use Rattle.snmp_agent.specs.table.Listing.{variables}
-use Rattle.std.specs.Prelude.{◌≢◌, length, ◌≤◌}
+use Rattle.snmp_walk.proofs.FactLemmas.{in_table, in_names, facts, lawful_by, send_facts}
+use Rattle.snmp_walk.proofs.SwiftLemmas.{few_in, gets_one, HasFew}
+use Rattle.std.specs.Prelude.{◌≢◌, ◌≤◌}
 use Rattle.snmp_walk.proofs.SendLemmas.{
   Sends,
   sends_first,
@@ -74,7 +71,7 @@ use Rattle.snmp_walk.proofs.SendLemmas.{
   earlier_first,
   earlier_more,
 }
-use Rattle.snmp_walk.proofs.EndLemmas.{EndsEmpty, ends_empty}
+use Rattle.snmp_walk.proofs.CaseLemmas.{EndsEmpty, ends_empty}
 use Rattle.snmp_walk.proofs.RisingLemmas.{end_facts, read_end}
 use Rattle.snmp_walk.proofs.PartLemmas.{part_front}
 use Rattle.snmp_walk.proofs.FullLemmas.{AreRoomy, IsFast, fast_first, fast_on}
@@ -147,16 +144,8 @@ module _ (Next Got : List ℕ → VarBind → Type 0) (first : Walker) where
 took_reply : {S : Type 0} (takes : S → VarBind → Result (Unit {0}) SinkFault → S → Type 0) (before after : S) (rows : List VarBind) (why : WalkEnd)
     → IsReplyEnd why
     → Given takes before rows after → Took takes before rows [] why after
-took_reply takes before after rows (ending.Done n) own h = (h, refl)
-took_reply takes before after rows (ending.Fault a b) own h = (h, refl)
-took_reply takes before after rows (ending.NoProgress o) own h = (h, refl)
-took_reply takes before after rows ending.BadReply own h = (h, refl)
-took_reply takes before after rows (ending.NotIncreasing o p) own h = (h, refl)
-took_reply takes before after rows ending.TooManyRequests own h = (h, refl)
-took_reply takes before after rows ending.RequestTooLong own h = (h, refl)
-took_reply takes before after rows ending.NoResponse own h = (h, refl)
-took_reply takes before after rows ending.Link own h = (h, refl)
 took_reply takes before after rows (ending.Sink fault) own h = absurd own
+took_reply takes before after rows _ own h = (h, refl)
 
 lawful_reply : (agents : Agents) (Silent : Walker → Type 0) (first w : Walker) (given more : List VarBind) (why : WalkEnd) → IsReplyEnd why
     → BringsNone why more → Reaches (IsNextFrom agents) (IsGotFrom agents) first w given
@@ -246,7 +235,7 @@ module _ {S L : Type 0} (codec : Codec) (takes : S → VarBind → Result (Unit 
 
   pub turned : (rows : List VarBind) (new : Walker) → Turns takes (λ o. Tried w here o after) agents honest w s rows None new t → GoesOn rows new
   turned rows new (goes_on m datagram from tried spelt e f sink en) =
-      let any = subst (λ (st : Step). AdvancesAnyhow first w given st (take_of w m).1) e (taken_any (after_precedes codec) first w given m stands) in
+      let any = subst (λ (st : Step). AdvancesAnyhow first w given st (take_of w m).1) e (taken_any first w given (after_precedes codec) m stands) in
       let stood = subst (λ (v : Walker). AdvancesAnyhow first w given (step.Rows rows) v) (sym f) any in
       record {
         sink = given-append S takes given rows before s t sunk sink;
@@ -308,7 +297,7 @@ module _ {S L : Type 0} (codec : Codec) (takes : S → VarBind → Result (Unit 
       → Spells m datagram → (take_of w m).0 ≡ step.Last rows why → Given takes s rows t
       → IsOver rows why
   over_reply rows m datagram why sent from tried spelt e sink =
-      let any = subst (λ (st : Step). AdvancesAnyhow first w given st (take_of w m).1) e (taken_any (after_precedes codec) first w given m stands) in
+      let any = subst (λ (st : Step). AdvancesAnyhow first w given st (take_of w m).1) e (taken_any first w given (after_precedes codec) m stands) in
       record {
         refused = [];
         sink = took_reply takes before t (given ++ rows) why any.0 (given-append S takes given rows before s t sunk sink);
@@ -341,7 +330,7 @@ module _ {S L : Type 0} (codec : Codec) (takes : S → VarBind → Result (Unit 
       let cut : given ++ rows_in (take_of w m).0 ≡ ((given ++ rows) ++ p ∷ []) ++ left =
       ap (λ (r : List VarBind). given ++ r) e ∙ sym (append_assoc given rows (p ∷ left)) ∙ sym (append_assoc (given ++ rows) (p ∷ []) left) in
       let any = subst (IsPartOfWalk Rises Named first) cut (keeps_part first w (take_of w m).1 given (take_of w m).0 stands
-      (taken_any (after_precedes codec) first w given m stands)) in
+      (taken_any first w given (after_precedes codec) m stands)) in
       record {
         refused = p ∷ [];
         sink = (between, given-append S takes given rows before s between sunk sink, (p, refl, refused));
@@ -433,7 +422,7 @@ fast_turn : {S : Type 0} (takes : S → VarBind → Result (Unit {0}) SinkFault 
 fast_turn takes Tried agents honest first w s t given laws Roomy More less room before rows v after next h
     (goes_on m datagram from tried spelt e f sink en) fast =
     let r = from h in
-    fast_on agents laws first w v given rows Roomy More less room before after next m r.0 r.1 e f w.phase v.phase refl refl fast
+    fast_on agents laws first w v given rows Roomy More less room before after next m r.0 r.1 e f fast
 fast_turn takes Tried agents honest first w s t given laws Roomy More less room before rows v after next h
     (ends m datagram why from tried spelt e sink en) fast =
     let no : ⊥ = cc in absurd no
@@ -641,18 +630,11 @@ pub ready_facts : {S L : Type 0} → Codec → (takes : S → VarBind → Result
     (end : WalkEnd) → ((k : ℕ) → w.id ≤ first.id + k + 1 → IsReadyForAll Ready tries k → end ≢ ending.Link)
     → ReadyFacts agents (honest × (old.sent ≡ [])) Ready tries first end
 ready_facts codec takes Tried link here agents keeps honest tries first before old w s now r fresh views Ready end fine = record {
-  over_table = λ h view one ready.
-      let good = views h.0 in
-      let got = codec.got view first.asked in
-      let f = r.honestly h.0 good h.1 in
-      let few = few_in (IsNextFrom agents) (IsGotFrom agents) first (length (rest_of first.root first.asked (variables view)))
-      (trail_in_rest agents first view got.0 (one_table codec agents first view got.0 good one got.1) fresh.begins.0 fresh.begins.1) w r.given w.phase
-      f.stage f.paced in
-      fine (length (rest_of first.root first.asked (variables view))) (omega (arith, few, gets_one first.mode)) ready;
-  over_tables = λ h names all ready.
-      let good = views h.0 in
-      let f = r.honestly h.0 good h.1 in
-      let few = few_in (IsNextFrom agents) (IsGotFrom agents) first (length names)
-      (few_rows codec agents good first fresh.begins.0 fresh.begins.1 names all) w r.given w.phase f.stage f.paced in
-      fine (length names) (omega (arith, few, gets_one first.mode)) ready;
+  over_table = λ h view one ready. fine_in h _ (in_table codec agents (views h.0) first fresh view one) ready;
+  over_tables = λ h names all ready. fine_in h _ (in_names codec agents (views h.0) first fresh names all) ready;
 }
+  where
+    fine_in : honest × (old.sent ≡ []) → (k : ℕ) → HasFew (IsNextFrom agents) first k → IsReadyForAll Ready tries k → end ≢ ending.Link
+    fine_in h k bound ready =
+        let few = few_in (IsNextFrom agents) (IsGotFrom agents) first k bound w r.given (r.honestly h.0 (views h.0) h.1) in
+        fine k (omega (arith, few, gets_one first.mode)) ready

@@ -1,38 +1,8 @@
 -- An honest reply to the waiting request takes a walk a step further, or ends it lawfully.
-use Rattle.std.proofs.Common.{
-  ◌≡◌,
-  inl,
-  inr,
-  ℕ,
-  ◌+◌,
-  ◌<◌,
-  ◌≤◌,
-  Bool,
-  true,
-  false,
-  cond,
-  List,
-  [],
-  ◌∷◌,
-  ◌++◌,
-  ◌≢◌,
-  length,
-  refl,
-  sym,
-  ◌∙◌,
-  ap,
-  subst,
-  arith,
-  append_assoc,
-  append-nil,
-  length-append,
-  pos,
-  ℤ,
-  Some,
-}
+use Rattle.std.proofs.Common.{◌≡◌, inl, inr, ℕ, ◌+◌, ◌≤◌, true, false, cond, List, [], ◌∷◌, ◌++◌, ◌≢◌, length, refl, sym, ◌∙◌, ap, subst, arith, append_assoc, append-nil, length-append, pos, ℤ, Some}
 use Rattle.std.proofs.lemmas.Bool.{ltb-true, le-ltb, or_from, and_from, and_parts, eqb-true}
-use Rattle.std.proofs.lemmas.Bool.{ltb-false, eq-eqb}
-use Rattle.std.proofs.lemmas.List.{flat_map_more, length_push}
+use Rattle.std.proofs.lemmas.Bool.{ltb-false, eq-eqb, cond_both, false≢true}
+use Rattle.std.proofs.lemmas.List.{flat_map_more, length_push, nil_from_length}
 use Rattle.std.proofs.lemmas.List.Elements.{All-nil, All-push}
 use Rattle.std.specs.Prelude.{nat_lt, ◌==◌, ◌&&◌, ◌||◌, flat_map, not}
 use Rattle.std.specs.Bool.{nat_eq}
@@ -45,7 +15,6 @@ use Rattle.snmp_walk.specs.declared.phase.Phase.{Phase}
 use Rattle.snmp_walk.specs.declared.phase.Phase.TheVariants as phase
 use Rattle.snmp_walk.specs.declared.end.WalkEnd.TheVariants as ending
 use Rattle.snmp_walk.specs.declared.rows.Step.{Step}
-use Rattle.snmp_walk.specs.declared.rows.Step.TheVariants as step
 use Rattle.snmp_walk.proofs.JudgedLemmas.{response_to_decided}
 use Rattle.snmp_walk.specs.Names.{is_missing}
 use Rattle.snmp_walk.specs.Trail.{last_name, IsTrail, IsAtEnd}
@@ -70,11 +39,12 @@ use Rattle.snmp_walk.specs.Standing.{
   Reaches,
   Advances,
 }
+use Rattle.snmp_walk.proofs.CaseLemmas.{goes_by}
 use Rattle.snmp_walk.proofs.TrailLemmas.{last_name-append, trail-append, IsFront, chain_front}
 use Rattle.snmp_walk.proofs.TrailLemmas.{chain_has_values, few_replies}
 use Rattle.snmp_walk.specs.Request.{asked_for}
 use Rattle.snmp_walk.proofs.RowLemmas.{AreLawfulReplies}
-use Rattle.snmp_walk.proofs.TestLemmas.{present, present_is}
+use Rattle.snmp_walk.proofs.TestLemmas.{present}
 
 module _ (Next Got : List ℕ → VarBind → Type 0) (Large : ℕ → VarBind → Type 0) (laws : AreLawfulReplies Next Got) (first : Walker) where
   -- a step as a pair
@@ -87,36 +57,25 @@ module _ (Next Got : List ℕ → VarBind → Type 0) (Large : ℕ → VarBind �
   part_of_stage given o phase.Last h = inl h.0
   part_of_stage given o phase.Over h = absurd h
 
-  present_last : (o : List ℕ) (p : VarBind) (b : Bool) (trail : List VarBind) → p.name ≡ o → last_name o (cond b [] (p ∷ []) ++ trail) ≡ last_name o trail
-  present_last o p true trail e = refl
-  present_last o p false trail e = ap (λ (n : List ℕ). last_name n trail) e
-
   -- what a walk gives before the instances has the name that it begins from
   pub opening_last : (m : Mode) (o : List ℕ) (front trail : List VarBind) → IsOpening Got m o front → last_name o (front ++ trail) ≡ last_name o trail
-  opening_last mode.Plain o front trail h = ap (λ (f : List VarBind). last_name o (f ++ trail)) h
-  opening_last mode.Include o front trail h =
-      ap (λ (f : List VarBind). last_name o (f ++ trail)) (present_is h.0 front h.2)
-      ∙ present_last o h.0 (is_missing h.0.value) trail (laws.same_name o h.0 h.1)
-  opening_last mode.NoLast o front trail h = ap (λ (f : List VarBind). last_name o (f ++ trail)) h
+  opening_last mode.Include o front trail (p, h, inl is) = ap (λ (f : List VarBind). last_name o (f ++ trail)) is.1
+  opening_last mode.Include o front trail (p, h, inr is) =
+      ap (λ (f : List VarBind). last_name o (f ++ trail)) is.1 ∙ ap (λ (n : List ℕ). last_name n trail) (laws.same_name o p h)
+  opening_last _ o front trail h = ap (λ (f : List VarBind). last_name o (f ++ trail)) h
 
   -- the walk goes on, or has no id left
-  pub goes : (given more : List VarBind) (w : Walker) (next : Phase) (s : Bool) → s ≡ nat_lt w.id 2147483647
-      → Reaches Next Got first w given → IsStage Next Got first (given ++ more) (last_name w.asked more) next
-      → IsPaced Next Got first (given ++ more) (w.id + 1) next
-      → Goes w given (cond s (step.Rows more, record w { phase = next; asked = last_name w.asked more; id = w.id + 1; count = w.count + length more })
-      (stops w more ending.TooManyRequests))
-  goes given more w next true e h stage pace = record {
-    same = ap (λ (v : Walker). record v { phase = next; asked = last_name w.asked more; id = w.id + 1; count = w.count + length more }) h.same;
-    count = omega (arith, h.count, length-append given more);
-    paced = pace;
-    stage = stage;
-  }
-  goes given more w next false e h stage pace = (part_of_stage (given ++ more) (last_name w.asked more) next stage, ltb-false _ _ (sym e))
-
-  -- the end of a walk after the instances below the root
-  whole : (given more : List VarBind) (w : Walker) (o : List ℕ) → w.count ≡ length given → IsGiven Next Got first (given ++ more) o → IsAtEnd Next first.root o
-      → (first.mode ≡ mode.Plain → given ++ more ≡ [] → ⊥) → Goes w given (stops w more (ending.Done (w.count + length more)))
-  whole given more w o count h end some = (inr (inl (o, h)), (omega (arith, count, length-append given more), inl (o, h, end, some)))
+  pub goes : (given more : List VarBind) (w : Walker) (next : Phase) → Reaches Next Got first w given
+      → IsStage Next Got first (given ++ more) (last_name w.asked more) next → IsPaced Next Got first (given ++ more) (w.id + 1) next
+      → Goes w given (goes_on w next more)
+  goes given more w next h stage pace = goes_by w (Goes w given) next more
+      (λ less. record {
+        same = ap (λ (v : Walker). record v { phase = next; asked = last_name w.asked more; id = w.id + 1; count = w.count + length more }) h.same;
+        count = omega (arith, h.count, length-append given more);
+        paced = pace;
+        stage = stage;
+      })
+      (λ none. (part_of_stage (given ++ more) (last_name w.asked more) next stage, none))
 
   append_none : (xs ys : List VarBind) → xs ++ ys ≡ [] → (xs ≡ []) × (ys ≡ [])
   append_none [] ys e = (refl, e)
@@ -127,21 +86,13 @@ module _ (Next Got : List ℕ → VarBind → Type 0) (Large : ℕ → VarBind �
 
   plain_from : (m : Mode) → is_plain m ≡ true → m ≡ mode.Plain
   plain_from mode.Plain e = refl
-  plain_from mode.Include e = let no : ⊥ = cc in absurd no
-  plain_from mode.NoLast e = let no : ⊥ = cc in absurd no
-
-  plain_to : (m : Mode) → m ≡ mode.Plain → is_plain m ≡ true
-  plain_to m e = ap is_plain e
+  plain_from _ e = absurd (false≢true e)
 
   mode_is : (w : Walker) (given : List VarBind) → Reaches Next Got first w given → w.mode ≡ first.mode
   mode_is w given h = ap (λ (v : Walker). v.mode) h.same
 
   pub root_is : (w : Walker) (given : List VarBind) → Reaches Next Got first w given → w.root ≡ first.root
   root_is w given h = ap (λ (v : Walker). v.root) h.same
-
-  no_length : (xs : List VarBind) → length xs ≡ 0 → xs ≡ []
-  no_length [] e = refl
-  no_length (x ∷ xs) e = absurd (omega (arith, e))
 
   -- a plain walk that gave nothing has made no request before
   plain_pace : (given : List VarBind) (w : Walker) → w.phase ≡ phase.Rows → Reaches Next Got first w given → given ≡ [] → first.mode ≡ mode.Plain
@@ -179,26 +130,34 @@ module _ (Next Got : List ℕ → VarBind → Type 0) (Large : ℕ → VarBind �
       }
 
   -- nothing more stands below the root
-  pub closed : (given more : List VarBind) (w : Walker) (o : List ℕ) (b : Bool) → b ≡ (is_plain w.mode && (w.count + length more == 0)) → w.phase ≡ phase.Rows
-      → Reaches Next Got first w given → IsGiven Next Got first given w.asked → IsGiven Next Got first (given ++ more) o → IsAtEnd Next first.root o
-      → Goes w given (cond b (goes_on w phase.Last []) (stops w more (ending.Done (w.count + length more))))
-  closed given more w o true e waits h before h' end =
-      let parts = and_parts (is_plain w.mode) (w.count + length more == 0) (sym e) in
+  pub closed : (given more : List VarBind) (w : Walker) (o : List ℕ) → w.phase ≡ phase.Rows → Reaches Next Got first w given
+      → IsGiven Next Got first given w.asked → IsGiven Next Got first (given ++ more) o → IsAtEnd Next first.root o → Goes w given (closes w more)
+  closed given more w o waits h before after end =
+      cond_both (is_plain w.mode && (w.count + length more == 0)) (goes_on w phase.Last []) (stops w more (ending.Done (w.count + length more))) (Goes w given)
+      (λ both.
+      let parts = and_parts (is_plain w.mode) (w.count + length more == 0) both in
       let none : w.count + length more ≡ 0 = eqb-true _ _ parts.1 in
-      let no_given : given ≡ [] = no_length given (omega (arith, none, h.count)) in
-      let no_more : more ≡ [] = no_length more (omega (arith, none)) in
+      let no_given : given ≡ [] = nil_from_length given (omega (arith, none, h.count)) in
+      let no_more : more ≡ [] = nil_from_length more (omega (arith, none)) in
       let asked : w.asked ≡ first.asked = none_asked given w.asked no_given before in
-      let at : o ≡ first.asked = none_asked (given ++ more) o (ap (λ (s : List VarBind). s ++ more) no_given ∙ no_more) h' in
+      let at : o ≡ first.asked = none_asked (given ++ more) o (ap (λ (s : List VarBind). s ++ more) no_given ∙ no_more) after in
       let plain : first.mode ≡ mode.Plain = sym (mode_is w given h) ∙ plain_from w.mode parts.0 in
       let pace : w.id ≡ first.id = plain_pace given w waits h no_given plain in
-      goes given [] w phase.Last _ refl h (append-nil given ∙ no_given, asked, plain, subst (IsAtEnd Next first.root) at end) (omega (arith, pace))
-  closed given more w o false e waits h before h' end =
-      whole given more w o h.count h' end (λ plain none.
-      let empty = append_none given more none in
-      let zero_count : w.count + length more ≡ 0 = omega (arith, h.count, ap length empty.0, ap length empty.1) in
-      let yes_both : (is_plain w.mode && (w.count + length more == 0)) ≡ true = and_from _ _ (plain_to w.mode (mode_is w given h
-      ∙ plain)) (eq-eqb _ _ zero_count) in
-      let no : ⊥ = cc in no)
+      goes given [] w phase.Last h (append-nil given ∙ no_given, asked, plain, subst (IsAtEnd Next first.root) at end) (omega (arith, pace)))
+      (λ other. (
+        inr (inl (o, after)),
+        (
+          omega (arith, h.count, length-append given more),
+          inl (
+            o,
+            after,
+            end,
+            λ plain none.
+                let zero_count : w.count + length more ≡ 0 = omega (arith, h.count, ap length none, length-append given more) in
+                false≢true (sym other ∙ and_from _ _ (ap is_plain (mode_is w given h ∙ plain)) (eq-eqb _ _ zero_count)),
+          ),
+        ),
+      ))
 
   -- more of the trail
   pub given_more : (given rows : List VarBind) (o : List ℕ) → IsGiven Next Got first given o → IsTrail Next first.root o rows
@@ -212,34 +171,6 @@ module _ (Next Got : List ℕ → VarBind → Type 0) (Large : ℕ → VarBind �
     last = ap (λ (n : List ℕ). last_name n rows) h.last ∙ sym (last_name-append first.asked h.trail rows);
   }
 
-  -- a chain of answers
-  reads_chain : (given bindings inside rows : List VarBind) (w : Walker) (b : Bool) → b ≡ nat_lt (length rows) (length bindings) → w.phase ≡ phase.Rows
-      → 1 ≤ length bindings
-      → Reaches Next Got first w given → IsGiven Next Got first given w.asked → IsFront Next first.root w.asked bindings inside rows
-      → Goes w given (cond b (closes w rows) (goes_on w phase.Rows rows))
-  reads_chain given bindings inside rows w true e waits some h before front =
-      let trail = subst (IsTrail Next first.root w.asked) (sym front.rising) front.is_trail in
-      let fewer : length inside < length bindings = omega (arith, ltb-true-of e, ap length front.rising) in
-      let end = subst (λ (s : List VarBind). IsAtEnd Next first.root (last_name w.asked s)) (sym front.rising) (front.leaves fewer) in
-      closed given rows w (last_name w.asked rows) _ refl waits h before (given_more given rows w.asked before trail) end
-    where
-      ltb-true-of : true ≡ nat_lt (length rows) (length bindings) → length rows < length bindings
-      ltb-true-of q = ltb-true (length rows) (length bindings) (sym q)
-  reads_chain given bindings inside rows w false e waits some h before front =
-      let trail = subst (IsTrail Next first.root w.asked) (sym front.rising) front.is_trail in
-      let all : length bindings ≤ length rows = ltb-false (length rows) (length bindings) (sym e) in
-      goes given rows w phase.Rows _ refl h (given_more given rows w.asked before trail) (more_pace given rows w waits h before trail (omega
-      (arith, some, all)))
-
-  reads_front : (given bindings inside rows : List VarBind) (w : Walker) → w.phase ≡ phase.Rows → 1 ≤ length bindings
-      → Reaches Next Got first w given → IsGiven Next Got first given w.asked → IsFront Next first.root w.asked bindings inside rows
-      → (unsorted : Step × Walker)
-      → Goes w given (cond (nat_lt (length rows) (length inside)) unsorted (cond (nat_lt (length rows) (length bindings)) (closes w rows)
-      (goes_on w phase.Rows rows)))
-  reads_front given bindings inside rows w waits some h before front unsorted =
-      rw (le-ltb (length rows) (length inside) (omega (arith, ap length front.rising)))
-      (reads_chain given bindings inside rows w _ refl waits some h before front)
-
   -- a reply with the next instances
   reads_instances : (given bindings : List VarBind) (w : Walker) → w.phase ≡ phase.Rows → Reaches Next Got first w given → IsGiven Next Got first given w.asked
       → IsChain Next w.asked bindings → length bindings ≤ asked_for w.method → (bindings ≡ [] → IsLarge Next (Large w.id) w.asked)
@@ -247,13 +178,19 @@ module _ (Next Got : List ℕ → VarBind → Type 0) (Large : ℕ → VarBind �
   reads_instances given [] w waits h before chain few large =
       (inr (inl (w.asked, subst (λ (s : List VarBind). IsGiven Next Got first s w.asked) (sym (append-nil given)) before)), (waits, refl, large refl))
   reads_instances given (b ∷ more) w waits h before chain few large =
-      let fine : (nat_lt (asked_for w.method) (length (b ∷ more)) || list_any (λ p. is_missing p.value) (b ∷ more)) ≡ false =
-      or_from _ _ (le-ltb _ _ few) (chain_has_values Next Got laws first.root w.asked (b ∷ more) chain) in
-      let front = chain_front Next Got laws w.root w.asked (b ∷ more) chain in
-      rw fine (reads_front given (b ∷ more) (inside_front w.root (b ∷ more)) (rising_front w.asked (inside_front w.root (b ∷ more))) w waits
-      (omega arith) h before
-      (subst (λ (r : List ℕ). IsFront Next r w.asked (b ∷ more) (inside_front w.root (b ∷ more)) (rising_front w.asked (inside_front w.root (b ∷ more))))
-      (root_is w given h) front) _)
+      let bindings = b ∷ more in
+      let inside = inside_front w.root bindings in
+      let rows = rising_front w.asked inside in
+      let fine : (nat_lt (asked_for w.method) (length bindings) || list_any (λ p. is_missing p.value) bindings) ≡ false =
+      or_from _ _ (le-ltb _ _ few) (chain_has_values Next Got laws first.root w.asked bindings chain) in
+      let front : IsFront Next first.root w.asked bindings inside rows =
+      subst (λ (r : List ℕ). IsFront Next r w.asked bindings inside rows) (root_is w given h) (chain_front Next Got laws w.root w.asked bindings chain) in
+      let after = given_more given rows w.asked before front.is_trail in
+      rw fine (rw (le-ltb (length rows) (length inside) (omega (arith, ap length front.rising)))
+      (cond_both (nat_lt (length rows) (length bindings)) (closes w rows) (goes_on w phase.Rows rows) (Goes w given)
+      (λ fewer. closed given rows w (last_name w.asked rows) waits h before after (front.leaves (ltb-true _ _ fewer)))
+      (λ all. let long : length bindings ≤ length rows = ltb-false _ _ all in
+      goes given rows w phase.Rows h after (more_pace given rows w waits h before front.is_trail (omega (arith, long))))))
 
   -- the binding of a Get's reply
   got_is : (o : List ℕ) (p : VarBind) → Got o p → got o (p ∷ []) ≡ Some p
@@ -261,12 +198,8 @@ module _ (Next Got : List ℕ → VarBind → Type 0) (Large : ℕ → VarBind �
       let name : pointwise nat_eq p.name o ≡ true = ap (λ (n : List ℕ). pointwise nat_eq n o) (laws.same_name o p h) ∙ nat_list_eq_equiv.refl o in
       rw (name, laws.is_answer o p h)
 
-  present_name : (o : List ℕ) (p : VarBind) (b : Bool) → p.name ≡ o → last_name o (cond b [] (p ∷ [])) ≡ o
-  present_name o p true e = refl
-  present_name o p false e = e
-
-  pub include_opening : (m : Mode) (o : List ℕ) (p : VarBind) → m ≡ mode.Include → Got o p → IsOpening Got m o (if_present p)
-  include_opening m o p e h = let P : Mode → Type 0 = λ n. IsOpening Got n o (if_present p) in subst P (sym e) (p, h, present p)
+  present_name : (o : List ℕ) (p : VarBind) → p.name ≡ o → last_name o (if_present p) ≡ o
+  present_name o p e = cond_both (is_missing p.value) [] (p ∷ []) (λ s. last_name o s ≡ o) (λ _. refl) (λ _. e)
 
   -- the reply to the Get with which a walk begins
   pub reads_root : (given : List VarBind) (w : Walker) (p : VarBind) → w.phase ≡ phase.First → Reaches Next Got first w given
@@ -274,12 +207,12 @@ module _ (Next Got : List ℕ → VarBind → Type 0) (Large : ℕ → VarBind �
       → Got w.asked p → Goes w given (reads_first w (Some p))
   reads_root given w p waits h stage answer =
       let at : Got first.asked p = subst (λ (o : List ℕ). Got o p) stage.1 answer in
-      let name : last_name w.asked (if_present p) ≡ w.asked = present_name w.asked p (is_missing p.value) (laws.same_name w.asked p answer) in
+      let name : last_name w.asked (if_present p) ≡ w.asked = present_name w.asked p (laws.same_name w.asked p answer) in
       let parts : given ++ if_present p ≡ if_present p ++ [] = ap (λ (s : List VarBind). s ++ if_present p) stage.0 ∙ sym (append-nil (if_present p)) in
-      let opening = include_opening first.mode first.asked p stage.2 at in
+      let opening = subst (λ (m : Mode). IsOpening Got m first.asked (if_present p)) (sym stage.2) (p, at, present p) in
       let pace : w.id ≡ first.id = subst (IsPaced Next Got first given w.id) waits h.paced in
       let gets : opening_gets first.mode ≡ 1 = ap opening_gets stage.2 in
-      goes given (if_present p) w phase.Rows _ refl h
+      goes given (if_present p) w phase.Rows h
       (record { front = if_present p; trail = []; parts = parts; opening = opening; is_trail = tt; last = name ∙ stage.1 })
       (record {
         front = if_present p;
@@ -316,31 +249,22 @@ module _ (Next Got : List ℕ → VarBind → Type 0) (Large : ℕ → VarBind �
       (sym waits) large in
       rw no_zero (part, (status, index, why))
 
-  fine : (given : List VarBind) (w : Walker) (m : Message) (answered stopped : Step × Walker) → m.a ≡ pos 0 → Goes w given answered
-      → Goes w given (cond (int_eq m.a (pos 0)) answered stopped)
-  fine given w m answered stopped status h = let zero_status : int_eq m.a (pos 0) ≡ true = ap (λ (n : ℤ). int_eq n (pos 0)) status in rw zero_status h
-
   reads_content : (given : List VarBind) (w : Walker) (m : Message) (p : Phase) → w.phase ≡ p → Reaches Next Got first w given
       → IsStage Next Got first given w.asked p
       → IsReplyContent Next Got Large p w m → Goes w given (cond (int_eq m.a (pos 0)) (reads_for p w m.bindings) (stops w [] (ending.Fault m.a m.b)))
-  reads_content given w m phase.First waits h stage (inl c) =
-      fine given w m _ _ c.0 (rw (c.1.2, got_is w.asked c.1.0 c.1.1) (reads_root given w c.1.0 waits h stage c.1.1))
-  reads_content given w m phase.First waits h stage (inr c) = refused given w m phase.First waits h stage c.0 c.1 c.2 _
-  reads_content given w m phase.Rows waits h stage (inl c) = fine given w m _ _ c.0 (reads_instances given m.bindings w waits h stage c.1 c.2 c.3)
-  reads_content given w m phase.Rows waits h stage (inr c) = refused given w m phase.Rows waits h stage c.0 c.1 c.2 _
-  reads_content given w m phase.Last waits h stage (inl c) =
-      fine given w m _ _ c.0 (rw (c.1.2, got_is w.asked c.1.0 c.1.1) (reads_alone given w c.1.0 h stage c.1.1))
-  reads_content given w m phase.Last waits h stage (inr c) = refused given w m phase.Last waits h stage c.0 c.1 c.2 _
+  reads_content given w m phase.First waits h stage (inl (fine, (p, answer, only))) =
+      rw (fine, only, got_is w.asked p answer) (reads_root given w p waits h stage answer)
+  reads_content given w m phase.Rows waits h stage (inl c) = rw c.0 (reads_instances given m.bindings w waits h stage c.1 c.2 c.3)
+  reads_content given w m phase.Last waits h stage (inl (fine, (p, answer, only))) = rw (fine, only, got_is w.asked p answer) (reads_alone given w p h stage answer)
   reads_content given w m phase.Over waits h stage c = absurd c
+  reads_content given w m p waits h stage (inr c) = refused given w m p waits h stage c.0 c.1 c.2 _
 
-  waiting : (given : List VarBind) (o : List ℕ) (p : Phase) → IsStage Next Got first given o p → not (is_over p) ≡ true
-  waiting given o phase.First h = refl
-  waiting given o phase.Rows h = refl
-  waiting given o phase.Last h = refl
+  pub waiting : (given : List VarBind) (o : List ℕ) (p : Phase) → IsStage Next Got first given o p → is_over p ≡ false
   waiting given o phase.Over h = absurd h
+  waiting given o _ h = refl
 
   awaited : (given : List VarBind) (w : Walker) (m : Message) → Reaches Next Got first w given → IsReplyTo Next Got Large w m → is_awaited w m ≡ true
-  awaited given w m h r = and_from _ _ (waiting given w.asked w.phase h.stage) ((response_to_decided w.community w.id m).1 r.response)
+  awaited given w m h r = and_from _ _ (ap not (waiting given w.asked w.phase h.stage)) ((response_to_decided w.community w.id m).1 r.response)
 
   -- an honest reply to the waiting request
   pub taken : (given : List VarBind) (w : Walker) (m : Message) → Reaches Next Got first w given → IsReplyTo Next Got Large w m

@@ -1,5 +1,5 @@
 -- Where each single binding has room and ids are enough, a walk over one table ends for no other reason than its own, the link's or the sink's.
-use Rattle.std.proofs.Common.{◌≡◌, ◌≢◌, ◌⊎◌, ◌≤ℤ◌, ℤ, inl, inr, ℕ, ◌+◌, ◌<◌, ◌≤◌, false, List, []}
+use Rattle.std.proofs.Common.{◌≡◌, ◌≢◌, ◌⊎◌, ◌≤ℤ◌, ℤ, inl, inr, ℕ, ◌+◌, ◌≤◌, false, List, []}
 use Rattle.std.proofs.Common.{◌∷◌, ◌++◌, length, refl, sym, ◌∙◌, ap, subst, arith, pos}
 use Rattle.std.proofs.Common.{length-append}
 use Rattle.std.specs.Prelude.{flat_map}
@@ -46,7 +46,7 @@ use Rattle.snmp_walk.specs.Taken.{is_over}
 use Rattle.snmp_walk.specs.Standing.{IsChain, IsLarge, IsStage, IsReplyTooLarge, IsPaced}
 use Rattle.snmp_walk.specs.Standing.{opening_gets, Reaches}
 use Rattle.snmp_walk.specs.Link.{Agents, OneOf, agent_in, IsNextFrom, IsGotFrom, IsTooLarge}
-use Rattle.snmp_walk.specs.Link.{IsUnanswered, AreViews}
+use Rattle.snmp_walk.specs.Link.{AreViews}
 use Rattle.snmp_walk.specs.Room.{HasRoom, HasRoomForEach}
 use Rattle.snmp_walk.specs.Facts.{IsLawfulEnd, HasNone, IsDoneOrStopped, IsDoneOrCutOff, gets}
 use Rattle.snmp_walk.proofs.HonestLemmas.{request_in_range, one_answer, get_phase, bulk_phase}
@@ -55,55 +55,55 @@ use Rattle.snmp_walk.proofs.BulkLemmas.{IsOneBulk, one_bulk}
 use Rattle.snmp_walk.proofs.RoomLemmas.{room_fits, room_small, room_exception}
 use Rattle.snmp_walk.proofs.TableLemmas.{trail_rest}
 use Rattle.snmp_walk.proofs.TrailLemmas.{few_replies}
-use Rattle.snmp_walk.proofs.ViewLemmas.{view_of}
+use Rattle.snmp_walk.proofs.ViewLemmas.{view_of, views_answer}
+use Rattle.snmp_walk.proofs.StandingLemmas.{waiting}
 use Rattle.snmp_walk.proofs.RowLemmas.{IsOneTable}
 
 pub gets_one : (m : Mode) → gets m ≤ 1
-gets_one mode.Plain = omega arith
-gets_one mode.Include = omega arith
 gets_one mode.NoLast = omega arith
+gets_one _ = omega arith
 
 pub opening_is_get : (m : Mode) → opening_gets m ≤ gets m
 opening_is_get mode.Plain = omega arith
-opening_is_get mode.Include = omega arith
-opening_is_get mode.NoLast = omega arith
+opening_is_get _ = omega arith
 
 -- each request of a walk is served
 served : (p : Phase) (m : Method) → IsServed (request_kind p m)
-served phase.First m = tt
 served phase.Rows method.Next = tt
-served phase.Rows (method.Bulk r) = tt
-served phase.Last m = tt
-served phase.Over m = tt
+served _ _ = tt
 
--- where a trail has no more rows than this, the ids are few
-module _ (Next Got : List ℕ → VarBind → Type 0) (first : Walker) (k : ℕ) (bound : (trail : List VarBind) → IsTrail Next first.root first.asked trail
-    → length trail ≤ k) where
-  pub few_in : (w : Walker) (given : List VarBind) (p : Phase) → IsStage Next Got first given w.asked p → IsPaced Next Got first given w.id p
-      → w.id ≤ first.id + k + gets first.mode
-  few_in w given phase.First stage pace = omega (arith, pace)
-  few_in w given phase.Rows stage pace =
-      omega (arith, pace.ids, opening_is_get first.mode, few_replies pace.replies pace.some, bound (flat_map (λ r. r) pace.replies) pace.is_trail)
-  few_in w given phase.Last stage pace = let one : gets first.mode ≡ 1 = ap gets stage.2 in omega (arith, pace, one)
-  few_in w given phase.Over stage pace = absurd pace
+-- a trail has at most k rows
+abbrev pub HasFew : (List ℕ → VarBind → Type 0) → Walker → ℕ → Type 0
+HasFew Next first k = (trail : List VarBind) → IsTrail Next first.root first.asked trail → length trail ≤ k
 
-  low_in : (w : Walker) (given : List VarBind) (p : Phase) → first.id + k + 2 ≤ 2147483647 → IsStage Next Got first given w.asked p
-      → IsPaced Next Got first given w.id p → w.id < 2147483647
-  low_in w given p ids stage pace =
-      let few = few_in w given p stage pace in
-      omega (arith, ids, few, gets_one first.mode)
+-- then the ids are few
+pub few_in : (Next Got : List ℕ → VarBind → Type 0) (first : Walker) (k : ℕ) → HasFew Next first k → (w : Walker) (given : List VarBind)
+    → Reaches Next Got first w given → w.id ≤ first.id + k + gets first.mode
+few_in Next Got first k bound w given h = by_phase w.phase h.stage h.paced
+  where
+    by_phase : (p : Phase) → IsStage Next Got first given w.asked p → IsPaced Next Got first given w.id p → w.id ≤ first.id + k + gets first.mode
+    by_phase phase.First stage pace = omega (arith, pace)
+    by_phase phase.Rows stage pace =
+        omega (arith, pace.ids, opening_is_get first.mode, few_replies pace.replies pace.some, bound (flat_map (λ r. r) pace.replies) pace.is_trail)
+    by_phase phase.Last stage pace = let one : gets first.mode ≡ 1 = ap gets stage.2 in omega (arith, pace, one)
+    by_phase phase.Over stage pace = absurd pace
 
 -- over one table a trail is a beginning of the rest
 pub trail_in_rest : (agents : Agents) (first : Walker) (view : MibView) (answer : VarBind) → IsOneTable (variables view) answer (IsNextFrom agents)
     (IsGotFrom agents) first
-    → (s : List ℕ) → first.asked ≡ first.root ++ s → (trail : List VarBind) → IsTrail (IsNextFrom agents) first.root first.asked trail
-    → length trail ≤ length (rest_of first.root first.asked (variables view))
+    → (s : List ℕ) → first.asked ≡ first.root ++ s → HasFew (IsNextFrom agents) first (length (rest_of first.root first.asked (variables view)))
 trail_in_rest agents first view answer table s begins trail h =
     let rest = trail_rest (variables view) answer (IsNextFrom agents) (IsGotFrom agents) first table s begins first.asked trail h in
     omega (arith, ap length rest, length-append trail (rest_of first.root (last_name first.asked trail) (variables view)))
 
 module _ (codec : Codec) (agents : Agents) (first : Walker) (good_views : AreViews agents.tables) (rooms : (view : MibView) → OneOf agents.tables view
     → HasRoomForEach agents view first) where
+  abbrev Next : List ℕ → VarBind → Type 0
+  Next = IsNextFrom agents
+
+  abbrev Got : List ℕ → VarBind → Type 0
+  Got = IsGotFrom agents
+
   -- there is room for the name with endOfMibView
   abbrev EndRoom : List ℕ → Type 0
   EndRoom o = HasRoom agents (record { name = o; value = end_of_mib_view })
@@ -122,13 +122,13 @@ module _ (codec : Codec) (agents : Agents) (first : Walker) (good_views : AreVie
   inside_room root o p inside view one (successor s) = (rooms view one).rows p s.row
   inside_room root o p inside view one (end_of_view none is) = absurd (inside.value (ap (λ (b : VarBind). b.value) is))
 
-  trail_room : (o : List ℕ) (trail : List VarBind) → EndRoom o → IsTrail (IsNextFrom agents) first.root o trail → EndRoom (last_name o trail)
+  trail_room : (o : List ℕ) (trail : List VarBind) → EndRoom o → IsTrail Next first.root o trail → EndRoom (last_name o trail)
   trail_room o [] end h = end
   trail_room o (p ∷ trail) end h =
       trail_room p.name trail (room_exception codec agents p.name end_of_mib_view p.value tt (inside_room first.root o p h.1 h.0.0 h.0.1 h.0.2)) h.2
 
   -- the name that is asked
-  stage_room : (given : List VarBind) (o : List ℕ) (p : Phase) → EndRoom first.asked → IsStage (IsNextFrom agents) (IsGotFrom agents) first given o p
+  stage_room : (given : List VarBind) (o : List ℕ) (p : Phase) → EndRoom first.asked → IsStage Next Got first given o p
       → EndRoom o
   stage_room given o phase.First own h = subst EndRoom (sym h.1) own
   stage_room given o phase.Rows own h = subst EndRoom (sym h.last) (trail_room first.asked h.trail own h.is_trail)
@@ -138,33 +138,27 @@ module _ (codec : Codec) (agents : Agents) (first : Walker) (good_views : AreVie
   own_room : (view : MibView) → OneOf agents.tables view → EndRoom first.asked
   own_room view one = (rooms view one).exceptions end_of_mib_view tt
 
-  no_large_next : (id : ℕ) (o : List ℕ) → (EndRoom first.asked → EndRoom o) → IsLarge (IsNextFrom agents) (IsTooLarge agents id) o → ⊥
+  no_large_next : (id : ℕ) (o : List ℕ) → (EndRoom first.asked → EndRoom o) → IsLarge Next (IsTooLarge agents id) o → ⊥
   no_large_next id o end h = room_small codec agents id h.0 (next_room o h.0 (end (own_room h.1.0 h.1.1)) h.1.0 h.1.1 h.1.2) h.2
 
-  no_large_get : (id : ℕ) (o : List ℕ) → o ≡ first.asked → IsLarge (IsGotFrom agents) (IsTooLarge agents id) o → ⊥
+  no_large_get : (id : ℕ) (o : List ℕ) → o ≡ first.asked → IsLarge Got (IsTooLarge agents id) o → ⊥
   no_large_get id o e h = room_small codec agents id h.0 (get_room h.0 h.1.0 h.1.1 (subst (λ (n : List ℕ). IsGet h.1.0 n h.0) e h.1.2)) h.2
 
   -- no answer is too large
-  no_refusal : (id : ℕ) (given : List VarBind) (o : List ℕ) (p : Phase) → IsStage (IsNextFrom agents) (IsGotFrom agents) first given o p
-      → IsReplyTooLarge (IsNextFrom agents) (IsGotFrom agents) (IsTooLarge agents id) p o → ⊥
+  no_refusal : (id : ℕ) (given : List VarBind) (o : List ℕ) (p : Phase) → IsStage Next Got first given o p
+      → IsReplyTooLarge Next Got (IsTooLarge agents id) p o → ⊥
   no_refusal id given o phase.First h large = no_large_get id o h.1 large
   no_refusal id given o phase.Rows h large = no_large_next id o (λ own. stage_room given o phase.Rows own h) large
   no_refusal id given o phase.Last h large = no_large_get id o h.1 large
   no_refusal id given o phase.Over h large = absurd h
 
-  module _ (w : Walker) (given : List VarBind) (good : IsWalker w) (h : Reaches (IsNextFrom agents) (IsGotFrom agents) first w given) (view : MibView)
+  module _ (w : Walker) (given : List VarBind) (good : IsWalker w) (h : Reaches Next Got first w given) (view : MibView)
       (one : OneOf agents.tables view) where
     view_good : IsMibView view
     view_good = view_of agents.tables good_views view one
 
     waits : is_over w.phase ≡ false
-    waits = by_phase w.phase h.stage
-      where
-        by_phase : (p : Phase) → IsStage (IsNextFrom agents) (IsGotFrom agents) first given w.asked p → is_over p ≡ false
-        by_phase phase.First s = refl
-        by_phase phase.Rows s = refl
-        by_phase phase.Last s = refl
-        by_phase phase.Over s = absurd s
+    waits = waiting Next Got (IsTooLarge agents) (views_answer agents good_views) first given w.asked w.phase h.stage
 
     community : w.community ≡ agents.community
     community = ap (λ (v : Walker). v.community) h.same ∙ (rooms view one).community
@@ -182,10 +176,10 @@ module _ (codec : Codec) (agents : Agents) (first : Walker) (good_views : AreVie
         length (canon (record { version = pos 1; community = c; kind = kind.Response; id = pos w.id; a = pos 0; b = pos 0; bindings = p ∷ [] })) in
         subst (λ (c : List ℕ). Size c ≤ agents.max_size) (sym community) (room_fits codec agents p w.id good.id room)
 
-    asked_at_get : (p : Phase) → (p ≡ phase.First) ⊎ (p ≡ phase.Last) → IsStage (IsNextFrom agents) (IsGotFrom agents) first given w.asked p
+    asked_at_get : (p : Phase) → (p ≡ phase.First) ⊎ (p ≡ phase.Last) → IsStage Next Got first given w.asked p
         → w.asked ≡ first.asked
-    asked_at_get p (inl e) s = (subst (IsStage (IsNextFrom agents) (IsGotFrom agents) first given w.asked) e s).1
-    asked_at_get p (inr e) s = (subst (IsStage (IsNextFrom agents) (IsGotFrom agents) first given w.asked) e s).1
+    asked_at_get p (inl e) s = (subst (IsStage Next Got first given w.asked) e s).1
+    asked_at_get p (inr e) s = (subst (IsStage Next Got first given w.asked) e s).1
 
     -- the whole response fits
     whole_fits : (r : Message) → IsWhole view (request_of w) r → Fits agents.max_size r
@@ -224,6 +218,7 @@ module _ (codec : Codec) (agents : Agents) (first : Walker) (good_views : AreVie
         (request_of w) w.asked all refl refl asked in
         subst (Fits agents.max_size) (sym e) (bulk_fits all bindings one_name.chain (one_name.some positive) longest)
 
+    -- each agent answers
     no_drop : (cause : Why) → IsDropped (agent_in agents view) (canon (request_of w)) cause → ⊥
     no_drop why.Undecodable d = d (request_of w) own
     no_drop why.Version d = d.2 (ap (λ (m : Message). m.version) (the_request d.0 d.1))
@@ -235,39 +230,22 @@ module _ (codec : Codec) (agents : Agents) (first : Walker) (good_views : AreVie
         let same : d.0 ≡ request_of w = the_request d.0 d.2.spelt in
         d.4 (response_fits d.1 (subst (λ (q : Message). IsResponse view agents.max_size q d.1) same d.3))
 
-  -- each agent answers
-  answered : (w : Walker) (given : List VarBind) → IsWalker w → Reaches (IsNextFrom agents) (IsGotFrom agents) first w given
-      → IsUnanswered agents (canon (request_of w)) → ⊥
-  answered w given good h u = no_drop w given good h u.view u.one u.why u.dropped
-
-  module _ (k : ℕ) (bound : (trail : List VarBind) → IsTrail (IsNextFrom agents) first.root first.asked trail → length trail ≤ k)
-      (ids : first.id + k + 2 ≤ 2147483647) where
+  module _ (k : ℕ) (bound : HasFew Next first k) (ids : first.id + k + 2 ≤ 2147483647) where
     -- the ends that are left
     pub left_end : (Silent : Walker → Type 0) (rows : List VarBind) (end : WalkEnd) → IsLawfulEnd agents Silent first rows end → IsDoneOrCutOff end
-    left_end Silent rows (ending.Done n) h = tt
     left_end Silent rows (ending.Fault status index) h = no_refusal h.0.id rows h.0.asked h.0.phase h.1.stage h.2.2
     left_end Silent rows (ending.NoProgress o) h =
-        no_large_next h.0.id h.0.asked (λ own. stage_room rows h.0.asked h.0.phase own h.1.stage) (subst (IsLarge (IsNextFrom agents)
-        (IsTooLarge agents h.0.id)) h.2.1 h.2.2)
-    left_end Silent rows ending.BadReply h = h.5
-    left_end Silent rows (ending.NotIncreasing o p) h = h.5
+        no_large_next h.0.id h.0.asked (λ own. stage_room rows h.0.asked h.0.phase own h.1.stage)
+        (subst (IsLarge Next (IsTooLarge agents h.0.id)) h.2.1 h.2.2)
     left_end Silent rows ending.TooManyRequests h =
-        let low : h.0.id < 2147483647 = low_in (IsNextFrom agents) (IsGotFrom agents) first k bound h.0 h.1 h.0.phase ids h.4.stage h.4.paced in
-        absurd (omega (arith, low, h.5))
-    left_end Silent rows ending.RequestTooLong h = h.5
+        absurd (omega (arith, ids, few_in Next Got first k bound h.0 h.1 h.4, gets_one first.mode, h.5))
+    left_end Silent rows (ending.Done n) h = tt
     left_end Silent rows ending.NoResponse h = tt
     left_end Silent rows ending.Link h = tt
     left_end Silent rows (ending.Sink fault) h = tt
+    left_end Silent rows _ h = h.5
 
     -- where no reply was lost
     pub swift_end : (rows : List VarBind) (end : WalkEnd) → IsLawfulEnd agents (HasNone agents) first rows end → IsDoneOrStopped end
-    swift_end rows ending.NoResponse h = answered h.0 rows h.1 h.2 h.3
-    swift_end rows (ending.Done n) h = tt
-    swift_end rows (ending.Fault status index) h = left_end (HasNone agents) rows (ending.Fault status index) h
-    swift_end rows (ending.NoProgress o) h = left_end (HasNone agents) rows (ending.NoProgress o) h
-    swift_end rows ending.BadReply h = h.5
-    swift_end rows (ending.NotIncreasing o p) h = h.5
-    swift_end rows ending.TooManyRequests h = left_end (HasNone agents) rows ending.TooManyRequests h
-    swift_end rows ending.RequestTooLong h = h.5
-    swift_end rows ending.Link h = tt
-    swift_end rows (ending.Sink fault) h = tt
+    swift_end rows ending.NoResponse h = no_drop h.0 rows h.1 h.2 h.3.view h.3.one h.3.why h.3.dropped
+    swift_end rows why h = left_end (HasNone agents) rows why h

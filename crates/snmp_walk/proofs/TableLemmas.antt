@@ -1,7 +1,7 @@
 -- With one table that doesn't change, a trail is a beginning of the rows below the root, and one that is at its end is all of them.
-use Rattle.std.proofs.Common.{◌≡◌, inl, inr, ℕ, ◌≤◌, Bool, true, false, cond, List, [], ◌∷◌, ◌++◌}
-use Rattle.std.proofs.Common.{length, refl, sym, ◌∙◌, ap, subst, append-nil, append_assoc}
-use Rattle.std.proofs.lemmas.Bool.{and_parts, false≢true}
+use Rattle.std.proofs.Common.{◌≡◌, inl, inr, ℕ, Bool, true, false, cond, List, [], ◌∷◌, ◌++◌}
+use Rattle.std.proofs.Common.{refl, sym, ◌∙◌, ap, subst, append-nil, append_assoc}
+use Rattle.std.proofs.lemmas.Bool.{and_parts, cond_both, false≢true}
 use Rattle.std.specs.Prelude.{not, ◌&&◌, filter}
 use Rattle.snmp_oid.specs.Identifier.{wire}
 use Rattle.snmp_wire.specs.Message.{VarBind}
@@ -16,20 +16,19 @@ use Rattle.snmp_walk.specs.Walker.{Walker}
 use Rattle.snmp_walk.specs.Standing.{IsOpening, IsAlone, IsPartOfWalk, IsWholeWalk}
 use Rattle.snmp_walk.proofs.OrderLemmas.{after-irrefl, not_after, after-trans, outside_after}
 use Rattle.snmp_walk.proofs.OrderLemmas.{below_after_wire}
+use Rattle.snmp_walk.proofs.TrailLemmas.{trail_begins}
 use Rattle.snmp_walk.proofs.RowLemmas.{AreAfter, AreRising, AreInstances, or_end, IsOneTable}
 use Rattle.snmp_walk.proofs.TestLemmas.{inside_decided, outside_test, present_is}
 
 -- two filters in either order
-filter_both : (p q : VarBind → Bool) (x : VarBind) (xs ys : List VarBind) (b c : Bool) → b ≡ p x → c ≡ q x → filter p xs ≡ filter q ys
-    → filter p (cond c (x ∷ xs) xs) ≡ filter q (cond b (x ∷ ys) ys)
-filter_both p q x xs ys true true e f h = rw (← e, ← f) (ap (λ (s : List VarBind). x ∷ s) h)
-filter_both p q x xs ys true false e f h = rw (← f) h
-filter_both p q x xs ys false true e f h = rw (← e) h
-filter_both p q x xs ys false false e f h = h
-
 pub filter-commute : (p q : VarBind → Bool) (xs : List VarBind) → filter p (filter q xs) ≡ filter q (filter p xs)
 filter-commute p q [] = refl
-filter-commute p q (x ∷ xs) = filter_both p q x (filter q xs) (filter p xs) (p x) (q x) refl refl (filter-commute p q xs)
+filter-commute p q (x ∷ xs) =
+    let rest = filter-commute p q xs in
+    cond_both (q x) (x ∷ filter q xs) (filter q xs) (λ s. filter p s ≡ filter q (cond (p x) (x ∷ filter p xs) (filter p xs)))
+    (λ e. cond_both (p x) (x ∷ filter p xs) (filter p xs) (λ s. cond (p x) (x ∷ filter p (filter q xs)) (filter p (filter q xs)) ≡ filter q s)
+    (λ f. rw (e, f) (ap (λ (s : List VarBind). x ∷ s) rest)) (λ f. rw f rest))
+    (λ e. cond_both (p x) (x ∷ filter p xs) (filter p xs) (λ s. filter p (filter q xs) ≡ filter q s) (λ _. rw e rest) (λ _. rest))
 
 pub all_after : (o : List ℕ) (rows : List VarBind) → AreAfter o rows → rows_after o rows ≡ rows
 all_after o [] h = refl
@@ -52,19 +51,18 @@ first_later : (r : VarBind) (rows : List VarBind) (o : List ℕ) (p : VarBind) (
     → IsFirst (r ∷ rows) o p more
 first_later r rows o p more e h = record { behind = rw (not_after o p.name r.name h.comes e) h.behind; after = h.after; comes = h.comes }
 
-first_by : (r : VarBind) (rows : List VarBind) (o : List ℕ) (p : VarBind) (more : List VarBind) (b : Bool) → comes_after o r.name ≡ b → AreAfter r.name rows
-    → cond b (r ∷ rows_after o rows) (rows_after o rows) ≡ p ∷ more → (rows_after o rows ≡ p ∷ more → IsFirst rows o p more) → IsFirst (r ∷ rows) o p more
-first_by r rows o p more true e h same later =
-    let first : r ≡ p = cc in
-    let all : rows_after o rows ≡ rows = all_after o rows (after_more o r rows e h) in
-    let rest : rows ≡ more = cc in
-    subst (λ (s : List VarBind). IsFirst (r ∷ rows) o p s) rest (subst (λ (q : VarBind). IsFirst (r ∷ rows) o q rows) first (first_here r rows o h e))
-first_by r rows o p more false e h same later = first_later r rows o p more e (later same)
-
 pub first_of_rows : (rows : List VarBind) (o : List ℕ) (p : VarBind) (more : List VarBind) → AreRising rows → rows_after o rows ≡ p ∷ more
     → IsFirst rows o p more
-first_of_rows [] o p more h e = let no : ⊥ = cc in absurd no
-first_of_rows (r ∷ rows) o p more h e = first_by r rows o p more (comes_after o r.name) refl h.0 e (first_of_rows rows o p more h.1)
+first_of_rows [] o p more h e = absurd cc
+first_of_rows (r ∷ rows) o p more h e =
+    cond_both (comes_after o r.name) (r ∷ rows_after o rows) (rows_after o rows) (λ s. s ≡ p ∷ more → IsFirst (r ∷ rows) o p more)
+    (λ comes same.
+    let first : r ≡ p = cc in
+    let all : rows_after o rows ≡ rows = all_after o rows (after_more o r rows comes h.0) in
+    let rest : rows ≡ more = cc in
+    subst (λ (s : List VarBind). IsFirst (r ∷ rows) o p s) rest
+    (subst (λ (q : VarBind). IsFirst (r ∷ rows) o q rows) first (first_here r rows o h.0 comes)))
+    (λ later same. first_later r rows o p more later (first_of_rows rows o p more h.1 same)) e
 
 -- none of these is below the root
 none_below : (root s : List ℕ) (p : VarBind) (more : List VarBind) → comes_after (root ++ s) p.name ≡ true → is_below p.name root ≡ false
@@ -72,15 +70,12 @@ none_below : (root s : List ℕ) (p : VarBind) (more : List VarBind) → comes_a
 none_below root s p [] c out h = refl
 none_below root s p (q ∷ more) c out h = rw (outside_after root s p.name q.name c out h.0) (none_below root s p more c out h.1)
 
-value_by : (r : VarBind) (rows : List VarBind) (o : List ℕ) (p : VarBind) (more : List VarBind) (b : Bool) → is_end r.value ≡ false
-    → cond b (r ∷ rows_after o rows) (rows_after o rows) ≡ p ∷ more → (rows_after o rows ≡ p ∷ more → is_end p.value ≡ false) → is_end p.value ≡ false
-value_by r rows o p more true v e later = let first : r ≡ p = cc in subst (λ (q : VarBind). is_end q.value ≡ false) first v
-value_by r rows o p more false v e later = later e
-
 -- the first row behind a name has a value
 first_value : (rows : List VarBind) (o : List ℕ) (p : VarBind) (more : List VarBind) → AreInstances rows → rows_after o rows ≡ p ∷ more → is_end p.value ≡ false
-first_value [] o p more h e = let no : ⊥ = cc in absurd no
-first_value (r ∷ rows) o p more h e = value_by r rows o p more (comes_after o r.name) h.1 e (first_value rows o p more h.3)
+first_value [] o p more h e = absurd cc
+first_value (r ∷ rows) o p more h e =
+    cond_both (comes_after o r.name) (r ∷ rows_after o rows) (rows_after o rows) (λ s. s ≡ p ∷ more → is_end p.value ≡ false)
+    (λ _ same. let first : r ≡ p = cc in subst (λ (q : VarBind). is_end q.value ≡ false) first h.1) (λ _. first_value rows o p more h.3) e
 
 module _ (rows : List VarBind) (rising : AreRising rows) (instances : AreInstances rows) (root : List ℕ) where
   outside_parts : (p : VarBind) → is_end p.value ≡ false → is_inside root p ≡ false → is_below p.name root ≡ false
@@ -113,10 +108,6 @@ module _ (rows : List VarBind) (rising : AreRising rows) (instances : AreInstanc
       filter-commute (λ row. comes_after o row.name) (λ row. is_below row.name root) rows ∙ ap (rows_below root) (sym e)
       ∙ rw out_q (none_below root s q more comes out_q first.after)
 
--- what only holds of a mode
-include≢plain : mode.Include ≡ mode.Plain → ⊥
-include≢plain e = cc
-
 -- a front of the rows is a front of what a plain walk gives
 or_only_front : (got : VarBind) (xs ys : List VarBind) → (more : List VarBind) × (or_only got (xs ++ ys) ≡ xs ++ more)
 or_only_front got [] ys = (or_only got ys, refl)
@@ -137,18 +128,11 @@ module _ (rows : List VarBind) (got : VarBind) (Next Got : List ℕ → VarBind 
       ((inside_decided first.root p).1 h.1)
       ∙ ap (λ (t : List VarBind). p ∷ t) (trail_rest p.name trail h.2)
 
-  -- each name of a trail begins with the root
-  trail_begins : (o t : List ℕ) (trail : List VarBind) → o ≡ first.root ++ t → IsTrail Next first.root o trail
-      → (u : List ℕ) × (last_name o trail ≡ first.root ++ u)
-  trail_begins o t [] at h = (t, at)
-  trail_begins o t (p ∷ trail) at h =
-      trail_begins p.name h.1.below.0 trail h.1.below.2 h.2
-
   -- a trail that is at its end is the rest
   trail_ends : (trail : List VarBind) → IsTrail Next first.root first.asked trail → IsAtEnd Next first.root (last_name first.asked trail)
       → rest_of first.root first.asked rows ≡ trail
   trail_ends trail h end =
-      let at = trail_begins first.asked s trail begins h in
+      let at = trail_begins Next first.root first.asked s trail begins h in
       let none = rest_ends rows table.rising table.instances first.root (last_name first.asked trail) at.0 end.0 (rows_after
       (last_name first.asked trail) rows) at.1 refl (table.next _ _ end.1) (outside_test first.root end.0 end.2) in
       trail_rest first.asked trail h ∙ ap (λ (t : List VarBind). trail ++ t) none ∙ append-nil trail
@@ -211,15 +195,12 @@ module _ (rows : List VarBind) (got : VarBind) (Next Got : List ℕ → VarBind 
   whole_is given (inr h) = sym (alone_whole given h)
 
 -- behind the root as it is sent stand all instances below it
-wire_first : (root : List ℕ) (r : VarBind) (rows : List VarBind) (b : Bool) → is_below r.name root ≡ b → 3 ≤ length r.name
-    → rest_of root (wire root) rows ≡ rows_below root rows
-    → rows_after (wire root) (cond b (r ∷ rows_below root rows) (rows_below root rows)) ≡ cond b (r ∷ rows_below root rows) (rows_below root rows)
-wire_first root r rows true e long h = rw (below_after_wire root r.name long e) (ap (λ (t : List VarBind). r ∷ t) h)
-wire_first root r rows false e long h = h
-
 pub rest_from_wire : (root : List ℕ) (rows : List VarBind) → AreInstances rows → rest_of root (wire root) rows ≡ rows_below root rows
 rest_from_wire root [] h = refl
-rest_from_wire root (r ∷ rows) h = wire_first root r rows (is_below r.name root) refl h.0 (rest_from_wire root rows h.3)
+rest_from_wire root (r ∷ rows) h =
+    let rest = rest_from_wire root rows h.3 in
+    cond_both (is_below r.name root) (r ∷ rows_below root rows) (rows_below root rows) (λ s. rows_after (wire root) s ≡ s)
+    (λ below. rw (below_after_wire root r.name h.0 below) (ap (λ (t : List VarBind). r ∷ t) rest)) (λ _. rest)
 
 -- a walk that isn't resumed
 pub walk_from_wire : (m : Mode) (root : List ℕ) (got : VarBind) (rows : List VarBind) → AreInstances rows

@@ -1,9 +1,9 @@
 -- A chain of answers is a trail up to the first that leaves the subtree.
-use Rattle.std.proofs.Common.{◌≡◌, ◌≢◌, ℕ, ◌+◌, ◌<◌, ◌≤◌, Bool, true, false, cond, List, [], ◌∷◌, ◌++◌}
-use Rattle.std.proofs.Common.{length, length-append, refl, sym, ap, subst, arith}
+use Rattle.std.proofs.Common.{◌≡◌, ◌≢◌, ℕ, ◌+◌, ◌<◌, ◌≤◌, true, false, List, [], ◌∷◌, ◌++◌}
+use Rattle.std.proofs.Common.{length, length-append, refl, sym, ◌∙◌, ap, subst, arith}
 use Rattle.std.proofs.lemmas.List.Elements.{All-head, All-tail}
 use Rattle.std.proofs.lemmas.List.Sums.{take_while-cons}
-use Rattle.std.proofs.lemmas.Bool.{and_parts, not-true, or_from}
+use Rattle.std.proofs.lemmas.Bool.{and_parts, not-true, or_from, cond_both, false≢true}
 use Rattle.std.specs.Prelude.{All, flat_map, not}
 use Rattle.std.specs.List.{list_any}
 use Rattle.snmp_wire.specs.Message.{VarBind}
@@ -35,44 +35,50 @@ module _ (Next : List ℕ → VarBind → Type 0) (root : List ℕ) where
   trail-append o [] ys h k = k
   trail-append o (x ∷ xs) ys h k = (h.0, h.1, trail-append x.name xs ys h.2 k)
 
+  -- each name of a trail begins with the root
+  pub trail_begins : (o s : List ℕ) (trail : List VarBind) → o ≡ root ++ s → IsTrail Next root o trail → (u : List ℕ) × (last_name o trail ≡ root ++ u)
+  trail_begins o s [] at h = (s, at)
+  trail_begins o s (p ∷ trail) at h = trail_begins p.name h.1.below.0 trail h.1.below.2 h.2
+
+-- Facts of the bindings below the root at the front, and of those that rise, binding by binding.
+pub fronts_by : (root : List ℕ) (P : (o : List ℕ) (bindings inside rows : List VarBind) → Type 0) → ((o : List ℕ) → P o [] [] [])
+    → ((o : List ℕ) (p : VarBind) (more inside rows : List VarBind) → is_inside root p ≡ true → comes_after o p.name ≡ true → P p.name more inside rows
+    → P o (p ∷ more) (p ∷ inside) (p ∷ rows))
+    → ((o : List ℕ) (p : VarBind) (more inside : List VarBind) → is_inside root p ≡ true → comes_after o p.name ≡ false → P o (p ∷ more) (p ∷ inside) [])
+    → ((o : List ℕ) (p : VarBind) (more : List VarBind) → is_inside root p ≡ false → P o (p ∷ more) [] [])
+    → (o : List ℕ) (bindings : List VarBind) → P o bindings (inside_front root bindings) (rising_front o (inside_front root bindings))
+fronts_by root P none up falls leaves o [] = none o
+fronts_by root P none up falls leaves o (p ∷ more) =
+    let inside = inside_front root more in
+    let rest = fronts_by root P none up falls leaves p.name more in
+    let Q : List VarBind → Type 0 = λ front. P o (p ∷ more) front (rising_front o front) in
+    subst Q (sym (take_while-cons (is_inside root) p more)) (cond_both (is_inside root p) (p ∷ inside) [] Q
+    (λ i. cond_both (comes_after o p.name) (p ∷ rising_front p.name inside) [] (P o (p ∷ more) (p ∷ inside))
+    (λ u. up o p more inside (rising_front p.name inside) i u rest) (λ f. falls o p more inside i f))
+    (λ f. leaves o p more f))
+
 -- what is known of the front of a chain that lies below the root
 pub record IsFront (Next : List ℕ → VarBind → Type 0) (root o : List ℕ) (bindings inside rows : List VarBind) : Type 0 where
   pub rising : rows ≡ inside
-  pub is_trail : IsTrail Next root o inside
-  pub leaves : length inside < length bindings → IsAtEnd Next root (last_name o inside)
-  pub short : length inside ≤ length bindings
+  pub is_trail : IsTrail Next root o rows
+  pub leaves : length rows < length bindings → IsAtEnd Next root (last_name o rows)
 
 module _ (Next Got : List ℕ → VarBind → Type 0) (laws : AreLawfulReplies Next Got) (root : List ℕ) where
-  inside_rises : (o : List ℕ) (p : VarBind) → Next o p → is_inside root p ≡ true → comes_after o p.name ≡ true
-  inside_rises o p h inside = laws.rises o p h (not-true (is_end p.value) (and_parts (not (is_end p.value)) (is_below p.name root) inside).0)
-
-  front_first : (o : List ℕ) (p : VarBind) (more inside rows : List VarBind) (is_in : Bool) → is_inside root p ≡ is_in → Next o p
-      → IsFront Next root p.name more inside rows
-      → IsFront Next root o (p ∷ more) (cond is_in (p ∷ inside) []) (cond is_in (cond (comes_after o p.name) (p ∷ rows) []) [])
-  front_first o p more inside rows true e n h =
-      let rises : comes_after o p.name ≡ true = inside_rises o p n e in
-      record {
-        rising = rw rises (ap (λ (s : List VarBind). p ∷ s) h.rising);
-        is_trail = (n, (inside_decided root p).0 e, h.is_trail);
-        leaves = λ l. h.leaves (omega (arith, l));
-        short = omega (arith, h.short);
-      }
-  front_first o p more inside rows false e n h = record { rising = refl; is_trail = tt; leaves = λ _. (p, n, outside root p e); short = omega arith }
-
-  rising_first : (o : List ℕ) (p : VarBind) (inside : List VarBind) (is_in : Bool)
-      → cond is_in (cond (comes_after o p.name) (p ∷ rising_front p.name inside) []) [] ≡ rising_front o (cond is_in (p ∷ inside) [])
-  rising_first o p inside true = refl
-  rising_first o p inside false = refl
-
   pub chain_front : (o : List ℕ) (bindings : List VarBind) → IsChain Next o bindings
       → IsFront Next root o bindings (inside_front root bindings) (rising_front o (inside_front root bindings))
-  chain_front o [] h = record { rising = refl; is_trail = tt; leaves = λ l. absurd (omega (arith, l)); short = omega arith }
-  chain_front o (p ∷ more) h =
-      let first = front_first o p more (inside_front root more) (rising_front p.name (inside_front root more)) (is_inside root p) refl h.0
-      (chain_front p.name more h.1) in
-      let P : List VarBind → Type 0 = λ rows. IsFront Next root o (p ∷ more) (cond (is_inside root p) (p ∷ inside_front root more) []) rows in
-      let Q : List VarBind → Type 0 = λ inside. IsFront Next root o (p ∷ more) inside (rising_front o inside) in
-      subst Q (sym (take_while-cons (is_inside root) p more)) (subst P (rising_first o p (inside_front root more) (is_inside root p)) first)
+  chain_front = fronts_by root (λ o all inside rows. IsChain Next o all → IsFront Next root o all inside rows)
+      (λ o h. record { rising = refl; is_trail = tt; leaves = λ l. absurd (omega (arith, l)) })
+      (λ o p more inside rows i u later h.
+      let rest = later h.1 in
+      record {
+        rising = ap (λ (s : List VarBind). p ∷ s) rest.rising;
+        is_trail = (h.0, (inside_decided root p).0 i, rest.is_trail);
+        leaves = λ l. rest.leaves (omega (arith, l));
+      })
+      (λ o p more inside i f h.
+      let value = not-true (is_end p.value) (and_parts (not (is_end p.value)) (is_below p.name root) i).0 in
+      absurd (false≢true (sym f ∙ laws.rises o p h.0 value)))
+      (λ o p more f h. record { rising = refl; is_trail = tt; leaves = λ _. (p, h.0, outside root p f) })
 
   pub chain_has_values : (o : List ℕ) (bindings : List VarBind) → IsChain Next o bindings → list_any (λ p. is_missing p.value) bindings ≡ false
   chain_has_values o [] h = refl
