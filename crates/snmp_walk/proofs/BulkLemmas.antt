@@ -1,44 +1,13 @@
 -- What a GetBulk of one name is given: each binding is the answer to a GetNext of the name before it.
-use Rattle.std.proofs.Common.{
-  ◌≡◌,
-  ◌≢◌,
-  ◌⊎◌,
-  inl,
-  inr,
-  Bool,
-  true,
-  false,
-  ℕ,
-  zero,
-  suc,
-  ◌<◌,
-  ◌≤◌,
-  ℤ,
-  pos,
-  negsuc,
-  ◌≤ℤ◌,
-  List,
-  [],
-  ◌∷◌,
-  ◌++◌,
-  length,
-  take,
-  drop,
-  refl,
-  sym,
-  ◌∙◌,
-  ap,
-  subst,
-  arith,
-  length-append,
-  append_assoc,
-}
+use Rattle.std.proofs.Common.{◌≡◌, ◌≢◌, ◌⊎◌, inl, inr, true, false, ℕ, zero, suc, ◌<◌, ◌≤◌, ℤ, pos, negsuc}
+use Rattle.std.proofs.Common.{◌≤ℤ◌, List, [], ◌∷◌, ◌++◌, length, take, drop, refl, sym, ◌∙◌, ap, subst}
+use Rattle.std.proofs.Common.{arith, length-append, append_assoc}
 use Rattle.std.specs.Prelude.{unsigned_abs}
 use Rattle.std.proofs.lemmas.Int.{ints}
 use Rattle.snmp_wire.specs.Message.{Datum, VarBind, Message, null_value, end_of_mib_view}
 use Rattle.std.specs.List.{list_any}
 use Rattle.std.specs.Prelude.{◌||◌}
-use Rattle.std.proofs.lemmas.Bool.{cases_lt}
+use Rattle.std.proofs.lemmas.Bool.{cases_lt, or_right}
 use Rattle.snmp_walk.specs.Names.{is_end}
 use Rattle.snmp_agent.specs.table.Table.{MibView, IsMibView, IsNext, IsNextAfter}
 use Rattle.snmp_agent.specs.Reply.{AreAnswers, AreEnds, AreRounds, IsBulk, joined, or_zero}
@@ -73,21 +42,13 @@ no_names : (R : VarBind → VarBind → Type 0) (names given : List VarBind) →
 no_names R names [] h = refl
 no_names R names (p ∷ given) h = absurd h
 
-no_round : (before later : List (List VarBind)) (round : List VarBind) → [] ≡ before ++ round ∷ later → ⊥
-no_round [] later round e = cc
-no_round (r ∷ before) later round e = cc
-
 repeats : (z : ℤ) → or_zero z ≤ unsigned_abs z
 repeats (pos n) = omega (arith, ints)
 repeats (negsuc n) = omega (arith, ints)
 
-same_repeats : (z : ℤ) → pos 1 ≤ℤ z → or_zero z ≡ unsigned_abs z
-same_repeats (pos n) h = omega (arith, ints)
-same_repeats (negsuc n) h = absurd (omega (arith, ints, h))
-
-or_right : (b c : Bool) → c ≡ true → (b || c) ≡ true
-or_right true c h = refl
-or_right false c h = h
+some_repeats : (z : ℤ) → pos 1 ≤ℤ z → (or_zero z ≡ unsigned_abs z) × (0 < or_zero z)
+some_repeats (pos n) h = (omega (arith, ints), omega (arith, ints, h))
+some_repeats (negsuc n) h = absurd (omega (arith, ints, h))
 
 any_later : (xs ys : List VarBind) → list_any (λ p. is_end p.value) ys ≡ true → list_any (λ p. is_end p.value) (xs ++ ys) ≡ true
 any_later [] ys h = h
@@ -97,10 +58,6 @@ end_joined : (before : List (List VarBind)) (p : VarBind) → p.value ≡ end_of
     → list_any (λ q. is_end q.value) (joined (before ++ (p ∷ []) ∷ [])) ≡ true
 end_joined [] p h = ap (λ (v : Datum). is_end v || false) h
 end_joined (r ∷ before) p h = any_later r (joined (before ++ (p ∷ []) ∷ [])) (end_joined before p h)
-
-some_rounds : (z : ℤ) → pos 1 ≤ℤ z → 0 < or_zero z
-some_rounds (pos n) h = omega (arith, ints, h)
-some_rounds (negsuc n) h = absurd (omega (arith, ints, h))
 
 module _ (codec : Codec) (view : MibView) (good : IsMibView view) where
   -- a name has one successor
@@ -156,27 +113,18 @@ module _ (codec : Codec) (view : MibView) (good : IsMibView view) where
         few = omega (arith, h.1, are.few, repeats repetitions);
         some = λ positive none.
             let short : length rounds ≡ 0 = sym h.1 ∙ ap length none in
-            let last = are.closed (omega (arith, short, some_rounds repetitions positive)) in
-            none_left rounds short last.0 last.1 last.2;
-        full = λ positive. by_count positive (cases_lt (length rounds) (or_zero repetitions));
+            let last = are.closed (omega (arith, short, (some_repeats repetitions positive).1)) in
+            omega (arith, short, ap length last.2, length-append last.0 (last.1 ∷ []));
+        full = λ positive. elim (cases_lt (length rounds) (or_zero repetitions)) [
+          | inl less ↦
+              let last = are.closed less in
+              let p = one_given (λ a g. IsNextAfter view (length last.0) a.name g) asked last.1 (are.successors last.0 [] last.1 last.2) in
+              let value : p.0.value ≡ end_of_mib_view = (subst AreEnds p.1 last.3).0 in
+              let parts : rounds ≡ last.0 ++ (p.0 ∷ []) ∷ [] = last.2 ∙ ap (λ (r : List VarBind). last.0 ++ r ∷ []) p.1 in
+              inr (ap (λ (rs : List (List VarBind)). list_any (λ q. is_end q.value) (joined rs)) parts ∙ end_joined last.0 p.0 value)
+          | inr all ↦ inl (omega (arith, h.1, are.few, all, (some_repeats repetitions positive).0))
+        ];
       }
-    where
-      by_count : pos 1 ≤ℤ repetitions → (length rounds < or_zero repetitions) ⊎ (or_zero repetitions ≤ length rounds)
-          → (length (joined rounds) ≡ unsigned_abs repetitions) ⊎ (list_any (λ p. is_end p.value) (joined rounds) ≡ true)
-      by_count positive (inl less) =
-          let h = chained asked (or_zero repetitions) rounds are rounds [] asked refl refl in
-          let last = are.closed less in
-          let p = one_given (λ a g. IsNextAfter view (length last.0) a.name g) asked last.1 (are.successors last.0 [] last.1 last.2) in
-          let value : p.0.value ≡ end_of_mib_view = (subst AreEnds p.1 last.3).0 in
-          let parts : rounds ≡ last.0 ++ (p.0 ∷ []) ∷ [] = last.2 ∙ ap (λ (r : List VarBind). last.0 ++ r ∷ []) p.1 in
-          inr (ap (λ (rs : List (List VarBind)). list_any (λ q. is_end q.value) (joined rs)) parts ∙ end_joined last.0 p.0 value)
-      by_count positive (inr all) =
-          let h = chained asked (or_zero repetitions) rounds are rounds [] asked refl refl in
-          inl (omega (arith, h.1, are.few, all, same_repeats repetitions positive))
-
-      none_left : (rs : List (List VarBind)) → length rs ≡ 0 → (before : List (List VarBind)) (round : List VarBind) → rs ≡ before ++ round ∷ [] → ⊥
-      none_left [] short before round e = no_round before [] round e
-      none_left (r ∷ rs) short before round e = omega (arith, short)
 
   pub one_bulk : (q : Message) (asked : List ℕ) (all : List VarBind) → q.a ≡ pos 0 → q.bindings ≡ asked_of asked → IsBulk view q all → IsOneBulk asked q.b all
   one_bulk q asked all a names h =

@@ -1,7 +1,7 @@
 -- The front of a reply that a walk gives, read binding by binding, is the one that the rules name.
 use Rattle.std.proofs.Common.{◌≡◌, ℕ, suc, ◌+◌, Bool, true, false, cond, List, [], ◌∷◌, length}
 use Rattle.std.proofs.Common.{take, refl, sym, ◌∙◌, ap, subst, arith}
-use Rattle.std.proofs.lemmas.List.Sums.{take_while-cons}
+use Rattle.snmp_walk.proofs.TrailLemmas.{fronts_by}
 use Rattle.std.proofs.lemmas.Bool.{le-ltb, lt-ltb}
 use Rattle.std.specs.Prelude.{nat_lt, ◌||◌}
 use Rattle.snmp_wire.specs.Message.{VarBind}
@@ -36,29 +36,13 @@ more_rows last before b more inside rows front h = record {
   ends = longer front.after b rows inside more h.ends;
 }
 
-first_row : (last : List ℕ) (before : ℕ) (b : VarBind) (more inside rows : List VarBind) (front : ReadFront) (is_in rises : Bool)
-    → IsReadAs b.name (before + 1) more inside rows front
-    → IsReadAs last before (b ∷ more) (cond is_in (b ∷ inside) []) (cond is_in (cond rises (b ∷ rows) []) [])
-    (cond is_in (cond rises front record { rows = before; last = last; after = falling b.name }) record { rows = before; last = last; after = leaving })
-first_row last before b more inside rows front true true h = more_rows last before b more inside rows front h
-first_row last before b more inside rows front true false h = record { count = omega arith; taken = refl; name = refl; ends = (omega arith, refl) }
-first_row last before b more inside rows front false rises h = record { count = omega arith; taken = refl; name = refl; ends = (refl, omega arith) }
-
-rising_first : (last : List ℕ) (b : VarBind) (inside : List VarBind) (is_in : Bool)
-    → cond is_in (cond (comes_after last b.name) (b ∷ rising_front b.name inside) []) [] ≡ rising_front last (cond is_in (b ∷ inside) [])
-rising_first last b inside true = refl
-rising_first last b inside false = refl
-
 pub front_read : (root last : List ℕ) (before : ℕ) (bindings : List VarBind) → IsFrontOf root last before bindings (front_from root last before bindings)
-front_read root last before [] = record { count = omega arith; taken = refl; name = refl; ends = (refl, refl) }
-front_read root last before (b ∷ more) =
-    let h = first_row last before b more (inside_front root more) (rising_front b.name (inside_front root more)) (front_from root b.name (before + 1) more)
-    (is_inside root b) (comes_after last b.name) (front_read root b.name (before + 1) more) in
-    let e = take_while-cons (is_inside root) b more in
-    let P : List VarBind → Type 0 = λ rows. IsReadAs last before (b ∷ more) (cond (is_inside root b) (b ∷ inside_front root more) []) rows
-    (front_from root last before (b ∷ more)) in
-    let Q : List VarBind → Type 0 = λ inside. IsReadAs last before (b ∷ more) inside (rising_front last inside) (front_from root last before (b ∷ more)) in
-    subst Q (sym e) (subst P (rising_first last b (inside_front root more) (is_inside root b)) h)
+front_read root last before bindings =
+    fronts_by root (λ o all inside rows. (n : ℕ) → IsReadAs o n all inside rows (front_from root o n all))
+    (λ o n. record { count = omega arith; taken = refl; name = refl; ends = (refl, refl) })
+    (λ o b more inside rows i u later n. rw (i, u) (more_rows o n b more inside rows (front_from root b.name (n + 1) more) (later (n + 1))))
+    (λ o b more inside i f n. rw (i, f) (record { count = omega arith; taken = refl; name = refl; ends = (omega arith, refl) }))
+    (λ o b more f n. rw f (record { count = omega arith; taken = refl; name = refl; ends = (refl, omega arith) })) last bindings before
 
 -- what a reply means whose front was read
 abbrev pub reads_as : After → Walker → List VarBind → Step × Walker
@@ -123,15 +107,13 @@ ended_by : (root last : List ℕ) (rows : ℕ) (b : VarBind) (more : List VarBin
     → (e ≡ ending.GoesOn → ⊥)
     → Read root last rows b more is_in rises ≡ record { rows = rows; last = last; after = after_of e b.name }
 ended_by root last rows b more true true e is on = absurd (on is)
-ended_by root last rows b more true false e is on = ap (λ (x : Ending). record { rows = rows; last = last; after = after_of x b.name }) (sym is)
-ended_by root last rows b more false rises e is on = ap (λ (x : Ending). record { rows = rows; last = last; after = after_of x b.name }) (sym is)
+ended_by root last rows b more _ _ e is on = ap (λ (x : Ending). record { rows = rows; last = last; after = after_of x b.name }) (sym is)
 
 goes_by : (root last : List ℕ) (rows : ℕ) (b : VarBind) (more : List VarBind) (is_in rises : Bool) (e : Ending) → e ≡ EndOf is_in rises
     → e ≡ ending.GoesOn
     → Read root last rows b more is_in rises ≡ front_from root b.name (rows + 1) more
 goes_by root last rows b more true true e is on = refl
-goes_by root last rows b more true false e is on = let never : ⊥ = cc in absurd never
-goes_by root last rows b more false rises e is on = let never : ⊥ = cc in absurd never
+goes_by root last rows b more _ _ e is on = absurd cc
 
 -- a loop over bindings: what is left of them, and what was read
 module _ (root asked last : List ℕ) (rows : ℕ) (b : VarBind) (all left more : List VarBind)
@@ -181,8 +163,7 @@ module _ (w : Walker) (bindings : List VarBind) (front : ReadFront) (fine : is_m
     where
       by_end : (bs : List VarBind) (rows : List VarBind) (e : After) → e ≡ nothing → EndsAs e rows (inside_front w.root bs) bs → length rows ≡ length bs
       by_end bs rows nothing same k = k.1
-      by_end bs rows leaving same k = let no : ⊥ = cc in absurd no
-      by_end bs rows (falling name) same k = let no : ⊥ = cc in absurd no
+      by_end bs rows _ same k = absurd cc
 
       by_bindings : (bs : List VarBind) → IsFrontOf w.root w.asked 0 bs front → reads_next w bs ≡ stops w (take front.rows bs) (walk_end.NoProgress last)
       by_bindings [] k =

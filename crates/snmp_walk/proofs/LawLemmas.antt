@@ -69,9 +69,8 @@ later_rows o p (q ∷ rows) h =
 
 -- names as they are sent
 pub wire_long : (name : List ℕ) → 3 ≤ length name → wire name ≡ name
-wire_long [] h = absurd (omega (arith, h))
-wire_long (x ∷ []) h = absurd (omega (arith, h))
 wire_long (x ∷ y ∷ name) h = refl
+wire_long _ h = absurd (omega (arith, h))
 
 pub wire_again : (root : List ℕ) → wire (wire root) ≡ wire root
 wire_again [] = refl

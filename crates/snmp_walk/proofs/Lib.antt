@@ -18,7 +18,6 @@ pub mod RunLemmas
 pub mod ViewLemmas
 pub mod JoinLemmas
 pub mod CaseLemmas
-pub mod RisingLemmas
 pub mod PartLemmas
 pub mod TablesLemmas
 pub mod FactLemmas

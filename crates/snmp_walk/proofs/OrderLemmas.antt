@@ -37,8 +37,7 @@ use Rattle.snmp_walk.proofs.NameLemmas.{test_from_below, below_from_test}
 
 less_from_lt : (r : Ordering) → is_lt r ≡ true → r ≡ Less
 less_from_lt Less e = refl
-less_from_lt Equal e = absurd (false≢true e)
-less_from_lt Greater e = absurd (false≢true e)
+less_from_lt _ e = absurd (false≢true e)
 
 pub less_from_after : (o p : List ℕ) → comes_after o p ≡ true → slice_cmp nat_cmp o p ≡ Less
 less_from_after o p e = less_from_lt (slice_cmp nat_cmp o p) e
@@ -51,7 +50,7 @@ after-irrefl o = ap is_lt (tied_itself nat_list_cmp_total o)
 
 -- a name is not after one that is after another which it is not after
 pub not_after : (o p r : List ℕ) → comes_after o p ≡ true → comes_after o r ≡ false → comes_after p r ≡ false
-not_after o p r a b = false_from_ne_true (comes_after p r) (λ c. let both : comes_after o r ≡ true = after-trans o p r a c in let no : ⊥ = cc in no)
+not_after o p r a b = false_from_ne_true (comes_after p r) (λ c. let both : comes_after o r ≡ true = after-trans o p r a c in cc)
 
 -- equal first numbers
 pub same_first : (x : ℕ) (o p : List ℕ) → slice_cmp nat_cmp (x ∷ o) (x ∷ p) ≡ slice_cmp nat_cmp o p
@@ -89,11 +88,11 @@ gap_first : (x y : ℕ) (a c : Ordering) (r : Ordering) → r ≡ nat_cmp x y �
     → (x ≡ y) × (a ≡ Less) × (c ≡ Less)
 gap_first x y a c Less e h k =
     let greater : Greater ≡ nat_cmp y x = nat_cmp_is y x Greater (ranked x y Less e) in
-    let no : ⊥ = cc in absurd no
+    absurd cc
 gap_first x y a c Equal e h k =
     let same : Equal ≡ nat_cmp y x = nat_cmp_is y x Equal (sym (ranked x y Equal e)) in
     (ranked x y Equal e, h, ap (λ (r : Ordering). ordering_then r c) same ∙ k)
-gap_first x y a c Greater e h k = let no : ⊥ = cc in absurd no
+gap_first x y a c Greater e h k = absurd cc
 
 -- A name below the root stands behind no name that stands behind one of the subtree and isn't below the root.
 behind_gap : (root s p rest : List ℕ) → slice_cmp nat_cmp (root ++ s) p ≡ Less → (IsBelow p root → ⊥) → slice_cmp nat_cmp p (root ++ rest) ≡ Less → ⊥
@@ -120,19 +119,14 @@ zero_first (suc x) o p h =
 
 -- an instance below the root comes after the root as it is sent
 less_than_below : (root name : List ℕ) → 3 ≤ length name → IsBelow name root → slice_cmp nat_cmp (wire root) name ≡ Less
-less_than_below [] [] long h = absurd (omega (arith, long))
-less_than_below [] (a ∷ []) long h = absurd (omega (arith, long))
-less_than_below [] (a ∷ b ∷ []) long h = absurd (omega (arith, long))
 less_than_below [] (a ∷ b ∷ c ∷ name) long h = zero_first a (0 ∷ []) (b ∷ c ∷ name) (zero_first b [] (c ∷ name) refl)
-less_than_below (x ∷ []) [] long h = absurd (omega (arith, long))
-less_than_below (x ∷ []) (a ∷ []) long h = absurd (omega (arith, long))
-less_than_below (x ∷ []) (a ∷ b ∷ []) long h = absurd (omega (arith, long))
 less_than_below (x ∷ []) (a ∷ b ∷ c ∷ name) long h =
     let same : a ≡ x = cc (h.2) in
     subst (λ (n : ℕ). slice_cmp nat_cmp (x ∷ 0 ∷ []) (n ∷ b ∷ c ∷ name) ≡ Less) (sym same) (same_first x (0 ∷ []) (b ∷ c ∷ name)
     ∙ zero_first b [] (c ∷ name) refl)
 less_than_below (x ∷ y ∷ root) name long h =
     subst (λ (n : List ℕ). slice_cmp nat_cmp (x ∷ y ∷ root) n ≡ Less) (sym h.2) (less_longer (x ∷ y ∷ root) h.0 h.1)
+less_than_below _ _ long h = absurd (omega (arith, long))
 
 pub below_after_wire : (root name : List ℕ) → 3 ≤ length name → is_below name root ≡ true → comes_after (wire root) name ≡ true
 below_after_wire root name long below = ap is_lt (less_than_below root name long (below_from_test root name below))

@@ -1,25 +1,50 @@
--- A front of what a walk gives is a beginning of it too.
-use Rattle.std.proofs.Common.{◌≡◌, ◌⊎◌, inl, inr, ℕ, Bool, true, false, cond, List, [], ◌∷◌, ◌++◌}
-use Rattle.std.proofs.Common.{refl, sym, ◌∙◌, ap, subst, append-nil}
+-- What is given of a walk rises, and a front of it is a beginning of the walk too.
+use Rattle.std.proofs.Common.{◌≡◌, ◌⊎◌, inl, inr, ℕ, true, false, List, [], ◌∷◌, ◌++◌, length, refl}
+use Rattle.std.proofs.Common.{sym, ◌∙◌, ap, subst, arith, append-nil, length-append}
+use Rattle.std.proofs.lemmas.List.{nil_from_length}
 use Rattle.snmp_wire.specs.Message.{VarBind}
 use Rattle.snmp_walk.specs.declared.mode.Mode.{Mode}
 use Rattle.snmp_walk.specs.declared.mode.Mode.TheVariants as mode
-use Rattle.snmp_walk.specs.Names.{is_missing}
+use Rattle.snmp_walk.specs.Names.{is_end, comes_after}
 use Rattle.snmp_walk.specs.Trail.{last_name, IsTrail}
 use Rattle.snmp_walk.specs.Walker.{Walker}
 use Rattle.snmp_walk.specs.Standing.{IsOpening, IsGiven, IsAlone, IsPartOfWalk}
-use Rattle.snmp_walk.proofs.TestLemmas.{present_is}
+use Rattle.snmp_walk.proofs.TableLemmas.{after_more}
+use Rattle.snmp_walk.proofs.RowLemmas.{AreAfter, AreRising, AreLawfulReplies}
+use Rattle.snmp_walk.proofs.TestLemmas.{end_test}
 
--- a list of one at most has itself and nothing as fronts
-short_front : (b : Bool) (p : VarBind) (xs ys : List VarBind) → cond b [] (p ∷ []) ≡ xs ++ ys → (xs ≡ []) ⊎ (xs ≡ cond b [] (p ∷ []))
-short_front b p [] ys e = inl refl
-short_front true p (x ∷ xs) ys e = let no : ⊥ = cc in absurd no
-short_front false p (x ∷ []) ys e = let same : x ≡ p = cc in inr (ap (λ (q : VarBind). q ∷ []) same)
-short_front false p (x ∷ y ∷ xs) ys e = let no : ⊥ = cc in absurd no
+module _ (Next Got : List ℕ → VarBind → Type 0) (laws : AreLawfulReplies Next Got) (root : List ℕ) where
+  -- a trail rises from the name before it
+  pub trail_rises : (o : List ℕ) (trail : List VarBind) → IsTrail Next root o trail → AreAfter o trail × AreRising trail
+  trail_rises o [] h = (tt, tt)
+  trail_rises o (p ∷ trail) h =
+      let value : is_end p.value ≡ false = end_test p.value h.1.value in
+      let comes : comes_after o p.name ≡ true = laws.rises o p h.0 value in
+      let rest = trail_rises p.name trail h.2 in
+      ((comes, after_more o p trail comes rest.0), rest)
+
+  opening_rises : (m : Mode) (o : List ℕ) (front trail : List VarBind) → IsOpening Got m o front → AreAfter o trail × AreRising trail
+      → AreRising (front ++ trail)
+  opening_rises mode.Include o front trail (p, got, inl is) h = rw is.1 h.1
+  opening_rises mode.Include o front trail (p, got, inr is) h = rw (is.1, laws.same_name o p got) h
+  opening_rises _ o front trail none h = rw none h.1
+
+pub part_rises : (Next Got : List ℕ → VarBind → Type 0) → AreLawfulReplies Next Got → (first : Walker) (given : List VarBind)
+    → IsPartOfWalk Next Got first given → AreRising given
+part_rises Next Got laws first given (inl none) = rw none tt
+part_rises Next Got laws first given (inr (inl (o, g))) =
+    rw g.parts (opening_rises Next Got laws first.root first.mode first.asked g.front g.trail g.opening
+    (trail_rises Next Got laws first.root first.asked g.trail g.is_trail))
+part_rises Next Got laws first given (inr (inr h)) = rw h.only (tt, tt)
+
+-- a list of one has itself and nothing as fronts
+one_front : (p : VarBind) (xs ys : List VarBind) → p ∷ [] ≡ xs ++ ys → (xs ≡ []) ⊎ (xs ≡ p ∷ [])
+one_front p [] ys e = inl refl
+one_front p (x ∷ []) ys e = let same : x ≡ p = cc in inr (ap (λ (q : VarBind). q ∷ []) same)
+one_front p (x ∷ y ∷ xs) ys e = absurd cc
 
 none_front : (xs ys : List VarBind) → [] ≡ xs ++ ys → xs ≡ []
-none_front [] ys e = refl
-none_front (x ∷ xs) ys e = let no : ⊥ = cc in absurd no
+none_front xs ys e = nil_from_length xs (omega (arith, ap length e, length-append xs ys))
 
 -- two ways to cut a list
 two_cuts : (xs ys front trail : List VarBind) → xs ++ ys ≡ front ++ trail
@@ -29,12 +54,7 @@ two_cuts (x ∷ xs) ys [] trail e = inr (x ∷ xs, refl, sym e)
 two_cuts (x ∷ xs) ys (f ∷ front) trail e =
     let same : x ≡ f = cc in
     let rest : xs ++ ys ≡ front ++ trail = cc in
-    longer same (two_cuts xs ys front trail rest)
-  where
-    longer : x ≡ f → ((rest : List VarBind) × (front ≡ xs ++ rest)) ⊎ ((more : List VarBind) × (xs ≡ front ++ more) × (trail ≡ more ++ ys))
-        → ((rest : List VarBind) × (f ∷ front ≡ (x ∷ xs) ++ rest)) ⊎ ((more : List VarBind) × (x ∷ xs ≡ (f ∷ front) ++ more) × (trail ≡ more ++ ys))
-    longer s (inl h) = inl (h.0, (let e1 = h.1 in cc))
-    longer s (inr h) = inr (h.0, (let e1 = h.1 in cc), h.2)
+    elim (two_cuts xs ys front trail rest) [ inl h ↦ inl (h.0, (let e1 = h.1 in cc)) | inr h ↦ inr (h.0, (let e1 = h.1 in cc), h.2) ]
 
 trail_front : (Next : List ℕ → VarBind → Type 0) (root o : List ℕ) (xs ys : List VarBind) → IsTrail Next root o (xs ++ ys) → IsTrail Next root o xs
 trail_front Next root o [] ys h = tt
@@ -42,33 +62,22 @@ trail_front Next root o (x ∷ xs) ys h = (h.0, h.1, trail_front Next root x.nam
 
 module _ (Next Got : List ℕ → VarBind → Type 0) (first : Walker) where
   opening_front : (m : Mode) (xs rest front : List VarBind) → IsOpening Got m first.asked front → front ≡ xs ++ rest → (xs ≡ []) ⊎ (xs ≡ front)
-  opening_front mode.Plain xs rest front h e = inl (none_front xs rest (sym h ∙ e))
-  opening_front mode.NoLast xs rest front h e = inl (none_front xs rest (sym h ∙ e))
-  opening_front mode.Include xs rest front h e =
-      let P : List VarBind → Type 0 = λ f. (xs ≡ []) ⊎ (xs ≡ f) in
-      let is = present_is h.0 front h.2 in
-      subst P (sym is) (short_front (is_missing h.0.value) h.0 xs rest (sym is ∙ e))
+  opening_front mode.Include xs rest front (p, got, inl none) e = inl (none_front xs rest (sym none.1 ∙ e))
+  opening_front mode.Include xs rest front (p, got, inr some) e =
+      elim (one_front p xs rest (sym some.1 ∙ e)) [ inl none ↦ inl none | inr one ↦ inr (one ∙ sym some.1) ]
+  opening_front _ xs rest front none e = inl (none_front xs rest (sym none ∙ e))
 
   -- a front of what was given is a beginning too
   given_front : (xs ys : List VarBind) (o : List ℕ) (g : IsGiven Next Got first (xs ++ ys) o)
       → ((rest : List VarBind) × (g.front ≡ xs ++ rest)) ⊎ ((more : List VarBind) × (xs ≡ g.front ++ more) × (g.trail ≡ more ++ ys))
       → IsPartOfWalk Next Got first xs
-  given_front xs ys o g (inl h) = by_opening (opening_front first.mode xs h.0 g.front g.opening h.1)
-    where
-      by_opening : (xs ≡ []) ⊎ (xs ≡ g.front) → IsPartOfWalk Next Got first xs
-      by_opening (inl none) = inl none
-      by_opening (inr whole) = inr (inl (
-        first.asked,
-        record {
-          front = g.front;
-          trail = [];
-          parts = whole
-              ∙ sym (append-nil g.front);
-          opening = g.opening;
-          is_trail = tt;
-          last = refl;
-        },
-      ))
+  given_front xs ys o g (inl h) = elim (opening_front first.mode xs h.0 g.front g.opening h.1) [
+    | inl none ↦ inl none
+    | inr whole ↦ inr (inl (
+      first.asked,
+      record { front = g.front; trail = []; parts = whole ∙ sym (append-nil g.front); opening = g.opening; is_trail = tt; last = refl },
+    ))
+  ]
   given_front xs ys o g (inr h) =
       inr (inl (
         last_name first.asked h.0,
@@ -83,12 +92,10 @@ module _ (Next Got : List ℕ → VarBind → Type 0) (first : Walker) where
       ))
 
   alone_front : (xs ys : List VarBind) → IsAlone Next Got first (xs ++ ys) → IsPartOfWalk Next Got first xs
-  alone_front [] ys h = inl refl
-  alone_front (x ∷ []) ys h =
-      let e = h.only in
-      let same : x ≡ h.answer = cc in
-      inr (inr record { plain = h.plain; none = h.none; answer = h.answer; is_answer = h.is_answer; only = ap (λ (q : VarBind). q ∷ []) same })
-  alone_front (x ∷ y ∷ xs) ys h = let e = h.only in let no : ⊥ = cc in absurd no
+  alone_front xs ys h = elim (one_front h.answer xs ys (sym h.only)) [
+    | inl none ↦ inl none
+    | inr one ↦ inr (inr record { plain = h.plain; none = h.none; answer = h.answer; is_answer = h.is_answer; only = one })
+  ]
 
   pub part_front : (xs ys : List VarBind) → IsPartOfWalk Next Got first (xs ++ ys) → IsPartOfWalk Next Got first xs
   part_front xs ys (inl none) = inl (none_front xs ys (sym none))

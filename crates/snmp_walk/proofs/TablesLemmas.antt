@@ -40,7 +40,7 @@ use Rattle.snmp_walk.proofs.JoinLemmas.{after_precedes, tie_is, one_after, not_i
 use Rattle.snmp_walk.proofs.TrailLemmas.{trail_begins}
 use Rattle.snmp_walk.proofs.StandingLemmas.{opening_last}
 use Rattle.snmp_walk.proofs.SendLemmas.{named_more, named_after}
-use Rattle.snmp_walk.proofs.RisingLemmas.{trail_rises, part_rises}
+use Rattle.snmp_walk.proofs.PartLemmas.{trail_rises, part_rises}
 use Rattle.snmp_walk.proofs.RowLemmas.{AreAfter, AreRising, AreLawfulReplies}
 use Rattle.snmp_walk.proofs.TestLemmas.{after_test, end_test, outside_test, miss_test, no_miss}
 

@@ -13,6 +13,7 @@ use Rattle.std.specs.Prelude.{
   ◌∷◌,
   ◌++◌,
   length,
+  flat_map,
   replicate,
   Option,
 }
@@ -80,8 +81,7 @@ pub record Reading : Type 0 where
 
 -- the rows of these readings, in turn
 abbrev pub rows_read : List Reading → List VarBind
-rows_read [] = []
-rows_read (r ∷ more) = r.rows ++ rows_read more
+rows_read readings = flat_map (λ r. r.rows) readings
 
 -- Each of these datagrams replied to the request of the walk, in turn, from one state of the link
 -- to the next, and the walk v read them as these rows, and is w then. `Tried` says what came of a

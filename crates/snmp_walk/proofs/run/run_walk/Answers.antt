@@ -1,7 +1,7 @@
 use Rattle.std.proofs.Common.{◌≡◌, ◌+◌, ◌++◌, List, ap, subst, sym, refl, ℕ, arith, Some, None}
 use Rattle.snmp_wire.specs.Canon.{canon}
 use Rattle.snmp_walk.specs.Request.{request_of}
-use Rattle.snmp_walk.specs.Link.{Agents}
+use Rattle.snmp_walk.specs.Link.{Agents, AreViews}
 use Rattle.snmp_walk.specs.Heard.{Exchanges, IsEarlier}
 use Rattle.snmp_walk.specs.Run.{Turns}
 use Rattle.snmp_walk.specs.Tries.{IsTried}
@@ -26,65 +26,38 @@ turns-init g c = record {
 pub returns-in-Ends : goal.returns-in-Ends
 returns-in-Ends g c =
     let inv = c.turns.invariant in
-    let agents : Agents = g.L.Link.agents c.args.link.now in
+    let keeping = g.met.L.Link.keeping c.args.link.now in
+    let views : g.L.Link.honest c.args.link.now → AreViews (g.L.Link.agents c.args.link.now).tables = λ h. (g.met.L.Link.lawful c.args.link.now h).views in
     let t = c.in-Ends.ensures.turns in
-    let same = subst (λ (a : Agents). Turns g.S.Sink.takes
-    (λ o. IsTried g.L.Link (c.args.retries + 1) c.turns.core c.turns.link o c.turn.new.link) a (g.L.Link.honest c.turns.link
-    × IsEarlier (g.L.Link.traffic c.turns.link).sent c.turns.core) c.turns.core c.turns.sink t.0
-    (Some c.turn.new.end) c.turn.new.core c.turn.new.sink)
-    inv.has_moved.by.moved.agents t.1 in
     let moved = moved_more g.L.Link (c.args.retries + 1) c.args.core c.turns.core inv.runs.given t.0 c.turn.ensures.walker inv.runs.stands inv.has_moved
     c.in-Ends.ensures.moves (request_short c.turns.core c.turn.ensures.walker.community c.turn.ensures.walker.identifier.short) in
-    let r = ran g.S.Sink.takes (IsTried g.L.Link (c.args.retries + 1)) c.args.link.now c.turns.link agents (g.L.Link.keeps c.args.link.now) (g.L.Link.honest c.args.link.now)
-    (g.met.L.Link.keeping c.args.link.now)
-    (c.args.retries + 1) c.args.core c.args.sink.now
-    (g.L.Link.traffic c.args.link.now) c.turns.core c.turns.sink (g.L.Link.traffic c.turns.link) inv.runs c.turn.ensures.walker
-    (g.L.Link.honest c.turns.link) inv.has_moved.by.moved.honest c.codec.ensures c.turn.new.link t.0 c.turn.new.core c.turn.new.sink
-    (g.L.Link.traffic c.turn.new.link) c.turn.new.end c.requires (omega arith) (λ h. (g.met.L.Link.lawful c.args.link.now h).views) same
-    (λ k. subst (λ (a : Agents). Exchanges a (g.L.Link.honest c.turns.link
-    × IsEarlier (g.L.Link.traffic c.turns.link).sent c.turns.core) (c.args.retries + 1) (canon (request_of c.turns.core)) (g.L.Link.traffic c.turns.link)
-    (Some c.turn.new.end ≡ Some ending.NoResponse) (Some c.turn.new.end ≡ Some ending.Link) (g.L.Link.traffic c.turn.new.link)) inv.has_moved.by.moved.agents
-    (c.in-Ends.ensures.exchanged (inv.has_moved.by.moved.keeps k)))
-    (λ given. IsMovedByRequests g.L.Link (c.args.retries + 1) c.args.core given c.args.link.now (Some c.turn.new.end ≡ Some ending.Link) c.turn.new.link)
-    moved.by in
+    let r = ran c.codec.ensures keeping views inv.runs c.turn.ensures.walker inv.has_moved.by.moved.honest inv.has_moved.by.moved.agents
+    c.turn.new.link t.0 c.turn.new.core c.turn.new.sink (g.L.Link.traffic c.turn.new.link) c.turn.new.end c.requires (omega arith) t.1
+    (λ k. c.in-Ends.ensures.exchanged (inv.has_moved.by.moved.keeps k)) in
     record {
-      rows = r.0;
-      refused = r.1;
-      took = r.2;
+      rows = inv.runs.given ++ t.0;
+      refused = r.0;
+      took = r.1;
       facts = record {
-        part = r.3;
-        ends = r.6;
-        sent = r.5;
-        judged = λ fresh. r.4 fresh.0 fresh.1;
-        ready = ready_facts c.codec.ensures g.S.Sink.takes (IsTried g.L.Link (c.args.retries + 1)) c.args.link.now c.turns.link agents (g.L.Link.keeps c.args.link.now)
-            (g.L.Link.honest c.args.link.now) (c.args.retries + 1) c.args.core c.args.sink.now (g.L.Link.traffic c.args.link.now) c.turns.core c.turns.sink
-            (g.L.Link.traffic c.turns.link) inv.runs c.requires (λ h. (g.met.L.Link.lawful c.args.link.now h).views) (g.L.Link.ready c.args.link.now)
-            c.turn.new.end
+        part = r.2;
+        ends = r.5;
+        sent = r.4;
+        judged = r.3;
+        ready = ready_facts c.codec.ensures keeping views inv.runs c.requires (g.L.Link.ready c.args.link.now) c.turn.new.end
             (λ k few ready link. moved_fine g.L.Link (c.args.retries + 1) c.args.core (inv.runs.given ++ t.0) (c.turns.core.id + 1) moved k
             (omega (arith, few)) ready (ap Some link));
-        moved = requests_as g.L.Link (same_end c.turn.new.end ending.Link) (ap Some) r.7;
+        moved = requests_as g.L.Link (same_end c.turn.new.end ending.Link) (ap Some) moved.by;
       };
     }
 
 pub turns-smaller : goal.turns-smaller
 turns-smaller g c =
     let inv = c.turns.invariant in
-    let agents : Agents = g.L.Link.agents c.args.link.now in
     let t = c.in-GoesOn.ensures.turns in
-    let same = subst (λ (a : Agents). Turns g.S.Sink.takes
-    (λ o. IsTried g.L.Link (c.args.retries + 1) c.turns.core c.turns.link o c.turn.new.link) a (g.L.Link.honest c.turns.link
-    × IsEarlier (g.L.Link.traffic c.turns.link).sent c.turns.core) c.turns.core c.turns.sink t.0 None c.turn.new.core c.turn.new.sink)
-    inv.has_moved.by.moved.agents t.1 in
-    let on = runs_on g.S.Sink.takes (IsTried g.L.Link (c.args.retries + 1)) c.args.link.now c.turns.link agents (g.L.Link.keeps c.args.link.now) (g.L.Link.honest c.args.link.now)
-    (g.met.L.Link.keeping c.args.link.now)
-    (c.args.retries + 1) c.args.core c.args.sink.now
-    (g.L.Link.traffic c.args.link.now) c.turns.core c.turns.sink (g.L.Link.traffic c.turns.link) inv.runs c.turn.ensures.walker
-    (g.L.Link.honest c.turns.link) inv.has_moved.by.moved.honest c.codec.ensures c.turn.new.link t.0 c.turn.new.core c.turn.new.sink
-    (g.L.Link.traffic c.turn.new.link) (None ≡ Some ending.NoResponse) (None ≡ Some ending.Link) no_link_end same
-    (λ k. subst (λ (a : Agents). Exchanges a (g.L.Link.honest c.turns.link
-    × IsEarlier (g.L.Link.traffic c.turns.link).sent c.turns.core) (c.args.retries + 1) (canon (request_of c.turns.core)) (g.L.Link.traffic c.turns.link)
-    (None ≡ Some ending.NoResponse) (None ≡ Some ending.Link) (g.L.Link.traffic c.turn.new.link)) inv.has_moved.by.moved.agents
-    (c.in-GoesOn.ensures.exchanged (inv.has_moved.by.moved.keeps k))) in
+    let on = runs_on c.codec.ensures (g.met.L.Link.keeping c.args.link.now) (λ h. (g.met.L.Link.lawful c.args.link.now h).views) inv.runs
+    c.turn.ensures.walker inv.has_moved.by.moved.honest inv.has_moved.by.moved.agents c.turn.new.link t.0 c.turn.new.core c.turn.new.sink
+    (g.L.Link.traffic c.turn.new.link) (None ≡ Some ending.NoResponse) (None ≡ Some ending.Link) no_link_end t.1
+    (λ k. c.in-GoesOn.ensures.exchanged (inv.has_moved.by.moved.keeps k)) in
     let id = on.id in
     let low = on.low in
     omega (arith, id, low)
@@ -92,28 +65,17 @@ turns-smaller g c =
 pub turns-preserved : goal.turns-preserved
 turns-preserved g c =
     let inv = c.turns.invariant in
-    let agents : Agents = g.L.Link.agents c.args.link.now in
     let t = c.in-GoesOn.ensures.turns in
-    let same = subst (λ (a : Agents). Turns g.S.Sink.takes
-    (λ o. IsTried g.L.Link (c.args.retries + 1) c.turns.core c.turns.link o c.turn.new.link) a (g.L.Link.honest c.turns.link
-    × IsEarlier (g.L.Link.traffic c.turns.link).sent c.turns.core) c.turns.core c.turns.sink t.0 None c.turn.new.core c.turn.new.sink)
-    inv.has_moved.by.moved.agents t.1 in
-    let on = runs_on g.S.Sink.takes (IsTried g.L.Link (c.args.retries + 1)) c.args.link.now c.turns.link agents (g.L.Link.keeps c.args.link.now) (g.L.Link.honest c.args.link.now)
-    (g.met.L.Link.keeping c.args.link.now)
-    (c.args.retries + 1) c.args.core c.args.sink.now
-    (g.L.Link.traffic c.args.link.now) c.turns.core c.turns.sink (g.L.Link.traffic c.turns.link) inv.runs c.turn.ensures.walker
-    (g.L.Link.honest c.turns.link) inv.has_moved.by.moved.honest c.codec.ensures c.turn.new.link t.0 c.turn.new.core c.turn.new.sink
-    (g.L.Link.traffic c.turn.new.link) (None ≡ Some ending.NoResponse) (None ≡ Some ending.Link) no_link_end same
-    (λ k. subst (λ (a : Agents). Exchanges a (g.L.Link.honest c.turns.link
-    × IsEarlier (g.L.Link.traffic c.turns.link).sent c.turns.core) (c.args.retries + 1) (canon (request_of c.turns.core)) (g.L.Link.traffic c.turns.link)
-    (None ≡ Some ending.NoResponse) (None ≡ Some ending.Link) (g.L.Link.traffic c.turn.new.link)) inv.has_moved.by.moved.agents
-    (c.in-GoesOn.ensures.exchanged (inv.has_moved.by.moved.keeps k))) in
+    let on = runs_on c.codec.ensures (g.met.L.Link.keeping c.args.link.now) (λ h. (g.met.L.Link.lawful c.args.link.now h).views) inv.runs
+    c.turn.ensures.walker inv.has_moved.by.moved.honest inv.has_moved.by.moved.agents c.turn.new.link t.0 c.turn.new.core c.turn.new.sink
+    (g.L.Link.traffic c.turn.new.link) (None ≡ Some ending.NoResponse) (None ≡ Some ending.Link) no_link_end t.1
+    (λ k. c.in-GoesOn.ensures.exchanged (inv.has_moved.by.moved.keeps k)) in
     record {
       runs = on.runs;
       has_moved = subst (λ (n : ℕ). HasMoved g.L.Link c.args.link.now (c.args.retries + 1) c.args.core on.runs.given n ⊥ c.turn.new.link) (sym on.id)
           (subst (λ (rows : List VarBind). HasMoved g.L.Link c.args.link.now (c.args.retries + 1) c.args.core rows (c.turns.core.id + 1) ⊥ c.turn.new.link)
           (sym on.given)
-          (moved_more g.L.Link (c.args.retries + 1) c.args.core c.turns.core inv.runs.given on.more c.turn.ensures.walker inv.runs.stands inv.has_moved
+          (moved_more g.L.Link (c.args.retries + 1) c.args.core c.turns.core inv.runs.given t.0 c.turn.ensures.walker inv.runs.stands inv.has_moved
           (tries_as g.L.Link refl no_link_end (λ f. absurd f) c.in-GoesOn.ensures.moves)
           (request_short c.turns.core c.turn.ensures.walker.community c.turn.ensures.walker.identifier.short)));
     }
