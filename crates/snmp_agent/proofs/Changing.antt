@@ -1,6 +1,6 @@
 -- One row put among others, or removed.
-use Rattle.std.proofs.Common.{◌≡◌, ℕ, zero, suc, ◌-◌, ◌≤◌, ◌<◌, Bool, true, false, not, cond}
-use Rattle.std.proofs.Common.{is_some, List, [], ◌∷◌, ◌++◌, length, take, drop, Some}
+use Rattle.std.proofs.Common.{◌≡◌, ℕ, suc, ◌-◌, Bool, true, false, not, cond}
+use Rattle.std.proofs.Common.{is_some, List, [], ◌∷◌, ◌++◌, length, take, drop, Some, slice_index_or}
 use Rattle.std.proofs.Common.{None, slice_set, refl, sym, ◌∙◌, ap, subst, arith, Ordering, Less}
 use Rattle.std.proofs.Common.{Equal, Greater}
 use Rattle.std.proofs.Common.{Result, Ok, Err, IfOk, IfErr, Option}
@@ -15,18 +15,19 @@ use Rattle.std.specs.FinMap.{nat_cmp-IsAntisymmetric, slice_cmp-IsAntisymmetric}
 use Rattle.std.specs.FinMap.Entries.{put, by_order, is_sorted-put, is_sorted-where_key}
 use Rattle.std.specs.FinMap.Entries.{find-where_key}
 use Rattle.std.specs.List.{slice_get, insert as insert_at, remove as remove_at}
-use Rattle.std.proofs.lemmas.List.{append-nil, take-append-drop, map-append, length-take-le}
+use Rattle.std.proofs.lemmas.List.{append-nil, take-append-drop, map-append, set_split}
+use Rattle.std.proofs.lemmas.Option.{slice_get-get_or, slice_get_within}
 use Rattle.snmp_oid.specs.Identifier.{IsWire}
 use Rattle.snmp_wire.specs.Message.{Datum, VarBind}
 use Rattle.snmp_agent.specs.table.Table.{MibView, IsRow, IsInstanceName, IsInstanceValue}
 use Rattle.snmp_agent.specs.table.Table.{IsMibView, with_row, without_row}
 use Rattle.snmp_agent.specs.table.Places.{IsBeforeAll, IsBeforeNone, IsAfterAll, view_of}
 use Rattle.snmp_agent.specs.table.Places.{without_name, entry_of}
-use Rattle.snmp_agent.specs.table.Pages.{IsRising, IsSorted, HasNameAt, BelongsAt, has_name}
-use Rattle.snmp_agent.specs.table.Pages.{entries_of}
-use Rattle.snmp_agent.proofs.Rising.{first_of_both, second_of_both, before_all, before_listed}
+use Rattle.snmp_agent.specs.table.Pages.{IsPlaceAfter, IsRising, IsSorted, HasNameAt, BelongsAt}
+use Rattle.snmp_agent.specs.table.Pages.{has_name, entries_of}
+use Rattle.snmp_agent.proofs.Lists.{IsLast, all_back, around, last_in_front, last_of}
+use Rattle.snmp_agent.proofs.Rising.{after_earlier, after_last, before_later, rising_first}
 use Rattle.snmp_agent.proofs.Rising.{turned, same_name}
-use Rattle.snmp_agent.proofs.Finding.{listed_at, IsLast, found_none, parts_at}
 
 abbrev Entries : Type 0
 Entries = List (List ℕ × Datum)
@@ -81,9 +82,6 @@ without_in o (e ∷ es) back h =
       | Greater ↦ ap (λ fs. e ∷ fs) (without_in o es back h)
     ]
 
-keeps : (o : List ℕ) (front back : Entries) → IsAfterAll o front → IsBeforeAll o back → without_name o (front ++ back) ≡ front ++ back
-keeps o front back h k = without_past o front back h ∙ ap (λ es. front ++ es) (keeps_after o back k)
-
 removes : (o : List ℕ) (w : Datum) (front back : Entries) → IsAfterAll o front → IsBeforeAll o back → without_name o (front ++ (o, w) ∷ back) ≡ front ++ back
 removes o w front back h k =
     without_past o front ((o, w) ∷ back) h
@@ -109,19 +107,6 @@ find_in o (e ∷ es) back h =
 at_front : (o : List ℕ) (w : Datum) (back : Entries) → find cmp o ((o, w) ∷ back) ≡ Some w
 at_front o w back = ap (λ r. cond (is_eq r) (Some w) (find cmp o back)) (tied_itself nat_list_cmp_total o)
 
--- where the name isn't found, what doesn't come after it comes before it
-after_front : (o : List ℕ) (front back : Entries) → IsBeforeNone o front → find cmp o (front ++ back) ≡ None → IsAfterAll o front
-after_front o [] back h none = tt
-after_front o (e ∷ front) back h none = by_cases (cmp o e.0) refl (λ rest. after_front o front back h.1 rest)
-  where
-    by_cases : (r : Ordering) → cmp o e.0 ≡ r → (find cmp o (front ++ back) ≡ None → IsAfterAll o front) → IsAfterAll o (e ∷ front)
-    by_cases Less is later = absurd (h.0 is)
-    by_cases Equal is later =
-        let found : find cmp o ((e ∷ front) ++ back) ≡ Some e.1 = ap (λ r. cond (is_eq r) (Some e.1) (find cmp o (front ++ back))) is in absurd (cc)
-    by_cases Greater is later =
-        let rest : find cmp o ((e ∷ front) ++ back) ≡ find cmp o (front ++ back) = ap (λ r. cond (is_eq r) (Some e.1) (find cmp o (front ++ back))) is in
-        (is, later (sym rest ∙ none))
-
 -- an entry put behind all others
 pub put_behind : (o : List ℕ) (v : Datum) (es : List (List ℕ × Datum)) → IsAfterAll o es → put cmp o v es ≡ es ++ (o, v) ∷ []
 put_behind o v es h = ap (put cmp o v) (sym (append-nil es)) ∙ put_past o v es [] h
@@ -131,82 +116,70 @@ none_behind o es h = ap is_some (sym (ap (find cmp o) (sym (append-nil es)) ∙ 
 
 -- ---- rows
 
-halves : (rows : List VarBind) (place : ℕ) → entries_of rows ≡ entries_of (take place rows) ++ entries_of (drop place rows)
+pub halves : (rows : List VarBind) (place : ℕ) → entries_of rows ≡ entries_of (take place rows) ++ entries_of (drop place rows)
 halves rows place = ap entries_of (sym (take-append-drop place rows)) ∙ map-append entry_of (take place rows) (drop place rows)
 
-pub around : {A : Type 0} (xs : List A) (place : ℕ) (x : A) → slice_get xs place ≡ Some x → xs ≡ take place xs ++ x ∷ drop (suc place) xs
-around [] place x at = let no : ⊥ = cc in absurd no
-around (first ∷ xs) zero x at = let same : first ≡ x = cc in ap (λ y. y ∷ xs) same
-around (first ∷ xs) (suc place) x at = ap (λ ys. first ∷ ys) (around xs place x at)
-
-pub set_around : {A : Type 0} (xs : List A) (place : ℕ) (x : A) → place < length xs → slice_set xs place x ≡ take place xs ++ x ∷ drop (suc place) xs
-set_around [] place x low = absurd (omega (arith, low))
-set_around (first ∷ xs) zero x low = refl
-set_around (first ∷ xs) (suc place) x low = ap (λ ys. first ∷ ys) (set_around xs place x (omega (arith, low)))
-
-in_front : (rows : List VarBind) (place k : ℕ) (row : VarBind) → slice_get (take place rows) k ≡ Some row → slice_get rows k ≡ Some row
-in_front [] zero k row at = at
-in_front [] (suc place) k row at = at
-in_front (first ∷ rows) zero k row at = let no : ⊥ = cc in absurd no
-in_front (first ∷ rows) (suc place) zero row at = at
-in_front (first ∷ rows) (suc place) (suc k) row at = in_front rows place k row at
-
-pub at_low : {A : Type 0} (xs : List A) (k : ℕ) (x : A) → slice_get xs k ≡ Some x → k < length xs
-at_low [] k x at = let no : ⊥ = cc in absurd no
-at_low (first ∷ xs) zero x at = omega arith
-at_low (first ∷ xs) (suc k) x at = omega (arith, at_low xs k x at)
-
-before_row : (rows : List VarBind) (k : ℕ) (row : VarBind) → IsRising rows → slice_get rows k ≡ Some row → IsAfterAll row.name (entries_of (take k rows))
-before_row [] k row rising at = let no : ⊥ = cc in absurd no
-before_row (first ∷ rows) zero row rising at = tt
-before_row (first ∷ rows) (suc k) row rising at =
-    let less : cmp first.name row.name ≡ Less =
-    before_listed first.name (entry_of row) (entries_of rows) (before_all first.name (entries_of rows) (first_of_both _ _ rising))
-    (listed_at rows k row at) in
-    (turned first.name row.name Less less, before_row rows k row (second_of_both _ _ rising) at)
+-- the entries round a row
+pub entries_around : (rows : List VarBind) (place : ℕ) (row : VarBind) → entries_of (take place rows ++ row ∷ drop (suc place) rows)
+    ≡ entries_of (take place rows) ++ entry_of row ∷ entries_of (drop (suc place) rows)
+entries_around rows place row = map-append entry_of (take place rows) (row ∷ drop (suc place) rows)
 
 -- the last of the rows up to a name has it
-pub has_name_at : (rows : List VarBind) (place : ℕ) (o : List ℕ) (row : VarBind) → IsRising rows → place ≤ length rows → IsLast (take place rows) row
+abbrev pub has_name_at : (rows : List VarBind) (place : ℕ) (o : List ℕ) (row : VarBind) → IsRising rows → IsPlaceAfter o rows place → IsLast (take place rows) row
     → row.name ≡ o → HasNameAt o rows (place - 1)
-has_name_at rows place o row rising bound last name =
-    let long : length (take place rows) ≡ place = length-take-le place rows bound in
-    let at : slice_get rows (place - 1) ≡ Some row = in_front rows place (place - 1) row (subst (λ (n : ℕ). slice_get (take place rows)
-    (n - 1) ≡ Some row) long last) in
+has_name_at rows place o row rising h last name =
+    let k = place - 1 in
+    let at : slice_get rows k ≡ Some row = last_in_front rows place row h.bound last in
+    let sorted = subst IsSorted (ap entries_of (around rows k row at) ∙ entries_around rows k row) rising in
     record {
       found = row;
       at = at;
-      low = at_low rows (place - 1) row at;
+      low = slice_get_within rows k row at;
       name = name;
-      passed = subst (λ (p : List ℕ). IsAfterAll p (entries_of (take (place - 1) rows))) name (before_row rows (place - 1) row rising at);
-      ahead = subst (λ (p : List ℕ). IsBeforeAll p (entries_of (drop (suc (place - 1)) rows))) name (parts_at rows (place - 1) row rising at).1;
+      passed = subst (λ (p : List ℕ). IsAfterAll p (entries_of (take k rows))) name (after_earlier (entries_of (take k rows)) _ (entry_of row) sorted);
+      ahead = subst (λ (p : List ℕ). IsBeforeAll p (entries_of (drop (suc k) rows))) name (before_later (entries_of (take k rows)) _ (entry_of row) sorted);
     }
 
-pub belongs_at : (rows : List VarBind) (place : ℕ) (o : List ℕ) → IsRising rows → place ≤ length rows → IsBeforeNone o (entries_of (take place rows))
-    → IsBeforeAll o (entries_of (drop place rows)) → ((row : VarBind) → IsLast (take place rows) row → row.name ≡ o → ⊥) → BelongsAt o rows place
-belongs_at rows place o rising bound passed ahead other =
-    let none : find cmp o (entries_of rows) ≡ None = found_none rows place o rising passed ahead other in
-    record {
-      bound = bound;
-      passed = after_front o (entries_of (take place rows)) (entries_of (drop place rows)) passed (ap (find cmp o) (sym (halves rows place)) ∙ none);
-      ahead = ahead;
-    }
+neither : (o p : List ℕ) → (cmp o p ≡ Less → ⊥) → (p ≡ o → ⊥) → cmp p o ≡ Less
+neither o p before same =
+    elim (cmp o p) as (λ r. cmp o p ≡ r → cmp p o ≡ Less) [
+      | Less ↦ λ is. absurd (before is)
+      | Equal ↦ λ is. absurd (same (sym (same_name o p is)))
+      | Greater ↦ λ is. turned o p Greater is
+    ] refl
+
+-- a name that comes before none of them, and isn't that of the last one, comes after all
+after_front : (o : List ℕ) (rows : List VarBind) → IsRising rows → IsBeforeNone o (entries_of rows) → ((row : VarBind) → IsLast rows row → row.name ≡ o → ⊥)
+    → IsAfterAll o (entries_of rows)
+after_front o [] rising passed other = tt
+after_front o (first ∷ rows) rising passed other =
+    let all : List VarBind = first ∷ rows in
+    let row : VarBind = slice_index_or all (length all - 1) first in
+    let at : IsLast all row = slice_get-get_or all (length all - 1) first (omega arith) in
+    let init = entries_of (take (length all - 1) all) in
+    let parts : entries_of all ≡ init ++ entry_of row ∷ [] =
+    ap entries_of (last_of all row (omega arith) at) ∙ map-append entry_of (take (length all - 1) all) (row ∷ []) in
+    let none = all_back _ init (entry_of row ∷ []) (subst (IsBeforeNone o) parts passed) in
+    subst (IsAfterAll o) (sym parts) (after_last o init (entry_of row) (subst IsSorted parts rising) (neither o row.name none.0 (other row at)))
+
+pub belongs_at : (rows : List VarBind) (place : ℕ) (o : List ℕ) → IsRising rows → IsPlaceAfter o rows place
+    → ((row : VarBind) → IsLast (take place rows) row → row.name ≡ o → ⊥) → BelongsAt o rows place
+belongs_at rows place o rising h other =
+    let front = rising_first (entries_of (take place rows)) (entries_of (drop place rows)) (subst IsSorted (halves rows place) rising) in
+    record { bound = h.bound; passed = after_front o (take place rows) front h.passed other; ahead = h.ahead }
 
 module _ (o : List ℕ) (rows : List VarBind) (place : ℕ) where
-  entries_around : (row : VarBind) → entries_of (take place rows ++ row ∷ drop (suc place) rows)
-      ≡ entries_of (take place rows) ++ entry_of row ∷ entries_of (drop (suc place) rows)
-  entries_around row = map-append entry_of (take place rows) (row ∷ drop (suc place) rows)
-
   -- the entries round the row of the name
   with_it : (h : HasNameAt o rows place)
       → entries_of rows ≡ entries_of (take place rows) ++ (o, h.found.value) ∷ entries_of (drop (suc place) rows)
   with_it h =
-      ap entries_of (around rows place h.found h.at) ∙ entries_around h.found
+      ap entries_of (around rows place h.found h.at) ∙ entries_around rows place h.found
       ∙ ap (λ (p : List ℕ). entries_of (take place rows) ++ (p, h.found.value) ∷ entries_of (drop (suc place) rows)) h.name
 
   pub row_replaced : (new : VarBind) → HasNameAt o rows place → new.name ≡ o
       → entries_of (slice_set rows place new) ≡ put cmp o (new.value) (entries_of rows)
   row_replaced new h name =
-      ap entries_of (set_around rows place new h.low) ∙ entries_around new
+      ap entries_of (set_split rows place new h.low) ∙ entries_around rows place new
       ∙ ap (λ (p : List ℕ). entries_of (take place rows) ++ (p, new.value) ∷ entries_of (drop (suc place) rows)) name
       ∙ sym (ap (put cmp o (new.value)) (with_it h)
       ∙ put_over o (new.value) (h.found.value) (entries_of (take place rows)) (entries_of (drop (suc place) rows)) h.passed)
@@ -225,25 +198,15 @@ module _ (o : List ℕ) (rows : List VarBind) (place : ℕ) where
       ∙ sym (ap (without_name o) (with_it h)
       ∙ removes o (h.found.value) (entries_of (take place rows)) (entries_of (drop (suc place) rows)) h.passed h.ahead)
 
-  pub none_removed : BelongsAt o rows place → entries_of rows ≡ without_name o (entries_of rows)
-  none_removed h =
-      halves rows place ∙ sym (keeps o (entries_of (take place rows)) (entries_of (drop place rows)) h.passed h.ahead)
-      ∙ ap (without_name o) (sym (halves rows place))
-
-  pub name_found : HasNameAt o rows place → true ≡ has_name o (entries_of rows)
+  pub name_found : (h : HasNameAt o rows place) → find cmp o (entries_of rows) ≡ Some h.found.value
   name_found h =
-      let front = entries_of (take place rows) in
       let back = entries_of (drop (suc place) rows) in
-      let found : find cmp o (entries_of rows) ≡ Some (h.found.value) =
-      ap (find cmp o) (with_it h) ∙ past_front o front ((o, h.found.value) ∷ back) h.passed ∙ at_front o (h.found.value) back in
-      ap is_some (sym found)
+      ap (find cmp o) (with_it h) ∙ past_front o (entries_of (take place rows)) ((o, h.found.value) ∷ back) h.passed ∙ at_front o h.found.value back
 
-  pub no_name : BelongsAt o rows place → false ≡ has_name o (entries_of rows)
+  pub no_name : BelongsAt o rows place → find cmp o (entries_of rows) ≡ None
   no_name h =
-      let front = entries_of (take place rows) in
       let back = entries_of (drop place rows) in
-      let none : find cmp o (entries_of rows) ≡ None = ap (find cmp o) (halves rows place) ∙ past_front o front back h.passed ∙ none_after o back h.ahead in
-      ap is_some (sym none)
+      ap (find cmp o) (halves rows place) ∙ past_front o (entries_of (take place rows)) back h.passed ∙ none_after o back h.ahead
 
 -- ---- maps
 
@@ -288,6 +251,19 @@ tied o p b is yes_it = by_cases (cmp o p) refl (is ∙ yes_it)
     by_cases Less e h = let no : is_eq (cmp o p) ≡ false = ap is_eq e in absurd (cc)
     by_cases Equal e h = same_name o p e
     by_cases Greater e h = let no : is_eq (cmp o p) ≡ false = ap is_eq e in absurd (cc)
+
+-- what the test of a row's name says
+module _ (o : List ℕ) {row name : List ℕ} {r : Ordering} {b : Bool} (is : name ≡ row) (compared : r ≡ cmp name o) (test : b ≡ is_eq r) where
+  tie : b ≡ eq_by_cmp cmp row o
+  tie = test ∙ ap is_eq (compared ∙ ap (λ (p : List ℕ). cmp p o) is)
+
+  pub same_named : b ≡ true → row ≡ o
+  same_named yes_it = tied row o b (sym tie) yes_it
+
+  pub other_named : b ≡ false → row ≡ o → ⊥
+  other_named no_it same =
+      let ties : eq_by_cmp cmp row o ≡ true = ap is_eq (ap (λ (p : List ℕ). cmp p o) same ∙ tied_itself nat_list_cmp_total o) in
+      let e : b ≡ eq_by_cmp cmp row o = tie in cc
 
 -- a name that no entry has
 pub nothing_removed : (m : FinMap cmp Datum) (o : List ℕ) → None ≡ get m o → m ≡ remove m o

@@ -4,7 +4,7 @@ use Rattle.std.proofs.Common.{List, [], ◌∷◌, ◌++◌, map, length, take, 
 use Rattle.std.proofs.Common.{None, Less, Equal, Greater, Ordering, refl, sym, ap, subst, ◌∙◌}
 use Rattle.std.proofs.Common.{⊎_elim, arith, length-append}
 use Rattle.std.specs.Ordering.{nat_cmp}
-use Rattle.std.specs.Cmp.Lexicographic.{slice_cmp, nat_list_cmp_total}
+use Rattle.std.specs.Cmp.Lexicographic.{slice_cmp}
 use Rattle.std.specs.FinMap.{get, entries, entries_sorted, get-entries, find, is_sorted}
 use Rattle.std.specs.FinSet.{contains}
 use Rattle.std.proofs.lemmas.Bool.{cases_lt}
@@ -19,7 +19,7 @@ use Rattle.snmp_agent.specs.table.Table.{end_of_view}
 use Rattle.snmp_agent.specs.table.Table.{IsNextAfter}
 use Rattle.snmp_agent.specs.table.Listing.{first_or_end}
 use Rattle.snmp_agent.specs.table.Places.{IsBeforeAll, IsBeforeNone, var_of}
-use Rattle.snmp_agent.proofs.Rising.{before_all, first_of_both, second_of_both, same_name, turned}
+use Rattle.snmp_agent.proofs.Rising.{before_all, before_more, first_of_both, second_of_both, same_name, turned}
 use Rattle.snmp_agent.proofs.Following.{IsOrder, is_next}
 
 same_binding : (p q : VarBind) → p.name ≡ q.name → p.value ≡ q.value → p ≡ q
@@ -96,10 +96,6 @@ one_get view o = let first = got view o in (first.0, first.1, λ q is. same_get 
 
 -- ---- GetNext
 
-further : (o p : List ℕ) (es : List (List ℕ × Datum)) → slice_cmp nat_cmp o p ≡ Less → IsBeforeAll p es → IsBeforeAll o es
-further o p [] less h = tt
-further o p (e ∷ es) less h = (nat_list_cmp_total.trans o p e.0 less h.0, further o p es less h.1)
-
 -- where the entries part at the name
 record Parting (o : List ℕ) (es : List (List ℕ × Datum)) : Type 0 where
   front : List (List ℕ × Datum)
@@ -131,7 +127,7 @@ parting o (e ∷ es) rising = by_order (slice_cmp nat_cmp o e.0) refl (parting o
       back = e ∷ es;
       parts = refl;
       passed = tt;
-      ahead = (h, further o e.0 es h (before_all e.0 es (first_of_both _ _ rising)));
+      ahead = (h, before_more o e.0 es h (before_all e.0 es (first_of_both _ _ rising)));
     }
     by_order Equal h rest = later (λ less. not_less (slice_cmp nat_cmp o e.0) (inl h) less) rest
     by_order Greater h rest = later (λ less. not_less (slice_cmp nat_cmp o e.0) (inr h) less) rest

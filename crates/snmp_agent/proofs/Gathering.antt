@@ -1,7 +1,7 @@
 -- Rows that are put in their places together are those that were there and those that came.
 use Rattle.std.proofs.Common.{◌≡◌, ℕ, Bool, true, false, List, [], ◌∷◌, ◌++◌, None}
-use Rattle.std.proofs.Common.{refl, sym, ◌∙◌, ap, subst, append_assoc}
-use Rattle.std.proofs.Common.{append-nil, is_some, length, arith}
+use Rattle.std.proofs.Common.{sym, ◌∙◌, ap, subst, append_assoc}
+use Rattle.std.proofs.Common.{append-nil, is_some}
 use Rattle.std.specs.List.Sorted.{IsPermutation}
 use Rattle.std.proofs.lemmas.List.Sorted.{IsPermutation-trans}
 use Rattle.std.proofs.lemmas.List.Sorted.{IsPermutation-append_left, IsPermutation-append_right}
@@ -17,7 +17,7 @@ use Rattle.snmp_wire.specs.Message.{Datum, VarBind}
 use Rattle.snmp_agent.specs.declared.table.page.Page.{Page}
 use Rattle.snmp_agent.specs.table.Places.{entry_of}
 use Rattle.snmp_agent.specs.table.Pages.{IsSorted, entries_in, entries_of}
-use Rattle.snmp_agent.proofs.Paging.{rows-append}
+use Rattle.snmp_agent.proofs.Partition.{rows-append}
 use Rattle.snmp_agent.specs.table.Draft.{AreDistinct}
 use Rattle.snmp_agent.proofs.Rising.{listed_from_find}
 use Rattle.snmp_agent.proofs.TableDrafts.{distinct_moved, distinct_sorted, listed_contained, none_of}
@@ -127,10 +127,6 @@ merge_begins m n others pages none all =
     (sym none)
     (subst (λ (es : Entries). IsPermutation (entries m ++ others) (others ++ es)) (sym all)
     (IsPermutation-append_comm (entries m) others))
-
-pub nothing_left : {X : Type 0} (xs : List X) → length xs ≡ 0 → xs ≡ []
-nothing_left [] h = refl
-nothing_left (x ∷ xs) h = absurd (omega arith)
 
 pub merge_ends : (total new : Entries) (m : Rows) (others : List VarBind) (pages : List Page)
     → IsPermutation total (entries m ++ (entries_of others ++ entries_in pages)) → pages ≡ []

@@ -1,14 +1,9 @@
 -- A search by halves.
-use Rattle.std.proofs.Common.{◌≡◌, ℕ, zero, suc, ◌+◌, ◌≤◌, ◌<◌, Bool, true, false, List, [], ◌∷◌}
-use Rattle.std.proofs.Common.{length, slice_index_or, refl, sym, ap, ◌∙◌, arith}
+use Rattle.std.proofs.Common.{◌≡◌, ℕ, ◌+◌, ◌≤◌, ◌<◌, Bool, true, false, List}
+use Rattle.std.proofs.Common.{length, slice_index_or, refl, sym, ap, subst, ◌∙◌, arith}
 use Rattle.std.specs.List.Sorted.{IsPartitionedBy}
+use Rattle.std.proofs.lemmas.List.{get_or_default}
 use Rattle.snmp_agent.specs.table.Halving.{IsHalvedTo}
-
--- an element that is there is the same whatever stands for one that isn't
-same_there : {X : Type 0} (xs : List X) (at : ℕ) (d e : X) → at < length xs → slice_index_or xs at d ≡ slice_index_or xs at e
-same_there [] at d e low = absurd (omega (arith, low))
-same_there (x ∷ xs) zero d e low = refl
-same_there (x ∷ xs) (suc at) d e low = same_there xs at d e (omega (arith, low))
 
 -- an element passes, and so do those before it
 pub passes : {X : Type 0} (p : X → Bool) (xs : List X) (passed end at : ℕ) (x : X) → IsPartitionedBy p xs → IsHalvedTo p xs passed end → at < end
@@ -18,7 +13,7 @@ passes p xs passed end at x parted h low here found = record {
   bound = h.bound;
   front = λ k d from below.
       let inside : at < length xs = omega (arith, low, h.bound) in
-      let true_there : p (slice_index_or xs at d) ≡ true = ap p (same_there xs at d x inside ∙ sym here) ∙ found in
+      let true_there : p (slice_index_or xs at d) ≡ true = ap p (get_or_default xs at d x inside ∙ sym here) ∙ found in
       parted k at d (omega (arith, below)) inside true_there;
   back = h.back;
 }
@@ -37,5 +32,10 @@ fails {X} p xs passed end at x parted h low behind here found = record {
     by_test k d from below false is = is
     by_test k d from below true is =
         let true_there : p (slice_index_or xs at d) ≡ true = parted at k d from below is in
-        let false_there : p (slice_index_or xs at d) ≡ false = ap p (same_there xs at d x (omega (arith, low, h.bound)) ∙ sym here) ∙ found in
+        let false_there : p (slice_index_or xs at d) ≡ false = ap p (get_or_default xs at d x (omega (arith, low, h.bound)) ∙ sym here) ∙ found in
         absurd (cc)
+
+-- nothing is left between the places
+pub met : {X : Type 0} (p : X → Bool) (xs : List X) (passed end : ℕ) → IsHalvedTo p xs passed end → end ≤ passed → IsHalvedTo p xs passed passed
+met p xs passed end h none =
+    let same : end ≡ passed = omega (arith, h.order, none) in subst (λ (n : ℕ). IsHalvedTo p xs passed n) same h

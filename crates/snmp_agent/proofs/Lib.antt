@@ -7,6 +7,7 @@ pub mod OneReply
 pub mod ShortestReply
 pub mod Halving
 pub mod Lengths
+pub mod Lists
 pub mod Requests
 pub mod Drafts
 pub mod Rounds

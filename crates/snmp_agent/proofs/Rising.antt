@@ -2,13 +2,14 @@
 use Rattle.std.proofs.Common.{◌≡◌, ℕ, ◌⊎◌, inl, inr, Bool, true, false, cond, ◌&&◌, T, List, []}
 use Rattle.std.proofs.Common.{◌∷◌, ◌++◌, Some, refl, sym, ◌∙◌, ap, subst, Ordering, Less}
 use Rattle.std.proofs.Common.{Equal, Greater}
-use Rattle.std.specs.Ordering.{nat_cmp, is_eq, is_lt, ordering_reverse}
+use Rattle.std.specs.Ordering.{nat_cmp, is_eq, is_le, is_lt, ordering_reverse}
 use Rattle.std.specs.Cmp.{tied_itself}
 use Rattle.std.specs.Cmp.Lexicographic.{slice_cmp, nat_list_cmp_total}
 use Rattle.std.specs.FinMap.{find, is_sorted, slice_cmp-IsAntisymmetric, nat_cmp-IsAntisymmetric}
 use Rattle.std.specs.FinMap.Entries.{below_all}
 use Rattle.snmp_wire.specs.Message.{Datum}
-use Rattle.snmp_agent.specs.table.Places.{IsBeforeAll, IsBeforeNone}
+use Rattle.snmp_agent.specs.table.Places.{IsAfterAll, IsBeforeAll, IsBeforeNone}
+use Rattle.snmp_agent.proofs.Lists.{all_back, all_both}
 
 -- the entry stands in the list
 abbrev pub Listed : List ℕ × Datum → List (List ℕ × Datum) → Type 0
@@ -28,6 +29,30 @@ turned o p r e = nat_list_cmp_total.antisymm p o ∙ ap ordering_reverse e
 
 pub not_both : (o p : List ℕ) → slice_cmp nat_cmp o p ≡ Less → slice_cmp nat_cmp p o ≡ Less → ⊥
 not_both o p e f = let g : slice_cmp nat_cmp p o ≡ Greater = turned o p Less e in cc
+
+pub before_up_to : (q p o : List ℕ) → slice_cmp nat_cmp q p ≡ Less → is_le (slice_cmp nat_cmp p o) ≡ true → slice_cmp nat_cmp q o ≡ Less
+before_up_to q p o less h =
+    elim (slice_cmp nat_cmp p o) as (λ r. slice_cmp nat_cmp p o ≡ r → is_le r ≡ true → slice_cmp nat_cmp q o ≡ Less) [
+      | Less ↦ λ is _. nat_list_cmp_total.trans q p o less is
+      | Equal ↦ λ is _. rw (same_name p o is) at less
+      | Greater ↦ λ _ no. absurd (cc)
+    ] refl h
+
+pub is_behind : (o p : List ℕ) → is_le (slice_cmp nat_cmp p o) ≡ false → slice_cmp nat_cmp o p ≡ Less
+is_behind o p h =
+    elim (slice_cmp nat_cmp p o) as (λ r. slice_cmp nat_cmp p o ≡ r → is_le r ≡ false → slice_cmp nat_cmp o p ≡ Less) [
+      | Less ↦ λ _ no. absurd (cc)
+      | Equal ↦ λ _ no. absurd (cc)
+      | Greater ↦ λ is _. turned p o Greater is
+    ] refl h
+
+pub before_more : (o p : List ℕ) (es : List (List ℕ × Datum)) → slice_cmp nat_cmp o p ≡ Less → IsBeforeAll p es → IsBeforeAll o es
+before_more o p [] less h = tt
+before_more o p (e ∷ es) less h = (nat_list_cmp_total.trans o p e.0 less h.0, before_more o p es less h.1)
+
+pub after_none : (o : List ℕ) (es : List (List ℕ × Datum)) → IsAfterAll o es → IsBeforeNone o es
+after_none o [] h = tt
+after_none o (e ∷ es) h = ((λ less. let greater = h.0 in absurd (cc)), after_none o es h.1)
 
 -- ---- where an entry stands
 
@@ -90,16 +115,35 @@ pub rising_first : (es fs : List (List ℕ × Datum)) → T (is_sorted (slice_cm
 rising_first [] fs h = tt
 rising_first (e ∷ es) fs h = both _ _ (below_first e.0 es fs (first_of_both _ _ h)) (rising_first es fs (second_of_both _ _ h))
 
--- the entry behind some others is before all the later ones, and before none of those up to it
+-- a name comes before all of these where it comes before the first
+pub before_from : (o : List ℕ) (e : List ℕ × Datum) (es : List (List ℕ × Datum)) → T (is_sorted (slice_cmp nat_cmp) (e ∷ es))
+    → is_le (slice_cmp nat_cmp e.0 o) ≡ false → IsBeforeAll o (e ∷ es)
+before_from o e es h begins =
+    let less = is_behind o e.0 begins in (less, before_more o e.0 es less (before_all e.0 es (first_of_both _ _ h)))
+
+-- it comes after those in front of an entry that has it or a name before it
+pub after_up_to : (o : List ℕ) (es fs : List (List ℕ × Datum)) (e : List ℕ × Datum) → T (is_sorted (slice_cmp nat_cmp) (es ++ e ∷ fs))
+    → is_le (slice_cmp nat_cmp e.0 o) ≡ true → IsAfterAll o es
+after_up_to o [] fs e h up_to = tt
+after_up_to o (f ∷ es) fs e h up_to =
+    let less = (all_back _ es (e ∷ fs) (before_all f.0 (es ++ e ∷ fs) (first_of_both _ _ h))).0 in
+    (turned f.0 o Less (before_up_to f.0 e.0 o less up_to), after_up_to o es fs e (second_of_both _ _ h) up_to)
+
+-- the entry behind some others is before all the later ones, after all the earlier ones, and before none of those up to it
 pub before_later : (es fs : List (List ℕ × Datum)) (e : List ℕ × Datum) → T (is_sorted (slice_cmp nat_cmp) (es ++ e ∷ fs)) → IsBeforeAll e.0 fs
 before_later es fs e h = let rest = rising_rest es (e ∷ fs) h in before_all e.0 fs (first_of_both _ _ rest)
 
+pub after_earlier : (es fs : List (List ℕ × Datum)) (e : List ℕ × Datum) → T (is_sorted (slice_cmp nat_cmp) (es ++ e ∷ fs)) → IsAfterAll e.0 es
+after_earlier es fs e h = after_up_to e.0 es fs e h (ap is_le (tied_itself nat_list_cmp_total e.0))
+
 pub before_no_earlier : (es fs : List (List ℕ × Datum)) (e : List ℕ × Datum) → T (is_sorted (slice_cmp nat_cmp) (es ++ e ∷ fs))
     → IsBeforeNone e.0 (es ++ e ∷ [])
-before_no_earlier [] fs e h = (not_before_itself e.0, tt)
-before_no_earlier (f ∷ es) fs e h =
-    let less = before_listed f.0 e (es ++ e ∷ fs) (before_all f.0 _ (first_of_both _ _ h)) (listed_in_second e es (e ∷ fs) (inl refl)) in
-    (not_both f.0 e.0 less, before_no_earlier es fs e (second_of_both _ _ h))
+before_no_earlier es fs e h = all_both _ es (e ∷ []) (after_none e.0 es (after_earlier es fs e h)) (not_before_itself e.0, tt)
+
+-- a name after the last is after all of them
+pub after_last : (o : List ℕ) (es : List (List ℕ × Datum)) (e : List ℕ × Datum) → T (is_sorted (slice_cmp nat_cmp) (es ++ e ∷ []))
+    → slice_cmp nat_cmp e.0 o ≡ Less → IsAfterAll o (es ++ e ∷ [])
+after_last o es e h less = all_both _ es (e ∷ []) (after_up_to o es [] e h (ap is_le less)) (turned e.0 o Less less, tt)
 
 -- ---- finding
 

@@ -22,26 +22,9 @@ use Rattle.snmp_agent.specs.Reply.{Agent, AreAnswers, AreRounds, IsBulk, IsReply
 use Rattle.snmp_agent.specs.Reply.{IsWhole, bulk, failed_place, got, got_next, joined, no_error}
 use Rattle.snmp_agent.specs.Reply.{not_writable, or_zero, response, shortened, too_big, unwritten}
 use Rattle.snmp_agent.specs.Reply.{whole}
+use Rattle.snmp_agent.proofs.Lists.{all_back, all_both, all_front}
 use Rattle.snmp_agent.proofs.Encodings.{longer_binding, longer_value}
 use Rattle.snmp_agent.proofs.Keeping.{name_in_range, value_in_range}
-
--- ---- lists
-
-module _ {X : Type 0} (P : X → Type 0) where
-  all_both : (xs ys : List X) → AllByRecursion P xs → AllByRecursion P ys → AllByRecursion P (xs ++ ys)
-  all_both [] ys h k = k
-  all_both (x ∷ xs) ys h k = (h.0, all_both xs ys h.1 k)
-
-  all_front : (xs ys : List X) → AllByRecursion P (xs ++ ys) → AllByRecursion P xs
-  all_front [] ys h = tt
-  all_front (x ∷ xs) ys h = (h.0, all_front xs ys h.1)
-
-  all_back : (xs ys : List X) → AllByRecursion P (xs ++ ys) → AllByRecursion P ys
-  all_back [] ys h = h
-  all_back (x ∷ xs) ys h = all_back xs ys h.1
-
-  all_parted : (n : ℕ) (xs : List X) → AllByRecursion P xs → AllByRecursion P (take n xs ++ drop n xs)
-  all_parted n xs h = subst (AllByRecursion P) (sym (take-append-drop n xs)) h
 
 -- ---- bindings of a request, whose strings a Response has room for
 
@@ -116,7 +99,7 @@ module _ (view : MibView) (is_view : IsMibView view) where
   bulk_in_range q all h is =
       let first = take (or_zero q.a) q.bindings in
       let others = drop (or_zero q.a) q.bindings in
-      let parts : AllByRecursion IsBindingOfType (first ++ others) = all_parted IsBindingOfType (or_zero q.a) q.bindings h in
+      let parts : AllByRecursion IsBindingOfType (first ++ others) = rw (take-append-drop (or_zero q.a) q.bindings) h in
       subst (AllByRecursion IsBindingInRange) (sym is.parts) (all_both IsBindingInRange is.singles (joined is.rounds)
       (answers_in_range (λ asked given. IsNext view asked.name given) (λ asked given. next_in_range asked.name given)
       first is.singles (all_front IsBindingOfType first others parts) is.are_singles)

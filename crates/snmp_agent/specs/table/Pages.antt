@@ -40,6 +40,12 @@ abbrev pub begins_up_to : List ℕ → List VarBind → Bool
 begins_up_to o [] = true
 begins_up_to o (row ∷ rows) = is_up_to o row
 
+-- where the rows after a name begin: those in front of the place have it or one before it
+pub record IsPlaceAfter (o : List ℕ) (rows : List VarBind) (place : ℕ) : Type 0 where
+  pub bound : place ≤ length rows
+  pub passed : IsBeforeNone o (entries_of (take place rows))
+  pub ahead : IsBeforeAll o (entries_of (drop place rows))
+
 -- the row at this place has the name
 pub record HasNameAt (o : List ℕ) (rows : List VarBind) (place : ℕ) : Type 0 where
   pub found : VarBind

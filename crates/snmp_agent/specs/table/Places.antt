@@ -3,7 +3,7 @@
 -- find.
 use Rattle.std.specs.Prelude.{◌≡◌, ℕ, true, not, List, [], ◌∷◌, ◌++◌}
 use Rattle.std.specs.Ordering.{nat_cmp, eq_by_cmp}
-use Rattle.std.specs.List.{list_any}
+use Rattle.std.specs.List.{AllByRecursion, list_any}
 use Rattle.std.specs.declared.cmp.Ordering.TheVariants.{Less, Greater}
 use Rattle.std.specs.Cmp.Lexicographic.{slice_cmp}
 use Rattle.std.specs.FinMap.{FinMap}
@@ -18,18 +18,15 @@ view_of rows objects = record { rows = rows; objects = from_list objects }
 
 -- the name comes before each of the list
 abbrev pub IsBeforeAll : List ℕ → List (List ℕ × Datum) → Type 0
-IsBeforeAll o [] = Unit {0}
-IsBeforeAll o (e ∷ es) = (slice_cmp nat_cmp o e.0 ≡ Less) × IsBeforeAll o es
+IsBeforeAll o es = AllByRecursion (λ (e : List ℕ × Datum). slice_cmp nat_cmp o e.0 ≡ Less) es
 
 -- the name comes before none of the list
 abbrev pub IsBeforeNone : List ℕ → List (List ℕ × Datum) → Type 0
-IsBeforeNone o [] = Unit {0}
-IsBeforeNone o (e ∷ es) = (slice_cmp nat_cmp o e.0 ≡ Less → ⊥) × IsBeforeNone o es
+IsBeforeNone o es = AllByRecursion (λ (e : List ℕ × Datum). slice_cmp nat_cmp o e.0 ≡ Less → ⊥) es
 
 -- the name comes after each of the list
 abbrev pub IsAfterAll : List ℕ → List (List ℕ × Datum) → Type 0
-IsAfterAll o [] = Unit {0}
-IsAfterAll o (e ∷ es) = (slice_cmp nat_cmp o e.0 ≡ Greater) × IsAfterAll o es
+IsAfterAll o es = AllByRecursion (λ (e : List ℕ × Datum). slice_cmp nat_cmp o e.0 ≡ Greater) es
 
 abbrev pub var_of : List ℕ × Datum → VarBind
 var_of e = record { name = e.0; value = e.1 }

@@ -16,9 +16,7 @@ use crate::table::hashes::Hashes;
 use crate::table::hint::{Guess, Guesses};
 use crate::table::late::{Late, sort_falling};
 use crate::table::page::{PAGE_ROWS, Page};
-use crate::table::search::{
-    begins_up_to, ends_before, find_row, page_near, page_of, place_near, row_at,
-};
+use crate::table::search::{Placed, ends_before, find_row, page_near, page_of, place_near, row_at};
 use snmp_oid::order;
 use snmp_wire::{Binding, EncodedBinding, EncodedName, Oid, ValueRef};
 use std::alloc::{AllocError, Global};
@@ -516,7 +514,7 @@ fn divide(pages: &mut Vec<Page>, place: usize, name: &EncodedName<'_>) -> Result
     pages.reserve(1)?;
     let at_name = pages.len() < FEW_PAGES;
     let back = pages[place].divide(name, at_name)?;
-    let belongs = if begins_up_to(back.rows.as_slice(), name) {
+    let belongs = if back.is_up_to(name) {
         place + 1
     } else {
         place

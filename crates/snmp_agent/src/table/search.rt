@@ -1,18 +1,121 @@
 //! Where the rows of names stand among others.
-ghost use Rattle.std.specs.Prelude.{◌≡◌, ◌<◌, ◌≤◌, length, take, drop, IfOk, IfErr, IfSome};
+ghost use Rattle.std.specs.Prelude.{◌≡◌, ◌<◌, ◌≤◌, Bool, List, ℕ, length, IfOk, IfErr, IfSome};
 ghost use Rattle.std.specs.Prelude.{IsTrue};
+ghost use Rattle.std.specs.List.Sorted.{IsPartitionedBy};
 ghost use Rattle.std.specs.Option.{option_map};
 ghost use Rattle.std.specs.Ordering.{nat_cmp};
 ghost use Rattle.std.specs.Cmp.Lexicographic.{slice_cmp};
 ghost use Rattle.std.specs.FinMap.{find};
-ghost use Rattle.snmp_agent.specs.table.Places.{IsAfterAll, IsBeforeNone, IsBeforeAll};
+ghost use Rattle.snmp_agent.specs.table.Places.{IsAfterAll};
 ghost use Rattle.snmp_agent.specs.table.Halving.{IsHalvedTo};
-ghost use Rattle.snmp_agent.specs.table.Pages.{IsRising, ArePages, begins_up_to, is_up_to};
+ghost use Rattle.snmp_agent.specs.table.Pages.{IsRising, ArePages};
 ghost use Rattle.snmp_agent.specs.table.Pages.{entries_in, entries_of};
-ghost use Rattle.snmp_agent.specs.table.Pages.{HasNameAt, BelongsAt, IsPageOf};
+ghost use Rattle.snmp_agent.specs.table.Pages.{HasNameAt, BelongsAt, IsPageOf, IsPlaceAfter};
 
 use crate::table::page::Page;
 use snmp_wire::{EncodedBinding, EncodedName};
+
+/// What stands in lists by rising names.
+pub trait Placed {
+    /// Whether it has the name or one before it, or begins so.
+    ghost up_to: { List ℕ → Self → Bool };
+
+    fn is_up_to(&self, name: &EncodedName<'_>) -> bool
+        ensures { result ≡ up_to name.now self.now };
+}
+
+impl Placed for EncodedBinding {
+    ghost use Rattle.std.specs.Prelude.{◌≡◌};
+    ghost use Rattle.snmp_agent.specs.table.Pages.{is_up_to};
+
+    ghost up_to = { is_up_to };
+
+    #[inline(always)]
+    fn is_up_to(&self, name: &EncodedName<'_>) -> bool
+        ensures { result ≡ is_up_to name.now self.now }
+    {
+        self.name().compare(name).is_le()
+    }
+}
+
+impl Placed for Page {
+    ghost use Rattle.std.specs.Prelude.{◌≡◌};
+    ghost use Rattle.snmp_agent.specs.table.Pages.{begins_up_to};
+
+    ghost up_to = { λ o page. begins_up_to o page.rows.items };
+
+    // Hot: each turn of a search for a page.
+    #[inline(always)]
+    fn is_up_to(&self, name: &EncodedName<'_>) -> bool
+        ensures { result ≡ begins_up_to name.now self.now.rows.items }
+    {
+        match self.rows.as_slice().first() {
+            Some(row) => row.is_up_to(name),
+            None => true,
+        }
+    }
+}
+
+/// How many are up to the name, where those before the one place are, and those from the other on
+/// aren't.
+#[inline(always)]
+fn count_between<T: Placed>(items: &[T], name: &EncodedName<'_>, from: usize, to: usize) -> usize
+    requires parted { IsPartitionedBy (T.up_to name.now) items.now }
+    requires halved { IsHalvedTo (T.up_to name.now) items.now from to }
+    ensures { IsHalvedTo (T.up_to name.now) items.now result result }
+{
+    let mut begun = from;
+    let mut end = to;
+    'halves: while begun < end {
+        let middle = begun + (end - begun) / 2;
+        if items[middle].is_up_to(name) {
+            begun = middle + 1;
+        } else {
+            end = middle;
+        }
+    }
+    begun
+}
+
+/// What is left of them by a guess of the last that is up to the name: none where it is right.
+#[inline(always)]
+fn near<T: Placed>(items: &[T], name: &EncodedName<'_>, guess: usize) -> (usize, usize)
+    requires { IsPartitionedBy (T.up_to name.now) items.now }
+    ensures { IsHalvedTo (T.up_to name.now) items.now result.0 result.1 }
+{
+    let end = items.len();
+    if guess >= end {
+        return (0, end);
+    }
+    let (begun, end) = by_test(items, name, 0, end, guess);
+    if begun == guess + 1 && begun < end {
+        by_test(items, name, begun, end, begun)
+    } else {
+        (begun, end)
+    }
+}
+
+/// What is left of them by the test of one.
+#[inline(always)]
+fn by_test<T: Placed>(
+    items: &[T],
+    name: &EncodedName<'_>,
+    begun: usize,
+    end: usize,
+    at: usize,
+) -> (usize, usize)
+    requires parted { IsPartitionedBy (T.up_to name.now) items.now }
+    requires halved { IsHalvedTo (T.up_to name.now) items.now begun end }
+    requires from { begun ≤ at }
+    requires to { at < end }
+    ensures { IsHalvedTo (T.up_to name.now) items.now result.0 result.1 }
+{
+    if items[at].is_up_to(name) {
+        (at + 1, end)
+    } else {
+        (begun, at)
+    }
+}
 
 /// The place of the only page that may have a row of this name: the last one that begins with it or
 /// a name before it, else the first.
@@ -20,7 +123,7 @@ pub fn page_of(pages: &[Page], name: &EncodedName<'_>) -> usize
     requires { ArePages pages.now }
     ensures { IsPageOf name.now pages.now result }
 {
-    page_between(pages, name, 0, pages.len())
+    count_between(pages, name, 0, pages.len()).saturating_sub(1)
 }
 
 /// [`page_of`] the name. Nothing is searched where the guess is right.
@@ -28,72 +131,8 @@ pub fn page_near(pages: &[Page], name: &EncodedName<'_>, guess: usize) -> usize
     requires { ArePages pages.now }
     ensures { IsPageOf name.now pages.now result }
 {
-    let (begun, end) = pages_near(pages, name, guess);
-    page_between(pages, name, begun, end)
-}
-
-/// [`page_of`] the name, where the pages before the one place begin up to it, and those from the
-/// other on don't.
-#[inline(always)]
-fn page_between(pages: &[Page], name: &EncodedName<'_>, from: usize, to: usize) -> usize
-    requires rising { ArePages pages.now }
-    requires halved { IsHalvedTo (λ page. begins_up_to name.now page.rows.items) pages.now from to }
-    ensures { IsPageOf name.now pages.now result }
-{
-    let mut begun = from;
-    let mut end = to;
-    'halves: while begun < end {
-        let middle = begun + (end - begun) / 2;
-        if begins_up_to(pages[middle].rows.as_slice(), name) {
-            begun = middle + 1;
-        } else {
-            end = middle;
-        }
-    }
-    begun.saturating_sub(1)
-}
-
-/// What is left of the pages by a guess of which one has the name: none where it is right.
-#[inline(always)]
-fn pages_near(pages: &[Page], name: &EncodedName<'_>, guess: usize) -> (usize, usize)
-    requires { ArePages pages.now }
-    ensures { IsHalvedTo (λ page. begins_up_to name.now page.rows.items) pages.now result.0
-        result.1 }
-{
-    let end = pages.len();
-    if guess >= end {
-        return (0, end);
-    }
-    let (begun, end) = pages_by(pages, name, 0, end, guess);
-    if begun == guess + 1 && begun < end {
-        pages_by(pages, name, begun, end, begun)
-    } else {
-        (begun, end)
-    }
-}
-
-/// What is left of the pages by the test of one of them.
-#[inline(always)]
-fn pages_by(
-    pages: &[Page],
-    name: &EncodedName<'_>,
-    begun: usize,
-    end: usize,
-    at: usize,
-) -> (usize, usize)
-    requires rising { ArePages pages.now }
-    requires halved { IsHalvedTo (λ page. begins_up_to name.now page.rows.items) pages.now begun
-        end }
-    requires from { begun ≤ at }
-    requires to { at < end }
-    ensures { IsHalvedTo (λ page. begins_up_to name.now page.rows.items) pages.now result.0
-        result.1 }
-{
-    if begins_up_to(pages[at].rows.as_slice(), name) {
-        (at + 1, end)
-    } else {
-        (begun, at)
-    }
+    let (begun, end) = near(pages, name, guess);
+    count_between(pages, name, begun, end).saturating_sub(1)
 }
 
 /// Whether all rows come before the name.
@@ -113,109 +152,21 @@ pub fn ends_before(pages: &[Page], name: &EncodedName<'_>) -> bool
     }
 }
 
-/// Whether the row has the name or one before it.
-#[inline(always)]
-fn is_up_to(row: &EncodedBinding, name: &EncodedName<'_>) -> bool
-    ensures { result ≡ is_up_to name.now row.now }
-{
-    row.name().compare(name).is_le()
-}
-
-/// Whether the first row has the name or one before it.
-// Hot: each turn of a search for a page.
-#[inline(always)]
-pub fn begins_up_to(rows: &[EncodedBinding], name: &EncodedName<'_>) -> bool
-    ensures { result ≡ begins_up_to name.now rows.now }
-{
-    match rows.first() {
-        Some(row) => is_up_to(row, name),
-        None => true,
-    }
-}
-
 /// How many rows at the front have the name or one before it.
 pub fn place_after(rows: &[EncodedBinding], name: &EncodedName<'_>) -> usize
     requires { IsRising rows.now }
-    ensures bound { result ≤ length rows.now }
-    ensures passed { IsBeforeNone name.now (entries_of (take result rows.now)) }
-    ensures ahead { IsBeforeAll name.now (entries_of (drop result rows.now)) }
+    ensures { IsPlaceAfter name.now rows.now result }
 {
-    place_between(rows, name, 0, rows.len())
+    count_between(rows, name, 0, rows.len())
 }
 
 /// [`place_after`] the name. Nothing is searched where the guess is right.
 pub fn place_near(rows: &[EncodedBinding], name: &EncodedName<'_>, guess: usize) -> usize
     requires { IsRising rows.now }
-    ensures bound { result ≤ length rows.now }
-    ensures passed { IsBeforeNone name.now (entries_of (take result rows.now)) }
-    ensures ahead { IsBeforeAll name.now (entries_of (drop result rows.now)) }
+    ensures { IsPlaceAfter name.now rows.now result }
 {
-    let (passed, end) = rows_near(rows, name, guess);
-    place_between(rows, name, passed, end)
-}
-
-/// [`place_after`] the name, where the rows before the one place have it or one before it, and
-/// those from the other on don't.
-#[inline(always)]
-fn place_between(rows: &[EncodedBinding], name: &EncodedName<'_>, from: usize, to: usize) -> usize
-    requires rising { IsRising rows.now }
-    requires halved { IsHalvedTo (is_up_to name.now) rows.now from to }
-    ensures bound { result ≤ length rows.now }
-    ensures passed { IsBeforeNone name.now (entries_of (take result rows.now)) }
-    ensures ahead { IsBeforeAll name.now (entries_of (drop result rows.now)) }
-{
-    let mut passed = from;
-    let mut end = to;
-    'halves: while passed < end {
-        let middle = passed + (end - passed) / 2;
-        if is_up_to(&rows[middle], name) {
-            passed = middle + 1;
-        } else {
-            end = middle;
-        }
-    }
-    passed
-}
-
-/// What is left of the rows by a guess of how many have the name or one before it: none where it is
-/// right.
-#[inline(always)]
-fn rows_near(rows: &[EncodedBinding], name: &EncodedName<'_>, guess: usize) -> (usize, usize)
-    requires { IsRising rows.now }
-    ensures { IsHalvedTo (is_up_to name.now) rows.now result.0 result.1 }
-{
-    let end = rows.len();
-    if guess == 0 || guess > end {
-        return (0, end);
-    }
-    let (passed, end) = rows_by(rows, name, 0, end, guess - 1);
-    if passed == guess && passed < end {
-        rows_by(rows, name, passed, end, passed)
-    } else {
-        (passed, end)
-    }
-}
-
-/// What is left of the rows by the test of one of them.
-#[inline(always)]
-fn rows_by(
-    rows: &[EncodedBinding],
-    name: &EncodedName<'_>,
-    passed: usize,
-    end: usize,
-    at: usize,
-) -> (usize, usize)
-    requires rising { IsRising rows.now }
-    requires halved { IsHalvedTo (is_up_to name.now) rows.now passed end }
-    requires from { passed ≤ at }
-    requires to { at < end }
-    ensures { IsHalvedTo (is_up_to name.now) rows.now result.0 result.1 }
-{
-    if is_up_to(&rows[at], name) {
-        (at + 1, end)
-    } else {
-        (passed, at)
-    }
+    let (passed, end) = near(rows, name, guess.wrapping_sub(1));
+    count_between(rows, name, passed, end)
 }
 
 /// The row of this name, by how many rows have it or one before it.
@@ -226,9 +177,7 @@ pub fn row_at<'a>(
     place: usize,
 ) -> Option<&'a EncodedBinding>
     requires rising { IsRising rows.now }
-    requires bound { place ≤ length rows.now }
-    requires passed { IsBeforeNone name.now (entries_of (take place rows.now)) }
-    requires ahead { IsBeforeAll name.now (entries_of (drop place rows.now)) }
+    requires place { IsPlaceAfter name.now rows.now place }
     ensures value { option_map
         (λ row. row.now.value) result ≡ find (slice_cmp nat_cmp) name.now (entries_of
         rows.now) }

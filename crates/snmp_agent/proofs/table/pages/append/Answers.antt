@@ -12,7 +12,7 @@ returns-in_err-push-clause-unchanged_on_error c =
 pub returns-then-len-lt-PAGE_ROWS-clause-rows : goal.returns-then-len-lt-PAGE_ROWS-clause-rows
 returns-then-len-lt-PAGE_ROWS-clause-rows c =
     let long : length c.args.pages.now.items ≡ (c.len-count.result - 1) + 1 = omega arith in
-    appended c.args.pages.now.items (c.len-count.result - 1) long c.index_mut.result.now c.push.new.self c.args.row c.index_mut.ensures.value
+    appended c.args.pages.now.items (c.len-count.result - 1) c.index_mut.result.now c.push.new.self c.args.row long c.index_mut.ensures.value
     c.in_ok-push.ensures.pushed
 
 pub returns-clause-rows : goal.returns-clause-rows

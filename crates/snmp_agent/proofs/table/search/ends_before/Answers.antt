@@ -1,9 +1,7 @@
-use Rattle.std.proofs.Common.{◌≡◌, ◌-◌, ◌<◌, List, ℕ, T, Some, length, true, sym, ◌∙◌, ap, subst}
-use Rattle.std.proofs.Common.{arith}
-use Rattle.std.specs.List.{slice_get}
+use Rattle.std.proofs.Common.{◌≡◌, ◌<◌, List, ℕ, T, length, true, sym, ◌∙◌, ap, subst}
 use Rattle.std.specs.Ordering.{is_lt, nat_cmp}
 use Rattle.std.specs.Cmp.Lexicographic.{slice_cmp}
-use Rattle.snmp_wire.specs.Message.{VarBind}
+use Rattle.snmp_agent.proofs.Lists.{IsLast}
 use Rattle.snmp_agent.proofs.Paging.{after_all}
 use Rattle.snmp_agent.proofs.Rising.{less_from_test}
 use Rattle.snmp_agent.proofs.table.search.ends_before.Goals as goal
@@ -15,9 +13,7 @@ returns-clause-before c = λ before.
     let row = c.in-Some-last.row.now in
     let order = slice_cmp nat_cmp row.name c.args.name.now in
     let some : 0 < length pages = c.in-Some.ensures.item.3.0 in
-    let row_at : slice_get page.rows.items (length page.rows.items - 1) ≡ Some row =
-    subst (λ (rows : List VarBind). slice_get rows (length rows - 1) ≡ Some row) c.as_slice.ensures.value (sym c.in-Some-last.ensures.value) in
+    let row_at : IsLast page.rows.items row = sym (rw c.as_slice.ensures.value at c.in-Some-last.ensures.value) in
     let compared : c.compare.result ≡ order = c.compare.ensures ∙ ap (λ (o : List ℕ). slice_cmp nat_cmp o c.args.name.now) c.name.ensures in
     let test : true ≡ is_lt order = sym before ∙ c.is_lt.ensures ∙ ap is_lt compared in
-    after_all pages (length pages - 1) (omega arith) c.args.name.now page (length page.rows.items - 1) row c.requires (sym c.in-Some.ensures.value)
-    (omega (arith, page.some)) row_at (less_from_test order (subst T test tt))
+    after_all c.args.name.now pages page row c.requires some (sym c.in-Some.ensures.value) row_at (less_from_test order (subst T test tt))

@@ -1,4 +1,4 @@
-use Rattle.std.proofs.Common.{refl, ◌∙◌, ap}
+use Rattle.std.proofs.Common.{refl, ◌∙◌, ap, is_some, sym}
 use Rattle.snmp_agent.specs.table.Pages.{HasNameAt, BelongsAt, entries_of}
 use Rattle.snmp_agent.proofs.Changing.{row_replaced, row_inserted, name_found, no_name}
 use Rattle.snmp_agent.proofs.table.page.Page.put.Goals as goal
@@ -16,7 +16,7 @@ returns-in-Ok-clause-put c =
 
 pub returns-in-Ok-clause-replaced : goal.returns-in-Ok-clause-replaced
 returns-in-Ok-clause-replaced c =
-    name_found c.args.row.name c.args.self.now.rows.items c.in-Ok.place (found (goal.at.returns-in-Ok-clause-replaced c).In-Ok)
+    ap is_some (sym (name_found c.args.row.name c.args.self.now.rows.items c.in-Ok.place (found (goal.at.returns-in-Ok-clause-replaced c).In-Ok)))
 
 pub returns-in_ok-insert_row-in-Err-clause-put : goal.returns-in_ok-insert_row-in-Err-clause-put
 returns-in_ok-insert_row-in-Err-clause-put c =
@@ -26,4 +26,5 @@ returns-in_ok-insert_row-in-Err-clause-put c =
 
 pub returns-in_ok-insert_row-in-Err-clause-replaced : goal.returns-in_ok-insert_row-in-Err-clause-replaced
 returns-in_ok-insert_row-in-Err-clause-replaced c =
-    no_name c.args.row.name c.args.self.now.rows.items c.in-Err.place (belongs (goal.at.returns-in_ok-insert_row-in-Err-clause-replaced c).In-Err)
+    let there = belongs (goal.at.returns-in_ok-insert_row-in-Err-clause-replaced c).In-Err in
+    ap is_some (sym (no_name c.args.row.name c.args.self.now.rows.items c.in-Err.place there))

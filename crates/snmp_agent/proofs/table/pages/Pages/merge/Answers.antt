@@ -5,8 +5,8 @@ use Rattle.std.specs.Vec.Iter.{into_iter_items}
 use Rattle.std.proofs.lemmas.Result.{IfOk-weaker}
 use Rattle.snmp_agent.specs.declared.table.page.Page.{Page}
 use Rattle.snmp_agent.specs.table.Pages.{IsSorted, entries_in, entries_of}
-use Rattle.snmp_agent.proofs.Gathering.{entries_are, merge_begins, merge_ends, nothing_left}
-use Rattle.snmp_agent.proofs.Gathering.{page_moves}
+use Rattle.snmp_agent.proofs.Gathering.{entries_are, merge_begins, merge_ends, page_moves}
+use Rattle.snmp_agent.proofs.Lists.{nothing_left}
 use Rattle.snmp_agent.proofs.table.pages.Pages.merge.Goals as goal
 
 pub loop-page-init : goal.loop-page-init

@@ -1,10 +1,9 @@
 use Rattle.std.proofs.Common.{◌≡◌, List, ℕ, slice_set, ◌∙◌, ap, subst, sym}
 use Rattle.std.specs.Ordering.{nat_cmp}
 use Rattle.std.specs.Cmp.Lexicographic.{slice_cmp}
-use Rattle.std.specs.FinMap.{FinMap, contains_key, from_sorted, insert}
+use Rattle.std.specs.FinMap.{from_sorted}
 use Rattle.std.specs.FinMap.Entries.{put as put_entry}
 use Rattle.snmp_wire.specs.Message.{Datum}
-use Rattle.snmp_agent.specs.declared.table.page.Page.{Page}
 use Rattle.snmp_agent.specs.table.Places.{IsAfterAll}
 use Rattle.snmp_agent.specs.table.Pages.{IsPageWithRoom, IsSorted, entries_in, has_name}
 use Rattle.snmp_agent.proofs.Changing.{had_name, if_err, map_put, none_behind, put_behind}
@@ -12,15 +11,12 @@ use Rattle.snmp_agent.proofs.Changing.{sorted_put}
 use Rattle.snmp_agent.proofs.Paging.{kept_found, named_found, put_found, rising_found, room_found}
 use Rattle.snmp_agent.proofs.table.pages.Pages.put.Goals as goal
 use Rattle.snmp_agent.proofs.table.pages.Pages.put.Goals.{In_err-replaced, In_ok-append}
-use Rattle.snmp_agent.proofs.table.pages.Pages.put.Goals.{In_ok-replaced}
+use Rattle.snmp_agent.proofs.table.pages.Pages.put.Goals.{In_ok-place, In_ok-replaced}
 
 -- ---- a row behind all others
 
 behind : (c : In_ok-append) → IsAfterAll c.args.row.name (entries_in c.self.inside.list.items)
-behind c =
-    let o = c.args.row.name in
-    subst (λ (ps : List Page). IsAfterAll o (entries_in ps)) c.as_slice.ensures.value
-    (subst (λ (p : List ℕ). IsAfterAll p (entries_in c.as_slice.result.now)) c.name-name.ensures (c.ends_before.ensures.before c.if-ends_before.true))
+behind c = rw (c.name-name.ensures, c.as_slice.ensures.value) at (c.ends_before.ensures.before c.if-ends_before.true)
 
 last : (c : In_ok-append) → entries_in c.append.new.pages.items
     ≡ put_entry (slice_cmp nat_cmp) c.args.row.name c.args.row.value (entries_in c.self.inside.list.items)
@@ -33,30 +29,29 @@ invariant_of-self-then-ends_before c =
 
 pub returns-then-ends_before-clause-put : goal.returns-then-ends_before-clause-put
 returns-then-ends_before-clause-put c =
-    map_put c.args.row.name (entries_in c.self.inside.list.items) _ c.self.invariant c.args.row.value
-    (last (goal.at.returns-then-ends_before-clause-put c).In_ok-append)
-    ∙ ap (λ (m : FinMap (slice_cmp nat_cmp) Datum). insert m c.args.row.name c.args.row.value) c.self.view_is
+    rw (← c.self.view_is) (map_put c.args.row.name (entries_in c.self.inside.list.items) _ c.self.invariant c.args.row.value
+    (last (goal.at.returns-then-ends_before-clause-put c).In_ok-append))
 
 pub returns-then-ends_before-clause-replaced : goal.returns-then-ends_before-clause-replaced
 returns-then-ends_before-clause-replaced c =
-    let pages = c.self.inside.list.items in
-    none_behind c.args.row.name (entries_in pages) (behind (goal.at.returns-then-ends_before-clause-replaced c).In_ok-append)
-    ∙ had_name c.args.row.name (entries_in pages) (entries_in pages) c.self.invariant
-    ∙ ap (λ (m : FinMap (slice_cmp nat_cmp) Datum). contains_key m c.args.row.name) c.self.view_is
+    let es = entries_in c.self.inside.list.items in
+    rw (← c.self.view_is) (none_behind c.args.row.name es (behind (goal.at.returns-then-ends_before-clause-replaced c).In_ok-append)
+    ∙ had_name c.args.row.name es es c.self.invariant)
 
 -- ---- a row in its page
 
+room : (c : In_ok-place) → IsPageWithRoom c.args.row.name c.page_with_room.new.pages.items c.in_ok-place.place
+room c = rw c.name-name.ensures at c.in_ok-place.ensures.place
+
 pub put-requires-clause-rising : goal.put-requires-clause-rising
 put-requires-clause-rising c =
-    rising_found c.name-name.result c.page_with_room.new.pages.items c.in_ok-place.place c.in_ok-place.ensures.place c.index_mut.result.now
-    c.index_mut.ensures.value (subst IsSorted (sym c.in_ok-place.ensures.rows) c.self.invariant)
+    rising_found c.args.row.name c.page_with_room.new.pages.items c.in_ok-place.place (room (goal.at.put-requires-clause-rising c).In_ok-place)
+    c.index_mut.result.now c.index_mut.ensures.value (subst IsSorted (sym c.in_ok-place.ensures.rows) c.self.invariant)
 
 pub put-requires-clause-room : goal.put-requires-clause-room
 put-requires-clause-room c =
-    room_found c.name-name.result c.page_with_room.new.pages.items c.in_ok-place.place c.in_ok-place.ensures.place c.index_mut.result.now
-    c.index_mut.ensures.value
-
--- ---- the row in its page
+    room_found c.args.row.name c.page_with_room.new.pages.items c.in_ok-place.place (room (goal.at.put-requires-clause-room c).In_ok-place)
+    c.index_mut.result.now c.index_mut.ensures.value
 
 unchanged : (c : In_err-replaced)
     → entries_in (slice_set c.page_with_room.new.pages.items c.in_ok-place.place c.put.new.self) ≡ entries_in c.self.inside.list.items
@@ -75,32 +70,31 @@ returns-in_err-replaced-clause-unchanged_on_error c =
     (ap (λ (es : List (List ℕ × Datum)). from_sorted {R = slice_cmp nat_cmp} es)
     (unchanged (goal.at.returns-in_err-replaced-clause-unchanged_on_error c).In_err-replaced) ∙ c.self.view_is)
 
-changed : (c : In_ok-replaced) → entries_in (slice_set c.page_with_room.new.pages.items c.in_ok-place.place c.put.new.self)
+changed : (c : In_ok-replaced) → IsPageWithRoom c.args.row.name c.page_with_room.new.pages.items c.in_ok-place.place
+    → entries_in (slice_set c.page_with_room.new.pages.items c.in_ok-place.place c.put.new.self)
     ≡ put_entry (slice_cmp nat_cmp) c.args.row.name c.args.row.value (entries_in c.self.inside.list.items)
-changed c =
-    put_found c.args.row.name c.page_with_room.new.pages.items c.in_ok-place.place
-    (subst (λ (o : List ℕ). IsPageWithRoom o c.page_with_room.new.pages.items c.in_ok-place.place) c.name-name.ensures c.in_ok-place.ensures.place)
+changed c room =
+    put_found c.args.row.name c.page_with_room.new.pages.items c.in_ok-place.place room
     c.index_mut.result.now c.index_mut.ensures.value c.args.row.value c.put.new.self (c.in_ok-replaced.ensures.put)
     ∙ ap (put_entry (slice_cmp nat_cmp) c.args.row.name c.args.row.value) c.in_ok-place.ensures.rows
 
 pub invariant_of-self-2 : goal.invariant_of-self-2
 invariant_of-self-2 c =
+    let before = goal.at.invariant_of-self-2 c in
     sorted_put c.args.row.name (entries_in c.self.inside.list.items) _ c.self.invariant c.args.row.value
-    (changed (goal.at.invariant_of-self-2 c).In_ok-replaced)
+    (changed before.In_ok-replaced (room before.In_ok-place))
 
 pub returns-clause-put : goal.returns-clause-put
 returns-clause-put c =
-    map_put c.args.row.name (entries_in c.self.inside.list.items) _ c.self.invariant c.args.row.value
-    (changed (goal.at.returns-clause-put c).In_ok-replaced)
-    ∙ ap (λ (m : FinMap (slice_cmp nat_cmp) Datum). insert m c.args.row.name c.args.row.value) c.self.view_is
+    let before = goal.at.returns-clause-put c in
+    rw (← c.self.view_is) (map_put c.args.row.name (entries_in c.self.inside.list.items) _ c.self.invariant c.args.row.value
+    (changed before.In_ok-replaced (room before.In_ok-place)))
 
 pub returns-clause-replaced : goal.returns-clause-replaced
 returns-clause-replaced c =
-    let pages = c.self.inside.list.items in
+    let es = entries_in c.self.inside.list.items in
     c.in_ok-replaced.ensures.replaced
-    ∙ named_found c.args.row.name c.page_with_room.new.pages.items c.in_ok-place.place
-    (subst (λ (o : List ℕ). IsPageWithRoom o c.page_with_room.new.pages.items c.in_ok-place.place) c.name-name.ensures c.in_ok-place.ensures.place)
+    ∙ named_found c.args.row.name c.page_with_room.new.pages.items c.in_ok-place.place (room (goal.at.returns-clause-replaced c).In_ok-place)
     c.index_mut.result.now c.index_mut.ensures.value
     ∙ ap (has_name c.args.row.name) c.in_ok-place.ensures.rows
-    ∙ had_name c.args.row.name (entries_in pages) (entries_in pages) c.self.invariant
-    ∙ ap (λ (m : FinMap (slice_cmp nat_cmp) Datum). contains_key m c.args.row.name) c.self.view_is
+    ∙ rw (← c.self.view_is) (had_name c.args.row.name es es c.self.invariant)

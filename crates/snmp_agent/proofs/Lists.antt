@@ -1,0 +1,50 @@
+-- Facts about lists.
+use Rattle.std.proofs.Common.{◌≡◌, ℕ, zero, suc, ◌-◌, ◌≤◌, ◌<◌, List, [], ◌∷◌, ◌++◌, length, take}
+use Rattle.std.proofs.Common.{drop, Some, arith, refl, ap, subst, ◌∙◌}
+use Rattle.std.specs.List.{AllByRecursion, slice_get}
+use Rattle.std.proofs.lemmas.List.{drop_all, length-take-le}
+
+module _ {X : Type 0} (P : X → Type 0) where
+  pub all_both : (xs ys : List X) → AllByRecursion P xs → AllByRecursion P ys → AllByRecursion P (xs ++ ys)
+  all_both [] ys h k = k
+  all_both (x ∷ xs) ys h k = (h.0, all_both xs ys h.1 k)
+
+  pub all_front : (xs ys : List X) → AllByRecursion P (xs ++ ys) → AllByRecursion P xs
+  all_front [] ys h = tt
+  all_front (x ∷ xs) ys h = (h.0, all_front xs ys h.1)
+
+  pub all_back : (xs ys : List X) → AllByRecursion P (xs ++ ys) → AllByRecursion P ys
+  all_back [] ys h = h
+  all_back (x ∷ xs) ys h = all_back xs ys h.1
+
+module _ {X : Type 0} where
+  -- a list round one of its elements
+  pub around : (xs : List X) (place : ℕ) (x : X) → slice_get xs place ≡ Some x → xs ≡ take place xs ++ x ∷ drop (suc place) xs
+  around [] place x at = cc
+  around (first ∷ xs) zero x at = let same : first ≡ x = cc in ap (λ y. y ∷ xs) same
+  around (first ∷ xs) (suc place) x at = ap (λ ys. first ∷ ys) (around xs place x at)
+
+  -- what stands in its front
+  pub in_front : (xs : List X) (place k : ℕ) (x : X) → slice_get (take place xs) k ≡ Some x → slice_get xs k ≡ Some x
+  in_front [] zero k x at = at
+  in_front [] (suc place) k x at = at
+  in_front (first ∷ xs) zero k x at = cc
+  in_front (first ∷ xs) (suc place) zero x at = at
+  in_front (first ∷ xs) (suc place) (suc k) x at = in_front xs place k x at
+
+  -- what stands at its end
+  abbrev pub IsLast : List X → X → Type 0
+  IsLast xs x = slice_get xs (length xs - 1) ≡ Some x
+
+  pub last_of : (xs : List X) (x : X) → 0 < length xs → IsLast xs x → xs ≡ take (length xs - 1) xs ++ x ∷ []
+  last_of xs x some at =
+      around xs (length xs - 1) x at ∙ ap (λ rest. take (length xs - 1) xs ++ x ∷ rest) (drop_all (suc (length xs - 1)) xs (omega (arith, some)))
+
+  -- the last one of the front
+  pub last_in_front : (xs : List X) (n : ℕ) (x : X) → n ≤ length xs → IsLast (take n xs) x → slice_get xs (n - 1) ≡ Some x
+  last_in_front xs n x within last =
+      in_front xs n (n - 1) x (subst (λ (m : ℕ). slice_get (take n xs) (m - 1) ≡ Some x) (length-take-le n xs within) last)
+
+  pub nothing_left : (xs : List X) → length xs ≡ 0 → xs ≡ []
+  nothing_left [] h = refl
+  nothing_left (x ∷ xs) h = absurd (omega arith)
