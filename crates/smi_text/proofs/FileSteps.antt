@@ -128,20 +128,6 @@ module _ (ts mid : List Item) (h : Head) (read : head.read ts ≡ Some (h, mid))
   }
   module-defs E.Memory f = tt
 
-  pub module-no_end : (defs : List Def) (rest : List Item) → (many definition).read mid ≡ Some (defs, rest) → (word (codes "END")).read rest ≡ None
-      → module_text.read ts ≡ None
-  unfolding module_text shaped pair before lower
-  module-no_end defs rest d e = rw (read, d, e) refl
-
-  pub module-reads : (defs : List Def) (rest after : List Item) → ReadsDefinitions defs mid rest → (word (codes "END")).read rest ≡ Some (tt, after)
-      → ReadsModule (record { name = h.name; heading = h.heading; imports = h.imports; defs = defs }) ts after
-  unfolding module_text shaped pair before lower
-  module-reads defs rest after d e = record { read = rw (read, d.read, e) refl; distinct = d.distinct }
-
-pub module-no_head : (ts : List Item) → head.read ts ≡ None → module_text.read ts ≡ None
-unfolding module_text shaped pair before lower
-module-no_head ts e = rw e refl
-
 -- modules
 
 pub record HasModules (ms : List Module) (from now : List Item) : Type 0 where

@@ -177,24 +177,6 @@ module _ {A B : Type 0} {s : A → List Mark} {t : B → List Mark} {f : Format 
         | false ↦ λ k. (k, λ e. absurd (cc))
       ] h
 
-  pair-takes : (ts rest : List Item) (x : A × B) → (pair f g).read ts ≡ Some (x, rest) → StandsAhead (s x.0 ++ t x.1) ts rest
-  unfolding pair
-  pair-takes ts rest x h =
-      let r = then-inv (λ (p : A × List Item). option_map (λ (q : B × List Item). ((p.0, q.0), q.1)) (g.read p.1)) (f.read ts) (x, rest) h in
-      let q = map-inv (λ (q : B × List Item). ((r.0.0, q.0), q.1)) (g.read r.0.1) (x, rest) r.2 in
-      let P : (A × B) × List Item → Type 0 = λ w. StandsAhead (s w.0.0 ++ t w.0.1) ts w.1 in
-      subst P q.2 (StandsAhead-append (s r.0.0) (t q.0.0) ts r.0.1 q.0.1 (f-law.takes ts r.0.1 r.0.0 r.1) (g-law.takes r.0.1 q.0.1 q.0.0 q.1))
-
-  pair-again : (x : A × B) (ts rest : List Item) → StandsAhead (s x.0 ++ t x.1) ts rest → begins (pair f g).stop rest ≡ false
-      → (pair f g).read ts ≡ Some (x, rest)
-  unfolding pair
-  pair-again x ts rest h k =
-      let r = StandsAhead-split (s x.0) (t x.1) ts rest h in
-      let stops = pair-stops rest k in
-      let first : f.read ts ≡ Some (x.0, r.0) = f-law.again x.0 ts r.0 r.1 (goes-on x.1 r.0 rest r.2 stops.1) in
-      let second : g.read r.0 ≡ Some (x.1, rest) = g-law.again x.1 r.0 rest r.2 stops.0 in
-      rw (first, second) refl
-
   first-of-two : (ts : List Item) → begins f.first ts ≡ true → begins (if f.empty then f.first ++ g.first else f.first) ts ≡ true
   first-of-two ts h =
       elim (f.empty) as (λ b. begins (if b then f.first ++ g.first else f.first) ts ≡ true) [ true ↦ begins-left f.first g.first ts h | false ↦ h ]
@@ -202,47 +184,45 @@ module _ {A B : Type 0} {s : A → List Mark} {t : B → List Mark} {f : Format 
   second-of-two : (ts : List Item) → f.empty ≡ true → begins g.first ts ≡ true → begins (if f.empty then f.first ++ g.first else f.first) ts ≡ true
   second-of-two ts e h = rw e (begins-right f.first g.first ts h)
 
-  pair-starts : (x : A × B) (ts rest : List Item) → StandsAhead (s x.0 ++ t x.1) ts rest
-      → (begins (pair f g).first ts ≡ true) ⊎ (((pair f g).empty ≡ true) × (ts ≡ rest))
-  unfolding pair
-  pair-starts x ts rest h =
-      let r = StandsAhead-split (s x.0) (t x.1) ts rest h in
-      elim (f-law.starts x.0 ts r.0 r.1) [
-        | inl b ↦ inl (first-of-two ts b)
-        | inr p ↦ elim (g-law.starts x.1 r.0 rest r.2) [
-          | inl b ↦ inl (second-of-two ts p.0 (ap (begins g.first) p.1 ∙ b))
-          | inr q ↦ inr (and_from f.empty g.empty p.0 q.0, p.1 ∙ q.1)
-        ]
-      ]
-
   pub pair-law : Lawful (λ (p : A × B). s p.0 ++ t p.1) (pair f g)
-  pair-law = record { takes = pair-takes; again = pair-again; starts = pair-starts }
+  unfolding pair
+  pair-law = record {
+    takes = λ ts rest x h.
+        let r = then-inv (λ (p : A × List Item). option_map (λ (q : B × List Item). ((p.0, q.0), q.1)) (g.read p.1)) (f.read ts) (x, rest) h in
+        let q = map-inv (λ (q : B × List Item). ((r.0.0, q.0), q.1)) (g.read r.0.1) (x, rest) r.2 in
+        let P : (A × B) × List Item → Type 0 = λ w. StandsAhead (s w.0.0 ++ t w.0.1) ts w.1 in
+        subst P q.2 (StandsAhead-append (s r.0.0) (t q.0.0) ts r.0.1 q.0.1 (f-law.takes ts r.0.1 r.0.0 r.1) (g-law.takes r.0.1 q.0.1 q.0.0 q.1));
+    again = λ x ts rest h k.
+        let r = StandsAhead-split (s x.0) (t x.1) ts rest h in
+        let stops = pair-stops rest k in
+        rw (f-law.again x.0 ts r.0 r.1 (goes-on x.1 r.0 rest r.2 stops.1), g-law.again x.1 r.0 rest r.2 stops.0) refl;
+    starts = λ x ts rest h.
+        let r = StandsAhead-split (s x.0) (t x.1) ts rest h in
+        elim (f-law.starts x.0 ts r.0 r.1) [
+          | inl b ↦ inl (first-of-two ts b)
+          | inr p ↦ elim (g-law.starts x.1 r.0 rest r.2) [
+            | inl b ↦ inl (second-of-two ts p.0 (ap (begins g.first) p.1 ∙ b))
+            | inr q ↦ inr (and_from f.empty g.empty p.0 q.0, p.1 ∙ q.1)
+          ]
+        ];
+  }
 
 module _ {A : Type 0} {s : A → List Mark} {f : Format A} (law : Lawful s f) (solid : f.empty ≡ false) where
-  maybe-takes : (ts rest : List Item) (x : Option A) → (maybe f).read ts ≡ Some (x, rest) → StandsAhead (of_option s x) ts rest
-  unfolding maybe
-  maybe-takes ts rest x h =
-      let P : Option A × List Item → Type 0 = λ w. StandsAhead (of_option s w.0) ts w.1 in
-      elim (if-inv (begins f.first ts) (option_map put_some (f.read ts)) (Some (None, ts)) (Some (x, rest)) h) [
-        | inl p ↦ let r = map-inv put_some (f.read ts) (x, rest) p.1 in subst P r.2 (law.takes ts r.0.1 r.0.0 r.1)
-        | inr p ↦ subst P (some-inj {A = Option A × List Item} (None, ts) (x, rest) p.1) refl
-      ]
-
-  maybe-again : (x : Option A) (ts rest : List Item) → StandsAhead (of_option s x) ts rest → begins (maybe f).stop rest ≡ false
-      → (maybe f).read ts ≡ Some (x, rest)
-  unfolding maybe
-  maybe-again None ts rest h k = rw (ap (begins f.first) h ∙ (neither f.first f.stop rest k).0) (ap (λ (us : List Item). Some (None, us)) h)
-  maybe-again (Some x) ts rest h k =
-      rw (starts-with law solid x ts rest h, law.again x ts rest h (neither f.first f.stop rest k).1) refl
-
-  maybe-starts : (x : Option A) (ts rest : List Item) → StandsAhead (of_option s x) ts rest
-      → (begins (maybe f).first ts ≡ true) ⊎ (((maybe f).empty ≡ true) × (ts ≡ rest))
-  unfolding maybe
-  maybe-starts None ts rest h = inr (refl, h)
-  maybe-starts (Some x) ts rest h = inl (starts-with law solid x ts rest h)
-
   pub maybe-law : Lawful (of_option s) (maybe f)
-  maybe-law = record { takes = maybe-takes; again = maybe-again; starts = maybe-starts }
+  unfolding maybe
+  maybe-law = record {
+    takes = λ ts rest x h.
+        let P : Option A × List Item → Type 0 = λ w. StandsAhead (of_option s w.0) ts w.1 in
+        elim (if-inv (begins f.first ts) (option_map put_some (f.read ts)) (Some (None, ts)) (Some (x, rest)) h) [
+          | inl p ↦ let r = map-inv put_some (f.read ts) (x, rest) p.1 in subst P r.2 (law.takes ts r.0.1 r.0.0 r.1)
+          | inr p ↦ subst P (some-inj {A = Option A × List Item} (None, ts) (x, rest) p.1) refl
+        ];
+    again = elim [
+      | None ↦ λ ts rest h k. rw (ap (begins f.first) h ∙ (neither f.first f.stop rest k).0) (ap (λ (us : List Item). Some (None, us)) h)
+      | Some x ↦ λ ts rest h k. rw (starts-with law solid x ts rest h, law.again x ts rest h (neither f.first f.stop rest k).1) refl
+    ];
+    starts = elim [ None ↦ λ ts rest h. inr (refl, h) | Some x ↦ λ ts rest h. inl (starts-with law solid x ts rest h) ];
+  }
 
 abbrev pub of_either : {A B : Type 0} → (A → List Mark) → (B → List Mark) → A ⊎ B → List Mark
 of_either s t (inl x) = s x
@@ -250,31 +230,26 @@ of_either s t (inr y) = t y
 
 module _ {A B : Type 0} {s : A → List Mark} {t : B → List Mark} {f : Format A} {g : Format B} (f-law : Lawful s f) (g-law : Lawful t g)
     (f-solid : f.empty ≡ false) (g-solid : g.empty ≡ false) (far : apart f.first g.first ≡ true) where
-  either-takes : (ts rest : List Item) (x : A ⊎ B) → (either f g).read ts ≡ Some (x, rest) → StandsAhead (of_either s t x) ts rest
-  unfolding either
-  either-takes ts rest x h =
-      let P : (A ⊎ B) × List Item → Type 0 = λ w. StandsAhead (of_either s t w.0) ts w.1 in
-      elim (if-inv (begins f.first ts) (option_map (put_left {B = B}) (f.read ts)) (option_map (put_right {A = A}) (g.read ts)) (Some (x, rest)) h) [
-        | inl p ↦ let r = map-inv (put_left {B = B}) (f.read ts) (x, rest) p.1 in subst P r.2 (f-law.takes ts r.0.1 r.0.0 r.1)
-        | inr p ↦ let r = map-inv (put_right {A = A}) (g.read ts) (x, rest) p.1 in subst P r.2 (g-law.takes ts r.0.1 r.0.0 r.1)
-      ]
-
-  either-again : (x : A ⊎ B) (ts rest : List Item) → StandsAhead (of_either s t x) ts rest → begins (either f g).stop rest ≡ false
-      → (either f g).read ts ≡ Some (x, rest)
-  unfolding either
-  either-again (inl x) ts rest h k =
-      rw (starts-with f-law f-solid x ts rest h, f-law.again x ts rest h (neither f.stop g.stop rest k).0) refl
-  either-again (inr y) ts rest h k =
-      rw (apart-false f.first g.first ts far (starts-with g-law g-solid y ts rest h), g-law.again y ts rest h (neither f.stop g.stop rest k).1) refl
-
-  either-starts : (x : A ⊎ B) (ts rest : List Item) → StandsAhead (of_either s t x) ts rest → begins (either f g).first ts ≡ true
-  unfolding either
-  either-starts (inl x) ts rest h = begins-left f.first g.first ts (starts-with f-law f-solid x ts rest h)
-  either-starts (inr y) ts rest h = begins-right f.first g.first ts (starts-with g-law g-solid y ts rest h)
-
   pub either-law : Lawful (of_either s t) (either f g)
   unfolding either
-  either-law = record { takes = either-takes; again = either-again; starts = λ x ts rest h. inl (either-starts x ts rest h) }
+  either-law = record {
+    takes = λ ts rest x h.
+        let P : (A ⊎ B) × List Item → Type 0 = λ w. StandsAhead (of_either s t w.0) ts w.1 in
+        elim (if-inv (begins f.first ts) (option_map (put_left {B = B}) (f.read ts)) (option_map (put_right {A = A}) (g.read ts)) (Some (x, rest)) h) [
+          | inl p ↦ let r = map-inv (put_left {B = B}) (f.read ts) (x, rest) p.1 in subst P r.2 (f-law.takes ts r.0.1 r.0.0 r.1)
+          | inr p ↦ let r = map-inv (put_right {A = A}) (g.read ts) (x, rest) p.1 in subst P r.2 (g-law.takes ts r.0.1 r.0.0 r.1)
+        ];
+    again = elim [
+      | inl x ↦ λ ts rest h k. rw (starts-with f-law f-solid x ts rest h, f-law.again x ts rest h (neither f.stop g.stop rest k).0) refl
+      | inr y ↦ λ ts rest h k.
+          let other = apart-false f.first g.first ts far (starts-with g-law g-solid y ts rest h) in
+          rw (other, g-law.again y ts rest h (neither f.stop g.stop rest k).1) refl
+    ];
+    starts = elim [
+      | inl x ↦ λ ts rest h. inl (begins-left f.first g.first ts (starts-with f-law f-solid x ts rest h))
+      | inr y ↦ λ ts rest h. inl (begins-right f.first g.first ts (starts-with g-law g-solid y ts rest h))
+    ];
+  }
 
 front-of-one : {A : Type 0} (y : A) (ys : List A) (us : List Item) → with_front (y ∷ []) (Some (ys, us)) ≡ Some (y ∷ ys, us)
 unfolding with_front
@@ -328,28 +303,16 @@ module _ {A : Type 0} {s : A → List Mark} {f : Format A} (law : Lawful s f) (s
 module _ {A B : Type 0} (to : A → B) (u : B → List Mark) {s : A → List Mark} {f : Format A} (law : Lawful s f)
     (forth : (ts rest : List Item) (x : A) → StandsAhead (s x) ts rest → StandsAhead (u (to x)) ts rest)
     (back : (ts rest : List Item) (y : B) → StandsAhead (u y) ts rest → (x : A) × (to x ≡ y) × StandsAhead (s x) ts rest) where
-  shaped-takes : (ts rest : List Item) (y : B) → (shaped to f).read ts ≡ Some (y, rest) → StandsAhead (u y) ts rest
-  unfolding shaped
-  shaped-takes ts rest y h =
-      let r = map-inv (λ (p : A × List Item). (to p.0, p.1)) (f.read ts) (y, rest) h in
-      let P : B × List Item → Type 0 = λ w. StandsAhead (u w.0) ts w.1 in
-      subst P r.2 (forth ts r.0.1 r.0.0 (law.takes ts r.0.1 r.0.0 r.1))
-
-  shaped-again : (y : B) (ts rest : List Item) → StandsAhead (u y) ts rest → begins (shaped to f).stop rest ≡ false → (shaped to f).read ts ≡ Some (y, rest)
-  unfolding shaped
-  shaped-again y ts rest h k =
-      let p = back ts rest y h in
-      rw (law.again p.0 ts rest p.2 k) (ap (λ (z : B). Some (z, rest)) p.1)
-
-  shaped-starts : (y : B) (ts rest : List Item) → StandsAhead (u y) ts rest
-      → (begins (shaped to f).first ts ≡ true) ⊎ (((shaped to f).empty ≡ true) × (ts ≡ rest))
-  unfolding shaped
-  shaped-starts y ts rest h =
-      let p = back ts rest y h in
-      law.starts p.0 ts rest p.2
-
   pub shaped-law : Lawful u (shaped to f)
-  shaped-law = record { takes = shaped-takes; again = shaped-again; starts = shaped-starts }
+  unfolding shaped
+  shaped-law = record {
+    takes = λ ts rest y h.
+        let r = map-inv (λ (p : A × List Item). (to p.0, p.1)) (f.read ts) (y, rest) h in
+        let P : B × List Item → Type 0 = λ w. StandsAhead (u w.0) ts w.1 in
+        subst P r.2 (forth ts r.0.1 r.0.0 (law.takes ts r.0.1 r.0.0 r.1));
+    again = λ y ts rest h k. let p = back ts rest y h in rw (law.again p.0 ts rest p.2 k) (ap (λ (z : B). Some (z, rest)) p.1);
+    starts = λ y ts rest h. let p = back ts rest y h in law.starts p.0 ts rest p.2;
+  }
 
 pub behind-law : {A : Type 0} {v : Unit {0} → List Mark} {s : A → List Mark} {w : Format (Unit {0})} {f : Format A} → Lawful v w → Lawful s f
     → apart w.stop f.first ≡ true → Lawful (λ x. v tt ++ s x) (behind w f)
@@ -408,24 +371,15 @@ module _ {A : Type 0} {s : A → List Mark} {f : Format A} (law : Lawful s f) (s
       let short : length {A = Lexeme} [] < length {A = Lexeme} [] = shorter law solid x [] [] none in
       omega arith
 
-  lined-takes : (ts rest : List Item) (x : ℕ × A) → (lined f).read ts ≡ Some (x, rest) → StandsAhead (put_line x.0 (s x.1)) ts rest
-  unfolding lined
-  lined-takes ts rest x h =
-      let r = map-inv (λ (p : A × List Item). ((line_ahead ts, p.0), p.1)) (f.read ts) (x, rest) h in
-      let P : (ℕ × A) × List Item → Type 0 = λ w. StandsAhead (put_line w.0.0 (s w.0.1)) ts w.1 in
-      subst P r.2 (put-line (s r.0.0) ts r.0.1 (some-mark r.0.0) (law.takes ts r.0.1 r.0.0 r.1))
-
-  lined-again : (x : ℕ × A) (ts rest : List Item) → StandsAhead (put_line x.0 (s x.1)) ts rest → begins (lined f).stop rest ≡ false
-      → (lined f).read ts ≡ Some (x, rest)
-  unfolding lined
-  lined-again x ts rest h k =
-      let r = drop-line x.0 (s x.1) ts rest h in
-      rw (law.again x.1 ts rest r.0 k) (ap (λ (n : ℕ). Some ((n, x.1), rest)) r.1)
-
-  lined-starts : (x : ℕ × A) (ts rest : List Item) → StandsAhead (put_line x.0 (s x.1)) ts rest → begins (lined f).first ts ≡ true
-  unfolding lined
-  lined-starts x ts rest h = starts-with law solid x.1 ts rest (drop-line x.0 (s x.1) ts rest h).0
-
   pub lined-law : Lawful (λ (p : ℕ × A). put_line p.0 (s p.1)) (lined f)
   unfolding lined
-  lined-law = record { takes = lined-takes; again = lined-again; starts = λ x ts rest h. inl (lined-starts x ts rest h) }
+  lined-law = record {
+    takes = λ ts rest x h.
+        let r = map-inv (λ (p : A × List Item). ((line_ahead ts, p.0), p.1)) (f.read ts) (x, rest) h in
+        let P : (ℕ × A) × List Item → Type 0 = λ w. StandsAhead (put_line w.0.0 (s w.0.1)) ts w.1 in
+        subst P r.2 (put-line (s r.0.0) ts r.0.1 (some-mark r.0.0) (law.takes ts r.0.1 r.0.0 r.1));
+    again = λ x ts rest h k.
+        let r = drop-line x.0 (s x.1) ts rest h in
+        rw (law.again x.1 ts rest r.0 k) (ap (λ (n : ℕ). Some ((n, x.1), rest)) r.1);
+    starts = λ x ts rest h. inl (starts-with law solid x.1 ts rest (drop-line x.0 (s x.1) ts rest h).0);
+  }

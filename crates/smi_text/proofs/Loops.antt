@@ -37,32 +37,6 @@ comma-shorter : (ts rest : List Item) → (token K.Comma).read ts ≡ Some (tt, 
 unfolding token
 comma-shorter ts rest h = reading-shorter (token-law K.Comma) refl tt ts rest h
 
-module _ (names : List Name) (n : ℕ) (ts : List Item) where
-  pub index-implied : (x : Name) (mid rest : List Item) → begins (a_word (codes "IMPLIED") ∷ []) ts ≡ true
-      → (word (codes "IMPLIED")).read ts ≡ Some (tt, mid) → lower.read mid ≡ Some (x, rest)
-      → with_names names (read_index (suc n) ts) ≡ Some (index_parts (names ++ x ∷ []) true, rest)
-  unfolding read_index behind shaped pair with_names
-  index-implied x mid rest b w e = rw (b, w, e) refl
-
-  pub index-no_name : (mid : List Item) → begins (a_word (codes "IMPLIED") ∷ []) ts ≡ true → (word (codes "IMPLIED")).read ts ≡ Some (tt, mid)
-      → lower.read mid ≡ None → with_names names (read_index (suc n) ts) ≡ None
-  unfolding read_index behind shaped pair with_names
-  index-no_name mid b w e = rw (b, w, e) refl
-
-  pub index-stuck : begins (a_word (codes "IMPLIED") ∷ []) ts ≡ false → lower.read ts ≡ None → with_names names (read_index (suc n) ts) ≡ None
-  unfolding read_index with_names
-  index-stuck b e = rw (b, e) refl
-
-  pub index-last : (x : Name) (rest : List Item) → begins (a_word (codes "IMPLIED") ∷ []) ts ≡ false → lower.read ts ≡ Some (x, rest)
-      → begins (a_kind K.Comma ∷ []) rest ≡ false → with_names names (read_index (suc n) ts) ≡ Some (index_parts (names ++ x ∷ []) false, rest)
-  unfolding read_index with_names
-  index-last x rest b e c = rw (b, e, c) refl
-
-  pub index-no_comma : (x : Name) (rest : List Item) → begins (a_word (codes "IMPLIED") ∷ []) ts ≡ false → lower.read ts ≡ Some (x, rest)
-      → begins (a_kind K.Comma ∷ []) rest ≡ true → (token K.Comma).read rest ≡ None → with_names names (read_index (suc n) ts) ≡ None
-  unfolding read_index with_names
-  index-no_comma x rest b e c t = rw (b, e, c, t) refl
-
 pub index-next : (names : List Name) (n : ℕ) (ts : List Item) → length ts ≤ n → (x : Name) (rest after : List Item)
     → begins (a_word (codes "IMPLIED") ∷ []) ts ≡ false → lower.read ts ≡ Some (x, rest)
     → begins (a_kind K.Comma ∷ []) rest ≡ true → (token K.Comma).read rest ≡ Some (tt, after)
@@ -74,10 +48,6 @@ index-next names (suc m) ts h x rest after b e c t = (
   omega (arith, name-shorter x ts rest e, comma-shorter rest after t),
   rw (b, e, c, t) (sym (with_names-append names (x ∷ []) (read_index (suc m) after))),
 )
-
-pub index_names-starts : (ts : List Item) → index_names.read ts ≡ read_index (suc (length ts)) ts
-unfolding index_names
-index_names-starts ts = refl
 
 -- tokens between braces
 
@@ -112,7 +82,3 @@ unfolding read_balanced
 balanced-closed xs depth [] e n = rw e (with_front-end xs [])
 balanced-closed xs depth (Err f ∷ items) e n = rw e (with_front-end xs (Err f ∷ items))
 balanced-closed xs depth (Ok t ∷ items) e n = absurd (cc)
-
-pub balanced-starts_with : (ts : List Item) → balanced.read ts ≡ read_balanced 0 ts
-unfolding balanced
-balanced-starts_with ts = refl

@@ -99,15 +99,3 @@ pub next-many : {A : Type 0} (f : Format A) (n : ℕ) (x : A) (ts rest : List It
 unfolding read_many with_front
 next-many f zero x ts rest b e h k = absurd (omega arith)
 next-many f (suc m) x ts rest b e h k = (m, omega arith, rw (b, e) refl)
-
-pub stuck-many : {A : Type 0} (f : Format A) (n : ℕ) (ts : List Item) → begins f.first ts ≡ true → f.read ts ≡ None → read_many f (suc n) ts ≡ None
-unfolding read_many
-stuck-many f n ts b e = rw (b, e) refl
-
-pub end-many : {A : Type 0} (f : Format A) (n : ℕ) (ts : List Item) → begins f.first ts ≡ false → read_many f (suc n) ts ≡ Some ([], ts)
-unfolding read_many
-end-many f n ts b = rw b refl
-
-pub many-starts_with : {A : Type 0} (f : Format A) (ts : List Item) → (many f).read ts ≡ read_many f (suc (length ts)) ts
-unfolding many
-many-starts_with f ts = refl

@@ -1,7 +1,7 @@
 -- Each production is lawful: it reads what its case of the grammar spells, and nothing else.
 use Rattle.std.proofs.Common.{◌≡◌, ◌++◌, ℕ, Bool, true, false, ◌&&◌, ◌||◌, not, if◌then◌else◌}
 use Rattle.std.proofs.Common.{List, [], ◌∷◌, Option, Some, None, Ok, Err, refl, sym, ap, subst}
-use Rattle.std.proofs.Common.{inl, inr, ◌⊎◌}
+use Rattle.std.proofs.Common.{inl, inr, ◌⊎◌, ◌∙◌}
 use Rattle.std.proofs.lemmas.Bool.{and_parts, and_from, or_left, or_right}
 use Rattle.std.specs.Prelude.{codes, map}
 use Rattle.std.specs.List.{list_any}
@@ -17,6 +17,7 @@ use Rattle.smi_text.specs.Format.{StandsAhead, a_word, a_name, a_kind, meets, be
 use Rattle.smi_text.specs.Grammar as g
 use Rattle.smi_text.proofs.Productions.{all}
 use Rattle.smi_text.proofs.Lawful.{Lawful}
+use Rattle.smi_text.proofs.Marks.{same_kind-eq, StandsAhead-split}
 use Rattle.smi_text.proofs.Laws.{never-stands, of_either, word-law, token-law, text-law}
 use Rattle.smi_text.proofs.Laws.{text_where-law, name_where-law, lower-law, name-law, pair-law}
 use Rattle.smi_text.proofs.Laws.{behind-law, before-law, maybe-law, either-law, many-law}
@@ -75,16 +76,13 @@ value-law = after-sign K.Assign (braced-law (some_of-law part-law later_part-law
 
 bound-ahead : (t : Lexeme) → is_bound t.kind t.text ≡ true → list_any (meets t) (a_kind K.Number ∷ a_kind K.Hex ∷ a_kind K.Binary ∷ []) ≡ true
 unfolding is_bound
-bound-ahead t h =
-    elim (or_cases (same_kind t.kind K.Number && is_number t.text || same_kind t.kind K.Hex && is_literal 16 t.text)
-    (same_kind t.kind K.Binary && is_literal 2 t.text) h) [
-      | inl e ↦ elim (or_cases (same_kind t.kind K.Number && is_number t.text) (same_kind t.kind K.Hex && is_literal 16 t.text) e) [
-        | inl p ↦ rw (and_parts (same_kind t.kind K.Number) (is_number t.text) p).0 refl
-        | inr p ↦ or_right (same_kind t.kind K.Number) _ (rw (and_parts (same_kind t.kind K.Hex) (is_literal 16 t.text) p).0 refl)
-      ]
-      | inr p ↦ or_right (same_kind t.kind K.Number) _ (or_right (same_kind t.kind K.Hex) _ (rw (and_parts (same_kind t.kind K.Binary)
-          (is_literal 2 t.text) p).0 refl))
-    ]
+bound-ahead t h = one_of_three (same_kind t.kind K.Number) (same_kind t.kind K.Hex) (same_kind t.kind K.Binary) _ _ _ h
+  where
+    one_of_three : (a b c x y z : Bool) → (a && x || b && y || c && z) ≡ true → (a || (b || (c || false))) ≡ true
+    one_of_three true b c x y z h = refl
+    one_of_three false true c x y z h = refl
+    one_of_three false false true x y z h = refl
+    one_of_three false false false x y z h = h
 
 pub bound-law : Lawful (λ x. say.bound x ∷ []) g.bound
 unfolding all
@@ -204,10 +202,6 @@ object_identity-law =
     (after-word (codes "OBJECT-IDENTITY") (pair-law status-law value-law refl))
     (λ ts rest x h. h) (λ ts rest d h. ((d.status, d.value), refl, h))
 
-pub default_value-law : Lawful (λ xs. say.word (codes "DEFVAL") ∷ say.braces (say.of_balanced xs)) g.default_value
-unfolding all
-default_value-law = after-word (codes "DEFVAL") (braced-law balanced-law refl)
-
 pub syntax_clause-law : Lawful (λ t. say.word (codes "SYNTAX") ∷ say.of_syntax t) g.syntax_clause
 unfolding all
 syntax_clause-law = after-word (codes "SYNTAX") syntax_type-law
@@ -218,19 +212,15 @@ object_type-law =
     shaped-law g.to_object_type say.of_object_type
     (after-word (codes "OBJECT-TYPE") (pair-law syntax_clause-law (pair-law (maybe-law (clause-law (codes "UNITS")) refl)
     (pair-law (after-word (codes "MAX-ACCESS") (text-law K.Lower)) (pair-law status-law (pair-law (maybe-law index-law refl)
-    (pair-law (maybe-law default_value-law refl) value-law refl) refl) refl) refl) refl) refl))
+    (pair-law (maybe-law (after-word (codes "DEFVAL") (braced-law balanced-law refl)) refl) value-law refl) refl) refl) refl) refl) refl))
     (λ ts rest x h. h)
     (λ ts rest d h. ((d.syntax, (d.units, (d.max_access, (d.status, (d.index, (d.default, d.value)))))), refl, h))
-
-pub objects-law : Lawful (λ xs. say.word (codes "OBJECTS") ∷ say.of_names xs) g.objects
-unfolding all
-objects-law = after-word (codes "OBJECTS") names-law
 
 pub notification_type-law : Lawful say.of_notification_type g.notification_type
 unfolding all
 notification_type-law =
     shaped-law g.to_notification_type say.of_notification_type
-    (after-word (codes "NOTIFICATION-TYPE") (pair-law (maybe-law objects-law refl) (pair-law status-law value-law refl) refl))
+    (after-word (codes "NOTIFICATION-TYPE") (pair-law (maybe-law (after-word (codes "OBJECTS") names-law) refl) (pair-law status-law value-law refl) refl))
     (λ ts rest x h. h) (λ ts rest d h. ((d.objects, (d.status, d.value)), refl, h))
 
 pub group-law : (w v : List ℕ) → Lawful (say.of_group w v) (g.group w v)
@@ -254,10 +244,6 @@ textual_convention-law =
     (after-word (codes "TEXTUAL-CONVENTION") (pair-law (maybe-law (clause-law (codes "DISPLAY-HINT")) refl) (pair-law status-law syntax_clause-law refl) refl))
     (λ ts rest x h. h) (λ ts rest d h. ((d.display_hint, (d.status, d.syntax)), refl, h))
 
-pub object_identifier-law : Lawful (λ v. say.word (codes "OBJECT") ∷ say.word (codes "IDENTIFIER") ∷ say.of_value v) g.object_identifier
-unfolding all
-object_identifier-law = behind-law (after-word (codes "OBJECT") (word-law (codes "IDENTIFIER"))) value-law refl
-
 -- what is spelled of a kind whose names are in lower case
 abbrev of_lower : DefKind → List Mark
 of_lower (D.TextualConvention d) = say.nothing
@@ -271,7 +257,7 @@ pub lower_definition-law : Lawful of_lower g.lower_definition
 unfolding all
 lower_definition-law =
     shaped-law g.to_lower of_lower
-    (either-law object_type-law (either-law object_identifier-law (either-law object_identity-law (either-law module_identity-law
+    (either-law object_type-law (either-law (behind-law (after-word (codes "OBJECT") (word-law (codes "IDENTIFIER"))) value-law refl) (either-law object_identity-law (either-law module_identity-law
     (either-law notification_type-law
     (either-law (group-law (codes "OBJECT-GROUP") (codes "OBJECTS")) (either-law (group-law (codes "NOTIFICATION-GROUP") (codes "NOTIFICATIONS"))
     (either-law (raw_definition-law (codes "MODULE-COMPLIANCE")) (raw_definition-law (codes "AGENT-CAPABILITIES"))
@@ -302,22 +288,9 @@ tag-law =
     after-sign K.OpenBracket (after-word (codes "APPLICATION") (before-law (text_where-law K.Number is_number)
     (after-sign K.CloseBracket (word-law (codes "IMPLICIT"))) refl))
 
-pub choice-law : Lawful (λ xs. say.word (codes "CHOICE") ∷ say.braces (say.of_balanced xs)) g.choice
-unfolding all
-choice-law = after-word (codes "CHOICE") (braced-law balanced-law refl)
-
-pub tagged-law : Lawful (λ (p : List ℕ × Syntax). of_tag p.0 ++ say.of_syntax p.1) g.tagged
-unfolding all
-tagged-law = pair-law tag-law syntax_type-law refl
-
 abbrev of_sequence : List Field ⊎ Name → List Mark
 of_sequence =
     of_either (λ fs. say.braces (say.of_list (sign K.Comma) say.of_field fs)) (λ x. say.word (codes "OF") ∷ say.upper x ∷ [])
-
-pub sequence-law : Lawful (λ x. say.word (codes "SEQUENCE") ∷ of_sequence x) g.sequence
-unfolding all
-sequence-law =
-    after-word (codes "SEQUENCE") (either-law (braced-law (separated-law K.Comma field-law refl refl) refl) of_row-law refl refl refl)
 
 -- what is spelled of a kind behind `::=`
 abbrev of_assigned : DefKind → List Mark
@@ -342,8 +315,10 @@ pub assigned-law : Lawful of_assigned g.assigned
 unfolding all
 assigned-law =
     shaped-law g.to_assigned of_assigned
-    (either-law textual_convention-law (either-law choice-law (either-law tagged-law (either-law sequence-law simple_type-law
-    refl refl refl) refl refl refl) refl refl refl) refl refl refl)
+    (either-law textual_convention-law (either-law (after-word (codes "CHOICE") (braced-law balanced-law refl))
+    (either-law (pair-law tag-law syntax_type-law refl)
+    (either-law (after-word (codes "SEQUENCE") (either-law (braced-law (separated-law K.Comma field-law refl refl) refl) of_row-law refl refl refl))
+    simple_type-law refl refl refl) refl refl refl) refl refl refl) refl refl refl)
     (λ ts rest. elim [ inr (inr (inl (n, t))) ↦ λ h. h | inr (inr (inr (inl (inl fs)))) ↦ λ h. h | _ ↦ λ h. h ])
     (λ ts rest. elim [
       | D.TextualConvention d ↦ λ h. (inl d, refl, h)
@@ -369,63 +344,38 @@ macro_definition-law =
 
 -- what is spelled of a kind whose names are in upper case
 abbrev of_upper : DefKind → List Mark
-of_upper (D.TextualConvention d) = say.of_kind (D.TextualConvention d)
-of_upper (D.TypeAssignment d) = say.of_kind (D.TypeAssignment d)
-of_upper (D.Sequence fs) = say.of_kind (D.Sequence fs)
-of_upper (D.Choice xs) = say.of_kind (D.Choice xs)
 of_upper (D.Macro xs) = say.of_kind (D.Macro xs)
-of_upper _ = say.nothing
+of_upper k = sign K.Assign ∷ of_assigned k
 
--- nothing stands behind a mark
-never-behind : (m : Mark) (ts rest : List Item) → StandsAhead (m ∷ say.nothing) ts rest → ⊥
-never-behind m [] rest h = h
-never-behind m (Err f ∷ ts) rest h = h
-never-behind m (Ok t ∷ ts) rest h = never-stands ts rest h.1
+-- nothing stands behind marks
+never-behind : (ms : List Mark) (ts rest : List Item) → StandsAhead (ms ++ say.nothing) ts rest → ⊥
+never-behind ms ts rest h = let r = StandsAhead-split ms say.nothing ts rest h in never-stands r.0 rest r.2
 
 pub upper_definition-law : Lawful of_upper g.upper_definition
 unfolding all
 upper_definition-law =
     shaped-law g.to_upper of_upper (either-law (after-sign K.Assign assigned-law) macro_definition-law refl refl refl)
     (λ ts rest. elim [
-      | inl (D.TextualConvention d) ↦ λ h. h
-      | inl (D.TypeAssignment d) ↦ λ h. h
-      | inl (D.Sequence fs) ↦ λ h. h
-      | inl (D.Choice xs) ↦ λ h. h
-      | inl _ ↦ λ h. absurd (never-behind (sign K.Assign) ts rest h)
+      | inl (D.Macro xs) ↦ λ h. absurd (never-behind (sign K.Assign ∷ []) ts rest h)
+      | inl _ ↦ λ h. h
       | inr (D.Macro xs) ↦ λ h. h
       | inr _ ↦ λ h. absurd (never-stands ts rest h)
     ])
-    (λ ts rest. elim [
-      | D.TextualConvention d ↦ λ h. (inl (D.TextualConvention d), refl, h)
-      | D.TypeAssignment d ↦ λ h. (inl (D.TypeAssignment d), refl, h)
-      | D.Sequence fs ↦ λ h. (inl (D.Sequence fs), refl, h)
-      | D.Choice xs ↦ λ h. (inl (D.Choice xs), refl, h)
-      | D.Macro xs ↦ λ h. (inr (D.Macro xs), refl, h)
-      | _ ↦ λ h. absurd (never-stands ts rest h)
-    ])
+    (λ ts rest. elim [ D.Macro xs ↦ λ h. (inr (D.Macro xs), refl, h) | k ↦ λ h. (inl k, refl, h) ])
 
 -- the names of macros
-
-macro-words : (t : Lexeme) (ws : List (List ℕ)) → same_kind t.kind K.Upper ≡ true → list_any (same_text t.text) ws ≡ true
-    → list_any (meets t) (map a_word ws) ≡ true
-macro-words t [] k h = h
-macro-words t (w ∷ ws) k h =
-    elim (or_cases (same_text t.text w) (list_any (same_text t.text) ws) h) [
-      | inl e ↦ or_left (meets t (a_word w)) (list_any (meets t) (map a_word ws)) (and_from (same_kind t.kind K.Upper) (same_text t.text w) k e)
-      | inr e ↦ or_right (meets t (a_word w)) (list_any (meets t) (map a_word ws)) (macro-words t ws k e)
-    ]
-
-macro-ahead : (t : Lexeme) → same_kind t.kind K.Upper ≡ true → is_macro t.text ≡ true → list_any (meets t) g.macro_words ≡ true
-unfolding is_macro
-macro-ahead t k h = macro-words t macros k h
-
-pub macro_name-law : Lawful (λ (x : Name). spelled K.Upper x.octets (is_macro x.octets) ∷ []) g.macro_name
-unfolding all
-macro_name-law = name_where-law g.macro_words K.Upper is_macro macro-ahead
 
 words-any : (t : Lexeme) (ws : List (List ℕ)) → t.kind ≡ K.Upper → list_any (meets t) (map a_word ws) ≡ list_any (same_text t.text) ws
 words-any t [] e = refl
 words-any t (w ∷ ws) e = rw (e) (ap (λ (b : Bool). same_text t.text w || b) (words-any t ws e))
+
+macro-ahead : (t : Lexeme) → same_kind t.kind K.Upper ≡ true → is_macro t.text ≡ true → list_any (meets t) g.macro_words ≡ true
+unfolding is_macro
+macro-ahead t k h = words-any t macros (same_kind-eq t.kind K.Upper k) ∙ h
+
+pub macro_name-law : Lawful (λ (x : Name). spelled K.Upper x.octets (is_macro x.octets) ∷ []) g.macro_name
+unfolding all
+macro_name-law = name_where-law g.macro_words K.Upper is_macro macro-ahead
 
 pub begins-macro : (t : Lexeme) (ts : List Item) → t.kind ≡ K.Upper → begins g.macro_words (Ok t ∷ ts) ≡ is_macro t.text
 unfolding begins is_macro
@@ -456,11 +406,11 @@ by_macro p = on_line p.0.0 (spelled K.Upper p.0.1.octets (is_macro p.0.1.octets)
 
 def-forth : (ts rest : List Item) (x : g.Labelled ⊎ (g.Labelled ⊎ g.Labelled)) → StandsAhead (of_either by_lower (of_either by_upper by_macro) x) ts rest
     → StandsAhead (say.of_def (g.to_def x)) ts rest
-def-forth ts rest (inl (p, D.TextualConvention d)) h = absurd (never-behind (on_line p.0 (say.lower p.1)) ts rest h)
-def-forth ts rest (inl (p, D.TypeAssignment d)) h = absurd (never-behind (on_line p.0 (say.lower p.1)) ts rest h)
-def-forth ts rest (inl (p, D.Sequence d)) h = absurd (never-behind (on_line p.0 (say.lower p.1)) ts rest h)
-def-forth ts rest (inl (p, D.Choice d)) h = absurd (never-behind (on_line p.0 (say.lower p.1)) ts rest h)
-def-forth ts rest (inl (p, D.Macro d)) h = absurd (never-behind (on_line p.0 (say.lower p.1)) ts rest h)
+def-forth ts rest (inl (p, D.TextualConvention d)) h = absurd (never-behind (on_line p.0 (say.lower p.1) ∷ []) ts rest h)
+def-forth ts rest (inl (p, D.TypeAssignment d)) h = absurd (never-behind (on_line p.0 (say.lower p.1) ∷ []) ts rest h)
+def-forth ts rest (inl (p, D.Sequence d)) h = absurd (never-behind (on_line p.0 (say.lower p.1) ∷ []) ts rest h)
+def-forth ts rest (inl (p, D.Choice d)) h = absurd (never-behind (on_line p.0 (say.lower p.1) ∷ []) ts rest h)
+def-forth ts rest (inl (p, D.Macro d)) h = absurd (never-behind (on_line p.0 (say.lower p.1) ∷ []) ts rest h)
 def-forth ts rest (inl (p, k)) h = h
 def-forth ts rest (inr (inl (p, D.TextualConvention d))) h = h
 def-forth ts rest (inr (inl (p, D.TypeAssignment d))) h = h
@@ -468,10 +418,10 @@ def-forth ts rest (inr (inl (p, D.Sequence d))) h = h
 def-forth ts rest (inr (inl (p, D.Choice d))) h = h
 def-forth ts rest (inr (inl (p, D.Macro xs))) h =
     macro-marked p.0 p.1 (not (is_reserved p.1.octets)) (say.of_kind (D.Macro xs)) ts rest (if-either (is_macro p.1.octets) (not (is_reserved p.1.octets))) h
-def-forth ts rest (inr (inl (p, k))) h = absurd (never-behind (on_line p.0 (say.upper p.1)) ts rest h)
+def-forth ts rest (inr (inl (p, k))) h = absurd (never-behind (on_line p.0 (say.upper p.1) ∷ sign K.Assign ∷ []) ts rest h)
 def-forth ts rest (inr (inr (p, D.Macro xs))) h =
     macro-marked p.0 p.1 (is_macro p.1.octets) (say.of_kind (D.Macro xs)) ts rest (λ e. rw e refl) h
-def-forth ts rest (inr (inr (p, k))) h = absurd (never-behind (on_line p.0 (spelled K.Upper p.1.octets (is_macro p.1.octets))) ts rest h)
+def-forth ts rest (inr (inr (p, k))) h = absurd (never-behind (on_line p.0 (spelled K.Upper p.1.octets (is_macro p.1.octets)) ∷ []) ts rest h)
 
 abbrev Pieces : Def → List Item → List Item → Type 0
 Pieces d ts rest =
@@ -509,13 +459,12 @@ symbol-ahead : (t : Lexeme) → is_symbol t.kind t.text ≡ true → list_any (m
 unfolding is_symbol
 symbol-ahead t h =
     elim (or_cases (same_kind t.kind K.Lower) (same_kind t.kind K.Upper && (not (is_reserved t.text) || is_macro t.text)) h) [
-      | inl e ↦ or_left (same_kind t.kind K.Lower) _ e
+      | inl e ↦ rw e refl
       | inr e ↦
-          let upper = (and_parts (same_kind t.kind K.Upper) (not (is_reserved t.text) || is_macro t.text) e).0 in
-          or_right (same_kind t.kind K.Lower) (meets t a_name || list_any (meets t) g.macro_words)
-          (elim (or_cases (not (is_reserved t.text)) (is_macro t.text) (and_parts (same_kind t.kind K.Upper) (not (is_reserved t.text) || is_macro t.text) e).1) [
-            | inl p ↦ or_left (meets t a_name) (list_any (meets t) g.macro_words) (and_from (same_kind t.kind K.Upper) (not (is_reserved t.text)) upper p)
-            | inr p ↦ or_right (meets t a_name) (list_any (meets t) g.macro_words) (macro-ahead t upper p)
+          let both = and_parts (same_kind t.kind K.Upper) (not (is_reserved t.text) || is_macro t.text) e in
+          or_right (same_kind t.kind K.Lower) (meets t a_name || list_any (meets t) g.macro_words) (elim (or_cases (not (is_reserved t.text)) (is_macro t.text) both.1) [
+            | inl p ↦ rw (both.0, p) refl
+            | inr p ↦ or_right (meets t a_name) (list_any (meets t) g.macro_words) (macro-ahead t both.0 p)
           ])
     ]
 

@@ -1,9 +1,9 @@
 use Rattle.std.proofs.Common.{◌∙◌, sym, ap, arith, length-append, [], ◌∷◌}
 use Rattle.smi_text.specs.Format.{with_front}
-use Rattle.smi_text.specs.Grammar.{kept_text, read_balanced}
+use Rattle.smi_text.specs.Grammar.{balanced, kept_text, read_balanced}
 use Rattle.smi_text.specs.lexer.Token.{lexeme_of}
 use Rattle.smi_text.proofs.Loops.{depth_after-le, balanced-next, balanced-open, balanced-outside}
-use Rattle.smi_text.proofs.Loops.{balanced-closed, balanced-starts_with}
+use Rattle.smi_text.proofs.Loops.{balanced-closed}
 use Rattle.smi_text.proofs.Many.{with_front-nil}
 use Rattle.smi_text.proofs.parser.Parser.balanced.Goals as goal
 use Rattle.smi_text.proofs.parser.Parser.balanced.Goals.{in_default-via-in-Some+else-not-is_outside}
@@ -24,11 +24,13 @@ each-preserved c =
     )
 
 pub returns-in-None : goal.returns-in-None
-returns-in-None c = λ h. balanced-starts_with _ ∙ sym c.each.invariant.1 ∙ balanced-open _ _ _ c.if-depth-gt0.true c.in-None.ensures.none
+unfolding balanced
+returns-in-None c = λ h. sym c.each.invariant.1 ∙ balanced-open _ _ _ c.if-depth-gt0.true c.in-None.ensures.none
 
 pub returns-in_default : goal.returns-in_default
+unfolding balanced
 returns-in_default c =
-    rw (c.new.ensures) (balanced-starts_with _ ∙ sym c.each.invariant.1 ∙ elim c.in_default.branch [
+    rw (c.new.ensures) (sym c.each.invariant.1 ∙ elim c.in_default.branch [
       | in_default-via-in-Some+else-not-is_outside w ↦
           rw (w.in-Some.ensures.some) (balanced-outside _ _ (lexeme_of w.in-Some.token) _ (sym w.is_outside.ensures ∙ w.if-not-is_outside.false))
       | in_default-via-in-None+else-depth-gt0 w ↦ balanced-closed _ _ _ (omega arith) w.in-None.ensures.none

@@ -1,45 +1,44 @@
-use Rattle.std.proofs.Common.{◌∙◌, sym, length, arith}
+use Rattle.std.proofs.Common.{◌∙◌, sym, length, arith, refl}
 use Rattle.std.proofs.lemmas.Result.{err_from_is_err_and}
-use Rattle.smi_text.proofs.Loops.{with_names-nil, index-implied, index-no_name, index-stuck}
-use Rattle.smi_text.proofs.Loops.{index-last, index-no_comma, index-next, index_names-starts}
+use Rattle.smi_text.specs.Format.{behind, shaped, pair}
+use Rattle.smi_text.specs.Grammar.{index_names, read_index, with_names}
+use Rattle.smi_text.proofs.Loops.{with_names-nil, index-next}
 use Rattle.smi_text.proofs.parser.Parser.index_names.Goals as goal
 
 pub each-init : goal.each-init
-each-init c = (length c.args.self.now, omega arith, rw (c.list-names.ensures) (with_names-nil _ ∙ sym (index_names-starts _)))
+unfolding index_names
+each-init c = (length c.args.self.now, omega arith, rw (c.list-names.ensures) (with_names-nil _))
 
 pub returns-in_err-name : goal.returns-in_err-name
+unfolding read_index behind shaped pair with_names
 returns-in_err-name c =
-    let i = c.each.invariant in
     let p = err_from_is_err_and c.from_residual-in_err-name.result c.from_residual-in_err-name.ensures.1 in
-    rw (p.1, p.2) (λ h. sym i.2 ∙ index-no_name _ i.0 c.each.self _ (sym c.at_word.ensures
-    ∙ c.if-at_word.true) c.in_ok-word.ensures (c.in_err-name.ensures h))
+    rw (p.1, p.2) (λ h. rw (← c.each.invariant.2, sym c.at_word.ensures ∙ c.if-at_word.true, c.in_ok-word.ensures, c.in_err-name.ensures h) refl)
 
 pub returns-then-at_word : goal.returns-then-at_word
+unfolding read_index behind shaped pair with_names
 returns-then-at_word c =
-    let i = c.each.invariant in
     rw (c.new.ensures, c.in_ok-keep.ensures.ok)
-    (sym i.2 ∙ index-implied _ i.0 c.each.self _ _ _ (sym c.at_word.ensures ∙ c.if-at_word.true) c.in_ok-word.ensures c.in_ok-name.ensures)
+    (rw (← c.each.invariant.2, sym c.at_word.ensures ∙ c.if-at_word.true, c.in_ok-word.ensures, c.in_ok-name.ensures) refl)
 
 pub returns-in_err-name-2 : goal.returns-in_err-name-2
+unfolding read_index with_names
 returns-in_err-name-2 c =
-    let i = c.each.invariant in
     let p = err_from_is_err_and c.from_residual-in_err-name-2.result c.from_residual-in_err-name-2.ensures.1 in
-    rw (p.1, p.2) (λ h. sym i.2 ∙ index-stuck _ i.0 c.each.self (sym c.at_word.ensures ∙ c.if-at_word.false) (c.in_err-name-2.ensures h))
+    rw (p.1, p.2) (λ h. rw (← c.each.invariant.2, sym c.at_word.ensures ∙ c.if-at_word.false, c.in_err-name-2.ensures h) refl)
 
 pub returns-then-not-at_kind : goal.returns-then-not-at_kind
+unfolding read_index with_names
 returns-then-not-at_kind c =
-    let i = c.each.invariant in
     rw (c.new-then-not-at_kind.ensures, c.in_ok-keep-2.ensures.ok)
-    (sym i.2 ∙ index-last _ i.0 c.each.self _ _ (sym c.at_word.ensures ∙ c.if-at_word.false) c.in_ok-name-2.ensures (sym c.at_kind.ensures
-    ∙ c.if-not-at_kind.true))
+    (rw (← c.each.invariant.2, sym c.at_word.ensures ∙ c.if-at_word.false, c.in_ok-name-2.ensures, sym c.at_kind.ensures ∙ c.if-not-at_kind.true) refl)
 
 pub returns-in_err-sign : goal.returns-in_err-sign
+unfolding read_index with_names
 returns-in_err-sign c =
-    let i = c.each.invariant in
+    let comma = sym c.at_kind.ensures ∙ c.if-not-at_kind.false in
     let p = err_from_is_err_and c.from_residual-in_err-sign.result c.from_residual-in_err-sign.ensures.1 in
-    rw (p.1, p.2)
-    (λ h. sym i.2 ∙ index-no_comma _ i.0 c.each.self _ _ (sym c.at_word.ensures ∙ c.if-at_word.false) c.in_ok-name-2.ensures (sym c.at_kind.ensures
-    ∙ c.if-not-at_kind.false) (c.in_err-sign.ensures.gives h))
+    rw (p.1, p.2) (λ h. rw (← c.each.invariant.2, sym c.at_word.ensures ∙ c.if-at_word.false, c.in_ok-name-2.ensures, comma, c.in_err-sign.ensures.gives h) refl)
 
 pub each-preserved : goal.each-preserved
 each-preserved c =

@@ -1,12 +1,12 @@
-use Rattle.std.proofs.Common.{sym, ◌∙◌, ap, arith, length}
+use Rattle.std.proofs.Common.{sym, ◌∙◌, ap, arith, length, refl}
 use Rattle.std.proofs.lemmas.Result.{err_from_is_err_and}
-use Rattle.smi_text.specs.Format.{with_front}
-use Rattle.smi_text.proofs.Many.{next-many, stuck-many, end-many, many-starts_with}
-use Rattle.smi_text.proofs.Many.{with_front-append, with_front-none, with_front-end}
+use Rattle.smi_text.specs.Format.{many, read_many, with_front}
+use Rattle.smi_text.proofs.Many.{next-many, with_front-append, with_front-none, with_front-end}
 use Rattle.smi_text.proofs.parser.Parser.many_after.Goals as goal
 
 pub each-init : goal.each-init
-each-init g c = (length c.args.self.now, omega arith, ap (with_front c.args.items.items) (sym (many-starts_with _ _)))
+unfolding many
+each-init g c = (length c.args.self.now, omega arith, refl)
 
 pub each-smaller : goal.each-smaller
 each-smaller g c = c.in_ok-item.ensures.shorter
@@ -18,13 +18,11 @@ each-preserved g c =
     (s.0, s.1, rw (c.in_ok-keep.ensures.ok) (with_front-append _ _ _ ∙ ap (with_front c.each.items.items) (sym s.2) ∙ i.2))
 
 pub returns : goal.returns
-returns g c =
-    let i = c.each.invariant in
-    rw (← i.2, end-many g.P.Production.format i.0 c.each.self (sym c.is_ahead.ensures ∙ c.each-test.false), with_front-end, c.new.ensures)
+unfolding read_many
+returns g c = rw (← c.each.invariant.2, sym c.is_ahead.ensures ∙ c.each-test.false, with_front-end, c.new.ensures)
 
 pub returns-in_err-item : goal.returns-in_err-item
+unfolding read_many
 returns-in_err-item g c =
-    let i = c.each.invariant in
     let p = err_from_is_err_and c.from_residual.result c.from_residual.ensures.1 in
-    rw (p.1, p.2) (λ h. rw (← i.2) (with_front-none _ _ (stuck-many g.P.Production.format i.0 _ (sym c.is_ahead.ensures
-    ∙ c.each-test.true) (c.in_err-item.ensures.gives h))))
+    rw (p.1, p.2) (λ h. rw (← c.each.invariant.2) (with_front-none _ _ (rw (sym c.is_ahead.ensures ∙ c.each-test.true, c.in_err-item.ensures.gives h) refl)))
