@@ -1,6 +1,6 @@
 -- Counting open braces finds exactly the balanced tokens.
 use Rattle.std.proofs.Common.{◌≡◌, ℕ, zero, suc, ◌+◌, ◌-◌, true, false, not, List, [], ◌∷◌, ◌++◌}
-use Rattle.std.proofs.Common.{refl, sym, ◌∙◌, ap, subst, arith, append_assoc, append-nil}
+use Rattle.std.proofs.Common.{refl, sym, ◌∙◌, ap, subst, add-one, arith, append_assoc, append-nil}
 use Rattle.std.proofs.lemmas.Bool.{and_parts, false_from_ne_true}
 use Rattle.std.specs.Prelude.{◌==◌, ◌≢◌}
 use Rattle.std.proofs.lemmas.Bool.{not-true}
@@ -83,23 +83,20 @@ closes : (xs : List TokenText) (d : ℕ) → is_balanced d xs ≡ true → Close
 unfolding is_balanced
 closes [] d h = at_end d h
 closes (x ∷ xs) d h =
-    let inside : is_outside x.kind d ≡ false = not-true (is_outside x.kind d) (and_parts (not (is_outside x.kind d)) (is_balanced
-    (depth_after x.kind d) xs) h).0 in
-    let later : Closes (depth_after x.kind d) xs = closes xs (depth_after x.kind d) (and_parts (not (is_outside x.kind d)) (is_balanced
-    (depth_after x.kind d) xs) h).1 in
+    let both = and_parts (not (is_outside x.kind d)) (is_balanced (depth_after x.kind d) xs) h in
+    let inside = not-true (is_outside x.kind d) both.0 in
+    let later = closes xs (depth_after x.kind d) both.1 in
     elim (same_kind x.kind K.OpenBrace) as (λ b. same_kind x.kind K.OpenBrace ≡ b → Closes d (x ∷ xs)) [
       | true ↦ λ o.
           let k = same_kind-eq x.kind K.OpenBrace o in
-          let up : depth_after x.kind d ≡ suc d = (opening x.kind d k).1 ∙ omega arith in
-          closes-opening d x xs k (subst (λ n. Closes n xs) up later)
+          closes-opening d x xs k (rw ((opening x.kind d k).1, add-one) at later)
       | false ↦ λ o.
           elim (same_kind x.kind K.CloseBrace) as (λ b. same_kind x.kind K.CloseBrace ≡ b → Closes d (x ∷ xs)) [
             | true ↦ λ c.
                 let k = same_kind-eq x.kind K.CloseBrace c in
                 let p = closing x.kind d k in
                 closes-closing d x xs k (sym p.0 ∙ inside) (subst (λ n. Closes n xs) p.1 later)
-            | false ↦ λ c. closes-other d x xs (is_not x.kind K.OpenBrace o) (is_not x.kind K.CloseBrace c) (subst (λ n. Closes n xs)
-                (passing x.kind d o c).1 later)
+            | false ↦ λ c. closes-other d x xs (is_not x.kind K.OpenBrace o) (is_not x.kind K.CloseBrace c) (rw (passing x.kind d o c).1 at later)
           ] refl
     ] refl
 

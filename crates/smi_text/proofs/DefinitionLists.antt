@@ -60,8 +60,7 @@ pub stands-more : {A : Type 0} (f : A → List Mark) (xs : List A) (x : A) (ts m
     → StandsAhead (f x) mid rest
     → StandsAhead (flat_map f (xs ++ x ∷ [])) ts rest
 stands-more f xs x ts mid rest h k =
-    let P : List Mark → Type 0 = λ ms. StandsAhead ms ts rest in
-    subst P (sym (flat-more f xs x)) (StandsAhead-append (flat_map f xs) (f x) ts mid rest h k)
+    rw (flat-more f xs x) (StandsAhead-append (flat_map f xs) (f x) ts mid rest h k)
 
 any-more : (x : List ℕ) (ys : List (List ℕ)) (y : List ℕ) → list_any (same_text x) (ys ++ y ∷ []) ≡ (same_text x y || list_any (same_text x) ys)
 any-more x ys y =

@@ -44,8 +44,7 @@ pub record HasRead (names : BTreeSet (ℕ × Bor (List ℕ))) (defs : List Def) 
 
 pub has_read-start : (names : BTreeSet (ℕ × Bor (List ℕ))) (defs : List Def) (ts : List Item) → names.keys ≡ [] → defs ≡ [] → HasRead names defs ts ts
 has_read-start names defs ts e d =
-    let P : List Def → Type 0 = λ ds. HasRead names ds ts ts in
-    subst P (sym d) (record {
+    rw d (record {
       left = with_front-nil _;
       stands = refl;
       named = λ x. rw e refl;
@@ -138,8 +137,7 @@ pub record HasModules (ms : List Module) (from now : List Item) : Type 0 where
 pub has_modules-start : (ms : List Module) (ts : List Item) → ms ≡ [] → HasModules ms ts ts
 unfolding file
 has_modules-start ms ts e =
-    let P : List Module → Type 0 = λ us. HasModules us ts ts in
-    subst P (sym e) (record {
+    rw e (record {
       left = with_front-nil _;
       stands = refl;
       distinct = refl;

@@ -29,34 +29,24 @@ unfolding with_names
 with_names-append xs ys None = refl
 with_names-append xs ys (Some p) = ap (λ (zs : List Name). Some (index_parts zs p.0.implied, p.1)) (append_assoc xs ys p.0.names)
 
-name-shorter : (x : Name) (ts rest : List Item) → lower.read ts ≡ Some (x, rest) → length rest < length ts
-unfolding lower
-name-shorter x ts rest h = reading-shorter lower-law refl x ts rest h
-
-comma-shorter : (ts rest : List Item) → (token K.Comma).read ts ≡ Some (tt, rest) → length rest < length ts
-unfolding token
-comma-shorter ts rest h = reading-shorter (token-law K.Comma) refl tt ts rest h
-
 pub index-next : (names : List Name) (n : ℕ) (ts : List Item) → length ts ≤ n → (x : Name) (rest after : List Item)
     → begins (a_word (codes "IMPLIED") ∷ []) ts ≡ false → lower.read ts ≡ Some (x, rest)
     → begins (a_kind K.Comma ∷ []) rest ≡ true → (token K.Comma).read rest ≡ Some (tt, after)
     → (m : ℕ) × (length after ≤ m) × (with_names names (read_index (suc n) ts) ≡ with_names (names ++ x ∷ []) (read_index (suc m) after))
-unfolding read_index
-index-next names zero ts h x rest after b e c t = absurd (omega (arith, name-shorter x ts rest e))
+unfolding read_index lower token
+index-next names zero ts h x rest after b e c t = absurd (omega (arith, reading-shorter lower-law refl x ts rest e))
 index-next names (suc m) ts h x rest after b e c t = (
   m,
-  omega (arith, name-shorter x ts rest e, comma-shorter rest after t),
+  omega (arith, reading-shorter lower-law refl x ts rest e, reading-shorter (token-law K.Comma) refl tt rest after t),
   rw (b, e, c, t) (sym (with_names-append names (x ∷ []) (read_index (suc m) after))),
 )
 
 -- tokens between braces
 
 pub depth_after-le : (k : TokenKind) (depth : ℕ) → depth_after k depth ≤ depth + 1
-depth_after-le k depth =
-    elim (same_kind k K.OpenBrace) as (λ b. (if b then depth + 1 else (if same_kind k K.CloseBrace then depth - 1 else depth)) ≤ depth + 1) [
-      | true ↦ omega arith
-      | false ↦ elim (same_kind k K.CloseBrace) as (λ b. (if b then depth - 1 else depth) ≤ depth + 1) [ true ↦ omega arith | false ↦ omega arith ]
-    ]
+depth_after-le K.OpenBrace depth = omega arith
+depth_after-le K.CloseBrace depth = omega arith
+depth_after-le _ depth = omega arith
 
 pub balanced-next : (xs : List TokenText) (depth : ℕ) (t : Lexeme) (ts : List Item) → is_outside t.kind depth ≡ false
     → with_front xs (read_balanced depth (Ok t ∷ ts)) ≡ with_front (xs ++ kept_text t ∷ []) (read_balanced (depth_after t.kind depth) ts)

@@ -22,13 +22,10 @@ pub tokens-read : (ms : List Module) (ts : List Lexeme) → Stands (spelling ms)
 tokens-read ms ts h = file-reads ms (all_tokens ts) (taken-tokens (spelling ms) ts [] h)
 
 -- a text that lexes to its end
-pub taken-whole : (ms : List Mark) (items : List Item) → first_fault items ≡ None → Stands ms (tokens_of items) [] → StandsAhead ms items []
-taken-whole [] [] w h = refl
-taken-whole [] (Ok t ∷ items) w h = absurd (cc)
-taken-whole [] (Err f ∷ items) w h = absurd (cc)
-taken-whole (m ∷ ms) [] w h = h
-taken-whole (m ∷ ms) (Err f ∷ items) w h = h
-taken-whole (m ∷ ms) (Ok t ∷ items) w h = (h.0, taken-whole ms items w h.1)
+pub all-whole : (items : List Item) → first_fault items ≡ None → items ≡ all_tokens (tokens_of items)
+all-whole [] w = refl
+all-whole (Ok t ∷ items) w = ap (λ (us : List Item). Ok t ∷ us) (all-whole items w)
+all-whole (Err f ∷ items) w = absurd (cc)
 
 pub taken-stands : (ms : List Mark) (items rest : List Item) → StandsAhead ms items rest → Stands ms (tokens_of items) (tokens_of rest)
 taken-stands [] items rest h = ap tokens_of h

@@ -4,7 +4,7 @@ use Rattle.std.proofs.Common.{length, get_or, drop, refl, sym, ap, ◌∙◌, dr
 use Rattle.std.proofs.lemmas.Bool.{and_parts}
 use Rattle.std.specs.Prelude.{map}
 use Rattle.std.specs.List.{list_all, list_any}
-use Rattle.std.proofs.lemmas.Bool.{false≢true}
+use Rattle.std.proofs.lemmas.Bool.{false≢true, false_from_ne_true}
 use Rattle.std.proofs.lemmas.Slice.Eq.{bytes_eq-Decides}
 use Rattle.std.proofs.lemmas.List.{drop_all}
 use Rattle.smi_text.specs.trees.Mark.{same_text}
@@ -25,8 +25,6 @@ pub other_second : (test : ℕ → Bool) (words : List (List ℕ)) (x : List ℕ
 other_second test [] x all other = refl
 other_second test (w ∷ ws) x all other =
     let both = and_parts (test (get_or w 1 0)) (list_all (λ v. test (get_or v 1 0)) ws) all in
-    ap (λ b. b || list_any (same_text x) ws) (unequal (same_text x w) refl both.0) ∙ other_second test ws x both.1 other
-  where
-    unequal : (b : Bool) → same_text x w ≡ b → test (get_or w 1 0) ≡ true → same_text x w ≡ false
-    unequal false is pass = is
-    unequal true is pass = absurd (false≢true (sym other ∙ ap (λ s. test (get_or s 1 0)) ((bytes_eq-Decides x w).0 is) ∙ pass))
+    let differ : same_text x w ≡ false = false_from_ne_true (same_text x w) (λ is.
+    false≢true (sym other ∙ ap (λ s. test (get_or s 1 0)) ((bytes_eq-Decides x w).0 is) ∙ both.0)) in
+    rw differ (other_second test ws x both.1 other)

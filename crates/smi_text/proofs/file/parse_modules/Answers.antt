@@ -10,10 +10,9 @@ use Rattle.smi_text.specs.Text.{AreSpelledBy, HasNoDoubles, IsCause}
 use Rattle.smi_text.specs.Returned.{ReadsModules, ModulesFault, IsLexFault, IsCauseOf}
 use Rattle.smi_text.specs.Grammar.{file}
 use Rattle.smi_text.proofs.Laws.{some-inj}
-use Rattle.smi_text.proofs.DefinitionLists.{file-reads}
 use Rattle.smi_text.proofs.ProductionLaws.{file-law}
 use Rattle.smi_text.proofs.Doubles.{file-twice}
-use Rattle.smi_text.proofs.Tokens.{taken-whole, taken-stands, taken-no_fault, tokens-read}
+use Rattle.smi_text.proofs.Tokens.{all-whole, taken-stands, taken-no_fault, tokens-read}
 use Rattle.smi_text.proofs.file.parse_modules.Goals as goal
 
 module _ (text : List ℕ) (items : List Item) (lexed : Lexes [] text items) (sole : (others : List Item) → Lexes [] text others → others ≡ items) where
@@ -21,7 +20,7 @@ module _ (text : List ℕ) (items : List Item) (lexed : Lexes [] text items) (so
   spelled ms s = rw (sole s.items s.lexed) at s.spelled
 
   reads : (ms : List Module) → AreSpelledBy ms text → file.read items ≡ Some (ms, [])
-  reads ms s = file-reads ms items (taken-whole (spelling ms) items (rw (sole s.items s.lexed) at s.whole) (spelled ms s))
+  reads ms s = rw (all-whole items (rw (sole s.items s.lexed) at s.whole)) (tokens-read ms (tokens_of items) (spelled ms s))
 
   found : (ms : List Module) → ReadsModules ms items → AreSpelledBy ms text × HasNoDoubles ms
   found ms r =

@@ -1,23 +1,16 @@
-use Rattle.std.proofs.Common.{◌≡◌, ◌-◌, ◌<◌, ◌≤◌, length, get_or, true, ℕ}
+use Rattle.std.proofs.Common.{◌-◌, length}
 use Rattle.smi_text.specs.lexer.Lexeme.{is_word_octet}
+use Rattle.smi_text.specs.lexer.Reading.{ArePassedBetween}
 use Rattle.smi_text.proofs.lexer.scan.word_run_end.Given as goal
 
 abbrev pub invariant-loads : goal.invariant-loads
-invariant-loads l = record {
-  ordered : l.from ≤ l.n;
-  within : l.n ≤ length l.text;
-  passes : (k : ℕ) → l.from ≤ k → k < l.n → is_word_octet (get_or l.text k 0) ≡ true;
-}
+invariant-loads l = ArePassedBetween is_word_octet l.text l.from l.n
 
 abbrev pub decreases-loads : goal.decreases-loads
 decreases-loads l = length l.text - l.n
 
 abbrev pub invariant-octets : goal.invariant-octets
-invariant-octets l = record {
-  ordered : l.from ≤ l.n;
-  within : l.n ≤ length l.text;
-  passes : (k : ℕ) → l.from ≤ k → k < l.n → is_word_octet (get_or l.text k 0) ≡ true;
-}
+invariant-octets l = ArePassedBetween is_word_octet l.text l.from l.n
 
 abbrev pub decreases-octets : goal.decreases-octets
 decreases-octets l = length l.text - l.n

@@ -24,27 +24,20 @@ returns-then-is_empty-clause-steps c =
       items-empty c.self.inside.at c.self.inside.lines text empty,
     )
 
-fault : (c : After-fault_at) → c.args.self.now ≡ Err c.fault_at.result ∷ []
+fault : (c : After-fault_at) → c.args.self.now ≡ Err c.fault_at.result ∷ items_at 0 c.self.inside.at c.self.inside.lines []
 fault c =
     let gaps = c.gaps_at-gaps in
     let text = c.split_at.result.1.now in
-    sym c.self.view_is
-    ∙ next_faults c.self.inside.rest.now text c.self.inside.at c.self.inside.lines gaps.result.0 gaps.result.1 gaps.ensures.skips c.split_at.ensures.back
-    (λ empty. false≢true (c.if-is_empty.ensures ∙ eq-eqb (length text) 0 empty)) gaps.ensures.all c.in_default.ensures
-    ∙ ap (λ f. Err f ∷ []) (sym c.fault_at.ensures)
+    let given = next_faults c.self.inside.rest.now text c.self.inside.at c.self.inside.lines gaps.result.0 gaps.result.1 gaps.ensures.skips
+    c.split_at.ensures.back (λ empty. false≢true (c.if-is_empty.ensures ∙ eq-eqb (length text) 0 empty)) gaps.ensures.all c.in_default.ensures in
+    cc (c.self.view_is, given, c.fault_at.ensures, items-nothing c.self.inside.at c.self.inside.lines)
 
 pub returns-in_default-clause-steps : goal.returns-in_default-clause-steps
-returns-in_default-clause-steps c =
-    fault (goal.at.returns-in_default-clause-steps c).After-fault_at
-    ∙ ap (λ items. Err c.fault_at.result ∷ items) (sym (items-nothing c.self.inside.at c.self.inside.lines))
+returns-in_default-clause-steps c = fault (goal.at.returns-in_default-clause-steps c).After-fault_at
 
 pub returns-in_default-clause-goes : goal.returns-in_default-clause-goes
 returns-in_default-clause-goes c =
-    let rest = items_at 0 c.self.inside.at c.self.inside.lines [] in
-    let all : c.args.self.now ≡ Err c.fault_at.result ∷ rest =
-    fault (goal.at.returns-in_default-clause-goes c).After-fault_at
-    ∙ ap (λ items. Err c.fault_at.result ∷ items) (sym (items-nothing c.self.inside.at c.self.inside.lines)) in
-    record { on = λ _. (tt, tt, fewer c.args.self.now rest (Err c.fault_at.result) all); keeps = tt; rests = λ _. tt }
+    record { on = λ _. (tt, tt, fewer _ _ _ (fault (goal.at.returns-in_default-clause-goes c).After-fault_at)); keeps = tt; rests = λ _. tt }
 
 pub invariant_of-result : goal.invariant_of-result
 invariant_of-result c =
@@ -66,26 +59,12 @@ token : (c : After-lines_in) → c.args.self.now
 token c =
     let gaps = c.gaps_at-gaps in
     let text = c.split_at.result.1.now in
-    let k = c.in-Some.len in
-    let start = c.self.inside.at + gaps.result.0 in
-    let ended = c.self.inside.lines + gaps.result.1 in
-    let octets = c.split_at-2.result.0.now in
-    let lexeme_with = λ (s : List ℕ). let l : Lexeme = record {
-      kind = c.in-Some.kind;
-      span = record { start = start; «end» = start + k };
-      text = s;
-      line =
-          ended + 1;
-    } in l in
+    let front = c.in-Some.ensures in
     let parts = c.split_at-2.ensures in
-    let is_lexeme : IsLexeme c.in-Some.kind octets = subst (IsLexeme c.in-Some.kind) (sym parts.front) (part_is (take k text)
-    (lexeme c.in-Some.kind) c.in-Some.ensures.reads) in
-    sym c.self.view_is
-    ∙ next_gives_token c.self.inside.rest.now text c.self.inside.at c.self.inside.lines gaps.result.0 gaps.result.1 gaps.ensures.skips c.split_at.ensures.back
-    c.in-Some.kind k c.in-Some.ensures
-    ∙ ap (λ s. Ok (lexeme_with s) ∷ items_at 0 (start + k) (ended + newlines s) (drop k text)) (sym parts.front)
-    ∙ ap (λ m. Ok (lexeme_with octets) ∷ items_at 0 (start + k) (ended + m) (drop k text)) (sym (c.lines_in.ensures.count is_lexeme))
-    ∙ ap (λ s. Ok (lexeme_with octets) ∷ items_at 0 (start + k) (ended + c.lines_in.result) s) (sym parts.back)
+    let is_lexeme : IsLexeme c.in-Some.kind c.split_at-2.result.0.now = rw parts.front (part_is (take c.in-Some.len text) (lexeme c.in-Some.kind) front.reads) in
+    let given = next_gives_token c.self.inside.rest.now text c.self.inside.at c.self.inside.lines gaps.result.0 gaps.result.1 gaps.ensures.skips
+    c.split_at.ensures.back c.in-Some.kind c.in-Some.len front in
+    cc (c.self.view_is, given, parts.front, parts.back, c.lines_in.ensures.count is_lexeme)
 
 pub returns-clause-steps : goal.returns-clause-steps
 returns-clause-steps c = token (goal.at.returns-clause-steps c).After-lines_in
