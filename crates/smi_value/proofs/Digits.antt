@@ -117,58 +117,39 @@ no_places text none (form.Decimal places) (inl h) = absurd (cc h.0)
 no_places text none (form.Decimal places) (inr h) =
     let same : h.after_hyphen ≡ text = cc h.whole in
     none places (rw same at h.number) h.at_most
-no_places text none form.Hexadecimal h = absurd (cc h)
-no_places text none form.Octal h = absurd (cc h)
-no_places text none form.Binary h = absurd (cc h)
+no_places text none _ h = absurd (cc h)
 
--- ---- octets, of one to three digits
+-- ---- octets, of one to four digits
 
-pub hexadecimal_one : (n : ℕ) → n < 16 → digits 16 false n ≡ digit_glyph false n ∷ []
-hexadecimal_one n low =
-    let none : (n / 16 == 0) ≡ true = search (rules, tests) in
-    let same : n % 16 ≡ n = omega arith in
-    sym (last_written 63 16 n n [] (all_left 16 n [] refl) none) ∙ ap (λ (d : ℕ). digit_glyph false d ∷ []) same
-
-pub hexadecimal_two : (n : ℕ) → 16 ≤ n → n < 256 → digits 16 false n ≡ digit_glyph false (n / 16) ∷ digit_glyph false (n % 16) ∷ []
-hexadecimal_two n some low =
-    let more : (n / 16 == 0) ≡ false = search (rules, tests) in
-    let none : (n / 16 / 16 == 0) ≡ true = search (rules, tests) in
-    let same : n / 16 % 16 ≡ n / 16 = omega arith in
-    let first = one_written 63 16 n n [] (all_left 16 n [] refl) more in
-    sym (last_written 62 16 (n / 16) n (digit_glyph false (n % 16) ∷ []) first none)
-    ∙ ap (λ (d : ℕ). digit_glyph false d ∷ digit_glyph false (n % 16) ∷ []) same
+-- the last two digits of two octets
+low_two : (a b : ℕ) → 0 < a → b < 256
+    → AreLeft 62 16 a (digit_glyph false (b / 16) ∷ digit_glyph false (b % 16) ∷ []) (a * 256 + b)
+low_two a b some within =
+    let n : ℕ = a * 256 + b in
+    let one : (n / 16 == 0) ≡ false = search (rules, tests) in
+    let two : (n / 16 / 16 == 0) ≡ false = search (rules, tests) in
+    let h = one_written 62 16 (n / 16) n (digit_glyph false (n % 16) ∷ []) (one_written 63 16 n n [] (all_left 16 n [] refl) one) two in
+    let x : a ≡ n / 16 / 16 = omega arith in
+    let y : b / 16 ≡ n / 16 % 16 = omega arith in
+    let z : b % 16 ≡ n % 16 = omega arith in
+    record { same = (λ i. digits_onto 62 16 false (x i) (digit_glyph false (y i) ∷ digit_glyph false (z i) ∷ [])) ∙ h.same }
 
 pub hexadecimal_three : (a b : ℕ) → 0 < a → a < 16 → b < 256 → digits 16 false (a * 256 + b)
     ≡ digit_glyph false a ∷ digit_glyph false (b / 16) ∷ digit_glyph false (b % 16) ∷ []
 hexadecimal_three a b some low within =
-    let n : ℕ = a * 256 + b in
-    let one : (n / 16 == 0) ≡ false = search (rules, tests) in
-    let two : (n / 16 / 16 == 0) ≡ false = search (rules, tests) in
-    let none : (n / 16 / 16 / 16 == 0) ≡ true = search (rules, tests) in
-    let front = one_written 62 16 (n / 16) n (digit_glyph false (n % 16) ∷ []) (one_written 63 16 n n [] (all_left 16 n [] refl) one) two in
-    let whole = last_written 61 16 (n / 16 / 16) n (digit_glyph false (n / 16 % 16) ∷ digit_glyph false (n % 16) ∷ []) front none in
-    let x : n / 16 / 16 % 16 ≡ a = omega arith in
-    let y : n / 16 % 16 ≡ b / 16 = omega arith in
-    let z : n % 16 ≡ b % 16 = omega arith in
-    sym whole ∙ (λ i. digit_glyph false (x i) ∷ digit_glyph false (y i) ∷ digit_glyph false (z i) ∷ [])
+    let none : (a / 16 == 0) ≡ true = search (rules, tests) in
+    let same : a % 16 ≡ a = omega arith in
+    sym (last_written 61 16 a (a * 256 + b) _ (low_two a b some within) none)
+    ∙ ap (λ (d : ℕ). digit_glyph false d ∷ digit_glyph false (b / 16) ∷ digit_glyph false (b % 16) ∷ []) same
 
 pub hexadecimal_four : (a b : ℕ) → 16 ≤ a → a < 256 → b < 256 → digits 16 false (a * 256 + b)
     ≡ digit_glyph false (a / 16) ∷ digit_glyph false (a % 16) ∷ digit_glyph false (b / 16) ∷ digit_glyph false (b % 16) ∷ []
 hexadecimal_four a b some low within =
-    let n : ℕ = a * 256 + b in
-    let one : (n / 16 == 0) ≡ false = search (rules, tests) in
-    let two : (n / 16 / 16 == 0) ≡ false = search (rules, tests) in
-    let three : (n / 16 / 16 / 16 == 0) ≡ false = search (rules, tests) in
-    let none : (n / 16 / 16 / 16 / 16 == 0) ≡ true = search (rules, tests) in
-    let front = one_written 62 16 (n / 16) n (digit_glyph false (n % 16) ∷ []) (one_written 63 16 n n [] (all_left 16 n [] refl) one) two in
-    let more = one_written 61 16 (n / 16 / 16) n (digit_glyph false (n / 16 % 16) ∷ digit_glyph false (n % 16) ∷ []) front three in
-    let whole = last_written 60 16 (n / 16 / 16 / 16) n
-    (digit_glyph false (n / 16 / 16 % 16) ∷ digit_glyph false (n / 16 % 16) ∷ digit_glyph false (n % 16) ∷ []) more none in
-    let w : n / 16 / 16 / 16 % 16 ≡ a / 16 = omega arith in
-    let x : n / 16 / 16 % 16 ≡ a % 16 = omega arith in
-    let y : n / 16 % 16 ≡ b / 16 = omega arith in
-    let z : n % 16 ≡ b % 16 = omega arith in
-    sym whole ∙ (λ i. digit_glyph false (w i) ∷ digit_glyph false (x i) ∷ digit_glyph false (y i) ∷ digit_glyph false (z i) ∷ [])
+    let more : (a / 16 == 0) ≡ false = search (rules, tests) in
+    let none : (a / 16 / 16 == 0) ≡ true = search (rules, tests) in
+    let same : a / 16 % 16 ≡ a / 16 = omega arith in
+    sym (last_written 60 16 (a / 16) (a * 256 + b) _ (one_written 61 16 a (a * 256 + b) _ (low_two a b (omega arith) within) more) none)
+    ∙ ap (λ (d : ℕ). digit_glyph false d ∷ digit_glyph false (a % 16) ∷ digit_glyph false (b / 16) ∷ digit_glyph false (b % 16) ∷ []) same
 
 pub decimal_two : (n : ℕ) → 10 ≤ n → n < 100 → decimal n ≡ (48 + n / 10) ∷ (48 + n % 10) ∷ []
 decimal_two n some low = rw (decimal_step n some (omega arith), decimal_digit (n / 10) (omega arith))

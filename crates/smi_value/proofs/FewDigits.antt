@@ -1,5 +1,5 @@
 -- Numbers that one to three digits state.
-use Rattle.std.proofs.Common.{◌≡◌, ℕ, pos, ◌+◌, ◌-◌, ◌*◌, ◌≤◌, true, false, [], ◌∷◌, List, Some, refl, sym, ◌∙◌, ap, length, get_or}
+use Rattle.std.proofs.Common.{◌≡◌, ℕ, pos, ◌+◌, ◌-◌, ◌*◌, ◌≤◌, true, false, [], ◌∷◌, List, Some, refl, length, get_or}
 use Rattle.std.proofs.Common.{arith, rules, tests}
 use Rattle.std.specs.Bool.{nat_le}
 use Rattle.std.specs.Int.{IsInRange}
@@ -15,40 +15,22 @@ stated text n plain value few = let fits : nat_le n 18446744073709551615 ≡ tru
 no_sign : (digit : ℕ) (more : List ℕ) → IsInRange 48 57 digit → is_negative (digit ∷ more) ≡ false
 no_sign digit more range = search (rules, tests)
 
-one_states : (c : ℕ) → IsInRange 48 57 c → stated_number (c ∷ []) ≡ Some (pos (c - 48))
-unfolding number_value
-one_states c h = stated (c ∷ []) (c - 48) (no_sign c [] h) (omega (arith, value_of c h)) (omega (arith, h.1))
-
-two_state : (b c : ℕ) → IsInRange 48 57 b → IsInRange 48 57 c → stated_number (b ∷ c ∷ []) ≡ Some (pos (10 * (b - 48) + (c - 48)))
-unfolding number_value
-two_state b c h k =
-    stated (b ∷ c ∷ []) (10 * (b - 48) + (c - 48)) (no_sign b (c ∷ []) h) (omega (arith, value_of b h, value_of c k)) (omega (arith, h.1, k.1))
-
-three_state : (a b c : ℕ) → IsInRange 48 57 a → IsInRange 48 57 b → IsInRange 48 57 c
-    → stated_number (a ∷ b ∷ c ∷ []) ≡ Some (pos (100 * (a - 48) + (10 * (b - 48) + (c - 48))))
-unfolding number_value
-three_state a b c g h k = stated (a ∷ b ∷ c ∷ []) (100 * (a - 48) + (10 * (b - 48) + (c - 48))) (no_sign a (b ∷ c ∷ []) g)
-    (omega (arith, value_of a g, value_of b h, value_of c k)) (omega (arith, g.1, h.1, k.1))
-
--- the same by places
-
 pub one_stated : (text : List ℕ) (n : ℕ) → length text ≡ 1 → IsInRange 48 57 (get_or text 0 0) → n ≡ get_or text 0 0 - 48 → stated_number text ≡ Some (pos n)
-one_stated [] n long h e = absurd (omega arith)
-one_stated (c ∷ []) n long h e = one_states c h ∙ ap (λ (m : ℕ). Some (pos m)) (sym e)
-one_stated (c ∷ d ∷ more) n long h e = absurd (omega arith)
+unfolding number_value
+one_stated (c ∷ []) n long h e = stated (c ∷ []) n (no_sign c [] h) (omega (arith, value_of c h)) (omega (arith, h.1))
+one_stated _ n long h e = absurd (omega arith)
 
 pub two_stated : (text : List ℕ) (n : ℕ) → length text ≡ 2 → IsInRange 48 57 (get_or text 0 0) → IsInRange 48 57 (get_or text 1 0)
     → n ≡ 10 * (get_or text 0 0 - 48) + (get_or text 1 0 - 48) → stated_number text ≡ Some (pos n)
-two_stated [] n long h k e = absurd (omega arith)
-two_stated (b ∷ []) n long h k e = absurd (omega arith)
-two_stated (b ∷ c ∷ []) n long h k e = two_state b c h k ∙ ap (λ (m : ℕ). Some (pos m)) (sym e)
-two_stated (b ∷ c ∷ d ∷ more) n long h k e = absurd (omega arith)
+unfolding number_value
+two_stated (b ∷ c ∷ []) n long h k e =
+    stated (b ∷ c ∷ []) n (no_sign b (c ∷ []) h) (omega (arith, value_of b h, value_of c k)) (omega (arith, h.1, k.1))
+two_stated _ n long h k e = absurd (omega arith)
 
 pub three_stated : (text : List ℕ) (n : ℕ) → length text ≡ 3 → IsInRange 48 57 (get_or text 0 0) → IsInRange 48 57 (get_or text 1 0)
     → IsInRange 48 57 (get_or text 2 0) → n ≡ 100 * (get_or text 0 0 - 48) + (10 * (get_or text 1 0 - 48) + (get_or text 2 0 - 48))
     → stated_number text ≡ Some (pos n)
-three_stated [] n long g h k e = absurd (omega arith)
-three_stated (a ∷ []) n long g h k e = absurd (omega arith)
-three_stated (a ∷ b ∷ []) n long g h k e = absurd (omega arith)
-three_stated (a ∷ b ∷ c ∷ []) n long g h k e = three_state a b c g h k ∙ ap (λ (m : ℕ). Some (pos m)) (sym e)
-three_stated (a ∷ b ∷ c ∷ d ∷ more) n long g h k e = absurd (omega arith)
+unfolding number_value
+three_stated (a ∷ b ∷ c ∷ []) n long g h k e = stated (a ∷ b ∷ c ∷ []) n (no_sign a (b ∷ c ∷ []) g)
+    (omega (arith, value_of a g, value_of b h, value_of c k)) (omega (arith, g.1, h.1, k.1))
+three_stated _ n long g h k e = absurd (omega arith)

@@ -13,13 +13,13 @@ use Rattle.smi_value.specs.hint.Pieces.{ArePieces, IsCut, IsGroup, AreGroups, Sh
 use Rattle.smi_value.specs.hint.Pieces.{piece_text, pieces_text, mark_before, last_mark, body_of}
 use Rattle.smi_value.specs.hint.Pieces.{specs_after, is_single, single_text, marked_text, singles_text}
 use Rattle.smi_value.specs.declared.hint.spec.OctetFormat.{OctetFormat}
-use Rattle.std.proofs.Common.{map, append_assoc, not, ◌&&◌}
-use Rattle.std.proofs.lemmas.Bool.{eqb-true, cases_order}
+use Rattle.std.proofs.Common.{map, append_assoc, not}
+use Rattle.std.proofs.lemmas.Bool.{and_parts, not-true, eqb-true, cases_order}
 use Rattle.std.proofs.Common.{min}
 use Rattle.std.specs.List.{flat_map}
 use Rattle.std.proofs.lemmas.List.{length-map, length-take, length-take-le, drop_all}
 use Rattle.smi_value.proofs.Growing.{grows_none, grows_both, adds_from}
-use Rattle.smi_value.proofs.Specs.{same_spec, same_rest, Begins, begins}
+use Rattle.smi_value.proofs.Specs.{after_first, first_some, Begins}
 
 -- from `old` to `new` the text of some pieces of the octets is appended
 pub record AppendsPieces (spec : Spec) (times : ℕ) (octets : List ℕ) (old new : Written) (rest : List ℕ) : Type 0 where
@@ -203,21 +203,17 @@ hint_begins hint (spec ∷ more) h = record { spec = spec; rest = h.read.0; more
 pub groups_begin : (hint octets : List ℕ) (old : Written) (spec : Spec) (ahead : List ℕ) (all : List Spec) → IsOctetHint hint all → IsFirstSpec hint spec ahead
     → GroupsAhead hint octets old spec ahead octets old
 groups_begin hint octets old spec ahead all is_hint is_first =
-    let b = hint_begins hint all is_hint in
-    let same : b.spec ≡ spec = same_spec hint b.spec spec b.rest ahead b.is_first is_first in
-    let after : b.rest ≡ ahead = same_rest hint b.spec spec b.rest ahead b.is_first is_first in
-    let whole : all ≡ spec ∷ b.more = b.whole ∙ ap (λ (s : Spec). s ∷ b.more) same in
-    let known : IsOctetHint hint (spec ∷ b.more) = rw whole at is_hint in
+    let (more, are, whole) = after_first hint all spec ahead is_first is_hint.read in
+    let known : IsOctetHint hint (spec ∷ more) = rw whole at is_hint in
     record {
-      specs = b.more;
-      are_specs = rw after at b.are_more;
+      specs = more;
+      are_specs = are;
       ends = known.ends;
       fits = is_first.fits;
       whole = λ new h. record {
         text = h.text;
-        shows = record { specs = spec ∷ b.more; groups = h.groups; is_hint = known; are_groups = h.are_groups };
-        grows =
-            h.grows;
+        shows = record { specs = spec ∷ more; groups = h.groups; is_hint = known; are_groups = h.are_groups };
+        grows = h.grows;
       };
     }
 
@@ -233,52 +229,49 @@ group_before spec specs pieces left rest old now new group adds h = record {
 }
 
 pub group_then_next : (hint octets : List ℕ) (old : Written) (spec next : Spec) (ahead after left rest : List ℕ) (now new : Written) (pieces : List (List ℕ))
-    → ahead ≢ [] → IsFirstSpec ahead next after
+    → IsFirstSpec ahead next after
     → IsGroup spec pieces left rest → Adds now (pieces_text spec pieces rest) new → GroupsAhead hint octets old spec ahead left now
     → GroupsAhead hint octets old next after rest new
-group_then_next hint octets old spec next ahead after left rest now new pieces some is_first group adds h =
-    let b = begins ahead h.specs some h.are_specs in
-    let same : b.spec ≡ next = same_spec ahead b.spec next b.rest after b.is_first is_first in
-    let follows : b.rest ≡ after = same_rest ahead b.spec next b.rest after b.is_first is_first in
-    let whole : h.specs ≡ next ∷ b.more = b.whole ∙ ap (λ (s : Spec). s ∷ b.more) same in
-    let ends : LastTakesOctets (spec ∷ next ∷ b.more) = rw whole at h.ends in
+group_then_next hint octets old spec next ahead after left rest now new pieces is_first group adds h =
+    let (more, are, whole) = after_first ahead h.specs next after is_first h.are_specs in
+    let ends : LastTakesOctets (spec ∷ next ∷ more) = rw whole at h.ends in
     record {
-      specs = b.more;
-      are_specs = rw follows at b.are_more;
+      specs = more;
+      are_specs = are;
       ends = ends;
       fits = is_first.fits;
       whole = λ last k.
           let P : List Spec → Type 0 = λ s. AppendsGroups (spec ∷ s) left now last in
-          h.whole last (subst P (sym whole) (group_before spec (next ∷ b.more) pieces left rest now new last group adds k));
+          h.whole last (subst P (sym whole) (group_before spec (next ∷ more) pieces left rest now new last group adds k));
     }
 
-no_specs : (specs : List Spec) → AreSpecs [] specs → specs ≡ []
-no_specs [] are = refl
-no_specs (spec ∷ more) are = absurd (are.1.digits refl)
+no_specs : (ahead : List ℕ) (specs : List Spec) → ahead ≡ [] → AreSpecs ahead specs → specs ≡ []
+no_specs ahead [] none are = refl
+no_specs ahead (spec ∷ more) none are = absurd (first_some ahead spec are.0 are.1 none)
 
-pub last_takes : (hint octets : List ℕ) (old : Written) (spec : Spec) (left : List ℕ) (now : Written) → GroupsAhead hint octets old spec [] left now
-    → takes_octets spec ≡ true
-last_takes hint octets old spec left now h = rw (no_specs h.specs h.are_specs) at h.ends
+pub last_takes : (hint octets : List ℕ) (old : Written) (spec : Spec) (ahead left : List ℕ) (now : Written) → ahead ≡ []
+    → GroupsAhead hint octets old spec ahead left now → takes_octets spec ≡ true
+last_takes hint octets old spec ahead left now none h = rw (no_specs ahead h.specs none h.are_specs) at h.ends
 
-pub group_then_again : (hint octets : List ℕ) (old : Written) (spec : Spec) (left rest : List ℕ) (now new : Written) (pieces : List (List ℕ))
-    → IsGroup spec pieces left rest → Adds now (pieces_text spec pieces rest) new → GroupsAhead hint octets old spec [] left now
-    → GroupsAhead hint octets old spec [] rest new
-group_then_again hint octets old spec left rest now new pieces group adds h =
-    let none : h.specs ≡ [] = no_specs h.specs h.are_specs in
+pub group_then_again : (hint octets : List ℕ) (old : Written) (spec : Spec) (ahead left rest : List ℕ) (now new : Written) (pieces : List (List ℕ)) → ahead ≡ []
+    → IsGroup spec pieces left rest → Adds now (pieces_text spec pieces rest) new → GroupsAhead hint octets old spec ahead left now
+    → GroupsAhead hint octets old spec ahead rest new
+group_then_again hint octets old spec ahead left rest now new pieces none group adds h =
+    let alone = no_specs ahead h.specs none h.are_specs in
     record {
       specs = [];
-      are_specs = refl;
-      ends = rw none at h.ends;
+      are_specs = none;
+      ends = rw alone at h.ends;
       fits = h.fits;
       whole = λ last k.
           let P : List Spec → Type 0 = λ s. AppendsGroups (spec ∷ s) left now last in
-          h.whole last (subst P (sym none) (group_before spec [] pieces left rest now new last group adds k));
+          h.whole last (subst P (sym alone) (group_before spec [] pieces left rest now new last group adds k));
     }
 
-pub groups_end : (hint octets : List ℕ) (old : Written) (spec : Spec) (ahead : List ℕ) (now : Written) → GroupsAhead hint octets old spec ahead [] now
-    → (text : List ℕ) × ShowsOctets hint octets text × Adds old text now
-groups_end hint octets old spec ahead now h =
-    let all = h.whole now (record { groups = []; text = []; are_groups = (refl, refl); grows = grows_none now }) in
+pub groups_end : (hint octets : List ℕ) (old : Written) (spec : Spec) (ahead left : List ℕ) (now : Written) → left ≡ []
+    → GroupsAhead hint octets old spec ahead left now → (text : List ℕ) × ShowsOctets hint octets text × Adds old text now
+groups_end hint octets old spec ahead left now none h =
+    let all = h.whole now (record { groups = []; text = []; are_groups = (none, refl); grows = grows_none now }) in
     (all.text, all.shows, adds_from old now all.text all.grows)
 
 -- ---- a last spec that shows each octet alone
@@ -311,20 +304,17 @@ are_alone spec e f (octet ∷ more) = (
 )
 
 single_is : (spec : Spec) → is_single spec ≡ true → (spec.is_counted ≡ false) × (spec.length ≡ 1)
-single_is spec h = go spec.is_counted refl h
-  where
-    go : (b : Bool) → spec.is_counted ≡ b → (not b && (spec.length == 1)) ≡ true → (spec.is_counted ≡ false) × (spec.length ≡ 1)
-    go true e k = absurd (cc k)
-    go false e k = (e, eqb-true spec.length 1 k)
+single_is spec h =
+    let both = and_parts (not spec.is_counted) (spec.length == 1) h in
+    (not-true spec.is_counted both.0, eqb-true spec.length 1 both.1)
 
-pub groups_alone : (hint octets : List ℕ) (old : Written) (spec : Spec) (left : List ℕ) (now new : Written) → is_single spec ≡ true
-    → Adds now (singles_text spec.format (last_mark spec) left) new → GroupsAhead hint octets old spec [] left now
+pub groups_alone : (hint octets : List ℕ) (old : Written) (spec : Spec) (ahead left : List ℕ) (now new : Written) → ahead ≡ [] → is_single spec ≡ true
+    → Adds now (singles_text spec.format (last_mark spec) left) new → GroupsAhead hint octets old spec ahead left now
     → (text : List ℕ) × ShowsOctets hint octets text × Adds old text new
-groups_alone hint octets old spec left now new single adds h =
-    let none : h.specs ≡ [] = no_specs h.specs h.are_specs in
+groups_alone hint octets old spec ahead left now new none single adds h =
     let is = single_is spec single in
     let P : List Spec → Type 0 = λ s. AppendsGroups (spec ∷ s) left now new in
-    let all = h.whole new (subst P (sym none) (record {
+    let all = h.whole new (subst P (sym (no_specs ahead h.specs none h.are_specs)) (record {
       groups = map alone left;
       text = singles_text spec.format (last_mark spec) left;
       are_groups = are_alone spec is.0 is.1 left;

@@ -1,12 +1,12 @@
 -- Strings that stand between quotes as they are.
-use Rattle.std.proofs.Common.{◌≡◌, ℕ, suc, ◌+◌, ◌%◌, ◌^◌, ◌<◌, ◌≤◌, Bool, true, false, cond, ltb, eqb}
+use Rattle.std.proofs.Common.{◌≡◌, ℕ, suc, ◌+◌, ◌%◌, ◌^◌, ◌≤◌, Bool, true, false, cond, ltb, eqb}
 use Rattle.std.proofs.Common.{List, [], ◌∷◌, length, get_or, map, replicate, w8, refl, sym, ap, ◌∙◌, arith}
 use Rattle.std.proofs.Common.{rules, tests}
 use Rattle.std.proofs.Common.{◌||◌, not}
 use Rattle.std.specs.Bool.{◌==◌, nat_le, OnTrue}
 use Rattle.std.specs.List.{flat_map, list_all}
-use Rattle.std.proofs.Common.{◌⊎◌, inl, inr}
-use Rattle.std.proofs.lemmas.Bool.{and_parts, and_from, not-true, cases_order, eqb-true}
+use Rattle.std.proofs.Common.{inl, inr}
+use Rattle.std.proofs.lemmas.Bool.{and_parts, and_from, cases_lt, not-true, eqb-true, OnTrue_from}
 use Rattle.std.proofs.lemmas.List.{length-map}
 use Rattle.std.proofs.lemmas.Simd.{length-chunk, bitmask_splat, tops_compared, zip2_splat_left, mask_l-mod}
 use Rattle.std.proofs.lemmas.Simd.{none_from_empty_mask}
@@ -28,10 +28,6 @@ plain_by_tests octet low high quote backslash =
     let from : nat_le 32 octet ≡ true = search (rules, tests) in
     let to : nat_le octet 126 ≡ true = search (rules, tests) in
     rw (from, to, quote, backslash) refl
-
-on_true : (b : Bool) (P : Type 0) → (b ≡ true → P) → OnTrue b P
-on_true true P f = f refl
-on_true false P f = tt
 
 -- the masks of the octets from one place on: those below and those above another, and those equal to it
 abbrev mask_below : List ℕ → ℕ → ℕ → ℕ → ℕ
@@ -64,16 +60,11 @@ pub plain_lanes : (octets : List ℕ) (at n : ℕ) → at + n ≤ length octets 
 plain_lanes octets at n room few low high quote =
     let all : (mask_equal octets at n 92 == 0) ≡ true → ArePlain octets at (at + n) = λ e.
     lanes_pass octets at n room few low high quote (eqb-true (mask_equal octets at n 92) 0 e) in
-    on_true (mask_equal octets at n 92 == 0) (ArePlain octets at (at + n)) all
+    OnTrue_from (mask_equal octets at n 92 == 0) (ArePlain octets at (at + n)) all
 
 -- the places before one and those from it on
 pub plain_both : (octets : List ℕ) (to from end : ℕ) → from ≤ to → ArePlain octets 0 to → ArePlain octets from end → ArePlain octets 0 end
-plain_both octets to from end meet h k i low high = go (cases_order i to)
-  where
-    go : (i ≡ to) ⊎ ((i < to) ⊎ (to < i)) → is_plain (get_or octets i 0) ≡ true
-    go (inl same) = k i (omega arith) high
-    go (inr (inl less)) = h i (omega arith) less
-    go (inr (inr more)) = k i (omega arith) high
+plain_both octets to from end meet h k i low high = elim (cases_lt i to) [ inl less ↦ h i low less | inr more ↦ k i (omega arith) high ]
 
 shown_same : (octets : List ℕ) → ArePlain octets 0 (length octets)
     → (list_all is_printable octets ≡ true) × (flat_map (λ octet. escaped (dotted octet)) octets ≡ octets)

@@ -22,8 +22,7 @@ last_more letters text octet = ap (find (is_one_of letters)) (reverse-append tex
 either_way : (x o y : Bool) → (x || (if o then true else y)) ≡ (if o then true else (x || y))
 either_way true true y = refl
 either_way true false y = refl
-either_way false true y = refl
-either_way false false y = refl
+either_way false o y = refl
 
 has_more : (letter : ℕ) (text : List ℕ) (octet : ℕ) → has_letter letter (text ++ octet ∷ []) ≡ (if octet == letter then true else has_letter letter text)
 has_more letter [] octet = alone (octet == letter)

@@ -1,6 +1,6 @@
 -- The specs of a text, read from the front.
 use Rattle.std.proofs.Common.{◌≡◌, ◌≢◌, ℕ, Bool, true, false, List, [], ◌∷◌, refl}
-use Rattle.std.proofs.Common.{inl, inr, subst, arith}
+use Rattle.std.proofs.Common.{ap, inl, inr, subst, arith}
 use Rattle.std.proofs.Common.{◌<◌, ◌≤◌}
 use Rattle.smi_value.specs.hint.Number.{StartsWithNumber, IsNumberHint}
 use Rattle.smi_value.specs.hint.Hint.{IsOfNumbers, IsOfOctets}
@@ -78,17 +78,22 @@ pub first_some : (text : List ℕ) (spec : Spec) (rest : List ℕ) → IsFirstSp
 first_some [] spec rest h = λ _. h.digits refl
 first_some (octet ∷ more) spec rest h = λ no. absurd (cc no)
 
+-- what stands after the first spec of a text
+pub after_first : (text : List ℕ) (specs : List Spec) (spec : Spec) (rest : List ℕ) → IsFirstSpec text spec rest → AreSpecs text specs
+    → (more : List Spec) × AreSpecs rest more × (specs ≡ spec ∷ more)
+after_first text [] spec rest h are = absurd (first_some text spec rest h are)
+after_first text (first ∷ more) spec rest h (left, is, are) =
+    (more, rw (← same_rest text first spec left rest is h) are, ap (λ (s : Spec). s ∷ more) (same_spec text first spec left rest is h))
+
 pub goes_on_next : (text rest next : List ℕ) (before : Bool) (spec : Spec) → rest ≢ [] → IsFirstSpec rest spec next → GoesOn text rest before
     → GoesOn text next (takes_octets spec)
 goes_on_next text rest next before spec some is_first h = record {
   whole = λ specs are ends. h.whole (spec ∷ specs) (next, is_first, are) ends;
   part = λ all hint.
       let had = h.part all hint in
-      let b = begins rest had.0 some had.1 in
-      let same : b.spec ≡ spec = same_spec rest b.spec spec b.rest next b.is_first is_first in
-      let after : b.rest ≡ next = same_rest rest b.spec spec b.rest next b.is_first is_first in
-      let ends : TakesAfter before (b.spec ∷ b.more) = rw b.whole at had.2 in
-      (b.more, rw after at b.are_more, rw same at ends);
+      let (more, are, is) = after_first rest had.0 spec next is_first had.1 in
+      let ends : TakesAfter before (spec ∷ more) = rw is at had.2 in
+      (more, are, ends);
 }
 
 pub no_hint : (text rest : List ℕ) (before : Bool) → rest ≢ [] → ((spec : Spec) (next : List ℕ) → IsFirstSpec rest spec next → ⊥) → GoesOn text rest before
@@ -106,10 +111,8 @@ at_end text before h all hint = go (h.part all hint).0 (h.part all hint).1 (h.pa
     go (spec ∷ more) are ends = absurd (are.1.digits refl)
 
 most_octets-le : (format : OctetFormat) → most_octets format ≤ 65535
-most_octets-le octet_format.Hexadecimal = omega arith
-most_octets-le octet_format.Decimal = omega arith
-most_octets-le octet_format.Octal = omega arith
 most_octets-le octet_format.Text = omega arith
+most_octets-le _ = omega arith
 
 -- no number of a length that a spec may have
 pub no_length : (text after : List ℕ) → after ≡ after_star text → ((number : ℕ) (rest : List ℕ) → StartsWithNumber after number rest → 65535 < number)
@@ -125,9 +128,7 @@ pub not_both : (text : List ℕ) (form : NumberForm) (specs : List Spec) → IsN
 not_both text form [] h k = k.ends
 not_both text (form.Decimal places) (spec ∷ more) (inl h) k = (rw h.0 at k.read.1.digits) refl
 not_both text (form.Decimal places) (spec ∷ more) (inr h) k = (rw h.whole at k.read.1.digits) refl
-not_both text form.Hexadecimal (spec ∷ more) h k = (rw h at k.read.1.digits) refl
-not_both text form.Octal (spec ∷ more) h k = (rw h at k.read.1.digits) refl
-not_both text form.Binary (spec ∷ more) h k = (rw h at k.read.1.digits) refl
+not_both text _ (spec ∷ more) h k = (rw h at k.read.1.digits) refl
 
 -- what is kept of a hint, by its kind
 pub of_number : (text : List ℕ) (form : HintForm) (number : NumberForm) → form ≡ kept.Number number → IsFormOf text form → IsNumberHint text number

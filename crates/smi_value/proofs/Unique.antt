@@ -94,21 +94,10 @@ same_places text p q (inr h) (inr k) =
 same_letter : (f g : NumberForm) → letter f ≡ letter g → (text : List ℕ) → IsNumberHint text f → IsNumberHint text g → f ≡ g
 unfolding letter
 same_letter (form.Decimal p) (form.Decimal q) e text h k = ap (λ (n : ℕ). form.Decimal n) (same_places text p q h k)
-same_letter (form.Decimal p) form.Hexadecimal e text h k = absurd (omega arith)
-same_letter (form.Decimal p) form.Octal e text h k = absurd (omega arith)
-same_letter (form.Decimal p) form.Binary e text h k = absurd (omega arith)
-same_letter form.Hexadecimal (form.Decimal q) e text h k = absurd (omega arith)
 same_letter form.Hexadecimal form.Hexadecimal e text h k = refl
-same_letter form.Hexadecimal form.Octal e text h k = absurd (omega arith)
-same_letter form.Hexadecimal form.Binary e text h k = absurd (omega arith)
-same_letter form.Octal (form.Decimal q) e text h k = absurd (omega arith)
-same_letter form.Octal form.Hexadecimal e text h k = absurd (omega arith)
 same_letter form.Octal form.Octal e text h k = refl
-same_letter form.Octal form.Binary e text h k = absurd (omega arith)
-same_letter form.Binary (form.Decimal q) e text h k = absurd (omega arith)
-same_letter form.Binary form.Hexadecimal e text h k = absurd (omega arith)
-same_letter form.Binary form.Octal e text h k = absurd (omega arith)
 same_letter form.Binary form.Binary e text h k = refl
+same_letter _ _ e text h k = absurd (omega arith)
 
 pub same_number : (hint : List ℕ) (n : ℤ) (first second : List ℕ) → ShowsNumber hint n first → ShowsNumber hint n second → first ≡ second
 same_number hint n first second h k =

@@ -2,10 +2,7 @@
 use Rattle.std.proofs.Common.{◌≡◌, ℕ, ℤ, Bool, true, false, MatchBool, inl, inr, List, ◌++◌}
 use Rattle.std.proofs.Common.{Option, Some, None, sym, ◌∙◌, ap}
 use Rattle.std.specs.Prelude.{pos, codes}
-use Rattle.snmp_wire.specs.ber.Value.{Datum, integer_value, octet_string, null_value, object_id}
-use Rattle.snmp_wire.specs.ber.Value.{ip_address, counter32, gauge32, time_ticks}
-use Rattle.snmp_wire.specs.ber.Value.{opaque_octets, counter64, no_such_object, no_such_instance}
-use Rattle.snmp_wire.specs.ber.Value.{end_of_mib_view}
+use Rattle.snmp_wire.specs.ber.Value.{Datum, integer_value, octet_string, object_id, gauge32}
 use Rattle.smi_text.specs.declared.trees.tree.NamedNumber.{NamedNumber}
 use Rattle.smi_value.specs.declared.base.ValueBase.TheVariants as base
 use Rattle.smi_value.specs.declared.letters.letters.Letters.{Letters}
@@ -61,16 +58,8 @@ module _ (letters : Letters) where
   value_once names others same syntax (integer_value n) a b h k =
       let at = syntax_at base.Integer syntax in integer_once at n (name_of_number at.names n) a b h k
   value_once names others same syntax (octet_string octets) a b h k = octets_once syntax octets a b h k
-  value_once names others same syntax null_value a b h k = h ∙ sym k
   value_once names others same syntax (object_id name) a b h k =
       h ∙ ap (λ (t : List ℕ). type_word letters (codes "OID: ") ++ t) (same name) ∙ sym k
-  value_once names others same syntax (ip_address octets) a b h k = h ∙ sym k
-  value_once names others same syntax (counter32 n) a b h k = h ∙ sym k
   value_once names others same syntax (gauge32 n) a b h k =
       let at = syntax_at base.Gauge32 syntax in typed_once (codes "Gauge32: ") at.hint at.units (pos n) a b h k
-  value_once names others same syntax (time_ticks n) a b h k = h ∙ sym k
-  value_once names others same syntax (opaque_octets octets) a b h k = h ∙ sym k
-  value_once names others same syntax (counter64 n) a b h k = h ∙ sym k
-  value_once names others same syntax no_such_object a b h k = h ∙ sym k
-  value_once names others same syntax no_such_instance a b h k = h ∙ sym k
-  value_once names others same syntax end_of_mib_view a b h k = h ∙ sym k
+  value_once names others same syntax _ a b h k = h ∙ sym k

@@ -1,5 +1,5 @@
-use Rattle.std.proofs.Common.{◌≡◌, ◌≢◌, List, [], subst, sym, rules, arith}
-use Rattle.smi_value.proofs.Groups.{GroupsAhead, groups_begin, groups_end, groups_alone}
+use Rattle.std.proofs.Common.{◌≡◌, [], rules, arith}
+use Rattle.smi_value.proofs.Groups.{groups_begin, groups_end, groups_alone}
 use Rattle.smi_value.proofs.Groups.{group_then_next, group_then_again, group_no_longer}
 use Rattle.smi_value.proofs.Groups.{group_shorter}
 use Rattle.smi_value.proofs.Groups.{last_takes}
@@ -11,11 +11,9 @@ groups-init c = groups_begin c.args.hint.now c.args.octets.now c.args.draft.now 
 
 pub returns-then-is_single : goal.returns-then-is_single
 returns-then-is_single c =
-    let none : c.groups.ahead.now ≡ [] = search rules in
-    let P : List _ → Type 0 = λ ahead. GroupsAhead c.args.hint.now c.args.octets.now c.args.draft.now c.groups.spec ahead c.groups.left.now c.groups.draft in
     let adds = rw c.last_mark.ensures at c.append_singles.ensures in
-    groups_alone c.args.hint.now c.args.octets.now c.args.draft.now c.groups.spec c.groups.left.now c.groups.draft _ (search rules) adds
-    (subst P none c.groups.invariant)
+    groups_alone c.args.hint.now c.args.octets.now c.args.draft.now c.groups.spec c.groups.ahead.now c.groups.left.now c.groups.draft _ (search rules)
+    (search rules) adds c.groups.invariant
 
 pub groups-smaller-then-not-is_empty : goal.groups-smaller-then-not-is_empty
 groups-smaller-then-not-is_empty c =
@@ -24,31 +22,24 @@ groups-smaller-then-not-is_empty c =
 
 pub groups-preserved-then-not-is_empty : goal.groups-preserved-then-not-is_empty
 groups-preserved-then-not-is_empty c =
-    let some : c.groups.ahead.now ≢ [] = search rules in
     group_then_next c.args.hint.now c.args.octets.now c.args.draft.now c.groups.spec _ c.groups.ahead.now _ c.groups.left.now _ c.groups.draft _
-    c.append_group-left.ensures.0 some
+    c.append_group-left.ensures.0
     c.next_spec.ensures.first c.append_group-left.ensures.1 c.append_group-left.ensures.2 c.groups.invariant
 
 pub groups-smaller : goal.groups-smaller
 groups-smaller c =
     let none : c.groups.ahead.now ≡ [] = search rules in
-    let P : List _ → Type 0 = λ ahead. GroupsAhead c.args.hint.now c.args.octets.now c.args.draft.now c.groups.spec ahead c.groups.left.now c.groups.draft in
-    let takes = last_takes _ _ _ _ _ _ (subst P none c.groups.invariant) in
+    let takes = last_takes _ _ _ _ _ _ _ none c.groups.invariant in
     let lt = group_shorter _ _ _ _ takes c.append_group-left.ensures.1 in
     omega (arith, lt)
 
 pub groups-preserved : goal.groups-preserved
 groups-preserved c =
-    let none : c.groups.ahead.now ≡ [] = search rules in
-    let P : List _ → Type 0 = λ ahead. GroupsAhead c.args.hint.now c.args.octets.now c.args.draft.now c.groups.spec ahead c.groups.left.now c.groups.draft in
-    let Q : List _ → Type 0 = λ ahead. GroupsAhead c.args.hint.now c.args.octets.now c.args.draft.now c.groups.spec ahead c.append_group-left.result.now
-    c.append_group-left.new.draft in
-    subst Q (sym none) (group_then_again c.args.hint.now c.args.octets.now c.args.draft.now c.groups.spec c.groups.left.now _ c.groups.draft _
-    c.append_group-left.ensures.0
-    c.append_group-left.ensures.1 c.append_group-left.ensures.2 (subst P none c.groups.invariant))
+    group_then_again c.args.hint.now c.args.octets.now c.args.draft.now c.groups.spec c.groups.ahead.now c.groups.left.now _ c.groups.draft _
+    c.append_group-left.ensures.0 (search rules)
+    c.append_group-left.ensures.1 c.append_group-left.ensures.2 c.groups.invariant
 
 pub returns : goal.returns
 returns c =
-    let none : c.groups.left.now ≡ [] = none_left _ _ c.is_empty.ensures c.groups-test.false in
-    let P : List _ → Type 0 = λ left. GroupsAhead c.args.hint.now c.args.octets.now c.args.draft.now c.groups.spec c.groups.ahead.now left c.groups.draft in
-    groups_end c.args.hint.now c.args.octets.now c.args.draft.now c.groups.spec c.groups.ahead.now c.groups.draft (subst P none c.groups.invariant)
+    groups_end c.args.hint.now c.args.octets.now c.args.draft.now c.groups.spec c.groups.ahead.now c.groups.left.now c.groups.draft
+    (none_left _ _ c.is_empty.ensures c.groups-test.false) c.groups.invariant
