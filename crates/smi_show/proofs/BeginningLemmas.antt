@@ -1,11 +1,11 @@
 -- The beginnings of an identifier with one number more.
-use Rattle.std.proofs.Common.{◌≡◌, ℕ, List, [], ◌∷◌, ◌++◌, map, refl, sym, ◌∙◌, ap}
+use Rattle.std.proofs.Common.{◌≡◌, ℕ, List, [], ◌∷◌, ◌++◌, map, refl, ◌∙◌, ap}
 use Rattle.std.specs.List.{flat_map}
 use Rattle.std.proofs.lemmas.List.{append-nil, map-append}
 use Rattle.std.proofs.lemmas.List.Concat.{flat_map-append}
 use Rattle.smi_show.specs.name.Beginnings.{beginnings, last_number}
 
-pub last_is : (o : List ℕ) (n : ℕ) → last_number (o ++ n ∷ []) ≡ n
+last_is : (o : List ℕ) (n : ℕ) → last_number (o ++ n ∷ []) ≡ n
 last_is [] n = refl
 last_is (m ∷ []) n = refl
 last_is (m ∷ next ∷ o) n = last_is (next ∷ o) n
@@ -18,9 +18,10 @@ beginnings_more (m ∷ o) n =
     ap (λ (fronts : List (List ℕ)). (m ∷ []) ∷ map behind fronts) (beginnings_more o n)
     ∙ ap (λ (fronts : List (List ℕ)). (m ∷ []) ∷ fronts) (map-append behind (beginnings o) ((o ++ n ∷ []) ∷ []))
 
-pub text_more : (text : List ℕ → List ℕ) (o : List ℕ) (n : ℕ)
-    → flat_map text (beginnings o) ++ text (o ++ n ∷ []) ≡ flat_map text (beginnings (o ++ n ∷ []))
-text_more text o n =
-    ap (λ (t : List ℕ). flat_map text (beginnings o) ++ t) (sym (append-nil (text (o ++ n ∷ []))))
-    ∙ sym (flat_map-append text (beginnings o) ((o ++ n ∷ []) ∷ []))
-    ∙ ap (flat_map text) (sym (beginnings_more o n))
+-- what is shown of each beginning, by its last number
+pub text_more : (one : List ℕ → ℕ → List ℕ) (here next : List ℕ) (n : ℕ) → next ≡ here ++ n ∷ []
+    → flat_map (λ o. one o (last_number o)) (beginnings here) ++ one next n ≡ flat_map (λ o. one o (last_number o)) (beginnings next)
+text_more one here next n is =
+    let text : List ℕ → List ℕ = λ o. one o (last_number o) in
+    let both = flat_map-append text (beginnings here) ((here ++ n ∷ []) ∷ []) in
+    rw (is, beginnings_more here n, both, append-nil (text (here ++ n ∷ [])), last_is here n) refl

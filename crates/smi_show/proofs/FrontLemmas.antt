@@ -6,34 +6,33 @@ use Rattle.snmp_oid.specs.Numeric.{IsNumeral, IsPartRead, dot}
 use Rattle.smi_show.specs.declared.name.error.NameError.{NameError}
 use Rattle.smi_show.specs.name.Cutting.{name_parts}
 use Rattle.smi_show.specs.name.Left.{parts_left}
-use Rattle.smi_show.specs.name.Meaning.{and_then, fitting, further_meaning, later_word_meaning}
+use Rattle.smi_show.specs.name.Meaning.{and_then, fitting, further_meaning, parts_meaning}
+use Rattle.smi_show.specs.name.Meaning.{word_meaning}
 use Rattle.smi_show.specs.name.Naming.{Naming}
 use Rattle.smi_show.specs.name.Word.{Word}
 use Rattle.smi_show.proofs.PlainLemmas.{plain_digits}
-use Rattle.smi_show.proofs.ShownLemmas.{plain_is_whole}
+use Rattle.smi_show.proofs.ShownLemmas.{IsWhole, cuts, plain_is_whole}
 use Rattle.smi_show.proofs.WordLemmas.{digits_word}
 
-pub number_parts : (text part : List ℕ) (n : ℕ) (after : Option (List ℕ)) → IsNumeral part n
-    → MatchOption after (text ≡ part) (λ rest. text ≡ part ++ dot ∷ rest)
-    → name_parts text ≡ part ∷ parts_left after
-number_parts text part n None numeral is =
-    let whole = plain_is_whole part (plain_digits part numeral.digits) in
-    ap name_parts (is ∙ sym (append-nil part)) ∙ whole.cuts [] ∙ ap (λ (t : List ℕ). t ∷ []) (append-nil part)
-number_parts text part n (Some rest) numeral is =
-    let whole = plain_is_whole part (plain_digits part numeral.digits) in
-    ap name_parts is ∙ whole.cuts (dot ∷ rest) ∙ ap (λ (t : List ℕ). t ∷ name_parts rest) (append-nil part)
-
 -- a number in front of further parts
-pub number_next : (naming : Naming) (o text part : List ℕ) (n : ℕ) (after : Option (List ℕ)) → IsNumeral part n
+pub number_next : (naming : Naming) (look_up : List ℕ → Option (List ℕ)) (o text part : List ℕ) (n : ℕ) (after : Option (List ℕ)) → IsNumeral part n
     → MatchOption after (text ≡ part) (λ rest. text ≡ part ++ dot ∷ rest)
-    → further_meaning naming o (name_parts text)
+    → parts_meaning naming look_up o (name_parts text)
     ≡ and_then (fitting (o ++ n ∷ [])) (λ p. further_meaning naming p (parts_left after))
-number_next naming o text part n after numeral is =
-    ap (further_meaning naming o) (number_parts text part n after numeral is)
-    ∙ ap (λ (w : Result Word NameError). and_then (and_then w (later_word_meaning naming o)) (λ p. further_meaning naming p (parts_left after)))
+number_next naming look_up o text part n after numeral is =
+    ap (parts_meaning naming look_up o) (number_parts after is)
+    ∙ ap (λ (w : Result Word NameError). and_then (and_then w (word_meaning look_up o)) (λ p. further_meaning naming p (parts_left after)))
     (digits_word part n numeral)
+  where
+    whole : IsWhole part
+    whole = plain_is_whole part (plain_digits part numeral.digits)
+
+    number_parts : (after : Option (List ℕ)) → MatchOption after (text ≡ part) (λ rest. text ≡ part ++ dot ∷ rest)
+        → name_parts text ≡ part ∷ parts_left after
+    number_parts None is = ap name_parts (is ∙ sym (append-nil part)) ∙ cuts part [] whole ∙ ap (λ (t : List ℕ). t ∷ []) (append-nil part)
+    number_parts (Some rest) is = ap name_parts is ∙ cuts part (dot ∷ rest) whole ∙ ap (λ (t : List ℕ). t ∷ name_parts rest) (append-nil part)
 
 pub number_further : (naming : Naming) (o text : List ℕ) (n : ℕ) (after : Option (List ℕ)) → IsPartRead text (Some n) after
     → further_meaning naming o (name_parts text)
     ≡ and_then (fitting (o ++ n ∷ [])) (λ p. further_meaning naming p (parts_left after))
-number_further naming o text n after h = number_next naming o text h.part n after h.read h.parts
+number_further naming o text n after h = number_next naming (naming.child o) o text h.part n after h.read h.parts

@@ -1,8 +1,8 @@
 -- The text of the numbers at the front of a list, one number more at a time.
-use Rattle.std.proofs.Common.{◌≡◌, ◌<◌, ◌≤◌, ◌+◌, ◌*◌, ◌++◌, ◌∷◌, [], ℕ, List, get_or, codes, decimal, length, take, sym, ap, ◌∙◌, append_assoc, arith}
+use Rattle.std.proofs.Common.{◌≡◌, ◌<◌, ◌≤◌, ◌+◌, ◌*◌, ◌++◌, ◌∷◌, [], ℕ, List, get_or, codes, decimal, length, take, refl, sym, ap, ◌∙◌, append_assoc, arith}
 use Rattle.std.proofs.lemmas.List.{take_more, map_push, flat_map_more}
 use Rattle.smi_show.specs.index.Pieces.{as_numbers, dotted_text, plain_number, shown_pieces}
-use Rattle.smi_show.proofs.DigitLemmas.{digit_is}
+use Rattle.std.proofs.lemmas.Fmt.{decimal_digit}
 
 abbrev shown : List ℕ → List ℕ
 shown numbers = shown_pieces (as_numbers numbers)
@@ -15,16 +15,13 @@ shown_more numbers n =
 digit_more : (numbers : List ℕ) (i : ℕ) → i < length numbers → get_or numbers i 0 < 10
     → shown (take (i + 1) numbers) ≡ shown (take i numbers) ++ 46 ∷ (48 + get_or numbers i 0) ∷ []
 digit_more numbers i within short =
-    ap shown (take_more numbers i 0 within) ∙ sym (shown_more (take i numbers) (get_or numbers i 0))
-    ∙ ap (λ t. shown (take i numbers) ++ 46 ∷ t) (digit_is (get_or numbers i 0) short)
+    rw (take_more numbers i 0 within, ← shown_more (take i numbers) (get_or numbers i 0), decimal_digit (get_or numbers i 0) short) refl
 
 digits_more : (numbers : List ℕ) (i : ℕ) → i + 1 < length numbers → get_or numbers i 0 < 10 → get_or numbers (i + 1) 0 < 10
     → shown (take (i + 2) numbers) ≡ shown (take i numbers) ++ 46 ∷ (48 + get_or numbers i 0) ∷ 46 ∷ (48 + get_or numbers (i + 1) 0) ∷ []
 digits_more numbers i within first second =
     let two : i + 2 ≡ i + 1 + 1 = omega arith in
-    ap (λ k. shown (take k numbers)) two ∙ digit_more numbers (i + 1) within second
-    ∙ ap (λ t. t ++ 46 ∷ (48 + get_or numbers (i + 1) 0) ∷ []) (digit_more numbers i (omega arith) first)
-    ∙ append_assoc (shown (take i numbers)) (46 ∷ (48 + get_or numbers i 0) ∷ []) (46 ∷ (48 + get_or numbers (i + 1) 0) ∷ [])
+    rw (two, digit_more numbers (i + 1) within second, digit_more numbers i (omega arith) first) (simp append_assoc)
 
 -- four numbers of one digit behind the others
 pub four_digits_more : (numbers room middle now : List ℕ) (i : ℕ) → i + 4 ≤ length numbers
@@ -37,10 +34,5 @@ four_digits_more numbers room middle now i within a b c d so_far two four =
     let places : 2 * (i + 4) ≡ 2 * i + 4 + 4 = omega arith in
     let third : i + 2 + 1 ≡ i + 3 = omega arith in
     let all : i + 4 ≡ i + 2 + 2 = omega arith in
-    ap (λ k. take k now) places ∙ four
-    ∙ ap (λ t. t ++ 46 ∷ (48 + get_or numbers (i + 2) 0) ∷ 46 ∷ (48 + get_or numbers (i + 3) 0) ∷ [])
-    (two ∙ ap (λ t. t ++ 46 ∷ (48 + get_or numbers i 0) ∷ 46 ∷ (48 + get_or numbers (i + 1) 0) ∷ []) so_far
-    ∙ sym (digits_more numbers i (omega arith) a b))
-    ∙ ap (λ k. shown (take (i + 2) numbers) ++ 46 ∷ (48 + get_or numbers (i + 2) 0) ∷ 46 ∷ (48 + get_or numbers k 0) ∷ []) (sym third)
-    ∙ sym (digits_more numbers (i + 2) (omega arith) c (rw third d))
-    ∙ ap (λ k. shown (take k numbers)) (sym all)
+    rw (places, four, two, so_far, all, digits_more numbers (i + 2) (omega arith) c (rw third d), digits_more numbers i (omega arith) a b, third)
+    refl

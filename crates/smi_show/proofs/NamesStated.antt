@@ -2,8 +2,7 @@
 use Rattle.std.proofs.Common.{◌≡◌, ℕ, Bool, cond, List, ◌++◌, drop, Option, Some, None, refl, sym}
 use Rattle.std.proofs.Common.{◌∙◌, ap}
 use Rattle.smi_value.specs.declared.letters.letters.NameForm.{NameForm}
-use Rattle.smi_value.specs.declared.letters.letters.NameForm.TheVariants.{Numeric, Full, Label}
-use Rattle.smi_value.specs.declared.letters.letters.NameForm.TheVariants.{ModuleLabel}
+use Rattle.smi_value.specs.declared.letters.letters.NameForm.TheVariants.{Numeric}
 use Rattle.smi_show.specs.index.Pieces.{shown_pieces}
 use Rattle.smi_show.specs.index.Reading.{instance_pieces}
 use Rattle.smi_show.specs.name.Naming.{Naming, Standing}
@@ -30,16 +29,12 @@ module _ (naming : Naming) (form : NameForm) (numeric_index : Bool) (o : List �
 pub name_stated : (naming : Naming) (form : NameForm) (numeric_index : Bool) (o : List ℕ)
     → IsName naming form numeric_index o (name_text naming form numeric_index o)
 name_stated naming Numeric numeric_index o = refl
-name_stated naming Full numeric_index o = standing_stated naming Full numeric_index o (naming.deepest o)
-name_stated naming Label numeric_index o = standing_stated naming Label numeric_index o (naming.deepest o)
-name_stated naming ModuleLabel numeric_index o = standing_stated naming ModuleLabel numeric_index o (naming.deepest o)
+name_stated naming form numeric_index o = standing_stated naming form numeric_index o (naming.deepest o)
 
 pub name_only : (naming : Naming) (form : NameForm) (numeric_index : Bool) (o text : List ℕ) → IsName naming form numeric_index o text
     → text ≡ name_text naming form numeric_index o
 name_only naming Numeric numeric_index o text h = h
-name_only naming Full numeric_index o text h = standing_only naming Full numeric_index o (naming.deepest o) text h
-name_only naming Label numeric_index o text h = standing_only naming Label numeric_index o (naming.deepest o) text h
-name_only naming ModuleLabel numeric_index o text h = standing_only naming ModuleLabel numeric_index o (naming.deepest o) text h
+name_only naming form numeric_index o text h = standing_only naming form numeric_index o (naming.deepest o) text h
 
 pub same_name : (naming : Naming) (form : NameForm) (numeric_index : Bool) (o text other : List ℕ) → IsName naming form numeric_index o text
     → IsName naming form numeric_index o other → text ≡ other

@@ -1,10 +1,27 @@
--- Decimal digits as a part of a name, read as a number.
+-- Decimal digits as a part of a name, written and read as a number.
 use Rattle.std.proofs.Common.{◌≡◌, ◌≢◌, ℕ, ◌<◌, ◌^◌, Bool, true, false, ◌&&◌, cond, ltb, List, []}
 use Rattle.std.proofs.Common.{IfSome, IfNone, Option, Some, None, refl, sym, ap, subst}
+use Rattle.std.proofs.Common.{arith, decimal, length, ◌-◌}
 use Rattle.std.specs.Str.{all_ascii_digits}
 use Rattle.std.proofs.lemmas.Bool.{ltb-true, lt-ltb}
+use Rattle.std.proofs.lemmas.Fmt.{decimal_nonempty, digits_decimal, digits_value-decimal}
+use Rattle.std.proofs.lemmas.Str.Parse.{IsNumeralModel, numerals_by_weight, tells_all_ascii_digits}
 use Rattle.snmp_oid.specs.Numeric.{IsNumeral, decimal_value}
 use Rattle.smi_show.specs.name.Word.{numeral_of}
+
+own : IsNumeralModel (λ ds. all_ascii_digits ds ≡ true) decimal_value
+own = numerals_by_weight (λ ds. all_ascii_digits ds ≡ true) tells_all_ascii_digits decimal_value record { empty = refl; more = λ digit rest range. refl }
+
+pub written_numeral : (n : ℕ) → n < 2 ^ 32 → IsNumeral (decimal n) n
+written_numeral n small =
+    let wide : n < 2 ^ 64 = omega arith in
+    let some = decimal_nonempty n wide in
+    record {
+      some = λ none. omega (arith, some, ap length none);
+      digits = digits_decimal own n wide;
+      value = digits_value-decimal own n wide;
+      fits = small;
+    }
 
 pub numeral_is : (part : List ℕ) (n : ℕ) → IsNumeral part n → numeral_of part ≡ Some n
 numeral_is part n h =

@@ -1,79 +1,64 @@
 -- A text of numbers alone means these numbers, whatever nodes there are.
 use Rattle.std.proofs.Common.{◌≡◌, ◌≢◌, ℕ, ◌≤◌, true, false, eqb, List, [], ◌∷◌, ◌++◌, length}
-use Rattle.std.proofs.Common.{inl, inr, Some, None, option_map, Result, Ok, refl, sym, ◌∙◌}
-use Rattle.std.proofs.Common.{ap, subst, append_assoc}
+use Rattle.std.proofs.Common.{inl, inr, Option, Some, None, Result, Ok, refl, sym, ◌∙◌}
+use Rattle.std.proofs.Common.{ap, subst, append_assoc, arith, length-append}
+use Rattle.std.proofs.lemmas.Bool.{and_parts, le-leb, ne_eqb}
 use Rattle.std.proofs.lemmas.List.{append-nil}
 use Rattle.std.specs.Char.{is_ascii_digit}
 use Rattle.std.specs.Str.{all_ascii_digits}
 use Rattle.snmp_oid.specs.Numeric.{IsDotted, IsNumericName, dot}
 use Rattle.smi_show.specs.declared.name.error.NameError.{NameError}
-use Rattle.smi_show.specs.name.Cutting.{longer_module, module_after, name_parts}
-use Rattle.smi_show.specs.name.Meaning.{
-  and_then,
-  first_word_meaning,
-  further_meaning,
-  meaning,
-  parts_meaning,
-  plain_meaning,
-  scoped_meaning,
-}
-use Rattle.smi_show.specs.name.Meant.{Scope, among_roots, anywhere}
+use Rattle.smi_show.specs.name.Cutting.{module_after, name_parts}
+use Rattle.smi_show.specs.name.Meaning.{and_then, first_meaning, fitting, further_meaning, meaning}
+use Rattle.smi_show.specs.name.Meaning.{parts_meaning, plain_meaning, scoped_meaning}
+use Rattle.smi_show.specs.name.Meant.{anywhere}
 use Rattle.smi_show.specs.name.Naming.{Naming}
-use Rattle.smi_show.specs.name.Word.{Word}
-use Rattle.smi_show.proofs.FrontLemmas.{number_next, number_parts}
-use Rattle.smi_show.proofs.PlainLemmas.{and_left, apart, plain_digits}
-use Rattle.smi_show.proofs.ReadBack.{fits, scoped, shorter}
-use Rattle.smi_show.proofs.ShownLemmas.{no_colon, plain_is_whole}
-use Rattle.smi_show.proofs.WordLemmas.{digits_word}
+use Rattle.smi_show.proofs.FrontLemmas.{number_next}
+use Rattle.smi_show.proofs.PlainLemmas.{apart, plain_digits}
+use Rattle.smi_show.proofs.Readers.{before_module}
+use Rattle.smi_show.proofs.ShownLemmas.{dot_module, plain_is_whole, scopes}
 
--- further parts that are numbers
-dotted_further : (naming : Naming) (so_far text o : List ℕ) → IsDotted text o → length (so_far ++ o) ≤ 128
-    → further_meaning naming so_far (name_parts text) ≡ Ok (so_far ++ o)
-dotted_further naming so_far text [] h low = absurd h
-dotted_further naming so_far text (n ∷ []) h low =
-    number_next naming so_far text text n None h refl
+-- numbers that fit
+pub fits : (o : List ℕ) → length o ≤ 128 → fitting o ≡ Ok o
+fits o low = rw (le-leb (length o) 128 low) refl
+
+pub shorter : (front rest : List ℕ) → length (front ++ rest) ≤ 128 → length front ≤ 128
+shorter front rest h = omega (arith, length-append front rest)
+
+-- a text of more than a dot is read by its module and parts
+pub scoped : (naming : Naming) (text : List ℕ) → text ≢ [] → text ≢ 46 ∷ [] → meaning naming text ≡ scoped_meaning naming text (module_after None text)
+scoped naming [] some more = absurd (some refl)
+scoped naming (octet ∷ []) some more = rw (ne_eqb octet 46 (λ e. more (ap (λ (n : ℕ). n ∷ []) e))) refl
+scoped naming (octet ∷ next ∷ rest) some more = refl
+
+-- parts that are numbers
+dotted_parts : (naming : Naming) (look_up : List ℕ → Option (List ℕ)) (so_far text o : List ℕ) → IsDotted text o → length (so_far ++ o) ≤ 128
+    → parts_meaning naming look_up so_far (name_parts text) ≡ Ok (so_far ++ o)
+dotted_parts naming look_up so_far text [] h low = absurd h
+dotted_parts naming look_up so_far text (n ∷ []) h low =
+    number_next naming look_up so_far text text n None h refl
     ∙ ap (λ (r : Result (List ℕ) NameError). and_then r (λ p. further_meaning naming p [])) (fits (so_far ++ n ∷ []) low)
-dotted_further naming so_far text (n ∷ m ∷ more) (first, rest, is, numeral, dotted) low =
-    let grouped : (so_far ++ n ∷ []) ++ (m ∷ more) ≡ so_far ++ (n ∷ m ∷ more) = append_assoc so_far (n ∷ []) (m ∷ more) in
-    let P : List ℕ → Type 0 = λ t. length t ≤ 128 in
-    let low_all : length ((so_far ++ n ∷ []) ++ (m ∷ more)) ≤ 128 = subst P (sym grouped) low in
-    let low_here : length (so_far ++ n ∷ []) ≤ 128 = shorter (so_far ++ n ∷ []) (m ∷ more) low_all in
-    number_next naming so_far text first n (Some rest) numeral is
-    ∙ ap (λ (r : Result (List ℕ) NameError). and_then r (λ p. further_meaning naming p (name_parts rest))) (fits (so_far ++ n ∷ []) low_here)
-    ∙ dotted_further naming (so_far ++ n ∷ []) rest (m ∷ more) dotted low_all
+dotted_parts naming look_up so_far text (n ∷ m ∷ more) (first, rest, is, numeral, dotted) low =
+    let next : List ℕ = so_far ++ n ∷ [] in
+    let grouped : next ++ (m ∷ more) ≡ so_far ++ (n ∷ m ∷ more) = append_assoc so_far (n ∷ []) (m ∷ more) in
+    let low_all : length (next ++ (m ∷ more)) ≤ 128 = subst (λ (t : List ℕ). length t ≤ 128) (sym grouped) low in
+    number_next naming look_up so_far text first n (Some rest) numeral is
+    ∙ ap (λ (r : Result (List ℕ) NameError). and_then r (λ p. further_meaning naming p (name_parts rest))) (fits next (shorter next (m ∷ more) low_all))
+    ∙ dotted_parts naming (naming.child next) next rest (m ∷ more) dotted low_all
     ∙ ap (λ (t : List ℕ). Ok t) grouped
 
--- the first part too
-dotted_parts : (naming : Naming) (scope : Scope) (text o : List ℕ) → IsDotted text o → length o ≤ 128
-    → parts_meaning naming scope (name_parts text) ≡ Ok o
-dotted_parts naming scope text [] h low = absurd h
-dotted_parts naming scope text (n ∷ []) h low =
-    ap (parts_meaning naming scope) (number_parts text text n None h refl)
-    ∙ ap (λ (w : Result Word NameError). and_then (and_then w (first_word_meaning naming scope)) (λ p. further_meaning naming p []))
-    (digits_word text n h)
-dotted_parts naming scope text (n ∷ m ∷ more) (first, rest, is, numeral, dotted) low =
-    ap (parts_meaning naming scope) (number_parts text first n (Some rest) numeral is)
-    ∙ ap (λ (w : Result Word NameError). and_then (and_then w (first_word_meaning naming scope)) (λ p. further_meaning naming p (name_parts rest)))
-    (digits_word first n numeral)
-    ∙ dotted_further naming (n ∷ []) rest (m ∷ more) dotted low
-
 -- there is no module before it
-dot_module : (rest : List ℕ) → module_after None rest ≡ None → module_after None (dot ∷ rest) ≡ None
-dot_module rest none =
-    let here : module_after None (46 ∷ rest) ≡ option_map (longer_module (46 ∷ [])) (module_after None rest) = rw (no_colon 46 rest refl) refl in
-    here ∙ ap (option_map (longer_module (46 ∷ []))) none
-
 dotted_module : (text o : List ℕ) → IsDotted text o → module_after None text ≡ None
 dotted_module text [] h = absurd h
 dotted_module text (n ∷ []) h =
-    ap (module_after None) (sym (append-nil text)) ∙ (plain_is_whole text (plain_digits text h.digits)).scopes []
+    ap (module_after None) (sym (append-nil text)) ∙ scopes text [] (plain_is_whole text (plain_digits text h.digits))
 dotted_module text (n ∷ m ∷ more) (first, rest, is, numeral, dotted) =
-    ap (module_after None) is ∙ (plain_is_whole first (plain_digits first numeral.digits)).scopes (dot ∷ rest)
-    ∙ ap (option_map (longer_module first)) (dot_module rest (dotted_module rest (m ∷ more) dotted))
+    ap (module_after None) is ∙ scopes first (dot ∷ rest) (plain_is_whole first (plain_digits first numeral.digits))
+    ∙ ap (before_module first) (dot_module rest (dotted_module rest (m ∷ more) dotted))
 
 -- it begins with a digit
 digit_no_dot : (octet : ℕ) (more : List ℕ) → all_ascii_digits (octet ∷ more) ≡ true → eqb octet 46 ≡ false
-digit_no_dot octet more digits = apart is_ascii_digit octet 46 (and_left (is_ascii_digit octet) (all_ascii_digits more) digits) refl
+digit_no_dot octet more digits = apart is_ascii_digit octet 46 (and_parts (is_ascii_digit octet) (all_ascii_digits more) digits).0 refl
 
 begins_with_digit : (octet : ℕ) (text o : List ℕ) → IsDotted (octet ∷ text) o → eqb octet 46 ≡ false
 begins_with_digit octet text [] h = absurd h
@@ -90,7 +75,7 @@ dotted_some text (n ∷ []) h same = h.some same
 dotted_some text (n ∷ m ∷ more) ([], rest, is, numeral, dotted) same = numeral.some refl
 dotted_some text (n ∷ m ∷ more) ((other ∷ first), rest, is, numeral, dotted) same = let wrong : ⊥ = cc in wrong
 
-dotted_plain : (naming : Naming) (text o : List ℕ) → IsDotted text o → plain_meaning naming text ≡ parts_meaning naming anywhere (name_parts text)
+dotted_plain : (naming : Naming) (text o : List ℕ) → IsDotted text o → plain_meaning naming text ≡ first_meaning naming anywhere (name_parts text)
 dotted_plain naming [] o h = refl
 dotted_plain naming (octet ∷ more) o h = rw (begins_with_digit octet more o h) refl
 
@@ -106,11 +91,11 @@ numeric_meaning naming text o (inr (inl h)) low =
     scoped naming text (dotted_some text o h) (no_dot_alone text o h)
     ∙ ap (scoped_meaning naming text) (dotted_module text o h)
     ∙ dotted_plain naming text o h
-    ∙ dotted_parts naming anywhere text o h low
+    ∙ dotted_parts naming naming.anywhere [] text o h low
 numeric_meaning naming text o (inr (inr (rest, is, h))) low =
     let some : 46 ∷ rest ≢ [] = λ same. (let wrong : ⊥ = cc in wrong) in
     let more : 46 ∷ rest ≢ 46 ∷ [] = λ same. dotted_some rest o h (let e : rest ≡ [] = cc in e) in
     ap (meaning naming) is
     ∙ scoped naming (46 ∷ rest) some more
     ∙ ap (scoped_meaning naming (46 ∷ rest)) (dot_module rest (dotted_module rest o h))
-    ∙ dotted_parts naming among_roots rest o h low
+    ∙ dotted_parts naming naming.among_roots [] rest o h low

@@ -1,286 +1,185 @@
 -- A text's parts and its module are what the relations of Cut say, and there are no others.
-use Rattle.std.proofs.Common.{◌≡◌, ◌≢◌, ℕ, ◌≤◌, Bool, true, false, ◌&&◌, nat_eq, cond, List, []}
-use Rattle.std.proofs.Common.{◌∷◌, ◌++◌, drop, length}
-use Rattle.std.proofs.Common.{Option, Some, None, option_map, refl, sym, ◌∙◌, ap, subst, arith}
-use Rattle.std.proofs.lemmas.Bool.{eqb-true}
+use Rattle.std.proofs.Common.{◌≡◌, ℕ, ◌≤◌, suc, true, false, nat_eq, List, [], ◌∷◌, ◌++◌}
+use Rattle.std.proofs.Common.{take, drop, length, Option, Some, None, refl, sym, ◌∙◌, ap, subst, arith}
+use Rattle.std.proofs.lemmas.Bool.{and_parts, both_ways, cond_both, eqb-true}
+use Rattle.std.proofs.lemmas.List.{drop_at, take_at}
 use Rattle.snmp_io.specs.Quotes.{open_after}
-use Rattle.snmp_io.specs.QuoteLaws.{HasNoneAfter, is_closed, never_outside, none_open}
-use Rattle.snmp_io.specs.QuoteLaws.{none_outside, quote_after}
+use Rattle.snmp_io.specs.QuoteLaws.{cut_once, is_closed, none_open, none_outside, quote_after}
 use Rattle.smi_show.specs.name.Cut.{AreParts, HasNoModule, IsModuleCut}
-use Rattle.smi_show.specs.name.Cutting.{is_double_colon, is_unquoted, longer_module, module_after}
+use Rattle.smi_show.specs.name.Cutting.{is_double_colon, module_after}
 use Rattle.smi_show.specs.name.Cutting.{name_parts, parts_after, with_prefix}
+use Rattle.smi_show.proofs.Readers.{at_colons, at_dot, before_module}
+
+-- wherever these octets stand in the text outside quotes, after this quote, this holds of what stands before them
+abbrev Wherever : List ℕ → Option ℕ → List ℕ → (List ℕ → Type 0) → Type 0
+Wherever stop quote text P = (before after : List ℕ) → text ≡ before ++ (stop ++ after) → quote_after quote before ≡ None → P before
+
+abbrev Nowhere : List ℕ → Option ℕ → List ℕ → Type 0
+Nowhere stop quote text = Wherever stop quote text (λ before. ⊥)
+
+nothing : (octet : ℕ) (before after : List ℕ) → [] ≡ before ++ octet ∷ after → ⊥
+nothing octet [] after e = cc
+nothing octet (o ∷ before) after e = cc
+
+-- one more octet of the text
+later : (stop : List ℕ) (quote : Option ℕ) (octet : ℕ) (text : List ℕ) (P Q : List ℕ → Type 0)
+    → ((after : List ℕ) → octet ∷ text ≡ stop ++ after → quote ≡ None → Q []) → ((before : List ℕ) → P before → Q (octet ∷ before))
+    → Wherever stop (open_after quote octet) text P → Wherever stop quote (octet ∷ text) Q
+later stop quote octet text P Q here more h [] after e q = here after e q
+later stop quote octet text P Q here more h (o ∷ before) after e q =
+    let same : octet ≡ o = cc in
+    let rest : text ≡ before ++ (stop ++ after) = cc in
+    let closed = subst (λ (n : ℕ). quote_after (open_after quote n) before ≡ None) (sym same) q in
+    subst (λ (n : ℕ). Q (n ∷ before)) same (more before (h before after rest closed))
 
 -- ---- parts
-
--- wherever a dot stands in the text a quote is open before it, after this one
-abbrev NoneFrom : Option ℕ → List ℕ → Type 0
-NoneFrom quote text = HasNoneAfter 46 quote text
-
-record CutFrom (quote : Option ℕ) (text front rest : List ℕ) : Type 0 where
-  parts : text ≡ front ++ 46 ∷ rest
-  outside : quote_after quote front ≡ None
-  first : NoneFrom quote front
 
 -- the parts of what stands after this quote
 abbrev PartsFrom : Option ℕ → List ℕ → List (List ℕ) → Type 0
 PartsFrom quote text [] = ⊥
-PartsFrom quote text (part ∷ []) = NoneFrom quote text × (part ≡ text)
-PartsFrom quote text (part ∷ next ∷ more) = (rest : List ℕ) × CutFrom quote text part rest × PartsFrom None rest (next ∷ more)
+PartsFrom quote text (part ∷ []) = Nowhere (46 ∷ []) quote text × (part ≡ text)
+PartsFrom quote text (part ∷ next ∷ more) = (rest : List ℕ) × (text ≡ part ++ 46 ∷ rest) × (quote_after quote part ≡ None)
+    × Nowhere (46 ∷ []) quote part × PartsFrom None rest (next ∷ more)
 
-head_is : (a b : ℕ) (x y : List ℕ) → a ∷ x ≡ b ∷ y → a ≡ b
-head_is a b x y e = cc
+is_dot : (quote : Option ℕ) (text after : List ℕ) → quote ≡ None → text ≡ 46 ∷ after → at_dot quote text ≡ true
+is_dot quote text after none is = rw (none, is) refl
 
-tail_is : (a b : ℕ) (x y : List ℕ) → a ∷ x ≡ b ∷ y → x ≡ y
-tail_is a b x y e = cc
-
-abbrev is_dot : Option ℕ → ℕ → Bool
-is_dot quote octet = is_unquoted quote && nat_eq octet 46
-
--- an octet that cuts
-cuts : (quote : Option ℕ) (octet : ℕ) → is_dot quote octet ≡ true → (quote ≡ None) × (octet ≡ 46)
-cuts None octet e = (refl, eqb-true octet 46 e)
-cuts (Some q) octet e = let no : ⊥ = cc in absurd no
-
-is_cut : (quote : Option ℕ) (octet : ℕ) → quote ≡ None → octet ≡ 46 → is_dot quote octet ≡ true
-is_cut quote octet none dot = rw (none, dot) refl
-
--- an octet that doesn't, before what has no dot outside quotes
-none_more : (quote : Option ℕ) (octet : ℕ) (text : List ℕ) → is_dot quote octet ≡ false → NoneFrom (open_after quote octet) text → NoneFrom quote (octet ∷ text)
-none_more quote octet text other none [] after e = λ q. (
-    let is = is_cut quote octet q (head_is octet 46 text after e) in
-    let no : ⊥ = cc in no
-    )
-none_more quote octet text other none (o ∷ before) after e =
-    let same : octet ≡ o = head_is octet o text (before ++ 46 ∷ after) e in
-    subst (λ (n : ℕ). quote_after (open_after quote n) before ≢ None) same (none before after (tail_is octet o text (before ++ 46 ∷ after) e))
-
-none_less : (quote : Option ℕ) (octet : ℕ) (text : List ℕ) → NoneFrom quote (octet ∷ text) → NoneFrom (open_after quote octet) text
-none_less quote octet text none before after e = none (octet ∷ before) after (ap (λ (t : List ℕ). octet ∷ t) e)
-
-not_here : (quote : Option ℕ) (octet : ℕ) (text : List ℕ) → NoneFrom quote (octet ∷ text) → is_dot quote octet ≡ false
-not_here quote octet text none = at (is_dot quote octet) refl
-  where
-    at : (b : Bool) → is_dot quote octet ≡ b → b ≡ false
-    at true e = let is = cuts quote octet e in absurd (none [] text (ap (λ (n : ℕ). n ∷ text) is.1) is.0)
-    at false e = refl
+nowhere_later : (quote : Option ℕ) (octet : ℕ) (text : List ℕ) → at_dot quote (octet ∷ text) ≡ false → Nowhere (46 ∷ []) (open_after quote octet) text
+    → Nowhere (46 ∷ []) quote (octet ∷ text)
+nowhere_later quote octet text other = later (46 ∷ []) quote octet text (λ before. ⊥) (λ before. ⊥)
+    (λ after e q. both_ways (at_dot quote (octet ∷ text)) other (is_dot quote (octet ∷ text) after q e)) (λ before no. no)
 
 -- one more octet of the first part
-parts_more : (quote : Option ℕ) (octet : ℕ) (text : List ℕ) (parts : List (List ℕ)) → is_dot quote octet ≡ false → PartsFrom (open_after quote octet) text parts
-    → PartsFrom quote (octet ∷ text) (with_prefix (octet ∷ []) parts)
+parts_more : (quote : Option ℕ) (octet : ℕ) (text : List ℕ) (parts : List (List ℕ)) → at_dot quote (octet ∷ text) ≡ false
+    → PartsFrom (open_after quote octet) text parts → PartsFrom quote (octet ∷ text) (with_prefix (octet ∷ []) parts)
 parts_more quote octet text [] other h = absurd h
-parts_more quote octet text (part ∷ []) other h = (none_more quote octet text other h.0, ap (λ (t : List ℕ). octet ∷ t) h.1)
-parts_more quote octet text (part ∷ next ∷ more) other (rest, cut, h) = (
-  rest,
-  record {
-    parts = ap (λ (t : List ℕ). octet ∷ t) cut.parts;
-    outside = cut.outside;
-    first = none_more quote octet part other cut.first;
-  },
-  h,
-)
+parts_more quote octet text (part ∷ []) other h = (nowhere_later quote octet text other h.0, ap (λ (t : List ℕ). octet ∷ t) h.1)
+parts_more quote octet text (part ∷ next ∷ more) other (rest, is, closed, first, h) =
+    (rest, ap (λ (t : List ℕ). octet ∷ t) is, closed, nowhere_later quote octet part other first, h)
 
 -- a cut at the first octet
-parts_here : (quote : Option ℕ) (octet : ℕ) (text : List ℕ) (parts : List (List ℕ)) → (quote ≡ None) × (octet ≡ 46) → PartsFrom None text parts
-    → PartsFrom quote (octet ∷ text) ([] ∷ parts)
-parts_here quote octet text [] is h = absurd h
-parts_here quote octet text (part ∷ more) is h = (
-  text,
-  record { parts = ap (λ (n : ℕ). n ∷ text) is.1; outside = is.0; first = λ before after e. absurd (none_in before after e) },
-  h,
-)
-  where
-    none_in : (before after : List ℕ) → [] ≡ before ++ 46 ∷ after → ⊥
-    none_in [] after e = let no : ⊥ = cc in no
-    none_in (o ∷ before) after e = let no : ⊥ = cc in no
-
-none_of_nothing : (quote : Option ℕ) → NoneFrom quote []
-none_of_nothing quote [] after e = let no : ⊥ = cc in absurd no
-none_of_nothing quote (o ∷ before) after e = let no : ⊥ = cc in absurd no
+parts_here : (octet : ℕ) (text : List ℕ) (parts : List (List ℕ)) → octet ≡ 46 → PartsFrom None text parts → PartsFrom None (octet ∷ text) ([] ∷ parts)
+parts_here octet text [] is h = absurd h
+parts_here octet text (part ∷ more) is h =
+    (text, ap (λ (n : ℕ). n ∷ text) is, refl, λ before after e q. nothing 46 before after e, h)
 
 parts_from : (quote : Option ℕ) (text : List ℕ) → PartsFrom quote text (parts_after quote text)
-parts_from quote [] = (none_of_nothing quote, refl)
-parts_from quote (octet ∷ more) = at (is_dot quote octet) refl (parts_from None more) (parts_from (open_after quote octet) more)
-  where
-    at : (b : Bool) → is_dot quote octet ≡ b → PartsFrom None more (parts_after None more)
-        → PartsFrom (open_after quote octet) more (parts_after (open_after quote octet) more)
-        → PartsFrom quote (octet ∷ more) (cond b ([] ∷ parts_after None more) (with_prefix (octet ∷ []) (parts_after (open_after quote octet) more)))
-    at true e now later = parts_here quote octet more (parts_after None more) (cuts quote octet e) now
-    at false e now later = parts_more quote octet more (parts_after (open_after quote octet) more) e later
-
-only_from : (quote : Option ℕ) (text : List ℕ) (parts : List (List ℕ)) → PartsFrom quote text parts → parts ≡ parts_after quote text
-only_from quote text [] h = absurd h
-only_from quote [] (part ∷ []) h = ap (λ (t : List ℕ). t ∷ []) h.1
-only_from quote [] ([] ∷ next ∷ more) (rest, cut, h) = let e = cut.parts in let no : ⊥ = cc in absurd no
-only_from quote [] ((o ∷ part) ∷ next ∷ more) (rest, cut, h) = let e = cut.parts in let no : ⊥ = cc in absurd no
-only_from quote (octet ∷ text) ([] ∷ []) h = let e = h.1 in let no : ⊥ = cc in absurd no
-only_from quote (octet ∷ text) ((o ∷ part) ∷ []) h =
-    let here : o ≡ octet = head_is o octet part text h.1 in
-    let more = only_from (open_after quote octet) text (part ∷ []) (none_less quote octet text h.0, tail_is o octet part text h.1) in
-    ap (λ (n : ℕ). (n ∷ part) ∷ []) here ∙ ap (with_prefix (octet ∷ [])) more ∙ rw (not_here quote octet text h.0) refl
-only_from quote (octet ∷ text) ([] ∷ next ∷ more) (rest, cut, h) =
-    let is : octet ≡ 46 = head_is octet 46 text rest cut.parts in
-    let left : text ≡ rest = tail_is octet 46 text rest cut.parts in
-    let none : quote ≡ None = cut.outside in
-    let later = only_from None text (next ∷ more) (subst (λ (t : List ℕ). PartsFrom None t (next ∷ more)) (sym left) h) in
-    ap (λ (ps : List (List ℕ)). [] ∷ ps) later ∙ rw (is_cut quote octet none is) refl
-only_from quote (octet ∷ text) ((o ∷ part) ∷ next ∷ more) (rest, cut, h) =
-    let here : octet ≡ o = head_is octet o text (part ++ 46 ∷ rest) cut.parts in
-    let left : text ≡ part ++ 46 ∷ rest = tail_is octet o text (part ++ 46 ∷ rest) cut.parts in
-    let Q : ℕ → Type 0 = λ n. NoneFrom (open_after quote n) part in
-    let later = only_from (open_after quote octet) text (part ∷ next ∷ more) (
-      rest,
-      record {
-        parts = left;
-        outside = subst (λ (n : ℕ). quote_after (open_after quote n) part ≡ None) (sym here) cut.outside;
-        first = subst Q (sym here) (none_less quote o part cut.first);
-      },
-      h,
-    ) in
-    let other = not_here quote octet part (subst (λ (n : ℕ). NoneFrom quote (n ∷ part)) (sym here) cut.first) in
-    ap (λ (n : ℕ). (n ∷ part) ∷ next ∷ more) (sym here) ∙ ap (with_prefix (octet ∷ [])) later ∙ rw other refl
+parts_from quote [] = (λ before after e q. nothing 46 before after e, refl)
+parts_from None (octet ∷ more) =
+    let later = parts_after (open_after None octet) more in
+    cond_both (nat_eq octet 46) ([] ∷ parts_after None more) (with_prefix (octet ∷ []) later) (PartsFrom None (octet ∷ more))
+    (λ e. parts_here octet more (parts_after None more) (eqb-true octet 46 e) (parts_from None more))
+    (λ e. parts_more None octet more later e (parts_from (open_after None octet) more))
+parts_from (Some q) (octet ∷ more) =
+    parts_more (Some q) octet more (parts_after (open_after (Some q) octet) more) refl (parts_from (open_after (Some q) octet) more)
 
 plain_parts : (text : List ℕ) (parts : List (List ℕ)) → PartsFrom None text parts → AreParts text parts
 plain_parts text [] h = h
 plain_parts text (part ∷ []) h = (none_outside 46 text h.0, h.1)
-plain_parts text (part ∷ next ∷ more) (rest, cut, h) = (
+plain_parts text (part ∷ next ∷ more) (rest, is, closed, first, h) = (
   rest,
-  record {
-    parts = cut.parts;
-    outside = is_closed part cut.outside;
-    first = none_outside 46 part cut.first;
-  },
+  record { parts = is; outside = is_closed part closed; first = none_outside 46 part first },
   plain_parts rest (next ∷ more) h,
-)
-
-from_plain : (text : List ℕ) (parts : List (List ℕ)) → AreParts text parts → PartsFrom None text parts
-from_plain text [] h = h
-from_plain text (part ∷ []) h = (never_outside 46 text h.0, h.1)
-from_plain text (part ∷ next ∷ more) (rest, cut, h) = (
-  rest,
-  record {
-    parts = cut.parts;
-    outside = none_open part cut.outside;
-    first = never_outside 46 part cut.first;
-  },
-  from_plain rest (next ∷ more) h,
 )
 
 pub are_parts : (text : List ℕ) → AreParts text (name_parts text)
 are_parts text = plain_parts text (name_parts text) (parts_from None text)
 
+same_parts : (text : List ℕ) (parts others : List (List ℕ)) → AreParts text parts → AreParts text others → parts ≡ others
+same_parts text [] others h k = absurd h
+same_parts text (part ∷ parts) [] h k = absurd k
+same_parts text (part ∷ []) (other ∷ []) h k = ap (λ (t : List ℕ). t ∷ []) (h.1 ∙ sym k.1)
+same_parts text (part ∷ []) (other ∷ next ∷ more) h (rest, cut, k) = absurd (h.0 other rest cut.parts cut.outside)
+same_parts text (part ∷ next ∷ more) (other ∷ []) (rest, cut, h) k = absurd (k.0 part rest cut.parts cut.outside)
+same_parts text (part ∷ next ∷ more) (other ∷ second ∷ others) (rest, cut, h) (left, same, k) =
+    let one = cut_once 46 text other left part rest same cut in
+    let more_same = same_parts left (next ∷ more) (second ∷ others) (subst (λ (t : List ℕ). AreParts t (next ∷ more)) one.1 h) k in
+    λ i. one.0 i ∷ more_same i
+
 pub only_parts : (text : List ℕ) (parts : List (List ℕ)) → AreParts text parts → parts ≡ name_parts text
-only_parts text parts h = only_from None text parts (from_plain text parts h)
+only_parts text parts h = same_parts text parts (name_parts text) h (are_parts text)
 
 -- ---- the module
 
-record ModuleFrom (quote : Option ℕ) (text home rest : List ℕ) : Type 0 where
-  parts : text ≡ home ++ 58 ∷ 58 ∷ rest
-  outside : quote_after quote home ≡ None
-  first : (before after : List ℕ) → text ≡ before ++ 58 ∷ 58 ∷ after → quote_after quote before ≡ None → length home ≤ length before
-
 -- what is found after this quote
-abbrev ReadFrom : Option ℕ → List ℕ → Option (List ℕ × List ℕ) → Type 0
-ReadFrom quote text None = (before after : List ℕ) → text ≡ before ++ 58 ∷ 58 ∷ after → quote_after quote before ≢ None
-ReadFrom quote text (Some (home, rest)) = ModuleFrom quote text home rest
+abbrev FoundFrom : Option ℕ → List ℕ → Option (List ℕ × List ℕ) → Type 0
+FoundFrom quote text None = Nowhere (58 ∷ 58 ∷ []) quote text
+FoundFrom quote text (Some (home, rest)) = (text ≡ home ++ 58 ∷ 58 ∷ rest) × (quote_after quote home ≡ None)
+    × Wherever (58 ∷ 58 ∷ []) quote text (λ before. length home ≤ length before)
 
-abbrev ends_here : Option ℕ → List ℕ → Bool
-ends_here quote text = is_unquoted quote && is_double_colon text
+are_colons : (quote : Option ℕ) (text after : List ℕ) → quote ≡ None → text ≡ 58 ∷ 58 ∷ after → at_colons quote text ≡ true
+are_colons quote text after none is = rw (none, is) refl
 
 colons : (text : List ℕ) → is_double_colon text ≡ true → text ≡ 58 ∷ 58 ∷ drop 2 text
-colons [] e = let no : ⊥ = cc in absurd no
-colons (first ∷ []) e = let no : ⊥ = cc in absurd no
-colons (first ∷ second ∷ more) e = at (nat_eq first 58) (nat_eq second 58) refl refl e
-  where
-    at : (a b : Bool) → nat_eq first 58 ≡ a → nat_eq second 58 ≡ b → (a && b) ≡ true → first ∷ second ∷ more ≡ 58 ∷ 58 ∷ more
-    at true true p q e = ap (λ (n : ℕ). n ∷ second ∷ more) (eqb-true first 58 p) ∙ ap (λ (n : ℕ). 58 ∷ n ∷ more) (eqb-true second 58 q)
-    at true false p q e = let no : ⊥ = cc in absurd no
-    at false b p q e = let no : ⊥ = cc in absurd no
+colons [] e = cc
+colons (first ∷ []) e = cc
+colons (first ∷ second ∷ more) e =
+    let both = and_parts (nat_eq first 58) (nat_eq second 58) e in
+    let one : first ≡ 58 = eqb-true first 58 both.0 in
+    let two : second ≡ 58 = eqb-true second 58 both.1 in
+    λ i. one i ∷ two i ∷ more
 
-ends : (quote : Option ℕ) (text : List ℕ) → ends_here quote text ≡ true → (quote ≡ None) × (text ≡ 58 ∷ 58 ∷ drop 2 text)
-ends None text e = (refl, colons text e)
-ends (Some q) text e = let no : ⊥ = cc in absurd no
-
-is_end : (quote : Option ℕ) (text after : List ℕ) → quote ≡ None → text ≡ 58 ∷ 58 ∷ after → ends_here quote text ≡ true
-is_end quote text after none is = rw (none, is) refl
+module_here : (quote : Option ℕ) (octet : ℕ) (more : List ℕ) → at_colons quote (octet ∷ more) ≡ true
+    → FoundFrom quote (octet ∷ more) (Some ([], drop 1 more))
+module_here None octet more e = (colons (octet ∷ more) e, refl, λ before after f q. omega arith)
+module_here (Some q) octet more e = let no : ⊥ = cc in absurd no
 
 -- one more octet before a module that is read later
-module_more : (quote : Option ℕ) (octet : ℕ) (more : List ℕ) (read : Option (List ℕ × List ℕ)) → ends_here quote (octet ∷ more) ≡ false
-    → ReadFrom (open_after quote octet) more read → ReadFrom quote (octet ∷ more) (option_map (longer_module (octet ∷ [])) read)
-module_more quote octet more None other h = go
+module_more : (quote : Option ℕ) (octet : ℕ) (more : List ℕ) (read : Option (List ℕ × List ℕ)) → at_colons quote (octet ∷ more) ≡ false
+    → FoundFrom (open_after quote octet) more read → FoundFrom quote (octet ∷ more) (before_module (octet ∷ []) read)
+module_more quote octet more read other = at read
   where
-    go : (before after : List ℕ) → octet ∷ more ≡ before ++ 58 ∷ 58 ∷ after → quote_after quote before ≢ None
-    go [] after e = λ q. (let is = is_end quote (octet ∷ more) after q e in let no : ⊥ = cc in no)
-    go (o ∷ before) after e =
-        let same : octet ≡ o = head_is octet o more (before ++ 58 ∷ 58 ∷ after) e in
-        subst (λ (n : ℕ). quote_after (open_after quote n) before ≢ None) same (h before after (tail_is octet o more (before ++ 58 ∷ 58 ∷ after) e))
-module_more quote octet more (Some (home, rest)) other h = record {
-  parts = ap (λ (t : List ℕ). octet ∷ t) h.parts;
-  outside = h.outside;
-  first = go;
-}
-  where
-    go : (before after : List ℕ) → octet ∷ more ≡ before ++ 58 ∷ 58 ∷ after → quote_after quote before ≡ None → length (octet ∷ home) ≤ length before
-    go [] after e q = let is = is_end quote (octet ∷ more) after q e in let no : ⊥ = cc in absurd no
-    go (o ∷ before) after e q =
-        let same : octet ≡ o = head_is octet o more (before ++ 58 ∷ 58 ∷ after) e in
-        let low : length home ≤ length before
-        = h.first before after (tail_is octet o more (before ++ 58 ∷ 58 ∷ after) e)
-        (subst (λ (n : ℕ). quote_after (open_after quote n) before ≡ None) (sym same) q) in
-        omega (arith, low)
+    not_here : (after : List ℕ) → octet ∷ more ≡ 58 ∷ 58 ∷ after → quote ≡ None → ⊥
+    not_here after e q = both_ways (at_colons quote (octet ∷ more)) other (are_colons quote (octet ∷ more) after q e)
 
-read_from : (quote : Option ℕ) (text : List ℕ) → ReadFrom quote text (module_after quote text)
-read_from quote [] = λ before after e. absurd (nothing before after e)
-  where
-    nothing : (before after : List ℕ) → [] ≡ before ++ 58 ∷ 58 ∷ after → ⊥
-    nothing [] after e = let no : ⊥ = cc in no
-    nothing (o ∷ before) after e = let no : ⊥ = cc in no
-read_from quote (octet ∷ more) = at (ends_here quote (octet ∷ more)) refl (read_from (open_after quote octet) more)
-  where
-    at : (b : Bool) → ends_here quote (octet ∷ more) ≡ b → ReadFrom (open_after quote octet) more (module_after (open_after quote octet) more)
-        → ReadFrom quote (octet ∷ more) (cond b (Some ([], drop 1 more)) (option_map (longer_module (octet ∷ [])) (module_after (open_after quote octet) more)))
-    at true e later =
-        let is = ends quote (octet ∷ more) e in
-        record { parts = is.1; outside = is.0; first = λ before after p q. omega arith }
-    at false e later = module_more quote octet more (module_after (open_after quote octet) more) e later
+    at : (read : Option (List ℕ × List ℕ)) → FoundFrom (open_after quote octet) more read → FoundFrom quote (octet ∷ more) (before_module (octet ∷ []) read)
+    at None h = later (58 ∷ 58 ∷ []) quote octet more (λ before. ⊥) (λ before. ⊥) not_here (λ before no. no) h
+    at (Some (home, rest)) (is, closed, first) = (
+      ap (λ (t : List ℕ). octet ∷ t) is,
+      closed,
+      later (58 ∷ 58 ∷ []) quote octet more (λ before. length home ≤ length before) (λ before. suc (length home) ≤ length before)
+          (λ after e q. absurd (not_here after e q)) (λ before low. omega (arith, low)) first,
+    )
+
+found_from : (quote : Option ℕ) (text : List ℕ) → FoundFrom quote text (module_after quote text)
+found_from quote [] = λ before after e q. nothing 58 before (58 ∷ after) e
+found_from quote (octet ∷ more) =
+    let read = module_after (open_after quote octet) more in
+    cond_both (at_colons quote (octet ∷ more)) (Some ([], drop 1 more)) (before_module (octet ∷ []) read) (FoundFrom quote (octet ∷ more))
+    (module_here quote octet more) (λ e. module_more quote octet more read e (found_from (open_after quote octet) more))
 
 pub has_module : (text : List ℕ) (home rest : List ℕ) → module_after None text ≡ Some (home, rest) → IsModuleCut text home rest
 has_module text home rest is =
-    let h : ModuleFrom None text home rest = subst (ReadFrom None text) is (read_from None text) in
-    record {
-      parts = h.parts;
-      outside = is_closed home h.outside;
-      first = λ before after e closed. h.first before after e (none_open before closed);
-    }
+    let h : FoundFrom None text (Some (home, rest)) = subst (FoundFrom None text) is (found_from None text) in
+    record { parts = h.0; outside = is_closed home h.1; first = λ before after e closed. h.2 before after e (none_open before closed) }
 
 pub has_no_module : (text : List ℕ) → module_after None text ≡ None → HasNoModule text
 has_no_module text is before after e closed =
-    let none : ReadFrom None text None = subst (ReadFrom None text) is (read_from None text) in
+    let none : FoundFrom None text None = subst (FoundFrom None text) is (found_from None text) in
     none before after e (none_open before closed)
 
 -- fronts of one text that are as long as each other are the same
-same_fronts : (a b x y : List ℕ) → length a ≤ length b → length b ≤ length a → a ++ x ≡ b ++ y → (a ≡ b) × (x ≡ y)
-same_fronts [] [] x y low high e = (refl, e)
-same_fronts [] (n ∷ b) x y low high e = absurd (omega (arith, high))
-same_fronts (m ∷ a) [] x y low high e = absurd (omega (arith, low))
-same_fronts (m ∷ a) (n ∷ b) x y low high e =
-    let more = same_fronts a b x y (omega (arith, low)) (omega (arith, high)) (tail_is m n (a ++ x) (b ++ y) e) in
-    let here : m ≡ n = head_is m n (a ++ x) (b ++ y) e in
-    (ap (λ (k : ℕ). k ∷ a) here ∙ ap (λ (t : List ℕ). n ∷ t) more.0, more.1)
+same_fronts : (a b x y : List ℕ) → length a ≡ length b → a ++ x ≡ b ++ y → (a ≡ b) × (x ≡ y)
+same_fronts a b x y same e = (
+  sym (take_at a x (length b) same) ∙ ap (take (length b)) e ∙ take_at b y (length b) refl,
+  sym (drop_at a x (length b) same) ∙ ap (drop (length b)) e ∙ drop_at b y (length b) refl,
+)
 
 pub one_module : (text home rest : List ℕ) → IsModuleCut text home rest → module_after None text ≡ Some (home, rest)
-one_module text home rest h = at (module_after None text) (read_from None text)
+one_module text home rest h = at (module_after None text) (found_from None text)
   where
-    at : (read : Option (List ℕ × List ℕ)) → ReadFrom None text read → read ≡ Some (home, rest)
+    at : (read : Option (List ℕ × List ℕ)) → FoundFrom None text read → read ≡ Some (home, rest)
     at None none = absurd (none home rest h.parts (none_open home h.outside))
-    at (Some (other, left)) k =
-        let same = same_fronts other home (58 ∷ 58 ∷ left) (58 ∷ 58 ∷ rest) (k.first home rest h.parts (none_open home h.outside))
-        (h.first other left k.parts (is_closed other k.outside)) (sym k.parts ∙ h.parts) in
+    at (Some (other, left)) (is, closed, first) =
+        let low = first home rest h.parts (none_open home h.outside) in
+        let high = h.first other left is (is_closed other closed) in
+        let same = same_fronts other home (58 ∷ 58 ∷ left) (58 ∷ 58 ∷ rest) (omega (arith, low, high)) (sym is ∙ h.parts) in
         let after : left ≡ rest = let both = same.1 in cc in
-        ap (λ (t : List ℕ). Some (t, left)) same.0 ∙ ap (λ (t : List ℕ). Some (home, t)) after
+        λ i. Some (same.0 i, after i)
 
 pub no_module : (text : List ℕ) → HasNoModule text → module_after None text ≡ None
-no_module text none = at (module_after None text) (read_from None text)
+no_module text none = at (module_after None text) (found_from None text)
   where
-    at : (read : Option (List ℕ × List ℕ)) → ReadFrom None text read → read ≡ None
+    at : (read : Option (List ℕ × List ℕ)) → FoundFrom None text read → read ≡ None
     at None h = refl
-    at (Some (home, rest)) h = absurd (none home rest h.parts (is_closed home h.outside))
+    at (Some (home, rest)) h = absurd (none home rest h.0 (is_closed home h.1))

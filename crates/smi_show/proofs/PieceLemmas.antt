@@ -1,22 +1,23 @@
 -- The pieces that show numbers: what one more value adds, and that the pieces stand for the numbers shown.
-use Rattle.std.proofs.Common.{◌≡◌, ◌≢◌, ℕ, ◌+◌, ◌<◌, ◌^◌, Bool, true, false, not, ◌&&◌, cond}
+use Rattle.std.proofs.Common.{◌≡◌, ◌≢◌, ℕ, ◌+◌, ◌<◌, ◌^◌, Bool, true, false, not, cond}
 use Rattle.std.proofs.Common.{nat_eq, List, [], ◌∷◌, ◌++◌, length, drop, get_or, Option, Some}
 use Rattle.std.proofs.Common.{None}
 use Rattle.std.proofs.Common.{option_map, unwrap_or, All, inl, inr, refl, sym, ◌∙◌, ap, subst}
 use Rattle.std.specs.List.{list_all, flat_map}
 use Rattle.std.proofs.lemmas.Grind.{flat_map-append}
 use Rattle.std.proofs.lemmas.List.{at_drop_more, append-nil}
-use Rattle.std.proofs.lemmas.List.Elements.{All-nil, All-cons, All-head, All-tail, All-append}
-use Rattle.std.proofs.lemmas.List.Elements.{All-map}
+use Rattle.std.proofs.lemmas.List.Elements.{All-nil, All-cons, All-append, All-map}
+use Rattle.std.proofs.lemmas.List.Elements.{All-take, All-drop}
+use Rattle.std.proofs.lemmas.Bool.{and_parts}
+use Rattle.std.proofs.Math.Seq.{take-append_seam, drop-append_seam}
 use Rattle.smi_show.specs.declared.index.part.Extent.{Extent}
 use Rattle.smi_show.specs.declared.index.part.Extent.TheVariants.{Fixed, Counted, Implied}
 use Rattle.smi_show.specs.declared.index.part.IndexPart.{IndexPart}
-use Rattle.smi_show.specs.declared.index.part.IndexPart.TheVariants.{Number, Address, Text, Octets}
-use Rattle.smi_show.specs.declared.index.part.IndexPart.TheVariants.{Identifier, ImpliedIdentifier}
-use Rattle.smi_show.specs.index.Index.{IsInExtent, IsEncoding, ReadsValue, ReadValues}
+use Rattle.smi_show.specs.declared.index.part.IndexPart.TheVariants.{Number, Text}
+use Rattle.smi_show.specs.index.Index.{IsInExtent, ReadsValue, ReadValues, extent_of}
 use Rattle.smi_show.specs.index.Reading.{front_of, values_of, instance_pieces}
 use Rattle.smi_show.specs.index.Pieces.{Piece, plain_number, is_quotable, is_shown_text}
-use Rattle.smi_show.specs.index.Pieces.{piece_numbers, IsPiece}
+use Rattle.smi_show.specs.index.Pieces.{piece_numbers, IsPiece, is_text}
 use Rattle.smi_show.specs.index.Pieces.{dotted_text, shown_pieces, as_numbers, as_text}
 use Rattle.smi_show.specs.index.Pieces.{extent_numbers}
 use Rattle.smi_show.specs.index.Pieces.{value_numbers, value_pieces, index_pieces}
@@ -64,29 +65,13 @@ either_numbers : (extent : Extent) (value : List ℕ) (test : Bool)
 either_numbers extent value true = text_numbers extent value
 either_numbers extent value false = numbers_of_numbers (extent_numbers extent value)
 
-value_is : (part : IndexPart) (value : List ℕ) → flat_map piece_numbers (value_pieces part value) ≡ value_numbers part value
-value_is Number value = numbers_of_numbers value
-value_is Address value = numbers_of_numbers value
-value_is (Text extent) value = either_numbers extent value (is_shown_text value)
-value_is (Octets extent) value = numbers_of_numbers (extent_numbers extent value)
-value_is Identifier value = numbers_of_numbers (length value ∷ value)
-value_is ImpliedIdentifier value = numbers_of_numbers value
-
 extent_here : (extent : Extent) (value here : List ℕ) → IsInExtent extent value here → here ≡ extent_numbers extent value
 extent_here (Fixed size) value here h = h.1
 extent_here Counted value here h = h
 extent_here Implied value here h = h.1
 
-encoding_is : (part : IndexPart) (value here : List ℕ) → IsEncoding part value here → here ≡ value_numbers part value
-encoding_is Number value here h = h.1
-encoding_is Address value here h = h.2
-encoding_is (Text extent) value here h = extent_here extent value here h.1
-encoding_is (Octets extent) value here h = extent_here extent value here h.1
-encoding_is Identifier value here h = h
-encoding_is ImpliedIdentifier value here h = h.1
-
-read_whole : (part : IndexPart) (numbers value rest : List ℕ) → ReadsValue part numbers value rest → numbers ≡ value_numbers part value ++ rest
-read_whole part numbers value rest h = h.whole ∙ ap (λ (t : List ℕ). t ++ rest) (encoding_is part value h.here h.encoding)
+pub read_whole : (part : IndexPart) (numbers value rest : List ℕ) → ReadsValue part numbers value rest → numbers ≡ value_numbers part value ++ rest
+read_whole part numbers value rest h = h.whole ∙ ap (λ (t : List ℕ). t ++ rest) (extent_here (extent_of part) value h.here h.encoding.1)
 
 index_is : (parts : List IndexPart) (numbers : List ℕ) (values : List (List ℕ)) → ReadValues parts numbers values
     → flat_map piece_numbers (index_pieces parts values) ≡ numbers
@@ -95,7 +80,7 @@ index_is [] numbers (value ∷ values) h = absurd h
 index_is (part ∷ parts) numbers [] h = absurd h
 index_is (part ∷ parts) numbers (value ∷ values) h =
     flat_map-append piece_numbers (value_pieces part value) (index_pieces parts values)
-    ∙ ap (λ (t : List ℕ). t ++ flat_map piece_numbers (index_pieces parts values)) (value_is part value)
+    ∙ ap (λ (t : List ℕ). t ++ flat_map piece_numbers (index_pieces parts values)) (either_numbers (extent_of part) value (is_text part value))
     ∙ ap (λ (t : List ℕ). value_numbers part value ++ t) (index_is parts h.0 values h.2)
     ∙ sym (read_whole part numbers value h.0 h.1)
 
@@ -109,58 +94,44 @@ whole None numbers = numbers_of_numbers numbers
 whole (Some parts) numbers = either_whole parts numbers (values_of parts numbers) refl
 
 -- each piece may stand in a name
-abbrev IsNumber : ℕ → Type 0
+abbrev pub IsNumber : ℕ → Type 0
 IsNumber n = n < 2 ^ 32
 
 are_numbers : (numbers : List ℕ) → All IsNumber numbers → All IsPiece (as_numbers numbers)
 are_numbers numbers h = All-map IsPiece plain_number numbers h
 
-front_all : (front rest : List ℕ) → All IsNumber (front ++ rest) → All IsNumber front
-front_all [] rest h = All-nil IsNumber
-front_all (n ∷ front) rest h = All-cons IsNumber n front (All-head IsNumber n (front ++ rest) h) (front_all front rest (All-tail IsNumber n (front ++ rest) h))
-
-rest_all : (front rest : List ℕ) → All IsNumber (front ++ rest) → All IsNumber rest
-rest_all [] rest h = h
-rest_all (n ∷ front) rest h = rest_all front rest (All-tail IsNumber n (front ++ rest) h)
-
 not_empty : (value : List ℕ) → is_shown_text value ≡ true → value ≢ []
 not_empty value h none = let P : List ℕ → Type 0 = λ v. is_shown_text v ≡ true in let no : false ≡ true = subst P none h in cc
 
-and_right : (a b : Bool) → (a && b) ≡ true → b ≡ true
-and_right true b h = h
-and_right false b h = let no : ⊥ = cc in absurd no
-
 quotable : (value : List ℕ) → is_shown_text value ≡ true → list_all is_quotable value ≡ true
-quotable value h = and_right (not (nat_eq (length value) 0)) (list_all is_quotable value) h
+quotable value h = (and_parts (not (nat_eq (length value) 0)) (list_all is_quotable value) h).1
 
 text_is_piece : (extent : Extent) (value : List ℕ) → is_shown_text value ≡ true → IsPiece (as_text extent value)
 text_is_piece (Fixed size) value h = (not_empty value h, quotable value h)
 text_is_piece Counted value h = quotable value h
 text_is_piece Implied value h = (not_empty value h, quotable value h)
 
-either_piece : (extent : Extent) (value : List ℕ) (test : Bool) → is_shown_text value ≡ test → All IsNumber (extent_numbers extent value)
-    → All IsPiece (cond test (as_text extent value ∷ []) (as_numbers (extent_numbers extent value)))
-either_piece extent value true is h = All-cons IsPiece (as_text extent value) [] (text_is_piece extent value is) (All-nil IsPiece)
-either_piece extent value false is h = are_numbers (extent_numbers extent value) h
+text_is_shown : (part : IndexPart) (value : List ℕ) → is_text part value ≡ true → is_shown_text value ≡ true
+text_is_shown (Text extent) value h = h
+text_is_shown _ value h = cc
 
-value_each : (part : IndexPart) (value : List ℕ) → All IsNumber (value_numbers part value) → All IsPiece (value_pieces part value)
-value_each Number value h = are_numbers value h
-value_each Address value h = are_numbers value h
-value_each (Text extent) value h = either_piece extent value (is_shown_text value) refl h
-value_each (Octets extent) value h = are_numbers (extent_numbers extent value) h
-value_each Identifier value h = are_numbers (length value ∷ value) h
-value_each ImpliedIdentifier value h = are_numbers value h
+value_each : (part : IndexPart) (value : List ℕ) (test : Bool) → is_text part value ≡ test → All IsNumber (value_numbers part value)
+    → All IsPiece (cond test (as_text (extent_of part) value ∷ []) (as_numbers (value_numbers part value)))
+value_each part value true is h =
+    All-cons IsPiece (as_text (extent_of part) value) [] (text_is_piece (extent_of part) value (text_is_shown part value is)) (All-nil IsPiece)
+value_each part value false is h = are_numbers (value_numbers part value) h
 
 index_each : (parts : List IndexPart) (numbers : List ℕ) (values : List (List ℕ)) → ReadValues parts numbers values → All IsNumber numbers
     → All IsPiece (index_pieces parts values)
 index_each [] numbers values h all = All-nil IsPiece
 index_each (part ∷ parts) numbers [] h all = absurd h
 index_each (part ∷ parts) numbers (value ∷ values) h all =
-    let P : List ℕ → Type 0 = λ ns. All IsNumber ns in
-    let both = subst P (read_whole part numbers value h.0 h.1) all in
+    let here : List ℕ = value_numbers part value in
+    let both : All IsNumber (here ++ h.0) = rw (← read_whole part numbers value h.0 h.1) all in
+    let first = rw take-append_seam at (All-take IsNumber (length here) (here ++ h.0) both) in
+    let rest = rw drop-append_seam at (All-drop IsNumber (length here) (here ++ h.0) both) in
     All-append IsPiece (value_pieces part value) (index_pieces parts values)
-    (value_each part value (front_all (value_numbers part value) h.0 both))
-    (index_each parts h.0 values h.2 (rest_all (value_numbers part value) h.0 both))
+    (value_each part value (is_text part value) refl first) (index_each parts h.0 values h.2 rest)
 
 either_each : (parts : List IndexPart) (numbers : List ℕ) (read : Option (List (List ℕ))) → values_of parts numbers ≡ read → All IsNumber numbers
     → All IsPiece (unwrap_or (option_map (index_pieces parts) read) (as_numbers numbers))

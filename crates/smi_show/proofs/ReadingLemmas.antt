@@ -1,19 +1,17 @@
 -- What is computed at the front of the numbers is an encoding of a part, and each encoding is computed.
-use Rattle.std.proofs.Common.{◌≡◌, ◌≢◌, ℕ, ◌≤◌, Bool, true, false, cond, leb, List, [], ◌∷◌, ◌++◌}
+use Rattle.std.proofs.Common.{◌≡◌, ◌≢◌, ℕ, Bool, true, false, cond, leb, List, [], ◌∷◌, ◌++◌}
 use Rattle.std.proofs.Common.{length, take, drop, Option, Some, None, option_map, option_and_then}
-use Rattle.std.proofs.Common.{is_some, refl, sym, ◌∙◌, ◌↔◌, IsTrue, ap, subst, arith}
+use Rattle.std.proofs.Common.{is_some, refl, sym, ◌∙◌, ◌↔◌, IsTrue, ap, subst, arith, length-append}
+use Rattle.std.specs.Bool.{OnTrue}
 use Rattle.std.specs.List.{list_all}
-use Rattle.std.proofs.lemmas.Bool.{leb-true, le-leb}
+use Rattle.std.proofs.lemmas.Bool.{leb-true, le-leb, false_from_ne_true, false≢true}
 use Rattle.std.proofs.lemmas.List.{take-append-drop, length-take-le, append-nil}
 use Rattle.std.proofs.Math.Seq.{take-append_seam, drop-append_seam}
 use Rattle.smi_show.specs.declared.index.part.Extent.{Extent}
 use Rattle.smi_show.specs.declared.index.part.Extent.TheVariants.{Fixed, Counted, Implied}
 use Rattle.smi_show.specs.declared.index.part.IndexPart.{IndexPart}
-use Rattle.smi_show.specs.declared.index.part.IndexPart.TheVariants.{Number, Address, Text, Octets}
-use Rattle.smi_show.specs.declared.index.part.IndexPart.TheVariants.{Identifier, ImpliedIdentifier}
-use Rattle.smi_show.specs.index.Index.{is_octet, AreOctetNumbers, IsInExtent, IsEncoding, LeavesIn}
-use Rattle.smi_show.specs.index.Index.{LeavesAfter}
-use Rattle.smi_show.specs.index.Index.{ReadsValue, ReadValues}
+use Rattle.smi_show.specs.index.Index.{is_octet, AreOctetNumbers, IsInExtent, LeavesIn}
+use Rattle.smi_show.specs.index.Index.{extent_of, is_of_octets, ReadsValue, ReadValues}
 use Rattle.smi_show.specs.index.Reading.{front_and_rest, counted, remaining, of_octets, in_extent}
 use Rattle.smi_show.specs.index.Reading.{front_of}
 use Rattle.smi_show.specs.index.Reading.{values_of}
@@ -21,36 +19,26 @@ use Rattle.smi_show.specs.index.Reading.{values_of}
 abbrev Pair : Type 0
 Pair = List ℕ × List ℕ
 
-same_value : (p q : Pair) → Some p ≡ Some q → p.0 ≡ q.0
-same_value p q h = let e : p ≡ q = cc in ap (λ (r : Pair). r.0) e
+same_pair : (p q : Pair) → Some p ≡ Some q → (p.0 ≡ q.0) × (p.1 ≡ q.1)
+same_pair p q h = let e : p ≡ q = cc in (ap (λ (r : Pair). r.0) e, ap (λ (r : Pair). r.1) e)
 
-same_rest : (p q : Pair) → Some p ≡ Some q → p.1 ≡ q.1
-same_rest p q h = let e : p ≡ q = cc in ap (λ (r : Pair). r.1) e
+-- what a test let through
+pub chosen : {A : Type 0} (b : Bool) (x y : A) → cond b (Some x) None ≡ Some y → (b ≡ true) × (x ≡ y)
+chosen true x y h = (refl, cc)
+chosen false x y h = let no : ⊥ = cc in absurd no
 
 -- a front_and_rest
-cut_at : (size : ℕ) (numbers value rest : List ℕ) (test : Bool) → leb size (length numbers) ≡ test
-    → cond {A = Option Pair} test (Some (take size numbers, drop size numbers)) None ≡ Some (value, rest) → (numbers ≡ value ++ rest) × (length value ≡ size)
-cut_at size numbers value rest true fits h =
-    let front : take size numbers ≡ value = same_value (take size numbers, drop size numbers) (value, rest) h in
-    let back : drop size numbers ≡ rest = same_rest (take size numbers, drop size numbers) (value, rest) h in
-    let whole : value ++ rest ≡ numbers = ap (λ (v : List ℕ). v ++ rest) (sym front) ∙ ap (λ (r : List ℕ). take size numbers ++ r) (sym back)
-    ∙ take-append-drop size numbers in
-    let low : size ≤ length numbers = leb-true size (length numbers) fits in
-    (sym whole, ap length (sym front) ∙ length-take-le size numbers low)
-cut_at size numbers value rest false fits h = let no : ⊥ = cc in absurd no
+cut_found : (size : ℕ) (numbers value rest : List ℕ) → front_and_rest size numbers ≡ Some (value, rest) → (numbers ≡ value ++ rest) × (length value ≡ size)
+cut_found size numbers value rest h =
+    let (fits, same) = chosen {A = Pair} (leb size (length numbers)) (take size numbers, drop size numbers) (value, rest) h in
+    let front : take size numbers ≡ value = ap (λ (r : Pair). r.0) same in
+    let back : drop size numbers ≡ rest = ap (λ (r : Pair). r.1) same in
+    rw (← front, ← back) (sym (take-append-drop size numbers), length-take-le size numbers (leb-true size (length numbers) fits))
 
-pub cut_found : (size : ℕ) (numbers value rest : List ℕ) → front_and_rest size numbers ≡ Some (value, rest) → (numbers ≡ value ++ rest) × (length value ≡ size)
-cut_found size numbers value rest h = cut_at size numbers value rest (leb size (length numbers)) refl h
-
-long_enough : (value rest : List ℕ) → length value ≤ length (value ++ rest)
-long_enough [] rest = omega arith
-long_enough (n ∷ value) rest = let more = long_enough value rest in omega arith
-
-pub cut_only : (value rest : List ℕ) → front_and_rest (length value) (value ++ rest) ≡ Some (value, rest)
+cut_only : (value rest : List ℕ) → front_and_rest (length value) (value ++ rest) ≡ Some (value, rest)
 cut_only value rest =
-    let fits : leb (length value) (length (value ++ rest)) ≡ true = le-leb _ _ (long_enough value rest) in
-    rw fits (ap (λ (v : List ℕ). Some (v, drop (length value) (value ++ rest))) (take-append_seam value rest)
-    ∙ ap (λ (r : List ℕ). Some (value, r)) (drop-append_seam value rest))
+    let fits : leb (length value) (length (value ++ rest)) ≡ true = le-leb _ _ (omega (arith, length-append value rest)) in
+    rw (fits, take-append_seam value rest, drop-append_seam value rest) refl
 
 -- what a length counts
 counted_found : (numbers value rest : List ℕ) → counted numbers ≡ Some (value, rest) → numbers ≡ (length value ∷ value) ++ rest
@@ -63,31 +51,30 @@ counted_found (size ∷ numbers) value rest h =
 remaining_found : (numbers value rest : List ℕ) → remaining numbers ≡ Some (value, rest) → (numbers ≡ value ++ rest) × (value ≢ []) × (rest ≡ [])
 remaining_found [] value rest h = let no : ⊥ = cc in absurd no
 remaining_found (n ∷ more) value rest h =
-    let front : n ∷ more ≡ value = same_value (n ∷ more, []) (value, rest) h in
-    let back : [] ≡ rest = same_rest (n ∷ more, []) (value, rest) h in (
-      sym (append-nil (n ∷ more)) ∙ ap (λ (v : List ℕ). v ++ []) front
-          ∙ ap (λ (r : List ℕ). value ++ r) back,
-      λ none. (let no : n ∷ more ≡ [] = front ∙ none in cc),
-      sym back,
-    )
+    let (front, back) = same_pair (n ∷ more, []) (value, rest) h in
+    rw (← front, ← back) (sym (append-nil (n ∷ more)), λ none. (let no : ⊥ = cc in no), refl)
 
 remaining_only : (value : List ℕ) → value ≢ [] → remaining (value ++ []) ≡ Some (value, [])
 remaining_only [] some = absurd (some refl)
 remaining_only (n ∷ more) some = ap (λ (v : List ℕ). Some (n ∷ v, [])) (append-nil more)
 
 -- octets
-octets_at : (value rest : List ℕ) (p : Pair) (test : Bool) → list_all is_octet p.0 ≡ test → cond test (Some p) None ≡ Some (value, rest)
-    → (Some p ≡ Some (value, rest)) × AreOctetNumbers value
-octets_at value rest p true are h =
-    let same : p.0 ≡ value = same_value p (value, rest) h in (h, ap (λ (v : List ℕ). list_all is_octet v) (sym same) ∙ are)
-octets_at value rest p false are h = let no : ⊥ = cc in absurd no
-
 octets_found : (read : Option Pair) (value rest : List ℕ) → of_octets read ≡ Some (value, rest) → (read ≡ Some (value, rest)) × AreOctetNumbers value
 octets_found None value rest h = let no : ⊥ = cc in absurd no
-octets_found (Some (first, more)) value rest h = octets_at value rest (first, more) (list_all is_octet first) refl h
+octets_found (Some (first, more)) value rest h =
+    let (are, same) = chosen {A = Pair} (list_all is_octet first) (first, more) (value, rest) h in
+    (ap Some same, ap (λ (r : Pair). list_all is_octet r.0) (sym same) ∙ are)
 
-octets_only : (read : Option Pair) (value rest : List ℕ) → read ≡ Some (value, rest) → AreOctetNumbers value → of_octets read ≡ Some (value, rest)
-octets_only read value rest is are = ap of_octets is ∙ rw are refl
+-- octets alone, or any numbers
+either_found : (octets : Bool) (read : Option Pair) (value rest : List ℕ) → cond octets (of_octets read) read ≡ Some (value, rest)
+    → (read ≡ Some (value, rest)) × OnTrue octets (AreOctetNumbers value)
+either_found true read value rest h = octets_found read value rest h
+either_found false read value rest h = (h, tt)
+
+either_only : (octets : Bool) (read : Option Pair) (value rest : List ℕ) → read ≡ Some (value, rest) → OnTrue octets (AreOctetNumbers value)
+    → cond octets (of_octets read) read ≡ Some (value, rest)
+either_only true read value rest is are = ap of_octets is ∙ rw are refl
+either_only false read value rest is are = is
 
 -- a string
 pub record IsSplit (extent : Extent) (numbers value rest : List ℕ) : Type 0 where
@@ -106,66 +93,26 @@ extent_found Implied numbers value rest h =
 
 extent_only : (extent : Extent) (value here rest : List ℕ) → IsInExtent extent value here → LeavesIn extent rest
     → in_extent extent (here ++ rest) ≡ Some (value, rest)
-extent_only (Fixed size) value here rest h after =
-    let P : ℕ → Type 0 = λ n. front_and_rest n (value ++ rest) ≡ Some (value, rest) in
-    let Q : List ℕ → Type 0 = λ t. front_and_rest size (t ++ rest) ≡ Some (value, rest) in
-    subst Q (sym h.1) (subst P h.0 (cut_only value rest))
-extent_only Counted value here rest h after =
-    let Q : List ℕ → Type 0 = λ t. counted (t ++ rest) ≡ Some (value, rest) in subst Q (sym h) (cut_only value rest)
-extent_only Implied value here rest h after =
-    let P : List ℕ → Type 0 = λ r. remaining (value ++ r) ≡ Some (value, r) in
-    let Q : List ℕ → Type 0 = λ t. remaining (t ++ rest) ≡ Some (value, rest) in
-    subst Q (sym h.1) (subst P (sym after) (remaining_only value h.0))
+extent_only (Fixed size) value here rest h after = rw (h.1, ← h.0) (cut_only value rest)
+extent_only Counted value here rest h after = rw h (cut_only value rest)
+extent_only Implied value here rest h after = rw (h.1, after) (remaining_only value h.0)
 
 -- a part
 pub part_found : (part : IndexPart) (numbers value rest : List ℕ) → front_of part numbers ≡ Some (value, rest) → ReadsValue part numbers value rest
-part_found Number numbers value rest h =
-    let e = cut_found 1 numbers value rest h in record { here = value; whole = e.0; encoding = (e.1, refl); after = tt }
-part_found Address numbers value rest h =
-    let are = octets_found (front_and_rest 4 numbers) value rest h in
-    let e = cut_found 4 numbers value rest are.0 in
-    record { here = value; whole = e.0; encoding = (are.1, e.1, refl); after = tt }
-part_found (Text extent) numbers value rest h =
-    let are = octets_found (in_extent extent numbers) value rest h in
-    let e = extent_found extent numbers value rest are.0 in
+part_found part numbers value rest h =
+    let are = either_found (is_of_octets part) (in_extent (extent_of part) numbers) value rest h in
+    let e = extent_found (extent_of part) numbers value rest are.0 in
     record { here = e.here; whole = e.whole; encoding = (are.1, e.encoding); after = e.after }
-part_found (Octets extent) numbers value rest h =
-    let are = octets_found (in_extent extent numbers) value rest h in
-    let e = extent_found extent numbers value rest are.0 in
-    record { here = e.here; whole = e.whole; encoding = (are.1, e.encoding); after = e.after }
-part_found Identifier numbers value rest h =
-    record { here = length value ∷ value; whole = counted_found numbers value rest h; encoding = refl; after = tt }
-part_found ImpliedIdentifier numbers value rest h =
-    let e = remaining_found numbers value rest h in record { here = value; whole = e.0; encoding = (e.1, refl); after = e.2 }
-
-encoded_only : (part : IndexPart) (value here rest : List ℕ) → IsEncoding part value here → LeavesAfter part rest → front_of part (here ++ rest)
-    ≡ Some (value, rest)
-encoded_only Number value here rest h after =
-    let P : ℕ → Type 0 = λ n. front_and_rest n (value ++ rest) ≡ Some (value, rest) in
-    let Q : List ℕ → Type 0 = λ t. front_and_rest 1 (t ++ rest) ≡ Some (value, rest) in
-    subst Q (sym h.1) (subst P h.0 (cut_only value rest))
-encoded_only Address value here rest h after =
-    let P : ℕ → Type 0 = λ n. front_and_rest n (value ++ rest) ≡ Some (value, rest) in
-    let Q : List ℕ → Type 0 = λ t. front_and_rest 4 (t ++ rest) ≡ Some (value, rest) in
-    octets_only (front_and_rest 4 (here ++ rest)) value rest (subst Q (sym h.2) (subst P h.1 (cut_only value rest))) h.0
-encoded_only (Text extent) value here rest h after = octets_only (in_extent extent (here ++ rest)) value rest (extent_only extent value here rest h.1 after) h.0
-encoded_only (Octets extent) value here rest h after =
-    octets_only (in_extent extent (here ++ rest)) value rest (extent_only extent value here rest h.1 after) h.0
-encoded_only Identifier value here rest h after =
-    let Q : List ℕ → Type 0 = λ t. counted (t ++ rest) ≡ Some (value, rest) in subst Q (sym h) (cut_only value rest)
-encoded_only ImpliedIdentifier value here rest h after =
-    let P : List ℕ → Type 0 = λ r. remaining (value ++ r) ≡ Some (value, r) in
-    let Q : List ℕ → Type 0 = λ t. remaining (t ++ rest) ≡ Some (value, rest) in
-    subst Q (sym h.1) (subst P (sym after) (remaining_only value h.0))
 
 pub part_only : (part : IndexPart) (numbers value rest : List ℕ) → ReadsValue part numbers value rest → front_of part numbers ≡ Some (value, rest)
-part_only part numbers value rest h = ap (front_of part) h.whole ∙ encoded_only part value h.here rest h.encoding h.after
+part_only part numbers value rest h =
+    ap (front_of part) h.whole ∙ either_only (is_of_octets part) (in_extent (extent_of part) (h.here ++ rest)) value rest
+    (extent_only (extent_of part) value h.here rest h.encoding.1 h.after) h.encoding.0
 
 pub one_front : (part : IndexPart) (numbers value rest other left : List ℕ) → ReadsValue part numbers value rest → ReadsValue part numbers other left
     → (value ≡ other) × (rest ≡ left)
 one_front part numbers value rest other left h g =
-    let e : Some (value, rest) ≡ Some (other, left) = sym (part_only part numbers value rest h) ∙ part_only part numbers other left g in
-    (same_value (value, rest) (other, left) e, same_rest (value, rest) (other, left) e)
+    same_pair (value, rest) (other, left) (sym (part_only part numbers value rest h) ∙ part_only part numbers other left g)
 
 -- all parts
 pub first_value : (value : List ℕ) (read : Option (List (List ℕ))) (values : List (List ℕ)) → option_map (λ vs. value ∷ vs) read ≡ Some values
@@ -223,8 +170,5 @@ as_stated b parts numbers h = (λ t. if_read parts numbers (sym h ∙ t), λ rea
 pub as_computed : (b : Bool) (parts : List IndexPart) (numbers : List ℕ) → IsTrue b ↔ ((values : List (List ℕ)) × ReadValues parts numbers values)
     → b ≡ is_some (values_of parts numbers)
 as_computed true parts numbers h = sym (read_if parts numbers (h.0 refl))
-as_computed false parts numbers h = at (is_some (values_of parts numbers)) refl
-  where
-    at : (b : Bool) → is_some (values_of parts numbers) ≡ b → false ≡ b
-    at true e = h.1 (if_read parts numbers e)
-    at false e = refl
+as_computed false parts numbers h =
+    sym (false_from_ne_true (is_some (values_of parts numbers)) (λ e. false≢true (h.1 (if_read parts numbers e))))

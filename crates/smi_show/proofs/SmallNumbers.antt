@@ -10,7 +10,8 @@ use Rattle.std.proofs.lemmas.Bool.{cases_lt, lt-ltb, le-ltb, lt-leb, le-leb}
 use Rattle.std.proofs.lemmas.Bool.Decides.{Decides-below_and}
 use Rattle.std.proofs.lemmas.Slice.Eq.{bytes_eq-Decides}
 use Rattle.smi_show.specs.declared.index.shown.TheConstants.{SMALL}
-use Rattle.smi_show.proofs.DigitLemmas.{digit_is, two_digits, digits_of_three}
+use Rattle.std.proofs.lemmas.Fmt.{decimal_digit}
+use Rattle.smi_show.proofs.DigitLemmas.{two_digits, digits_of_three}
 
 -- a number below 1000 after a dot
 abbrev dotted : ℕ → List ℕ
@@ -20,7 +21,7 @@ dotted n =
 
 dotted_is : (n : ℕ) → n < 256 → dotted n ≡ 46 ∷ decimal n
 dotted_is n small = elim (cases_lt n 10) [
-  | inl one ↦ rw (lt-ltb n 10 one) (ap (λ t. 46 ∷ t) (sym (digit_is n one)))
+  | inl one ↦ rw (lt-ltb n 10 one) (ap (λ t. 46 ∷ t) (sym (decimal_digit n one)))
   | inr more ↦ elim (cases_lt n 100) [
     | inl two ↦ rw (le-ltb n 10 more, lt-ltb n 100 two) (ap (λ t. 46 ∷ t) (sym (two_digits n more two)))
     | inr three ↦ rw (le-ltb n 10 more, le-ltb n 100 three) (ap (λ t. 46 ∷ t) (sym (digits_of_three n three (omega arith))))
@@ -54,7 +55,7 @@ small_entry n small = ap (λ t. take (length t) (octets_of n)) (sym (dotted_is n
 -- how many octets that is, by two tests
 pub small_len_is : (n a b : ℕ) → n < 256 → a ≡ bool_byte (leb 10 n) → b ≡ bool_byte (leb 100 n) → 2 + a + b ≡ length (46 ∷ decimal n)
 small_len_is n a b small tens hundreds = elim (cases_lt n 10) [
-  | inl one ↦ rw (tens, hundreds, lt-leb 10 n one, lt-leb 100 n (omega arith)) (ap (λ t. length (46 ∷ t)) (sym (digit_is n one)))
+  | inl one ↦ rw (tens, hundreds, lt-leb 10 n one, lt-leb 100 n (omega arith)) (ap (λ t. length (46 ∷ t)) (sym (decimal_digit n one)))
   | inr more ↦ elim (cases_lt n 100) [
     | inl two ↦ rw (tens, hundreds, le-leb 10 n more, lt-leb 100 n two) (ap (λ t. length (46 ∷ t)) (sym (two_digits n more two)))
     | inr three ↦ rw (tens, hundreds, le-leb 10 n more, le-leb 100 n three) (ap (λ t. length (46 ∷ t)) (sym (digits_of_three n three (omega arith))))

@@ -62,32 +62,23 @@ spaced_append ms ns = flat_map-append (λ (m : Mark). codes " " ++ text_of m) ms
 -- between two signs
 enclosed : (opens closes : Mark) (ms : List Mark) (text : List ℕ) → text ≡ spaced ms
     → (codes " " ++ text_of opens) ++ (text ++ (codes " " ++ text_of closes)) ≡ spaced (opens ∷ (ms ++ closes ∷ []))
-enclosed opens closes ms text is =
-    ap (λ (t : List ℕ). (codes " " ++ text_of opens) ++ (t ++ (codes " " ++ text_of closes))) is
-    ∙ ap (λ (t : List ℕ). (codes " " ++ text_of opens) ++ (spaced ms ++ t)) (sym (append-nil (codes " " ++ text_of closes)))
-    ∙ ap (λ (t : List ℕ). (codes " " ++ text_of opens) ++ t) (sym (spaced_append ms (closes ∷ [])))
+enclosed opens closes ms text is = rw (is, spaced_append ms (closes ∷ []), append-nil (codes " " ++ text_of closes)) refl
 
 -- each part after a sign
 parts_spaced : {A : Type 0} (m : Mark) (marks : A → List Mark) (text : A → List ℕ) → ((x : A) → text x ≡ spaced (m ∷ marks x)) → (xs : List A)
     → flat_map text xs ≡ spaced (flat_map (λ x. m ∷ marks x) xs)
 parts_spaced m marks text is [] = refl
 parts_spaced m marks text is (x ∷ xs) =
-    ap (λ (t : List ℕ). t ++ flat_map text xs) (is x)
-    ∙ ap (λ (t : List ℕ). spaced (m ∷ marks x) ++ t) (parts_spaced m marks text is xs)
-    ∙ sym (spaced_append (m ∷ marks x) (flat_map (λ y. m ∷ marks y) xs))
+    rw (is x, parts_spaced m marks text is xs) (sym (spaced_append (m ∷ marks x) (flat_map (λ y. m ∷ marks y) xs)))
 
 named_number_spaced : (n : NamedNumber) → named_number_text n ≡ spaced (of_named_number n)
-named_number_spaced n =
-    ap (λ (t : List ℕ). codes " " ++ t) (append_assoc (n.name.octets ++ codes " ( ") n.number (codes " )")
-    ∙ append_assoc n.name.octets (codes " ( ") (n.number ++ codes " )"))
+named_number_spaced n = simp (append_assoc, append-nil)
 
 numbers_spaced : (ns : List NamedNumber) → numbers_text ns ≡ spaced (of_list (sign K.Comma) of_named_number ns)
 numbers_spaced [] = refl
 numbers_spaced (n ∷ ns) =
-    ap (λ (t : List ℕ). t ++ flat_map more_numbers ns) (named_number_spaced n)
-    ∙ ap (λ (t : List ℕ). spaced (of_named_number n) ++ t) (parts_spaced (sign K.Comma) of_named_number more_numbers
-    (λ x. ap (λ (t : List ℕ). codes " ," ++ t) (named_number_spaced x)) ns)
-    ∙ sym (spaced_append (of_named_number n) (flat_map (λ y. sign K.Comma ∷ of_named_number y) ns))
+    let more = parts_spaced (sign K.Comma) of_named_number more_numbers (λ x. ap (λ (t : List ℕ). codes " ," ++ t) (named_number_spaced x)) ns in
+    (λ i. named_number_spaced n i ++ more i) ∙ sym (spaced_append (of_named_number n) (flat_map (λ y. sign K.Comma ∷ of_named_number y) ns))
 
 high_spaced : (high : Option TokenText) → high_text high ≡ spaced (of_option (λ x. sign K.Range ∷ bound x ∷ []) high)
 high_spaced None = refl
@@ -99,24 +90,16 @@ range_spaced r = ap (λ (t : List ℕ). (codes " " ++ r.low.text) ++ t) (high_sp
 ranges_spaced : (rs : List Range) → ranges_text rs ≡ spaced (of_ranges rs)
 ranges_spaced [] = refl
 ranges_spaced (r ∷ rs) =
-    ap (λ (t : List ℕ). t ++ flat_map more_ranges rs) (range_spaced r)
-    ∙ ap (λ (t : List ℕ). spaced (of_range r) ++ t) (parts_spaced (sign K.Bar) of_range more_ranges
-    (λ x. ap (λ (t : List ℕ). codes " |" ++ t) (range_spaced x)) rs)
-    ∙ sym (spaced_append (of_range r) (flat_map (λ y. sign K.Bar ∷ of_range y) rs))
+    let more = parts_spaced (sign K.Bar) of_range more_ranges (λ x. ap (λ (t : List ℕ). codes " |" ++ t) (range_spaced x)) rs in
+    (λ i. range_spaced r i ++ more i) ∙ sym (spaced_append (of_range r) (flat_map (λ y. sign K.Bar ∷ of_range y) rs))
 
 refinement_spaced : (r : Refinement) → refinement_text r ≡ spaced (of_refinement r)
 refinement_spaced (R.Numbers ns) =
     enclosed (sign K.OpenBrace) (sign K.CloseBrace) (of_list (sign K.Comma) of_named_number ns) (numbers_text ns) (numbers_spaced ns)
 refinement_spaced (R.Values rs) = enclosed (sign K.OpenParen) (sign K.CloseParen) (of_ranges rs) (ranges_text rs) (ranges_spaced rs)
 refinement_spaced (R.Size rs) =
-    let ms = of_ranges rs in
     let close = sign K.CloseParen ∷ [] in
-    ap (λ (t : List ℕ). codes " ( SIZE (" ++ t) (
-    ap (λ (t : List ℕ). t ++ codes " ) )") (ranges_spaced rs)
-    ∙ sym (append_assoc (spaced ms) (codes " )") (codes " )"))
-    ∙ ap (λ (t : List ℕ). t ++ codes " )") (sym (spaced_append ms close))
-    ∙ sym (spaced_append (ms ++ close) close)
-    )
+    rw (ranges_spaced rs, spaced_append (of_ranges rs ++ close) close, spaced_append (of_ranges rs) close) (simp append_assoc)
 
 refined_spaced : (r : Option Refinement) → refined_text r ≡ spaced (of_option of_refinement r)
 refined_spaced None = refl

@@ -31,7 +31,7 @@ use Rattle.std.proofs.Common.{
 use Rattle.std.specs.List.{list_all}
 use Rattle.std.specs.Char.{is_ascii_digit}
 use Rattle.std.specs.Str.{all_ascii_digits}
-use Rattle.std.proofs.lemmas.Bool.{eq-eqb, lt-ltb}
+use Rattle.std.proofs.lemmas.Bool.{and_parts, eq-eqb, lt-ltb}
 use Rattle.std.proofs.Math.Seq.{take-append_seam, get_or-append_seam}
 use Rattle.snmp_oid.specs.Numeric.{IsNumeral}
 use Rattle.smi_text.specs.trees.Word.{is_word}
@@ -39,8 +39,8 @@ use Rattle.smi_show.specs.index.Pieces.{Piece, plain_number, counted_text, plain
 use Rattle.smi_show.specs.index.Pieces.{IsPiece, shown_piece}
 use Rattle.smi_show.specs.name.Word.{a_piece, a_label, numeral_of, quoted_in, number_word}
 use Rattle.smi_show.specs.name.Word.{counted_word, plain_word, word_of}
-use Rattle.smi_show.proofs.NumeralLemmas.{numeral_is}
-use Rattle.smi_show.proofs.PlainLemmas.{and_left, word_no_digit, plain_word_begins}
+use Rattle.smi_show.proofs.NumeralLemmas.{numeral_is, written_numeral}
+use Rattle.smi_show.proofs.PlainLemmas.{plain_word_begins}
 
 pub digit_first : (octet : ℕ) (more : List ℕ) → is_ascii_digit octet ≡ true → word_of (octet ∷ more) ≡ number_word (numeral_of (octet ∷ more))
 digit_first octet more h = rw h refl
@@ -48,8 +48,7 @@ digit_first octet more h = rw h refl
 pub digits_word : (text : List ℕ) (n : ℕ) → IsNumeral text n → word_of text ≡ Ok (a_piece (plain_number n))
 digits_word [] n h = absurd (h.some refl)
 digits_word (octet ∷ more) n h =
-    let digit : is_ascii_digit octet ≡ true = and_left (is_ascii_digit octet) (all_ascii_digits more) h.digits in
-    digit_first octet more digit ∙ ap number_word (numeral_is (octet ∷ more) n h)
+    digit_first octet more (and_parts (is_ascii_digit octet) (all_ascii_digits more) h.digits).0 ∙ ap number_word (numeral_is (octet ∷ more) n h)
 
 -- the octets before a quote
 quoted_at : ℕ → List ℕ → ℕ → Option (List ℕ)
@@ -75,14 +74,13 @@ pub some_text : (octets : List ℕ) → octets ≢ [] → plain_word (Some octet
 some_text [] some = absurd (some refl)
 some_text (octet ∷ more) some = refl
 
-pub piece_word : (piece : Piece) → IsPiece piece → ((n : ℕ) → IsPiece (plain_number n) → IsNumeral (decimal n) n)
-    → word_of (shown_piece piece) ≡ Ok (a_piece piece)
-piece_word (plain_number n) h numeral = digits_word (decimal n) n (numeral n h)
-piece_word (counted_text octets) h numeral = ap counted_word (quoted_back 34 octets h)
-piece_word (plain_text octets) h numeral = ap plain_word (quoted_back 39 octets h.1) ∙ some_text octets h.0
+pub piece_word : (piece : Piece) → IsPiece piece → word_of (shown_piece piece) ≡ Ok (a_piece piece)
+piece_word (plain_number n) h = digits_word (decimal n) n (written_numeral n h)
+piece_word (counted_text octets) h = ap counted_word (quoted_back 34 octets h)
+piece_word (plain_text octets) h = ap plain_word (quoted_back 39 octets h.1) ∙ some_text octets h.0
 
 pub label_word : (label : List ℕ) → is_word label ≡ true → word_of label ≡ Ok (a_label label)
 label_word [] h = let wrong : ⊥ = cc in absurd wrong
 label_word (octet ∷ more) h =
     let begins = plain_word_begins octet more h in
-    rw (word_no_digit octet more h) (rw begins.double (rw begins.single refl))
+    rw begins.digit (rw begins.double (rw begins.single refl))

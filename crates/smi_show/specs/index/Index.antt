@@ -1,7 +1,8 @@
 -- An index as numbers after a column's identifier: the encodings of its parts, one after the other
 -- (RFC 2578, section 7.7). A contract sees the value of a part as the list of its numbers, without
 -- a length before it.
-use Rattle.std.specs.Prelude.{◌≡◌, ◌≢◌, ℕ, Bool, true, nat_le, List, [], ◌∷◌, ◌++◌, length}
+use Rattle.std.specs.Prelude.{◌≡◌, ◌≢◌, ℕ, Bool, true, false, nat_le, List, [], ◌∷◌, ◌++◌, length}
+use Rattle.std.specs.Bool.{OnTrue}
 use Rattle.std.specs.List.{list_all}
 use Rattle.smi_show.specs.declared.index.part.Extent.{Extent}
 use Rattle.smi_show.specs.declared.index.part.Extent.TheVariants.{Fixed, Counted, Implied}
@@ -23,35 +24,38 @@ IsInExtent (Fixed size) value here = (length value ≡ size) × (here ≡ value)
 IsInExtent Counted value here = here ≡ length value ∷ value
 IsInExtent Implied value here = (value ≢ []) × (here ≡ value)
 
+-- how many numbers a part takes: as many as a string of this extent
+abbrev pub extent_of : IndexPart → Extent
+extent_of Number = Fixed 1
+extent_of Address = Fixed 4
+extent_of (Text extent) = extent
+extent_of (Octets extent) = extent
+extent_of Identifier = Counted
+extent_of ImpliedIdentifier = Implied
+
+-- a part whose numbers are octets
+abbrev pub is_of_octets : IndexPart → Bool
+is_of_octets Address = true
+is_of_octets (Text extent) = true
+is_of_octets (Octets extent) = true
+is_of_octets _ = false
+
 -- the encoding of a value under a part
 abbrev pub IsEncoding : IndexPart → List ℕ → List ℕ → Type 0
-IsEncoding Number value here = (length value ≡ 1) × (here ≡ value)
-IsEncoding Address value here = AreOctetNumbers value × (length value ≡ 4) × (here ≡ value)
-IsEncoding (Text extent) value here = AreOctetNumbers value × IsInExtent extent value here
-IsEncoding (Octets extent) value here = AreOctetNumbers value × IsInExtent extent value here
-IsEncoding Identifier value here = here ≡ length value ∷ value
-IsEncoding ImpliedIdentifier value here = (value ≢ []) × (here ≡ value)
+IsEncoding part value here =
+    OnTrue (is_of_octets part) (AreOctetNumbers value) × IsInExtent (extent_of part) value here
 
 -- an implied part takes all numbers that remain, so none is left after it
 abbrev pub LeavesIn : Extent → List ℕ → Type 0
-LeavesIn (Fixed size) rest = Unit {0}
-LeavesIn Counted rest = Unit {0}
 LeavesIn Implied rest = rest ≡ []
-
-abbrev pub LeavesAfter : IndexPart → List ℕ → Type 0
-LeavesAfter Number rest = Unit {0}
-LeavesAfter Address rest = Unit {0}
-LeavesAfter (Text extent) rest = LeavesIn extent rest
-LeavesAfter (Octets extent) rest = LeavesIn extent rest
-LeavesAfter Identifier rest = Unit {0}
-LeavesAfter ImpliedIdentifier rest = rest ≡ []
+LeavesIn _ rest = Unit {0}
 
 -- the numbers are the encoding of a value, and then the rest
 pub record ReadsValue (part : IndexPart) (numbers value rest : List ℕ) : Type 0 where
   pub here : List ℕ
   pub whole : numbers ≡ here ++ rest
   pub encoding : IsEncoding part value here
-  pub after : LeavesAfter part rest
+  pub after : LeavesIn (extent_of part) rest
 
 -- the whole list of numbers is the encodings of the values, one after the other
 abbrev pub ReadValues : List IndexPart → List ℕ → List (List ℕ) → Type 0

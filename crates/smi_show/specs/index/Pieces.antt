@@ -5,12 +5,11 @@ use Rattle.std.specs.Prelude.{not, ◌&&◌, ◌||◌, ◌==◌, nat_le, ◌⊎�
 use Rattle.std.specs.Prelude.{List, [], ◌∷◌, ◌++◌, length, map, decimal, codes, Option, Some, None}
 use Rattle.std.specs.Prelude.{if◌then◌else◌, IsTrue}
 use Rattle.std.specs.List.{flat_map, list_all}
-use Rattle.smi_show.specs.index.Index.{ReadValues}
+use Rattle.smi_show.specs.index.Index.{ReadValues, extent_of}
 use Rattle.smi_show.specs.declared.index.part.Extent.{Extent}
 use Rattle.smi_show.specs.declared.index.part.Extent.TheVariants.{Fixed, Counted, Implied}
 use Rattle.smi_show.specs.declared.index.part.IndexPart.{IndexPart}
-use Rattle.smi_show.specs.declared.index.part.IndexPart.TheVariants.{Number, Address, Text, Octets}
-use Rattle.smi_show.specs.declared.index.part.IndexPart.TheVariants.{Identifier, ImpliedIdentifier}
+use Rattle.smi_show.specs.declared.index.part.IndexPart.TheVariants.{Text}
 
 pub data Piece : Type 0 where
   plain_number : ℕ → Piece
@@ -66,43 +65,25 @@ extent_numbers Counted value = length value ∷ value
 extent_numbers Implied value = value
 
 abbrev pub value_numbers : IndexPart → List ℕ → List ℕ
-value_numbers Number value = value
-value_numbers Address value = value
-value_numbers (Text extent) value = extent_numbers extent value
-value_numbers (Octets extent) value = extent_numbers extent value
-value_numbers Identifier value = length value ∷ value
-value_numbers ImpliedIdentifier value = value
+value_numbers part value = extent_numbers (extent_of part) value
 
--- a value of an index: an OCTET STRING as text if its octets may stand between quotes, anything
--- else as numbers
+-- whether a value is shown as a text: an OCTET STRING, if its octets may stand between quotes
+abbrev pub is_text : IndexPart → List ℕ → Bool
+is_text (Text extent) value = is_shown_text value
+is_text _ value = false
+
+-- a value of an index: as text, or as numbers
 abbrev pub value_pieces : IndexPart → List ℕ → List Piece
-value_pieces (Text extent) value =
-    if is_shown_text value then as_text extent value ∷ []
-    else as_numbers (extent_numbers extent value)
-value_pieces Number value = as_numbers value
-value_pieces Address value = as_numbers value
-value_pieces (Octets extent) value = as_numbers (extent_numbers extent value)
-value_pieces Identifier value = as_numbers (length value ∷ value)
-value_pieces ImpliedIdentifier value = as_numbers value
+value_pieces part value =
+    if is_text part value then as_text (extent_of part) value ∷ []
+    else as_numbers (value_numbers part value)
 
 -- a part whose values are never shown as texts, for private clauses
 abbrev pub is_plain : IndexPart → Bool
-is_plain Number = true
-is_plain Address = true
 is_plain (Text extent) = false
-is_plain (Octets extent) = true
-is_plain Identifier = true
-is_plain ImpliedIdentifier = true
+is_plain _ = true
 
--- whether a value is shown as a text, and whether one of them is, for private clauses
-abbrev pub is_text : IndexPart → List ℕ → Bool
-is_text Number value = false
-is_text Address value = false
-is_text (Text extent) value = is_shown_text value
-is_text (Octets extent) value = false
-is_text Identifier value = false
-is_text ImpliedIdentifier value = false
-
+-- whether one of the values is shown as a text, for private clauses
 abbrev pub is_text_among : List IndexPart → List (List ℕ) → Bool
 is_text_among [] values = false
 is_text_among (part ∷ parts) [] = false

@@ -3,13 +3,11 @@
 use Rattle.std.specs.Prelude.{ℕ, nat_le, if◌then◌else◌, List, [], ◌∷◌, length, take, drop, Option}
 use Rattle.std.specs.Prelude.{Some, None, option_map, option_and_then, unwrap_or, Bool, false}
 use Rattle.std.specs.List.{list_all}
-use Rattle.smi_show.specs.index.Index.{is_octet}
+use Rattle.smi_show.specs.index.Index.{extent_of, is_octet, is_of_octets}
 use Rattle.smi_show.specs.index.Pieces.{Piece, as_numbers, index_pieces, is_text_among}
 use Rattle.smi_show.specs.declared.index.part.Extent.{Extent}
 use Rattle.smi_show.specs.declared.index.part.Extent.TheVariants.{Fixed, Counted, Implied}
 use Rattle.smi_show.specs.declared.index.part.IndexPart.{IndexPart}
-use Rattle.smi_show.specs.declared.index.part.IndexPart.TheVariants.{Number, Address, Text, Octets}
-use Rattle.smi_show.specs.declared.index.part.IndexPart.TheVariants.{Identifier, ImpliedIdentifier}
 
 -- the first `size` numbers and the rest
 abbrev pub front_and_rest : ℕ → List ℕ → Option (List ℕ × List ℕ)
@@ -39,12 +37,9 @@ in_extent Implied numbers = remaining numbers
 
 -- the value of a part and the rest
 abbrev pub front_of : IndexPart → List ℕ → Option (List ℕ × List ℕ)
-front_of Number numbers = front_and_rest 1 numbers
-front_of Address numbers = of_octets (front_and_rest 4 numbers)
-front_of (Text extent) numbers = of_octets (in_extent extent numbers)
-front_of (Octets extent) numbers = of_octets (in_extent extent numbers)
-front_of Identifier numbers = counted numbers
-front_of ImpliedIdentifier numbers = remaining numbers
+front_of part numbers =
+    if is_of_octets part then of_octets (in_extent (extent_of part) numbers)
+    else in_extent (extent_of part) numbers
 
 -- the values of all parts, if no number is left
 abbrev pub values_of : List IndexPart → List ℕ → Option (List (List ℕ))

@@ -5,6 +5,7 @@ use Rattle.std.specs.Prelude.{Some, None, Result, Ok, Err}
 use Rattle.smi_show.specs.index.Pieces.{piece_numbers}
 use Rattle.smi_show.specs.name.Cutting.{name_parts, module_after}
 use Rattle.smi_show.specs.name.Meant.{Scope, among_roots, anywhere, found_in, in_module}
+use Rattle.smi_show.specs.name.Meant.{is_loaded_in}
 use Rattle.smi_show.specs.name.Naming.{Naming}
 use Rattle.smi_show.specs.name.Word.{Word, a_piece, a_label, word_of}
 use Rattle.smi_show.specs.declared.name.error.NameError.{NameError}
@@ -23,44 +24,44 @@ abbrev pub or_unknown : Option (List ℕ) → Result (List ℕ) NameError
 or_unknown None = Err Unknown
 or_unknown (Some o) = Ok o
 
--- the first part: its own numbers, or the node of the label
-abbrev pub first_word_meaning : Naming → Scope → Word → Result (List ℕ) NameError
-first_word_meaning naming scope (a_piece piece) = fitting (piece_numbers piece)
-first_word_meaning naming scope (a_label label) = or_unknown (found_in naming scope label)
+-- a word after the identifier so far, where labels are looked up in this way
+abbrev pub word_meaning : (look_up : List ℕ → Option (List ℕ)) → List ℕ → Word
+    → Result (List ℕ) NameError
+word_meaning look_up so_far (a_piece piece) = fitting (so_far ++ piece_numbers piece)
+word_meaning look_up so_far (a_label label) = or_unknown (look_up label)
 
--- a further part: its numbers after those so far, or the child of that label
-abbrev pub later_word_meaning : Naming → List ℕ → Word → Result (List ℕ) NameError
-later_word_meaning naming so_far (a_piece piece) = fitting (so_far ++ piece_numbers piece)
-later_word_meaning naming so_far (a_label label) = or_unknown (naming.child so_far label)
+abbrev pub part_meaning : (look_up : List ℕ → Option (List ℕ)) → (so_far part : List ℕ)
+    → Result (List ℕ) NameError
+part_meaning look_up so_far part = and_then (word_of part) (word_meaning look_up so_far)
 
-abbrev pub part_meaning : Naming → List ℕ → List ℕ → Result (List ℕ) NameError
-part_meaning naming so_far part = and_then (word_of part) (later_word_meaning naming so_far)
+-- the label of the first is looked up in this way, that of a later one among the children
+abbrev pub parts_meaning : Naming → (look_up : List ℕ → Option (List ℕ)) → List ℕ
+    → List (List ℕ) → Result (List ℕ) NameError
+parts_meaning naming look_up so_far [] = Ok so_far
+parts_meaning naming look_up so_far (part ∷ parts) =
+    and_then (part_meaning look_up so_far part) (λ o. parts_meaning naming (naming.child o) o parts)
 
 abbrev pub further_meaning : Naming → List ℕ → List (List ℕ) → Result (List ℕ) NameError
-further_meaning naming so_far [] = Ok so_far
-further_meaning naming so_far (part ∷ parts) =
-    and_then (part_meaning naming so_far part) (λ o. further_meaning naming o parts)
+further_meaning naming so_far parts = parts_meaning naming (naming.child so_far) so_far parts
 
-abbrev pub head_meaning : Naming → Scope → List ℕ → Result (List ℕ) NameError
-head_meaning naming scope part = and_then (word_of part) (first_word_meaning naming scope)
+-- the parts of a text in a scope, of which the module is loaded
+abbrev pub first_meaning : Naming → Scope → List (List ℕ) → Result (List ℕ) NameError
+first_meaning naming scope parts = parts_meaning naming (found_in naming scope) [] parts
 
-abbrev pub parts_meaning : Naming → Scope → List (List ℕ) → Result (List ℕ) NameError
-parts_meaning naming scope [] = Err Unknown
-parts_meaning naming scope (part ∷ parts) =
-    and_then (head_meaning naming scope part) (λ o. further_meaning naming o parts)
+abbrev pub scope_meaning : Naming → Scope → (rest : List ℕ) → Result (List ℕ) NameError
+scope_meaning naming scope rest =
+    if is_loaded_in naming scope then first_meaning naming scope (name_parts rest) else Err Unknown
 
 -- without a module: after a leading dot a label is one of a root
 abbrev pub plain_meaning : Naming → List ℕ → Result (List ℕ) NameError
-plain_meaning naming [] = parts_meaning naming anywhere (name_parts [])
+plain_meaning naming [] = scope_meaning naming anywhere []
 plain_meaning naming (octet ∷ more) =
-    if octet == 46 then parts_meaning naming among_roots (name_parts more)
-    else parts_meaning naming anywhere (name_parts (octet ∷ more))
+    if octet == 46 then scope_meaning naming among_roots more
+    else scope_meaning naming anywhere (octet ∷ more)
 
 abbrev pub scoped_meaning : Naming → List ℕ → Option (List ℕ × List ℕ) → Result (List ℕ) NameError
 scoped_meaning naming text None = plain_meaning naming text
-scoped_meaning naming text (Some (home, rest)) =
-    if naming.is_loaded home then parts_meaning naming (in_module home) (name_parts rest)
-    else Err Unknown
+scoped_meaning naming text (Some (home, rest)) = scope_meaning naming (in_module home) rest
 
 -- a dot alone is the empty identifier, and the empty text is not a name
 abbrev pub meaning : Naming → List ℕ → Result (List ℕ) NameError

@@ -1,7 +1,7 @@
 -- What a text means as a name: a relation between the text and its identifier, or its first fault
 -- from the left.
 use Rattle.std.specs.Prelude.{◌≡◌, ◌≢◌, ◌<◌, ◌≤◌, ◌⊎◌, ◌++◌, ℕ, true, false, List, [], ◌∷◌, length}
-use Rattle.std.specs.Prelude.{Option, Some, None, Result, Ok, Err}
+use Rattle.std.specs.Prelude.{Bool, Option, Some, None, Result, Ok, Err}
 use Rattle.std.specs.Char.{is_ascii_digit}
 use Rattle.snmp_oid.specs.Numeric.{IsNumeral}
 use Rattle.snmp_io.specs.Quotes.{IsFrontOf}
@@ -94,20 +94,16 @@ IsScoped text among_roots rest = HasNoModule text × (text ≡ 46 ∷ rest)
 IsScoped text anywhere rest =
     HasNoModule text × (rest ≡ text) × ((more : List ℕ) → text ≢ 46 ∷ more)
 
--- whether a module that the scope names is loaded
-abbrev pub ScopeIsLoaded : Naming → Scope → Type 0
-ScopeIsLoaded naming (in_module home) = naming.is_loaded home ≡ true
-ScopeIsLoaded naming _ = Unit {0}
-
-abbrev pub ScopeIsMissing : Naming → Scope → Type 0
-ScopeIsMissing naming (in_module home) = naming.is_loaded home ≡ false
-ScopeIsMissing naming _ = ⊥
+-- whether the module that the scope names is loaded, if it names one
+abbrev pub is_loaded_in : Naming → Scope → Bool
+is_loaded_in naming (in_module home) = naming.is_loaded home
+is_loaded_in naming _ = true
 
 -- parts in a scope: the fault of a module that isn't loaded comes first
 abbrev pub ScopeMeans : Naming → Scope → (rest : List ℕ) → Result (List ℕ) NameError → Type 0
 ScopeMeans naming scope rest result =
-    (ScopeIsMissing naming scope × (result ≡ Err Unknown))
-    ⊎ (ScopeIsLoaded naming scope × ((parts : List (List ℕ)) × AreParts rest parts
+    ((is_loaded_in naming scope ≡ false) × (result ≡ Err Unknown))
+    ⊎ ((is_loaded_in naming scope ≡ true) × ((parts : List (List ℕ)) × AreParts rest parts
     × PartsMean naming (found_in naming scope) [] parts result))
 
 -- The empty text is unknown, a dot alone is the empty identifier, and any other text is its parts

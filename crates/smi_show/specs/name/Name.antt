@@ -58,12 +58,8 @@ IsStandingText naming form numeric_index o (Some node) text =
 -- the text is the name of an identifier: in numbers, or by its deepest node
 abbrev pub IsName : Naming → NameForm → Bool → List ℕ → (text : List ℕ) → Type 0
 IsName naming Numeric numeric_index o text = text ≡ numeric_text o
-IsName naming Full numeric_index o text =
-    IsStandingText naming Full numeric_index o (naming.deepest o) text
-IsName naming Label numeric_index o text =
-    IsStandingText naming Label numeric_index o (naming.deepest o) text
-IsName naming ModuleLabel numeric_index o text =
-    IsStandingText naming ModuleLabel numeric_index o (naming.deepest o) text
+IsName naming form numeric_index o text =
+    IsStandingText naming form numeric_index o (naming.deepest o) text
 
 -- the forms whose texts are read back
 abbrev pub ReadsBack : NameForm → Type 0

@@ -6,12 +6,7 @@ use Rattle.smi_show.specs.index.Reading.{instance_pieces}
 use Rattle.smi_show.specs.name.Name.{node_text}
 use Rattle.smi_show.specs.name.Naming.{Naming, Standing}
 use Rattle.smi_value.specs.declared.letters.letters.NameForm.{NameForm}
-use Rattle.smi_value.specs.declared.letters.letters.NameForm.TheVariants.{
-  Numeric,
-  Full,
-  Label,
-  ModuleLabel,
-}
+use Rattle.smi_value.specs.declared.letters.letters.NameForm.TheVariants.{Numeric}
 
 -- the numbers after the node
 abbrev pub instance_text : Bool → List ℕ → Standing → List ℕ
@@ -26,9 +21,4 @@ standing_text naming form numeric_index o (Some node) =
 -- in numbers, or by the deepest node
 abbrev pub name_text : Naming → NameForm → Bool → List ℕ → List ℕ
 name_text naming Numeric numeric_index o = numeric_text o
-name_text naming Full numeric_index o =
-    standing_text naming Full numeric_index o (naming.deepest o)
-name_text naming Label numeric_index o =
-    standing_text naming Label numeric_index o (naming.deepest o)
-name_text naming ModuleLabel numeric_index o =
-    standing_text naming ModuleLabel numeric_index o (naming.deepest o)
+name_text naming form numeric_index o = standing_text naming form numeric_index o (naming.deepest o)

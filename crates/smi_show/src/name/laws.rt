@@ -7,7 +7,6 @@ ghost use Rattle.smi_show.specs.name.Meant.{TextMeans};
 ghost use Rattle.smi_show.specs.name.Naming.{Naming};
 ghost use Rattle.smi_show.specs.declared.name.error.NameError.{NameError};
 
-use crate::index::pieces_stand_for_numbers;
 use snmp_oid::names;
 
 /// A text means one thing as a name, an identifier or a fault.
@@ -29,5 +28,4 @@ pub fn numbers_are_read()
         → TextMeans naming (numeric_text o) (Ok o) }
 {
     names();
-    pieces_stand_for_numbers();
 }

@@ -1,22 +1,20 @@
 //! The identifier that a name means, by its parts from the left.
-ghost use Rattle.std.specs.Prelude.{◌≡◌, ◌<◌, ℕ, Bool, List, Ok, Err, IfErr, IfOk, IfSome, OnOk};
-ghost use Rattle.std.specs.Prelude.{◌≤◌, MatchResult, length, option_map, true};
+ghost use Rattle.std.specs.Prelude.{◌≡◌, ◌<◌, ℕ, Bool, List, [], Ok, Err, IfErr, IfOk, IfSome};
+ghost use Rattle.std.specs.Prelude.{◌≤◌, MatchResult, OnOk, length, option_map, true};
 ghost use Rattle.std.specs.Option.{option_copied};
 ghost use Rattle.snmp_oid.specs.Identifier.{IsIdentifier};
 ghost use Rattle.snmp_oid.specs.Numeric.{IsNumericName};
 ghost use Rattle.smi_value.specs.declared.letters.letters.NameForm.{NameForm};
 ghost use Rattle.smi_show.specs.name.Cutting.{name_parts, module_after};
 ghost use Rattle.smi_show.specs.name.Left.{parts_left};
-ghost use Rattle.smi_show.specs.name.Meaning.{further_meaning, head_meaning, meaning};
-ghost use Rattle.smi_show.specs.name.Meaning.{part_meaning};
-ghost use Rattle.smi_show.specs.name.Meaning.{or_unknown, parts_meaning, plain_meaning};
+ghost use Rattle.smi_show.specs.name.Meaning.{first_meaning, further_meaning, meaning};
+ghost use Rattle.smi_show.specs.name.Meaning.{or_unknown, part_meaning, plain_meaning};
 ghost use Rattle.smi_show.specs.name.Meaning.{scoped_meaning};
 ghost use Rattle.smi_show.specs.name.Meant.{FrontMeans, TextMeans, found_in};
 ghost use Rattle.smi_show.specs.name.Name.{IsName, ReadsBack};
 ghost use Rattle.smi_show.specs.name.Part.{scope_in};
 ghost use Rattle.smi_show.specs.name.Reading.{meant_with, read_to};
 
-use crate::index::pieces_stand_for_numbers;
 use crate::name::cut::{cut_module, cut_part};
 use crate::name::part::read_part;
 use crate::name::piece::{push_number, push_piece};
@@ -41,7 +39,6 @@ pub fn resolve<T: NameTree>(tree: &T, text: &[u8]) -> Result<Oid, NameError>
 {
     tree.sound();
     names();
-    pieces_stand_for_numbers();
     meaning_of(tree, text)
 }
 
@@ -172,7 +169,7 @@ fn parts_meaning<T: NameTree>(
 ) -> Result<(), NameError>
     ensures { let parts = name_parts text.now in
         read_to result oid.new
-        ≡ parts_meaning (T.naming tree.now) (scope_in scope.entry) parts }
+        ≡ first_meaning (T.naming tree.now) (scope_in scope.entry) parts }
 {
     let left = first_meaning(tree, scope, text, oid)?;
     further_meaning(tree, left, oid)
@@ -203,7 +200,7 @@ fn first_meaning<'b, T: NameTree>(
 ) -> Result<Option<&'b [u8]>, NameError>
     ensures { let parts = name_parts text.now in
         meant_with (T.naming tree.now) result oid.new
-        ≡ parts_meaning (T.naming tree.now) (scope_in scope.entry) parts }
+        ≡ first_meaning (T.naming tree.now) (scope_in scope.entry) parts }
 {
     let (part, rest) = cut_part(text);
     head_meaning(tree, scope, part, oid)?;
@@ -241,8 +238,8 @@ fn head_meaning<T: NameTree>(
     part: &[u8],
     oid: &mut Oid,
 ) -> Result<(), NameError>
-    ensures { read_to result oid.new
-        ≡ head_meaning (T.naming tree.now) (scope_in scope.entry) part.now }
+    ensures { let look_up = found_in (T.naming tree.now) (scope_in scope.entry) in
+        read_to result oid.new ≡ part_meaning look_up [] part.now }
 {
     match read_part(part)? {
         Part::Piece(piece) => {
@@ -267,7 +264,8 @@ fn labelled<'t, T: NameTree>(tree: &'t T, scope: Scope<'_>, label: &[u8]) -> Opt
 
 /// Reads what a further part means after the identifier so far.
 fn part_meaning<T: NameTree>(tree: &T, part: &[u8], oid: &mut Oid) -> Result<(), NameError>
-    ensures { read_to result oid.new ≡ part_meaning (T.naming tree.now) oid.old part.now }
+    ensures { let look_up = (T.naming tree.now).child oid.old in
+        read_to result oid.new ≡ part_meaning look_up oid.old part.now }
 {
     match read_part(part)? {
         Part::Piece(piece) => push_piece(oid, piece),

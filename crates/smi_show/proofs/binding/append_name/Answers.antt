@@ -1,8 +1,7 @@
 use Rattle.std.proofs.Common.{◌≡◌, ℕ, Bool, List, refl, subst}
 use Rattle.snmp_io.specs.draft.Draft.{Adds}
 use Rattle.smi_value.specs.declared.letters.letters.NameForm.{NameForm}
-use Rattle.smi_value.specs.declared.letters.letters.NameForm.TheVariants.{Numeric, Full, Label}
-use Rattle.smi_value.specs.declared.letters.letters.NameForm.TheVariants.{ModuleLabel}
+use Rattle.smi_value.specs.declared.letters.letters.NameForm.TheVariants.{Numeric}
 use Rattle.smi_show.specs.name.Naming.{Naming}
 use Rattle.smi_show.specs.name.Shown.{name_text, standing_text}
 use Rattle.smi_show.proofs.binding.append_name.Goals as goal
@@ -11,9 +10,7 @@ use Rattle.smi_show.proofs.binding.append_name.Goals as goal
 by_node : (naming : Naming) (form : NameForm) (numeric_index : Bool) (o : List ℕ) → (form ≡ Numeric → ⊥)
     → standing_text naming form numeric_index o (naming.deepest o) ≡ name_text naming form numeric_index o
 by_node naming Numeric numeric_index o named = absurd (named refl)
-by_node naming Full numeric_index o named = refl
-by_node naming Label numeric_index o named = refl
-by_node naming ModuleLabel numeric_index o named = refl
+by_node naming form numeric_index o named = refl
 
 pub returns-else-eq : goal.returns-else-eq
 returns-else-eq g c =

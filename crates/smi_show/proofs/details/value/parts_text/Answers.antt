@@ -1,6 +1,6 @@
 use Rattle.std.proofs.Common.{◌≡◌, ◌-◌, ◌≤◌, ℕ, List, [], ◌∷◌, ◌++◌, length, get_or, take, codes}
 use Rattle.std.proofs.Common.{decimal}
-use Rattle.std.proofs.Common.{refl, ◌∙◌, ap, subst, arith}
+use Rattle.std.proofs.Common.{refl, subst, arith}
 use Rattle.snmp_io.specs.draft.Draft.{Adds}
 use Rattle.smi_show.specs.details.Value.{labelled_parts, parts_text}
 use Rattle.smi_show.specs.name.Beginnings.{last_number}
@@ -18,9 +18,7 @@ by_places : (naming : Naming) (numbers : List ℕ) → 1 ≤ length numbers
 by_places naming [] some = absurd (omega arith)
 by_places naming (n ∷ more) some =
     let place : length (n ∷ more) - 1 ≡ length more = omega arith in
-    let P : ℕ → List ℕ = λ k. labelled_parts naming (take k (n ∷ more)) ++ decimal (get_or (n ∷ more) k 0) ++ codes " " in
-    ap P place
-    ∙ ap (λ (last : ℕ). labelled_parts naming (take (length more) (n ∷ more)) ++ decimal last ++ codes " ") (last_at n more)
+    rw (place, last_at n more) refl
 
 pub returns-in-len1-up : goal.returns-in-len1-up
 returns-in-len1-up g c =

@@ -1,9 +1,14 @@
-use Rattle.std.proofs.Common.{◌≡◌, ◌≤◌, ◌∙◌, ℕ, List, [], ◌∷◌, length, sym, ap, subst, arith}
-use Rattle.snmp_oid.specs.Numeric.{numeric_text}
+use Rattle.std.proofs.Common.{◌≡◌, ◌≤◌, ◌∙◌, ℕ, List, [], ◌∷◌, ◌++◌, decimal, length, refl, sym, ap}
+use Rattle.std.proofs.Common.{subst, arith}
+use Rattle.std.specs.List.{flat_map}
+use Rattle.snmp_oid.specs.Numeric.{dot, numeric_text}
 use Rattle.snmp_io.specs.draft.Draft.{Adds}
 use Rattle.smi_show.specs.index.Pieces.{as_numbers, shown_pieces}
-use Rattle.smi_show.proofs.ReadBack.{numbers_text}
 use Rattle.smi_show.proofs.name.name.numeric.Goals as goal
+
+numbers_text : (numbers : List ℕ) → flat_map (λ m. dot ∷ decimal m) numbers ≡ shown_pieces (as_numbers numbers)
+numbers_text [] = refl
+numbers_text (n ∷ more) = ap (λ (t : List ℕ). (dot ∷ decimal n) ++ t) (numbers_text more)
 
 some_numbers : (o : List ℕ) → 1 ≤ length o → shown_pieces (as_numbers o) ≡ numeric_text o
 some_numbers [] long = absurd (omega arith)

@@ -1,19 +1,9 @@
-use Rattle.std.proofs.Common.{◌≡◌, ℕ, List, [], ◌∷◌, ◌++◌, get_or, codes, sym, ◌∙◌, ap, subst}
+use Rattle.std.proofs.Common.{ℕ, List, [], ◌∷◌, ◌++◌, get_or, codes, sym, ◌∙◌, ap, subst}
 use Rattle.std.proofs.lemmas.List.{take_more}
 use Rattle.snmp_io.specs.draft.Draft.{Grows}
-use Rattle.smi_show.specs.name.Name.{arc_after_dot, arc_text, path_text}
-use Rattle.smi_show.specs.name.Naming.{Naming}
-use Rattle.smi_show.proofs.BeginningLemmas.{last_is, text_more}
+use Rattle.smi_show.specs.name.Name.{arc_text, path_text}
+use Rattle.smi_show.proofs.BeginningLemmas.{text_more}
 use Rattle.smi_show.proofs.name.name.path.Goals as goal
-
--- one number more of the path
-longer_path : (naming : Naming) (here next : List ℕ) (n : ℕ) → next ≡ here ++ n ∷ []
-    → path_text naming here ++ (codes "." ++ arc_text (naming.deepest next) next n) ≡ path_text naming next
-longer_path naming here next n is =
-    ap (λ (t : List ℕ). path_text naming here ++ (codes "." ++ arc_text (naming.deepest t) t n)) is
-    ∙ ap (λ (m : ℕ). path_text naming here ++ (codes "." ++ arc_text (naming.deepest (here ++ n ∷ [])) (here ++ n ∷ []) m)) (sym (last_is here n))
-    ∙ text_more (arc_after_dot naming) here n
-    ∙ ap (path_text naming) (sym is)
 
 pub numbers-preserved : goal.numbers-preserved
 numbers-preserved g c =
@@ -25,6 +15,6 @@ numbers-preserved g c =
       here = c.push_with_room.ensures ∙ ap (λ (t : List ℕ). t ++ n ∷ []) so_far.here
           ∙ sym (take_more c.args.numbers.now c.numbers.number-index 0 c.numbers-test.true);
       grows = subst (λ (t : List ℕ). Grows c.args.draft.now t c.arc.new.draft)
-          (longer_path naming c.numbers.here next n c.push_with_room.ensures)
+          (text_more (λ o m. codes "." ++ arc_text (naming.deepest o) o m) c.numbers.here next n c.push_with_room.ensures)
           (c.arc.ensures.goes_on c.args.draft.now (path_text naming c.numbers.here) so_far.grows);
     }

@@ -1,0 +1,106 @@
+-- Readings of a text octet by octet, its parts and its module: an octet that ends nothing stands before what the rest gives.
+use Rattle.std.proofs.Common.{◌≡◌, ℕ, ◌+◌, ◌<◌, Bool, false, ◌&&◌, nat_eq, List, [], ◌∷◌, ◌++◌}
+use Rattle.std.proofs.Common.{length, take, drop, get_or, Option, Some, None, option_map, refl, sym}
+use Rattle.std.proofs.Common.{◌∙◌, ap, subst, append_assoc}
+use Rattle.std.proofs.lemmas.Bool.{cond_both}
+use Rattle.std.proofs.lemmas.List.{drop_more, take_more}
+use Rattle.snmp_io.specs.Quotes.{open_after}
+use Rattle.snmp_io.specs.QuoteLaws.{quote_after}
+use Rattle.smi_show.specs.name.Cutting.{is_unquoted, with_prefix, parts_after}
+use Rattle.smi_show.specs.name.Cutting.{is_double_colon, longer_module, module_after}
+
+-- a quote is open, or the octet is neither a dot nor a colon
+abbrev pub Passes : Option ℕ → ℕ → Type 0
+Passes None octet = (nat_eq octet 46 ≡ false) × (nat_eq octet 58 ≡ false)
+Passes (Some quote) octet = Unit {0}
+
+pub record IsReader {X : Type 0} (before : List ℕ → X → X) (read : Option ℕ → List ℕ → X) (ends : Option ℕ → List ℕ → Bool) : Type 0 where
+  pub none : (state : Option ℕ) (text : List ℕ) → read state text ≡ before [] (read state text)
+  pub twice : (a b : List ℕ) (x : X) → before a (before b x) ≡ before (a ++ b) x
+  pub next : (state : Option ℕ) (octet : ℕ) (more : List ℕ) → ends state (octet ∷ more) ≡ false
+      → read state (octet ∷ more) ≡ before (octet ∷ []) (read (open_after state octet) more)
+  pub passes : (state : Option ℕ) (octet : ℕ) (more : List ℕ) → Passes state octet → ends state (octet ∷ more) ≡ false
+
+-- octets that pass, one after the other
+abbrev pub Passing : Option ℕ → List ℕ → Type 0
+Passing state [] = Unit {0}
+Passing state (octet ∷ more) = Passes state octet × Passing (open_after state octet) more
+
+module _ {X : Type 0} {before : List ℕ → X → X} {read : Option ℕ → List ℕ → X} {ends : Option ℕ → List ℕ → Bool} (r : IsReader before read ends) where
+  pub all_pass : (state : Option ℕ) (word rest : List ℕ) → Passing state word → read state (word ++ rest) ≡ before word (read (quote_after state word) rest)
+  all_pass state [] rest h = r.none state rest
+  all_pass state (octet ∷ word) rest h =
+      r.next state octet (word ++ rest) (r.passes state octet (word ++ rest) h.0)
+      ∙ ap (before (octet ∷ [])) (all_pass (open_after state octet) word rest h.1)
+      ∙ r.twice (octet ∷ []) word (read (quote_after (open_after state octet) word) rest)
+
+  -- at a place of a text, before which this quote is open
+  pub one_more : (text : List ℕ) (at : ℕ) (state : Option ℕ) → at < length text → ends state (drop at text) ≡ false
+      → read None text ≡ before (take at text) (read state (drop at text))
+      → read None text ≡ before (take (at + 1) text) (read (open_after state (get_or text at 0)) (drop (at + 1) text))
+  one_more text at state low passes h =
+      let octet : ℕ = get_or text at 0 in
+      let rest : List ℕ = drop (at + 1) text in
+      let here : drop at text ≡ octet ∷ rest = drop_more text at 0 low in
+      h ∙ ap (λ (t : List ℕ). before (take at text) (read state t)) here
+      ∙ ap (before (take at text)) (r.next state octet rest (subst (λ (t : List ℕ). ends state t ≡ false) here passes))
+      ∙ r.twice (take at text) (octet ∷ []) (read (open_after state octet) rest)
+      ∙ ap (λ (t : List ℕ). before t (read (open_after state octet) rest)) (sym (take_more text at 0 low))
+
+-- ---- parts
+
+abbrev pub at_dot : Option ℕ → List ℕ → Bool
+at_dot state text = is_unquoted state && nat_eq (get_or text 0 0) 46
+
+pub some_part : (state : Option ℕ) (text : List ℕ) → parts_after state text ≡ with_prefix [] (parts_after state text)
+some_part state [] = refl
+some_part state (octet ∷ more) =
+    cond_both (is_unquoted state && nat_eq octet 46) ([] ∷ parts_after None more) (with_prefix (octet ∷ []) (parts_after (open_after state octet) more))
+    (λ (parts : List (List ℕ)). parts ≡ with_prefix [] parts) (λ e. refl) (λ e. ahead (octet ∷ []) (parts_after (open_after state octet) more))
+  where
+    ahead : (front : List ℕ) (parts : List (List ℕ)) → with_prefix front parts ≡ with_prefix [] (with_prefix front parts)
+    ahead front [] = refl
+    ahead front (part ∷ parts) = refl
+
+front_of_front : (a b : List ℕ) (parts : List (List ℕ)) → with_prefix a (with_prefix b parts) ≡ with_prefix (a ++ b) parts
+front_of_front a b [] = refl
+front_of_front a b (part ∷ parts) = ap (λ (t : List ℕ). t ∷ parts) (sym (append_assoc a b part))
+
+no_dot : (state : Option ℕ) (octet : ℕ) (more : List ℕ) → Passes state octet → at_dot state (octet ∷ more) ≡ false
+no_dot None octet more h = h.0
+no_dot (Some quote) octet more h = refl
+
+pub parts_reader : IsReader with_prefix parts_after at_dot
+parts_reader = record { none = some_part; twice = front_of_front; next = λ state octet more e. rw e refl; passes = no_dot }
+
+-- ---- the module
+
+abbrev pub before_module : List ℕ → Option (List ℕ × List ℕ) → Option (List ℕ × List ℕ)
+before_module front read = option_map (longer_module front) read
+
+abbrev pub at_colons : Option ℕ → List ℕ → Bool
+at_colons state text = is_unquoted state && is_double_colon text
+
+some_module : (read : Option (List ℕ × List ℕ)) → read ≡ before_module [] read
+some_module None = refl
+some_module (Some (name, rest)) = refl
+
+longer_twice : (a b : List ℕ) (read : Option (List ℕ × List ℕ)) → before_module a (before_module b read) ≡ before_module (a ++ b) read
+longer_twice a b None = refl
+longer_twice a b (Some (name, rest)) = ap (λ (t : List ℕ). Some (t, rest)) (sym (append_assoc a b name))
+
+pub no_colon : (octet : ℕ) (rest : List ℕ) → nat_eq octet 58 ≡ false → is_double_colon (octet ∷ rest) ≡ false
+no_colon octet [] h = refl
+no_colon octet (next ∷ more) h = rw h refl
+
+no_colons : (state : Option ℕ) (octet : ℕ) (more : List ℕ) → Passes state octet → at_colons state (octet ∷ more) ≡ false
+no_colons None octet more h = no_colon octet more h.1
+no_colons (Some quote) octet more h = refl
+
+pub module_reader : IsReader before_module module_after at_colons
+module_reader = record {
+  none = λ state text. some_module (module_after state text);
+  twice = longer_twice;
+  next = λ state octet more e. rw e refl;
+  passes = no_colons;
+}
