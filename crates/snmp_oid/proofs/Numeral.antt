@@ -25,9 +25,7 @@ shifted number digit power rest = omega arith
 value_more : (part rest : List ℕ) (digit number : ℕ) → IsReadTo part (digit ∷ rest) number
     → (number * 10 + (digit - 48)) * 10 ^ length rest + decimal_value rest ≡ decimal_value part
 value_more part rest digit number h =
-    let e : number * (10 ^ length rest * 10) + ((digit - 48) * 10 ^ length rest + decimal_value rest) ≡ decimal_value part =
-    rw (pow-suc 10 (length rest)) at h.value in
-    shifted number (digit - 48) (10 ^ length rest) (decimal_value rest) ∙ e
+    shifted number (digit - 48) (10 ^ length rest) (decimal_value rest) ∙ rw (pow-suc 10 (length rest)) at h.value
 
 -- one more digit
 pub read_more : (part rest : List ℕ) (digit number : ℕ) → is_ascii_digit digit ≡ true → number * 10 + (digit - 48) < 2 ^ 32
@@ -71,14 +69,14 @@ pub read_more_at : (part : List ℕ) (count number : ℕ) → count < length par
     → IsReadTo part (drop (count + 1) part) (number * 10 + (get_or part count 0 - 48))
 read_more_at part count number low is_digit small h =
     read_more part (drop (count + 1) part) (get_or part count 0) number is_digit small
-    (let P : List ℕ → Type 0 = λ left. IsReadTo part left number in subst P (front_at part count low) h)
+    (rw (front_at part count low) at h)
 
 pub read_large_at : (part : List ℕ) (count number : ℕ) → count < length part → 2 ^ 32 ≤ number * 10 + (get_or part count 0 - 48)
     → IsReadTo part (drop count part) number
     → (n : ℕ) → IsNumeral part n → ⊥
 read_large_at part count number low large h =
     read_large part (drop (count + 1) part) (get_or part count 0) number large
-    (let P : List ℕ → Type 0 = λ left. IsReadTo part left number in subst P (front_at part count low) h)
+    (rw (front_at part count low) at h)
 
 -- the digits at the front are read, whatever follows them
 pub record IsFrontRead (text : List ℕ) (count number : ℕ) : Type 0 where

@@ -273,16 +273,13 @@ bad_part_no_name {text} {here} {behind} h r o name =
 
 -- at the end the text names the numbers read
 pub parsed_name : (text kept : List ℕ) (too_long : Bool) (h : IsParsedTo text None kept too_long) → IsNumericName text h.numbers
-parsed_name text kept too_long h =
-    let P : List (List ℕ) → Type 0 = λ ps. AreNumerals ps h.numbers in
-    name_from_dotted text h.dotted h.numbers h.front (dotted_from_numerals h.numbers h.dotted (subst P (sym (h.whole ∙ append-nil h.done)) h.are))
+parsed_name text kept too_long h = name_from_dotted text h.dotted h.numbers h.front
+    (dotted_from_numerals h.numbers h.dotted (rw (h.whole, append-nil) h.are))
 
 -- and nothing else
 pub parsed_only : (text kept : List ℕ) (too_long : Bool) (h : IsParsedTo text None kept too_long) (o : List ℕ) → IsNumericName text o → o ≡ h.numbers
-parsed_only text kept too_long h o name =
-    let P : List (List ℕ) → Type 0 = λ ps. AreNumerals ps o in
-    same_numerals h.done o h.numbers (subst P (h.whole ∙ append-nil h.done)
-    (numerals_from_dotted o h.dotted (dotted_from_name text h.dotted o h.more h.front name))) h.are
+parsed_only text kept too_long h o name = same_numerals h.done o h.numbers
+    (rw (h.whole, append-nil) at (numerals_from_dotted o h.dotted (dotted_from_name text h.dotted o h.more h.front name))) h.are
 
 pub parsed_short : (text kept : List ℕ) → (h : IsParsedTo text None kept false) → (length h.numbers ≤ 128) × (kept ≡ h.numbers)
 parsed_short text kept h = (h.short refl, h.first ∙ take_all 128 h.numbers (h.short refl))

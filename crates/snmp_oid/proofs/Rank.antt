@@ -35,12 +35,10 @@ rank_fits digits (n ∷ rest) short small =
 -- a common front changes nothing
 rises_behind : (digits : ℕ) (front s t : List ℕ) → rank_in (digits - length front) s < rank_in (digits - length front) t
     → rank_in digits (front ++ s) < rank_in digits (front ++ t)
-rises_behind digits [] s t h =
-    let P : ℕ → Type 0 = λ d. rank_in d s < rank_in d t in let e : digits - 0 ≡ digits = omega arith in subst P e h
+rises_behind digits [] s t h = let e : digits - 0 ≡ digits = omega arith in rw e at h
 rises_behind digits (k ∷ front) s t h =
-    let P : ℕ → Type 0 = λ d. rank_in d s < rank_in d t in
     let e : digits - suc (length front) ≡ digits - 1 - length front = omega arith in
-    let more = rises_behind (digits - 1) front s t (subst P e h) in
+    let more = rises_behind (digits - 1) front s t (rw e at h) in
     omega arith
 
 some_rank : (digits : ℕ) (rest : List ℕ) → rest ≢ [] → 0 < rank_in digits rest
@@ -58,20 +56,15 @@ rises_at_once digits n m after behind short small less =
 
 rank_rises : (o p : List ℕ) → IsIdentifier o → Precedes o p → rank o < rank p
 rank_rises o p is (inl below) =
-    let P : List ℕ → Type 0 = λ q. rank q < rank p in
-    let Q : List ℕ → Type 0 = λ q. rank (o ++ []) < rank q in
-    subst P (append-nil o) (subst Q (sym below.2) (rises_behind 128 o [] below.0 (some_rank (128 - length o) below.0 below.1)))
+    rw below.2 (rw append-nil at (rises_behind 128 o [] below.0 (some_rank (128 - length o) below.0 below.1)))
 rank_rises o p is (inr parts) =
-    let P : List ℕ → Type 0 = λ q. rank q < rank p in
-    let Q : List ℕ → Type 0 = λ q. rank (parts.front ++ parts.smaller ∷ parts.after) < rank q in
     let count : length o ≡ length parts.front + suc (length parts.after) = ap length parts.this ∙ length-append parts.front (parts.smaller ∷ parts.after) in
     let tail : drop (length parts.front + 1) o ≡ parts.after =
     ap (drop (length parts.front + 1)) (parts.this ∙ sym (append_assoc parts.front (parts.smaller ∷ []) parts.after))
     ∙ drop_at (parts.front ++ parts.smaller ∷ []) parts.after (length parts.front + 1) (length-append parts.front (parts.smaller ∷ [])) in
-    let R : List ℕ → Type 0 = λ q. All (λ k. k < 2 ^ 32) q in
-    let small : All (λ k. k < 2 ^ 32) parts.after = subst R tail (All-drop (λ k. k < 2 ^ 32) (length parts.front + 1) o is.numbers) in
-    subst P (sym parts.this) (subst Q (sym parts.that) (rises_behind 128 parts.front (parts.smaller ∷ parts.after) (parts.larger ∷ parts.behind)
-    (rises_at_once (128 - length parts.front) parts.smaller parts.larger parts.after parts.behind (omega (arith, count, is.short)) small parts.is_smaller)))
+    let small = rw tail at (All-drop (λ k. k < 2 ^ 32) (length parts.front + 1) o is.numbers) in
+    rw (parts.this, parts.that) (rises_behind 128 parts.front (parts.smaller ∷ parts.after) (parts.larger ∷ parts.behind)
+    (rises_at_once (128 - length parts.front) parts.smaller parts.larger parts.after parts.behind (omega (arith, count, is.short)) small parts.is_smaller))
 
 rank_tells : (o p : List ℕ) (r : Ordering) → Says r o p → IsIdentifier p → rank o < rank p → Precedes o p
 rank_tells o p Less h is less = h

@@ -25,12 +25,10 @@ digits-preserved c =
     omega (arith, c.in_ok-checked_mul.ensures, c.from.ensures, c.in_ok-number.ensures) in
     let low : c.digits.octet-index < length c.args.part.now = omega arith in
     let is_digit : is_ascii_digit (get_or c.args.part.now c.digits.octet-index 0) ≡ true = cc (c.is_ascii_digit.ensures.value, c.if-not-is_ascii_digit.false) in
-    let P : ℕ → Type 0 = λ n. IsReadTo c.args.part.now (drop (c.digits.octet-index + 1) c.args.part.now) n in
-    subst P (sym next) (read_more_at c.args.part.now c.digits.octet-index c.digits.number low is_digit
+    rw next (read_more_at c.args.part.now c.digits.octet-index c.digits.number low is_digit
     (omega (arith, c.in_ok-number.ensures, next)) c.digits.invariant)
 
 pub returns-clause-found : goal.returns-clause-found
 returns-clause-found c =
     let none : drop c.digits.octet-index c.args.part.now ≡ [] = drop_of_length-le c.args.part.now c.digits-test.false in
-    let P : List ℕ → Type 0 = λ left. IsReadTo c.args.part.now left c.digits.number in
-    read_all c.args.part.now c.digits.number (search rules) (subst P none c.digits.invariant)
+    read_all c.args.part.now c.digits.number (search rules) (rw none at c.digits.invariant)

@@ -10,8 +10,7 @@ digits-preserved c =
     let next : c.digits.number * 10 + c.from.result ≡ c.digits.number * 10 + (get_or c.args.text.now c.digits.count 0 - 48) =
     omega (arith, c.from.ensures) in
     let is_digit : is_ascii_digit (get_or c.args.text.now c.digits.count 0) ≡ true = cc (c.is_ascii_digit.ensures.value, c.if-is_ascii_digit.true) in
-    let P : ℕ → Type 0 = λ n. IsFrontRead c.args.text.now (c.digits.count + 1) n in
-    subst P (sym next) (front_more c.args.text.now c.digits.count c.digits.number (omega arith) is_digit
+    rw next (front_more c.args.text.now c.digits.count c.digits.number (omega arith) is_digit
     (omega (arith, c.type_inv.text c.digits.count)) c.digits.invariant)
 
 pub returns-in-None : goal.returns-in-None

@@ -7,12 +7,9 @@ pub numbers-init : goal.numbers-init
 numbers-init c =
     elim c.if-begin_alike.branch [
       | then-begin_alike w ↦ (let alike = c.begin_alike.ensures w.if-begin_alike.true in
-          let P : ℕ → Type 0 = λ n. take n c.args.o.now ≡ take n c.args.p.now in
-          let eight : 8 ≡ c.if-begin_alike.start = omega arith in
-          (omega (arith, alike.0, alike.1), subst P eight alike.2))
-      | else-begin_alike w ↦ (let P : ℕ → Type 0 = λ n. take n c.args.o.now ≡ take n c.args.p.now in
-          let none : 0 ≡ c.if-begin_alike.start = omega arith in
-          (omega arith, subst P none refl))
+          let eight : c.if-begin_alike.start ≡ 8 = omega arith in
+          (omega (arith, alike.0, alike.1), rw eight alike.2))
+      | else-begin_alike w ↦ (let none : c.if-begin_alike.start ≡ 0 = omega arith in (omega arith, rw none refl))
     ]
 
 pub returns-then-o-i : goal.returns-then-o-i
@@ -26,6 +23,5 @@ numbers-preserved c =
 pub returns : goal.returns
 returns c =
     let last : c.numbers.i ≡ c.min-both.result = omega (arith, c.numbers.invariant.0) in
-    let P : ℕ → Type 0 = λ n. take n c.args.o.now ≡ take n c.args.p.now in
     c.cmp-2.ensures
-    ∙ longer_after c.min-both.result c.args.o.now c.args.p.now (omega arith) (omega arith) (omega arith) (subst P last c.numbers.invariant.1)
+    ∙ longer_after c.min-both.result c.args.o.now c.args.p.now (omega arith) (omega arith) (omega arith) (rw last at c.numbers.invariant.1)
