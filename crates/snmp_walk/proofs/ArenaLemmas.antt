@@ -1,7 +1,8 @@
 -- Datagrams in one piece of memory.
 use Rattle.std.proofs.Common.{◌≡◌, ℕ, zero, suc, ◌+◌, ◌-◌, ◌≤◌, List, [], ◌∷◌, ◌++◌, length, take}
 use Rattle.std.proofs.Common.{drop, refl, ◌∙◌, ap, arith, Some, length-drop}
-use Rattle.std.proofs.lemmas.List.{take-append-le, drop-append-le, take_all}
+use Rattle.std.proofs.lemmas.List.{take-append-le, drop-append-le, take_all, map-append}
+use Rattle.std.proofs.Math.Seq.{drop-append_seam}
 use Rattle.std.proofs.lemmas.List.Elements.{All-head, All-tail}
 use Rattle.std.proofs.lemmas.Option.{slice_get-map}
 use Rattle.std.specs.List.{All, slice_get}
@@ -26,21 +27,13 @@ cut-append octets more (s ∷ spans) h =
     let rest = cut-append octets more spans (All-tail (Within octets) s spans h) in
     cc
 
-map-more : (octets : List ℕ) (spans : List Span) (s : Span) → cut octets (spans ++ s ∷ []) ≡ cut octets spans ++ cut_at octets s ∷ []
-map-more octets [] s = refl
-map-more octets (t ∷ spans) s = ap (λ (r : List (List ℕ)). cut_at octets t ∷ r) (map-more octets spans s)
-
-drop-whole : (octets more : List ℕ) → drop (length octets) (octets ++ more) ≡ more
-drop-whole [] more = refl
-drop-whole (x ∷ octets) more = drop-whole octets more
-
 pub cut-push : (octets more : List ℕ) (spans : List Span) (s : Span) → All (Within octets) spans → s.start ≡ length octets → s.len ≡ length more
     → cut (octets ++ more) (spans ++ s ∷ []) ≡ cut octets spans ++ more ∷ []
 cut-push octets more spans s h start len =
     let last : cut_at (octets ++ more) s ≡ more =
-    ap (λ (n : ℕ). take s.len (drop n (octets ++ more))) start ∙ ap (take s.len) (drop-whole octets more) ∙ ap (λ (n : ℕ). take n more) len
+    ap (λ (n : ℕ). take s.len (drop n (octets ++ more))) start ∙ ap (take s.len) (drop-append_seam octets more) ∙ ap (λ (n : ℕ). take n more) len
     ∙ take_all (length more) more (omega arith) in
-    map-more (octets ++ more) spans s ∙ ap (λ (r : List (List ℕ)). r ++ cut_at (octets ++ more) s ∷ []) (cut-append octets more spans h)
+    map-append (cut_at (octets ++ more)) spans (s ∷ []) ∙ ap (λ (r : List (List ℕ)). r ++ cut_at (octets ++ more) s ∷ []) (cut-append octets more spans h)
     ∙ ap (λ (d : List ℕ). cut octets spans ++ d ∷ []) last
 
 pub numbered : (sent : List (List ℕ)) (number : ℕ) → 1 ≤ number → datagram_at sent number ≡ slice_get sent (number - 1)

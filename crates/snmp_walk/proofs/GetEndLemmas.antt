@@ -18,7 +18,7 @@ use Rattle.snmp_walk.specs.Get.{AreFor, AreForNames, IsEndOfGet, IsReasonOfGet, 
 use Rattle.snmp_walk.specs.Get.{answers_of, are_for, step_of}
 use Rattle.snmp_walk.specs.Course.{Heard}
 use Rattle.snmp_walk.specs.Course as heard
-use Rattle.snmp_walk.specs.Link.{OneOf, Outcome}
+use Rattle.snmp_walk.specs.Link.{Outcome}
 use Rattle.snmp_walk.specs.Names.{is_end}
 use Rattle.snmp_walk.specs.Read.{Delivers, all_given, is_refused}
 use Rattle.snmp_walk.specs.Sink.{Took}

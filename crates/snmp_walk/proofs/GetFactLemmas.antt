@@ -2,20 +2,16 @@
 use Rattle.std.proofs.Common.{◌≡◌, ◌≢◌, ◌⊎◌, inl, inr, ℕ, ◌<◌, ◌≤◌, List, [], ◌∷◌, ◌++◌, length}
 use Rattle.std.proofs.Common.{take, refl, sym, ◌∙◌, ap, subst, arith, pos, append-nil, Option}
 use Rattle.std.proofs.lemmas.List.{length-take}
-use Rattle.std.proofs.Math.Nat.{min-le_left}
 use Rattle.std.specs.Prelude.{Result, Err, replicate}
 use Rattle.snmp_oid.specs.Identifier.{wire}
-use Rattle.snmp_wire.specs.declared.kind.Kind.TheVariants as kind
 use Rattle.snmp_wire.specs.Message.{VarBind, Message}
 use Rattle.snmp_wire.specs.Spelling.{Spells}
 use Rattle.snmp_wire.specs.Canon.{canon}
 use Rattle.snmp_wire.specs.Range.{IsMessageInRange}
 use Rattle.snmp_walk.specs.Codec.{Codec}
-use Rattle.snmp_agent.specs.table.Table.{MibView, IsMibView, IsGet}
-use Rattle.snmp_agent.specs.declared.config.Why.{Why}
-use Rattle.snmp_agent.specs.declared.config.Why.TheVariants as why
-use Rattle.snmp_agent.specs.Reply.{response, AreAnswers, got, got_next, unwritten, Fits, IsWhole}
-use Rattle.snmp_agent.specs.Reply.{IsResponse, IsServed, IsDropped, whole, shortened, bulk}
+use Rattle.snmp_agent.specs.table.Table.{MibView, IsMibView}
+use Rattle.snmp_agent.specs.Reply.{response, got, got_next, unwritten, Fits, IsWhole}
+use Rattle.snmp_agent.specs.Reply.{IsResponse, whole, shortened, bulk}
 use Rattle.snmp_walk.specs.declared.end.SinkFault.{SinkFault}
 use Rattle.snmp_walk.specs.declared.end.WalkEnd.{WalkEnd}
 use Rattle.snmp_walk.specs.declared.end.WalkEnd.TheVariants as ending
@@ -28,7 +24,7 @@ use Rattle.snmp_walk.specs.Facts.{IsDone, IsDoneOrStopped}
 use Rattle.snmp_walk.specs.Course.{heard_of}
 use Rattle.snmp_walk.specs.Course as heard
 use Rattle.snmp_walk.specs.Read.{IsRead}
-use Rattle.snmp_walk.specs.Get.{asked_names, get_request, got_step, AreFor, AreGot, MeansToGet}
+use Rattle.snmp_walk.specs.Get.{get_request, got_step, AreFor, AreGot, MeansToGet}
 use Rattle.snmp_walk.specs.Get.{IsBrought, IsReasonOfGet, HasRoomForGet, IsEndOfGet, IsLostGet}
 use Rattle.snmp_walk.specs.Get.{IsTooBig, GetFacts}
 use Rattle.snmp_walk.proofs.TestLemmas.{no_end}
@@ -205,10 +201,6 @@ none_got view [] [] e are = refl
 none_got view [] (p ∷ all) e are = absurd are
 none_got view (o ∷ names) all e are = let no : ⊥ = cc in absurd no
 
--- a request that was written has at most as many octets as its datagram
-short_enough : (n : ℕ) (octets : List ℕ) → n ≤ 65507 → length (take n octets) ≤ 65507
-short_enough n octets few = omega (arith, few, length-take n octets, min-le_left n (length octets))
-
 module _ {W S : Type 0} (facts : LinkFacts W) (link : W) (tries : ℕ) (community : List ℕ) (id : ℕ) (names : List (List ℕ))
     (takes : S → VarBind → Result (Unit {0}) SinkFault → S → Type 0) (before : S) where
   abbrev Asked : Message
@@ -309,7 +301,7 @@ module _ {W S : Type 0} (facts : LinkFacts W) (link : W) (tries : ℕ) (communit
           (λ s fresh.
           lost_exchange codec (facts.agents link) (facts.honest link) lawful tries community id names ranged (take n octets) is (facts.traffic link)
           (facts.traffic after) silent failed (quiet s) (exchanged (keeping fresh.0)) fresh.0 fresh.1)
-          (λ long. absurd (omega (arith, long, ap length is, short_enough n octets few))) (λ long. absurd (short long))
+          (λ long. absurd (omega (arith, long, ap length is, few, length-take n octets))) (λ long. absurd (short long))
           (λ keeps. let x = exchanged keeps in (
             x.times,
             x.few,

@@ -12,7 +12,7 @@ use Rattle.snmp_walk.specs.Taken.{awaits}
 use Rattle.snmp_walk.specs.Link.{Agents, OneOf, IsReplyFrom, IsUnanswered}
 use Rattle.snmp_walk.specs.Traffic.{Traffic, latest, datagram_at, Gives, Receives}
 use Rattle.snmp_walk.specs.Traffic.{IsNothing, IsOther, resent, Lost}
-use Rattle.snmp_walk.specs.Heard.{IsAsked, Hears}
+use Rattle.snmp_walk.specs.Heard.{IsAsked, Hears, Uses}
 use Rattle.snmp_walk.specs.Moved.{IsMoved}
 use Rattle.snmp_walk.specs.declared.link.Link.{Ghosts as LinkFacts}
 use Rattle.snmp_walk.proofs.MoveLemmas.{sent_all, tries_on}
@@ -171,9 +171,6 @@ missing_first agents q old all = record {
   lost = inr (λ t rest e lost. let same : t ≡ all = omega (arith, e) in rw (← same) (rw append-nil at lost));
 }
 
-sent_more : (sent : List (List ℕ)) (q : List ℕ) (count : ℕ) → sent ++ replicate (count + 1) q ≡ (sent ++ replicate count q) ++ q ∷ []
-sent_more sent q count = ap (λ (s : List (List ℕ)). sent ++ s) (replicate_next count q) ∙ sym (append_assoc sent (replicate count q) (q ∷ []))
-
 -- one more try without a reply
 pub missing_more : (agents : Agents) (q : List ℕ) (old between now : Traffic) (count all : ℕ) (silent : Type 0) → silent
     → between.sent ≡ (old.sent ++ replicate count q) ++ q ∷ [] → (before : Traffic) → between.ahead ≡ before.ahead
@@ -187,19 +184,12 @@ missing_more agents q old between now count all silent s sent before ahead h m =
     | inr f ↦ elim (h.lost s) [
       | inl u ↦ inl u
       | inr g ↦ inr (λ t rest e lost.
-          let first : Lost agents (between.sent ++ q ∷ []) q rest t 0 =
-          subst (λ (x : List (List ℕ)). Lost agents (x ++ q ∷ []) q rest t 0) (sent_more old.sent q count ∙ sym sent) lost in
+          let first : Lost agents (between.sent ++ q ∷ []) q rest t 0 = rw sent (rw (replicate_next, ← append_assoc) at lost) in
           let sum : count + (t + 1) ≡ all = omega (arith, e) in
           rw append_assoc (f (t + 1) (h.used ++ rest) sum (rw sent at (g t rest (resent_lost agents q between.sent rest t first)))))
     ]
   ];
 }
-
--- what tries used, and that they lost the request
-abbrev pub Uses : Agents → List ℕ → Traffic → (times tries : ℕ) → Type 0 → Traffic → Type 0
-Uses agents q old times tries silent now =
-    (used : List (Option ℕ)) × (old.ahead ≡ used ++ now.ahead) × (length used ≤ 64 * times)
-    × (silent → IsUnanswered agents q ⊎ Lost agents (old.sent ++ q ∷ []) q used tries 0)
 
 -- no try brought a reply
 pub missing_all : (agents : Agents) (q : List ℕ) (old now : Traffic) (count all : ℕ) → count ≡ all → Missing agents q old count all now → (silent : Type 0)

@@ -143,14 +143,6 @@ inside_next : (root : List ℕ) (b : VarBind) (more : List VarBind) (t : Bool) �
 inside_next root b more t e =
     take_while-cons (is_inside root) b more ∙ ap (λ (x : Bool). cond x (b ∷ inside_front root more) []) e
 
-reads_of : (w : Walker) (bindings inside rows : List VarBind) (e : After) → inside_front w.root bindings ≡ inside
-    → rising_front w.asked inside ≡ rows → EndsAs e rows inside bindings → reads w bindings ≡ reads_as e w rows
-reads_of w bindings inside rows e is rise h =
-    let body : List VarBind → List VarBind → Step × Walker = λ ins rs.
-    cond (nat_lt (length rs) (length ins)) (stops w rs (ending.NotIncreasing (last_name w.asked rs) (name_at ins (length rs))))
-    (cond (nat_lt (length rs) (length bindings)) (closes w rs) (goes_on w phase.Rows rs)) in
-    ap (λ (ins : List VarBind). body ins (rising_front w.asked ins)) is ∙ ap (body inside) rise ∙ reads_by w bindings inside rows e h
-
 -- the order of names, as the standard has it
 module _ (precedes : (o p : List ℕ) → slice_cmp nat_cmp o p ≡ Less → Precedes o p) where
   after_decided : (o p : List ℕ) → Decides (comes_after o p) (Precedes o p)
@@ -169,28 +161,28 @@ module _ (precedes : (o p : List ℕ) → slice_cmp nat_cmp o p ≡ Less → Pre
       ∙ ap (λ (s : List VarBind). b ∷ s) (rising_rows root b.name rows more h.2)
 
   -- how a reply is read whose bindings are rows and others
+  read_by : (w : Walker) (rows rest inside : List VarBind) (e : After) → AreRowsFrom w.root w.asked rows → inside_front w.root rest ≡ inside
+      → rising_front (last_name w.asked rows) inside ≡ [] → EndsAs e rows (rows ++ inside) (rows ++ rest) → reads w (rows ++ rest) ≡ reads_as e w rows
+  read_by w rows rest inside e h is none ends =
+      let all : inside_front w.root (rows ++ rest) ≡ rows ++ inside = rw (inside_rows w.root w.asked rows rest h, is) in
+      let rise : rising_front w.asked (rows ++ inside) ≡ rows = rw (rising_rows w.root w.asked rows inside h, none, append-nil) in
+      rw (all, rise) (reads_by w (rows ++ rest) (rows ++ inside) rows e ends)
+
   read_cut : (w : Walker) (rows rest : List VarBind) → AreRowsFrom w.root w.asked rows → (c : IsCut w.root (last_name w.asked rows) rest)
       → reads w (rows ++ rest) ≡ reads_as (after_cut w.root (last_name w.asked rows) rest c) w rows
   read_cut w rows [] h c =
-      reads_of w (rows ++ []) rows rows nothing (inside_rows w.root w.asked rows [] h ∙ append-nil rows)
-      (ap (rising_front w.asked) (sym (append-nil rows)) ∙ rising_rows w.root w.asked rows [] h ∙ append-nil rows)
-      (refl, ap length (sym (append-nil rows)))
+      let same : length rows ≡ length (rows ++ []) = omega (arith, length-append rows []) in read_by w rows [] [] nothing h refl refl (same, same)
   read_cut w rows (b ∷ rest) h (inl out) =
       let test : is_inside w.root b ≡ false = false_from_ne_true (is_inside w.root b) (λ e. out ((inside_decided w.root b).0 e)) in
-      reads_of w (rows ++ b ∷ rest) rows rows leaving
-      (inside_rows w.root w.asked rows (b ∷ rest) h ∙ ap (λ (s : List VarBind). rows ++ s) (inside_next w.root b rest false test) ∙ append-nil rows)
-      (ap (rising_front w.asked) (sym (append-nil rows)) ∙ rising_rows w.root w.asked rows [] h ∙ append-nil rows)
-      (refl, omega (arith, length-append rows (b ∷ rest)))
+      read_by w rows (b ∷ rest) [] leaving h (inside_next w.root b rest false test) refl
+      (omega (arith, length-append rows []), omega (arith, length-append rows (b ∷ rest)))
   read_cut w rows (b ∷ rest) h (inr c) =
       let last = last_name w.asked rows in
-      let inside = b ∷ inside_front w.root rest in
       let test : comes_after last b.name ≡ false = false_from_ne_true (comes_after last b.name) (λ e. c.1 ((after_decided last b.name).0 e)) in
-      let none : rising_front last inside ≡ [] = ap (λ (t : Bool). cond t (b ∷ rising_front b.name (inside_front w.root rest)) []) test in
-      reads_of w (rows ++ b ∷ rest) (rows ++ inside) rows (falling b.name)
-      (inside_rows w.root w.asked rows (b ∷ rest) h
-      ∙ ap (λ (s : List VarBind). rows ++ s) (inside_next w.root b rest true ((inside_decided w.root b).1 c.0)))
-      (rising_rows w.root w.asked rows inside h ∙ ap (λ (s : List VarBind). rows ++ s) none ∙ append-nil rows)
-      (omega (arith, length-append rows inside), sym (name_there rows (inside_front w.root rest) b))
+      let none : rising_front last (b ∷ inside_front w.root rest) ≡ [] =
+      ap (λ (t : Bool). cond t (b ∷ rising_front b.name (inside_front w.root rest)) []) test in
+      read_by w rows (b ∷ rest) (b ∷ inside_front w.root rest) (falling b.name) h (inside_next w.root b rest true ((inside_decided w.root b).1 c.0)) none
+      (omega (arith, length-append rows (b ∷ inside_front w.root rest)), sym (name_there rows (inside_front w.root rest) b))
 
   -- bindings are rows and others
   record IsSplit (root o : List ℕ) (bindings : List VarBind) : Type 0 where

@@ -33,15 +33,9 @@ use Rattle.std.proofs.Common.{
 use Rattle.std.specs.Prelude.{unwrap_or, IfSome, IfNone}
 use Rattle.std.proofs.lemmas.List.{take_all, take_more, take-append-le}
 use Rattle.snmp_agent.specs.table.Table.{MibView, IsMibView}
-use Rattle.snmp_agent.specs.Reply.{agent_of, IsReply, IsDropped}
-use Rattle.snmp_agent.specs.declared.config.Config.{Config}
-use Rattle.snmp_agent.specs.declared.config.Why.{Why}
 use Rattle.snmp_walk.specs.Link.{Agents, OneOf, AreViews}
 use Rattle.snmp_walk.specs.Traffic.{datagram_at, latest, received, Gives, Receives}
-use Rattle.snmp_walk.specs.Memory.{agents_of, agents_over, traffic_of, IsNextNumber, IsTableFor}
-use Rattle.snmp_walk.specs.Memory.{UsesDelivery}
-use Rattle.snmp_walk.specs.declared.memory.MemoryLink.{MemoryLink}
-use Rattle.snmp_walk.specs.Arena.{Store}
+use Rattle.snmp_walk.specs.Memory.{IsNextNumber, IsTableFor}
 use Rattle.std.proofs.lemmas.Option.{slice_get-get_or}
 
 pub one_got : (views : List MibView) (place : ℕ) (d : MibView) → place < length views → OneOf views (get_or views place d)

@@ -47,12 +47,10 @@ sent_more tried more before between after failed e h = record {
 -- ---- whether a call failed
 
 pub is_bad : {T E : Type 0} (r : Result T E) (e : E) → r ≡ Err e → IsErr r
-is_bad (Ok x) e is = let no : ⊥ = cc in absurd no
-is_bad (Err f) e is = refl
+is_bad r e is = rw is
 
 pub never_bad : {T E : Type 0} (r : Result T E) (x : T) → r ≡ Ok x → IsErr r → ⊥
-never_bad (Ok y) x is h = let no : ⊥ = cc in no
-never_bad (Err f) x is h = let no : ⊥ = cc in no
+never_bad r x is h = let no = subst IsErr is h in cc
 
 pub ok_fine : false ≡ true → ⊥
 ok_fine e = cc

@@ -1,5 +1,5 @@
 -- What an honest reply is to the walk that waits for it.
-use Rattle.std.proofs.Common.{◌≡◌, ◌⊎◌, inl, inr, ℕ, ◌<◌, true, false, List, sym, ◌∙◌, ap, subst}
+use Rattle.std.proofs.Common.{◌≡◌, inl, inr, ℕ, ◌<◌, false, List, sym, ◌∙◌, ap, subst}
 use Rattle.std.proofs.Common.{refl, arith, pos, []}
 use Rattle.std.proofs.lemmas.Bool.{and_from, false_from_ne_true}
 use Rattle.std.specs.Prelude.{not, Result}
@@ -14,7 +14,7 @@ use Rattle.snmp_walk.specs.Standing.{IsReplyTo}
 use Rattle.snmp_walk.specs.Link.{Agents, IsNextFrom, IsGotFrom, IsTooLarge, AreLawful, IsReplyFrom}
 use Rattle.snmp_walk.specs.Link.{Outcome}
 use Rattle.snmp_walk.specs.Link as outcome
-use Rattle.snmp_walk.specs.Heard.{IsAsked, Exchanges, IsSentBefore, IsEarlier}
+use Rattle.snmp_walk.specs.Heard.{IsAsked, Exchanges, IsEarlier}
 use Rattle.snmp_walk.specs.Traffic.{Traffic}
 use Rattle.snmp_walk.specs.Run.{IsHeard, IsFullReply}
 use Rattle.snmp_walk.specs.declared.end.SinkFault.{SinkFault}

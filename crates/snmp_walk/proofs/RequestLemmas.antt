@@ -1,40 +1,13 @@
 -- A walk's requests can be encoded, and fit a datagram.
-use Rattle.std.proofs.Common.{
-  ◌≡◌,
-  ℕ,
-  zero,
-  suc,
-  ◌+◌,
-  ◌-◌,
-  ◌*◌,
-  ◌/◌,
-  ◌%◌,
-  ◌^◌,
-  ◌≤◌,
-  Bool,
-  true,
-  false,
-  cond,
-  List,
-  [],
-  ◌∷◌,
-  ◌++◌,
-  length,
-  arith,
-  refl,
-  length-append,
-  ℤ,
-  pos,
-  negsuc,
-}
+use Rattle.std.proofs.Common.{◌≡◌, ℕ, zero, suc, ◌+◌, ◌-◌, ◌*◌, ◌^◌, ◌≤◌, true, false, cond, List, [], ◌∷◌, length, arith, refl, length-append, ℤ, pos, negsuc}
 use Rattle.std.specs.Prelude.{All, nat_lt}
 use Rattle.std.specs.List.{flat_map}
 use Rattle.std.proofs.lemmas.List.Elements.{All-cons, All-nil}
 use Rattle.snmp_oid.specs.Identifier.{IsWire}
-use Rattle.snmp_wire.specs.Message.{Datum, VarBind, Message, null_value, integer_value}
+use Rattle.snmp_wire.specs.Message.{Datum, Message, null_value, integer_value}
 use Rattle.snmp_wire.specs.Message.{octet_string, object_id, var_bind}
 use Rattle.snmp_wire.specs.Identifier.{subidentifiers}
-use Rattle.snmp_wire.specs.Spelling.{value_tag, kind_tag, sequence_tag}
+use Rattle.snmp_wire.specs.Spelling.{value_tag}
 use Rattle.snmp_wire.specs.Canon.{
   digit_count,
   octets,

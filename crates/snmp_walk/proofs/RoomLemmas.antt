@@ -1,21 +1,10 @@
 -- How long a single_response of one binding is: no longer with an exception in place of the value, nor with a lesser id.
 use Rattle.std.proofs.Common.{◌≡◌, ℕ, ◌^◌, ◌<◌, ◌≤◌, List, [], ◌∷◌, ◌++◌, length, arith}
 use Rattle.std.proofs.Common.{length-append, pos}
-use Rattle.snmp_wire.specs.Message.{Datum, VarBind, Message, integer_value, object_id}
+use Rattle.snmp_wire.specs.Message.{Datum, VarBind, Message, integer_value}
 use Rattle.snmp_wire.specs.Message.{no_such_object, no_such_instance, end_of_mib_view}
 use Rattle.snmp_wire.specs.Spelling.{value_tag, kind_tag, sequence_tag}
-use Rattle.snmp_wire.specs.Canon.{
-  number_size,
-  canon_number,
-  canon_element,
-  canon_content,
-  canon_value,
-  canon_binding,
-  canon_bindings,
-  canon_opening,
-  canon_fields,
-  canon,
-}
+use Rattle.snmp_wire.specs.Canon.{number_size, canon_element, canon_content, canon_value, canon_binding, canon_bindings, canon_opening, canon_fields, canon}
 use Rattle.snmp_walk.specs.Link.{Agents, single_response, IsTooLarge}
 use Rattle.snmp_walk.specs.Room.{HasRoom, full_response, IsException}
 use Rattle.snmp_walk.specs.Codec.{Codec}
@@ -33,14 +22,7 @@ module _ (codec : Codec) where
       → length (canon_binding (record { name = name; value = v })) ≤ length (canon_binding (record { name = name; value = u }))
   unfolding canon_binding
   longer_binding name v u h =
-      longer_element sequence_tag sequence_tag (canon_value (object_id name) ++ canon_value v) (canon_value (object_id name) ++ canon_value u)
-      (omega (
-        arith,
-        longer_value v u h,
-        length-append (canon_value (object_id name)) (canon_value v),
-        length-append (canon_value (object_id name))
-            (canon_value u),
-      ))
+      longer_element sequence_tag sequence_tag _ _ (omega (arith, longer_value v u h, length-append {A = ℕ}))
 
   exception_content : (v : Datum) → IsException v → length (canon_content v) ≤ 0
   unfolding canon_content
@@ -57,9 +39,7 @@ module _ (codec : Codec) where
   longer_integer : (n k : ℕ) → n ≤ k → length (canon_value (integer_value (pos n))) ≤ length (canon_value (integer_value (pos k)))
   unfolding canon_value canon_content
   longer_integer n k h =
-      let sizes : number_size n ≤ number_size k = longer_number n k h in
-      longer_element (value_tag (integer_value (pos n))) (value_tag (integer_value (pos k))) (canon_number (pos n)) (canon_number (pos k)) (omega
-      (arith, sizes, codec.elements.number n, codec.elements.number k))
+      longer_element _ _ _ _ (omega (arith, longer_number n k h, codec.elements.number n, codec.elements.number k))
 
   one_binding : (p : VarBind) → length (canon_bindings (p ∷ [])) ≡ length (canon_binding p)
   unfolding canon_bindings
@@ -71,14 +51,9 @@ module _ (codec : Codec) where
   unfolding canon
   longer_message m n opening fields bindings =
       let list = longer_element sequence_tag sequence_tag (canon_bindings m.bindings) (canon_bindings n.bindings) bindings in
-      let m_list = canon_element sequence_tag (canon_bindings m.bindings) in
-      let n_list = canon_element sequence_tag (canon_bindings n.bindings) in
-      let pdu = longer_element (kind_tag m.kind) (kind_tag n.kind) (canon_fields m ++ m_list) (canon_fields n ++ n_list)
-      (omega (arith, list, fields, length-append (canon_fields m) m_list, length-append (canon_fields n) n_list)) in
-      let m_pdu = canon_element (kind_tag m.kind) (canon_fields m ++ m_list) in
-      let n_pdu = canon_element (kind_tag n.kind) (canon_fields n ++ n_list) in
-      longer_element sequence_tag sequence_tag (canon_opening m ++ m_pdu) (canon_opening n ++ n_pdu)
-      (omega (arith, pdu, opening, length-append (canon_opening m) m_pdu, length-append (canon_opening n) n_pdu))
+      let pdu = longer_element (kind_tag m.kind) (kind_tag n.kind) (canon_fields m ++ canon_element sequence_tag (canon_bindings m.bindings))
+      (canon_fields n ++ canon_element sequence_tag (canon_bindings n.bindings)) (omega (arith, list, fields, length-append {A = ℕ})) in
+      longer_element sequence_tag sequence_tag _ _ (omega (arith, pdu, opening, length-append {A = ℕ}))
 
   pub longer_response : (community : List ℕ) (id last : ℕ) (p q : VarBind) → id ≤ last → length (canon_binding p) ≤ length (canon_binding q)
       → length (canon (single_response community id p)) ≤ length (canon (single_response community last q))

@@ -1,5 +1,5 @@
 -- What was heard is taken, and isn't passed over.
-use Rattle.std.proofs.Common.{◌≡◌, ◌≢◌, ℕ, Bool, true, false, cond, List, [], ◌∷◌, sym, ◌∙◌, ap}
+use Rattle.std.proofs.Common.{◌≡◌, ◌≢◌, Bool, true, false, cond, List, [], ◌∷◌, sym, ◌∙◌, ap}
 use Rattle.std.proofs.Common.{subst, Option, Some, None}
 use Rattle.std.proofs.lemmas.Bool.{false≢true}
 use Rattle.std.specs.Prelude.{IfSome, IfNone, IfOk, OnErr, Result, Ok, Err}
@@ -15,10 +15,8 @@ use Rattle.snmp_walk.specs.Taken.{is_over, is_awaited, stops, goes_on, closes, r
 use Rattle.snmp_walk.specs.Taken.{got, reads_first, reads_last, reads_for, reads_reply, take_of}
 use Rattle.snmp_walk.specs.Standing.{IsReplyEnd}
 use Rattle.snmp_walk.specs.Link.{Agents, Outcome}
-use Rattle.snmp_walk.specs.Link as outcome
 use Rattle.snmp_walk.specs.declared.end.SinkFault.{SinkFault}
-use Rattle.snmp_wire.specs.Spelling.{Spells}
-use Rattle.snmp_walk.specs.Run.{IsHeard, IsFrom, Turns, goes_on as turn_on, ends, is_refused}
+use Rattle.snmp_walk.specs.Run.{IsHeard, Turns, goes_on as turn_on, ends, is_refused}
 use Rattle.snmp_walk.specs.Course.{Heard, end_of}
 use Rattle.snmp_walk.specs.Course as heard
 use Rattle.snmp_walk.specs.Read.{rows_in, leads_to, Delivers, all_given}
@@ -59,50 +57,19 @@ news_by : (w : Walker) (m : Message) (b : Bool) → b ≡ true → is_over w.pha
 news_by w m true e waits = news_cond _ (reads_for w.phase w m.bindings) (stops w [] (ending.Fault m.a m.b)) (for_news w.phase w m.bindings waits) tt
 news_by w m false e waits = absurd (false≢true e)
 
--- a message was taken
-pub record IsTaken (Tried : Outcome → Type 0) (agents : Agents) (honest : Type 0) (w : Walker) (given : Step) (new : Walker) : Type 0 where
-  pub message : Message
-  pub datagram : List ℕ
-  pub tried : Tried (outcome.answered datagram)
-  pub spelt : Spells message datagram
-  pub from : IsFrom agents honest w message
-  pub given_is : given ≡ (take_of w message).0
-  pub new_is : new ≡ (take_of w message).1
-  pub news : HasNews given
-
-pub is_taken : (Tried : Outcome → Type 0) (agents : Agents) (honest : Type 0) (w : Walker) (m : Message) (given : Step) (new : Walker)
-    → is_over w.phase ≡ false
-    → IsHeard Tried agents honest w m → (given, new) ≡ take_of w m → IsTaken Tried agents honest w given new
-is_taken Tried agents honest w m given new waits h taken =
-    let is = ap (λ (x : Step × Walker). x.0) taken in
-    record {
-      message = m;
-      datagram = h.datagram;
-      tried = h.tried;
-      spelt = h.spelt;
-      from = h.from;
-      given_is = is;
-      new_is = ap (λ (x : Step × Walker). x.1) taken;
-      news = subst HasNews (sym is) (news_by w m (is_awaited w m) h.awaited waits);
-    }
-
 -- where a result is None or an error, what holds then
 pub if_silent : {X E : Type 0} (r : Result (Option X) E) (o : Option X) (P : Type 0) → r ≡ Ok o → o ≡ None → IfOk r (λ x. IfNone x P) → P
-if_silent (Ok None) o P e f h = h
-if_silent (Ok (Some x)) o P e f h = let no : ⊥ = cc in absurd no
-if_silent (Err x) o P e f h = let no : ⊥ = cc in absurd no
+if_silent r o P e f h = subst (λ x. IfNone x P) f (subst (λ y. IfOk y (λ x. IfNone x P)) e h)
 
 pub if_cut : {X E : Type 0} (r : Result X E) (e : E) (P : Type 0) → r ≡ Err e → OnErr r P → P
-if_cut (Ok x) e P f h = let no : ⊥ = cc in absurd no
-if_cut (Err x) e P f h = h
+if_cut r e P f h = subst (λ x. OnErr x P) f h
 
 pub on_cut : {X E : Type 0} (r : Result X E) (P : Type 0) → P → OnErr r P
 on_cut (Ok x) P h = tt
 on_cut (Err x) P h = h
 
 pub if_some : {X : Type 0} (o : Option X) (P : X → Type 0) (x : X) → o ≡ Some x → IfSome o P → P x
-if_some None P x e h = let no : ⊥ = cc in absurd no
-if_some (Some y) P x e h = let same : y ≡ x = cc in subst P same h
+if_some o P x e h = subst (λ y. IfSome y P) e h
 
 -- no end that replies don't lead to
 abbrev pub HasEnd : Heard → Type 0
@@ -118,27 +85,27 @@ module _ {S : Type 0} (takes : S → VarBind → Result (Unit {0}) SinkFault →
   has_end given what (all_given f g) news = subst HasEnd (sym f) (leads_end given news)
   has_end given what (delivered_part fault rows p left between e f g k) news = subst HasEnd (sym f) (λ e. cc, λ e. cc)
 
-  turned : (Tried : Outcome → Type 0) (agents : Agents) (honest : Type 0) (w : Walker) (given : Step) (new : Walker) (what : Heard)
-      → IsTaken Tried agents honest w given new → Delivers takes given s what t → (r : List VarBind) × Turns takes Tried agents honest w s r (end_of what) new t
-  turned Tried agents honest w step.Stray new what h (all_given f g) = absurd h.news
-  turned Tried agents honest w (step.Rows rows) new what h (all_given f g) =
-      (rows, turn_on h.message h.datagram h.from h.tried h.spelt (sym h.given_is) h.new_is g (ap end_of f))
-  turned Tried agents honest w (step.Last rows why) new what h (all_given f g) =
-      (rows, ends h.message h.datagram why h.from h.tried h.spelt (sym h.given_is) g (ap end_of f))
-  turned Tried agents honest w given new what h (delivered_part fault rows p left between e f g k) =
-      (rows, is_refused h.message h.datagram fault p left between h.from h.tried h.spelt (ap rows_in (sym h.given_is) ∙ e) g k (ap end_of f))
+  turned : (Tried : Outcome → Type 0) (agents : Agents) (honest : Type 0) (w : Walker) (m : Message) (given : Step) (new : Walker) (what : Heard)
+      → IsHeard Tried agents honest w m → given ≡ (take_of w m).0 → new ≡ (take_of w m).1 → HasNews given → Delivers takes given s what t
+      → (r : List VarBind) × Turns takes Tried agents honest w s r (end_of what) new t
+  turned Tried agents honest w m step.Stray new what h is by news (all_given f g) = absurd news
+  turned Tried agents honest w m (step.Rows rows) new what h is by news (all_given f g) =
+      (rows, turn_on m h.datagram h.from h.tried h.spelt (sym is) by g (ap end_of f))
+  turned Tried agents honest w m (step.Last rows why) new what h is by news (all_given f g) =
+      (rows, ends m h.datagram why h.from h.tried h.spelt (sym is) g (ap end_of f))
+  turned Tried agents honest w m given new what h is by news (delivered_part fault rows p left between e f g k) =
+      (rows, is_refused m h.datagram fault p left between h.from h.tried h.spelt (ap rows_in (sym is) ∙ e) g k (ap end_of f))
 
   -- a turn by a reply that was read, and how it doesn't end
   pub turns_of : (Tried : Outcome → Type 0) (agents : Agents) (honest : Type 0) (w : Walker) (m : Message) (given : Step) (new : Walker) (what x : Heard)
       → what ≡ x → is_over w.phase ≡ false
       → IsHeard Tried agents honest w m → (given, new) ≡ take_of w m → Delivers takes given s what t
       → ((r : List VarBind) × Turns takes Tried agents honest w s r (end_of x) new t) × HasEnd x
-  turns_of Tried agents honest w m given new what x is waits h read delivered =
-      let taken = is_taken Tried agents honest w m given new waits h read in (
-        subst (λ (y : Heard). (r : List VarBind) × Turns takes Tried agents honest w s r (end_of y) new t) is
-            (turned Tried agents honest w given new what taken delivered),
-        subst HasEnd is (has_end given what delivered taken.news),
-      )
+  turns_of Tried agents honest w m given new what x same waits h read delivered =
+      let is = ap (λ (y : Step × Walker). y.0) read in
+      let news = subst HasNews (sym is) (news_by w m (is_awaited w m) h.awaited waits) in
+      let came = subst (λ (y : Heard). Delivers takes given s y t) same delivered in
+      (turned Tried agents honest w m given new x h is (ap (λ (y : Step × Walker). y.1) read) news came, has_end given x came news)
 
 pub same_end : (x y : WalkEnd) → Some x ≡ Some y → x ≡ y
 same_end x y e = cc

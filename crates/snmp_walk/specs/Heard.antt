@@ -30,6 +30,14 @@ pub record Hears (agents : Agents) (q : List ℕ) (old : Traffic) (silent : Type
       ⊎ ((t : ℕ) (rest : List (Option ℕ)) → Lost agents (resent old.sent q t) q rest t 0
       → Lost agents old.sent q (used ++ rest) (t + 1) 0)
 
+-- Which deliveries tries of the request used, so many of all, and that these lost it where no reply
+-- came and one of the agents has one.
+abbrev pub Uses : Agents → List ℕ → Traffic → (times tries : ℕ) → (silent : Type 0) → Traffic
+    → Type 0
+Uses agents q old times tries silent new =
+    (used : List (Option ℕ)) × (old.ahead ≡ used ++ new.ahead) × (length used ≤ 64 * times)
+    × (silent → IsUnanswered agents q ⊎ Lost agents (old.sent ++ q ∷ []) q used tries 0)
+
 -- How often the request was sent, once at least unless the link failed, and at most `tries` times,
 -- and which deliveries were used. Where no reply came, one of the agents has none or the
 -- deliveries lost it.
@@ -40,9 +48,7 @@ pub record Exchanges (agents : Agents) (honest : Type 0) (tries : ℕ) (q : List
   pub few : times ≤ tries
   pub sent : new.sent ≡ old.sent ++ replicate times q
   pub all : silent → times ≡ tries
-  pub honestly : honest → (used : List (Option ℕ)) × (old.ahead ≡ used ++ new.ahead)
-      × (length used ≤ 64 * times)
-      × (silent → IsUnanswered agents q ⊎ Lost agents (old.sent ++ q ∷ []) q used tries 0)
+  pub honestly : honest → Uses agents q old times tries silent new
 
 -- the datagram is the waiting request, or one of the same walk with a lower id
 abbrev pub IsSentBefore : Walker → List ℕ → Type 0

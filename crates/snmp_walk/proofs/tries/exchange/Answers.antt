@@ -1,6 +1,6 @@
 use Rattle.std.proofs.Common.{◌≡◌, ◌+◌, ◌<◌, ◌∙◌, ap, subst, refl, arith, replicate, ℕ, List, []}
 use Rattle.std.proofs.Common.{◌∷◌, Option, Some, None, Ok}
-use Rattle.std.specs.Prelude.{Result, Err, IsErr}
+use Rattle.std.specs.Prelude.{Result, IsErr}
 use Rattle.snmp_walk.specs.declared.link.Link.{Ghosts as LinkFacts}
 use Rattle.snmp_walk.specs.Link.{IsReplyFrom, Outcome}
 use Rattle.snmp_walk.specs.Link as outcome
@@ -17,8 +17,7 @@ use Rattle.snmp_walk.proofs.TurnLemmas.{if_some, if_silent, if_cut, on_cut}
 use Rattle.snmp_walk.proofs.tries.exchange.Goals as goal
 
 never_ok : {M E : Type 0} (r : Result (Option M) E) → IsErr r → r ≡ Ok None → ⊥
-never_ok (Ok x) is other = let no : ⊥ = cc in no
-never_ok (Err e) is other = let no : ⊥ = cc in no
+never_ok r is other = never_bad r None other is
 
 -- the request was sent once more, and then the link moved without sending: a reply came, or the link failed
 module _ {L : Type 0} (facts : LinkFacts L) (keeping : (link : L) → facts.honest link → facts.keeps link) (community : List ℕ) (id : ℕ) (q : List ℕ)

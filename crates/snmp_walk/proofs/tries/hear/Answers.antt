@@ -1,5 +1,5 @@
-use Rattle.std.proofs.Common.{◌≡◌, inl, inr, ◌<◌, ◌≤◌, ◌∙◌, sym, refl, take, arith, length}
-use Rattle.std.proofs.Common.{ℕ, List, Option, Some, None}
+use Rattle.std.proofs.Common.{subst, ◌≡◌, inl, inr, ◌<◌, ◌≤◌, ◌∙◌, sym, refl, take, arith, length}
+use Rattle.std.proofs.Common.{ℕ, List, Option, None}
 use Rattle.std.proofs.lemmas.Grind.{common_steps}
 use Rattle.std.specs.Prelude.{IfNone}
 use Rattle.snmp_walk.specs.Link as outcome
@@ -22,8 +22,7 @@ returns-in_default-clause-heard g c = λ q h last asked.
     (sent_none (inv.moved.sent (g.met.L.Link.keeping c.args.link.now h))) (omega arith) _ refl r (inv.waits q h last asked) _
 
 if_none : {X : Type 0} (o : Option X) (P : Type 0) → o ≡ None → IfNone o P → P
-if_none None P e h = h
-if_none (Some x) P e h = let no : ⊥ = cc in absurd no
+if_none o P e h = subst (λ x. IfNone x P) e h
 
 pub returns-in-Some-read_reply-clause-read : goal.returns-in-Some-read_reply-clause-read
 returns-in-Some-read_reply-clause-read g c =

@@ -1,10 +1,9 @@
-use Rattle.std.proofs.Common.{◌≤◌, ◌∙◌, length, take, refl, sym, ap, subst, ℕ, List, Option}
+use Rattle.std.proofs.Common.{◌≤◌, ◌∙◌, length, refl, sym, ap, subst}
 use Rattle.std.proofs.Common.{rules, arith}
 use Rattle.snmp_walk.specs.Link.{Agents, AreLawful}
-use Rattle.std.specs.Prelude.{IfSome, IfNone}
-use Rattle.snmp_walk.specs.Memory.{agents_of, traffic_of, IsReplyOf, HasNoReplyOf, IsNextNumber}
+use Rattle.std.specs.Prelude.{IfNone}
+use Rattle.snmp_walk.specs.Memory.{agents_of, IsReplyOf, HasNoReplyOf}
 use Rattle.snmp_walk.specs.Memory.{UsesDelivery}
-use Rattle.snmp_walk.specs.Traffic.{received, datagram_at, Gives, Receives}
 use Rattle.snmp_walk.specs.Arena.{Store}
 use Rattle.snmp_walk.proofs.MoveLemmas.{ok_fine, sent_nothing}
 use Rattle.snmp_walk.proofs.MemoryLemmas.{brought_by, silent_by, received_front, received_at}

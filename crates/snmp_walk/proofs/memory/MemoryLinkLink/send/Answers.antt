@@ -1,11 +1,10 @@
-use Rattle.std.proofs.Common.{◌≡◌, [], ◌∷◌, ◌∙◌, refl, sym, append-nil, arith, rules}
-use Rattle.std.specs.Prelude.{Result, Ok, Err, IsOk}
+use Rattle.std.proofs.Common.{subst, ◌≡◌, [], ◌∷◌, ◌∙◌, refl, sym, append-nil, arith, rules}
+use Rattle.std.specs.Prelude.{Result, Err, IsOk}
 use Rattle.snmp_walk.proofs.MoveLemmas.{ok_fine}
 use Rattle.snmp_walk.proofs.memory.MemoryLinkLink.send.Goals as goal
 
 never_good : {T E : Type 0} (r : Result T E) (e : E) → r ≡ Err e → IsOk r → ⊥
-never_good (Ok x) e is h = let no : ⊥ = cc in no
-never_good (Err f) e is h = let no : ⊥ = cc in no
+never_good r e is h = let no = subst IsOk is h in cc
 
 pub returns-in-Ok-clause-moves : goal.returns-in-Ok-clause-moves
 returns-in-Ok-clause-moves c = record {
