@@ -170,7 +170,7 @@ module _ (view : MibView) (good : IsMibView view) where
   next_by codec o p [] e (successor s) = absurd (subst (λ (rows : List VarBind). OneOf rows p) (sym e) (row_behind o p s))
   next_by codec o p [] e (end_of_view none is) = is
   next_by codec o p (q ∷ more) e (successor s) =
-      let first = first_of_rows (variables view) o q more variables_rise (sym e) in
+      let first = first_of_rows (variables view) o q more variables_rise variables_are (sym e) in
       let one : OneOf (q ∷ more) p = subst (λ (rows : List VarBind). OneOf rows p) (sym e) (row_behind o p s) in
       elim one [
         | inl same ↦ same

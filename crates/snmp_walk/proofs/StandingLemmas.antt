@@ -59,10 +59,9 @@ module _ (Next Got : List ℕ → VarBind → Type 0) (Large : ℕ → VarBind �
 
   -- what a walk gives before the instances has the name that it begins from
   pub opening_last : (m : Mode) (o : List ℕ) (front trail : List VarBind) → IsOpening Got m o front → last_name o (front ++ trail) ≡ last_name o trail
-  opening_last mode.Include o front trail (p, h, inl is) = ap (λ (f : List VarBind). last_name o (f ++ trail)) is.1
-  opening_last mode.Include o front trail (p, h, inr is) =
-      ap (λ (f : List VarBind). last_name o (f ++ trail)) is.1 ∙ ap (λ (n : List ℕ). last_name n trail) (laws.same_name o p h)
-  opening_last _ o front trail h = ap (λ (f : List VarBind). last_name o (f ++ trail)) h
+  opening_last mode.Include o front trail (p, h, inl is) = rw is.1
+  opening_last mode.Include o front trail (p, h, inr is) = rw (is.1, laws.same_name o p h)
+  opening_last _ o front trail none = rw none
 
   -- the walk goes on, or has no id left
   pub goes : (given more : List VarBind) (w : Walker) (next : Phase) → Reaches Next Got first w given
@@ -77,33 +76,25 @@ module _ (Next Got : List ℕ → VarBind → Type 0) (Large : ℕ → VarBind �
       })
       (λ none. (part_of_stage (given ++ more) (last_name w.asked more) next stage, none))
 
-  append_none : (xs ys : List VarBind) → xs ++ ys ≡ [] → (xs ≡ []) × (ys ≡ [])
-  append_none [] ys e = (refl, e)
-  append_none (x ∷ xs) ys e = absurd (let no : ⊥ = cc in no)
-
-  none_asked : (given : List VarBind) (o : List ℕ) → given ≡ [] → IsGiven Next Got first given o → o ≡ first.asked
-  none_asked given o none h = h.last ∙ ap (last_name first.asked) (append_none h.front h.trail (sym h.parts ∙ none)).1
+  none_asked : (given : List VarBind) (o : List ℕ) → length given ≡ 0 → IsGiven Next Got first given o → o ≡ first.asked
+  none_asked given o none h =
+      h.last ∙ ap (last_name first.asked) (nil_from_length h.trail (omega (arith, none, ap length h.parts, length-append h.front h.trail)))
 
   plain_from : (m : Mode) → is_plain m ≡ true → m ≡ mode.Plain
   plain_from mode.Plain e = refl
   plain_from _ e = absurd (false≢true e)
 
-  mode_is : (w : Walker) (given : List VarBind) → Reaches Next Got first w given → w.mode ≡ first.mode
-  mode_is w given h = ap (λ (v : Walker). v.mode) h.same
-
   pub root_is : (w : Walker) (given : List VarBind) → Reaches Next Got first w given → w.root ≡ first.root
   root_is w given h = ap (λ (v : Walker). v.root) h.same
 
   -- a plain walk that gave nothing has made no request before
-  plain_pace : (given : List VarBind) (w : Walker) → w.phase ≡ phase.Rows → Reaches Next Got first w given → given ≡ [] → first.mode ≡ mode.Plain
+  plain_pace : (given : List VarBind) (w : Walker) → w.phase ≡ phase.Rows → Reaches Next Got first w given → length given ≡ 0 → first.mode ≡ mode.Plain
       → w.id ≡ first.id
   plain_pace given w waits h none plain =
       let p = subst (IsPaced Next Got first given w.id) waits h.paced in
-      let empty : flat_map (λ r. r) p.replies ≡ [] = (append_none p.front (flat_map (λ r. r) p.replies) (sym p.parts ∙ none)).1 in
       let gets : opening_gets first.mode ≡ 0 = ap opening_gets plain in
-      omega (arith, p.ids, gets, ap length empty, few_replies p.replies p.some)
+      omega (arith, p.ids, gets, none, ap length p.parts, length-append p.front (flat_map (λ r. r) p.replies), few_replies p.replies p.some)
 
-  -- a reply with a row at least takes the walk to the next id
   -- the name asked from is the last of those given below the root
   pub asked_last : (given : List VarBind) (o : List ℕ) (front trail : List VarBind) → IsGiven Next Got first given o → given ≡ front ++ trail
       → IsOpening Got first.mode first.asked front → o ≡ last_name first.asked trail
@@ -111,6 +102,7 @@ module _ (Next Got : List ℕ → VarBind → Type 0) (Large : ℕ → VarBind �
       g.last ∙ sym (opening_last first.mode first.asked g.front g.trail g.opening) ∙ ap (last_name first.asked) (sym g.parts ∙ parts)
       ∙ opening_last first.mode first.asked front trail opening
 
+  -- a reply with a row at least takes the walk to the next id
   pub more_pace : (given rows : List VarBind) (w : Walker) → w.phase ≡ phase.Rows → Reaches Next Got first w given → IsGiven Next Got first given w.asked
       → IsTrail Next first.root w.asked rows → 1 ≤ length rows → IsPaced Next Got first (given ++ rows) (w.id + 1) phase.Rows
   more_pace given rows w waits h g trail some =
@@ -137,13 +129,12 @@ module _ (Next Got : List ℕ → VarBind → Type 0) (Large : ℕ → VarBind �
       (λ both.
       let parts = and_parts (is_plain w.mode) (w.count + length more == 0) both in
       let none : w.count + length more ≡ 0 = eqb-true _ _ parts.1 in
-      let no_given : given ≡ [] = nil_from_length given (omega (arith, none, h.count)) in
-      let no_more : more ≡ [] = nil_from_length more (omega (arith, none)) in
+      let no_given : length given ≡ 0 = omega (arith, none, h.count) in
       let asked : w.asked ≡ first.asked = none_asked given w.asked no_given before in
-      let at : o ≡ first.asked = none_asked (given ++ more) o (ap (λ (s : List VarBind). s ++ more) no_given ∙ no_more) after in
-      let plain : first.mode ≡ mode.Plain = sym (mode_is w given h) ∙ plain_from w.mode parts.0 in
+      let at : o ≡ first.asked = none_asked (given ++ more) o (omega (arith, none, h.count, length-append given more)) after in
+      let plain : first.mode ≡ mode.Plain = sym (ap (λ (v : Walker). v.mode) h.same) ∙ plain_from w.mode parts.0 in
       let pace : w.id ≡ first.id = plain_pace given w waits h no_given plain in
-      goes given [] w phase.Last h (append-nil given ∙ no_given, asked, plain, subst (IsAtEnd Next first.root) at end) (omega (arith, pace)))
+      goes given [] w phase.Last h (append-nil given ∙ nil_from_length given no_given, asked, plain, subst (IsAtEnd Next first.root) at end) (omega (arith, pace)))
       (λ other. (
         inr (inl (o, after)),
         (
@@ -154,7 +145,7 @@ module _ (Next Got : List ℕ → VarBind → Type 0) (Large : ℕ → VarBind �
             end,
             λ plain none.
                 let zero_count : w.count + length more ≡ 0 = omega (arith, h.count, ap length none, length-append given more) in
-                false≢true (sym other ∙ and_from _ _ (ap is_plain (mode_is w given h ∙ plain)) (eq-eqb _ _ zero_count)),
+                false≢true (sym other ∙ and_from _ _ (ap is_plain (ap (λ (v : Walker). v.mode) h.same ∙ plain)) (eq-eqb _ _ zero_count)),
           ),
         ),
       ))
@@ -176,7 +167,7 @@ module _ (Next Got : List ℕ → VarBind → Type 0) (Large : ℕ → VarBind �
       → IsChain Next w.asked bindings → length bindings ≤ asked_for w.method → (bindings ≡ [] → IsLarge Next (Large w.id) w.asked)
       → Goes w given (reads_next w bindings)
   reads_instances given [] w waits h before chain few large =
-      (inr (inl (w.asked, subst (λ (s : List VarBind). IsGiven Next Got first s w.asked) (sym (append-nil given)) before)), (waits, refl, large refl))
+      (rw append-nil (inr (inl (w.asked, before))), (waits, refl, large refl))
   reads_instances given (b ∷ more) w waits h before chain few large =
       let bindings = b ∷ more in
       let inside = inside_front w.root bindings in
@@ -237,18 +228,7 @@ module _ (Next Got : List ℕ → VarBind → Type 0) (Large : ℕ → VarBind �
       } in
       (inr (inr alone), (omega (arith, h.count, length-append given (p ∷ [])), inr alone))
 
-  -- tooBig
-  refused : (given : List VarBind) (w : Walker) (m : Message) (p : Phase) → w.phase ≡ p → Reaches Next Got first w given
-      → IsStage Next Got first given w.asked p
-      → m.a ≡ pos 1 → m.b ≡ pos 0 → IsReplyTooLarge Next Got (Large w.id) p w.asked → (answered : Step × Walker)
-      → Goes w given (cond (int_eq m.a (pos 0)) answered (stops w [] (ending.Fault m.a m.b)))
-  refused given w m p waits h stage status index large answered =
-      let no_zero : int_eq m.a (pos 0) ≡ false = ap (λ (n : ℤ). int_eq n (pos 0)) status in
-      let part = subst (IsPartOfWalk Next Got first) (sym (append-nil given)) (part_of_stage given w.asked p stage) in
-      let why : IsReplyTooLarge Next Got (Large w.id) w.phase w.asked = subst (λ (q : Phase). IsReplyTooLarge Next Got (Large w.id) q w.asked)
-      (sym waits) large in
-      rw no_zero (part, (status, index, why))
-
+  -- an honest reply, which has what was asked for or tooBig
   reads_content : (given : List VarBind) (w : Walker) (m : Message) (p : Phase) → w.phase ≡ p → Reaches Next Got first w given
       → IsStage Next Got first given w.asked p
       → IsReplyContent Next Got Large p w m → Goes w given (cond (int_eq m.a (pos 0)) (reads_for p w m.bindings) (stops w [] (ending.Fault m.a m.b)))
@@ -257,16 +237,16 @@ module _ (Next Got : List ℕ → VarBind → Type 0) (Large : ℕ → VarBind �
   reads_content given w m phase.Rows waits h stage (inl c) = rw c.0 (reads_instances given m.bindings w waits h stage c.1 c.2 c.3)
   reads_content given w m phase.Last waits h stage (inl (fine, (p, answer, only))) = rw (fine, only, got_is w.asked p answer) (reads_alone given w p h stage answer)
   reads_content given w m phase.Over waits h stage c = absurd c
-  reads_content given w m p waits h stage (inr c) = refused given w m p waits h stage c.0 c.1 c.2 _
+  reads_content given w m p waits h stage (inr c) = rw c.0 (rw append-nil (part_of_stage given w.asked p stage), (refl, c.1, rw waits c.2))
 
   pub waiting : (given : List VarBind) (o : List ℕ) (p : Phase) → IsStage Next Got first given o p → is_over p ≡ false
   waiting given o phase.Over h = absurd h
   waiting given o _ h = refl
 
-  awaited : (given : List VarBind) (w : Walker) (m : Message) → Reaches Next Got first w given → IsReplyTo Next Got Large w m → is_awaited w m ≡ true
-  awaited given w m h r = and_from _ _ (ap not (waiting given w.asked w.phase h.stage)) ((response_to_decided w.community w.id m).1 r.response)
-
   -- an honest reply to the waiting request
   pub taken : (given : List VarBind) (w : Walker) (m : Message) → Reaches Next Got first w given → IsReplyTo Next Got Large w m
       → Advances Next Got Large first w given (take_of w m).0 (take_of w m).1
-  taken given w m h r = rw (awaited given w m h r) (reads_content given w m w.phase refl h h.stage r.content)
+  taken given w m h r =
+      let awaited : is_awaited w m ≡ true = and_from _ _ (ap not (waiting given w.asked w.phase h.stage))
+      ((response_to_decided w.community w.id m).1 r.response) in
+      rw awaited (reads_content given w m w.phase refl h h.stage r.content)

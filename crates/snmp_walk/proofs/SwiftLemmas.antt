@@ -57,6 +57,8 @@ use Rattle.snmp_walk.proofs.TableLemmas.{trail_rest}
 use Rattle.snmp_walk.proofs.TrailLemmas.{few_replies}
 use Rattle.snmp_walk.proofs.ViewLemmas.{view_of, views_answer}
 use Rattle.snmp_walk.proofs.StandingLemmas.{waiting}
+use Rattle.snmp_walk.proofs.TablesLemmas.{row_of_next}
+use Rattle.snmp_walk.proofs.TestLemmas.{end_test}
 use Rattle.snmp_walk.proofs.RowLemmas.{IsOneTable}
 
 pub gets_one : (m : Mode) → gets m ≤ 1
@@ -117,19 +119,14 @@ module _ (codec : Codec) (agents : Agents) (first : Walker) (good_views : AreVie
   get_room p view one (unknown_object none unknown is) = subst (HasRoom agents) (sym is) ((rooms view one).exceptions _ tt)
   get_room p view one (unknown_instance none has is) = subst (HasRoom agents) (sym is) ((rooms view one).exceptions _ tt)
 
-  -- a row below the root
-  inside_room : (root o : List ℕ) (p : VarBind) → IsInside root p → (view : MibView) → OneOf agents.tables view → IsNext view o p → HasRoom agents p
-  inside_room root o p inside view one (successor s) = (rooms view one).rows p s.row
-  inside_room root o p inside view one (end_of_view none is) = absurd (inside.value (ap (λ (b : VarBind). b.value) is))
-
   trail_room : (o : List ℕ) (trail : List VarBind) → EndRoom o → IsTrail Next first.root o trail → EndRoom (last_name o trail)
   trail_room o [] end h = end
   trail_room o (p ∷ trail) end h =
-      trail_room p.name trail (room_exception codec agents p.name end_of_mib_view p.value tt (inside_room first.root o p h.1 h.0.0 h.0.1 h.0.2)) h.2
+      trail_room p.name trail (room_exception codec agents p.name end_of_mib_view p.value tt
+      ((rooms h.0.0 h.0.1).rows p (row_of_next h.0.0 o p h.0.2 (end_test p.value h.1.value)))) h.2
 
   -- the name that is asked
-  stage_room : (given : List VarBind) (o : List ℕ) (p : Phase) → EndRoom first.asked → IsStage Next Got first given o p
-      → EndRoom o
+  stage_room : (given : List VarBind) (o : List ℕ) (p : Phase) → EndRoom first.asked → IsStage Next Got first given o p → EndRoom o
   stage_room given o phase.First own h = subst EndRoom (sym h.1) own
   stage_room given o phase.Rows own h = subst EndRoom (sym h.last) (trail_room first.asked h.trail own h.is_trail)
   stage_room given o phase.Last own h = subst EndRoom (sym h.1) own
@@ -187,13 +184,11 @@ module _ (codec : Codec) (agents : Agents) (first : Walker) (good_views : AreVie
         let p = one_answer (λ asked given. IsGet view asked.name given) w.asked bindings answers in
         let at : w.asked ≡ first.asked = asked_at_get w.phase (get_phase w.phase w.method waits k) h.stage in
         let room : HasRoom agents p.0 = get_room p.0 view one (subst (λ (o : List ℕ). IsGet view o p.0) at p.2) in
-        let is : r ≡ response (request_of w) no_error (pos 0) (p.0 ∷ []) = e ∙ ap (response (request_of w) no_error (pos 0)) p.1 in
-        subst (Fits agents.max_size) (sym is) (fits p.0 room)
+        rw (e, p.1) (fits p.0 room)
     whole_fits r (got_next bindings k answers e) =
         let p = one_answer (λ asked given. IsNext view asked.name given) w.asked bindings answers in
         let room : HasRoom agents p.0 = next_room w.asked p.0 (stage_room given w.asked w.phase (own_room view one) h.stage) view one p.2 in
-        let is : r ≡ response (request_of w) no_error (pos 0) (p.0 ∷ []) = e ∙ ap (response (request_of w) no_error (pos 0)) p.1 in
-        subst (Fits agents.max_size) (sym is) (fits p.0 room)
+        rw (e, p.1) (fits p.0 room)
     whole_fits r (unwritten k e) = absurd (set_phase w.phase w.method k)
 
     -- a GetBulk is answered by a binding at least
@@ -210,10 +205,8 @@ module _ (codec : Codec) (agents : Agents) (first : Walker) (good_views : AreVie
     response_fits r (whole is fit) = fit
     response_fits r (shortened large is no_fit e) = absurd (no_fit (whole_fits large is))
     response_fits r (bulk all bindings k asked longest e) =
-        let at = bulk_phase w.phase w.method k in
-        let repetitions : request_repetitions w.phase w.method ≡ at.1 = ap (λ (q : Phase). request_repetitions q w.method) at.0
-        ∙ ap (request_repetitions phase.Rows) at.2 in
-        let positive : pos 1 ≤ℤ request_repetitions w.phase w.method = subst (λ (z : ℤ). pos 1 ≤ℤ z) (sym repetitions) (subst IsMethod at.2 good.method) in
+        let is_bulk = bulk_phase w.phase w.method k in
+        let positive : pos 1 ≤ℤ request_repetitions w.phase w.method = rw (is_bulk.0, is_bulk.2) (subst IsMethod is_bulk.2 good.method) in
         let one_name : IsOneBulk codec view view_good w.asked (request_repetitions w.phase w.method) all = one_bulk codec view view_good
         (request_of w) w.asked all refl refl asked in
         subst (Fits agents.max_size) (sym e) (bulk_fits all bindings one_name.chain (one_name.some positive) longest)

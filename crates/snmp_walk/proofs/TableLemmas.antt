@@ -43,26 +43,22 @@ pub record IsFirst (rows : List VarBind) (o : List ℕ) (p : VarBind) (more : Li
   pub behind : rows_after p.name rows ≡ more
   pub after : AreAfter p.name more
   pub comes : comes_after o p.name ≡ true
+  pub value : is_end p.value ≡ false
 
-first_here : (r : VarBind) (rows : List VarBind) (o : List ℕ) → AreAfter r.name rows → comes_after o r.name ≡ true → IsFirst (r ∷ rows) o r rows
-first_here r rows o h e = record { behind = rw (after-irrefl r.name) (all_after r.name rows h); after = h; comes = e }
-
-first_later : (r : VarBind) (rows : List VarBind) (o : List ℕ) (p : VarBind) (more : List VarBind) → comes_after o r.name ≡ false → IsFirst rows o p more
-    → IsFirst (r ∷ rows) o p more
-first_later r rows o p more e h = record { behind = rw (not_after o p.name r.name h.comes e) h.behind; after = h.after; comes = h.comes }
-
-pub first_of_rows : (rows : List VarBind) (o : List ℕ) (p : VarBind) (more : List VarBind) → AreRising rows → rows_after o rows ≡ p ∷ more
-    → IsFirst rows o p more
-first_of_rows [] o p more h e = absurd cc
-first_of_rows (r ∷ rows) o p more h e =
+pub first_of_rows : (rows : List VarBind) (o : List ℕ) (p : VarBind) (more : List VarBind) → AreRising rows → AreInstances rows
+    → rows_after o rows ≡ p ∷ more → IsFirst rows o p more
+first_of_rows [] o p more h i e = absurd cc
+first_of_rows (r ∷ rows) o p more h i e =
     cond_both (comes_after o r.name) (r ∷ rows_after o rows) (rows_after o rows) (λ s. s ≡ p ∷ more → IsFirst (r ∷ rows) o p more)
     (λ comes same.
     let first : r ≡ p = cc in
     let all : rows_after o rows ≡ rows = all_after o rows (after_more o r rows comes h.0) in
     let rest : rows ≡ more = cc in
-    subst (λ (s : List VarBind). IsFirst (r ∷ rows) o p s) rest
-    (subst (λ (q : VarBind). IsFirst (r ∷ rows) o q rows) first (first_here r rows o h.0 comes)))
-    (λ later same. first_later r rows o p more later (first_of_rows rows o p more h.1 same)) e
+    subst (λ (s : List VarBind). IsFirst (r ∷ rows) o p s) rest (subst (λ (q : VarBind). IsFirst (r ∷ rows) o q rows) first
+    (record { behind = rw (after-irrefl r.name) (all_after r.name rows h.0); after = h.0; comes = comes; value = i.1 })))
+    (λ later same.
+    let f = first_of_rows rows o p more h.1 i.3 same in
+    record { behind = rw (not_after o p.name r.name f.comes later) f.behind; after = f.after; comes = f.comes; value = f.value }) e
 
 -- none of these is below the root
 none_below : (root s : List ℕ) (p : VarBind) (more : List VarBind) → comes_after (root ++ s) p.name ≡ true → is_below p.name root ≡ false
@@ -70,43 +66,31 @@ none_below : (root s : List ℕ) (p : VarBind) (more : List VarBind) → comes_a
 none_below root s p [] c out h = refl
 none_below root s p (q ∷ more) c out h = rw (outside_after root s p.name q.name c out h.0) (none_below root s p more c out h.1)
 
--- the first row behind a name has a value
-first_value : (rows : List VarBind) (o : List ℕ) (p : VarBind) (more : List VarBind) → AreInstances rows → rows_after o rows ≡ p ∷ more → is_end p.value ≡ false
-first_value [] o p more h e = absurd cc
-first_value (r ∷ rows) o p more h e =
-    cond_both (comes_after o r.name) (r ∷ rows_after o rows) (rows_after o rows) (λ s. s ≡ p ∷ more → is_end p.value ≡ false)
-    (λ _ same. let first : r ≡ p = cc in subst (λ (q : VarBind). is_end q.value ≡ false) first h.1) (λ _. first_value rows o p more h.3) e
-
 module _ (rows : List VarBind) (rising : AreRising rows) (instances : AreInstances rows) (root : List ℕ) where
-  outside_parts : (p : VarBind) → is_end p.value ≡ false → is_inside root p ≡ false → is_below p.name root ≡ false
-  outside_parts p v h = let e : (not (is_end p.value) && is_below p.name root) ≡ is_below p.name root = ap (λ
-      (b : Bool). not b && is_below p.name root) v in sym e ∙ h
+  behind_below : (o : List ℕ) → rest_of root o rows ≡ rows_below root (rows_after o rows)
+  behind_below o = filter-commute (λ row. comes_after o row.name) (λ row. is_below row.name root) rows
 
   -- an answer below the root is the next row of the rest
   pub rest_next : (o : List ℕ) (p : VarBind) (behind : List VarBind) → behind ≡ rows_after o rows → p ≡ or_end o behind → is_inside root p ≡ true
       → rest_of root o rows ≡ p ∷ rest_of root p.name rows
   rest_next o p [] e is inside = let out : is_inside root p ≡ false = ap (is_inside root) is in absurd (false≢true (sym out ∙ inside))
   rest_next o p (q ∷ more) e is inside =
-      let first = first_of_rows rows o q more rising (sym e) in
+      let first = first_of_rows rows o q more rising instances (sym e) in
       let here : rows_after p.name rows ≡ more = ap (λ (r : VarBind). rows_after r.name rows) is ∙ first.behind in
       let below : is_below p.name root ≡ true = (and_parts (not (is_end p.value)) (is_below p.name root) inside).1 in
-      filter-commute (λ row. comes_after o row.name) (λ row. is_below row.name root) rows
-      ∙ ap (rows_below root) (sym e ∙ ap (λ (r : VarBind). r ∷ more) (sym is))
-      ∙ rw below (ap (λ (s : List VarBind). p ∷ s) (ap (rows_below root) (sym here)
-      ∙ sym (filter-commute (λ row. comes_after p.name row.name) (λ row. is_below row.name root) rows)))
+      behind_below o ∙ ap (rows_below root) (sym e ∙ ap (λ (r : VarBind). r ∷ more) (sym is))
+      ∙ rw below (ap (λ (s : List VarBind). p ∷ s) (ap (rows_below root) (sym here) ∙ sym (behind_below p.name)))
 
   -- an answer that isn't below the root has no row below it behind it
   pub rest_ends : (o s : List ℕ) (p : VarBind) (behind : List VarBind) → o ≡ root ++ s → behind ≡ rows_after o rows → p ≡ or_end o behind
       → is_inside root p ≡ false
       → rest_of root o rows ≡ []
-  rest_ends o s p [] at e is out = filter-commute (λ row. comes_after o row.name) (λ row. is_below row.name root) rows ∙ ap (rows_below root) (sym e)
+  rest_ends o s p [] at e is out = behind_below o ∙ ap (rows_below root) (sym e)
   rest_ends o s p (q ∷ more) at e is out =
-      let first = first_of_rows rows o q more rising (sym e) in
-      let value = first_value rows o q more instances (sym e) in
-      let out_q : is_below q.name root ≡ false = outside_parts q value (ap (is_inside root) (sym is) ∙ out) in
+      let first = first_of_rows rows o q more rising instances (sym e) in
+      let out_q : is_below q.name root ≡ false = rw first.value at (ap (is_inside root) (sym is) ∙ out) in
       let comes : comes_after (root ++ s) q.name ≡ true = ap (λ (n : List ℕ). comes_after n q.name) (sym at) ∙ first.comes in
-      filter-commute (λ row. comes_after o row.name) (λ row. is_below row.name root) rows ∙ ap (rows_below root) (sym e)
-      ∙ rw out_q (none_below root s q more comes out_q first.after)
+      behind_below o ∙ ap (rows_below root) (sym e) ∙ rw out_q (none_below root s q more comes out_q first.after)
 
 -- a front of the rows is a front of what a plain walk gives
 or_only_front : (got : VarBind) (xs ys : List VarBind) → (more : List VarBind) × (or_only got (xs ++ ys) ≡ xs ++ more)

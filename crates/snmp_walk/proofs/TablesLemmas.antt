@@ -81,16 +81,10 @@ once (p ∷ rows) name h (inr i) =
     }
 
 -- a list with one name less
-record Holds (names : List (List ℕ)) (x : List ℕ) : Type 0 where
-  front : List (List ℕ)
-  back : List (List ℕ)
-  parts : names ≡ front ++ x ∷ back
-
-holds : (names : List (List ℕ)) (x : List ℕ) → OneOf names x → Holds names x
+holds : (names : List (List ℕ)) (x : List ℕ) → OneOf names x → (front : List (List ℕ)) × (back : List (List ℕ)) × (names ≡ front ++ x ∷ back)
 holds [] x one = absurd one
-holds (y ∷ names) x (inl e) = record { front = []; back = names; parts = ap (λ (n : List ℕ). n ∷ names) (sym e) }
-holds (y ∷ names) x (inr one) =
-    let h = holds names x one in record { front = y ∷ h.front; back = h.back; parts = ap (λ (s : List (List ℕ)). y ∷ s) h.parts }
+holds (y ∷ names) x (inl e) = ([], names, ap (λ (n : List ℕ). n ∷ names) (sym e))
+holds (y ∷ names) x (inr one) = let h = holds names x one in (y ∷ h.0, h.1, ap (λ (s : List (List ℕ)). y ∷ s) h.2)
 
 without : (front back : List (List ℕ)) (x y : List ℕ) → OneOf (front ++ x ∷ back) y → (y ≡ x → ⊥) → OneOf (front ++ back) y
 without [] back x y (inl e) other = absurd (other e)
@@ -104,14 +98,14 @@ pub few_names : (rows : List VarBind) (names : List (List ℕ)) → AreRising ro
 few_names [] names h each = omega arith
 few_names (p ∷ rows) names h each =
     let split = holds names p.name (each p (inl refl)) in
-    let rest = few_names rows (split.front ++ split.back) h.1 (λ q one.
-    without split.front split.back p.name q.name (subst (λ (s : List (List ℕ)). OneOf s q.name) split.parts (each q (inr one)))
+    let rest = few_names rows (split.0 ++ split.1) h.1 (λ q one.
+    without split.0 split.1 p.name q.name (subst (λ (s : List (List ℕ)). OneOf s q.name) split.2 (each q (inr one)))
     (not_itself p.name q.name (one_after p.name rows q h.0 one))) in
-    omega (arith, rest, ap length split.parts, length-append split.front (p.name ∷ split.back), length-append split.front split.back)
+    omega (arith, rest, ap length split.2, length-append split.0 (p.name ∷ split.1), length-append split.0 split.1)
 
 -- ---- answers of a table
 
-row_of_next : (view : MibView) (o : List ℕ) (p : VarBind) → IsNext view o p → is_end p.value ≡ false → IsRow view p
+pub row_of_next : (view : MibView) (o : List ℕ) (p : VarBind) → IsNext view o p → is_end p.value ≡ false → IsRow view p
 row_of_next view o p (successor s) e = s.row
 row_of_next view o p (end_of_view none is) e = absurd (false≢true (sym e ∙ ap (λ (b : VarBind). is_end b.value) is))
 
@@ -158,21 +152,18 @@ module _ (codec : Codec) (agents : Agents) (views : AreViews agents.tables) (fir
 
   -- ---- what is given is a table's
 
-  abbrev IsTablesRow : VarBind → Type 0
-  IsTablesRow p = (view : MibView) × OneOf agents.tables view × IsRow view p × IsBelow p.name first.root
-
-  trail_rows : (o : List ℕ) (trail : List VarBind) → IsTrail Next first.root o trail → (p : VarBind) → OneOf trail p → IsTablesRow p
+  trail_rows : (o : List ℕ) (trail : List VarBind) → IsTrail Next first.root o trail → (p : VarBind) → OneOf trail p
+      → (view : MibView) × OneOf agents.tables view × IsRow view p × IsBelow p.name first.root
   trail_rows o [] h p one = absurd one
-  trail_rows o (q ∷ trail) h p (inl e) =
-      subst IsTablesRow (sym e) (h.0.0, h.0.1, row_of_next h.0.0 o q h.0.2 (end_test q.value h.1.value), h.1.below)
+  trail_rows o (q ∷ trail) h p (inl e) = rw e (h.0.0, h.0.1, row_of_next h.0.0 o q h.0.2 (end_test q.value h.1.value), h.1.below)
   trail_rows o (q ∷ trail) h p (inr one) = trail_rows q.name trail h.2 p one
 
   trail_from : (trail : List VarBind) → IsTrail Next first.root first.asked trail → (p : VarBind) → OneOf trail p
-      → IsFromTable agents first p
+      → (view : MibView) × OneOf agents.tables view × IsRow view p × IsBelowRoot first p.name
   trail_from trail h p one =
       let row = trail_rows first.asked trail h p one in
       let rises = trail_rises Next Got laws first.root first.asked trail h in
-      (row.0, row.1, row.2, inl (row.3, after_precedes codec first.asked p.name (one_after first.asked trail p rises.0 one)))
+      (row.0, row.1, row.2, (row.3, after_precedes codec first.asked p.name (one_after first.asked trail p rises.0 one)))
 
   opening_from : (m : Mode) → first.mode ≡ m → (front : List VarBind) → IsOpening Got m first.asked front → (p : VarBind) → OneOf front p
       → IsFromTable agents first p
@@ -188,18 +179,16 @@ module _ (codec : Codec) (agents : Agents) (views : AreViews agents.tables) (fir
   part_from given (inl none) = inl (λ p one. absurd (subst (λ (f : List VarBind). OneOf f p) none one))
   part_from given (inr (inl (o, g))) = inl (λ p one. elim (one_of_both g.front g.trail p (subst (λ (f : List VarBind). OneOf f p) g.parts one)) [
     | inl front ↦ opening_from first.mode refl g.front g.opening p front
-    | inr trail ↦ trail_from g.trail g.is_trail p trail
+    | inr trail ↦ let row = trail_from g.trail g.is_trail p trail in (row.0, row.1, row.2, inl row.3)
   ])
   part_from given (inr (inr a)) = inr (a.plain, a.answer, a.only, a.is_answer)
 
   -- a trail has no more rows than the tables have names
-  pub few_rows : (names : List (List ℕ)) → HoldsNames agents first names → (trail : List VarBind)
-      → IsTrail Next first.root first.asked trail → length trail ≤ length names
+  pub few_rows : (names : List (List ℕ)) → HoldsNames agents first names → (trail : List VarBind) → IsTrail Next first.root first.asked trail
+      → length trail ≤ length names
   few_rows names all trail h =
       let rises = trail_rises Next Got laws first.root first.asked trail h in
-      few_names trail names rises.1 (λ p one.
-      let row = trail_rows first.asked trail h p one in
-      all row.0 row.1 p row.2 (row.3, after_precedes codec first.asked p.name (one_after first.asked trail p rises.0 one)))
+      few_names trail names rises.1 (λ p one. let row = trail_from trail h p one in all row.0 row.1 p row.2 row.3)
 
   -- ---- no name that all have is passed over
 
