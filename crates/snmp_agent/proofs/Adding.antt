@@ -1,5 +1,5 @@
 -- What a draft has behind one more line, and why the reading stops at it.
-use Rattle.std.proofs.Common.{◌≡◌, ℕ, List, [], ◌∷◌, ◌++◌, map, refl, sym, ap, subst, Result, Ok}
+use Rattle.std.proofs.Common.{◌≡◌, ℕ, List, [], ◌∷◌, ◌++◌, refl, sym, ap, subst, Result, Ok}
 use Rattle.std.proofs.Common.{Err, IfOk, IfErr, MatchResult, append-nil, ◌∙◌, Bool, ◌+◌, ◌<◌}
 use Rattle.std.proofs.Common.{◌≤◌, append_assoc, arith, length, length-append}
 use Rattle.std.specs.Str.Lines.{lines}
@@ -14,14 +14,13 @@ use Rattle.snmp_agent.specs.declared.table.draft.Halt.{Halt}
 use Rattle.snmp_agent.specs.declared.table.draft.Halt.TheVariants as halt
 use Rattle.snmp_agent.specs.declared.table.error.TableError.{TableError}
 use Rattle.snmp_agent.specs.declared.table.error.TableError.TheVariants as error
-use Rattle.snmp_agent.specs.table.Stated.{IsBehindGood, IsFirstFaultIn}
-use Rattle.snmp_agent.specs.table.Draft.{AreDistinct, HaltsBy, HoldsLines, HoldsTable}
+use Rattle.snmp_agent.specs.table.Stated.{IsBehindGood, IsFirstFaultIn, number_of}
+use Rattle.snmp_agent.specs.table.Draft.{AreDistinct, HaltsBy, HoldsTable}
 use Rattle.snmp_agent.specs.table.Draft.{IsDraft, IsFaultBehind, IsFirstHalt, IsFull, IsHalt}
 use Rattle.snmp_agent.specs.table.Draft.{IsHaltAt, IsStop, draft_entries}
 use Rattle.snmp_agent.specs.table.Draft.{draft_objects}
 use Rattle.snmp_agent.specs.table.Form.{States, instance}
 use Rattle.snmp_agent.specs.table.Format.{Format}
-use Rattle.snmp_agent.specs.table.Pages.{entries_of}
 use Rattle.snmp_agent.specs.table.Places.{entry_of}
 use Rattle.snmp_agent.specs.table.Text.{AreTable}
 use Rattle.snmp_agent.proofs.OneStatement.{StatesOnly}
@@ -54,10 +53,7 @@ module _ (format : Format) (before : List (List ℕ)) (line : List ℕ) (number 
       → new.objects ≡ old.objects → IsDraft format (before ++ line ∷ []) new
   row_added row only new moved same = (
     h.0 ++ entry_of row ∷ [],
-    subst (λ (os : List (List ℕ)). HoldsLines format (before ++ line ∷ [])
-        (h.0 ++ entry_of row ∷ []) os)
-        (ap (λ objects. map (λ o. o.items) objects.keys) (sym same))
-        (holds_instance format before line h.0 (draft_objects old) h.1 row only),
+    rw same (holds_instance format before line h.0 (draft_objects old) h.1 row only),
     IsPermutation-trans _ _ _
         (IsPermutation-append_left (entry_of row ∷ []) h.0 (draft_entries old) h.2) moved,
   )
@@ -89,20 +85,14 @@ module _ (format : Format) (before : List (List ℕ)) (line : List ℕ) (number 
       → IsStop (draft_entries old) old.exact wrong e
       → IsHalt format before line number old.exact e
   stopped wrong faulty = halts_weaker (λ fault. (fault ≡ wrong) × AreDistinct (draft_entries old))
-      Here old.exact (λ fault k. (
-        table_before k.1,
-        subst (λ (f : TableError). IsFaultBehind format before line number f) (sym k.0) faulty,
-      ))
+      Here old.exact (λ fault k. (table_before k.1, rw k.0 faulty))
 
 -- all rows are in their places: no two have one name
 pub settled_distinct : (old new : Draft) → IsPermutation (draft_entries old) (draft_entries new)
     → new.late.items ≡ [] → AreDistinct (draft_entries old)
 settled_distinct old new moved none =
     let es = entries new.rows in
-    distinct_moved (draft_entries old) es
-    (subst (λ (fs : List (List ℕ × Datum)). IsPermutation (draft_entries old) fs)
-    (ap (λ rows. es ++ entries_of rows) none ∙ append-nil es) moved)
-    (distinct_sorted es (entries_sorted new.rows))
+    distinct_moved (draft_entries old) es (rw (none, append-nil es) at moved) (distinct_sorted es (entries_sorted new.rows))
 
 -- ---- the lines of a text
 
@@ -133,8 +123,7 @@ module _ (format : Format) (text rest line behind : List ℕ) (old : Draft) (num
         ∙ sym (append_assoc h.done (line ∷ []) (lines behind));
     holds = (
       holds.0,
-      subst (λ (os : List (List ℕ)). HoldsLines format (h.done ++ line ∷ []) holds.0 os)
-          (ap (λ objects. map (λ o. o.items) objects.keys) (sym same)) holds.1,
+      rw same holds.1,
       IsPermutation-trans _ _ _ holds.2 moved,
     );
     place = let now : number ≡ length h.done = h.place in
@@ -160,11 +149,8 @@ module _ (format : Format) (text rest line behind : List ℕ) (old : Draft) (num
 
         cases : AreTable format h.done → (f : TableError)
             → IsFaultBehind format h.done line (number + 1) f → IsFirstFaultIn format (lines text) f
-        cases good (error.BadLine at) j = (h.done, line, behind_good good at j.0, j.1)
-        cases good (error.BadName at) j = (h.done, line, behind_good good at j.0, j.1)
-        cases good (error.BadValue at) j = (h.done, line, behind_good good at j.0, j.1)
-        cases good (error.Double at) j = (h.done, line, behind_good good at j.0, j.1)
         cases good error.Memory j = tt
+        cases good fault j = (h.done, line, behind_good good (number_of fault) j.0, j.1)
 
 -- all lines are read, and all rows are in their places
 pub all_read : (format : Format) (text : List ℕ) (old new : Draft) (number : ℕ)
@@ -174,12 +160,5 @@ pub all_read : (format : Format) (text : List ℕ) (old new : Draft) (number : �
 all_read format text old new number h moved none same =
     let es = entries new.rows in
     let all : lines text ≡ h.done = h.parts ∙ append-nil h.done in
-    let sorted : IsPermutation h.holds.0 es =
-    subst (λ (fs : List (List ℕ × Datum)). IsPermutation h.holds.0 fs)
-    (ap (λ rows. es ++ entries_of rows) none ∙ append-nil es)
-    (IsPermutation-trans _ _ _ h.holds.2 moved) in
-    subst (λ (ls : List (List ℕ)). HoldsTable format ls es (draft_objects new)) (sym all)
-    (subst (λ (os : List (List ℕ)). HoldsTable format h.done es os)
-    (ap (λ objects. map (λ o. o.items) objects.keys) (sym same))
-    (whole format h.done h.holds.0 es (draft_objects old) h.holds.1 sorted
-    (entries_sorted new.rows)))
+    let sorted : IsPermutation h.holds.0 es = rw (none, append-nil es) at (IsPermutation-trans _ _ _ h.holds.2 moved) in
+    rw (all, same) (whole format h.done h.holds.0 es (draft_objects old) h.holds.1 sorted (entries_sorted new.rows))

@@ -48,20 +48,18 @@ all_given nexts view round names =
 
 pub answers_both : (R : VarBind → VarBind → Type 0) (a b x y : List VarBind) → AreAnswers R a x → AreAnswers R b y → AreAnswers R (a ++ b) (x ++ y)
 answers_both R [] b [] y h k = k
-answers_both R [] b (p ∷ x) y h k = absurd h
-answers_both R (q ∷ a) b [] y h k = absurd h
 answers_both R (q ∷ a) b (p ∷ x) y h k = (h.0, answers_both R a b x y h.1 k)
+answers_both R _ b _ y h k = absurd h
 
 -- ---- one answer
 
 pub same_answers : (R : VarBind → VarBind → Type 0) → ((asked p q : VarBind) → R asked p → R asked q → p ≡ q) → (asked given other : List VarBind)
     → AreAnswers R asked given → AreAnswers R asked other → given ≡ other
 same_answers R one [] [] [] h k = refl
-same_answers R one [] [] (q ∷ qs) h k = absurd k
-same_answers R one [] (p ∷ ps) other h k = absurd h
-same_answers R one (a ∷ more) [] other h k = absurd h
-same_answers R one (a ∷ more) (p ∷ ps) [] h k = absurd k
 same_answers R one (a ∷ more) (p ∷ ps) (q ∷ qs) h k =
     let first : p ≡ q = one a p q h.0 k.0 in
     let rest : ps ≡ qs = same_answers R one more ps qs h.1 k.1 in
     λ i. first i ∷ rest i
+same_answers R one [] [] _ h k = absurd k
+same_answers R one (a ∷ more) (p ∷ ps) [] h k = absurd k
+same_answers R one _ _ other h k = absurd h

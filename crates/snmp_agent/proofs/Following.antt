@@ -86,12 +86,6 @@ module _ (order : IsOrder) where
       next_from view rounds o (var_of p) (nth_or_end p.0 (map var_of back) rounds) (is_next view o front (p ∷ back) apart)
       (is_next_after view rounds p.0 (front ++ p ∷ []) back (past view o front back p apart))
 
-  pub first_next : (view : MibView) (o : List ℕ) (e : List ℕ × Datum) (es : List (List ℕ × Datum)) → AreBehind view o (e ∷ es) → IsNext view o (var_of e)
-  first_next view o e es h = is_next view o h.0 (e ∷ es) h.1
-
-  pub end_next : (view : MibView) (o : List ℕ) → AreBehind view o [] → IsNext view o (record { name = o; value = end_of_mib_view })
-  end_next view o h = is_next view o h.0 [] h.1
-
   -- what is asked from the last name of some entries that follow comes that many rounds later
   pub asked_past : (view : MibView) (rounds : ℕ) (o : List ℕ) (front back : List (List ℕ × Datum)) → StandsApart view.rows o front back → (q : VarBind)
       → IsNext view (last_name o (take rounds back)) q → IsNextAfter view rounds o q

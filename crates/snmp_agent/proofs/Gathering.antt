@@ -1,11 +1,12 @@
 -- Rows that are put in their places together are those that were there and those that came.
-use Rattle.std.proofs.Common.{◌≡◌, ℕ, Bool, true, false, List, [], ◌∷◌, ◌++◌, None}
-use Rattle.std.proofs.Common.{sym, ◌∙◌, ap, subst, append_assoc}
+use Rattle.std.proofs.Common.{◌≡◌, ℕ, Bool, true, false, List, [], ◌∷◌, ◌++◌}
+use Rattle.std.proofs.Common.{sym, ◌∙◌, ap, append_assoc}
 use Rattle.std.proofs.Common.{append-nil, is_some}
 use Rattle.std.specs.List.Sorted.{IsPermutation}
 use Rattle.std.proofs.lemmas.List.Sorted.{IsPermutation-trans}
 use Rattle.std.proofs.lemmas.List.Sorted.{IsPermutation-append_left, IsPermutation-append_right}
 use Rattle.std.proofs.lemmas.List.Sorted.{IsPermutation-middle, IsPermutation-append_comm}
+use Rattle.std.proofs.lemmas.List.Sorted.{IsPermutation-to_front}
 use Rattle.std.proofs.lemmas.List.Sorted.{Contains-permutation, IsPermutation-map}
 use Rattle.std.proofs.lemmas.List.Sorted.{IsPermutation-sym}
 use Rattle.std.specs.List.{Contains}
@@ -36,19 +37,16 @@ entries_are es m rising is = ap entries (sym is) ∙ entries-from_sorted (slice_
 
 -- ---- lists in another order
 
--- what is moved in front may be moved on
-before_rest : (xs ys zs total : Entries) → IsPermutation total (xs ++ zs) → IsPermutation xs ys
-    → IsPermutation total (ys ++ zs)
-before_rest xs ys zs total h moved =
-    IsPermutation-trans _ _ _ h (IsPermutation-append_left zs xs ys moved)
-
 -- one of the last goes to the end of the first
-to_first : (xs ys zs : Entries) (e : List ℕ × Datum)
-    → IsPermutation (xs ++ (ys ++ e ∷ zs)) ((xs ++ e ∷ []) ++ (ys ++ zs))
+to_first : (xs ys zs : Entries) (e : List ℕ × Datum) → IsPermutation (xs ++ (ys ++ e ∷ zs)) ((xs ++ e ∷ []) ++ (ys ++ zs))
 to_first xs ys zs e =
-    subst (λ (es : Entries). IsPermutation (xs ++ (ys ++ e ∷ zs)) es)
-    (sym (append_assoc xs (e ∷ []) (ys ++ zs)))
-    (IsPermutation-append_right xs (ys ++ e ∷ zs) (e ∷ (ys ++ zs)) (IsPermutation-middle ys e zs))
+    rw (append_assoc xs (e ∷ []) (ys ++ zs)) (IsPermutation-append_right xs (ys ++ e ∷ zs) (e ∷ (ys ++ zs)) (IsPermutation-middle ys e zs))
+
+-- what is moved in front may be moved on
+regathered : (total a b c d zs : Entries) → IsPermutation total (a ++ (b ++ zs)) → IsPermutation (a ++ b) (c ++ d) → IsPermutation total (c ++ (d ++ zs))
+regathered total a b c d zs h moved =
+    rw (← append_assoc c d zs) (IsPermutation-trans total ((a ++ b) ++ zs) ((c ++ d) ++ zs)
+    (rw (append_assoc a b zs) h) (IsPermutation-append_left zs (a ++ b) (c ++ d) moved))
 
 -- ---- one row
 
@@ -56,32 +54,28 @@ pub row_moves : (m n : Rows) (row : VarBind) (had : Bool) → n ≡ insert m row
     → had ≡ contains_key m row.name → had ≡ false
     → IsPermutation (entries m ++ entry_of row ∷ []) (entries n)
 row_moves m n row had put has hasnt =
-    let absent : find (slice_cmp nat_cmp) row.name (entries m) ≡ None =
-    none_of (find (slice_cmp nat_cmp) row.name (entries m))
-    (ap is_some (sym (get-entries m row.name)) ∙ sym has ∙ hasnt) in
-    subst (λ (es : Entries). IsPermutation (entries m ++ entry_of row ∷ []) es)
-    (sym (ap entries put ∙ entries-insert nat_list_cmp_total m row.name row.value))
-    (put_moves row.name row.value (entries m) absent)
+    let absent = none_of (find (slice_cmp nat_cmp) row.name (entries m)) (ap is_some (sym (get-entries m row.name)) ∙ sym has ∙ hasnt) in
+    rw (put, entries-insert nat_list_cmp_total m row.name row.value) (put_moves row.name row.value (entries m) absent)
 
--- ---- the last of some rows
+-- one of those that are left
+taken : (total : Entries) (m n : Rows) (xs ys : Entries) (row : VarBind) (had : Bool)
+    → IsPermutation total (entries m ++ (xs ++ entry_of row ∷ ys))
+    → n ≡ insert m row.name row.value → had ≡ contains_key m row.name → had ≡ false
+    → IsPermutation total (entries n ++ (xs ++ ys))
+taken total m n xs ys row had h put has hasnt =
+    IsPermutation-trans _ _ _ h (IsPermutation-trans _ _ _ (to_first (entries m) xs ys (entry_of row))
+    (IsPermutation-append_left (xs ++ ys) _ _ (row_moves m n row had put has hasnt)))
 
+-- the last of them
 pub last_moves : (total : Entries) (m n : Rows) (rows rest : List VarBind) (row : VarBind) (had : Bool)
     → IsPermutation total (entries m ++ entries_of rows) → rows ≡ rest ++ row ∷ []
     → n ≡ insert m row.name row.value → had ≡ contains_key m row.name → had ≡ false
     → IsPermutation total (entries n ++ entries_of rest)
 last_moves total m n rows rest row had h parts put has hasnt =
-    let split : entries_of rows ≡ entries_of rest ++ entry_of row ∷ [] =
-    ap entries_of parts ∙ rows-append rest (row ∷ []) in
-    let all : IsPermutation total (entries m ++ (entries_of rest ++ entry_of row ∷ [])) =
-    subst (λ (es : Entries). IsPermutation total (entries m ++ es)) split h in
-    let moved : IsPermutation total ((entries m ++ entry_of row ∷ []) ++ (entries_of rest ++ [])) =
-    IsPermutation-trans _ _ _ all (to_first (entries m) (entries_of rest) [] (entry_of row)) in
-    subst (λ (es : Entries). IsPermutation total (entries n ++ es)) (append-nil (entries_of rest))
-    (before_rest (entries m ++ entry_of row ∷ []) (entries n) (entries_of rest ++ []) total moved
-    (row_moves m n row had put has hasnt))
+    rw (append-nil (entries_of rest)) at (taken total m n (entries_of rest) [] row had
+    (rw (parts, rows-append rest (row ∷ [])) at h) put has hasnt)
 
--- ---- a row of a page, behind others
-
+-- the first row of a page, behind others
 pub page_row_moves : (total : Entries) (l m n : Rows) (others left : List VarBind) (row : VarBind)
     (rest : List VarBind) (had : Bool)
     → IsPermutation total (entries l ++ (entries_of others ++ entries_of (row ∷ rest)))
@@ -89,17 +83,8 @@ pub page_row_moves : (total : Entries) (l m n : Rows) (others left : List VarBin
     → n ≡ insert m row.name row.value → had ≡ contains_key m row.name → had ≡ false
     → IsPermutation total (entries n ++ (entries_of left ++ entries_of rest))
 page_row_moves total l m n others left row rest had h before put has hasnt =
-    let xs = entries l in let ys = entries_of others in let zs = entries_of (row ∷ rest) in
-    let first : IsPermutation total ((entries m ++ entries_of left) ++ zs) =
-    before_rest (xs ++ ys) (entries m ++ entries_of left) zs total
-    (subst (λ (es : Entries). IsPermutation total es) (sym (append_assoc xs ys zs)) h) before in
-    let flat : IsPermutation total (entries m ++ (entries_of left ++ entry_of row ∷ entries_of rest)) =
-    subst (λ (es : Entries). IsPermutation total es) (append_assoc (entries m) (entries_of left) zs)
-    first in
-    before_rest (entries m ++ entry_of row ∷ []) (entries n) (entries_of left ++ entries_of rest) total
-    (IsPermutation-trans _ _ _ flat (to_first (entries m) (entries_of left) (entries_of rest)
-    (entry_of row)))
-    (row_moves m n row had put has hasnt)
+    taken total m n (entries_of left) (entries_of rest) row had
+    (regathered total (entries l) (entries_of others) (entries m) (entries_of left) (entries_of (row ∷ rest)) h before) put has hasnt
 
 -- ---- a page
 
@@ -109,33 +94,22 @@ pub page_moves : (total : Entries) (l m : Rows) (others left : List VarBind) (pa
     (entries m ++ entries_of left)
     → IsPermutation total (entries m ++ (entries_of left ++ entries_in pages))
 page_moves total l m others left page pages h merged =
-    let xs = entries l in let ys = entries_of others in let zs = entries_of page.rows.items in
-    let ws = entries_in pages in
-    let flat : xs ++ (ys ++ (zs ++ ws)) ≡ (xs ++ (ys ++ zs)) ++ ws =
-    ap (λ (es : Entries). xs ++ es) (sym (append_assoc ys zs ws)) ∙ sym (append_assoc xs (ys ++ zs) ws) in
-    subst (λ (es : Entries). IsPermutation total es) (append_assoc (entries m) (entries_of left) ws)
-    (before_rest (xs ++ (ys ++ zs)) (entries m ++ entries_of left) ws total
-    (subst (λ (es : Entries). IsPermutation total es) flat h) merged)
+    let rows = entries_of page.rows.items in
+    regathered total (entries l) (entries_of others ++ rows) (entries m) (entries_of left) (entries_in pages)
+    (rw (append_assoc (entries_of others) rows (entries_in pages)) h) merged
 
 -- ---- all pages
 
 pub merge_begins : (m n : Rows) (others : Entries) (pages : List Page) → entries n ≡ []
     → entries_in pages ≡ entries m
     → IsPermutation (entries m ++ others) (entries n ++ (others ++ entries_in pages))
-merge_begins m n others pages none all =
-    subst (λ (es : Entries). IsPermutation (entries m ++ others) (es ++ (others ++ entries_in pages)))
-    (sym none)
-    (subst (λ (es : Entries). IsPermutation (entries m ++ others) (others ++ es)) (sym all)
-    (IsPermutation-append_comm (entries m) others))
+merge_begins m n others pages none all = rw (none, all) (IsPermutation-append_comm (entries m) others)
 
 pub merge_ends : (total new : Entries) (m : Rows) (others : List VarBind) (pages : List Page)
     → IsPermutation total (entries m ++ (entries_of others ++ entries_in pages)) → pages ≡ []
     → IsPermutation (entries m ++ entries_of others) new → IsPermutation total new
 merge_ends total new m others pages h none put =
-    let all : entries_of others ++ entries_in pages ≡ entries_of others =
-    ap (λ (ps : List Page). entries_of others ++ entries_in ps) none ∙ append-nil (entries_of others) in
-    IsPermutation-trans _ _ _
-    (subst (λ (es : Entries). IsPermutation total (entries m ++ es)) all h) put
+    IsPermutation-trans total (entries m ++ entries_of others) new (rw (none, append-nil (entries_of others)) at h) put
 
 -- rows that were gathered, put in any order
 pub sorted_moves : (m : Rows) (new : Entries) (late put : List VarBind) → IsPermutation late put
@@ -149,11 +123,7 @@ sorted_moves m new late put sorted moved =
 pub settled_moves : (m n : Rows) (late taken kept : List VarBind) → taken ≡ late
     → IsPermutation (entries m ++ entries_of taken) (entries n) → kept ≡ []
     → IsPermutation (entries m ++ entries_of late) (entries n ++ entries_of kept)
-settled_moves m n late taken kept same moved none =
-    subst (λ (es : Entries). IsPermutation (entries m ++ entries_of late) es)
-    (sym (append-nil (entries n)) ∙ ap (λ (rows : List VarBind). entries n ++ entries_of rows) (sym none))
-    (subst (λ (rows : List VarBind). IsPermutation (entries m ++ entries_of rows) (entries n)) same
-    moved)
+settled_moves m n late taken kept same moved none = rw (← same, none, append-nil (entries n)) moved
 
 -- ---- a row that a draft is given, behind the rows gathered or among them
 
@@ -164,36 +134,25 @@ pub placed_moves : (old m n : Rows) (gathered late : List VarBind) (row : VarBin
     → IsPermutation ((entries old ++ entries_of gathered) ++ entry_of row ∷ [])
     (entries n ++ entries_of late)
 placed_moves old m n gathered late row had h none put has hasnt =
-    let bare : (k : Rows) → entries k ++ entries_of late ≡ entries k =
-    λ k. ap (λ (rows : List VarBind). entries k ++ entries_of rows) none ∙ append-nil (entries k) in
-    let before : IsPermutation (entries old ++ entries_of gathered) (entries m) =
-    subst (λ (es : Entries). IsPermutation (entries old ++ entries_of gathered) es) (bare m) h in
-    subst (λ (es : Entries). IsPermutation ((entries old ++ entries_of gathered) ++ entry_of row ∷ []) es)
-    (sym (bare n))
-    (IsPermutation-trans _ _ _ (IsPermutation-append_left (entry_of row ∷ []) _ _ before)
-    (row_moves m n row had put has hasnt))
+    rw (none, append-nil (entries n)) (IsPermutation-trans _ _ _ (IsPermutation-append_left (entry_of row ∷ []) _ _
+    (rw (none, append-nil (entries m)) at h)) (row_moves m n row had put has hasnt))
 
 -- appended to the rows in their places
 pub appended_moves : (total ms ns late : Entries) (row : VarBind) → IsPermutation total (ms ++ late)
     → ns ≡ ms ++ entry_of row ∷ [] → IsPermutation (total ++ entry_of row ∷ []) (ns ++ late)
 appended_moves total ms ns late row h appended =
     let e = entry_of row in
-    let last : (ms ++ late) ++ e ∷ [] ≡ ms ++ (late ++ e ∷ []) = append_assoc ms late (e ∷ []) in
-    let moved : IsPermutation (ms ++ (late ++ e ∷ [])) ((ms ++ e ∷ []) ++ (late ++ [])) =
-    to_first ms late [] e in
-    subst (λ (es : Entries). IsPermutation (total ++ e ∷ []) (es ++ late)) (sym appended)
-    (IsPermutation-trans _ _ _ (IsPermutation-append_left (e ∷ []) total (ms ++ late) h)
-    (subst (λ (es : Entries). IsPermutation es ((ms ++ e ∷ []) ++ late)) (sym last)
-    (subst (λ (es : Entries). IsPermutation (ms ++ (late ++ e ∷ [])) ((ms ++ e ∷ []) ++ es))
-    (append-nil late) moved)))
+    let moved : IsPermutation ((ms ++ late) ++ e ∷ []) ((ms ++ e ∷ []) ++ late) =
+    rw (append_assoc ms late (e ∷ []), append_assoc ms (e ∷ []) late) (IsPermutation-append_right ms (late ++ e ∷ []) (e ∷ late)
+    (IsPermutation-to_front late e)) in
+    rw appended (IsPermutation-trans _ _ _ (IsPermutation-append_left (e ∷ []) total (ms ++ late) h) moved)
 
 -- a row has the name of one that is there
 pub had_one : (es : Entries) (m : Rows) (late : List VarBind) (o : List ℕ) (had : Bool)
     → IsPermutation es (entries m ++ entries_of late) → late ≡ [] → had ≡ contains_key m o → had ≡ true
     → AreDistinct es × (v : Datum) × Contains es (o, v)
 had_one es m late o had h none has is =
-    let moved : IsPermutation es (entries m) = subst (λ (fs : Entries). IsPermutation es fs)
-    (ap (λ (rows : List VarBind). entries m ++ entries_of rows) none ∙ append-nil (entries m)) h in
+    let moved : IsPermutation es (entries m) = rw (none, append-nil (entries m)) at h in
     let found = some_of (find (slice_cmp nat_cmp) o (entries m))
     (ap is_some (sym (get-entries m o)) ∙ sym has ∙ is) in (
       distinct_moved es (entries m) moved (distinct_sorted (entries m) (entries_sorted m)),

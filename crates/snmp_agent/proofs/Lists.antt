@@ -1,8 +1,8 @@
 -- Facts about lists.
 use Rattle.std.proofs.Common.{◌≡◌, ℕ, zero, suc, ◌-◌, ◌≤◌, ◌<◌, List, [], ◌∷◌, ◌++◌, length, take}
-use Rattle.std.proofs.Common.{drop, Some, arith, refl, ap, subst, ◌∙◌}
+use Rattle.std.proofs.Common.{drop, get_or, map, Some, arith, refl, sym, ap, subst, ◌∙◌, ◌+◌}
 use Rattle.std.specs.List.{AllByRecursion, slice_get}
-use Rattle.std.proofs.lemmas.List.{drop_all, length-take-le}
+use Rattle.std.proofs.lemmas.List.{drop_all, drop_more, get_or_at, length-map, length-take-le}
 
 module _ {X : Type 0} (P : X → Type 0) where
   pub all_both : (xs ys : List X) → AllByRecursion P xs → AllByRecursion P ys → AllByRecursion P (xs ++ ys)
@@ -48,3 +48,13 @@ module _ {X : Type 0} where
   pub nothing_left : (xs : List X) → length xs ≡ 0 → xs ≡ []
   nothing_left [] h = refl
   nothing_left (x ∷ xs) h = absurd (omega arith)
+
+  -- where the elements before a place were changed, the one at the place still stands there
+  pub still_there : (f : X → X) (xs ys : List X) (i : ℕ) (x : X) → i < length xs → ys ≡ map f (take i xs) ++ drop i xs → x ≡ get_or ys i x
+      → drop i xs ≡ x ∷ drop (i + 1) xs
+  still_there f xs ys i x low changed at =
+      let here = drop_more xs i x low in
+      let front : length (map f (take i xs)) ≡ i = length-map (take i xs) f ∙ length-take-le i xs (omega (arith, low)) in
+      let same : x ≡ get_or xs i x = at ∙ ap (λ zs. get_or zs i x) (changed ∙ ap (λ zs. map f (take i xs) ++ zs) here)
+      ∙ get_or_at (map f (take i xs)) (get_or xs i x) (drop (i + 1) xs) x i front in
+      here ∙ ap (λ z. z ∷ drop (i + 1) xs) (sym same)

@@ -7,25 +7,12 @@ use Rattle.snmp_agent.specs.table.Form.{IsBadLine, IsBadName, IsBadValue, IsInst
 use Rattle.snmp_agent.specs.table.Text.{a_row}
 use Rattle.snmp_agent.specs.table.Format.{Format, Names}
 use Rattle.snmp_agent.specs.table.Stated.{IsBehindGood, IsDouble, IsFirstFault, IsFirstFaultIn}
+use Rattle.snmp_agent.specs.table.Stated.{IsWrong, number_of}
 use Rattle.snmp_agent.proofs.Faultless.{good_line, good_name, good_value, no_fault_in}
 use Rattle.snmp_agent.proofs.Statements.{same_rows}
 use Rattle.snmp_agent.proofs.Unique.{one_format}
 
 -- ---- what is wrong with one line
-
-abbrev number_of : TableError → ℕ
-number_of (error.BadLine number) = number
-number_of (error.BadName number) = number
-number_of (error.BadValue number) = number
-number_of (error.Double number) = number
-number_of error.Memory = 0
-
-abbrev IsWrong : Format → (front : List (List ℕ)) → (line : List ℕ) → TableError → Type 0
-IsWrong format front line (error.BadLine number) = IsBadLine format line
-IsWrong format front line (error.BadName number) = IsBadName format line
-IsWrong format front line (error.BadValue number) = IsBadValue format line
-IsWrong format front line (error.Double number) = IsDouble format front line
-IsWrong format front line error.Memory = ⊥
 
 module _ (format : Format) (line : List ℕ) where
   formed_name : IsBadName format line → IsBadLine format line → ⊥

@@ -14,7 +14,7 @@ use Rattle.snmp_agent.specs.Reply.{got_next, unwritten, Fits, or_zero, AreEnds, 
 use Rattle.snmp_agent.specs.Reply.{AreRounds, IsBulk, IsLongestFront, IsResponse, whole, shortened}
 use Rattle.snmp_agent.specs.Reply.{bulk, IsReply, IsDropped}
 use Rattle.snmp_agent.proofs.Answers.{HasGets, HasNexts, HasNextsAfter, same_answers}
-use Rattle.snmp_agent.proofs.Rounds.{ends_decided}
+use Rattle.snmp_agent.proofs.Rounds.{ends_decided, not_empty}
 
 abbrev OneSpelling : Type 0
 OneSpelling = (m n : Message) (b c rest more : List ℕ) → Spells m b → Spells n c → b ++ rest ≡ c ++ more → (m ≡ n) × (b ≡ c)
@@ -45,10 +45,6 @@ one_front max_size q all a b h k =
     same_front a b h.more k.more (sym h.front ∙ k.front) (omega (arith, no_longer max_size q all a b h k, no_longer max_size q all b a k h))
 
 -- ---- rounds
-
-not_empty : (before later : List (List VarBind)) (round : List VarBind) → [] ≡ before ++ round ∷ later → ⊥
-not_empty [] later round e = cc
-not_empty (r ∷ before) later round e = cc
 
 module _ (view : MibView) (names : List VarBind) where
   -- rounds as those of a GetBulk, after so many others

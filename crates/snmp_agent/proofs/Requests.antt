@@ -30,9 +30,8 @@ same_head q status index bindings total = refl
 -- the bindings of a Set are its own answers
 own : (asked given : List VarBind) → AreAnswers (λ a g. g ≡ a) asked given → given ≡ asked
 own [] [] h = refl
-own [] (g ∷ gs) h = absurd h
-own (a ∷ more) [] h = absurd h
 own (a ∷ more) (g ∷ gs) h = let rest : gs ≡ more = own more gs h.1 in let first : g ≡ a = h.0 in cc
+own _ _ h = absurd h
 
 by_kind : (view : MibView) (q : Message) (given : List VarBind) (k : Kind) → q.kind ≡ k → IsPaired k → AreAnswers (IsAnswer view k) q.bindings given
     → IsWhole view q (response q (whole_status k) (whole_index k q.bindings) given)

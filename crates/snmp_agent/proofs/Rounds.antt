@@ -50,14 +50,13 @@ all_rounds nexts view names i (suc left) =
 
 few_rounds : (view : MibView) (names : List VarBind) (i left : ℕ) (rounds : List (List VarBind)) → AreRoundsFrom view names i left rounds → length rounds ≤ left
 few_rounds view names i zero [] h = omega arith
-few_rounds view names i zero (round ∷ more) h = absurd h
-few_rounds view names i (suc left) [] h = absurd h
 few_rounds view names i (suc left) (round ∷ more) h = elim h.1 [
   | inl over ↦ omega (arith, ap (λ (rs : List (List VarBind)). length rs) over.1)
   | inr goes ↦ omega (arith, few_rounds view names (i + 1) left more goes.1)
 ]
+few_rounds view names i _ _ h = absurd h
 
-not_empty : (before later : List (List VarBind)) (round : List VarBind) → [] ≡ before ++ round ∷ later → ⊥
+pub not_empty : (before later : List (List VarBind)) (round : List VarBind) → [] ≡ before ++ round ∷ later → ⊥
 not_empty [] later round e = cc
 not_empty (r ∷ before) later round e = cc
 
@@ -158,20 +157,3 @@ pub writable_drop : (count : ℕ) (names : List VarBind) → AreWritable names �
 writable_drop zero names h = h
 writable_drop (suc count) [] h = tt
 writable_drop (suc count) (name ∷ names) h = writable_drop count names h.1
-
-pub take-nothing : (count : ℕ) (names : List VarBind) → names ≡ [] → take count names ≡ []
-take-nothing zero names none = refl
-take-nothing (suc count) [] none = refl
-take-nothing (suc count) (name ∷ names) none = let never : ⊥ = cc in absurd never
-
-pub drop-nothing : (count : ℕ) (names : List VarBind) → names ≡ [] → drop count names ≡ []
-drop-nothing zero names none = none
-drop-nothing (suc count) [] none = refl
-drop-nothing (suc count) (name ∷ names) none = let never : ⊥ = cc in absurd never
-
--- taking one more where there is one
-pub take-first : (left : ℕ) (names later : List VarBind) (name : VarBind) → names ≡ name ∷ later → take (suc left) names ≡ name ∷ take left later
-take-first left names later name e = ap (take (suc left)) e
-
-pub drop-first : (left : ℕ) (names later : List VarBind) (name : VarBind) → names ≡ name ∷ later → drop (suc left) names ≡ drop left later
-drop-first left names later name e = ap (drop (suc left)) e

@@ -51,9 +51,7 @@ one_more_of : {a b c d : ℕ} (n : Turn → ℕ) (t : Turn) → a ≡ n turn.Rep
     → one_more t (record { replies = n turn.Replied; dropped = n turn.Dropped; idle = n turn.Idle; faults = n turn.Failed })
     ≡ record { replies = a; dropped = b; idle = c; faults = d }
 one_more_of n turn.Replied e f g h = same_counts _ _ (omega arith) (omega arith) (omega arith) (omega arith)
-one_more_of n turn.Dropped e f g h = same_counts _ _ (omega arith) (omega arith) (omega arith) (omega arith)
-one_more_of n turn.Idle e f g h = same_counts _ _ (omega arith) (omega arith) (omega arith) (omega arith)
-one_more_of n turn.Failed e f g h = same_counts _ _ (omega arith) (omega arith) (omega arith) (omega arith)
+one_more_of n _ e f g h = same_counts _ _ (omega arith) (omega arith) (omega arith) (omega arith)
 
 module _ {Peer : Type 0} where
   count_push : (done : List (TurnDone Peer)) (d : TurnDone Peer) (kind : Turn)
@@ -84,9 +82,7 @@ module _ {Peer : Type 0} where
 
 pub one_more_turn : (t : Turn) (s : Served) → sum (one_more t s) ≡ sum s + 1
 one_more_turn turn.Replied s = omega arith
-one_more_turn turn.Dropped s = omega arith
-one_more_turn turn.Idle s = omega arith
-one_more_turn turn.Failed s = omega arith
+one_more_turn _ s = omega arith
 
 -- ---- how the endpoint's count of faults rises
 
@@ -101,9 +97,7 @@ risen_more (suc n) (suc m) a b c h k = let first = h.1 (omega arith) in let more
 
 faults_with : (t : Turn) (s : Served) → s.faults + cond (same_turn turn.Failed t) 1 0 ≡ (one_more t s).faults
 faults_with turn.Replied s = omega arith
-faults_with turn.Dropped s = omega arith
-faults_with turn.Idle s = omega arith
-faults_with turn.Failed s = omega arith
+faults_with _ s = omega arith
 
 -- with one more turn
 pub risen_in_turn : (t : Turn) (s more : Served) (a b c : ℕ) → more ≡ one_more t s → HasRisenBy s.faults a b

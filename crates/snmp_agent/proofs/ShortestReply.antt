@@ -61,10 +61,9 @@ answers_in_range : (IsAnswer : VarBind → VarBind → Type 0)
     → (names given : List VarBind) → AllByRecursion IsBindingOfType names → AreAnswers IsAnswer names given
     → AllByRecursion IsBindingInRange given
 answers_in_range IsAnswer one [] [] h answers = tt
-answers_in_range IsAnswer one [] (given ∷ rest) h answers = absurd answers
-answers_in_range IsAnswer one (asked ∷ more) [] h answers = absurd answers
 answers_in_range IsAnswer one (asked ∷ more) (given ∷ rest) h answers =
     (one asked given h.0.name answers.0, answers_in_range IsAnswer one more rest h.1 answers.1)
+answers_in_range IsAnswer one _ _ h answers = absurd answers
 
 module _ (view : MibView) (is_view : IsMibView view) where
   row_in_range : (p : VarBind) → IsRow view p → IsBindingInRange p

@@ -1,7 +1,6 @@
 -- Places among the variables of a view, and what names are given there.
-use Rattle.std.proofs.Common.{◌≡◌, ℕ, zero, suc, ◌+◌, ◌<◌, List, [], ◌∷◌, ◌++◌, map, length, take}
-use Rattle.std.proofs.Common.{drop, get_or, refl, sym, ap, subst, ◌∙◌, add-one, arith}
-use Rattle.std.proofs.Common.{slice_set}
+use Rattle.std.proofs.Common.{◌≡◌, ℕ, zero, suc, ◌+◌, List, [], ◌∷◌, ◌++◌, map, take}
+use Rattle.std.proofs.Common.{drop, refl, sym, subst, add-one}
 use Rattle.std.proofs.lemmas.List.Elements.{All-nil, All-cons, All-head, All-tail}
 use Rattle.snmp_oid.specs.Identifier.{IsWire}
 use Rattle.snmp_wire.specs.Message.{Datum, VarBind}
@@ -14,19 +13,18 @@ use Rattle.snmp_agent.specs.Answering.{AreGiven}
 use Rattle.snmp_agent.specs.Standing.{Standing, Stands, AreStanding, AreWireNames, AreAtEnd}
 use Rattle.snmp_agent.specs.Standing.{next_at, passed}
 use Rattle.snmp_agent.proofs.Answering.{next_name}
-use Rattle.snmp_agent.proofs.Following.{IsOrder, first_next, end_next, behind_first, first_row}
+use Rattle.snmp_agent.proofs.Following.{IsOrder, behind_first, first_row, is_next}
 use Rattle.snmp_agent.proofs.Following.{asked_past, behind_past}
 
 -- ---- what comes next at a place
 
 module _ (order : IsOrder) (view : MibView) where
-  next_there : (o : List ℕ) (es : List (List ℕ × Datum)) → AreBehind view o es → IsNext view o (next_at (record { name = o; rows = es }))
-  next_there o [] h = end_next order view o h
-  next_there o (e ∷ es) h = first_next order view o e es h
+  next_there : (place : Standing) → AreBehind view place.name place.rows → IsNext view place.name (next_at place)
+  next_there place h = is_next order view place.name h.0 place.rows h.1
 
   -- what the name is given in the next round
   pub given_there : (round : ℕ) (asked : List ℕ) (place : Standing) → Stands view round asked place → IsNextAfter view round asked (next_at place)
-  given_there round asked place h = h.chain (next_at place) (next_there place.name place.rows h.behind)
+  given_there round asked place h = h.chain (next_at place) (next_there place h.behind)
 
   behind_there : (o : List ℕ) (es : List (List ℕ × Datum)) → AreBehind view o es
       → AreBehind view (passed (record { name = o; rows = es })).name (passed (record { name = o; rows = es })).rows
@@ -42,7 +40,7 @@ module _ (order : IsOrder) (view : MibView) where
       → Stands view (round + 1) asked (passed place)
   stands_passed mib round asked place h =
       let p = next_at place in
-      let next : IsNext view place.name p = next_there place.name place.rows h.behind in
+      let next = next_there place h.behind in
       let name : (passed place).name ≡ p.name = passed_name place.name place.rows in
       record {
         wire = subst IsWire (sym name) (next_name view place.name p mib h.wire next);
@@ -54,23 +52,10 @@ module _ (order : IsOrder) (view : MibView) where
 -- ---- the end of the view
 
 pub end_there : (place : Standing) → place.rows ≡ [] → (next_at place).value ≡ end_of_mib_view
-end_there place none = by_rows place.name place.rows none
-  where
-    by_rows : (o : List ℕ) (es : List (List ℕ × Datum)) → es ≡ [] → (next_at (record { name = o; rows = es })).value ≡ end_of_mib_view
-    by_rows o [] e = refl
-    by_rows o (p ∷ es) e = let never : ⊥ = cc in absurd never
+end_there place none = rw none
 
 not_end : (v : Datum) → IsInstanceValue v → v ≡ end_of_mib_view → ⊥
 not_end v h e = subst IsInstanceValue e h
-
-pub row_there : (view : MibView) (place : Standing) → IsMibView view → AreBehind view place.name place.rows → (place.rows ≡ [] → ⊥)
-    → (next_at place).value ≡ end_of_mib_view → ⊥
-row_there view place mib behind some = by_rows place.name place.rows behind some
-  where
-    by_rows : (o : List ℕ) (es : List (List ℕ × Datum)) → AreBehind view o es → (es ≡ [] → ⊥)
-        → (next_at (record { name = o; rows = es })).value ≡ end_of_mib_view → ⊥
-    by_rows o [] h none e = none refl
-    by_rows o (p ∷ es) h none e = not_end p.1 (mib.values (var_of p) (first_row view o p es h)) e
 
 pub at_end : (view : MibView) (place : Standing) → IsMibView view → AreBehind view place.name place.rows → (next_at place).value ≡ end_of_mib_view
     → place.rows ≡ []
@@ -79,6 +64,10 @@ at_end view place mib behind end = by_rows place.name place.rows behind end
     by_rows : (o : List ℕ) (es : List (List ℕ × Datum)) → AreBehind view o es → (next_at (record { name = o; rows = es })).value ≡ end_of_mib_view → es ≡ []
     by_rows o [] h e = refl
     by_rows o (p ∷ es) h e = absurd (not_end p.1 (mib.values (var_of p) (first_row view o p es h)) e)
+
+pub row_there : (view : MibView) (place : Standing) → IsMibView view → AreBehind view place.name place.rows → (place.rows ≡ [] → ⊥)
+    → (next_at place).value ≡ end_of_mib_view → ⊥
+row_there view place mib behind some end = some (at_end view place mib behind end)
 
 -- ---- several names
 
@@ -110,32 +99,28 @@ stands_later order view mib rounds o back place wire behind same rest = record {
 pub standing_pushed : (view : MibView) (round : ℕ) (names : List VarBind) (places : List Standing) (p : VarBind) (place : Standing)
     → AreStanding view round names places → Stands view round p.name place → AreStanding view round (names ++ p ∷ []) (places ++ place ∷ [])
 standing_pushed view round [] [] p place h last = (last, tt)
-standing_pushed view round [] (x ∷ places) p place h last = absurd h
-standing_pushed view round (q ∷ names) [] p place h last = absurd h
 standing_pushed view round (q ∷ names) (x ∷ places) p place h last = (h.0, standing_pushed view round names places p place h.1 last)
+standing_pushed view round _ _ p place h last = absurd h
 
 pub standing_wire : (view : MibView) (round : ℕ) (names : List VarBind) (places : List Standing) → AreStanding view round names places → AreWireNames places
 standing_wire view round [] [] h = All-nil _
-standing_wire view round [] (x ∷ places) h = absurd h
-standing_wire view round (q ∷ names) [] h = absurd h
 standing_wire view round (q ∷ names) (x ∷ places) h =
     All-cons (λ (place : Standing). IsWire place.name) x places h.0.wire (standing_wire view round names places h.1)
+standing_wire view round _ _ h = absurd h
 
 pub standing_given : IsOrder → (view : MibView) (round : ℕ) (names : List VarBind) (places : List Standing) → AreStanding view round names places
     → AreGiven view round names (map next_at places)
 standing_given order view round [] [] h = tt
-standing_given order view round [] (x ∷ places) h = absurd h
-standing_given order view round (q ∷ names) [] h = absurd h
 standing_given order view round (q ∷ names) (x ∷ places) h =
     (given_there order view round q.name x h.0, standing_given order view round names places h.1)
+standing_given order view round _ _ h = absurd h
 
 pub standing_passed : IsOrder → (view : MibView) → IsMibView view → (round : ℕ) (names : List VarBind) (places : List Standing)
     → AreStanding view round names places → AreStanding view (round + 1) names (map passed places)
 standing_passed order view mib round [] [] h = tt
-standing_passed order view mib round [] (x ∷ places) h = absurd h
-standing_passed order view mib round (q ∷ names) [] h = absurd h
 standing_passed order view mib round (q ∷ names) (x ∷ places) h =
     (stands_passed order view mib round q.name x h.0, standing_passed order view mib round names places h.1)
+standing_passed order view mib round _ _ h = absurd h
 
 pub ends_given : (places : List Standing) → AreAtEnd places → AreEnds (map next_at places)
 ends_given [] h = tt
@@ -147,32 +132,7 @@ ends_given (x ∷ places) h = (
 pub given_ends : (view : MibView) → IsMibView view → (round : ℕ) (names : List VarBind) (places : List Standing) → AreStanding view round names places
     → AreEnds (map next_at places) → AreAtEnd places
 given_ends view mib round [] [] h ends = All-nil _
-given_ends view mib round [] (x ∷ places) h ends = absurd h
-given_ends view mib round (q ∷ names) [] h ends = absurd h
 given_ends view mib round (q ∷ names) (x ∷ places) h ends =
     All-cons (λ (place : Standing). place.rows ≡ []) x places (at_end view x mib h.0.behind ends.0)
     (given_ends view mib round names places h.1 ends.1)
-
--- ---- one place after the other
-
--- the place at the index i, where those before it are moved, and j is the index behind it
-pub record IsMovedAt (places : List Standing) (i j : ℕ) (place : Standing) : Type 0 where
-  pub moved : slice_set (map passed (take i places) ++ drop i places) i (passed place) ≡ map passed (take j places) ++ drop j places
-  pub here : drop i places ≡ place ∷ drop j places
-
-moved_at : (places : List Standing) (i : ℕ) (place : Standing) → i < length places
-    → place ≡ get_or (map passed (take i places) ++ drop i places) i place → IsMovedAt places i (suc i) place
-moved_at [] i place low at = absurd (omega (arith, low))
-moved_at (x ∷ places) zero place low at = record {
-  moved = ap (λ (y : Standing). passed y ∷ places) at;
-  here = ap (λ (y : Standing). y ∷ places) (sym at);
-}
-moved_at (x ∷ places) (suc i) place low at =
-    let rest = moved_at places i place (omega (arith, low)) at in
-    record { moved = ap (λ (ps : List Standing). passed x ∷ ps) rest.moved; here = rest.here }
-
-pub moved_one : (places now : List Standing) (i : ℕ) (place : Standing) → now ≡ map passed (take i places) ++ drop i places → i < length places
-    → place ≡ get_or now i place → IsMovedAt places i (i + 1) place
-moved_one places now i place moved low at =
-    subst (λ (j : ℕ). IsMovedAt places i j place) (sym (add-one i))
-    (moved_at places i place low (at ∙ ap (λ (ps : List Standing). get_or ps i place) moved))
+given_ends view mib round _ _ h ends = absurd h

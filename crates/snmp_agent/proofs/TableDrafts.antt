@@ -1,12 +1,12 @@
 -- Facts about what lines state together, and about the draft that holds it.
 use Rattle.std.proofs.Common.{◌≡◌, Option, is_some, ℕ, ◌⊎◌, inl, inr, ◌↔◌, Bool, true, false, cond}
 use Rattle.std.proofs.Common.{◌||◌, List, [], ◌∷◌, ◌++◌, map, Some, None, refl, sym, ◌∙◌, T}
-use Rattle.std.proofs.Common.{ap, subst, Less, zero, suc, get_or, Equal, Greater, Vec, Global}
+use Rattle.std.proofs.Common.{ap, Less, zero, suc, get_or, Equal, Greater, Vec, Global}
 use Rattle.std.proofs.Common.{◌+◌, ◌<◌, ◌≤◌, length, arith}
 use Rattle.std.specs.List.{All, AllPairs, Contains, list_any, sum_by}
 use Rattle.std.specs.List.Sorted.{IsPermutation}
 use Rattle.std.proofs.lemmas.List.Elements.{All-append, All-cons, All-contains_itself, All-nil}
-use Rattle.std.proofs.lemmas.List.Elements.{Contains-append_cases, Contains-append_left}
+use Rattle.std.proofs.lemmas.List.Elements.{Contains-append_left}
 use Rattle.std.proofs.lemmas.List.Elements.{Contains-append_right, Contains-push}
 use Rattle.std.proofs.lemmas.List.Elements.{Contains-push_cases}
 use Rattle.std.proofs.lemmas.List.Quantifiers.{all_pairs_push}
@@ -18,7 +18,7 @@ use Rattle.std.specs.Ordering.{nat_cmp, is_eq, eq_by_cmp, match_ordering}
 use Rattle.std.specs.Cmp.{tied_itself}
 use Rattle.std.specs.Cmp.Lexicographic.{slice_cmp, nat_list_cmp_total}
 use Rattle.std.specs.FinMap.{find, is_sorted, put}
-use Rattle.std.specs.FinMap.Entries.{below_all, by_order}
+use Rattle.std.specs.FinMap.Entries.{by_order}
 use Rattle.std.specs.BTreeSet.{insert_key}
 use Rattle.snmp_wire.specs.Message.{Datum, VarBind}
 use Rattle.snmp_agent.specs.table.Format.{Format}
@@ -28,6 +28,7 @@ use Rattle.snmp_agent.specs.table.Text.{a_row}
 use Rattle.snmp_agent.specs.table.Stated.{IsDouble}
 use Rattle.snmp_agent.specs.table.Places.{IsBeforeAll, entry_of}
 use Rattle.snmp_agent.specs.table.Draft.{AreDistinct, HoldsLines, HoldsTable, has_key}
+use Rattle.snmp_agent.proofs.Changing.{tied}
 use Rattle.snmp_agent.proofs.OneStatement.{StatesOnly}
 use Rattle.snmp_agent.proofs.Rising.{Listed, before_all, find-listed, first_of_both}
 use Rattle.snmp_agent.proofs.Rising.{listed_from_find, same_name, second_of_both}
@@ -61,25 +62,16 @@ pub distinct_sorted : (es : List (List ℕ × Datum)) → T (is_sorted (slice_cm
     → AreDistinct es
 distinct_sorted [] rising = λ o. omega arith
 distinct_sorted (e ∷ es) rising = λ o.
-    let first = below_all (slice_cmp nat_cmp) e.0 es in
-    let others = is_sorted (slice_cmp nat_cmp) es in
-    let rest : sum_by (has_key o) es ≤ 1 =
-    distinct_sorted es (second_of_both first others rising) o in
+    let rest : sum_by (has_key o) es ≤ 1 = distinct_sorted es (second_of_both _ _ rising) o in
     let parts : sum_by (has_key o) (e ∷ es) ≡ has_key o e + sum_by (has_key o) es =
     sum_by-cons (has_key o) e es in
-    elim (slice_cmp nat_cmp o e.0) as (λ r. slice_cmp nat_cmp o e.0 ≡ r
+    elim (eq_by_cmp (slice_cmp nat_cmp) o e.0) as (λ b. eq_by_cmp (slice_cmp nat_cmp) o e.0 ≡ b
     → sum_by (has_key o) (e ∷ es) ≤ 1) [
-      | Less ↦ λ less.
-          let other : has_key o e ≡ 0 = ap (λ r. cond (is_eq r) 1 0) less in omega arith
-      | Equal ↦ λ tied.
-          let one : has_key o e ≡ 1 = ap (λ r. cond (is_eq r) 1 0) tied in
-          let ahead = before_all e.0 es (first_of_both first others rising) in
-          let P : List ℕ → Type 0 = λ p. IsBeforeAll p es in
-          let none : sum_by (has_key o) es ≡ 0 =
-          none_behind o es (subst P (sym (same_name o e.0 tied)) ahead) in
-          omega arith
-      | Greater ↦ λ greater.
-          let other : has_key o e ≡ 0 = ap (λ r. cond (is_eq r) 1 0) greater in omega arith
+      | true ↦ λ is.
+          let one : has_key o e ≡ 1 = ap (λ b. cond b 1 0) is in
+          let ahead : IsBeforeAll o es = rw (tied o e.0 true is refl) (before_all e.0 es (first_of_both _ _ rising)) in
+          let none : sum_by (has_key o) es ≡ 0 = none_behind o es ahead in omega arith
+      | false ↦ λ is. let other : has_key o e ≡ 0 = ap (λ b. cond b 1 0) is in omega arith
     ] refl
 
 pub listed_contained : (e : List ℕ × Datum) (es : List (List ℕ × Datum)) → Listed e es
@@ -126,16 +118,9 @@ stated_before format before line s h = (h.0, Contains-append_left before (line �
 stated_now : (format : Format) (before : List (List ℕ)) (line : List ℕ) (s : Statement) → States format line s → IsStated format (before ++ line ∷ []) s
 stated_now format before line s h = (line, Contains-append_right before (line ∷ []) line (0, omega arith, refl), h)
 
-the_only : (line other : List ℕ) (k : ℕ) → k < length (line ∷ []) → get_or (line ∷ []) k other ≡ other → other ≡ line
-the_only line other zero low at = sym at
-the_only line other (suc k) low at = absurd (omega arith)
-
 stated_either : (format : Format) (before : List (List ℕ)) (line : List ℕ) (s : Statement) → IsStated format (before ++ line ∷ []) s → IsStated format before s ⊎ States format line s
 stated_either format before line s h =
-    elim (Contains-append_cases before (line ∷ []) h.0 h.1) [
-      | inl old ↦ inl (h.0, old, h.2)
-      | inr new ↦ inr (subst (λ (l : List ℕ). States format l s) (the_only line h.0 new.0 new.1 new.2) h.2)
-    ]
+    elim (Contains-push_cases before line h.0 h.1) [ inl old ↦ inl (h.0, old, h.2) | inr same ↦ inr (rw same h.2) ]
 
 good_statement : (format : Format) (line : List ℕ) (s : Statement) → States format line s → IsGoodLine format line
 good_statement format line nothing h = a_blank h
@@ -146,17 +131,15 @@ good_statement format line (instance row) h = a_row row h
 
 pub holds_no_lines : (format : Format) (es : List (List ℕ × Datum)) (os : List (List ℕ))
     → es ≡ [] → os ≡ [] → HoldsLines format [] es os
-holds_no_lines format es os no_entries no_objects =
-    subst (λ (e : List (List ℕ × Datum)). HoldsLines format [] e os) (sym no_entries)
-    (subst (λ (o : List (List ℕ)). HoldsLines format [] [] o) (sym no_objects) none) where
-      none : HoldsLines format [] [] []
-      none = record {
-        each = All-nil (IsGoodLine format);
-        rows = λ p. (λ h. absurd (omega (arith, h.1)), λ h. absurd (omega (arith, h.1.1)));
-        differ = λ _ i j d before within. absurd (omega (arith, before, within));
-        prefixes = λ o.
-            (λ found. (let no : ⊥ = cc in absurd no), λ h. absurd (omega (arith, h.1.1)));
-      }
+holds_no_lines format es os no_entries no_objects = rw (no_entries, no_objects) none where
+  none : HoldsLines format [] [] []
+  none = record {
+    each = All-nil (IsGoodLine format);
+    rows = λ p. (λ h. absurd (omega (arith, h.1)), λ h. absurd (omega (arith, h.1.1)));
+    differ = λ _ i j d before within. absurd (omega (arith, before, within));
+    prefixes = λ o.
+        (λ found. (let no : ⊥ = cc in absurd no), λ h. absurd (omega (arith, h.1.1)));
+  }
 
 -- one more line
 module _ (format : Format) (before : List (List ℕ)) (line : List ℕ)
@@ -167,13 +150,14 @@ module _ (format : Format) (before : List (List ℕ)) (line : List ℕ)
       All-append (IsGoodLine format) before (line ∷ []) h.each (All-cons (IsGoodLine format) line []
       (good_statement format line s states) (All-nil (IsGoodLine format)))
 
-  same_rows : ((p : VarBind) → States format line (instance p) → ⊥) → (p : VarBind)
-      → Contains es (entry_of p) ↔ IsStated format (before ++ line ∷ []) (instance p)
-  same_rows never p = (
-    λ has. stated_before format before line (instance p) ((h.rows p).0 has),
-    λ stated. elim (stated_either format before line (instance p) stated) [
-      | inl old ↦ (h.rows p).1 old
-      | inr now ↦ absurd (never p now)
+  -- what the line doesn't state is stated as before
+  same : (s : Statement) (P : Type 0) → (States format line s → ⊥) → P ↔ IsStated format before s
+      → P ↔ IsStated format (before ++ line ∷ []) s
+  same s P never stands = (
+    λ has. stated_before format before line s (stands.0 has),
+    λ stated. elim (stated_either format before line s stated) [
+      | inl old ↦ stands.1 old
+      | inr now ↦ absurd (never now)
     ],
   )
 
@@ -183,25 +167,14 @@ module _ (format : Format) (before : List (List ℕ)) (line : List ℕ)
       all_pairs_push (DifferInName format) before line (h.differ distinct)
       (λ k d low row other is_row is_other. absurd (never other is_other))
 
-  same_prefixes : ((o : List ℕ) → States format line (object_prefix o) → ⊥) → (o : List ℕ)
-      → (list_any (eq_by_cmp (slice_cmp nat_cmp) o) os ≡ true)
-      ↔ IsStated format (before ++ line ∷ []) (object_prefix o)
-  same_prefixes never o = (
-    λ found. stated_before format before line (object_prefix o) ((h.prefixes o).0 found),
-    λ stated. elim (stated_either format before line (object_prefix o) stated) [
-      | inl old ↦ (h.prefixes o).1 old
-      | inr now ↦ absurd (never o now)
-    ],
-  )
-
   pub holds_nothing : StatesOnly format line nothing
       → HoldsLines format (before ++ line ∷ []) es os
   holds_nothing only = record {
     each = each_more nothing only.0;
-    rows = same_rows no_row;
+    rows = λ p. same (instance p) _ (no_row p) (h.rows p);
     differ = same_differ no_row;
-    prefixes = same_prefixes (λ o states.
-        let same : object_prefix o ≡ nothing = only.1 (object_prefix o) states in cc);
+    prefixes = λ o. same (object_prefix o) _ (λ states.
+        let other : object_prefix o ≡ nothing = only.1 (object_prefix o) states in cc) (h.prefixes o);
   } where
     no_row : (p : VarBind) → States format line (instance p) → ⊥
     no_row p states = let same : instance p ≡ nothing = only.1 (instance p) states in cc
@@ -213,20 +186,14 @@ module _ (format : Format) (before : List (List ℕ)) (line : List ℕ)
       → HoldsLines format (before ++ line ∷ []) es more
   holds_object object more only has = record {
     each = each_more (object_prefix object) only.0;
-    rows = same_rows no_row;
+    rows = λ p. same (instance p) _ (no_row p) (h.rows p);
     differ = same_differ no_row;
     prefixes = λ o. (
-      λ found. elim (slice_cmp nat_cmp o object) as (λ r. slice_cmp nat_cmp o object ≡ r
-          → (is_eq r || list_any (eq_by_cmp (slice_cmp nat_cmp) o) os) ≡ true
+      λ found. elim (eq_by_cmp (slice_cmp nat_cmp) o object) as (λ b. eq_by_cmp (slice_cmp nat_cmp) o object ≡ b
+          → (b || list_any (eq_by_cmp (slice_cmp nat_cmp) o) os) ≡ true
           → IsStated format (before ++ line ∷ []) (object_prefix o)) [
-            | Less ↦ λ _ old.
-                stated_before format before line (object_prefix o) ((h.prefixes o).0 old)
-            | Equal ↦ λ tied _.
-                let P : List ℕ → Type 0 =
-                λ p. IsStated format (before ++ line ∷ []) (object_prefix p) in
-                subst P (sym (same_name o object tied))
-                (stated_now format before line (object_prefix object) only.0)
-            | Greater ↦ λ _ old.
+            | true ↦ λ is _. rw (tied o object true is refl) (stated_now format before line (object_prefix object) only.0)
+            | false ↦ λ _ old.
                 stated_before format before line (object_prefix o) ((h.prefixes o).0 old)
           ] refl (sym (has o) ∙ found),
       λ stated. has o ∙ elim (stated_either format before line (object_prefix o) stated) [
@@ -260,8 +227,8 @@ module _ (format : Format) (before : List (List ℕ)) (line : List ℕ)
         let name : other.name ≡ p.name = cc in
         fresh distinct row (get_or before k d, All-contains_itself before k d low, is_row)
         (same ∙ name));
-    prefixes = same_prefixes (λ o states.
-        let same : object_prefix o ≡ instance p = only.1 (object_prefix o) states in cc);
+    prefixes = λ o. same (object_prefix o) _ (λ states.
+        let other : object_prefix o ≡ instance p = only.1 (object_prefix o) states in cc) (h.prefixes o);
   } where
     earlier : AreDistinct (es ++ entry_of p ∷ []) → AreDistinct es
     earlier distinct = λ o. omega (arith, sum_by_push (has_key o) es (entry_of p), distinct o)
@@ -282,8 +249,7 @@ module _ (format : Format) (before : List (List ℕ)) (line : List ℕ)
       | inl old ↦ stated_before format before line (instance q) ((h.rows q).0 old)
       | inr same ↦
           let row : p ≡ q = λ i. record { name = (same i).0; value = (same i).1 } in
-          subst (λ (x : VarBind). IsStated format (before ++ line ∷ []) (instance x)) row
-          (stated_now format before line (instance p) only.0)
+          rw (← row) (stated_now format before line (instance p) only.0)
     ]
 
     row_contained : (q : VarBind) → IsStated format (before ++ line ∷ []) (instance q)
@@ -293,9 +259,7 @@ module _ (format : Format) (before : List (List ℕ)) (line : List ℕ)
           Contains-append_left es (entry_of p ∷ []) (entry_of q) ((h.rows q).1 old)
       | inr now ↦
           let same : instance q ≡ instance p = only.1 (instance q) now in
-          let row : q ≡ p = cc in
-          subst (λ (x : VarBind). Contains (es ++ entry_of p ∷ []) (entry_of x)) (sym row)
-          (Contains-push es (entry_of p))
+          let row : q ≡ p = cc in rw row (Contains-push es (entry_of p))
     ]
 
   pub double : (p : VarBind) (v : Datum) → States format line (instance p)

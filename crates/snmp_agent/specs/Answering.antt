@@ -134,11 +134,10 @@ HasRow round = AreEnds round → ⊥
 -- the rounds from this one on, where as many more are asked for as the fourth argument says
 abbrev pub AreRoundsFrom : MibView → List VarBind → ℕ → ℕ → List (List VarBind) → Type 0
 AreRoundsFrom view names i zero [] = Unit {0}
-AreRoundsFrom view names i zero (round ∷ more) = ⊥
-AreRoundsFrom view names i (suc left) [] = ⊥
 AreRoundsFrom view names i (suc left) (round ∷ more) =
     AreGiven view i names round × ((AreEnds round × (more ≡ [])) ⊎ ((AreEnds round
     → ⊥) × AreRoundsFrom view names (i + 1) left more))
+AreRoundsFrom view names i _ _ = ⊥
 
 -- the rounds of the names are added
 abbrev pub FillsRounds : MibView → List VarBind → ℕ → Held → Held → Type 0

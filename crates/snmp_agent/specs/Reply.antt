@@ -34,10 +34,7 @@ IsServed kind.GetRequest = Unit {0}
 IsServed kind.GetNextRequest = Unit {0}
 IsServed kind.SetRequest = Unit {0}
 IsServed kind.GetBulkRequest = Unit {0}
-IsServed kind.Response = ⊥
-IsServed kind.InformRequest = ⊥
-IsServed kind.Trap = ⊥
-IsServed kind.Report = ⊥
+IsServed _ = ⊥
 
 -- the octets are the message, which is of version 1, that of SNMPv2c, of the agent's community, and
 -- a request that is served
@@ -66,8 +63,7 @@ abbrev pub AreAnswers : (VarBind → VarBind → Type 0) → List VarBind → Li
 AreAnswers IsAnswer [] [] = Unit {0}
 AreAnswers IsAnswer (asked ∷ more) (given ∷ rest) = IsAnswer asked given
     × AreAnswers IsAnswer more rest
-AreAnswers IsAnswer [] (given ∷ rest) = ⊥
-AreAnswers IsAnswer (asked ∷ more) [] = ⊥
+AreAnswers IsAnswer _ _ = ⊥
 
 -- the error statuses noError, tooBig and notWritable (RFC 3416, section 3)
 abbrev pub no_error : ℤ

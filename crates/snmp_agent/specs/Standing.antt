@@ -1,9 +1,10 @@
 -- Where the names that repeat in a GetBulk stand among the variables of a view. No clause of a
 -- public call is stated by these.
-use Rattle.std.specs.Prelude.{◌≡◌, ℕ, List, [], ◌∷◌, ◌++◌, All}
+use Rattle.std.specs.Prelude.{◌≡◌, ℕ, List, [], ◌∷◌, ◌++◌, All, map}
 use Rattle.snmp_oid.specs.Identifier.{IsWire}
-use Rattle.snmp_wire.specs.Message.{Datum, VarBind, end_of_mib_view}
+use Rattle.snmp_wire.specs.Message.{Datum, VarBind}
 use Rattle.snmp_agent.specs.table.Table.{MibView, IsNext, IsNextAfter}
+use Rattle.snmp_agent.specs.table.Listing.{first_or_end}
 use Rattle.snmp_agent.specs.table.Pages.{AreBehind}
 use Rattle.snmp_agent.specs.table.Places.{var_of}
 use Rattle.snmp_agent.specs.declared.place.Given.{Given}
@@ -20,19 +21,14 @@ pub record Standing : Type 0 where
   pub name : List ℕ
   pub rows : List (List ℕ × Datum)
 
--- what a GetNext of the name gives: the first of these variables, else the name itself with
--- endOfMibView
-abbrev pub first_of : List ℕ → List (List ℕ × Datum) → VarBind
-first_of o [] = record { name = o; value = end_of_mib_view }
-first_of o (e ∷ es) = var_of e
-
--- where that leaves
+-- where a GetNext of the name leaves
 abbrev pub behind_first : List ℕ → List (List ℕ × Datum) → Standing
 behind_first o [] = record { name = o; rows = [] }
 behind_first o (e ∷ es) = record { name = e.0; rows = es }
 
+-- what it gives: the first of these variables, else the name itself with endOfMibView
 abbrev pub next_at : Standing → VarBind
-next_at place = first_of place.name place.rows
+next_at place = first_or_end place.name (map var_of place.rows)
 
 abbrev pub passed : Standing → Standing
 passed place = behind_first place.name place.rows
@@ -47,10 +43,9 @@ pub record Stands (view : MibView) (round : ℕ) (asked : List ℕ) (place : Sta
 -- each name stands at the place that is beside it
 abbrev pub AreStanding : MibView → ℕ → List VarBind → List Standing → Type 0
 AreStanding view round [] [] = Unit {0}
-AreStanding view round [] (place ∷ places) = ⊥
-AreStanding view round (asked ∷ more) [] = ⊥
 AreStanding view round (asked ∷ more) (place ∷ places) = Stands view round asked.name place
     × AreStanding view round more places
+AreStanding view round _ _ = ⊥
 
 -- the names at the places have encodings
 abbrev pub AreWireNames : List Standing → Type 0

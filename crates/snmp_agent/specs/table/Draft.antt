@@ -11,9 +11,8 @@ use Rattle.snmp_agent.specs.declared.table.draft.Draft.{Draft}
 use Rattle.snmp_agent.specs.declared.table.error.TableError.{TableError}
 use Rattle.snmp_agent.specs.declared.table.error.TableError.TheVariants as error
 use Rattle.snmp_agent.specs.table.Format.{Format}
-use Rattle.snmp_agent.specs.table.Form.{IsBadLine, IsBadName, IsBadValue}
 use Rattle.snmp_agent.specs.table.Text.{AreTable, DifferInName, HasPrefix, HasRow, IsGoodLine}
-use Rattle.snmp_agent.specs.table.Stated.{IsDouble, IsFirstFaultIn}
+use Rattle.snmp_agent.specs.table.Stated.{IsFirstFaultIn, IsWrong, number_of}
 use Rattle.snmp_agent.specs.table.Places.{entry_of}
 use Rattle.snmp_agent.specs.table.Pages.{entries_of}
 use Rattle.snmp_agent.specs.declared.table.draft.Halt.{Halt}
@@ -63,12 +62,9 @@ IsDraft format lines draft = (es : List (List ℕ × Datum))
 
 -- what is wrong with the line of this number, which comes after these
 abbrev pub IsFaultBehind : Format → List (List ℕ) → List ℕ → ℕ → TableError → Type 0
-IsFaultBehind format before line number (error.BadLine at) = (at ≡ number) × IsBadLine format line
-IsFaultBehind format before line number (error.BadName at) = (at ≡ number) × IsBadName format line
-IsFaultBehind format before line number (error.BadValue at) = (at ≡ number) × IsBadValue format line
-IsFaultBehind format before line number (error.Double at) =
-    (at ≡ number) × IsDouble format before line
 IsFaultBehind format before line number error.Memory = Unit {0}
+IsFaultBehind format before line number fault =
+    (number_of fault ≡ number) × IsWrong format before line fault
 
 -- why a reading stops: a fault of which P holds; or memory ran out where it is exact, and else the
 -- text is to be read again, as what rows took that are gathered may serve then

@@ -29,17 +29,27 @@ abbrev pub IsDouble : Format → List (List ℕ) → List ℕ → Type 0
 IsDouble format front line = (p : VarBind) × (q : VarBind) × IsRowLine format line p
     × HasRow format front q × (q.name ≡ p.name)
 
+-- what is wrong with a line that comes after these
+abbrev pub IsWrong : Format → (front : List (List ℕ)) → (line : List ℕ) → TableError → Type 0
+IsWrong format front line (error.BadLine number) = IsBadLine format line
+IsWrong format front line (error.BadName number) = IsBadName format line
+IsWrong format front line (error.BadValue number) = IsBadValue format line
+IsWrong format front line (error.Double number) = IsDouble format front line
+IsWrong format front line error.Memory = ⊥
+
+-- the number of the line of a fault
+abbrev pub number_of : TableError → ℕ
+number_of (error.BadLine number) = number
+number_of (error.BadName number) = number
+number_of (error.BadValue number) = number
+number_of (error.Double number) = number
+number_of error.Memory = 0
+
 -- why lines of a format state no table: what is wrong with the first line that isn't good
 abbrev pub IsFirstFaultIn : Format → List (List ℕ) → TableError → Type 0
-IsFirstFaultIn format lines (error.BadLine number) = (front : List (List ℕ)) × (line : List ℕ)
-    × IsBehindGood format lines number front line × IsBadLine format line
-IsFirstFaultIn format lines (error.BadName number) = (front : List (List ℕ)) × (line : List ℕ)
-    × IsBehindGood format lines number front line × IsBadName format line
-IsFirstFaultIn format lines (error.BadValue number) = (front : List (List ℕ)) × (line : List ℕ)
-    × IsBehindGood format lines number front line × IsBadValue format line
-IsFirstFaultIn format lines (error.Double number) = (front : List (List ℕ)) × (line : List ℕ)
-    × IsBehindGood format lines number front line × IsDouble format front line
 IsFirstFaultIn format lines error.Memory = Unit {0}
+IsFirstFaultIn format lines fault = (front : List (List ℕ)) × (line : List ℕ)
+    × IsBehindGood format lines (number_of fault) front line × IsWrong format front line fault
 
 -- ---- by the names of a reader
 

@@ -8,7 +8,7 @@ use Rattle.std.specs.FinMap.{FinMap, get, insert, remove}
 use Rattle.std.specs.FinSet.{FinSet, contains}
 use Rattle.snmp_oid.specs.Identifier.{IsIdentifier, IsWire, Precedes}
 use Rattle.snmp_wire.specs.Message.{Datum, VarBind}
-use Rattle.snmp_wire.specs.Message.Datum.{integer_value, octet_string, null_value, object_id}
+use Rattle.snmp_wire.specs.Message.Datum.{integer_value, octet_string, object_id}
 use Rattle.snmp_wire.specs.Message.Datum.{ip_address, counter32, gauge32, time_ticks}
 use Rattle.snmp_wire.specs.Message.Datum.{opaque_octets}
 use Rattle.snmp_wire.specs.Message.Datum.{counter64, no_such_object, no_such_instance}
@@ -36,7 +36,6 @@ IsTableString octets = (length octets ≤ 65535) × All (λ octet. octet < 256) 
 abbrev pub IsInstanceValue : Datum → Type 0
 IsInstanceValue (integer_value n) = FitsSigned w32 n
 IsInstanceValue (octet_string octets) = IsTableString octets
-IsInstanceValue null_value = ⊥
 IsInstanceValue (object_id o) = IsWire o × IsIdentifier o
 IsInstanceValue (ip_address octets) = (length octets ≡ 4) × All (λ octet. octet < 256) octets
 IsInstanceValue (counter32 n) = n < 2 ^ 32
@@ -44,9 +43,7 @@ IsInstanceValue (gauge32 n) = n < 2 ^ 32
 IsInstanceValue (time_ticks n) = n < 2 ^ 32
 IsInstanceValue (opaque_octets octets) = IsTableString octets
 IsInstanceValue (counter64 n) = n < 2 ^ 64
-IsInstanceValue no_such_object = ⊥
-IsInstanceValue no_such_instance = ⊥
-IsInstanceValue end_of_mib_view = ⊥
+IsInstanceValue _ = ⊥
 
 -- what a reply has for a name: a value that an instance may hold, or an exception in its place
 abbrev pub IsAnswerValue : Datum → Type 0

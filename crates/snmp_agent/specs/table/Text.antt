@@ -10,11 +10,10 @@ use Rattle.hex.specs.Hex.{decode_of}
 use Rattle.snmp_oid.specs.Identifier.{IsWire}
 use Rattle.snmp_oid.specs.Numeric.{decimal_value, IsDotted}
 use Rattle.snmp_wire.specs.Message.{Datum, VarBind}
-use Rattle.snmp_wire.specs.Message.Datum.{integer_value, octet_string, null_value, object_id}
+use Rattle.snmp_wire.specs.Message.Datum.{integer_value, octet_string, object_id}
 use Rattle.snmp_wire.specs.Message.Datum.{ip_address, counter32, gauge32, time_ticks}
 use Rattle.snmp_wire.specs.Message.Datum.{opaque_octets}
-use Rattle.snmp_wire.specs.Message.Datum.{counter64, no_such_object, no_such_instance}
-use Rattle.snmp_wire.specs.Message.Datum.{end_of_mib_view}
+use Rattle.snmp_wire.specs.Message.Datum.{counter64}
 use Rattle.snmp_agent.specs.table.Format.{Format, EndsAtBar, IsNameIn, bar}
 use Rattle.snmp_agent.specs.table.Table.{IsInstanceName, IsTableString}
 
@@ -45,7 +44,6 @@ IsValueText format tag text (integer_value z) = (tag ≡ codes "2") × IsSignedD
     × FitsSigned w32 z
 IsValueText format tag text (octet_string octets) = (((tag ≡ codes "4")
     × (text ≡ octets)) ⊎ ((tag ≡ codes "4x") × (decode_of text ≡ Ok octets))) × IsTableString octets
-IsValueText format tag text null_value = ⊥
 IsValueText format tag text (object_id o) = (tag ≡ codes "6") × IsNameIn format text o × IsWire o
 IsValueText format tag text (ip_address octets) = (tag ≡ codes "64") × IsAddressText text octets
 IsValueText format tag text (counter32 n) = (tag ≡ codes "65") × IsDecimal text n × (n < 2 ^ 32)
@@ -54,9 +52,7 @@ IsValueText format tag text (time_ticks n) = (tag ≡ codes "67") × IsDecimal t
 IsValueText format tag text (opaque_octets octets) = (tag ≡ codes "68x")
     × (decode_of text ≡ Ok octets) × IsTableString octets
 IsValueText format tag text (counter64 n) = (tag ≡ codes "70") × IsDecimal text n × (n < 2 ^ 64)
-IsValueText format tag text no_such_object = ⊥
-IsValueText format tag text no_such_instance = ⊥
-IsValueText format tag text end_of_mib_view = ⊥
+IsValueText format tag text _ = ⊥
 
 -- ---- lines
 

@@ -13,9 +13,6 @@ use Rattle.snmp_agent.proofs.bulk.append_others.Goals.{After-after_rounds-place,
 pub bindings-init : goal.bindings-init
 bindings-init c = record { others = λ rest h. (rest, h, refl, λ over ends. (over, ends), λ over ends. (over, ends)); writable = c.requires }
 
-writable : (asked later : List VarBind) (first : VarBind) → asked ≡ first ∷ later → AreWritable asked → AreWritable (first ∷ later)
-writable asked later first e h = subst (λ (bs : List VarBind). AreWritable bs) e h
-
 pub returns-then-is_full : goal.returns-then-is_full
 returns-then-is_full c =
     let full = c.is_full.ensures.0 c.if-is_full.true in
@@ -29,8 +26,7 @@ returns-then-is_full c =
     )
 
 pub after_rounds-place-requires : goal.after_rounds-place-requires
-after_rounds-place-requires c = subst (λ (o : List ℕ). IsWire o) (sym c.name.ensures)
-    (writable c.bindings.bindings c.next_ref.new.self (c.in-Some.asked) c.in-Some.ensures.some c.bindings.invariant.writable).0.name
+after_rounds-place-requires c = subst IsWire (sym c.name.ensures) (subst AreWritable c.in-Some.ensures.some c.bindings.invariant.writable).0.name
 
 pub append_next-draft-requires : goal.append_next-draft-requires
 append_next-draft-requires c = c.after_rounds-place.ensures.wire
@@ -64,7 +60,7 @@ bindings-preserved c =
                   more.1.1,
                 ),
           );
-      writable = (writable c.bindings.bindings c.next_ref.new.self (c.in-Some.asked) e c.bindings.invariant.writable).1;
+      writable = (subst AreWritable e c.bindings.invariant.writable).1;
     }
 
 pub returns : goal.returns

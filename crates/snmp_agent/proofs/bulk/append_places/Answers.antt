@@ -1,59 +1,61 @@
 use Rattle.std.proofs.Common.{◌≡◌, ◌<◌, ◌≤◌, ◌+◌, List, ◌∷◌, ◌++◌, map, length, take, drop}
 use Rattle.std.proofs.Common.{slice_set, refl, sym, ap, subst, ◌∙◌, arith}
 use Rattle.std.proofs.lemmas.List.{append-nil, take_all, drop_all}
+use Rattle.std.proofs.lemmas.List.Edits.{map_over_more}
 use Rattle.std.proofs.lemmas.List.Elements.{All-drop, All-head}
 use Rattle.snmp_oid.specs.Identifier.{IsWire}
 use Rattle.snmp_agent.specs.Answering.{Held, add, fill, held}
 use Rattle.snmp_agent.specs.Standing.{Standing, AreWireNames, next_at, passed}
 use Rattle.snmp_agent.proofs.Fronts.{fill_full}
-use Rattle.snmp_agent.proofs.Standing.{IsMovedAt, moved_one}
+use Rattle.snmp_agent.proofs.Lists.{still_there}
 use Rattle.snmp_agent.proofs.bulk.append_places.Goals as goal
 use Rattle.snmp_agent.proofs.bulk.append_places.Goals.{After-place-item, After-append_next-draft}
 
 pub places-init : goal.places-init
 places-init c = record { moved = refl; others = refl }
 
-step : (c : After-place-item) → IsMovedAt c.args.places.now c.places.place-index (c.places.place-index + 1) c.place-item.result
-step c =
+here : (c : After-place-item) → drop c.places.place-index c.args.places.now ≡ c.place-item.result ∷ drop (c.places.place-index + 1) c.args.places.now
+here c =
     let low : c.places.place-index < length c.args.places.now = omega (arith, c.places-test.true, c.places.auto.places) in
-    moved_one c.args.places.now c.places.places c.places.place-index c.place-item.result c.places.invariant.moved low c.place-item.is
+    still_there passed c.args.places.now c.places.places c.places.place-index c.place-item.result low c.places.invariant.moved c.place-item.is
 
 pub append_next-draft-requires : goal.append_next-draft-requires
 append_next-draft-requires c =
     let i = c.places.place-index in
     let h : AreWireNames (c.place-item.result ∷ drop (i + 1) c.args.places.now) =
-    subst AreWireNames (step (goal.at.append_next-draft-requires c).After-place-item).here
+    subst AreWireNames (here (goal.at.append_next-draft-requires c).After-place-item)
     (All-drop (λ (place : Standing). IsWire place.name) i c.args.places.now c.requires) in
     subst (λ (x : Standing). IsWire x.name) c.place-item.is
     (All-head (λ (place : Standing). IsWire place.name) c.place-item.result (drop (i + 1) c.args.places.now) h)
 
-others : (c : After-append_next-draft) → IsMovedAt c.args.places.now c.places.place-index (c.places.place-index + 1) c.place-item.result
+others : (c : After-append_next-draft)
+    → drop c.places.place-index c.args.places.now ≡ c.place-item.result ∷ drop (c.places.place-index + 1) c.args.places.now
     → fill (held c.args.draft c.args.out.now) (map next_at c.args.places.now)
     ≡ fill (held c.append_next-draft.result c.append_next-draft.new.out) (map next_at (drop (c.places.place-index + 1) c.args.places.now))
-others c step =
+others c here =
     let rest = map next_at (drop (c.places.place-index + 1) c.args.places.now) in
     let new : held c.append_next-draft.result c.append_next-draft.new.out ≡ add (held c.places.draft c.places.out) (next_at c.place-item.result) =
     c.append_next-draft.ensures.added ∙ ap (λ (x : Standing). add (held c.places.draft c.places.out) (next_at x)) (sym c.place-item.is) in
     c.places.invariant.others
-    ∙ ap (λ (ps : List Standing). fill (held c.places.draft c.places.out) (map next_at ps)) step.here
+    ∙ ap (λ (ps : List Standing). fill (held c.places.draft c.places.out) (map next_at ps)) here
     ∙ ap (λ (h : Held). fill h rest) (sym new)
 
 pub returns-then-is_full-clause-filled : goal.returns-then-is_full-clause-filled
 returns-then-is_full-clause-filled c =
-    sym (others (goal.at.returns-then-is_full-clause-filled c).After-append_next-draft (step (goal.at.returns-then-is_full-clause-filled c).After-place-item)
+    let before = goal.at.returns-then-is_full-clause-filled c in
+    sym (others before.After-append_next-draft (here before.After-place-item)
     ∙ fill_full (held c.append_next-draft.result c.append_next-draft.new.out) (map next_at (drop (c.places.place-index + 1) c.args.places.now))
     (c.is_full.ensures.0 c.if-is_full.true))
 
 pub places-preserved : goal.places-preserved
 places-preserved c =
-    let places = c.args.places.now in
+    let before = goal.at.places-preserved c in
     let i = c.places.place-index in
-    let moved = λ (x : Standing). slice_set (map passed (take i places) ++ drop i places) i x in
+    let low : i < length c.args.places.now = omega (arith, c.places-test.true, c.places.auto.places) in
     record {
-      moved =
-          ap (λ (ps : List Standing). slice_set ps i c.append_next-draft.new.self) c.places.invariant.moved ∙ ap moved c.append_next-draft.ensures.moved
-          ∙ ap (λ (x : Standing). moved (passed x)) (sym c.place-item.is) ∙ (step (goal.at.places-preserved c).After-place-item).moved;
-      others = others (goal.at.places-preserved c).After-append_next-draft (step (goal.at.places-preserved c).After-place-item);
+      moved = ap (slice_set c.places.places i) (c.append_next-draft.ensures.moved ∙ ap passed (sym c.place-item.is))
+          ∙ map_over_more passed c.args.places.now c.places.places i c.place-item.result low c.places.invariant.moved c.place-item.is;
+      others = others before.After-append_next-draft (here before.After-place-item);
     }
 
 pub returns-clause-filled : goal.returns-clause-filled

@@ -1,10 +1,10 @@
 use Rattle.std.proofs.Common.{◌≡◌, refl, ℕ, suc, ◌+◌, ◌-◌, List, [], ◌∷◌, take, drop, sym}
 use Rattle.std.proofs.Common.{ap, ◌∙◌, subst, arith}
+use Rattle.std.proofs.Math.Seq.{drop-nil, take-nil}
 use Rattle.snmp_wire.specs.Message.{VarBind}
 use Rattle.snmp_agent.specs.table.Table.{IsNextAfter}
 use Rattle.snmp_agent.specs.Answering.{AreGiven, AreWritable, Fills, held}
 use Rattle.snmp_agent.proofs.Answers.{all_given}
-use Rattle.snmp_agent.proofs.Rounds.{take-nothing, drop-nothing, take-first, drop-first}
 use Rattle.snmp_agent.proofs.Fronts.{Goes, goes_next, goes_end, goes_full}
 use Rattle.snmp_agent.proofs.bulk.append_singles.Goals as goal
 use Rattle.snmp_agent.proofs.bulk.append_singles.Goals.{At-singles, After-append_next-draft}
@@ -32,7 +32,7 @@ pub returns-in_default-clause-filled : goal.returns-in_default-clause-filled
 returns-in_default-clause-filled c =
     let left = c.args.count - c.singles.counter in
     all (goal.at.returns-in_default-clause-filled c).At-singles left (omega (arith, c.singles-test.true))
-    (take-nothing left c.singles.bindings c.in_default.ensures.none.0)
+    (ap (take left) c.in_default.ensures.none.0 ∙ take-nil left)
 
 pub returns-in_default-clause-left : goal.returns-in_default-clause-left
 returns-in_default-clause-left c = λ some.
@@ -40,14 +40,10 @@ returns-in_default-clause-left c = λ some.
     let e : c.singles.counter + left ≡ c.args.count = omega (arith, c.singles-test.true) in
     let none : c.singles.bindings ≡ [] = c.in_default.ensures.none.0 in
     let now : c.next_ref.new.self ≡ [] = c.in_default.ensures.none.1 in
-    now ∙ sym (drop-nothing left c.singles.bindings none) ∙ c.singles.invariant.left left e
-
-writable : (asked later : List VarBind) (first : VarBind) → asked ≡ first ∷ later → AreWritable asked → AreWritable (first ∷ later)
-writable asked later first e h = subst (λ (bs : List VarBind). AreWritable bs) e h
+    now ∙ sym (ap (drop left) none ∙ drop-nil left) ∙ c.singles.invariant.left left e
 
 pub append_next-draft-requires : goal.append_next-draft-requires
-append_next-draft-requires c =
-    (writable c.singles.bindings c.next_ref.new.self (c.in-Some.asked) c.in-Some.ensures.some c.singles.invariant.writable).0
+append_next-draft-requires c = (subst AreWritable c.in-Some.ensures.some c.singles.invariant.writable).0
 
 next : (c : After-append_next-draft) (left : ℕ) → (c.singles.counter + 1) + left ≡ c.args.count
     → Goes (AreGiven c.args.table.now 0 (take c.args.count c.args.bindings.now)) (AreGiven c.args.table.now 0 (take left c.next_ref.new.self))
@@ -56,7 +52,7 @@ next c left e =
     goes_next (λ asked given. IsNextAfter c.args.table.now 0 asked.name given) (AreGiven c.args.table.now 0 (take c.args.count c.args.bindings.now))
     (take (suc left) c.singles.bindings) (take left c.next_ref.new.self) (c.in-Some.asked) (held c.args.draft c.args.out.now)
     (held c.singles.draft c.singles.out) (held c.append_next-draft.result c.append_next-draft.new.out)
-    (take-first left c.singles.bindings c.next_ref.new.self (c.in-Some.asked) c.in-Some.ensures.some) c.append_next-draft.ensures
+    (ap (take (suc left)) c.in-Some.ensures.some) c.append_next-draft.ensures
     (c.singles.invariant.others (suc left) (omega (arith, e)))
 
 pub returns-then-is_full-clause-filled : goal.returns-then-is_full-clause-filled
@@ -76,8 +72,8 @@ singles-preserved c =
     record {
       others = λ left same. next (goal.at.singles-preserved c).After-append_next-draft left same;
       left = λ left same.
-          sym (drop-first left c.singles.bindings c.next_ref.new.self (c.in-Some.asked) e) ∙ c.singles.invariant.left (suc left) (omega (arith, same));
-      writable = (writable c.singles.bindings c.next_ref.new.self (c.in-Some.asked) e c.singles.invariant.writable).1;
+          sym (ap (drop (suc left)) e) ∙ c.singles.invariant.left (suc left) (omega (arith, same));
+      writable = (subst AreWritable e c.singles.invariant.writable).1;
     }
 
 pub returns-clause-filled : goal.returns-clause-filled
