@@ -115,21 +115,9 @@ all-middle : (ms : List Module) (m : Module) (ns : List Module) → HasNoDoubles
 all-middle [] m ns h = (and_parts (are_distinct (labels m.defs)) (list_all (λ n. are_distinct (labels n.defs)) ns) h).0
 all-middle (x ∷ xs) m ns h = all-middle xs m ns (and_parts (are_distinct (labels x.defs)) (list_all (λ n. are_distinct (labels n.defs)) (xs ++ m ∷ ns)) h).1
 
-head-apart : apart head.stop definition.first ≡ true
-unfolding all
-head-apart = refl
-
-module-first : (ts : List Item) → begins module_text.first ts ≡ begins head.first ts
-unfolding all
-module-first ts = refl
-
 module-apart : apart module_text.stop module_text.first ≡ true
 unfolding all
 module-apart = refl
-
-head-solid : head.empty ≡ false
-unfolding all
-head-solid = refl
 
 module-inv : (ts body : List Item) (h : Head) (m : Module) (rest : List Item) → head.read ts ≡ Some (h, body) → module_text.read ts ≡ Some (m, rest)
     → (after : List Item) × ((many definition).read body ≡ Some (m.defs, after))
@@ -157,12 +145,13 @@ module _ (line : ℕ) (tokens : List Lexeme) (d : DefinesAgain line tokens) wher
   top = record { name = d.name; heading = d.heading; imports = d.imports }
 
   head-read : head.read opened.0 ≡ Some (top, all_tokens d.body)
+  unfolding all
   head-read = head-law.again top opened.0 (all_tokens d.body) opened.2
-      (apart-false head.stop definition.first (all_tokens d.body) head-apart (body-ahead line d.body d.twice))
+      (apart-false head.stop definition.first (all_tokens d.body) refl (body-ahead line d.body d.twice))
 
   module-ahead : begins module_text.first opened.0 ≡ true
-  module-ahead = module-first opened.0
-      ∙ starts-with head-law head-solid top opened.0 (all_tokens d.body) opened.2
+  unfolding all
+  module-ahead = starts-with head-law refl top opened.0 (all_tokens d.body) opened.2
 
   pub file-twice : (ns : List Module) → file.read (all_tokens tokens) ≡ Some (ns, []) → HasNoDoubles ns → ⊥
   unfolding file

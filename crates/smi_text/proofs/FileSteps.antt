@@ -1,14 +1,13 @@
 -- The steps of the loops over definitions and over modules.
 use Rattle.std.proofs.Common.{◌≡◌, ℕ, ◌<◌, Bool, true, false, ◌||◌, List, [], ◌∷◌, ◌++◌, length}
-use Rattle.std.proofs.Common.{Some, None, refl, sym, ◌∙◌, ap, subst, Bor}
-use Rattle.std.specs.Prelude.{codes}
+use Rattle.std.proofs.Common.{Some, None, refl, sym, ◌∙◌, ap, Bor}
 use Rattle.std.specs.List.{flat_map, list_any}
 use Rattle.std.specs.BTreeSet.{BTreeSet}
 use Rattle.smi_text.specs.lexer.Token.{Item, tokens_of}
 use Rattle.smi_text.specs.trees.Mark.{same_text}
 use Rattle.smi_text.specs.Format.{StandsAhead}
 use Rattle.smi_text.specs.Names.{has}
-use Rattle.smi_text.specs.Format.{begins, many, with_front, shaped, pair, before, word, lower}
+use Rattle.smi_text.specs.Format.{begins, many, with_front, shaped, pair, before, lower}
 use Rattle.smi_text.specs.Grammar.{definition, head, module_text, file}
 use Rattle.smi_text.specs.trees.Spelling.{of_def, of_head, of_module, spelling}
 use Rattle.smi_text.specs.Text.{HasNoDoubles, HasSecond}

@@ -2,20 +2,20 @@
 use Rattle.std.proofs.Common.{◌≡◌, ℕ, zero, suc, ◌≤◌, Bool, true, false, List, [], ◌∷◌, length}
 use Rattle.std.proofs.Common.{Some, None, Ok, Err, if◌then◌else◌, refl, sym, ◌∙◌, subst, arith}
 use Rattle.std.proofs.Common.{inl, inr}
-use Rattle.std.proofs.lemmas.Bool.{or_left, or_right}
 use Rattle.std.specs.Prelude.{codes, option_map, option_and_then}
 use Rattle.smi_text.specs.declared.lexer.token.TokenKind.TheVariants as K
 use Rattle.smi_text.specs.lexer.Token.{Item}
 use Rattle.smi_text.specs.trees.Mark.{Mark, sign, spelled}
-use Rattle.smi_text.specs.Format.{StandsAhead, pair, Parsed, a_word, a_kind, meets, begins, behind}
+use Rattle.smi_text.specs.Format.{StandsAhead, pair, Parsed, a_word, a_kind, begins, behind}
 use Rattle.smi_text.specs.Format.{shaped, text, token, word, lower}
 use Rattle.smi_text.specs.Grammar.{index_parts, implied_name, index_names, read_index, with_names}
 use Rattle.smi_text.specs.trees.Spelling as say
 use Rattle.smi_text.proofs.Lawful.{Lawful}
 use Rattle.smi_text.proofs.Marks.{if-inv, StandsAhead-append, StandsAhead-split, begins-none}
-use Rattle.smi_text.proofs.Marks.{begins-append, map-inv, then-inv}
+use Rattle.smi_text.proofs.Marks.{apart-false, map-inv, then-inv}
 use Rattle.smi_text.proofs.Many.{StandsAhead-length}
 use Rattle.smi_text.proofs.Laws.{some-inj, never-stands, token-law, lower-law, starts-with}
+use Rattle.smi_text.proofs.Laws.{begins-left, begins-right}
 use Rattle.smi_text.proofs.PieceLaws.{after-word}
 use Rattle.smi_text.specs.declared.trees.names.Name.{Name}
 use Rattle.smi_text.specs.declared.trees.tree.IndexParts.{IndexParts}
@@ -79,12 +79,13 @@ index-takes (suc n) ts rest x h =
     ]
 
 -- a name in lower case is no IMPLIED
-lower-no-word : (x : Name) (w : List ℕ) (ts rest : List Item) (ms : List Mark) → StandsAhead (spelled K.Lower x.octets true ∷ ms) ts rest
-    → begins (a_word w ∷ []) ts ≡ false
-unfolding begins
-lower-no-word x w [] rest ms h = refl
-lower-no-word x w (Err f ∷ ts) rest ms h = refl
-lower-no-word x w (Ok t ∷ ts) rest ms h = rw (h.0.0) refl
+lower-begins : (x : Name) (ms : List Mark) (ts rest : List Item) → StandsAhead (spelled K.Lower x.octets true ∷ ms) ts rest
+    → (begins (a_kind K.Lower ∷ []) ts ≡ true) × (begins (a_word (codes "IMPLIED") ∷ []) ts ≡ false)
+unfolding lower
+lower-begins x ms ts rest h =
+    let r = StandsAhead-split (spelled K.Lower x.octets true ∷ []) ms ts rest h in
+    let ahead = starts-with lower-law refl x ts r.0 r.1 in
+    (ahead, apart-false (a_word (codes "IMPLIED") ∷ []) (a_kind K.Lower ∷ []) ts refl ahead)
 
 implied-begins : (ts rest : List Item) (x : Name) → StandsAhead (say.of_index_names (x ∷ []) true) ts rest → begins (a_word (codes "IMPLIED") ∷ []) ts ≡ true
 unfolding behind shaped pair word text lower
@@ -96,7 +97,7 @@ unfolding read_index behind shaped pair word text lower token
 index-again [] implied n ts rest k h s = absurd (never-stands ts rest h)
 index-again (x ∷ []) true n ts rest k h s = rw ((implied-begins ts rest x h), (implied_name-law.again x ts rest h (begins-none rest))) refl
 index-again (x ∷ []) false n ts rest k h s =
-    rw (lower-no-word x (codes "IMPLIED") ts rest [] h, lower-law.again x ts rest h (begins-none rest), s) refl
+    rw ((lower-begins x [] ts rest h).1, lower-law.again x ts rest h (begins-none rest), s) refl
 index-again (x ∷ (y ∷ ys)) implied n [] rest k h s = absurd h
 index-again (x ∷ (y ∷ ys)) implied n (Err f ∷ ts) rest k h s = absurd h
 index-again (x ∷ (y ∷ ys)) implied zero (Ok t ∷ ts) rest k h s = absurd (omega arith)
@@ -106,8 +107,7 @@ index-again (x ∷ (y ∷ ys)) implied (suc n) (Ok t ∷ ts) rest k h s =
     let less : length others.0 ≤ n = omega (arith, StandsAhead-length (sign K.Comma ∷ []) ts others.0 others.1) in
     let next = index-again (y ∷ ys) implied n others.0 rest less others.2 s in
     rw (
-      lower-no-word x (codes "IMPLIED") (Ok t ∷ ts) rest (sign K.Comma ∷ say.of_index_names
-          (y ∷ ys) implied) h,
+      (lower-begins x (sign K.Comma ∷ say.of_index_names (y ∷ ys) implied) (Ok t ∷ ts) rest h).1,
       first,
       starts-with (token-law K.Comma) refl tt ts others.0 others.1,
       (token-law K.Comma).again tt ts others.0 others.1 (begins-none others.0),
@@ -115,21 +115,13 @@ index-again (x ∷ (y ∷ ys)) implied (suc n) (Ok t ∷ ts) rest k h s =
       with_names-one,
     ) refl
 
-lower-begins : (x : Name) (ms : List Mark) (ts rest : List Item) → StandsAhead (spelled K.Lower x.octets true ∷ ms) ts rest
-    → begins (a_word (codes "IMPLIED") ∷ a_kind K.Lower ∷ []) ts ≡ true
-unfolding begins
-lower-begins x ms [] rest h = absurd h
-lower-begins x ms (Err f ∷ ts) rest h = absurd h
-lower-begins x ms (Ok t ∷ ts) rest h = or_right (meets t (a_word (codes "IMPLIED"))) _ (rw h.0.0 refl)
-
 index-starts : (xs : List Name) (implied : Bool) (ts rest : List Item) → StandsAhead (say.of_index_names xs implied) ts rest
     → begins (a_word (codes "IMPLIED") ∷ a_kind K.Lower ∷ []) ts ≡ true
 index-starts [] implied ts rest h = absurd (never-stands ts rest h)
-index-starts (x ∷ []) true ts rest h =
-    begins-append (a_word (codes "IMPLIED") ∷ []) (a_kind K.Lower ∷ []) ts
-    ∙ or_left (begins (a_word (codes "IMPLIED") ∷ []) ts) (begins (a_kind K.Lower ∷ []) ts) (implied-begins ts rest x h)
-index-starts (x ∷ []) false ts rest h = lower-begins x [] ts rest h
-index-starts (x ∷ (y ∷ ys)) implied ts rest h = lower-begins x (sign K.Comma ∷ say.of_index_names (y ∷ ys) implied) ts rest h
+index-starts (x ∷ []) true ts rest h = begins-left (a_word (codes "IMPLIED") ∷ []) (a_kind K.Lower ∷ []) ts (implied-begins ts rest x h)
+index-starts (x ∷ []) false ts rest h = begins-right (a_word (codes "IMPLIED") ∷ []) (a_kind K.Lower ∷ []) ts (lower-begins x [] ts rest h).0
+index-starts (x ∷ (y ∷ ys)) implied ts rest h =
+    begins-right (a_word (codes "IMPLIED") ∷ []) (a_kind K.Lower ∷ []) ts (lower-begins x (sign K.Comma ∷ say.of_index_names (y ∷ ys) implied) ts rest h).0
 
 pub index_names-law : Lawful (λ (p : IndexParts). say.of_index_names p.names p.implied) index_names
 unfolding index_names

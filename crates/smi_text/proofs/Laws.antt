@@ -54,10 +54,10 @@ pub starts-with : {A : Type 0} {s : A → List Mark} {f : Format A} → Lawful s
 starts-with law solid x ts rest h =
     elim (law.starts x ts rest h) [ inl b ↦ b | inr p ↦ absurd (let e = p.0 in cc) ]
 
-begins-left : (cs ds : List Ahead) (ts : List Item) → begins cs ts ≡ true → begins (cs ++ ds) ts ≡ true
+pub begins-left : (cs ds : List Ahead) (ts : List Item) → begins cs ts ≡ true → begins (cs ++ ds) ts ≡ true
 begins-left cs ds ts h = begins-append cs ds ts ∙ or_left (begins cs ts) (begins ds ts) h
 
-begins-right : (cs ds : List Ahead) (ts : List Item) → begins ds ts ≡ true → begins (cs ++ ds) ts ≡ true
+pub begins-right : (cs ds : List Ahead) (ts : List Item) → begins ds ts ≡ true → begins (cs ++ ds) ts ≡ true
 begins-right cs ds ts h = begins-append cs ds ts ∙ or_right (begins cs ts) (begins ds ts) h
 
 neither : (cs ds : List Ahead) (ts : List Item) → begins (cs ++ ds) ts ≡ false → (begins cs ts ≡ false) × (begins ds ts ≡ false)

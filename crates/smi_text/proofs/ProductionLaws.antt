@@ -2,7 +2,7 @@
 use Rattle.std.proofs.Common.{◌≡◌, ◌++◌, ℕ, Bool, true, false, ◌&&◌, ◌||◌, not, if◌then◌else◌}
 use Rattle.std.proofs.Common.{List, [], ◌∷◌, Option, Some, None, Ok, Err, refl, sym, ap, subst}
 use Rattle.std.proofs.Common.{inl, inr, ◌⊎◌, ◌∙◌}
-use Rattle.std.proofs.lemmas.Bool.{and_parts, and_from, or_left, or_right}
+use Rattle.std.proofs.lemmas.Bool.{and_parts, or_right}
 use Rattle.std.specs.Prelude.{codes, map}
 use Rattle.std.specs.List.{list_any}
 use Rattle.std.proofs.lemmas.Bool.{or_cases}
@@ -11,7 +11,7 @@ use Rattle.smi_text.specs.lexer.Token.{Lexeme, Item}
 use Rattle.smi_text.specs.trees.Mark.{Mark, sign, spelled, on_line, same_kind, same_text}
 use Rattle.smi_text.specs.trees.Spelling as say
 use Rattle.smi_text.specs.trees.Reserved.{is_reserved, macros}
-use Rattle.smi_text.specs.trees.Number.{is_arc, is_number, is_bound, is_literal, is_symbol}
+use Rattle.smi_text.specs.trees.Number.{is_arc, is_number, is_bound, is_symbol}
 use Rattle.smi_text.specs.trees.Number.{is_macro}
 use Rattle.smi_text.specs.Format.{StandsAhead, a_word, a_name, a_kind, meets, begins}
 use Rattle.smi_text.specs.Grammar as g

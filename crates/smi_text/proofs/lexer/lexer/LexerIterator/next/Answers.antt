@@ -1,9 +1,9 @@
-use Rattle.std.proofs.Common.{◌≡◌, ◌<◌, ℕ, ◌+◌, ◌∙◌, sym, ap, List, [], ◌∷◌, Err, Ok, length}
-use Rattle.std.proofs.Common.{subst, arith, take, drop, eq-eqb}
+use Rattle.std.proofs.Common.{◌≡◌, ◌<◌, ◌+◌, ◌∙◌, sym, ap, List, [], ◌∷◌, Err, Ok, length}
+use Rattle.std.proofs.Common.{subst, arith, take, eq-eqb}
 use Rattle.std.proofs.lemmas.Bool.{eqb-true, false≢true}
-use Rattle.smi_text.specs.lexer.Token.{Item, Lexeme}
+use Rattle.smi_text.specs.lexer.Token.{Item}
 use Rattle.smi_text.specs.lexer.Lexeme.{IsLexeme, lexeme}
-use Rattle.smi_text.specs.lexer.Reading.{items_at, newlines}
+use Rattle.smi_text.specs.lexer.Reading.{items_at}
 use Rattle.smi_text.proofs.ItemsLemmas.{items-empty, items-nothing, next_ends, next_faults}
 use Rattle.smi_text.proofs.ItemsLemmas.{next_gives_token}
 use Rattle.smi_text.proofs.PartLaws.{part_is}
