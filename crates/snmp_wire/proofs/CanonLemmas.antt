@@ -179,24 +179,17 @@ length_rises m n h = ⊎_elim
     (cases_lt m 128)
 
 -- a number below zero, of 64 bits
-pub extended_below : (z y : ℤ) (m : ℕ) → y ≡ z → SFits w32 z → lt_z y (pos 0) ≡ true → m ≡ magnitude_of y
+pub extended_below : (z : ℤ) (m : ℕ) → SFits w32 z → lt_z z (pos 0) ≡ true → m ≡ magnitude_of z
     → octets (length (canon_number z)) (18446744073709551615 - m) ≡ canon_number z
-extended_below z y m same fits below e = below_zero z m fits (ap (λ x. lt_z x (pos 0)) (sym same) ∙ below) (e ∙ ap magnitude_of same)
-  where
-    below_zero : (z : ℤ) (m : ℕ) → SFits w32 z → lt_z z (pos 0) ≡ true → m ≡ magnitude_of z
-        → octets (length (canon_number z)) (18446744073709551615 - m) ≡ canon_number z
-    below_zero (pos n) m fits below e = absurd (grind (arith, nat_tests))
-    below_zero (negsuc n) m fits below e =
-        ap (λ k. octets k (18446744073709551615 - m)) (length-canon_number (negsuc n)) ∙ ap (λ k. octets (number_size n) (18446744073709551615 - k)) e
-        ∙ octets_below_zero n (omega (arith, fits))
+extended_below (pos n) m fits below e = absurd (grind (arith, nat_tests))
+extended_below (negsuc n) m fits below e =
+    ap (λ k. octets k (18446744073709551615 - m)) (length-canon_number (negsuc n)) ∙ ap (λ k. octets (number_size n) (18446744073709551615 - k)) e
+    ∙ octets_below_zero n (omega (arith, fits))
 
 -- a number from zero
-pub extended_above : (z y : ℤ) (m : ℕ) → y ≡ z → lt_z y (pos 0) ≡ false → m ≡ magnitude_of y → octets (length (canon_number z)) m ≡ canon_number z
-extended_above z y m same above e = above_zero z m (ap (λ x. lt_z x (pos 0)) (sym same) ∙ above) (e ∙ ap magnitude_of same)
-  where
-    above_zero : (z : ℤ) (m : ℕ) → lt_z z (pos 0) ≡ false → m ≡ magnitude_of z → octets (length (canon_number z)) m ≡ canon_number z
-    above_zero (pos n) m above e = ap (λ k. octets k m) (length-canon_number (pos n)) ∙ ap (octets (number_size n)) e ∙ octets_from_zero n
-    above_zero (negsuc n) m above e = absurd (cc)
+pub extended_above : (z : ℤ) (m : ℕ) → lt_z z (pos 0) ≡ false → m ≡ magnitude_of z → octets (length (canon_number z)) m ≡ canon_number z
+extended_above (pos n) m above e = ap (λ k. octets k m) (length-canon_number (pos n)) ∙ ap (octets (number_size n)) e ∙ octets_from_zero n
+extended_above (negsuc n) m above e = absurd (cc)
 
 pub length-from_zero : (n : ℕ) → length (canon_number (pos n)) ≡ number_size n
 length-from_zero n = length-canon_number (pos n)

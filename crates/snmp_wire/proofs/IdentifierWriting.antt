@@ -110,10 +110,7 @@ length-numbers_from numbers i number h e =
 -- the content of a name, by the list of its numbers
 pub content_is : (numbers name : List ℕ) (first : ℕ) → IsWire name → numbers ≡ name → first ≡ 40 * get_or numbers 0 0 + get_or numbers 1 0
     → canon_content (object_id name) ≡ canon_subidentifier first ++ flat_map canon_subidentifier (take (length numbers - 2) (drop 2 numbers))
-content_is numbers name first wire same e =
-    content_parts name wire ∙ ap (λ ns. canon_subidentifier (40 * get_or ns 0 0 + get_or ns 1 0)
-    ++ flat_map canon_subidentifier (take (length ns - 2) (drop 2 ns))) (sym same)
-    ∙ ap (λ n. canon_subidentifier n ++ flat_map canon_subidentifier (take (length numbers - 2) (drop 2 numbers))) (sym e)
+content_is numbers name first wire same e = rw (e, same) (content_parts name wire)
 
 pub length-content : (numbers name : List ℕ) → IsWire name → numbers ≡ name
     → length (canon_content (object_id name)) ≡ subidentifier_size (40 * get_or numbers 0 0 + get_or numbers 1 0) + length

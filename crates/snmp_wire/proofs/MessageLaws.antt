@@ -45,23 +45,6 @@ binding_less octets =
 pub fields_shrink : (octets : List ℕ) (x : Fields × List ℕ) → fields_at octets ≡ Ok x → length x.1 < length octets
 fields_shrink octets x e = given x (fields_less octets) e
 
-binding_shrinks : (octets : List ℕ) (x : VarBind × List ℕ) → binding_at octets ≡ Ok x → length x.1 < length octets
-binding_shrinks octets x e = given x (binding_less octets) e
-
-pub binding_from : (octets : List ℕ) (fields : Fields) (after : List ℕ) (binding : VarBind) → fields_at octets ≡ Ok (fields, after)
-    → binding_of fields ≡ Ok binding → binding_at octets ≡ Ok (binding, after)
-unfolding binding_at
-binding_from octets fields after binding e f = rw (e, f) refl
-
-binding_fails_at : (octets : List ℕ) (e : BerError) → fields_at octets ≡ Err e → binding_at octets ≡ Err e
-unfolding binding_at
-binding_fails_at octets e h = rw h refl
-
-binding_fails_in : (octets : List ℕ) (fields : Fields) (after : List ℕ) (e : BerError) → fields_at octets ≡ Ok (fields, after) → binding_of fields ≡ Err e
-    → binding_at octets ≡ Err e
-unfolding binding_at
-binding_fails_in octets fields after e h f = rw (h, f) refl
-
 -- the bindings behind a first one
 abbrev pub with_rest : (List ℕ → Result (List VarBind) BerError) → VarBind × List ℕ → Result (List VarBind) BerError
 with_rest read first = read first.1 >>= λ more. Ok (first.0 ∷ more)
@@ -74,7 +57,7 @@ same_fuel zero m (octet ∷ rest) p q = absurd (omega arith)
 same_fuel (suc n) zero (octet ∷ rest) p q = absurd (omega arith)
 same_fuel (suc n) (suc m) (octet ∷ rest) p q =
     bind_same (binding_at (octet ∷ rest)) (with_rest (bindings_within n)) (with_rest (bindings_within m)) (λ x e.
-    let less : length x.1 < length (octet ∷ rest) = binding_shrinks (octet ∷ rest) x e in
+    let less : length x.1 < length (octet ∷ rest) = given x (binding_less (octet ∷ rest)) e in
     ap (λ (read : Result (List VarBind) BerError). read >>= λ more. Ok (x.0 ∷ more)) (same_fuel n m x.1 (omega arith) (omega arith)))
 
 pub bindings_step : (octets : List ℕ) → 0 < length octets → bindings_of octets ≡ (binding_at octets >>= with_rest bindings_of)
@@ -82,7 +65,7 @@ unfolding bindings_of bindings_within
 bindings_step [] some = absurd (omega arith)
 bindings_step (octet ∷ rest) some =
     bind_same (binding_at (octet ∷ rest)) (with_rest (bindings_within (length rest))) (with_rest bindings_of) (λ x e.
-    let less : length x.1 < length (octet ∷ rest) = binding_shrinks (octet ∷ rest) x e in
+    let less : length x.1 < length (octet ∷ rest) = given x (binding_less (octet ∷ rest)) e in
     ap (λ (read : Result (List VarBind) BerError). read >>= λ more. Ok (x.0 ∷ more)) (same_fuel (length rest) (length x.1) x.1 (omega arith) (omega arith)))
 
 pub bindings_end : (octets : List ℕ) → length octets ≡ 0 → bindings_of octets ≡ Ok []
@@ -93,15 +76,15 @@ bindings_end octets none = ap bindings_of (nil_from_length octets none)
 
 pub check_fails_at : (octets : List ℕ) (e : BerError) (total : Result (Unit {0}) BerError) → 0 < length octets → fields_at octets ≡ Err e
     → checked (bindings_of octets) ≡ total → total ≡ Err e
-check_fails_at octets e total some h so_far = sym so_far ∙ checked_err (bindings_of octets) e
-    (bindings_step octets some ∙ rw (binding_fails_at octets e h) refl)
+unfolding binding_at
+check_fails_at octets e total some h so_far = sym so_far ∙ checked_err (bindings_of octets) e (bindings_step octets some ∙ rw h refl)
 
 pub check_fails_in : (octets : List ℕ) (fields : Fields) (after : List ℕ) (e : BerError) (total : Result (Unit {0}) BerError) → 0 < length octets
     → fields_at octets ≡ Ok (fields, after) → checked (binding_of fields) ≡ Err e
     → checked (bindings_of octets) ≡ total → total ≡ Err e
+unfolding binding_at
 check_fails_in octets fields after e total some h f so_far =
-    let fails = binding_fails_in octets fields after e h (err_checked (binding_of fields) e f) in
-    sym so_far ∙ checked_err (bindings_of octets) e (bindings_step octets some ∙ rw fails refl)
+    sym so_far ∙ checked_err (bindings_of octets) e (bindings_step octets some ∙ rw (h, err_checked (binding_of fields) e f) refl)
 
 forget : (binding : VarBind) (read : Result (List VarBind) BerError) → checked (read >>= λ more. Ok (binding ∷ more)) ≡ checked read
 forget binding (Ok more) = refl
@@ -110,10 +93,12 @@ forget binding (Err e) = refl
 pub check_goes_on : (octets : List ℕ) (fields : Fields) (after : List ℕ) (u : Unit {0}) (total : Result (Unit {0}) BerError) → 0 < length octets
     → fields_at octets ≡ Ok (fields, after) → checked (binding_of fields) ≡ Ok u
     → checked (bindings_of octets) ≡ total → checked (bindings_of after) ≡ total
+unfolding binding_at
 check_goes_on octets fields after u total some h f so_far =
     let b = ok_checked (binding_of fields) u f in
-    let one : bindings_of octets ≡ with_rest bindings_of (b.0, after) = bindings_step octets some ∙ rw (binding_from octets fields after b.0 h b.1) refl in
-    sym (ap checked one ∙ forget b.0 (bindings_of after)) ∙ so_far
+    let one : (binding : VarBind) → binding_of fields ≡ Ok binding → bindings_of octets ≡ with_rest bindings_of (binding, after) =
+    λ binding e. bindings_step octets some ∙ rw (h, e) refl in
+    sym (ap checked (one b.0 b.1) ∙ forget b.0 (bindings_of after)) ∙ so_far
 
 pub check_ends : (octets : List ℕ) (total : Result (Unit {0}) BerError) → length octets ≡ 0 → checked (bindings_of octets) ≡ total → total ≡ Ok tt
 check_ends octets total none so_far = sym so_far ∙ ap checked (bindings_end octets none)
@@ -150,7 +135,7 @@ stands octets fields after ok some h =
       others = is_ok_at (bindings_of after) more.0 others;
       all = λ binding e.
           let one : bindings_of octets ≡ with_rest bindings_of (binding, after) =
-          bindings_step octets some ∙ rw (binding_from octets fields after binding h e) refl in
+          bindings_step octets some ∙ rw (h, e) refl in
           ap (λ (r : Result (List VarBind) BerError). result_unwrap_or r [])
           (one ∙ ap (λ (r : Result (List VarBind) BerError). r >>= λ more. Ok (binding ∷ more)) others)
           ∙ sym (ap (λ (r : Result (List VarBind) BerError). binding ∷ result_unwrap_or r []) others);

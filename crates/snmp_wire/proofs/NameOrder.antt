@@ -150,10 +150,8 @@ digits_rise base (z ∷ front) after behind c d less size small =
 least_of_several : (text : List ℕ) (n : ℕ) → Octets text → IsSubidentifier text n → 1 < length text → 128 ^ (length text - 1) ≤ n
 least_of_several [] n all is several = absurd (omega arith)
 least_of_several (octet ∷ rest) n all is several =
-    let end = subidentifier_ends (octet ∷ rest) [] n is in
-    let nil : (octet ∷ rest) ++ [] ≡ octet ∷ rest = append-nil (octet ∷ rest) in
-    let first : get_or ((octet ∷ rest) ++ []) 0 0 ≡ octet = ap (λ (octets : List ℕ). get_or octets 0 0) nil in
-    let high : 128 ≤ octet = omega (arith, end.goes_on 0 (omega arith) (omega (arith, several)), first) in
+    let end : EndsAt (octet ∷ rest) 0 (length (octet ∷ rest) - 1) = rw append-nil at (subidentifier_ends (octet ∷ rest) [] n is) in
+    let high : 128 ≤ octet = end.goes_on 0 (omega arith) (omega (arith, several)) in
     let digit : 1 ≤ octet % 128 = ⊎_elim (λ zero_digit. absurd (is.minimal (omega (arith, zero_digit, high, all.0)))) (λ some. some) (cases_lt (octet % 128) 1) in
     let power : 1 * 128 ^ length (low_bits rest) ≤ octet % 128 * 128 ^ length (low_bits rest) = mul-le-mul_right (128 ^ length (low_bits rest)) digit in
     let places : length (low_bits rest) ≡ length (octet ∷ rest) - 1 = omega (arith, length-low_bits rest) in
@@ -163,10 +161,8 @@ least_of_several (octet ∷ rest) n all is several =
 octets_beside : (text other : List ℕ) (n m k : ℕ) → IsSubidentifier text n → IsSubidentifier other m → length text ≡ length other → k < length text
     → ((128 ≤ get_or text k 0) × (128 ≤ get_or other k 0)) ⊎ ((get_or text k 0 < 128) × (get_or other k 0 < 128))
 octets_beside text other n m k is are size low =
-    let whole : text ++ [] ≡ text = append-nil text in
-    let end : EndsAt text 0 (length text - 1) = subst (λ (octets : List ℕ). EndsAt octets 0 (length text - 1)) whole (subidentifier_ends text [] n is) in
-    let other_end : EndsAt other 0 (length text - 1) = subst (λ (j : ℕ). EndsAt other 0 (j - 1)) (sym size)
-    (subst (λ (octets : List ℕ). EndsAt octets 0 (length other - 1)) (append-nil other) (subidentifier_ends other [] m are)) in
+    let end : EndsAt text 0 (length text - 1) = rw append-nil at (subidentifier_ends text [] n is) in
+    let other_end : EndsAt other 0 (length text - 1) = rw (append-nil, ← size) at (subidentifier_ends other [] m are) in
     ⊎_elim (λ less. inl (end.goes_on k (omega arith) less, other_end.goes_on k (omega arith) less))
     (λ no_less. let last : length text - 1 ≡ k = omega (arith, no_less, low) in
     inr (subst (λ (j : ℕ). get_or text j 0 < 128) last end.ends, subst (λ (j : ℕ). get_or other j 0 < 128) last other_end.ends))
@@ -385,14 +381,10 @@ ends_first_behind : (text octets others : List ℕ) (at : ℕ) → length text �
     → EndsFirst octets others (at - length text)
 ends_first_behind text octets others at le h end last e f =
     let here : length text + (at - length text) ≡ at = omega (arith, le) in
-    let this : EndsAt (text ++ octets) at (length text + end) = subst (λ (k : ℕ). EndsAt (text ++ octets) k (length text + end)) here
-    (ends_behind text octets (at - length text) end e) in
-    let that : EndsAt (text ++ others) at (length text + last) = subst (λ (k : ℕ). EndsAt (text ++ others) k (length text + last)) here
-    (ends_behind text others (at - length text) last f) in
-    let one : get_or (text ++ octets) at 0 ≡ get_or octets (at - length text) 0 = ap (λ k. get_or (text ++ octets) k 0) (sym here)
-    ∙ get_or-append-add text octets (at - length text) 0 in
-    let two : get_or (text ++ others) at 0 ≡ get_or others (at - length text) 0 = ap (λ k. get_or (text ++ others) k 0) (sym here)
-    ∙ get_or-append-add text others (at - length text) 0 in
+    let this : EndsAt (text ++ octets) at (length text + end) = rw here at (ends_behind text octets (at - length text) end e) in
+    let that : EndsAt (text ++ others) at (length text + last) = rw here at (ends_behind text others (at - length text) last f) in
+    let one : get_or (text ++ octets) at 0 ≡ get_or octets (at - length text) 0 = rw here at (get_or-append-add text octets (at - length text) 0) in
+    let two : get_or (text ++ others) at 0 ≡ get_or others (at - length text) 0 = rw here at (get_or-append-add text others (at - length text) 0) in
     ⊎_elim (λ less. inl (omega (arith, less))) (λ both. inr (omega (arith, both.0), omega (arith, both.1, one, two)))
     (h (length text + end) (length text + last) this that)
 
