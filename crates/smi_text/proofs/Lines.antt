@@ -91,7 +91,8 @@ index (I.Augments x) = refl
 
 raw : (xs : List TokenText) → map zeroed (say.of_balanced xs) ≡ say.of_balanced xs
 raw xs =
-    elim (has_balanced_braces xs) as (λ b. let ms : List Mark = if b then map (λ (x : TokenText). spelled x.kind x.text true) xs else say.nothing in map zeroed ms ≡ ms) [
+    let marks = λ (b : Bool). if b then map (λ (x : TokenText). spelled x.kind x.text true) xs else say.nothing in
+    elim (has_balanced_braces xs) as (λ b. map zeroed (marks b) ≡ marks b) [
       | true ↦ simp map-map
       | false ↦ refl
     ]

@@ -329,7 +329,8 @@ literal_one_line : (is_digit : ℕ → Bool) (upper lower : ℕ) → is_digit 10
     → (s : List ℕ) → IsLiteral is_digit upper lower s → newlines s ≡ 0
 literal_one_line is_digit upper lower fail up low s (digits, letter, is, all, case) =
     let last : is_other 10 letter ≡ true = elim case [ inl e ↦ rw e up | inr e ↦ rw e low ] in
-    rw is (others_one_line (codes "'" ++ digits ++ codes "'" ++ letter ∷ []) (rw (list_all-append, list_all-append, all_other is_digit 10 fail digits all, last) refl))
+    rw is (others_one_line (codes "'" ++ digits ++ codes "'" ++ letter ∷ [])
+    (rw (list_all-append, list_all-append, all_other is_digit 10 fail digits all, last) refl))
 
 -- a line ends only in a string
 pub one_line : (kind : TokenKind) → (kind ≡ K.Text → ⊥) → (s : List ℕ) → IsLexeme kind s → newlines s ≡ 0
@@ -347,7 +348,8 @@ remark_other : (s : List ℕ) → is_remark s ≡ true → list_all (is_other 10
 remark_other [] h = refl
 remark_other (c ∷ cs) h =
     let both = and_parts (not (is_newline c) && not (is_hyphen c && begins is_hyphen cs)) (is_remark cs) h in
-    and_from (is_other 10 c) (list_all (is_other 10) cs) (and_parts (not (is_newline c)) (not (is_hyphen c && begins is_hyphen cs)) both.0).0 (remark_other cs both.1)
+    let here = and_parts (not (is_newline c)) (not (is_hyphen c && begins is_hyphen cs)) both.0 in
+    and_from (is_other 10 c) (list_all (is_other 10) cs) here.0 (remark_other cs both.1)
 
 pub comment_one_line : (s : List ℕ) → IsComment s → newlines s ≡ 0
 comment_one_line s (opening, remark, closing, is, run, remark_is, closes) =

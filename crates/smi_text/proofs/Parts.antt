@@ -143,7 +143,8 @@ pub literal_ends : (text : List ℕ) (i : ℕ) → IsFirstPlace 39 text (Some i)
 literal_ends text i h last kind m is =
     elim (literal_at text i h m) [
       | inl none ↦ none_some (lexeme kind) (sym none ∙ is)
-      | inr p ↦ none_some (lexeme kind) (sym (p.2 ∙ rw (drop_all (i + 1) text (omega arith), take_all {A = ℕ} p.0 [] (omega arith)) (literal_unended (take i text))) ∙ is)
+      | inr p ↦ none_some (lexeme kind)
+          (sym (p.2 ∙ rw (drop_all (i + 1) text (omega arith), take_all {A = ℕ} p.0 [] (omega arith)) (literal_unended (take i text))) ∙ is)
     ]
 
 -- one octet behind it is the letter, and more are no literal

@@ -257,7 +257,8 @@ pub lower_definition-law : Lawful of_lower g.lower_definition
 unfolding all
 lower_definition-law =
     shaped-law g.to_lower of_lower
-    (either-law object_type-law (either-law (behind-law (after-word (codes "OBJECT") (word-law (codes "IDENTIFIER"))) value-law refl) (either-law object_identity-law (either-law module_identity-law
+    (either-law object_type-law (either-law (behind-law (after-word (codes "OBJECT") (word-law (codes "IDENTIFIER"))) value-law refl)
+    (either-law object_identity-law (either-law module_identity-law
     (either-law notification_type-law
     (either-law (group-law (codes "OBJECT-GROUP") (codes "OBJECTS")) (either-law (group-law (codes "NOTIFICATION-GROUP") (codes "NOTIFICATIONS"))
     (either-law (raw_definition-law (codes "MODULE-COMPLIANCE")) (raw_definition-law (codes "AGENT-CAPABILITIES"))
@@ -462,7 +463,8 @@ symbol-ahead t h =
       | inl e ↦ rw e refl
       | inr e ↦
           let both = and_parts (same_kind t.kind K.Upper) (not (is_reserved t.text) || is_macro t.text) e in
-          or_right (same_kind t.kind K.Lower) (meets t a_name || list_any (meets t) g.macro_words) (elim (or_cases (not (is_reserved t.text)) (is_macro t.text) both.1) [
+          or_right (same_kind t.kind K.Lower) (meets t a_name || list_any (meets t) g.macro_words)
+          (elim (or_cases (not (is_reserved t.text)) (is_macro t.text) both.1) [
             | inl p ↦ rw (both.0, p) refl
             | inr p ↦ or_right (meets t a_name) (list_any (meets t) g.macro_words) (macro-ahead t both.0 p)
           ])
