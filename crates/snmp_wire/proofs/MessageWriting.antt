@@ -2,9 +2,6 @@
 use Rattle.std.proofs.Common.{◌≡◌, ℕ, ℤ, ◌+◌, ◌-◌, ◌≤◌, List, ◌++◌, length, sym, ap, ◌∙◌, arith}
 use Rattle.std.proofs.Common.{append_assoc, length-append}
 use Rattle.std.proofs.Math.Nat.{add_assoc}
-use Rattle.std.proofs.lemmas.Int.{to_z-of_z}
-use mir.Syntax.{w32}
-use mir.Val.{SFits, of_z, to_z}
 use Rattle.snmp_wire.specs.Canon.{canon, canon_bindings, canon_fields, canon_front, canon_head}
 use Rattle.snmp_wire.specs.Canon.{canon_opening}
 use Rattle.snmp_wire.specs.ber.Canon.{canon_element, canon_header, canon_length, canon_value}
@@ -60,28 +57,13 @@ sizes_head message total version community id a b list pdu header v c i x y l p 
     ∙ ap (λ n. 1 + length (canon_length (n + total))) front ∙ sym (length-canon_header sequence_tag (length (canon_front message total) + total)) in
     omega (arith, front, whole, length-canon_head message total)
 
--- a number that was handed over
-pub length-handed : (z : ℤ) → SFits w32 z → length (canon_value (integer_value (to_z w32 (of_z w32 z)))) ≡ length (canon_value (integer_value z))
-length-handed z fits = ap (λ y. length (canon_value (integer_value y))) (to_z-of_z w32 z fits)
-
-pub handed : (z : ℤ) (size : ℕ) → SFits w32 z → size ≡ length (canon_value (integer_value (to_z w32 (of_z w32 z))))
-    → size ≡ length (canon_value (integer_value z))
-handed z size fits e = e ∙ length-handed z fits
-
-pub written_number : {old new : List ℕ} {start end : ℕ} (z : ℤ) → SFits w32 z → Writes old start end (canon_value (integer_value (to_z w32 (of_z w32 z)))) new
-    → Writes old start end (canon_value (integer_value z)) new
-written_number z fits w = writes_same w (ap (λ y. canon_value (integer_value y)) (to_z-of_z w32 z fits))
-
 -- what stands behind the tag of the PDU is written
-pub writes_fields : {old o1 o2 o3 o4 : List ℕ} {list b a id end : ℕ} (message : Message) (total : ℕ)
-    → SFits w32 message.b → SFits w32 message.a → SFits w32 message.id → Writes old list end (canon_header sequence_tag total) o1
-    → Writes o1 b list (canon_value (integer_value (to_z w32 (of_z w32 message.b)))) o2
-    → Writes o2 a b (canon_value (integer_value (to_z w32 (of_z w32 message.a)))) o3
-    → Writes o3 id a (canon_value (integer_value (to_z w32 (of_z w32 message.id)))) o4
+pub writes_fields : {old o1 o2 o3 o4 : List ℕ} {list b a id end : ℕ} (message : Message) (total : ℕ) → Writes old list end (canon_header sequence_tag total) o1
+    → Writes o1 b list (canon_value (integer_value message.b)) o2 → Writes o2 a b (canon_value (integer_value message.a)) o3
+    → Writes o3 id a (canon_value (integer_value message.id)) o4
     → Writes old id end (canon_fields message ++ canon_header sequence_tag total) o4
 unfolding canon_fields
-writes_fields message total b a id w1 w2 w3 w4 = writes_same (writes_then (writes_then (writes_then w1
-    (written_number message.b b w2)) (written_number message.a a w3)) (written_number message.id id w4)) (simp append_assoc)
+writes_fields message total w1 w2 w3 w4 = writes_same (writes_then (writes_then (writes_then w1 w2) w3) w4) (simp append_assoc)
 
 -- how many octets they are, with the bindings
 pub pdu_content : {old new : List ℕ} {id end : ℕ} (message : Message) (total : ℕ)
@@ -89,15 +71,15 @@ pub pdu_content : {old new : List ℕ} {id end : ℕ} (message : Message) (total
 pdu_content message total w = omega (arith, w.begins, length-append (canon_fields message) (canon_header sequence_tag total))
 
 -- the front of the message is written
-pub writes_front : {old o1 o2 o3 o4 : List ℕ} {version community pdu id end : ℕ} (message : Message) (total tag : ℕ) → tag ≡ kind_tag message.kind → SFits w32 message.version
+pub writes_front : {old o1 o2 o3 o4 : List ℕ} {version community pdu id end : ℕ} (message : Message) (total tag : ℕ) → tag ≡ kind_tag message.kind
     → Writes old id end (canon_fields message ++ canon_header sequence_tag total) o1 → Writes o1 pdu id (canon_header tag (end - id + total)) o2
     → Writes o2 community pdu (canon_value (octet_string message.community)) o3
-    → Writes o3 version community (canon_value (integer_value (to_z w32 (of_z w32 message.version)))) o4
+    → Writes o3 version community (canon_value (integer_value message.version)) o4
     → Writes old version end (canon_front message total) o4
 unfolding canon_front canon_opening
-writes_front {old} {o1} {o2} {o3} {o4} {version} {community} {pdu} {id} {end} message total tag e fits w1 w2 w3 w4 =
+writes_front {old} {o1} {o2} {o3} {o4} {version} {community} {pdu} {id} {end} message total tag e w1 w2 w3 w4 =
     let size : end - id + total ≡ pdu_size message total = pdu_content message total w1 in
-    writes_same (writes_then (writes_then (writes_then w1 w2) w3) (written_number message.version fits w4)) (rw (e, size) (simp append_assoc))
+    writes_same (writes_then (writes_then (writes_then w1 w2) w3) w4) (rw (e, size) (simp append_assoc))
 
 -- and the message's own header before it
 pub writes_head : {old mid new : List ℕ} {start version end : ℕ} (message : Message) (total : ℕ) → Writes old version end (canon_front message total) mid
@@ -112,19 +94,6 @@ writes_head {old} {mid} {new} {start} {version} {end} message total w v =
 pub list_fits : (message : Message) (total end : ℕ) → length (canon_head message total) ≤ end
     → length (canon_fields message) + length (canon_header sequence_tag total) ≤ end
 list_fits message total end room = omega (arith, room, length-canon_head message total, length-canon_front message total)
-
-pub fields_fit : (message : Message) (total end : ℕ) → SFits w32 message.b → SFits w32 message.a → SFits w32 message.id
-    → length (canon_head message total) ≤ end
-    → length (canon_value (integer_value (to_z w32 (of_z w32 message.id)))) + length (canon_value (integer_value (to_z w32 (of_z w32 message.a))))
-    + length (canon_value (integer_value (to_z w32 (of_z w32 message.b)))) + length (canon_header sequence_tag total) ≤ end
-fields_fit message total end b a id room = omega (
-  arith,
-  length-handed message.b b,
-  length-handed message.a a,
-  length-handed message.id id,
-  list_fits message total end room,
-  length-canon_fields message,
-)
 
 pub pdu_header_fits : {old new : List ℕ} {id end : ℕ} (message : Message) (total tag : ℕ) → tag ≡ kind_tag message.kind
     → Writes old id end (canon_fields message ++ canon_header sequence_tag total) new → length (canon_head message total) ≤ end

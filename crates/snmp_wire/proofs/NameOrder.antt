@@ -247,13 +247,6 @@ three_ways law o p = by_result law o p (slice_cmp nat_cmp o p) refl
     by_result law o p Equal e = inr (inl ((law.equal o p).0 e))
     by_result law o p Greater e = inr (inr ((law.greater o p).0 e))
 
--- one way alone
-never_both : OrderLaw → (o p : List ℕ) → Precedes o p → Precedes p o → ⊥
-never_both law o p h k = let same : Less ≡ Greater = sym ((law.less o p).1 h) ∙ (law.greater o p).1 k in cc
-
-never_itself : OrderLaw → (o : List ℕ) → Precedes o o → ⊥
-never_itself law o h = never_both law o o h h
-
 -- ---- identifiers and their subidentifiers
 
 -- names compare as their subidentifiers do
@@ -316,13 +309,6 @@ none_of_none (n ∷ more) e = absurd (omega (
   size_some n,
 ))
 
-alike_equal : (octets others : List ℕ) (count : ℕ) → octets ≡ others → count ≤ length octets → IsAlike octets others count
-alike_equal octets others count e h = record {
-  short = h;
-  other_short = omega (arith, h, ap length e);
-  same = λ k low. ap (λ (t : List ℕ). get_or t k 0) e;
-}
-
 -- what goes on behind a content has its subidentifiers first
 goes_on : (ns ms content rest : List ℕ) → AreSubidentifiers content ns → AreSubidentifiers (content ++ rest) ms
     → (more : List ℕ) × (ms ≡ ns ++ more) × AreSubidentifiers rest more
@@ -339,7 +325,11 @@ goes_on (n ∷ ns) [] content rest (text, back, parts, is, are) others =
 goes_on (n ∷ ns) (m ∷ ms) content rest (text, back, parts, is, are) (text2, back2, parts2, is2, are2) =
     let same : text ++ (back ++ rest) ≡ text2 ++ back2 = sym (append_assoc text back rest) ∙ ap (λ (t : List ℕ). t ++ rest) (sym parts) ∙ parts2 in
     let first : text ≡ text2 = same_texts text (back ++ rest) text2 back2 n m (length text) is is2
-    (alike_equal (text ++ (back ++ rest)) (text2 ++ back2) (length text) same (omega (arith, length-append text (back ++ rest)))) (omega arith) in
+    (record {
+      short = omega (arith, length-append text (back ++ rest));
+      other_short = omega (arith, length-append text (back ++ rest), ap length same);
+      same = λ k low. ap (λ (t : List ℕ). get_or t k 0) same;
+    }) (omega arith) in
     let number : m ≡ n = same_number text m n (subst (λ (t : List ℕ). IsSubidentifier t m) (sym first) is2) is in
     let tails : back2 ≡ back ++ rest = append_cancel_left text back2 (back ++ rest) (ap (λ (t : List ℕ). t ++ back2) first ∙ sym same) in
     let more = goes_on ns ms back rest are (subst (λ (t : List ℕ). AreSubidentifiers t ms) tails are2) in

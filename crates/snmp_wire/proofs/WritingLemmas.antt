@@ -4,7 +4,6 @@ use Rattle.std.proofs.Common.{length, take, drop, set, refl, sym, ap, subst, ◌
 use Rattle.std.proofs.Math.Nat.{div-div-eq-div-mul, div-one, pow-suc, pow-zero}
 use Rattle.std.proofs.lemmas.List.{append-nil, drop-set, drop_all, drop_at, length-take-le}
 use Rattle.std.proofs.lemmas.List.{take-set, take_all, take_at}
-use Rattle.std.specs.List.{flat_map}
 use Rattle.snmp_wire.specs.ber.Writing.{Writes}
 use Rattle.snmp_wire.specs.ber.WritingLaws.{kept, writes_same}
 
@@ -64,10 +63,6 @@ writes_copy old text start end e h = record {
   before = take_at (take start old) (text ++ drop end old) start (length-take-le start old (omega arith));
   after = drop_at (take start old) (text ++ drop end old) start (length-take-le start old (omega arith));
 }
-
--- of pieces, one for each element of a list, nothing is written where nothing is left
-pub writes_no_piece : {X : Type 0} (f : X → List ℕ) (xs : List X) (out : List ℕ) (end : ℕ) → Writes out end end (flat_map f (drop (length xs) xs)) out
-writes_no_piece f xs out end = writes_same (writes_none out end) (sym (ap (flat_map f) (drop_all (length xs) xs (omega arith))))
 
 -- what is written before the end of a slice is what lies there from its start on
 pub written_to_end : {old new text : List ℕ} {start end : ℕ} → Writes old start end text new → end ≡ length old
