@@ -1,6 +1,6 @@
 -- Comparisons of numbers: a common front changes nothing, and the first pair that differs decides.
 use Rattle.std.proofs.Common.{◌≡◌, ℕ, suc, ◌+◌, ◌<◌, ◌≤◌, List, [], ◌∷◌, ◌++◌, length, take, drop}
-use Rattle.std.proofs.Common.{get_or, refl, sym, ◌∙◌, ap, subst, arith, length-drop}
+use Rattle.std.proofs.Common.{get_or, refl, sym, ◌∙◌, ap, subst, arith, length-drop, lit<}
 use Rattle.std.proofs.lemmas.List.{take-append-drop, take_more}
 use Rattle.std.proofs.Math.Seq.{drop-cons}
 use Rattle.std.specs.Ordering.{nat_cmp, ordering_then}
@@ -60,11 +60,8 @@ pub eight_alike : (o p : List ℕ) → 8 ≤ length o → 8 ≤ length p
     → (get_or o 4 0 ≡ get_or p 4 0) × (get_or o 5 0 ≡ get_or p 5 0) × (get_or o 6 0 ≡ get_or p 6 0) × (get_or o 7 0 ≡ get_or p 7 0)
     → take 8 o ≡ take 8 p
 eight_alike o p h k front back =
-    let one : take 1 o ≡ take 1 p = one_more_alike 0 o p (omega arith) (omega arith) refl front.0 in
-    let two : take 2 o ≡ take 2 p = one_more_alike 1 o p (omega arith) (omega arith) one front.1 in
-    let three : take 3 o ≡ take 3 p = one_more_alike 2 o p (omega arith) (omega arith) two front.2 in
-    let four : take 4 o ≡ take 4 p = one_more_alike 3 o p (omega arith) (omega arith) three front.3 in
-    let five : take 5 o ≡ take 5 p = one_more_alike 4 o p (omega arith) (omega arith) four back.0 in
-    let six : take 6 o ≡ take 6 p = one_more_alike 5 o p (omega arith) (omega arith) five back.1 in
-    let seven : take 7 o ≡ take 7 p = one_more_alike 6 o p (omega arith) (omega arith) six back.2 in
-    one_more_alike 7 o p (omega arith) (omega arith) seven back.3
+    let more : (i : ℕ) → i < 8 → take i o ≡ take i p → get_or o i 0 ≡ get_or p i 0 → take (i + 1) o ≡ take (i + 1) p =
+    λ i low. one_more_alike i o p (omega (arith, low)) (omega (arith, low)) in
+    let four : take 4 o ≡ take 4 p =
+    more 3 (lit< tt) (more 2 (lit< tt) (more 1 (lit< tt) (more 0 (lit< tt) refl front.0) front.1) front.2) front.3 in
+    more 7 (lit< tt) (more 6 (lit< tt) (more 5 (lit< tt) (more 4 (lit< tt) four back.0) back.1) back.2) back.3

@@ -3,6 +3,7 @@ use Rattle.std.proofs.Common.{◌≡◌, ◌≢◌, ℕ, Bool, true, false, not,
 use Rattle.std.proofs.Common.{◌++◌, length, All, Option, Some, None, MatchOption, refl}
 use Rattle.std.proofs.Common.{sym, ◌∙◌, ap, subst, arith}
 use Rattle.std.proofs.lemmas.Bool.{and_parts, ne_eqb}
+use Rattle.std.proofs.lemmas.List.{append-nil}
 use Rattle.std.proofs.lemmas.List.Elements.{All-head, All-tail, All-cons, All-nil, All-weaker}
 use Rattle.std.proofs.lemmas.List.Splits.{slice_split_at, slice_split_none}
 use Rattle.std.proofs.lemmas.List.Splits.{join_with_byte-slice_split, length-slice_split}
@@ -111,17 +112,11 @@ to_dot-cons octet rest other =
     let test : not (octet == dot) ≡ true = ap not (ne_eqb octet dot other) in
     take_while-cons (λ octet. not (octet == dot)) octet rest ∙ ap (λ b. cond b (octet ∷ to_dot rest) []) test
 
-taken_first : (part rest : List ℕ) → HasNoDot part → to_dot (part ++ dot ∷ rest) ≡ part
-taken_first [] rest free = refl
-taken_first (octet ∷ part) rest free =
-    to_dot-cons octet (part ++ dot ∷ rest) (All-head (λ octet. octet ≢ dot) octet part free)
-    ∙ ap (λ (s : List ℕ). octet ∷ s) (taken_first part rest (All-tail (λ octet. octet ≢ dot) octet part free))
-
-taken_last : (part : List ℕ) → HasNoDot part → to_dot part ≡ part
-taken_last [] free = refl
-taken_last (octet ∷ part) free =
-    to_dot-cons octet part (All-head (λ octet. octet ≢ dot) octet part free)
-    ∙ ap (λ (s : List ℕ). octet ∷ s) (taken_last part (All-tail (λ octet. octet ≢ dot) octet part free))
+taken_front : (part after : List ℕ) → HasNoDot part → to_dot after ≡ [] → to_dot (part ++ after) ≡ part
+taken_front [] after free none = none
+taken_front (octet ∷ part) after free none =
+    to_dot-cons octet (part ++ after) (All-head (λ octet. octet ≢ dot) octet part free)
+    ∙ ap (λ (s : List ℕ). octet ∷ s) (taken_front part after (All-tail (λ octet. octet ≢ dot) octet part free) none)
 
 -- the first part of here, and what is behind its dot
 abbrev pub Splits : List ℕ → List ℕ → Option (List ℕ) → Type 0
@@ -132,5 +127,5 @@ parts_of here part None h = ap parts h.1 ∙ parts_of_last part h.0
 parts_of here part (Some rest) h = ap parts h.1 ∙ parts_of_first part rest h.0
 
 pub to_dot_is : (here part : List ℕ) (behind : Option (List ℕ)) → Splits here part behind → take_while (λ octet. not (octet == dot)) here ≡ part
-to_dot_is here part None h = ap to_dot h.1 ∙ taken_last part h.0
-to_dot_is here part (Some rest) h = ap to_dot h.1 ∙ taken_first part rest h.0
+to_dot_is here part None h = ap to_dot (h.1 ∙ sym (append-nil part)) ∙ taken_front part [] h.0 refl
+to_dot_is here part (Some rest) h = ap to_dot h.1 ∙ taken_front part (dot ∷ rest) h.0 refl

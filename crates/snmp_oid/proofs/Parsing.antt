@@ -92,41 +92,36 @@ one_bad_part text at k h g =
     omega (arith, not_below, not_above)
 
 -- nothing is read yet
+begins_at : (text dotted kept : List ℕ) → text ≢ dot ∷ [] → IsBehindDot text dotted → kept ≡ [] → (at : ℕ) → StandsAt text (Some dotted) at
+    → ((k : ℕ) → k < at → BeginsPart text k → ⊥) → IsParsedTo text (Some dotted) kept false
+begins_at text dotted kept more front none at stands before = record {
+  more = more;
+  dotted = dotted;
+  front = front;
+  done = [];
+  numbers = [];
+  are = tt;
+  whole = refl;
+  first = none;
+  short = λ _. omega arith;
+  long = λ e. absurd cc;
+  at = at;
+  stands = stands;
+  before = λ k low part. absurd (before k low part);
+}
+
 pub parse_begins : (text dotted kept : List ℕ) → text ≢ dot ∷ [] → IsBehindDot text dotted → kept ≡ [] → IsParsedTo text (Some dotted) kept false
-parse_begins text dotted kept more (inl front) none = record {
-  more = more;
-  dotted = dotted;
-  front = inl front;
-  done = [];
-  numbers = [];
-  are = tt;
-  whole = refl;
-  first = none;
-  short = λ _. omega arith;
-  long = λ e. (let no : ⊥ = cc in absurd no);
-  at = 0;
-  stands = (sym front.0, omega (arith, ap length front.0), inl (refl, front.1));
-  before = λ k low part. absurd (omega arith);
-}
-parse_begins text dotted kept more (inr front) none = record {
-  more = more;
-  dotted = dotted;
-  front = inr front;
-  done = [];
-  numbers = [];
-  are = tt;
-  whole = refl;
-  first = none;
-  short = λ _. omega arith;
-  long = λ e. (let no : ⊥ = cc in absurd no);
-  at = 1;
-  stands = (ap (drop 1) front, omega (arith, ap length front), inr (omega (arith, ap length front), omega arith, ap (λ (t : List ℕ). get_or t 0 0) front));
-  before = λ k low part. absurd (none_at_first text dotted k front low part);
-}
+parse_begins text dotted kept more (inl front) none = begins_at text dotted kept more (inl front) none 0
+    (sym front.0, omega (arith, ap length front.0), inl (refl, front.1)) (λ k low part. omega arith)
+parse_begins text dotted kept more (inr front) none = begins_at text dotted kept more (inr front) none 1
+    (ap (drop 1) front, omega (arith, ap length front), inr (omega (arith, ap length front), omega arith, first)) none_at_first
   where
-    none_at_first : (text dotted : List ℕ) (k : ℕ) → text ≡ dot ∷ dotted → k < 1 → BeginsPart text k → ⊥
-    none_at_first text dotted k front low (inl part) = part.1 (ap (λ (t : List ℕ). get_or t 0 0) front)
-    none_at_first text dotted k front low (inr part) = omega arith
+    first : get_or text 0 0 ≡ dot
+    first = ap (λ (t : List ℕ). get_or t 0 0) front
+
+    none_at_first : (k : ℕ) → k < 1 → BeginsPart text k → ⊥
+    none_at_first k low (inl part) = part.1 first
+    none_at_first k low (inr part) = omega arith
 
 -- a text begins with its first part
 begins_with : (here part : List ℕ) (behind : Option (List ℕ)) → MatchOption behind (here ≡ part) (λ rest. here ≡ part ++ dot ∷ rest)
