@@ -231,24 +231,17 @@ check_skips (n ∷ ns) rest room plain fits =
     let less : room - length (n ∷ ns) ≡ room - 1 - length ns = omega arith in
     rw less (check_skips ns rest (room - 1) (All-tail is_plain n ns plain) (omega arith) ∙ one)
 
-pub push_fits : (front numbers rest whole : List ℕ) → length front ≤ 128 → All (λ n. n < 128) numbers
-    → with_front front (numbers_of (128 - length front) (numbers ++ rest)) ≡ Ok whole → length front + length numbers ≤ 128
-push_fits front [] rest whole short plain so_far = omega arith
-push_fits front (n ∷ ns) rest whole short plain so_far =
-    let room = push_has_room front (n ∷ (ns ++ rest)) whole (128 - length front) (omega arith) so_far in
-    let more = push_goes_on front (n ∷ (ns ++ rest)) whole n (ns ++ rest) (omega arith) (plain_number n (ns ++ rest) (All-head is_plain n ns plain)) so_far in
-    let all = push_fits (front ++ n ∷ []) ns rest whole (omega (arith, length_push front n)) (All-tail is_plain n ns plain) more in
-    omega (arith, length_push front n)
-
-pub push_skips : (front numbers rest whole : List ℕ) → All (λ n. n < 128) numbers
+-- and there was room for them
+push_skips : (front numbers rest whole : List ℕ) → All (λ n. n < 128) numbers
     → with_front front (numbers_of (128 - length front) (numbers ++ rest)) ≡ Ok whole
-    → with_front (front ++ numbers) (numbers_of (128 - length (front ++ numbers)) rest) ≡ Ok whole
-push_skips front [] rest whole plain so_far = rw (append-nil front) so_far
+    → (length numbers ≤ 128 - length front) × (with_front (front ++ numbers) (numbers_of (128 - length (front ++ numbers)) rest) ≡ Ok whole)
+push_skips front [] rest whole plain so_far = (omega arith, rw (append-nil front) so_far)
 push_skips front (n ∷ ns) rest whole plain so_far =
+    let room = push_has_room front (n ∷ (ns ++ rest)) whole (128 - length front) (omega arith) so_far in
     let more = push_goes_on front (n ∷ (ns ++ rest)) whole n (ns ++ rest) (omega arith) (plain_number n (ns ++ rest) (All-head is_plain n ns plain)) so_far in
     let all = push_skips (front ++ n ∷ []) ns rest whole (All-tail is_plain n ns plain) more in
     let same : (front ++ n ∷ []) ++ ns ≡ front ++ (n ∷ ns) = append_assoc front (n ∷ []) ns in
-    rw same at all
+    (omega (arith, length_push front n, all.0), rw same at all.1)
 
 -- four octets without high bits
 abbrev pub AreLow : List ℕ → ℕ → Type 0
@@ -288,13 +281,12 @@ pub plain_fits : (count : ℕ) (front numbers rest octets whole : List ℕ) → 
     → with_front front (numbers_of (128 - length front) octets) ≡ Ok whole → length front + count ≤ 128
 plain_fits count front numbers rest octets whole some plain so_far =
     let room = push_has_room front octets whole (128 - length front) some so_far in
-    let fits = push_fits front numbers rest whole (omega arith) plain.2 (rw plain.0 at so_far) in
-    omega (arith, fits, plain.1)
+    omega (arith, (push_skips front numbers rest whole plain.2 (rw plain.0 at so_far)).0, plain.1)
 
 pub push_plain : (count : ℕ) (front numbers rest octets whole : List ℕ) → IsPlainFront count numbers rest octets
     → with_front front (numbers_of (128 - length front) octets) ≡ Ok whole
     → with_front (front ++ numbers) (numbers_of (128 - length (front ++ numbers)) rest) ≡ Ok whole
-push_plain count front numbers rest octets whole plain so_far = push_skips front numbers rest whole plain.2 (rw plain.0 at so_far)
+push_plain count front numbers rest octets whole plain so_far = (push_skips front numbers rest whole plain.2 (rw plain.0 at so_far)).1
 
 pub number_ok : (front octets whole : List ℕ) → 0 < length octets → with_front front (numbers_of (128 - length front) octets) ≡ Ok whole
     → IsOk (number_at octets)

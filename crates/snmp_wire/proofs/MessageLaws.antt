@@ -211,11 +211,6 @@ binding_again binding text rest h =
       value_again binding.value h.is_value.content h.is_value.is_content,
     ) refl
 
-element_some : (tag : ℕ) (content element : List ℕ) → IsElement tag content element → 0 < length element
-element_some tag content element h =
-    let one : length element ≡ suc (length (h.length_octets ++ content)) = ap length h.parts in
-    omega arith
-
 pub bindings_again : (bindings : List VarBind) (octets : List ℕ) → SpellsBindings lenient bindings octets
     → bindings_of octets ≡ Ok bindings
 unfolding bindings_of bindings_within
@@ -223,7 +218,8 @@ bindings_again [] octets h = ap bindings_of h
 bindings_again (binding ∷ more) octets h =
     let text = h.0 in
     let rest = h.1 in
-    let some : 0 < length (text ++ rest) = omega (arith, element_some 0x30 (h.3.name ++ h.3.value) text h.3.element, length-append text rest) in
+    let one : length text ≡ suc (length (h.3.element.length_octets ++ (h.3.name ++ h.3.value))) = ap length h.3.element.parts in
+    let some : 0 < length (text ++ rest) = omega (arith, one, length-append text rest) in
     let others = bindings_again more rest h.4 in
     ap bindings_of h.2 ∙ bindings_step (text ++ rest) some ∙ rw (binding_again binding text rest h.3, others) refl
 
@@ -351,21 +347,6 @@ short_behind size n v elements small fits is_v parts =
     ap (λ (tail : List ℕ). fields_at (0x30 ∷ size ∷ 0x06 ∷ n ∷ tail)) whole
     ∙ rw (size_is, name_long, content_long) at read
 
-short_at : (octets : List ℕ) (size n v : ℕ) → 4 ≤ length octets → get_or octets 0 0 ≡ 0x30 → get_or octets 2 0 ≡ 0x06 → size ≡ get_or octets 1 0
-    → n ≡ get_or octets 3 0
-    → size < 128 → size ≤ length (drop 4 octets) + 2 → get_or (drop n (drop 4 octets)) 1 0 ≡ v → n + 4 + v ≡ size
-    → fields_at octets ≡ Ok (
-      record {
-        name = take n (drop 4 octets);
-        tag = get_or (drop n (drop 4 octets)) 0 0;
-        content =
-            take v (drop 2 (drop n (drop 4 octets)));
-      },
-      drop v (drop 2 (drop n (drop 4 octets))),
-    )
-short_at octets size n v long s i z m small fits is_v parts =
-    ap fields_at (four_then octets long) ∙ rw (s, i, ← z, ← m) (short_behind size n v (drop 4 octets) small fits is_v parts)
-
 -- as the code cuts it
 pub record Cuts (octets elements name value behind content rest : List ℕ) (n v : ℕ) : Type 0 where
   pub elements_are : elements ≡ drop 4 octets
@@ -380,5 +361,6 @@ pub short_fields : (octets elements name value behind content rest : List ℕ) (
     → size < 128 → size ≤ length elements + 2 → v ≡ get_or value 1 0 → n + 4 + v ≡ size
     → fields_at octets ≡ Ok (record { name = name; tag = get_or value 0 0; content = content }, rest)
 short_fields octets elements name value behind content rest size n v cuts long s i z m small fits is_v parts =
-    let found = short_at octets size n v long s i z m small (rw cuts.elements_are at fits) (sym (rw (cuts.value_is, cuts.elements_are) at is_v)) parts in
-    rw (cuts.rest_is, cuts.content_is, cuts.behind_is, cuts.name_is, cuts.value_is, cuts.elements_are) found
+    let read = short_behind size n v (drop 4 octets) small (rw cuts.elements_are at fits) (sym (rw (cuts.value_is, cuts.elements_are) at is_v)) parts in
+    rw (cuts.rest_is, cuts.content_is, cuts.behind_is, cuts.name_is, cuts.value_is, cuts.elements_are)
+    (ap fields_at (four_then octets long) ∙ rw (s, i, ← z, ← m) read)
