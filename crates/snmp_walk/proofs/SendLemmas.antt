@@ -103,15 +103,7 @@ pub record Sends (tries : ℕ) (first : Walker) (given : List VarBind) (old : Tr
   pub are_tries : AreTries tries first given first.id requests
   pub ids : next ≡ first.id + length requests
 
-abbrev pub sends_first : (tries : ℕ) (first : Walker) (old : Traffic) → Sends tries first [] old first.id old
-sends_first tries first old = record { requests = []; sent = sym (append-nil old.sent); are_tries = tt; ids = omega arith }
-
 -- and with it
--- the same, by the next id
-abbrev pub sends_at : (tries : ℕ) (first : Walker) (given : List VarBind) (old : Traffic) (next other : ℕ) (now : Traffic) → next ≡ other
-    → Sends tries first given old next now → Sends tries first given old other now
-sends_at tries first given old next other now e h = record { requests = h.requests; sent = h.sent; are_tries = h.are_tries; ids = sym e ∙ h.ids }
-
 abbrev pub sends_more : (agents : Agents) (honest silent failed : Type 0) (tries : ℕ) (first w : Walker) (given rows : List VarBind) (old now later : Traffic)
     → IsWalker w
     → Reaches Rises Named first w given → Sends tries first given old w.id now → Exchanges agents honest tries (canon (request_of w)) now silent failed later

@@ -1,5 +1,5 @@
 -- An honest reply to the waiting request takes a walk a step further, or ends it lawfully.
-use Rattle.std.proofs.Common.{◌≡◌, inl, inr, ℕ, ◌+◌, ◌≤◌, true, false, cond, List, [], ◌∷◌, ◌++◌, ◌≢◌, length, refl, sym, ◌∙◌, ap, subst, arith, append_assoc, append-nil, length-append, pos, ℤ, Some}
+use Rattle.std.proofs.Common.{◌≡◌, inl, inr, ℕ, ◌+◌, ◌≤◌, true, false, cond, List, [], ◌∷◌, ◌++◌, ◌≢◌, length, refl, sym, ◌∙◌, ap, subst, arith, append_assoc, append-nil, length-append, pos, Some}
 use Rattle.std.proofs.lemmas.Bool.{ltb-true, le-ltb, or_from, and_from, and_parts, eqb-true}
 use Rattle.std.proofs.lemmas.Bool.{ltb-false, eq-eqb, cond_both, false≢true}
 use Rattle.std.proofs.lemmas.List.{flat_map_more, length_push, nil_from_length}
@@ -23,22 +23,7 @@ use Rattle.std.specs.Ordering.{int_eq}
 use Rattle.snmp_walk.specs.Taken.{is_over, is_awaited, is_plain, inside_front, rising_front, stops}
 use Rattle.snmp_walk.specs.Taken.{goes_on, closes, reads_next, got, if_present, reads_first}
 use Rattle.snmp_walk.specs.Taken.{reads_last, reads_for, take_of}
-use Rattle.snmp_walk.specs.Standing.{
-  IsChain,
-  IsLarge,
-  IsReplyContent,
-  IsReplyTo,
-  IsOpening,
-  IsGiven,
-  IsAlone,
-  IsPartOfWalk,
-  IsStage,
-  IsReplyTooLarge,
-  opening_gets,
-  IsPaced,
-  Reaches,
-  Advances,
-}
+use Rattle.snmp_walk.specs.Standing.{IsChain, IsLarge, IsReplyContent, IsReplyTo, IsOpening, IsGiven, IsAlone, IsPartOfWalk, IsStage, opening_gets, IsPaced, Reaches, Advances}
 use Rattle.snmp_walk.proofs.CaseLemmas.{goes_by}
 use Rattle.snmp_walk.proofs.TrailLemmas.{last_name-append, trail-append, IsFront, chain_front}
 use Rattle.snmp_walk.proofs.TrailLemmas.{chain_has_values, few_replies}

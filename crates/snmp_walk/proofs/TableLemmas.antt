@@ -2,7 +2,7 @@
 use Rattle.std.proofs.Common.{◌≡◌, inl, inr, ℕ, Bool, true, false, cond, List, [], ◌∷◌, ◌++◌}
 use Rattle.std.proofs.Common.{refl, sym, ◌∙◌, ap, subst, append-nil, append_assoc}
 use Rattle.std.proofs.lemmas.Bool.{and_parts, cond_both, false≢true}
-use Rattle.std.specs.Prelude.{not, ◌&&◌, filter}
+use Rattle.std.specs.Prelude.{not, filter}
 use Rattle.snmp_oid.specs.Identifier.{wire}
 use Rattle.snmp_wire.specs.Message.{VarBind}
 use Rattle.snmp_walk.specs.declared.mode.Mode.{Mode}

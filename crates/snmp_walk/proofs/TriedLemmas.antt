@@ -33,7 +33,7 @@ module _ {W : Type 0} (facts : LinkFacts W) where
     pub ids : to ≡ first.id + length by.requests
     pub short : octets_in (sent_by by.requests) ≤ length by.requests * tries * 1000
 
-  pub moved_first : (link : W) (tries : ℕ) (first : Walker) (given : List VarBind) → HasMoved link tries first given first.id ⊥ link
+  abbrev pub moved_first : (link : W) (tries : ℕ) (first : Walker) (given : List VarBind) → HasMoved link tries first given first.id ⊥ link
   moved_first link tries first given = record {
     by = record { requests = []; are_tries = tt; each_tried = λ t one. absurd one; moved = moves_none facts link };
     ids = omega arith;
@@ -46,7 +46,7 @@ module _ {W : Type 0} (facts : LinkFacts W) where
   requests_as there back h =
       record { requests = h.requests; are_tries = h.are_tries; each_tried = h.each_tried; moved = moves_as facts there back h.moved }
 
-  pub moved_more : {old now new : W} {failed : Type 0} (tries : ℕ) (first w : Walker) (given rows : List VarBind) → IsWalker w
+  abbrev pub moved_more : {old now new : W} {failed : Type 0} (tries : ℕ) (first w : Walker) (given rows : List VarBind) → IsWalker w
       → Reaches Rises Named first w given → HasMoved old tries first given w.id ⊥ now
       → IsMovedByTries facts now (canon (request_of w)) tries failed new → length (canon (request_of w)) ≤ 1000
       → HasMoved old tries first (given ++ rows) (w.id + 1) failed new
