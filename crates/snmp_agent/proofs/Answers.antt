@@ -1,5 +1,5 @@
 -- There is an answer to each name.
-use Rattle.std.proofs.Common.{◌≡◌, ℕ, List, [], ◌∷◌, ◌++◌, refl}
+use Rattle.std.proofs.Common.{◌≡◌, ℕ, List, [], ◌∷◌, ◌++◌, refl, sym, ◌∙◌}
 use Rattle.snmp_wire.specs.declared.kind.Kind.{Kind}
 use Rattle.snmp_wire.specs.declared.kind.Kind.TheVariants as kind
 use Rattle.snmp_wire.specs.Message.{VarBind}
@@ -53,11 +53,11 @@ answers_both R _ b _ y h k = absurd h
 
 -- ---- one answer
 
-pub same_answers : (R : VarBind → VarBind → Type 0) → ((asked p q : VarBind) → R asked p → R asked q → p ≡ q) → (asked given other : List VarBind)
+pub same_answers : (R : VarBind → VarBind → Type 0) → ((asked : VarBind) → HasOne (R asked)) → (asked given other : List VarBind)
     → AreAnswers R asked given → AreAnswers R asked other → given ≡ other
 same_answers R one [] [] [] h k = refl
 same_answers R one (a ∷ more) (p ∷ ps) (q ∷ qs) h k =
-    let first : p ≡ q = one a p q h.0 k.0 in
+    let first : p ≡ q = (one a).2 p h.0 ∙ sym ((one a).2 q k.0) in
     let rest : ps ≡ qs = same_answers R one more ps qs h.1 k.1 in
     λ i. first i ∷ rest i
 same_answers R one [] [] _ h k = absurd k

@@ -324,10 +324,8 @@ unnamed view good o never = by_cases (get view.rows o) refl
 pub put_either : (result : Result Bool AllocError) (old new : FinMap cmp Datum) (objects : List (List ℕ)) (o : List ℕ) (v : Datum)
     → IfOk result (λ _. new ≡ insert old o v) → IfErr result (λ _. new ≡ old) → IsInstanceName o → IsInstanceValue v → IsMibView (view_of old objects)
     → IsMibView (view_of new objects)
-put_either (Ok b) old new objects o v put_it kept name value good =
-    subst (λ (m : FinMap cmp Datum). IsMibView (view_of m objects)) (sym put_it) (put_good (view_of old objects) good o v name value)
-put_either (Err e) old new objects o v put_it kept name value good =
-    subst (λ (m : FinMap cmp Datum). IsMibView (view_of m objects)) (sym kept) good
+put_either (Ok b) old new objects o v put_it kept name value good = rw put_it (put_good (view_of old objects) good o v name value)
+put_either (Err e) old new objects o v put_it kept name value good = rw kept good
 
 -- what holds whatever the error
 pub if_err : {A E : Type 0} (r : Result A E) (P : Type 0) → P → IfErr r (λ _. P)

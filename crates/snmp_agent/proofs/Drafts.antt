@@ -54,3 +54,8 @@ module _ (sizes : MessageSizes) (m : Message) (limit room : ℕ) (is_room : IsRo
 pub none_anyway : {A : Type 0} {P : Type 0} (o : Option A) → P → IfNone o P
 none_anyway None h = h
 none_anyway (Some x) h = tt
+
+-- what follows where there is nothing
+pub if_none : {A : Type 0} {P Q : Type 0} (o : Option A) → IfNone o P → (P → Q) → IfNone o Q
+if_none None h f = f h
+if_none (Some x) h f = tt

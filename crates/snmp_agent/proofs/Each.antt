@@ -3,7 +3,7 @@ use Rattle.std.proofs.Common.{◌≡◌, ℕ, zero, suc, ◌+◌, ◌<◌, ◌�
 use Rattle.std.proofs.Common.{List, [], ◌∷◌, ◌++◌, map, length, take, drop, Option, Some}
 use Rattle.std.proofs.Common.{None, Less, Equal, Greater, Ordering, refl, sym, ap, subst, ◌∙◌}
 use Rattle.std.proofs.Common.{⊎_elim, arith, length-append}
-use Rattle.std.specs.Ordering.{nat_cmp}
+use Rattle.std.specs.Ordering.{is_le, nat_cmp}
 use Rattle.std.specs.Cmp.Lexicographic.{slice_cmp}
 use Rattle.std.specs.FinMap.{get, entries, entries_sorted, get-entries, find, is_sorted}
 use Rattle.std.specs.FinSet.{contains}
@@ -19,7 +19,7 @@ use Rattle.snmp_agent.specs.table.Table.{end_of_view}
 use Rattle.snmp_agent.specs.table.Table.{IsNextAfter}
 use Rattle.snmp_agent.specs.table.Listing.{first_or_end}
 use Rattle.snmp_agent.specs.table.Places.{IsBeforeAll, IsBeforeNone, var_of}
-use Rattle.snmp_agent.proofs.Rising.{before_all, before_more, first_of_both, second_of_both, same_name, turned}
+use Rattle.snmp_agent.proofs.Rising.{before_from, not_behind, same_name, second_of_both, turned}
 use Rattle.snmp_agent.proofs.Following.{IsOrder, is_next}
 
 same_binding : (p q : VarBind) → p.name ≡ q.name → p.value ≡ q.value → p ≡ q
@@ -104,33 +104,20 @@ record Parting (o : List ℕ) (es : List (List ℕ × Datum)) : Type 0 where
   passed : IsBeforeNone o front
   ahead : IsBeforeAll o back
 
-not_less : (r : Ordering) → r ≡ Equal ⊎ r ≡ Greater → r ≡ Less → ⊥
-not_less r (inl e) h = absurd (cc)
-not_less r (inr e) h = absurd (cc)
-
 parting : (o : List ℕ) (es : List (List ℕ × Datum)) → T (is_sorted (slice_cmp nat_cmp) es) → Parting o es
 parting o [] rising = record { front = []; back = []; parts = refl; passed = tt; ahead = tt }
-parting o (e ∷ es) rising = by_order (slice_cmp nat_cmp o e.0) refl (parting o es (second_of_both _ _ rising))
-  where
-    later : (slice_cmp nat_cmp o e.0 ≡ Less → ⊥) → Parting o es → Parting o (e ∷ es)
-    later none rest = record {
-      front = e ∷ rest.front;
-      back = rest.back;
-      parts = ap (λ fs. e ∷ fs) rest.parts;
-      passed = (none, rest.passed);
-      ahead = rest.ahead;
-    }
-
-    by_order : (r : Ordering) → slice_cmp nat_cmp o e.0 ≡ r → Parting o es → Parting o (e ∷ es)
-    by_order Less h rest = record {
-      front = [];
-      back = e ∷ es;
-      parts = refl;
-      passed = tt;
-      ahead = (h, before_more o e.0 es h (before_all e.0 es (first_of_both _ _ rising)));
-    }
-    by_order Equal h rest = later (λ less. not_less (slice_cmp nat_cmp o e.0) (inl h) less) rest
-    by_order Greater h rest = later (λ less. not_less (slice_cmp nat_cmp o e.0) (inr h) less) rest
+parting o (e ∷ es) rising =
+    let rest = parting o es (second_of_both _ _ rising) in
+    elim (is_le (slice_cmp nat_cmp e.0 o)) as (λ b. is_le (slice_cmp nat_cmp e.0 o) ≡ b → Parting o (e ∷ es)) [
+      | true ↦ λ up_to. record {
+        front = e ∷ rest.front;
+        back = rest.back;
+        parts = ap (λ fs. e ∷ fs) rest.parts;
+        passed = (not_behind o e.0 up_to, rest.passed);
+        ahead = rest.ahead;
+      }
+      | false ↦ λ begins. record { front = []; back = e ∷ es; parts = refl; passed = tt; ahead = before_from o e es rising begins }
+    ] refl
 
 module _ (order : IsOrder) where
   next : (view : MibView) (o : List ℕ) → (p : VarBind) × IsNext view o p

@@ -95,7 +95,7 @@ pub no_bindings : canon_bindings [] ≡ []
 unfolding canon_bindings
 no_bindings = refl
 
-pub front_of : (room : ℕ) (h : Held) (all : List VarBind) → length h.octets + h.left ≡ room → HoldsFront room h.octets all (fill h all)
+front_of : (room : ℕ) (h : Held) (all : List VarBind) → length h.octets + h.left ≡ room → HoldsFront room h.octets all (fill h all)
 front_of room h [] is = record {
   added = [];
   more = [];
@@ -135,3 +135,8 @@ front_of room h (p ∷ more) is = ⊎_elim
       full = rest.full;
     }))
     (cases_lt h.left (length (canon_binding p)))
+
+-- of all that was added to nothing, a front is held
+pub all_front : (room : ℕ) (all : List VarBind) (end : Held) → end ≡ fill (record { octets = []; left = room }) all → HoldsFront room [] all end
+all_front room all end same =
+    subst (λ (h : Held). HoldsFront room [] all h) (sym same) (front_of room (record { octets = []; left = room }) all (omega arith))

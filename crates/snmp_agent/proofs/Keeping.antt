@@ -1,5 +1,5 @@
 -- What lines state is what a table may keep.
-use Rattle.std.proofs.Common.{◌≡◌, ◌≢◌, ℕ, true, List, [], sym, ◌∙◌}
+use Rattle.std.proofs.Common.{◌≡◌, ℕ, true, List, sym, ◌∙◌}
 use Rattle.std.specs.Ordering.{nat_cmp}
 use Rattle.std.specs.Cmp.Lexicographic.{slice_cmp, nat_list_cmp_total}
 use Rattle.std.specs.FinMap.{FinMap, entries, entries_sorted, entries-from_sorted, from_sorted}
@@ -18,8 +18,7 @@ use Rattle.snmp_agent.specs.table.Table.{MibView}
 use Rattle.snmp_agent.specs.table.Places.{view_of}
 use Rattle.snmp_agent.specs.table.Format.{Format, IsName, IsNameIn, Means, Names, first_format}
 use Rattle.snmp_agent.specs.table.Format.{names_by, numeric_names, second_format}
-use Rattle.snmp_agent.specs.table.Form.{States, instance}
-use Rattle.snmp_agent.specs.table.Text.{HasPrefix, HasRow, IsPrefixLine, IsValueText}
+use Rattle.snmp_agent.specs.table.Text.{HasPrefix, HasRow, IsValueText}
 use Rattle.snmp_agent.specs.table.Stated.{IsTableIn}
 use Rattle.snmp_agent.specs.table.Draft.{HoldsTable}
 use Rattle.snmp_agent.proofs.Statements.{name_numbers}
@@ -38,21 +37,6 @@ is_identifier (second_format names) text o h = meant names h.1 where
 pub instance_value : (format : Format) (tag text : List ℕ) (v : Datum) → IsValueText format tag text v → IsInstanceValue v
 instance_value format tag text (object_id o) h = (h.2, is_identifier format text o h.1)
 instance_value format tag text _ h = assumption
-
-pub stated_name : (format : Format) (line : List ℕ) (p : VarBind) → States format line (instance p) → IsInstanceName p.name
-stated_name format line p h = h.instance_name
-
-pub stated_value : (format : Format) (line : List ℕ) (p : VarBind) → States format line (instance p) → IsInstanceValue p.value
-stated_value format line p h = instance_value format h.tag h.text p.value h.valued
-
-row_name : (format : Format) (lines : List (List ℕ)) (p : VarBind) → HasRow format lines p → IsInstanceName p.name
-row_name format lines p h = stated_name format h.0 p h.2
-
-row_value : (format : Format) (lines : List (List ℕ)) (p : VarBind) → HasRow format lines p → IsInstanceValue p.value
-row_value format lines p h = stated_value format h.0 p h.2
-
-prefix_name : (format : Format) (lines : List (List ℕ)) (o : List ℕ) → HasPrefix format lines o → (o ≢ []) × IsIdentifier o
-prefix_name format lines o h = let prefix : IsPrefixLine format h.0 o = h.2 in (prefix.3, is_identifier format prefix.0 o prefix.2)
 
 -- an instance has an encoding
 pub name_in_range : (o : List ℕ) → IsInstanceName o → IsInRange (object_id o)
@@ -90,9 +74,9 @@ module _ (format : Format) (lines : List (List ℕ)) (entries : List (List ℕ �
 
   pub is_view : IsMibView (view_from entries objects)
   is_view = record {
-    names = λ p row. row_name format lines p (row_stated p row);
-    values = λ p row. row_value format lines p (row_stated p row);
-    objects = λ o has. prefix_name format lines o (object_stated o has);
+    names = λ p row. (row_stated p row).2.instance_name;
+    values = λ p row. let stated = (row_stated p row).2 in instance_value format stated.tag stated.text p.value stated.valued;
+    objects = λ o has. let stated = (object_stated o has).2 in (stated.3, is_identifier format stated.0 o stated.2);
   }
 
   pub table_of : IsTableIn format lines (view_from entries objects)

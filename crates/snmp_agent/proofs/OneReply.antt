@@ -5,7 +5,6 @@ use Rattle.snmp_wire.specs.declared.kind.Kind.TheVariants as kind
 use Rattle.snmp_wire.specs.Message.{VarBind, Message}
 use Rattle.snmp_wire.specs.Spelling.{Spells}
 use Rattle.snmp_wire.specs.Canon.{canon}
-use Rattle.snmp_agent.specs.table.Exact.{HasOne}
 use Rattle.snmp_agent.specs.table.Table.{MibView, IsGet, IsNext, IsNextAfter}
 use Rattle.snmp_agent.specs.declared.config.Why.{Why}
 use Rattle.snmp_agent.specs.declared.config.Why.TheVariants as why
@@ -18,10 +17,6 @@ use Rattle.snmp_agent.proofs.Rounds.{ends_decided, not_empty}
 
 abbrev OneSpelling : Type 0
 OneSpelling = (m n : Message) (b c rest more : List ℕ) → Spells m b → Spells n c → b ++ rest ≡ c ++ more → (m ≡ n) × (b ≡ c)
-
--- of what has one there are not two
-both : {X : Type 0} (P : X → Type 0) → HasOne P → (x y : X) → P x → P y → x ≡ y
-both P one x y h k = one.2 x h ∙ sym (one.2 y k)
 
 -- ---- fronts
 
@@ -59,9 +54,7 @@ module _ (view : MibView) (names : List VarBind) where
     same_round : (i : ℕ) (a b : List VarBind) → AreAnswers (λ asked given. IsNextAfter view i asked.name given) names a
         → AreAnswers (λ asked given. IsNextAfter view i asked.name given) names b → a ≡ b
     same_round i a b h k =
-        same_answers (λ asked given. IsNextAfter view i asked.name given) (λ asked p q f g. both (IsNextAfter view i asked.name)
-        (nexts view i asked.name) p q f g)
-        names a b h k
+        same_answers (λ asked given. IsNextAfter view i asked.name given) (λ asked. nexts view i asked.name) names a b h k
 
     later : (before repetitions : ℕ) (round : List VarBind) (rounds : List (List VarBind)) → AreLater before (suc repetitions) (round ∷ rounds)
         → (AreEnds round → ⊥) → AreLater (before + 1) repetitions rounds
@@ -121,7 +114,7 @@ module _ (gets : HasGets) (nexts : HasNexts) (later_nexts : HasNextsAfter) (view
   same_bulk a b h k =
       let names : List VarBind = drop (or_zero q.a) q.bindings in
       let singles : h.singles ≡ k.singles =
-      same_answers (λ asked given. IsNext view asked.name given) (λ asked p r f g. both (IsNext view asked.name) (nexts view asked.name) p r f g)
+      same_answers (λ asked given. IsNext view asked.name given) (λ asked. nexts view asked.name)
       (take (or_zero q.a) q.bindings) h.singles k.singles h.are_singles k.are_singles in
       let rounds : h.rounds ≡ k.rounds =
       same_later view names later_nexts 0 (or_zero q.b) h.rounds k.rounds (first_rounds view names later_nexts (or_zero q.b) h.rounds h.are_rounds)
@@ -131,15 +124,13 @@ module _ (gets : HasGets) (nexts : HasNexts) (later_nexts : HasNextsAfter) (view
   same_whole : (r s : Message) → IsWhole view q r → IsWhole view q s → r ≡ s
   same_whole r s (got a is answers e) (got b same others f) =
       e ∙ ap (response q no_error (pos 0))
-      (same_answers (λ asked given. IsGet view asked.name given) (λ asked p t g h. both (IsGet view asked.name) (gets view asked.name) p t g h)
-      q.bindings a b answers others) ∙ sym f
+      (same_answers (λ asked given. IsGet view asked.name given) (λ asked. gets view asked.name) q.bindings a b answers others) ∙ sym f
   same_whole r s (got a is answers e) (got_next b same others f) = absurd (cc)
   same_whole r s (got a is answers e) (unwritten same f) = absurd (cc)
   same_whole r s (got_next a is answers e) (got b same others f) = absurd (cc)
   same_whole r s (got_next a is answers e) (got_next b same others f) =
       e ∙ ap (response q no_error (pos 0))
-      (same_answers (λ asked given. IsNext view asked.name given) (λ asked p t g h. both (IsNext view asked.name) (nexts view asked.name) p t g h)
-      q.bindings a b answers others) ∙ sym f
+      (same_answers (λ asked given. IsNext view asked.name given) (λ asked. nexts view asked.name) q.bindings a b answers others) ∙ sym f
   same_whole r s (got_next a is answers e) (unwritten same f) = absurd (cc)
   same_whole r s (unwritten is e) (got b same others f) = absurd (cc)
   same_whole r s (unwritten is e) (got_next b same others f) = absurd (cc)

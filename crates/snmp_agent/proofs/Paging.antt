@@ -26,10 +26,10 @@ use Rattle.snmp_agent.proofs.Changing.{find_in, halves, past_front, put_in, put_
 use Rattle.snmp_agent.proofs.Changing.{without_past}
 use Rattle.snmp_agent.proofs.Finding.{listed_at}
 use Rattle.snmp_agent.proofs.Lists.{IsLast, all_both, last_in_front, last_of, nothing_left}
-use Rattle.snmp_agent.proofs.Partition.{back, front, not_behind, pages-append, parts, rows-append}
+use Rattle.snmp_agent.proofs.Partition.{back, front, pages-append, parts, rows-append}
 use Rattle.snmp_agent.proofs.Partition.{rows_ahead, rows_passed, set-parts}
 use Rattle.snmp_agent.proofs.Rising.{Listed, after_last, after_none, after_up_to, before_later}
-use Rattle.snmp_agent.proofs.Rising.{find-listed, listed_in_first, listed_in_second, rising_first}
+use Rattle.snmp_agent.proofs.Rising.{find-listed, not_behind, listed_in_first, listed_in_second, rising_first}
 use Rattle.snmp_agent.proofs.Rising.{rising_rest}
 
 abbrev Entries : Type 0

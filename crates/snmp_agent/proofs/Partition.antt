@@ -17,7 +17,7 @@ use Rattle.snmp_agent.specs.table.Pages.{ArePages, IsPageOf, IsPlaceAfter, IsRis
 use Rattle.snmp_agent.specs.table.Pages.{begins_up_to, entries_in, entries_of, is_up_to}
 use Rattle.snmp_agent.proofs.Lists.{all_back, around}
 use Rattle.snmp_agent.proofs.Rising.{after_up_to, before_all, before_from, before_up_to, first_of_both}
-use Rattle.snmp_agent.proofs.Rising.{is_behind, rising_rest, second_of_both, turned}
+use Rattle.snmp_agent.proofs.Rising.{is_behind, not_behind, rising_rest, second_of_both, turned}
 
 -- ---- rows
 
@@ -36,9 +36,6 @@ partitioned o (row ∷ rows) rising zero (suc j) d order low h =
 partitioned o (row ∷ rows) rising (suc i) zero d order low h = absurd (omega (arith, order))
 partitioned o (row ∷ rows) rising (suc i) (suc j) d order low h = partitioned o rows (second_of_both _ _ rising) i j d (omega (arith, order)) (omega
     (arith, low)) h
-
-pub not_behind : (o p : List ℕ) → is_le (slice_cmp nat_cmp p o) ≡ true → slice_cmp nat_cmp o p ≡ Less → ⊥
-not_behind o p h less = let turn : slice_cmp nat_cmp p o ≡ Greater = turned o p Less less in cc
 
 passed_front : (o : List ℕ) (rows : List VarBind) (place : ℕ) → AllWithin (λ row. is_up_to o row ≡ true) rows 0 place
     → IsBeforeNone o (entries_of (take place rows))

@@ -83,19 +83,15 @@ bare pieces q status index = sym (pieces (response q status index []) ∙ append
 pub is_one : {handed z : ℤ} → SFits w32 handed → handed ≡ z → of_z w32 handed ≡ 1 → z ≡ pos 1
 is_one {handed} {z} fits e one = sym e ∙ sym (to_z-of_z w32 handed fits) ∙ ap (to_z w32) one
 
+flip : (a b : Bool) → a ≡ not b → not a ≡ b
+flip a true h = ap not h
+flip a false h = ap not h
+
 pub other_community : {found : List ℕ} {own theirs : List ℕ} → found ≡ theirs → true ≡ not (pointwise nat_eq found own) → theirs ≡ own → ⊥
-other_community {found} {own} {theirs} e differs same = other_text found own (flip (pointwise nat_eq found own) differs) (e ∙ same)
-  where
-    flip : (b : Bool) → true ≡ not b → false ≡ b
-    flip true h = absurd (cc)
-    flip false h = refl
+other_community {found} {own} e differs same = other_text found own (flip true (pointwise nat_eq found own) differs) (e ∙ same)
 
 pub same_community : {found : List ℕ} {own theirs : List ℕ} → found ≡ theirs → false ≡ not (pointwise nat_eq found own) → theirs ≡ own
-same_community {found} {own} {theirs} e agrees = sym e ∙ same_text found own (flip (pointwise nat_eq found own) agrees)
-  where
-    flip : (b : Bool) → false ≡ not b → true ≡ b
-    flip true h = refl
-    flip false h = absurd (cc)
+same_community {found} {own} e agrees = sym e ∙ same_text found own (flip false (pointwise nat_eq found own) agrees)
 
 pub served_kinds : {found theirs : Kind} → found ≡ theirs
     → (found ≡ kind.GetRequest) ⊎ ((found ≡ kind.GetNextRequest) ⊎ ((found ≡ kind.GetBulkRequest) ⊎ (found ≡ kind.SetRequest))) → IsServed theirs
@@ -125,13 +121,6 @@ paired_kind {found} {theirs} e other served = by_cases theirs e served
 
 -- ---- replies
 
--- the answers of a request are those of its kind
-answers_of : (view : MibView) (q : Message) (k : Kind) (bindings given : List VarBind) → k ≡ q.kind → bindings ≡ q.bindings
-    → AreAnswers (IsAnswer view k) bindings given → AreAnswers (IsAnswer view q.kind) q.bindings given
-answers_of view q k bindings given same_kind same_bindings h =
-    subst (λ (bs : List VarBind). AreAnswers (IsAnswer view q.kind) bs given) same_bindings (subst (λ (j : Kind). AreAnswers
-    (IsAnswer view j) bindings given) same_kind h)
-
 -- a finished draft is the Response
 pub finished : MessageSizes → HasPieces
     → (view : MibView) (limit : ℕ) (q : Message) (k : Kind) (bindings given : List VarBind) (m : Message) (total n : ℕ) (out new : List ℕ)
@@ -148,7 +137,7 @@ finished sizes pieces view limit q k bindings given m total n out new served sam
     let text : take n new ≡ canon (response q st ix given) = octets ∙ ap (λ (x : Message). canon_head x total ++ take total out) parts
     ∙ sealed pieces q st ix limit given total out here in
     let fits : length (canon (response q st ix given)) ≤ limit = omega (arith, ap (λ (x : Message). whole_size x total) parts, draft.fits) in
-    (response q st ix given, whole (whole_response view q given served (answers_of view q k bindings given same_kind same_bindings h)) fits, fits, text, long)
+    (response q st ix given, whole (whole_response view q given served (rw (same_kind, same_bindings) at h)) fits, fits, text, long)
 
 -- where the answers pass the limit, the Response is an error
 pub replaced : MessageSizes → (view : MibView) (limit : ℕ) (q : Message) (k : Kind) (bindings given : List VarBind) (m : Message) → IsPaired q.kind → k ≡ q.kind
@@ -160,5 +149,5 @@ replaced sizes view limit q k bindings given m served same_kind same_bindings pa
     let ix = whole_index q.kind q.bindings in
     let size : whole_size m (length (canon_bindings given)) ≡ length (canon (response q st ix given)) = ap (λ (x : Message). whole_size x (length
     (canon_bindings given))) parts ∙ response_size sizes q st ix given in
-    shortened (response q st ix given) (whole_response view q given served (answers_of view q k bindings given same_kind same_bindings h)) (λ fits. absurd
+    shortened (response q st ix given) (whole_response view q given served (rw (same_kind, same_bindings) at h)) (λ fits. absurd
     (omega (arith, size))) refl

@@ -46,6 +46,9 @@ is_behind o p h =
       | Greater ↦ λ is _. turned p o Greater is
     ] refl h
 
+pub not_behind : (o p : List ℕ) → is_le (slice_cmp nat_cmp p o) ≡ true → slice_cmp nat_cmp o p ≡ Less → ⊥
+not_behind o p h less = let turn : slice_cmp nat_cmp p o ≡ Greater = turned o p Less less in cc
+
 pub before_more : (o p : List ℕ) (es : List (List ℕ × Datum)) → slice_cmp nat_cmp o p ≡ Less → IsBeforeAll p es → IsBeforeAll o es
 before_more o p [] less h = tt
 before_more o p (e ∷ es) less h = (nat_list_cmp_total.trans o p e.0 less h.0, before_more o p es less h.1)

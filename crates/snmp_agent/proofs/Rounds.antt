@@ -146,11 +146,7 @@ pub bulk_of : (view : MibView) (q : Message) (count repetitions : ℕ) (bindings
     → bindings ≡ q.bindings → names ≡ drop count bindings → AreGiven view 0 (take count bindings) singles → AreRoundsFrom view names 0 repetitions rounds
     → IsBulk view q (singles ++ joined rounds)
 bulk_of view q count repetitions bindings names singles rounds same_count same_repetitions same_bindings behind first others =
-    let front : take count bindings ≡ take (or_zero q.a) q.bindings = ap (λ k. take k bindings) same_count ∙ ap (take (or_zero q.a)) same_bindings in
-    let back : names ≡ drop (or_zero q.a) q.bindings = behind ∙ ap (λ k. drop k bindings) same_count ∙ ap (drop (or_zero q.a)) same_bindings in
-    is_bulk view q singles rounds (subst (λ (ps : List VarBind). AreGiven view 0 ps singles) front first)
-    (subst (λ (ps : List VarBind). AreRoundsFrom view ps 0 (or_zero q.b) rounds) back (subst (λ
-    (k : ℕ). AreRoundsFrom view names 0 k rounds) same_repetitions others))
+    is_bulk view q singles rounds (rw (same_count, same_bindings) at first) (rw (behind, same_count, same_bindings, same_repetitions) at others)
 
 -- what is left of the names has encodings
 pub writable_drop : (count : ℕ) (names : List VarBind) → AreWritable names → AreWritable (drop count names)

@@ -1,11 +1,11 @@
-use Rattle.std.proofs.Common.{◌≡◌, ◌≤◌, [], length, take, sym, ap, subst, ◌∙◌, arith}
+use Rattle.std.proofs.Common.{◌≡◌, ◌≤◌, [], length, take, sym, ap, ◌∙◌, arith}
 use Rattle.std.proofs.lemmas.List.{length-take-le}
 use Rattle.std.proofs.lemmas.Option.{IfSome_then}
 use Rattle.snmp_wire.specs.Parts.{parts_message}
 use Rattle.snmp_agent.specs.declared.room.Draft.{Draft}
 use Rattle.snmp_agent.specs.Answering.{Held, whole_size, held, fill}
 use Rattle.snmp_agent.proofs.BulkReplies.{bulk_sent, bulk_unsent}
-use Rattle.snmp_agent.proofs.Fronts.{HoldsFront, front_of}
+use Rattle.snmp_agent.proofs.Fronts.{HoldsFront, all_front}
 use Rattle.snmp_agent.proofs.Lengths.{not_none, within}
 use Rattle.snmp_agent.proofs.agent.bulk_reply.Goals as goal
 use Rattle.snmp_agent.proofs.agent.bulk_reply.Goals.{After-append_bulk-draft}
@@ -17,8 +17,7 @@ front c =
       octets = take (sym c.new.ensures.empty i) c.args.out.now;
       left = sym c.new.ensures.room i;
     } in
-    subst (λ (h : Held). HoldsFront c.in-Some.room [] all.0 h) (sym (all.2 ∙ ap (λ (h : Held). fill h all.0) (sym none)))
-    (front_of c.in-Some.room (record { octets = []; left = c.in-Some.room }) all.0 (omega arith))
+    all_front c.in-Some.room all.0 _ (all.2 ∙ ap (λ (h : Held). fill h all.0) (sym none))
 
 pub returns-in-Some-clause-sent : goal.returns-in-Some-clause-sent
 returns-in-Some-clause-sent c =

@@ -1,4 +1,4 @@
-use Rattle.std.proofs.Common.{◌≡◌, ◌+◌, List, ℕ, [], ◌∷◌, length, take, sym, ap, subst, arith}
+use Rattle.std.proofs.Common.{◌≡◌, ◌+◌, List, [], length, take, sym, ap, subst, arith}
 use Rattle.std.proofs.lemmas.List.{length-take-le}
 use Rattle.snmp_wire.specs.Message.{VarBind}
 use Rattle.snmp_wire.specs.Canon.{canon_bindings}
@@ -9,7 +9,7 @@ use Rattle.snmp_agent.specs.Answering.{IsAnswer, AreWritable, Held, fill, held}
 use Rattle.snmp_agent.proofs.Answers.{all_answered}
 use Rattle.snmp_agent.proofs.Lengths.{longer}
 use Rattle.snmp_agent.proofs.Drafts.{kept, past, none_anyway}
-use Rattle.snmp_agent.proofs.Fronts.{Goes, goes_next, goes_end, goes_full, HoldsFront, front_of}
+use Rattle.snmp_agent.proofs.Fronts.{Goes, goes_next, goes_end, goes_full, all_front}
 use Rattle.snmp_agent.proofs.draft.append_answers.Goals as goal
 use Rattle.snmp_agent.proofs.draft.append_answers.Goals.{After-append_answer-draft}
 
@@ -40,12 +40,8 @@ bindings-init c =
       writable = c.requires.writable;
     }
 
-writable : (asked later : List VarBind) (first : VarBind) → asked ≡ first ∷ later → AreWritable asked → AreWritable (first ∷ later)
-writable asked later first e h = subst (λ (bs : List VarBind). AreWritable bs) e h
-
 pub append_answer-draft-requires-clause-writable : goal.append_answer-draft-requires-clause-writable
-append_answer-draft-requires-clause-writable c =
-    (writable c.bindings.bindings c.next_ref.new.self (c.in-Some.asked) c.in-Some.ensures.some c.bindings.invariant.writable).0
+append_answer-draft-requires-clause-writable c = (subst AreWritable c.in-Some.ensures.some c.bindings.invariant.writable).0
 
 next : (c : After-append_answer-draft)
     → Goes (AreAnswers (IsAnswer c.args.table.now c.args.kind) c.args.bindings)
@@ -57,11 +53,6 @@ next c =
     (held c.bindings.draft c.bindings.out) (held c.append_answer-draft.result c.append_answer-draft.new.out) c.in-Some.ensures.some
     c.append_answer-draft.ensures
     c.bindings.invariant.others
-
--- what was added is a front
-front : (room : ℕ) (all : List VarBind) (end : Held) → end ≡ fill (record { octets = []; left = room }) all → HoldsFront room [] all end
-front room all end same =
-    subst (λ (h : Held). HoldsFront room [] all h) (sym same) (front_of room (record { octets = []; left = room }) all (omega arith))
 
 pub returns-then-is_full-clause-too_long : goal.returns-then-is_full-clause-too_long
 returns-then-is_full-clause-too_long c =
@@ -76,7 +67,7 @@ returns-then-is_full-clause-too_long c =
       found.1,
       past c.message_sizes.ensures (parts_message c.args.parts.now) c.args.config.now.max_size room c.in_ok-room.ensures.room
           draft c.append_answer-draft.new.out
-          found.0 (length-take-le _ _ (omega arith)) (front (room + 1) found.0 (held draft c.append_answer-draft.new.out) found.2) full,
+          found.0 (length-take-le _ _ (omega arith)) (all_front (room + 1) found.0 (held draft c.append_answer-draft.new.out) found.2) full,
     )
 
 pub bindings-preserved : goal.bindings-preserved
@@ -84,7 +75,7 @@ bindings-preserved c = record {
   others = next (goal.at.bindings-preserved c).After-append_answer-draft;
   some = λ full. let is = c.is_full.ensures.1 full in let isnt = c.if-is_full.false in absurd (cc);
   long = omega arith;
-  writable = (writable c.bindings.bindings c.next_ref.new.self (c.in-Some.asked) c.in-Some.ensures.some c.bindings.invariant.writable).1;
+  writable = (subst AreWritable c.in-Some.ensures.some c.bindings.invariant.writable).1;
 }
 
 pub returns-clause-written : goal.returns-clause-written
@@ -98,5 +89,5 @@ returns-clause-written c =
       found.0,
       found.1,
       kept c.message_sizes.ensures (parts_message c.args.parts.now) c.args.config.now.max_size room c.in_ok-room.ensures.room draft c.bindings.out
-          found.0 (length-take-le _ _ (omega arith)) (front (room + 1) found.0 (held draft c.bindings.out) found.2) c.bindings.invariant.some,
+          found.0 (length-take-le _ _ (omega arith)) (all_front (room + 1) found.0 (held draft c.bindings.out) found.2) c.bindings.invariant.some,
     )

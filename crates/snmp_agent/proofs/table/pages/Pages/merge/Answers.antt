@@ -1,9 +1,7 @@
-use Rattle.std.proofs.Common.{◌≡◌, ◌++◌, ◌∷◌, [], List, subst, sym, refl, ap, ◌∙◌, arith, length, rules}
+use Rattle.std.proofs.Common.{◌≡◌, ◌++◌, ◌∷◌, [], subst, sym, refl, ap, ◌∙◌, arith, length, rules}
 use Rattle.std.specs.FinMap.{entries}
-use Rattle.std.specs.List.Sorted.{IsPermutation}
 use Rattle.std.specs.Vec.Iter.{into_iter_items}
 use Rattle.std.proofs.lemmas.Result.{IfOk-weaker}
-use Rattle.snmp_agent.specs.declared.table.page.Page.{Page}
 use Rattle.snmp_agent.specs.table.Pages.{IsSorted, entries_in, entries_of}
 use Rattle.snmp_agent.proofs.Gathering.{entries_are, merge_begins, merge_ends, page_moves}
 use Rattle.snmp_agent.proofs.Lists.{nothing_left}
@@ -31,8 +29,7 @@ loop-page-preserved c =
     let page = c.in-Some.page in
     let steps : into_iter_items at.page-iterator ≡ page ∷ into_iter_items c.next.new.self =
     c.in-Some.ensures.steps.0 in
-    let before = subst (λ (pages : List Page). IsPermutation total
-    (entries at.self ++ (entries_of at.rows.items ++ entries_in pages))) steps at.invariant.0 in (
+    let before = rw steps at at.invariant.0 in (
       page_moves total at.self c.merge_page.new.self at.rows.items c.merge_page.new.others.items page
           (into_iter_items c.next.new.self) before (c.in_ok-merge_page.ensures c.if-not-branch.false),
       let was = at.invariant.1 in

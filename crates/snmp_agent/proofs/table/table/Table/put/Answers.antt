@@ -1,5 +1,5 @@
-use Rattle.std.proofs.Common.{List, ℕ, map, sym, subst, ap}
-use Rattle.snmp_wire.specs.Message.{Datum, VarBind, datum}
+use Rattle.std.proofs.Common.{map}
+use Rattle.snmp_wire.specs.Message.{VarBind, datum}
 use Rattle.snmp_agent.specs.table.Table.{IsInstanceName, IsInstanceValue}
 use Rattle.snmp_agent.proofs.Changing.{put_either}
 use Rattle.snmp_agent.proofs.Keeping.{name_in_range, value_in_range}
@@ -14,9 +14,7 @@ new-requires-clause-value c = value_in_range (datum c.args.value) (c.is_instance
 pub invariant_of-self : goal.invariant_of-self
 invariant_of-self c =
     let row : VarBind = c.in-Ok.row in
-    let name : IsInstanceName row.name = subst (λ (p : List ℕ). IsInstanceName p) (ap (λ (q : VarBind). q.name) (sym c.in-Ok.ensures))
-    (c.is_instance_name.ensures.0 c.if-not-is_instance_name.false) in
-    let value : IsInstanceValue row.value = subst (λ (v : Datum). IsInstanceValue v) (ap (λ (q : VarBind). q.value) (sym c.in-Ok.ensures))
-    (c.is_instance_value.ensures.0 c.if-not-is_instance_value.false) in
+    let name : IsInstanceName row.name = rw c.in-Ok.ensures (c.is_instance_name.ensures.0 c.if-not-is_instance_name.false) in
+    let value : IsInstanceValue row.value = rw c.in-Ok.ensures (c.is_instance_value.ensures.0 c.if-not-is_instance_value.false) in
     put_either c.put.result c.self.inside.rows c.put.new.self (map (λ o. o.items) c.self.inside.objects.keys) row.name row.value c.put.ensures.put
     c.put.ensures.unchanged_on_error name value c.self.invariant
