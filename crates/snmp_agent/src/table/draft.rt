@@ -290,7 +290,7 @@ impl Draft {
         self.place_late(alloc)
     }
 
-    /// The same, of which there may be more.
+    /// Puts the rows that are gathered in their places, of which there may be more.
     fn place_late(&mut self, alloc: Global) -> bool
         ensures moved { IsTrue result
             → IsPermutation (draft_entries self.old) (draft_entries self.new) }

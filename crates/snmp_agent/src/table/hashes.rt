@@ -133,7 +133,7 @@ fn hash_of(content: &[u8]) -> u64 {
     mixed(mixed(hash ^ u64::from_be_bytes(*last)))
 }
 
-/// The same of fewer octets than eight.
+/// The hash of a content of fewer octets than eight.
 #[inline(never)]
 fn hash_of_few(content: &[u8]) -> u64 {
     let mut few = [0; 8];

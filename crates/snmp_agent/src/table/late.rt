@@ -85,7 +85,7 @@ pub fn sort_falling(rows: &mut Vec<Late>)
     sort_rows(rows.as_mut_slice());
 }
 
-/// The same.
+/// Sorts the rows of a slice by their names, so that these fall.
 fn sort_rows(rows: &mut [Late])
     ensures { IsPermutation rows.old rows.new }
 {
@@ -223,8 +223,8 @@ fn sort_key(content: &[u8], alike: usize) -> u128 {
     long_key(octets)
 }
 
-/// The same where there may be such a subidentifier. As the longer is the greater, its size comes
-/// first, as an octet of at least 0x80 behind one of 0xff: no shorter one begins with more.
+/// [`sort_key`] where there may be such a subidentifier. As the longer is the greater, its size
+/// comes first, as an octet of at least 0x80 behind one of 0xff: no shorter one begins with more.
 #[inline(never)]
 fn long_key(octets: &[u8]) -> u128 {
     let mut key = [0; KEY_SIZE];

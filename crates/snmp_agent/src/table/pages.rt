@@ -295,8 +295,8 @@ impl Pages {
         Ok(true)
     }
 
-    /// The same, by one pass over all rows, those that were there too. It pays where the rows are
-    /// many, if their names fall.
+    /// [`Pages::put_all`] by one pass over all rows, those that were there too. It pays where the
+    /// rows are many, if their names fall.
     pub fn merge(&mut self, alloc: Global, rows: &mut Vec<Late>) -> Result<bool, AllocError>
         ensures { IfOk result (λ apart. IsTrue apart
             → IsPermutation (entries self.old ++ entries_of rows.old.items) (entries self.new)) }
@@ -311,7 +311,7 @@ impl Pages {
     }
 
     /// Puts the rows of a page, and before each the last of the others that come before it, and
-    /// returns the same.
+    /// returns whether none has the name of another.
     fn merge_page(
         &mut self,
         alloc: Global,
@@ -331,7 +331,8 @@ impl Pages {
         Ok(true)
     }
 
-    /// Puts the last of the rows that come before the name, and returns the same.
+    /// Puts the last of the rows that come before the name, and returns whether none has the name
+    /// of another.
     #[inline(always)]
     fn put_before(
         &mut self,

@@ -16,8 +16,8 @@ pub fn split_once(text: &[u8], separator: u8) -> Option<(&[u8], &[u8])>
     Some((&text[..end], &text[end + 1..]))
 }
 
-/// The same where the separator is mostly the second octet or the third, as the bar behind a tag:
-/// it is looked for there before it is searched for.
+/// [`split_once`] where the separator is mostly the second octet or the third, as the bar behind a
+/// tag: it is looked for there before it is searched for.
 #[inline]
 pub fn split_near(text: &[u8], separator: u8) -> Option<(&[u8], &[u8])>
     ensures { MatchOption result (All (λ octet. octet ≢ separator) text.now)

@@ -71,8 +71,8 @@ impl Table {
         Table::read_with(alloc, text, &NumericNames)
     }
 
-    /// The same, with the names of a text of the second format, which begins with the line
-    /// `#snmptab 2`, read by `names`.
+    /// Reads the table that a text states, as [`Table::read`] does; the names of a text of the
+    /// second format, which begins with the line `#snmptab 2`, are read by `names`.
     pub fn read_with<R: Resolver>(
         alloc: Global,
         text: &[u8],

@@ -10,12 +10,7 @@ written : {X : Type 0} (n : ℕ) (xs ys zs : List X) → IsPermutation zs ys →
     → IsPermutation xs (take n (ys ++ drop (length ys) xs))
 written n xs ys zs moved same size =
     let long : length ys ≡ n = length_permutation zs ys moved ∙ size in
-    let all : length xs ≤ length ys = omega (arith, long, size, ap length same) in
-    let back : ys ++ drop (length ys) xs ≡ ys =
-    ap (λ es. ys ++ es) (drop_all (length ys) xs all) ∙ append-nil ys in
-    let whole : take n (ys ++ drop (length ys) xs) ≡ ys =
-    ap (take n) back ∙ take_all n ys (omega (arith, long)) in
-    subst (λ es. IsPermutation xs es) (sym whole) (subst (λ es. IsPermutation es ys) same moved)
+    rw (drop_all (length ys) xs (omega (arith, long, size, ap length same)), append-nil ys, take_all n ys (omega (arith, long))) (rw same at moved)
 
 pub returns : goal.returns
 returns c =
