@@ -1,16 +1,15 @@
 -- Nodes and their sources, one for each.
-use Rattle.std.proofs.Common.{◌≡◌, ℕ, zero, suc, ◌+◌, Bool, true, false, cond, List, [], ◌∷◌, drop, length, slice_index_or}
-use Rattle.std.proofs.Common.{Option, Some, None, is_some, refl, sym, ap, ◌∙◌, arith}
+use Rattle.std.proofs.Common.{◌≡◌, ℕ, zero, suc, ◌+◌, Bool, true, false, cond, List, [], ◌∷◌, length}
+use Rattle.std.proofs.Common.{Option, Some, None, is_some, refl, ap, arith}
 use Rattle.std.specs.List.{slice_get, position_from, find}
-use Rattle.std.proofs.lemmas.List.{length-drop}
 use Rattle.smi_text.specs.declared.trees.tree.Module.{Module}
 use Rattle.smi_text.specs.declared.trees.tree.Def.{Def}
 use Rattle.smi_names.specs.nodes.Nodes.{Node}
 use Rattle.smi_names.specs.nodes.Gathered.{node_from, node_from_def, def_of_module, nodes_of}
 use Rattle.smi_names.specs.declared.nodes.source.Source.{Source}
 use Rattle.smi_names.specs.declared.nodes.source.Source.TheVariants as S
-use Rattle.smi_tree.specs.Nodes.{has_label, place_anywhere, first_labelled, oids_of}
-use Rattle.smi_tree.specs.Places.{home_from, label_from, definition_from, label_in, AreNexts}
+use Rattle.smi_tree.specs.Nodes.{has_label, is_of, place_anywhere, place_in_module, oids_of}
+use Rattle.smi_tree.specs.Places.{home_from, label_from, definition_from, label_in}
 use Rattle.smi_tree.specs.Places as places
 
 -- a node of a source, by its parts
@@ -36,25 +35,21 @@ length-nodes ms (s ∷ ss) (o ∷ os) e = let h : length ss ≡ length os = omeg
 
 pub oids-nodes : (ms : List Module) (ss : List Source) (os : List (List ℕ)) → length ss ≡ length os → oids_of (nodes_of ms ss os) ≡ os
 oids-nodes ms [] [] e = refl
-oids-nodes ms [] (o ∷ os) e = absurd (omega arith)
-oids-nodes ms (s ∷ ss) [] e = absurd (omega arith)
 oids-nodes ms (s ∷ ss) (o ∷ os) e =
     let h : length ss ≡ length os = omega arith in
     rw (parts ms s o, oids-nodes ms ss os h) refl
+oids-nodes ms _ _ e = absurd (omega arith)
 
 pub node-at : (ms : List Module) (ss : List Source) (os : List (List ℕ)) (k : ℕ) (s : Source) (o : List ℕ) → slice_get ss k ≡ Some s → slice_get os k ≡ Some o
     → slice_get (nodes_of ms ss os) k ≡ Some (node_from ms s o)
-node-at ms [] os k s o e f = cc
-node-at ms (x ∷ ss) [] k s o e f = cc
-node-at ms (x ∷ ss) (y ∷ os) zero s o e f = cc
 node-at ms (x ∷ ss) (y ∷ os) (suc k) s o e f = node-at ms ss os k s o e f
+node-at ms _ _ _ s o e f = cc
 
 pub nodes-get : (ms : List Module) (ss : List Source) (os : List (List ℕ)) (k : ℕ) (node : Node) → slice_get (nodes_of ms ss os) k ≡ Some node
     → (s : Source) × (o : List ℕ) × (slice_get ss k ≡ Some s) × (slice_get os k ≡ Some o) × (node ≡ node_from ms s o)
-nodes-get ms [] os k node e = absurd (cc)
-nodes-get ms (s ∷ ss) [] k node e = absurd (cc)
 nodes-get ms (s ∷ ss) (o ∷ os) zero node e = (s, o, refl, refl, cc)
 nodes-get ms (s ∷ ss) (o ∷ os) (suc k) node e = nodes-get ms ss os k node e
+nodes-get ms _ _ k node e = absurd (cc)
 
 -- a test of nodes that is one of sources
 position-nodes : (ms : List Module) (t : Node → Bool) (u : Source → Bool) (b : ℕ) (ss : List Source) (os : List (List ℕ)) → length ss ≡ length os
@@ -69,6 +64,10 @@ pub anywhere-sources : (ms : List Module) (ss : List Source) (os : List (List �
     → place_anywhere (nodes_of ms ss os) x ≡ position_from (places.has_label ms x) 0 ss
 anywhere-sources ms ss os x l = position-nodes ms (has_label x) (places.has_label ms x) 0 ss os l (λ s o. rw (parts ms s o) refl)
 
+pub in_module-sources : (ms : List Module) (ss : List Source) (os : List (List ℕ)) (home x : List ℕ) → length ss ≡ length os
+    → place_in_module (nodes_of ms ss os) home x ≡ position_from (places.is_of ms home x) 0 ss
+in_module-sources ms ss os home x l = position-nodes ms (is_of home x) (places.is_of ms home x) 0 ss os l (λ s o. rw (parts ms s o) refl)
+
 pub is_some-find : {A : Type 0} (t : A → Bool) (b : ℕ) (xs : List A) → is_some (position_from t b xs) ≡ is_some (find t xs)
 is_some-find t b [] = refl
 is_some-find t b (x ∷ xs) = by (t x) (is_some-find t (b + 1) xs)
@@ -77,21 +76,3 @@ is_some-find t b (x ∷ xs) = by (t x) (is_some-find t (b + 1) xs)
         → is_some (cond v (Some b) (position_from t (b + 1) xs)) ≡ is_some (cond v (Some x) (find t xs))
     by true e = refl
     by false e = e
-
-nodes-drop : (ms : List Module) (k : ℕ) (ss : List Source) (os : List (List ℕ)) → length ss ≡ length os
-    → drop k (nodes_of ms ss os) ≡ nodes_of ms (drop k ss) (drop k os)
-nodes-drop ms zero ss os e = refl
-nodes-drop ms (suc k) [] os e = refl
-nodes-drop ms (suc k) (s ∷ ss) [] e = absurd (omega arith)
-nodes-drop ms (suc k) (s ∷ ss) (o ∷ os) e = nodes-drop ms k ss os (omega arith)
-
--- the next node of the label of a node is that of the next source
-pub next-nodes : (ms : List Module) (ss : List Source) (os : List (List ℕ)) (next : List (Option ℕ)) → length ss ≡ length os → AreNexts ms ss next
-    → (k : ℕ) (n : Node) → slice_get (nodes_of ms ss os) k ≡ Some n → slice_index_or next k None ≡ first_labelled n.label (k + 1) (nodes_of ms ss os)
-next-nodes ms ss os next long are k n there =
-    let got = nodes-get ms ss os k n there in
-    let label : label_from ms got.0 ≡ n.label = ap (λ m. m.label) (sym (got.4 ∙ parts ms got.0 got.1)) in
-    let rest : length (drop (k + 1) ss) ≡ length (drop (k + 1) os) = omega (arith, length-drop (k + 1) ss, length-drop (k + 1) os, long) in
-    are.each k got.0 got.2 ∙ rw (nodes-drop ms (k + 1) ss os long, label)
-    (sym (position-nodes ms (has_label n.label) (places.has_label ms n.label) (k + 1) (drop (k + 1) ss) (drop (k + 1) os) rest
-    (λ s o. rw (parts ms s o) refl)))

@@ -1,4 +1,5 @@
 pub mod Listing
+pub mod First
 pub mod Scoping
 pub mod Bridging
 pub mod Childhood

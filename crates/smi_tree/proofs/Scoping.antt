@@ -1,85 +1,115 @@
--- The first thing of a list that passes two tests, by those that pass one of them.
-use Rattle.std.proofs.Common.{◌≡◌, ℕ, zero, suc, ◌+◌, ◌<◌, ◌≤◌, Bool, true, false, cond, ◌&&◌, List, [], ◌∷◌, drop, get_or, length}
-use Rattle.std.proofs.Common.{Some, None, refl, sym, ◌∙◌, arith}
-use Rattle.std.proofs.lemmas.List.{drop_more}
+-- Labels that several modules share: the first source of each module.
+use Rattle.std.proofs.Common.{◌≡◌, ℕ, ◌+◌, ◌<◌, ◌==◌, ◌&&◌, Bool, true, false, cond, List, length, take, get_or}
+use Rattle.std.proofs.Common.{Option, Some, None, unwrap_or, option_map, refl, sym, ap, ◌∙◌, eq-eqb}
+use Rattle.std.proofs.lemmas.Bool.{eqb-true}
+use Rattle.std.proofs.Math.Bool.{and-false}
+use Rattle.std.proofs.lemmas.Option.{slice_get-get_or, slice_get_within}
 use Rattle.std.specs.List.{slice_get, position_from}
+use Rattle.std.specs.Option.{option_and_then}
+use Rattle.indexmap.specs.IndexMap.{get}
+use Rattle.smi_text.specs.trees.Mark.{same_text}
+use Rattle.smi_text.specs.declared.trees.tree.Module.{Module}
+use Rattle.smi_names.specs.meaning.Meaning.{or_else}
+use Rattle.smi_names.specs.meaning.Names.{module_place}
+use Rattle.smi_names.specs.declared.nodes.source.Source.{Source}
+use Rattle.smi_names.specs.declared.nodes.source.Source.TheVariants as S
+use Rattle.smi_tree.specs.Nodes.{is_named}
+use Rattle.smi_tree.specs.Places.{Places, Others, kept_place, home_from, label_from, has_label, is_of, same_key, key_of, AreOthers}
+use Rattle.smi_tree.proofs.First.{IsFirst, first, none_first, more, of_front}
+use Rattle.smi_tree.proofs.Listing.{same, same_itself}
 
--- the first place of a thing is within the list
-pub position_within : {A : Type 0} (t : A → Bool) (b : ℕ) (xs : List A) (j : ℕ) → position_from t b xs ≡ Some j → (b ≤ j) × (j < b + length xs)
-position_within t b [] j e = cc
-position_within t b (x ∷ xs) j e = by (t x) e (λ h. position_within t (b + 1) xs j h)
+-- names are the same where their first places are
+places_decide : {A : Type 0} (name : A → List ℕ) (xs : List A) (a b : List ℕ) (j k : ℕ) → position_from (λ x. same_text (name x) a) 0 xs ≡ Some j
+    → position_from (λ x. same_text (name x) b) 0 xs ≡ Some k → (j == k) ≡ same_text a b
+places_decide name xs a b j k e f = by (j == k) (same_text a b) refl refl
   where
-    by : (v : Bool) → cond v (Some b) (position_from t (b + 1) xs) ≡ Some j
-        → (position_from t (b + 1) xs ≡ Some j → (b + 1 ≤ j) × (j < b + 1 + length xs)) → (b ≤ j) × (j < b + length (x ∷ xs))
-    by true s f = let same : b ≡ j = cc in (omega arith, omega arith)
-    by false s f = let more = f s in (omega (arith, more.0), omega (arith, more.1))
+    named : (c : List ℕ) (i : ℕ) → position_from (λ x. same_text (name x) c) 0 xs ≡ Some i → IsFirst (λ x. same_text (name x) c) xs i
+    named c i h = rw h at (first (λ x. same_text (name x) c) xs)
 
--- what stands at a place passes first from there on, or what passes after it
-pub position-here : {A : Type 0} (t : A → Bool) (xs : List A) (i : ℕ) (d : A) → i < length xs
-    → position_from t i (drop i xs) ≡ cond (t (get_or xs i d)) (Some i) (position_from t (i + 1) (drop (i + 1) xs))
-position-here t xs i d l = rw (drop_more xs i d l) refl
+    by : (v w : Bool) → (j == k) ≡ v → same_text a b ≡ w → v ≡ w
+    by true true p q = refl
+    by false false p q = refl
+    by false true p q =
+        let is : a ≡ b = same a b q in
+        let one : j ≡ k = let g = rw is at e in cc in
+        let yes = eq-eqb j k one in cc
+    by true false p q =
+        let is : j ≡ k = eqb-true j k p in
+        let g = named a j e in
+        let h = named b j (rw (← is) at f) in
+        let one : g.x ≡ h.x = let there = g.at in let at = h.at in cc in
+        let alike : a ≡ b = sym (same (name g.x) a g.passes) ∙ ap name one ∙ same (name h.x) b h.passes in
+        let yes = same_itself b in
+        let no = rw alike at q in cc
 
-always : (a : Bool) → (a && true) ≡ a
-always true = refl
-always false = refl
+-- it is this key
+abbrev pub fits : Option (ℕ × ℕ) → ℕ × ℕ → Bool
+fits None other = false
+fits (Some key) other = same_key key other
 
-never : (a : Bool) → (a && false) ≡ false
-never true = refl
-never false = refl
-
-get-drop : {A : Type 0} (b : ℕ) (xs : List A) (i : ℕ) → slice_get (drop b xs) i ≡ slice_get xs (b + i)
-get-drop zero xs i = let all : 0 + i ≡ i = omega arith in rw all refl
-get-drop (suc b) [] i = refl
-get-drop (suc b) (x ∷ xs) i = let more : suc b + i ≡ suc (b + i) = omega arith in rw more (get-drop b xs i)
-
-drop-more : {A : Type 0} (b i : ℕ) (xs : List A) → drop (suc i) (drop b xs) ≡ drop (b + i + 1) xs
-drop-more zero i xs = let all : 0 + i + 1 ≡ suc i = omega arith in rw all refl
-drop-more (suc b) i [] = let more : suc b + i + 1 ≡ suc (b + i + 1) = omega arith in rw more refl
-drop-more (suc b) i (x ∷ xs) = let more : suc b + i + 1 ≡ suc (b + i + 1) = omega arith in rw more (drop-more b i xs)
-
-get-on : {A : Type 0} (b i j : ℕ) (xs : List A) (x : A) → j ≡ b + i → slice_get (drop b xs) i ≡ Some x → slice_get xs j ≡ Some x
-get-on b i j xs x e there = rw e (sym (get-drop b xs i) ∙ there)
-
-drop-on : {A : Type 0} (b i j : ℕ) (xs : List A) → j ≡ b + i → drop (suc i) (drop b xs) ≡ drop (j + 1) xs
-drop-on b i j xs e = rw e (drop-more b i xs)
-
--- j is the first place from b on that passes the one test
-record IsNext {A : Type 0} (g t : A → Bool) (b j : ℕ) (xs : List A) : Type 0 where
-  pub i : ℕ
-  pub at : j ≡ b + i
-  pub x : A
-  pub there : slice_get xs i ≡ Some x
-  pub passes : t x ≡ true
-  pub first : position_from (λ y. g y && t y) b xs ≡ cond (g x) (Some j) (position_from (λ y. g y && t y) (j + 1) (drop (suc i) xs))
-
-module _ {A : Type 0} (g t : A → Bool) where
-  pub none_passes : (b : ℕ) (xs : List A) → position_from t b xs ≡ None → position_from (λ y. g y && t y) b xs ≡ None
-  none_passes b [] e = refl
-  none_passes b (x ∷ xs) e = by (t x) refl e (λ f. none_passes (b + 1) xs f)
+module _ (ms : List Module) (homes : Places) (ss : List Source) (old new : Others) (k f : ℕ) (d : Source)
+    (placed : (x : List ℕ) → kept_place homes x ≡ module_place ms x) (inside : k < length ss) where
+  -- one source more, by its key
+  pub others-more : position_from (has_label ms (label_from ms (get_or ss k d))) 0 ss ≡ Some f
+      → ((y : ℕ × ℕ) → get same_key new y ≡ or_else (get same_key old y) (cond (fits (key_of ms homes (get_or ss k d) f k) y) (Some k) None))
+      → AreOthers ms ss old (take k ss) → AreOthers ms ss new (take (k + 1) ss)
+  others-more labelled put are home x p g o place begins at other =
+      put (p, g) ∙ rw (are home x p g o place begins at other, key) (sym (more (is_of ms home x) ss k d inside))
     where
-      by : (v : Bool) → t x ≡ v → cond v (Some b) (position_from t (b + 1) xs) ≡ None
-          → (position_from t (b + 1) xs ≡ None → position_from (λ y. g y && t y) (b + 1) xs ≡ None)
-          → cond (g x && t x) (Some b) (position_from (λ y. g y && t y) (b + 1) xs) ≡ None
-      by true p e f = absurd (cc)
-      by false p e f = rw (p, never (g x)) (f e)
+      s : Source
+      s = get_or ss k d
 
-  next_from : (b j : ℕ) (xs : List A) → position_from t b xs ≡ Some j → IsNext g t b j xs
-  next_from b j [] e = absurd (cc)
-  next_from b j (x ∷ xs) e = by (t x) refl e (λ f. next_from (b + 1) j xs f)
-    where
-      by : (v : Bool) → t x ≡ v → cond v (Some b) (position_from t (b + 1) xs) ≡ Some j
-          → (position_from t (b + 1) xs ≡ Some j → IsNext g t (b + 1) j xs) → IsNext g t b j (x ∷ xs)
-      by true p e f =
-          let here : b ≡ j = cc in
-          record { i = 0; at = omega arith; x = x; there = refl; passes = p; first = rw (p, always (g x), here) refl }
-      by false p e f =
-          let n = f e in
-          record { i = suc n.i; at = omega (arith, n.at); x = n.x; there = n.there; passes = n.passes; first = rw (p, never (g x)) n.first }
+      itself : (v : Bool) → (f == g) ≡ v → f ≡ k → false ≡ (is_named home (home_from ms s) && v)
+      itself false e is = sym (and-false (is_named home (home_from ms s)))
+      itself true e is =
+          let here : f ≡ g = eqb-true f g e in
+          let there = slice_get-get_or ss k d inside in
+          let one : o ≡ s = let read = rw (← here, is) at at in cc in
+          rw (← one, other) refl
 
-  pub next_of_both : (xs : List A) (b j : ℕ) → position_from t b (drop b xs) ≡ Some j
-      → (x : A) × (slice_get xs j ≡ Some x) × (t x ≡ true) × (b ≤ j)
-      × (position_from (λ y. g y && t y) b (drop b xs) ≡ cond (g x) (Some j) (position_from (λ y. g y && t y) (j + 1) (drop (j + 1) xs)))
-  next_of_both xs b j e =
-      let n = next_from b j (drop b xs) e in
-      let rest = drop-on b n.i j xs n.at in
-      (n.x, get-on b n.i j xs n.x n.at n.there, n.passes, omega (arith, n.at), rw rest at n.first)
+      named : (m : Module) (r : Option ℕ) → module_place ms m.name.octets ≡ r
+          → fits (option_map (λ h. (h, f)) r) (p, g) ≡ (same_text m.name.octets home && (f == g))
+      named m None e = by (same_text m.name.octets home) refl
+        where
+          by : (v : Bool) → same_text m.name.octets home ≡ v → false ≡ (v && (f == g))
+          by false q = refl
+          by true q = let is = rw (same m.name.octets home q) at e in cc
+      named m (Some h) e = rw (← places_decide (λ (n : Module). n.name.octets) ms m.name.octets home h p e place) refl
+
+      by : (v : Bool) → (f == k) ≡ v → (m : Option Module) → home_from ms s ≡ m
+          → fits (cond v None (option_and_then (λ m. option_map (λ h. (h, f)) (kept_place homes m.name.octets)) m)) (p, g) ≡ (is_named home m && (f == g))
+      by true e m h = rw (← h) (itself (f == g) refl (eqb-true f k e))
+      by false e None h = refl
+      by false e (Some m) h = rw (placed m.name.octets) (named m (module_place ms m.name.octets) refl)
+
+      key : fits (key_of ms homes s f k) (p, g) ≡ is_of ms home x s
+      key = rw (← places_decide (label_from ms) ss (label_from ms s) x f g labelled begins) (by (f == k) refl (home_from ms s) refl)
+
+-- the label's first source is known
+pub first_is : (ms : List Module) (labels : Places) (ss : List Source) (k f : ℕ) (d : Source) → k < length ss
+    → ((x : List ℕ) → kept_place labels x ≡ position_from (has_label ms x) 0 (take k ss))
+    → f ≡ unwrap_or (kept_place labels (label_from ms (get_or ss k d))) k → position_from (has_label ms (label_from ms (get_or ss k d))) 0 ss ≡ Some f
+first_is ms labels ss k f d inside are is =
+    of_front (has_label ms x) ss (k + 1) f (more (has_label ms x) ss k d inside
+    ∙ rw (same_itself x, ← are x, is) (by (kept_place labels x)))
+  where
+    x : List ℕ
+    x = label_from ms (get_or ss k d)
+
+    by : (r : Option ℕ) → or_else r (Some k) ≡ Some (unwrap_or r k)
+    by None = refl
+    by (Some j) = refl
+
+-- no source is of a module that isn't there
+pub no_module : (ms : List Module) (ss : List Source) (home x : List ℕ) → module_place ms home ≡ None → position_from (is_of ms home x) 0 ss ≡ None
+no_module ms ss home x e = none_first (is_of ms home x) ss (λ i s l at. rw (named s) refl)
+  where
+    of : (i : ℕ) (m : Option Module) → slice_get ms i ≡ m → is_named home m ≡ false
+    of i None h = refl
+    of i (Some m) h =
+        let none = rw e at (first (λ (n : Module). same_text n.name.octets home) ms) in
+        none i m (slice_get_within ms i m h) h
+
+    named : (s : Source) → is_named home (home_from ms s) ≡ false
+    named (S.Root n) = refl
+    named (S.Definition i k) = of i (slice_get ms i) refl

@@ -10,7 +10,7 @@ use Rattle.smi_tree.specs.declared.types.types.Types.{Types}
 use Rattle.smi_show.specs.declared.index.part.IndexPart.{IndexPart}
 use Rattle.smi_tree.specs.Shown.{syntaxes_from}
 use Rattle.smi_tree.specs.Tree.{Contents, IsTree}
-use Rattle.smi_tree.specs.Places.{Places, kept_place, has_label, AreNexts}
+use Rattle.smi_tree.specs.Places.{Places, Others, kept_place, has_label, AreOthers}
 
 abbrev pub contents : List Module → List Source → List (List ℕ) → Types
     → List (Option (List IndexPart)) → Contents
@@ -23,10 +23,10 @@ contents ms ss os types indexes = record {
 
 pub record IsTreeKept (ms : List Module) (ss : List Source) (os : List (List ℕ)) (types : Types)
     (indexes : List (Option (List IndexPart))) (of_homes of_labels : Places)
-    (nexts : List (Option ℕ)) : Type 0 where
+    (of_others : Others) : Type 0 where
   pub long : length ss ≡ length os
   pub warnings : List Warning
   pub tree : IsTree ms (contents ms ss os types indexes) warnings
   pub homes : (x : List ℕ) → kept_place of_homes x ≡ module_place ms x
   pub labels : (x : List ℕ) → kept_place of_labels x ≡ position_from (has_label ms x) 0 ss
-  pub next : AreNexts ms ss nexts
+  pub others : AreOthers ms ss of_others ss

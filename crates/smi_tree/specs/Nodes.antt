@@ -11,7 +11,6 @@ use Rattle.std.specs.Prelude.{
   [],
   ◌∷◌,
   ◌++◌,
-  drop,
   ◌<◌,
   max,
   unwrap_or,
@@ -50,10 +49,6 @@ place_in_module nodes home label = position_from (is_of home label) 0 nodes
 abbrev pub place_anywhere : List Node → List ℕ → Option ℕ
 place_anywhere nodes label = position_from (has_label label) 0 nodes
 
--- the first node of the label from a place on, for private clauses
-abbrev pub first_labelled : List ℕ → ℕ → List Node → Option ℕ
-first_labelled label k nodes = position_from (has_label label) k (drop k nodes)
-
 -- the identifiers of nodes
 abbrev pub oids_of : List Node → List (List ℕ)
 oids_of nodes = map (λ n. n.oid) nodes
@@ -61,11 +56,6 @@ oids_of nodes = map (λ n. n.oid) nodes
 -- the node at the place has the label
 abbrev pub is_labelled : List Node → List ℕ → ℕ → Bool
 is_labelled nodes label k = unwrap_or (option_map (has_label label) (slice_get nodes k)) false
-
--- the node at the place is of the module of the name
-abbrev pub is_of_module : List Node → List ℕ → ℕ → Bool
-is_of_module nodes home k =
-    unwrap_or (option_map (λ n. is_named home n.home) (slice_get nodes k)) false
 
 abbrev pub if_labelled : List Node → List ℕ → Option ℕ → Option ℕ
 if_labelled nodes label None = None

@@ -1,6 +1,7 @@
 -- Sources of nodes found by their names, and maps from names to places.
-use Rattle.std.specs.Prelude.{◌≡◌, ℕ, ◌+◌, Bool, List, [], drop, length, slice_index_or}
-use Rattle.std.specs.Prelude.{Option, Some, None}
+use Rattle.std.specs.Prelude.{◌≡◌, ℕ, ◌==◌, ◌&&◌, Bool, false, List, [], if◌then◌else◌}
+use Rattle.std.specs.Prelude.{Option, Some, None, option_map}
+use Rattle.std.specs.Option.{option_and_then}
 use Rattle.std.specs.List.{slice_get, position_from}
 use Rattle.std.specs.Str.{bytes_eq}
 use Rattle.indexmap.specs.IndexMap.{IndexMap, get}
@@ -8,10 +9,12 @@ use Rattle.smi_text.specs.trees.Mark.{same_text}
 use Rattle.smi_text.specs.declared.trees.tree.Module.{Module}
 use Rattle.smi_text.specs.declared.trees.tree.Def.{Def}
 use Rattle.smi_names.specs.meaning.Meaning.{root_label}
+use Rattle.smi_names.specs.meaning.Names.{module_place}
 use Rattle.smi_names.specs.nodes.Gathered.{def_of_module}
 use Rattle.smi_names.specs.declared.hash.NameHash.{NameHash}
 use Rattle.smi_names.specs.declared.nodes.source.Source.{Source}
 use Rattle.smi_names.specs.declared.nodes.source.Source.TheVariants as S
+use Rattle.smi_tree.specs.Nodes.{is_named}
 
 abbrev pub home_from : List Module → Source → Option Module
 home_from ms (S.Root n) = None
@@ -41,8 +44,26 @@ Places = IndexMap (List ℕ) ℕ NameHash
 abbrev pub kept_place : Places → List ℕ → Option ℕ
 kept_place places x = get bytes_eq places x
 
--- for each source the next one of its label
-pub record AreNexts (ms : List Module) (ss : List Source) (next : List (Option ℕ)) : Type 0 where
-  pub long : length next ≡ length ss
-  pub each : (k : ℕ) (s : Source) → slice_get ss k ≡ Some s → slice_index_or next k None
-      ≡ position_from (has_label ms (label_from ms s)) (k + 1) (drop (k + 1) ss)
+-- the source is of this label, in the module of this name
+abbrev pub is_of : List Module → List ℕ → List ℕ → Source → Bool
+is_of ms home x s = is_named home (home_from ms s) && has_label ms x s
+
+-- the first sources of labels, by the place of the module and the first source of the label
+abbrev pub Others : Type 0
+Others = IndexMap (ℕ × ℕ) ℕ NameHash
+
+abbrev pub same_key : ℕ × ℕ → ℕ × ℕ → Bool
+same_key a b = (a.0 == b.0) && (a.1 == b.1)
+
+-- the key of a source: none if it is the first one of its label, or of no module
+abbrev pub key_of : List Module → Places → Source → ℕ → ℕ → Option (ℕ × ℕ)
+key_of ms homes s first place = if first == place then None else
+    option_and_then (λ m. option_map (λ p. (p, first)) (kept_place homes m.name.octets))
+    (home_from ms s)
+
+-- of each label whose first source is of another module than this one, the first in this one
+abbrev pub AreOthers : List Module → List Source → Others → List Source → Type 0
+AreOthers ms ss others front = (home x : List ℕ) (p f : ℕ) (s : Source)
+    → module_place ms home ≡ Some p → position_from (has_label ms x) 0 ss ≡ Some f
+    → slice_get ss f ≡ Some s → is_named home (home_from ms s) ≡ false
+    → get same_key others (p, f) ≡ position_from (is_of ms home x) 0 front

@@ -2,6 +2,7 @@
 ghost use Rattle.std.specs.Prelude.{◌≡◌};
 ghost use Rattle.std.specs.List.{slice_get};
 ghost use Rattle.std.specs.Option.{option_and_then, option_copied};
+ghost use Rattle.smi_tree.specs.Nodes.{is_named};
 ghost use Rattle.smi_tree.specs.Places.{home_from, label_from, definition_from};
 ghost use Rattle.smi_tree.specs.types.Leads.{at_place};
 
@@ -56,6 +57,16 @@ pub(crate) fn home(modules: &[Module], source: Source) -> Option<&Module>
     match source {
         Source::Root(_) => None,
         Source::Definition(place, _) => modules.get(place),
+    }
+}
+
+/// Whether a source is of a module of this name.
+pub(crate) fn is_of(modules: &[Module], source: Source, name: &[u8]) -> bool
+    ensures { result ≡ is_named name.now (home_from modules.now source) }
+{
+    match home(modules, source) {
+        Some(module) => module.name.as_bytes() == name,
+        None => false,
     }
 }
 

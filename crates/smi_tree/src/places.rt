@@ -1,42 +1,48 @@
 //! Nodes by their names: maps from names to places.
 //!
 //! Names come from files that others wrote, so the maps hash them by a key that those don't know.
-ghost use Rattle.std.specs.Prelude.{◌≡◌, ℕ, List, Some, IfOk, OnOk, if◌then◌else◌};
+ghost use Rattle.std.specs.Prelude.{◌≡◌, ◌==◌, ℕ, List, Some, None, IfOk, OnOk, if◌then◌else◌};
+ghost use Rattle.std.specs.Prelude.{unwrap_or};
 ghost use Rattle.std.specs.List.{position_from};
-ghost use Rattle.smi_text.specs.trees.Mark.{same_text};
+ghost use Rattle.indexmap.specs.IndexMap.{get};
+ghost use Rattle.smi_names.specs.meaning.Meaning.{or_else};
 ghost use Rattle.smi_names.specs.meaning.Names.{module_place};
 ghost use Rattle.smi_tree.specs.Places as places;
-ghost use Rattle.smi_tree.specs.Places.{kept_place, AreNexts};
+ghost use Rattle.smi_tree.specs.Places.{kept_place, AreOthers};
 
-use crate::node::label;
+use crate::node::{home, label};
 use indexmap::IndexMap;
 use smi_names::{NameBuf, NameHash, NameRef, Source};
 use smi_text::Module;
 use std::alloc::{AllocError, Global};
+use std::hash::Hash;
 
 /// Names, each with its place.
 pub(crate) type Places = IndexMap<NameBuf, usize, NameHash>;
+
+/// By the place of a module and the first source of a label, which is of another module: the first
+/// source of the label in the module.
+pub(crate) type Others = IndexMap<(usize, usize), usize, NameHash>;
 
 /// The places of labels.
 pub(crate) struct LabelPlaces {
     /// The first source of each label.
     pub(crate) labels: Places,
-    /// For each source the next one of its label.
-    pub(crate) next: Vec<Option<usize>>,
+    /// The first one in each other module.
+    pub(crate) others: Others,
 }
 
-/// Gives a name a place, and returns the one that it had.
-fn put(
-    alloc: Global,
-    places: &mut Places,
-    name: &[u8],
+/// The place of a key, which gets this one unless it has one.
+fn put_first<K: Eq + Hash + Drop>(
+    places: &mut IndexMap<K, usize, NameHash>,
+    key: K,
     place: usize,
-) -> Result<Option<usize>, AllocError>
-    ensures put { OnOk result ((x : List ℕ) → kept_place places.new x
-        ≡ (if same_text name.now x then Some place else kept_place places.old x)) }
-    ensures had { IfOk result (λ had. had ≡ kept_place places.old name.now) }
+) -> Result<usize, AllocError>
+    ensures put { OnOk result ((x : K) → get K.eq places.new x
+        ≡ or_else (get K.eq places.old x) (if K.eq key x then Some place else None)) }
+    ensures returned { IfOk result (λ p. p ≡ unwrap_or (get K.eq places.old key) place) }
 {
-    Ok(places.insert(NameBuf::new(alloc, name)?, place)?)
+    Ok(*places.entry(key)?.or_insert(place))
 }
 
 /// The place of a name.
@@ -52,33 +58,52 @@ pub(crate) fn homes(alloc: Global, hash: NameHash, modules: &[Module]) -> Result
         → kept_place homes x ≡ module_place modules.now x) }
 {
     let mut homes = IndexMap::with_hasher(alloc, hash);
-    let mut i = modules.len();
-    // From the last one, so that the first one stands.
-    'modules: while i > 0 {
-        i -= 1;
-        put(alloc, &mut homes, modules[i].name.as_bytes(), i)?;
+    'modules: for (i, module) in modules.iter().enumerate() {
+        put_first(&mut homes, NameBuf::new(alloc, module.name.as_bytes())?, i)?;
     }
     Ok(homes)
 }
 
-/// The first place of each label, and for each source the next one of its label.
+/// The key of a source among those that aren't the first of their label. None for the first one,
+/// and for a root.
+fn key_of(
+    modules: &[Module],
+    homes: &Places,
+    source: Source,
+    first: usize,
+    place: usize,
+) -> Option<(usize, usize)>
+    ensures { result ≡ places.key_of modules.now homes.now source first place }
+{
+    if first == place {
+        return None;
+    }
+    let home = find(homes, home(modules, source)?.name.as_bytes())?;
+    Some((home, first))
+}
+
+/// The first place of each label, and the first in each other module.
 pub(crate) fn labels(
     alloc: Global,
     hash: NameHash,
     modules: &[Module],
+    homes: &Places,
     sources: &[Source],
 ) -> Result<LabelPlaces, AllocError>
+    requires { (x : List ℕ) → kept_place homes.now x ≡ module_place modules.now x }
     ensures labels { IfOk result (λ made. (x : List ℕ) → kept_place made.labels x
         ≡ position_from (places.has_label modules.now x) 0 sources.now) }
-    ensures next { IfOk result (λ made. AreNexts modules.now sources.now made.next.items) }
+    ensures others { IfOk result
+        (λ made. AreOthers modules.now sources.now made.others sources.now) }
 {
     let mut labels = IndexMap::with_capacity_and_hasher(alloc, sources.len(), hash)?;
-    let mut next = vec![in alloc; None; sources.len()]?;
-    let mut k = sources.len();
-    // From the last one, so that what had the label before is the next one.
-    'sources: while k > 0 {
-        k -= 1;
-        next[k] = put(alloc, &mut labels, label(modules, sources[k]), k)?;
+    let mut others = IndexMap::with_hasher(alloc, hash);
+    'sources: for (k, source) in sources.iter().enumerate() {
+        let label = NameBuf::new(alloc, label(modules, *source))?;
+        let first = put_first(&mut labels, label, k)?;
+        if let Some(key) = key_of(modules, homes, *source, first, k) {
+            put_first(&mut others, key, k)?;
+        }
     }
-    Ok(LabelPlaces { labels, next })
+    Ok(LabelPlaces { labels, others })
 }

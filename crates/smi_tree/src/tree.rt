@@ -9,8 +9,7 @@ ghost use Rattle.smi_tree.specs.branches.Standing.{AreChildren, HasNoBeginning, 
 ghost use Rattle.smi_tree.specs.branches.Standing.{HasNoneBelow, oid_at};
 ghost use Rattle.smi_names.specs.meaning.Meaning.{module_named};
 ghost use Rattle.smi_tree.specs.Nodes.{IsFirstChild, is_labelled, oids_of, place_anywhere};
-ghost use Rattle.smi_tree.specs.Nodes.{place_in_module, is_of_module, first_labelled};
-ghost use Rattle.smi_names.specs.nodes.Nodes as nodes;
+ghost use Rattle.smi_tree.specs.Nodes.{place_in_module};
 ghost use Rattle.smi_tree.specs.types.Kept.{facts_of};
 ghost use Rattle.smi_tree.specs.Resolved.{IsResolved};
 ghost use Rattle.smi_tree.specs.Shown.{shown_at, units_at};
@@ -21,8 +20,8 @@ ghost use Rattle.smi_names.specs.declared.nodes.warning.Warning.{Warning};
 
 use crate::branches::{Children, Deepest, Identifiers};
 use crate::columns::Indexes;
-use crate::node::{Node, at, definition, home, kept, label};
-use crate::places::{LabelPlaces, Places, find, homes, labels};
+use crate::node::{Node, at, definition, home, is_of, label};
+use crate::places::{LabelPlaces, Others, Places, find, homes, labels};
 use crate::shown::{syntax, units_of, value_syntax};
 use crate::types::{TypeSyntax, Types};
 use smi_names::{NameHash, Names, Source, Warning, gather_nodes};
@@ -52,8 +51,8 @@ pub struct Tree {
     homes: Places,
     /// The first node of each label.
     labels: Places,
-    /// For each node the next one of its label.
-    next: Vec<Option<usize>>,
+    /// The first node of each label in each other module.
+    others: Others,
     /// The types of the modules.
     types: Types,
     /// The index of each node.
@@ -71,7 +70,7 @@ impl Model for Tree {
 
     ghost invariant = { λ s.
         IsTreeKept s.modules.items s.sources.items s.identifiers s.types s.indexes s.homes s.labels
-        s.next.items };
+        s.others };
 }
 
 /// What modules define, resolved.
@@ -127,14 +126,14 @@ impl Tree {
             warnings,
         } = resolve(alloc, hash, &modules)?;
         let homes = homes(alloc, hash, &modules)?;
-        let LabelPlaces { labels, next } = labels(alloc, hash, &modules, &sources)?;
+        let LabelPlaces { labels, others } = labels(alloc, hash, &modules, &homes, &sources)?;
         let tree = Tree {
             modules,
             sources,
             identifiers,
             homes,
             labels,
-            next,
+            others,
             types,
             indexes,
         };
@@ -265,36 +264,13 @@ impl Tree {
     pub fn find(&self, home: &[u8], label: &[u8]) -> Option<NodeId>
         ensures { result ≡ place_in_module self.now.nodes home.now label.now }
     {
+        let first = self.find_any(label)?;
         // Most labels stand in one module alone.
-        let mut at = self.find_any(label);
-        'same: while let Some(id) = at {
-            if self.is_of(id, home) {
-                return Some(id);
-            }
-            at = self.next_of(id);
+        if is_of(&self.modules, self.sources[first], home) {
+            return Some(first);
         }
-        None
-    }
-
-    /// The next node of the label of a node.
-    fn next_of(&self, id: NodeId) -> Option<NodeId>
-        ensures { (n : nodes.Node) → slice_get self.now.nodes id ≡ Some n
-            → result ≡ first_labelled n.label (id + 1) self.now.nodes }
-    {
-        kept(&self.next, id)
-    }
-
-    /// Whether a node is of the module of a name.
-    fn is_of(&self, id: NodeId, name: &[u8]) -> bool
-        ensures { result ≡ is_of_module self.now.nodes name.now id }
-    {
-        let Some(node) = self.node_at(id) else {
-            return false;
-        };
-        match node.home {
-            Some(module) => module.name.as_bytes() == name,
-            None => false,
-        }
+        let home = find(&self.homes, home)?;
+        self.others.get(&(home, first)).copied()
     }
 
     /// The first node of a label, the roots before all others.

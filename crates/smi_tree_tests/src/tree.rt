@@ -261,20 +261,23 @@ iso OBJECT IDENTIFIER ::= { 2 7 }
 END
 C DEFINITIONS ::= BEGIN
 mine OBJECT IDENTIFIER ::= { 1 8 }
+iso OBJECT IDENTIFIER ::= { 2 9 }
 END
 A DEFINITIONS ::= BEGIN
 mine OBJECT IDENTIFIER ::= { 1 10 }
 END
 ";
 
-/// The first node of each label in each module, where labels stand in several modules.
-static SHARED_NODES: [(&str, &str, &str); 6] = [
+/// The first node of each label in each module, where labels stand in several modules, and that of a
+/// root too.
+static SHARED_NODES: [(&str, &str, &str); 7] = [
     ("A", "shared", "1.3"),
     ("A", "only", "1.4"),
     ("B", "shared", "1.5"),
     ("B", "mine", "1.6"),
     ("B", "iso", "2.7"),
     ("C", "mine", "1.8"),
+    ("C", "iso", "2.9"),
 ];
 
 /// Labels that no module of the name has.

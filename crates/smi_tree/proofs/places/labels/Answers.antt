@@ -1,54 +1,35 @@
--- One source more, from the last one on.
-use Rattle.std.proofs.Common.{rules, ◌≡◌, ◌<◌, ◌+◌, ◌-◌, length, get_or, replicate, inl, inr, None, refl, sym, ◌∙◌, arith}
-use Rattle.std.proofs.lemmas.List.{length-set, length-replicate, drop_all, get_or-set_same, get_or-set_other}
-use Rattle.std.proofs.lemmas.Bool.{cases_eq}
-use Rattle.std.proofs.lemmas.Option.{slice_get_within, get_or_from_slice_get}
+-- One source more.
+use Rattle.std.proofs.Common.{rules, ◌≡◌, ◌<◌, ◌≤◌, length, get_or, None, ◌∙◌, sym}
+use Rattle.std.proofs.lemmas.List.{take_all}
+use Rattle.indexmap.specs.IndexMap.{get}
 use Rattle.smi_names.specs.declared.nodes.source.Source.TheVariants as S
-use Rattle.smi_tree.specs.Places.{has_label, label_from}
-use Rattle.smi_tree.proofs.Scoping.{position-here}
+use Rattle.smi_tree.specs.Places.{has_label, label_from, same_key}
+use Rattle.smi_tree.proofs.First.{more, or_else_none}
+use Rattle.smi_tree.proofs.Scoping.{others-more, first_is}
 use Rattle.smi_tree.proofs.places.labels.Goals as goal
-
-pub sources-init : goal.sources-init
-sources-init c =
-    let n = length c.args.sources.now in
-    let next : c.in_ok-next.next.items ≡ replicate (length c.args.sources.now) None = search rules in
-    rw next (record {
-      within = omega arith;
-      long = length-replicate n None;
-      labels = λ x. rw (drop_all n c.args.sources.now (omega arith), c.in_ok-labels.ensures.empty) refl;
-      next = λ j s le at. absurd (omega (arith, le, slice_get_within c.args.sources.now j s at));
-    })
+use Rattle.smi_tree.proofs.places.labels.Goals.{in-Some+in_ok-put_first, in_default}
 
 pub sources-preserved : goal.sources-preserved
 sources-preserved c =
     let ms = c.args.modules.now in
     let ss = c.args.sources.now in
-    let h = c.sources.invariant in
-    let one : c.sources.k - 1 + 1 ≡ c.sources.k = omega arith in
-    let inside : c.sources.k - 1 < length c.args.sources.now = omega (arith, c.sources.invariant.within) in
-    let had = c.in_ok-next-2.field-0 in
-    let name = c.label.ensures in
+    let k = c.sources.k in
+    let inside : c.sources.k < length c.args.sources.now = search rules in
+    let name : c.in_ok-label.label ≡ label_from c.args.modules.now (get_or c.args.sources.now c.sources.k (S.Root 0)) =
+    c.in_ok-label.ensures ∙ c.label.ensures in
+    let first = first_is ms c.sources.labels ss k c.in_ok-first.first (S.Root 0) inside c.sources.invariant.labels
+    (rw name at c.in_ok-first.ensures.returned) in
     record {
-      within = omega (arith, h.within);
-      long = length-set c.sources.next.items (c.sources.k - 1) had ∙ h.long;
-      labels = λ x.
-          rw name at (c.in_ok-next-2.ensures.put x)
-          ∙ rw (h.labels x) (sym (rw one at (position-here (has_label ms x) ss (c.sources.k - 1) (S.Root 0) inside)));
-      next = λ j s le at. elim (cases_eq j (c.sources.k - 1)) [
-        | inl here ↦
-            let read : get_or c.args.sources.now (c.sources.k - 1) (S.Root 0) ≡ s =
-            get_or_from_slice_get ss (c.sources.k - 1) s (S.Root 0) (rw here at at) in
-            let after : j + 1 ≡ c.sources.k = omega (arith, here) in
-            rw (after, here, get_or-set_same c.sources.next.items (c.sources.k - 1) had None (omega (arith, inside, h.long)))
-            (rw (name, read) at c.in_ok-next-2.ensures.had ∙ h.labels (label_from ms s))
-        | inr other ↦ rw (get_or-set_other c.sources.next.items (c.sources.k - 1) j had None other) (h.next j s (omega (arith, le, other)) at)
-      ];
+      labels = λ x. c.in_ok-first.ensures.put x ∙ rw (name, c.sources.invariant.labels x) (sym (more (has_label ms x) ss k (S.Root 0) inside));
+      others = others-more ms c.args.homes.now ss c.sources.others c.match-key_of.others k c.in_ok-first.first (S.Root 0) c.requires inside first
+          (λ y. elim c.match-key_of.branch [
+            | in-Some+in_ok-put_first w ↦ rw (w.others-is, ← c.key_of.ensures, w.in-Some.is) (w.in_ok-put_first.ensures.put y)
+            | in_default w ↦ (let none : c.key_of.result ≡ None = search rules in
+                rw (w.others-is, ← c.key_of.ensures, none) (sym (or_else_none (get same_key c.sources.others y))))
+          ]) c.sources.invariant.others;
     }
 
-pub returns : goal.returns
-returns c =
-    let none : c.sources.k ≡ 0 = omega arith in
-    record {
-      labels = λ x. rw none at (c.sources.invariant.labels x);
-      next = record { long = c.sources.invariant.long; each = λ j s at. c.sources.invariant.next j s (omega arith) at };
-    }
+pub returns-clause-others : goal.returns-clause-others
+returns-clause-others c =
+    let end : length c.args.sources.now ≤ c.sources.k = search rules in
+    rw (take_all c.sources.k c.args.sources.now end) at c.sources.invariant.others

@@ -1,53 +1,78 @@
--- The nodes of the label are looked at in turn.
-use Rattle.std.proofs.Common.{◌≡◌, ◌<◌, ◌+◌, ◌-◌, ℕ, suc, length, drop, unwrap_or, Option, Some, None, refl, sym, ◌∙◌, arith}
-use Rattle.std.specs.Option.{option_map}
-use Rattle.std.proofs.lemmas.Option.{slice_get_within}
-use Rattle.smi_tree.specs.Nodes.{has_label, is_named}
-use Rattle.smi_tree.proofs.Listing.{same}
-use Rattle.smi_tree.proofs.Scoping.{next_of_both, none_passes, position_within}
+-- The first source of the label is looked at, and then the first one in the module.
+use Rattle.std.proofs.Common.{rules, ◌≡◌, ℕ, true, false, List, length, get_or, Some, None, refl, sym, ◌∙◌}
+use Rattle.std.proofs.lemmas.Option.{slice_get_within, slice_get_read}
+use Rattle.std.specs.List.{slice_get, position_from}
+use Rattle.smi_text.specs.declared.trees.tree.Module.{Module}
+use Rattle.smi_names.specs.nodes.Nodes.{Node}
+use Rattle.smi_names.specs.nodes.Gathered.{nodes_of}
+use Rattle.smi_names.specs.declared.nodes.source.Source.{Source}
+use Rattle.smi_tree.specs.Nodes.{is_named, place_anywhere}
+use Rattle.smi_tree.specs.Nodes as nodes
+use Rattle.smi_tree.specs.Places.{has_label, home_from}
+use Rattle.smi_tree.proofs.Bridging.{anywhere-sources, in_module-sources}
+use Rattle.smi_tree.proofs.First.{IsFirst, first, both_none, both_first}
+use Rattle.smi_tree.proofs.Scoping.{no_module}
 use Rattle.smi_tree.proofs.tree.Tree.find.Goals as goal
 
-none_of : (r : Option ℕ) → ((i : ℕ) → r ≡ Some i → ⊥) → r ≡ None
-none_of None h = refl
-none_of (Some i) h = absurd (h i refl)
+module _ (ms : List Module) (ss : List Source) (os : List (List ℕ)) (x : List ℕ) (f : ℕ) (long : length ss ≡ length os)
+    (e : Some f ≡ place_anywhere (nodes_of ms ss os) x) where
+  labelled : position_from (has_label ms x) 0 ss ≡ Some f
+  labelled = sym (e ∙ anywhere-sources ms ss os x long)
 
-falls : (n id : ℕ) (r : Option ℕ) → id < n → ((j : ℕ) → r ≡ Some j → id < j) → unwrap_or (option_map (λ i. suc n - i) r) 0 < suc n - id
-falls n id None l h = omega arith
-falls n id (Some j) l h = omega (arith, h j refl)
+  place : IsFirst (has_label ms x) ss f
+  place = rw labelled at (first (has_label ms x) ss)
 
-pub same-init : goal.same-init
-same-init c = record { from = 0; at = c.find_any-at.ensures; rest = refl }
+  there : (s : Source) → s ≡ get_or ss f s → slice_get ss f ≡ Some s
+  there s is = slice_get_read ss (length ss) f s refl (slice_get_within ss f place.x place.at) is
 
-pub same-preserved : goal.same-preserved
-same-preserved c =
-    let nodes = c.args.self.now.nodes in
-    let h = c.same.invariant in
-    let n = next_of_both (λ m. is_named c.args.home.now m.home) (has_label c.args.label.now) nodes h.from c.in-Some.id (sym h.at ∙ c.in-Some.is) in
-    let apart = rw n.1 at (sym c.if-is_of.ensures) in
-    let label = same n.0.label c.args.label.now n.2 in
-    record { from = c.in-Some.id + 1; at = rw label at (c.next_of-at.ensures n.0 n.1); rest = h.rest ∙ rw apart at n.4 }
+pub returns-in_err-first : goal.returns-in_err-first
+returns-in_err-first c =
+    let none : place_anywhere c.args.self.now.nodes c.args.label.now ≡ None = search rules in
+    let out : c.from_residual.result ≡ None = search rules in
+    rw out (sym (both_none (λ (n : Node). is_named c.args.home.now n.home) (nodes.has_label c.args.label.now) c.args.self.now.nodes none))
 
-pub same-smaller : goal.same-smaller
-same-smaller c =
-    let nodes = c.args.self.now.nodes in
-    let h = c.same.invariant in
-    let n = next_of_both (λ m. is_named c.args.home.now m.home) (has_label c.args.label.now) nodes h.from c.in-Some.id (sym h.at ∙ c.in-Some.is) in
-    let next = c.next_of-at.ensures n.0 n.1 in
-    rw c.in-Some.is (falls (length nodes) c.in-Some.id c.next_of-at.result (slice_get_within nodes c.in-Some.id n.0 n.1) (λ j e.
-    let w = position_within (has_label n.0.label) (c.in-Some.id + 1) (drop (c.in-Some.id + 1) nodes) j (sym next ∙ e) in
-    omega (arith, w.0)))
-
-pub returns : goal.returns
-returns c =
-    let h = c.same.invariant in
-    let none = none_of c.same.at c.in_default.not-Some in
-    sym (h.rest ∙ none_passes (λ m. is_named c.args.home.now m.home) (has_label c.args.label.now) h.from (drop h.from c.args.self.now.nodes)
-    (sym h.at ∙ none))
+pub index-requires : goal.index-requires
+index-requires c =
+    let i = c.self.inside in
+    let f = place i.modules.items i.sources.items i.identifiers c.args.label.now c.in_ok-first.first c.self.invariant.long
+    (rw (sym c.self.view_is) at c.in_ok-first.ensures) in
+    rw i.sources.ok.0 (slice_get_within i.sources.items c.in_ok-first.first f.x f.at)
 
 pub returns-then-is_of : goal.returns-then-is_of
 returns-then-is_of c =
-    let h = c.same.invariant in
-    let n = next_of_both (λ m. is_named c.args.home.now m.home) (has_label c.args.label.now) c.args.self.now.nodes h.from c.in-Some.id
-    (sym h.at ∙ c.in-Some.is) in
-    let of = rw n.1 at (sym c.if-is_of.ensures) in
-    sym (h.rest ∙ rw of at n.4)
+    let i = c.self.inside in
+    let ms = i.modules.items in
+    let x = c.args.label.now in
+    let f = c.in_ok-first.first in
+    let s = c.index.result.now in
+    let e = rw (sym c.self.view_is) at c.in_ok-first.ensures in
+    let long = c.self.invariant.long in
+    let named : is_named c.args.home.now (home_from i.modules.items c.index.result.now) ≡ true = rw c.deref.ensures.value at (sym c.if-is_of.ensures) in
+    rw (sym c.self.view_is) (sym (in_module-sources ms i.sources.items i.identifiers c.args.home.now x long
+    ∙ both_first (λ (y : Source). is_named c.args.home.now (home_from ms y)) (has_label ms x) i.sources.items f s
+    (labelled ms i.sources.items i.identifiers x f long e) (there ms i.sources.items i.identifiers x f long e s c.index.ensures) named))
+
+pub returns-in_err-home : goal.returns-in_err-home
+returns-in_err-home c =
+    let i = c.self.inside in
+    let home = c.args.home.now in
+    let x = c.args.label.now in
+    let out : c.from_residual-in_err-home.result ≡ None = search rules in
+    rw (out, sym c.self.view_is) (sym (in_module-sources i.modules.items i.sources.items i.identifiers home x c.self.invariant.long
+    ∙ no_module i.modules.items i.sources.items home x (sym (c.in_err-home.ensures ∙ c.self.invariant.homes home))))
+
+pub returns : goal.returns
+returns c =
+    let i = c.self.inside in
+    let ms = i.modules.items in
+    let home = c.args.home.now in
+    let x = c.args.label.now in
+    let f = c.in_ok-first.first in
+    let s = c.index.result.now in
+    let e = rw (sym c.self.view_is) at c.in_ok-first.ensures in
+    let long = c.self.invariant.long in
+    let apart : is_named c.args.home.now (home_from i.modules.items c.index.result.now) ≡ false = rw c.deref.ensures.value at (sym c.if-is_of.ensures) in
+    c.copied.ensures ∙ c.get.ensures.value
+    ∙ c.self.invariant.others home x c.in_ok-home.home f s (sym (c.in_ok-home.ensures ∙ c.self.invariant.homes home))
+    (labelled ms i.sources.items i.identifiers x f long e) (there ms i.sources.items i.identifiers x f long e s c.index.ensures) apart
+    ∙ rw (sym c.self.view_is) (sym (in_module-sources ms i.sources.items i.identifiers home x long))

@@ -12,7 +12,7 @@ invariant_of-tree c =
       tree = found.tree;
       homes = homes;
       labels = places.labels;
-      next = places.next;
+      others = places.others;
     }
 
 pub returns : goal.returns
