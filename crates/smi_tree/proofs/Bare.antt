@@ -1,9 +1,10 @@
 -- The tree of no modules: what is found among the three roots.
-use Rattle.std.proofs.Common.{◌≡◌, ◌≢◌, ℕ, zero, suc, ◌<◌, ◌≤◌, Bool, true, false, cond, ◌&&◌}
+use Rattle.std.proofs.Common.{◌≡◌, ◌≢◌, ℕ, zero, suc, ◌<◌, ◌≤◌, Bool, false, cond}
 use Rattle.std.proofs.Common.{List, [], ◌∷◌, ◌++◌, length, take, get_or, slice_index_or}
 use Rattle.std.proofs.Common.{Option, Some, None, MatchOption, IfSome, refl, sym, ap, ◌∙◌, arith, nat_eq}
 use Rattle.snmp_oid.specs.Identifier.{IsBelow}
 use Rattle.std.proofs.lemmas.Bool.{ne_eqb}
+use Rattle.std.proofs.Math.Bool.{and-false}
 use Rattle.std.specs.List.{slice_get}
 use Rattle.std.specs.Option.{option_and_then}
 use Rattle.smi_text.specs.trees.Mark.{same_text}
@@ -30,10 +31,8 @@ use Rattle.smi_tree.proofs.Following.{no_syntax}
 
 -- the roots have no syntax and no index
 none-at : {A : Type 0} (k : ℕ) → slice_index_or {A = Option A} (None ∷ (None ∷ (None ∷ []))) k None ≡ None
-none-at zero = refl
-none-at (suc zero) = refl
-none-at (suc (suc zero)) = refl
 none-at (suc (suc (suc k))) = refl
+none-at _ = refl
 
 root-syntax : (k : ℕ) (n : Node) → slice_get roots k ≡ Some n → IsSyntaxOf [] n None
 root-syntax = root-case (λ n. IsSyntaxOf [] n None) (no_syntax [] no_type refl) (no_syntax [] no_type refl) (no_syntax [] no_type refl)
@@ -58,17 +57,7 @@ is_bare = record {
 
 -- no root has two numbers
 longer : (x y : ℕ) (rest : List ℕ) → place_of (oids_of roots) (x ∷ y ∷ rest) ≡ None
-longer x y rest = by (nat_eq 0 x) (nat_eq 1 x) (nat_eq 2 x)
-  where
-    by : (a b d : Bool) → cond {A = Option ℕ} (a && false) (Some 0) (cond (b && false) (Some 1) (cond (d && false) (Some 2) None)) ≡ None
-    by true true true = refl
-    by true true false = refl
-    by true false true = refl
-    by true false false = refl
-    by false true true = refl
-    by false true false = refl
-    by false false true = refl
-    by false false false = refl
+longer x y rest = rw (and-false (nat_eq 0 x), and-false (nat_eq 1 x), and-false (nat_eq 2 x)) refl
 
 longer-by : (x : ℕ) (xs : List ℕ) (n : ℕ) → place_of (oids_of roots) (x ∷ (xs ++ n ∷ [])) ≡ None
 longer-by x [] n = longer x n []
@@ -81,10 +70,8 @@ child-roots label = by (same_text (root_label 0) label) (same_text (root_label 1
   where
     by : (a b d : Bool) → oid_of roots (cond a (Some 0) (cond b (Some 1) (cond d (Some 2) None)))
         ≡ oid_of roots (or_else (or_else (or_else None (cond a (Some 0) None)) (cond b (Some 1) None)) (cond d (Some 2) None))
-    by true b d = refl
-    by false true d = refl
-    by false false true = refl
     by false false false = refl
+    by _ _ _ = refl
 
 -- a root has no children
 pub child-longer : (o label : List ℕ) → o ≢ [] → None ≡ oid_of roots (child_of roots o label)
@@ -94,10 +81,8 @@ child-longer (x ∷ xs) label some =
 
 -- the longest beginning that is a root is the first number, if that is below three
 longer-beginning : (x : ℕ) (rest : List ℕ) (j : ℕ) → 1 < j → j ≤ length (x ∷ rest) → place_of (oids_of roots) (take j (x ∷ rest)) ≡ None
-longer-beginning x rest zero l w = absurd (omega (arith, l))
-longer-beginning x rest (suc zero) l w = absurd (omega (arith, l))
-longer-beginning x [] (suc (suc k)) l w = absurd (omega (arith, w))
 longer-beginning x (y ∷ rest) (suc (suc k)) l w = longer x y (take k rest)
+longer-beginning x _ _ l w = absurd (omega (arith, l, w))
 
 deepest-root : (x : ℕ) (rest : List ℕ) → place_of (oids_of roots) (x ∷ []) ≡ Some x → IsDeepestAt (oids_of roots) (x ∷ rest) x 1
 deepest-root x rest e = record { within = omega arith; here = e; none_longer = longer-beginning x rest }
@@ -119,21 +104,18 @@ beyond : (x : ℕ) → 3 ≤ x → place_of (oids_of roots) (x ∷ []) ≡ None
 beyond x l = rw (ne_eqb 0 x (λ e. omega (arith, e, l)), ne_eqb 1 x (λ e. omega (arith, e, l)), ne_eqb 2 x (λ e. omega (arith, e, l))) refl
 
 no_beginning : (o : List ℕ) → (1 ≤ length o → 3 ≤ get_or o 0 0) → HasNoBeginning (oids_of roots) o
-no_beginning [] h zero w = refl
-no_beginning [] h (suc j) w = refl
-no_beginning (x ∷ rest) h zero w = refl
 no_beginning (x ∷ rest) h (suc zero) w = beyond x (h (omega arith))
 no_beginning (x ∷ rest) h (suc (suc k)) w = longer-beginning x rest (suc (suc k)) (omega arith) w
+no_beginning [] h (suc j) w = refl
+no_beginning _ h zero w = refl
 
 pub deepest-none : (o : List ℕ) → (1 ≤ length o → 3 ≤ get_or o 0 0) → None ≡ option_and_then (standing_of_longest bare) (longest roots o)
 deepest-none o h = rw (longest-none (oids_of roots) o (no_beginning o h)) refl
 
 -- a root has no definition and no syntax
 root-definition : (k : ℕ) → option_and_then (λ n. n.definition) (slice_get roots k) ≡ None
-root-definition zero = refl
-root-definition (suc zero) = refl
-root-definition (suc (suc zero)) = refl
 root-definition (suc (suc (suc k))) = refl
+root-definition _ = refl
 
 pub no_definition : (o : List ℕ) → None ≡ nearest_definition bare o
 no_definition o = by (longest roots o)
@@ -143,10 +125,8 @@ no_definition o = by (longest roots o)
     by (Some l) = sym (root-definition l.place)
 
 root-shown : (k : ℕ) → shown_at roots bare.syntaxes k ≡ None
-root-shown zero = refl
-root-shown (suc zero) = refl
-root-shown (suc (suc zero)) = refl
 root-shown (suc (suc (suc k))) = refl
+root-shown _ = refl
 
 pub none_shown : (o : List ℕ) → None ≡ nearest_syntax bare o
 none_shown o = by (longest roots o)

@@ -1,22 +1,20 @@
 -- The first child with a label is the one with the lowest number.
-use Rattle.std.proofs.Common.{◌≡◌, ◌≢◌, ℕ, zero, suc, ◌+◌, ◌<◌, ◌≤◌, ◌⊎◌, inl, inr, max, Bool}
-use Rattle.std.proofs.Common.{true, false, cond, List, [], ◌∷◌, ◌++◌, length, get_or}
-use Rattle.std.proofs.Common.{Option, Some, None, refl, sym, arith, nat_eq}
-use Rattle.std.specs.declared.cmp.Ordering.TheVariants.{Less}
-use Rattle.std.specs.List.{AllByRecursion, position_from, find, filter_map, Contains}
+use Rattle.std.proofs.Common.{◌≡◌, ◌≢◌, ℕ, zero, suc, ◌<◌, ◌≤◌, ◌⊎◌, inl, inr, Bool}
+use Rattle.std.proofs.Common.{true, false, cond, List, [], ◌∷◌, ◌++◌, length}
+use Rattle.std.proofs.Common.{Option, Some, None, refl, ap, arith}
+use Rattle.std.specs.List.{find, filter_map, Contains}
 use Rattle.std.specs.List.Sorted.{IsStrictlySortedBy}
 use Rattle.std.specs.Ordering.{nat_cmp}
-use Rattle.std.specs.Cmp.{ranked}
-use Rattle.std.specs.Cmp.Lexicographic.{pointwise}
 use Rattle.std.proofs.lemmas.Bool.{cases_eq, cases_order}
-use Rattle.std.proofs.lemmas.Slice.Eq.{bytes_eq-Decides}
-use Rattle.smi_tree.specs.branches.Standing.{place_of, AreChildren}
+use Rattle.std.proofs.lemmas.Map.Keys.{sorted_tail, below_from_sorted}
+use Rattle.smi_tree.specs.branches.Standing.{place_of, oid_at, AreChildren}
 use Rattle.smi_names.specs.meaning.Meaning.{or_else}
 use Rattle.smi_names.specs.nodes.Nodes.{Node}
 use Rattle.smi_tree.specs.Nodes.{IsOfLowest, nothing, lowest, IsFirstChild, is_labelled}
 use Rattle.smi_tree.specs.Nodes.{if_labelled, of_lowest}
 use Rattle.smi_show.specs.name.Beginnings.{last_number}
 use Rattle.smi_tree.specs.Nodes.{highest, child_at, child_of, oids_of}
+use Rattle.smi_tree.proofs.PlacesLemmas.{place_found}
 
 -- what the first of numbers gives that gives anything
 abbrev pub of_first : (ℕ → Option ℕ) → List ℕ → Option ℕ
@@ -62,19 +60,6 @@ of_lowest-lowest f b within = by (of_lowest f b) (lowest_below f b)
     by (Some k) (n, e, before) = lowest n k e before
 
 -- what rising numbers give first, if no other number gives anything
-sorted_head : (n : ℕ) (ns : List ℕ) → IsStrictlySortedBy nat_cmp (n ∷ ns) → AllByRecursion (λ y. nat_cmp n y ≡ Less) ns
-unfolding IsStrictlySortedBy
-sorted_head n ns h = h.0
-
-sorted_rest : (n : ℕ) (ns : List ℕ) → IsStrictlySortedBy nat_cmp (n ∷ ns) → IsStrictlySortedBy nat_cmp ns
-unfolding IsStrictlySortedBy
-sorted_rest n ns h = h.1
-
-all-at : (P : ℕ → Type 0) (ns : List ℕ) (i d : ℕ) → AllByRecursion P ns → i < length ns → P (get_or ns i d)
-all-at P [] i d h l = absurd (omega arith)
-all-at P (n ∷ ns) zero d h l = h.0
-all-at P (n ∷ ns) (suc i) d h l = all-at P ns i d h.1 (omega arith)
-
 in-rest : (n m : ℕ) (ns : List ℕ) → Contains (n ∷ ns) m → n ≢ m → Contains ns m
 in-rest n m ns (zero, l, e) other = absurd (other e)
 in-rest n m ns (suc i, l, e) other = (i, omega arith, e)
@@ -87,16 +72,14 @@ of_first-lowest f [] rising all = nothing (λ m. by m (f m) refl)
     by m None e = e
     by m (Some k) e = let there = all m k e in absurd (omega (arith, there.1))
 of_first-lowest f (n ∷ ns) rising all =
-    by (f n) refl (λ none. of_first-lowest f ns (sorted_rest n ns rising) (λ m k e. in-rest n m ns (all m k e) (none m k e)))
+    by (f n) refl (λ none. of_first-lowest f ns (sorted_tail nat_cmp n ns rising) (λ m k e. in-rest n m ns (all m k e) (none m k e)))
   where
     before : (k : ℕ) → (m : ℕ) → m < n → (r : Option ℕ) → f m ≡ r → f m ≡ None
     before k m l None e = e
     before k m l (Some j) e =
         let there = in-rest n m ns (all m j e) (λ s. absurd (omega (arith, s, l))) in
-        let above = all-at (λ y. nat_cmp n y ≡ Less) ns there.0 m (sorted_head n ns rising) there.1 in
-        let less : nat_cmp n m ≡ Less = rw there.2 at above in
-        let more : n < m = ranked n m Less (sym less) in
-        absurd (omega arith)
+        let above = below_from_sorted (n ∷ ns) 0 (suc there.0) m rising (omega arith) (omega (arith, there.1)) in
+        absurd (omega (arith, rw there.2 at above, l))
 
     by : (r : Option ℕ) → f n ≡ r → (((m k : ℕ) → f m ≡ Some k → n ≢ m) → IsOfLowest f (of_first f ns)) → IsOfLowest f (or_else (f n) (of_first f ns))
     by None e rest = rw e (rest (λ m k h same. let at : f n ≡ Some k = rw same h in cc))
@@ -119,21 +102,13 @@ find-first p g h (n ∷ ns) none some = by (g n) refl (find-first p g h ns none 
 
 -- an identifier of the list ends with a number up to the highest
 last_number-push : (o : List ℕ) (n : ℕ) → last_number (o ++ n ∷ []) ≡ n
-last_number-push [] n = refl
-last_number-push (m ∷ []) n = refl
 last_number-push (m ∷ k ∷ o) n = last_number-push (k ∷ o) n
+last_number-push _ n = refl
 
-ends-below : (oids : List (List ℕ)) (o : List ℕ) (n b k : ℕ) → position_from (λ x. pointwise nat_eq x (o ++ n ∷ [])) b oids ≡ Some k → n ≤ highest oids
-ends-below [] o n b k e = cc
-ends-below (x ∷ oids) o n b k e = by (pointwise nat_eq x (o ++ n ∷ [])) refl e (λ h. ends-below oids o n (b + 1) k h)
-  where
-    by : (v : Bool) → pointwise nat_eq x (o ++ n ∷ []) ≡ v → cond v (Some b) (position_from (λ x. pointwise nat_eq x (o ++ n ∷ [])) (b + 1) oids) ≡ Some k
-        → (position_from (λ x. pointwise nat_eq x (o ++ n ∷ [])) (b + 1) oids ≡ Some k → n ≤ highest oids) → n ≤ max (last_number x) (highest oids)
-    by true t e f =
-        let same : x ≡ o ++ n ∷ [] = (bytes_eq-Decides x (o ++ n ∷ [])).0 t in
-        let last : last_number x ≡ n = rw same (last_number-push o n) in
-        omega (arith, last)
-    by false t e f = let below = f e in omega (arith, below)
+up_to_highest : (oids : List (List ℕ)) (k : ℕ) → k < length oids → last_number (oid_at oids k) ≤ highest oids
+up_to_highest [] k l = absurd (omega arith)
+up_to_highest (o ∷ oids) zero l = omega arith
+up_to_highest (o ∷ oids) (suc k) l = let below = up_to_highest oids k (omega arith) in omega arith
 
 -- a number that gives anything for a child is at most the highest
 child-below : (nodes : List Node) (o label : List ℕ) (n k : ℕ) → child_at nodes o label n ≡ Some k → n < suc (highest (oids_of nodes))
@@ -142,7 +117,9 @@ child-below nodes o label n k = by (place_of (oids_of nodes) (o ++ n ∷ [])) re
     by : (r : Option ℕ) → place_of (oids_of nodes) (o ++ n ∷ []) ≡ r → if_labelled nodes label (place_of (oids_of nodes) (o ++ n ∷ [])) ≡ Some k
         → n < suc (highest (oids_of nodes))
     by None e h = let at : None ≡ Some k = rw e at h in cc
-    by (Some j) e h = let most = ends-below (oids_of nodes) o n 0 j e in omega (arith, most)
+    by (Some j) e h =
+        let at = place_found (oids_of nodes) (o ++ n ∷ []) j e in
+        omega (arith, up_to_highest (oids_of nodes) j at.0, ap last_number at.1, last_number-push o n)
 
 -- the computed child is the first one, and no other is
 pub child-first : (nodes : List Node) (o label : List ℕ) → IsFirstChild nodes o label (child_of nodes o label)

@@ -18,11 +18,5 @@ one_syntax ms o f g a b =
     let hint : f.hint ≡ g.hint = a.hint ∙ rw r.0 (sym b.hint) in
     let names : f.names ≡ g.names = a.names ∙ rw r.0 (sym b.names) in
     let sizes : f.sizes ≡ g.sizes = a.sizes ∙ rw r.0 (sym b.sizes) in
-    same f g r.1 hint names sizes
-  where
-    same : (f g : Facts) → f.base ≡ g.base → f.hint ≡ g.hint → f.names ≡ g.names → f.sizes ≡ g.sizes → f ≡ g
-    same f g base hint names sizes =
-        ap (λ b. record { base = b; hint = f.hint; names = f.names; sizes = f.sizes }) base
-        ∙ ap (λ h. record { base = g.base; hint = h; names = f.names; sizes = f.sizes }) hint
-        ∙ ap (λ n. record { base = g.base; hint = g.hint; names = n; sizes = f.sizes }) names
-        ∙ ap (λ z. record { base = g.base; hint = g.hint; names = g.names; sizes = z }) sizes
+    let is : g ≡ record { base = f.base; hint = f.hint; names = f.names; sizes = f.sizes } = rw (r.1, hint, names, sizes) refl in
+    sym is

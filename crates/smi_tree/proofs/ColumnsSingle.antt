@@ -49,17 +49,11 @@ extent_once sizes implied Implied Implied a b = refl
 
 part_once : (base : TypeBase) (sizes : Option (List Range)) (implied : Bool) (p q : IndexPart) → IsPartOf base sizes implied p → IsPartOf base sizes implied q
     → p ≡ q
-part_once T.Integer sizes implied p q a b = a ∙ sym b
-part_once T.Counter32 sizes implied p q a b = a ∙ sym b
-part_once T.Gauge32 sizes implied p q a b = a ∙ sym b
-part_once T.Unsigned32 sizes implied p q a b = a ∙ sym b
-part_once T.TimeTicks sizes implied p q a b = a ∙ sym b
-part_once T.IpAddress sizes implied p q a b = a ∙ sym b
 part_once T.OctetString sizes implied p q a b = a.2 ∙ ap (λ e. P.Text e) (extent_once sizes implied a.0 b.0 a.1 b.1) ∙ sym b.2
 part_once T.Bits sizes implied p q a b = a.2 ∙ ap (λ e. P.Octets e) (extent_once sizes implied a.0 b.0 a.1 b.1) ∙ sym b.2
 part_once T.Opaque sizes implied p q a b = a.2 ∙ ap (λ e. P.Octets e) (extent_once sizes implied a.0 b.0 a.1 b.1) ∙ sym b.2
-part_once T.ObjectIdentifier sizes implied p q a b = a ∙ sym b
 part_once T.Counter64 sizes implied p q a b = absurd a
+part_once _ sizes implied p q a b = a ∙ sym b
 
 module _ (ms : List Module) where
   same_part : (m : Module) (x : List ℕ) (implied : Bool) (p q : IndexPart) → IsIndexPart ms m x implied p → IsIndexPart ms m x implied q → p ≡ q

@@ -1,7 +1,7 @@
 -- A branch is made.
 use Rattle.std.proofs.Common.{◌≡◌, ◌≢◌, ℕ, zero, suc, ◌<◌, ◌≤◌, inl, inr, List, [], ◌∷◌, ◌++◌}
-use Rattle.std.proofs.Common.{length, set, get_or, Some, None, refl, ap, ◌∙◌, arith}
-use Rattle.std.proofs.lemmas.List.{length_push, length-set, get_or_append_left}
+use Rattle.std.proofs.Common.{length, set, get_or, Some, None, refl, sym, ap, ◌∙◌, arith}
+use Rattle.std.proofs.lemmas.List.{length_push, length-set, get_or_append_left, get_or-set_same}
 use Rattle.std.proofs.lemmas.Bool.{cases_eq}
 use Rattle.std.proofs.lemmas.Option.{slice_get_past, slice_get_read}
 use Rattle.std.specs.List.{slice_get}
@@ -12,22 +12,18 @@ use Rattle.smi_tree.specs.declared.branches.branch.Branch.{Branch}
 use Rattle.smi_tree.proofs.Lists.{get_at_push}
 
 get-set_same : {X : Type 0} (xs : List X) (i : ℕ) (y : X) → i < length xs → slice_get (set xs i y) i ≡ Some y
-get-set_same [] i y l = absurd (omega arith)
-get-set_same (x ∷ xs) zero y l = refl
-get-set_same (x ∷ xs) (suc i) y l = get-set_same xs i y (omega arith)
+get-set_same xs i y l =
+    slice_get_read (set xs i y) (length (set xs i y)) i y refl (omega (arith, length-set xs i y)) (sym (get_or-set_same xs i y y l))
 
 get-set_other : {X : Type 0} (xs : List X) (i j : ℕ) (y : X) → j ≢ i → slice_get (set xs i y) j ≡ slice_get xs j
-get-set_other [] i j y f = refl
 get-set_other (x ∷ xs) zero zero y f = absurd (f refl)
-get-set_other (x ∷ xs) zero (suc j) y f = refl
-get-set_other (x ∷ xs) (suc i) zero y f = refl
 get-set_other (x ∷ xs) (suc i) (suc j) y f = get-set_other xs i j y (λ e. f (ap suc e))
+get-set_other _ _ _ y f = refl
 
 get-push : {X : Type 0} (xs : List X) (j : ℕ) (y : X) → j ≢ length xs → slice_get (xs ++ y ∷ []) j ≡ slice_get xs j
 get-push [] zero y f = absurd (f refl)
-get-push [] (suc j) y f = refl
-get-push (x ∷ xs) zero y f = refl
 get-push (x ∷ xs) (suc j) y f = get-push xs j y (λ e. f (ap suc e))
+get-push _ _ y f = refl
 
 pub follower_past : (bs : List Branch) (c m : ℕ) → length bs ≤ c → follower bs c m ≡ None
 follower_past bs c m l = rw (slice_get_past bs c l)

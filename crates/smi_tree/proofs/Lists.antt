@@ -22,9 +22,8 @@ get_at_push (z ∷ xs) y = get_at_push xs y
 pub same_items : {A : Type 0} (xs ys : List A) → length xs ≡ length ys
     → ((j : ℕ) (x y : A) → slice_get xs j ≡ Some x → slice_get ys j ≡ Some y → x ≡ y) → xs ≡ ys
 same_items [] [] l h = refl
-same_items [] (y ∷ ys) l h = absurd (omega arith)
-same_items (x ∷ xs) [] l h = absurd (omega arith)
 same_items (x ∷ xs) (y ∷ ys) l h =
     let head : x ≡ y = h 0 x y refl refl in
     let tail = same_items xs ys (omega arith) (λ j a b e f. h (suc j) a b e f) in
     rw (head, tail) refl
+same_items _ _ l h = absurd (omega arith)

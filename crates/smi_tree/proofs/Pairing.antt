@@ -1,7 +1,7 @@
 -- A list is made item by item, each for one of another list.
-use Rattle.std.proofs.Common.{◌≡◌, ℕ, ◌+◌, inl, inr, List, [], ◌∷◌, ◌++◌, length, Some, refl, ap, ◌∙◌, arith}
+use Rattle.std.proofs.Common.{◌≡◌, ℕ, ◌+◌, ◌<◌, inl, inr, List, [], ◌∷◌, ◌++◌, length, get_or, Some, refl, ap, ◌∙◌, arith}
 use Rattle.std.proofs.lemmas.List.{length_push}
-use Rattle.std.proofs.lemmas.Option.{slice_get_within}
+use Rattle.std.proofs.lemmas.Option.{slice_get_within, slice_get_read}
 use Rattle.std.specs.List.{slice_get}
 use Rattle.smi_tree.specs.Pairwise.{ArePairwise}
 use Rattle.smi_tree.proofs.Lists.{get_within, get_push}
@@ -14,11 +14,11 @@ pub record AreFirst {A X : Type 0} (R : ℕ → A → X → Type 0) (ts : List A
 pub first_none : {A X : Type 0} (R : ℕ → A → X → Type 0) (ts : List A) → AreFirst R ts 0 []
 first_none R ts = record { long = refl; each = λ p t x e f. absurd (cc) }
 
-pub first_more : {A X : Type 0} (R : ℕ → A → X → Type 0) (ts : List A) (i : ℕ) (xs : List X) (t : A) (x : X) → AreFirst R ts i xs
-    → slice_get ts i ≡ Some t → R i t x → AreFirst R ts (i + 1) (xs ++ x ∷ [])
-first_more R ts i xs t x first at new = record {
-  long = length_push xs x ∙ ap (λ n. n + 1) first.long;
-  each = λ p u y e f. elim (get_push xs x p y f) [
+pub first_more : {A X : Type 0} (R : ℕ → A → X → Type 0) (ts : List A) (i : ℕ) (xs ys : List X) (t : A) (x : X) → AreFirst R ts i xs
+    → ys ≡ xs ++ x ∷ [] → slice_get ts i ≡ Some t → R i t x → AreFirst R ts (i + 1) ys
+first_more R ts i xs ys t x first pushed at new = record {
+  long = ap (λ zs. length zs) pushed ∙ length_push xs x ∙ ap (λ n. n + 1) first.long;
+  each = λ p u y e f. elim (get_push xs x p y (rw pushed at f)) [
     | inl h ↦ first.each p u y e h.1
     | inr h ↦
         let here : p ≡ i = h.0 ∙ first.long in
@@ -26,6 +26,12 @@ first_more R ts i xs t x first at new = record {
         rw (here, ← same, ← h.1) new
   ];
 }
+
+-- the same, for what is read there
+pub first_next : {A X : Type 0} (R : ℕ → A → X → Type 0) (ts : List A) (i : ℕ) (xs ys : List X) (t : A) (x : X) → AreFirst R ts i xs
+    → ys ≡ xs ++ x ∷ [] → i < length ts → t ≡ get_or ts i t → R i t x → AreFirst R ts (i + 1) ys
+first_next R ts i xs ys t x first pushed inside is new =
+    first_more R ts i xs ys t x first pushed (slice_get_read ts (length ts) i t refl inside is) new
 
 pub first_all : {A X : Type 0} (R : ℕ → A → X → Type 0) (ts : List A) (i : ℕ) (xs : List X) → AreFirst R ts i xs → i ≡ length ts → ArePairwise R ts xs
 first_all R ts i xs first end = record { long = first.long ∙ end; each = first.each }

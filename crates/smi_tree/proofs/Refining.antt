@@ -92,18 +92,11 @@ module _ (k : KnownNames) (at : ℕ × ℕ) (d : Def) (there : def_at k.modules 
 
   by_base : (home : List ℕ) (c : Base) (t : Option TypeBase) → base_in c ≡ t → (to : Option ℕ) (far : Option KeptSyntax)
       → LeadsTo k (origin_of_base home l c t) to → IsLed k to far → IsKept k.modules (origin_of_base home l c t) (option_map refined (base_or t far))
-  by_base home B.Integer (Some b) e to far leads led = own b
-  by_base home B.OctetString (Some b) e to far leads led = own b
-  by_base home B.ObjectIdentifier (Some b) e to far leads led = own b
-  by_base home B.Bits (Some b) e to far leads led = own b
-  by_base home (B.Named x) (Some b) e to far leads led = own b
-  by_base home B.Integer None e to far leads led = absurd (cc)
-  by_base home B.OctetString None e to far leads led = absurd (cc)
-  by_base home B.ObjectIdentifier None e to far leads led = absurd (cc)
-  by_base home B.Bits None e to far leads led = absurd (cc)
+  by_base home c (Some b) e to far leads led = own b
   by_base home (B.Named x) None e to far leads led =
       let a : QualifiedName = record { home = home; name = x.octets } in
       on a far (rw (placed k leads.0 a leads.2) at (led leads.0 leads.1))
+  by_base home _ None e to far leads led = absurd (cc)
 
   pub refined_right : (home : List ℕ) (to : Option ℕ) (far : Option KeptSyntax) → LeadsTo k (origin_of_simple home hint (Some s)) to → IsLed k to far
       → IsKept k.modules (origin_of_simple home hint (Some s)) (refined_by at (is_some hint) s far)

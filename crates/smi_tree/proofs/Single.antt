@@ -25,18 +25,13 @@ module _ (ms : List Module)
       let node = get_within nodes k (omega (arith, a.long)) in
       syntax_or_none node.0 (slice_index_or fs k None) (slice_index_or gs k None) (a.each k node.0 node.1) (b.each k node.0 node.1))
 
-  same_contents : (t u : Contents) → t.modules ≡ u.modules → t.nodes ≡ u.nodes → t.syntaxes ≡ u.syntaxes → t.indexes ≡ u.indexes → t ≡ u
-  same_contents t u modules nodes syntaxes indexes =
-      ap (λ x. record { modules = x; nodes = t.nodes; syntaxes = t.syntaxes; indexes = t.indexes }) modules
-      ∙ ap (λ x. record { modules = u.modules; nodes = x; syntaxes = t.syntaxes; indexes = t.indexes }) nodes
-      ∙ ap (λ x. record { modules = u.modules; nodes = u.nodes; syntaxes = x; indexes = t.indexes }) syntaxes
-      ∙ ap (λ x. record { modules = u.modules; nodes = u.nodes; syntaxes = u.syntaxes; indexes = x }) indexes
-
   pub one_tree : (t u : Contents) (ws vs : List Warning) → IsTree ms t ws → IsTree ms u vs → (t ≡ u) × (ws ≡ vs)
   one_tree t u ws vs a b =
       let load = loading ms a.ns b.ns ws vs a.loads b.loads in
-      let nodes : t.nodes ≡ u.nodes = a.nodes ∙ ap (λ x. roots ++ x) load.0 ∙ sym b.nodes in (
-        same_contents t u (a.passed ∙ sym b.passed) nodes (same_syntaxes u.nodes t.syntaxes u.syntaxes (rw nodes at a.syntaxes) b.syntaxes)
-            (same_indexes ms u.nodes t.indexes u.indexes (rw nodes at a.indexes) b.indexes),
-        load.1,
-      )
+      let modules : t.modules ≡ u.modules = a.passed ∙ sym b.passed in
+      let nodes : t.nodes ≡ u.nodes = a.nodes ∙ ap (λ x. roots ++ x) load.0 ∙ sym b.nodes in
+      let syntaxes = same_syntaxes u.nodes t.syntaxes u.syntaxes (rw nodes at a.syntaxes) b.syntaxes in
+      let indexes = same_indexes ms u.nodes t.indexes u.indexes (rw nodes at a.indexes) b.indexes in
+      let is : u ≡ record { modules = t.modules; nodes = t.nodes; syntaxes = t.syntaxes; indexes = t.indexes } =
+      rw (modules, nodes, syntaxes, indexes) refl in
+      (sym is, load.1)

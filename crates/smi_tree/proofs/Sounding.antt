@@ -1,25 +1,28 @@
 -- Names of nodes are sound: labels are words, and lead to the nodes that they are shown for.
-use Rattle.std.proofs.Common.{◌≡◌, ℕ, zero, suc, ◌+◌, ◌≤◌, ◌⊎◌, inl, inr, Bool, true, false, cond}
-use Rattle.std.proofs.Common.{◌&&◌, List, [], ◌∷◌, ◌++◌, length, take}
-use Rattle.std.proofs.Common.{Option, Some, None, refl, sym, ap, subst, ◌∙◌, arith, nat_eq}
+use Rattle.std.proofs.Common.{◌≡◌, ℕ, zero, suc, ◌≤◌, ◌⊎◌, inl, inr, Bool, true, false}
+use Rattle.std.proofs.Common.{◌&&◌, List, [], ◌++◌, length, take}
+use Rattle.std.proofs.Common.{Option, Some, None, refl, sym, ap, subst, ◌∙◌, arith}
 use Rattle.std.specs.Prelude.{slice_index_or}
-use Rattle.std.specs.List.{slice_get, position_from}
+use Rattle.std.specs.List.{slice_get}
 use Rattle.std.specs.Option.{option_and_then}
-use Rattle.std.specs.Cmp.Lexicographic.{pointwise}
-use Rattle.std.proofs.lemmas.Slice.Eq.{bytes_eq-Decides}
+use Rattle.std.proofs.lemmas.List.{length-map}
+use Rattle.std.proofs.lemmas.Option.{slice_get-map, get_or_from_slice_get}
 use Rattle.smi_text.specs.trees.Mark.{same_text}
 use Rattle.smi_text.specs.trees.Word.{is_word}
 use Rattle.smi_text.specs.declared.trees.tree.Module.{Module}
-use Rattle.smi_names.specs.meaning.Meaning.{Means, QualifiedName, or_else, root_label}
+use Rattle.smi_names.specs.meaning.Meaning.{Means, QualifiedName, or_else}
 use Rattle.smi_tree.specs.branches.Standing.{place_of}
 use Rattle.smi_show.specs.name.Naming.{Naming, Standing, LabelLeadsTo, IsSound}
 use Rattle.smi_names.specs.nodes.Nodes.{Node, node_of_root, roots, Loads}
 use Rattle.smi_names.specs.declared.nodes.warning.Warning.{Warning}
-use Rattle.smi_tree.specs.Nodes.{oids_of, is_of, place_in_module, place_anywhere}
+use Rattle.smi_tree.specs.Nodes.{oids_of, has_label, is_of, place_in_module, place_anywhere}
 use Rattle.smi_tree.specs.Standing.{Longest, at_depth, longest_up_to, longest}
 use Rattle.smi_tree.specs.Tree.{Contents}
 use Rattle.smi_tree.specs.Naming.{home_name, standing_from, standing_of_longest, oid_of, naming_of}
+use Rattle.smi_tree.proofs.First.{IsFirst, first, passing}
 use Rattle.smi_tree.proofs.Listing.{same, same_itself}
+use Rattle.smi_tree.proofs.Lists.{get_within}
+use Rattle.smi_tree.proofs.PlacesLemmas.{place_found}
 use Rattle.smi_tree.proofs.Soundness.{IsOfModule, root-or-module}
 
 -- the place of the longest beginning is that of its first numbers
@@ -48,27 +51,8 @@ reached oids o (suc j) l e = by (place_of oids (take (suc j) o)) refl e (reached
         let low : suc j ≤ suc j = omega arith in
         subst (λ l. Reaches oids o (suc j) l) is (low, f)
 
--- the identifier at the first place of one
-found-at : (oids : List (List ℕ)) (o : List ℕ) (b k : ℕ) → position_from (λ x. pointwise nat_eq x o) b oids ≡ Some k
-    → (i : ℕ) × (k ≡ b + i) × (slice_get oids i ≡ Some o)
-found-at [] o b k e = cc
-found-at (x ∷ oids) o b k e = by (pointwise nat_eq x o) refl e (found-at oids o (b + 1) k)
-  where
-    by : (v : Bool) → pointwise nat_eq x o ≡ v → cond v (Some b) (position_from (λ x. pointwise nat_eq x o) (b + 1) oids) ≡ Some k
-        → (position_from (λ x. pointwise nat_eq x o) (b + 1) oids ≡ Some k → (i : ℕ) × (k ≡ b + 1 + i) × (slice_get oids i ≡ Some o))
-        → (i : ℕ) × (k ≡ b + i) × (slice_get (x ∷ oids) i ≡ Some o)
-    by true t e rest = let here : b ≡ k = cc in (0, omega arith, ap (λ z. Some z) ((bytes_eq-Decides x o).0 t))
-    by false t e rest = let r = rest e in (suc r.0, omega (arith, r.1), r.2)
-
-node-of : (nodes : List Node) (i : ℕ) (o : List ℕ) → slice_get (oids_of nodes) i ≡ Some o → (n : Node) × (slice_get nodes i ≡ Some n) × (n.oid ≡ o)
-node-of [] i o e = cc
-node-of (n ∷ nodes) zero o e = (n, refl, cc)
-node-of (n ∷ nodes) (suc i) o e = node-of nodes i o e
-
 oid-at : (nodes : List Node) (i : ℕ) (n : Node) → slice_get nodes i ≡ Some n → slice_get (oids_of nodes) i ≡ Some n.oid
-oid-at [] i n e = cc
-oid-at (m ∷ nodes) zero n e = let same_node : m ≡ n = cc in ap (λ (n : Node). Some n.oid) same_node
-oid-at (m ∷ nodes) (suc i) n e = oid-at nodes i n e
+oid-at nodes i n e = slice_get-map (λ (m : Node). m.oid) nodes i ∙ rw e refl
 
 -- a node as names see it, and the node that it is
 pub record StandsFor (t : Contents) (o : List ℕ) (node : Standing) : Type 0 where
@@ -87,30 +71,13 @@ stands t o node e = by (longest t.nodes o) refl e
     by None f e = cc
     by (Some l) f e =
         let r = reached (oids_of t.nodes) o (length o) l f in
-        let at = found-at (oids_of t.nodes) (take l.depth o) 0 l.place r.1 in
-        let n = node-of t.nodes at.0 (take l.depth o) at.2 in
-        let place : l.place ≡ at.0 = omega (arith, at.1) in
-        let there : slice_get t.nodes l.place ≡ Some n.0 = subst (λ k. slice_get t.nodes k ≡ Some n.0) (sym place) n.1 in
-        let seen : Some (standing_from l.depth (slice_index_or t.indexes l.place None) n.0) ≡ Some node = rw there at e in
+        let at = place_found (oids_of t.nodes) (take l.depth o) l.place r.1 in
+        let n = get_within t.nodes l.place (omega (arith, at.0, length-map t.nodes (λ (m : Node). m.oid))) in
+        let read = get_or_from_slice_get (oids_of t.nodes) l.place n.0.oid [] (oid-at t.nodes l.place n.0 n.1) in
+        let seen : Some (standing_from l.depth (slice_index_or t.indexes l.place None) n.0) ≡ Some node = rw n.1 at e in
         let is : standing_from l.depth (slice_index_or t.indexes l.place None) n.0 ≡ node = cc in
         subst (λ node. StandsFor t o node) is
-        (record { place = l.place; n = n.0; there = there; home = refl; label = refl; depth = r.0; oid = n.2 })
-
--- the first thing that passes, where one does
-first-passing : {A : Type 0} (t : A → Bool) (b i : ℕ) (xs : List A) (x : A) → slice_get xs i ≡ Some x → t x ≡ true
-    → (j : ℕ) × (y : A) × (position_from t b xs ≡ Some (b + j)) × (slice_get xs j ≡ Some y) × (t y ≡ true)
-first-passing t b i [] x e p = cc
-first-passing t b zero (y ∷ xs) x e p =
-    let here : y ≡ x = cc in
-    let passes : t y ≡ true = rw here p in
-    let zeroth : b ≡ b + 0 = omega arith in
-    (0, y, rw passes (ap (λ k. Some k) zeroth), refl, passes)
-first-passing t b (suc i) (y ∷ xs) x e p = by (t y) refl (first-passing t (b + 1) i xs x e p)
-  where
-    by : (v : Bool) → t y ≡ v → (j : ℕ) × (z : _) × (position_from t (b + 1) xs ≡ Some (b + 1 + j)) × (slice_get xs j ≡ Some z) × (t z ≡ true)
-        → (j : ℕ) × (z : _) × (position_from t b (y ∷ xs) ≡ Some (b + j)) × (slice_get (y ∷ xs) j ≡ Some z) × (t z ≡ true)
-    by true f r = let zeroth : b ≡ b + 0 = omega arith in (0, y, rw f (ap (λ k. Some k) zeroth), refl, f)
-    by false f r = let more : b + 1 + r.0 ≡ b + suc r.0 = omega arith in (suc r.0, r.1, rw f (r.2 ∙ ap (λ k. Some k) more), r.3, r.4)
+        (record { place = l.place; n = n.0; there = n.1; home = refl; label = refl; depth = r.0; oid = sym read ∙ at.1 })
 
 -- the roots
 pub root-case : (P : Node → Type 0) → P (node_of_root 0) → P (node_of_root 1) → P (node_of_root 2)
@@ -133,13 +100,11 @@ root-home = root-case (λ n. n.home ≡ None) refl refl refl
 -- a root by its place
 pub among-roots : (ns : List Node) (x : List ℕ) (k : ℕ) → Some k ≡ place_anywhere roots x
     → oid_of (roots ++ ns) (Some k) ≡ oid_of roots (place_anywhere roots x)
-among-roots ns x k e = rw (sym e) (by (same_text (root_label 0) x) (same_text (root_label 1) x) (same_text (root_label 2) x) e)
-  where
-    by : (a b d : Bool) → Some k ≡ cond a (Some 0) (cond b (Some 1) (cond d (Some 2) None)) → oid_of (roots ++ ns) (Some k) ≡ oid_of roots (Some k)
-    by true b d f = let at : k ≡ 0 = cc in rw at refl
-    by false true d f = let at : k ≡ 1 = cc in rw at refl
-    by false false true f = let at : k ≡ 2 = cc in rw at refl
-    by false false false f = cc
+among-roots ns x (suc (suc (suc k))) e =
+    let f : IsFirst (has_label x) roots (suc (suc (suc k))) = rw (← e) at (first (has_label x) roots) in
+    let none = f.at in
+    absurd (cc)
+among-roots ns x _ e = rw (← e) refl
 
 -- a node's module and label lead to its identifier
 abbrev pub OneMeaning : Type 0
@@ -157,11 +122,10 @@ in-its-module ms ns ws law l k n there f =
     let x = f.definition.label.octets in
     let passes : is_of f.home.name.octets f.definition.label.octets n ≡ true =
     rw (f.is, same_itself f.home.name.octets, same_itself f.definition.label.octets) refl in
-    let first = first-passing (is_of home x) 0 k (roots ++ ns) n there passes in
-    let place : 0 + first.0 ≡ first.0 = omega arith in
-    let at : position_from (is_of f.home.name.octets f.definition.label.octets) 0 (roots ++ ns) ≡ Some first.0 = rw place at first.2 in
-    let read = oid-at (roots ++ ns) first.0 first.1 first.3 in
-    rw at (read ∙ ap (λ o. Some o) (by first.1 (root-or-module ms ns ws first.0 first.1 l first.3) first.4))
+    let first = passing (is_of home x) (roots ++ ns) k n there passes in
+    let y = first.2.x in
+    rw first.1 (oid-at (roots ++ ns) first.0 y first.2.at ∙ ap (λ o. Some o)
+    (by y (root-or-module ms ns ws first.0 y l first.2.at) first.2.passes))
   where
     by : (y : Node) → ((j : ℕ) × (slice_get roots j ≡ Some y)) ⊎ IsOfModule ms y → is_of f.home.name.octets f.definition.label.octets y ≡ true → y.oid ≡ n.oid
     by y (inl r) t = let named = rw (root-home r.0 y r.1) at t in cc

@@ -40,9 +40,7 @@ given ms m d (Some v) ns ws k n l (R.Numbers o, comes, is, w) e = one k (rw is a
         let P : Node → Type 0 = λ n. IsOfModule ms n in
         subst P here (record { home = m; definition = d; is = refl; loaded = l; means = comes.0 })
     one (suc k) f = cc
-given ms m d (Some v) ns ws k n l (R.Cycle, comes, is, w) e = let at : slice_get [] k ≡ Some n = rw is at e in cc
-given ms m d (Some v) ns ws k n l (R.Unresolved, comes, is, w) e = let at : slice_get [] k ≡ Some n = rw is at e in cc
-given ms m d (Some v) ns ws k n l (R.TooLong, comes, is, w) e = let at : slice_get [] k ≡ Some n = rw is at e in cc
+given ms m d (Some v) ns ws k n l (_, comes, is, w) e = let at : slice_get [] k ≡ Some n = rw is at e in cc
 
 gathered : (ms : List Module) (m : Module) (ds : List Def) (ns : List Node) (ws : List Warning) (k : ℕ) (n : Node) → is_loaded ms m.name.octets ≡ true
     → Gathers ms m ds ns ws → slice_get ns k ≡ Some n → IsOfModule ms n

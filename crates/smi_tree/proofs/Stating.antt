@@ -22,24 +22,13 @@ named b x e h = rw e (by (base_in (B.Named x)) (rw e at h))
 module _ (k : KnownNames) (home : List ℕ) (l : Layer) where
   leads_by_name : (b : Base) (t : Option TypeBase) (x : List ℕ) (q : ℕ) → name_in_base b t ≡ Some x
       → slice_get k.names q ≡ content_named k.modules (record { home = home; name = x }) → LeadsTo k (origin_of_base home l b t) (Some q)
-  leads_by_name B.Integer t x q e at = absurd (cc)
-  leads_by_name B.OctetString t x q e at = absurd (cc)
-  leads_by_name B.ObjectIdentifier t x q e at = absurd (cc)
-  leads_by_name B.Bits t x q e at = absurd (cc)
-  leads_by_name (B.Named y) (Some t) x q e at = absurd (cc)
   leads_by_name (B.Named y) None x q e at = let same : y.octets ≡ x = cc in (q, refl, rw same at)
+  leads_by_name _ t x q e at = absurd (cc)
 
   leads_nowhere : (b : Base) (t : Option TypeBase) → name_in_base b t ≡ None → LeadsTo k (origin_of_base home l b t) None
-  leads_nowhere B.Integer None e = refl
-  leads_nowhere B.Integer (Some t) e = refl
-  leads_nowhere B.OctetString None e = refl
-  leads_nowhere B.OctetString (Some t) e = refl
-  leads_nowhere B.ObjectIdentifier None e = refl
-  leads_nowhere B.ObjectIdentifier (Some t) e = refl
-  leads_nowhere B.Bits None e = refl
-  leads_nowhere B.Bits (Some t) e = refl
-  leads_nowhere (B.Named y) (Some t) e = refl
   leads_nowhere (B.Named y) None e = absurd (cc)
+  leads_nowhere b (Some t) e = refl
+  leads_nowhere _ None e = refl
 
 pub leads_to_name : (k : KnownNames) (home : List ℕ) (hint : Option (List ℕ)) (s : SimpleType) (x : List ℕ) (q : ℕ) → name_in s.base ≡ Some x
     → slice_get k.names q ≡ content_named k.modules (record { home = home; name = x }) → LeadsTo k (origin_of_simple home hint (Some s)) (Some q)

@@ -1,19 +1,18 @@
 -- What is kept for the sources of nodes is their syntax.
-use Rattle.std.proofs.Common.{◌≡◌, ℕ, zero, suc, List, [], ◌∷◌, MatchOption, Option, Some, None}
+use Rattle.std.proofs.Common.{◌≡◌, ℕ, zero, suc, List, [], ◌∷◌, Option, Some, None}
 use Rattle.std.proofs.Common.{slice_index_or, length, refl, sym, ap, arith}
 use Rattle.std.specs.List.{slice_get}
 use Rattle.std.specs.Option.{option_and_then}
 use Rattle.smi_text.specs.declared.trees.tree.Module.{Module}
-use Rattle.smi_names.specs.meaning.Meaning.{QualifiedName}
 use Rattle.smi_names.specs.nodes.Nodes.{Node}
 use Rattle.smi_names.specs.nodes.Gathered.{node_from, nodes_of, AreGathered}
 use Rattle.smi_names.specs.declared.nodes.gather.Gathered.{Gathered}
 use Rattle.smi_names.specs.nodes.Gathered as gathered
 use Rattle.smi_names.specs.declared.nodes.source.Source.{Source}
 use Rattle.smi_names.specs.declared.nodes.source.Source.TheVariants as S
-use Rattle.smi_tree.specs.types.Chain.{TypeOrigin, no_type}
-use Rattle.smi_tree.specs.types.Types.{Facts, HasSyntax, HasNoSyntax, object_in, object_origin}
-use Rattle.smi_tree.specs.types.Kept.{kept_syntax, AreTypesOf}
+use Rattle.smi_tree.specs.types.Chain.{no_type}
+use Rattle.smi_tree.specs.types.Types.{object_in, object_origin}
+use Rattle.smi_tree.specs.types.Kept.{AreTypesOf}
 use Rattle.smi_tree.specs.declared.types.types.Types.{Types}
 use Rattle.smi_tree.specs.Shown.{IsSyntaxOf, AreSyntaxesOf, syntax_from, syntaxes_from}
 use Rattle.smi_show.specs.declared.index.part.IndexPart.{IndexPart}
@@ -31,23 +30,15 @@ same_object ms i k = by (slice_get ms i)
     by (Some m) = refl
 
 module _ (ms : List Module) (t : Types) (right : AreTypesOf ms t) where
-  of_origin : (n : Node) (o : TypeOrigin QualifiedName) → object_in n.home n.definition ≡ o → (r : Option Facts)
-      → MatchOption r (HasNoSyntax ms o) (λ f. HasSyntax ms o f) → IsSyntaxOf ms n r
-  of_origin n o same None h = rw same h
-  of_origin n o same (Some f) h = rw same h
-
   of_source : (s : Source) (o : List ℕ) → IsSyntaxOf ms (node_from ms s o) (syntax_from ms t s)
   of_source (S.Root n) o = no_syntax ms no_type refl
-  of_source (S.Definition i k) o =
-      of_origin (node_from ms (S.Definition i k) o) (object_origin ms i k) (rw (parts ms (S.Definition i k) o) (same_object ms i k)) (kept_syntax ms t i k)
-      (right i k)
+  of_source (S.Definition i k) o = rw (parts ms (S.Definition i k) o, same_object ms i k) (right i k)
 
   each_right : (ss : List Source) (os : List (List ℕ)) (k : ℕ) (n : Node) → slice_get (nodes_of ms ss os) k ≡ Some n
       → IsSyntaxOf ms n (slice_index_or (syntaxes_from ms t ss) k None)
-  each_right [] os k n e = absurd (cc)
-  each_right (s ∷ ss) [] k n e = absurd (cc)
   each_right (s ∷ ss) (o ∷ os) zero n e = let same : node_from ms s o ≡ n = cc in rw (sym same) (of_source s o)
   each_right (s ∷ ss) (o ∷ os) (suc k) n e = each_right ss os k n e
+  each_right _ _ k n e = absurd (cc)
 
   as_many : (ss : List Source) (os : List (List ℕ)) → length ss ≡ length os → length (syntaxes_from ms t ss) ≡ length (nodes_of ms ss os)
   as_many [] os l = refl

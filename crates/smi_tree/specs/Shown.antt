@@ -25,8 +25,8 @@ use Rattle.smi_text.specs.declared.trees.tree.DefKind.TheVariants as D
 use Rattle.smi_names.specs.nodes.Nodes.{Node}
 use Rattle.smi_names.specs.declared.nodes.source.Source.{Source}
 use Rattle.smi_names.specs.declared.nodes.source.Source.TheVariants as S
-use Rattle.smi_tree.specs.types.Types.{Facts, HasSyntax, HasNoSyntax, object_in}
-use Rattle.smi_tree.specs.types.Kept.{kept_syntax}
+use Rattle.smi_tree.specs.types.Types.{Facts, object_in}
+use Rattle.smi_tree.specs.types.Kept.{kept_syntax, IsSyntax}
 use Rattle.smi_names.specs.declared.meaning.base.TypeBase.{TypeBase}
 use Rattle.smi_names.specs.declared.meaning.base.TypeBase.TheVariants as T
 use Rattle.smi_tree.specs.declared.types.types.Types.{Types}
@@ -36,8 +36,7 @@ use Rattle.smi_value.specs.declared.base.ValueBase.TheVariants as V
 
 -- the syntax of a node's object is this one, or it has none
 abbrev pub IsSyntaxOf : List Module → Node → Option Facts → Type 0
-IsSyntaxOf ms n (Some facts) = HasSyntax ms (object_in n.home n.definition) facts
-IsSyntaxOf ms n None = HasNoSyntax ms (object_in n.home n.definition)
+IsSyntaxOf ms n facts = IsSyntax ms (object_in n.home n.definition) facts
 
 -- the syntax of each node's object, in the order of the nodes
 pub record AreSyntaxesOf (ms : List Module) (nodes : List Node)

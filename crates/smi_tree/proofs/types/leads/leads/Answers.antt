@@ -1,5 +1,5 @@
 -- One name more.
-use Rattle.std.proofs.Common.{rules, ◌≡◌, ◌<◌, [], ◌∷◌, ◌++◌, length, arith}
+use Rattle.std.proofs.Common.{rules, ◌≡◌, ◌<◌, length, arith}
 use Rattle.smi_tree.proofs.Lists.{get_within}
 use Rattle.smi_tree.proofs.Pairing.{first_none, first_more, first_all}
 use Rattle.smi_tree.proofs.types.leads.leads.Goals as goal
@@ -9,10 +9,10 @@ places-init c = rw c.in_ok-leads.ensures.items (first_none _ _)
 
 pub places-preserved : goal.places-preserved
 places-preserved c =
-    let pushed : c.push.new.self.items ≡ c.places.leads.items ++ c.lead_at.result ∷ [] = search rules in
     let inside : c.places.place < length c.args.entries.now.names = omega (arith, c.places-test.true, c.len-place-end.ensures) in
     let name = get_within c.args.entries.now.names c.places.place inside in
-    rw pushed (first_more _ _ c.places.place c.places.leads.items name.0 c.lead_at.result c.places.invariant name.1 (c.lead_at.ensures name.0 name.1))
+    first_more _ _ c.places.place c.places.leads.items c.push.new.self.items name.0 c.lead_at.result c.places.invariant (search rules) name.1
+    (c.lead_at.ensures name.0 name.1)
 
 pub returns : goal.returns
 returns c =

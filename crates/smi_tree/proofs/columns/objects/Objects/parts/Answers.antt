@@ -1,5 +1,5 @@
 -- One name more.
-use Rattle.std.proofs.Common.{rules, ◌≡◌, ◌<◌, [], ◌∷◌, ◌++◌, length, Some, refl}
+use Rattle.std.proofs.Common.{rules, ◌≡◌, ◌<◌, length, Some, refl}
 use Rattle.std.proofs.lemmas.Option.{slice_get_read}
 use Rattle.std.specs.List.{slice_get}
 use Rattle.smi_tree.specs.columns.Index.{IsIndexPart, is_implied}
@@ -14,8 +14,7 @@ names-preserved c =
     let at : slice_get c.args.clause.now.names c.names.i ≡ Some c.index-names-i.result = rw c.as_slice-names.ensures at read in
     let is : IsIndexPart c.args.self.now c.args.home.now c.index-names-i.result.octets (is_implied c.args.clause.now c.names.i) c.in-Some.part =
     rw c.is_implied.ensures at c.in-Some.ensures in
-    let pushed : c.push.new.self.items ≡ c.names.parts.items ++ c.in-Some.part ∷ [] = search rules in
-    rw pushed (first_more _ _ i c.names.parts.items c.index-names-i.result c.in-Some.part c.names.invariant at is)
+    first_more _ _ i c.names.parts.items c.push.new.self.items c.index-names-i.result c.in-Some.part c.names.invariant (search rules) at is
 
 pub returns-in_default : goal.returns-in_default
 returns-in_default c =

@@ -1,7 +1,6 @@
 -- One definition more.
-use Rattle.std.proofs.Common.{rules, ◌≡◌, [], ◌∷◌, ◌++◌, length, refl, arith}
-use Rattle.std.proofs.lemmas.Option.{slice_get_read}
-use Rattle.smi_tree.proofs.Pairing.{first_none, first_more, first_all}
+use Rattle.std.proofs.Common.{rules, ◌≡◌, length, arith}
+use Rattle.smi_tree.proofs.Pairing.{first_none, first_next, first_all}
 use Rattle.smi_tree.proofs.columns.objects.Objects.parts_of_module.Goals as goal
 
 pub defs-init : goal.defs-init
@@ -9,10 +8,8 @@ defs-init c = rw c.in_ok-kept.ensures.items (first_none _ _)
 
 pub defs-preserved : goal.defs-preserved
 defs-preserved c =
-    let ds = c.as_slice-defs.result.now in
-    let pushed : c.push.new.self.items ≡ c.defs.kept.items ++ c.in_ok-own.own ∷ [] = search rules in
-    let read = slice_get_read ds (length ds) c.defs.def-index c.def-item.result refl c.defs-test.true c.def-item.is in
-    rw pushed (first_more _ _ c.defs.def-index c.defs.kept.items c.def-item.result c.in_ok-own.own c.defs.invariant read c.in_ok-own.ensures)
+    first_next _ _ c.defs.def-index c.defs.kept.items c.push.new.self.items c.def-item.result c.in_ok-own.own c.defs.invariant (search rules) c.defs-test.true
+    c.def-item.is c.in_ok-own.ensures
 
 pub returns : goal.returns
 returns c =

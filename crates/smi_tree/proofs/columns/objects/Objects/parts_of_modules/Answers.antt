@@ -1,7 +1,6 @@
 -- One module more.
-use Rattle.std.proofs.Common.{rules, ◌≡◌, [], ◌∷◌, ◌++◌, length, refl, arith}
-use Rattle.std.proofs.lemmas.Option.{slice_get_read}
-use Rattle.smi_tree.proofs.Pairing.{first_none, first_more, first_all}
+use Rattle.std.proofs.Common.{rules, ◌≡◌, length, arith}
+use Rattle.smi_tree.proofs.Pairing.{first_none, first_next, first_all}
 use Rattle.smi_tree.proofs.columns.objects.Objects.parts_of_modules.Goals as goal
 
 pub modules-init : goal.modules-init
@@ -9,13 +8,9 @@ modules-init c = rw c.in_ok-kept.ensures.items (first_none _ _)
 
 pub modules-preserved : goal.modules-preserved
 modules-preserved c =
-    let ms = c.args.self.now in
     let view : c.self.inside.modules.now ≡ c.args.self.now = c.self.view_is in
-    let test = rw view at c.modules-test.true in
-    let is = rw view at c.home-item.is in
-    let pushed : c.push.new.self.items ≡ c.modules.kept.items ++ c.in_ok-own.own ∷ [] = search rules in
-    let read = slice_get_read ms (length ms) c.modules.home-index c.home-item.result refl test is in
-    rw pushed (first_more _ _ c.modules.home-index c.modules.kept.items c.home-item.result c.in_ok-own.own c.modules.invariant read c.in_ok-own.ensures)
+    first_next _ _ c.modules.home-index c.modules.kept.items c.push.new.self.items c.home-item.result c.in_ok-own.own c.modules.invariant (search rules)
+    (rw view at c.modules-test.true) (rw view at c.home-item.is) c.in_ok-own.ensures
 
 pub returns : goal.returns
 returns c =

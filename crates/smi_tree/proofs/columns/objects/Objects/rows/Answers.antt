@@ -1,5 +1,5 @@
 -- One node more.
-use Rattle.std.proofs.Common.{rules, ◌≡◌, [], ◌∷◌, ◌++◌, length, sym, ◌∙◌, arith}
+use Rattle.std.proofs.Common.{rules, ◌≡◌, length, sym, ◌∙◌, arith}
 use Rattle.smi_names.specs.nodes.Gathered.{nodes_of}
 use Rattle.smi_tree.proofs.Lists.{get_within}
 use Rattle.smi_tree.proofs.Bridging.{length-nodes}
@@ -11,14 +11,14 @@ places-init c = record { rows = rw c.in_ok-rows.ensures.items (first_none _ _); 
 
 pub places-preserved : goal.places-preserved
 places-preserved c =
-    let pushed : c.push.new.self.items ≡ c.places.rows.items ++ c.row.result ∷ [] = search rules in
     let nodes = nodes_of c.args.self.now c.args.sources.now c.args.identifiers.now in
     let long = length-nodes c.args.self.now c.args.sources.now c.args.identifiers.now c.requires in
     let node = get_within nodes c.places.place (omega (arith, long, c.places-test.true)) in
-    rw pushed (record {
-      rows = first_more _ _ c.places.place c.places.rows.items node.0 c.row.result c.places.invariant.rows node.1 (c.row.ensures.row node.0 node.1);
+    record {
+      rows = first_more _ _ c.places.place c.places.rows.items c.push.new.self.items node.0 c.row.result c.places.invariant.rows (search rules) node.1
+          (c.row.ensures.row node.0 node.1);
       last = c.row.ensures.last;
-    })
+    }
 
 pub returns : goal.returns
 returns c =
