@@ -25,7 +25,7 @@ none_below oids bs are known at place stands read ends p below =
     by [] some here = absurd (some refl)
     by (n ∷ more) some here =
         let off : branch_of bs (known ++ n ∷ []) ≡ None = walk-push (follower bs) 0 known n ∙ rw here (ends n) in
-        ap (place_of oids) (sym (append_assoc known (n ∷ []) more)) ∙ places_off oids oids bs are (known ++ n ∷ []) more off
+        ap (place_of oids) (sym (append_assoc known (n ∷ []) more)) ∙ places_off oids bs are (known ++ n ∷ []) more off
 
 -- what stands for one identifier stands for each that is below it
 pub deepest_below : (oids : List (List ℕ)) (o p root : List ℕ) (place depth : ℕ) → IsDeepestAt oids o place depth → root ≡ oid_at oids place

@@ -1,7 +1,6 @@
 -- What follows each beginning of an identifier of a list.
 use Rattle.std.specs.Prelude.{
   ◌≡◌,
-  ◌≢◌,
   ℕ,
   ◌+◌,
   ◌<◌,
@@ -9,7 +8,6 @@ use Rattle.std.specs.Prelude.{
   List,
   [],
   ◌∷◌,
-  ◌++◌,
   length,
   take,
   slice_index_or,
@@ -38,29 +36,20 @@ abbrev pub walk : (ℕ → ℕ → Option ℕ) → ℕ → List ℕ → Option �
 walk next at [] = Some at
 walk next at (n ∷ rest) = option_and_then (λ b. walk next b rest) (next at n)
 
--- an identifier of the list begins with o
-abbrev pub IsBeginning : List (List ℕ) → List ℕ → Type 0
-IsBeginning oids o = (k : ℕ) × (rest : List ℕ) × (k < length oids) × (oid_at oids k ≡ o ++ rest)
-
 -- the branch of a beginning is the first one's, from which its numbers lead
 abbrev pub branch_of : List Branch → List ℕ → Option ℕ
 branch_of bs o = walk (follower bs) 0 o
 
--- the branches are those of the beginnings of `known`, one for each, and at each stands the place
--- that `oids` has for it
-pub record AreBranches (known oids : List (List ℕ)) (bs : List Branch) : Type 0 where
+-- to each branch one list of numbers leads at most, at it stands the place that the list has for
+-- these, and each identifier of the list leads to one
+pub record AreBranchesOf (oids : List (List ℕ)) (bs : List Branch) : Type 0 where
   pub some : 0 < length bs
   pub within : (at n b : ℕ) → follower bs at n ≡ Some b → b < length bs
   pub apart : (o p : List ℕ) (b : ℕ) → branch_of bs o ≡ Some b → branch_of bs p ≡ Some b → o ≡ p
   pub standing : (o : List ℕ) (b : ℕ) → branch_of bs o ≡ Some b → standing_at bs b ≡ place_of oids o
   pub each : (k : ℕ) → k < length oids → (b : ℕ) × (branch_of bs (oid_at oids k) ≡ Some b)
-  pub only : (o : List ℕ) (b : ℕ) → branch_of bs o ≡ Some b → o ≢ [] → IsBeginning known o
   pub reached : (at place : ℕ) → standing_at bs at ≡ Some place
       → (o : List ℕ) × (branch_of bs o ≡ Some at)
-
--- the branches of a list of identifiers
-abbrev pub AreBranchesOf : List (List ℕ) → List Branch → Type 0
-AreBranchesOf oids bs = AreBranches oids oids bs
 
 -- branch `at` leads by the number n to a branch that was there or is added, and nothing else is
 -- changed, for private clauses
