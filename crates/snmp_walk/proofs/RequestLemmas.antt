@@ -1,7 +1,8 @@
 -- A walk's requests can be encoded, and fit a datagram.
-use Rattle.std.proofs.Common.{◌≡◌, ℕ, zero, suc, ◌+◌, ◌-◌, ◌*◌, ◌^◌, ◌≤◌, true, false, cond, List, [], ◌∷◌, length, arith, refl, length-append, ℤ, pos, negsuc}
+use Rattle.std.proofs.Common.{◌≡◌, ℕ, zero, suc, ◌+◌, ◌-◌, ◌*◌, ◌^◌, ◌≤◌, true, false, cond, List, [], ◌∷◌, length, arith, refl, ◌∙◌, length-append, ℤ, pos, negsuc}
 use Rattle.std.specs.Prelude.{All, nat_lt}
 use Rattle.std.specs.List.{flat_map}
+use Rattle.std.proofs.lemmas.List.{length-map}
 use Rattle.std.proofs.lemmas.List.Elements.{All-cons, All-nil}
 use Rattle.snmp_oid.specs.Identifier.{IsWire}
 use Rattle.snmp_wire.specs.Message.{Datum, Message, null_value, integer_value}
@@ -10,6 +11,7 @@ use Rattle.snmp_wire.specs.Identifier.{subidentifiers}
 use Rattle.snmp_wire.specs.Spelling.{value_tag}
 use Rattle.snmp_wire.specs.Canon.{
   digit_count,
+  digits,
   octets,
   number_size,
   canon_number,
@@ -40,23 +42,23 @@ digit_bound base limit (suc more) n =
     let rest = digit_bound base (limit * base) more n in
     elim (nat_lt n limit) as (λ b. cond b 1 (1 + digit_count base (limit * base) more n) ≤ suc more + 1) [ true ↦ omega arith | false ↦ omega (arith, rest) ]
 
-octets_length : (count n : ℕ) → length (octets count n) ≡ count
-unfolding octets
-octets_length zero n = refl
-octets_length (suc count) n = omega (arith, octets_length count n)
+digits_length : (base count n : ℕ) → length (digits base count n) ≡ count
+unfolding digits
+digits_length base zero n = refl
+digits_length base (suc count) n = omega (arith, digits_length base count n)
 
 pub number_bound : (z : ℤ) → length (canon_number z) ≤ 9
 unfolding canon_number number_size
-number_bound (pos n) = omega (arith, octets_length (number_size n) n, digit_bound 256 128 8 n)
+number_bound (pos n) = omega (arith, digits_length 256 (number_size n) n, digit_bound 256 128 8 n)
 number_bound (negsuc n) =
-    omega (arith, octets_length (number_size n) (256 ^ number_size n - (n + 1)), digit_bound 256 128 8 n)
+    omega (arith, digits_length 256 (number_size n) (256 ^ number_size n - (n + 1)), digit_bound 256 128 8 n)
 
 length_bound : (n : ℕ) → length (canon_length n) ≤ 5
 unfolding canon_length length_size
 length_bound n =
     elim (nat_lt n 128) as (λ b. length (cond b (n ∷ []) ((128 + length_size n) ∷ octets (length_size n) n)) ≤ 5) [
       | true ↦ omega arith
-      | false ↦ omega (arith, octets_length (length_size n) n, digit_bound 256 256 3 n)
+      | false ↦ omega (arith, digits_length 256 (length_size n) n, digit_bound 256 256 3 n)
     ]
 
 element_bound : (tag : ℕ) (content : List ℕ) → length (canon_element tag content) ≤ 6 + length content
@@ -65,8 +67,7 @@ element_bound tag content = omega (arith, length_bound (length content), length-
 
 septets_length : (count n : ℕ) → length (septets count n) ≡ count
 unfolding septets
-septets_length zero n = refl
-septets_length (suc count) n = omega (arith, septets_length count n)
+septets_length count n = length-map (digits 128 count n) (◌+◌ 128) ∙ digits_length 128 count n
 
 subidentifier_bound : (n : ℕ) → length (canon_subidentifier n) ≤ 5
 unfolding canon_subidentifier subidentifier_size
