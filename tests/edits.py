@@ -48,11 +48,11 @@ def crates_below(crate):
 
 
 def statements_of(path):
-    """What a file says: its lines, but for blank ones and comments."""
+    """What a file says, however it is broken into lines: without blank ones and comments."""
     mark = COMMENTS.get(os.path.splitext(path)[1])
     with open(path, "rb") as file:
         lines = (line.strip() for line in file)
-        return b"\n".join(line for line in lines if line and not (mark and line.startswith(mark)))
+        return b" ".join(line for line in lines if line and not (mark and line.startswith(mark)))
 
 
 def hash_of(crate):

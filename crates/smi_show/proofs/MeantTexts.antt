@@ -5,7 +5,7 @@ use Rattle.std.proofs.Common.{inr}
 use Rattle.std.proofs.lemmas.Bool.{cond_both, eqb-true, eqb-false, leb-true, leb-false, le-leb, lt-leb, ne_eqb}
 use Rattle.smi_show.specs.index.Pieces.{piece_numbers}
 use Rattle.smi_show.specs.name.Cutting.{module_after, name_parts}
-use Rattle.smi_show.specs.name.Meaning.{and_then, first_meaning, fitting, meaning, or_unknown}
+use Rattle.smi_show.specs.name.Meaning.{and_then, meaning_in, fitting, meaning, or_unknown}
 use Rattle.smi_show.specs.name.Meaning.{part_meaning, parts_meaning, scope_meaning, scoped_meaning}
 use Rattle.smi_show.specs.name.Meaning.{word_meaning}
 use Rattle.smi_show.specs.name.Meant.{Scope, among_roots, anywhere, in_module, found_in, IsFound}
@@ -99,7 +99,7 @@ module _ (naming : Naming) where
   scope_means : (scope : Scope) (rest : List ℕ) → ScopeMeans naming scope rest (scope_meaning naming scope rest)
   scope_means scope rest =
       let means = parts_mean naming (found_in naming scope) [] (name_parts rest) in
-      cond_both (is_loaded_in naming scope) (first_meaning naming scope (name_parts rest)) (Err Unknown) (ScopeMeans naming scope rest)
+      cond_both (is_loaded_in naming scope) (meaning_in naming scope (name_parts rest)) (Err Unknown) (ScopeMeans naming scope rest)
       (λ is. inr (is, (name_parts rest, are_parts rest, means))) (λ is. inl (is, refl))
 
   scope_only : (scope : Scope) (rest : List ℕ) (result : Outcome) → ScopeMeans naming scope rest result → result ≡ scope_meaning naming scope rest

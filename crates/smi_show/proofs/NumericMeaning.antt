@@ -9,7 +9,7 @@ use Rattle.std.specs.Str.{all_ascii_digits}
 use Rattle.snmp_oid.specs.Numeric.{IsDotted, IsNumericName, dot}
 use Rattle.smi_show.specs.declared.name.error.NameError.{NameError}
 use Rattle.smi_show.specs.name.Cutting.{module_after, name_parts}
-use Rattle.smi_show.specs.name.Meaning.{and_then, first_meaning, fitting, further_meaning, meaning}
+use Rattle.smi_show.specs.name.Meaning.{and_then, meaning_in, fitting, further_meaning, meaning}
 use Rattle.smi_show.specs.name.Meaning.{parts_meaning, plain_meaning, scoped_meaning}
 use Rattle.smi_show.specs.name.Meant.{anywhere}
 use Rattle.smi_show.specs.name.Naming.{Naming}
@@ -75,7 +75,7 @@ dotted_some text (n ∷ []) h same = h.some same
 dotted_some text (n ∷ m ∷ more) ([], rest, is, numeral, dotted) same = numeral.some refl
 dotted_some text (n ∷ m ∷ more) ((other ∷ first), rest, is, numeral, dotted) same = let wrong : ⊥ = cc in wrong
 
-dotted_plain : (naming : Naming) (text o : List ℕ) → IsDotted text o → plain_meaning naming text ≡ first_meaning naming anywhere (name_parts text)
+dotted_plain : (naming : Naming) (text o : List ℕ) → IsDotted text o → plain_meaning naming text ≡ meaning_in naming anywhere (name_parts text)
 dotted_plain naming [] o h = refl
 dotted_plain naming (octet ∷ more) o h = rw (begins_with_digit octet more o h) refl
 

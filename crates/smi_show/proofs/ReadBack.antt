@@ -17,7 +17,7 @@ use Rattle.smi_show.specs.name.Cutting.{name_parts, module_after}
 use Rattle.smi_show.specs.name.Naming.{Naming, Standing, IsSound, LabelLeadsTo}
 use Rattle.smi_show.specs.name.Word.{Word}
 use Rattle.smi_show.specs.name.Meant.{Scope, in_module, anywhere, found_in}
-use Rattle.smi_show.specs.name.Meaning.{and_then, first_meaning, further_meaning, meaning}
+use Rattle.smi_show.specs.name.Meaning.{and_then, meaning_in, further_meaning, meaning}
 use Rattle.smi_show.specs.name.Meaning.{part_meaning, plain_meaning, scoped_meaning, word_meaning}
 use Rattle.smi_show.specs.name.Name.{qualified, ReadsBack}
 use Rattle.smi_show.specs.name.Shown.{standing_text, name_text}
@@ -46,11 +46,11 @@ further_pieces naming so_far (piece ∷ pieces) all low =
 -- a label, and pieces after it
 label_and_pieces : (naming : Naming) (scope : Scope) (label front : List ℕ) (pieces : List Piece) → is_word label ≡ true
     → found_in naming scope label ≡ Some front → All IsPiece pieces → length (front ++ flat_map piece_numbers pieces) ≤ 128
-    → first_meaning naming scope (name_parts (label ++ shown_pieces pieces)) ≡ Ok (front ++ flat_map piece_numbers pieces)
+    → meaning_in naming scope (name_parts (label ++ shown_pieces pieces)) ≡ Ok (front ++ flat_map piece_numbers pieces)
 label_and_pieces naming scope label front pieces word found all low =
     let head : part_meaning (found_in naming scope) [] label ≡ Ok front
     = ap (λ (w : Result Word NameError). and_then w (word_meaning (found_in naming scope) [])) (label_word label word) ∙ rw found refl in
-    ap (first_meaning naming scope) (joined_parts label pieces (plain_is_whole label (plain_word label word)) all)
+    ap (meaning_in naming scope) (joined_parts label pieces (plain_is_whole label (plain_word label word)) all)
     ∙ ap (λ (r : Result (List ℕ) NameError). and_then r (λ o. further_meaning naming o (map shown_piece pieces))) head
     ∙ further_pieces naming front pieces all low
 
@@ -70,7 +70,7 @@ begins_more (octet ∷ more) rest h same =
 
 -- without a module
 plain_label : (naming : Naming) (label rest : List ℕ) → is_word label ≡ true
-    → plain_meaning naming (label ++ rest) ≡ first_meaning naming anywhere (name_parts (label ++ rest))
+    → plain_meaning naming (label ++ rest) ≡ meaning_in naming anywhere (name_parts (label ++ rest))
 plain_label naming [] rest h = let wrong : ⊥ = cc in absurd wrong
 plain_label naming (octet ∷ more) rest h = rw ((plain_word_begins octet more h).dot) refl
 

@@ -61,7 +61,7 @@ pub(crate) fn home(modules: &[Module], source: Source) -> Option<&Module>
 }
 
 /// Whether a source is of a module of this name.
-pub(crate) fn is_of(modules: &[Module], source: Source, name: &[u8]) -> bool
+pub(crate) fn is_in_module(modules: &[Module], source: Source, name: &[u8]) -> bool
     ensures { result ≡ is_named name.now (home_from modules.now source) }
 {
     match home(modules, source) {

@@ -20,7 +20,7 @@ ghost use Rattle.smi_names.specs.declared.nodes.warning.Warning.{Warning};
 
 use crate::branches::{Children, Deepest, Identifiers};
 use crate::columns::Indexes;
-use crate::node::{Node, at, definition, home, is_of, label};
+use crate::node::{Node, at, definition, home, is_in_module, label};
 use crate::places::{LabelPlaces, Others, Places, find, homes, labels};
 use crate::shown::{syntax, units_of, value_syntax};
 use crate::types::{TypeSyntax, Types};
@@ -266,7 +266,7 @@ impl Tree {
     {
         let first = self.find_any(label)?;
         // Most labels stand in one module alone.
-        if is_of(&self.modules, self.sources[first], home) {
+        if is_in_module(&self.modules, self.sources[first], home) {
             return Some(first);
         }
         let home = find(&self.homes, home)?;

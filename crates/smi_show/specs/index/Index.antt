@@ -17,14 +17,14 @@ is_octet n = nat_le n 255
 abbrev pub AreOctetNumbers : List ℕ → Type 0
 AreOctetNumbers value = list_all is_octet value ≡ true
 
--- a string as numbers: as many as its fixed size; or a length, and then this many; or, implied, at
--- least one
+-- a value as numbers (RFC 2578, 7.7): as many as are fixed, which is the SIZE of a string, one of
+-- an INTEGER, four of an IpAddress; or a length, and then this many; or, implied, at least one
 abbrev pub IsInExtent : Extent → List ℕ → List ℕ → Type 0
 IsInExtent (Fixed size) value here = (length value ≡ size) × (here ≡ value)
 IsInExtent Counted value here = here ≡ length value ∷ value
 IsInExtent Implied value here = (value ≢ []) × (here ≡ value)
 
--- how many numbers a part takes: as many as a string of this extent
+-- how many numbers a part takes
 abbrev pub extent_of : IndexPart → Extent
 extent_of Number = Fixed 1
 extent_of Address = Fixed 4
@@ -33,7 +33,7 @@ extent_of (Octets extent) = extent
 extent_of Identifier = Counted
 extent_of ImpliedIdentifier = Implied
 
--- a part whose numbers are octets
+-- a part whose numbers are octets; those of an INTEGER or an OBJECT IDENTIFIER may be any
 abbrev pub is_of_octets : IndexPart → Bool
 is_of_octets Address = true
 is_of_octets (Text extent) = true

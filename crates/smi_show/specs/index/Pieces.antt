@@ -58,7 +58,7 @@ as_text (Fixed size) value = plain_text value
 as_text Counted value = counted_text value
 as_text Implied value = plain_text value
 
--- the numbers that stand for a value, for proofs
+-- the numbers that stand for a value
 abbrev pub extent_numbers : Extent → List ℕ → List ℕ
 extent_numbers (Fixed size) value = value
 extent_numbers Counted value = length value ∷ value

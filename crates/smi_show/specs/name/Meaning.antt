@@ -45,12 +45,13 @@ abbrev pub further_meaning : Naming → List ℕ → List (List ℕ) → Result 
 further_meaning naming so_far parts = parts_meaning naming (naming.child so_far) so_far parts
 
 -- the parts of a text in a scope, of which the module is loaded
-abbrev pub first_meaning : Naming → Scope → List (List ℕ) → Result (List ℕ) NameError
-first_meaning naming scope parts = parts_meaning naming (found_in naming scope) [] parts
+abbrev pub meaning_in : Naming → Scope → List (List ℕ) → Result (List ℕ) NameError
+meaning_in naming scope parts = parts_meaning naming (found_in naming scope) [] parts
 
+-- Unknown where the module of the scope isn't loaded
 abbrev pub scope_meaning : Naming → Scope → (rest : List ℕ) → Result (List ℕ) NameError
 scope_meaning naming scope rest =
-    if is_loaded_in naming scope then first_meaning naming scope (name_parts rest) else Err Unknown
+    if is_loaded_in naming scope then meaning_in naming scope (name_parts rest) else Err Unknown
 
 -- without a module: after a leading dot a label is one of a root
 abbrev pub plain_meaning : Naming → List ℕ → Result (List ℕ) NameError

@@ -7,7 +7,7 @@ ghost use Rattle.snmp_oid.specs.Numeric.{IsNumericName};
 ghost use Rattle.smi_value.specs.declared.letters.letters.NameForm.{NameForm};
 ghost use Rattle.smi_show.specs.name.Cutting.{name_parts, module_after};
 ghost use Rattle.smi_show.specs.name.Left.{parts_left};
-ghost use Rattle.smi_show.specs.name.Meaning.{first_meaning, further_meaning, meaning};
+ghost use Rattle.smi_show.specs.name.Meaning.{further_meaning, meaning, meaning_in};
 ghost use Rattle.smi_show.specs.name.Meaning.{or_unknown, part_meaning, plain_meaning};
 ghost use Rattle.smi_show.specs.name.Meaning.{scoped_meaning};
 ghost use Rattle.smi_show.specs.name.Meant.{FrontMeans, TextMeans, found_in};
@@ -169,7 +169,7 @@ fn parts_meaning<T: NameTree>(
 ) -> Result<(), NameError>
     ensures { let parts = name_parts text.now in
         read_to result oid.new
-        ≡ first_meaning (T.naming tree.now) (scope_in scope.entry) parts }
+        ≡ meaning_in (T.naming tree.now) (scope_in scope.entry) parts }
 {
     let left = first_meaning(tree, scope, text, oid)?;
     further_meaning(tree, left, oid)
@@ -200,7 +200,7 @@ fn first_meaning<'b, T: NameTree>(
 ) -> Result<Option<&'b [u8]>, NameError>
     ensures { let parts = name_parts text.now in
         meant_with (T.naming tree.now) result oid.new
-        ≡ first_meaning (T.naming tree.now) (scope_in scope.entry) parts }
+        ≡ meaning_in (T.naming tree.now) (scope_in scope.entry) parts }
 {
     let (part, rest) = cut_part(text);
     head_meaning(tree, scope, part, oid)?;

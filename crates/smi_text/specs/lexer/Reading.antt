@@ -23,14 +23,14 @@ use Rattle.smi_text.specs.lexer.Lexeme.{is_binary_digit, begins, is_word_rest}
 -- the symbols of one octet
 abbrev pub symbols : List (ℕ × TokenKind)
 symbols =
-    (123, K.OpenBrace) ∷ (125, K.CloseBrace) ∷ (40, K.OpenParen) ∷ (41, K.CloseParen) ∷
-    (91, K.OpenBracket) ∷ (93, K.CloseBracket)
-    ∷ (60, K.Less) ∷ (62, K.Greater) ∷ (44, K.Comma) ∷ (59, K.Semicolon) ∷ (58, K.Colon) ∷ (124, K.Bar) ∷
-    (46, K.Dot) ∷ (61, K.Equals) ∷ []
+    (123, K.OpenBrace) ∷ (125, K.CloseBrace) ∷ (40, K.OpenParen) ∷ (41, K.CloseParen)
+    ∷ (91, K.OpenBracket) ∷ (93, K.CloseBracket) ∷ (60, K.Less) ∷ (62, K.Greater) ∷ (44, K.Comma)
+    ∷ (59, K.Semicolon) ∷ (58, K.Colon) ∷ (124, K.Bar) ∷ (46, K.Dot) ∷ (61, K.Equals) ∷ []
 
 abbrev pub symbol_among : List (ℕ × TokenKind) → ℕ → Class
 symbol_among [] c = C.Other
-symbol_among (symbol ∷ others) c = if c == symbol.0 then C.Symbol symbol.1 else symbol_among others c
+symbol_among (symbol ∷ others) c =
+    if c == symbol.0 then C.Symbol symbol.1 else symbol_among others c
 
 -- what an octet may begin
 abbrev pub class_of : ℕ → Class

@@ -37,7 +37,7 @@ IsWrong format front line (error.BadValue number) = IsBadValue format line
 IsWrong format front line (error.Double number) = IsDouble format front line
 IsWrong format front line error.Memory = ⊥
 
--- the number of the line of a fault
+-- the number of the line of a fault; 0 where memory ran out, which is of no line
 abbrev pub number_of : TableError → ℕ
 number_of (error.BadLine number) = number
 number_of (error.BadName number) = number

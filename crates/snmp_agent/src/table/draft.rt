@@ -290,7 +290,8 @@ impl Draft {
         self.place_late(alloc)
     }
 
-    /// Puts the rows that are gathered in their places, of which there may be more.
+    /// Puts the rows that are gathered in their places; more may be gathered after. Whether all
+    /// could be put, as `settle` says.
     fn place_late(&mut self, alloc: Global) -> bool
         ensures moved { IsTrue result
             → IsPermutation (draft_entries self.old) (draft_entries self.new) }

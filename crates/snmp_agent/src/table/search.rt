@@ -165,6 +165,7 @@ pub fn place_near(rows: &[EncodedBinding], name: &EncodedName<'_>, guess: usize)
     requires { IsRising rows.now }
     ensures { IsPlaceAfter name.now rows.now result }
 {
+    // The last of so many rows. Of none there is none, and then all are searched.
     let (passed, end) = near(rows, name, guess.wrapping_sub(1));
     count_between(rows, name, passed, end)
 }

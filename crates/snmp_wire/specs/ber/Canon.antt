@@ -21,7 +21,7 @@ unfoldable pub digits : ℕ → ℕ → ℕ → List ℕ
 digits base zero n = []
 digits base (suc count) n = (n / base ^ count % base) ∷ digits base count n
 
--- the number's lowest octets
+-- the number's lowest octets, `count` of them, as `digits` has them
 abbrev pub octets : ℕ → ℕ → List ℕ
 octets count n = digits 256 count n
 
@@ -52,7 +52,8 @@ canon_length n = if nat_lt n 128 then n ∷ [] else (128 + length_size n) ∷ oc
 unfoldable pub subidentifier_size : ℕ → ℕ
 subidentifier_size n = digit_count 128 128 4 n
 
--- the number's lowest digits to the base 128, with the bit that says that the subidentifier goes on
+-- the number's lowest digits to the base 128, `count` of them, with the bit that says that the
+-- subidentifier goes on
 unfoldable pub septets : ℕ → ℕ → List ℕ
 septets count n = map (λ digit. 128 + digit) (digits 128 count n)
 
@@ -88,7 +89,7 @@ canon_header tag size = tag ∷ canon_length size
 unfoldable pub canon_element : ℕ → List ℕ → List ℕ
 canon_element tag content = canon_header tag (length content) ++ content
 
--- the content of a value
+-- the content of a value; Null and the exceptions have none (X.690, 8.8)
 unfoldable pub canon_content : Datum → List ℕ
 canon_content (integer_value z) = canon_number z
 canon_content (octet_string text) = text

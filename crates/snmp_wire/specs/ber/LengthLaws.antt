@@ -68,7 +68,8 @@ length_short tag first rest low high short =
       content = content;
       whole = record {
         length_octets = first ∷ digits;
-        is_length = subst (IsLength (first ∷ digits)) (sym (length-replicate {A = ℕ} (unsigned digits) 0)) is_long;
+        is_length = subst (IsLength (first ∷ digits))
+            (sym (length-replicate {A = ℕ} (unsigned digits) 0)) is_long;
         parts = ap (λ (o : List ℕ). tag ∷ first ∷ o) (sym (append_assoc rest more content));
       };
     }

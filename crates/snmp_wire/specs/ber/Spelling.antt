@@ -23,7 +23,7 @@ value_tag no_such_object = 0x80
 value_tag no_such_instance = 0x81
 value_tag end_of_mib_view = 0x82
 
--- the content is a form of the value
+-- the content is a form of the value; Null and the exceptions have none (X.690, 8.8)
 abbrev pub IsContent : Form → Datum → List ℕ → Type 0
 IsContent form (integer_value z) content = IsInteger content z
 IsContent form (octet_string text) content = content ≡ text

@@ -38,8 +38,8 @@ index-requires c =
     (rw (sym c.self.view_is) at c.in_ok-first.ensures) in
     rw i.sources.ok.0 (slice_get_within i.sources.items c.in_ok-first.first f.x f.at)
 
-pub returns-then-is_of : goal.returns-then-is_of
-returns-then-is_of c =
+pub returns-then-is_in_module : goal.returns-then-is_in_module
+returns-then-is_in_module c =
     let i = c.self.inside in
     let ms = i.modules.items in
     let x = c.args.label.now in
@@ -47,7 +47,7 @@ returns-then-is_of c =
     let s = c.index.result.now in
     let e = rw (sym c.self.view_is) at c.in_ok-first.ensures in
     let long = c.self.invariant.long in
-    let named : is_named c.args.home.now (home_from i.modules.items c.index.result.now) ≡ true = rw c.deref.ensures.value at (sym c.if-is_of.ensures) in
+    let named : is_named c.args.home.now (home_from i.modules.items c.index.result.now) ≡ true = rw c.deref.ensures.value at (sym c.if-is_in_module.ensures) in
     rw (sym c.self.view_is) (sym (in_module-sources ms i.sources.items i.identifiers c.args.home.now x long
     ∙ both_first (λ (y : Source). is_named c.args.home.now (home_from ms y)) (has_label ms x) i.sources.items f s
     (labelled ms i.sources.items i.identifiers x f long e) (there ms i.sources.items i.identifiers x f long e s c.index.ensures) named))
@@ -71,7 +71,7 @@ returns c =
     let s = c.index.result.now in
     let e = rw (sym c.self.view_is) at c.in_ok-first.ensures in
     let long = c.self.invariant.long in
-    let apart : is_named c.args.home.now (home_from i.modules.items c.index.result.now) ≡ false = rw c.deref.ensures.value at (sym c.if-is_of.ensures) in
+    let apart : is_named c.args.home.now (home_from i.modules.items c.index.result.now) ≡ false = rw c.deref.ensures.value at (sym c.if-is_in_module.ensures) in
     c.copied.ensures ∙ c.get.ensures.value
     ∙ c.self.invariant.others home x c.in_ok-home.home f s (sym (c.in_ok-home.ensures ∙ c.self.invariant.homes home))
     (labelled ms i.sources.items i.identifiers x f long e) (there ms i.sources.items i.identifiers x f long e s c.index.ensures) apart
