@@ -5,7 +5,7 @@ use Rattle.std.specs.declared.hash.DefaultHasher.{DefaultHasher}
 use Rattle.smi_names.specs.declared.hash.NameHash.{NameHash}
 use Rattle.smi_names.specs.declared.hash.NameHash.TheVariants as by
 
--- a hasher with the key
+-- a new hasher, with the key from the system or with the key 0
 abbrev pub hasher_by : NameHash → DefaultHasher
 hasher_by (by.Keyed key) = initial_hasher key
 hasher_by by.Fixed = sip.initial

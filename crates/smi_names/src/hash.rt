@@ -6,8 +6,8 @@ use std::random::RandomSource;
 
 /// How the maps of names hash them: by SipHash-1-3, with a key from the system or with a fixed one.
 ///
-/// Names come from files that others wrote. Who doesn't know the key can't choose names that a map
-/// would keep in one long chain.
+/// Names come from files that others wrote. Someone who doesn't know the key can't choose names
+/// that a map would keep in one long chain.
 #[derive(Clone, Copy, Debug)]
 pub enum NameHash {
     /// With a key from the system.

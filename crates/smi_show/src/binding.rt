@@ -108,7 +108,7 @@ pub fn one_line()
     one_value();
 }
 
-/// The line of a binding, by what the tree finds for its name.
+/// Appends the line of a binding, by what the tree found for its name.
 pub(crate) fn append_line<T: ShowTree>(
     tree: &T,
     letters: &Letters,
@@ -126,7 +126,7 @@ pub(crate) fn append_line<T: ShowTree>(
     draft.octets(b"\n");
 }
 
-/// The name and the value.
+/// Appends the name and the value.
 fn append_parts<T: ShowTree>(
     tree: &T,
     letters: &Letters,
@@ -145,7 +145,7 @@ fn append_parts<T: ShowTree>(
     append_shown(tree, letters, found.syntax.as_ref(), value, draft);
 }
 
-/// The name and what stands between it and the value, unless only the value is shown.
+/// Appends the name and what stands between it and the value, unless only the value is shown.
 fn append_front<T: ShowTree>(
     tree: &T,
     letters: &Letters,
@@ -163,7 +163,7 @@ fn append_front<T: ShowTree>(
     }
 }
 
-/// The name, by its node where it isn't shown in numbers.
+/// Appends the name, in numbers or by its node.
 fn append_name<T: ShowTree>(
     tree: &T,
     letters: &Letters,
@@ -188,7 +188,7 @@ fn append_name<T: ShowTree>(
     }
 }
 
-/// What stands between a name and a value.
+/// Appends what stands between a name and a value.
 fn append_separator(types: TypeForm, draft: &mut Draft)
     ensures { Adds draft.old (separator types) draft.new }
 {
@@ -198,7 +198,7 @@ fn append_separator(types: TypeForm, draft: &mut Draft)
     }
 }
 
-/// The value.
+/// Appends the value.
 fn append_shown<T: ShowTree>(
     tree: &T,
     letters: &Letters,

@@ -8,11 +8,10 @@ use crate::name::Node;
 use smi_value::ValueSyntax;
 use snmp_oid::Oid;
 
-/// Where a tree begins its next search: at the node that it found last. Whatever it is, the same
-/// is found.
+/// Where a tree begins its next search: at the node that it found last. No result depends on it.
 #[derive(Clone, Copy, Debug)]
 pub struct Near {
-    /// Where that node is found again, as the tree counts.
+    /// A number by which the tree finds that node again.
     pub place: usize,
 }
 
@@ -30,8 +29,8 @@ pub struct Found<'a> {
     pub node: Option<Node<'a>>,
     /// The syntax of that node, if it is an object whose type is known.
     pub syntax: Option<ValueSyntax<'a>>,
-    /// The identifier below which all identifiers have this node and this syntax, if the tree says
-    /// so of one.
+    /// An identifier such that all identifiers below it have this node and this syntax, if the tree
+    /// knows one.
     pub below: Option<&'a Oid>,
 }
 
@@ -44,8 +43,8 @@ pub trait ShowTree: DetailTree {
     fn syntax(&self, oid: &Oid) -> Option<ValueSyntax<'_>>
         ensures { result ≡ syntax_at self.now oid.now };
 
-    /// What `deepest` and `syntax` return, by one search, and the identifier below which they
-    /// return the same.
+    /// What `deepest` and `syntax` return, by one search, and an identifier below which they return
+    /// this too.
     fn found_for(&self, oid: &Oid, near: &mut Near) -> Found<'_>
         ensures found { IsFound (Self.naming self.now) (syntax_at self.now) oid.now result }
         ensures below { IsFoundBelow (Self.naming self.now) (syntax_at self.now) result };

@@ -75,7 +75,7 @@ impl<'t, T: ShowTree> LineWriter<'t, T> {
     }
 }
 
-/// Finds a name, unless what was found for the last one is found for it too.
+/// Finds a name, unless what was found for the last name holds for it too.
 fn find<'t, T: ShowTree>(tree: &'t T, name: &Oid, near: &mut Near, found: &mut Found<'t>)
     requires { IsFoundBelow (T.naming tree.now) (T.syntax_at tree.now) found.old }
     ensures found { IsFound (T.naming tree.now) (T.syntax_at tree.now) name.now found.new }
@@ -87,7 +87,7 @@ fn find<'t, T: ShowTree>(tree: &'t T, name: &Oid, near: &mut Near, found: &mut F
     *found = tree.found_for(name, near);
 }
 
-/// Whether a name is below the identifier below which this is found.
+/// Whether what was found holds for a name too: whether it is below `found.below`.
 fn is_known(found: &Found<'_>, name: &Oid) -> bool
     ensures { IsTrue result ↔ MatchOption found.now.below ⊥ (λ root. IsBelow name.now root.now) }
 {

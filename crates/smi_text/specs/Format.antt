@@ -14,8 +14,8 @@ use Rattle.smi_text.specs.trees.Word.{is_word}
 use Rattle.smi_text.specs.trees.Reserved.{is_reserved}
 use Rattle.smi_text.specs.declared.trees.names.Name.{Name}
 
--- which token may be ahead: a word of the grammar, a name, one of a kind, or any token but such a
--- one
+-- a condition on the token ahead: it is this word of the grammar, a name in upper case, or of this
+-- kind; or it is not this word, or not of this kind
 pub data Ahead : Type 0 where
   a_word : List ℕ → Ahead
   a_name : Ahead
@@ -54,7 +54,7 @@ StandsAhead (m ∷ ms) [] rest = ⊥
 StandsAhead (m ∷ ms) (Ok t ∷ items) rest = MarksToken m t × StandsAhead ms items rest
 StandsAhead (m ∷ ms) (Err fault ∷ items) rest = ⊥
 
--- no token is both: in one order
+-- no token meets both conditions; those of different forms are compared in one order only
 abbrev pub half_apart : Ahead → Ahead → Bool
 half_apart (a_word v) (a_word w) = not (same_text v w)
 half_apart (a_word v) a_name = is_reserved v
@@ -66,7 +66,7 @@ half_apart (a_kind j) (no_kind k) = same_kind j k
 half_apart (a_kind j) (no_word w) = false
 half_apart _ _ = false
 
--- no token is one of both lists
+-- no token meets a condition of each of the two lists
 abbrev pub apart : List Ahead → List Ahead → Bool
 apart cs ds = list_all (λ c. list_all (λ d. half_apart c d || half_apart d c) ds) cs
 
@@ -83,7 +83,7 @@ pub record Format (A : Type 0) : Type 0 where
   -- whether it may be read from no token
   pub empty : Bool
 
--- one token: what it begins with, and what is taken from it
+-- one token: what `pick` takes from it, if it takes anything, and the items after it
 abbrev pub read_one : {A : Type 0} → (Lexeme → Option A) → List Item → Parsed A
 read_one pick items = option_map (λ x. (x, drop 1 items)) (option_and_then pick (token_ahead items))
 
@@ -107,11 +107,11 @@ word w = exact (a_word w) Upper w
 unfoldable pub token : TokenKind → Format (Unit {0})
 token k = exact (a_kind k) k (sign_text k)
 
--- a token of this kind, by its text
+-- the text of a token of this kind
 unfoldable pub text : TokenKind → Format (List ℕ)
 text k = one (a_kind k ∷ []) (λ t. if same_kind t.kind k then Some t.text else None)
 
--- a token of this kind, by its text, for which a test holds
+-- the text of a token of this kind, if it passes a test
 unfoldable pub text_where : TokenKind → (List ℕ → Bool) → Format (List ℕ)
 text_where k ok = one (a_kind k ∷ [])
     (λ t. if same_kind t.kind k && ok t.text then Some t.text else None)

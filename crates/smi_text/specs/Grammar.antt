@@ -245,7 +245,7 @@ depth_after k depth =
     if same_kind k K.OpenBrace then depth + 1 else
     (if same_kind k K.CloseBrace then depth - 1 else depth)
 
--- such a token closes a brace that is not open
+-- a token of this kind closes a brace where none is open
 abbrev pub is_outside : TokenKind → ℕ → Bool
 is_outside k depth = same_kind k K.CloseBrace && (depth == 0)
 
@@ -339,7 +339,7 @@ notification_type =
 abbrev pub to_group : List Name × (Status × List Part) → Group
 to_group p = record { members = p.0; status = p.1.0; value = p.1.1 }
 
--- a group after its word, with its members after theirs
+-- a group after the word `w`, with its members after the word `v`
 unfoldable pub group : List ℕ → List ℕ → Format Group
 group w v =
     shaped to_group (behind (word w) (pair (behind (word v) names) (pair status value)))
@@ -390,13 +390,14 @@ lower_definition =
     (either (raw_definition (codes "MODULE-COMPLIANCE")) (raw_definition
     (codes "AGENT-CAPABILITIES"))))))))))
 
--- a type, by what follows `::=`
+-- the number of `[APPLICATION n] IMPLICIT`
 unfoldable pub tag : Format (List ℕ)
 tag =
     behind (token K.OpenBracket) (behind (word (codes "APPLICATION"))
     (before (text_where K.Number is_number) (behind (token K.CloseBracket) (word
     (codes "IMPLICIT")))))
 
+-- what follows a name in upper case and `::=`
 abbrev pub Assigned : Type 0
 Assigned = TextualConvention ⊎ (List TokenText ⊎ ((List ℕ
     × Syntax) ⊎ ((List Field ⊎ Name) ⊎ SimpleType)))

@@ -1,4 +1,4 @@
--- A set of names, each behind a number that is computed of it.
+-- A set of names, each behind a number that is computed from it.
 use Rattle.std.specs.Prelude.{◌+◌, ◌-◌, ℕ, Bool, List, [], ◌∷◌, get_or, length, nat_lt}
 use Rattle.std.specs.Prelude.{if◌then◌else◌}
 use Rattle.std.specs.Int.{w64, from_le_bytes}
@@ -14,11 +14,11 @@ eight_from octets at =
     (at + 3) 0 ∷ get_or octets (at + 4) 0 ∷ get_or octets (at + 5) 0 ∷ get_or octets (at + 6) 0
     ∷ get_or octets (at + 7) 0 ∷ []
 
--- its last eight octets as one number, 0 where it is shorter
+-- the last eight octets of a name as one number; 0 for a shorter name
 unfoldable pub last_eight : List ℕ → ℕ
 last_eight x = if nat_lt (length x) 8 then 0 else from_le_bytes w64 (eight_from x (length x - 8))
 
--- whether the name is among them
+-- the name is in the set
 abbrev pub has : BTreeSet (ℕ × Bor (List ℕ)) → List ℕ → Bool
 has names x = contains_by (λ k. ordering_then (nat_cmp (last_eight x) k.0) (slice_cmp nat_cmp x
     k.1.now)) names

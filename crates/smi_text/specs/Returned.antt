@@ -25,7 +25,7 @@ is_memory Memory = true
 is_memory (Syntax line) = false
 is_memory (Lex fault) = false
 
--- the part and the tokens after it, as they are read; or a stop, where no part stands or memory ran
+-- the part that is read and the tokens after it; or a stop, where no part can be read or memory ran
 -- out
 abbrev pub ReturnsReading : {A : Type 0} → Result A Stop → List Item → Parsed A → Type 0
 ReturnsReading (Ok x) rest r = r ≡ Some (x, rest)
@@ -112,14 +112,15 @@ ModulesFault (E.Syntax line) tokens = (ms : List Module) → file.read tokens �
 ModulesFault (E.DoubleName line) tokens = DefinesAgain line (tokens_of tokens)
 ModulesFault E.Memory tokens = Unit {0}
 
--- the error that is reported for the one with which the reading of a text stopped: for one of the
--- lexer, the first fault of the text
+-- what may be reported where the reading stopped at a fault of the lexer: the fault at which the
+-- text breaks off, or wrong syntax
 abbrev pub IsLexFault : ParseError → List ℕ → Type 0
 IsLexFault (E.Lex fault) text = BreaksOff fault text
 IsLexFault (E.Syntax line) text = Unit {0}
 IsLexFault (E.DoubleName line) text = ⊥
 IsLexFault E.Memory text = ⊥
 
+-- what may be reported for the error with which the reading stopped: any other one as it is
 abbrev pub IsCauseOf : ParseError → ParseError → List ℕ → Type 0
 IsCauseOf (E.Lex fault) error text = IsLexFault error text
 IsCauseOf (E.Syntax line) error text = error ≡ E.Syntax line

@@ -271,7 +271,7 @@ impl<'a> Parser<'a> {
         }
     }
 
-    /// Reads such tokens with the braces around them.
+    /// Reads balanced tokens with the braces around them.
     pub(crate) fn braced_tokens(&mut self) -> Result<Items<TokenText>, Stop>
         ensures { ReturnsReading result self.new ((grammar.braced grammar.balanced).read self.old) }
     {

@@ -73,8 +73,8 @@ impl<'a> Parser<'a> {
     {
         let def = self.definition()?;
         let line = def.line;
-        // A definition is dropped by a call: at the end of a scope, what each of its forms drops
-        // would be written out.
+        // A definition is dropped by a call: at the end of a scope, the code that drops each of its
+        // variants would be inlined.
         match names::add(names, label) {
             Ok(true) => {
                 keep(defs, def)?;
@@ -185,8 +185,8 @@ pub fn one_module_list_without_lines()
         map unlined ms ≡ map unlined ns }
 {}
 
-/// Raw tokens between braces are spelled exactly where each brace that opens among them is followed
-/// by the one that closes it, and none closes another.
+/// Tokens between braces have a spelling exactly where each brace that opens among them is followed
+/// by the one that closes it, and no other brace closes among them.
 pub fn balanced_braces()
     ensures { (xs : List TokenText) → has_balanced_braces xs ≡ true ↔ IsBalanced xs }
 {}

@@ -119,7 +119,7 @@ impl<'a> Parser<'a> {
         }
     }
 
-    /// Reads such a number in parentheses.
+    /// Reads a number of an identifier in parentheses.
     fn arc_in_parentheses(&mut self) -> Result<Text, Stop>
         ensures { ReturnsReading result self.new
             ((grammar.parenthesized grammar.arc).read self.old) }
@@ -130,7 +130,7 @@ impl<'a> Parser<'a> {
         Ok(number)
     }
 
-    /// Reads such a number in parentheses, if they are ahead.
+    /// Reads a number of an identifier in parentheses, if a parenthesis is ahead.
     fn arc_if_any(&mut self) -> Result<Option<Text>, Stop>
         ensures { ReturnsReading result self.new
             ((format.maybe (grammar.parenthesized grammar.arc)).read

@@ -318,8 +318,9 @@ fn fault_of_line(alloc: Global, text: &[u8]) -> Result<Option<ParseError>, Alloc
     fault_of_pieces(alloc, &[text, b"\n"])
 }
 
-/// Appends braces to the front of a module, and asserts that it is read where all are closed, with
-/// the last of them and what follows it, and else refused at its last line.
+/// Appends 10,000 braces that open and as many that close to the front of a module, and asserts
+/// that it is refused at its last line until `rest`, which closes the brace before them, is
+/// appended.
 fn assert_deep(
     rt: &impl Abort,
     alloc: Global,

@@ -15,7 +15,7 @@ type Row = (TokenKind, &'static str, usize, usize, usize);
 /// A text of which the first tokens are those of `TOKENS`; no token begins with what follows.
 const MIXED: &[u8] = b"A-b_9 x-- note --'0F'h -07..\n\"two\nlines\"::= :: '';";
 
-/// Its tokens.
+/// The tokens of `MIXED`.
 const TOKENS: &[Row] = &[
     (TokenKind::Upper, "A-b_9", 0, 5, 1),
     (TokenKind::Lower, "x", 6, 7, 1),
@@ -70,7 +70,7 @@ fn ends_of_lines_and_pages(rt: HostRuntime) -> Result<(), Fail> {
             b"A\x0cDEFINITIONS\x0b::=\tBEGIN\x0cEND\x0c".as_slice(),
             None,
         ),
-        // CR alone ends no line, and FF and VT don't.
+        // CR alone ends no line, nor do FF and VT.
         (b"A DEFINITIONS ::= BEGIN\r\x0c\x0b;\r\nEND", syntax(1)),
         (b"A DEFINITIONS ::= BEGIN\r\n;\r\nEND", syntax(2)),
         (b"-- a comment that a CR doesn't end \rA", None),

@@ -1,4 +1,4 @@
--- The tree of no modules (RFC 2578, section 2).
+-- The tree of no modules (RFC 2578, section 3.5).
 use Rattle.std.specs.Prelude.{◌≡◌, ℕ, ◌<◌, List, [], ◌∷◌, None}
 use Rattle.smi_names.specs.nodes.Nodes.{roots}
 use Rattle.smi_tree.specs.Tree.{Contents}

@@ -35,7 +35,7 @@ oid_of nodes place = option_and_then (slice_get (oids_of nodes)) place
 abbrev pub nearest_definition : Contents → List ℕ → Option Def
 nearest_definition t o = definition_at t.nodes o
 
--- the syntax by which values are shown of the node that stands for the longest beginning
+-- the syntax of the node that stands for the longest beginning, as values are shown by it
 abbrev pub nearest_syntax : Contents → List ℕ → Option ObjectSyntax
 nearest_syntax t o =
     option_and_then (λ l. shown_at t.nodes t.syntaxes l.place) (longest t.nodes o)

@@ -61,12 +61,12 @@ abbrev pub if_labelled : List Node → List ℕ → Option ℕ → Option ℕ
 if_labelled nodes label None = None
 if_labelled nodes label (Some k) = if is_labelled nodes label k then Some k else None
 
--- what the lowest number gives that gives anything
+-- what f gives for the lowest number for which it gives anything; None if there is no such number
 pub data IsOfLowest (f : ℕ → Option ℕ) : Option ℕ → Type 0 where
   nothing : ((n : ℕ) → f n ≡ None) → IsOfLowest f None
   lowest : (n k : ℕ) → f n ≡ Some k → ((m : ℕ) → m < n → f m ≡ None) → IsOfLowest f (Some k)
 
--- what the lowest number below a bound gives that gives anything
+-- what f gives for the lowest number below a bound for which it gives anything
 unfoldable pub of_lowest : (ℕ → Option ℕ) → ℕ → Option ℕ
 of_lowest f zero = None
 of_lowest f (suc n) = or_else (of_lowest f n) (f n)
@@ -84,6 +84,6 @@ child_at nodes o label n = if_labelled nodes label (place_of (oids_of nodes) (o 
 abbrev pub IsFirstChild : List Node → List ℕ → List ℕ → Option ℕ → Type 0
 IsFirstChild nodes o label = IsOfLowest (child_at nodes o label)
 
--- that child, computed: the law `look_ups` says that it is the first
+-- the first child with the label, computed, as the law `look_ups` says
 abbrev pub child_of : List Node → List ℕ → List ℕ → Option ℕ
 child_of nodes o label = of_lowest (child_at nodes o label) (suc (highest (oids_of nodes)))

@@ -2,7 +2,7 @@
 use Rattle.std.specs.Prelude.{◌≡◌, ℕ, List, length, Some}
 use Rattle.std.specs.List.{slice_get}
 
--- they are of one length, and this holds of what they have at each place
+-- the lists have one length, and R holds of the two items at each place
 pub record ArePairwise {A X : Type 0} (R : ℕ → A → X → Type 0) (ts : List A)
     (xs : List X) : Type 0 where
   pub long : length xs ≡ length ts

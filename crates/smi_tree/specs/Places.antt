@@ -48,7 +48,8 @@ kept_place places x = get bytes_eq places x
 abbrev pub is_of : List Module → List ℕ → List ℕ → Source → Bool
 is_of ms home x s = is_named home (home_from ms s) && has_label ms x s
 
--- the first sources of labels, by the place of the module and the first source of the label
+-- the places of the first sources of labels in modules; the key is the place of the module, and
+-- that of the label's first source in any module
 abbrev pub Others : Type 0
 Others = IndexMap (ℕ × ℕ) ℕ NameHash
 
@@ -61,7 +62,8 @@ key_of ms homes s first place = if first == place then None else
     option_and_then (λ m. option_map (λ p. (p, first)) (kept_place homes m.name.octets))
     (home_from ms s)
 
--- of each label whose first source is of another module than this one, the first in this one
+-- for each label whose first source is of another module than `home`, the map has the label's first
+-- source in `home`, among those in front
 abbrev pub AreOthers : List Module → List Source → Others → List Source → Type 0
 AreOthers ms ss others front = (home x : List ℕ) (p f : ℕ) (s : Source)
     → module_place ms home ≡ Some p → position_from (has_label ms x) 0 ss ≡ Some f

@@ -53,7 +53,8 @@ syntax_from ms t (S.Definition i k) = kept_syntax ms t i k
 abbrev pub syntaxes_from : List Module → Types → List Source → List (Option Facts)
 syntaxes_from ms t ss = map (syntax_from ms t) ss
 
--- the type that a value has on the wire, where its syntax says more than that
+-- the type that values of a base type have on the wire; Other where no syntax changes how they are
+-- shown
 abbrev pub value_base : TypeBase → ValueBase
 value_base T.Integer = V.Integer
 value_base T.OctetString = V.OctetString

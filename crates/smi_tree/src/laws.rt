@@ -22,14 +22,14 @@ pub fn one_tree()
     one_loading();
 }
 
-/// No modules give the tree of the roots, without warnings (RFC 2578, section 2).
+/// The tree of no modules has the roots alone, without warnings (RFC 2578, section 3.5).
 ///
 /// A law: the call does nothing, and its caller may use what it ensures.
 pub fn bare_tree()
     ensures { IsTree [] bare [] }
 {}
 
-/// Where names, definitions and syntaxes are looked up by: the longest beginning of an identifier
+/// What look-ups of names, definitions and syntaxes find: the longest beginning of an identifier
 /// for which a node stands, and the first child with a label (RFC 2578, section 3.6).
 ///
 /// A law: the call does nothing, and its caller may use what it ensures.

@@ -31,7 +31,7 @@ impl Tree {
     }
 }
 
-/// The place of the root of a label (RFC 2578, section 2).
+/// The place of the root of a label (RFC 2578, section 3.5).
 pub(crate) fn root_place(label: &[u8]) -> Option<usize>
     ensures { result ≡ place_anywhere roots label.now }
 {

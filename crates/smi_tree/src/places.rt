@@ -20,19 +20,19 @@ use std::hash::Hash;
 /// Names, each with its place.
 pub(crate) type Places = IndexMap<NameBuf, usize, NameHash>;
 
-/// By the place of a module and the first source of a label, which is of another module: the first
-/// source of the label in the module.
+/// The first source of a label in a module, where the label's first source of all is of another
+/// module. The key is the place of the module and that of the label's first source.
 pub(crate) type Others = IndexMap<(usize, usize), usize, NameHash>;
 
 /// The places of labels.
 pub(crate) struct LabelPlaces {
     /// The first source of each label.
     pub(crate) labels: Places,
-    /// The first one in each other module.
+    /// The first source of each label in each other module.
     pub(crate) others: Others,
 }
 
-/// The place of a key, which gets this one unless it has one.
+/// Gives a key this place unless it has one, and returns its place.
 fn put_first<K: Eq + Hash + Drop>(
     places: &mut IndexMap<K, usize, NameHash>,
     key: K,
@@ -64,8 +64,7 @@ pub(crate) fn homes(alloc: Global, hash: NameHash, modules: &[Module]) -> Result
     Ok(homes)
 }
 
-/// The key of a source among those that aren't the first of their label. None for the first one,
-/// and for a root.
+/// The key of a source in [`Others`]; None for the first source of its label, and for a root.
 fn key_of(
     modules: &[Module],
     homes: &Places,

@@ -13,7 +13,7 @@ use smi_value::ValueSyntax;
 use snmp_oid::Oid;
 use std::marker::Model;
 
-/// The tree of no modules: the roots ccitt, iso and joint-iso-ccitt alone (RFC 2578, section 2).
+/// The tree of no modules: the roots ccitt, iso and joint-iso-ccitt alone (RFC 2578, section 3.5).
 ///
 /// What it returns is what the [`Tree`](crate::Tree) of no modules returns. No call allocates.
 #[derive(Drop)]
@@ -55,7 +55,7 @@ impl Roots {
         }
     }
 
-    /// The root with the first number of an identifier.
+    /// The identifier of the root that an identifier begins with.
     fn root_of(&self, oid: &Oid) -> Option<&Oid>
         ensures { IfSome result (λ root. IsRootOf oid.now root.now) }
     {

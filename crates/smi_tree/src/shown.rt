@@ -10,7 +10,8 @@ use smi_names::{Source, TypeBase};
 use smi_text::{DefKind, Module, Text};
 use smi_value::{ValueBase, ValueSyntax};
 
-/// The type that a value of a base type has on the wire, where its syntax says more than that.
+/// The type that values of a base type have on the wire; `Other` where no syntax changes how they
+/// are shown.
 fn value_base(base: TypeBase) -> ValueBase
     ensures { result ≡ value_base base }
 {

@@ -35,7 +35,7 @@ use std::marker::Model;
 /// The place of a node in order of loading, the roots first. It is below the tree's `len()`.
 pub type NodeId = usize;
 
-/// The nodes that modules define, with those of the roots before them (RFC 2578, sections 2 and
+/// The nodes that modules define, with those of the roots before them (RFC 2578, sections 3.5 and
 /// 3.6).
 ///
 /// Of several nodes with one identifier the first in order of loading stands for it. No call but
@@ -81,7 +81,7 @@ struct Resolved {
     identifiers: Identifiers,
     /// The syntax of types and objects.
     types: Types,
-    /// The index of each row.
+    /// The index of each node that is a column.
     indexes: Indexes,
     /// The warnings, in order of loading.
     warnings: Vec<Warning>,
@@ -182,8 +182,8 @@ impl Tree {
         self.indexes.get(id)
     }
 
-    /// The node at a place, if there is one. It stands in the place of its calls, so that parts
-    /// which a caller doesn't read aren't looked up.
+    /// The node at a place, if there is one. Inlined, so that parts which a caller doesn't read
+    /// aren't looked up.
     #[inline(always)]
     pub(crate) fn node_at(&self, id: NodeId) -> Option<Node<'_>>
         ensures { option_map seen_node result ≡ slice_get self.now.nodes id }
@@ -260,7 +260,7 @@ impl Tree {
         find(&self.homes, name).is_some()
     }
 
-    /// The first node of a label in the module of a name.
+    /// The first node of a label in the module named `home`.
     pub fn find(&self, home: &[u8], label: &[u8]) -> Option<NodeId>
         ensures { result ≡ place_in_module self.now.nodes home.now label.now }
     {
@@ -281,7 +281,7 @@ impl Tree {
     }
 
     /// The node that stands for the longest beginning of an identifier, with the length of that
-    /// beginning. What follows it is the rest.
+    /// beginning.
     pub fn deepest(&self, oid: &Oid) -> Option<Deepest>
         ensures deepest { MatchOption result (HasNoBeginning (oids_of self.now.nodes) oid.now)
             (λ deepest. IsDeepestAt (oids_of self.now.nodes) oid.now deepest.place
@@ -291,8 +291,8 @@ impl Tree {
         self.identifiers.deepest(oid)
     }
 
-    /// The same, by a search that begins at the node of the last one, if the identifier is below
-    /// it.
+    /// What [`Tree::deepest`] returns, by a search that begins at the node that was found last, if
+    /// the identifier is below it.
     pub(crate) fn deepest_near(&self, oid: &Oid, near: &mut Near) -> Option<Deepest>
         ensures deepest { MatchOption result (HasNoBeginning (oids_of self.now.nodes) oid.now)
             (λ deepest. IsDeepestAt (oids_of self.now.nodes) oid.now deepest.place

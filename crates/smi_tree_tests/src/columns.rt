@@ -121,7 +121,7 @@ static COLUMNS: [Row<'static>; 8] = [
     ("tiny", None),
 ];
 
-/// A row that augments one of another module, and an object that has the name of one there.
+/// A row that augments one of another module, and an object `local` in each of the two modules.
 const ROWS: &[u8] = b"M DEFINITIONS ::= BEGIN IMPORTS farRow FROM P;
 local OBJECT-TYPE SYNTAX OCTET STRING (SIZE (6)) MAX-ACCESS read-only STATUS current
   DESCRIPTION \"\" ::= { iso 1 }
@@ -150,8 +150,8 @@ static COLUMNS_OF_ROWS: [Row<'static>; 2] = [
     ("key", Some(&[IndexPart::Address, IndexPart::Number])),
 ];
 
-/// Rows whose index is a string of a size below zero, with IMPLIED and without, of one that is a
-/// range from there, and of no octets.
+/// Rows whose index is a string: of a fixed SIZE below zero, without IMPLIED and with it, of a
+/// range below zero, and of SIZE zero.
 const SIZES: &[u8] = b"M DEFINITIONS ::= BEGIN
 below OBJECT-TYPE SYNTAX OCTET STRING (SIZE (-5)) MAX-ACCESS read-only STATUS current
   DESCRIPTION \"\" ::= { belowRow 1 }

@@ -46,7 +46,7 @@ END
 A DEFINITIONS ::= BEGIN hidden OBJECT IDENTIFIER ::= { iso 12 } END
 ";
 
-/// The first row whose name doesn't resolve to what the row says, in the module of a name.
+/// The first row whose name doesn't resolve, in the row's module, to what the row says.
 fn unresolved_row<'a>(
     names: &Names<'a>,
     rows: &[(&'a str, &'a str, &'static str)],
@@ -79,7 +79,7 @@ fn is_decided(decider: Option<Decider<'_>>, expected: Decided<'_>) -> bool {
     }
 }
 
-/// The first row whose name isn't decided by what the row says, in the module of a name.
+/// The first row whose name isn't decided, in the row's module, by what the row says.
 fn undecided_row<'a>(names: &Names<'a>, rows: &[(&'a str, &'a str, Decided<'a>)]) -> Option<usize> {
     for (k, (home, name, expected)) in rows.iter().enumerate() {
         if !is_decided(names.decider(home.as_bytes(), name.as_bytes()), *expected) {

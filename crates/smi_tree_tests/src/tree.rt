@@ -268,8 +268,8 @@ mine OBJECT IDENTIFIER ::= { 1 10 }
 END
 ";
 
-/// The first node of each label in each module, where labels stand in several modules, and that of a
-/// root too.
+/// The first node of each label in each module. Some labels stand in several modules, and one is
+/// that of a root.
 static SHARED_NODES: [(&str, &str, &str); 7] = [
     ("A", "shared", "1.3"),
     ("A", "only", "1.4"),

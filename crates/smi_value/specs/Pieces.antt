@@ -99,13 +99,13 @@ pub record IsBitsText (letters : Letters) (names : List NamedNumber) (octets tex
   pub whole : text ≡ type_word letters (codes "BITS: ") ++ hexadecimal_text octets
       ++ flat_map (set_bit_text letters names) bits
 
--- ---- the same computed, for private clauses
+-- ---- computed, for private clauses
 
 -- printable, and neither a quote nor a backslash: shown between quotes as it is
 abbrev pub is_plain : ℕ → Bool
 is_plain octet = is_printable octet && not ((octet == 34) || (octet == 92))
 
--- each octet from one place up to another is so
+-- each octet from one place up to another is plain
 abbrev pub ArePlain : List ℕ → ℕ → ℕ → Type 0
 ArePlain octets from to =
     (k : ℕ) → from ≤ k → k < to → is_plain (slice_index octets k) ≡ true

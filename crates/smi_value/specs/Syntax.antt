@@ -29,7 +29,7 @@ same_base base.TimeTicks base.TimeTicks = true
 same_base base.Counter64 base.Counter64 = true
 same_base _ _ = false
 
--- the syntax of an object, for values of its base alone
+-- the syntax by which values of a base are shown: the object's, if it is of that base
 abbrev pub syntax_at : ValueBase → Option ObjectSyntax → ObjectSyntax
 syntax_at base None = no_syntax
 syntax_at base (Some syntax) = if same_base syntax.base base then syntax else no_syntax
@@ -39,7 +39,7 @@ abbrev pub is_of_bits : Option ObjectSyntax → Bool
 is_of_bits None = false
 is_of_bits (Some syntax) = same_base syntax.base base.Bits
 
--- the number of a name
+-- the name stands for this number
 abbrev pub is_number_of : ℤ → NamedNumber → Bool
 is_number_of n named = is_same (stated_number named.number)
   where

@@ -34,7 +34,7 @@ pub record IsTypedNumber (letters : Letters) (word : List ℕ) (hint units : Opt
   pub is_number : IsNumberText hint n shown
   pub whole : text ≡ type_word letters word ++ shown ++ units_text letters units
 
--- an INTEGER: a name of its number comes before a hint, and has no units
+-- an INTEGER: by the name of its number, without units, if it has one; otherwise as any number
 abbrev pub IsIntegerText : Letters → ObjectSyntax → ℤ → Option (List ℕ) → List ℕ → Type 0
 IsIntegerText letters syntax n None text =
     IsTypedNumber letters (codes "INTEGER: ") syntax.hint syntax.units n text
@@ -61,7 +61,7 @@ IsOctetsText letters syntax octets text =
     (IsBitsText letters (syntax_at base.Bits syntax).names octets text)
     (IsStringText letters (syntax_at base.OctetString syntax).hint octets text)
 
--- all but an identifier
+-- the value is no OBJECT IDENTIFIER
 abbrev pub IsNoIdentifier : Datum → Type 0
 IsNoIdentifier (object_id _) = ⊥
 IsNoIdentifier _ = Unit {0}
@@ -70,7 +70,8 @@ IsNoIdentifier _ = Unit {0}
 abbrev pub counter_text : Letters → List ℕ → Option (List ℕ) → ℕ → List ℕ
 counter_text letters word units n = type_word letters word ++ decimal n ++ units_text letters units
 
--- the text of a value of an object of this syntax, if there is one, where names have these texts
+-- the text of a value by the syntax of its object, if that is known; `names` gives identifiers
+-- their texts
 abbrev pub ShowsValue : (List ℕ → List ℕ) → Letters → Option ObjectSyntax → Datum → List ℕ → Type 0
 ShowsValue names letters syntax (integer_value n) text =
     let at = syntax_at base.Integer syntax in

@@ -6,8 +6,8 @@ ghost use Rattle.smi_value.specs.Pieces.{ArePlain, IsShownPlain};
 use crate::letters::StringForm;
 use std::simd::prelude::*;
 
-/// Whether a string is seen to be shown as text, and each of its octets as itself. Most strings
-/// are; of the others nothing is said.
+/// Whether a string is shown as text, and each of its octets as itself, as most are. `false` says
+/// nothing: the caller looks at each octet then.
 pub(crate) fn is_shown_plain(form: StringForm, octets: &[u8]) -> bool
     ensures { OnTrue result (IsShownPlain form octets.now) }
 {
@@ -17,7 +17,7 @@ pub(crate) fn is_shown_plain(form: StringForm, octets: &[u8]) -> bool
     }
 }
 
-/// Whether each octet is a character of printable ASCII but a quote or a backslash.
+/// Whether each octet is a character of printable ASCII other than a double quote or a backslash.
 fn are_plain(octets: &[u8]) -> bool
     ensures { OnTrue result (ArePlain octets.now 0 (length octets.now)) }
 {

@@ -3,7 +3,7 @@ use smi_value::{Hint, HintValue, write_hint};
 use std::alloc::Global;
 use std::process::Abort;
 
-/// Whether this is the text, after `> `.
+/// Whether what was written is `> ` and then the text.
 fn is_behind(written: &[u8], text: &[u8]) -> bool {
     match written {
         [b'>', b' ', rest @ ..] => rest == text,

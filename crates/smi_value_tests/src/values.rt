@@ -192,7 +192,7 @@ const OCTETS: &[u8] =
     b"\x00\x01\x02\x03\x04\x05\x06\x07\x08\x09\x0a\x0b\x0c\x0d\x0e\x0f\xf0\xe1\xd2\xc3\xb4\xa5\
     \x96\x87\x78\x69\x5a\x4b\x3c\x2d\x1e\x0f";
 
-/// The same in hexadecimal, in two lines.
+/// These octets in hexadecimal, in two lines.
 const LINES: &[u8] = b"00 01 02 03 04 05 06 07 08 09 0A 0B 0C 0D 0E 0F \n\
     F0 E1 D2 C3 B4 A5 96 87 78 69 5A 4B 3C 2D 1E 0F ";
 

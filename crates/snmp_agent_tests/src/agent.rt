@@ -29,7 +29,7 @@ pub(crate) const GOT: [u8; 43] = [
     0x01, 0x02, 0x01, 0x01, 0x05, 0x00, 0x04, 0x03, 0x77, 0x65, 0x73,
 ];
 
-/// The Response to it where messages have at most 26 octets: tooBig.
+/// The Response to it where that fits no message of the agent: tooBig.
 const TOO_BIG: [u8; 26] = [
     0x30, 0x18, 0x02, 0x01, 0x01, 0x04, 0x06, 0x70, 0x75, 0x62, 0x6C, 0x69, 0x63, 0xA2, 0x0B, 0x02,
     0x01, 0x01, 0x02, 0x01, 0x01, 0x02, 0x01, 0x00, 0x30, 0x00,
@@ -164,7 +164,7 @@ fn others_are_dropped(rt: HostRuntime) {
     assert_other_lengths_dropped(&rt, &table);
 }
 
-/// A Set of sysName.0 to a Counter32 of 200, without the octet that keeps its sign.
+/// A Set of sysName.0 to a Counter32 of 200, without the zero octet in front of its high bit.
 const SET_COUNTER: [u8; 41] = [
     0x30, 0x27, 0x02, 0x01, 0x01, 0x04, 0x06, 0x70, 0x75, 0x62, 0x6C, 0x69, 0x63, 0xA3, 0x1A, 0x02,
     0x01, 0x01, 0x02, 0x01, 0x00, 0x02, 0x01, 0x00, 0x30, 0x0F, 0x30, 0x0D, 0x06, 0x08, 0x2B, 0x06,
@@ -273,8 +273,8 @@ fn assert_shortest(rt: &impl Abort, octets: &[u8]) {
     assert_eq!(rt; octets, &out[..size]);
 }
 
-/// Whatever one octet of the request is made, it is dropped, or its reply is a message in its
-/// shortest encoding.
+/// With any octet of the request changed to any other, it is dropped, or its reply is a message in
+/// its shortest encoding.
 fn assert_messages(rt: &impl Abort, table: &Table, request: &[u8; 40]) {
     let mut out = [0; 65507];
     for place in 0..40 {

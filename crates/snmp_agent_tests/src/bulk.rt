@@ -6,7 +6,7 @@ use snmp_wire::{Binding, Bindings, ValueRef, decode};
 use std::alloc::{AllocError, Global};
 use std::process::Abort;
 
-/// Six integers, each its place: 18 octets a binding.
+/// Six integers, each its place, from 1 on. A binding has 18 octets.
 const SIX: &[u8] =
     b"1.3.6.1.4.1.32473.1.1.0|2|1\n1.3.6.1.4.1.32473.1.2.0|2|2\n1.3.6.1.4.1.32473.1.3.0|2|3\n\
 1.3.6.1.4.1.32473.1.4.0|2|4\n1.3.6.1.4.1.32473.1.5.0|2|5\n1.3.6.1.4.1.32473.1.6.0|2|6";
@@ -212,7 +212,8 @@ fn bulk_of(alloc: Global, count: u16) -> Result<Vec<u8>, AllocError> {
     Ok(octets)
 }
 
-/// The text of the rows of the numbers from 128 to `last`, each 1.3.6, the number, with its number.
+/// The text of a row for each number from 128 to `last`: its name is 1.3.6 and the number, and its
+/// value is the number.
 pub(crate) fn numbers_to(alloc: Global, last: u32) -> Result<Vec<u8>, AllocError> {
     let mut text = Vec::new(alloc);
     for number in 128..=last {

@@ -38,7 +38,7 @@ fn assert_rows(rt: &impl Abort, table: &Table, low: u32, high: u32) {
     );
 }
 
-/// Puts the row of the number, with the number. Whether there was none.
+/// Puts the row of the number, with the number as its value, and returns whether there was none.
 fn is_added(table: &mut Table, number: u32) -> bool {
     match name_of(number) {
         Some(name) => matches!(table.put(&name, ValueRef::Counter32(number)), Ok(false)),
@@ -46,7 +46,7 @@ fn is_added(table: &mut Table, number: u32) -> bool {
     }
 }
 
-/// Removes the row of the number. Whether there was one.
+/// Removes the row of the number, and returns whether there was one.
 fn is_removed(table: &mut Table, number: u32) -> bool {
     match name_of(number) {
         Some(name) => table.remove(&name),
@@ -70,7 +70,7 @@ fn rows_put_in_falling_order_are_removed_in_rising_order(rt: HostRuntime) {
     assert!(rt; gives(&table, b"1.3.6.1.4.1.32473.1.1.0", ValueRef::NoSuchInstance));
 }
 
-/// Puts the value at the name. Whether there was a row, or why it is not put.
+/// Puts the value at the name, and returns whether there was a row, or why it is not put.
 fn put(table: &mut Table, name: &[u8], value: ValueRef<'_>) -> Option<Result<bool, PutError>> {
     match parse_numeric(name) {
         Ok(name) => Some(table.put(&name, value)),
@@ -118,7 +118,7 @@ fn assert_bad_value(rt: &impl Abort, table: &mut Table, value: ValueRef<'_>) {
     assert!(rt; gives(table, b"1.3.6.1", ValueRef::Integer(1)));
 }
 
-/// Asserts that a string of all 65536 octets is not put at 1.3.6.1, and that one less are.
+/// Asserts that a string of all 65536 octets is not put at 1.3.6.1, and that one of 65535 is.
 fn assert_longest(rt: &impl Abort, table: &mut Table, octets: &[u8; 65536]) {
     assert_bad_value(rt, table, ValueRef::Octets(octets));
     assert_bad_value(rt, table, ValueRef::Opaque(octets));

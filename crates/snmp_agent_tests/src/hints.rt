@@ -25,14 +25,14 @@ fn is_same_reply(table: &Table, number: u16, hint: &mut Hint) -> bool {
     is_same(table, &next_of(number), hint)
 }
 
-/// The same of a Get.
+/// [`is_same_reply`] for a Get.
 fn is_same_value(table: &Table, number: u16, hint: &mut Hint) -> bool {
     let mut request = next_of(number);
     request[13] = 0xA0;
     is_same(table, &request, hint)
 }
 
-/// The same of a GetBulk of five repetitions.
+/// [`is_same_reply`] for a GetBulk of five repetitions.
 fn is_same_column(table: &Table, number: u16, hint: &mut Hint) -> bool {
     let mut request = next_of(number);
     request[13] = 0xA5;
@@ -40,7 +40,7 @@ fn is_same_column(table: &Table, number: u16, hint: &mut Hint) -> bool {
     is_same(table, &request, hint)
 }
 
-/// The same of a request.
+/// Whether the agent has a reply to the request, and the same with the hint as without one.
 fn is_same(table: &Table, request: &[u8], hint: &mut Hint) -> bool {
     let config = Config {
         community: b"public",
@@ -109,7 +109,7 @@ fn names_asked_for_again_have_the_same_replies(rt: HostRuntime) {
     let mut table = table_to(&rt, rt.alloc(), 900);
     let few = table_to(&rt, rt.alloc(), 130);
     let mut hint = Hint::default();
-    // Names of one mark, in no order; each is asked for by a Get, a GetNext and a GetBulk.
+    // Names of four octets, in no order; each is asked for by a Get, a GetNext and a GetBulk.
     for round in 0..4 {
         for step in 0..800_u16 {
             let number = step.wrapping_mul(331) % 800 + 128;
@@ -144,8 +144,7 @@ fn names_asked_for_again_have_the_same_replies(rt: HostRuntime) {
     }
 }
 
-/// The GetNext of 1.3.6.1.4.1.1 and this number, from 128 to 16383: a name of eight octets, so that
-/// its mark depends on the number.
+/// The GetNext of 1.3.6.1.4.1.1 and this number, from 128 to 16383: a name of eight octets.
 fn marked_next_of(number: u16) -> [u8; 40] {
     let [high, low] = number.wrapping_mul(2).to_be_bytes();
     let mut request = [
@@ -204,8 +203,7 @@ const COLUMNS: u32 = 6;
 const ROUTES: u32 = 90;
 
 /// The name of the row of this place, from 0 on, in a table of routes, whose index has many
-/// numbers.
-/// Its rows differ within a name alone.
+/// numbers: the names of its rows differ in the middle alone.
 fn route(place: u32) -> Option<Oid> {
     let column = place / ROUTES % COLUMNS + 1;
     let row = place % ROUTES;

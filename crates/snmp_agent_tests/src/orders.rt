@@ -5,20 +5,20 @@ use snmp_agent::{Table, TableError};
 use std::alloc::{AllocError, Global};
 use std::collections::BTreeMap;
 
-/// How many rows in order stand before the others, whose names have the even numbers: on so many
-/// pages that a table takes the others to be in no order where they come to many of these, and
-/// gathers them.
+/// How many rows in order, of the even numbers, stand before the others. They fill so many pages
+/// that a table takes the others to be in no order where these come to many pages, and gathers
+/// them.
 const FIRST_ROWS: u32 = 10_000;
 
-/// How many of the others, put one by one, show that: three samples.
+/// How many of the others are put one by one before a table gathers the next: three samples.
 const SEEN: u32 = 384;
 
-/// How the numbers of the rows come that stand among them.
+/// The order in which the other rows come, whose numbers are odd.
 #[derive(Clone, Copy, Debug)]
 struct Order {
     /// How many rows there are.
     count: u32,
-    /// As many columns come row by row; with one the numbers rise by the step.
+    /// The rows are those of so many columns, row by row; with one the numbers rise by the step.
     columns: u32,
     /// The numbers go up by this, from the first on again behind the last; with 0 they fall.
     step: u32,
@@ -29,11 +29,11 @@ struct Order {
 struct Wrong {
     /// The line of this number has the row of an earlier one.
     again: u32,
-    /// Which.
+    /// The place of that row.
     first: u32,
     /// The line of this number is faulty.
     bad: u32,
-    /// How.
+    /// The kind of its fault.
     kind: u32,
 }
 
@@ -237,8 +237,8 @@ fn the_first_double_where_rows_begin_to_be_gathered_is_told(rt: HostRuntime) {
     }
 }
 
-/// Names of one hash, two by two: while rows are gathered, the second is taken for the first until
-/// all rows are in their places.
+/// Pairs of names that have one hash: while rows are gathered, the second is taken for the first
+/// until all rows are in their places.
 const OF_ONE_HASH: [(&str, &str); 6] = [
     (
         "1.3.6.1.4.1.66.68.108.100.113.111.62.21.33.53.94",
@@ -266,8 +266,8 @@ const OF_ONE_HASH: [(&str, &str); 6] = [
     ),
 ];
 
-/// The fault of rows in no order among which such names stand, the second ones after as many rows,
-/// and in the last line the row of this place.
+/// The fault of a text of the first rows, the first name of each such pair, `before` rows in no
+/// order, the second name of each pair, and the row of the place `again`.
 fn fault_of_names(
     alloc: Global,
     first_lines: &[u8],

@@ -38,8 +38,8 @@ pub(crate) fn has_rows(table: &Table, map: &BTreeMap<u32, u32>) -> bool {
     matches!(binding.value, ValueRef::EndOfMibView)
 }
 
-/// Puts the value at the row of the number, in both. Whether both say that there was none, or both
-/// that there was one.
+/// Puts the value at the row of the number, in both, and returns whether both say that there was
+/// none, or both that there was one.
 fn is_put(table: &mut Table, map: &mut BTreeMap<u32, u32>, number: u32, value: u32) -> bool {
     let Some(name) = name_of(number) else {
         return false;
@@ -53,8 +53,8 @@ fn is_put(table: &mut Table, map: &mut BTreeMap<u32, u32>, number: u32, value: u
     }
 }
 
-/// Removes the row of the number from both. Whether both say that there was one, or both that there
-/// was none.
+/// Removes the row of the number from both, and returns whether both say that there was one, or
+/// both that there was none.
 fn is_removed(table: &mut Table, map: &mut BTreeMap<u32, u32>, number: u32) -> bool {
     match name_of(number) {
         Some(name) => table.remove(&name) == map.remove(&number).is_some(),
@@ -80,8 +80,8 @@ fn changes_in_no_order_are_those_of_a_map(rt: HostRuntime) {
     }
 }
 
-/// The text of `count` rows of numbers that go up by `step`, from 0 on again at the count, spread
-/// by the factor.
+/// The text of `count` rows, whose numbers go up by `step`, modulo `count`, and are spread by the
+/// factor.
 fn text_of(alloc: Global, count: u32, step: u32, factor: u32) -> Result<Vec<u8>, AllocError> {
     let mut text = Vec::new(alloc);
     let mut number: u32 = 0;
@@ -94,7 +94,7 @@ fn text_of(alloc: Global, count: u32, step: u32, factor: u32) -> Result<Vec<u8>,
     Ok(text)
 }
 
-/// The number times itself and the factor, or as it is where that is 0.
+/// The number times itself and the factor, or the number alone where the factor is 0.
 fn spread(number: u32, factor: u32) -> u32 {
     if factor == 0 {
         return number;
@@ -129,9 +129,9 @@ fn rows_are_read_around_the_size_of_a_page(rt: HostRuntime) {
     }
 }
 
-/// Counts of rows, each with a step by which many of them come before the one in front: of the last
-/// ones so many that a table gathers them, and puts them in place when it may become twice as long,
-/// once before the end.
+/// Counts of rows, each with a step by which many of them come before the one in front. At the last
+/// counts these are so many that a table gathers them, and puts them in place when they may be as
+/// many as the others, once before the end.
 const IN_NO_ORDER: [(u32, u32); 14] = [
     (100, 61),
     (129, 79),
@@ -170,8 +170,8 @@ fn names_of_short_and_long_numbers_in_no_order_are_read(rt: HostRuntime) {
     }
 }
 
-/// The fault of a table of `count` such rows in which the line of the number `again` has the row of
-/// that of the number `first`, and the line of the number `bad`, if there is one, no row's form.
+/// The fault of a text of `count` such rows, whose line `again` has the row of its line `first`,
+/// and whose line `bad`, if there is one, states no row. Lines count from 1.
 fn fault_of(
     alloc: Global,
     count: u32,
@@ -250,7 +250,8 @@ fn the_first_line_of_a_name_that_is_there_is_told(rt: HostRuntime) {
 /// The numbers before and after which an encoding becomes longer.
 const EDGES: [u32; 7] = [127, 128, 16383, 16384, 2097151, 2097152, 4294967295];
 
-/// Whether the rows of the edges have their order, where they are put in the order of this number.
+/// Whether the rows of the edges are in order, once they were put in their permutation of this
+/// number.
 fn is_ordered(alloc: Global, order: usize) -> Option<bool> {
     let mut table = Table::read(alloc, b"").ok()?;
     let mut map = BTreeMap::new(alloc);
@@ -293,8 +294,8 @@ fn even_rows(alloc: Global, count: u32) -> Option<(Table, BTreeMap<u32, u32>)> {
     Some((Table::read(alloc, &text).ok()?, map))
 }
 
-/// Whether a table of `count` rows stays the map while the row at this place has a new value, one
-/// comes beside it, and both go.
+/// Whether a table of `count` rows has the rows of the map after each change: the row at this place
+/// gets a new value, one is put beside it, and both are removed.
 fn is_changed_at(alloc: Global, count: u32, place: u32) -> Option<bool> {
     let (mut table, mut map) = even_rows(alloc, count)?;
     let (table, map) = (&mut table, &mut map);

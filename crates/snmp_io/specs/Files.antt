@@ -1,7 +1,7 @@
 -- What is known of files.
 use Rattle.std.specs.Prelude.{◌≡◌, ⊤, ℕ, List, Option, Some, None}
 
--- what is known of files: by its path, the text of each, or that it has none
+-- for each path, what it is known to hold, a text or none; None where that isn't known
 abbrev pub Holdings : Type 0
 Holdings = List ℕ → Option (Option (List ℕ))
 
@@ -14,10 +14,10 @@ HoldsIfKnown (Some held) text = held ≡ text
 abbrev pub Holds : Holdings → (path text : List ℕ) → Type 0
 Holds files path text = files path ≡ Some (Some text)
 
--- it holds this text, as far as that is known
+-- the path holds this text, as far as is known
 abbrev pub MayHold : Holdings → (path text : List ℕ) → Type 0
 MayHold files path text = HoldsIfKnown (files path) (Some text)
 
--- it has no text, as far as that is known
+-- the path holds no text, as far as is known
 abbrev pub MayHoldNone : Holdings → (path : List ℕ) → Type 0
 MayHoldNone files path = HoldsIfKnown (files path) None

@@ -11,7 +11,7 @@ pub record Stream : Type 0 where
 abbrev pub appended : Option (List ℕ) → List ℕ → Option (List ℕ)
 appended before text = option_map (λ taken. taken ++ text) before
 
--- the stream after the text too was taken
+-- the stream once it has taken the text too
 abbrev pub extended : Stream → List ℕ → Stream
 extended before text = record { taken = appended before.taken text; faults = before.faults }
 

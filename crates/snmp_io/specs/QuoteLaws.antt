@@ -9,7 +9,7 @@ use Rattle.std.proofs.lemmas.Bool.{eq-eqb, eqb-false, eqb-true, ne_eqb}
 use Rattle.std.proofs.lemmas.List.Elements.{All-cons, All-head, All-nil, All-tail}
 use Rattle.snmp_io.specs.Quotes.{is_quote, open_after, HasNoneOutside, IsClosed, IsCut, IsPiece}
 
--- the quote that is open after these octets, before which this one is open, if any
+-- the quote that is open after these octets, if any, where `quote` is what is open before them
 abbrev pub quote_after : Option ℕ → List ℕ → Option ℕ
 quote_after quote [] = quote
 quote_after quote (octet ∷ more) = quote_after (open_after quote octet) more
@@ -33,7 +33,7 @@ piece_closes piece (inl (octet, plain, is)) = rw (quote_after, is, plain) refl
 piece_closes piece (inr (quote, inside, opens, none, is)) =
     rw (quote_after, is, opens) (closed_by quote inside none)
 
--- outside quotes after a closed text
+-- no quote is open after a closed text
 pub none_open : (text : List ℕ) → IsClosed text → quote_after None text ≡ None
 none_open text (pieces, all, is) = ap (quote_after None) is ∙ none_after pieces all
   where
@@ -46,7 +46,7 @@ none_open text (pieces, all, is) = ap (quote_after None) is ∙ none_after piece
         (piece_closes piece (All-head IsPiece piece more all))
         ∙ none_after more (All-tail IsPiece piece more all)
 
--- what comes after this quote, up to where it is closed, and closed from there on
+-- a text that closes the quote that is open before it, if one is, and is closed from there on
 abbrev IsClosedAfter : Option ℕ → List ℕ → Type 0
 IsClosedAfter None text = IsClosed text
 IsClosedAfter (Some quote) text = (inside rest : List ℕ) × All (λ octet. octet ≢ quote) inside
@@ -104,11 +104,12 @@ closed_after (Some quote) (octet ∷ more) at_end =
           ap (λ (t : List ℕ). octet ∷ t) closed.4,
         )
 
--- a text after which no quote is open
+-- a text is closed where no quote is open after it
 pub is_closed : (text : List ℕ) → quote_after None text ≡ None → IsClosed text
 is_closed text none = closed_after None text none
 
--- wherever the octet stands in the text, a quote is open before it, if this one is before the text
+-- wherever `stop` stands in the text, a quote is open before it, where `quote` is what is open
+-- before the text
 abbrev pub HasNoneAfter : (stop : ℕ) → Option ℕ → List ℕ → Type 0
 HasNoneAfter stop quote text = (before after : List ℕ) → text ≡ before ++ stop ∷ after
     → quote_after quote before ≢ None
@@ -145,7 +146,7 @@ same_cut stop quote (x ∷ front) rest (y ∷ other) behind e f g h k =
     (subst K same (none_later stop quote y other k)) in
     (ap (λ (z : ℕ). z ∷ other) same ∙ ap (λ (t : List ℕ). x ∷ t) later.0, later.1)
 
--- the octet stands outside quotes nowhere, said by what is open before it
+-- where `stop` stands nowhere outside quotes, a quote is open before each, and the other way round
 pub never_outside : (stop : ℕ) (text : List ℕ) → HasNoneOutside stop text
     → HasNoneAfter stop None text
 never_outside stop text none before after e at_end = none before after e (is_closed before at_end)
@@ -154,7 +155,7 @@ pub none_outside : (stop : ℕ) (text : List ℕ) → HasNoneAfter stop None tex
     → HasNoneOutside stop text
 none_outside stop text none before after e closed = none before after e (none_open before closed)
 
--- one cut
+-- a text is cut at its first `stop` outside quotes in one way
 pub cut_once : (stop : ℕ) (text front rest other behind : List ℕ) → IsCut stop text front rest
     → IsCut stop text other behind → (other ≡ front) × (behind ≡ rest)
 cut_once stop text front rest other behind h k =

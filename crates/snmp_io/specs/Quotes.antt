@@ -22,18 +22,18 @@ IsPiece piece = ((octet : ℕ) × (is_quote octet ≡ false) × (piece ≡ octet
 abbrev pub IsClosed : List ℕ → Type 0
 IsClosed text = (pieces : List (List ℕ)) × All IsPiece pieces × (text ≡ concat pieces)
 
--- wherever the octet stands in the text, a quote is open before it
+-- wherever `stop` stands in the text, a quote is open before it
 abbrev pub HasNoneOutside : (stop : ℕ) → List ℕ → Type 0
 HasNoneOutside stop text = (before after : List ℕ) → text ≡ before ++ stop ∷ after
     → IsClosed before → ⊥
 
--- what stands before and after the first such octet outside quotes
+-- what stands before and after the first `stop` outside quotes
 pub record IsCut (stop : ℕ) (text front rest : List ℕ) : Type 0 where
   pub parts : text ≡ front ++ stop ∷ rest
   pub outside : IsClosed front
   pub first : HasNoneOutside stop front
 
--- what stands before the first such octet outside quotes: the whole text where there is none
+-- what stands before the first `stop` outside quotes: the whole text where there is none
 abbrev pub IsFrontOf : (stop : ℕ) → (text front : List ℕ) → Type 0
 IsFrontOf stop text front = (HasNoneOutside stop text × (front ≡ text))
     ⊎ ((rest : List ℕ) × IsCut stop text front rest)

@@ -12,11 +12,11 @@ appended-nil : (before : Option (List ℕ)) → appended before [] ≡ before
 appended-nil None = refl
 appended-nil (Some taken) = ap Some (append-nil taken)
 
--- the stream with other octets
+-- the stream with these octets in place of those that it took
 abbrev with_octets : Stream → Option (List ℕ) → Stream
 with_octets s taken = record { taken = taken; faults = s.faults }
 
--- one text after the other
+-- a stream takes two texts one after the other as it takes the two in one
 pub extended-twice : (before : Stream) (a b : List ℕ)
     → extended (extended before a) b ≡ extended before (a ++ b)
 extended-twice before a b = ap (with_octets before) (appended-twice before.taken a b)
@@ -24,7 +24,7 @@ extended-twice before a b = ap (with_octets before) (appended-twice before.taken
 pub extended-nil : (before : Stream) → extended before [] ≡ before
 extended-nil before = ap (with_octets before) (appended-nil before.taken)
 
--- nothing was taken
+-- a stream that took nothing took a front of the text
 pub nothing_taken : (before after : Stream) (text : List ℕ) → after ≡ before
     → TakesFront before text after
 nothing_taken before after text is = record {
@@ -34,7 +34,7 @@ nothing_taken before after text is = record {
   taken = ap (λ (s : Stream). s.taken) is ∙ sym (appended-nil before.taken);
 }
 
--- the whole of a text was taken
+-- a stream that took the whole text took a front of it
 pub whole_taken : (before after : Stream) (text : List ℕ) → after ≡ extended before text
     → TakesFront before text after
 whole_taken before after text is = record {
@@ -44,7 +44,7 @@ whole_taken before after text is = record {
   taken = ap (λ (s : Stream). s.taken) is;
 }
 
--- a whole text, and then a front of the next
+-- a stream that took a whole text and then a front of the next took a front of the two
 pub front_after : (before now after : Stream) (a b : List ℕ) → now ≡ extended before a
     → TakesFront now b after → TakesFront before (a ++ b) after
 front_after before now after a b whole more = record {

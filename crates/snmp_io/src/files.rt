@@ -21,7 +21,7 @@ pub trait Files {
     /// Where it is known what a path holds: its text, which may be empty, or none.
     ghost text_at: { Self → Holdings };
 
-    /// The text that the path holds.
+    /// The text that the path holds, or why none is returned.
     fn read(&self, alloc: Global, path: &str) -> Result<Vec<u8>, FileFault>
         ensures text_held { IfOk result (λ text.
             MayHold (text_at self.now) path.now text.items) }

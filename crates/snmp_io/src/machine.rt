@@ -1,4 +1,4 @@
-//! The machine's own outputs and files, of which nothing is known.
+//! The machine's own outputs and files, of whose octets nothing is known.
 ghost use Rattle.std.specs.Prelude.{◌≡◌, ◌<◌, ◌≤◌, ◌↔◌, ℕ, None, IfOk, IfSome, IsErrOf, refl};
 ghost use Rattle.std.specs.Prelude.{length, vec_len};
 ghost use Rattle.snmp_io.specs.Machine.{IsWantOfMemory, most_octets};
@@ -17,7 +17,7 @@ const MOST_OCTETS: usize = 268_435_456;
 /// How often a write is tried when signals interrupt it.
 const TRIES: u8 = 100;
 
-/// An output of the machine, as standard output. It holds nothing back.
+/// An output of the machine, such as standard output. It has no buffer.
 #[derive(Drop)]
 pub struct MachineOutput<W> {
     to: W,

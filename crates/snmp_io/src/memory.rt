@@ -92,7 +92,7 @@ impl Output for MemoryOutput {
     ghost after_takes = { λ _ _. refl };
 }
 
-/// Files of which the first with a path holds its text.
+/// Files in memory. Where several have the same path, it holds the text of the first.
 #[derive(Clone, Copy, Debug)]
 pub struct MemoryFiles<'a> {
     /// Each path with its text.
@@ -110,7 +110,7 @@ impl Files for MemoryFiles<'_> {
     }
 }
 
-/// The text of the file at a path, if there is one: the first of those.
+/// The text of the first file with this path, if there is one.
 fn text_at<'a>(files: &[(&'a str, &'a [u8])], path: &str) -> Option<&'a [u8]>
     ensures { option_map (λ text. text.now) result ≡ held_at files.now path.now }
 {

@@ -35,7 +35,7 @@ pub trait Output {
     fn faults(&self) -> u64
         ensures { result ≡ (stream self.now).faults };
 
-    /// Of that, the octets are known, where they are of it, and no write failed.
+    /// What is known of that output: it took these octets too, and no other write failed.
     ghost after_takes: { (out : Self) (text : List ℕ)
         → stream (after out text) ≡ extended (stream out) text };
 }

@@ -32,12 +32,12 @@ pub record IsHostAndPort (word host : List ℕ) (port : ℕ) : Type 0 where
   pub host_stated : IsHost host
   pub port_stated : IsPort digits port
 
--- a host alone, of which the port of SNMP is meant (RFC 3417, section 3), or a host and its port
+-- a host alone, where the port is that of SNMP (RFC 3417, section 3.2), or a host and its port
 abbrev pub IsTarget : (word host : List ℕ) → (port : ℕ) → Type 0
 IsTarget word host port =
     (IsHost word × (host ≡ word) × (port ≡ 161)) ⊎ IsHostAndPort word host port
 
--- the word doesn't begin so
+-- the word doesn't begin with the prefix
 abbrev pub LacksPrefix : (word prefix : List ℕ) → Type 0
 LacksPrefix word prefix = (rest : List ℕ) → word ≢ prefix ++ rest
 

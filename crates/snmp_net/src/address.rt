@@ -2,7 +2,7 @@
 ghost use Rattle.std.specs.Prelude.{◌≡◌, ◌≢◌, ℕ, List, [], Contains, IsTrue, IfSome, IfNone, ◌↔◌};
 ghost use Rattle.snmp_net.specs.Address.{IsHost, IsHostAndPort, IsPort, IsTarget};
 
-/// The UDP port at which agents listen (RFC 3417, section 3.1).
+/// The UDP port at which agents listen (RFC 3417, section 3.2).
 const SNMP_PORT: u16 = 161;
 
 /// A UDP port of a host.

@@ -9,7 +9,7 @@ use snmp_walk::{Link, LinkFault};
 
 /// What opens links to agents, and doors at which an agent is served.
 ///
-/// The facts of a link that it opens are what a walk's promises rest on. Of the machine's own
+/// A walk's promises rest on the facts of the link that it opens. Of the machine's own links
 /// nothing is known.
 pub trait Links {
     /// A link to an agent.
@@ -46,8 +46,8 @@ pub trait Links {
         ensures count { OnOk result (fault_count self.new ≡ fault_count self.old) }
         ensures fault { OnErr result (HasRisen (fault_count self.old) (fault_count self.new)) };
 
-    /// Serves a table at a door for a number of turns, as [`snmp_agent::serve`] does. In each a
-    /// request may take one second to come.
+    /// Serves a table at a door for a number of turns, as [`snmp_agent::serve`] does. A turn waits
+    /// for a request for one second at most.
     fn serve(
         &mut self,
         door: &mut Self::Door,

@@ -32,8 +32,8 @@ pub struct MemoryLinks<'a> {
 impl<'a> MemoryLinks<'a> {
     ghost use Rattle.std.specs.Prelude.{◌≡◌};
 
-    /// Links to these agents: to the first of those that are reached at a port of a host. These
-    /// requests come at each door.
+    /// Links to these agents, of which the first with a host and port is reached there, and doors
+    /// at each of which these requests come.
     pub fn new(
         alloc: Global,
         agents: &'a [MemoryAgent<'a>],
@@ -133,7 +133,8 @@ fn agent_at<'a>(agents: &'a [MemoryAgent<'a>], host: &str, port: u16) -> Option<
     None
 }
 
-/// Where requests come from memory, one a turn, and after the last nothing. Replies go nowhere.
+/// A door at which requests come from memory, one a turn, and none after the last. Replies go
+/// nowhere.
 #[derive(Drop)]
 pub struct MemoryDoor<'a> {
     requests: &'a [&'a [u8]],
@@ -153,8 +154,8 @@ impl<'a> Endpoint for MemoryDoor<'a> {
 
     ghost fault_count = { λ door. door.faults };
 
-    /// Receives the next request, and after the last nothing. One that is longer than the buffer is
-    /// a fault, and never comes.
+    /// Receives the next request, or nothing after the last. One that is longer than the buffer is
+    /// a fault, and is passed over.
     fn receive(&mut self, buffer: &mut [u8]) -> Result<Option<(usize, ())>, EndpointFault>
         ensures bound { IfOk result (λ received. IfSome received (λ r. r.0 ≤ length buffer.new)) }
         ensures next { IfOk result (λ received. IfSome received
@@ -180,7 +181,7 @@ impl<'a> Endpoint for MemoryDoor<'a> {
         Ok(Some((length, ())))
     }
 
-    /// Passes over no request.
+    /// Drops the reply. The requests that are still to come are the same.
     fn reply(&mut self, _datagram: &[u8], _peer: ()) -> Result<(), EndpointFault>
         ensures ahead { ahead_of self.new ≡ ahead_of self.old }
         ensures count { OnOk result (self.new.faults ≡ self.old.faults) }

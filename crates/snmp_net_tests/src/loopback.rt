@@ -37,7 +37,8 @@ fn three(rt: &impl Abort, alloc: Global) -> Table {
     Table::read(alloc, THREE).expect(rt, "a table")
 }
 
-/// Writes the last number but one of each name, and each integer, one after the other.
+/// Collects the last number but one of each name, and each integer, two decimal digits each, and
+/// counts the rows.
 #[derive(Drop)]
 struct Columns {
     number: u64,
@@ -114,7 +115,7 @@ impl<'a, N: Net> Link for Looped<'a, N> {
     }
 }
 
-/// A door at any port.
+/// A door at a free port.
 fn open_door<N: Net>(rt: &impl Abort, links: &mut MachineLinks<N>) -> UdpSocket {
     links.bind("127.0.0.1", 0).expect(rt, "a door")
 }

@@ -1,5 +1,5 @@
--- Object identifiers and their order (RFC 2578, sections 3.5 and 7.1.3; RFC 3416, sections 2.4 and
--- 4.1). A contract sees an identifier as the list of its numbers.
+-- Object identifiers and their order (RFC 2578, sections 3.5 and 7.1.3; RFC 3416, section 4.2.2).
+-- A contract sees an identifier as the list of its numbers.
 use Rattle.std.specs.Prelude.{◌≡◌, ◌≢◌, ℕ, ◌+◌, ◌-◌, ◌*◌, ◌^◌, ◌<◌, ◌≤◌, ◌⊎◌, List, [], ◌∷◌, ◌++◌}
 use Rattle.std.specs.Prelude.{length, All}
 
@@ -7,7 +7,7 @@ use Rattle.std.specs.Prelude.{length, All}
 abbrev pub IsBelow : List ℕ → List ℕ → Type 0
 IsBelow o root = (rest : List ℕ) × (rest ≢ []) × (o ≡ root ++ rest)
 
--- o and p part after a common front, and o has the smaller number there
+-- o and p begin alike, and where they first differ o has the smaller number
 pub record PartsBelow (o p : List ℕ) : Type 0 where
   pub front : List ℕ
   pub smaller : ℕ
@@ -41,11 +41,12 @@ wire [] = 0 ∷ 0 ∷ []
 wire (x ∷ []) = x ∷ 0 ∷ []
 wire (x ∷ y ∷ rest) = x ∷ y ∷ rest
 
--- the rank: the number with `digits` digits to the base 2^32 + 1, a digit being a number of the
--- identifier plus 1, or 0 where there is none
+-- an identifier read as `digits` digits to the base 2^32 + 1: each of its numbers plus 1 is a
+-- digit, and zeros follow the last
 abbrev pub rank_in : ℕ → List ℕ → ℕ
 rank_in digits [] = 0
 rank_in digits (n ∷ rest) = (n + 1) * (2 ^ 32 + 1) ^ (digits - 1) + rank_in (digits - 1) rest
 
+-- the rank of an identifier: identifiers come in the order of their ranks
 abbrev pub rank : List ℕ → ℕ
 rank o = rank_in 128 o

@@ -30,8 +30,8 @@ IsDotted text (n ∷ m ∷ more) =
     (first : List ℕ) × (rest : List ℕ) × (text ≡ first ++ dot ∷ rest)
     × IsNumeral first n × IsDotted rest (m ∷ more)
 
--- the text names the identifier: a dot alone the empty one, else dotted numerals, after a dot or
--- not
+-- the text names the identifier: a dot alone names the empty one; the numerals of its numbers, with
+-- dots between them and perhaps one before the first, name any other
 abbrev pub IsNumericName : List ℕ → List ℕ → Type 0
 IsNumericName text o =
     ((text ≡ dot ∷ []) × (o ≡ []))
@@ -54,16 +54,16 @@ pub record IsFirstBadPart (text : List ℕ) (at : ℕ) : Type 0 where
   pub bad : (n : ℕ) → IsNumeral (part_at text at) n → ⊥
   pub before : (k : ℕ) → k < at → BeginsPart text k → (n : ℕ) × IsNumeral (part_at text k) n
 
--- The part up to the first dot of a text, or the end: the number that it is a numeral of, and what
--- follows the dot.
+-- The first part of a text ends at its first dot or with the text: `number` is what the part is a
+-- numeral of, None where it is none; `after` follows the dot, and is None where there is no dot.
 pub record IsPartRead (text : List ℕ) (number : Option ℕ) (after : Option (List ℕ)) : Type 0 where
   pub part : List ℕ
   pub plain : All (λ octet. octet ≢ dot) part
   pub parts : MatchOption after (text ≡ part) (λ rest. text ≡ part ++ dot ∷ rest)
   pub read : MatchOption number ((n : ℕ) → IsNumeral part n → ⊥) (IsNumeral part)
 
--- parts of a digit each at the front of a text, so many, and what follows the dot of the last;
--- their numbers were appended to those before
+-- the text begins with `count` parts of one digit each, with a dot after each, and `rest` follows;
+-- their numbers were appended to `before`, which had room for them
 pub record AreDigitsRead (count : ℕ) (text rest before after : List ℕ) : Type 0 where
   pub digits : List ℕ
   pub size : length digits ≡ count

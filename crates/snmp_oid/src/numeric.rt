@@ -45,8 +45,8 @@ pub fn parse_numeric(text: &[u8]) -> Result<Oid, OidTextError>
     }
 }
 
-/// Reads the identifier that a text names into one that is there, as [`parse_numeric`] reads it: it
-/// takes as long to move an identifier as to read one. After an error it may have any numbers.
+/// Reads the identifier that a text names into `oid`, as [`parse_numeric`] reads it, but without
+/// moving one, which takes as long as reading it. After an error, `oid` may have any numbers.
 pub fn read_numeric(text: &[u8], oid: &mut Oid) -> Result<(), OidTextError>
     ensures found { OnOk result (IsNumericName text.now oid.new) }
     ensures at_most_128 { OnOk result (length oid.new ≤ 128) }
@@ -101,8 +101,9 @@ fn without_front_dot(text: &[u8]) -> &[u8]
     }
 }
 
-/// Appends the numbers of the first three parts of a text, and returns what follows the dot that
-/// ends them, where each is a digit before a dot and there is room for three. None changes nothing.
+/// Appends the numbers of the first three parts of a text, and returns what follows the dot after
+/// them, where each is one digit before a dot and there is room for three. None else, with the
+/// identifier unchanged.
 // Hot: most numbers of a name have one digit. A number of more digits is told by its second octet,
 // which is looked at in any case.
 #[inline(always)]
@@ -110,7 +111,7 @@ fn read_three<'a>(text: &'a [u8], oid: &mut Oid) -> Option<&'a [u8]>
     ensures three { IfSome result (λ rest. AreDigitsRead 3 text.now rest.now oid.old oid.new) }
     ensures unchanged_on_none { IfNone result (oid.new ≡ oid.old) }
 {
-    // First, so that a name that is too long isn't looked at twice.
+    // This is tested first, so that no octet of a name that is too long is looked at twice.
     if oid.len() > 125 {
         return None;
     }
@@ -143,8 +144,8 @@ fn read_part(text: &[u8]) -> (Option<u32>, Option<&[u8]>)
     }
 }
 
-/// The same, whatever the part is. The call has a function of its own, since each turn of a loop
-/// clears what a call in it returns, whether it is made or not.
+/// [`read_part`] of any part. The call of [`read_any_part`] has a function of its own, since each
+/// turn of a loop clears what a call in it returns, whether it is made or not.
 #[inline(always)]
 fn read_other_part(text: &[u8]) -> (Option<u32>, Option<&[u8]>)
     ensures { IsPartRead text.now result.0 (option_map (λ rest. rest.now) result.1) }
@@ -154,8 +155,8 @@ fn read_other_part(text: &[u8]) -> (Option<u32>, Option<&[u8]>)
 }
 
 /// The number of the first part of a text, and what follows the dot that ends it, None where none
-/// does: if the part is a digit before a dot, as most are, or digits of a number that is far from
-/// the greatest. None says nothing of the text.
+/// does. It reads each numeral below 4000000000, most quickly one digit before a dot. A result of
+/// None says nothing of the text.
 // Hot: each number of a name.
 #[inline(always)]
 pub fn front_number(text: &[u8]) -> Option<(u32, Option<&[u8]>)>
@@ -170,8 +171,8 @@ pub fn front_number(text: &[u8]) -> Option<(u32, Option<&[u8]>)>
     }
 }
 
-/// The same of two digits before a dot, or of more.
-// Hot: each number of some digits.
+/// [`front_number`] of a part that isn't one digit before a dot.
+// Hot: each number of more than one digit.
 #[inline(always)]
 fn read_two_digits(text: &[u8]) -> Option<(u32, Option<&[u8]>)>
     ensures { IfSome result
@@ -185,8 +186,8 @@ fn read_two_digits(text: &[u8]) -> Option<(u32, Option<&[u8]>)>
     }
 }
 
-/// The same of three digits before a dot, or of any.
-// Hot: each number of some digits.
+/// [`front_number`] of a part that isn't one or two digits before a dot.
+// Hot: each number of more than two digits.
 #[inline(always)]
 fn read_three_digits(text: &[u8]) -> Option<(u32, Option<&[u8]>)>
     ensures { IfSome result
@@ -224,8 +225,8 @@ fn three_digits(hundreds: u8, tens: u8, ones: u8) -> u32
     u32::from(hundreds - b'0') * 100 + u32::from(tens - b'0') * 10 + u32::from(ones - b'0')
 }
 
-/// The same of any digits.
-// Hot: each number of some digits. One pass over these and their end.
+/// [`front_number`] of any digits.
+// Hot: each number of more than three digits. One pass over these and their end.
 #[inline(always)]
 fn read_digits(text: &[u8]) -> Option<(u32, Option<&[u8]>)>
     ensures { IfSome result
@@ -251,7 +252,7 @@ fn read_digits(text: &[u8]) -> Option<(u32, Option<&[u8]>)>
     }
 }
 
-/// The same, whatever the part is.
+/// [`read_part`] of any part: the end of the part is looked for first.
 #[cold]
 #[inline(never)]
 fn read_any_part(text: &[u8]) -> (Option<u32>, Option<&[u8]>)

@@ -74,8 +74,8 @@ impl Oid {
         }
     }
 
-    /// A copy of the identifier. It takes no memory and can't fail, as [`Clone::clone`] may by its
-    /// signature.
+    /// A copy of the identifier. It allocates nothing and so can't fail, as by its signature
+    /// [`Clone::clone`] may.
     #[inline]
     pub fn copy(&self) -> Oid
         ensures { result ≡ self.now }
@@ -99,7 +99,7 @@ impl Oid {
         requires { length numbers.now ≤ 128 }
         ensures { self.new ≡ numbers.now }
     {
-        // The same count: only the numbers change.
+        // Where the count stays, only the numbers change.
         if self.len() == numbers.len() {
             self.numbers.as_mut_slice().copy_from_slice(numbers);
             return;
@@ -125,8 +125,7 @@ impl Oid {
         Ok(())
     }
 
-    /// Appends a number to an identifier of fewer than 128, which the caller knows, so that nothing
-    /// is tested.
+    /// Appends a number to an identifier that has fewer than 128, without a test.
     #[inline]
     pub fn push_with_room(&mut self, number: u32)
         requires { length self.old < 128 }
@@ -247,7 +246,7 @@ pub fn order()
     ensures equality { (o p : List ℕ) → IsTrue (⟦<Oid as PartialEq>⟧.eq o p) ↔ (o ≡ p) }
 {}
 
-/// How identifiers of these numbers compare ([`order`]). It takes least where both begin with the
+/// How identifiers of these numbers compare ([`order`]). It is quickest where both begin with the
 /// same eight numbers, as most names of one table do.
 #[inline]
 pub fn compare_numbers(o: &[u32], p: &[u32]) -> Ordering
@@ -279,7 +278,7 @@ fn begin_alike(o: &[u32], p: &[u32]) -> bool
     false
 }
 
-/// Whether the four numbers from a place on are the same.
+/// Whether both have the same four numbers from a place on.
 // Hot: each comparison in a search. A few instructions, where a call would be as many.
 #[inline(always)]
 fn are_same_four(o: &[u32], p: &[u32], from: usize) -> bool

@@ -6,7 +6,7 @@ use snmp_walk::{SinkFault, WalkEnd};
 use std::alloc::Global;
 use std::process::Abort;
 
-/// Asserts that this is said of what was asked of `box:1161` and ended so, with this status.
+/// Asserts that this is said, with this status, of a walk or a Get of `box:1161` that ended so.
 fn assert_said(rt: &impl Abort, alloc: Global, end: WalkEnd, text: &str, status: u8) {
     let failure = Failure::Ended("box:1161", end);
     let mut said = Vec::new(alloc);

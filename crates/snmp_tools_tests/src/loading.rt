@@ -45,14 +45,13 @@ fn names_are_found_across_files(rt: HostRuntime) -> Result<(), Fail> {
     Ok(())
 }
 
-// Asserts that the tree is there though the output took so many octets alone.
+// Asserts that the tree is loaded, and that the output took 20 octets of the warnings.
 fn assert_cut_off(rt: &impl Abort, tree: &Tree, err: &MemoryOutput) {
     assert!(rt; tree.len() == 15);
     assert!(rt; err.octets() == b"snmp: TINY-MIB impor".as_slice());
     assert!(rt; err.faults() == 1);
 }
 
-// The warnings are cut off where the output fails, and the tree is there.
 #[test]
 fn a_tree_is_loaded_though_the_output_fails(rt: HostRuntime) -> Result<(), Fail> {
     let mut err = MemoryOutput::with_limit(rt.alloc(), 20);

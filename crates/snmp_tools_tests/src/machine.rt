@@ -1,5 +1,5 @@
-//! Outputs and files, the machine's and those in memory: what no clause says, as that calls succeed
-//! and that an interrupted write is tried again.
+//! Outputs and files, the machine's and those in memory: what no clause says, such as that calls
+//! succeed and that an interrupted write is tried again.
 
 use snmp_io::memory::{MemoryFiles, MemoryOutput};
 use snmp_io::{FileFault, Files, MachineFiles, MachineOutput, Output, write_all};
@@ -8,8 +8,8 @@ use std::io;
 use std::io::{ErrorKind, Write};
 use std::process::Abort;
 
-// Is interrupted before each second write, takes at most three octets a write, and is full after
-// eight.
+// An output that interrupts each second write, from the first on, takes at most three octets a
+// write, and is full after eight.
 #[derive(Drop)]
 struct Hesitant {
     turns: u32,

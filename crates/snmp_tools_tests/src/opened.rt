@@ -10,8 +10,8 @@ use std::alloc::{AllocError, Global};
 use std::process::Abort;
 use std::test::Fail;
 
-/// A link in memory that takes the datagrams that these octets are, one after another, and no
-/// other.
+/// A link in memory that takes the datagrams of which `expected` consists, in their order, and no
+/// others.
 #[derive(Drop)]
 struct Expecting<'a> {
     link: MemoryLink<'a>,
@@ -70,7 +70,7 @@ impl<'a> Link for Expecting<'a> {
 #[derive(Drop)]
 struct NoDoor;
 
-/// Links to an agent in memory, which take these datagrams, and the count of those that were asked
+/// Links to an agent in memory, each of which takes these datagrams, and how many links were asked
 /// for.
 #[derive(Drop)]
 struct Counting<'a> {
@@ -198,7 +198,7 @@ const FROM_ROOT: &[u8] = &[
     0x01, 0x04, 0x01, 0x81, 0xFD, 0x59, 0x01, 0x05, 0x00,
 ];
 
-/// Those of the three rows, with ids 2 to 4.
+/// The GetNext of each of the three rows, with ids 2 to 4.
 const FROM_FIRST: &[u8] = &[
     0x30, 0x29, 0x02, 0x01, 0x01, 0x04, 0x06, 0x73, 0x65, 0x63, 0x72, 0x65, 0x74, 0xA1, 0x1C, 0x02,
     0x01, 0x02, 0x02, 0x01, 0x00, 0x02, 0x01, 0x00, 0x30, 0x11, 0x30, 0x0F, 0x06, 0x0B, 0x2B, 0x06,

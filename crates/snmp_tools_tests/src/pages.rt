@@ -3,8 +3,8 @@
 use crate::run::{NO_LIMITS, prints};
 use std::alloc::{AllocError, Global};
 
-/// The text of `count` rows, of numbers that go up by `step` and from 0 on again at the count, and
-/// the lines of a walk over them.
+/// The text of `count` rows, whose numbers go up by `step` modulo `count`, and the lines of a walk
+/// over them.
 fn rows_of(alloc: Global, count: u32, step: u32) -> Result<(String, String), AllocError> {
     let mut text = String::new(alloc);
     let mut lines = String::new(alloc);

@@ -10,7 +10,7 @@ use std::process::Abort;
 pub const THREE: &[u8] =
     b"1.3.6.1.4.1.32473.1.10.0|2|3\n1.3.6.1.4.1.32473.1.2.0|4|wes\n1.3.6.1.4.1.32473.1.1.0|2|1\n";
 
-/// Its lines.
+/// The lines of a walk over it.
 pub const THREE_LINES: &str = ".1.3.6.1.4.1.32473.1.1.0 = INTEGER: 1\n\
     .1.3.6.1.4.1.32473.1.2.0 = STRING: \"wes\"\n\
     .1.3.6.1.4.1.32473.1.10.0 = INTEGER: 3\n";
@@ -47,7 +47,7 @@ pub fn status_of(
     Ok(tool(alloc, &words, &files, links, out, err))
 }
 
-/// Whether an output that takes `limit` octets took the text, as much of it as that is.
+/// Whether an output that takes `limit` octets took as much of the text as that.
 fn has_taken(output: &MemoryOutput, limit: usize, text: &str) -> bool {
     let octets = output.octets();
     text.as_bytes().starts_with(octets) && octets.len() == limit.min(text.len())

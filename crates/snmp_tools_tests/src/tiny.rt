@@ -1,6 +1,6 @@
 //! The small modules that tests load.
 
-/// Two modules in one file: the second imports what there isn't, and has a cycle.
+/// Two modules in one file: the second imports names that aren't defined, and has a cycle.
 pub(crate) const TINY: &[u8] = b"TINY-SMI DEFINITIONS ::= BEGIN
 enterprises OBJECT IDENTIFIER ::= { private 1 }
 private     OBJECT IDENTIFIER ::= { internet 4 }

@@ -1,4 +1,4 @@
-//! Walks that are done.
+//! Walks over table files that end without a fault.
 
 use crate::run::{OF_THREE, THREE_LINES, assert_prints};
 

@@ -14,16 +14,16 @@ use Rattle.snmp_wire.specs.Laws.{OneMessage, StrictIsRead, EncodingIsStrict, Has
 pub record Codec : Type 0 where
   -- octets encode one message at most
   pub one : OneMessage
-  -- what encodes a message by the standard is read
+  -- a strict encoding is read
   pub read : StrictIsRead
-  -- and so is what is written
+  -- what is written is a strict encoding
   pub strict : EncodingIsStrict
   -- it is the head, and then the bindings
   pub pieces : HasPieces
   -- how long it is, and how long its elements are
   pub sizes : MessageSizes
   pub elements : ElementSizes
-  -- a name that is less precedes
+  -- a name that compares as less comes before the other
   pub less : (o p : List ℕ) → slice_cmp nat_cmp o p ≡ Less → Precedes o p
-  -- each name has a value in a reply to a Get
+  -- a Get of any name gives a binding
   pub got : (view : MibView) (o : List ℕ) → (p : VarBind) × IsGet view o p

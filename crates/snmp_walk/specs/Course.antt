@@ -1,5 +1,5 @@
--- What a reply means, and what came of it, once its bindings were given; where it ended the walk or
--- the Get, with the end that stands in a place of its own. For private clauses.
+-- What a reply means, and whether the walk or the Get goes on once its bindings were given. Where
+-- it doesn't, its end is written beside that. For private clauses.
 use Rattle.std.specs.Prelude.{Option, None, Some}
 use Rattle.snmp_walk.specs.declared.end.WalkEnd.{WalkEnd}
 use Rattle.snmp_walk.specs.declared.rows.Step.{Step}
@@ -9,18 +9,18 @@ use Rattle.snmp_walk.specs.declared.tries.Course.TheVariants as course
 use Rattle.snmp_walk.specs.declared.tries.Judgement.{Judgement}
 use Rattle.snmp_walk.specs.declared.tries.Judgement.TheVariants as judgement
 
--- a judgement, with the end that stands in its place
+-- a judgement, with the end that is written beside it
 abbrev pub step_of : Judgement → WalkEnd → Step
 step_of judgement.Stray end = step.Stray
 step_of (judgement.GoesOn rows) end = step.Rows rows
 step_of (judgement.Ends rows) end = step.Last rows end
 
--- the walk or the Get goes on, or ends so
+-- the walk or the Get goes on, or ends in this way
 pub data Heard : Type 0 where
   goes_on : Heard
   ends : WalkEnd → Heard
 
--- a course, with the end that stands in its place
+-- a course, with the end that is written beside it
 abbrev pub heard_of : Course → WalkEnd → Heard
 heard_of course.GoesOn end = goes_on
 heard_of course.Ends end = ends end

@@ -123,7 +123,8 @@ IsReadSo Asked end =
     (datagram : List ℕ) × (w : Walker) × (more : List VarBind) × Asked (answered datagram) w more
     × (over : Walker) × MeansBy w datagram (step.Last more end) over
 
--- it is read as the last rows, those that the sink refused, and perhaps more
+-- the reply to the last request is read as the last rows given, then the one that the sink refused,
+-- and perhaps more
 abbrev pub IsRefusedSo : (Asked : Outcome → Walker → List VarBind → Type 0)
     → (refused : List VarBind) → Type 0
 IsRefusedSo Asked refused =
@@ -132,8 +133,8 @@ IsRefusedSo Asked refused =
     × (rows_in read ≡ more ++ (refused ++ left))
 
 -- Why a run ends, whatever the link brings, `Asked` saying what came of its last request: by a
--- reply that is read so, or because none came, or by the sink, that refused a row of the reply. A
--- request of a walk is never too long.
+-- reply that is read as this end, because no reply came or the link failed, or by the sink, which
+-- refused a row of the reply. A request of a walk is never too long.
 abbrev pub IsEndOfRun : (Asked : Outcome → Walker → List VarBind → Type 0)
     → (refused : List VarBind) → WalkEnd → Type 0
 IsEndOfRun Asked refused ending.RequestTooLong = ⊥
@@ -230,7 +231,7 @@ IsDoneOrStopped ending.Link = Unit {0}
 IsDoneOrStopped (ending.Sink fault) = Unit {0}
 IsDoneOrStopped _ = ⊥
 
--- or no reply came
+-- the walk is done, or was stopped by the link or the sink, or no reply came
 abbrev pub IsDoneOrCutOff : WalkEnd → Type 0
 IsDoneOrCutOff ending.NoResponse = Unit {0}
 IsDoneOrCutOff why = IsDoneOrStopped why
@@ -256,7 +257,7 @@ pub record TableFacts (agents : Agents) (old : Traffic) (first : Walker)
   -- comes,
   pub done_unless_lost_in_tables : (names : List (List ℕ)) → HoldsNames agents first names
       → HasRoomInEach agents first → HasIdsFor first names → IsDoneOrCutOff end
-  -- which it does where each receive gives the reply to the latest datagram
+  -- and a reply comes where each receive gives the reply to the latest datagram
   pub done_unless_stopped_in_tables : (names : List (List ℕ)) → HoldsNames agents first names
       → HasRoomInEach agents first → HasIdsFor first names → old.ahead ≡ [] → IsDoneOrStopped end
 
@@ -269,7 +270,8 @@ pub record WalkFacts (agents : Agents) (tries : ℕ) (old : Traffic) (first : Wa
   -- the end is that of the request sent last
   pub last_request : IsEndedBy agents (HasNoReply agents tries old new) (IsLastSent tries end new)
       first rows end
-  -- where each receive gives the reply to the latest datagram, none comes only where there is none
+  -- where each receive gives the reply to the latest datagram, no reply comes only where one of the
+  -- agents has none
   pub replied : old.ahead ≡ [] → IsLawfulEnd agents (HasNone agents) first rows end
   -- over one table what was given, with what was refused, is a beginning of the walk,
   pub beginning : (view : MibView) (got : VarBind) → agents.tables ≡ view ∷ []
@@ -283,7 +285,7 @@ pub record WalkFacts (agents : Agents) (tries : ℕ) (old : Traffic) (first : Wa
   -- done unless the link or the sink stops it or no reply comes,
   pub done_unless_lost : (view : MibView) → agents.tables ≡ view ∷ []
       → HasRoomForEach agents view first → HasIds first view → IsDoneOrCutOff end
-  -- which it does where each receive gives the reply to the latest datagram
+  -- and a reply comes where each receive gives the reply to the latest datagram
   pub done_unless_stopped : (view : MibView) → agents.tables ≡ view ∷ []
       → HasRoomForEach agents view first → HasIds first view → old.ahead ≡ [] → IsDoneOrStopped end
   -- over several tables
@@ -294,8 +296,8 @@ abbrev pub gets : Mode → ℕ
 gets mode.NoLast = 0
 gets _ = 1
 
--- What is promised of what a run sends, which gave these rows, over a link that keeps the list of
--- the datagrams sent; and where it is honest and nothing was sent before.
+-- What is promised of the requests of a run that gave these rows, over a link that keeps the list
+-- of the datagrams sent. `honest` says that the link is honest and nothing was sent over it before.
 pub record SendFacts (agents : Agents) (honest : Type 0) (tries : ℕ) (old : Traffic)
     (first : Walker) (rows : List VarBind) (end : WalkEnd) (new : Traffic) : Type 0 where
   pub requests : List Try
@@ -342,7 +344,7 @@ abbrev pub IsReadyForAll : (ℕ → ℕ → Type 0) → (tries k : ℕ) → Type
 IsReadyForAll Ready tries k = Ready ((k + 3) * tries) ((k + 3) * tries * 1000)
 
 -- What is promised of a run over an honest link over which nothing was sent before, and which is
--- ready for so many sends: it has no fault of the link.
+-- ready for so many sends: the link doesn't stop it.
 pub record ReadyFacts (agents : Agents) (honest : Type 0) (Ready : ℕ → ℕ → Type 0) (tries : ℕ)
     (first : Walker) (end : WalkEnd) : Type 0 where
   -- over one table, k being the number of rows below the root,

@@ -52,6 +52,7 @@ use Rattle.snmp_agent.specs.table.Table.{MibView, IsGet}
 abbrev pub asked_names : List (List ℕ) → List VarBind
 asked_names names = map (λ o. record { name = wire o; value = null_value }) names
 
+-- the Get of these names, in one message of this community and id
 abbrev pub get_request : List ℕ → ℕ → List (List ℕ) → Message
 get_request community id names = record {
   version = pos 1;
@@ -76,7 +77,7 @@ MeansToGet names m (Err end) =
     ((m.a ≢ pos 0) × (end ≡ ending.Fault m.a m.b))
     ⊎ ((m.a ≡ pos 0) × (AreFor names m.bindings → ⊥) × (end ≡ ending.BadReply))
 
--- The same, computed, for private clauses: whether bindings are for the names,
+-- What `MeansToGet` says, computed, for private clauses: whether bindings are for the names,
 abbrev pub are_for : List (List ℕ) → List VarBind → Bool
 are_for [] [] = true
 are_for [] (p ∷ more) = false
@@ -174,7 +175,7 @@ pub record AreForNames (request : Message) (names : List (List ℕ)) (given refu
   pub named : map wire names ≡ map (λ p. p.name) (given ++ refused) ++ left
   pub whole : IsDone end → (left ≡ []) × (refused ≡ [])
   pub ends : IsEndOfGet (λ _ _. Unit {0}) (Unit {0}) (Unit {0}) request names end
-  -- without names nothing is asked, and a request that fits no datagram isn't sent
+  -- without names the Get is done, and a request that fits no datagram ends it
   pub no_names : names ≡ [] → IsDone end
   pub too_long : names ≢ [] → 65507 < length (canon request) → end ≡ ending.RequestTooLong
 
@@ -206,8 +207,8 @@ pub record GetFacts (agents : Agents) (tries : ℕ) (old : Traffic) (request : M
   -- and where it is done it is all of it
   pub all_at_done : (view : MibView) (all : List VarBind) → agents.tables ≡ view ∷ []
       → AreGot view names all → IsDone end → rows ≡ all
-  -- it ends with an error status only where the agents' messages have no room, and with no other
-  -- names than those asked for
+  -- it ends with an error status only where the agents' messages have no room, and never because
+  -- the reply has other names than those asked for
   pub ends : IsEndOfGet (IsTooBig agents request names) ⊥ (Unit {0}) request names end
   pub lost_without_response : end ≡ ending.NoResponse
       → IsLostGet agents tries old (canon request) new

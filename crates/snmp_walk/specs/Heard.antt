@@ -19,8 +19,8 @@ pub record IsAsked (agents : Agents) (community : List ℕ) (id : ℕ) (q : List
       ⊎ ((octets : List ℕ) (m : Message) → IsReplyFrom agents d octets → Spells m octets
       → awaits community id m ≡ false)
 
--- which deliveries one try of the request used, and that they may belong to a lost request where no
--- reply came
+-- the deliveries that one try of the request used, which lost this try where no reply came and each
+-- of the agents has one
 pub record Hears (agents : Agents) (q : List ℕ) (old : Traffic) (silent : Type 0)
     (new : Traffic) : Type 0 where
   pub used : List (Option ℕ)
@@ -30,8 +30,8 @@ pub record Hears (agents : Agents) (q : List ℕ) (old : Traffic) (silent : Type
       ⊎ ((t : ℕ) (rest : List (Option ℕ)) → Lost agents (resent old.sent q t) q rest t 0
       → Lost agents old.sent q (used ++ rest) (t + 1) 0)
 
--- Which deliveries tries of the request used, so many of all, and that these lost it where no reply
--- came and one of the agents has one.
+-- The deliveries that `times` of `tries` tries of the request used, which lost it where no reply
+-- came and each of the agents has one.
 abbrev pub Uses : Agents → List ℕ → Traffic → (times tries : ℕ) → (silent : Type 0) → Traffic
     → Type 0
 Uses agents q old times tries silent new =
@@ -50,7 +50,7 @@ pub record Exchanges (agents : Agents) (honest : Type 0) (tries : ℕ) (q : List
   pub all : silent → times ≡ tries
   pub honestly : honest → Uses agents q old times tries silent new
 
--- the datagram is the waiting request, or one of the same walk with a lower id
+-- the datagram is the waiting request, or the request of a walk with a lower id
 abbrev pub IsSentBefore : Walker → List ℕ → Type 0
 IsSentBefore w d =
     (d ≡ canon (request_of w))

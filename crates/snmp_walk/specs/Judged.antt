@@ -68,7 +68,7 @@ GoesOn w next rows given new =
     ((w.id < 2147483647) × AsksOn w next rows given new)
     ⊎ ((2147483647 ≤ w.id) × EndsBy w rows ending.TooManyRequests given new)
 
--- a plain walk that has given nothing, and gives none of these bindings either, if there are any
+-- a plain walk that has given nothing, and now gives nothing: these bindings are none
 pub record GivesNothing (w : Walker) (rows : List VarBind) : Type 0 where
   pub plain : w.mode ≡ mode.Plain
   pub before : w.count ≡ 0
@@ -93,8 +93,8 @@ AreMisplaced w bindings = (asked_for w.method < length bindings)
     ⊎ ((b : VarBind) × OneOf bindings b × IsMissing b)
 
 -- What comes of these rows, by the bindings that follow them. Where none do, the walk goes on. The
--- first that is no instance below the root closes it; one that is, and isn't above the name before
--- it, ends it with both names.
+-- first that is no instance below the root closes it; one that is, and doesn't come after the name
+-- before it, ends it with both names.
 abbrev pub FollowsBy : Walker → (rows rest : List VarBind) → Step → Walker → Type 0
 FollowsBy w rows [] given new = GoesOn w phase.Rows rows given new
 FollowsBy w rows (b ∷ _) given new =
@@ -102,7 +102,7 @@ FollowsBy w rows (b ∷ _) given new =
     ⊎ (IsInside w.root b × (Precedes (last_name w.asked rows) b.name → ⊥)
     × EndsBy w rows (ending.NotIncreasing (last_name w.asked rows) b.name) given new)
 
--- the bindings are rows, and others, by which what comes of them is decided
+-- the bindings are rows, and others after them, which decide what comes of the rows
 pub record ReadsRows (w : Walker) (bindings : List VarBind) (given : Step)
     (new : Walker) : Type 0 where
   pub rows : List VarBind
@@ -125,7 +125,8 @@ pub record IsGot (asked : List ℕ) (bindings : List VarBind) (b : VarBind) : Ty
   pub name : b.name ≡ asked
   pub value : b.value ≢ end_of_mib_view
 
--- A reply to a Get whose binding means this, or no reply to a Get.
+-- What the bindings of a reply to a Get mean: what `Means` says of the one binding, or that the
+-- walk ends where they are no reply to that Get.
 abbrev pub MeansGot : Walker → List VarBind → (VarBind → Type 0) → Step → Walker → Type 0
 MeansGot w bindings Means given new =
     ((b : VarBind) × IsGot w.asked bindings b × Means b)

@@ -28,7 +28,7 @@ traffic_of link = record {
   ahead = drop link.used link.deliveries.now;
 }
 
--- its agents serve tables
+-- its agents are lawful
 pub record IsHonest (link : MemoryLink) : Type 0 where
   pub lawful : AreLawful (agents_of link)
 
@@ -46,9 +46,9 @@ IsNextNumber sent ahead number left =
     ⊎ (((ahead ≡ None ∷ left) × (number ≡ 0))
     ⊎ ((ahead ≡ []) × (left ≡ []) × (number ≡ length sent)))
 
--- The agent's table for the datagram of this number, which counts from 1, is the one whose place
--- `uses` has for it: where this many datagrams were sent before, the place that stands behind as
--- many others there. Past the end of `uses` it is the last table. Places count from 0.
+-- The agent's table for the datagram of this number, which counts from 1, is the one whose place is
+-- the item of `uses` of this number. Past the end of `uses` it is the last table. Places count from
+-- 0.
 abbrev pub IsTableFor : List MibView → (uses : List ℕ) → (number : ℕ) → MibView → Type 0
 IsTableFor tables uses number view =
     ((before : ℕ) × (place : ℕ) × (number ≡ before + 1) × (slice_get uses before ≡ Some place)

@@ -7,21 +7,21 @@ use Rattle.snmp_walk.specs.Walker.{Walker}
 use Rattle.snmp_walk.specs.declared.link.Link.{Ghosts as LinkFacts}
 
 -- sends of these datagrams in turn, and receives, took the link from one state to the other, and
--- the last of them failed if `failed` holds
+-- the last of these calls failed if `failed` holds
 abbrev pub IsMoved : {W : Type 0} → LinkFacts W → W → (tried : List (List ℕ)) → (failed : Type 0)
     → W → Type 0
 IsMoved {W} facts old tried failed new = Moves facts.keeps facts.honest facts.agents facts.traffic
     facts.fault_count facts.ready old tried failed new
 
--- so did tries of this datagram, one at least and as many as `tries` at most, for private clauses
+-- 1 to `tries` tries of this datagram moved the link so, for private clauses
 abbrev pub IsMovedByTries : {W : Type 0} → LinkFacts W → W → List ℕ → (tries : ℕ)
     → (failed : Type 0) → W → Type 0
 IsMovedByTries {W} facts old datagram tries failed new =
     (times : ℕ) × (times ≤ tries) × (0 < times)
     × IsMoved facts old (replicate times datagram) failed new
 
--- so did requests of the walk that began as `first` and gave these rows: ids rise by one, and each
--- was tried once at least and as many times as `tries` at most
+-- requests of the walk that began as `first` and gave these rows moved the link so: their ids rise
+-- by one, and each was tried 1 to `tries` times
 pub record IsMovedByRequests {W : Type 0} (facts : LinkFacts W) (tries : ℕ) (first : Walker)
     (given : List VarBind) (old : W) (failed : Type 0) (new : W) : Type 0 where
   pub requests : List Try

@@ -15,8 +15,8 @@ use Rattle.snmp_walk.specs.Standing.{IsPartOfWalk, Named, Rises}
 use Rattle.snmp_walk.specs.Tries.{AreTried, IsNotAwaited, IsTried}
 use Rattle.snmp_walk.specs.Walker.{Walker}
 
--- A run gave these bindings to a sink, and perhaps one more that was refused; so it ended, and such
--- facts hold of them.
+-- A run gave bindings to a sink, which perhaps refused one more, and ended in this way. `Facts`
+-- holds of the bindings given and refused.
 pub record IsRun {S : Type 0} (takes : S → VarBind → Result (Unit {0}) SinkFault → S → Type 0)
     (before : S) (end : WalkEnd) (after : S) (Facts : (rows refused : List VarBind) → Type 0) :
     Type 0 where
@@ -34,8 +34,8 @@ pub record IsWalkedOver {W : Type 0} (facts : LinkFacts W) (link after : W) (tri
     (first : Walker) (given refused : List VarBind) (end : WalkEnd) : Type 0 where
   -- the names given are those of its root and of instances below that
   pub part : IsPartOfWalk Rises Named first (given ++ refused)
-  -- they rise, where it is done its end counts them, and each end has its own reason in what came
-  -- of its requests, each from the state of the link in which the one before it ended
+  -- they rise, a walk that is done has counted them, and each end has its own reason in what came
+  -- of the requests, each sent from the state in which the one before it left the link
   pub ends : EndFacts (IsTried facts tries)
       (λ w. facts.keeps link → IsLastSent tries end (facts.traffic after) w) first link given
       refused end after

@@ -18,7 +18,7 @@ rows_in step.Stray = []
 rows_in (step.Rows rows) = rows
 rows_in (step.Last rows why) = rows
 
--- whether it ends the walk or the Get
+-- whether a step ends the walk or the Get
 abbrev pub leads_to : Step → Heard
 leads_to (step.Last rows why) = heard.ends why
 leads_to _ = heard.goes_on
@@ -45,7 +45,7 @@ pub record IsReadAs {W S : Type 0} (datagram : List ℕ) (community : List ℕ) 
   pub read : reads message given new
   pub delivered : Delivers takes given before what after
 
--- such a datagram, of which `Comes` says how it came, and `Reply` whose reply it is
+-- a datagram was read so; `Comes` says how it came, and `Reply` whose reply it is
 pub record IsRead {W S : Type 0} (Comes Reply : List ℕ → Type 0) (community : List ℕ) (id : ℕ)
     (reads : Message → Step → W → Type 0)
     (takes : S → VarBind → Result (Unit {0}) SinkFault → S → Type 0) (before : S)

@@ -1,5 +1,5 @@
--- How the bindings of a reply are read in turn: the reading of the rules of `Taken` that proofs
--- calculate with, for private clauses.
+-- How the bindings of a reply are read one by one, and that this gives what the rules of `Taken`
+-- name, for private clauses.
 use Rattle.std.specs.Prelude.{
   ◌≡◌,
   ℕ,

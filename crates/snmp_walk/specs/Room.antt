@@ -26,7 +26,8 @@ use Rattle.snmp_agent.specs.Reply.{IsBulk}
 abbrev pub HasRoom : Agents → VarBind → Type 0
 HasRoom agents p = length (canon (single_response agents.community 2147483647 p)) ≤ agents.max_size
 
--- a string of at most 700 octets: with any name, its row fits a message of 1472 octets
+-- the value is no string of more than 700 octets, so that with any name its row fits a message of
+-- 1472 octets
 abbrev pub IsShort : Datum → Type 0
 IsShort (octet_string octets) = length octets ≤ 700
 IsShort (opaque_octets octets) = length octets ≤ 700

@@ -1,5 +1,5 @@
--- The requests of a walk, and what each turn of a run receives and gives; all of turns is for
--- private clauses.
+-- The requests of a walk, and what each turn of a run receives and gives. What is said of turns is
+-- for private clauses.
 use Rattle.std.specs.Prelude.{
   ◌≡◌,
   ℕ,

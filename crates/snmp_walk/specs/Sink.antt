@@ -13,13 +13,13 @@ Given {S} takes old [] new = new ≡ old
 Given {S} takes old (p ∷ more) new = (between : S) × takes old p (Ok tt) between
     × Given takes between more new
 
--- it refused one binding, and these are that one
+-- the sink refused one binding, and these are that one
 abbrev pub Refused : {S : Type 0} → (S → VarBind → Result (Unit {0}) SinkFault → S → Type 0) → S
     → List VarBind → SinkFault → S → Type 0
 Refused {S} takes old refused fault new = (p : VarBind) × (refused ≡ p ∷ [])
     × takes old p (Err fault) new
 
--- the bindings were given, and then, where the walk ended for the sink's sake, one was refused, and
+-- the bindings were given, and then one was refused where the walk ended because of the sink, and
 -- else none
 abbrev pub Took : {S : Type 0} → (S → VarBind → Result (Unit {0}) SinkFault → S → Type 0) → S
     → (rows refused : List VarBind) → WalkEnd → S → Type 0

@@ -41,7 +41,7 @@ abbrev pub IsChain : (List ℕ → VarBind → Type 0) → List ℕ → List Var
 IsChain Next o [] = Unit {0}
 IsChain Next o (p ∷ more) = Next o p × IsChain Next p.name more
 
--- a binding that the request may be given has no room
+-- there is no room for one of the bindings that agents may give for the name
 abbrev pub IsLarge : (List ℕ → VarBind → Type 0) → (VarBind → Type 0) → List ℕ → Type 0
 IsLarge Answer Large o = (p : VarBind) × Answer o p × Large p
 
@@ -114,6 +114,7 @@ IsWholeWalk Next Got first given =
     ((o : List ℕ) × IsGiven Next Got first given o × IsAtEnd Next first.root o
     × (first.mode ≡ mode.Plain → given ≢ [])) ⊎ IsAlone Next Got first given
 
+-- what was given before the request of this phase, and the name o that it asks for or after
 abbrev pub IsStage : (Next Got : List ℕ → VarBind → Type 0) → Walker → List VarBind → List ℕ
     → Phase → Type 0
 IsStage Next Got first given o phase.First = (given ≡ []) × (o ≡ first.asked)
@@ -158,7 +159,7 @@ pub record Reaches (Next Got : List ℕ → VarBind → Type 0) (first w : Walke
   pub paced : IsPaced Next Got first given w.id w.phase
   pub stage : IsStage Next Got first given w.asked w.phase
 
--- a binding that the waiting request may be given has no room
+-- there is no room for one of the bindings that agents may give for the waiting request
 abbrev pub IsReplyTooLarge : (Next Got : List ℕ → VarBind → Type 0) → (VarBind → Type 0) → Phase
     → List ℕ → Type 0
 IsReplyTooLarge Next Got Large phase.First o = IsLarge Got Large o
@@ -187,8 +188,8 @@ Advances Next Got Large first old given (step.Rows more) w = Reaches Next Got fi
 Advances Next Got Large first old given (step.Last more why) w = IsPartOfWalk Next Got first
     (given ++ more) × Ends Next Got Large first old (given ++ more) why
 
--- What may be said of any replies at all: a name that is given for an instance comes after the one
--- before it, and what is given for the root has its name.
+-- What holds of any replies, honest or not: a name that is given for an instance comes after the
+-- one before it, and what is given for the root has its name.
 abbrev pub Rises : List ℕ → VarBind → Type 0
 Rises o p = (p.value ≢ end_of_mib_view → Precedes o p.name) × (IsMissing p → ⊥)
 

@@ -31,6 +31,7 @@ abbrev pub datagram_at : List (List ℕ) → ℕ → Option (List ℕ)
 datagram_at sent zero = None
 datagram_at sent (suc k) = slice_get sent k
 
+-- the datagram that was sent last, if any was
 abbrev pub latest : List (List ℕ) → Option (List ℕ)
 latest [] = None
 latest (d ∷ []) = Some d

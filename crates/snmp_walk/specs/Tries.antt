@@ -17,7 +17,7 @@ abbrev pub IsNotAwaited : List ℕ → ℕ → List ℕ → Type 0
 IsNotAwaited community id datagram = (m : Message) → Spells m datagram
     → IsResponseTo community id m → ⊥
 
--- these led from one state to the other, each from the state in which the one before it ended
+-- these steps led from one state to the other, each from the state in which the one before it ended
 abbrev pub InTurn : {L X : Type 0} → (L → X → L → Type 0) → L → List X → L → Type 0
 InTurn {L} step old [] new = new ≡ old
 InTurn {L} step old (x ∷ more) new =
@@ -61,7 +61,7 @@ pub record AreReceives {L : Type 0} (facts : LinkFacts L) (Other : List ℕ → 
   pub others : (datagram : List ℕ) → OneOf strays datagram → Other datagram
   pub over : EndsTry facts (length strays) last outcome new
 
--- the request was sent, and then that was heard
+-- the request was sent, and what was received then ended the try so
 pub record IsTry {L : Type 0} (facts : LinkFacts L) (Other : List ℕ → Type 0) (request : List ℕ)
     (outcome : Outcome) (old : L) (strays : List (List ℕ)) (new : L) : Type 0 where
   pub between : L
@@ -92,7 +92,7 @@ AreTried {L} facts Other request tries old outcome new =
     × AreMissed facts Other request earlier old before
     × IsLastTry facts Other request before outcome new
 
--- the same of the request of a walk that waits for the reply to it
+-- what came of the request whose reply the walk w waits for, in so many tries at most
 abbrev pub IsTried : {L : Type 0} → LinkFacts L → (tries : ℕ) → Walker → L → Outcome → L → Type 0
 IsTried {L} facts tries w old outcome new = AreTried facts (IsNotAwaited w.community w.id)
     (canon (request_of w)) tries old outcome new

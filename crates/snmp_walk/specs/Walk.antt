@@ -33,7 +33,7 @@ walk_of Plain root got rows = or_only got (rows_below root rows)
 walk_of Include root got rows = rows_named (wire root) rows ++ rows_below root rows
 walk_of NoLast root got rows = rows_below root rows
 
--- what is left of it after a name
+-- the rows below the root that come after a name
 abbrev pub rest_of : List ℕ → List ℕ → List VarBind → List VarBind
 rest_of root o rows = rows_after o (rows_below root rows)
 

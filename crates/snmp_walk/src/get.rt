@@ -27,9 +27,9 @@ use std::marker::Model;
 /// Gets the instances of these names: one Get of their wire forms is sent, at most `retries + 1`
 /// times, and the bindings of its reply are given to the sink in order (RFC 3416, section 4.2.1).
 ///
-/// Each name has a wire form; the community has at most 255 octets, and the id is at most
-/// 2147483647. Where there are no names, nothing is sent. `RequestTooLong` where the request has
-/// more than 65507 octets.
+/// The wire form of each name has an encoding (X.690, 8.19.4); the community has at most 255
+/// octets, and the id is at most 2147483647. Where there are no names, nothing is sent.
+/// `RequestTooLong` where the request has more than 65507 octets.
 // Not inlined: its two buffers are on the stack, and a caller with several such calls would have
 // room for each of them.
 #[inline(never)]

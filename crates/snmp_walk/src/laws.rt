@@ -43,7 +43,7 @@ pub fn rest_of_a_walk()
         (front more : List VarBind) → IsMibView view → IsGet view (wire root) got
         → walk_of mode root got (variables view) ≡ front ++ p ∷ more
         → more ≡ rest_of root p.name (variables view) }
-    // The same of a walk that is resumed.
+    // This holds too of a walk that is resumed.
     ensures rest_again { (view : MibView) (root o : List ℕ) (p : VarBind)
         (front more : List VarBind) → IsMibView view
         → rest_of root o (variables view) ≡ front ++ p ∷ more
@@ -54,8 +54,8 @@ pub fn rest_of_a_walk()
         → OneOf (walk_of mode root got (variables view)) p → IsResumable root p.name }
 {}
 
-/// Agents whose messages may have 1472 octets have room for each row of a table without long
-/// strings.
+/// Agents with a community of at most 30 octets, whose messages may have 1472, have room for each
+/// row of a table without strings of more than 700 octets.
 pub fn short_rows_have_room()
     ensures { (agents : Agents) (view : MibView) (first : Walker)
         → first.community ≡ agents.community → length agents.community ≤ 30
@@ -63,8 +63,7 @@ pub fn short_rows_have_room()
         → ((p : VarBind) → IsRow view p → IsShort p.value) → HasRoomForEach agents view first }
 {}
 
-/// Each message means one thing to a walk by the rules, said one by one in words of its names and
-/// bindings (`specs/Judged.antt`).
+/// By the rules of `specs/Judged.antt`, each message means just one thing to a walk.
 pub fn messages_mean()
     ensures found { (w : Walker) (m : Message) → (given : Step) × (new : Walker)
         × Means w m given new }

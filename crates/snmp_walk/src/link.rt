@@ -8,8 +8,8 @@ use crate::LinkFault;
 
 /// A way to send datagrams to an agent and to receive its replies.
 ///
-/// The facts below are what a walk's promises rest on. All of them hold of a link in memory; of
-/// another perhaps `keeps` alone, and of a socket neither that nor `honest`.
+/// A walk's promises rest on the facts below. All of them hold of a link in memory; of another
+/// perhaps `keeps` alone; and of a socket neither `keeps` nor `honest`.
 pub trait Link {
     ghost use Rattle.std.specs.Prelude.{Option, take};
     ghost use Rattle.snmp_walk.specs.Link.{Agents, AreLawful};

@@ -135,7 +135,7 @@ impl<'a> MemoryLink<'a> {
     }
 
     /// Writes the agent's reply to the datagram of this number, and returns its length, if there is
-    /// one. Of the link only the hint changes, which is lent where it stands.
+    /// one. Of the link only the hint changes.
     fn reply_to(&mut self, number: usize, out: &mut [u8; 65507]) -> Option<usize>
         ensures length { IfSome result (λ n. n ≤ 65507) }
         ensures room { length out.new ≡ 65507 }

@@ -46,7 +46,7 @@ impl Root {
 }
 
 /// Whether the name begins with the root, of any numbers, and is longer.
-// A function of its own for its identifier, which the tests of other names need not clear.
+// A function of its own, so that the tests of other names don't clear its identifier.
 #[inline(never)]
 fn begins_with(name: &EncodedName<'_>, root: &Oid) -> bool
     ensures { result ≡ is_below name.now root.now }

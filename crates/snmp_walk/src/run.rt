@@ -21,15 +21,15 @@ use crate::tries::{Course, exchange};
 use crate::{Link, Sink, WalkCore, WalkEnd};
 
 /// Walks over the link with a core that has taken no reply yet: each request is sent at most
-/// `retries + 1` times, as far as the link keeps what was sent, and each binding of the walk is
-/// given to the sink as it comes.
+/// `retries + 1` times, and each binding of the walk is given to the sink as it comes.
 ///
 /// Whatever the link brings, the walk ends, each way for its own reason, and the names given below
-/// the root rise. Over an honest link to the agent of one table, of the walk's community, whose
-/// messages have room for each single binding, and with enough ids for a request for each row and
-/// two more, it is done unless the link or the sink stops it or messages are lost. Where the table
-/// changes under the walk, each name that all the tables have is given once. A link that is ready
-/// for the tries of a request for each row and three more, of 1,000 octets each, doesn't stop it.
+/// the root rise. Over a fresh and honest link to the agent of one table, of the walk's community,
+/// whose messages have room for each single binding, and with enough ids for a request for each row
+/// and two more, it is done unless the link or the sink stops it or messages are lost. Where the
+/// table changes under the walk, a walk that is done has given each name that all the tables have
+/// once. Such a link that is ready for the tries of a request for each row and three more, of 1,000
+/// octets each, doesn't stop it.
 // Not inlined: its buffers are on the stack, and a caller with several such calls would have room
 // for each of them.
 #[inline(never)]

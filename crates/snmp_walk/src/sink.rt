@@ -18,8 +18,8 @@ pub trait Sink {
     fn row(&mut self, binding: &Binding<'_>) -> Result<(), SinkFault>
         ensures { takes self.old (var_bind binding.now) result self.new };
 
-    /// Takes the bindings of one reply, in order, until one is refused. A sink whose work has a
-    /// cost for each call, as that of a write, does it once for all of them.
+    /// Takes the bindings of one reply, in order, until one is refused. A sink for which each call
+    /// has a cost, as for a write, can have its own `rows` that does its work once for all of them.
     fn rows(&mut self, mut rows: Rows<'_>) -> Result<(), SinkFault>
         ensures ok { OnOk result (Given takes self.old rows.entry self.new) }
         ensures err { IfErr result (λ fault. (front : List VarBind) × (p : VarBind)

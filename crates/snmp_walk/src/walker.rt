@@ -184,7 +184,8 @@ impl WalkCore {
         self.request_in(&mut out[..])
     }
 
-    /// As `request`, for a buffer that has room for each request of a walk, of one name.
+    /// [`WalkCore::request`] for a buffer of 1,000 octets or more, the most that a request of a
+    /// walk has, since it asks for one name.
     // Not inlined: the turn of a walk that calls it would then clear its ends, of over a thousand
     // octets, before each request.
     #[inline(never)]
@@ -248,7 +249,7 @@ impl WalkCore {
         }
     }
 
-    /// Its max-repetitions, and 0 where it has none.
+    /// The max-repetitions of the waiting request, and 0 where it has none.
     fn repetitions(&self) -> i32
         ensures { result ≡ request_repetitions self.now.phase self.now.method }
     {
@@ -274,8 +275,8 @@ impl WalkCore {
         Judgement::Ends(rows)
     }
 
-    /// Gives these `count` bindings, the last of which has the name `last`, or else the name asked
-    /// for, and waits for the reply to the next request.
+    /// Gives these `count` bindings, and waits for the reply to the next request. That asks from
+    /// the name `last` of the last of them, or where it is None from the same name as before.
     fn go_on<'a>(
         &mut self,
         next: Phase,
@@ -314,9 +315,9 @@ impl WalkCore {
     }
 
     /// The instances below the root at the front of these bindings, their names rising from the
-    /// name asked for on. Then `last` is the name of the last of them, and `read` that of the last
-    /// binding that was read. None where there are more bindings than were asked for, or
-    /// noSuchObject or noSuchInstance among them.
+    /// name asked for on. Then `last` is the name of the last of them, and `read` that of the
+    /// binding that ends them, if one does. None where there are more bindings than were asked for,
+    /// or noSuchObject or noSuchInstance among them.
     ///
     /// Each binding is read once.
     fn front<'a>(
@@ -368,8 +369,8 @@ impl WalkCore {
         }
     }
 
-    /// Whether the binding goes on after the name `last`, or else the name asked for, or how it
-    /// ends the instances.
+    /// Whether the instances go on with the binding, which follows the name `last` or where that is
+    /// None the name asked for, or how it ends them.
     fn ending_at(&self, last: &Option<EncodedName<'_>>, binding: &BindingRef<'_>) -> Ending
         ensures { result ≡ ending_at self.now.root (name_or self.now.asked last.now) binding.now }
     {
@@ -449,8 +450,8 @@ impl WalkCore {
     }
 
     /// Ends the walk by a reply that isn't one to its request.
-    // This and the next two are functions of their own for their identifiers, which replies that
-    // go on need not clear.
+    // This and the next two are functions of their own, so that replies by which the walk goes on
+    // don't clear their identifiers.
     #[inline(never)]
     fn refuse<'a>(&mut self, message: &MessageRef<'a>, end: &mut WalkEnd) -> Judgement<'a>
         ensures { (step_of result end.new, self.new) ≡ stops self.old [] WalkEnd.BadReply }
@@ -458,7 +459,7 @@ impl WalkCore {
         self.stop(Rows::front(message.bindings(), 0), end, WalkEnd::BadReply)
     }
 
-    /// Ends the walk by a reply without instances, though there are more.
+    /// Ends the walk by a reply without bindings.
     #[inline(never)]
     fn stand<'a>(&mut self, rows: Rows<'a>, end: &mut WalkEnd) -> Judgement<'a>
         ensures { (step_of result end.new, self.new)
@@ -468,8 +469,8 @@ impl WalkCore {
         self.stop(rows, end, WalkEnd::NoProgress { asked })
     }
 
-    /// Ends the walk, after these bindings, by a name that doesn't come after `last`, or else the
-    /// name asked for.
+    /// Ends the walk, after these bindings, by the name `read`, which doesn't come after `last` or
+    /// where that is None the name asked for.
     #[inline(never)]
     fn fall<'a>(
         &mut self,

@@ -117,7 +117,7 @@ struct Brought {
     receives: usize,
 }
 
-/// Whether the walk over the link of a case, which fails, brings this before.
+/// Whether the walk over the link of a case brings this before the link fails.
 fn walk_brings(
     alloc: Global,
     table: &Table,
@@ -137,7 +137,7 @@ fn walk_brings(
         && link.receives.count == brought.receives
 }
 
-/// The walk over the link of a case, which fails, brings this before.
+/// The walk over the link of a case brings this before the link fails.
 fn assert_walk(rt: &impl Abort, alloc: Global, case: Case<'_>, brought: Brought) {
     let core = walk_of(rt, ROOT, Mode::Plain, Method::Next, 1);
     let table = table_of(rt, alloc, THREE);
@@ -226,7 +226,7 @@ fn a_failing_link_ends_a_get_with_nothing(rt: HostRuntime) {
     }
 }
 
-/// The reasons of a sink.
+/// The reasons for which a sink refuses a binding.
 const FAULTS: &[SinkFault] = &[SinkFault::Output, SinkFault::Memory];
 
 /// Takes bindings as digits, and refuses the one of this number, counted from 1, for this reason.

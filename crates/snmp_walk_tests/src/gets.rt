@@ -123,7 +123,7 @@ fn a_lost_reply_is_asked_for_again(rt: HostRuntime) {
         sends: 3,
     };
     assert_get(&rt, rt.alloc(), &[SECOND], case, brought, WalkEnd::Done(1));
-    // The reply to the first datagram is one to each other, which are the same.
+    // The second datagram is the same as the first, so that a reply to the first is one to it.
     let late = Case {
         deliveries: &[None, Some(1)],
         ..case

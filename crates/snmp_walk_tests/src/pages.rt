@@ -7,14 +7,14 @@ use snmp_wire::{Binding, ValueRef};
 use std::alloc::{AllocError, Global};
 use std::process::Abort;
 
-/// Counts the rows of the numbers from 0 on that come in order, and everything else.
+/// Counts the rows that come in the order of their numbers, from 0 on, and all other bindings.
 #[derive(Drop)]
 struct Numbers {
     next: u32,
     others: u32,
 }
 
-/// Whether the binding is the row of the number, with its number.
+/// Whether the binding is the row of the number, with the number as its value.
 fn is_row(binding: &Binding<'_>, number: u32) -> bool {
     binding.name.as_slice() == [1, 3, 6, 1, 4, 1, 32473, 1, number].as_slice()
         && matches!(binding.value, ValueRef::Counter32(held) if held == number)
@@ -33,7 +33,7 @@ impl Sink for Numbers {
     }
 }
 
-/// The text of `count` rows, of numbers that go up by `step` and from 0 on again at the count.
+/// The text of `count` rows, whose numbers go up by `step`, modulo `count`.
 fn rows_of(alloc: Global, count: u32, step: u32) -> Result<Vec<u8>, AllocError> {
     let mut text = Vec::new(alloc);
     let mut number: u32 = 0;

@@ -1,4 +1,5 @@
-//! Walks over schedules drawn at random, compared with what the schedule gives, computed plainly.
+//! Walks over schedules, lists of deliveries drawn at random, compared with what these give,
+//! computed plainly.
 ghost use Rattle.snmp_walk.specs.Facts.{IsFresh};
 
 use crate::runs::{ROOT, name_of, public, push, put, resumed, table_of, walk_ends, walk_of};
@@ -60,8 +61,8 @@ impl Whole {
         push(rt, &mut self.given, self.digits.len());
     }
 
-    /// Adds the requests for the rows of these numbers, of this many each, after the one where the
-    /// walk is resumed.
+    /// Adds the requests for the rows of these numbers, for `step` rows each, without those up to
+    /// the one after which the walk is resumed.
     fn add_rows(&mut self, rt: &impl Abort, numbers: &[u8], after: Option<u8>, step: usize) {
         let mut here = 0_usize;
         for number in numbers {
@@ -76,8 +77,8 @@ impl Whole {
         self.end_request(rt);
     }
 
-    /// Adds the requests of the walk of the table whose row of each number below the root has it as
-    /// its value, and of the root's own row, by their definition.
+    /// Adds the requests of the walk, by their definition. Its table has a row for each of these
+    /// numbers below the root, with the number as its value, and perhaps the root's own row.
     fn add_walk(&mut self, rt: &impl Abort, asked: Asked, numbers: &[u8], own: Option<u8>) {
         let is_whole = asked.after.is_none();
         if asked.mode == Mode::Include && is_whole {
@@ -94,7 +95,7 @@ impl Whole {
         }
     }
 
-    /// What is brought where this is the outcome.
+    /// What a run with this outcome brings.
     fn brings(&self, outcome: Outcome) -> Wanted {
         let rows = match outcome.replied.checked_sub(1) {
             Some(last) => self.given.get(last).copied().unwrap_or(0),

@@ -8,7 +8,7 @@ use snmp_walk::{MemoryLink, Method, Mode, StartError, WalkCore, WalkEnd};
 use std::alloc::Global;
 use std::process::Abort;
 
-/// Six integers, each its place: 18 octets a binding.
+/// Six integers, each its place, from 1 on. A binding has 18 octets.
 const SIX: &[u8] = b"1.3.6.1.4.1.32473.1.1.0|2|1\n\
     1.3.6.1.4.1.32473.1.2.0|2|2\n\
     1.3.6.1.4.1.32473.1.3.0|2|3\n\

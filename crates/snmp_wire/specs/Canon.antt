@@ -15,6 +15,7 @@ unfoldable pub use Rattle.snmp_wire.specs.ber.Canon.{canon_value, digits, length
 unfoldable pub use Rattle.snmp_wire.specs.ber.Canon.{septets, subidentifier_size}
 pub use Rattle.snmp_wire.specs.ber.Canon.{IsEncodableValue, digit_count, magnitude_of, octets}
 
+-- a SEQUENCE of the name and the value
 unfoldable pub canon_binding : VarBind → List ℕ
 canon_binding binding =
     canon_element sequence_tag (canon_value (object_id binding.name) ++ canon_value binding.value)
@@ -22,12 +23,12 @@ canon_binding binding =
 unfoldable pub canon_bindings : List VarBind → List ℕ
 canon_bindings bindings = flat_map canon_binding bindings
 
--- what stands before the PDU
+-- what stands before the PDU: the version and the community
 unfoldable pub canon_opening : Message → List ℕ
 canon_opening message =
     canon_value (integer_value message.version) ++ canon_value (octet_string message.community)
 
--- what stands in the PDU before the list of bindings
+-- what stands in the PDU before the varbind list: the request-id and the two numbers after it
 unfoldable pub canon_fields : Message → List ℕ
 canon_fields message =
     canon_value (integer_value message.id) ++ canon_value (integer_value message.a)
@@ -56,6 +57,7 @@ canon_head message total =
     canon_header sequence_tag (length (canon_front message total) + total)
     ++ canon_front message total
 
+-- the binding can be written: its name has an encoding, and its value can be written
 pub record IsEncodable (binding : VarBind) : Type 0 where
   pub name : IsWire binding.name
   pub value : IsEncodableValue binding.value

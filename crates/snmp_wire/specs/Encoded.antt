@@ -8,7 +8,7 @@ use Rattle.snmp_wire.specs.Message.{VarBind, null_value}
 use Rattle.snmp_wire.specs.Range.{IsBindingInRange}
 use Rattle.snmp_wire.specs.Reading.{binding_at}
 
--- the binding at the front of octets, or one of no name and no value where none is there
+-- the binding at the front of octets, or that of the empty name and NULL where none is there
 abbrev pub binding_in : List ℕ → VarBind
 binding_in octets =
     (result_unwrap_or (binding_at octets) (record { name = []; value = null_value }, [])).0

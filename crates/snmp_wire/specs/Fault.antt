@@ -24,7 +24,7 @@ pub record EndsEarly (octets : List ℕ) : Type 0 where
   pub content : List ℕ
   pub whole : IsElement tag content (octets ++ missing)
 
--- the first element has a length octet of no allowed form: 80, or 85 and above
+-- the first octet of the first element's length is 0x80 (the indefinite form), or 0x85 or above
 pub record HasForbiddenLength (octets : List ℕ) : Type 0 where
   pub tag : ℕ
   pub first : ℕ
@@ -79,7 +79,7 @@ AllowsTag at_binding tag = tag ≡ sequence_tag
 AllowsTag at_name tag = tag ≡ 0x06
 AllowsTag at_value tag = (value : Datum) × (tag ≡ value_tag value)
 
--- A binding stands only where octets are left; each other element must be there.
+-- an element of the place must stand here: a binding where octets are left, any other always
 abbrev pub Calls : Place → List ℕ → Type 0
 Calls at_binding here = here ≢ []
 Calls place here = Unit {0}
@@ -126,7 +126,8 @@ pub record HasBadContent (octets : List ℕ) : Type 0 where
   pub begins : BeginsWith tag content here after
   pub bad : (value : Datum) → tag ≡ value_tag value → IsContent lenient value content → ⊥
 
--- octets after the last element of a SEQUENCE or a PDU, which has a tag that its place allows
+-- octets after the last element of a SEQUENCE or a PDU, where the tag of that element is one that
+-- its place allows
 pub record HasLeftOver (octets : List ℕ) : Type 0 where
   pub place : Place
   pub here : List ℕ

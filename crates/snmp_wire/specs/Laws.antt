@@ -12,24 +12,24 @@ OneMessage =
     (m n : Message) (b c rest more : List ℕ)
     → Spells m b → Spells n c → b ++ rest ≡ c ++ more → (m ≡ n) × (b ≡ c)
 
--- what octets encode is of its types
+-- the parts of a message that octets encode are of their types
 abbrev pub SpeltIsOfType : Type 0
 SpeltIsOfType = (m : Message) (octets : List ℕ) → Spells m octets → IsMessageOfType m
 
--- what encodes a message by the standard is read
+-- a strict encoding is read
 abbrev pub StrictIsRead : Type 0
 StrictIsRead = (m : Message) (octets : List ℕ) → Strict m octets → Spells m octets
 
--- the encoding that is written is one by the standard
+-- the encoding that is written of a message in range is strict
 abbrev pub EncodingIsStrict : Type 0
 EncodingIsStrict = (m : Message) → IsMessageInRange m → Strict m (canon m)
 
--- and none by the standard is shorter
+-- no strict encoding is shorter than the one that is written
 abbrev pub EncodingIsShortest : Type 0
 EncodingIsShortest =
     (m : Message) (octets : List ℕ) → Strict m octets → length (canon m) ≤ length octets
 
--- it is the head of the message, and then its bindings in turn
+-- the encoding that is written is the head of the message, and then its bindings in turn
 abbrev pub HasPieces : Type 0
 HasPieces =
     (m : Message)

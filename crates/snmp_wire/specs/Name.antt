@@ -1,4 +1,4 @@
--- Names as they are encoded: content octets stand for identifiers, and for their order (X.690,
+-- Names as they are encoded: what content octets say of identifiers and of their order (X.690,
 -- 8.19; RFC 3416, section 4.2.2).
 use Rattle.std.specs.Prelude.{◌≡◌, ℕ, ◌<◌, ◌≤◌, ◌⊎◌, ◌↔◌, List, [], length, get_or, IsOk}
 use Rattle.std.specs.Result.{result_unwrap_or}
@@ -8,11 +8,11 @@ use Rattle.snmp_wire.specs.ber.Identifier.{IsObjectId, IsSubidentifier, subident
 use Rattle.snmp_wire.specs.ber.Number.{AreOctets}
 use Rattle.snmp_wire.specs.ber.Reading.{identifier_of}
 
--- the identifier of a content
+-- the identifier that the content encodes, or the empty one where it encodes none
 abbrev pub identifier_in : List ℕ → List ℕ
 identifier_in content = result_unwrap_or (identifier_of content) []
 
--- the content is octets, and an identifier's
+-- the content is octets that encode an identifier
 pub record IsContentOctets (content : List ℕ) : Type 0 where
   pub read : IsOk (identifier_of content)
   pub octets : AreOctets content
@@ -44,15 +44,15 @@ pub record EncodedNames : Type 0 where
   pub octets_order : (text other : List ℕ) (n m : ℕ) → AreOctets text → AreOctets other
       → IsSubidentifier text n → IsSubidentifier other m → (n < m) ↔ ComesFirst text other
 
--- The subidentifier of the octet at a place ends at another. Private functions and proofs alone
--- cite this and the next, and no public clause does.
+-- The subidentifier that has the octet at `at` has its last octet at `end`. Private functions and
+-- proofs alone cite this and the next, and no public clause does.
 pub record EndsAt (content : List ℕ) (at end : ℕ) : Type 0 where
   pub behind : at ≤ end
   pub within : end < length content
   pub goes_on : (k : ℕ) → at ≤ k → k < end → 128 ≤ get_or content k 0
   pub ends : get_or content end 0 < 128
 
--- both begin with the same octets, so many
+-- both begin with the same `count` octets
 pub record IsAlike (octets others : List ℕ) (count : ℕ) : Type 0 where
   pub short : count ≤ length octets
   pub other_short : count ≤ length others

@@ -55,7 +55,7 @@ binding_at octets = do
   binding ← binding_of fields.0
   Ok (binding, fields.1)
 
--- all bindings that the octets are; `fuel` is above their number
+-- all bindings that the octets are; `fuel` is no less than their number
 unfoldable pub bindings_within : ℕ → List ℕ → Result (List VarBind) BerError
 bindings_within fuel [] = Ok []
 bindings_within zero (octet ∷ rest) = Err error.Content
@@ -67,7 +67,7 @@ bindings_within (suc fuel) (octet ∷ rest) = do
 unfoldable pub bindings_of : List ℕ → Result (List VarBind) BerError
 bindings_of octets = bindings_within (length octets) octets
 
--- the bindings of octets that are bindings
+-- the bindings that the octets are, or none where they aren't bindings
 abbrev pub bindings_in : List ℕ → List VarBind
 bindings_in octets = result_unwrap_or (bindings_of octets) []
 
@@ -85,7 +85,7 @@ kind_of tag =
     else (if tag == 0xA8 then Ok kind.Report
     else Err error.Tag)))))))
 
--- the content of the outermost element, which ends with the octets
+-- the content of the outermost element, where no octets follow that
 unfoldable pub outermost_of : List ℕ → Result (List ℕ) BerError
 outermost_of [] = Err error.Truncated
 outermost_of (tag ∷ rest) =

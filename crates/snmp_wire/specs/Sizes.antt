@@ -8,7 +8,7 @@ use Rattle.snmp_wire.specs.Canon.{canon_opening}
 use Rattle.snmp_wire.specs.Message.{Message}
 use Rattle.snmp_wire.specs.Spelling.{kind_tag}
 
--- the content of a PDU whose bindings take `total` octets together
+-- how many octets the content of a PDU takes, where its bindings take `total` octets together
 abbrev pub pdu_size : Message → ℕ → ℕ
 pdu_size message total =
     length (canon_fields message) + length (canon_header sequence_tag total) + total
@@ -40,6 +40,6 @@ pub record MessageSizes : Type 0 where
       → length (canon m)
       ≡ length (canon_head m (length (canon_bindings m.bindings)))
       + length (canon_bindings m.bindings)
-  -- before more octets of bindings a head is no shorter
+  -- a head is no shorter where the bindings after it take more octets
   pub heads_rise : (m : Message) (n k : ℕ)
       → n ≤ k → length (canon_head m n) ≤ length (canon_head m k)

@@ -65,6 +65,7 @@ pub record SpellsMessage (form : Form) (message : Message) (octets : List ℕ) :
 abbrev pub Spells : Message → List ℕ → Type 0
 Spells message octets = SpellsMessage lenient message octets
 
--- the octets encode the message by the standard: unsigned numbers in two's complement alone.
+-- the octets are a strict encoding of the message: its unsigned numbers too are in two's complement
+-- (X.690, 8.3.3), minimal or not
 abbrev pub Strict : Message → List ℕ → Type 0
 Strict message octets = SpellsMessage strict message octets

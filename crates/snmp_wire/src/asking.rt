@@ -86,8 +86,8 @@ pub fn asking_size(name: &EncodedName<'_>) -> u64
     header_size(content) + content
 }
 
-/// Writes the binding that asks for a name, whose value is NULL (RFC 3416, section 4.2), to the
-/// front of `out`, and returns its length.
+/// Writes the binding that asks for a name, whose value is NULL (RFC 3416, section 3), to the front
+/// of `out`, and returns its length.
 ///
 /// None only where `out` is shorter, and then it is unchanged.
 pub fn encode_asking(name: &EncodedName<'_>, out: &mut [u8]) -> Option<usize>

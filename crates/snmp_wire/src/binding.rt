@@ -86,11 +86,11 @@ impl<'a> Bindings<'a> {
         Bindings { rest: self.rest }
     }
 
-    /// Reads the next binding into one that is there, and returns whether there was one. It stays
-    /// as it was where none is left.
+    /// Reads the next binding into an existing one, and returns whether there was one. Where none
+    /// is left, `into` is unchanged.
     ///
-    /// This is [`Iterator::next`] for whoever reads many: a binding has over a thousand octets, and
-    /// here none of them is moved.
+    /// This is [`Iterator::next`] for a caller that reads many: a binding has over a thousand
+    /// octets, and here none of them is moved.
     pub fn read_next(&mut self, into: &mut Binding<'a>) -> bool
         ensures some { result ≡ true → self.old ≡ var_bind into.new ∷ self.new }
         ensures none { result ≡ false → (self.old ≡ []) × (self.new ≡ []) × (into.new ≡ into.old) }
@@ -98,7 +98,8 @@ impl<'a> Bindings<'a> {
         if self.rest.is_empty() {
             return false;
         }
-        // The fields stay in registers, since those of a long form are read elsewhere.
+        // Bindings with lengths of the long form are read elsewhere, so that the fields of others
+        // stay in registers.
         let Some((fields, rest)) = short_fields_at(self.rest) else {
             self.rest = read_long(self.rest, into);
             return true;
@@ -260,7 +261,7 @@ fn fields_in<'a>(octets: &'a [u8]) -> (Fields<'a>, &'a [u8])
     }
 }
 
-/// The fields of the first of such bindings, whatever the form of the lengths.
+/// [`fields_in`], whatever the form of the lengths.
 #[cold]
 fn long_fields_in<'a>(octets: &'a [u8]) -> (Fields<'a>, &'a [u8])
     requires some { 0 < length octets.now }
@@ -273,8 +274,8 @@ fn long_fields_in<'a>(octets: &'a [u8]) -> (Fields<'a>, &'a [u8])
     }
 }
 
-/// Reads the binding at the front of octets that are known to be bindings into one that is there,
-/// and returns what follows.
+/// Reads the binding at the front of octets that are known to be bindings into an existing one, and
+/// returns what follows.
 #[cold]
 fn read_long<'a>(octets: &'a [u8], into: &mut Binding<'a>) -> &'a [u8]
     requires some { 0 < length octets.now }
@@ -288,7 +289,7 @@ fn read_long<'a>(octets: &'a [u8], into: &mut Binding<'a>) -> &'a [u8]
     rest
 }
 
-/// Reads the binding of these fields into one that is there.
+/// Reads the binding of these fields into an existing one.
 // Hot: each binding that is read.
 #[inline(always)]
 fn read_binding<'a>(fields: Fields<'a>, into: &mut Binding<'a>)

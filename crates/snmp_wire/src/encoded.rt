@@ -15,7 +15,8 @@ use snmp_oid::Oid;
 use std::alloc::{AllocError, Global};
 use std::marker::Model;
 
-/// A variable binding (RFC 3416, section 3) as its shortest encoding, which a message has as it is.
+/// A variable binding (RFC 3416, section 3) as its shortest encoding, which is copied into a
+/// message as it is.
 #[derive(Debug, Drop)]
 pub struct EncodedBinding {
     octets: Octets,
@@ -33,7 +34,8 @@ impl Model for EncodedBinding {
 }
 
 impl EncodedBinding {
-    /// The binding of a name and a value. Where its encoding is long it takes memory for it.
+    /// The binding of a name and a value. It takes memory where the encoding has more than 39
+    /// octets.
     pub fn new(
         alloc: Global,
         name: &Oid,
@@ -65,7 +67,7 @@ impl EncodedBinding {
         EncodedName::of(name_in(self.octets.as_slice()))
     }
 
-    /// Changes a binding to this one.
+    /// Reads the binding into an existing one.
     pub fn read_into<'a>(&'a self, into: &mut Binding<'a>)
         ensures { var_bind into.new ≡ self.now }
     {
@@ -100,7 +102,7 @@ fn name_in(octets: &[u8]) -> &[u8]
     }
 }
 
-/// The content of the name, whatever the form of the lengths.
+/// [`name_in`], whatever the form of the lengths.
 #[cold]
 fn name_in_long(octets: &[u8]) -> &[u8]
     requires { IsKept octets.now }
@@ -134,7 +136,7 @@ fn encoded(alloc: Global, name: &Oid, value: &ValueRef<'_>) -> Result<Octets, Al
     })
 }
 
-/// An encoding of more octets than lie in place, for which it takes memory.
+/// [`encoded`], for an encoding of more octets than stand in place, for which it takes memory.
 #[inline(never)]
 fn encoded_elsewhere(
     alloc: Global,

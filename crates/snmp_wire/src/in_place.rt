@@ -10,8 +10,8 @@ pub const IN_PLACE: usize = 39;
 pub const ELSEWHERE: u8 = 255;
 
 /// The octets of an encoding. Where they are few they stand in place: they take no memory of their
-/// own, and a search that comes by need not wait for it.
-// No enum: moved as a whole, many of them are moved at once.
+/// own, and a search reads them without following a pointer.
+// No enum, so that each is moved as a whole, and many of them at once.
 #[derive(Drop)]
 pub struct Octets {
     /// All of them, where they stand elsewhere.

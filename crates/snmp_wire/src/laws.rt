@@ -32,29 +32,29 @@ pub fn spelt_is_of_type()
     ensures { SpeltIsOfType }
 {}
 
-/// What encodes a message by the standard is read.
+/// A strict encoding of a message is read.
 #[inline]
 #[tactic(auto, using(crate::proofs::MessageElements::strict_is_read))]
 pub fn strict_is_read()
     ensures { StrictIsRead }
 {}
 
-/// What is written is an encoding by the standard; so [`decode`](crate::decode) returns the
-/// message.
+/// What is written of a message in range is a strict encoding; so [`decode`](crate::decode) returns
+/// the message.
 #[inline]
 #[tactic(auto, using(crate::proofs::MessageElements::strict_canon))]
 pub fn encoding_is_strict()
     ensures { EncodingIsStrict }
 {}
 
-/// No encoding by the standard is shorter than what is written.
+/// No strict encoding is shorter than what is written.
 #[inline]
 #[tactic(auto, using(crate::proofs::MessageElements::no_shorter))]
 pub fn encoding_is_shortest()
     ensures { EncodingIsShortest }
 {}
 
-/// A message has one shortest encoding by the standard, which is the one that is written.
+/// A message in range has one shortest encoding, which is the one that is written.
 #[inline]
 pub fn one_shortest_encoding()
     ensures { OneShortestEncoding }

@@ -1,7 +1,7 @@
 //! Messages of SNMPv2c (RFC 3416) and their BER encoding (X.690, RFC 3417 section 8).
 //!
-//! Stands on the identifiers, whose crate it hands on as its own. Agent and walk exchange octets
-//! alone, and read and write them by this crate.
+//! Built on the identifiers, which it exports too. Agent and walk exchange octets alone, and read
+//! and write them by this crate.
 //!
 //! # Examples
 //!

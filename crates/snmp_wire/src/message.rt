@@ -1,4 +1,4 @@
-//! Messages, read from datagrams.
+//! Messages, read from datagrams and written.
 ghost use Rattle.std.specs.Prelude.{◌≡◌, ℕ, List, ◌++◌, IfOk, IfErr, Ok, ◌+◌, ◌^◌, ◌<◌, ◌≤◌, ◌↔◌};
 ghost use Rattle.std.specs.Prelude.{length, drop, take, IfSome, IfNone, IsSome, All};
 ghost use Rattle.snmp_wire.specs.Fault.{IsFault};
@@ -137,7 +137,7 @@ pub fn decode(datagram: &[u8]) -> Result<MessageRef<'_>, BerError>
     message_of(datagram)
 }
 
-/// The message that the octets are.
+/// The message that the octets encode.
 #[tactic(auto, unfolding(crate::specs::Reading::message_of))]
 fn message_of<'a>(octets: &'a [u8]) -> Result<MessageRef<'a>, BerError>
     ensures { AgreesBy (λ message. message) result (reading.message_of octets.now) }
@@ -153,7 +153,7 @@ fn message_of<'a>(octets: &'a [u8]) -> Result<MessageRef<'a>, BerError>
     pdu_of(version, community, kind, content)
 }
 
-/// The content of the outermost element, which ends with the octets.
+/// The content of the outermost element, where no octets follow that.
 #[tactic(auto, unfolding(crate::specs::Reading::outermost_of))]
 #[inline]
 fn outermost_of(octets: &[u8]) -> Result<&[u8], BerError>
@@ -273,7 +273,8 @@ pub fn encode(parts: &Parts<'_>, out: &mut [u8]) -> Option<usize>
 /// these take `total` octets together. The bindings of `parts` aren't looked at.
 ///
 /// It requires a community of at most 65535 octets and a total of at most 4,000,000,000.
-// Hot: of one reply several, with all but the total in common, which are then found once.
+// Hot: several calls for one reply, which differ in the total alone. Inlined, what they have in
+// common is computed once.
 #[inline(always)]
 pub fn head_size(parts: &Parts<'_>, total: u64) -> u64
     requires community { length parts.now.community.now ≤ 65535 }

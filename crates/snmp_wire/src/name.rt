@@ -69,7 +69,7 @@ impl<'a> EncodedName<'a> {
         requires { IsWire name.now }
         ensures { result ≡ name.now }
     {
-        // At most 128 numbers, so that the content fits.
+        // This call states that there are at most 128 numbers, so that the content fits.
         let _numbers = name.as_slice();
         let start = put_identifier(out, MAX_CONTENT, name);
         let written: &'a [u8] = out;
@@ -128,8 +128,8 @@ impl<'a> EncodedName<'a> {
     }
 }
 
-/// How the names of two contents compare of which the shorter has 8 to 24 octets, where the octets
-/// in which they differ tell it; else None.
+/// How the names of two contents compare, where the shorter content has 8 to 24 octets and the
+/// first octets that differ tell it; else None.
 #[inline(always)]
 fn compare_ends(content: &[u8], other: &[u8]) -> Option<Ordering>
     requires this { IsOk (reading.identifier_of content.now) }
@@ -155,7 +155,7 @@ fn compare_ends(content: &[u8], other: &[u8]) -> Option<Ordering>
     Some(octet.cmp(&beside))
 }
 
-/// How many octets are the same at the front of the first `both`, of which there are 8 to 24: by
+/// How many octets at the front are the same, up to `both`, which is 8 to 24. They are compared in
 /// words of eight, the last of which may begin within the one before.
 // Hot: each comparison of names.
 #[inline(always)]
@@ -280,8 +280,8 @@ fn few_alike(octets: &[u8], others: &[u8]) -> usize
     count
 }
 
-/// How many octets are the same at the front of the eight from a place on: the lowest bit in which
-/// the two words differ is one of the first octet that does.
+/// How many of the eight octets from a place on are the same, up to the first that differs: the
+/// lowest bit in which the two words differ lies in that octet.
 // Hot: each comparison of names.
 #[inline(always)]
 fn eight_alike(octets: &[u8], others: &[u8], at: usize) -> usize
@@ -316,9 +316,9 @@ fn word_at(octets: &[u8], at: usize) -> u64
     ])
 }
 
-/// Contents stand for identifiers: each identifier that has one has just one, a name below a root
-/// begins with its content and is longer, and the order of names is that of their subidentifiers'
-/// lengths and octets.
+/// Contents stand for identifiers: each identifier that has one has just one, the content of a name
+/// below a root begins with the root's and is longer, and the order of names is that of their
+/// subidentifiers' lengths and octets.
 ///
 /// A law: the call does nothing, and its caller knows what it states.
 #[inline]

@@ -20,7 +20,7 @@ fn joined(alloc: Global, pieces: &[&[u8]]) -> Result<Vec<u8>, AllocError> {
     Ok(octets)
 }
 
-/// Asserts that the octets are refused so.
+/// Asserts that the octets are refused with this error.
 fn assert_refused(rt: &impl Abort, datagram: &[u8], error: BerError) {
     assert_eq!(rt; decode(datagram).err(), Some(error));
 }
@@ -33,7 +33,7 @@ fn message_of<'a>(rt: &impl Abort, datagram: &'a [u8]) -> MessageRef<'a> {
     message
 }
 
-/// Whether the octets encode a message, so that the sentence of no error is true of them.
+/// Whether the octets encode a message, so that what an error says is false of them.
 fn is_faultless(datagram: &[u8]) -> bool
     ensures { result ≡ true → (error : BerError) → IsFault error datagram.now → ⊥ }
 {
@@ -41,7 +41,7 @@ fn is_faultless(datagram: &[u8]) -> bool
     decode(datagram).is_ok()
 }
 
-/// No error's sentence is true everywhere: here are octets for which each is false.
+/// No error is true of all octets: what each says is false of these messages.
 #[test]
 fn no_error_is_true_of_a_request(rt: HostRuntime) {
     assert!(rt; is_faultless(&REQUEST));
@@ -99,7 +99,7 @@ fn with_value(rt: &impl Abort, alloc: Global, value: &[u8]) -> Result<Vec<u8>, A
     )
 }
 
-/// Asserts that octets of values are these.
+/// Asserts that octets are read as these values.
 fn assert_values(
     rt: &impl Abort,
     alloc: Global,
@@ -179,8 +179,8 @@ fn faults(rt: HostRuntime) -> Result<(), Fail> {
     Ok(())
 }
 
-/// The request with one octet changed, and its fault: a forbidden length, one that reaches past, a
-/// tag, a content, an octet left over.
+/// Places of the request, each with an octet that is put there, and the error then: a forbidden
+/// length, one that reaches past the element around it, a tag, a content, an octet left over.
 const CHANGES: &[(usize, u8, BerError)] = &[
     (1, 0x80, BerError::Length),
     (1, 0x85, BerError::Length),
@@ -205,8 +205,8 @@ fn faults_of_one_octet(rt: HostRuntime) {
     }
 }
 
-/// With each octet replaced by each other, as many of the 10,240 messages are right as an
-/// independent decoder finds.
+/// With each octet of the request replaced by each value, as many of the 10,240 datagrams encode a
+/// message as an independent decoder finds.
 #[test]
 fn each_octet_replaced(rt: HostRuntime) {
     let mut right = 0u32;
@@ -466,8 +466,8 @@ const FOUR_BINDINGS: [u8; 64] = [
     0x08, 0x06, 0x03, 0x2B, 0x87, 0x68, 0x04, 0x01, 0x78, 0x30, 0x05, 0x06, 0x01, 0x2B, 0x05, 0x00,
 ];
 
-/// Reads the next binding of both, of one of them into a binding that is there, and asserts that it
-/// has this name and value.
+/// Reads the next binding of both, of `read` into an existing binding, and asserts that both have
+/// this name and value.
 fn assert_next<'a>(
     rt: &impl Abort,
     given: &mut Bindings<'a>,
@@ -481,8 +481,8 @@ fn assert_next<'a>(
     assert_eq!(rt; given.next().as_ref(), Some(&*binding));
 }
 
-/// Reads the bindings of the message one after the other, and beside it into one that is there, and
-/// asserts that both have these names and values, and that the last one stays.
+/// Reads the bindings of the message as an iterator and into an existing binding, and asserts that
+/// both give these names and values, and that the binding is unchanged where none is left.
 fn assert_read_in_place<'a>(
     rt: &impl Abort,
     message: &MessageRef<'a>,

@@ -67,7 +67,7 @@ fn assert_encodable(rt: &impl Abort, binding: &Binding<'_>)
     assert!(rt; is_encodable(&binding.value));
 }
 
-/// How many octets at most one binding takes: not too many for a message.
+/// How many octets a list of at most one binding takes: not too many for a message.
 fn octets_of(bindings: &[Binding<'_>]) -> u64
     requires at_most_one { length bindings.now ≤ 1 }
     requires encodable { All (λ b. IsEncodable (var_bind b)) bindings.now }
@@ -79,8 +79,8 @@ fn octets_of(bindings: &[Binding<'_>]) -> u64
     }
 }
 
-/// Whether the message of this one binding is these octets: in a slice that is longer, in one that
-/// just fits, and in none that is shorter. What stands after them stays.
+/// Asserts that the message of this one binding is written as these octets: to a slice that is
+/// longer, to one that just fits, and to none that is shorter. What stands after them stays.
 fn assert_message(rt: &impl Abort, kind: Kind, b: i32, binding: Binding<'_>, octets: &[u8])
     requires { IsEncodable (var_bind binding) }
 {
@@ -145,7 +145,8 @@ fn assert_put(rt: &impl Abort, parts: &Parts<'_>, out: &mut [u8], octets: &[u8])
     assert_front(rt, out, octets);
 }
 
-/// Whether the message of these parts is these octets, in slices of the three lengths.
+/// Asserts that the message of these parts is written as these octets, to slices of the three
+/// lengths.
 fn assert_parts(rt: &impl Abort, parts: &Parts<'_>, octets: &[u8])
     requires community { length parts.now.community.now ≤ 65535 }
     requires bindings { All (λ b. IsEncodable (var_bind b)) parts.now.bindings.now }
@@ -180,12 +181,12 @@ fn a_bulk_request(rt: HostRuntime) {
     assert_message(&rt, Kind::GetBulkRequest, 10, get, &BULK);
 }
 
-/// Whether the value of a binding of the name 1.3 is these octets.
+/// Asserts that a value is written as these octets, in a binding of the name 1.3.
 fn assert_value(rt: &impl Abort, value: ValueRef<'_>, octets: &[u8]) {
     assert_binding(rt, &binding(rt, &[1, 3], value), octets);
 }
 
-/// Whether the value of this binding of the name 1.3 is these octets.
+/// Asserts that the value of this binding of the name 1.3 is written as these octets.
 fn assert_binding(rt: &impl Abort, binding: &Binding<'_>, octets: &[u8])
     requires { IsEncodable (var_bind binding.now) }
 {

@@ -7,7 +7,7 @@ use snmp_wire::{
 use std::process::Abort;
 use std::test::Fail;
 
-/// Numbers at whose side the number of octets changes, or an octet has all of its bits.
+/// Numbers around those at which an encoding becomes longer, or an octet has all of its bits set.
 const AT_EDGES: &[u32] = &[
     0, 1, 39, 40, 47, 48, 126, 127, 128, 129, 16383, 16384, 16385, 2097151, 2097152, 268435455,
     268435456, 4294967295,

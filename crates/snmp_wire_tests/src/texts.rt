@@ -29,7 +29,7 @@ fn names_are_read(rt: HostRuntime) -> Result<(), Fail> {
     Ok(())
 }
 
-/// Asserts that a text is refused so.
+/// Asserts that a text is refused with this error.
 fn assert_refused(rt: &impl Abort, text: &[u8], error: OidTextError) {
     assert_eq!(rt; parse_numeric(text), Err(error));
 }

@@ -133,7 +133,8 @@ walking_rules = walk_letters_rule ∷ after_rule ∷ agent_rule ∷ name_rule �
 abbrev pub place_rules : List Rule
 place_rules = table_rule ∷ community_rule ∷ listen_rule ∷ []
 
--- an agent's options: the files of modules, those, the size of replies, and the number of turns
+-- an agent's options: the files of modules, the three above, the size of replies, and the number of
+-- turns
 abbrev pub serving_rules : List Rule
 serving_rules = mib_rule ∷ place_rules ++ size_rule ∷ turns_rule ∷ []
 

@@ -110,9 +110,8 @@ pub record StatesNumber (low high : ℕ) (text : Text) (n : ℕ) : Type 0 where
   pub from : low ≤ n
   pub to : n ≤ high
 
--- The number of an option: the one that the text given for its id states, or, where no text was
--- given, the default; and so where the text states no number of the range, which the command
--- doesn't take.
+-- The number of an option: the one that the text given for its id states; the default where no text
+-- was given, and where it states no number of the range, which the command doesn't take.
 abbrev pub IsNumberOf : Text → (default low high : ℕ) → List Row → ℕ → Type 0
 IsNumberOf id default low high rows n =
     MatchOption (first_of id rows) (n ≡ default) (λ text. StatesNumber low high text n
@@ -207,7 +206,7 @@ pub record StateJob (words : List Text) (job : Stated) : Type 0 where
   pub are_numbers : AreNumbersOf rows numbers
   pub stated : stated_among (readings numbers) (command, rows) ≡ Some job
 
--- that job, computed, for private clauses
+-- the job that the words state, computed, for private clauses
 abbrev pub stated_by : Text × List Row → Option Stated
 stated_by p = stated_among (readings (numbers_in p.1)) p
 

@@ -12,8 +12,8 @@ use std::alloc::{AllocError, Global};
 /// The version of the program.
 pub(crate) const VERSION: &str = "0.6.0";
 
-// What help has on the walks, and what stands after the help of each command: an example that needs
-// no file, and the statuses.
+// What help says of the walks, and what stands after the help of each command: an example that
+// needs no file, and the statuses.
 const TRANSLATE_END: &str = "\
 Example:
   snmp snmptranslate -On iso.3.6.1.2.1.1.5.0

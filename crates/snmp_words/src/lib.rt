@@ -77,8 +77,8 @@ pub fn read_words<'a>(alloc: Global, words: &'a [&'a str]) -> Result<Job<'a>, Us
     }
 }
 
-/// The walk of any table file from any numeric name, in both spellings of its option, is taken and
-/// states that walk.
+/// The words of a walk of any table file from any numeric name, in both spellings of the option,
+/// are taken and state that walk.
 pub fn walks_are_taken()
     ensures joined { (path numbers : List ℕ) →
         is_taken (walk_line (codes "-On" ∷ []) path numbers) ≡ true }
@@ -121,7 +121,8 @@ pub fn one_job()
         → StateJob words job → StateJob words other → job ≡ other }
 {}
 
-/// What the parser's refusal is to the user: help and the version are what was asked for.
+/// The error for words that the parser refuses: help or the version where they ask for it,
+/// otherwise what is wrong with them.
 fn usage_error(alloc: Global, error: &clap::Error, words: &[&str]) -> UsageError
     ensures memory { kind_of error.now ≡ ErrorKind.OutOfMemory → IsMemory result }
     ensures refusal { StandsFor result (kind_of error.now) }

@@ -142,8 +142,8 @@ pub(crate) fn text_of(
     }
 }
 
-/// The command that the words begin with: the parser refuses a first word that names none, and an
-/// option before the command.
+/// The command that the words begin with; None where the parser refused the first word as a
+/// command, or an option stands before the command.
 fn command_of<'a>(kind: ErrorKind, words: &[&'a str]) -> Option<&'a str> {
     match words.get(1) {
         Some(word) if kind != ErrorKind::InvalidSubcommand && !word.starts_with('-') => Some(*word),
@@ -183,8 +183,8 @@ fn tips_before(text: &str) -> (&str, &str) {
     }
 }
 
-/// The first of the parser's tips. One to pass a word that begins with a hyphen as a value doesn't
-/// count: no agent and no name begins with one.
+/// The first of the parser's tips, unless it says how to pass a word that begins with a hyphen as a
+/// value: no agent and no name begins with one.
 fn tip_among_parsers(tips: &str) -> Option<&str> {
     let (first, _) = tips.split_once('\n').unwrap_or((tips, ""));
     let tip = first.strip_prefix("  tip: ")?;
@@ -233,7 +233,7 @@ fn option_of(mistake: &str) -> Option<&str> {
     Some(option)
 }
 
-/// What stands between the beginning and the end of a text, where these are such.
+/// What stands between `before` and `after`, if a text begins and ends with these.
 fn between<'t>(before: &str, text: &'t str, after: &str) -> Option<&'t str> {
     text.strip_prefix(before)?.strip_suffix(after)
 }

@@ -13,8 +13,8 @@ fn is_shown_so(alloc: Global, job: &Job<'_>, text: &str) -> bool {
 }
 
 /// Whether the words state this job, shown as by `Debug`.
-// What was read is dropped by a call, here and in the other helpers: at the end of a scope the
-// drops of all kinds of jobs would be written out.
+// What was read is dropped by a call, here and in the other helpers: at the end of a scope, the
+// code that drops each kind of job would be inlined.
 fn states(alloc: Global, words: &[&str], job: &str) -> bool {
     let read = read_words(alloc, words);
     let stated = match &read {
@@ -255,7 +255,7 @@ fn files_of_modules_are_stated_in_order(rt: HostRuntime) {
     assert_stated(&rt, rt.alloc(), FILES_OF_MODULES);
 }
 
-/// Options with their values joined, and the same apart.
+/// Options with their values joined, and with their values apart.
 const JOINED: &[(&[&str], &str)] = &[
     (
         &[
@@ -300,7 +300,8 @@ const OF_JOINED: &str = "BulkWalk(WalkJob { asking: Asking { mibs: [], letters: 
                          max_size: 1472, agent: \"router\" }, letters: \"r50\", after: None, \
                          name: Some(\".1\") })";
 
-/// Several options in one word, and long ones joined without an equals sign, aren't read as such.
+/// Several options in one word, and a long option joined to its value without an equals sign: these
+/// are refused.
 const NOT_JOINED: &[&[&str]] = &[
     &["snmp", "snmpwalk", "-r1t2", "router"],
     &["snmp", "snmpwalk", "--max-size484", "router"],

@@ -12,7 +12,7 @@ ComesTo origin a R.Cycle = HasEnd (λ b. next_of (origin b)) a → ⊥
 ComesTo origin a R.Unresolved = EndsNowhere origin a
 ComesTo origin a R.TooLong = (o : List ℕ) × HasIdentifier origin a o × (128 < length o)
 
--- what each place resolves to is right
+-- the list has, for each place, what the place resolves to
 abbrev pub EachComesTo : (ℕ → Origin ℕ) → List Resolution → Type 0
 EachComesTo origin resolutions =
     (p : ℕ) (d : Resolution) → p < length resolutions

@@ -21,13 +21,15 @@ place_by d p = place_of_name d.homes d.scopes.items (length d.entries.items) p
 abbrev pub place_of_entry : Entry → QualifiedName
 place_of_entry e = record { home = e.«module».now.name.octets; name = e.name.now }
 
--- the place of a name of the module at a place, if there is one, for private clauses
+-- the place of a name in the module at `at`, or the one past the last if there is none, for private
+-- clauses
 abbrev pub place_of_scope : Directory → Option ℕ → List ℕ → ℕ
 place_of_scope d at x =
     unwrap_or (option_and_then (λ i. option_and_then (λ scope. place_in scope x)
     (slice_get d.scopes.items i)) at) (length d.entries.items)
 
--- a name that was looked up has this place, if one was, for private clauses
+-- the name that was looked up last, if any, is kept with the places of its module and of itself,
+-- for private clauses
 abbrev pub IsFound : Directory → Option Found → Type 0
 IsFound d None = ⊤
 IsFound d (Some f) = (f.at ≡ place_in d.homes f.home.now)
@@ -38,7 +40,7 @@ abbrev pub is_entry_of : Option Entry → ℕ → List ℕ → Bool
 is_entry_of None i x = false
 is_entry_of (Some e) i x = (e.source.0 == i) && same_text e.name.now x
 
--- each entry's link says what decides it, by places
+-- the link of each entry is the origin of its name, with places for names
 pub record AreLinks (d : Directory) (entries : List Entry) (links : List Link) : Type 0 where
   pub long : length links ≡ length entries
   pub each : (p : ℕ) (e : Entry) (l : Link) → slice_get entries p ≡ Some e

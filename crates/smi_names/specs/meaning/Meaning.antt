@@ -28,7 +28,7 @@ pub record QualifiedName : Type 0 where
   pub home : List ℕ
   pub name : List ℕ
 
--- the names at the top, which have no definition, by their numbers 0 to 2 (RFC 2578, section 2)
+-- the names at the top, which have no definition, by their numbers 0 to 2 (RFC 2578, section 3.5)
 abbrev pub root_label : ℕ → List ℕ
 root_label n = if n == 0 then codes "ccitt" else
     (if n == 1 then codes "iso" else codes "joint-iso-ccitt")

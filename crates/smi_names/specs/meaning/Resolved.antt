@@ -12,12 +12,12 @@ use Rattle.smi_names.specs.meaning.Directory.{place_by, place_of_entry}
 use Rattle.smi_names.specs.declared.meaning.entry.Entry.{Entry}
 use Rattle.smi_names.specs.declared.meaning.directory.Directory.{Directory}
 
--- modules and names have their places
+-- the directory has the place of each module, and an entry for each name that has a meaning
 pub record IsDirectory (ms : List Module) (d : Directory) : Type 0 where
   pub placed : (x : List ℕ) → place_in d.homes x ≡ module_place ms x
   pub named : AreEach ms d.scopes.items d.entries.items
 
--- and each name resolves to what its place has
+-- the directory is that of the modules, and each name resolves to what the list has at its place
 pub record AreResolutions (ms : List Module) (d : Directory) (rs : List Resolution) : Type 0 where
   pub directory : IsDirectory ms d
   pub comes : (a : QualifiedName) (r : Resolution) → slice_get rs (place_by d a) ≡ Some r

@@ -57,7 +57,7 @@ oids_by R.Cycle = []
 oids_by R.Unresolved = []
 oids_by R.TooLong = []
 
--- what is gathered grows by what a definition gives whose name resolves to r
+-- what is gathered grows by what a definition gives if its name resolves to r
 pub record GrowsByDefinition (old new : Gathered) (s : Source) (m : Module) (d : Def)
     (r : Resolution) : Type 0 where
   pub sources : new.sources.items ≡ old.sources.items ++ sources_by s r

@@ -1,4 +1,4 @@
--- The nodes of the tree of names, in order of loading (RFC 2578, sections 2 and 3.6).
+-- The nodes of the tree of names, in order of loading (RFC 2578, sections 3.5 and 3.6).
 use Rattle.std.specs.Prelude.{
   ◌≡◌,
   ℕ,

@@ -1,4 +1,4 @@
-//! What the names at places resolve to, with one resolution for those that resolve to the same.
+//! What the names at places resolve to: an import shares the resolution of what it imports.
 ghost use Rattle.std.specs.Prelude.{◌≡◌, ◌<◌, ◌≤◌, ◌∷◌, [], length, map, option_map, IfOk};
 ghost use Rattle.std.specs.List.{slice_get};
 ghost use Rattle.smi_names.specs.chains.Chain.{next_of};
@@ -99,7 +99,7 @@ fn reasons(alloc: Global, links: &[Link]) -> Result<Vec<Resolution>, AllocError>
     Ok(list)
 }
 
-/// The most identifiers that names of these links have which aren't those of other names.
+/// How many identifiers these links add to the list at most.
 fn most(links: &[Link]) -> usize
     ensures { result ≤ length links.now }
 {
@@ -112,7 +112,7 @@ fn most(links: &[Link]) -> usize
     count
 }
 
-/// Whether a name of this link may have an identifier that isn't that of the name it leads to.
+/// Whether a link may give an identifier other than that of the name to which it leads.
 fn is_new(link: &Link) -> bool {
     match link {
         Link::Number(_) | Link::Numbers(_) | Link::Child(_, _) => true,
@@ -121,8 +121,8 @@ fn is_new(link: &Link) -> bool {
     }
 }
 
-/// The place in the list of what a name resolves to, given those of the names before it. What isn't
-/// there yet is appended.
+/// The place in the list of what a name with this link resolves to; a new identifier is appended.
+/// `places` has those of the names before it.
 fn entered(list: &mut Vec<Resolution>, places: &[usize], link: &Link) -> Result<usize, AllocError>
     requires reasons { HasReasons list.old.items }
     requires within { AreWithin list.old.items places.now }
@@ -139,8 +139,8 @@ fn entered(list: &mut Vec<Resolution>, places: &[usize], link: &Link) -> Result<
     }
 }
 
-/// The place in the list of what a name resolves to that has these numbers after those of the name
-/// at a place.
+/// The place in the list of what a name resolves to, if its numbers are those of the name at
+/// `place` and then these.
 fn led(
     list: &mut Vec<Resolution>,
     places: &[usize],
@@ -158,8 +158,8 @@ fn led(
     }
 }
 
-/// The place in the list of what a name resolves to that has these numbers after those of the
-/// resolution at a place.
+/// The place in the list of what a name resolves to, if its numbers are those of the resolution at
+/// `at` and then these.
 fn followed(list: &mut Vec<Resolution>, at: usize, numbers: &[u32]) -> Result<usize, AllocError>
     requires reasons { HasReasons list.old.items }
     requires inside { at < length list.old.items }
@@ -169,7 +169,7 @@ fn followed(list: &mut Vec<Resolution>, at: usize, numbers: &[u32]) -> Result<us
     let Resolution::Numbers(oid) = &list[at] else {
         return Ok(at);
     };
-    // The same identifier, as each import has.
+    // An import has the identifier of what it imports.
     if numbers.is_empty() && oid.len() <= MAX_LEN {
         return Ok(at);
     }
@@ -177,8 +177,8 @@ fn followed(list: &mut Vec<Resolution>, at: usize, numbers: &[u32]) -> Result<us
     appended(list, longer, numbers)
 }
 
-/// The place in the list of the identifier with these numbers after it, which is appended; that of
-/// `TooLong` where it is too long.
+/// Appends an identifier, with these numbers after it, to the list, and returns its place; that of
+/// `TooLong` where it would be too long.
 fn appended(list: &mut Vec<Resolution>, oid: Oid, numbers: &[u32]) -> Result<usize, AllocError>
     requires reasons { HasReasons list.old.items }
     ensures grown { IfOk result (λ to. GrowsTo list.old.items list.new.items to

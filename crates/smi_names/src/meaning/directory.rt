@@ -63,7 +63,7 @@ pub(crate) fn homes<'a>(
     Ok(homes)
 }
 
-/// The names that have a meaning in each module, which are entered.
+/// Enters the names that have a meaning in each module, and returns their places.
 pub(crate) fn scopes<'a>(
     alloc: Global,
     hash: NameHash,
@@ -96,7 +96,7 @@ fn arcs(alloc: Global, parts: &[Part]) -> Result<Option<Vec<u32>>, AllocError>
 }
 
 impl<'a> Directory<'a> {
-    /// The place of a name in the module of a name; the one past the last if it has no meaning
+    /// The place of a name in the module named `home`; the one past the last if it has no meaning
     /// there.
     pub(crate) fn place(&self, home: &'a [u8], name: &'a [u8]) -> usize
         ensures { result ≡ place_by self.now (record { home = home.now; name = name.now }) }
@@ -104,7 +104,7 @@ impl<'a> Directory<'a> {
         self.place_in(find(&self.homes, home), name)
     }
 
-    /// The place of a name in the module at a place, if there is one.
+    /// The place of a name in the module at `at`; the one past the last if there is none.
     fn place_in(&self, at: Option<usize>, name: &'a [u8]) -> usize
         ensures { result ≡ place_of_scope self.now at name.now }
     {
@@ -120,7 +120,7 @@ impl<'a> Directory<'a> {
         }
     }
 
-    /// Whether the entry at a place is that of a name of the module at a place.
+    /// Whether the entry at `place` is that of `name` in the module at `home`.
     pub(crate) fn is_entry(&self, place: usize, home: usize, name: &[u8]) -> bool
         ensures { result ≡ is_entry_of (slice_get self.now.entries.items place) home name.now }
     {
@@ -131,7 +131,7 @@ impl<'a> Directory<'a> {
     }
 
     /// The place of a name as [`Directory::place`] returns it. `last` is the name that was looked
-    /// up last: names in a row are mostly of one module, and many of them are one parent.
+    /// up last: names that follow one another are mostly of one module, and often the same parent.
     fn place_again(&self, home: &'a [u8], name: &'a [u8], last: &mut Option<Found<'a>>) -> usize
         requires { IsFound self.now last.old }
         ensures place { result ≡ place_by self.now (record { home = home.now; name = name.now }) }

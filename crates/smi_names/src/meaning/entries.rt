@@ -49,7 +49,7 @@ impl<'s, 'a> Entries<'s, 'a> {
         self.directory.entries.len()
     }
 
-    /// The place of a name in the module of a name; the one past the last if it has no meaning
+    /// The place of a name in the module named `home`; the one past the last if it has no meaning
     /// there.
     pub fn place(&self, home: &'a [u8], name: &'a [u8]) -> usize
         ensures { slice_get self.now.names result

@@ -72,7 +72,7 @@ impl<'a> Names<'a> {
         })
     }
 
-    /// What a name resolves to in the module of a name; None if it has no meaning there.
+    /// What a name resolves to in the module named `home`; None if it has no meaning there.
     pub fn resolution(&self, home: &'a [u8], name: &'a [u8]) -> Option<&Resolution>
         ensures { let qualified : QualifiedName = record { home = home.now; name = name.now } in
             MatchOption result (origin self.now qualified ≡ nowhere)
@@ -82,11 +82,12 @@ impl<'a> Names<'a> {
         self.resolutions.get(place)
     }
 
-    /// The same for the name of a definition of the first module of a name, which is at a place.
+    /// What a name resolves to in this module, which is the first of its name and stands at
+    /// `source.0`; None if it has no meaning there.
     ///
-    /// `from` is a guess: the place of the name of the module's first definition. Those of the
-    /// others follow it, but for names that stand twice. It is changed to what is found, and
-    /// whatever it is, the result is the same.
+    /// `from` is a guess: the place of the module's first name. The names of its definitions follow
+    /// one another from there, unless one is defined twice. It is changed where it is wrong, and no
+    /// result depends on it.
     pub(crate) fn resolution_of(
         &self,
         source: (usize, usize),
@@ -110,13 +111,12 @@ impl<'a> Names<'a> {
         self.resolutions.get(place)
     }
 
-    /// A guess at the room that nodes take: a place for each identifier that is kept, and three for
-    /// the reasons why a name has none.
+    /// A guess at how many nodes there will be: how many resolutions are kept.
     pub(crate) fn identifiers(&self) -> usize {
         self.resolutions.list.len()
     }
 
-    /// What decides the meaning of a name in the module of a name.
+    /// What decides the meaning of a name in the module named `home`.
     pub fn decider(&self, home: &'a [u8], name: &'a [u8]) -> Option<Decider<'a>>
         ensures { option_map decision_of result
             ≡ option_and_then (λ m. decision m name.now) (module_named self.now home.now) }

@@ -21,7 +21,7 @@ use std::alloc::{AllocError, Global};
 /// The names of a module, each with its place among the entries.
 pub(crate) type NamePlaces<'a> = IndexMap<NameRef<'a>, usize, NameHash>;
 
-/// The place of a name, which gets this one unless it has one.
+/// Gives a name this place unless it has one, and returns its place.
 pub(crate) fn put_first<'a>(
     scope: &mut NamePlaces<'a>,
     name: &'a [u8],
@@ -126,7 +126,7 @@ fn enter_imports<'a>(
     Ok(())
 }
 
-/// The label of the root with a number from 0 to 2 (RFC 2578, section 2).
+/// The label of the root with a number from 0 to 2 (RFC 2578, section 3.5).
 pub fn root_label(number: u32) -> &'static [u8]
     ensures { result.now ≡ meaning.root_label number }
 {
@@ -137,7 +137,7 @@ pub fn root_label(number: u32) -> &'static [u8]
     }
 }
 
-/// The number of the root of a label (RFC 2578, section 2).
+/// The number of the root of a label (RFC 2578, section 3.5).
 pub fn root_arc(label: &[u8]) -> Option<u32>
     ensures { result ≡ meaning.root_arc label.now }
 {
@@ -167,7 +167,7 @@ fn root_entry<'a>(module: &'a Module, place: usize, number: u32) -> Entry<'a>
     }
 }
 
-/// Enters the roots (RFC 2578, section 2).
+/// Enters the roots (RFC 2578, section 3.5).
 fn enter_roots<'a>(
     entries: &mut Vec<Entry<'a>>,
     scope: &mut NamePlaces<'a>,
@@ -195,7 +195,7 @@ pub fn import_clauses(module: &Module) -> &[Import]
     }
 }
 
-/// The names that have a meaning in a module, which are entered.
+/// Enters the names that have a meaning in a module, and returns their places.
 pub(crate) fn scope<'a>(
     alloc: Global,
     hash: NameHash,

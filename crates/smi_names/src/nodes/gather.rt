@@ -58,7 +58,7 @@ fn is_double<'a>(names: &Names<'a>, module: &'a Module, place: usize) -> bool
 }
 
 impl Gathered {
-    /// Adds what a definition gives whose name has this resolution.
+    /// Adds what a definition gives if its name has this resolution.
     fn add(
         &mut self,
         alloc: Global,
@@ -143,7 +143,7 @@ impl Gathered {
         Ok(())
     }
 
-    /// Adds what a module gives whose name no earlier one has: the warnings of its imports, and
+    /// Adds what a module gives if no earlier one has its name: the warnings of its imports, and
     /// then what its definitions give.
     fn add_loaded<'a>(
         &mut self,
@@ -184,7 +184,7 @@ impl Gathered {
         self.add_loaded(alloc, names, module, place)
     }
 
-    /// The roots alone (RFC 2578, section 2), with room for this many nodes.
+    /// The roots alone (RFC 2578, section 3.5), with room for this many nodes.
     fn roots(alloc: Global, room: usize) -> Result<Gathered, AllocError>
         ensures { IfOk result (λ gathered. (ms : List Module) → AreGathered ms gathered []) }
     {
@@ -203,9 +203,9 @@ impl Gathered {
         })
     }
 
-    /// Gives back the room that is left where the nodes take less than half of it. There was some
-    /// for each identifier that is kept, and these bring no node: the roots as each module names
-    /// them, and the definitions of a module whose name an earlier one has.
+    /// Gives back the unused room where the nodes take less than half of it. There was room for
+    /// each identifier that is kept, and some give no node: the roots as each module names them,
+    /// and the definitions of a module whose name an earlier one has.
     fn trim(&mut self)
         ensures sources { self.new.sources.items ≡ self.old.sources.items }
         ensures oids { self.new.oids.items ≡ self.old.oids.items }

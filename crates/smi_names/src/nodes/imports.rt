@@ -20,7 +20,7 @@ fn is_stated(decider: Decider<'_>) -> bool
     }
 }
 
-/// Whether the module of a name, if it is loaded, defines or imports another name.
+/// Whether the module named `home` is loaded, and defines or imports `name`.
 fn has_name<'a>(names: &Names<'a>, home: &'a [u8], name: &'a [u8]) -> bool
     ensures { result ≡ imports.defines_or_imports (module_named names.now home.now) name.now }
 {
@@ -58,7 +58,7 @@ fn add_symbol_warnings<'a>(
     Ok(())
 }
 
-/// Adds the warnings that the symbols of a FROM clause give, whose module is loaded.
+/// Adds the warnings that the symbols of a FROM clause give, one after the other.
 fn add_symbols_warnings<'a>(
     alloc: Global,
     warnings: &mut Vec<Warning>,

@@ -24,7 +24,7 @@ object_type_text d =
     ++ clause_text (codes "MAX-ACCESS") d.max_access ++ status_text d.status
 
 -- those of SYNTAX, UNITS, MAX-ACCESS, STATUS and DESCRIPTION that the definition has, strings with
--- their quotes
+-- their quotes; none of a type, nor of a definition whose clauses are kept as tokens
 abbrev pub definition_text : DefKind → List ℕ
 definition_text (D.ObjectIdentifier value) = []
 definition_text (D.ModuleIdentity d) = clause_text (codes "DESCRIPTION") d.description

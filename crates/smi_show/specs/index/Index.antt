@@ -10,7 +10,7 @@ use Rattle.smi_show.specs.declared.index.part.IndexPart.{IndexPart}
 use Rattle.smi_show.specs.declared.index.part.IndexPart.TheVariants.{Number, Address, Text, Octets}
 use Rattle.smi_show.specs.declared.index.part.IndexPart.TheVariants.{Identifier, ImpliedIdentifier}
 
--- an octet's number
+-- a number that an octet has
 abbrev pub is_octet : ℕ → Bool
 is_octet n = nat_le n 255
 

@@ -94,8 +94,8 @@ index_pieces [] values = []
 index_pieces (part ∷ parts) [] = []
 index_pieces (part ∷ parts) (value ∷ values) = value_pieces part value ++ index_pieces parts values
 
--- the numbers after a node: the values that its index reads, where these are all numbers; otherwise
--- each number by itself
+-- the numbers after a node: by the values that its index reads, if it reads all of the numbers;
+-- otherwise each number by itself
 abbrev pub AreInstancePieces : Option (List IndexPart) → (numbers : List ℕ) → List Piece → Type 0
 AreInstancePieces None numbers pieces = pieces ≡ as_numbers numbers
 AreInstancePieces (Some parts) numbers pieces =

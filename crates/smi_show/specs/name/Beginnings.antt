@@ -1,5 +1,5 @@
--- The beginnings of an identifier. A text with a word for each of its numbers has one for each of
--- its beginnings: for the last number there.
+-- The beginnings of an identifier. A text that names each of its numbers looks up each beginning,
+-- for the number that it ends with.
 use Rattle.std.specs.Prelude.{ℕ, List, [], ◌∷◌, map}
 
 -- from its first number alone on to the whole

@@ -34,7 +34,8 @@ abbrev pub part_meaning : (look_up : List ℕ → Option (List ℕ)) → (so_far
     → Result (List ℕ) NameError
 part_meaning look_up so_far part = and_then (word_of part) (word_meaning look_up so_far)
 
--- the label of the first is looked up in this way, that of a later one among the children
+-- what parts mean after the identifier so far: the label of the first is looked up by `look_up`,
+-- that of a later one among the children of what stands before it
 abbrev pub parts_meaning : Naming → (look_up : List ℕ → Option (List ℕ)) → List ℕ
     → List (List ℕ) → Result (List ℕ) NameError
 parts_meaning naming look_up so_far [] = Ok so_far
@@ -44,7 +45,7 @@ parts_meaning naming look_up so_far (part ∷ parts) =
 abbrev pub further_meaning : Naming → List ℕ → List (List ℕ) → Result (List ℕ) NameError
 further_meaning naming so_far parts = parts_meaning naming (naming.child so_far) so_far parts
 
--- the parts of a text in a scope, of which the module is loaded
+-- what parts mean in a scope whose module, if it names one, is loaded
 abbrev pub meaning_in : Naming → Scope → List (List ℕ) → Result (List ℕ) NameError
 meaning_in naming scope parts = parts_meaning naming (found_in naming scope) [] parts
 
@@ -53,7 +54,7 @@ abbrev pub scope_meaning : Naming → Scope → (rest : List ℕ) → Result (Li
 scope_meaning naming scope rest =
     if is_loaded_in naming scope then meaning_in naming scope (name_parts rest) else Err Unknown
 
--- without a module: after a leading dot a label is one of a root
+-- what a text without a module means: after a leading dot the first label is that of a root
 abbrev pub plain_meaning : Naming → List ℕ → Result (List ℕ) NameError
 plain_meaning naming [] = scope_meaning naming anywhere []
 plain_meaning naming (octet ∷ more) =

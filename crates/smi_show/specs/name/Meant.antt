@@ -42,7 +42,7 @@ IsBadIndex (octet ∷ more) =
 
 -- ---- a part after others
 
--- these numbers, which are at most 128
+-- the result is these numbers, if they are at most 128 (RFC 2578, section 3.5); more are too long
 abbrev pub IsRoomFor : List ℕ → Result (List ℕ) NameError → Type 0
 IsRoomFor o result =
     ((length o ≤ 128) × (result ≡ Ok o)) ⊎ ((128 < length o) × (result ≡ Err TooLong))
@@ -115,8 +115,8 @@ TextMeans naming text result =
     ⊎ ((text ≢ []) × (text ≢ 46 ∷ []) × ((scope : Scope) × (rest : List ℕ)
     × IsScoped text scope rest × ScopeMeans naming scope rest result)))
 
--- the same of the front of a text: what stands before the first `stop` outside quotes, with its
--- length
+-- what the front of a text means, and its length: the front is what stands before the first `stop`
+-- outside quotes
 abbrev pub FrontMeans : Naming → (stop : ℕ) → (text : List ℕ) → Result (List ℕ × ℕ) NameError
     → Type 0
 FrontMeans naming stop text (Ok (o, size)) = (front : List ℕ) × IsFrontOf stop text front

@@ -12,6 +12,9 @@ pub record Standing : Type 0 where
   pub depth : ℕ
   pub index : Option (List IndexPart)
 
+-- the look-ups of a tree: whether a module is loaded; the identifier of a label in a module,
+-- anywhere, among the roots, or as a child of an identifier; and the node of an identifier's
+-- longest beginning
 pub record Naming : Type 0 where
   pub is_loaded : List ℕ → Bool
   pub in_module : List ℕ → List ℕ → Option (List ℕ)

@@ -1,4 +1,4 @@
--- What a name, or its first part, was read to in an identifier that is there, for private clauses.
+-- What a name, or its first part, was read to in an existing identifier, for private clauses.
 use Rattle.std.specs.Prelude.{ℕ, List, Option, option_map, Result, Ok, Err}
 use Rattle.std.specs.Borrow.{Bor}
 use Rattle.smi_show.specs.name.Left.{parts_left}

@@ -11,7 +11,8 @@ use smi_text::{DefKind, ObjectType, Status, Text};
 use snmp_io::Draft;
 
 /// Appends those of SYNTAX, UNITS, MAX-ACCESS, STATUS and DESCRIPTION that a definition has (RFC
-/// 2578, sections 5 to 8), one per line. A definition whose clauses are raw has none.
+/// 2578, sections 5 to 8), one per line. A type has none, nor has a definition whose clauses are
+/// kept as tokens.
 pub fn definition_text(kind: &DefKind, draft: &mut Draft)
     ensures { Adds draft.old (definition_text kind.now) draft.new }
 {
@@ -48,7 +49,7 @@ fn status_text(status: &Status, draft: &mut Draft)
     clause_text(b"DESCRIPTION", &status.description, draft);
 }
 
-/// One clause.
+/// A clause: its word and its text, on one line.
 fn clause_text(word: &[u8], text: &Text, draft: &mut Draft)
     ensures { Adds draft.old (clause_text word.now text.now) draft.new }
 {

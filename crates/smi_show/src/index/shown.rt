@@ -18,7 +18,7 @@ ghost use Rattle.smi_show.specs.index.Digits.{three_digits};
 use crate::index::{Extent, IndexPart, read_part, reads};
 use snmp_io::Draft;
 
-/// The room where numbers are gathered, in octets: that of eleven numbers at least.
+/// How many octets are gathered before they are appended: those of eleven numbers at least.
 const ROOM: usize = 128;
 
 /// The numbers below 256 as they are put, four octets for each: a dot, the digits and blanks. No
@@ -99,7 +99,7 @@ fn are_few_and_plain(parts: &[IndexPart], most: usize) -> bool
     ensures few { OnTrue result (length parts.now ≤ most) }
     ensures plain { OnTrue result (list_all is_plain parts.now ≡ true) }
 {
-    // Reading ends with the numbers of a name, 128 at most: no more parts than that are looked at.
+    // Reading ends with the numbers of a name, 128 at most: further parts aren't looked at.
     parts.len() <= most && are_plain(parts)
 }
 
@@ -273,14 +273,14 @@ fn put_number(room: &mut [u8; ROOM], filled: usize, number: u32) -> usize
     if number >= 1000 {
         put_long(room, filled, number)
     } else if number < 256 {
-        // Most are octets of addresses, or as short.
+        // Most numbers are octets of addresses, or as small.
         put_small(room, filled, number)
     } else {
         put_short(room, filled, number)
     }
 }
 
-/// The same, for a number of up to ten digits.
+/// [`put_number`] for a number of four to ten digits.
 #[inline(never)]
 fn put_long(room: &mut [u8; ROOM], filled: usize, number: u32) -> usize
     requires room { filled ≤ 117 }
@@ -296,7 +296,7 @@ fn put_long(room: &mut [u8; ROOM], filled: usize, number: u32) -> usize
     put_three(room, more, number % 1000)
 }
 
-/// The same, for a number of up to six digits.
+/// [`put_number`] for a number of up to six digits.
 fn put_medium(room: &mut [u8; ROOM], filled: usize, number: u32) -> usize
     requires room { filled ≤ 117 }
     requires medium { number < 1000000 }
@@ -311,7 +311,7 @@ fn put_medium(room: &mut [u8; ROOM], filled: usize, number: u32) -> usize
     put_three(room, front, number % 1000)
 }
 
-/// The same, for a number of up to three digits.
+/// [`put_number`] for a number of up to three digits.
 #[inline(always)]
 fn put_short(room: &mut [u8; ROOM], filled: usize, number: u32) -> usize
     requires room { filled ≤ 117 }
@@ -338,7 +338,7 @@ fn put_short(room: &mut [u8; ROOM], filled: usize, number: u32) -> usize
     filled + 4
 }
 
-/// The same, for a number below 256.
+/// [`put_number`] for a number below 256.
 #[inline(always)]
 fn put_small(room: &mut [u8; ROOM], filled: usize, number: u32) -> usize
     requires room { filled ≤ 117 }
@@ -346,7 +346,7 @@ fn put_small(room: &mut [u8; ROOM], filled: usize, number: u32) -> usize
     ensures within { result ≤ filled + 4 }
     ensures text { take result room.new ≡ take filled room.old ++ (codes "." ++ decimal number) }
 {
-    // All four, with no test of how many: what is put next begins behind the digits.
+    // All four octets are put, blanks too: what is put next stands right after the digits.
     let at = number as usize * 4;
     let (first, second, third, fourth) = (SMALL[at], SMALL[at + 1], SMALL[at + 2], SMALL[at + 3]);
     put(room, filled, first);

@@ -42,9 +42,9 @@ pub fn resolve<T: NameTree>(tree: &T, text: &[u8]) -> Result<Oid, NameError>
     meaning_of(tree, text)
 }
 
-/// The identifier that the front of a text means, and the front's length, or the first fault: what
-/// stands before the first `stop` outside quotes, or the whole text where there is none, by
-/// [`crate::name::resolve`]. Does not allocate.
+/// The identifier that the front of a text means, and the front's length, or the first fault, as
+/// [`crate::name::resolve`] returns them. The front is what stands before the first `stop` outside
+/// quotes, or the whole text if there is none. Does not allocate.
 pub fn resolve_front<T: NameTree>(
     tree: &T,
     text: &[u8],
@@ -59,8 +59,8 @@ pub fn resolve_front<T: NameTree>(
     }
 }
 
-/// Reads the identifier that a name means into one that is there, as [`resolve`] reads it: to move
-/// an identifier takes as long as to read one. After a fault it may have any numbers.
+/// Reads the identifier that a name means into `oid`, as [`resolve`] returns it: to move an
+/// identifier takes as long as to read one. After a fault `oid` may have any numbers.
 pub fn resolve_into<T: NameTree>(tree: &T, text: &[u8], oid: &mut Oid) -> Result<(), NameError>
     ensures found { OnOk result (TextMeans (T.naming tree.now) text.now (Ok oid.new)) }
     ensures fault { IfErr result (λ why. TextMeans (T.naming tree.now) text.now (Err why)) }
@@ -68,8 +68,8 @@ pub fn resolve_into<T: NameTree>(tree: &T, text: &[u8], oid: &mut Oid) -> Result
     read_meaning(tree, text, oid)
 }
 
-/// Reads the identifier that the front of a text means into one that is there, and returns the
-/// front's length, as [`resolve_front`] does. After a fault the identifier may have any numbers.
+/// Reads the identifier that the front of a text means into `oid`, and returns the front's length,
+/// as [`resolve_front`] does. After a fault `oid` may have any numbers.
 pub fn resolve_front_into<T: NameTree>(
     tree: &T,
     text: &[u8],
@@ -98,8 +98,7 @@ fn meaning_of<T: NameTree>(tree: &T, text: &[u8]) -> Result<Oid, NameError>
     }
 }
 
-/// Reads what a text means into an identifier that is there.
-// All that is read of a name goes into one identifier: to move it takes as long as to read a name.
+/// Reads what a text means into `oid`.
 fn read_meaning<T: NameTree>(tree: &T, text: &[u8], oid: &mut Oid) -> Result<(), NameError>
     ensures { read_to result oid.new ≡ meaning (T.naming tree.now) text.now }
 {
@@ -250,7 +249,7 @@ fn head_meaning<T: NameTree>(
     }
 }
 
-/// The node of a label in a scope.
+/// The identifier of the node of a label in a scope.
 fn labelled<'t, T: NameTree>(tree: &'t T, scope: Scope<'_>, label: &[u8]) -> Option<&'t Oid>
     ensures { option_copied result
         ≡ found_in (T.naming tree.now) (scope_in scope.entry) label.now }

@@ -35,8 +35,8 @@ pub fn name_text<T: NameTree>(
     }
 }
 
-/// Appends the name of an identifier by its deepest node, which was found, and what follows that;
-/// in numbers if there is no node.
+/// Appends the name of an identifier by `node`, its deepest node, and what follows that; in numbers
+/// if there is no node.
 pub fn name_by_node<T: NameTree>(
     tree: &T,
     form: NameForm,

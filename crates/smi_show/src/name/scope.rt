@@ -1,4 +1,4 @@
-//! The identifier that a name means.
+//! Where the first label of a name is looked up.
 
 /// Where the label of a name's first part is looked up.
 #[derive(Clone, Copy)]

@@ -41,7 +41,7 @@ pub trait NameTree {
     fn among_roots(&self, label: &[u8]) -> Option<&Oid>
         ensures { option_copied result ≡ (naming self.now).among_roots label.now };
 
-    /// The identifier one number longer, for which a node of this label stands.
+    /// The identifier of the child of `oid` with this label, which is one number longer.
     fn child(&self, oid: &Oid, label: &[u8]) -> Option<&Oid>
         ensures { option_copied result ≡ (naming self.now).child oid.now label.now };
 

@@ -40,7 +40,7 @@ fn is_fault(tree: &Sample<'_>, text: &[u8], fault: NameError) -> bool {
     }
 }
 
-/// Whether a text is read into an identifier that is there as it is read into a new one.
+/// Whether `resolve_into` reads a text as `resolve` does.
 fn is_read_alike(tree: &Sample<'_>, text: &[u8], oid: &mut Oid) -> bool {
     match (resolve(tree, text), resolve_into(tree, text, oid)) {
         (Ok(found), Ok(())) => found == *oid,
@@ -194,8 +194,8 @@ fn assert_fronts(rt: &impl Abort, tree: &Sample<'_>) {
     }
 }
 
-/// Whether the front of a text means the identifier of these numbers and has this length, also
-/// where it is read into an identifier that is there.
+/// Whether the front of a text means the identifier of these numbers and has this length, by
+/// `resolve_front` and by `resolve_front_into`.
 fn front_means(tree: &Sample<'_>, text: &[u8], stop: u8, numbers: &[u32], size: usize) -> bool {
     let mut oid = Oid::new();
     match (
@@ -246,7 +246,8 @@ fn assert_limit(rt: &impl Abort, tree: &Sample<'_>, text: &mut Vec<u8>) -> Resul
     Ok(())
 }
 
-/// The index of the column, whether numbers show it, the numbers after the column, and the name.
+/// The index of the column, whether it is shown as numbers, the numbers after the column, and the
+/// name.
 static INSTANCES: [(&[IndexPart], bool, &[u32], &str); 11] = [
     (COUNTED, false, &[], "TINY-MIB::tinyMac"),
     (

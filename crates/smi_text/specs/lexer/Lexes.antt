@@ -28,7 +28,7 @@ lexeme_behind before kind text = record {
 abbrev pub fault_on : ℕ → List ℕ → LexError
 fault_on line text = if is_open_string text then OpenString line else BadByte line
 
--- the first n octets of the text are this part, and no longer front of the text is a part
+-- the first n octets of the text are this part, and no front with more octets is a part
 pub record IsLongest (part : Part) (n : ℕ) (text : List ℕ) : Type 0 where
   pub within : n ≤ length text
   pub is_one : IsPart part (take n text)

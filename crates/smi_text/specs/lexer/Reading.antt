@@ -53,23 +53,23 @@ abbrev pub is_sole : (ℕ → Bool) → List ℕ → Bool
 is_sole test [] = false
 is_sole test (c ∷ cs) = test c && is_nothing cs
 
--- after the run of hyphens that a comment begins with
+-- the rest of a comment, after the run of hyphens that it begins with
 abbrev pub is_remark_rest : List ℕ → Bool
 is_remark_rest [] = true
 is_remark_rest (c ∷ cs) = if is_newline c then false else
     (if is_hyphen c && begins is_hyphen cs then list_all is_hyphen cs else is_remark_rest cs)
 
--- after the first two hyphens of a comment
+-- the rest of a comment, after its first two hyphens
 abbrev pub is_comment_rest : List ℕ → Bool
 is_comment_rest [] = true
 is_comment_rest (c ∷ cs) = if is_hyphen c then is_comment_rest cs else is_remark_rest (c ∷ cs)
 
--- after the first `"` of a string
+-- the rest of a string, after its first `"`
 abbrev pub is_string_rest : List ℕ → Bool
 is_string_rest [] = false
 is_string_rest (c ∷ cs) = if c == 34 then is_nothing cs else is_string_rest cs
 
--- after the first `'` of a literal
+-- the rest of a literal, after its first `'`
 abbrev pub is_literal_rest : (ℕ → Bool) → (ℕ → Bool) → List ℕ → Bool
 is_literal_rest is_digit is_letter [] = false
 is_literal_rest is_digit is_letter
@@ -136,13 +136,13 @@ longest_front zero text = None
 longest_front (suc n) text = part_or_shorter (suc n) (part_of (take (suc n) text))
     (longest_front n text)
 
--- the same for a test: the front of n octets passes it, and no longer one does
+-- the front of n octets passes the test, and no front with more octets does
 pub record IsLongestPassing (test : List ℕ → Bool) (text : List ℕ) (n : ℕ) : Type 0 where
   pub within : n ≤ length text
   pub passes : test (take n text) ≡ true
   pub longest : (m : ℕ) → n < m → m ≤ length text → test (take m text) ≡ false
 
--- the front of n octets reads as this part, and no longer front reads as a part
+-- the front of n octets reads as this part, and no front with more octets reads as a part
 pub record IsPartFront (reading : List ℕ
     → Option Part) (text : List ℕ) (part : Part) (n : ℕ) : Type 0 where
   pub within : n ≤ length text
@@ -227,7 +227,8 @@ is_space_or_tab c = c == 32 || c == 9
 abbrev pub first_set : ℕ → ℕ
 first_set mask = if mask == 0 then 16 else trailing_zeros w64 mask
 
--- of the 16 octets from this place on, the first ones, this many, pass the test, and the next fails
+-- of the 16 octets from `at` on, the first `run` pass the test, and the next one, if there is one,
+-- fails it
 pub record IsRunIn (test : ℕ → Bool) (text : List ℕ) (at run : ℕ) : Type 0 where
   pub within : run ≤ 16
   pub passes : (k : ℕ) → at ≤ k → k < at + run → test (get_or text k 0) ≡ true
@@ -239,14 +240,15 @@ pub record ArePassedBetween (test : ℕ → Bool) (text : List ℕ) (from to : �
   pub within : to ≤ length text
   pub passes : (k : ℕ) → from ≤ k → k < to → test (get_or text k 0) ≡ true
 
--- the same, and the one there fails
+-- the octets from one place up to the other pass the test, and the octet at the other place, if
+-- there is one, fails it
 pub record IsRunBetween (test : ℕ → Bool) (text : List ℕ) (from to : ℕ) : Type 0 where
   pub ordered : from ≤ to
   pub within : to ≤ length text
   pub passes : (k : ℕ) → from ≤ k → k < to → test (get_or text k 0) ≡ true
   pub stops : to < length text → test (get_or text to 0) ≡ false
 
--- it is another octet
+-- the octet is another one than this
 abbrev pub is_other : ℕ → ℕ → Bool
 is_other octet c = not (c == octet)
 

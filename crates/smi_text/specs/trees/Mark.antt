@@ -37,8 +37,8 @@ same_kind a b = kind_number a == kind_number b
 abbrev pub same_text : List ℕ → List ℕ → Bool
 same_text = bytes_eq
 
--- the text of a sign, whose kind has one; a word, a number, a string and a literal have theirs from
--- the tree
+-- the one text of a sign; none for a word, a number, a string or a literal, whose texts are in the
+-- tree
 abbrev pub sign_text : TokenKind → List ℕ
 sign_text K.Assign = codes "::="
 sign_text K.Range = codes ".."

@@ -67,7 +67,8 @@ bound_value _ x = signed_value x
 abbrev pub up_to : ℕ → ℕ → Option ℕ
 up_to most n = then_some (nat_le n most) n
 
--- the value of a text that is in the range
+-- the value that a text states, if it is in its range: as a number of an identifier, as any other
+-- number, or as an end of a range
 abbrev pub arc_in : List ℕ → Option ℕ
 arc_in x = then_some (is_arc x) (magnitude x)
 

@@ -72,7 +72,7 @@ number x = spelled K.Number x (is_number x)
 abbrev pub bound : TokenText → Mark
 bound x = spelled x.kind x.text (is_bound x.kind x.text)
 
--- no token
+-- marks that no tokens meet, for a part that has no spelling
 abbrev pub nothing : List Mark
 nothing = spelled K.Upper [] false ∷ []
 

@@ -20,7 +20,7 @@ fn first_set(mask: u64) -> usize
     }
 }
 
-/// How many octets from a place on may stand in a word after its first letter, but for hyphens.
+/// How many octets in a row from a place on, at most 16, are letters, digits or `_`.
 #[inline(always)]
 pub fn word_run(text: &[u8], at: usize) -> usize
     requires { at + LANES ≤ length text.now }
@@ -36,7 +36,7 @@ pub fn word_run(text: &[u8], at: usize) -> usize
     first_set(stops.to_bitmask())
 }
 
-/// How many spaces and tabs stand from a place on.
+/// How many octets in a row from a place on, at most 16, are spaces or tabs.
 #[inline(always)]
 pub fn blank_run(text: &[u8], at: usize) -> usize
     requires { at + LANES ≤ length text.now }

@@ -37,11 +37,12 @@ impl<'a> Model for Lexer<'a> {
 impl<'a> Lexer<'a> {
     /// The lexer of a whole text.
     pub fn new(text: &'a [u8]) -> Self
-        // These are the text's tokens, and then the fault if it breaks off before its end.
+        // The lexer returns the text's tokens, and then the fault if the text breaks off before its
+        // end.
         ensures tokens { Lexes [] text.now result }
         // A text has no other list of tokens.
         ensures only { (items : List Item) → Lexes [] text.now items → items ≡ result }
-        // So spans rise.
+        // Tokens stand in order, and the text of each is the octets at its span.
         ensures spans { AreInOrder text.now 0 (tokens_of result) }
     {
         Lexer {

@@ -27,14 +27,14 @@ fn is_blank(octet: u8) -> bool
     octet == b' ' || (octet >= b'\t' && octet <= b'\r')
 }
 
-/// Whether an octet may stand in a word after its first letter, but for a hyphen.
+/// Whether an octet is a letter, a digit or `_`.
 fn is_word_octet(octet: u8) -> bool
     ensures { result ≡ is_word_octet octet }
 {
     octet.is_ascii_alphanumeric() || octet == b'_'
 }
 
-/// Where the run of octets of a word, but for hyphens, that begins at a place ends.
+/// Where the run of letters, digits and `_` that begins at a place ends.
 fn word_run_end(text: &[u8], from: usize) -> usize
     requires { from ≤ length text.now }
     ensures { IsRunBetween is_word_octet text.now from result }
@@ -69,13 +69,13 @@ fn word_rest_len(text: &[u8]) -> usize
     n
 }
 
-/// Where the run of octets of a word that follows a hyphen ends.
+/// Where the run of letters, digits and `_` after a hyphen ends.
 #[inline(always)]
 fn part_end(text: &[u8], from: usize) -> usize
     requires { from ≤ length text.now }
     ensures { IsRunBetween is_word_octet text.now from result }
 {
-    // A load takes twice as long as one octet before the next hyphen.
+    // For one octet before the next hyphen, a load would take twice as long.
     if from + 1 < text.len() && text[from + 1] == b'-' && is_word_octet(text[from]) {
         return from + 1;
     }
@@ -234,7 +234,7 @@ pub fn lexeme_at(text: &[u8]) -> Option<(TokenKind, usize)>
     Some((kind, len + 1))
 }
 
-/// Where spaces and tabs from a place on end, or sooner.
+/// A place up to which there are only spaces and tabs from `from` on; more may follow it.
 fn blanks_end(text: &[u8], from: usize) -> usize
     requires { from ≤ length text.now }
     ensures { ArePassedBetween is_space_or_tab text.now from result }

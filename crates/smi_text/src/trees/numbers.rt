@@ -73,8 +73,8 @@ pub fn is_arc(text: &[u8]) -> bool
     arc(text).is_some()
 }
 
-/// The number that a number token states elsewhere, -9223372036854775808 to 18446744073709551615
-/// (RFC 2578, section 7.1.1).
+/// The number that a number token states outside identifiers, -9223372036854775808 to
+/// 18446744073709551615 (RFC 2578, section 7.1.1).
 #[tactic(auto, unfolding(crate::specs::trees::Number::is_number))]
 pub fn number(text: &[u8]) -> Option<i128>
     ensures { result ≡ number.stated_number text.now }
@@ -94,7 +94,7 @@ pub fn number(text: &[u8]) -> Option<i128>
     }
 }
 
-/// Whether a number token can stand where no number of an identifier is asked for.
+/// Whether a number token is in the range of numbers outside identifiers.
 pub fn is_number(text: &[u8]) -> bool
     ensures { result ≡ number.is_number text.now }
 {

@@ -36,12 +36,12 @@ abbrev pub walk : (ℕ → ℕ → Option ℕ) → ℕ → List ℕ → Option �
 walk next at [] = Some at
 walk next at (n ∷ rest) = option_and_then (λ b. walk next b rest) (next at n)
 
--- the branch of a beginning is the first one's, from which its numbers lead
+-- the branch to which the numbers of a beginning lead from the first branch
 abbrev pub branch_of : List Branch → List ℕ → Option ℕ
 branch_of bs o = walk (follower bs) 0 o
 
--- to each branch one list of numbers leads at most, at it stands the place that the list has for
--- these, and each identifier of the list leads to one
+-- at most one list of numbers leads to each branch; the place that stands there is that of these
+-- numbers in `oids`; and each identifier of `oids` leads to a branch
 pub record AreBranchesOf (oids : List (List ℕ)) (bs : List Branch) : Type 0 where
   pub some : 0 < length bs
   pub within : (at n b : ℕ) → follower bs at n ≡ Some b → b < length bs
@@ -61,8 +61,8 @@ pub data GrowsBranch (old new : List Branch) (at n : ℕ) : ℕ → Type 0 where
       → ((c : ℕ) → standing_at new c ≡ standing_at old c)
       → GrowsBranch old new at n b
 
--- what stands at a branch, as the deepest place, or the deepest place before it, for private
--- clauses
+-- the place that stands at a branch, as the deepest one; the deepest before it, if none stands
+-- there; for private clauses
 abbrev pub deeper_of : Option ℕ → (branch depth : ℕ) → Option Deepest → Option Deepest
 deeper_of None branch depth before = before
 deeper_of (Some place) branch depth before =
@@ -75,8 +75,8 @@ SoFar oids o i (Some d) =
     (d.depth ≤ i) × (place_of oids (take d.depth o) ≡ Some d.place)
     × ((j : ℕ) → d.depth < j → j ≤ i → place_of oids (take j o) ≡ None)
 
--- the first `depth` numbers of o lead to a branch, and this is the longest beginning among them,
--- for private clauses
+-- the first `depth` numbers of o lead to a branch, and `deepest` is the longest beginning in the
+-- list among them, for private clauses
 pub record IsUnderWay (oids : List (List ℕ)) (bs : List Branch) (o : List ℕ) (depth branch : ℕ)
     (deepest : Option Deepest) : Type 0 where
   pub within : depth ≤ length o

@@ -31,8 +31,8 @@ place_of oids o = position_from (λ x. pointwise nat_eq x o) 0 oids
 abbrev pub oid_at : List (List ℕ) → ℕ → List ℕ
 oid_at oids k = slice_index_or oids k []
 
--- the first `depth` numbers are the identifier at this place of the list, and no more of them are
--- one of the list
+-- the first `depth` numbers of o are the identifier at this place of the list, and no beginning of
+-- o with more numbers is in the list
 pub record IsDeepestAt (oids : List (List ℕ)) (o : List ℕ) (place depth : ℕ) : Type 0 where
   pub within : depth ≤ length o
   pub here : place_of oids (take depth o) ≡ Some place
@@ -46,8 +46,7 @@ HasNoBeginning oids o = (j : ℕ) → j ≤ length o → place_of oids (take j o
 abbrev pub HasNoneBelow : List (List ℕ) → List ℕ → Type 0
 HasNoneBelow oids o = (p : List ℕ) → IsBelow p o → place_of oids p ≡ None
 
--- the places of the identifiers that are one number longer than o, in the order of that number:
--- those that stand for their identifiers
+-- the places that stand for the identifiers one number longer than o, in the order of that number
 pub record AreChildren (oids : List (List ℕ)) (o : List ℕ) (places : List ℕ) : Type 0 where
   pub numbers : List ℕ
   pub rising : IsStrictlySortedBy nat_cmp numbers

@@ -69,8 +69,8 @@ abbrev pub clause_of : DefKind → Option Index
 clause_of (D.ObjectType o) = o.index
 clause_of _ = None
 
--- the rows of a definition with this clause are identified by the INDEX clause of another
--- definition: of the row that AUGMENTS names, or of the definition itself
+-- the rows of a definition with this clause are identified by the INDEX clause of the definition e:
+-- of the row that AUGMENTS names, or of the definition itself
 abbrev pub UsesIndexOf : List Module → Module → Def → Option Index → Module → Def → Type 0
 UsesIndexOf ms m d None n e = ⊥
 UsesIndexOf ms m d (Some (Own clause)) n e = (n ≡ m) × (e ≡ d)

@@ -22,7 +22,7 @@ use Rattle.smi_tree.specs.columns.Index.{
   clause_of,
 }
 
--- the object has no part
+-- the object of a name has no part
 abbrev pub HasNoPart : List Module → Module → List ℕ → Bool → Type 0
 HasNoPart ms m name implied = (part : IndexPart) → IsIndexPart ms m name implied part → ⊥
 
@@ -50,7 +50,7 @@ items_of kept = option_map (λ v. v.items) kept
 abbrev pub AreOwn : List Module → Module → List (KeptParts) → Type 0
 AreOwn ms m kept = ArePairwise (λ k d own. IsOwn ms m d (items_of own)) m.defs kept
 
--- and of each module
+-- the parts of the own INDEX clause of each definition of each module
 abbrev pub AreOwnOfAll : List Module → List KeptOfModule → Type 0
 AreOwnOfAll ms kept = ArePairwise (λ i m own. AreOwn ms m own.items) ms kept
 
@@ -72,7 +72,7 @@ pub record UsesAt (ms : List Module) (row : Node) (i k : ℕ) : Type 0 where
   pub uses : UsesIndexOf ms row_module row_definition (clause_of row_definition.kind) index_module
       index_definition
 
--- the row uses none
+-- the row uses no INDEX clause
 abbrev pub UsesNone : List Module → Node → Type 0
 UsesNone ms row =
     (m : Module) (d : Def) (n : Module) (e : Def) → row.home ≡ Some m → row.definition ≡ Some d
@@ -97,7 +97,7 @@ HasRowOrNone ms nodes node (Some at) = HasRowAt ms nodes node at.0 at.1
 abbrev pub AreRows : List Module → List Node → List (Option (ℕ × ℕ)) → Type 0
 AreRows ms nodes rows = ArePairwise (λ k node at. HasRowOrNone ms nodes node at) nodes rows
 
--- a row that was looked up has this place, if one was, for private clauses
+-- the row that was looked up last, if any, is kept with the place that stands for its identifier
 abbrev pub IsLastRow : List (List ℕ) → Option LastRow → Type 0
 IsLastRow oids None = ⊤
 IsLastRow oids (Some row) = row.place ≡ place_of oids row.numbers.now

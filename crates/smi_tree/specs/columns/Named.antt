@@ -10,7 +10,7 @@ use Rattle.smi_names.specs.meaning.Known.{KnownNames, content_named, IsNextOf}
 use Rattle.smi_tree.specs.types.Leads.{at_place}
 use Rattle.smi_tree.specs.columns.Definitions.{IsDefinedBy}
 
--- each name leads to its next
+-- the list has, for each name, the place to which it leads as an import
 pub record AreNexts (ms : List Module) (names : List Content) (next : List (Option ℕ))
     : Type 0 where
   pub long : length next ≡ length names

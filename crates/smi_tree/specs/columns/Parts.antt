@@ -38,16 +38,17 @@ pub record IsFixedBy (sizes : Option (List Range)) (bound : TokenText) : Type 0 
 abbrev pub IsNotFixed : Option (List Range) → Type 0
 IsNotFixed sizes = (bound : TokenText) → IsFixedBy sizes bound → ⊥
 
--- how many numbers a string has: as many as its SIZE fixes, which is no number of them where the
--- bound is below zero; otherwise as its length says, or, after IMPLIED, all that remain
+-- how many numbers a string has: as many as its SIZE fixes; if it fixes none, as many as the length
+-- before them says, or, after IMPLIED, all that remain. A SIZE that is fixed below zero gives no
+-- extent.
 abbrev pub HasExtent : Option (List Range) → Bool → Extent → Type 0
 HasExtent sizes implied (Fixed n) =
     (bound : TokenText) × IsFixedBy sizes bound × StatesBound bound n
 HasExtent sizes implied Counted = IsNotFixed sizes × (implied ≡ false)
 HasExtent sizes implied Implied = IsNotFixed sizes × (implied ≡ true)
 
--- the part of an object of this base and SIZE, after IMPLIED or not; Counter64 has none,
--- and a string none whose SIZE no list of numbers has
+-- the part of an object of this base and SIZE, after IMPLIED or not; Counter64 has none, nor has a
+-- string whose SIZE is fixed below zero
 abbrev pub IsPartOf : TypeBase → Option (List Range) → Bool → IndexPart → Type 0
 IsPartOf T.Integer sizes implied part = part ≡ P.Number
 IsPartOf T.Counter32 sizes implied part = part ≡ P.Number

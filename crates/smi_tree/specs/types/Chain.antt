@@ -13,7 +13,8 @@ pub record Layer : Type 0 where
   pub names : Option (List NamedNumber)
   pub sizes : Option (List Range)
 
--- where a type comes from: from a base type, from a type that has a name, or from none; a is a name
+-- where a type comes from: from a base type, from a type that has a name, or from none; names are
+-- of type A
 pub data TypeOrigin (A : Type 0) : Type 0 where
   at_base : Layer → TypeBase → TypeOrigin A
   on_name : Layer → A → TypeOrigin A
@@ -27,7 +28,7 @@ pub data TypeChain {A : Type 0} (origin : A → TypeOrigin A) : TypeOrigin A →
   on_type : {l : Layer} {a : A} {layers : List Layer} {b : TypeBase}
       → TypeChain origin (origin a) layers b → TypeChain origin (on_name l a) (l ∷ layers) b
 
--- the first on the chain
+-- the field of the first type on the chain that states it
 abbrev pub nearest : {X : Type 0} → (Layer → Option X) → List Layer → Option X
 nearest field [] = None
 nearest field (l ∷ layers) = or_else (field l) (nearest field layers)

@@ -84,7 +84,7 @@ abbrev pub kept_syntax : List Module → Types → ℕ → ℕ → Option Facts
 kept_syntax ms t i k = option_map (facts_at ms)
     (option_and_then (λ kept. at_place kept.items k) (slice_get t.objects.items i))
 
--- a syntax or none is that of a type
+-- this is the syntax of a type, or the type has none
 abbrev pub IsSyntax : List Module → TypeOrigin QualifiedName → Option Facts → Type 0
 IsSyntax ms o facts = MatchOption facts (HasNoSyntax ms o) (λ f. HasSyntax ms o f)
 
@@ -111,7 +111,7 @@ refined_by at hint s far = option_map (λ f. record {
   sizes = if is_some (sizes_in s.refinement) then Some at else f.sizes;
 }) (base_or (base_in s.base) far)
 
--- what is given for the place to which a type leads is right
+-- `far` is the syntax of the name at the place to which a type leads
 abbrev pub IsLed : KnownNames → Option ℕ → Option KeptSyntax → Type 0
 IsLed k to far = (q : ℕ) → to ≡ Some q → IsKept k.modules (origin_at k q) far
 
@@ -124,6 +124,6 @@ abbrev pub AreKeptOf : List Module → Module → List (Option KeptSyntax) → T
 AreKeptOf ms m kept =
     ArePairwise (λ k d syntax. IsKept ms (origin_of_object m.name.octets d) syntax) m.defs kept
 
--- and of each module
+-- the syntaxes of the definitions of each module as objects
 abbrev pub AreKeptOfAll : List Module → List (Vec (Option KeptSyntax) Global) → Type 0
 AreKeptOfAll ms objects = ArePairwise (λ i m kept. AreKeptOf ms m kept.items) ms objects

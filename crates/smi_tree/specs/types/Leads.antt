@@ -9,7 +9,7 @@ use Rattle.smi_tree.specs.Pairwise.{ArePairwise}
 use Rattle.smi_tree.specs.types.Chain.{TypeOrigin, at_base, on_name, no_type}
 use Rattle.smi_tree.specs.types.Types.{type_origin_by}
 
--- where the type comes from that a name means, by what decides the name
+-- where the type that a name means comes from, by what decides the name
 abbrev pub content_origin : Content → TypeOrigin QualifiedName
 content_origin c = type_origin_by (record { home = c.home.name.octets; name = c.name })
     (Some c.decided)
@@ -18,7 +18,7 @@ abbrev pub slot_origin : Option Content → TypeOrigin QualifiedName
 slot_origin None = no_type
 slot_origin (Some c) = content_origin c
 
--- where the type comes from that the name at a place means
+-- where the type that the name at a place means comes from
 abbrev pub origin_at : KnownNames → ℕ → TypeOrigin QualifiedName
 origin_at k p = slot_origin (slice_get k.names p)
 
@@ -32,6 +32,6 @@ LeadsTo k no_type to = to ≡ None
 abbrev pub at_place : {X : Type 0} → List (Option X) → ℕ → Option X
 at_place xs p = slice_index_or xs p None
 
--- each name's place leads on as its type does
+-- the list has, for each name, the place to which its type leads
 abbrev pub AreLeads : KnownNames → List (Option ℕ) → Type 0
 AreLeads k leads = ArePairwise (λ p c to. LeadsTo k (content_origin c) to) k.names leads

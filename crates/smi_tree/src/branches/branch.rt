@@ -65,7 +65,7 @@ pub(crate) fn first(alloc: Global) -> Result<Vec<Branch>, AllocError>
 /// has.
 pub(crate) type Way = [usize; 129];
 
-/// With how many of the same numbers two lists begin.
+/// How many numbers at the front two lists have in common.
 fn shared(a: &[u32], b: &[u32]) -> usize
     ensures within { result ≤ length a.now }
     ensures too { result ≤ length b.now }

@@ -111,8 +111,9 @@ impl Identifiers {
         deepest_of_all(&self.oids, &self.branches, oid)
     }
 
-    /// The same. `near` is a guess where the search may begin, the branch of what was found last,
-    /// and is changed to that of what is found now. Whatever it is, the result is the same.
+    /// What [`Identifiers::deepest`] returns. `near` is a guess where the search may begin: the
+    /// branch of the identifier that was found last. It is changed to that of the one that is found
+    /// now, and no result depends on it.
     pub fn deepest_near(&self, oid: &Oid, near: &mut usize) -> Option<Deepest>
         ensures { MatchOption result
             (HasNoBeginning self.now oid.now)
@@ -135,8 +136,8 @@ impl Identifiers {
         found
     }
 
-    /// The identifier at a place, if there is none below it. `near` is what `deepest_near` left as
-    /// it found the place; where it is anything else, the result is None.
+    /// The identifier at a place, if no other in the list is below it. `near` is what
+    /// `deepest_near` left when it found the place; with anything else the result is None.
     pub fn last_on_way(&self, place: usize, near: usize) -> Option<&Oid>
         ensures at { IfSome result (λ o. o.now ≡ oid_at self.now place) }
         ensures last { IfSome result (λ o. HasNoneBelow self.now o.now) }
@@ -148,8 +149,8 @@ impl Identifiers {
         }
     }
 
-    /// The places of the identifiers that are one number longer, in the order of that number. Each
-    /// stands for its identifier.
+    /// The places of the identifiers that are one number longer than `oid`, in the order of that
+    /// number. Each is the first place of its identifier.
     pub fn children(&self, oid: &Oid) -> Children<'_>
         ensures { AreChildren self.now oid.now (places_left result) }
     {
@@ -221,8 +222,8 @@ fn deepest_of_all(oids: &[Oid], branches: &[Branch], oid: &Oid) -> Option<Deepes
     deepest_from(oids, branches, oid, 0, 0, deeper(branches, 0, 0, None))
 }
 
-/// The same, from a branch on, to which the first `depth` numbers lead. `before` is the deepest
-/// place up to there.
+/// The deepest place on the way to an identifier, from a branch on, to which the first `depth`
+/// numbers lead. `before` is the deepest place up to there.
 fn deepest_from(
     oids: &[Oid],
     branches: &[Branch],

@@ -17,7 +17,7 @@ use std::marker::Model;
 pub(crate) struct Definitions<'n, 'a> {
     /// What decides each name.
     entries: Entries<'n, 'a>,
-    /// For each name, where the definition stands to which it leads, if it leads to one.
+    /// For each name, where the definition to which it leads stands, if it leads to one.
     found: Vec<Option<(usize, usize)>>,
 }
 
@@ -47,8 +47,8 @@ impl<'n, 'a> Definitions<'n, 'a> {
         Ok(Definitions { entries, found })
     }
 
-    /// The definition to which a name leads in the module of a name, by the place of its module and
-    /// its own place in that.
+    /// The definition to which a name leads in the module named `home`, by the place of its module
+    /// and its own place in that.
     pub(crate) fn find(&self, home: &'a [u8], name: &'a [u8]) -> Option<(usize, usize)>
         ensures { let qualified : QualifiedName = record { home = home.now; name = name.now } in
             MatchOption result (IsUndefined self.now qualified)
@@ -58,7 +58,7 @@ impl<'n, 'a> Definitions<'n, 'a> {
     }
 }
 
-/// For each name, where the definition stands to which it leads, if it leads to one.
+/// For each name, where the definition to which it leads stands, if it leads to one.
 fn followed(
     alloc: Global,
     entries: &Entries<'_, '_>,
@@ -75,8 +75,8 @@ fn followed(
     Ok(found)
 }
 
-/// Where the definition stands to which the name at a place leads, given that of the name to which
-/// it leads as an import.
+/// Where the definition to which the name at a place leads stands. `far` is that of the name to
+/// which it leads as an import.
 fn defined(
     entries: &Entries<'_, '_>,
     place: usize,

@@ -90,7 +90,7 @@ impl<'n, 'a> Objects<'n, 'a> {
         })
     }
 
-    /// Whether a name resolves to an identifier in the module of a name.
+    /// Whether a name resolves to an identifier in the module named `home`.
     fn has_identifier(&self, home: &'a [u8], name: &'a [u8]) -> bool
         ensures { let qualified : QualifiedName = record { home = home.now; name = name.now } in
             IsTrue result ↔ ((oid : List ℕ)

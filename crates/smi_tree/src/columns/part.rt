@@ -19,7 +19,7 @@ fn number(bound: &TokenText) -> Option<u64>
     if value < 0 { None } else { Some(value as u64) }
 }
 
-/// The bound that a SIZE is, if it is a single one; a range is none, also from a number to itself.
+/// The bound that a SIZE is, if it is a single one. A range is not, even from a number to itself.
 fn single(sizes: Option<&[Range]>) -> Option<&TokenText>
     ensures { let given = option_copied sizes.entry in
         MatchOption result (IsNotFixed given) (λ bound. IsFixedBy given bound.now) }

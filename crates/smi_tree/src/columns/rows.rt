@@ -24,8 +24,9 @@ struct LastRow<'i> {
     place: Option<usize>,
 }
 
-/// The place of the first identifier that is that of a place without its last number. `last` is the
-/// row that was looked up last: nodes in a row are mostly columns of one row.
+/// The first place of the identifier at `place` without its last number, if it is in the list.
+/// `last` is the row that was looked up last: nodes that follow one another are mostly columns of
+/// one row.
 fn row_place<'i>(
     identifiers: &'i Identifiers,
     place: usize,

@@ -58,9 +58,9 @@ impl Types {
         })
     }
 
-    /// The syntax of an OBJECT-TYPE, by the place of its module and by its own place in it; None
-    /// if its chain of types is broken, leads back to itself, or ends at no type of a value (RFC
-    /// 2578, sections 7.1 and 9). These are the modules whose types they are.
+    /// The syntax of an OBJECT-TYPE, by the place of its module and by its own place in it; None if
+    /// its chain of types is broken, leads back to itself, or ends at no type of a value (RFC 2578,
+    /// sections 7.1 and 9). `modules` are those that the types were made of.
     pub fn syntax<'m>(
         &self,
         modules: &'m [Module],
@@ -77,8 +77,8 @@ impl Types {
     }
 
     /// The syntax that is kept for an OBJECT-TYPE, as [`Types::syntax`] returns it, by the place of
-    /// its module and by its own place in it. If these are not the modules whose types they are, it
-    /// may be any.
+    /// its module and by its own place in it. With other modules than those that the types were
+    /// made of, it may be any syntax.
     pub fn kept<'m>(
         &self,
         modules: &'m [Module],

@@ -6,7 +6,7 @@ use Rattle.smi_value.specs.declared.hint.spec.Spec.{Spec}
 use Rattle.smi_value.specs.hint.Number.{IsNumberHint}
 use Rattle.smi_value.specs.hint.Spec.{IsOctetHint, IsFirstSpec}
 
--- it is kept of this text
+-- the form is that of the hint with this text
 abbrev pub IsFormOf : List ℕ → HintForm → Type 0
 IsFormOf text (form.Number number) = IsNumberHint text number
 IsFormOf text (form.Octets first ahead) =

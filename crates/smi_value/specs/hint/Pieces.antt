@@ -59,7 +59,7 @@ pieces_text spec (piece ∷ next ∷ more) rest =
 abbrev pub times_of : Spec → List ℕ → ℕ
 times_of spec octets = if spec.is_counted then slice_index octets 0 else 1
 
--- the octets that it is applied to
+-- the octets that a spec is applied to
 abbrev pub body_of : Spec → List ℕ → List ℕ
 body_of spec octets = if spec.is_counted then drop 1 octets else octets
 
@@ -90,13 +90,13 @@ pub record ShowsOctets (hint octets text : List ℕ) : Type 0 where
   pub is_hint : IsOctetHint hint specs
   pub are_groups : AreGroups specs groups octets text
 
--- ---- the same computed, for private clauses
+-- ---- computed, for private clauses
 
--- one application to one octet, of a spec that counts none
+-- the spec has no star, and takes one octet each time
 abbrev pub is_single : Spec → Bool
 is_single spec = not spec.is_counted && (spec.length == 1)
 
--- one octet
+-- the text of one octet
 abbrev pub single_text : OctetFormat → ℕ → List ℕ
 single_text format octet = piece_text format (octet ∷ [])
 

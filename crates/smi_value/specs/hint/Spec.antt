@@ -34,7 +34,7 @@ after_star text = if has_star text then drop 1 text else text
 abbrev pub begins_spec : ℕ → Bool
 begins_spec octet = (octet == 42) || is_ascii_digit octet
 
--- the octet at the front, where no other spec begins with it
+-- the mark at the front: the octet there, unless a spec begins with it
 abbrev pub mark_of : List ℕ → Option ℕ
 mark_of [] = None
 mark_of (octet ∷ _) = if begins_spec octet then None else Some octet
@@ -42,7 +42,7 @@ mark_of (octet ∷ _) = if begins_spec octet then None else Some octet
 abbrev pub after_mark : List ℕ → List ℕ
 after_mark text = drop (length (option_to_list (mark_of text))) text
 
--- what stands at the letter of the first spec, and after it
+-- the text from the format letter of the first spec on, and the text after that letter
 abbrev pub at_letter : List ℕ → List ℕ
 at_letter text = after_digits (after_star text)
 

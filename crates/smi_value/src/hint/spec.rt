@@ -32,7 +32,7 @@ pub struct Spec {
     pub format: OctetFormat,
     /// The octet shown after an application, if octets remain.
     pub separator: Option<u8>,
-    /// The octet shown in its place after the last of the applications that a `*` counts.
+    /// The octet shown in place of the separator after the last application that a `*` counts.
     pub terminator: Option<u8>,
 }
 
@@ -108,7 +108,8 @@ fn longest(format: OctetFormat) -> u32
     }
 }
 
-/// The octet at the front, where no other spec begins with it, and what stands after it.
+/// The mark at the front, which is the octet there unless a spec begins with it, and what stands
+/// after it.
 fn split_mark(text: &[u8]) -> (Option<u8>, &[u8])
     ensures mark { result.0 ≡ mark_of text.now }
     ensures after { result.1.now ≡ after_mark text.now }
@@ -155,7 +156,7 @@ fn ends_hint(text: &[u8], first: &Spec, ahead: &[u8]) -> bool
 impl Spec {
     ghost use Rattle.smi_value.specs.hint.Spec.{takes_octets};
 
-    /// Whether each application uses up octets: a count, or some of the length.
+    /// Whether each application uses up octets: its count, or `length` of them.
     pub(crate) fn takes_octets(&self) -> bool
         ensures { result ≡ takes_octets self.now }
     {

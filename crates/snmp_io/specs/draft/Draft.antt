@@ -17,7 +17,7 @@ pub record Grows (first : Written) (text : List ℕ) (last : Written) : Type 0 w
   pub added : (whole : List ℕ) → last.added ≡ Some whole
       → (front : List ℕ) × (first.added ≡ Some front) × (whole ≡ front ++ text)
 
--- a call that appends these octets: to the text there is, and so to each text that ends with it
+-- a call appends these octets: whatever text was appended from `first` on goes on with them
 pub record Adds (old : Written) (octets : List ℕ) (new : Written) : Type 0 where
   pub grows : Grows old octets new
   pub goes_on : (first : Written) (text : List ℕ)

@@ -27,8 +27,8 @@ fn the_first_bad_name_ends_the_job(rt: HostRuntime) {
     );
 }
 
-/// Asserts of limits that an output that takes so many octets takes these, and that its failure
-/// ends the job.
+/// Asserts for each limit that an output that takes so many octets takes this text, and that its
+/// failure ends the job.
 fn assert_cut_off(rt: &impl Abort, alloc: Global, cases: &[(usize, &str)]) {
     for (limit, front) in cases {
         let limits = Limits {

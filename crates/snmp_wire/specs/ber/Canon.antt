@@ -40,7 +40,7 @@ unfoldable pub canon_number : ℤ → List ℕ
 canon_number (pos n) = octets (number_size n) n
 canon_number (negsuc n) = octets (number_size n) (256 ^ number_size n - (n + 1))
 
--- how many octets a length takes
+-- how many octets a length takes in the long form, after the first
 unfoldable pub length_size : ℕ → ℕ
 length_size n = digit_count 256 256 3 n
 
@@ -52,7 +52,7 @@ canon_length n = if nat_lt n 128 then n ∷ [] else (128 + length_size n) ∷ oc
 unfoldable pub subidentifier_size : ℕ → ℕ
 subidentifier_size n = digit_count 128 128 4 n
 
--- the number's lowest digits to the base 128, `count` of them, with the bit that says that the
+-- the number's lowest digits to the base 128, `count` of them, each with the bit that says that the
 -- subidentifier goes on
 unfoldable pub septets : ℕ → ℕ → List ℕ
 septets count n = map (λ digit. 128 + digit) (digits 128 count n)
@@ -105,7 +105,8 @@ canon_content value = []
 unfoldable pub canon_value : Datum → List ℕ
 canon_value value = canon_element (value_tag value) (canon_content value)
 
--- what an encoding may hold: an identifier that has one, or a string of at most 65535 octets
+-- the value can be written: an identifier that has an encoding, a string of at most 65535 octets,
+-- or any value of another type
 abbrev pub IsEncodableValue : Datum → Type 0
 IsEncodableValue (octet_string text) = length text ≤ 65535
 IsEncodableValue (object_id name) = IsWire name

@@ -43,7 +43,7 @@ length-canon_element tag content =
       length-canon_header tag (length content),
     )
 
--- the sizes of a header and a content are that of the element
+-- the sizes of a header and a content are together that of the element
 pub element_size : (tag header size : ℕ) (content : List ℕ)
     → size ≡ length content → header ≡ 1 + length (canon_length size)
     → header + size ≡ length (canon_element tag content)
@@ -90,7 +90,7 @@ pub content_text : (text : List ℕ) → canon_content (octet_string text) ≡ t
 unfolding canon_content
 content_text text = refl
 
--- the sizes of a header and a content are that of the value
+-- the sizes of a header and a content are together that of the value
 pub sizes_value : (header size : ℕ) (value : Datum)
     → size ≡ length (canon_content value) → header ≡ 1 + length (canon_length size)
     → header + size ≡ length (canon_value value)

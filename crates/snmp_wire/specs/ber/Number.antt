@@ -14,8 +14,8 @@ number_of base (digit ∷ rest) = digit * base ^ length rest + number_of base re
 abbrev pub unsigned : List ℕ → ℕ
 unsigned octets = number_of 256 octets
 
--- octets as a two's complement number (X.690, 8.3.3): where the high bit of the first octet is set,
--- the number is as much below zero as the unsigned one is below the next power
+-- octets as a two's complement number (X.690, 8.3.3): the unsigned number, less 256 ^ length where
+-- the high bit of the first octet is set
 abbrev pub twos_complement : List ℕ → ℤ
 twos_complement octets =
     if nat_lt (slice_index octets 0) 128
@@ -29,7 +29,7 @@ pub record IsInteger (content : List ℕ) (z : ℤ) : Type 0 where
   pub value : twos_complement content ≡ z
 
 -- which contents an unsigned number may have: all that are read, or of those the ones in two's
--- complement, as X.690, 8.3 has it
+-- complement (X.690, 8.3.3), minimal or not
 pub data Form : Type 0 where
   lenient : Form
   strict : Form

@@ -102,7 +102,7 @@ unsigned_of width content =
 abbrev pub largest_subidentifier : ℕ
 largest_subidentifier = 4294967375
 
--- a subidentifier whose digits read before are n
+-- the octets that are left of a subidentifier, where those before them make n
 unfoldable pub subidentifier_from : ℕ → List ℕ → Result (ℕ × List ℕ) BerError
 subidentifier_from n [] = Err error.Content
 subidentifier_from n (octet ∷ rest) =
@@ -130,7 +130,7 @@ numbers_of (suc room) (octet ∷ rest) = do
   more ← numbers_of room n.1
   Ok (n.0 ∷ more)
 
--- the numbers of octets that are at most 126
+-- the numbers that the octets are, where they are 126 at most
 abbrev pub numbers_in : List ℕ → List ℕ
 numbers_in octets = result_unwrap_or (numbers_of 126 octets) []
 

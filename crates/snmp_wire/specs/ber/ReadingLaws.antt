@@ -22,17 +22,17 @@ ok_is x y e = cc
 pub err_is : {A : Type 0} (d e : BerError) → failed {A = A} d ≡ failed e → d ≡ e
 err_is d e h = cc
 
--- what is right doesn't fail
+-- a reading that is Ok doesn't fail
 pub never_err : {A : Type 0} (r : Result A BerError) (e : BerError) → IsOk r → r ≡ Err e → ⊥
 never_err (Ok x) e h f = cc
 never_err (Err d) e h f = absurd cc
 
--- what is right returned a value
+-- a reading that is Ok returned a value
 pub ok_value : {A : Type 0} (r : Result A BerError) → IsOk r → (x : A) × (r ≡ Ok x)
 ok_value (Ok x) h = (x, refl)
 ok_value (Err d) h = absurd cc
 
--- what returned a value is right
+-- a reading that returned a value is Ok
 pub is_ok_at : {A : Type 0} (r : Result A BerError) (x : A) → r ≡ Ok x → IsOk r
 is_ok_at r x h = ap is_ok h
 
@@ -42,7 +42,7 @@ pub bind_ok : {A B : Type 0} (r : Result A BerError) (f : A → Result B BerErro
 bind_ok (Ok x) f y e = (x, refl, e)
 bind_ok (Err d) f y e = absurd cc
 
--- a first step goes on alike by steps that are alike at its value
+-- after a first step, two second steps return the same if they do so for the value of the first
 pub bind_same : {A B : Type 0} (r : Result A BerError) (f g : A → Result B BerError)
     → ((x : A) → r ≡ Ok x → f x ≡ g x) → (r >>= f) ≡ (r >>= g)
 bind_same (Ok x) f g h = h x refl
@@ -91,19 +91,19 @@ none_left octets is_empty e none = eqb-true (length octets) 0 (sym e ∙ none)
 
 -- ---- what a reading gives
 
--- a value that is so, or a fault that is
+-- a reading returned a value for which `is` holds, or a fault for which `fails` holds
 pub data Gives {A : Type 0} (is : A → Type 0) (fails : BerError → Type 0) : Result A BerError → Type 0
   where
     a_value : (x : A) → is x → Gives is fails (Ok x)
     a_fault : (e : BerError) → fails e → Gives is fails (Err e)
 
--- what is true of each value and of each fault is given
+-- a reading gives what is true of the value or the fault that it returned
 pub gives : {A : Type 0} {is : A → Type 0} {fails : BerError → Type 0} (r : Result A BerError)
     → ((x : A) → r ≡ Ok x → is x) → ((e : BerError) → r ≡ Err e → fails e) → Gives is fails r
 gives (Ok x) value fault = a_value x (value x refl)
 gives (Err e) value fault = a_fault e (fault e refl)
 
--- and it is true of what was returned
+-- what a reading gives is true of the value or the fault that it returned
 pub given : {A : Type 0} {is : A → Type 0} {fails : BerError → Type 0} {r : Result A BerError}
     (x : A) → Gives is fails r → r ≡ Ok x → is x
 given {A} {is} x (a_value y h) e = subst is (ok_is y x e) h
@@ -129,7 +129,7 @@ pub gives_either : {A : Type 0} {is : A → Type 0} {fails : BerError → Type 0
 gives_either true first second = first refl
 gives_either false first second = second refl
 
--- what follows is given too
+-- a reading gives also what follows from what it gives
 pub gives_so : {A : Type 0} {is so : A → Type 0} {fails also : BerError → Type 0}
     {r : Result A BerError}
     → ((x : A) → is x → so x) → ((e : BerError) → fails e → also e) → Gives is fails r
@@ -147,13 +147,13 @@ gives_all d rest h left =
     (λ e fault. fault) h)
     (λ some. a_fault d (left (λ none. eqb-false (length rest) 0 some (ap length none))))
 
--- the fault of a reading, or another
+-- what a reading gives of its fault, and its value says of another, is true of `fault_or`
 pub gives_fault : {A : Type 0} {is : A → Type 0} (fails : BerError → Type 0)
     {r : Result A BerError} (d : BerError) → Gives is fails r → ((x : A) → is x → fails d)
     → fails (fault_or r d)
 gives_fault fails d (a_value x h) other = other x h
 gives_fault fails d (a_fault e h) other = h
 
--- nothing is said of the fault
+-- any reading gives a value or a fault of which nothing is said
 pub gives_any : {A : Type 0} (r : Result A BerError) → Gives (λ x. Unit {0}) (λ e. Unit {0}) r
 gives_any r = gives r (λ x e. tt) (λ d e. tt)

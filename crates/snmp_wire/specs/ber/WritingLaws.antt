@@ -24,7 +24,7 @@ writes_then {old} {start} {middle} {end} {front} {back} {mid} {new} w v = record
       v.after ∙ ap (λ rest. front ++ rest) w.after ∙ sym (append_assoc front back (drop end old));
 }
 
--- the text that is written has other names
+-- where a text is written, an equal one is
 pub writes_same : {old : List ℕ} {start end : ℕ} {text new other : List ℕ}
     → Writes old start end text new → text ≡ other → Writes old start end other new
 writes_same {old} {start} {end} {text} {new} {other} w e =

@@ -155,7 +155,7 @@ fn check_numbers(octets: &[u8]) -> Result<(), BerError>
         rest = after;
         count += some;
     }
-    // Once for all turns.
+    // Tested once, after all turns.
     if count > MORE_NUMBERS {
         return Err(BerError::Content);
     }
@@ -392,7 +392,7 @@ fn first_size(first: u32, second: u32) -> u64
     ensures at_most_5 { result ≤ 5 }
 {
     if second < 48 {
-        // 80 and less than 48 are less than 128.
+        // The subidentifier is below 80 + 48, which is 128.
         1
     } else {
         septets_size(first_subidentifier(first, second)) as u64

@@ -12,7 +12,7 @@ use crate::ber::writing::put_octet;
 /// The length at the front, and what follows. The error is `cut` where the octets end before the
 /// length does.
 #[tactic(auto, unfolding(crate::specs::ber::Reading::length_at))]
-// Hot: of each element. Inlined, its result stays in registers.
+// Hot: each element. Inlined, its result stays in registers.
 #[inline(always)]
 fn length_at(octets: &[u8], cut: BerError) -> Result<(usize, &[u8]), BerError>
     ensures { AgreesBy (λ x. (x.0, x.1.now)) result (reading.length_at cut octets.now) }
@@ -49,7 +49,7 @@ fn long_length_at(first: u8, octets: &[u8], cut: BerError) -> Result<(usize, &[u
 /// The content after a tag, and what follows. The error is `cut` where the octets end before the
 /// content does.
 #[tactic(auto, unfolding(crate::specs::ber::Reading::content_at))]
-// Hot: of each element. Inlined, its result stays in registers.
+// Hot: each element. Inlined, its result stays in registers.
 #[inline(always)]
 pub fn content_at(octets: &[u8], cut: BerError) -> Result<(&[u8], &[u8]), BerError>
     ensures { AgreesBy (λ x. (x.0.now, x.1.now)) result (reading.content_at cut octets.now) }
@@ -63,7 +63,7 @@ pub fn content_at(octets: &[u8], cut: BerError) -> Result<(&[u8], &[u8]), BerErr
 
 /// The content of an inner element of this tag, and what follows.
 #[tactic(auto, unfolding(crate::specs::ber::Reading::inner_at))]
-// Hot: of each element. The tag is then a constant.
+// Hot: each element. Inlined, its tag is a constant.
 #[inline(always)]
 pub fn inner_at(tag: u8, octets: &[u8]) -> Result<(&[u8], &[u8]), BerError>
     ensures { AgreesBy (λ x. (x.0.now, x.1.now)) result (reading.inner_at tag octets.now) }
@@ -82,7 +82,7 @@ pub fn inner_at(tag: u8, octets: &[u8]) -> Result<(&[u8], &[u8]), BerError>
 
 /// The tag and the content of an inner element, and what follows.
 #[tactic(auto, unfolding(crate::specs::ber::Reading::element_at))]
-// Hot: of each element. Inlined, its result stays in registers.
+// Hot: each element. Inlined, its result stays in registers.
 #[inline(always)]
 pub fn element_at(octets: &[u8]) -> Result<(u8, &[u8], &[u8]), BerError>
     ensures { AgreesBy (λ x. (x.0, x.1.now, x.2.now)) result (reading.element_at octets.now) }

@@ -24,7 +24,7 @@ pub(crate) fn unsigned(octets: &[u8]) -> u64
     sum
 }
 
-/// The content of an INTEGER of 32 bits, in two's complement.
+/// The INTEGER of 32 bits that the content is, in two's complement.
 #[tactic(auto, unfolding(crate::specs::ber::Reading::integer_of))]
 // Hot: each value of its type, and four numbers of each message.
 #[inline(always)]
@@ -92,7 +92,7 @@ pub(crate) fn has_width(width: usize, content: &[u8]) -> bool
     }
 }
 
-/// The content of an unsigned number of 32 bits.
+/// The unsigned number of 32 bits that the content is.
 // Hot: each value of its type, as those of most columns.
 #[inline(always)]
 pub(crate) fn unsigned32(content: &[u8]) -> u32
@@ -105,7 +105,7 @@ pub(crate) fn unsigned32(content: &[u8]) -> u32
     }
 }
 
-/// The content of an unsigned number of 64 bits.
+/// The unsigned number of 64 bits that the content is.
 #[inline]
 pub(crate) fn unsigned64(content: &[u8]) -> u64
     requires { IsTrue (reading.has_width 8 content.now) }

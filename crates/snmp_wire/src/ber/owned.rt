@@ -73,8 +73,8 @@ pub enum Value {
 }
 
 impl Value {
-    /// Owns a value. It takes memory for the octets of a string, and can't fail for any
-    /// other value.
+    /// A copy of a value. It takes memory for the octets of a string, and can't fail for any other
+    /// value.
     pub fn from_ref(alloc: Global, value: &ValueRef<'_>) -> Result<Value, AllocError>
         ensures same_value { IfOk result (λ v. owned v ≡ datum value.now) }
         ensures ok_without_string { HasNoString (datum value.now) → IsOk result }

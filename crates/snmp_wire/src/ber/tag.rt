@@ -1,5 +1,5 @@
-//! The tags of values, and of the SEQUENCE around them (X.690, section 8; RFC 2578, section 7.1;
-//! RFC 3416, section 3).
+//! The tags of values, and of the SEQUENCE around them (X.690, section 8; RFC 2578, section 2; RFC
+//! 3416, section 3).
 
 /// INTEGER.
 pub const INTEGER: u8 = 0x02;

@@ -83,7 +83,7 @@ fn check_object_id(content: &[u8]) -> Result<(), BerError>
 }
 
 /// Reads the value of this tag and content into an existing one.
-// Hot: each binding that is read. A value of the type before it is then a store or two.
+// Hot: each binding that is read. Over a value of the same type this is a store or two.
 #[inline(always)]
 pub fn read_value<'a>(tag: u8, content: &'a [u8], into: &mut ValueRef<'a>)
     requires { IsOk (reading.typed_value tag content.now) }
@@ -94,8 +94,8 @@ pub fn read_value<'a>(tag: u8, content: &'a [u8], into: &mut ValueRef<'a>)
     }
 }
 
-/// [`read_value`] over a value of whatever type. It is a function of its own since here all octets
-/// of a value are set.
+/// [`read_value`] over a value of any type. It is a function of its own since here all octets of a
+/// value are set.
 #[tactic(auto, unfolding(crate::specs::ber::Reading::typed_value, crate::specs::ber::Reading::unsigned_of))]
 #[inline(never)]
 fn replace_value<'a>(tag: u8, content: &'a [u8], into: &mut ValueRef<'a>)
@@ -137,8 +137,9 @@ fn set_object_id<'a>(content: &'a [u8], into: &mut ValueRef<'a>)
     *into = ValueRef::ObjectId(identifier_of(content));
 }
 
-/// Changes a value of this type, as the values of a column are, to the one of this content, and
-/// returns whether it did. This saves setting over 500 octets.
+/// Sets a value that already has the type of this tag, as those of one column have, to the one of
+/// this content, and returns whether it did. It does so for most types, and saves setting over 500
+/// octets.
 #[tactic(auto, unfolding(crate::specs::ber::Reading::typed_value, crate::specs::ber::Reading::unsigned_of))]
 // Hot, and called once: each binding that is read.
 #[inline(always)]

@@ -45,7 +45,7 @@ impl<'a> BindingRef<'a> {
         self.fields.tag
     }
 
-    /// Reads the binding into one that is there.
+    /// Reads the binding into an existing one.
     #[inline]
     pub fn read_into(&self, into: &mut Binding<'a>)
         ensures { var_bind into.new ≡ self.now }
