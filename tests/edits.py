@@ -5,13 +5,14 @@ gate, which tries the most telling ones, those of crates/NAME/must-fail.
 usage: edits.py [CRATE..]
        edits.py --stale
 
-The edits of a crate are tried on a copy of the repository in their place, over what `rt check` kept of it: so check
-the crate first. Each takes a processor 10 to 60 seconds, those of large crates most. Where all of a crate's were
-refused, its line in tests/edits/tried.txt has the hash of what they were tried over: its sources, definitions, proofs
-and edits, and the definitions of the crates below it, all without comments. Where one wasn't, the crate has no line.
+The edits of a crate are tried in a copy of the repository, in place of the gate's, over what `rt check` kept of it:
+so check the crate first. Each takes a processor 10 to 60 seconds, those of large crates most. Where all of a crate's
+were refused, its line in tests/edits/tried.txt has the hash of what they were tried over: its sources, definitions,
+proofs and edits, and the definitions of the crates below it, all without comments. Where one wasn't, the crate has no
+line.
 
-With --stale nothing is tried: each crate passes that stands as its line has it, and fails that has another line, or
-none. The last line is 'N passed, M failed'.
+With --stale nothing is tried: a crate passes where its line has the hash of what is here, and fails where the line has
+another hash or isn't there. The last line is 'N passed, M failed'.
 """
 import hashlib
 import os
