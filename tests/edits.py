@@ -1,6 +1,6 @@
 #!/usr/bin/env python3
-"""Tries the edits of tests/edits, each of which makes a crate wrong: the proofs must refuse it. It isn't a part of the
-gate, which tries the most telling ones, those of crates/NAME/must-fail.
+"""Tries the edits of tests/edits, each of which makes a crate wrong: the proofs must refuse it. The gate itself tries the
+most telling ones, those of crates/NAME/must-fail, and asks whether the others were tried over what stands here.
 
 usage: edits.py [CRATE..]
        edits.py --stale
@@ -8,11 +8,10 @@ usage: edits.py [CRATE..]
 The edits of a crate are tried in a copy of the repository, in place of the gate's, over what `rt check` kept of it:
 so check the crate first. Each takes a processor 10 to 60 seconds, those of large crates most. Where all of a crate's
 were refused, its line in tests/edits/tried.txt has the hash of what they were tried over: its sources, definitions,
-proofs and edits, and the definitions of the crates below it, all without comments. Where one wasn't, the crate has no
-line.
+proofs and edits, without comments. Where one wasn't, the crate has no line.
 
-With --stale nothing is tried: a crate passes where its line has the hash of what is here, and fails where the line has
-another hash or isn't there. The last line is 'N passed, M failed'.
+With --stale, as in the gate, nothing is tried: a crate passes where its line has the hash of what is here, and fails
+where the line has another hash or isn't there. The last line is 'N passed, M failed'.
 """
 import hashlib
 import os
@@ -35,19 +34,6 @@ def edits_of_crates():
     return {crate: {name.removesuffix(".edit") for name in os.listdir(os.path.join(EDITS, crate))} for crate in crates}
 
 
-def crates_below(crate):
-    """The crates of the repository that a crate stands on, in order."""
-    with open(os.path.join(TOP, "crates.txt"), encoding="utf-8") as file:
-        lines = (line.partition(":") for line in file if not line.startswith("#"))
-        uses = {head.split()[0]: used.split() for head, _, used in lines if head.strip()}
-    found, left = set(), [crate]
-    while left:
-        new = {used for used in uses[left.pop()] if used in uses} - found
-        found |= new
-        left += new
-    return sorted(found)
-
-
 def statements_of(path):
     """What a file says, however it is broken into lines: without blank ones and comments."""
     mark = COMMENTS.get(os.path.splitext(path)[1])
@@ -57,9 +43,9 @@ def statements_of(path):
 
 
 def hash_of(crate):
-    """The hash of what decides whether the edits of a crate are refused."""
-    folders = [f"crates/{crate}/{part}" for part in ("src", "specs", "proofs", "must-fail")] + [f"tests/edits/{crate}"]
-    folders += [f"crates/{below}/specs" for below in crates_below(crate)]
+    """The hash of a crate and its edits. The crates below it have lines of their own, and what their contracts no longer
+    say its proofs can't use."""
+    folders = [f"crates/{crate}/{part}" for part in ("src", "specs", "proofs")] + [f"tests/edits/{crate}"]
     hashed = hashlib.sha256()
     for folder in folders:
         paths = (os.path.join(at, name) for at, _, names in os.walk(os.path.join(TOP, folder)) for name in names)
