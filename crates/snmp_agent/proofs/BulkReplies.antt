@@ -9,12 +9,12 @@ use Rattle.snmp_wire.specs.Laws.{HasPieces}
 use Rattle.snmp_wire.specs.Sizes.{MessageSizes}
 use Rattle.snmp_agent.specs.table.Table.{MibView}
 use Rattle.snmp_agent.specs.Reply.{Fits, IsBulk, IsLongestFront, bulk, no_error, response}
-use Rattle.snmp_agent.specs.declared.room.Draft.{Draft}
+use Rattle.snmp_agent.specs.declared.room.ReplyBindings.{ReplyBindings}
 use Rattle.snmp_agent.specs.Answering.{HoldsBindings, IsResponseWritten, IsResponseTooLong}
 use Rattle.snmp_agent.specs.Answering.{IsRoom, whole_size, held}
 use Rattle.snmp_agent.proofs.Requests.{bare, response_size, sealed, sealed_size}
 use Rattle.snmp_agent.proofs.Lengths.{longer, within, beyond}
-use Rattle.snmp_agent.proofs.Drafts.{longer_by}
+use Rattle.snmp_agent.proofs.ReplyBindings.{longer_by}
 use Rattle.snmp_agent.proofs.Fronts.{HasNoRoom, HoldsFront}
 use Rattle.snmp_agent.proofs.Answers.{HasNextsAfter}
 use Rattle.snmp_agent.proofs.Rounds.{all_bulk}
@@ -48,12 +48,12 @@ is_longest sizes q limit room is_room all added more total front size no_room ah
     (cases_lt (length added) (length ahead))
 
 -- what was written is the Response
-pub bulk_sent : MessageSizes → HasPieces → (view : MibView) (limit room : ℕ) (q m : Message) (all : List VarBind) (draft : Draft) (n : ℕ) (out new : List ℕ)
+pub bulk_sent : MessageSizes → HasPieces → (view : MibView) (limit room : ℕ) (q m : Message) (all : List VarBind) (reply : ReplyBindings) (n : ℕ) (out new : List ℕ)
     → q.kind ≡ kind.GetBulkRequest → IsBulk view q all → m ≡ response q no_error (pos 0) [] → IsRoom m limit room
-    → HoldsFront room [] all (held draft out) → length (take draft.total out) ≡ draft.total → n ≡ whole_size m draft.total
-    → take n new ≡ canon_head m draft.total ++ take draft.total out → IsResponseWritten view limit q n new
-bulk_sent sizes pieces view limit room q m all draft n out new is asked parts room_is here long size octets =
-    let total = draft.total in
+    → HoldsFront room [] all (held reply out) → length (take reply.total out) ≡ reply.total → n ≡ whole_size m reply.total
+    → take n new ≡ canon_head m reply.total ++ take reply.total out → IsResponseWritten view limit q n new
+bulk_sent sizes pieces view limit room q m all reply n out new is asked parts room_is here long size octets =
+    let total = reply.total in
     let r = response q no_error (pos 0) [] in
     let is_room : IsRoom r limit room = subst (λ (x : Message). IsRoom x limit room) parts room_is in
     let sized : total ≡ length (canon_bindings here.added) = sym long ∙ ap length here.octets in

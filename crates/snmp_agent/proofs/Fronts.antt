@@ -1,4 +1,4 @@
--- What drafts hold.
+-- What the bindings of a reply hold.
 use Rattle.std.proofs.Common.{◌≡◌, ◌≢◌, ℕ, ◌+◌, ◌-◌, ◌≤◌, ◌<◌, List, [], ◌∷◌, ◌++◌, length, refl}
 use Rattle.std.proofs.Common.{⊎_elim, sym, ap, subst, ◌∙◌, arith, length-append, append_assoc}
 use Rattle.std.proofs.lemmas.List.{append-nil}
@@ -43,7 +43,7 @@ fill_both h (p ∷ a) b = fill_both (add h p) a b
 add_full : (h : Held) (p : VarBind) → h.left ≡ 0 → add h p ≡ h
 add_full h p full = refused h p (omega (arith, some_octets p)) ∙ (λ i. record { octets = h.octets; left = sym full i })
 
--- a draft that is full takes nothing more
+-- where no room is left, nothing more is added
 pub fill_full : (h : Held) (more : List VarBind) → h.left ≡ 0 → fill h more ≡ h
 fill_full h [] full = refl
 fill_full h (p ∷ more) full = ap (λ (g : Held). fill g more) (add_full h p full) ∙ fill_full h more full
@@ -76,7 +76,7 @@ abbrev pub HasNoRoom : ℕ → ℕ → List VarBind → Type 0
 HasNoRoom room total [] = Unit {0}
 HasNoRoom room total (p ∷ more) = room < total + length (canon_binding p)
 
--- a front of these bindings is held; all of them, unless the draft is full and had no room for the next
+-- a front of these bindings is held: all of them, unless the next had no room and so none is left
 pub record HoldsFront (room : ℕ) (start : List ℕ) (all : List VarBind) (end : Held) : Type 0 where
   pub added : List VarBind
   pub more : List VarBind

@@ -9,7 +9,7 @@ pub mod Halving
 pub mod Lengths
 pub mod Lists
 pub mod Requests
-pub mod Drafts
+pub mod ReplyBindings
 pub mod Rounds
 pub mod Fronts
 pub mod BulkReplies

@@ -58,18 +58,18 @@ response_size sizes q status index given =
 pub sealed : HasPieces → (q : Message) (status index : ℤ) (limit : ℕ) (given : List VarBind) (total : ℕ) (out : List ℕ)
     → HoldsBindings (response q status index []) limit given total out
     → canon_head (response q status index []) total ++ take total out ≡ canon (response q status index given)
-sealed pieces q status index limit given total out draft =
+sealed pieces q status index limit given total out holds =
     let r = response q status index given in
     let head : canon_head (response q status index []) total ≡ canon_head r (length (canon_bindings given)) = same_head q status index given total
-    ∙ ap (canon_head r) draft.total_size in
+    ∙ ap (canon_head r) holds.total_size in
     let both : canon_head (response q status index []) total ++ take total out ≡ canon_head r (length (canon_bindings given)) ++ canon_bindings given = cc
-    (head, draft.octets) in
+    (head, holds.octets) in
     both ∙ sym (pieces r)
 
 pub sealed_size : MessageSizes → (q : Message) (status index : ℤ) (limit : ℕ) (given : List VarBind) (total : ℕ) (out : List ℕ)
     → HoldsBindings (response q status index []) limit given total out
     → whole_size (response q status index []) total ≡ length (canon (response q status index given))
-sealed_size sizes q status index limit given total out draft = ap (whole_size (response q status index [])) draft.total_size
+sealed_size sizes q status index limit given total out holds = ap (whole_size (response q status index [])) holds.total_size
     ∙ response_size sizes q status index given
 
 -- a Response without bindings is its head
@@ -121,22 +121,22 @@ paired_kind {found} {theirs} e other served = by_cases theirs e served
 
 -- ---- replies
 
--- a finished draft is the Response
+-- bindings with the head before them are the Response
 pub finished : MessageSizes → HasPieces
     → (view : MibView) (limit : ℕ) (q : Message) (k : Kind) (bindings given : List VarBind) (m : Message) (total n : ℕ) (out new : List ℕ)
     → IsPaired q.kind → k ≡ q.kind → bindings ≡ q.bindings
     → m ≡ response q (whole_status q.kind) (whole_index q.kind q.bindings) [] → AreAnswers (IsAnswer view k) bindings given
     → HoldsBindings m limit given total out → n ≡ whole_size m total → take n new ≡ canon_head m total ++ take total out
     → IsResponseWritten view limit q n new
-finished sizes pieces view limit q k bindings given m total n out new served same_kind same_bindings parts h draft size octets =
+finished sizes pieces view limit q k bindings given m total n out new served same_kind same_bindings parts h holds size octets =
     let st = whole_status q.kind in
     let ix = whole_index q.kind q.bindings in
-    let here : HoldsBindings (response q st ix []) limit given total out = subst (λ (x : Message). HoldsBindings x limit given total out) parts draft in
+    let here : HoldsBindings (response q st ix []) limit given total out = subst (λ (x : Message). HoldsBindings x limit given total out) parts holds in
     let long : n ≡ length (canon (response q st ix given)) = size ∙ ap (λ (x : Message). whole_size x total) parts
     ∙ sealed_size sizes q st ix limit given total out here in
     let text : take n new ≡ canon (response q st ix given) = octets ∙ ap (λ (x : Message). canon_head x total ++ take total out) parts
     ∙ sealed pieces q st ix limit given total out here in
-    let fits : length (canon (response q st ix given)) ≤ limit = omega (arith, ap (λ (x : Message). whole_size x total) parts, draft.fits) in
+    let fits : length (canon (response q st ix given)) ≤ limit = omega (arith, ap (λ (x : Message). whole_size x total) parts, holds.fits) in
     (response q st ix given, whole (whole_response view q given served (rw (same_kind, same_bindings) at h)) fits, fits, text, long)
 
 -- where the answers pass the limit, the Response is an error

@@ -1,4 +1,4 @@
--- Rounds that are added to a draft.
+-- Rounds that are added to the bindings of a reply.
 use Rattle.std.proofs.Common.{◌≡◌, ◌⊎◌, inl, inr, ℕ, suc, ◌+◌, ◌-◌, ◌<◌, List, [], ◌∷◌, sym}
 use Rattle.std.proofs.Common.{ap, subst, ◌∙◌, refl, arith}
 use Rattle.std.proofs.lemmas.List.{append-nil}

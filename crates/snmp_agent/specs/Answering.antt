@@ -9,11 +9,11 @@ use Rattle.snmp_wire.specs.Message.{Datum, object_id, octet_string, opaque_octet
 use Rattle.snmp_wire.specs.Message.{VarBind, Message}
 use Rattle.snmp_wire.specs.Canon.{canon, canon_binding, canon_bindings, canon_head}
 use Rattle.snmp_agent.specs.table.Table.{MibView, IsGet, IsNext, IsNextAfter}
-use Rattle.snmp_agent.specs.declared.room.Draft.{Draft}
+use Rattle.snmp_agent.specs.declared.room.ReplyBindings.{ReplyBindings}
 use Rattle.snmp_agent.specs.Reply.{AreAnswers, AreEnds, IsResponse, not_writable, no_error}
 use Rattle.snmp_agent.specs.Reply.{failed_place, joined}
 
--- the kinds of request that are given one binding for each of their own
+-- the kinds of request whose reply has one binding for each of theirs
 abbrev pub IsPaired : Kind → Type 0
 IsPaired kind.GetRequest = Unit {0}
 IsPaired kind.GetNextRequest = Unit {0}
@@ -87,51 +87,51 @@ pub record IsRoom (m : Message) (limit room : ℕ) : Type 0 where
   pub fits : whole_size m room ≤ limit
   pub most : limit < whole_size m (room + 1)
 
--- ---- a draft
+-- ---- the bindings of a reply
 
--- what a draft holds: the encodings of its bindings, and how many more octets have room
+-- what the bindings of a reply hold: their encodings, and how many more octets have room
 pub record Held : Type 0 where
   pub octets : List ℕ
   pub left : ℕ
 
--- in the front of this output
-abbrev pub held : Draft → List ℕ → Held
-held draft out = record { octets = take draft.total out; left = draft.left }
+-- what they hold in the front of this output
+abbrev pub held : ReplyBindings → List ℕ → Held
+held reply out = record { octets = take reply.total out; left = reply.left }
 
--- with these octets behind the others, where they have room; where they haven't, nothing has
+-- these octets are appended where they have room; where they haven't, no room is left
 abbrev pub put : Held → List ℕ → Held
 put h octets = cond (leb (length octets) h.left)
     (record { octets = h.octets ++ octets; left = h.left - length octets })
     (record { octets = h.octets; left = 0 })
 
--- with the encoding of one more binding
+-- one more binding is appended
 unfoldable pub add : Held → VarBind → Held
 add h p = put h (canon_binding p)
 
--- with those of more bindings, one after the other
+-- more bindings are appended, one after the other
 abbrev pub fill : Held → List VarBind → Held
 fill h [] = h
 fill h (p ∷ more) = fill (add h p) more
 
--- one binding is added, of which this is true
+-- a binding is appended of which this is true
 abbrev pub Adds : (VarBind → Type 0) → Held → Held → Type 0
 Adds IsGiven old new = (p : VarBind) × IsGiven p × (new ≡ add old p)
 
--- bindings are added of which this is true
+-- bindings are appended of which this is true
 abbrev pub Fills : (List VarBind → Type 0) → Held → Held → Type 0
 Fills AreAll old new = (all : List VarBind) × AreAll all × (new ≡ fill old all)
 
 -- ---- GetBulk
 
--- what the names are given in the round after `round` others
+-- what a GetBulk returns for the names in the round after `round` others
 abbrev pub AreGiven : MibView → ℕ → List VarBind → List VarBind → Type 0
 AreGiven view round = AreAnswers (λ asked given. IsNextAfter view round asked.name given)
 
--- a round that another may follow: not endOfMibView throughout
+-- a round after which another may come: not all of it is endOfMibView
 abbrev pub HasRow : List VarBind → Type 0
 HasRow round = AreEnds round → ⊥
 
--- the rounds from this one on, where as many more are asked for as the fourth argument says
+-- the rounds from number `i` on, counted from 0; the fourth argument is how many more are asked for
 abbrev pub AreRoundsFrom : MibView → List VarBind → ℕ → ℕ → List (List VarBind) → Type 0
 AreRoundsFrom view names i zero [] = Unit {0}
 AreRoundsFrom view names i (suc left) (round ∷ more) =
@@ -139,7 +139,7 @@ AreRoundsFrom view names i (suc left) (round ∷ more) =
     → ⊥) × AreRoundsFrom view names (i + 1) left more))
 AreRoundsFrom view names i _ _ = ⊥
 
--- the rounds of the names are added
+-- the rounds of the names are appended
 abbrev pub FillsRounds : MibView → List VarBind → ℕ → Held → Held → Type 0
 FillsRounds view names repetitions old new = (rounds : List (List VarBind))
     × AreRoundsFrom view names 0 repetitions rounds × (new ≡ fill old (joined rounds))

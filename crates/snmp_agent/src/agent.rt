@@ -13,7 +13,7 @@ ghost use Rattle.snmp_agent.specs.Answering.{IsResponseTooLong, whole_status, wh
 use crate::bulk::append_bulk;
 use crate::config::{Config, Outcome, Why};
 use crate::draft::{append_answers, room_for_bindings};
-use crate::room::Draft;
+use crate::room::ReplyBindings;
 use crate::table::{Guesses, Hint, Last, Table, one_answer};
 use snmp_wire::{
     Kind, MAX_DATAGRAM, MessageRef, Parts, decode, encode_head, head_size, message_sizes, pieces,
@@ -162,8 +162,8 @@ fn bulk_reply<'a>(
     let parts = response(request, NO_ERROR, 0);
     match room_for_bindings(&parts, config.max_size) {
         Some(room) => {
-            let draft = append_bulk(table, request, Draft::new(room), out, hint);
-            seal(&parts, 0, draft.total, &mut out[..])
+            let bindings = append_bulk(table, request, ReplyBindings::new(room), out, hint);
+            seal(&parts, 0, bindings.total, &mut out[..])
         }
         None => None,
     }

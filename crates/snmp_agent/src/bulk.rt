@@ -1,7 +1,7 @@
 //! The bindings of the reply to a GetBulk (RFC 3416, section 4.2.3).
 //!
 //! They are written to the front of the output, as those of other replies are, and end before the
-//! first that has no room.
+//! first for which there is no room.
 ghost use Rattle.std.specs.Prelude.{◌≡◌, ◌≢◌, ◌↔◌, List, [], ◌∷◌, ◌++◌, take, drop, map};
 ghost use Rattle.std.specs.Prelude.{IsTrue};
 ghost use Rattle.snmp_wire.specs.Message.{VarBind};
@@ -13,35 +13,35 @@ ghost use Rattle.snmp_agent.specs.Standing.{next_at, passed};
 
 use crate::draft::append_next;
 use crate::place::Place;
-use crate::room::Draft;
+use crate::room::ReplyBindings;
 use crate::table::{Guesses, Table, one_answer};
 use arrayvec::ArrayVec;
 use snmp_oid::order;
 use snmp_wire::{BindingRef, Bindings, MAX_DATAGRAM, MessageRef};
 
-/// How many names keep their places from one round to the next, at most.
+/// The most names that keep their places from one round to the next.
 const MAX_PLACES: usize = 64;
 
-/// Writes the bindings of the reply to a GetBulk after those of the draft, as many as fit.
+/// Appends the bindings of the reply to a GetBulk, as many as fit.
 pub fn append_bulk<'a>(
     table: &'a Table,
     request: &MessageRef<'a>,
-    draft: Draft,
+    reply: ReplyBindings,
     out: &mut [u8; MAX_DATAGRAM],
     hint: &mut Guesses<'_>,
-) -> Draft
+) -> ReplyBindings
     requires { AreWritable request.now.bindings }
-    ensures { Fills (IsBulk table.now request.now) (held draft out.old) (held result out.new) }
+    ensures { Fills (IsBulk table.now request.now) (held reply out.old) (held result out.new) }
 {
     one_answer();
     let mut bindings = request.bindings();
     let count = or_zero(request.a());
-    let draft = append_singles(table, count, &mut bindings, draft, out, hint);
-    if draft.is_full() {
-        return draft;
+    let reply = append_singles(table, count, &mut bindings, reply, out, hint);
+    if reply.is_full() {
+        return reply;
     }
     let repetitions = or_zero(request.b());
-    append_repeaters(table, repetitions, bindings, draft, out, hint)
+    append_repeaters(table, repetitions, bindings, reply, out, hint)
 }
 
 /// The number, or 0 where it is negative (RFC 3416, section 4.2.3).
@@ -51,118 +51,116 @@ fn or_zero(number: i32) -> usize
     usize::try_from(number).unwrap_or(0)
 }
 
-/// Takes the first `count` bindings, or all where there are fewer, and writes what a GetNext gives
-/// for each, until there is no room.
+/// Takes the first `count` bindings, or all where there are fewer, and appends what a GetNext of
+/// each returns, until there is no room.
 fn append_singles<'a>(
     table: &'a Table,
     count: usize,
     bindings: &mut Bindings<'a>,
-    draft: Draft,
+    reply: ReplyBindings,
     out: &mut [u8; MAX_DATAGRAM],
     hint: &mut Guesses<'_>,
-) -> Draft
+) -> ReplyBindings
     requires { AreWritable bindings.old }
-    ensures filled { Fills (AreGiven table.now 0 (take count bindings.old)) (held draft out.old)
+    ensures filled { Fills (AreGiven table.now 0 (take count bindings.old)) (held reply out.old)
         (held result out.new) }
     ensures left { result.left ≢ 0 → bindings.new ≡ drop count bindings.old }
 {
     one_answer();
-    let mut draft = draft;
+    let mut reply = reply;
     'singles: for _ in 0..count {
         let Some(asked) = bindings.next_ref() else {
-            return draft;
+            return reply;
         };
-        draft = append_next(table, &asked, draft, out, hint);
-        if draft.is_full() {
-            return draft;
+        reply = append_next(table, &asked, reply, out, hint);
+        if reply.is_full() {
+            return reply;
         }
     }
-    draft
+    reply
 }
 
-/// Writes the rounds of the bindings, at most `repetitions`.
+/// Appends the rounds of the bindings, at most `repetitions`.
 fn append_repeaters<'a>(
     table: &'a Table,
     repetitions: usize,
     bindings: Bindings<'a>,
-    draft: Draft,
+    reply: ReplyBindings,
     out: &mut [u8; MAX_DATAGRAM],
     hint: &mut Guesses<'_>,
-) -> Draft
+) -> ReplyBindings
     requires { AreWritable bindings }
-    ensures { FillsRounds table.now bindings.entry repetitions (held draft out.old)
+    ensures { FillsRounds table.now bindings.entry repetitions (held reply out.old)
         (held result out.new) }
 {
     let mut others = bindings.left();
     match (others.next_ref(), others.next_ref()) {
-        (Some(only), None) => append_column(table, repetitions, only, draft, out, hint),
-        _ => append_columns(table, repetitions, bindings, draft, out, hint),
+        (Some(only), None) => append_column(table, repetitions, only, reply, out, hint),
+        _ => append_columns(table, repetitions, bindings, reply, out, hint),
     }
 }
 
-/// Writes the rounds of one binding, as a walk asks for them: each begins where the one before
-/// ended, and nothing is searched. The hint is told of the last row.
+/// Appends the rounds of a single binding, as a walk asks for them. Each begins where the one
+/// before ended, so nothing is searched. The hint keeps the last row.
 fn append_column<'a>(
     table: &'a Table,
     repetitions: usize,
     asked: BindingRef<'a>,
-    draft: Draft,
+    reply: ReplyBindings,
     out: &mut [u8; MAX_DATAGRAM],
     hint: &mut Guesses<'_>,
-) -> Draft
+) -> ReplyBindings
     requires { IsWire asked.name }
-    ensures { FillsRounds table.now (asked.entry ∷ []) repetitions (held draft out.old)
+    ensures { FillsRounds table.now (asked.entry ∷ []) repetitions (held reply out.old)
         (held result out.new) }
 {
     one_answer();
     order();
     table.is_mib_view();
-    let mut draft = draft;
+    let mut reply = reply;
     let mut place = Place::of_walk(table, asked.name(), hint);
     'rounds: for _ in 0..repetitions {
         let is_last = place.is_at_end();
         let left = place.left();
-        let total = draft.total;
-        draft = place.append_next(draft, out);
-        if draft.is_full() {
-            hint.keep_last(if draft.total == total {
+        let total = reply.total;
+        reply = place.append_next(reply, out);
+        if reply.is_full() {
+            hint.keep_last(if reply.total == total {
                 left
             } else {
                 place.left()
             });
-            return draft;
+            return reply;
         }
         if is_last {
-            return draft;
+            return reply;
         }
     }
     hint.keep_last(place.left());
-    draft
+    reply
 }
 
-/// Writes the rounds of several bindings, as [`append_repeaters`] does. The places of the first are
-/// kept.
+/// Appends the rounds of several bindings. The first [`MAX_PLACES`] of them keep their places.
 fn append_columns<'a>(
     table: &'a Table,
     repetitions: usize,
     bindings: Bindings<'a>,
-    draft: Draft,
+    reply: ReplyBindings,
     out: &mut [u8; MAX_DATAGRAM],
     hint: &mut Guesses<'_>,
-) -> Draft
+) -> ReplyBindings
     requires { AreWritable bindings }
-    ensures { FillsRounds table.now bindings.entry repetitions (held draft out.old)
+    ensures { FillsRounds table.now bindings.entry repetitions (held reply out.old)
         (held result out.new) }
 {
     let mut others = bindings.left();
     let mut places = ArrayVec::new();
     keep_places(table, &mut others, &mut places, hint);
     let places = places.as_mut_slice();
-    append_rounds(table, repetitions, &bindings, places, others, draft, out)
+    append_rounds(table, repetitions, &bindings, places, others, reply, out)
 }
 
-/// Takes the first bindings, as many as there is room for or all where there are fewer, and adds
-/// their places.
+/// Takes bindings and adds their places, until there are [`MAX_PLACES`] or no binding is left.
 fn keep_places<'a>(
     table: &'a Table,
     bindings: &mut Bindings<'a>,
@@ -182,40 +180,40 @@ fn keep_places<'a>(
     }
 }
 
-/// Writes the rounds of the bindings. The first of them stand at these places, where each round
-/// begins where the one before ended, and nothing is searched; the others are searched in each
-/// round, and a reply has room for few of those.
+/// Appends the rounds of the bindings. The first of them stand at these places: each round begins
+/// where the one before ended, and nothing is searched. The others are searched in each round; a
+/// reply has room for few of them.
 fn append_rounds<'a>(
     table: &'a Table,
     repetitions: usize,
     bindings: &Bindings<'a>,
     places: &mut [Place<'a>],
     others: Bindings<'a>,
-    draft: Draft,
+    reply: ReplyBindings,
     out: &mut [u8; MAX_DATAGRAM],
-) -> Draft
+) -> ReplyBindings
     requires standing { StandIn table.now 0 bindings.now places.old others }
     requires writable { AreWritable others }
-    ensures { FillsRounds table.now bindings.now repetitions (held draft out.old)
+    ensures { FillsRounds table.now bindings.now repetitions (held reply out.old)
         (held result out.new) }
 {
     one_answer();
     order();
     table.is_mib_view();
-    let mut draft = draft;
+    let mut reply = reply;
     'rounds: for round in 0..repetitions {
         let are_over = are_at_end(places);
-        draft = append_places(places, draft, out);
-        let (end, is_over) = append_others(table, round, others.left(), are_over, draft, out);
-        draft = end;
+        reply = append_places(places, reply, out);
+        let (end, is_over) = append_others(table, round, others.left(), are_over, reply, out);
+        reply = end;
         if is_over {
-            return draft;
+            return reply;
         }
-        if draft.is_full() {
-            return draft;
+        if reply.is_full() {
+            return reply;
         }
     }
-    draft
+    reply
 }
 
 /// Whether no row is left at any place.
@@ -230,51 +228,56 @@ fn are_at_end(places: &[Place<'_>]) -> bool
     true
 }
 
-/// Writes what comes next at each place, and moves the places behind that, until there is no room.
-fn append_places(places: &mut [Place<'_>], draft: Draft, out: &mut [u8; MAX_DATAGRAM]) -> Draft
+/// Appends what comes next at each place, and moves the places behind that, until there is no room.
+fn append_places(
+    places: &mut [Place<'_>],
+    reply: ReplyBindings,
+    out: &mut [u8; MAX_DATAGRAM],
+) -> ReplyBindings
     requires { AreWireNames places.old }
-    ensures filled { held result out.new ≡ fill (held draft out.old) (map next_at places.old) }
+    ensures filled { held result out.new ≡ fill (held reply out.old) (map next_at places.old) }
     ensures moved { result.left ≢ 0 → places.new ≡ map passed places.old }
 {
-    let mut draft = draft;
+    let mut reply = reply;
     'places: for place in places.iter_mut() {
-        draft = place.append_next(draft, out);
-        if draft.is_full() {
-            return draft;
+        reply = place.append_next(reply, out);
+        if reply.is_full() {
+            return reply;
         }
     }
-    draft
+    reply
 }
 
-/// Writes what each binding is given in the round after `round` others, until there is no room.
-/// Whether there was, and these are over, as others are said to be.
+/// Appends what each binding is given in the round after `round` others, until there is no room.
+/// Also returns whether the round is the last one: no row was left for these bindings nor, as
+/// `are_over` says, for those before them.
 fn append_others<'a>(
     table: &'a Table,
     round: usize,
     mut bindings: Bindings<'a>,
     are_over: bool,
-    draft: Draft,
+    reply: ReplyBindings,
     out: &mut [u8; MAX_DATAGRAM],
-) -> (Draft, bool)
+) -> (ReplyBindings, bool)
     requires { AreWritable bindings }
     ensures { (all : List VarBind) × AreGiven table.now round bindings.entry all
-        × (held result.0 out.new ≡ fill (held draft out.old) all)
+        × (held result.0 out.new ≡ fill (held reply out.old) all)
         × (IsTrue result.1 → IsTrue are_over × AreEnds all)
         × (result.0.left ≢ 0 → IsTrue are_over → AreEnds all → IsTrue result.1) }
 {
     one_answer();
     order();
     table.is_mib_view();
-    let mut draft = draft;
+    let mut reply = reply;
     let mut are_over = are_over;
     'bindings: while let Some(asked) = bindings.next_ref() {
-        if draft.is_full() {
-            return (draft, false);
+        if reply.is_full() {
+            return (reply, false);
         }
         let mut place = Place::after_rounds(table, asked.name(), round);
         let is_last = place.is_at_end();
         are_over = are_over && is_last;
-        draft = place.append_next(draft, out);
+        reply = place.append_next(reply, out);
     }
-    (draft, are_over)
+    (reply, are_over)
 }

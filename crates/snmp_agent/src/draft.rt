@@ -1,29 +1,27 @@
-//! A reply that is being written: its bindings are written to the front of the output one after the
-//! other, and are moved to make room for the head once they are all there.
-ghost use Rattle.std.specs.Prelude.{◌≡◌, ◌+◌, ◌≤◌, ◌<◌, List, [], length, IfSome, IfNone, IsTrue};
-ghost use Rattle.std.specs.Prelude.{◌↔◌};
+//! The bindings of the reply to a Get, a GetNext or a Set, one for each binding of the request.
+//!
+//! They are written to the front of the output, one after the other. Once all are there, they are
+//! moved to make room for the head.
+ghost use Rattle.std.specs.Prelude.{◌≡◌, ◌≤◌, ◌<◌, List, length, IfSome, IfNone};
 ghost use Rattle.std.specs.FinMap.{get};
-ghost use Rattle.snmp_wire.specs.Message.{VarBind, var_bind, datum, null_value};
+ghost use Rattle.snmp_wire.specs.Message.{VarBind};
 ghost use Rattle.snmp_wire.specs.Parts.{parts_message};
 ghost use Rattle.snmp_agent.specs.Reply.{AreAnswers};
 ghost use Rattle.snmp_agent.specs.Answering.{IsPaired, IsAnswer, IsWritable, AreWritable};
-ghost use Rattle.snmp_agent.specs.Answering.{IsShortValue, HoldsBindings, IsRoom, PassesLimit};
-ghost use Rattle.snmp_agent.specs.Answering.{whole_size, Adds, add, held};
+ghost use Rattle.snmp_agent.specs.Answering.{HoldsBindings, IsRoom, PassesLimit, whole_size};
+ghost use Rattle.snmp_agent.specs.Answering.{Adds, add, held};
 ghost use Rattle.snmp_agent.specs.table.Table.{IsGet, IsNext};
 
 use crate::config::Config;
 use crate::place::{Given, append_end};
-use crate::room::Draft;
+use crate::room::{ReplyBindings, blank};
 use crate::table::{Guesses, Table, one_answer};
 use snmp_oid::order;
-use snmp_wire::{
-    Binding, BindingRef, Bindings, EncodedBinding, EncodedName, Kind, MAX_DATAGRAM, Oid, Parts,
-    ValueRef, element_sizes, encode_binding, head_size, message_sizes,
-};
+use snmp_wire::{BindingRef, Bindings, Kind, MAX_DATAGRAM, Parts, head_size, message_sizes};
 
 /// Writes the bindings of the reply to a request to the front of `out`, and returns how many octets
-/// they take together. None where a message of these parts with them has more than `max_size`
-/// octets.
+/// they take together. None where a message of these parts with these bindings has more than
+/// `max_size` octets.
 pub fn append_answers<'a>(
     table: &'a Table,
     kind: Kind,
@@ -46,98 +44,85 @@ pub fn append_answers<'a>(
     one_answer();
     message_sizes();
     let room = room_for_bindings(parts, config.max_size)?;
-    // One octet more than there is room for, so that the bindings fit where the draft isn't full.
-    let mut draft = Draft::new(room + 1);
+    // With room for one octet more than may be sent: all bindings fit where some room is left.
+    let mut reply = ReplyBindings::new(room + 1);
     'bindings: while let Some(asked) = bindings.next_ref() {
-        draft = append_answer(table, kind, &asked, draft, out, hint);
-        if draft.is_full() {
+        reply = append_answer(table, kind, &asked, reply, out, hint);
+        if reply.is_full() {
             return None;
         }
     }
-    Some(draft.total)
+    Some(reply.total)
 }
 
-/// A binding for others to be read into.
-#[inline]
-pub fn blank<'a>() -> Binding<'a>
-    ensures { var_bind result ≡ record { name = []; value = null_value } }
-{
-    Binding {
-        name: Oid::new(),
-        value: ValueRef::Null,
-    }
-}
-
-/// Writes what the reply to a request of this kind has for one of its bindings after those of the
-/// draft: for a Get the variable of its name, for a GetNext the one after it, and for a Set the
-/// binding itself.
+/// Appends what the reply to a request of this kind has for one binding of it: for a Get the
+/// variable of its name, for a GetNext the one after it, and for a Set the binding itself.
 fn append_answer(
     table: &Table,
     kind: Kind,
     asked: &BindingRef<'_>,
-    draft: Draft,
+    reply: ReplyBindings,
     out: &mut [u8; MAX_DATAGRAM],
     hint: &mut Guesses<'_>,
-) -> Draft
+) -> ReplyBindings
     requires paired { IsPaired kind }
     requires writable { IsWritable asked.now }
-    ensures { Adds (IsAnswer table.now kind asked.now) (held draft out.old) (held result out.new) }
+    ensures { Adds (IsAnswer table.now kind asked.now) (held reply out.old) (held result out.new) }
 {
     match kind {
-        Kind::GetRequest => append_get(table, asked, draft, out, hint),
-        Kind::GetNextRequest => append_next(table, asked, draft, out, hint),
-        _ => append_same(asked, draft, out),
+        Kind::GetRequest => append_get(table, asked, reply, out, hint),
+        Kind::GetNextRequest => append_next(table, asked, reply, out, hint),
+        _ => append_same(asked, reply, out),
     }
 }
 
-/// Writes what a Get of a binding's name gives, as [`append_answer`] does.
+/// Appends what a Get of a binding's name returns.
 fn append_get(
     table: &Table,
     asked: &BindingRef<'_>,
-    draft: Draft,
+    reply: ReplyBindings,
     out: &mut [u8; MAX_DATAGRAM],
     hint: &mut Guesses<'_>,
-) -> Draft
+) -> ReplyBindings
     requires { IsWritable asked.now }
-    ensures { Adds (IsGet table.now asked.now.name) (held draft out.old) (held result out.new) }
+    ensures { Adds (IsGet table.now asked.now.name) (held reply out.old) (held result out.new) }
 {
     match table.row_near(&asked.name(), hint) {
-        Some(row) => draft.append_row(out, row),
-        None => append_exception(table, asked, draft, out),
+        Some(row) => reply.append_row(out, row),
+        None => append_exception(table, asked, reply, out),
     }
 }
 
-/// Writes the exception that a Get of a binding's name gives that no row has, as [`append_answer`]
-/// does. Not inlined: its binding, of over a thousand octets, is set to zeros as the function
-/// begins.
+/// Appends the exception that a Get of a binding's name returns where no row has the name. Not
+/// inlined: its local binding, of over a thousand octets, is set to zeros as the function begins.
 #[inline(never)]
 fn append_exception(
     table: &Table,
     asked: &BindingRef<'_>,
-    draft: Draft,
+    reply: ReplyBindings,
     out: &mut [u8; MAX_DATAGRAM],
-) -> Draft
+) -> ReplyBindings
     requires writable { IsWritable asked.now }
     requires none { get table.now.rows asked.now.name ≡ None }
-    ensures { Adds (IsGet table.now asked.now.name) (held draft out.old) (held result out.new) }
+    ensures { Adds (IsGet table.now asked.now.name) (held reply out.old) (held result out.new) }
 {
     let mut binding = blank();
     asked.name().read_into(&mut binding.name);
     binding.value = table.exception(&binding.name);
-    draft.append(out, &binding)
+    reply.append(out, &binding)
 }
 
-/// Writes what a GetNext of a binding's name gives, as [`append_answer`] does. The hint is told of
-/// the row.
+/// Appends what a GetNext of a binding's name returns, and keeps the row in the hint as the last
+/// one that was given.
 pub fn append_next(
     table: &Table,
     asked: &BindingRef<'_>,
-    draft: Draft,
+    reply: ReplyBindings,
     out: &mut [u8; MAX_DATAGRAM],
     hint: &mut Guesses<'_>,
-) -> Draft
+) -> ReplyBindings
     requires { IsWritable asked.now }
-    ensures { Adds (IsNext table.now asked.now.name) (held draft out.old) (held result out.new) }
+    ensures { Adds (IsNext table.now asked.now.name) (held reply out.old) (held result out.new) }
 {
     order();
     let name = asked.name();
@@ -145,74 +130,30 @@ pub fn append_next(
     match rows.next_row() {
         Some(row) => {
             hint.keep_last(rows.left());
-            draft.append_row(out, row)
+            reply.append_row(out, row)
         }
-        None => append_end(&Given::Asked(name), draft, out),
+        None => append_end(&Given::Asked(name), reply, out),
     }
 }
 
-/// Writes a binding of a request as it was asked, as [`append_answer`] does. Not inlined: its copy,
-/// of over a thousand octets, is set to zeros as the function begins.
+/// Appends a binding of a request as it came. Not inlined: its local binding, of over a thousand
+/// octets, is set to zeros as the function begins.
 #[inline(never)]
-fn append_same(asked: &BindingRef<'_>, draft: Draft, out: &mut [u8; MAX_DATAGRAM]) -> Draft
+fn append_same(
+    asked: &BindingRef<'_>,
+    reply: ReplyBindings,
+    out: &mut [u8; MAX_DATAGRAM],
+) -> ReplyBindings
     requires { IsWritable asked.now }
-    ensures { held result out.new ≡ add (held draft out.old) asked.now }
+    ensures { held result out.new ≡ add (held reply out.old) asked.now }
 {
     let mut binding = blank();
     asked.read_into(&mut binding);
-    draft.append(out, &binding)
+    reply.append(out, &binding)
 }
 
-impl Draft {
-    ghost use Rattle.std.specs.Prelude.{◌≡◌};
-    ghost use Rattle.snmp_wire.specs.Message.{var_bind};
-    ghost use Rattle.snmp_agent.specs.Answering.{IsWritable, add, put, held};
-
-    /// Writes a row after the others, by a copy of its octets.
-    #[inline]
-    pub fn append_row(self, out: &mut [u8; MAX_DATAGRAM], row: &EncodedBinding) -> Draft
-        ensures { held result out.new ≡ add (held self out.old) row.now }
-    {
-        self.append_octets(out, row.octets())
-    }
-
-    /// Writes octets after the others.
-    fn append_octets(self, out: &mut [u8; MAX_DATAGRAM], octets: &[u8]) -> Draft
-        ensures { held result out.new ≡ put (held self out.old) octets.now }
-    {
-        if octets.len() > self.left {
-            return self.full();
-        }
-        let end = self.total + octets.len();
-        out[self.total..end].copy_from_slice(octets);
-        Draft {
-            total: end,
-            left: self.left - octets.len(),
-        }
-    }
-
-    /// Writes a binding after the others.
-    pub fn append(self, out: &mut [u8; MAX_DATAGRAM], binding: &Binding<'_>) -> Draft
-        requires { IsWritable (var_bind binding.now) }
-        ensures { held result out.new ≡ add (held self out.old) (var_bind binding.now) }
-    {
-        if !is_short(&binding.value) {
-            element_sizes();
-            return self.full();
-        }
-        let room = self.total + self.left;
-        if let Some(size) = encode_binding(binding, &mut out[self.total..room]) {
-            return Draft {
-                total: self.total + size,
-                left: self.left - size,
-            };
-        }
-        self.full()
-    }
-}
-
-/// How many octets the bindings of a message of these parts may take at most, so that it has at
-/// most `max_size`. None where it has more even without them.
+/// The most octets that the bindings of a message of these parts may take if it is to have at most
+/// `max_size`. None where it has more even without bindings.
 pub fn room_for_bindings(parts: &Parts<'_>, max_size: usize) -> Option<usize>
     requires community { length parts.now.community.now ≤ 255 }
     requires datagram { max_size ≤ 65507 }
@@ -233,15 +174,4 @@ pub fn room_for_bindings(parts: &Parts<'_>, max_size: usize) -> Option<usize>
         room += 1;
     }
     Some(room)
-}
-
-/// Whether a string has at most 65535 octets. Those of a table do; a Set may bring longer ones,
-/// which no datagram holds.
-fn is_short(value: &ValueRef<'_>) -> bool
-    ensures { IsTrue result ↔ IsShortValue (datum value.now) }
-{
-    match value {
-        ValueRef::Octets(text) | ValueRef::Opaque(text) => text.len() <= 65535,
-        _ => true,
-    }
 }

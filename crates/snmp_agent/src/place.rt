@@ -1,12 +1,11 @@
-//! Where the names that repeat in a GetBulk stand among the rows of a table.
+//! Where each repeating name of a GetBulk stands among the rows of a table.
 ghost use Rattle.std.specs.Prelude.{◌≡◌};
 ghost use Rattle.snmp_oid.specs.Identifier.{IsWire};
 ghost use Rattle.snmp_wire.specs.Message.{end_of_mib_view};
 ghost use Rattle.snmp_agent.specs.Answering.{add, held};
 ghost use Rattle.snmp_agent.specs.Standing.{name_of};
 
-use crate::draft::blank;
-use crate::room::Draft;
+use crate::room::{ReplyBindings, blank};
 use crate::table::{Guesses, Successors, Table};
 use snmp_oid::order;
 use snmp_wire::{EncodedBinding, EncodedName, MAX_DATAGRAM, ValueRef};
@@ -15,9 +14,9 @@ use std::marker::Model;
 /// What a repeating name of a GetBulk was given in the round before.
 #[derive(Drop)]
 pub enum Given<'a> {
-    /// Nothing: the blank of an array of places.
+    /// Nothing, and there is no name: the default, for an array of places.
     Nothing,
-    /// Nothing: it is the name that a request asks from.
+    /// Nothing yet: this is the name in the request.
     Asked(EncodedName<'a>),
     /// A row.
     Row(&'a EncodedBinding),
@@ -26,7 +25,7 @@ pub enum Given<'a> {
 /// The place of a repeating name of a GetBulk among the rows of the table.
 #[derive(Drop)]
 pub struct Place<'a> {
-    /// What it was given last.
+    /// What the name was given last.
     given: Given<'a>,
     /// The rows after that.
     rows: Successors<'a>,
@@ -60,7 +59,7 @@ impl<'a> Place<'a> {
     ghost use Rattle.snmp_agent.specs.Standing.{Stands, next_at, passed};
     ghost use Rattle.snmp_agent.specs.table.Pages.{AreBehind};
 
-    /// The place of a name that a request asks from.
+    /// The place of a name of a request, before any round.
     pub fn new(table: &'a Table, name: EncodedName<'a>, hint: &mut Guesses<'_>) -> Place<'a>
         ensures name { result.name ≡ name.entry }
         ensures behind { AreBehind table.now name.entry result.rows }
@@ -72,7 +71,7 @@ impl<'a> Place<'a> {
         }
     }
 
-    /// The place of a name that a walk asks from, mostly that of the row that was given last.
+    /// [`Place::new`] for the name that a walk asks from, mostly that of the row given last.
     pub fn of_walk(table: &'a Table, name: EncodedName<'a>, hint: &mut Guesses<'_>) -> Place<'a>
         ensures name { result.name ≡ name.entry }
         ensures behind { AreBehind table.now name.entry result.rows }
@@ -84,7 +83,7 @@ impl<'a> Place<'a> {
         }
     }
 
-    /// The place of a name that was given so many rows before.
+    /// The place of a name of a request after so many rounds.
     pub fn after_rounds(table: &'a Table, name: EncodedName<'a>, rounds: usize) -> Place<'a>
         requires { IsWire name }
         ensures { Stands table.now rounds name.entry result }
@@ -104,7 +103,7 @@ impl<'a> Place<'a> {
         }
     }
 
-    /// How many rows of their page are left, and how many pages after that.
+    /// How many rows are left in the page of the next row, and how many pages after that one.
     #[inline]
     pub fn left(&self) -> (usize, usize) {
         self.rows.left()
@@ -118,30 +117,37 @@ impl<'a> Place<'a> {
         self.rows.is_empty()
     }
 
-    /// Writes what a GetNext gives at the place after the bindings of a draft, and moves the place
-    /// behind that.
+    /// Appends what a GetNext returns at this place to a reply, and moves the place behind that.
     #[inline]
-    pub fn append_next(&mut self, draft: Draft, out: &mut [u8; MAX_DATAGRAM]) -> Draft
+    pub fn append_next(
+        &mut self,
+        reply: ReplyBindings,
+        out: &mut [u8; MAX_DATAGRAM],
+    ) -> ReplyBindings
         requires { IsWire self.old.name }
-        ensures added { held result out.new ≡ add (held draft out.old) (next_at self.old) }
+        ensures added { held result out.new ≡ add (held reply out.old) (next_at self.old) }
         ensures moved { self.new ≡ passed self.old }
     {
         match self.rows.next_row() {
             Some(row) => {
                 self.given = Given::Row(row);
-                draft.append_row(out, row)
+                reply.append_row(out, row)
             }
-            None => append_end(&self.given, draft, out),
+            None => append_end(&self.given, reply, out),
         }
     }
 }
 
-/// Writes the name of what was given last with `EndOfMibView`, after the bindings of a draft. Not
-/// inlined: its binding, of over a thousand octets, is set to zeros as the function begins.
+/// Appends the name of what was given last, with `EndOfMibView`, to a reply. Not inlined: its local
+/// binding, of over a thousand octets, is set to zeros as the function begins.
 #[inline(never)]
-pub fn append_end(given: &Given<'_>, draft: Draft, out: &mut [u8; MAX_DATAGRAM]) -> Draft
+pub fn append_end(
+    given: &Given<'_>,
+    reply: ReplyBindings,
+    out: &mut [u8; MAX_DATAGRAM],
+) -> ReplyBindings
     requires { IsWire (name_of given.now) }
-    ensures { held result out.new ≡ add (held draft out.old)
+    ensures { held result out.new ≡ add (held reply out.old)
         (record { name = name_of given.now; value = end_of_mib_view }) }
 {
     let mut binding = blank();
@@ -151,5 +157,5 @@ pub fn append_end(given: &Given<'_>, draft: Draft, out: &mut [u8; MAX_DATAGRAM])
         Given::Row(row) => row.name().read_into(&mut binding.name),
     }
     binding.value = ValueRef::EndOfMibView;
-    draft.append(out, &binding)
+    reply.append(out, &binding)
 }

@@ -2,7 +2,7 @@
 ghost use Rattle.std.specs.Prelude.{◌≡◌, ◌≤◌, length, IfOk, IfErr};
 ghost use Rattle.std.specs.List.{insert};
 
-use crate::table::search::find_row;
+use crate::table::search::{Placed, find_row};
 use snmp_wire::{EncodedBinding, EncodedName};
 use std::alloc::{AllocError, Global};
 
@@ -118,6 +118,24 @@ impl Page {
     {
         let _ = self.rows.remove(place);
         give_back(&mut self.rows);
+    }
+}
+
+impl Placed for Page {
+    ghost use Rattle.std.specs.Prelude.{◌≡◌};
+    ghost use Rattle.snmp_agent.specs.table.Pages.{begins_up_to};
+
+    ghost up_to = { λ o page. begins_up_to o page.rows.items };
+
+    // Hot: each turn of a search for a page.
+    #[inline(always)]
+    fn is_up_to(&self, name: &EncodedName<'_>) -> bool
+        ensures { result ≡ begins_up_to name.now self.now.rows.items }
+    {
+        match self.rows.as_slice().first() {
+            Some(row) => row.is_up_to(name),
+            None => true,
+        }
     }
 }
 

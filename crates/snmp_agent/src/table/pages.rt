@@ -6,7 +6,7 @@ ghost use Rattle.std.specs.Cmp.Lexicographic.{slice_cmp};
 ghost use Rattle.std.specs.FinMap.{find, from_sorted};
 ghost use Rattle.std.specs.Option.{option_map_or};
 ghost use Rattle.snmp_wire.specs.Message.{Datum};
-ghost use Rattle.snmp_agent.specs.table.Places.{entry_of, last_name};
+ghost use Rattle.snmp_agent.specs.table.Places.{IsAfterAll, entry_of, last_name};
 ghost use Rattle.snmp_agent.specs.table.Pages.{ArePages, IsPageOf, IsLongPage, IsPageWithRoom};
 ghost use Rattle.snmp_agent.specs.table.Pages.{IsRowIn, IsWithoutRow, StandsApart, entries_in};
 ghost use Rattle.snmp_agent.specs.table.Pages.{entries_of};
@@ -16,7 +16,7 @@ use crate::table::hashes::Hashes;
 use crate::table::hint::{Guess, Guesses};
 use crate::table::late::{Late, sort_falling};
 use crate::table::page::{PAGE_ROWS, Page};
-use crate::table::search::{Placed, ends_before, find_row, page_near, page_of, place_near, row_at};
+use crate::table::search::{Placed, count_between, find_row, near, place_near, row_at};
 use snmp_oid::order;
 use snmp_wire::{Binding, EncodedBinding, EncodedName, Oid, ValueRef};
 use std::alloc::{AllocError, Global};
@@ -457,6 +457,41 @@ fn stands_between(name: &EncodedName<'_>, front: &[EncodedBinding], rows: &[Enco
             Some(next) => next.name().compare(name).is_gt(),
             None => false,
         },
+    }
+}
+
+/// The place of the only page that may have a row of this name: the last one that begins with it or
+/// a name before it, else the first.
+fn page_of(pages: &[Page], name: &EncodedName<'_>) -> usize
+    requires { ArePages pages.now }
+    ensures { IsPageOf name.now pages.now result }
+{
+    count_between(pages, name, 0, pages.len()).saturating_sub(1)
+}
+
+/// [`page_of`], from a guess of it. Nothing is searched where the guess is right.
+fn page_near(pages: &[Page], name: &EncodedName<'_>, guess: usize) -> usize
+    requires { ArePages pages.now }
+    ensures { IsPageOf name.now pages.now result }
+{
+    let (begun, end) = near(pages, name, guess);
+    count_between(pages, name, begun, end).saturating_sub(1)
+}
+
+/// Whether all rows come before the name.
+// Hot: each row of a table that is read.
+#[inline(always)]
+fn ends_before(pages: &[Page], name: &EncodedName<'_>) -> bool
+    requires { ArePages pages.now }
+    ensures before { IsTrue result → IsAfterAll name.now (entries_in pages.now) }
+    ensures some { (IsTrue result → ⊥) → 1 ≤ length pages.now }
+{
+    let Some(page) = pages.last() else {
+        return true;
+    };
+    match page.rows.as_slice().last() {
+        Some(row) => row.name().compare(name).is_lt(),
+        None => unreachable!(),
     }
 }
 

@@ -1,25 +1,23 @@
-//! Where the rows of names stand among others.
-ghost use Rattle.std.specs.Prelude.{◌≡◌, ◌<◌, ◌≤◌, Bool, List, ℕ, length, IfOk, IfErr, IfSome};
-ghost use Rattle.std.specs.Prelude.{IsTrue};
+//! Searches by name in lists whose names rise: by halves, or from a guess of the place.
+ghost use Rattle.std.specs.Prelude.{◌≡◌, ◌<◌, ◌≤◌, Bool, List, ℕ, IfOk, IfErr, IfSome};
 ghost use Rattle.std.specs.List.Sorted.{IsPartitionedBy};
 ghost use Rattle.std.specs.Option.{option_map};
 ghost use Rattle.std.specs.Ordering.{nat_cmp};
 ghost use Rattle.std.specs.Cmp.Lexicographic.{slice_cmp};
 ghost use Rattle.std.specs.FinMap.{find};
-ghost use Rattle.snmp_agent.specs.table.Places.{IsAfterAll};
 ghost use Rattle.snmp_agent.specs.table.Halving.{IsHalvedTo};
-ghost use Rattle.snmp_agent.specs.table.Pages.{IsRising, ArePages};
-ghost use Rattle.snmp_agent.specs.table.Pages.{entries_in, entries_of};
-ghost use Rattle.snmp_agent.specs.table.Pages.{HasNameAt, BelongsAt, IsPageOf, IsPlaceAfter};
+ghost use Rattle.snmp_agent.specs.table.Pages.{IsRising, HasNameAt, BelongsAt, IsPlaceAfter};
+ghost use Rattle.snmp_agent.specs.table.Pages.{entries_of};
 
-use crate::table::page::Page;
 use snmp_wire::{EncodedBinding, EncodedName};
 
-/// What stands in lists by rising names.
+/// An element of a list whose names rise: a row, or several rows together.
 pub trait Placed {
-    /// Whether it has the name or one before it, or begins so.
+    /// Whether the element is up to the name: its row, or the first of its rows, has the name or
+    /// one before it.
     ghost up_to: { List ℕ → Self → Bool };
 
+    /// Whether the element is up to the name.
     fn is_up_to(&self, name: &EncodedName<'_>) -> bool
         ensures { result ≡ up_to name.now self.now };
 }
@@ -38,28 +36,15 @@ impl Placed for EncodedBinding {
     }
 }
 
-impl Placed for Page {
-    ghost use Rattle.std.specs.Prelude.{◌≡◌};
-    ghost use Rattle.snmp_agent.specs.table.Pages.{begins_up_to};
-
-    ghost up_to = { λ o page. begins_up_to o page.rows.items };
-
-    // Hot: each turn of a search for a page.
-    #[inline(always)]
-    fn is_up_to(&self, name: &EncodedName<'_>) -> bool
-        ensures { result ≡ begins_up_to name.now self.now.rows.items }
-    {
-        match self.rows.as_slice().first() {
-            Some(row) => row.is_up_to(name),
-            None => true,
-        }
-    }
-}
-
-/// How many are up to the name, where those before the one place are, and those from the other on
-/// aren't.
+/// How many elements are up to the name, where those before the place `from` are, and those from
+/// the place `to` on aren't.
 #[inline(always)]
-fn count_between<T: Placed>(items: &[T], name: &EncodedName<'_>, from: usize, to: usize) -> usize
+pub fn count_between<T: Placed>(
+    items: &[T],
+    name: &EncodedName<'_>,
+    from: usize,
+    to: usize,
+) -> usize
     requires parted { IsPartitionedBy (T.up_to name.now) items.now }
     requires halved { IsHalvedTo (T.up_to name.now) items.now from to }
     ensures { IsHalvedTo (T.up_to name.now) items.now result result }
@@ -77,9 +62,11 @@ fn count_between<T: Placed>(items: &[T], name: &EncodedName<'_>, from: usize, to
     begun
 }
 
-/// What is left of them by a guess of the last that is up to the name: none where it is right.
+/// Narrows a search by a guess of the last element that is up to the name. Those before the first
+/// place returned are up to the name, and those from the second on aren't: the places are the same
+/// where the guess is right.
 #[inline(always)]
-fn near<T: Placed>(items: &[T], name: &EncodedName<'_>, guess: usize) -> (usize, usize)
+pub fn near<T: Placed>(items: &[T], name: &EncodedName<'_>, guess: usize) -> (usize, usize)
     requires { IsPartitionedBy (T.up_to name.now) items.now }
     ensures { IsHalvedTo (T.up_to name.now) items.now result.0 result.1 }
 {
@@ -95,7 +82,7 @@ fn near<T: Placed>(items: &[T], name: &EncodedName<'_>, guess: usize) -> (usize,
     }
 }
 
-/// What is left of them by the test of one.
+/// Narrows a search, from `begun` to `end`, by the test of the element at one place between.
 #[inline(always)]
 fn by_test<T: Placed>(
     items: &[T],
@@ -117,42 +104,7 @@ fn by_test<T: Placed>(
     }
 }
 
-/// The place of the only page that may have a row of this name: the last one that begins with it or
-/// a name before it, else the first.
-pub fn page_of(pages: &[Page], name: &EncodedName<'_>) -> usize
-    requires { ArePages pages.now }
-    ensures { IsPageOf name.now pages.now result }
-{
-    count_between(pages, name, 0, pages.len()).saturating_sub(1)
-}
-
-/// [`page_of`] the name. Nothing is searched where the guess is right.
-pub fn page_near(pages: &[Page], name: &EncodedName<'_>, guess: usize) -> usize
-    requires { ArePages pages.now }
-    ensures { IsPageOf name.now pages.now result }
-{
-    let (begun, end) = near(pages, name, guess);
-    count_between(pages, name, begun, end).saturating_sub(1)
-}
-
-/// Whether all rows come before the name.
-// Hot: each row of a table that is read.
-#[inline(always)]
-pub fn ends_before(pages: &[Page], name: &EncodedName<'_>) -> bool
-    requires { ArePages pages.now }
-    ensures before { IsTrue result → IsAfterAll name.now (entries_in pages.now) }
-    ensures some { (IsTrue result → ⊥) → 1 ≤ length pages.now }
-{
-    let Some(page) = pages.last() else {
-        return true;
-    };
-    match page.rows.as_slice().last() {
-        Some(row) => row.name().compare(name).is_lt(),
-        None => unreachable!(),
-    }
-}
-
-/// How many rows at the front have the name or one before it.
+/// How many rows have the name or one before it.
 pub fn place_after(rows: &[EncodedBinding], name: &EncodedName<'_>) -> usize
     requires { IsRising rows.now }
     ensures { IsPlaceAfter name.now rows.now result }
@@ -160,17 +112,17 @@ pub fn place_after(rows: &[EncodedBinding], name: &EncodedName<'_>) -> usize
     count_between(rows, name, 0, rows.len())
 }
 
-/// [`place_after`] the name. Nothing is searched where the guess is right.
+/// [`place_after`], from a guess of it. Nothing is searched where the guess is right.
 pub fn place_near(rows: &[EncodedBinding], name: &EncodedName<'_>, guess: usize) -> usize
     requires { IsRising rows.now }
     ensures { IsPlaceAfter name.now rows.now result }
 {
-    // The last of so many rows. Of none there is none, and then all are searched.
+    // The guess of the last row up to the name is one less. Where there is none, all are searched.
     let (passed, end) = near(rows, name, guess.wrapping_sub(1));
     count_between(rows, name, passed, end)
 }
 
-/// The row of this name, by how many rows have it or one before it.
+/// The row of this name. `place` is how many rows have the name or one before it.
 #[inline]
 pub fn row_at<'a>(
     rows: &'a [EncodedBinding],
@@ -193,7 +145,7 @@ pub fn row_at<'a>(
     }
 }
 
-/// The place of the row of this name, or else, as an error, the place where it belongs.
+/// The place of the row of this name, or as an error the place where such a row belongs.
 pub fn find_row(rows: &[EncodedBinding], name: &EncodedName<'_>) -> Result<usize, usize>
     requires { IsRising rows.now }
     ensures found { IfOk result (HasNameAt name.now rows.now) }

@@ -2,7 +2,7 @@ use Rattle.std.proofs.Common.{pos, [], arith}
 use Rattle.std.proofs.lemmas.Option.{IfSome_then}
 use Rattle.snmp_wire.specs.Parts.{parts_message}
 use Rattle.snmp_agent.specs.Reply.{IsResponse, response, too_big}
-use Rattle.snmp_agent.proofs.Drafts.{if_none}
+use Rattle.snmp_agent.proofs.ReplyBindings.{if_none}
 use Rattle.snmp_agent.proofs.Lengths.{not_none}
 use Rattle.snmp_agent.proofs.Requests.{finished, replaced}
 use Rattle.snmp_agent.proofs.agent.paired_reply.Goals as goal

@@ -20,7 +20,7 @@ returns-then-is_full c =
     let found = c.bindings.invariant.others rest.0 rest.1 in (
       found.0,
       found.1,
-      sym (found.2 ∙ fill_full (held c.bindings.draft c.bindings.out) rest.0 full),
+      sym (found.2 ∙ fill_full (held c.bindings.reply c.bindings.out) rest.0 full),
       λ over. absurd (false≢true over),
       λ some over ends. absurd (some full),
     )
@@ -28,8 +28,8 @@ returns-then-is_full c =
 pub after_rounds-place-requires : goal.after_rounds-place-requires
 after_rounds-place-requires c = subst IsWire (sym c.name.ensures) (subst AreWritable c.in-Some.ensures.some c.bindings.invariant.writable).0.name
 
-pub append_next-draft-requires : goal.append_next-draft-requires
-append_next-draft-requires c = c.after_rounds-place.ensures.wire
+pub append_next-reply-requires : goal.append_next-reply-requires
+append_next-reply-requires c = c.after_rounds-place.ensures.wire
 
 stands : (c : After-after_rounds-place) → Stands c.args.table.now c.args.round c.in-Some.asked.name c.after_rounds-place.result
 stands c = subst (λ (o : List ℕ). Stands c.args.table.now c.args.round o c.after_rounds-place.result) c.name.ensures c.after_rounds-place.ensures
@@ -46,7 +46,7 @@ bindings-preserved c =
           (given_there c.order.ensures.less c.args.table.now c.args.round c.in-Some.asked.name place at, h)) in (
             found.0,
             found.1,
-            found.2 ∙ ap (λ (g : Held). fill g rest) (sym c.append_next-draft.ensures.added),
+            found.2 ∙ ap (λ (g : Held). fill g rest) (sym c.append_next-reply.ensures.added),
             λ over ends. elim c.if-are_over.branch [
               | then-are_over w ↦ found.3 w.if-are_over.true (end_there place (c.is_at_end-is_last.ensures.0 (sym w.are_over-is ∙ over)), ends)
               | else-are_over w ↦ absurd (false≢true (sym w.if-are_over.false ∙ sym w.are_over-is ∙ over))

@@ -8,7 +8,7 @@ use Rattle.snmp_agent.proofs.bulk.append_others.Given as goal
 abbrev pub invariant-bindings : goal.invariant-bindings
 invariant-bindings l = record {
   others : (rest : List VarBind) → AreGiven l.table l.round l.bindings rest → (all : List VarBind) × AreGiven l.table l.round l.fn.bindings all
-      × (fill (held l.fn.draft l.fn.out) all ≡ fill (held l.draft l.out) rest) × ((l.are_over ≡ true) → AreEnds rest → (l.fn.are_over ≡ true) × AreEnds all)
+      × (fill (held l.fn.reply l.fn.out) all ≡ fill (held l.reply l.out) rest) × ((l.are_over ≡ true) → AreEnds rest → (l.fn.are_over ≡ true) × AreEnds all)
       × ((l.fn.are_over ≡ true) → AreEnds all → (l.are_over ≡ true) × AreEnds rest);
   writable : AreWritable l.bindings;
 }

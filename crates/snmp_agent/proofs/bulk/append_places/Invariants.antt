@@ -7,5 +7,5 @@ use Rattle.snmp_agent.proofs.bulk.append_places.Given as goal
 abbrev pub invariant-places : goal.invariant-places
 invariant-places l = record {
   moved : l.places ≡ map passed (take l.place-index l.fn.places) ++ drop l.place-index l.fn.places;
-  others : fill (held l.fn.draft l.fn.out) (map next_at l.fn.places) ≡ fill (held l.draft l.out) (map next_at (drop l.place-index l.fn.places));
+  others : fill (held l.fn.reply l.fn.out) (map next_at l.fn.places) ≡ fill (held l.reply l.out) (map next_at (drop l.place-index l.fn.places));
 }

@@ -15,12 +15,12 @@ use Rattle.snmp_agent.proofs.bulk.append_rounds.Goals.{After-append_others-is_ov
 
 pub rounds-init : goal.rounds-init
 rounds-init c = record {
-  rounds = rounds_first c.args.table.now c.args.bindings.now c.args.repetitions (held c.args.draft c.args.out.now);
+  rounds = rounds_first c.args.table.now c.args.bindings.now c.args.repetitions (held c.args.reply c.args.out.now);
   standing = c.requires.standing;
 }
 
-pub append_places-draft-requires : goal.append_places-draft-requires
-append_places-draft-requires c =
+pub append_places-reply-requires : goal.append_places-reply-requires
+append_places-reply-requires c =
     let standing = c.rounds.invariant.standing in standing_wire c.args.table.now c.rounds.round standing.0 c.rounds.places standing.2
 
 -- what the round gives
@@ -40,18 +40,18 @@ given c =
     (standing_given c.order.ensures.less view c.rounds.round standing.0 c.rounds.places standing.2) others)
 
 new : (c : After-append_others-is_over) → held c.append_others-is_over.result.0 c.append_others-is_over.new.out
-    ≡ fill (held c.rounds.draft c.rounds.out) (round c)
+    ≡ fill (held c.rounds.reply c.rounds.out) (round c)
 new c =
-    c.append_others-is_over.ensures.2 ∙ ap (λ (h : Held). fill h c.append_others-is_over.ensures.0) c.append_places-draft.ensures.filled
-    ∙ sym (fill_both (held c.rounds.draft c.rounds.out) (map next_at c.rounds.places) c.append_others-is_over.ensures.0)
+    c.append_others-is_over.ensures.2 ∙ ap (λ (h : Held). fill h c.append_others-is_over.ensures.0) c.append_places-reply.ensures.filled
+    ∙ sym (fill_both (held c.rounds.reply c.rounds.out) (map next_at c.rounds.places) c.append_others-is_over.ensures.0)
 
 -- the last round
 over : (c : After-append_others-is_over) → (c.append_others-is_over.result.0.left ≡ 0) ⊎ AreEnds (round c)
-    → FillsRounds c.args.table.now c.args.bindings.now c.args.repetitions (held c.args.draft c.args.out.now)
+    → FillsRounds c.args.table.now c.args.bindings.now c.args.repetitions (held c.args.reply c.args.out.now)
     (held c.append_others-is_over.result.0 c.append_others-is_over.new.out)
 over c is =
-    rounds_over c.args.table.now c.args.bindings.now c.args.repetitions (held c.args.draft c.args.out.now) c.one_answer.ensures.get_bulk c.rounds.round
-    (held c.rounds.draft c.rounds.out) (held c.append_others-is_over.result.0 c.append_others-is_over.new.out) (round c) c.rounds-test.true
+    rounds_over c.args.table.now c.args.bindings.now c.args.repetitions (held c.args.reply c.args.out.now) c.one_answer.ensures.get_bulk c.rounds.round
+    (held c.rounds.reply c.rounds.out) (held c.append_others-is_over.result.0 c.append_others-is_over.new.out) (round c) c.rounds-test.true
     c.rounds.invariant.rounds
     (given c) (new c) is
 
@@ -71,9 +71,9 @@ rounds-preserved c =
     let k = (goal.at.rounds-preserved c).After-append_others-is_over in
     let standing = c.rounds.invariant.standing in
     let some : c.append_others-is_over.result.0.left ≢ 0 = λ full. let is = c.is_full.ensures.1 full in let isnt = c.if-is_full.false in absurd (cc) in
-    let room : c.append_places-draft.result.left ≢ 0 = λ full.
+    let room : c.append_places-reply.result.left ≢ 0 = λ full.
     some (ap (λ (h : Held). h.left) (c.append_others-is_over.ensures.2
-    ∙ fill_full (held c.append_places-draft.result c.append_places-draft.new.out) c.append_others-is_over.ensures.0 full) ∙ full) in
+    ∙ fill_full (held c.append_places-reply.result c.append_places-reply.new.out) c.append_others-is_over.ensures.0 full) ∙ full) in
     let row : HasRow (round k) = λ ends.
     let parts = (ends_both (map next_at c.rounds.places) c.append_others-is_over.ensures.0).1 ends in
     let all = c.are_at_end-are_over.ensures.1 (given_ends view c.is_mib_view.ensures c.rounds.round standing.0 c.rounds.places standing.2 parts.0) in
@@ -81,18 +81,18 @@ rounds-preserved c =
     let isnt = c.if-is_over.false in
     absurd (cc) in
     record {
-      rounds = rounds_next view c.args.bindings.now c.args.repetitions (held c.args.draft c.args.out.now) c.rounds.round
-          (held c.rounds.draft c.rounds.out) (held c.append_others-is_over.result.0 c.append_others-is_over.new.out) (round k) c.rounds.invariant.rounds
+      rounds = rounds_next view c.args.bindings.now c.args.repetitions (held c.args.reply c.args.out.now) c.rounds.round
+          (held c.rounds.reply c.rounds.out) (held c.append_others-is_over.result.0 c.append_others-is_over.new.out) (round k) c.rounds.invariant.rounds
           (given k) row (new k);
       standing = (
         standing.0,
         standing.1,
-        subst (λ (ps : List Standing). AreStanding view (c.rounds.round + 1) standing.0 ps) (sym (c.append_places-draft.ensures.moved room))
+        subst (λ (ps : List Standing). AreStanding view (c.rounds.round + 1) standing.0 ps) (sym (c.append_places-reply.ensures.moved room))
             (standing_passed c.order.ensures.less view c.is_mib_view.ensures c.rounds.round standing.0 c.rounds.places standing.2),
       );
     }
 
 pub returns : goal.returns
 returns c =
-    rounds_end c.args.table.now c.args.bindings.now c.args.repetitions (held c.args.draft c.args.out.now) c.rounds.round
-    (held c.rounds.draft c.rounds.out) (omega (arith, c.rounds-test.false)) c.rounds.invariant.rounds
+    rounds_end c.args.table.now c.args.bindings.now c.args.repetitions (held c.args.reply c.args.out.now) c.rounds.round
+    (held c.rounds.reply c.rounds.out) (omega (arith, c.rounds-test.false)) c.rounds.invariant.rounds

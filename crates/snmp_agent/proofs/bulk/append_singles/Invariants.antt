@@ -7,7 +7,7 @@ use Rattle.snmp_agent.proofs.bulk.append_singles.Given as goal
 abbrev pub invariant-singles : goal.invariant-singles
 invariant-singles l = record {
   others : (left : ℕ) → l.counter + left ≡ l.count
-      → Goes (AreGiven l.table 0 (take l.count l.fn.bindings)) (AreGiven l.table 0 (take left l.bindings)) (held l.fn.draft l.fn.out) (held l.draft l.out);
+      → Goes (AreGiven l.table 0 (take l.count l.fn.bindings)) (AreGiven l.table 0 (take left l.bindings)) (held l.fn.reply l.fn.out) (held l.reply l.out);
   left : (left : ℕ) → l.counter + left ≡ l.count → drop left l.bindings ≡ drop l.count l.fn.bindings;
   writable : AreWritable l.bindings;
 }

@@ -8,9 +8,9 @@ use Rattle.snmp_agent.proofs.draft.append_answers.Given as goal
 abbrev pub invariant-bindings : goal.invariant-bindings
 invariant-bindings l = record {
   others : Goes (AreAnswers (IsAnswer l.table l.kind) l.fn.bindings) (AreAnswers (IsAnswer l.table l.kind) l.bindings)
-      (record { octets = []; left = l.room + 1 }) (held l.draft l.out);
-  some : l.draft.left ≢ 0;
-  long : l.draft.total ≤ length l.out;
+      (record { octets = []; left = l.room + 1 }) (held l.reply l.out);
+  some : l.reply.left ≢ 0;
+  long : l.reply.total ≤ length l.out;
   writable : AreWritable l.bindings;
 }
 

@@ -4,7 +4,7 @@ use Rattle.std.specs.Cmp.Lexicographic.{slice_cmp}
 use Rattle.snmp_agent.proofs.Lists.{IsLast}
 use Rattle.snmp_agent.proofs.Paging.{after_all}
 use Rattle.snmp_agent.proofs.Rising.{less_from_test}
-use Rattle.snmp_agent.proofs.table.search.ends_before.Goals as goal
+use Rattle.snmp_agent.proofs.table.pages.ends_before.Goals as goal
 
 pub returns-clause-before : goal.returns-clause-before
 returns-clause-before c = λ before.

@@ -1,4 +1,4 @@
--- Replies in the making.
+-- The bindings of a reply, and whether a message with them keeps to its limit.
 use Rattle.std.proofs.Common.{◌≡◌, ◌≢◌, ℕ, ◌+◌, ◌<◌, List, [], ◌∷◌, ◌++◌, length, take, refl, sym}
 use Rattle.std.proofs.Common.{ap, subst, ◌∙◌, arith, length-append, Option, Some, None, IfNone}
 use Rattle.std.proofs.lemmas.List.{append-nil}
@@ -6,7 +6,7 @@ use Rattle.std.proofs.lemmas.Grind.{flat_map-append}
 use Rattle.snmp_wire.specs.Message.{VarBind, Message}
 use Rattle.snmp_wire.specs.Canon.{canon_binding, canon_bindings}
 use Rattle.snmp_wire.specs.Sizes.{MessageSizes}
-use Rattle.snmp_agent.specs.declared.room.Draft.{Draft}
+use Rattle.snmp_agent.specs.declared.room.ReplyBindings.{ReplyBindings}
 use Rattle.snmp_agent.specs.Answering.{HoldsBindings, IsRoom, PassesLimit, held}
 use Rattle.snmp_agent.proofs.Fronts.{HasNoRoom, HoldsFront}
 use Rattle.snmp_agent.proofs.Lengths.{within, beyond}
@@ -19,25 +19,25 @@ longer_by front rest p =
     ap length (flat_map-append canon_binding front (p ∷ rest)) ∙ length-append (canon_bindings front) (canon_bindings (p ∷ rest))
     ∙ ap (λ k. length (canon_bindings front) + k) (length-append (canon_binding p) (canon_bindings rest))
 
-module _ (sizes : MessageSizes) (m : Message) (limit room : ℕ) (is_room : IsRoom m limit room) (draft : Draft) (out : List ℕ) (given : List VarBind)
-    (size : length (take draft.total out) ≡ draft.total) (front : HoldsFront (room + 1) [] given (held draft out)) where
-  -- what a draft holds that had room for one octet more keeps to the limit where it isn't full
-  pub kept : draft.left ≢ 0 → HoldsBindings m limit given draft.total out
+module _ (sizes : MessageSizes) (m : Message) (limit room : ℕ) (is_room : IsRoom m limit room) (reply : ReplyBindings) (out : List ℕ) (given : List VarBind)
+    (size : length (take reply.total out) ≡ reply.total) (front : HoldsFront (room + 1) [] given (held reply out)) where
+  -- bindings that had room for one octet more than the limit allows keep to it where some room is left
+  pub kept : reply.left ≢ 0 → HoldsBindings m limit given reply.total out
   kept some = by_more front.more refl
     where
-      by_more : (more : List VarBind) → more ≡ front.more → HoldsBindings m limit given draft.total out
+      by_more : (more : List VarBind) → more ≡ front.more → HoldsBindings m limit given reply.total out
       by_more [] e =
           let all : given ≡ front.added = front.front ∙ ap (λ ps. front.added ++ ps) (sym e) ∙ append-nil front.added in
-          let octets : take draft.total out ≡ canon_bindings given = front.octets ∙ ap canon_bindings (sym all) in
+          let octets : take reply.total out ≡ canon_bindings given = front.octets ∙ ap canon_bindings (sym all) in
           record {
             total_size = sym size ∙ ap length octets;
             octets = octets;
-            fits = within sizes m limit room draft.total is_room (omega (arith, size, front.fits));
+            fits = within sizes m limit room reply.total is_room (omega (arith, size, front.fits));
           }
       by_more (p ∷ more) e = absurd (some (front.full (λ none. let never : p ∷ more ≡ [] = e ∙ none in cc)))
 
-  -- and where it is full, they pass it
-  pub past : draft.left ≡ 0 → PassesLimit m limit given
+  -- and where none is left, they pass it
+  pub past : reply.left ≡ 0 → PassesLimit m limit given
   past full = beyond sizes m limit room (length (canon_bindings given)) is_room (by_more front.more refl)
     where
       by_more : (more : List VarBind) → more ≡ front.more → room < length (canon_bindings given)
@@ -46,8 +46,8 @@ module _ (sizes : MessageSizes) (m : Message) (limit room : ℕ) (is_room : IsRo
           omega (arith, ap (λ ps. length (canon_bindings ps)) all, ap length front.octets, front.whole (sym e))
       by_more (p ∷ more) e =
           let all : given ≡ front.added ++ p ∷ more = front.front ∙ ap (λ ps. front.added ++ ps) (sym e) in
-          let large : room + 1 < length (take draft.total out) + length (canon_binding p) =
-          subst (λ (ps : List VarBind). HasNoRoom (room + 1) (length (take draft.total out)) ps) (sym e) front.no_room in
+          let large : room + 1 < length (take reply.total out) + length (canon_binding p) =
+          subst (λ (ps : List VarBind). HasNoRoom (room + 1) (length (take reply.total out)) ps) (sym e) front.no_room in
           omega (arith, ap (λ ps. length (canon_bindings ps)) all, longer_by front.added more p, ap length front.octets, large)
 
 -- what holds in any case holds where there is nothing

@@ -1,6 +1,6 @@
 use Rattle.std.proofs.Common.{◌∙◌, ap}
 use Rattle.snmp_agent.specs.Answering.{add, put, held}
-use Rattle.snmp_agent.proofs.room.Draft.append_row.Goals as goal
+use Rattle.snmp_agent.proofs.room.ReplyBindings.append_row.Goals as goal
 
 pub returns : goal.returns
 unfolding add

@@ -1,7 +1,7 @@
 use Rattle.std.proofs.Common.{◌≡◌, ◌-◌, arith, subst}
 use Rattle.snmp_agent.specs.table.Pages.{IsPageOf}
 use Rattle.snmp_agent.proofs.Partition.{page_before, pages_partitioned}
-use Rattle.snmp_agent.proofs.table.search.page_near.Goals as goal
+use Rattle.snmp_agent.proofs.table.pages.page_near.Goals as goal
 
 pub near-begun-requires : goal.near-begun-requires
 near-begun-requires c = pages_partitioned c.args.name.now c.args.pages.now c.requires

@@ -1,7 +1,7 @@
 use Rattle.std.proofs.Common.{◌≡◌, ◌-◌, arith, subst}
 use Rattle.snmp_agent.specs.table.Pages.{IsPageOf}
 use Rattle.snmp_agent.proofs.Partition.{page_before, pages_partitioned}
-use Rattle.snmp_agent.proofs.table.search.page_of.Goals as goal
+use Rattle.snmp_agent.proofs.table.pages.page_of.Goals as goal
 
 pub count_between-requires-clause-parted : goal.count_between-requires-clause-parted
 count_between-requires-clause-parted c = pages_partitioned c.args.name.now c.args.pages.now c.requires

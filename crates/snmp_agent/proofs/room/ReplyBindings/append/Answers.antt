@@ -6,7 +6,7 @@ use Rattle.std.proofs.lemmas.Grind.{common_steps}
 use Rattle.std.proofs.lemmas.Slice.{take-put_mid_below}
 use Rattle.snmp_agent.proofs.Encodings.{long_binding}
 use Rattle.snmp_agent.proofs.Fronts.{held_more, held_full}
-use Rattle.snmp_agent.proofs.room.Draft.append.Goals as goal
+use Rattle.snmp_agent.proofs.room.ReplyBindings.append.Goals as goal
 
 pub returns-then-not-is_short : goal.returns-then-not-is_short
 returns-then-not-is_short c =
