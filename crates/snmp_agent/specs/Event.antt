@@ -1,4 +1,4 @@
--- What happens where an agent is served.
+-- What happens at the endpoint of a server.
 use Rattle.std.specs.Prelude.{ℕ, List, [], ◌∷◌, ◌++◌, take, Option, Some, None, Result, Ok, Err}
 use Rattle.std.specs.Option.{option_map}
 use Rattle.snmp_agent.specs.declared.endpoint.EndpointFault.{EndpointFault}

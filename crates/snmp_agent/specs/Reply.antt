@@ -11,7 +11,7 @@ use Rattle.snmp_agent.specs.declared.config.Config.{Config}
 use Rattle.snmp_agent.specs.declared.config.Why.{Why}
 use Rattle.snmp_agent.specs.declared.config.Why.TheVariants as why
 
--- an agent: what it serves, its community, and how many octets its messages have at most
+-- an agent: what it serves, its community, and the greatest size of its messages in octets
 pub record Agent : Type 0 where
   pub view : MibView
   pub community : List ℕ
@@ -58,7 +58,7 @@ response q status index bindings = record {
   bindings = bindings;
 }
 
--- each binding of the request is given the one at its place
+-- each binding of the request is answered by the one at its place
 abbrev pub AreAnswers : (VarBind → VarBind → Type 0) → List VarBind → List VarBind → Type 0
 AreAnswers IsAnswer [] [] = Unit {0}
 AreAnswers IsAnswer (asked ∷ more) (given ∷ rest) = IsAnswer asked given
@@ -99,12 +99,12 @@ Fits max_size m = length (canon m) ≤ max_size
 
 -- ---- GetBulk (4.2.3)
 
--- a number that counts as 0 where it is less
+-- a number, or 0 where it is negative
 abbrev pub or_zero : ℤ → ℕ
 or_zero (pos n) = n
 or_zero (negsuc n) = 0
 
--- endOfMibView throughout
+-- all bindings have endOfMibView
 abbrev pub AreEnds : List VarBind → Type 0
 AreEnds [] = Unit {0}
 AreEnds (p ∷ more) = (p.value ≡ end_of_mib_view) × AreEnds more
@@ -114,10 +114,10 @@ abbrev pub joined : List (List VarBind) → List VarBind
 joined [] = []
 joined (round ∷ more) = round ++ joined more
 
--- The rounds of the names that repeat. The round after i others holds for each name, at its place,
--- what a GetNext gives that is asked i times more from the name that it gave: the name's successor
--- number i + 1. There are as many rounds as repetitions; fewer only where the last is endOfMibView
--- throughout, and no round comes after such a one.
+-- The rounds of the names that repeat. The round after i others has for each name, at its place,
+-- what a GetNext gives when it is repeated i times more, each time from the name that it gave
+-- before: the name's successor number i + 1. There are as many rounds as repetitions, or fewer
+-- where all of the last round is endOfMibView; no round comes after such a one.
 pub record AreRounds (view : MibView) (repetitions : ℕ) (names : List VarBind) (rounds : List
     (List VarBind)) : Type 0 where
   pub few : length rounds ≤ repetitions
@@ -132,7 +132,7 @@ pub record AreRounds (view : MibView) (repetitions : ℕ) (names : List VarBind)
 
 -- All variable bindings that a GetBulk asks for, whatever their size: the successors of its first
 -- names, as many as non-repeaters says or all that there are, and then max-repetitions rounds of
--- the other names. Either number counts as 0 where it is less.
+-- the other names. A negative number counts as 0.
 pub record IsBulk (view : MibView) (q : Message) (bindings : List VarBind) : Type 0 where
   pub singles : List VarBind
   pub rounds : List (List VarBind)

@@ -47,8 +47,8 @@ tally done = record {
   faults = count_by (λ t. same_turn turn.Failed t.turn) done;
 }
 
--- Just as many turns as `turns` were done, of which these are the counts, and these events happened
--- in them, one turn after the other.
+-- `turns` turns were done, with these counts of each kind, and these events happened in them, in
+-- order.
 pub record AreTurns {Peer : Type 0} (agent : Agent) (turns : ℕ) (served : Served)
     (events : List (Event Peer)) : Type 0 where
   pub done : List (TurnDone Peer)

@@ -1,5 +1,5 @@
 -- Where the names that repeat in a GetBulk stand among the variables of a view. No clause of a
--- public call is stated by these.
+-- public function cites these definitions.
 use Rattle.std.specs.Prelude.{◌≡◌, ℕ, List, [], ◌∷◌, ◌++◌, All, map}
 use Rattle.snmp_oid.specs.Identifier.{IsWire}
 use Rattle.snmp_wire.specs.Message.{Datum, VarBind}
@@ -16,17 +16,18 @@ name_of given.Nothing = []
 name_of (given.Asked name) = name
 name_of (given.Row row) = row.now.name
 
--- a name, and the variables behind it
+-- a name, and the variables after it
 pub record Standing : Type 0 where
   pub name : List ℕ
   pub rows : List (List ℕ × Datum)
 
--- where a GetNext of the name leaves
+-- where a name stands after a GetNext, where these are the variables after it
 abbrev pub behind_first : List ℕ → List (List ℕ × Datum) → Standing
 behind_first o [] = record { name = o; rows = [] }
 behind_first o (e ∷ es) = record { name = e.0; rows = es }
 
--- what it gives: the first of these variables, else the name itself with endOfMibView
+-- what a GetNext gives at the place: the first variable after the name, else the name itself with
+-- endOfMibView
 abbrev pub next_at : Standing → VarBind
 next_at place = first_or_end place.name (map var_of place.rows)
 

@@ -53,10 +53,11 @@ pub fn answer(
     answer_by(table, config, request, out, &mut hint)
 }
 
-/// [`answer`] for an agent that is asked in turn. It finds a name without a search where the hint
-/// says where it stands, and leaves in the hint where names stood, and the row that it gave last.
+/// [`answer`] for an agent that replies to one request after the other. Where the hint says where a
+/// name stands, it is found without a search. The hint keeps where the names of this request stood,
+/// and the row that was given last.
 ///
-/// No hint changes a reply: any may be handed in, also that of another table.
+/// No reply depends on the hint: any may be handed in, also that of another table.
 pub fn answer_near(
     table: &Table,
     config: &Config<'_>,
@@ -96,7 +97,7 @@ fn answer_by(
     }
 }
 
-/// The request that the octets are, if it is one that the agent serves.
+/// The request that the octets encode, or why the agent doesn't serve it.
 fn accepted<'a>(community: &[u8], octets: &'a [u8]) -> Result<MessageRef<'a>, Why>
     ensures found { IfOk result (IsRequest community.now octets.now) }
     ensures refused { IfErr result (IsRefused community.now octets.now) }
@@ -141,7 +142,7 @@ fn reply(
     }
 }
 
-/// The reply to a GetBulk: as many bindings as fit.
+/// [`reply`] to a GetBulk: with as many bindings as fit.
 fn bulk_reply<'a>(
     table: &'a Table,
     config: &Config<'_>,
@@ -169,8 +170,8 @@ fn bulk_reply<'a>(
     }
 }
 
-/// The reply to a request that has one binding for each of its own: all of them, or an error where
-/// they don't fit.
+/// [`reply`] to a request whose reply has one binding for each of its own: with all of them, or an
+/// error where they don't fit.
 fn paired_reply(
     table: &Table,
     config: &Config<'_>,
@@ -202,7 +203,7 @@ fn paired_reply(
     }
 }
 
-/// The parts of the whole Response to a request, its bindings left out.
+/// The parts of the whole Response to a request, without its bindings.
 fn whole_parts<'a>(request: &MessageRef<'a>) -> Parts<'a>
     ensures { parts_message result ≡ response request.now (whole_status request.now.kind)
         (whole_index request.now.kind request.now.bindings) [] }
@@ -223,7 +224,7 @@ fn failed_place(request: &MessageRef<'_>) -> i32
     }
 }
 
-/// A Response to the request, its bindings left out.
+/// The parts of a Response to the request, without bindings.
 fn response<'a>(request: &MessageRef<'a>, status: i32, index: i32) -> Parts<'a>
     ensures { parts_message result ≡ response request.now status index [] }
 {

@@ -6,7 +6,7 @@ ghost use Rattle.std.specs.Prelude.{◌≤◌, length};
 pub struct Config<'a> {
     /// The community whose requests it serves, of at most 255 octets.
     pub community: &'a [u8],
-    /// How many octets its messages have at most, from 1 to 65507.
+    /// The greatest size of its messages in octets, from 1 to 65507.
     pub max_size: usize,
     ghost short: { length community.now ≤ 255 },
     ghost positive: { 1 ≤ max_size },

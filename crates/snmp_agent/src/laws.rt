@@ -1,4 +1,5 @@
-//! Laws of agents, each as a call that does nothing, and whose caller knows what it states.
+//! Laws of agents. Each is a function that does nothing; a proof that calls it knows what its
+//! contract states.
 ghost use Rattle.std.specs.Prelude.{◌≡◌, ◌≤◌, ℕ, List};
 ghost use Rattle.snmp_wire.specs.Shortest.{IsShortestEncoding};
 ghost use Rattle.snmp_agent.specs.Reply.{Agent, IsReply, IsDropped};

@@ -103,7 +103,7 @@ impl<'a> Place<'a> {
         }
     }
 
-    /// How many rows are left in the page of the next row, and how many pages after that one.
+    /// How many rows of the current page are left, and how many pages after it.
     #[inline]
     pub fn left(&self) -> (usize, usize) {
         self.rows.left()

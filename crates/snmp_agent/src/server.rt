@@ -11,20 +11,20 @@ use crate::table::{Hint, Table};
 use snmp_wire::MAX_DATAGRAM;
 use std::net::UdpSocket;
 
-/// What a server did, by turns.
+/// How many turns of a server ended in which way.
 #[derive(Clone, Copy, Debug, Default, PartialEq, Eq)]
 pub struct Served {
-    /// A datagram came, and its reply was sent.
+    /// Turns in which a datagram came and its reply was sent.
     pub replies: u64,
-    /// A datagram came that has no reply.
+    /// Turns in which a datagram came that has no reply.
     pub dropped: u64,
-    /// No datagram came in time.
+    /// Turns in which no datagram came in time.
     pub idle: u64,
-    /// A receive or a send failed.
+    /// Turns in which a receive or a send failed.
     pub faults: u64,
 }
 
-/// What a server did in one turn.
+/// How one turn of a server ended.
 #[derive(Clone, Copy, PartialEq, Eq)]
 pub enum Turn {
     Replied,
@@ -46,8 +46,7 @@ pub fn serve(socket: &UdpSocket, table: &Table, config: &Config<'_>, turns: u64)
 }
 
 /// [`serve`] at any endpoint, which receives the datagrams and sends the replies.
-// Not inlined: its two buffers are on the stack, and a caller with several such calls would have
-// room for each of them.
+// Not inlined: a caller with several such calls would have the two buffers of each on its stack.
 #[inline(never)]
 pub fn serve_at<E: Endpoint>(
     endpoint: &mut E,

@@ -40,8 +40,8 @@ has_key o e = cond (eq_by_cmp (slice_cmp nat_cmp) o e.0) 1 0
 abbrev pub AreDistinct : List (List ℕ × Datum) → Type 0
 AreDistinct es = (o : List ℕ) → sum_by (has_key o) es ≤ 1
 
--- the lines are good but for names that are there twice, and the entries, in any order, and object
--- prefixes are those that they state
+-- the lines are good, except that names may be there twice; the entries, in any order, and the
+-- object prefixes are those that they state
 pub record HoldsLines (format : Format) (lines : List (List ℕ)) (es : List (List ℕ × Datum))
     (objects : List (List ℕ)) : Type 0 where
   pub each : All (IsGoodLine format) lines
@@ -66,32 +66,32 @@ IsFaultBehind format before line number error.Memory = Unit {0}
 IsFaultBehind format before line number fault =
     (number_of fault ≡ number) × IsWrong format before line fault
 
--- why a reading stops: a fault of which P holds; or memory ran out where it is exact, and else the
--- text is to be read again, as what rows took that are gathered may serve then
+-- why a reading stops: a fault of which P holds; or memory ran out in an exact reading; or, in
+-- another reading, the text is to be read again, since gathered rows may have taken the memory
 abbrev pub HaltsBy : (TableError → Type 0) → (exact : Bool) → Halt → Type 0
 HaltsBy P exact (halt.Fault fault) = P fault
 HaltsBy P exact halt.Memory = exact ≡ true
 HaltsBy P exact halt.Again = exact ≡ false
 
--- memory ran out
+-- the reading stops as memory ran out
 abbrev pub IsFull : (exact : Bool) → Halt → Type 0
 IsFull exact = HaltsBy (λ _. ⊥) exact
 
--- this fault behind these entries, of which no two have one name
+-- the reading stops at this fault, after entries of which no two have one name
 abbrev pub IsStop : List (List ℕ × Datum) → (exact : Bool) → TableError → Halt → Type 0
 IsStop es exact wrong = HaltsBy (λ fault. (fault ≡ wrong) × AreDistinct es) exact
 
--- at the row of this name, of the line of this number: one of these entries, of which no two have
--- one name, has its name
+-- the reading stops at a row of this name, on the line of this number: one of the entries, of which
+-- no two have one name, has the name already
 abbrev pub IsHaltAt : List ℕ → List (List ℕ × Datum) → ℕ → (exact : Bool) → Halt → Type 0
 IsHaltAt o es number exact = HaltsBy (λ fault. (fault ≡ error.Double number)
     × AreDistinct es × (v : Datum) × Contains es (o, v)) exact
 
--- at the line of this number, a fault behind lines that are a table
+-- the reading stops at the line of this number, which is faulty, after lines that state a table
 abbrev pub IsHalt : Format → List (List ℕ) → List ℕ → ℕ → (exact : Bool) → Halt → Type 0
 IsHalt format before line number exact =
     HaltsBy (λ fault. AreTable format before × IsFaultBehind format before line number fault) exact
 
--- the fault of the first line that isn't good; or memory ran out
+-- the reading stops at the first line that isn't good, or as memory ran out
 abbrev pub IsFirstHalt : Format → List (List ℕ) → (exact : Bool) → Halt → Type 0
 IsFirstHalt format lines exact = HaltsBy (IsFirstFaultIn format lines) exact

@@ -1,4 +1,4 @@
--- A search by halves, or by a guess, for private clauses alone.
+-- A search by halves, or by a guess, for clauses of private functions.
 use Rattle.std.specs.Prelude.{◌≡◌, ℕ, ◌≤◌, ◌⊎◌, Bool, true, false, List, [], ◌∷◌, ◌++◌, length}
 use Rattle.std.specs.List.{AllWithin}
 use Rattle.snmp_wire.specs.Message.{VarBind}
@@ -11,8 +11,8 @@ pub record IsHalvedTo {X : Type 0} (p : X → Bool) (xs : List X) (passed end : 
   pub front : AllWithin (λ x. p x ≡ true) xs 0 passed
   pub back : AllWithin (λ x. p x ≡ false) xs end (length xs)
 
--- the last of the rows in front has the name or one before it: has it, or the first of those
--- behind comes after it
+-- the name stands between these rows: the last one in front has it, or has one before it and the
+-- first one behind, which there is, has one after it
 pub record StandsBetween (o : List ℕ) (front rows : List VarBind) : Type 0 where
   pub init : List VarBind
   pub row : VarBind

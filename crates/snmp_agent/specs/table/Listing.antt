@@ -1,4 +1,4 @@
--- The list of a view's variables, by rising names, and what proofs calculate with.
+-- The list of a view's variables, by rising names, with which proofs calculate.
 use Rattle.std.specs.Prelude.{ℕ, zero, suc, List, [], ◌∷◌, map}
 use Rattle.std.specs.FinMap.{entries}
 use Rattle.snmp_wire.specs.Message.{VarBind}
@@ -14,8 +14,8 @@ abbrev pub first_or_end : List ℕ → List VarBind → VarBind
 first_or_end o [] = record { name = o; value = end_of_mib_view }
 first_or_end o (p ∷ ps) = p
 
--- What a GetNext gives that is asked again, `rounds` times more, where `ps` are the variables after
--- the name: the next in the list, and past its end the last name with endOfMibView.
+-- What a GetNext gives when it is repeated `rounds` times more, where `ps` are the variables after
+-- the name: the one at that place in the list, and past its end the last name with endOfMibView.
 abbrev pub nth_or_end : List ℕ → List VarBind → ℕ → VarBind
 nth_or_end o [] rounds = record { name = o; value = end_of_mib_view }
 nth_or_end o (p ∷ ps) zero = p

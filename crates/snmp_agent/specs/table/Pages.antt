@@ -1,5 +1,5 @@
--- How a table keeps its rows: in pages, by rising names over all of them. Of this, public clauses
--- name the rows behind a name alone (`AreBehind`).
+-- How a table keeps its rows: in pages, by rising names over all of them. Of these definitions,
+-- clauses of public functions cite `AreBehind` alone.
 use Rattle.std.specs.Prelude.{◌≡◌, ℕ, suc, Some, ◌≤◌, ◌<◌, T, Bool, true, is_some, List, [], ◌∷◌}
 use Rattle.std.specs.Prelude.{◌++◌, map, length, take, drop}
 use Rattle.std.specs.Ordering.{nat_cmp, is_le}
@@ -35,7 +35,7 @@ ArePages pages = IsSorted (entries_in pages)
 abbrev pub is_up_to : List ℕ → VarBind → Bool
 is_up_to o r = is_le (slice_cmp nat_cmp r.name o)
 
--- whether the first row does
+-- whether the first row has, if there is one
 abbrev pub begins_up_to : List ℕ → List VarBind → Bool
 begins_up_to o [] = true
 begins_up_to o (row ∷ rows) = is_up_to o row
@@ -95,7 +95,7 @@ IsWithoutRow pages place row es = (page : Page) → slice_get pages place ≡ So
     → es ≡ entries_in (take place pages) ++ (entries_of (remove_at page.rows.items row)
     ++ entries_in (drop (suc place) pages))
 
--- the entries stand apart at the name: those at or before it, and those after it
+-- the entries of the map in two parts: those up to the name, and those after it
 pub record StandsApart (rows : FinMap (slice_cmp nat_cmp) Datum) (o : List ℕ) (front back : List
     (List ℕ × Datum)) : Type 0 where
   pub found : (q : List ℕ) → get rows q ≡ find (slice_cmp nat_cmp) q (front ++ back)
@@ -103,6 +103,6 @@ pub record StandsApart (rows : FinMap (slice_cmp nat_cmp) Datum) (o : List ℕ) 
   pub passed : IsBeforeNone o front
   pub ahead : IsBeforeAll o back
 
--- these are the variables of the view behind the name
+-- these are the variables of the view after the name
 abbrev pub AreBehind : MibView → List ℕ → List (List ℕ × Datum) → Type 0
 AreBehind view o back = (front : List (List ℕ × Datum)) × StandsApart view.rows o front back

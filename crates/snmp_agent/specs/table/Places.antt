@@ -1,6 +1,6 @@
--- The order of entries, the names of instances with their values. Public clauses name `view_of`,
--- `entry_of` and `last_name`; the others are what private functions over sorted lists are proved to
--- find.
+-- The order of entries, which are names of instances with their values. Clauses of public functions
+-- cite `view_of`, `entry_of` and `last_name`; the others are what private functions over sorted
+-- lists are proved to find.
 use Rattle.std.specs.Prelude.{◌≡◌, ℕ, true, not, List, [], ◌∷◌, ◌++◌}
 use Rattle.std.specs.Ordering.{nat_cmp, eq_by_cmp}
 use Rattle.std.specs.List.{AllByRecursion, list_any}

@@ -91,8 +91,8 @@ pub data IsNext (view : MibView) (o : List ℕ) (p : VarBind) : Type 0 where
   end_of_view : ((q : VarBind) → IsRow view q → Precedes o q.name → ⊥)
       → p ≡ record { name = o; value = end_of_mib_view } → IsNext view o p
 
--- what a GetNext gives that is asked again, `rounds` times more, each time from the name that it
--- gave
+-- what a GetNext gives when it is repeated `rounds` times more, each time from the name that it
+-- gave before
 abbrev pub IsNextAfter : MibView → ℕ → List ℕ → VarBind → Type 0
 IsNextAfter view zero o p = IsNext view o p
 IsNextAfter view (suc rounds) o p = (q : VarBind) × IsNextAfter view rounds o q

@@ -14,7 +14,8 @@ pub fn is_instance_name(name: &Oid) -> bool
     numbers.len() >= 3 && name.is_wire()
 }
 
-/// Whether an instance may hold the value. What its type says of a number is known once it is read.
+/// Whether an instance may hold the value. A number is read, though not used, since the proof takes
+/// its range from its type there.
 pub fn is_instance_value(value: &ValueRef<'_>) -> bool
     ensures { IsTrue result ↔ IsInstanceValue (datum value.now) }
 {

@@ -16,13 +16,14 @@ use std::mem;
 
 /// What the lines read so far state.
 ///
-/// To put a row in no order among many others, each step of the search waits for a piece of memory,
-/// and half a page of rows is moved. So where rows come in no order they are gathered, sorted and
-/// put in their places together, each time that there may be as many as in their places.
+/// It takes long to put a single row among many others: each step of the search waits for memory,
+/// and half a page of rows is moved. So rows that come in no order are gathered, sorted and put in
+/// their places together, each time that they are as many as the pages have room for.
 ///
-/// A name that is there twice is found at its line, by the hashes of names: where that of a row is
-/// there, all rows are put in their places, this one too, which tells. Where the name is another,
-/// rows are put at once from then on, so that no names make this happen again.
+/// A name that is there twice is found at its line, by the hashes of names: where the hash of a
+/// row's name isn't new, all rows are put in their places, this one too, which tells whether the
+/// name is new. If it is, rows are put at once from then on, so that no names make this happen
+/// again and again.
 #[derive(Drop)]
 pub struct Draft {
     /// The rows that are in their places.
@@ -35,12 +36,12 @@ pub struct Draft {
     exact: bool,
     /// Whether rows in no order are gathered.
     gathers: bool,
-    /// The hashes of the names of all rows but some of the last in their places.
+    /// The hashes of the names of all rows, but for some of the last ones in their places.
     hashes: Hashes,
-    /// How many the last are whose names aren't hashed: a row after all others has a new name, and
-    /// is looked for only once another is gathered.
+    /// How many those last rows are. A row after all others has a new name, which is looked for
+    /// only once another row is gathered.
     unhashed: usize,
-    /// Whether no more rows are gathered, as the hash of a name was there that was another's.
+    /// Whether no more rows are gathered, since the hash of a new name wasn't new.
     no_more: bool,
     ghost exactly: { exact ≡ true → gathers ≡ false },
     ghost at_once: { gathers ≡ false → late.items ≡ [] },
@@ -49,12 +50,12 @@ pub struct Draft {
 /// Why a reading stops at a line.
 #[derive(Clone, Copy, PartialEq, Eq)]
 pub enum Halt {
-    /// The line is the first faulty one.
+    /// The line is the first faulty one, with this fault.
     Fault(TableError),
     /// Memory ran out in an exact reading.
     Memory,
-    /// Memory ran out in another, which rows that were gathered may have taken: the text is to be
-    /// read again, with each row put in its place at once.
+    /// Memory ran out in a reading that isn't exact. Gathered rows may have taken it, so the text
+    /// is to be read again, with each row put in its place at once.
     Again,
 }
 
@@ -87,7 +88,7 @@ impl Draft {
         }
     }
 
-    /// Reads what a text of this format states. Where it is exact, each row is put in its place at
+    /// Reads what a text of this format states. An exact reading puts each row in its place at
     /// once, so that no memory is taken beside that of the table.
     pub fn read<F: LineFormat>(
         alloc: Global,
@@ -119,7 +120,7 @@ impl Draft {
         }
     }
 
-    /// Adds what the line of this number states. It is read into the binding that is there.
+    /// Adds what the line of this number states, which is read into a given binding.
     fn add<'a, F: LineFormat>(
         &mut self,
         alloc: Global,
@@ -174,7 +175,7 @@ impl Draft {
     }
 
     /// Puts the row of the line of this number in its place, or gathers it.
-    // Hot: a row is moved once less.
+    // Hot: inlined, it moves a row once less.
     #[inline(always)]
     fn put(&mut self, alloc: Global, row: EncodedBinding, number: usize) -> Result<(), Halt>
         ensures rows { IfOk result (λ _. IsPermutation (draft_entries self.old ++ entry_of row ∷ [])
@@ -196,7 +197,7 @@ impl Draft {
         }
     }
 
-    /// Appends a row that comes after all that are in their places, or else gathers it.
+    /// Appends a row if it comes after all that are in their places, and gathers it if it doesn't.
     #[inline(never)]
     fn gather(&mut self, alloc: Global, row: EncodedBinding, number: usize) -> Result<(), Halt>
         requires { self.old.gathers ≡ true }
@@ -226,7 +227,7 @@ impl Draft {
         }
     }
 
-    /// Puts a row in its place, after those that are gathered. None is gathered from then on.
+    /// Puts a row in its place, after those that are gathered. No row is gathered from then on.
     #[inline(never)]
     fn put_known(&mut self, alloc: Global, row: EncodedBinding, number: usize) -> Result<(), Halt>
         requires { self.old.gathers ≡ true }
@@ -240,7 +241,7 @@ impl Draft {
         if !self.settle(alloc) {
             return Err(Halt::Again);
         }
-        // Its memory may be wanted, and no reading without it follows.
+        // The list isn't used again, and its memory may be needed.
         self.late = Vec::new(alloc);
         self.gathers = false;
         self.no_more = true;
@@ -251,8 +252,8 @@ impl Draft {
         }
     }
 
-    /// Begins to gather where rows come in no order, and puts those gathered in their places when
-    /// there may be as many as there. Whether all could be put.
+    /// Begins to gather where rows come in no order, and puts gathered rows in their places once
+    /// they are as many as the pages have room for. Returns whether all could be put.
     #[inline(always)]
     fn settle_in_time(&mut self, alloc: Global) -> bool
         ensures moved { IsTrue result
@@ -275,8 +276,8 @@ impl Draft {
         true
     }
 
-    /// Puts the rows that are gathered in their places, as the last that are. Whether all could be
-    /// put: not where a name is there twice, and memory may run out.
+    /// Puts the gathered rows in their places, where no more are gathered after them. Returns
+    /// whether all could be put: not where a name is there twice or memory runs out.
     fn settle(&mut self, alloc: Global) -> bool
         ensures moved { IsTrue result
             → IsPermutation (draft_entries self.old) (draft_entries self.new) }
@@ -285,13 +286,13 @@ impl Draft {
         ensures objects { self.new.objects ≡ self.old.objects }
         ensures exact { self.new.exact ≡ self.old.exact }
     {
-        // No more names are hashed, and the memory may be wanted.
+        // No more names are hashed, and the memory may be needed.
         self.hashes = Hashes::new(alloc);
         self.place_late(alloc)
     }
 
-    /// Puts the rows that are gathered in their places; more may be gathered after. Whether all
-    /// could be put, as `settle` says.
+    /// Puts the gathered rows in their places; more may be gathered after them. Returns whether all
+    /// could be put, as [`Draft::settle`] does.
     fn place_late(&mut self, alloc: Global) -> bool
         ensures moved { IsTrue result
             → IsPermutation (draft_entries self.old) (draft_entries self.new) }
@@ -305,7 +306,7 @@ impl Draft {
         }
         let mut late = mem::replace(&mut self.late, Vec::new(alloc));
         let apart = self.rows.put_sorted(alloc, &mut late);
-        // Its memory serves again.
+        // The list keeps its memory for the next rows.
         late.clear();
         self.late = late;
         match apart {
@@ -315,8 +316,8 @@ impl Draft {
     }
 }
 
-/// Hashes the names of the rows in place that aren't hashed, and this one. Whether none has the
-/// hash of another.
+/// Hashes the names of the rows in place that aren't hashed, and this one. Returns whether each
+/// hash is new.
 fn is_new(
     alloc: Global,
     rows: &Pages,
@@ -335,8 +336,8 @@ fn is_new(
     (count == 0 || rows.insert_last(count, hashes)) && hashes.insert(name)
 }
 
-/// Makes room for more hashes, and hashes the names of the rows that are gathered. Whether they are
-/// new, and there is memory.
+/// Makes room for more hashes, and hashes the names of the gathered rows. Returns whether there is
+/// memory for it and each hash is new.
 #[inline(never)]
 fn rehash(alloc: Global, rows: &Pages, late: &[Late], hashes: &mut Hashes) -> bool {
     let count = rows.count().saturating_add(late.len());

@@ -2,17 +2,18 @@
 
 use thiserror::Error;
 
-/// Why a text states no table, and the first line, from 1, where that shows.
+/// Why a text states no table, with the number, from 1, of its first faulty line.
 #[derive(Clone, Copy, Debug, PartialEq, Eq, Error)]
 pub enum TableError {
-    /// The line is no comment and no object prefix, and has not two bars with a known tag between
-    /// them.
+    /// The line is neither empty, a comment nor an object prefix, and hasn't two bars with a known
+    /// tag between them.
     #[error("line {line}: bad line")]
     BadLine {
         /// Which line.
         line: usize,
     },
-    /// The text is no name of the format, or not one that an object prefix or an instance has.
+    /// The line's name is no name of the format, or not one that an object prefix or an instance
+    /// may have.
     #[error("line {line}: bad name")]
     BadName {
         /// Which line.

@@ -1,4 +1,4 @@
-//! The names in a table's text: those that a reader hands in, and the two formats.
+//! The names in a table's text: the two formats, and what reads the names of the second.
 ghost use Rattle.std.specs.Prelude.{◌≡◌, ◌++◌, ◌∷◌, ◌↔◌, IsTrue, MatchOption, codes};
 ghost use Rattle.std.specs.Str.Lines.{lines};
 ghost use Rattle.snmp_agent.specs.table.Exact.{IsOnlyThere};
@@ -16,8 +16,8 @@ pub trait Resolver {
     /// Which texts are names, and of what.
     ghost names: { Self → Names };
 
-    /// The name that stands before the first `|` outside quotes, or is the whole text, and its
-    /// length in octets. None where that is no name.
+    /// The name that the text before the first `|` outside quotes states, or the whole text where
+    /// there is no such bar, and the length of that text in octets. None where it is no name.
     fn front(&self, text: &[u8]) -> Option<(Oid, usize)>
         ensures { IsFrontRead (names self.now) text.now result };
 }
@@ -48,12 +48,12 @@ impl Resolver for NumericNames {
 pub trait LineFormat {
     ghost format: { Self → Format };
 
-    /// Reads the identifier that a text names into one that is there, and returns whether the text
-    /// names one.
+    /// Reads the identifier that a text names into `into`, and returns whether the text names one.
     fn name(&self, text: &[u8], into: &mut Oid) -> bool
         ensures { IsOnlyThere (IsNameIn (format self.now) text.now) result into.new };
 
-    /// A row's name, and what follows the bar that ends it. None where no bar does.
+    /// The text of a row's name, and what follows the bar that ends it. None where no bar ends a
+    /// name.
     fn split_name<'b>(&self, line: &'b [u8]) -> Option<(&'b [u8], &'b [u8])>
         ensures { MatchOption result (HasNoEnd (format self.now) line.now)
             (λ parts. (line.now ≡ parts.0.now ++ bar ∷ parts.1.now)
@@ -87,7 +87,7 @@ impl LineFormat for FirstFormat {
     }
 }
 
-/// The names of a reader, which end at the first bar outside quotes.
+/// The names of a resolver, which end at the first bar outside quotes.
 #[derive(Drop)]
 pub struct SecondFormat<'a, R: Resolver> {
     /// What reads the names.
@@ -125,8 +125,7 @@ impl<'a, R: Resolver> LineFormat for SecondFormat<'a, R> {
     }
 }
 
-/// Reads the identifier of a numeric name into one that is there, and returns whether the text is
-/// such a name.
+/// Reads the identifier of a numeric name into `into`, and returns whether the text is such a name.
 fn numeric_name(text: &[u8], into: &mut Oid) -> bool
     ensures { IsOnlyThere (IsName text.now) result into.new }
 {

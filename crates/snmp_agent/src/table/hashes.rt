@@ -3,26 +3,25 @@
 use snmp_wire::EncodedName;
 use std::alloc::{AllocError, Global};
 
-/// How many hashes a bucket holds: they are looked at together, without a branch for each.
+/// How many hashes a bucket holds. They are looked at together, without a branch for each.
 const BUCKET: usize = 16;
 
-/// How many buckets there are at least, once there are any.
+/// The least number of buckets, once there are any.
 const FEW_BUCKETS: usize = 32;
 
-/// In how many buckets in a row a hash may stand.
+/// How many buckets, one after the other, are looked at for a hash.
 const LOOKS: usize = 16;
 
-/// An odd number in whose product with another each bit depends on all below it.
+/// An odd number: each bit of its product with another depends on all lower bits of the other.
 const FACTOR: u64 = 0x9E37_79B9_7F4A_7C15;
 
-/// Hashes of names, to tell that a name wasn't there before. Nothing but time depends on them.
+/// Hashes of names, to tell that a name is new. Only speed depends on them.
 ///
-/// They take as few octets as serve: each page of memory that is touched costs as much as some
-/// rows.
+/// They take little memory, since to touch a page of it costs as much time as several rows do.
 #[derive(Drop)]
 pub struct Hashes {
-    /// As many as a power of two, or none. Each has the high halves of hashes whose low halves tell
-    /// its place, or one before it where the bucket there is full, and then zeros.
+    /// A power of two of them, or none. Each has the high halves of hashes, and then zeros. The low
+    /// half of a hash tells its bucket; where that is full, the hash is in one of the next.
     buckets: Vec<[u32; BUCKET]>,
     /// How many hashes there are.
     count: usize,
@@ -37,14 +36,15 @@ impl Hashes {
         }
     }
 
-    /// Whether there is room for as many more, so that three of eight places stay free.
+    /// Whether there is room for `more` hashes so that three of eight places stay free.
     #[inline]
     pub fn have_room(&self, more: usize) -> bool {
         let most = self.buckets.len().saturating_mul(BUCKET / 8 * 5);
         more <= most.saturating_sub(self.count)
     }
 
-    /// Forgets all hashes, and makes room for as many and again as many. Whether there is memory.
+    /// Removes all hashes, and makes room for twice `count`. Returns whether there is memory for
+    /// it.
     #[inline(never)]
     pub fn clear(&mut self, alloc: Global, count: usize) -> bool {
         let mut size = FEW_BUCKETS;
@@ -63,8 +63,8 @@ impl Hashes {
         true
     }
 
-    /// Inserts the hash of a name. Whether it wasn't there, and found a place: it may be another
-    /// name's.
+    /// Inserts the hash of a name, and returns whether it is new and found a place. One that isn't
+    /// new may be that of another name.
     #[inline]
     pub fn insert(&mut self, name: &EncodedName<'_>) -> bool {
         self.count = self.count.saturating_add(1);
@@ -77,8 +77,8 @@ fn empty_buckets(alloc: Global, size: usize) -> Result<Vec<[u32; BUCKET]>, Alloc
     vec![in alloc; [0; BUCKET]; size]
 }
 
-/// Puts a hash in the first bucket from its own on that isn't full. Whether it wasn't there, and
-/// found one.
+/// Puts a hash in the first bucket, from its own on, that isn't full. Returns whether it is new and
+/// there is such a bucket.
 #[inline]
 fn put_hash(buckets: &mut [[u32; BUCKET]], hash: u64) -> bool {
     let last = buckets.len().wrapping_sub(1);
@@ -101,7 +101,7 @@ fn put_hash(buckets: &mut [[u32; BUCKET]], hash: u64) -> bool {
     false
 }
 
-/// Whether the half of a hash is in a bucket, and how many are.
+/// Whether the high half of a hash is in a bucket, and how many hashes are.
 #[inline(always)]
 fn look_for(bucket: &[u32; BUCKET], high: u32) -> (bool, usize) {
     let mut is_there = false;
@@ -113,8 +113,8 @@ fn look_for(bucket: &[u32; BUCKET], high: u32) -> (bool, usize) {
     (is_there, used as usize)
 }
 
-/// The hash of the content of a name: eight octets at a time, the last eight as they stand at its
-/// end.
+/// The hash of the content of a name, by eight octets at a time. The last eight may overlap those
+/// before them.
 #[inline]
 fn hash_of(content: &[u8]) -> u64 {
     let Some(last) = content.last_chunk::<8>() else {
@@ -133,7 +133,7 @@ fn hash_of(content: &[u8]) -> u64 {
     mixed(mixed(hash ^ u64::from_be_bytes(*last)))
 }
 
-/// The hash of a content of fewer octets than eight.
+/// The hash of a content of fewer than eight octets.
 #[inline(never)]
 fn hash_of_few(content: &[u8]) -> u64 {
     let mut few = [0; 8];
@@ -142,7 +142,7 @@ fn hash_of_few(content: &[u8]) -> u64 {
     mixed(mixed(content.len() as u64 ^ u64::from_be_bytes(few)))
 }
 
-/// A number each bit of which depends on many of another.
+/// A number each of whose bits depends on many bits of the given one.
 #[inline]
 fn mixed(number: u64) -> u64 {
     let product = number.wrapping_mul(FACTOR);

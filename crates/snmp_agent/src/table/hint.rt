@@ -1,4 +1,4 @@
-//! Where names stood among the rows of a table, as guesses for whoever asks in turn.
+//! Where names stood among the rows of a table, as guesses for later requests.
 
 use snmp_wire::EncodedName;
 use std::fmt;
@@ -6,19 +6,19 @@ use std::fmt;
 /// How many pairs of names a hint keeps: one for each value of the high nine bits of a hash.
 const PAIRS: usize = 512;
 
-/// Where names stood of which an agent was asked, as guesses: whoever asks in turn mostly asks from
-/// the row that was given last, or for the names that were asked for before.
+/// Where names stood that an agent was asked for, as guesses for later requests: these mostly ask
+/// from the row that was given last, or for the same names again.
 #[derive(Clone, Copy)]
 pub struct Hint {
     last: Last,
-    /// Where names stood. A number has from the high bits on: in 16 bits the place of the page,
-    /// counted from 1, or 0 for no name or a place that is greater; in 8 bits how many rows of that
-    /// page have the name or one before it; and the low 8 bits of the hash. The first of a pair was
-    /// kept after the second, and the names of a pair have other low bits.
+    /// Where names stood. The high 16 bits of a number are the place of the page, counted from 1,
+    /// or 0 for no name or a greater place; the next 8 bits are how many rows of that page have the
+    /// name or one before it; and the low 8 bits are those of the hash. The first of a pair was
+    /// kept after the second, and their hashes differ in the low 8 bits.
     kept: [[u32; 2]; PAIRS],
 }
 
-/// Where the row stands that was given last.
+/// The place of the row that was given last.
 #[derive(Clone, Copy)]
 pub(crate) struct Last {
     /// How many rows of its page come after it.
@@ -27,7 +27,7 @@ pub(crate) struct Last {
     pages: usize,
 }
 
-// The row that was given last alone.
+// Shows the row that was given last, and no names.
 impl fmt::Debug for Hint {
     fn fmt<W: fmt::Write>(&self, f: &mut fmt::Formatter<W>) -> fmt::Result {
         f.debug_struct("Hint")
@@ -65,7 +65,7 @@ impl Default for Last {
 }
 
 impl Hint {
-    /// The hint, for a request.
+    /// Lends the hint to a request.
     #[inline]
     pub(crate) fn lend(&mut self) -> Guesses<'_> {
         let Hint { last, kept } = self;
@@ -76,11 +76,11 @@ impl Hint {
     }
 }
 
-/// A hint, while a request is replied to.
+/// A hint that is lent to a request.
 #[derive(Drop)]
 pub(crate) struct Guesses<'h> {
     last: &'h mut Last,
-    /// The names of [`Hint`], or none where no request follows.
+    /// The names of [`Hint`], or none where no other request follows.
     kept: &'h mut [[u32; 2]],
 }
 
@@ -96,7 +96,7 @@ pub(crate) struct Guess {
 }
 
 impl<'h> Guesses<'h> {
-    /// A hint for a request that no other follows: to keep names for the next would only cost.
+    /// A hint for a request that no other follows, so that it would only cost time to keep names.
     #[inline]
     pub(crate) fn without_names(last: &'h mut Last) -> Guesses<'h> {
         Guesses {
@@ -112,7 +112,7 @@ impl<'h> Guesses<'h> {
         (self.last.rows, self.last.pages)
     }
 
-    /// Keeps the row before which so many rows of its page, and so many pages, are left.
+    /// Keeps the row after which this many rows of its page, and this many pages, are left.
     #[inline]
     pub(crate) fn keep_last(&mut self, left: (usize, usize)) {
         self.last.rows = left.0;
@@ -156,8 +156,8 @@ impl<'h> Guesses<'h> {
         pair[0] = page << 16 | row << 8 | guess.hash % 256;
     }
 
-    /// Keeps where the row stands that was given last, by its name. Walks that are made in turn
-    /// each find their row so, where another row was given since. Not inlined: a walk that is alone
+    /// Keeps the place of the row that was given last under its name. So walks whose requests
+    /// alternate each find their row, though another was given since. Not inlined: a single walk
     /// doesn't come here.
     #[inline(never)]
     pub(crate) fn keep_passed(&mut self, name: &EncodedName<'_>, page: usize, row: usize) {
@@ -185,11 +185,11 @@ fn place_of(hash: u32) -> usize {
     (hash >> 8) as usize % PAIRS
 }
 
-/// A number below 131,072, by which names are told apart. It is made of the last sixteen octets, in
-/// which rows mostly differ, and of the second, third and fourth eight of a longer name, where the
-/// column of a row with a long index stands. Of the octets before the last eight, where they are
-/// fewer than eight, it has the first four and the last four, or none of fewer than four. Two names
-/// of one hash cost comparisons, and no more.
+/// The hash of a name: a number below 131,072. It is made of the last sixteen octets, in which rows
+/// mostly differ, and of the second, third and fourth eight octets of a longer name, where the
+/// column of a row with a long index stands. If fewer than eight octets stand before the last
+/// eight, the first four and the last four of them are used, or none of fewer than four. Names with
+/// the same hash cost comparisons, and no more.
 #[inline]
 fn hash_of(content: &[u8]) -> u32 {
     let (front, last) = last_word(content);
@@ -198,8 +198,8 @@ fn hash_of(content: &[u8]) -> u32 {
     (mixed >> 47) as u32
 }
 
-/// The second, third and fourth eight octets as one number, as far as there are such. Without the
-/// first eight, which are the same in most names.
+/// The second, third and fourth eight octets as one number, as far as there are any. The first
+/// eight are the same in most names.
 #[inline]
 fn middle_of(octets: &[u8]) -> u64 {
     let [_, _, _, _, _, _, _, _, rest @ ..] = octets else {
@@ -237,8 +237,8 @@ fn first_word(octets: &[u8]) -> Option<(u64, &[u8])> {
     }
 }
 
-/// The last eight octets as a number, with what stands before them. Of fewer octets the first four
-/// and the last four, and all of fewer than four as 0.
+/// The octets before the last eight, and the last eight as a number. Fewer than eight are taken as
+/// [`few_octets`] does, with nothing before them.
 #[inline]
 fn last_word(octets: &[u8]) -> (&[u8], u64) {
     match octets {

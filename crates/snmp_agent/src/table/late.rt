@@ -1,4 +1,4 @@
-//! Rows that are gathered, with what they are sorted by.
+//! Rows that are gathered, with the keys that they are sorted by.
 ghost use Rattle.std.specs.Prelude.{◌≡◌, ◌<◌, ◌≤◌, length, true, false};
 ghost use Rattle.std.specs.List.Sorted.{IsPermutation};
 
@@ -9,20 +9,20 @@ use std::marker::Model;
 /// How many octets a key has.
 const KEY_SIZE: usize = 16;
 
-/// From how many rows with one key on they get keys anew.
+/// Rows with the same key get new keys if there are at least this many.
 const MANY_TIED: usize = 5;
 
-/// How many times a row gets a key anew at most, on average: names that differ late and one by one
-/// are compared.
+/// How many new keys a row gets at most, on average. Names that keys tell apart too slowly, one by
+/// one, are compared.
 const MOST_KEYS: usize = 8;
 
-/// The bit of each octet that tells that its subidentifier goes on.
+/// The bit of each octet that says that its subidentifier goes on.
 const GOES_ON: u128 = 0x8080_8080_8080_8080_8080_8080_8080_8080;
 
-/// A row that is gathered. Nothing but time depends on its key.
+/// A row that is gathered. Only speed depends on its key.
 #[derive(Drop)]
 pub struct Late {
-    /// What tells the order of most rows, without a look at their names.
+    /// Tells the order of most rows without a look at their names.
     key: u128,
     row: EncodedBinding,
 }
@@ -38,7 +38,7 @@ impl Model for Late {
 impl Late {
     ghost use Rattle.std.specs.Prelude.{◌≡◌};
 
-    /// A row without its key.
+    /// A row whose key isn't set yet.
     #[inline]
     pub fn new(row: EncodedBinding) -> Late
         ensures { result ≡ row }
@@ -62,7 +62,7 @@ impl Late {
         self.row
     }
 
-    /// Sets the key of a row whose name is the same as those of the others in as many octets.
+    /// Sets the key of a row among rows whose names are the same in the first `alike` octets.
     #[inline]
     fn set_key(&mut self, alike: usize)
         ensures { self.new ≡ self.old }
@@ -77,15 +77,15 @@ impl Late {
     }
 }
 
-/// Sorts rows by their names, so that these fall. Rows whose keys tie get others, after what their
-/// names share: to compare names takes longer, as two rows are looked at.
+/// Sorts rows so that their names fall. Rows whose keys tie get new ones, from the octets after
+/// those that their names share: to compare names takes longer, as it looks at two rows each time.
 pub fn sort_falling(rows: &mut Vec<Late>)
     ensures { IsPermutation rows.old.items rows.new.items }
 {
     sort_rows(rows.as_mut_slice());
 }
 
-/// Sorts the rows of a slice by their names, so that these fall.
+/// Sorts the rows of a slice so that their names fall.
 fn sort_rows(rows: &mut [Late])
     ensures { IsPermutation rows.old rows.new }
 {
@@ -93,22 +93,22 @@ fn sort_rows(rows: &mut [Late])
     sort_ties(rows);
 }
 
-/// Gives rows keys, and sorts them by these alone.
+/// Gives rows keys, and sorts them by their keys alone.
 fn sort_by_keys(rows: &mut [Late])
     ensures { IsPermutation rows.old rows.new }
 {
     let alike = octets_alike(rows);
     set_keys(rows, alike);
-    // It calls itself at most 2 log2 of the rows deep: 86 for all the rows that memory can hold.
+    // The sort calls itself at most 2 log2(n) deep for n rows: 86 for all that memory can hold.
     rows.sort_unstable_by(|late, other| other.key.cmp(&late.key));
 }
 
-/// Sorts by their names the rows, each beside the other, whose keys tie.
+/// Sorts each run of rows with the same key by their names.
 fn sort_ties(rows: &mut [Late])
     ensures { IsPermutation rows.old rows.new }
 {
     let mut at = 0;
-    // How many rows may still get keys anew.
+    // How many new keys may still be given.
     let mut left = rows.len().saturating_mul(MOST_KEYS);
     'ties: while at < rows.len() {
         let end = tie_end(rows, at);
@@ -121,7 +121,7 @@ fn sort_ties(rows: &mut [Late])
     }
 }
 
-/// The place behind the rows from this one on whose keys are the same.
+/// The end of the run of rows with the same key that begins at this place.
 #[inline]
 fn tie_end(rows: &[Late], at: usize) -> usize
     requires { at < length rows.now }
@@ -137,8 +137,9 @@ fn tie_end(rows: &[Late], at: usize) -> usize
     end
 }
 
-/// Sorts rows whose keys tie: by others, if they may get these, or by their names. Whether they are
-/// sorted by their names: not where keys told some of them apart, of which others may tie.
+/// Sorts rows whose keys tie: by new keys, if they may get them, or by their names. Returns whether
+/// they are sorted by their names: not where the new keys differ, since some of these may tie
+/// again.
 fn sort_tie(rows: &mut [Late], may_get_keys: bool) -> bool
     ensures sorted { IsPermutation rows.old rows.new }
     ensures keys { result ≡ false → may_get_keys ≡ true }
@@ -155,7 +156,8 @@ fn sort_tie(rows: &mut [Late], may_get_keys: bool) -> bool
     true
 }
 
-/// Whether rows that are sorted by their keys haven't all the same, as where names end.
+/// Whether the keys of rows that are sorted by them differ. They don't where all these names have
+/// ended.
 fn keys_differ(rows: &[Late]) -> bool {
     match (rows.first(), rows.last()) {
         (Some(first), Some(last)) => !first.has_key(last.key),
@@ -197,7 +199,7 @@ fn same_octets(octets: &[u8], others: &[u8]) -> usize {
     octets.len()
 }
 
-/// Sets the keys of rows whose names are the same in as many octets.
+/// Sets the keys of rows whose names are the same in the first `alike` octets.
 fn set_keys(rows: &mut [Late], alike: usize)
     ensures { rows.new ≡ rows.old }
 {
@@ -206,8 +208,8 @@ fn set_keys(rows: &mut [Late], alike: usize)
     }
 }
 
-/// What tells the order of names that are the same up to a place: the next 16 octets, but that of a
-/// subidentifier of three octets or more its size comes first.
+/// The key of a name among names that are the same in the first `alike` octets: the next 16 octets,
+/// with its size before each subidentifier of three octets or more.
 #[inline]
 fn sort_key(content: &[u8], alike: usize) -> u128 {
     let (_, octets) = content.split_at(alike.min(content.len()));
@@ -223,8 +225,9 @@ fn sort_key(content: &[u8], alike: usize) -> u128 {
     long_key(octets)
 }
 
-/// [`sort_key`] where there may be such a subidentifier. As the longer is the greater, its size
-/// comes first, as an octet of at least 0x80 behind one of 0xff: no shorter one begins with more.
+/// [`sort_key`] where there may be such a subidentifier. The longer of two is the greater, so the
+/// size comes first: an octet of at least 0x80 after one of 0xff, than which no shorter one begins
+/// with more.
 #[inline(never)]
 fn long_key(octets: &[u8]) -> u128 {
     let mut key = [0; KEY_SIZE];

@@ -1,4 +1,5 @@
-//! Laws: what is true of each table, as calls that do nothing. A proof of a crate above calls them.
+//! Laws of tables. Each is a function that does nothing; a proof that calls it knows what its
+//! contract states.
 ghost use Rattle.std.specs.Prelude.{◌≡◌, ◌≢◌, ◌↔◌, ℕ, List};
 ghost use Rattle.snmp_agent.specs.table.Exact.{HasOne};
 ghost use Rattle.snmp_agent.specs.table.Stated.{AreTableBy, IsTableOf, IsFirstFault, IsTableIn};

@@ -32,7 +32,7 @@ pub enum Line {
 pub enum LineFault {
     /// It has none of the forms of a line.
     Line,
-    /// Its name is no name, or not one of its kind.
+    /// Its name is no name of the format, or not one that an object prefix or an instance may have.
     Name,
     /// Its text states no value of its tag.
     Value,
@@ -66,8 +66,8 @@ enum Form<'a> {
     },
 }
 
-/// What a line states. Its name is read into the one that is there, and a number or the text itself
-/// into the value: to move or to clear one takes as long as to read it.
+/// What a line states. Its name, and a value that takes no memory of its own, are read into a given
+/// binding: to move or to clear one takes as long as to read it.
 pub fn read_line<'a, F: LineFormat>(
     alloc: Global,
     format: &F,
@@ -100,8 +100,8 @@ fn form_of<'a, F: LineFormat>(format: &F, line: &'a [u8]) -> Option<Form<'a>>
     }
 }
 
-/// The parts of a line around the bar that ends its name and the next, None where it has not both
-/// or the tag between them is unknown.
+/// The name, the tag and the text of a row's line, with a bar between each two. None where one of
+/// the bars is missing or the tag is unknown.
 fn row_form<'a, F: LineFormat>(format: &F, line: &'a [u8]) -> Option<Form<'a>>
     requires not_blank { IsBlank line.now → ⊥ }
     requires no_object { (text : List ℕ) → IsObjectForm line.now text → ⊥ }
@@ -162,7 +162,7 @@ fn instance<'a, F: LineFormat>(
 }
 
 /// The row of this name and value.
-// Not inlined: all other rows would have to clear the value.
+// Not inlined: the caller would clear the value for all other rows too.
 #[inline(never)]
 fn encoded_text(alloc: Global, name: &Oid, stated: &RowText) -> Result<EncodedBinding, AllocError>
     requires name { IsInRange (object_id name.now) }

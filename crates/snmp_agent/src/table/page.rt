@@ -9,13 +9,13 @@ use std::alloc::{AllocError, Global};
 /// How many rows a page has at most.
 pub const PAGE_ROWS: usize = 128;
 
-/// From how many places without a row on a page gives room back, once a row is removed.
+/// Once a row is removed, a page gives memory back if it has room for this many more rows.
 const MANY_SPARE: usize = 24;
 
-/// How many places without a row stay then, so that rows that come and go ask for room seldom.
+/// How many more rows it keeps room for then, so that rows that come and go seldom need memory.
 const SPARE: usize = 8;
 
-/// Rows that a change moves together.
+/// Rows that lie together, so that a change moves no others.
 #[derive(Drop)]
 pub struct Page {
     /// The rows, of which there is one at least.
@@ -81,11 +81,12 @@ impl Page {
         }
     }
 
-    /// Divides the page, and returns its back: the half of its rows, or the last alone if the name
-    /// comes behind it, so that rows which come in order fill their pages. So do rows that fall:
-    /// the first alone stays if the name comes before it. And so do columns that are read row by
-    /// row, if a back of less than a half may begin where the name belongs: from then on no two of
-    /// them share the page.
+    /// Divides the page for a row of this name, and returns its back: half of the rows, but the
+    /// last row alone if the name comes after it, and all but the first if the name comes before
+    /// that. So rows that come in rising or falling order fill their pages.
+    ///
+    /// With `at_name` a back of less than half may begin where the name belongs. So columns that
+    /// are stated row by row fill their pages too: from then on no two of them share the page.
     pub fn divide(&mut self, name: &EncodedName<'_>, at_name: bool) -> Result<Page, AllocError>
         requires { 1 < length self.old.rows.items }
         ensures parts { IfOk result (λ back. self.old.rows.items
@@ -109,8 +110,8 @@ impl Page {
         }
     }
 
-    /// Removes the row at this place, which isn't the only one. Most of the room that rows took
-    /// which were removed is given back.
+    /// Removes the row at this place, which isn't the only one. Once many rows were removed, most
+    /// of their memory is given back.
     pub fn remove(&mut self, place: usize)
         requires other { 1 < length self.old.rows.items }
         requires within { place < length self.old.rows.items }
@@ -127,7 +128,7 @@ impl Placed for Page {
 
     ghost up_to = { λ o page. begins_up_to o page.rows.items };
 
-    // Hot: each turn of a search for a page.
+    // Hot: called for each step of a search for a page.
     #[inline(always)]
     fn is_up_to(&self, name: &EncodedName<'_>) -> bool
         ensures { result ≡ begins_up_to name.now self.now.rows.items }
@@ -139,8 +140,8 @@ impl Placed for Page {
     }
 }
 
-/// Gives the room for many rows back, where it isn't used. The rows stay in the room that there is
-/// where less can't be had.
+/// Gives unused memory back, where it is enough for many rows. The rows stay where they are if no
+/// smaller piece of memory can be had.
 fn give_back(rows: &mut Vec<EncodedBinding>)
     ensures { rows.new.items ≡ rows.old.items }
 {
@@ -161,13 +162,13 @@ fn insert_row(
     ensures unchanged_on_error { IfErr result (λ _. rows.new.items ≡ rows.old.items) }
 {
     let count = rows.len();
-    // Where room was given back, twice the room would be more than a page needs.
+    // `push` would double the capacity, which may be more than a page needs.
     if count == rows.capacity() && count > PAGE_ROWS / 2 {
         rows.reserve_exact(PAGE_ROWS.saturating_sub(count))?;
     }
     match rows.push(row) {
         Ok(()) => {
-            // By one place, and so at once: `Vec::insert` moves rows one by one.
+            // Moves the rows behind at once; `Vec::insert` moves them one by one.
             rows[place..].rotate_right(1);
             Ok(())
         }

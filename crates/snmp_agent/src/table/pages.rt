@@ -28,37 +28,37 @@ use std::mem;
 #[derive(Drop)]
 pub struct Pages {
     list: Vec<Page>,
-    /// In which order rows were put among others.
+    /// Whether rows that were put among others came in some order.
     order: PutOrder,
 }
 
-/// In which pages rows were put among others, of which 128 in turn are a sample. Nothing but time
-/// depends on it.
+/// The pages to which rows came that were put among others, by samples of 128 rows in turn. Only
+/// speed depends on it.
 #[derive(Drop)]
 struct PutOrder {
-    /// How many rows of the sample were put.
+    /// How many rows the current sample has.
     rows: u32,
-    /// Their pages: a bit for each place, modulo 128.
+    /// The pages of these rows: a bit for each place, modulo 128.
     pages: u128,
-    /// How many samples in turn came to many pages.
+    /// How many of the last samples, in a row, came to many pages.
     scattered: u32,
 }
 
-/// Up to how many pages one is divided where a name belongs, also if few rows are behind it: more
-/// such pages would make the list of pages long.
+/// A table with fewer pages than this divides a page where a name belongs, though few rows are
+/// behind that place. With more pages this would make their list long.
 const FEW_PAGES: usize = 1024;
 
 /// How many rows a sample has.
 const SAMPLE: u32 = 128;
 
-/// To how many pages the rows of a sample come at least that are in no order. Rows of a table that
-/// is read row by row come to a page for each column.
+/// A sample whose rows come to at least this many pages is in no order. The rows of a conceptual
+/// table that is stated row by row come to one page for each column.
 const MANY_PAGES: u32 = 68;
 
-/// After how many such samples in turn the rows are taken to be in no order.
+/// After this many such samples in a row, rows are taken to come in no order.
 const MANY_SAMPLES: usize = 3;
 
-/// For how many pages there is one such sample at least.
+/// There must be one such sample for each of this many pages.
 const PAGES_FOR_SAMPLE: usize = 32;
 
 impl Model for Pages {
@@ -102,8 +102,8 @@ impl Pages {
         }
     }
 
-    /// The row of this name. Nothing is searched where the hint is right; else it is told where the
-    /// name stands.
+    /// The row of this name. Nothing is searched where the hint is right; where it isn't, it keeps
+    /// where the name stands.
     pub fn find_near(
         &self,
         name: &EncodedName<'_>,
@@ -126,9 +126,9 @@ impl Pages {
         row_at(rows, name, place)
     }
 
-    /// The rows after this name, for a walk: it mostly asks from the row that was given last.
-    /// Nothing is searched where the hint is right; else it is told where the name stands.
-    // Hot: each request of a walk, in which the row is mostly the one that was given last.
+    /// The rows after this name, for a walk, which mostly asks from the row that was given last.
+    /// Nothing is searched where the hint is right; where it isn't, it keeps where the name stands.
+    // Hot: called for each request of a walk.
     #[inline(always)]
     pub fn after_last(&self, name: &EncodedName<'_>, hint: &mut Guesses<'_>) -> Successors<'_>
         ensures { (front : List (List ℕ × Datum)) × StandsApart self.now name.now front result }
@@ -139,8 +139,8 @@ impl Pages {
         }
     }
 
-    /// The rows after this name, if its row is the one that was given last. Else the place of that
-    /// row is kept by its name: another walk, which asks in turn with this one, goes on from there.
+    /// The rows after this name, if its row is the one that was given last. If it isn't, the hint
+    /// keeps the place of that row under its name, since another walk may go on from there.
     #[inline(always)]
     fn behind(&self, name: &EncodedName<'_>, hint: &mut Guesses<'_>) -> Option<Successors<'_>>
         ensures { IfSome result (λ rows. (front : List (List ℕ × Datum))
@@ -163,9 +163,9 @@ impl Pages {
         }
     }
 
-    /// The rows after this name, by a guess of where it stands. Nothing is searched where that is
-    /// right; else the hint is told where the name stands. Not inlined, so that what comes before
-    /// it in a walk stays short.
+    /// The rows after this name. Nothing is searched where the hint's guess of its place is right;
+    /// where it isn't, the hint keeps the place. Not inlined, so that the usual path of a walk
+    /// stays short.
     #[inline(never)]
     pub fn after_near(&self, name: &EncodedName<'_>, hint: &mut Guesses<'_>) -> Successors<'_>
         ensures { (front : List (List ℕ × Datum)) × StandsApart self.now name.now front result }
@@ -208,16 +208,16 @@ impl Pages {
         Ok(replaced)
     }
 
-    /// Whether the last rows that were put among others came to many pages, as those in no order
-    /// do: each step of their searches waits for a piece of memory. They are a share of all rows,
-    /// as what follows looks at each.
+    /// Whether the last rows that were put among others came to many pages, as rows in no order do:
+    /// each step of the search for such a row waits for memory. It takes a share of all rows to
+    /// tell, since what is done about it looks at each row.
     #[inline]
     pub fn are_scattered(&self) -> bool {
         let samples = self.order.scattered as usize;
         samples >= MANY_SAMPLES && samples >= self.list.len() / PAGES_FOR_SAMPLE
     }
 
-    /// How many rows there are at most.
+    /// An upper bound of the number of rows.
     #[inline]
     pub fn most_rows(&self) -> usize {
         self.list.len().saturating_mul(PAGE_ROWS)
@@ -232,7 +232,8 @@ impl Pages {
         count
     }
 
-    /// Inserts the hashes of the names of the last rows, as many or all. Whether each was new.
+    /// Inserts the hashes of the names of the last `count` rows, or of all where there are fewer.
+    /// Returns whether each was new.
     pub fn insert_last(&self, count: usize, hashes: &mut Hashes) -> bool {
         let mut left = count;
         for page in self.list.iter().rev() {
@@ -295,8 +296,8 @@ impl Pages {
         Ok(true)
     }
 
-    /// [`Pages::put_all`] by one pass over all rows, those that were there too. It pays where the
-    /// rows are many, if their names fall.
+    /// [`Pages::put_all`] by one pass over all rows, also those that were there: it is faster where
+    /// many rows are put, if their names fall.
     pub fn merge(&mut self, alloc: Global, rows: &mut Vec<Late>) -> Result<bool, AllocError>
         ensures { IfOk result (λ apart. IsTrue apart
             → IsPermutation (entries self.old ++ entries_of rows.old.items) (entries self.new)) }
@@ -310,8 +311,8 @@ impl Pages {
         self.put_all(alloc, rows)
     }
 
-    /// Puts the rows of a page, and before each the last of the others that come before it, and
-    /// returns whether none has the name of another.
+    /// Puts the rows of a page, and before each of them those at the end of `others` that come
+    /// before it. Returns whether none has the name of another.
     fn merge_page(
         &mut self,
         alloc: Global,
@@ -331,8 +332,8 @@ impl Pages {
         Ok(true)
     }
 
-    /// Puts the last of the rows that come before the name, and returns whether none has the name
-    /// of another.
+    /// Takes rows from the end of the list while they come before the name, and puts them. Returns
+    /// whether none has the name of another.
     #[inline(always)]
     fn put_before(
         &mut self,
@@ -378,7 +379,7 @@ impl Pages {
 }
 
 impl PutOrder {
-    /// A row was put in the page at this place.
+    /// Notes that a row was put in the page at this place.
     #[inline]
     fn note(&mut self, page: usize) {
         self.pages |= 1 << (page % 128);
@@ -395,7 +396,7 @@ impl PutOrder {
     }
 }
 
-/// The row that a guess names, if it has the name. Nothing else is looked at.
+/// The row that a guess leads to, if it has the name. No other row is looked at.
 #[inline]
 fn row_guessed<'a>(
     pages: &'a [Page],
@@ -416,8 +417,9 @@ fn row_guessed<'a>(
     Some(row)
 }
 
-/// The rows after this name, if the row before the place of a guess has it, or if it stands between
-/// that row and the next of its page. Nothing else is looked at.
+/// The rows after this name, if the guess of its place is right: the row before the place has the
+/// name, or the name stands between that row and the next one of the page. No other row is looked
+/// at.
 #[inline]
 fn rows_guessed<'a>(
     pages: &'a [Page],
@@ -441,8 +443,8 @@ fn rows_guessed<'a>(
     Some(Successors { rows, pages })
 }
 
-/// Whether the last of the rows in front has the name, or has one before it where the first of
-/// those behind has one after it.
+/// Whether the last row in front has the name, or the name stands between that row and the first
+/// one behind.
 #[inline]
 fn stands_between(name: &EncodedName<'_>, front: &[EncodedBinding], rows: &[EncodedBinding]) -> bool
     ensures { IsTrue result → StandsBetween name.now front.now rows.now }
@@ -479,7 +481,7 @@ fn page_near(pages: &[Page], name: &EncodedName<'_>, guess: usize) -> usize
 }
 
 /// Whether all rows come before the name.
-// Hot: each row of a table that is read.
+// Hot: called for each row of a table that is read.
 #[inline(always)]
 fn ends_before(pages: &[Page], name: &EncodedName<'_>) -> bool
     requires { ArePages pages.now }
@@ -496,7 +498,7 @@ fn ends_before(pages: &[Page], name: &EncodedName<'_>) -> bool
 }
 
 /// Appends a row that comes after all others.
-// Hot: each row of a table that is read in order.
+// Hot: called for each row of a table that is read in order.
 #[inline(always)]
 fn append(alloc: Global, pages: &mut Vec<Page>, row: EncodedBinding) -> Result<(), AllocError>
     ensures rows { IfOk result (λ _. entries_in pages.new.items
@@ -525,7 +527,7 @@ fn push_page(pages: &mut Vec<Page>, page: Page) -> Result<(), AllocError>
     }
 }
 
-/// The place of the page where a row of this name belongs, which is divided before if it is full.
+/// The place of the page where a row of this name belongs. A full page is divided first.
 fn page_with_room(pages: &mut Vec<Page>, name: &EncodedName<'_>) -> Result<usize, AllocError>
     requires rising { ArePages pages.old.items }
     requires some { 1 ≤ length pages.old.items }
@@ -539,7 +541,8 @@ fn page_with_room(pages: &mut Vec<Page>, name: &EncodedName<'_>) -> Result<usize
     divide(pages, place, name)
 }
 
-/// Divides the page where a row of this name belongs, and returns the place where it belongs then.
+/// Divides the page where a row of this name belongs, and returns the place of the part where it
+/// belongs.
 fn divide(pages: &mut Vec<Page>, place: usize, name: &EncodedName<'_>) -> Result<usize, AllocError>
     requires rising { ArePages pages.old.items }
     requires place { IsPageOf name.now pages.old.items place }
@@ -574,7 +577,7 @@ fn remove_row(pages: &mut Vec<Page>, place: usize, row: usize)
     }
 }
 
-/// Gives the room for most pages back, where it isn't used.
+/// Gives unused memory of the list back, where less than a quarter of it is used.
 fn give_back(pages: &mut Vec<Page>)
     ensures { pages.new.items ≡ pages.old.items }
 {
@@ -584,10 +587,10 @@ fn give_back(pages: &mut Vec<Page>)
     }
 }
 
-/// Rows after a name, as a GetNext takes them that is asked again and again.
+/// The rows after a name, as repeated GetNexts return them.
 #[derive(Drop)]
 pub struct Successors<'a> {
-    /// Those of the page where it stands.
+    /// Those in the current page.
     rows: &'a [EncodedBinding],
     /// The pages after that.
     pages: &'a [Page],
@@ -628,7 +631,7 @@ impl<'a> Successors<'a> {
         }
     }
 
-    /// The first row. Those after it are left.
+    /// Takes the first row.
     #[inline]
     pub(crate) fn next_row(&mut self) -> Option<&'a EncodedBinding>
         ensures some { IfSome result (λ row. self.old ≡ entry_of row.now ∷ self.new) }
@@ -645,7 +648,7 @@ impl<'a> Successors<'a> {
         Some(row)
     }
 
-    /// How many rows of their page are left, and how many pages after that.
+    /// How many rows of the current page are left, and how many pages after it.
     #[inline]
     pub(crate) fn left(&self) -> (usize, usize) {
         (self.rows.len(), self.pages.len())
@@ -659,7 +662,8 @@ impl<'a> Successors<'a> {
         self.rows.is_empty() && self.pages.is_empty()
     }
 
-    /// Skips as many rows, or all where there are fewer. The name becomes that of the last of them.
+    /// Skips `count` rows, or all where there are fewer, and sets the name to that of the last one
+    /// skipped.
     pub fn skip(&mut self, count: usize, name: &mut Oid)
         ensures left { self.new ≡ drop count self.old }
         ensures name { name.new ≡ last_name name.old (take count self.old) }
@@ -669,7 +673,7 @@ impl<'a> Successors<'a> {
         }
     }
 
-    /// Skips as many rows, or all where there are fewer, and returns the last of them.
+    /// Skips `count` rows, or all where there are fewer, and returns the last one skipped.
     pub(crate) fn skip_rows(&mut self, count: usize) -> Option<&'a EncodedBinding>
         ensures left { self.new ≡ drop count self.old }
         ensures last { (o : List ℕ) → option_map_or (λ row. row.now.name) result o
@@ -708,7 +712,7 @@ impl<'a> Default for Successors<'a> {
     }
 }
 
-/// The last of the rows, or the one before them where there is none.
+/// The last of the rows, or `before` where there is none.
 #[inline]
 fn last_of<'a>(
     rows: &'a [EncodedBinding],

@@ -34,7 +34,7 @@ impl RowText {
 }
 
 /// Changes a value to the identifier of these numbers.
-// Not inlined: values of other types would have to clear its identifier.
+// Not inlined: the caller would clear the identifier for values of other types too.
 #[inline(never)]
 fn set_to_identifier(into: &mut ValueRef<'_>, numbers: &[u32])
     requires { length numbers.now ≤ 128 }

@@ -62,9 +62,9 @@ pub fn count_between<T: Placed>(
     begun
 }
 
-/// Narrows a search by a guess of the last element that is up to the name. Those before the first
-/// place returned are up to the name, and those from the second on aren't: the places are the same
-/// where the guess is right.
+/// Narrows a search by a guess of the last element that is up to the name. Elements before the
+/// first place returned are up to it, and those from the second on aren't: both are one place where
+/// the guess is right.
 #[inline(always)]
 pub fn near<T: Placed>(items: &[T], name: &EncodedName<'_>, guess: usize) -> (usize, usize)
     requires { IsPartitionedBy (T.up_to name.now) items.now }
@@ -82,7 +82,7 @@ pub fn near<T: Placed>(items: &[T], name: &EncodedName<'_>, guess: usize) -> (us
     }
 }
 
-/// Narrows a search, from `begun` to `end`, by the test of the element at one place between.
+/// Narrows a search between two places by the test of one element there.
 #[inline(always)]
 fn by_test<T: Placed>(
     items: &[T],
@@ -117,7 +117,7 @@ pub fn place_near(rows: &[EncodedBinding], name: &EncodedName<'_>, guess: usize)
     requires { IsRising rows.now }
     ensures { IsPlaceAfter name.now rows.now result }
 {
-    // The guess of the last row up to the name is one less. Where there is none, all are searched.
+    // The last row up to the name is one before that. Where there is none, all rows are searched.
     let (passed, end) = near(rows, name, guess.wrapping_sub(1));
     count_between(rows, name, passed, end)
 }

@@ -16,8 +16,8 @@ pub fn split_once(text: &[u8], separator: u8) -> Option<(&[u8], &[u8])>
     Some((&text[..end], &text[end + 1..]))
 }
 
-/// [`split_once`] where the separator is mostly the second octet or the third, as the bar behind a
-/// tag: it is looked for there before it is searched for.
+/// [`split_once`] for texts whose second or third octet mostly is the separator, as the bar after a
+/// tag: these octets are tested before the text is searched.
 #[inline]
 pub fn split_near(text: &[u8], separator: u8) -> Option<(&[u8], &[u8])>
     ensures { MatchOption result (All (λ octet. octet ≢ separator) text.now)
@@ -36,7 +36,7 @@ pub fn split_near(text: &[u8], separator: u8) -> Option<(&[u8], &[u8])>
     }
 }
 
-/// The first line of a text that has one, without its end, and what follows.
+/// The first line of a text, without its line end, and what follows.
 pub fn split_line(text: &[u8]) -> (&[u8], &[u8])
     requires { 0 < length text.now }
     ensures lines { lines text.now ≡ result.0.now ∷ lines result.1.now }

@@ -62,7 +62,8 @@ impl Table {
     /// Reads the table that a text states, or returns the fault of its first faulty line
     /// (`docs/PROFILE.md`). `Memory` may come in place of any result. Names are numeric.
     ///
-    /// A line ends with LF, CR LF or the text; a CR that no LF follows belongs to its line.
+    /// A line ends with LF, with CR LF or at the end of the text; a CR that no LF follows belongs
+    /// to its line.
     pub fn read(alloc: Global, text: &[u8]) -> Result<Table, TableError>
         ensures table { IfOk result (IsTableOf numeric_names (lines text.now)) }
         ensures view { IfOk result IsMibView }
@@ -96,7 +97,8 @@ impl Table {
         ensures fault { IfErr result (IsFirstFaultIn (F.format format.now) (lines text.now)) }
     {
         let read = match Draft::read(alloc, text, format, false) {
-            // Memory ran out where rows were gathered: what they took isn't taken this time.
+            // Memory ran out while rows were gathered. An exact reading gathers none, and takes
+            // less.
             Err(Halt::Again) => Draft::read(alloc, text, format, true),
             read => read,
         };
@@ -172,7 +174,7 @@ impl Table {
         self.rows.find_near(name, hint)
     }
 
-    /// The row of this name, which may have no encoding: no row has it then.
+    /// The row of this name. No row has a name without an encoding.
     fn row_of(&self, name: &Oid) -> Option<&EncodedBinding>
         ensures { option_map (λ row. row.now.value) result ≡ get self.now.rows name.now }
     {
@@ -203,7 +205,7 @@ impl Table {
         }
     }
 
-    /// The exception that a Get of a name gives that no instance has, as [`Table::get`] says.
+    /// The exception that a Get gives for a name that no instance has, as [`Table::get`] says.
     pub(crate) fn exception(&self, name: &Oid) -> ValueRef<'_>
         requires { get self.now.rows name.now ≡ None }
         ensures answer { IsGet self.now name.now
@@ -217,7 +219,7 @@ impl Table {
         }
     }
 
-    /// The rows behind a name, in order.
+    /// The rows after a name, in order.
     pub fn after(&self, name: &EncodedName<'_>) -> Successors<'_>
         ensures { AreBehind self.now name.now result }
     {
@@ -226,7 +228,7 @@ impl Table {
             .after_near(name, &mut Guesses::without_names(&mut last))
     }
 
-    /// The rows behind a name, in order. Nothing is searched where the hint is right.
+    /// The rows after a name, in order. Nothing is searched where the hint is right.
     pub(crate) fn after_near(
         &self,
         name: &EncodedName<'_>,
@@ -237,7 +239,7 @@ impl Table {
         self.rows.after_near(name, hint)
     }
 
-    /// The rows behind a name, for a walk, which mostly asks from the row that was given last.
+    /// [`Table::after_near`] for a walk, which mostly asks from the row that was given last.
     #[inline(always)]
     pub(crate) fn after_last(
         &self,
@@ -249,8 +251,9 @@ impl Table {
         self.rows.after_last(name, hint)
     }
 
-    /// Changes a binding to what a GetNext gives that is asked again, `rounds` times more, each
-    /// time from the name that it gave, as a GetBulk does (RFC 3416, section 4.2.3).
+    /// Changes a binding to what a GetNext of the name gives when it is repeated `rounds` times
+    /// more, each time from the name that it gave before, as a GetBulk repeats it (RFC 3416,
+    /// section 4.2.3).
     pub fn read_next_after<'a>(
         &'a self,
         name: &EncodedName<'_>,

@@ -60,12 +60,11 @@ impl Tag {
     }
 }
 
-/// How many octets a string of a table has at most.
+/// The most octets that a string of a table has.
 pub const LONGEST_STRING: usize = 65535;
 
-/// Reads the number, the address or the octets that the text states as they are into a value that
-/// is there, and returns whether it states one. None where values of the tag are others: they take
-/// memory.
+/// Reads the number or address that the text states, or the text itself as octets, into a given
+/// value, and returns whether it states one. None where values of the tag take memory of their own.
 pub fn read_plain<'a>(tag: Tag, text: &'a [u8], into: &mut ValueRef<'a>) -> Option<bool>
     ensures plain { IfSome result (λ found. (format : Format) → IsOnlyThere
         (IsValueText format (tag_text tag) text.now) found (datum into.new)) }
@@ -103,8 +102,8 @@ pub fn read_plain<'a>(tag: Tag, text: &'a [u8], into: &mut ValueRef<'a>) -> Opti
     Some(true)
 }
 
-/// Changes a value to an INTEGER. As the next five do, it leaves what else is in a value that has
-/// the type: this saves setting over 500 octets.
+/// Changes a value to an INTEGER. Like the next five, it sets the number alone in a value that has
+/// the type already, which saves setting over 500 octets.
 #[inline(always)]
 fn set_integer(value: &mut ValueRef<'_>, number: i32)
     ensures { datum value.new ≡ integer_value number }
@@ -170,7 +169,8 @@ fn set_octets<'a>(value: &mut ValueRef<'a>, octets: &'a [u8])
     }
 }
 
-/// The octets or the identifier that the text states, None where it states none of the tag's type.
+/// The octets or the identifier that the text states. None where it states no value of the tag's
+/// type.
 pub fn read_kept<F: LineFormat>(
     alloc: Global,
     format: &F,
@@ -189,7 +189,7 @@ pub fn read_kept<F: LineFormat>(
     }
 }
 
-/// A number of 64 bits in decimal digits, leading zeros among them or not.
+/// A number of 64 bits in decimal digits, with or without leading zeros.
 fn decimal(text: &[u8]) -> Option<u64>
     ensures { IsOnly (λ n. IsDecimal text.now n × (n < 2 ^ 64)) result }
 {
@@ -215,7 +215,7 @@ fn unsigned(text: &[u8]) -> Option<u32>
     u32::try_from(decimal(text)?).ok()
 }
 
-/// A signed number of 32 bits in decimal digits, with a minus sign before them or not.
+/// A signed number of 32 bits in decimal digits, with or without a minus sign before them.
 fn signed(text: &[u8]) -> Option<i32>
     ensures { IsOnly (λ z. IsSignedDecimal text.now z × FitsSigned w32 z) result }
 {
@@ -244,7 +244,7 @@ fn address(text: &[u8]) -> Option<[u8; 4]>
 }
 
 /// An identifier that has an encoding, as its numbers.
-// Not inlined: values of other types would have to clear its identifier.
+// Not inlined: the caller would clear the identifier for values of other types too.
 #[inline(never)]
 fn object_id<F: LineFormat>(
     alloc: Global,
