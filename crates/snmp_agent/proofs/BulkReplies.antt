@@ -48,7 +48,8 @@ is_longest sizes q limit room is_room all added more total front size no_room ah
     (cases_lt (length added) (length ahead))
 
 -- what was written is the Response
-pub bulk_sent : MessageSizes → HasPieces → (view : MibView) (limit room : ℕ) (q m : Message) (all : List VarBind) (reply : ReplyBindings) (n : ℕ) (out new : List ℕ)
+pub bulk_sent : MessageSizes → HasPieces → (view : MibView) (limit room : ℕ) (q m : Message) (all : List VarBind)
+    (reply : ReplyBindings) (n : ℕ) (out new : List ℕ)
     → q.kind ≡ kind.GetBulkRequest → IsBulk view q all → m ≡ response q no_error (pos 0) [] → IsRoom m limit room
     → HoldsFront room [] all (held reply out) → length (take reply.total out) ≡ reply.total → n ≡ whole_size m reply.total
     → take n new ≡ canon_head m reply.total ++ take reply.total out → IsResponseWritten view limit q n new

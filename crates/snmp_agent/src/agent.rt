@@ -142,7 +142,7 @@ fn reply(
     }
 }
 
-/// [`reply`] to a GetBulk: with as many bindings as fit.
+/// Writes the reply to a GetBulk, as [`reply`] does: with as many bindings as fit.
 fn bulk_reply<'a>(
     table: &'a Table,
     config: &Config<'_>,
@@ -170,8 +170,8 @@ fn bulk_reply<'a>(
     }
 }
 
-/// [`reply`] to a request whose reply has one binding for each of its own: with all of them, or an
-/// error where they don't fit.
+/// Writes the reply to another request, as [`reply`] does: with one binding for each of the
+/// request's, or an error where they don't fit.
 fn paired_reply(
     table: &Table,
     config: &Config<'_>,

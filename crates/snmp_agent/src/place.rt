@@ -83,7 +83,7 @@ impl<'a> Place<'a> {
         }
     }
 
-    /// The place of a name of a request after so many rounds.
+    /// The place of a name of a request after this many rounds.
     pub fn after_rounds(table: &'a Table, name: EncodedName<'a>, rounds: usize) -> Place<'a>
         requires { IsWire name }
         ensures { Stands table.now rounds name.entry result }

@@ -1,16 +1,16 @@
 //! The bindings of a reply while they are written, and the room that is left for more.
-ghost use Rattle.std.specs.Prelude.{◌≡◌, ◌↔◌, ◌+◌, ◌≤◌, [], IsTrue};
+ghost use Rattle.std.specs.Prelude.{◌≡◌, ◌+◌, ◌≤◌, []};
 ghost use Rattle.snmp_wire.specs.Message.{var_bind, null_value};
 
 use snmp_wire::{
     Binding, EncodedBinding, MAX_DATAGRAM, Oid, ValueRef, element_sizes, encode_binding,
 };
 
-/// The bindings of a reply that is being written, in the front of an output. Once one has no room,
-/// none has.
+/// The bindings of a reply that is being written, in the front of an output. After a binding for
+/// which there is no room, there is none for any other.
 #[derive(Clone, Copy)]
 pub struct ReplyBindings {
-    /// How many octets those that are written take.
+    /// How many octets the bindings take.
     pub total: usize,
     /// How many more octets there is room for.
     pub left: usize,
@@ -22,7 +22,7 @@ impl ReplyBindings {
     ghost use Rattle.snmp_wire.specs.Message.{datum, var_bind};
     ghost use Rattle.snmp_agent.specs.Answering.{IsShortValue, IsWritable, add, put, held};
 
-    /// No bindings, with room for so many octets.
+    /// No bindings, with room for this many octets.
     #[inline]
     pub fn new(room: usize) -> ReplyBindings
         requires { room ≤ 65507 }

@@ -12,7 +12,7 @@ const FEW_BUCKETS: usize = 32;
 /// How many buckets, one after the other, are looked at for a hash.
 const LOOKS: usize = 16;
 
-/// An odd number: each bit of its product with another depends on all lower bits of the other.
+/// An odd number: each bit of its product with another depends on all bits of the other up to it.
 const FACTOR: u64 = 0x9E37_79B9_7F4A_7C15;
 
 /// Hashes of names, to tell that a name is new. Only speed depends on them.

@@ -10,7 +10,8 @@ use Rattle.snmp_agent.proofs.Lengths.{not_none, within}
 use Rattle.snmp_agent.proofs.agent.bulk_reply.Goals as goal
 use Rattle.snmp_agent.proofs.agent.bulk_reply.Goals.{After-append_bulk-bindings}
 
-front : (c : After-append_bulk-bindings) → HoldsFront c.in-Some.room [] c.append_bulk-bindings.ensures.0 (held c.append_bulk-bindings.result c.append_bulk-bindings.new.out)
+front : (c : After-append_bulk-bindings)
+    → HoldsFront c.in-Some.room [] c.append_bulk-bindings.ensures.0 (held c.append_bulk-bindings.result c.append_bulk-bindings.new.out)
 front c =
     let all = c.append_bulk-bindings.ensures in
     let none : record { octets = []; left = c.in-Some.room } ≡ held c.new.result c.args.out.now = λ i. record {
@@ -25,7 +26,8 @@ returns-in-Some-clause-sent c =
     let bindings : ReplyBindings = c.append_bulk-bindings.result in
     IfSome_then c.seal.result c.seal.ensures.some (λ n h. bulk_sent c.message_sizes.ensures c.pieces.ensures c.args.table.now c.args.config.now.max_size
     c.in-Some.room c.args.request.now (parts_message c.response-parts.result) all.0 bindings n c.append_bulk-bindings.new.out
-    c.seal.new.out c.requires.bulk all.1 c.response-parts.ensures c.in-Some.ensures.room (front (goal.at.returns-in-Some-clause-sent c).After-append_bulk-bindings)
+    c.seal.new.out c.requires.bulk all.1 c.response-parts.ensures c.in-Some.ensures.room
+    (front (goal.at.returns-in-Some-clause-sent c).After-append_bulk-bindings)
     (length-take-le _ _ (omega arith)) h.0 h.1)
 
 pub returns-in-Some-clause-none : goal.returns-in-Some-clause-none
