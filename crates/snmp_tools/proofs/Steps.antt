@@ -18,11 +18,12 @@ use Rattle.snmp_tools.specs.Chosen.{chosen}
 use Rattle.snmp_tools.specs.Letters.{Choices}
 use Rattle.snmp_tools.specs.Message.{Fault, out_of_memory, unsendable}
 use Rattle.snmp_tools.specs.Mib.{IsMibOf, Mib}
-use Rattle.snmp_tools.specs.Planned.{AgentFails, AreOrdersOf, NamesFail, ShowingFails}
+use Rattle.snmp_tools.specs.Planned.{AgentFails, AreOrdersOf, HasTextsOf, NamesFail, ShowingFails}
+use Rattle.snmp_tools.specs.Planned.{plan_of, question_of}
 use Rattle.snmp_tools.specs.Question.{AreNames, AskFor, AskWords, FailsBy, FailsFor, HasMeaning}
 use Rattle.snmp_tools.specs.Question.{HasSendable, HasUnsendable, IsDoneBy, IsDoneFor}
 use Rattle.snmp_tools.specs.Question.{IsEarlyRefusal, IsLastRefusal, IsLateRefusal}
-use Rattle.snmp_tools.specs.Question.{IsQuestionOf, LaterStep, LoadingStep, Plan, Question}
+use Rattle.snmp_tools.specs.Question.{IsQuestionOf, LaterStep, LoadingStep, Question}
 use Rattle.snmp_tools.specs.Question.{Request, get, names, subtree, walk}
 use Rattle.snmp_tools.specs.Question.{asking, below_step, choices_step, goes_on_after}
 use Rattle.snmp_tools.specs.Question.{loading_steps, mibs_step, name_step, name_steps, reach_step}
@@ -30,12 +31,15 @@ use Rattle.snmp_tools.specs.Question.{reaching_steps, root_text, sent_step}
 use Rattle.snmp_tools.specs.Question.{sent_steps}
 use Rattle.snmp_tools.specs.Start.{BeginFails, ResumeFails}
 use Rattle.snmp_tools.specs.declared.plan.Orders.{Orders}
+use Rattle.snmp_tools.specs.declared.plan.Plan.{Plan}
+use Rattle.snmp_tools.specs.declared.plan.Question as planned
+use Rattle.snmp_tools.specs.declared.plan.Question.TheVariants as questions
 use Rattle.snmp_tools.proofs.Texts.{texts-more, texts-parts}
 
 -- the text of a reference that may be there, or another's
-pub text_or : (o : Option (Bor (List ℕ))) (d : Bor (List ℕ)) → (unwrap_or o d).now ≡ unwrap_or (option_map (λ s. s.now) o) d.now
-text_or None d = refl
-text_or (Some s) d = refl
+pub text_or : (o : Option (Bor (List ℕ))) (d r : Bor (List ℕ)) → r ≡ unwrap_or o d → r.now ≡ unwrap_or (option_map (λ s. s.now) o) d.now
+text_or None d r e = ap (λ (s : Bor (List ℕ)). s.now) e
+text_or (Some t) d r e = ap (λ (s : Bor (List ℕ)). s.now) e
 
 module _ {S : Type 0} (IsDone : S → Type 0) (Fails : S → Fault → Type 0) (why : Fault) where
   pub first : (step : S) (left : List S) → Fails step why → IsFirstToFail (step ∷ left) IsDone Fails why
@@ -238,33 +242,36 @@ module _ (words : AskWords) (files : Holdings) (why : Fault) where
           later DoneBy FailsLater why (below_step text t) _ (root, after, means, subst (λ (n : List ℕ). TextMeans mib.naming t (Ok n)) same h.1, f.0)
           (first DoneBy FailsLater why (sent_step t) [] (after, subst (λ (n : List ℕ). TextMeans mib.naming t (Ok n)) same h.1, f.1, f.2))
 
-      at_sent : (request : Request) (choices : Choices) (question : Question) → IsQuestionOf request choices mib question
-          → BeginFails request question why → RefusedBy (sent_steps request)
-      at_sent (get texts) choices (names os) q f =
-          mapped sent_step (HasSendable mib) DoneBy (λ text d. d) (HasUnsendable mib) FailsLater why (λ text f. f) texts (f mib q)
-      at_sent (get texts) choices (subtree w) q f = absurd q
-      at_sent (walk bulk letters after name) choices (names os) q f = absurd q
-      at_sent (walk bulk letters after name) choices (subtree w) q (inl f) =
-          first DoneBy FailsLater why (sent_step (root_text name)) _ (w.root, q.root, f.0, f.1)
-      at_sent (walk bulk letters after name) choices (subtree w) q (inr f) =
+      at_sent : (request : Request) (choices : Choices) (question : planned.Question) → IsQuestionOf request choices mib (question_of question)
+          → HasTextsOf request question → BeginFails question why → RefusedBy (sent_steps request)
+      at_sent (get texts) choices (questions.Get ns) q are f =
+          let P : List (List ℕ) → Type 0 = λ ts. IsFirstToFail ts (HasSendable mib) (HasUnsendable mib) why in
+          let named = subst (λ (ts : List (List ℕ)). AreNames mib ts ns.oids.items) (sym are) q in
+          mapped sent_step (HasSendable mib) DoneBy (λ text d. d) (HasUnsendable mib) FailsLater why (λ text f. f) texts (subst P are (f mib named))
+      at_sent (get texts) choices (questions.Walk w) q are f = absurd q
+      at_sent (walk bulk letters after name) choices (questions.Get ns) q are f = absurd q
+      at_sent (walk bulk letters after name) choices (questions.Walk w) q are (inl f) =
+          first DoneBy FailsLater why (sent_step (root_text name)) _ (w.root, q.root, f.0, f.1 ∙ ap unsendable are.0)
+      at_sent (walk bulk letters after name) choices (questions.Walk w) q are (inr f) =
           later DoneBy FailsLater why (sent_step (root_text name)) _ (w.root, q.root, f.0)
-          (resumed w.root f.1.0 (root_text name) after w.after q.goes_on f.1.1 q.root f.1.2)
+          (resumed w.root f.1.0 (root_text name) after w.after q.goes_on f.1.1 q.root
+          (subst (λ (t : List ℕ). ResumeFails w.root f.1.0 t why) are.1 f.1.2))
 
-      module _ (plan : Plan) (asked : AskFor words mib plan) where
+      module _ (plan : Plan) (asked : AskFor words mib (plan_of plan)) where
         -- the agent isn't reached
         pub unreached : (agent : Address) → HasAgent words.asking.agent agent → (why ≡ out_of_memory) ⊎ ReachFails files mib agent why
             → IsLateRefusal words files mib why
         unreached agent only (inl e) = loaded (inl e)
         unreached agent only (inr f) =
             loaded (inr (after_all DoneBy FailsLater why (name_steps words.request) (reach_step ∷ [])
-            (names_done words.request asked.choices plan.question asked.question) (first DoneBy FailsLater why reach_step [] (agent, only, f))))
+            (names_done words.request asked.choices (question_of plan.question) asked.question) (first DoneBy FailsLater why reach_step [] (agent, only, f))))
 
         -- a name can't be sent, or the walk can't go on after it
-        pub unsent : (agent : Address) → HasAgent words.asking.agent agent → IsReached files mib agent → BeginFails words.request plan.question why
-            → IsLastRefusal words files mib why
-        unsent agent only reached f = record {
+        pub unsent : HasTextsOf words.request plan.question → (agent : Address) → HasAgent words.asking.agent agent → IsReached files mib agent
+            → BeginFails plan.question why → IsLastRefusal words files mib why
+        unsent are agent only reached f = record {
           loaded = loading_done;
-          named = names_done words.request asked.choices plan.question asked.question;
+          named = names_done words.request asked.choices (question_of plan.question) asked.question;
           reached = (agent, only, reached);
-          fails = at_sent words.request asked.choices plan.question asked.question f;
+          fails = at_sent words.request asked.choices plan.question asked.question are f;
         }

@@ -1,7 +1,7 @@
 -- The request and the plan that the program keeps, and what it has read of the words before, for
 -- private clauses.
-use Rattle.std.specs.Prelude.{◌≡◌, ◌≤◌, ◌⊎◌, length, Some, codes, ℕ, List}
-use Rattle.std.specs.Prelude.{Option, drop, option_map}
+use Rattle.std.specs.Prelude.{◌≡◌, ◌≤◌, ◌⊎◌, length, Some, codes, ℕ, List, []}
+use Rattle.std.specs.Prelude.{Option, drop, option_map, unwrap_or}
 use Rattle.snmp_oid.specs.Numeric.{numeric_text}
 use Rattle.smi_show.specs.name.Naming.{Naming}
 use Rattle.smi_value.specs.Syntax.{ObjectSyntax}
@@ -73,8 +73,15 @@ walk_of w =
     record { root = w.root; after = w.after; mode = w.mode; method = w.method; counts = w.counts }
 
 abbrev pub question_of : Question → question.Question
-question_of (planned.Get os) = question.names os.items
+question_of (planned.Get names) = question.names names.oids.items
 question_of (planned.Walk w) = question.subtree (walk_of w)
+
+-- the texts that it keeps are those of the request
+abbrev pub HasTextsOf : question.Request → Question → Type 0
+HasTextsOf (question.get texts) (planned.Get names) = texts_at names.texts.now ≡ texts
+HasTextsOf (question.walk bulk letters after name) (planned.Walk w) =
+    (w.root_text.now ≡ root_text name) × (w.after_text.now ≡ unwrap_or after [])
+HasTextsOf _ _ = ⊥
 
 abbrev pub plan_of : Plan → question.Plan
 plan_of p = record {

@@ -1,5 +1,5 @@
 -- How a question begins, and why it can't, for private clauses.
-use Rattle.std.specs.Prelude.{◌≡◌, ◌⊎◌, ℕ, List, [], All, Option, Some, None, unwrap_or}
+use Rattle.std.specs.Prelude.{◌≡◌, ◌⊎◌, ℕ, List, All, Option, Some, None}
 use Rattle.snmp_oid.specs.Identifier.{IsWire, wire}
 use Rattle.snmp_agent.specs.table.Listing.{variables}
 use Rattle.snmp_agent.specs.table.Table.{IsMibView, MibView}
@@ -11,11 +11,15 @@ use Rattle.snmp_walk.specs.Walker.{Walker}
 use Rattle.snmp_walk.specs.declared.end.WalkEnd.{WalkEnd}
 use Rattle.snmp_walk.specs.declared.link.Link.{Ghosts as LinkFacts}
 use Rattle.snmp_io.specs.Steps.{IsFirstToFail}
+use Rattle.snmp_words.specs.Words.{texts_at}
 use Rattle.snmp_tools.specs.Answer.{first_of}
 use Rattle.snmp_tools.specs.Message.{Fault, outside_root, unsendable}
 use Rattle.snmp_tools.specs.Mib.{Mib}
 use Rattle.snmp_tools.specs.Question.{AreNames, HasSendable, HasUnsendable, IsAtOrBelow, Question}
-use Rattle.snmp_tools.specs.Question.{Request, Walk, get, names, root_text, subtree, walk}
+use Rattle.snmp_tools.specs.Question.{Walk, names, subtree}
+use Rattle.snmp_tools.specs.declared.plan.Question as plan
+use Rattle.snmp_tools.specs.declared.plan.Question.TheVariants as planned
+use Rattle.snmp_tools.specs.declared.plan.Walk as plan_walk
 use Rattle.snmp_tools.specs.declared.start.Begun.{Begun}
 use Rattle.snmp_tools.specs.declared.start.Begun.TheVariants as begun
 
@@ -56,17 +60,15 @@ ResumeFails root after text why =
     ((IsAtOrBelow after root → ⊥) × (why ≡ outside_root text))
     ⊎ (IsAtOrBelow after root × (IsWire (wire after) → ⊥) × (why ≡ unsendable text))
 
--- why a walk can't begin, the texts being those of its names
-abbrev pub StartFails : Walk → (root_text after_text : List ℕ) → Fault → Type 0
-StartFails w root_text after_text why =
-    ((IsWire (wire w.root) → ⊥) × (why ≡ unsendable root_text))
+-- why a walk can't begin
+abbrev pub StartFails : plan_walk.Walk → Fault → Type 0
+StartFails w why =
+    ((IsWire (wire w.root) → ⊥) × (why ≡ unsendable w.root_text.now))
     ⊎ (IsWire (wire w.root) × ((after : List ℕ) × (w.after ≡ Some after)
-    × ResumeFails w.root after after_text why))
+    × ResumeFails w.root after w.after_text.now why))
 
--- why a question can't begin
-abbrev pub BeginFails : Request → Question → Fault → Type 0
-BeginFails (get texts) (names os) why = (mib : Mib) → AreNames mib texts os
-    → IsFirstToFail texts (HasSendable mib) (HasUnsendable mib) why
-BeginFails (walk bulk letters after name) (subtree w) why =
-    StartFails w (root_text name) (unwrap_or after []) why
-BeginFails _ _ why = ⊥
+-- why the question of a plan can't begin
+abbrev pub BeginFails : plan.Question → Fault → Type 0
+BeginFails (planned.Get ns) why = (mib : Mib) → AreNames mib (texts_at ns.texts.now) ns.oids.items
+    → IsFirstToFail (texts_at ns.texts.now) (HasSendable mib) (HasUnsendable mib) why
+BeginFails (planned.Walk w) why = StartFails w why

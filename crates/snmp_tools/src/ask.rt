@@ -69,7 +69,7 @@ fn ask_by<'a, T: ShowTree, F: Files, L: Links, O: Output>(
     match plan.orders.agent {
         AgentAddress::Table(path) => {
             let table = table_at(alloc, tree, files, path)?;
-            let begun = begin(&plan, job.request)?;
+            let begun = begin(&plan)?;
             print_in_memory(alloc, &plan, begun, tree, &table, asking, out)
         }
         AgentAddress::Udp(at) => {
@@ -77,7 +77,7 @@ fn ask_by<'a, T: ShowTree, F: Files, L: Links, O: Output>(
                 Ok(link) => link,
                 Err(_) => return Err(Failure::Ended(asking.agent, WalkEnd::Link)),
             };
-            let begun = begin(&plan, job.request)?;
+            let begun = begin(&plan)?;
             print_over(alloc, &plan, begun, tree, &mut link, asking, out)
         }
     }
@@ -87,7 +87,7 @@ fn ask_by<'a, T: ShowTree, F: Files, L: Links, O: Output>(
 // for.
 fn print_over<'a, T: ShowTree, L: Link, O: Output>(
     alloc: Global,
-    plan: &Plan<'a>,
+    plan: &Plan<'_, 'a>,
     begun: Begun<'_>,
     tree: &T,
     link: &mut L,
@@ -114,7 +114,7 @@ fn print_over<'a, T: ShowTree, L: Link, O: Output>(
 // where that is asked for.
 fn print_in_memory<'a, T: ShowTree, O: Output>(
     alloc: Global,
-    plan: &Plan<'a>,
+    plan: &Plan<'_, 'a>,
     begun: Begun<'_>,
     tree: &T,
     table: &Table,

@@ -8,15 +8,16 @@ ghost use Rattle.snmp_tools.specs.Asking.{AreShown, HasAgent};
 ghost use Rattle.snmp_tools.specs.Chosen.{chosen};
 ghost use Rattle.snmp_tools.specs.Message.{fault_of};
 ghost use Rattle.snmp_io.specs.Files.{Holdings};
-ghost use Rattle.snmp_tools.specs.Planned.{AgentFails, AreOrdersOf, NamesFail, ShowingFails};
-ghost use Rattle.snmp_tools.specs.Planned.{ask_words, mib_in, plan_of, question_of, request_of};
+ghost use Rattle.snmp_tools.specs.Planned.{AgentFails, AreOrdersOf, HasTextsOf, NamesFail};
+ghost use Rattle.snmp_tools.specs.Planned.{ShowingFails, ask_words, mib_in, plan_of, question_of};
+ghost use Rattle.snmp_tools.specs.Planned.{request_of};
 ghost use Rattle.snmp_tools.specs.Question.{AskFor, HasChosen, IsEarlyRefusal, IsQuestionOf};
 ghost use Rattle.snmp_tools.specs.Question.{counts_in};
 
 use crate::choices::Choices;
 use crate::failure::Failure;
 use crate::names::{name, name_if_given, read_names};
-use crate::plan::{Orders, Plan, Question, Walk};
+use crate::plan::{Names, Orders, Plan, Question, Walk};
 use crate::request::{AskJob, Request};
 use smi_show::{Letters, ShowTree};
 use snmp_net::AgentAddress;
@@ -52,25 +53,28 @@ impl<'a> Orders<'a> {
     }
 }
 
-impl<'a> Plan<'a> {
+impl<'j, 'a> Plan<'j, 'a> {
     ghost use Rattle.std.specs.Prelude.{IfErr, IfOk};
     ghost use Rattle.snmp_tools.specs.Asking.{HasAgent};
     ghost use Rattle.snmp_tools.specs.Message.{fault_of};
-    ghost use Rattle.snmp_tools.specs.Planned.{AreOrdersOf, NamesFail, ask_words, mib_in, plan_of};
+    ghost use Rattle.snmp_tools.specs.Planned.{AreOrdersOf, HasTextsOf, NamesFail, ask_words};
+    ghost use Rattle.snmp_tools.specs.Planned.{mib_in, plan_of};
     ghost use Rattle.snmp_tools.specs.Question.{AskFor};
 
     /// What the words ask for, by the names of a tree.
     pub(crate) fn read<T: ShowTree>(
         alloc: Global,
-        job: AskJob<'_, 'a>,
+        job: AskJob<'j, 'a>,
         orders: Orders<'a>,
         tree: &T,
-    ) -> Result<Plan<'a>, Failure<'a>>
+    ) -> Result<Plan<'j, 'a>, Failure<'a>>
         requires { AreOrdersOf (ask_words job) orders }
         ensures asked { IfOk result (λ plan. AskFor (ask_words job.entry)
             (mib_in (T.naming tree.now) (T.syntax_at tree.now)) (plan_of plan)) }
         ensures only { IfOk result (λ plan.
             HasAgent (ask_words job.entry).asking.agent (plan_of plan).agent) }
+        ensures texts { IfOk result (λ plan.
+            HasTextsOf (ask_words job.entry).request plan.question) }
         ensures refused { IfErr result (λ e. NamesFail (ask_words job.entry).request
             (mib_in (T.naming tree.now) (T.syntax_at tree.now)) (fault_of e)) }
     {
@@ -79,11 +83,12 @@ impl<'a> Plan<'a> {
     }
 }
 
-impl Question {
+impl<'j, 'a> Question<'j, 'a> {
     ghost use Rattle.std.specs.Prelude.{◌≡◌, IfErr, IfOk, Ok};
     ghost use Rattle.snmp_tools.specs.Chosen.{chosen};
     ghost use Rattle.snmp_tools.specs.Message.{fault_of};
-    ghost use Rattle.snmp_tools.specs.Planned.{NamesFail, mib_in, question_of, request_of};
+    ghost use Rattle.snmp_tools.specs.Planned.{HasTextsOf, NamesFail, mib_in, question_of};
+    ghost use Rattle.snmp_tools.specs.Planned.{request_of};
     ghost use Rattle.snmp_tools.specs.Question.{HasChosen, IsQuestionOf, counts_in};
 
     /// Whether the number of bindings is printed after them.
@@ -97,39 +102,48 @@ impl Question {
     }
 
     // What a request asks for, by the names of a tree.
-    fn read<'a, T: ShowTree>(
+    fn read<T: ShowTree>(
         alloc: Global,
-        request: Request<'_, 'a>,
+        request: Request<'j, 'a>,
         choices: Choices,
         tree: &T,
-    ) -> Result<Question, Failure<'a>>
+    ) -> Result<Question<'j, 'a>, Failure<'a>>
         requires { HasChosen (request_of request) (chosen choices) }
         ensures stated { IfOk result (λ question. IsQuestionOf (request_of request.entry)
             (chosen choices) (mib_in (T.naming tree.now) (T.syntax_at tree.now))
             (question_of question)) }
+        ensures texts { IfOk result (HasTextsOf (request_of request.entry)) }
         ensures refused { IfErr result (λ e. NamesFail (request_of request.entry)
             (mib_in (T.naming tree.now) (T.syntax_at tree.now)) (fault_of e)) }
     {
         match request {
-            Request::Get(texts) => Ok(Question::Get(read_names(alloc, tree, texts)?)),
+            Request::Get(texts) => Ok(Question::Get(Names {
+                texts,
+                oids: read_names(alloc, tree, texts)?,
+            })),
             Request::Walk {
                 bulk,
                 after,
                 name: root,
                 ..
-            } => Ok(Question::Walk(Walk {
-                root: name(tree, root.unwrap_or(MIB_2))?,
-                after: name_if_given(tree, after)?,
-                mode: choices.mode(),
-                method: choices.method(bulk),
-                counts: choices.counts,
-            })),
+            } => {
+                let (root_text, after_text) = (root.unwrap_or(MIB_2), after.unwrap_or(""));
+                Ok(Question::Walk(Walk {
+                    root_text,
+                    root: name(tree, root_text)?,
+                    after_text,
+                    after: name_if_given(tree, after)?,
+                    mode: choices.mode(),
+                    method: choices.method(bulk),
+                    counts: choices.counts,
+                }))
+            }
         }
     }
 }
 
-/// The root of a walk where no name is given: `mib-2` (RFC 1213).
-pub(crate) const MIB_2: &str = "1.3.6.1.2.1";
+// The root of a walk where no name is given: `mib-2` (RFC 1213).
+const MIB_2: &str = "1.3.6.1.2.1";
 
 /// What the version and the letters of `-O` say: how lines are shown.
 pub(crate) fn read_shown<'a>(asking: &Asking<'a>) -> Result<Letters, Failure<'a>>

@@ -1,5 +1,6 @@
 //! Names that texts state: each is looked up, and those of a Get must have an encoding.
-ghost use Rattle.std.specs.Prelude.{◌≡◌, ◌⊎◌, List, ℕ, All, IfErr, IfOk, Ok, OnOk, Some, option_map};
+ghost use Rattle.std.specs.Prelude.{◌≡◌, ◌⊎◌, List, ℕ, All, IfErr, IfOk, Ok, OnOk, Some, length};
+ghost use Rattle.std.specs.Prelude.{option_map};
 ghost use Rattle.smi_show.specs.name.Meant.{TextMeans};
 ghost use Rattle.snmp_oid.specs.Identifier.{IsWire, wire};
 ghost use Rattle.snmp_words.specs.Words.{texts_at};
@@ -84,7 +85,7 @@ pub(crate) fn read_names<'a, T: ShowTree>(
 /// Whether each of the names, which these texts state, has an encoding, or the text of the first
 /// that has none.
 pub(crate) fn check_names<'a>(texts: &[&'a str], names: &[Oid]) -> Result<(), Failure<'a>>
-    requires { (mib : Mib) × AreNames mib (texts_at texts.now) names.now }
+    requires { length names.now ≡ length texts.now }
     ensures sendable { OnOk result (All (λ o. IsWire (wire o)) names.now) }
     ensures err { (mib : Mib) → AreNames mib (texts_at texts.now) names.now
         → IfErr result (λ e. IsFirstToFail (texts_at texts.now) (HasSendable mib)

@@ -1,5 +1,5 @@
 //! The plan that is made of the words of a job that asks an agent.
-ghost use Rattle.std.specs.Prelude.{◌≤◌, length};
+ghost use Rattle.std.specs.Prelude.{◌≡◌, ◌≤◌, length};
 ghost use Rattle.snmp_walk.specs.Walker.{IsMethod};
 ghost use Rattle.snmp_tools.specs.Letters.{IsMethod-prop};
 
@@ -27,11 +27,25 @@ pub(crate) struct Orders<'a> {
     ghost datagram_size: { max_size ≤ 65507 },
 }
 
+/// The names of a Get.
+#[derive(Debug, Drop)]
+pub(crate) struct Names<'j, 'a> {
+    /// The texts that state them, in order.
+    pub(crate) texts: &'j [&'a str],
+    /// The names, each at its text's place.
+    pub(crate) oids: Vec<Oid>,
+    ghost one_each: { length oids.items ≡ length texts.now },
+}
+
 /// A walk.
 #[derive(Debug, Drop)]
-pub(crate) struct Walk {
+pub(crate) struct Walk<'a> {
+    /// The text of the root's name.
+    pub(crate) root_text: &'a str,
     /// The root of the subtree.
     pub(crate) root: Oid,
+    /// The text of the name after which the walk goes on; empty if none is given.
+    pub(crate) after_text: &'a str,
     /// The name after which the walk goes on, if one is given.
     pub(crate) after: Option<Oid>,
     /// What it gives besides the instances below the root.
@@ -45,18 +59,18 @@ pub(crate) struct Walk {
 
 /// A Get of names, or a walk.
 #[derive(Debug, Drop)]
-pub(crate) enum Question {
-    /// The names, in order.
-    Get(Vec<Oid>),
+pub(crate) enum Question<'j, 'a> {
+    /// The names.
+    Get(Names<'j, 'a>),
     /// The walk.
-    Walk(Walk),
+    Walk(Walk<'a>),
 }
 
 /// A question, to whom, and how the answer is shown.
 #[derive(Debug, Drop)]
-pub(crate) struct Plan<'a> {
+pub(crate) struct Plan<'j, 'a> {
     /// To whom, and how the answer is shown.
     pub(crate) orders: Orders<'a>,
     /// What is asked.
-    pub(crate) question: Question,
+    pub(crate) question: Question<'j, 'a>,
 }

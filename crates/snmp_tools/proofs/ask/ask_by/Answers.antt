@@ -18,7 +18,7 @@ pub returns-in_err-table-in-Table : goal.returns-in_err-table-in-Table
 returns-in_err-table-in-Table g c = λ err.
     let only = subst (HasAgent (ask_words c.args.job).asking.agent) (ap address_of c.in-Table.is) c.in_ok-plan.ensures.only in
     let why = fault_of c.in_err-table-in-Table.field-0.0 in
-    refused why (unreached _ _ why c.args.orders c.requires.orders _ c.requires.known _ c.in_ok-plan.ensures.asked (table c.in-Table.path.now) only
+    refused why (unreached _ _ why c.args.orders c.requires.orders _ c.requires.known c.in_ok-plan.plan c.in_ok-plan.ensures.asked (table c.in-Table.path.now) only
     c.in_err-table-in-Table.ensures.err) refl (outcome_err _ _ c.from_residual-in_err-table-in-Table.ensures.1)
 
 pub returns-in_err-begun-in-Table : goal.returns-in_err-begun-in-Table
@@ -26,7 +26,8 @@ returns-in_err-begun-in-Table g c = λ err.
     let over = ap address_of c.in-Table.is in
     let only = subst (HasAgent (ask_words c.args.job).asking.agent) over c.in_ok-plan.ensures.only in
     let why = fault_of c.in_err-begun-in-Table.field-0.0 in
-    not_begun why (unsent _ _ why c.args.orders c.requires.orders _ c.requires.known _ c.in_ok-plan.ensures.asked (table c.in-Table.path.now) only
+    not_begun why (unsent _ _ why c.args.orders c.requires.orders _ c.requires.known c.in_ok-plan.plan c.in_ok-plan.ensures.asked
+    c.in_ok-plan.ensures.texts (table c.in-Table.path.now) only
     (_, c.in_ok-table-in-Table.ensures.table) c.in_err-begun-in-Table.ensures.err) _
     record { known = c.requires.known; asked = c.in_ok-plan.ensures.asked; only = c.in_ok-plan.ensures.only }
     (inl (c.in-Table.path.now, over, refl)) (outcome_err _ _ c.from_residual-in_err-begun-in-Table.ensures.1)
@@ -41,7 +42,8 @@ returns-in_err-begun-in-Udp g c = λ err.
     let over = ap address_of c.in-Udp.is in
     let only = subst (HasAgent (ask_words c.args.job).asking.agent) over c.in_ok-plan.ensures.only in
     let why = fault_of c.in_err-begun-in-Udp.field-0.0 in
-    not_begun why (unsent _ _ why c.args.orders c.requires.orders _ c.requires.known _ c.in_ok-plan.ensures.asked
+    not_begun why (unsent _ _ why c.args.orders c.requires.orders _ c.requires.known c.in_ok-plan.plan c.in_ok-plan.ensures.asked
+    c.in_ok-plan.ensures.texts
     (udp c.in-Udp.at.host.now c.in-Udp.at.port) only tt c.in_err-begun-in-Udp.ensures.err) _
     record { known = c.requires.known; asked = c.in_ok-plan.ensures.asked; only = c.in_ok-plan.ensures.only }
     (inr (

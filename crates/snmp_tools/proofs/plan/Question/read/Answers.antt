@@ -1,12 +1,12 @@
-use Rattle.std.proofs.Common.{◌≡◌, ◌∙◌, ℕ, List, Bor, Ok, inl, inr, refl, sym, ap, option_map}
-use Rattle.std.proofs.Common.{subst}
+use Rattle.std.proofs.Common.{ℕ, List, Bor, Ok, inl, inr, refl, sym, option_map, subst}
 use Rattle.smi_show.specs.name.Meant.{TextMeans}
 use Rattle.snmp_tools.specs.Asking.{NameFails}
 use Rattle.snmp_tools.specs.Chosen.{chosen}
 use Rattle.snmp_tools.specs.Message.{fault_of}
-use Rattle.snmp_tools.specs.Planned.{NamesFail, mib_in, request_of}
-use Rattle.snmp_tools.specs.Question.{IsQuestionOf, IsWalkOf, Walk, root_text, subtree}
+use Rattle.snmp_tools.specs.Planned.{HasTextsOf, NamesFail, mib_in, request_of}
+use Rattle.snmp_tools.specs.Question.{IsQuestionOf, IsWalkOf, Walk, subtree}
 use Rattle.snmp_tools.specs.declared.failure.Failure.{Failure}
+use Rattle.snmp_tools.specs.declared.plan.Question.TheVariants as planned
 use Rattle.snmp_tools.specs.declared.request.Request.{Request}
 use Rattle.snmp_tools.proofs.Steps.{text_or}
 use Rattle.snmp_tools.proofs.Wholes.{if_err}
@@ -16,33 +16,27 @@ pub returns-in_err-name-in-Walk-clause-refused : goal.returns-in_err-name-in-Wal
 returns-in_err-name-in-Walk-clause-refused g c =
     let mib = mib_in (g.T.NameTree.naming c.args.tree.now) (g.T.ShowTree.syntax_at c.args.tree.now) in
     let f = c.in_err-name-in-Walk.field-0.0 in
-    let text : c.unwrap_or.result.now ≡ root_text (option_map (λ (t : Bor (List ℕ)). t.now) c.in-Walk.root) =
-    ap (λ (s : Bor (List ℕ)). s.now) c.unwrap_or.ensures ∙ text_or c.in-Walk.root _ in
     let P : Request → Failure → Type 0 = λ r e. NamesFail (request_of r) mib (fault_of e) in
     if_err (P c.args.request) c.from_residual-in_err-name-in-Walk.result f c.from_residual-in_err-name-in-Walk.ensures.1
     (subst (λ (r : Request). P r f) (sym c.in-Walk.is)
-    (inl (subst (λ (t : List ℕ). NameFails mib.naming t (fault_of f)) text c.in_err-name-in-Walk.ensures.err)))
+    (inl (subst (λ (t : List ℕ). NameFails mib.naming t (fault_of f)) (text_or c.in-Walk.root _ _ c.unwrap_or-root_text.ensures) c.in_err-name-in-Walk.ensures.err)))
 
 pub returns-in_err-name_if_given-in-Walk-clause-refused : goal.returns-in_err-name_if_given-in-Walk-clause-refused
 returns-in_err-name_if_given-in-Walk-clause-refused g c =
     let mib = mib_in (g.T.NameTree.naming c.args.tree.now) (g.T.ShowTree.syntax_at c.args.tree.now) in
     let f = c.in_err-name_if_given-in-Walk.field-0.0 in
     let root = c.in_ok-name-in-Walk.field-0 in
-    let text : c.unwrap_or.result.now ≡ root_text (option_map (λ (t : Bor (List ℕ)). t.now) c.in-Walk.root) =
-    ap (λ (s : Bor (List ℕ)). s.now) c.unwrap_or.ensures ∙ text_or c.in-Walk.root _ in
     let P : Request → Failure → Type 0 = λ r e. NamesFail (request_of r) mib (fault_of e) in
     if_err (P c.args.request) c.from_residual-in_err-name_if_given-in-Walk.result f c.from_residual-in_err-name_if_given-in-Walk.ensures.1
     (subst (λ (r : Request). P r f) (sym c.in-Walk.is)
     (inr (
-      (root, subst (λ (t : List ℕ). TextMeans mib.naming t (Ok root)) text c.in_ok-name-in-Walk.ensures.ok),
+      (root, subst (λ (t : List ℕ). TextMeans mib.naming t (Ok root)) (text_or c.in-Walk.root _ _ c.unwrap_or-root_text.ensures) c.in_ok-name-in-Walk.ensures.ok),
       c.in_err-name_if_given-in-Walk.ensures.err,
     )))
 
 pub returns-in_ok-name_if_given-in-Walk-clause-stated : goal.returns-in_ok-name_if_given-in-Walk-clause-stated
 returns-in_ok-name_if_given-in-Walk-clause-stated g c =
     let mib = mib_in (g.T.NameTree.naming c.args.tree.now) (g.T.ShowTree.syntax_at c.args.tree.now) in
-    let text : c.unwrap_or.result.now ≡ root_text (option_map (λ (t : Bor (List ℕ)). t.now) c.in-Walk.root) =
-    ap (λ (s : Bor (List ℕ)). s.now) c.unwrap_or.ensures ∙ text_or c.in-Walk.root _ in
     let w : Walk = record {
       root = c.in_ok-name-in-Walk.field-0;
       after = c.in_ok-name_if_given-in-Walk.field-0;
@@ -55,7 +49,12 @@ returns-in_ok-name_if_given-in-Walk-clause-stated g c =
       mode = c.mode.ensures;
       method = c.method.ensures.method;
       counts = refl;
-      root = subst (λ (t : List ℕ). TextMeans mib.naming t (Ok c.in_ok-name-in-Walk.field-0)) text c.in_ok-name-in-Walk.ensures.ok;
+      root = subst (λ (t : List ℕ). TextMeans mib.naming t (Ok c.in_ok-name-in-Walk.field-0)) (text_or c.in-Walk.root _ _ c.unwrap_or-root_text.ensures) c.in_ok-name-in-Walk.ensures.ok;
       goes_on = c.in_ok-name_if_given-in-Walk.ensures.ok mib refl;
     } in
     subst (λ (r : Request). IsQuestionOf (request_of r) (chosen c.args.choices) mib (subtree w)) (sym c.in-Walk.is) is
+
+pub returns-in_ok-name_if_given-in-Walk-clause-texts : goal.returns-in_ok-name_if_given-in-Walk-clause-texts
+returns-in_ok-name_if_given-in-Walk-clause-texts g c =
+    subst (λ (r : Request). HasTextsOf (request_of r) (planned.Walk _)) (sym c.in-Walk.is)
+    (text_or c.in-Walk.root _ _ c.unwrap_or-root_text.ensures, text_or c.in-Walk.after _ _ c.unwrap_or-after_text.ensures)
