@@ -1,7 +1,7 @@
 //! Judges the words of a job that asks an agent: the plan that they ask for, or the first of them
 //! that has no meaning.
 ghost use Rattle.std.specs.Prelude.{◌≡◌, ◌↔◌, ◌≤◌, codes, length, IfErr, IfOk, IsTrue};
-ghost use Rattle.std.specs.Prelude.{string_bytes};
+ghost use Rattle.std.specs.Prelude.{string_bytes, Ok};
 ghost use Rattle.snmp_words.specs.Words.{asking_words};
 ghost use Rattle.snmp_net.specs.Address.{address_of};
 ghost use Rattle.snmp_tools.specs.Asking.{AreShown, HasAgent};
@@ -25,12 +25,6 @@ use snmp_words::Asking;
 use std::alloc::Global;
 
 impl<'a> Orders<'a> {
-    ghost use Rattle.std.specs.Prelude.{IfErr, IfOk};
-    ghost use Rattle.snmp_tools.specs.Message.{fault_of};
-    ghost use Rattle.snmp_io.specs.Files.{Holdings};
-    ghost use Rattle.snmp_tools.specs.Planned.{AreOrdersOf, ask_words};
-    ghost use Rattle.snmp_tools.specs.Question.{IsEarlyRefusal};
-
     /// What the words say before names are looked up.
     pub(crate) fn read(job: AskJob<'_, 'a>) -> Result<Orders<'a>, Failure<'a>>
         ensures orders { IfOk result (AreOrdersOf (ask_words job.entry)) }
@@ -54,13 +48,6 @@ impl<'a> Orders<'a> {
 }
 
 impl<'j, 'a> Plan<'j, 'a> {
-    ghost use Rattle.std.specs.Prelude.{IfErr, IfOk};
-    ghost use Rattle.snmp_tools.specs.Asking.{HasAgent};
-    ghost use Rattle.snmp_tools.specs.Message.{fault_of};
-    ghost use Rattle.snmp_tools.specs.Planned.{AreOrdersOf, HasTextsOf, NamesFail, ask_words};
-    ghost use Rattle.snmp_tools.specs.Planned.{mib_in, plan_of};
-    ghost use Rattle.snmp_tools.specs.Question.{AskFor};
-
     /// What the words ask for, by the names of a tree.
     pub(crate) fn read<T: ShowTree>(
         alloc: Global,
@@ -84,13 +71,6 @@ impl<'j, 'a> Plan<'j, 'a> {
 }
 
 impl<'j, 'a> Question<'j, 'a> {
-    ghost use Rattle.std.specs.Prelude.{◌≡◌, IfErr, IfOk, Ok};
-    ghost use Rattle.snmp_tools.specs.Chosen.{chosen};
-    ghost use Rattle.snmp_tools.specs.Message.{fault_of};
-    ghost use Rattle.snmp_tools.specs.Planned.{HasTextsOf, NamesFail, mib_in, question_of};
-    ghost use Rattle.snmp_tools.specs.Planned.{request_of};
-    ghost use Rattle.snmp_tools.specs.Question.{HasChosen, IsQuestionOf, counts_in};
-
     /// Whether the number of bindings is printed after them.
     pub(crate) fn counts(&self) -> bool
         ensures { result ≡ counts_in (question_of self.now) }

@@ -1,6 +1,6 @@
 //! The letters of `-C`.
-ghost use Rattle.std.specs.Prelude.{◌≡◌, ◌≤◌, ◌<◌, ◌+◌, true, IfErr, IfOk, IfSome, MatchOption};
-ghost use Rattle.std.specs.Prelude.{Ok, Err, Some, length, false, slice_index, take};
+ghost use Rattle.std.specs.Prelude.{◌≡◌, ◌≤◌, ◌<◌, ◌+◌, true, IfErr, IfOk, IfSome, MatchOption, Ok};
+ghost use Rattle.std.specs.Prelude.{Err, Some, length, false, slice_index, take, MatchResult};
 ghost use Rattle.std.specs.Char.{is_ascii_digit};
 ghost use Rattle.std.specs.List.{list_all};
 ghost use Rattle.std.specs.Str.Parse.{digits_value};
@@ -17,15 +17,6 @@ use crate::request::Request;
 use snmp_walk::{Method, Mode};
 
 impl Choices {
-    ghost use Rattle.std.specs.Prelude.{◌≡◌, MatchResult, Ok, Err};
-    ghost use Rattle.snmp_walk.specs.Walker.{IsMethod};
-    ghost use Rattle.snmp_tools.specs.Chosen.{chosen};
-    ghost use Rattle.snmp_tools.specs.Choosing.{after_part};
-    ghost use Rattle.snmp_tools.specs.Letters.{HaveChosen, IsFirstUnknown, method_of, mode_of};
-    ghost use Rattle.snmp_tools.specs.Letters.{no_choices};
-    ghost use Rattle.snmp_tools.specs.Planned.{request_of};
-    ghost use Rattle.snmp_tools.specs.Question.{HasChosen, HasUnknown};
-
     /// What the letters of `-C` choose, where a request has any. The error is the first octet that
     /// has no meaning.
     pub(crate) fn of(request: Request<'_, '_>) -> Result<Choices, u8>

@@ -2,7 +2,7 @@
 //! after them.
 ghost use Rattle.std.specs.Prelude.{◌≡◌, ◌≤◌, ◌+◌, ◌++◌, IfErr, OnOk, length};
 ghost use Rattle.snmp_io.specs.Output.{FailsWithin, extended};
-ghost use Rattle.snmp_tools.specs.Lines.{ArePrinted, IsTextPrinted, count_line};
+ghost use Rattle.snmp_tools.specs.Lines.{ArePrinted, IsTextPrinted, count_line, TakesLine};
 ghost use Rattle.snmp_tools.specs.Message.{outcome_of};
 ghost use Rattle.snmp_tools.specs.Planned.{mib_in};
 ghost use Rattle.snmp_tools.specs.Start.{CanRun, IsRunOver};
@@ -27,9 +27,6 @@ pub(crate) struct Printer<'a, T: ShowTree, O: Output> {
 }
 
 impl<T: ShowTree, O: Output> Sink for Printer<'_, T, O> {
-    ghost use Rattle.snmp_tools.specs.Lines.{TakesLine};
-    ghost use Rattle.snmp_tools.specs.Planned.{mib_in};
-
     ghost takes = { λ old binding result new.
         (new.writer ≡ old.writer) × (new.letters ≡ old.letters)
         × (new.out.ghost_name ≡ old.out.ghost_name)
@@ -82,11 +79,6 @@ impl<T: ShowTree, O: Output> Sink for Printer<'_, T, O> {
 }
 
 impl<T: ShowTree, O: Output> Printer<'_, T, O> {
-    ghost use Rattle.std.specs.Prelude.{◌≡◌, ◌≤◌, ◌+◌, length};
-    ghost use Rattle.snmp_tools.specs.Lines.{ArePrinted};
-    ghost use Rattle.snmp_tools.specs.Planned.{mib_in};
-    ghost use Rattle.snmp_tools.specs.Start.{CanRun, IsRunOver};
-
     // Asks a question, whose bindings become lines. Where it has no names, nothing is asked.
     fn print<L: Link>(
         &mut self,

@@ -34,11 +34,6 @@ pub(crate) enum Request<'j, 'a> {
 }
 
 impl<'j, 'a> AskJob<'j, 'a> {
-    ghost use Rattle.std.specs.Prelude.{◌≡◌};
-    ghost use Rattle.snmp_words.specs.Words.{get_words, walk_words};
-    ghost use Rattle.snmp_tools.specs.Planned.{ask_words};
-    ghost use Rattle.snmp_tools.specs.Question.{of_get, of_walk};
-
     /// The job of snmpget.
     pub(crate) fn of_get(get: &'j GetJob<'a>) -> AskJob<'j, 'a>
         ensures { ask_words result ≡ of_get (get_words get.now) }

@@ -4,6 +4,7 @@ ghost use Rattle.smi_show.specs.name.Naming.{Naming};
 ghost use Rattle.snmp_tools.specs.Resolved.{names_in};
 ghost use Rattle.snmp_tools.specs.Message.{fault_of, out_of_memory};
 ghost use Rattle.snmp_tools.specs.agent.TableFile.{AreNamesIn, HasTable, TableFails};
+ghost use Rattle.snmp_agent.specs.table.Format.{IsFrontRead};
 
 use crate::failure::Failure;
 use smi_show::{NameTree, meanings_are_computed, one_meaning, resolve_front_into};
@@ -43,9 +44,6 @@ struct TreeNames<'a, T: NameTree> {
 }
 
 impl<'a, T: NameTree> Resolver for TreeNames<'a, T> {
-    ghost use Rattle.snmp_agent.specs.table.Format.{IsFrontRead};
-    ghost use Rattle.snmp_tools.specs.Resolved.{names_in};
-
     ghost names = { λ n. names_in (T.naming n.tree.now) };
 
     fn front(&self, text: &[u8]) -> Option<(Oid, usize)>
