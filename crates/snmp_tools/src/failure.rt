@@ -3,9 +3,11 @@ ghost use Rattle.std.specs.Prelude.{◌≡◌, ◌++◌, ◌∷◌, codes, OnOk,
 ghost use Rattle.std.specs.Fmt.{signed_decimal};
 ghost use Rattle.snmp_oid.specs.Numeric.{numeric_text};
 ghost use Rattle.snmp_io.specs.draft.Draft.{Adds};
-ghost use Rattle.snmp_tools.specs.Message.{end_message, error_status_text, name_fault};
-ghost use Rattle.snmp_tools.specs.Message.{status_name};
-ghost use Rattle.snmp_tools.specs.Message.{table_message};
+ghost use Rattle.snmp_tools.specs.Message.{end_message, error_status_text, name_fault, status_name};
+ghost use Rattle.snmp_tools.specs.Message.{table_message, fault_of, fault_message, status_of};
+ghost use Rattle.snmp_tools.specs.Message.{modules_fault};
+ghost use Rattle.snmp_tools.specs.loading.Message.{refusal_of};
+ghost use Rattle.snmp_tools.specs.declared.failure.Failure.TheVariants.{Memory};
 
 use crate::loading::{FilesError, at_line, unreadable_text};
 use smi_show::NameError;
@@ -47,10 +49,6 @@ pub enum Failure<'a> {
 }
 
 impl Failure<'_> {
-    ghost use Rattle.std.specs.Prelude.{◌≡◌, ◌++◌, OnOk, OnErr};
-    ghost use Rattle.snmp_io.specs.draft.Draft.{Adds};
-    ghost use Rattle.snmp_tools.specs.Message.{fault_of, fault_message, status_of};
-
     /// The exit status: 2 where the agent replied with an error status, else 1.
     pub fn status(&self) -> u8
         ensures { result ≡ status_of (fault_of self.now) }
@@ -95,10 +93,6 @@ impl Failure<'_> {
 }
 
 impl<'a> From<FilesError<'a>> for Failure<'a> {
-    ghost use Rattle.std.specs.Prelude.{◌≡◌};
-    ghost use Rattle.snmp_tools.specs.Message.{fault_of, modules_fault};
-    ghost use Rattle.snmp_tools.specs.loading.Message.{refusal_of};
-
     ghost from_gives = { λ why failure. fault_of failure ≡ modules_fault (refusal_of why) };
 
     fn from(why: FilesError<'a>) -> Self {
@@ -110,9 +104,6 @@ impl<'a> From<FilesError<'a>> for Failure<'a> {
 }
 
 impl From<AllocError> for Failure<'_> {
-    ghost use Rattle.std.specs.Prelude.{◌≡◌};
-    ghost use Rattle.snmp_tools.specs.declared.failure.Failure.TheVariants.{Memory};
-
     ghost from_gives = { λ _ failure. failure ≡ Memory };
 
     fn from(_error: AllocError) -> Self {

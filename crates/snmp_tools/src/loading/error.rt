@@ -1,7 +1,8 @@
 //! Why the modules of files can't be had.
 ghost use Rattle.std.specs.Prelude.{◌≡◌, ◌++◌, codes, decimal};
 ghost use Rattle.snmp_io.specs.draft.Draft.{Adds};
-ghost use Rattle.snmp_tools.specs.loading.Message.{at_line, fault_text};
+ghost use Rattle.snmp_tools.specs.loading.Message.{at_line, fault_text, refusal_of, refusal_text};
+ghost use Rattle.snmp_tools.specs.declared.loading.error.FilesError.TheVariants.{Memory};
 
 use smi_text::{LexError, ParseError};
 use snmp_io::Draft;
@@ -23,9 +24,6 @@ pub enum FilesError<'a> {
 }
 
 impl From<AllocError> for FilesError<'_> {
-    ghost use Rattle.std.specs.Prelude.{◌≡◌};
-    ghost use Rattle.snmp_tools.specs.declared.loading.error.FilesError.TheVariants.{Memory};
-
     ghost from_gives = { λ _ e. e ≡ Memory };
 
     fn from(_error: AllocError) -> Self {
@@ -34,9 +32,6 @@ impl From<AllocError> for FilesError<'_> {
 }
 
 impl FilesError<'_> {
-    ghost use Rattle.snmp_io.specs.draft.Draft.{Adds};
-    ghost use Rattle.snmp_tools.specs.loading.Message.{refusal_of, refusal_text};
-
     /// Appends the message: the path, the line where there is one, and what is wrong.
     pub fn message(&self, draft: &mut Draft)
         ensures { Adds draft.old (refusal_text (refusal_of self.now)) draft.new }
