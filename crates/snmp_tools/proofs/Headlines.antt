@@ -24,8 +24,8 @@ use Rattle.snmp_tools.specs.agent.TableFile.{AreNamesIn, HasTable}
 use Rattle.snmp_tools.specs.loading.Loaded.{LoadFacts}
 use Rattle.snmp_tools.specs.loading.Warned.{warning_lines}
 use Rattle.snmp_tools.specs.Answer.{AreRowsOf, IsFeasible, IsOwnEnd}
-use Rattle.snmp_tools.specs.Headline.{EndsAtStatus0, IsAsk, IsMishap, IsWholeText}
-use Rattle.snmp_tools.specs.Headline.{WritesAllAtStatus0, WritesFront}
+use Rattle.snmp_tools.specs.Done.{IsAskDone}
+use Rattle.snmp_tools.specs.Headline.{IsAsk, IsMishap, IsWholeText}
 use Rattle.snmp_tools.specs.Lines.{IsPrintedUpTo}
 use Rattle.snmp_tools.specs.Message.{Fault, bad_table, ended, fault_message, out_of_memory}
 use Rattle.snmp_tools.specs.Message.{status_of}
@@ -43,13 +43,6 @@ use Rattle.snmp_tools.proofs.Plans.{IsWant, OneList, OneTree, held_is, one_load,
 use Rattle.snmp_tools.proofs.Plans.{one_plan, plain_want, table_want, wants_early, wants_last}
 use Rattle.snmp_tools.proofs.Plans.{wants_late}
 
--- memory ran out before anything was written
-pub refused_front : (words : AskWords) (files : Holdings) (before : Stream) → WritesFront words files before before
-refused_front words files before rows ask = ([], rows, [], refl, inl refl, nothing_taken before before [] refl)
-
-pub refused_all : (words : AskWords) (files : Holdings) (before after : Stream) → WritesAllAtStatus0 words files before after 1
-refused_all words files before after rows ask e = let no : ⊥ = cc in absurd no
-
 -- the status is 1, and the output failed, or that memory ran out was reported after the warnings
 abbrev Stops : (before after warned err_after : Stream) → ℕ → Type 0
 Stops before after warned err_after status = (status ≡ 1) × (HasRisen before.faults after.faults ⊎ IsWritten warned (codes "Out of memory.\n") err_after)
@@ -60,10 +53,6 @@ mishap : (warnings : List Warning) (before after err_before warned err_after : S
 mishap warnings before after err_before warned err_after status lines (inl zero_status) = inl zero_status
 mishap warnings before after err_before warned err_after status lines (inr (one, inl risen)) = inr (one, inl risen)
 mishap warnings before after err_before warned err_after status lines (inr (one, inr told)) = inr (one, inr (warned, told, lines))
-
-pub refused_end : (words : AskWords) (files : Holdings) (before after err_before err_after : Stream)
-    → IsWritten err_before (codes "Out of memory.\n") err_after → EndsAtStatus0 words files before after err_before err_after 1
-refused_end words files before after err_before err_after told rows ask can = inr (refl, inr (err_before, told, inl refl))
 
 line_told : (why : Fault) (before after err_before err_after : Stream) (status : ℕ) → status_of why ≡ 1 → fault_message why ≡ codes "Out of memory."
     → IsReported (Some why) err_before err_after status → Stops before after err_before err_after status
@@ -100,17 +89,67 @@ module _ (mib : Mib) (letters : Letters) (agent : List ℕ) (given turned : List
       inr ((told_of _ finish.1).0, inl (subst (λ (s : Stream). HasRisen before.faults s.faults) (sym finish.0) printed.4.counted))
   own_told counts end own printed finish = absurd own
 
+-- what was written of the rows that the words ask for, and what was reported after the warnings
+pub record Tells (words : AskWords) (files : Holdings) (rows : List VarBind) (ask : IsAsk words files rows)
+    (before after err_before warned err_after : Stream) (fault : Option Fault) (status : ℕ) : Type 0 where
+  pub front : IsFrontOf ask.mib ask.plan.letters (counts_in ask.plan.question) rows before after
+  pub all : fault ≡ None → (text : List ℕ) × IsWholeText ask.mib ask.plan rows text × (after ≡ extended before text)
+  pub so_far : (warned ≡ err_before) ⊎ IsWritten err_before (warning_lines ask.warnings) warned
+  pub ends : IsFeasible ask.plan ask.view → (status ≡ 0) ⊎ Stops before after warned err_after status
+
+-- nothing was asked, and of what is feasible only for want of memory
+pub not_asked : (words : AskWords) (files : Holdings) (rows : List VarBind) (ask : IsAsk words files rows) (before after err_before warned err_after : Stream)
+    (fault : Option Fault) (status : ℕ) (why : Fault) → after ≡ before → fault ≡ Some why → IsReported fault warned err_after status
+    → (IsFeasible ask.plan ask.view → IsWant why) → (warned ≡ err_before) ⊎ IsWritten err_before (warning_lines ask.warnings) warned
+    → Tells words files rows ask before after err_before warned err_after fault status
+not_asked words files rows ask before after err_before warned err_after fault status why same is told want so_far = record {
+  front = ([], rows, [], refl, inl refl, nothing_taken before after [] same);
+  all = λ none. let no : ⊥ = cc in absurd no;
+  so_far = so_far;
+  ends = λ can.
+      inr (want_told why before after warned err_after status (want can) (subst (λ (f : Option Fault). IsReported f warned err_after status) is told));
+}
+
+-- what is promised of a job, by what was written of the rows that its words ask for
+pub ask_done_by : {N V D : Type 0} (net : Network N V D) (wire : LinkFacts V) (Loads : LoadFacts) (words : AskWords) (before after : Seen N) (status : ℕ)
+    (run : IsRun net wire Loads words before after status) → ((rows : List VarBind) (ask : IsAsk words before.files rows)
+    → Tells words before.files rows ask before.out after.out before.err run.warned after.err run.fault status)
+    → IsAskDone net wire Loads words before after status
+ask_done_by {N} {V} {D} net wire Loads words before after status run tells = record {
+  outcome_reported = run;
+  front_written = λ rows ask. (tells rows ask).front;
+  all_written_at_status_0 = λ rows ask zero_status.
+      (tells rows ask).all (no_fault_at_0 run.fault run.warned after.err status run.reported zero_status);
+  ends_at_status_0 = λ rows ask can.
+      mishap ask.warnings before.out after.out before.err run.warned after.err status (tells rows ask).so_far ((tells rows ask).ends can);
+}
+
 module _ (one_table : (names : Names) (ls : List (List ℕ)) (v w : MibView) → IsTableOf names ls v → IsTableOf names ls w → v ≡ w)
     (no_fault : (names : Names) (ls : List (List ℕ)) (view : MibView) (fault : TableError) → IsTableOf names ls view → IsFirstFault names ls fault → fault ≡ table_error.Memory)
     (one_list : OneList) (one_tree : OneTree) (one : OneMeaning) {N V D : Type 0} (net : Network N V D) (wire : LinkFacts V)
     (Loads : LoadFacts) (words : AskWords) (before after : Seen N) (status : ℕ) (run : IsRun net wire Loads words before after status) where
   module _ (rows : List VarBind) (ask : IsAsk words before.files rows) where
-    module _ (mib : Mib) (warnings : List Warning) (loading : AreLoaded (MayHold before.files) words.asking.mibs mib warnings) where
+    abbrev Told : Type 0
+    Told = Tells words before.files rows ask before.out after.out before.err run.warned after.err run.fault status
+
+    abbrev End : Seen N
+    End = record after { err = run.warned }
+
+    unasked : (why : Fault) → after.out ≡ before.out → run.fault ≡ Some why → (IsFeasible ask.plan ask.view → IsWant why)
+        → (run.warned ≡ before.err) ⊎ IsWritten before.err (warning_lines ask.warnings) run.warned → Told
+    unasked why same is =
+        not_asked words before.files rows ask before.out after.out before.err run.warned after.err run.fault status why same is run.reported
+
+    module _ (mib : Mib) (warnings : List Warning) (loading : AreLoaded (MayHold before.files) words.asking.mibs mib warnings)
+        (written : IsWritten before.err (warning_lines warnings) run.warned) where
       both_are : (ask.mib ≡ mib) × (ask.warnings ≡ warnings)
       both_are = one_load one_list one_tree before.files words.asking.mibs ask.mib mib ask.warnings warnings ask.known loading
 
       mib_is : ask.mib ≡ mib
       mib_is = both_are.0
+
+      so_far_is : (run.warned ≡ before.err) ⊎ IsWritten before.err (warning_lines ask.warnings) run.warned
+      so_far_is = inr (subst (λ (ws : List Warning). IsWritten before.err (warning_lines ws) run.warned) (sym both_are.1) written)
 
       module _ (plan : Plan) (for : IsPlanFor words before.files mib plan) where
         plan_is : ask.plan ≡ plan
@@ -140,82 +179,36 @@ module _ (one_table : (names : Names) (ls : List (List ℕ)) (v w : MibView) →
         no_net : (host : List ℕ) (port : ℕ) → plan.agent ≡ udp host port → ⊥
         no_net host port over = let agents : table ask.path ≡ udp host port = sym agent_is ∙ over in cc
 
-      module _ (warned : Stream) (end : Seen N) where
-        front_by : (fault : Option Fault) → IsOutcomeBy net wire words mib (record before { err = warned }) end fault
-            → IsFrontOf ask.mib ask.plan.letters (counts_in ask.plan.question) rows before.out end.out
-        front_by fault (refused why refusal same is) = ([], rows, [], refl, inl refl, nothing_taken before.out end.out [] (ap (λ (s : Seen N). s.out) same))
-        front_by fault (asked plan path view for over states sent printed same) =
-            let are = over_table plan for (λ p v. AreRowsOf p.question v rows) path view over states ask.are_rows in
-            over_same plan for (λ m p. IsFrontOf m p.letters (counts_in p.question) rows before.out end.out)
-            (finished_front mib plan.letters words.asking.agent before.out rows (counts_in plan.question) printed.given printed.refused printed.end
-            printed.between end.out fault printed.lines printed.finish (counted plan.question plan view printed.given printed.end printed.facts.reason)
-            (printed.facts.whole rows are) (printed.facts.front rows are))
-        front_by fault (not_begun why last plan for (inl (path, over, same)) is) =
-            ([], rows, [], refl, inl refl, nothing_taken before.out end.out [] (ap (λ (s : Seen N). s.out) same))
-        front_by fault (not_begun why last plan for (inr (host, port, over, opened)) is) = absurd (no_net plan for host port over)
-        front_by fault (not_linked plan host port for over risen same is) = absurd (no_net plan for host port over)
-        front_by fault (asked_over plan host port for over sent printed same) = absurd (no_net plan for host port over)
+      told_by : IsOutcomeBy net wire words mib (record before { err = run.warned }) End run.fault → Told
+      told_by (refused why refusal same is) =
+          let late = subst (λ (m : Mib). IsLateRefusal words before.files m why) (sym mib_is) refusal in
+          unasked why (ap (λ (s : Seen N). s.out) same) is (λ can. wants_late one no_fault words before.files rows ask why late) so_far_is
+      told_by (not_begun why last plan for (inl (path, over, same)) is) =
+          let refusal = subst (λ (m : Mib). IsLastRefusal words before.files m why) (sym mib_is) last in
+          unasked why (ap (λ (s : Seen N). s.out) same) is (λ can. wants_last one no_fault words before.files rows ask why can.sendable refusal) so_far_is
+      told_by (not_begun why last plan for (inr (host, port, over, opened)) is) = absurd (no_net plan for host port over)
+      told_by (asked plan path view for over states sent printed same) =
+          let are = over_table plan for (λ p v. AreRowsOf p.question v rows) path view over states ask.are_rows in
+          let count = counted plan.question plan view printed.given printed.end printed.facts.reason in
+          record {
+            front = over_same plan for (λ m p. IsFrontOf m p.letters (counts_in p.question) rows before.out after.out)
+                (finished_front mib plan.letters words.asking.agent before.out rows (counts_in plan.question) printed.given printed.refused printed.end
+                printed.between after.out run.fault printed.lines printed.finish count (printed.facts.whole rows are) (printed.facts.front rows are));
+            all = λ none. over_same plan for (λ m p. (text : List ℕ) × IsWholeText m p rows text × (after.out ≡ extended before.out text))
+                (finished_all mib plan.letters words.asking.agent before.out rows (counts_in plan.question) printed.given printed.refused printed.end
+                printed.between after.out run.fault none printed.lines printed.finish count (printed.facts.whole rows are));
+            so_far = so_far_is;
+            ends = λ can. own_told mib plan.letters words.asking.agent printed.given printed.refused before.out printed.between after.out run.warned after.err
+                run.fault status run.reported (counts_in plan.question) printed.end
+                (printed.facts.complete (over_table plan for (λ p v. IsFeasible p v) path view over states can).room) printed.lines printed.finish;
+          }
+      told_by (not_linked plan host port for over risen same is) = absurd (no_net plan for host port over)
+      told_by (asked_over plan host port for over sent printed same) = absurd (no_net plan for host port over)
 
-        all_by : (fault : Option Fault) → fault ≡ None → IsOutcomeBy net wire words mib (record before { err = warned }) end fault
-            → (text : List ℕ) × IsWholeText ask.mib ask.plan rows text × (end.out ≡ extended before.out text)
-        all_by fault none (refused why refusal same is) = let no : ⊥ = cc in absurd no
-        all_by fault none (asked plan path view for over states sent printed same) =
-            let are = over_table plan for (λ p v. AreRowsOf p.question v rows) path view over states ask.are_rows in
-            over_same plan for (λ m p. (text : List ℕ) × IsWholeText m p rows text × (end.out ≡ extended before.out text))
-            (finished_all mib plan.letters words.asking.agent before.out rows (counts_in plan.question) printed.given printed.refused printed.end
-            printed.between end.out fault none printed.lines printed.finish
-            (counted plan.question plan view printed.given printed.end printed.facts.reason) (printed.facts.whole rows are))
-        all_by fault none (not_begun why last plan for where_begun is) = let no : ⊥ = cc in absurd no
-        all_by fault none (not_linked plan host port for over risen same is) = absurd (no_net plan for host port over)
-        all_by fault none (asked_over plan host port for over sent printed same) = absurd (no_net plan for host port over)
+    told_of_all : IsOutcome net wire Loads words before End run.fault → Told
+    told_of_all (not_loaded why early same is) =
+        unasked why (ap (λ (s : Seen N). s.out) same) is (λ can. wants_early one no_fault words before.files rows ask why early) (inl (ap (λ (s : Seen N). s.err) same))
+    told_of_all (loaded mib warnings loading made written by) = told_by mib warnings loading written by
 
-        ends_by : IsFeasible ask.plan ask.view → (fault : Option Fault) → IsOutcomeBy net wire words mib (record before { err = warned }) end fault
-            → (err : Stream) → IsReported fault warned err status → (status ≡ 0) ⊎ Stops before.out end.out warned err status
-        ends_by can fault (refused why refusal same is) err told =
-            let late = subst (λ (m : Mib). IsLateRefusal words before.files m why) (sym mib_is) refusal in
-            inr (want_told why before.out end.out warned err status (wants_late one no_fault words before.files rows ask why late)
-            (subst (λ (f : Option Fault). IsReported f warned err status) is told))
-        ends_by can fault (asked plan path view for over states sent printed same) err told =
-            let feasible = over_table plan for (λ p v. IsFeasible p v) path view over states can in
-            own_told mib plan.letters words.asking.agent printed.given printed.refused before.out printed.between end.out warned err fault status told
-            (counts_in plan.question) printed.end (printed.facts.complete feasible.room) printed.lines printed.finish
-        ends_by can fault (not_begun why last plan for where_begun is) err told =
-            let refusal = subst (λ (m : Mib). IsLastRefusal words before.files m why) (sym mib_is) last in
-            inr (want_told why before.out end.out warned err status (wants_last one no_fault words before.files rows ask why can.sendable refusal)
-            (subst (λ (f : Option Fault). IsReported f warned err status) is told))
-        ends_by can fault (not_linked plan host port for over risen same is) err told = absurd (no_net plan for host port over)
-        ends_by can fault (asked_over plan host port for over sent printed same) err told = absurd (no_net plan for host port over)
-
-    module _ (warned : Stream) (fault : Option Fault) where
-      abbrev End : Seen N
-      End = record after { err = warned }
-
-      front : IsOutcome net wire Loads words before End fault → IsFrontOf ask.mib ask.plan.letters (counts_in ask.plan.question) rows before.out after.out
-      front (not_loaded why early same is) = ([], rows, [], refl, inl refl, nothing_taken before.out after.out [] (ap (λ (s : Seen N). s.out) same))
-      front (loaded mib warnings loading made lines by) = front_by mib warnings loading warned End fault by
-
-      all : fault ≡ None → IsOutcome net wire Loads words before End fault
-          → (text : List ℕ) × IsWholeText ask.mib ask.plan rows text × (after.out ≡ extended before.out text)
-      all none (not_loaded why early same is) = let no : ⊥ = cc in absurd no
-      all none (loaded mib warnings loading made lines by) = all_by mib warnings loading warned End fault none by
-
-      ends : IsFeasible ask.plan ask.view → IsOutcome net wire Loads words before End fault → IsReported fault warned after.err status
-          → (status ≡ 0) ⊎ IsMishap ask.warnings before.out after.out before.err after.err status
-      ends can (not_loaded why early same is) told =
-          mishap ask.warnings before.out after.out before.err warned after.err status (inl (ap (λ (s : Seen N). s.err) same))
-          (inr (want_told why before.out after.out warned after.err status (wants_early one no_fault words before.files rows ask why early)
-          (subst (λ (f : Option Fault). IsReported f warned after.err status) is told)))
-      ends can (loaded mib warnings loading made lines by) told =
-          mishap ask.warnings before.out after.out before.err warned after.err status
-          (inr (subst (λ (ws : List Warning). IsWritten before.err (warning_lines ws) warned) (sym (both_are mib warnings loading).1) lines))
-          (ends_by mib warnings loading warned End can fault by after.err told)
-
-  pub writes_front : WritesFront words before.files before.out after.out
-  writes_front rows ask = front rows ask run.warned run.fault run.outcome
-
-  pub writes_all : WritesAllAtStatus0 words before.files before.out after.out status
-  writes_all rows ask zero_status =
-      all rows ask run.warned run.fault (no_fault_at_0 run.fault run.warned after.err status run.reported zero_status) run.outcome
-
-  pub ends_at_0 : EndsAtStatus0 words before.files before.out after.out before.err after.err status
-  ends_at_0 rows ask can = ends rows ask run.warned run.fault can run.outcome run.reported
+  pub asked_done : IsAskDone net wire Loads words before after status
+  asked_done = ask_done_by net wire Loads words before after status run (λ rows ask. told_of_all rows ask run.outcome)

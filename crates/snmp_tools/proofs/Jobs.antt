@@ -18,13 +18,12 @@ use Rattle.snmp_tools.specs.loading.Loaded.{LoadFacts}
 use Rattle.snmp_tools.specs.translation.Outcome as translated
 use Rattle.snmp_tools.specs.Done.{IsAskDone, IsJobDone, IsJobOutcome}
 use Rattle.snmp_tools.specs.Message.{Fault, out_of_memory}
-use Rattle.snmp_tools.specs.Outcome.{IsOutcome, IsReported, IsRun, not_loaded}
+use Rattle.snmp_tools.specs.Outcome.{IsOutcome, IsReported, not_loaded}
 use Rattle.snmp_tools.specs.Question.{AskWords, of_get, of_walk}
 use Rattle.snmp_tools.specs.Seen.{Seen, seen}
-use Rattle.snmp_tools.proofs.Headlines.{ends_at_0, refused_all, refused_end, refused_front}
-use Rattle.snmp_tools.proofs.Headlines.{writes_all, writes_front}
+use Rattle.snmp_tools.proofs.Headlines.{ask_done_by, asked_done, not_asked}
 use Rattle.snmp_tools.proofs.Outcomes.{no_fault_at_0}
-use Rattle.snmp_tools.proofs.Plans.{OneList, OneTree}
+use Rattle.snmp_tools.proofs.Plans.{OneList, OneTree, plain_want}
 use Rattle.snmp_tools.proofs.TableNames.{OneMeaning}
 use Rattle.snmp_tools.proofs.TranslationHeadlines.{all_printed, front_printed}
 
@@ -55,13 +54,8 @@ module _ {N V D : Type 0} (net : Network N V D) (wire : LinkFacts V) (Loads : Lo
     ask_done : (words : AskWords) → IsOutcome net wire Loads words before (record after { err = warned }) fault
         → IsAskDone net wire Loads words before after status
     ask_done words outcome =
-        let run : IsRun net wire Loads words before after status = record { fault = fault; warned = warned; outcome = outcome; reported = told } in
-        record {
-          outcome_reported = run;
-          front_written = writes_front one_table no_fault one_list one_tree one net wire Loads words before after status run;
-          all_written_at_status_0 = writes_all one_table no_fault one_list one_tree one net wire Loads words before after status run;
-          ends_at_status_0 = ends_at_0 one_table no_fault one_list one_tree one net wire Loads words before after status run;
-        }
+        asked_done one_table no_fault one_list one_tree one net wire Loads words before after status
+        record { fault = fault; warned = warned; outcome = outcome; reported = told }
 
     pub job_done : (job : Stated) → IsJobOutcome net wire Loads job before (record after { err = warned }) fault
         → IsJobDone net wire Loads job before after status
@@ -92,17 +86,11 @@ module _ {N V D : Type 0} (net : Network N V D) (wire : LinkFacts V) (Loads : Lo
     After = seen files links out err_after
 
     unasked : (words : AskWords) → IsAskDone net wire Loads words Before After 1
-    unasked words = record {
-      outcome_reported = record {
-        fault = Some out_of_memory;
-        warned = err;
-        outcome = not_loaded out_of_memory (inl refl) refl refl;
-        reported = (refl, inr told);
-      };
-      front_written = refused_front words files out;
-      all_written_at_status_0 = refused_all words files out out;
-      ends_at_status_0 = refused_end words files out out err err_after told;
-    }
+    unasked words =
+        ask_done_by net wire Loads words Before After 1
+        record { fault = Some out_of_memory; warned = err; outcome = not_loaded out_of_memory (inl refl) refl refl; reported = (refl, inr told) }
+        (λ rows ask. not_asked words files rows ask out out err err err_after (Some out_of_memory) 1 out_of_memory refl refl (refl, inr told)
+        (λ can. plain_want refl) (inl refl))
 
     pub undone : (job : Stated) → IsJobDone net wire Loads job Before After 1
     undone (snmptranslate words) = (
