@@ -151,11 +151,10 @@ module _ {W : Type 0} (facts : LinkFacts W) (link after : W) (tries : ℕ) (some
       let P : Agents → List (List ℕ) → Type 0 = λ a ns. GetFacts a tries (facts.traffic link) (request_for plan ns) ns given refused end (facts.traffic after) in
       is_got plan view tries (facts.traffic link) (facts.traffic after) given refused end none some os
       (subst (λ (a : Agents). P a os) agents (subst (P (facts.agents link)) same (run.judged honest)))
-  is_asked (names os) (begun.Walk core) is run = absurd is
-  is_asked (subtree w) (begun.Get sent) is run = absurd is
   is_asked (subtree w) (begun.Walk core) is run =
       is_walked plan view tries (facts.traffic link) (facts.traffic after) given refused end none good one w core is
       (subst (λ (a : Agents). WalkFacts a tries (facts.traffic link) core given refused end (facts.traffic after)) agents (run.judged honest))
+  is_asked question begun is run = absurd is
 
 -- the same of the run of a question over any link
 pub asked_over : {W : Type 0} (facts : LinkFacts W) (link after : W) (tries : ℕ) (plan : Plan) (question : Question) (begun : Begun)
@@ -163,15 +162,13 @@ pub asked_over : {W : Type 0} (facts : LinkFacts W) (link after : W) (tries : �
     → IsRunOver facts link after tries plan.community begun given refused end → IsAskedOver facts link after tries plan question given refused end
 asked_over {W} facts link after tries plan (names os) (begun.Get sent) same given refused end run =
     subst (λ (ns : List (List ℕ)). IsAskedOver facts link after tries plan (names ns) given refused end) same run
-asked_over {W} facts link after tries plan (names os) (begun.Walk core) is given refused end run = absurd is
-asked_over {W} facts link after tries plan (subtree w) (begun.Get sent) is given refused end run = absurd is
 asked_over {W} facts link after tries plan (subtree w) (begun.Walk core) is given refused end run =
     let P : Walker → Type 0 = λ c. IsRunOver facts link after tries plan.community (begun.Walk c) given refused end in
     subst P is.is run
+asked_over {W} facts link after tries plan question begun is given refused end run = absurd is
 
 -- what a run of it needs
 pub can_run : (community : List ℕ) (question : Question) (begun : Begun) → IsBegun community question begun → CanBeSent question → CanRun begun
 can_run community (names os) (begun.Get sent) is sendable = subst (All (λ o. IsWire (wire o))) (sym is) sendable
-can_run community (names os) (begun.Walk core) is sendable = absurd is
-can_run community (subtree w) (begun.Get sent) is sendable = absurd is
 can_run community (subtree w) (begun.Walk core) is sendable = is.fresh
+can_run community question begun is sendable = absurd is

@@ -35,8 +35,9 @@ use Rattle.snmp_tools.specs.Question.{IsDoneBy, IsEarlyRefusal, IsLastRefusal, I
 use Rattle.snmp_tools.specs.Question.{IsQuestionOf, LaterStep, LoadingStep, Plan, Question}
 use Rattle.snmp_tools.specs.Question.{Request, HasChosen, HasUnknown, goes_on_after}
 use Rattle.snmp_tools.specs.Question.{root_text}
-use Rattle.snmp_tools.specs.Question.{get, names, subtree, walk, loading_steps, name_steps}
-use Rattle.snmp_tools.specs.Question.{reach_step, reaching_steps, sent_steps}
+use Rattle.snmp_tools.specs.Question.{asking, choices_step, mibs_step}
+use Rattle.snmp_tools.specs.Question.{get, names, subtree, walk, name_steps}
+use Rattle.snmp_tools.specs.Question.{reaching_steps, sent_steps}
 use Rattle.snmp_tools.specs.Question.{below_step, name_step, reach_step, sent_step}
 use Rattle.snmp_tools.proofs.ChosenLetters.{among, both, no_choice, one_choice}
 use Rattle.snmp_tools.proofs.TableNames.{OneMeaning, no_name, one_look_up, one_name}
@@ -156,33 +157,21 @@ module _ (one : OneMeaning)
       (subst (λ (n : Names). IsFirstFault n (lines ask.text) f.3) names (subst (λ (t : List ℕ). IsFirstFault f.0 (lines t) f.3) same f.5)) in
       table_want ask.path (f.6 ∙ ap (bad_table ask.path) memory)
 
-  -- why it wouldn't be asked is that memory ran out
-  abbrev WantsFor : LoadingStep → Type 0
-  WantsFor step = FailsFor words files step why → IsWant why
+  no_asking_failure : (step : AskingStep) → AskingFails words.asking step why → ⊥
+  no_asking_failure version_step f = f.0 ask.asked.version
+  no_asking_failure letters_step f = let e = ask.asked.letters.known in let g = f.1 in cc
+  no_asking_failure community_step f = other_way 255 (length words.asking.community) f.0 ask.asked.short_community
+  no_asking_failure agent_step f = f.0 ask.plan.agent ask.asked.agent
 
+  -- no step up to the modules fails
+  no_loading_failure : (step : LoadingStep) → FailsFor words files step why → ⊥
+  no_loading_failure (asking step) f = no_asking_failure step f
+  no_loading_failure choices_step f = no_chosen words.request ask.asked.choices f.0 ask.asked.chosen f.1
+  no_loading_failure mibs_step f = f.3 ask.known.modules ask.known.read
+
+  -- why it wouldn't be asked is that memory ran out
   abbrev Wants : LaterStep → Type 0
   Wants step = FailsBy words files ask.mib step why → IsWant why
-
-  asking_want : (step : AskingStep) → AskingFails words.asking step why → ⊥
-  asking_want version_step f = f.0 ask.asked.version
-  asking_want letters_step f = let e = ask.asked.letters.known in let g = f.1 in cc
-  asking_want community_step f = other_way 255 (length words.asking.community) f.0 ask.asked.short_community
-  asking_want agent_step f = f.0 ask.plan.agent ask.asked.agent
-
-  loading_want : AreDone WantsFor loading_steps
-  loading_want = (
-    (λ f. absurd (asking_want version_step f)),
-    (
-      (λ f. absurd (asking_want letters_step f)),
-      (
-        (λ f. absurd (no_chosen words.request ask.asked.choices f.0 ask.asked.chosen f.1)),
-        (
-          (λ f. absurd (asking_want community_step f)),
-          ((λ f. absurd (asking_want agent_step f)), ((λ f. absurd (f.3 ask.known.modules ask.known.read)), tt)),
-        ),
-      ),
-    ),
-  )
 
   -- names mean what they mean to the question
   name_want : (text o : List ℕ) → TextMeans ask.mib.naming text (Ok o) → Wants (name_step text)
@@ -223,17 +212,15 @@ module _ (one : OneMeaning)
   named_want : (request : Request) (choices : Choices) (question : Question) → IsQuestionOf request choices ask.mib question
       → AreDone Wants (name_steps request)
   named_want (get texts) choices (names os) q = all_named texts os q
-  named_want (get texts) choices (subtree w) q = absurd q
-  named_want (walk bulk letters after name) choices (names os) q = absurd q
   named_want (walk bulk letters after name) choices (subtree w) q = (name_want (root_text name) w.root q.root, after_named after w.after q.goes_on)
+  named_want request choices question q = absurd q
 
   sending_want : (request : Request) (choices : Choices) (question : Question) → IsQuestionOf request choices ask.mib question → CanBeSent question
       → AreDone Wants (sent_steps request)
   sending_want (get texts) choices (names os) q can = all_sent texts os q can
-  sending_want (get texts) choices (subtree w) q can = absurd q
-  sending_want (walk bulk letters after name) choices (names os) q can = absurd q
   sending_want (walk bulk letters after name) choices (subtree w) q can =
       (sent_want (root_text name) w.root q.root can.0, after_sent (root_text name) w.root after w.after q.root q.goes_on can.1)
+  sending_want request choices question q can = absurd q
 
   reaching_want : AreDone Wants (reaching_steps words.request)
   reaching_want =
@@ -245,7 +232,7 @@ module _ (one : OneMeaning)
 
   pub wants_early : IsEarlyRefusal words files why → IsWant why
   wants_early (inl e) = plain_want e
-  wants_early (inr h) = among WantsFor h.done h.failed h.left (subst (AreDone WantsFor) h.order loading_want) h.fails
+  wants_early (inr h) = absurd (no_loading_failure h.failed h.fails)
 
   pub wants_late : IsLateRefusal words files ask.mib why → IsWant why
   wants_late late = by_reason late.fails

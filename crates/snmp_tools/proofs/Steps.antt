@@ -225,9 +225,8 @@ module _ (words : AskWords) (files : Holdings) (why : Fault) where
       names_done : (request : Request) (choices : Choices) (question : Question) → IsQuestionOf request choices mib question
           → AreDone DoneBy (name_steps request)
       names_done (get texts) choices (names os) q = map_done name_step (HasMeaning mib) DoneBy (λ text d. d) texts (are_named mib texts os q)
-      names_done (get texts) choices (subtree w) q = absurd q
-      names_done (walk bulk letters after name) choices (names os) q = absurd q
       names_done (walk bulk letters after name) choices (subtree w) q = ((w.root, q.root), after_named after w.after q.goes_on)
+      names_done request choices question q = absurd q
 
       -- the name to go on after isn't below the root, or can't be sent
       resumed : (root after : List ℕ) (text : List ℕ) (given planned : Option (List ℕ)) → IsNameIfGiven mib given planned → planned ≡ Some after
@@ -248,14 +247,13 @@ module _ (words : AskWords) (files : Holdings) (why : Fault) where
           let P : List (List ℕ) → Type 0 = λ ts. IsFirstToFail ts (HasSendable mib) (HasUnsendable mib) why in
           let named = subst (λ (ts : List (List ℕ)). AreNames mib ts ns.oids.items) (sym are) q in
           mapped sent_step (HasSendable mib) DoneBy (λ text d. d) (HasUnsendable mib) FailsLater why (λ text f. f) texts (subst P are (f mib named))
-      at_sent (get texts) choices (questions.Walk w) q are f = absurd q
-      at_sent (walk bulk letters after name) choices (questions.Get ns) q are f = absurd q
       at_sent (walk bulk letters after name) choices (questions.Walk w) q are (inl f) =
           first DoneBy FailsLater why (sent_step (root_text name)) _ (w.root, q.root, f.0, f.1 ∙ ap unsendable are.0)
       at_sent (walk bulk letters after name) choices (questions.Walk w) q are (inr f) =
           later DoneBy FailsLater why (sent_step (root_text name)) _ (w.root, q.root, f.0)
           (resumed w.root f.1.0 (root_text name) after w.after q.goes_on f.1.1 q.root
           (subst (λ (t : List ℕ). ResumeFails w.root f.1.0 t why) are.1 f.1.2))
+      at_sent request choices question q are f = absurd q
 
       module _ (plan : Plan) (asked : AskFor words mib (plan_of plan)) where
         -- the agent isn't reached
