@@ -1,4 +1,4 @@
-use Rattle.std.proofs.Common.{◌≡◌, refl, sym, inl, inr, Bool, false, true, subst, ℕ, List, []}
+use Rattle.std.proofs.Common.{◌≡◌, ◌∙◌, ap, refl, sym, inl, inr, Bool, false, true, subst, ℕ, List, []}
 use Rattle.std.specs.Prelude.{String}
 use Rattle.std.specs.declared.alloc.Global.{Global}
 use Rattle.snmp_words.specs.Command.{faults_of, is_taken}
@@ -31,17 +31,6 @@ returns-in-Err-Memory-clause-done g c = λ job taken stated.
     undone g.L.Links g.L.Wire.Link (g.F.ModuleFiles.loads c.args.files.now) (g.F.Files.text_at c.args.files.now) c.args.links.now
     (g.O.Output.stream c.args.out.now) (g.E.ErrorOutput.stream c.args.err.now) _ c.tell-in-Err-Memory.ensures job
 
-pub returns-in-Err-Parse-default-false-clause-help_or_mistake : goal.returns-in-Err-Parse-default-false-clause-help_or_mistake
-returns-in-Err-Parse-default-false-clause-help_or_mistake g c = λ faulty.
-    let at = c.in-Err-Parse-default-false in
-    let fault = at.field-0-is in
-    let text = at.text-is in
-    let help = at.field-0-1-is in
-    let none = at.field-0-1-test in
-    let error : at.field-0 ≡ Parse at.text false = cc in
-    let mistake = subst (λ (e : UsageError). HasFaultOf e (faults_of (texts_at c.args.words.now))) error at.ensures.refused in
-    inr (inl ((at.text, mistake), (c.as_bytes.result.now, (refl, c.tell.ensures, refl))))
-
 pub returns-in-Ok-clause-rows_printed : goal.returns-in-Ok-clause-rows_printed
 returns-in-Ok-clause-rows_printed g c = λ path root text words holds.
     let walk = snmpwalk (numeric_walk path root) in
@@ -56,22 +45,19 @@ returns-in-Err-Memory-clause-rows_printed g c = λ path root text words holds.
     c.tell-in-Err-Memory.ensures (snmpwalk (numeric_walk path root)) in
     c.table_walks.ensures.printed _ path root text _ _ _ _ _ holds done.front_written done.all_written_at_status_0 done.ends_at_status_0
 
-pub returns-in-Err-Parse-default-false-clause-done : goal.returns-in-Err-Parse-default-false-clause-done
-returns-in-Err-Parse-default-false-clause-done g c = λ job faultless stated.
+pub returns-in-Err-Parse-default-false : goal.returns-in-Err-Parse-default-false
+returns-in-Err-Parse-default-false g c =
     let at = c.in-Err-Parse-default-false in
     let fault = at.field-0-is in
     let text = at.text-is in
     let help = at.field-0-1-is in
     let none = at.field-0-1-test in
     let error : at.field-0 ≡ Parse at.text false = cc in
-    absurd (no_error (texts_at c.args.words.now) at.field-0 at.text false error at.ensures.taken at.ensures.refused faultless)
-
-pub returns-in-Err-Parse-default-false-clause-unstated : goal.returns-in-Err-Parse-default-false-clause-unstated
-returns-in-Err-Parse-default-false-clause-unstated g c = λ faultless none_stated.
-    let at = c.in-Err-Parse-default-false in
-    let fault = at.field-0-is in
-    let text = at.text-is in
-    let help = at.field-0-1-is in
-    let none = at.field-0-1-test in
-    let error : at.field-0 ≡ Parse at.text false = cc in
-    absurd (no_error (texts_at c.args.words.now) at.field-0 at.text false error at.ensures.taken at.ensures.refused faultless)
+    let refuted = no_error (texts_at c.args.words.now) at.field-0 at.text false error at.ensures.taken at.ensures.refused in
+    let mistake = subst (λ (e : UsageError). HasFaultOf e (faults_of (texts_at c.args.words.now))) error at.ensures.refused in
+    record {
+      rows_printed = λ path root lines words holds. absurd (refuted (inl (ap is_taken words ∙ c.table_walks.ensures.taken path root)));
+      done = λ job faultless stated. absurd (refuted faultless);
+      unstated = λ faultless none_stated. absurd (refuted faultless);
+      help_or_mistake = λ faulty. inr (inl ((at.text, mistake), (c.as_bytes.result.now, (refl, c.tell.ensures, refl))));
+    }
