@@ -37,7 +37,7 @@ use Rattle.snmp_tools.specs.Question.{AskFor, AskWords, IsLastRefusal, IsLateRef
 use Rattle.snmp_tools.specs.Question.{Plan, counts_in}
 use Rattle.snmp_tools.specs.Seen.{Seen}
 use Rattle.snmp_tools.proofs.Asked.{counted}
-use Rattle.snmp_tools.proofs.Outcomes.{IsFrontOf, finished_all, finished_front, no_fault_at_0}
+use Rattle.snmp_tools.proofs.Outcomes.{IsFrontOf, finished, no_fault_at_0}
 use Rattle.snmp_tools.proofs.TableNames.{OneMeaning, one_look_up}
 use Rattle.snmp_tools.proofs.Plans.{IsWant, OneList, OneTree, held_is, one_load, one_path}
 use Rattle.snmp_tools.proofs.Plans.{one_plan, plain_want, table_want, wants_early, wants_last}
@@ -190,13 +190,13 @@ module _ (one_table : (names : Names) (ls : List (List ℕ)) (v w : MibView) →
       told_by (asked plan path view for over states sent printed same) =
           let are = over_table plan for (λ p v. AreRowsOf p.question v rows) path view over states ask.are_rows in
           let count = counted plan.question plan view printed.given printed.end printed.facts.reason in
+          let both = over_same plan for (λ m p. IsFrontOf m p.letters (counts_in p.question) rows before.out after.out
+          × (run.fault ≡ None → (text : List ℕ) × IsWholeText m p rows text × (after.out ≡ extended before.out text)))
+          (finished mib plan.letters words.asking.agent before.out rows (counts_in plan.question) printed.given printed.refused printed.end printed.between
+          after.out run.fault printed.lines printed.finish count (printed.facts.whole rows are) (printed.facts.front rows are)) in
           record {
-            front = over_same plan for (λ m p. IsFrontOf m p.letters (counts_in p.question) rows before.out after.out)
-                (finished_front mib plan.letters words.asking.agent before.out rows (counts_in plan.question) printed.given printed.refused printed.end
-                printed.between after.out run.fault printed.lines printed.finish count (printed.facts.whole rows are) (printed.facts.front rows are));
-            all = λ none. over_same plan for (λ m p. (text : List ℕ) × IsWholeText m p rows text × (after.out ≡ extended before.out text))
-                (finished_all mib plan.letters words.asking.agent before.out rows (counts_in plan.question) printed.given printed.refused printed.end
-                printed.between after.out run.fault none printed.lines printed.finish count (printed.facts.whole rows are));
+            front = both.0;
+            all = both.1;
             so_far = so_far_is;
             ends = λ can. own_told mib plan.letters words.asking.agent printed.given printed.refused before.out printed.between after.out run.warned after.err
                 run.fault status run.reported (counts_in plan.question) printed.end

@@ -67,40 +67,41 @@ module _ (mib : Mib) (letters : Letters) (agent : List ℕ) (before : Stream) (r
   whole_written count text between after printed finish =
       finish ∙ ap (λ (s : Stream). extended s (count_line count)) printed ∙ extended-twice before text (count_line count)
 
-  -- the lines of all rows, and nothing after them
-  lines_alone : (counts : Bool) (given : List VarBind) (between after : Stream) → given ≡ rows → Lines given between → after ≡ between
-      → IsFrontOf mib letters counts rows before after
-  lines_alone counts given between after whole (text, lines, printed) same = (
-    rows,
-    [],
-    text,
-    sym (append-nil rows),
-    inl (subst (λ (ps : List VarBind). AreLines mib letters ps text) whole lines),
-    whole_taken before after text (same ∙ printed),
-  )
+  abbrev Whole : Bool → Stream → Type 0
+  Whole counts after = (text : List ℕ) × IsWhole mib letters counts rows text × (after ≡ extended before text)
+
+  -- a front of the whole text was written, and all of it where no fault is reported
+  abbrev Finished : Bool → Stream → Option Fault → Type 0
+  Finished counts after fault = IsFrontOf mib letters counts rows before after × (fault ≡ None → Whole counts after)
+
+  front_of_all : (counts : Bool) (after : Stream) (text : List ℕ) → AreLines mib letters rows text ⊎ IsWhole mib letters counts rows text
+      → TakesFront before text after → IsFrontOf mib letters counts rows before after
+  front_of_all counts after text are taken = (rows, [], text, sym (append-nil rows), are, taken)
+
+  all_finished : (counts : Bool) (after : Stream) (fault : Option Fault) → Whole counts after → Finished counts after fault
+  all_finished counts after fault (text, whole, taken) =
+      (front_of_all counts after text (inr whole) (whole_taken before after text taken), λ none. (text, whole, taken))
 
   -- where it was done, what follows is the count line, or a front of it
-  done_front : (counts : Bool) (given : List VarBind) (count : ℕ) (between after : Stream) (fault : Option Fault) → given ≡ rows
+  done_finished : (counts : Bool) (given : List VarBind) (count : ℕ) (between after : Stream) (fault : Option Fault) → given ≡ rows
       → (counts ≡ true → count ≡ length given) → Lines given between → IsFinished agent (ending.Done count) counts between after fault
-      → IsFrontOf mib letters counts rows before after
-  done_front true given count between after fault whole counted (text, lines, printed) (inl finish) = (
-    rows,
-    [],
-    text ++ count_line count,
-    sym (append-nil rows),
-    inr (whole_of given count text whole (counted refl) lines),
-    whole_taken before after (text ++ count_line count) (whole_written count text between after printed finish.0),
+      → Finished counts after fault
+  done_finished true given count between after fault whole counted (text, lines, printed) (inl finish) =
+      all_finished true after fault
+      (text ++ count_line count, whole_of given count text whole (counted refl) lines, whole_written count text between after printed finish.0)
+  done_finished true given count between after fault whole counted (text, lines, printed) (inr (inl finish)) = (
+    front_of_all true after text (inl (subst (λ (ps : List VarBind). AreLines mib letters ps text) whole lines))
+        (whole_taken before after text (finish.0 ∙ printed)),
+    λ none. let e = finish.1 in let no : ⊥ = cc in absurd no,
   )
-  done_front true given count between after fault whole counted lines (inr (inl finish)) = lines_alone true given between after whole lines finish.0
-  done_front true given count between after fault whole counted (text, lines, printed) (inr (inr finish)) = (
-    rows,
-    [],
-    text ++ count_line count,
-    sym (append-nil rows),
-    inr (whole_of given count text whole (counted refl) lines),
-    front_after before between after text (count_line count) printed finish.0.begun,
+  done_finished true given count between after fault whole counted (text, lines, printed) (inr (inr finish)) = (
+    front_of_all true after (text ++ count_line count) (inr (whole_of given count text whole (counted refl) lines))
+        (front_after before between after text (count_line count) printed finish.0.begun),
+    λ none. let e = finish.1 in let no : ⊥ = cc in absurd no,
   )
-  done_front false given count between after fault whole counted lines finish = lines_alone false given between after whole lines finish.0
+  done_finished false given count between after fault whole counted (text, lines, printed) finish =
+      all_finished false after fault
+      (text, (text, subst (λ (ps : List VarBind). AreLines mib letters ps text) whole lines, sym (append-nil text)), finish.0 ∙ printed)
 
   end_front : (counts : Bool) (given turned : List VarBind) (end : WalkEnd) (between after : Stream) → IsPrintedUpTo mib letters before given turned end between
       → after ≡ between → ((more : List VarBind) × (rows ≡ (given ++ turned) ++ more)) → IsFrontOf mib letters counts rows before after
@@ -114,40 +115,14 @@ module _ (mib : Mib) (letters : Letters) (agent : List ℕ) (before : Stream) (r
         subst (λ (s : Stream). TakesFront before f.2 s) (sym same) f.5,
       )
 
-  abbrev HasCounted : Bool → WalkEnd → List VarBind → Type 0
-  HasCounted counts end given = counts ≡ true → Counts end (length given)
-
-  pub finished_front : (counts : Bool) (given turned : List VarBind) (end : WalkEnd) (between after : Stream) (fault : Option Fault)
-      → IsPrintedUpTo mib letters before given turned end between
-      → IsFinished agent end counts between after fault → HasCounted counts end given → (IsDone end → given ≡ rows)
-      → ((more : List VarBind) × (rows ≡ (given ++ turned) ++ more)) → IsFrontOf mib letters counts rows before after
-  finished_front counts given turned (ending.Done count) between after fault printed finish counted whole left =
-      done_front counts given count between after fault (whole tt) counted printed finish
-  finished_front counts given turned end between after fault printed finish counted whole left =
-      end_front counts given turned end between after printed finish.0 left
-
-  -- no fault is reported alone where it was done and printed whole
-  done_all : (counts : Bool) (given : List VarBind) (count : ℕ) (between after : Stream) → given ≡ rows → (counts ≡ true → count ≡ length given)
-      → Lines given between → IsFinished agent (ending.Done count) counts between after None
-      → (text : List ℕ) × IsWhole mib letters counts rows text × (after ≡ extended before text)
-  done_all true given count between after whole counted (text, lines, printed) (inl finish) =
-      (text ++ count_line count, whole_of given count text whole (counted refl) lines, whole_written count text between after printed finish.0)
-  done_all true given count between after whole counted lines (inr (inl finish)) = let e = finish.1 in let no : ⊥ = cc in absurd no
-  done_all true given count between after whole counted lines (inr (inr finish)) = let e = finish.1 in let no : ⊥ = cc in absurd no
-  done_all false given count between after whole counted (text, lines, printed) finish = (
-    text,
-    (text, subst (λ (ps : List VarBind). AreLines mib letters ps text) whole lines, sym (append-nil text)),
-    finish.0 ∙ printed,
-  )
-
-  pub finished_all : (counts : Bool) (given turned : List VarBind) (end : WalkEnd) (between after : Stream) (fault : Option Fault) → fault ≡ None
+  pub finished : (counts : Bool) (given turned : List VarBind) (end : WalkEnd) (between after : Stream) (fault : Option Fault)
       → IsPrintedUpTo mib letters before given turned end between → IsFinished agent end counts between after fault
-      → HasCounted counts end given → (IsDone end → given ≡ rows)
-      → (text : List ℕ) × IsWhole mib letters counts rows text × (after ≡ extended before text)
-  finished_all counts given turned (ending.Done count) between after fault none printed finish counted whole =
-      done_all counts given count between after (whole tt) counted printed
-      (subst (IsFinished agent (ending.Done count) counts between after) none finish)
-  finished_all counts given turned end between after fault none printed finish counted whole = let e = finish.1 in let no : ⊥ = cc in absurd no
+      → (counts ≡ true → Counts end (length given)) → (IsDone end → given ≡ rows)
+      → ((more : List VarBind) × (rows ≡ (given ++ turned) ++ more)) → Finished counts after fault
+  finished counts given turned (ending.Done count) between after fault printed finish counted whole left =
+      done_finished counts given count between after fault (whole tt) counted printed finish
+  finished counts given turned end between after fault printed finish counted whole left =
+      (end_front counts given turned end between after printed finish.0 left, λ none. let e = finish.1 in let no : ⊥ = cc in absurd no)
 
 -- a fault's status isn't 0
 no_status : (why : Fault) → status_of why ≡ 0 → ⊥
