@@ -30,18 +30,16 @@ use Rattle.snmp_tools.specs.Lines.{IsPrintedUpTo}
 use Rattle.snmp_tools.specs.Message.{Fault, bad_table, ended, fault_message, out_of_memory}
 use Rattle.snmp_tools.specs.Message.{status_of}
 use Rattle.snmp_tools.specs.Mib.{AreLoaded, Mib}
-use Rattle.snmp_tools.specs.Outcome.{IsFinished, IsOutcome, IsOutcomeBy, IsReported, IsRun}
-use Rattle.snmp_tools.specs.Outcome.{asked, asked_over, loaded, not_begun, not_linked, not_loaded}
-use Rattle.snmp_tools.specs.Outcome.{refused}
+use Rattle.snmp_tools.specs.Outcome.{IsFinished, IsOutcome, IsOutcomeBy, IsReported, IsRun, asked}
+use Rattle.snmp_tools.specs.Outcome.{asked_over, loaded, not_begun, not_linked, not_loaded, refused}
 use Rattle.snmp_tools.specs.Question.{AskFor, AskWords, IsLastRefusal, IsLateRefusal, IsPlanFor}
 use Rattle.snmp_tools.specs.Question.{Plan, counts_in}
 use Rattle.snmp_tools.specs.Seen.{Seen}
 use Rattle.snmp_tools.proofs.Asked.{counted}
 use Rattle.snmp_tools.proofs.Outcomes.{IsFrontOf, finished, no_fault_at_0}
 use Rattle.snmp_tools.proofs.TableNames.{OneMeaning, one_look_up}
-use Rattle.snmp_tools.proofs.Plans.{IsWant, OneList, OneTree, held_is, one_load, one_path}
-use Rattle.snmp_tools.proofs.Plans.{one_plan, plain_want, table_want, wants_early, wants_last}
-use Rattle.snmp_tools.proofs.Plans.{wants_late}
+use Rattle.snmp_tools.proofs.Plans.{IsWant, OneList, OneTree, held_is, one_load, one_path, one_plan}
+use Rattle.snmp_tools.proofs.Plans.{plain_want, table_want, wants_early, wants_last, wants_late}
 
 -- the status is 1, and the output failed, or that memory ran out was reported after the warnings
 abbrev Stops : (before after warned err_after : Stream) → ℕ → Type 0

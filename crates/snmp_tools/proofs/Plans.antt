@@ -1,7 +1,6 @@
 -- The words ask for one plan, and the steps before its question fail for want of memory alone.
-use Rattle.std.proofs.Common.{◌≡◌, ◌⊎◌, inl, inr, ℕ, ◌<◌, ◌≤◌, length, arith, List, [], ◌∷◌}
-use Rattle.std.proofs.Common.{All, map, Option, Some, None, Ok}
-use Rattle.std.proofs.Common.{refl, sym, ◌∙◌, ap, subst}
+use Rattle.std.proofs.Common.{◌≡◌, ◌⊎◌, inl, inr, ℕ, ◌<◌, ◌≤◌, length, arith, List, [], ◌∷◌, All}
+use Rattle.std.proofs.Common.{map, Option, Some, None, Ok, refl, sym, ◌∙◌, ap, subst}
 use Rattle.std.proofs.lemmas.List.Elements.{All-head, All-tail}
 use Rattle.std.specs.Str.Lines.{lines}
 use Rattle.smi_value.specs.declared.letters.letters.Letters.{Letters}
@@ -19,8 +18,7 @@ use Rattle.snmp_io.specs.Steps.{AreDone, IsFirstToFail}
 use Rattle.snmp_net.specs.Address.{Address, table}
 use Rattle.snmp_tools.specs.agent.TableFile.{TableFails}
 use Rattle.snmp_tools.specs.Answer.{CanBeSent, CanGoOn}
-use Rattle.snmp_tools.specs.Asking.{AskingFails, AskingStep, HasAgent, IsNameIfGiven}
-use Rattle.snmp_tools.specs.Asking.{ReachFails}
+use Rattle.snmp_tools.specs.Asking.{AskingFails, AskingStep, HasAgent, IsNameIfGiven, ReachFails}
 use Rattle.snmp_tools.specs.Asking.{agent_step, community_step, letters_step, version_step}
 use Rattle.snmp_tools.specs.Headline.{IsAsk}
 use Rattle.snmp_tools.specs.Letters.{Choices}
@@ -32,13 +30,11 @@ use Rattle.smi_tree.specs.Tree.{Contents, IsTree}
 use Rattle.snmp_tools.specs.Mib.{AreLoaded, Mib, mib_of}
 use Rattle.snmp_tools.specs.Question.{AreNames, AskFor, AskWords, FailsBy, FailsFor, IsAtOrBelow}
 use Rattle.snmp_tools.specs.Question.{IsDoneBy, IsEarlyRefusal, IsLastRefusal, IsLateRefusal}
-use Rattle.snmp_tools.specs.Question.{IsQuestionOf, LaterStep, LoadingStep, Plan, Question}
-use Rattle.snmp_tools.specs.Question.{Request, HasChosen, HasUnknown, goes_on_after}
-use Rattle.snmp_tools.specs.Question.{root_text}
-use Rattle.snmp_tools.specs.Question.{asking, choices_step, mibs_step}
-use Rattle.snmp_tools.specs.Question.{get, names, subtree, walk, name_steps}
-use Rattle.snmp_tools.specs.Question.{reaching_steps, sent_steps}
-use Rattle.snmp_tools.specs.Question.{below_step, name_step, reach_step, sent_step}
+use Rattle.snmp_tools.specs.Question.{IsQuestionOf, LaterStep, LoadingStep, Plan, Question, Request}
+use Rattle.snmp_tools.specs.Question.{HasChosen, HasUnknown, goes_on_after, root_text, asking}
+use Rattle.snmp_tools.specs.Question.{choices_step, mibs_step, get, names, subtree, walk}
+use Rattle.snmp_tools.specs.Question.{name_steps, reaching_steps, sent_steps, below_step, name_step}
+use Rattle.snmp_tools.specs.Question.{reach_step, sent_step}
 use Rattle.snmp_tools.proofs.ChosenLetters.{among, both, no_choice, one_choice}
 use Rattle.snmp_tools.proofs.TableNames.{OneMeaning, no_name, one_look_up, one_name}
 

@@ -1,7 +1,6 @@
 -- Names are printed one after the other.
-use Rattle.std.proofs.Common.{◌≡◌, ◌∙◌, ◌++◌, ◌+◌, ◌<◌, ap, refl, sym, subst, ℕ, List, [], ◌∷◌}
-use Rattle.std.proofs.Common.{Bor, take, drop, length, get_or}
-use Rattle.std.proofs.Common.{append_assoc, append-nil}
+use Rattle.std.proofs.Common.{◌≡◌, ◌∙◌, ◌++◌, ◌+◌, ◌<◌, ap, refl, sym, subst, ℕ, List, [], ◌∷◌, Bor}
+use Rattle.std.proofs.Common.{take, drop, length, get_or, append_assoc, append-nil}
 use Rattle.snmp_io.specs.Output.{Stream, extended}
 use Rattle.snmp_io.specs.Streams.{extended-twice}
 use Rattle.snmp_words.specs.Words.{texts_at}

@@ -1,9 +1,7 @@
 -- The first step that fails, after those that are done.
 use Rattle.std.proofs.Common.{◌≡◌, ◌⊎◌, inl, inr, ◌++◌, ◌+◌, ◌<◌, ℕ, zero, suc, List, [], ◌∷◌, All}
-use Rattle.std.proofs.Common.{Bor, Option, Some, None, Ok, length, map, take, drop}
-use Rattle.std.proofs.Common.{get_or}
-use Rattle.std.proofs.Common.{option_map, unwrap_or, refl, sym, ◌∙◌, ap, subst, append_assoc}
-use Rattle.std.proofs.Common.{arith}
+use Rattle.std.proofs.Common.{Bor, Option, Some, None, Ok, length, map, take, drop, get_or}
+use Rattle.std.proofs.Common.{option_map, unwrap_or, refl, sym, ◌∙◌, ap, subst, append_assoc, arith}
 use Rattle.std.proofs.lemmas.List.Elements.{All-head, All-tail, AllZip-push}
 use Rattle.smi_show.specs.name.Meant.{TextMeans}
 use Rattle.snmp_oid.specs.Identifier.{IsWire, wire}
@@ -22,12 +20,11 @@ use Rattle.snmp_tools.specs.Planned.{AgentFails, AreOrdersOf, HasTextsOf, NamesF
 use Rattle.snmp_tools.specs.Planned.{plan_of, question_of}
 use Rattle.snmp_tools.specs.Question.{AreNames, AskFor, AskWords, FailsBy, FailsFor, HasMeaning}
 use Rattle.snmp_tools.specs.Question.{HasSendable, HasUnsendable, IsDoneBy, IsDoneFor}
-use Rattle.snmp_tools.specs.Question.{IsEarlyRefusal, IsLastRefusal, IsLateRefusal}
-use Rattle.snmp_tools.specs.Question.{IsQuestionOf, LaterStep, LoadingStep, Question}
-use Rattle.snmp_tools.specs.Question.{Request, get, names, subtree, walk}
-use Rattle.snmp_tools.specs.Question.{asking, below_step, choices_step, goes_on_after}
-use Rattle.snmp_tools.specs.Question.{loading_steps, mibs_step, name_step, name_steps, reach_step}
-use Rattle.snmp_tools.specs.Question.{reaching_steps, root_text, sent_step}
+use Rattle.snmp_tools.specs.Question.{IsEarlyRefusal, IsLastRefusal, IsLateRefusal, IsQuestionOf}
+use Rattle.snmp_tools.specs.Question.{LaterStep, LoadingStep, Question, Request, get, names}
+use Rattle.snmp_tools.specs.Question.{subtree, walk, asking, below_step, choices_step}
+use Rattle.snmp_tools.specs.Question.{goes_on_after, loading_steps, mibs_step, name_step}
+use Rattle.snmp_tools.specs.Question.{name_steps, reach_step, reaching_steps, root_text, sent_step}
 use Rattle.snmp_tools.specs.Question.{sent_steps}
 use Rattle.snmp_tools.specs.Start.{BeginFails, ResumeFails}
 use Rattle.snmp_tools.specs.declared.plan.Orders.{Orders}

@@ -1,8 +1,7 @@
 -- What the headline says of a walk of a table file in numbers: which lines are printed.
-use Rattle.std.proofs.Common.{◌≡◌, ◌≢◌, ◌⊎◌, inl, inr, refl, sym, ap, ◌∙◌, subst, ℕ, zero, suc}
-use Rattle.std.proofs.Common.{◌+◌, ◌<◌, ◌≤◌, Bool, false, List, [], ◌∷◌}
-use Rattle.std.proofs.Common.{◌↔◌, ◌++◌, length, Some, None, Ok, arith, append-nil}
-use Rattle.std.proofs.Common.{append_assoc}
+use Rattle.std.proofs.Common.{◌≡◌, ◌≢◌, ◌⊎◌, inl, inr, refl, sym, ap, ◌∙◌, subst, ℕ, zero, suc, ◌+◌}
+use Rattle.std.proofs.Common.{◌<◌, ◌≤◌, Bool, false, List, [], ◌∷◌, ◌↔◌, ◌++◌, length, Some, None}
+use Rattle.std.proofs.Common.{Ok, arith, append-nil, append_assoc}
 use Rattle.std.specs.Prelude.{AllPairs, Contains, codes, drop, filter, not, slice_index_or}
 use Rattle.std.specs.List.{flat_map}
 use Rattle.std.specs.FinMap.{get}

@@ -1,6 +1,5 @@
 -- What a question gives: its rows over a table, and what is known of a run that asks it.
-use Rattle.std.specs.Prelude.{◌≡◌, ◌≢◌, ◌++◌, ℕ, List, [], ◌∷◌, length}
-use Rattle.std.specs.Prelude.{Option, Some, None, All}
+use Rattle.std.specs.Prelude.{◌≡◌, ◌≢◌, ◌++◌, ℕ, List, [], ◌∷◌, length, Option, Some, None, All}
 use Rattle.snmp_oid.specs.Identifier.{IsWire, wire}
 use Rattle.snmp_agent.specs.table.Listing.{variables}
 use Rattle.snmp_agent.specs.table.Table.{IsGet, MibView}

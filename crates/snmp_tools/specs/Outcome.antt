@@ -1,6 +1,5 @@
 -- What a job that asks an agent writes, and what it reports.
-use Rattle.std.specs.Prelude.{◌≡◌, ◌⊎◌, ◌+◌, ◌++◌, ℕ, Bool, true, List, codes}
-use Rattle.std.specs.Prelude.{Option, Some, None}
+use Rattle.std.specs.Prelude.{◌≡◌, ◌⊎◌, ◌+◌, ◌++◌, ℕ, Bool, true, List, codes, Option, Some, None}
 use Rattle.snmp_tools.specs.loading.Loaded.{LoadFacts}
 use Rattle.snmp_tools.specs.loading.Warned.{warning_lines}
 use Rattle.smi_names.specs.declared.nodes.warning.Warning.{Warning}
@@ -21,8 +20,7 @@ use Rattle.snmp_io.specs.Files.{MayHold}
 use Rattle.snmp_tools.specs.Mib.{AreLoaded, Mib}
 use Rattle.snmp_tools.specs.Answer.{CanBeSent, HasFacts, IsAsked}
 use Rattle.snmp_tools.specs.Question.{AskWords, IsEarlyRefusal, IsLastRefusal, IsLateRefusal}
-use Rattle.snmp_tools.specs.Question.{IsPlanFor, Plan}
-use Rattle.snmp_tools.specs.Question.{counts_in}
+use Rattle.snmp_tools.specs.Question.{IsPlanFor, Plan, counts_in}
 use Rattle.snmp_tools.specs.Seen.{Seen}
 
 -- ---- what is written

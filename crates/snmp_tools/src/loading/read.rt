@@ -1,11 +1,9 @@
 //! The modules of files, one file after the other.
 ghost use Rattle.std.specs.Prelude.{◌≡◌, ◌⊎◌, ℕ, List, IfErr, IfOk};
-ghost use Rattle.snmp_tools.specs.loading.Files.{texts};
+ghost use Rattle.snmp_tools.specs.loading.Files.{texts, AreModulesIn, AreModulesOf, FileFails};
+ghost use Rattle.snmp_tools.specs.loading.Files.{IsFilesRefusal, no_memory};
 ghost use Rattle.smi_text.specs.declared.trees.tree.Module.{Module as Tree};
 ghost use Rattle.snmp_io.specs.Files.{Holdings, Holds, MayHold};
-ghost use Rattle.snmp_tools.specs.loading.Files.{AreModulesIn, AreModulesOf, FileFails};
-ghost use Rattle.snmp_tools.specs.loading.Files.{IsFilesRefusal};
-ghost use Rattle.snmp_tools.specs.loading.Files.{no_memory};
 ghost use Rattle.snmp_tools.specs.loading.Message.{refusal_of};
 
 use crate::loading::error::FilesError;

@@ -1,5 +1,4 @@
-use Rattle.std.proofs.Common.{◌≡◌, ℕ, List, Bor, Ok, Option, Some, ap, option_map, refl, subst}
-use Rattle.std.proofs.Common.{sym}
+use Rattle.std.proofs.Common.{◌≡◌, ℕ, List, Bor, Ok, Option, Some, ap, option_map, refl, subst, sym}
 use Rattle.smi_show.specs.name.Meant.{TextMeans}
 use Rattle.smi_show.specs.name.Naming.{Naming}
 use Rattle.snmp_tools.specs.Asking.{IsNameIfGiven, NameFails}
