@@ -50,7 +50,7 @@ abbrev pub IsKnown : (bulk : Bool) → ℕ × List ℕ → Type 0
 IsKnown bulk (letter, digits) = (IsPlain bulk letter × (digits ≡ []))
     ⊎ ((bulk ≡ true) × (letter ≡ 114) × ((n : ℕ) × AreRepetitions digits n))
 
--- it has none: that is told by the first digit after a plain letter, or by the letter itself
+-- It has none, and this octet is reported: the first digit after a plain letter, or the letter.
 abbrev pub IsUnknown : (bulk : Bool) → ℕ × List ℕ → (octet : ℕ) → Type 0
 IsUnknown bulk (letter, digits) octet =
     (IsPlain bulk letter × ((more : List ℕ) × (digits ≡ octet ∷ more)))
@@ -78,7 +78,8 @@ pub record HaveChosen (bulk : Bool) (text : List ℕ) (choices : Choices) : Type
   pub leaves_last_get : choices.leaves_last_get ≡ has 73 letters
   pub repetitions : IsLastNumber letters choices.repetitions
 
--- the octet that tells that they don't: a digit at the front, or that of the first unknown letter
+-- The octet that is reported where not all have a meaning: a digit at the front of the text, or
+-- that of the first letter that has none.
 abbrev pub IsFirstUnknown : (bulk : Bool) → (text : List ℕ) → (octet : ℕ) → Type 0
 IsFirstUnknown bulk text octet =
     ((rest : List ℕ) × (text ≡ octet ∷ rest) × (is_ascii_digit octet ≡ true))

@@ -35,13 +35,13 @@ pub record IsStartOf (core : Walker) (community : List ℕ) (w : Walk) : Type 0 
   pub gives : (view : MibView) (got : VarBind) → IsMibView view
       → walk_at core view got ≡ rows_given w.after w got (variables view)
 
--- it is the question
+-- what is begun is the question, before its first request
 abbrev pub IsBegun : (community : List ℕ) → Question → Begun → Type 0
 IsBegun community (names os) (begun.Get sent) = sent.now ≡ os
 IsBegun community (subtree w) (begun.Walk core) = IsStartOf core community w
 IsBegun community _ _ = ⊥
 
--- what a run of it needs
+-- what a run of what is begun needs
 abbrev pub CanRun : Begun → Type 0
 CanRun (begun.Get sent) = All (λ o. IsWire (wire o)) sent.now
 CanRun (begun.Walk core) = IsFresh core

@@ -27,7 +27,7 @@ use snmp_walk::{Link, MemoryLink, SinkFault, WalkEnd};
 use snmp_words::Asking;
 use std::alloc::Global;
 
-/// Writes the lines of what is asked, and before them, on `err`, those of its modules' warnings.
+/// Asks an agent and prints the lines of its answer, after the warnings of the modules on `err`.
 pub(crate) fn ask<'a, F: ModuleFiles<E>, L: Links, O: Output, E: ErrorOutput>(
     alloc: Global,
     job: AskJob<'_, 'a>,
@@ -46,7 +46,7 @@ pub(crate) fn ask<'a, F: ModuleFiles<E>, L: Links, O: Output, E: ErrorOutput>(
     ask_by(alloc, job, orders, &tree, files, links, out)
 }
 
-// Writes the lines of what is asked, by the names and types of a tree.
+// Asks an agent and prints the lines of its answer, by the names and types of a tree.
 fn ask_by<'a, T: ShowTree, F: Files, L: Links, O: Output>(
     alloc: Global,
     job: AskJob<'_, 'a>,
@@ -83,8 +83,8 @@ fn ask_by<'a, T: ShowTree, F: Files, L: Links, O: Output>(
     }
 }
 
-// Prints what is asked over a link, and after it the number of its bindings where that is asked
-// for.
+// Asks over a link and prints the lines of the answer, and after them, if the words ask for it, the
+// number of bindings.
 fn print_over<'a, T: ShowTree, L: Link, O: Output>(
     alloc: Global,
     plan: &Plan<'_, 'a>,
@@ -110,8 +110,8 @@ fn print_over<'a, T: ShowTree, L: Link, O: Output>(
     finish(end, plan.question.counts(), asking.agent, &mut text, out)
 }
 
-// Prints what is asked of the agent that serves a table, and after it the number of its bindings
-// where that is asked for.
+// Asks the agent that serves a table in memory and prints the lines of its answer, and after them,
+// if the words ask for it, the number of bindings.
 fn print_in_memory<'a, T: ShowTree, O: Output>(
     alloc: Global,
     plan: &Plan<'_, 'a>,
@@ -159,7 +159,7 @@ fn end_in_memory(end: WalkEnd) -> WalkEnd
     }
 }
 
-// Prints what follows the lines of a run that ended in this way.
+// Prints what follows the lines of a run, or returns why it ended early.
 fn finish<'a, O: Output>(
     end: WalkEnd,
     counts: bool,

@@ -1,10 +1,10 @@
-//! The error output, as what writes warnings and messages to it sees it.
+//! The output for warnings and messages.
 ghost use Rattle.snmp_io.specs.Output.{IsWritten, Stream};
 
 use snmp_io::{Output, write_all};
 
-/// What takes warnings and messages, as standard error does. What writes to it isn't told of a
-/// write that fails, so nothing else that is done depends on that.
+/// An output for warnings and messages, as standard error is. A write that fails isn't reported to
+/// the caller, so nothing else that a job does depends on it.
 pub trait ErrorOutput {
     /// What is known of it: the octets that it took, and how many writes failed.
     ghost stream: { Self → Stream };

@@ -17,8 +17,8 @@ use snmp_agent::{one_answer, table_of_lines, unmarked_table};
 use snmp_walk::{instances_below, short_rows_have_room};
 use snmp_words::walks_are_taken;
 
-/// The words of a walk of a table file in numbers are taken, and what is promised of each walk over
-/// a table says which rows this one prints.
+/// The command takes the words of a walk of a table file whose root is in numbers, and from what is
+/// promised of every walk over a table it follows which rows this one prints.
 #[inline]
 pub(crate) fn table_walks()
     ensures taken { (path root : List ℕ) → is_taken (table_walk path root) ≡ true }

@@ -21,7 +21,7 @@ use std::alloc::AllocError;
 pub(crate) struct Printer<'a, T: ShowTree, O: Output> {
     writer: LineWriter<'a, T>,
     letters: Letters,
-    // The lines of a reply that are being written. Their memory is used again for the next.
+    // The lines of a reply until they are written. The buffer is used again for the next reply.
     text: &'a mut Vec<u8>,
     out: &'a mut O,
 }
@@ -46,8 +46,8 @@ impl<T: ShowTree, O: Output> Sink for Printer<'_, T, O> {
         write_lines(self.out, self.text.as_slice())
     }
 
-    // One write for all lines. A line alone may take as much memory as they: a reply may have one
-    // binding.
+    // All lines of a reply are written at once. Their buffer may grow no larger than that of a single
+    // line: a reply may consist of one long binding.
     fn rows(&mut self, mut rows: Rows<'_>) -> Result<(), SinkFault> {
         let mut binding = Binding {
             name: Oid::new(),
@@ -126,7 +126,7 @@ pub(crate) fn print_lines<T: ShowTree, L: Link, O: Output>(
     print_by(link, begun, community, retries, writer, letters, text, out)
 }
 
-// The same, by a writer of lines.
+// The same, with the writer of lines already made.
 fn print_by<T: ShowTree, L: Link, O: Output>(
     link: &mut L,
     begun: Begun<'_>,

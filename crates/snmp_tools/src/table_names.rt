@@ -54,7 +54,7 @@ impl<'a, T: NameTree> Resolver for TreeNames<'a, T> {
         let mut oid = Oid::new();
         match resolve_front_into(self.tree, text, b'|', &mut oid) {
             Ok(size) => {
-                // Says that it is an identifier.
+                // The contract of `as_slice` says that it is an identifier.
                 let _ = oid.as_slice();
                 Some((oid, size))
             }

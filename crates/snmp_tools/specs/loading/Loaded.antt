@@ -22,9 +22,10 @@ pub record IsLoaded (Held : (path text : List ℕ) → Type 0) (paths : List (Li
   pub loads : IsTree modules tree warnings
   pub told : IsWritten before (warning_lines warnings) after
 
--- Which loads there may be, of the module files at these paths, an error output going from one
--- state to another. Only a load says that there may be such a one, and where it fails a job must
--- have done nothing else: so a job of which one is promised loads before it asks, prints or serves.
+-- How a load of the module files at these paths relates the states of the error output before and
+-- after it. Only the contract of a load gives this relation, of the states just before and after,
+-- and where a load fails a job must have done nothing else. So a job that promises the relation
+-- loads its modules before it asks, prints or serves.
 abbrev pub LoadFacts : Type 1
 LoadFacts = (paths : List (List ℕ)) → (before after : Stream) → Type 0
 

@@ -44,7 +44,7 @@ impl FilesError<'_> {
     }
 }
 
-/// That the file at a path can't be read.
+/// Appends that the file at a path can't be read.
 pub(crate) fn unreadable_text(path: &str, draft: &mut Draft)
     ensures { Adds draft.old (path.now ++ codes ": cannot be read") draft.new }
 {
@@ -52,7 +52,7 @@ pub(crate) fn unreadable_text(path: &str, draft: &mut Draft)
     draft.octets(b": cannot be read");
 }
 
-// What is wrong with the text of the file at a path.
+// Appends the path of a file, and what is wrong with its text.
 fn fault_text(path: &str, fault: &ParseError, draft: &mut Draft)
     ensures { Adds draft.old (fault_text path.now fault.now) draft.new }
 {
@@ -75,7 +75,7 @@ fn fault_text(path: &str, fault: &ParseError, draft: &mut Draft)
     }
 }
 
-/// What is wrong in a line of the file at a path.
+/// Appends the path of a file, a line of it, and what is wrong there.
 pub(crate) fn at_line(path: &str, line: usize, what: &[u8], draft: &mut Draft)
     ensures { Adds draft.old (at_line path.now line what.now) draft.new }
 {

@@ -26,8 +26,8 @@ pub trait ModuleFiles<E: ErrorOutput>: Files {
     /// What names and values are read and shown by.
     type Names: ShowTree + Drop;
 
-    /// Whether a load of the module files at these paths may take an error output from one state
-    /// to another. Where nothing is said of it, any may.
+    /// How a load of the module files at these paths relates the states of the error output before
+    /// and after it: by default any two states are related.
     ghost loads: { Self → List (List ℕ) → Stream → Stream → Type 0 } = { λ _ _ _ _. Unit {0} };
 
     /// Loads the names of module files, as [`load_tree`] does.

@@ -37,7 +37,7 @@ fn warning_line(warning: &Warning, draft: &mut Draft)
     draft.octets(b"\n");
 }
 
-// What a warning says.
+// Appends what a warning says.
 fn warning_text(warning: &Warning, draft: &mut Draft)
     ensures { Adds draft.old (warning_text warning.now) draft.new }
 {
@@ -66,7 +66,7 @@ fn warning_text(warning: &Warning, draft: &mut Draft)
     }
 }
 
-// That an earlier module has the name of a module.
+// Appends that an earlier module has the same name.
 fn double_module(home: &[u8], draft: &mut Draft)
     ensures { Adds draft.old (home.now ++ codes " is loaded twice") draft.new }
 {
@@ -74,7 +74,7 @@ fn double_module(home: &[u8], draft: &mut Draft)
     draft.octets(b" is loaded twice");
 }
 
-// That the module after FROM is not loaded.
+// Appends that the module after FROM is not loaded.
 fn missing_module(home: &[u8], from: &[u8], draft: &mut Draft)
     ensures { Adds draft.old (home.now ++ codes " imports from " ++ from.now
         ++ codes ", which is not loaded") draft.new }
@@ -85,7 +85,7 @@ fn missing_module(home: &[u8], from: &[u8], draft: &mut Draft)
     draft.octets(b", which is not loaded");
 }
 
-// That the module after FROM has not got a symbol.
+// Appends that the module after FROM has no such symbol.
 fn missing_import(home: &[u8], name: &[u8], from: &[u8], draft: &mut Draft)
     ensures { Adds draft.old (home.now ++ codes " imports " ++ name.now ++ codes " from "
         ++ from.now ++ codes ", which has no " ++ name.now) draft.new }
@@ -99,7 +99,7 @@ fn missing_import(home: &[u8], name: &[u8], from: &[u8], draft: &mut Draft)
     draft.octets(name);
 }
 
-// What is wrong with a definition.
+// Appends a definition by its module and label, and what is wrong with it.
 fn of_symbol(home: &[u8], label: &[u8], what: &[u8], draft: &mut Draft)
     ensures { Adds draft.old (symbol home.now label.now ++ what.now) draft.new }
 {
