@@ -123,27 +123,6 @@ pub(crate) fn print_lines<T: ShowTree, L: Link, O: Output>(
         community.now begun.entry given refused result) }
 {
     let writer = LineWriter::new(tree);
-    print_by(link, begun, community, retries, writer, letters, text, out)
-}
-
-// The same, with the writer of lines already made.
-fn print_by<T: ShowTree, L: Link, O: Output>(
-    link: &mut L,
-    begun: Begun<'_>,
-    community: &[u8],
-    retries: u32,
-    writer: LineWriter<'_, T>,
-    letters: Letters,
-    text: &mut Vec<u8>,
-    out: &mut O,
-) -> WalkEnd
-    requires sendable { CanRun begun }
-    requires community { length community.now ≤ 255 }
-    ensures printed { ArePrinted (mib_in (T.naming writer.entry) (T.syntax_at writer.entry)) letters
-        (O.stream out.old) (O.stream out.new) result
-        (λ given refused. IsRunOver L.Link link.old link.new (retries + 1)
-        community.now begun.entry given refused result) }
-{
     let mut printer = Printer {
         writer,
         letters,

@@ -8,7 +8,7 @@ use Rattle.snmp_tools.proofs.lines.print_lines.Goals as goal
 pub returns : goal.returns
 returns g c = record {
   printed = subst (λ (tree : g.row.T.Denot). ArePrinted (mib_in (g.T.NameTree.naming tree) (g.T.ShowTree.syntax_at tree)) c.args.letters
-      (g.O.Output.stream c.args.out.now) (g.O.Output.stream c.print_by.new.out) c.print_by.result
-      (λ given refused. IsRunOver g.L.Link c.args.link.now c.print_by.new.link (c.args.retries + 1) c.args.community.now c.args.begun given refused c.print_by.result))
-      c.new-writer.ensures c.print_by.ensures.printed;
+      (g.O.Output.stream c.args.out.now) (g.O.Output.stream c.print-end.new.self.out.now) c.print-end.result
+      (λ given refused. IsRunOver g.L.Link c.args.link.now c.print-end.new.link (c.args.retries + 1) c.args.community.now c.args.begun given refused c.print-end.result))
+      c.new-writer.ensures c.print-end.ensures.printed;
 }
