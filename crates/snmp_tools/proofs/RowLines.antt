@@ -6,10 +6,8 @@ use Rattle.std.specs.Prelude.{codes, if◌then◌else◌, decimal}
 use Rattle.std.specs.Fmt.{signed_decimal}
 use Rattle.std.specs.List.{flat_map, list_all}
 use Rattle.snmp_oid.specs.Numeric.{numeric_text}
-use Rattle.snmp_wire.specs.Message.{Datum, VarBind, integer_value, octet_string, null_value}
-use Rattle.snmp_wire.specs.Message.{object_id, ip_address}
-use Rattle.snmp_wire.specs.Message.{counter32, gauge32, time_ticks, opaque_octets, counter64}
-use Rattle.snmp_wire.specs.Message.{no_such_object, no_such_instance, end_of_mib_view}
+use Rattle.snmp_wire.specs.Message.{Datum, VarBind, integer_value, octet_string, object_id}
+use Rattle.snmp_wire.specs.Message.{counter32, gauge32, time_ticks, counter64}
 use Rattle.smi_value.specs.declared.letters.letters.Letters.{Letters}
 use Rattle.smi_value.specs.declared.letters.letters.NameForm.TheVariants as names
 use Rattle.smi_value.specs.declared.letters.letters.TypeForm.TheVariants as types
@@ -76,16 +74,11 @@ value_is : (names : List ℕ → List ℕ) → ((o : List ℕ) → names o ≡ n
 value_is names same (integer_value n) text shows = number_is (codes "INTEGER: ") shows.shown (signed_decimal n) text shows.is_number shows.whole
 value_is names same (octet_string octets) text shows = shows ∙ string_is octets
 value_is names same (object_id name) text shows = shows ∙ ap (λ (t : List ℕ). codes "OID: " ++ t) (same name)
-value_is names same (ip_address octets) text shows = shows
 value_is names same (counter32 n) text shows = shows ∙ append-nil (codes "Counter32: " ++ decimal n)
 value_is names same (gauge32 n) text shows = number_is (codes "Gauge32: ") shows.shown (decimal n) text shows.is_number shows.whole
 value_is names same (time_ticks n) text shows = shows ∙ append-nil (value_text (time_ticks n))
-value_is names same (opaque_octets octets) text shows = shows
 value_is names same (counter64 n) text shows = shows ∙ append-nil (codes "Counter64: " ++ decimal n)
-value_is names same null_value text shows = shows
-value_is names same no_such_object text shows = shows
-value_is names same no_such_instance text shows = shows
-value_is names same end_of_mib_view text shows = shows
+value_is names same value text shows = shows
 
 -- ---- lines
 

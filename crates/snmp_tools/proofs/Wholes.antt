@@ -13,8 +13,8 @@ use Rattle.snmp_io.specs.Files.{Holdings, Holds, MayHold}
 use Rattle.snmp_io.specs.Output.{Stream}
 use Rattle.snmp_wire.specs.Message.{VarBind}
 use Rattle.snmp_walk.specs.declared.end.WalkEnd.{WalkEnd}
-use Rattle.snmp_tools.specs.loading.Files.{AreModulesOf, IsFilesRefusal, Refusal, faulty}
-use Rattle.snmp_tools.specs.loading.Files.{no_memory, texts, unreadable}
+use Rattle.snmp_tools.specs.loading.Files.{AreModulesOf, IsFilesRefusal, Refusal, no_memory}
+use Rattle.snmp_tools.specs.loading.Files.{texts}
 use Rattle.snmp_tools.specs.loading.Loaded.{AreLoadedAs, LoadFacts}
 use Rattle.snmp_tools.specs.Asking.{MibsFail}
 use Rattle.snmp_tools.specs.Message.{Fault, bad_modules, fault_of, modules_fault, out_of_memory}
@@ -65,8 +65,7 @@ module _ (files : Holdings) (given paths : List (Bor (List ℕ))) (same : given 
   pub mibs_fail : (why : Refusal) → IsFilesRefusal files (texts given) why → HasOnly why
       → (modules_fault why ≡ out_of_memory) ⊎ MibsFail files (texts paths) (modules_fault why)
   mibs_fail no_memory refused only = inl refl
-  mibs_fail (unreadable path) refused only = by_fault (unreadable path) (λ e. let no : ⊥ = cc in no) refl refused only
-  mibs_fail (faulty path fault) refused only = by_fault (faulty path fault) (λ e. let no : ⊥ = cc in no) refl refused only
+  mibs_fail why refused only = by_fault why (λ e. let no : ⊥ = cc in no) refl refused only
 
 -- what a load tells of its names and types
 pub are_loaded : (files : Holdings) (paths : List (List ℕ)) (naming : Naming) (definition_at : List ℕ → Option Def)

@@ -5,8 +5,8 @@ use Rattle.snmp_tools.specs.declared.failure.Failure.{Failure}
 use Rattle.snmp_tools.proofs.failure.Failure.append_message.Goals as goal
 
 -- the message of a failure is that of the case that it is
-of_case : (old new : Written) (f case : Failure) → f ≡ case → Adds old (fault_message (fault_of case)) new → Adds old (fault_message (fault_of f)) new
-of_case old new f case e = subst (λ (x : Failure). Adds old (fault_message (fault_of x)) new) (sym e)
+of_case : (old new : Written) (f g : Failure) → f ≡ g → Adds old (fault_message (fault_of g)) new → Adds old (fault_message (fault_of f)) new
+of_case old new f g e = subst (λ (x : Failure). Adds old (fault_message (fault_of x)) new) (sym e)
 
 pub returns-in-Version : goal.returns-in-Version
 returns-in-Version c = of_case _ _ _ _ c.in-Version.is c.text_and_word.ensures
