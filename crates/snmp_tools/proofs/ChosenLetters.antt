@@ -3,8 +3,7 @@
 use Rattle.std.proofs.Common.{◌≡◌, ◌⊎◌, inl, inr, ◌∙◌, ◌+◌, ◌-◌, ◌++◌, ◌<◌, ◌≤◌, ℕ, Bool, true, false, List}
 use Rattle.std.proofs.Common.{[], ◌∷◌, Option, Some, None, Result, Ok, Err, drop, length, slice_index_or, take}
 use Rattle.std.proofs.Common.{refl, sym, ap, subst, arith, append_assoc, append-nil, length-append}
-use Rattle.std.proofs.Math.Bool.{or-true}
-use Rattle.std.proofs.lemmas.Bool.{and_parts, eqb-true, eqb-false, or_from}
+use Rattle.std.proofs.lemmas.Bool.{and_parts, eqb-true, eqb-false, or_from, or_parts}
 use Rattle.std.proofs.lemmas.List.{drop_at, length-take-le, take-append-drop, take_at, take_rest}
 use Rattle.std.proofs.lemmas.Bool.Decides.{nat_tests}
 use Rattle.std.specs.Prelude.{◌&&◌, ◌||◌, ◌==◌, not, nat_le, if◌then◌else◌}
@@ -18,7 +17,7 @@ use Rattle.snmp_tools.specs.Letters.{has}
 use Rattle.snmp_tools.specs.Letters.{no_choices}
 use Rattle.snmp_tools.specs.Choosing.{after_part, letter_parts, put, repetitions_in, with_letter}
 use Rattle.snmp_tools.specs.Choosing.{with_number, without_digits}
-use Rattle.snmp_tools.proofs.LetterLemmas.{NoDigitFirst, at_most, at_place, no_digit_at}
+use Rattle.snmp_tools.proofs.LetterLemmas.{NoDigitFirst, at_place, no_digit_at}
 
 abbrev Part : Type 0
 Part = ℕ × List ℕ
@@ -246,17 +245,17 @@ more_chosen bulk front letter digits old new h none all (known, one) = record {
 
 -- ---- a digit is no letter
 
-plain_is_high : (bulk : Bool) (letter : ℕ) → IsPlain bulk letter → 57 < letter
-plain_is_high bulk letter (inl e) = omega (arith, e)
-plain_is_high bulk letter (inr (inl e)) = omega (arith, e)
-plain_is_high bulk letter (inr (inr (snmpwalk, e))) = omega (arith, e)
+plain_is_no_digit : (bulk : Bool) (letter : ℕ) → IsPlain bulk letter → is_ascii_digit letter ≡ false
+plain_is_no_digit bulk letter (inl e) = ap is_ascii_digit e
+plain_is_no_digit bulk letter (inr (inl e)) = ap is_ascii_digit e
+plain_is_no_digit bulk letter (inr (inr (snmpwalk, e))) = ap is_ascii_digit e
 
-no_digit : (bulk : Bool) (letter : ℕ) (digits : List ℕ) → is_ascii_digit letter ≡ true → IsKnown bulk (letter, digits) → ⊥
-no_digit bulk letter digits digit (inl (is, none)) = omega (arith, plain_is_high bulk letter is, at_most letter digit)
-no_digit bulk letter digits digit (inr (is_bulk, r, number)) = omega (arith, r, at_most letter digit)
+known_is_no_digit : (bulk : Bool) (letter : ℕ) (digits : List ℕ) → IsKnown bulk (letter, digits) → is_ascii_digit letter ≡ false
+known_is_no_digit bulk letter digits (inl (is, none)) = plain_is_no_digit bulk letter is
+known_is_no_digit bulk letter digits (inr (is_bulk, r, number)) = ap is_ascii_digit r
 
 digit_tells : (bulk : Bool) (letter : ℕ) (digits : List ℕ) (octet : ℕ) → is_ascii_digit letter ≡ true → IsUnknown bulk (letter, digits) octet → octet ≡ letter
-digit_tells bulk letter digits octet digit (inl (is, more)) = absurd (omega (arith, plain_is_high bulk letter is, at_most letter digit))
+digit_tells bulk letter digits octet digit (inl (is, more)) = let none = plain_is_no_digit bulk letter is in let no : ⊥ = cc in absurd no
 digit_tells bulk letter digits octet digit (inr (not_plain, not_known, same)) = same
 
 -- ---- a text, letter by letter
@@ -317,18 +316,16 @@ module _ (bulk : Bool) (text : List ℕ) (at n : ℕ) (old : Choices) (rest : Li
       by false e zero_at = inl e
 
   pub goes_on : (new : Choices) → after_part bulk (Letter, take n rest) old ≡ Ok new → AreReadTo bulk text (at + (1 + n)) new
-  goes_on new e = by no_digit_or_first (subst (PartIs bulk (Letter, take n rest) old) e (part_is bulk (Letter, take n rest) old))
+  goes_on new e = by (subst (PartIs bulk (Letter, take n rest) old) e (part_is bulk (Letter, take n rest) old))
     where
-      by : (is_ascii_digit Letter ≡ false) ⊎ ((at ≡ 0) × (is_ascii_digit Letter ≡ true)) → PartIs bulk (Letter, take n rest) old (Ok new)
-          → AreReadTo bulk text (at + (1 + n)) new
-      by (inl none) part =
+      by : PartIs bulk (Letter, take n rest) old (Ok new) → AreReadTo bulk text (at + (1 + n)) new
+      by part =
           let P : List ℕ → Type 0 = λ t. HaveChosen bulk t new in
           let Q : List ℕ → Type 0 = λ t. NoDigitFirst t in record {
             chosen = subst P (sym (ap (take (at + (1 + n))) parts ∙ take_at Front (drop n rest) (at + (1 + n)) size))
-                (more_chosen bulk (take at text) Letter (take n rest) old new read.chosen none all part);
+                (more_chosen bulk (take at text) Letter (take n rest) old new read.chosen (known_is_no_digit bulk Letter (take n rest) part.0) all part);
             next = inr (subst Q (sym (ap (drop (at + (1 + n))) parts ∙ drop_at Front (drop n rest) (at + (1 + n)) size)) none_after);
           }
-      by (inr (zero_at, digit)) part = absurd (no_digit bulk Letter (take n rest) digit part.0)
 
   pub ends : (octet : ℕ) → after_part bulk (Letter, take n rest) old ≡ Err octet → IsFirstUnknown bulk text octet
   ends octet e = by no_digit_or_first (subst (PartIs bulk (Letter, take n rest) old) e (part_is bulk (Letter, take n rest) old))
@@ -357,43 +354,40 @@ module _ (bulk : Bool) (text : List ℕ) (at n : ℕ) (old : Choices) (rest : Li
 
 -- ---- one thing is chosen
 
-has_in : (before : List Part) (digits : List ℕ) (after : List Part) → has 114 (before ++ (114, digits) ∷ after) ≡ true
-has_in [] digits after = refl
-has_in (part ∷ before) digits after = ap (λ (b : Bool). (part.0 == 114) || b) (has_in before digits after) ∙ or-true (part.0 == 114)
+abbrev or_own : Option (List ℕ) → Part → Option (List ℕ)
+or_own (Some digits) part = Some digits
+or_own None part = if part.0 == 114 then Some part.1 else None
 
-one_last : (b c : List Part) (d e : List ℕ) (x y : List Part) → b ++ (114, d) ∷ x ≡ c ++ (114, e) ∷ y → has 114 x ≡ false → has 114 y ≡ false → d ≡ e
-one_last [] [] d e x y same p q = let first : (114, d) ≡ (114, e) = cc in ap (λ (part : Part). part.1) first
-one_last [] (part ∷ c) d e x y same p q =
-    let rest : x ≡ c ++ (114, e) ∷ y = cc in
-    let there = ap (has 114) rest ∙ has_in c e y in
-    let no : ⊥ = cc in absurd no
-one_last (part ∷ b) [] d e x y same p q =
-    let rest : b ++ (114, d) ∷ x ≡ y = cc in
-    let there = sym (ap (has 114) rest) ∙ has_in b d x in
-    let no : ⊥ = cc in absurd no
-one_last (part ∷ b) (other ∷ c) d e x y same p q = one_last b c d e x y (let rest : b ++ (114, d) ∷ x ≡ c ++ (114, e) ∷ y = cc in rest) p q
+-- the digits after the last r, and the number of repetitions that they are
+abbrev last_digits : List Part → Option (List ℕ)
+last_digits [] = None
+last_digits (part ∷ more) = or_own (last_digits more) part
 
-one_number : (letters : List Part) (n m : ℕ) → IsLastNumber letters n → IsLastNumber letters m → n ≡ m
-one_number letters n m (inl h) (inl k) = h.1 ∙ sym k.1
-one_number letters n m (inl h) (inr (before, digits, after, e, none, are)) =
-    let there = ap (has 114) e ∙ has_in before digits after in
-    let none_there = h.0 in
-    let no : ⊥ = cc in absurd no
-one_number letters n m (inr (before, digits, after, e, none, are)) (inl k) =
-    let there = ap (has 114) e ∙ has_in before digits after in
-    let none_there = k.0 in
-    let no : ⊥ = cc in absurd no
-one_number letters n m (inr (b, d, x, e, none, are)) (inr (c, f, y, g, none_too, are_too)) =
-    are.0 ∙ ap (digits_value 10) (one_last b c d f x y (sym e ∙ g) none none_too) ∙ sym are_too.0
+abbrev number_of : Option (List ℕ) → ℕ
+number_of None = 10
+number_of (Some digits) = digits_value 10 digits
+
+none_last : (letters : List Part) → has 114 letters ≡ false → last_digits letters ≡ None
+none_last [] e = refl
+none_last (part ∷ more) e = let both = or_parts (part.0 == 114) (has 114 more) e in rw (none_last more both.1, both.0) refl
+
+is_last : (before : List Part) (digits : List ℕ) (after : List Part) → has 114 after ≡ false → last_digits (before ++ (114, digits) ∷ after) ≡ Some digits
+is_last [] digits after e = rw (none_last after e) refl
+is_last (part ∷ before) digits after e = rw (is_last before digits after e) refl
+
+number_is : (letters : List Part) (n : ℕ) → IsLastNumber letters n → n ≡ number_of (last_digits letters)
+number_is letters n (inl (none, ten)) = ten ∙ sym (ap number_of (none_last letters none))
+number_is letters n (inr (before, digits, after, e, none, are)) =
+    are.0 ∙ sym (ap number_of (ap last_digits e ∙ is_last before digits after none))
 
 pub one_choice : (bulk : Bool) (text : List ℕ) (a b : Choices) → HaveChosen bulk text a → HaveChosen bulk text b → a ≡ b
 one_choice bulk text a b h k =
-    let same : h.letters ≡ k.letters = one_list text h.letters k.letters h.order k.order in
-    let last = subst (λ (ls : List Part). IsLastNumber ls a.repetitions) same h.repetitions in λ i. record {
+    let same : h.letters ≡ k.letters = one_list text h.letters k.letters h.order k.order in λ i. record {
       includes_root = (h.includes_root ∙ ap (has 105) same ∙ sym k.includes_root) i;
       leaves_last_get = (h.leaves_last_get ∙ ap (has 73) same ∙ sym k.leaves_last_get) i;
       counts = (h.counts ∙ ap (has 112) same ∙ sym k.counts) i;
-      repetitions = one_number k.letters a.repetitions b.repetitions last k.repetitions i;
+      repetitions = (number_is h.letters a.repetitions h.repetitions ∙ ap (λ (ls : List Part). number_of (last_digits ls)) same
+          ∙ sym (number_is k.letters b.repetitions k.repetitions)) i;
     }
 
 known_or_not : (bulk : Bool) (part : Part) (octet : ℕ) → IsKnown bulk part → IsUnknown bulk part octet → ⊥

@@ -19,9 +19,6 @@ abbrev pub NoDigitFirst : List ℕ → Type 0
 NoDigitFirst [] = Unit {0}
 NoDigitFirst (octet ∷ more) = is_ascii_digit octet ≡ false
 
-pub at_most : (c : ℕ) → is_ascii_digit c ≡ true → c ≤ 57
-at_most c e = grind (arith, nat_tests)
-
 pub no_digit_at : (rest : List ℕ) (n : ℕ) → (n < length rest → is_ascii_digit (slice_index_or rest n 0) ≡ false) → NoDigitFirst (drop n rest)
 no_digit_at rest n maximal = elim (cases_lt n (length rest)) [
   | inl low ↦ let P : List ℕ → Type 0 = λ t. NoDigitFirst t in subst P (sym (at_place rest n low)) (maximal low)
