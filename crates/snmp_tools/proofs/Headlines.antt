@@ -25,7 +25,7 @@ use Rattle.snmp_tools.specs.loading.Loaded.{LoadFacts}
 use Rattle.snmp_tools.specs.loading.Warned.{warning_lines}
 use Rattle.snmp_tools.specs.Answer.{AreRowsOf, IsFeasible, IsOwnEnd}
 use Rattle.snmp_tools.specs.Done.{IsAskDone}
-use Rattle.snmp_tools.specs.Headline.{IsAsk, IsMishap, IsWholeText}
+use Rattle.snmp_tools.specs.Headline.{IsAsk, IsMishap, IsWholeText, WritesRows}
 use Rattle.snmp_tools.specs.Lines.{IsPrintedUpTo}
 use Rattle.snmp_tools.specs.Message.{Fault, bad_table, ended, fault_message, out_of_memory}
 use Rattle.snmp_tools.specs.Message.{status_of}
@@ -87,39 +87,18 @@ module _ (mib : Mib) (letters : Letters) (agent : List ℕ) (given turned : List
       inr ((told_of _ finish.1).0, inl (subst (λ (s : Stream). HasRisen before.faults s.faults) (sym finish.0) printed.4.counted))
   own_told counts end own printed finish = absurd own
 
--- what was written of the rows that the words ask for, and what was reported after the warnings
-pub record Tells (words : AskWords) (files : Holdings) (rows : List VarBind) (ask : IsAsk words files rows)
-    (before after err_before warned err_after : Stream) (fault : Option Fault) (status : ℕ) : Type 0 where
-  pub front : IsFrontOf ask.mib ask.plan.letters (counts_in ask.plan.question) rows before after
-  pub all : fault ≡ None → (text : List ℕ) × IsWholeText ask.mib ask.plan rows text × (after ≡ extended before text)
-  pub so_far : (warned ≡ err_before) ⊎ IsWritten err_before (warning_lines ask.warnings) warned
-  pub ends : IsFeasible ask.plan ask.view → (status ≡ 0) ⊎ Stops before after warned err_after status
-
 -- nothing was asked, and of what is feasible only for want of memory
 pub not_asked : (words : AskWords) (files : Holdings) (rows : List VarBind) (ask : IsAsk words files rows) (before after err_before warned err_after : Stream)
     (fault : Option Fault) (status : ℕ) (why : Fault) → after ≡ before → fault ≡ Some why → IsReported fault warned err_after status
     → (IsFeasible ask.plan ask.view → IsWant why) → (warned ≡ err_before) ⊎ IsWritten err_before (warning_lines ask.warnings) warned
-    → Tells words files rows ask before after err_before warned err_after fault status
+    → WritesRows words files rows ask before after err_before err_after status
 not_asked words files rows ask before after err_before warned err_after fault status why same is told want so_far = record {
-  front = ([], rows, [], refl, inl refl, nothing_taken before after [] same);
-  all = λ none. let no : ⊥ = cc in absurd no;
-  so_far = so_far;
-  ends = λ can.
-      inr (want_told why before after warned err_after status (want can) (subst (λ (f : Option Fault). IsReported f warned err_after status) is told));
-}
-
--- what is promised of a job, by what was written of the rows that its words ask for
-pub ask_done_by : {N V D : Type 0} (net : Network N V D) (wire : LinkFacts V) (Loads : LoadFacts) (words : AskWords) (before after : Seen N) (status : ℕ)
-    (run : IsRun net wire Loads words before after status) → ((rows : List VarBind) (ask : IsAsk words before.files rows)
-    → Tells words before.files rows ask before.out after.out before.err run.warned after.err run.fault status)
-    → IsAskDone net wire Loads words before after status
-ask_done_by {N} {V} {D} net wire Loads words before after status run tells = record {
-  outcome_reported = run;
-  front_written = λ rows ask. (tells rows ask).front;
-  all_written_at_status_0 = λ rows ask zero_status.
-      (tells rows ask).all (no_fault_at_0 run.fault run.warned after.err status run.reported zero_status);
-  ends_at_status_0 = λ rows ask can.
-      mishap ask.warnings before.out after.out before.err run.warned after.err status (tells rows ask).so_far ((tells rows ask).ends can);
+  front_written = ([], rows, [], refl, inl refl, nothing_taken before after [] same);
+  all_written_at_status_0 = λ zero_status.
+      let none = no_fault_at_0 fault warned err_after status told zero_status in let no : ⊥ = cc in absurd no;
+  ends_at_status_0 = λ can.
+      mishap ask.warnings before after err_before warned err_after status so_far
+      (inr (want_told why before after warned err_after status (want can) (subst (λ (f : Option Fault). IsReported f warned err_after status) is told)));
 }
 
 module _ (one_table : (names : Names) (ls : List (List ℕ)) (v w : MibView) → IsTableOf names ls v → IsTableOf names ls w → v ≡ w)
@@ -128,7 +107,7 @@ module _ (one_table : (names : Names) (ls : List (List ℕ)) (v w : MibView) →
     (Loads : LoadFacts) (words : AskWords) (before after : Seen N) (status : ℕ) (run : IsRun net wire Loads words before after status) where
   module _ (rows : List VarBind) (ask : IsAsk words before.files rows) where
     abbrev Told : Type 0
-    Told = Tells words before.files rows ask before.out after.out before.err run.warned after.err run.fault status
+    Told = WritesRows words before.files rows ask before.out after.out before.err after.err status
 
     abbrev End : Seen N
     End = record after { err = run.warned }
@@ -193,12 +172,14 @@ module _ (one_table : (names : Names) (ls : List (List ℕ)) (v w : MibView) →
           (finished mib plan.letters words.asking.agent before.out rows (counts_in plan.question) printed.given printed.refused printed.end printed.between
           after.out run.fault printed.lines printed.finish count (printed.facts.whole rows are) (printed.facts.front rows are)) in
           record {
-            front = both.0;
-            all = both.1;
-            so_far = so_far_is;
-            ends = λ can. own_told mib plan.letters words.asking.agent printed.given printed.refused before.out printed.between after.out run.warned after.err
+            front_written = both.0;
+            all_written_at_status_0 = λ zero_status.
+                both.1 (no_fault_at_0 run.fault run.warned after.err status run.reported zero_status);
+            ends_at_status_0 = λ can.
+                mishap ask.warnings before.out after.out before.err run.warned after.err status so_far_is
+                (own_told mib plan.letters words.asking.agent printed.given printed.refused before.out printed.between after.out run.warned after.err
                 run.fault status run.reported (counts_in plan.question) printed.end
-                (printed.facts.complete (over_table plan for (λ p v. IsFeasible p v) path view over states can).room) printed.lines printed.finish;
+                (printed.facts.complete (over_table plan for (λ p v. IsFeasible p v) path view over states can).room) printed.lines printed.finish);
           }
       told_by (not_linked plan host port for over risen same is) = absurd (no_net plan for host port over)
       told_by (asked_over plan host port for over sent printed same) = absurd (no_net plan for host port over)
@@ -209,4 +190,4 @@ module _ (one_table : (names : Names) (ls : List (List ℕ)) (v w : MibView) →
     told_of_all (loaded mib warnings loading made written by) = told_by mib warnings loading written by
 
   pub asked_done : IsAskDone net wire Loads words before after status
-  asked_done = ask_done_by net wire Loads words before after status run (λ rows ask. told_of_all rows ask run.outcome)
+  asked_done = record { outcome_reported = run; rows_written = λ rows ask. told_of_all rows ask run.outcome }

@@ -21,7 +21,7 @@ use Rattle.snmp_tools.specs.Message.{Fault, out_of_memory}
 use Rattle.snmp_tools.specs.Outcome.{IsOutcome, IsReported, not_loaded}
 use Rattle.snmp_tools.specs.Question.{AskWords, of_get, of_walk}
 use Rattle.snmp_tools.specs.Seen.{Seen, seen}
-use Rattle.snmp_tools.proofs.Headlines.{ask_done_by, asked_done, not_asked}
+use Rattle.snmp_tools.proofs.Headlines.{asked_done, not_asked}
 use Rattle.snmp_tools.proofs.Outcomes.{no_fault_at_0}
 use Rattle.snmp_tools.proofs.Plans.{OneList, OneTree, plain_want}
 use Rattle.snmp_tools.proofs.TableNames.{OneMeaning}
@@ -86,11 +86,16 @@ module _ {N V D : Type 0} (net : Network N V D) (wire : LinkFacts V) (Loads : Lo
     After = seen files links out err_after
 
     unasked : (words : AskWords) → IsAskDone net wire Loads words Before After 1
-    unasked words =
-        ask_done_by net wire Loads words Before After 1
-        record { fault = Some out_of_memory; warned = err; outcome = not_loaded out_of_memory (inl refl) refl refl; reported = (refl, inr told) }
-        (λ rows ask. not_asked words files rows ask out out err err err_after (Some out_of_memory) 1 out_of_memory refl refl (refl, inr told)
-        (λ can. plain_want refl) (inl refl))
+    unasked words = record {
+      outcome_reported = record {
+        fault = Some out_of_memory;
+        warned = err;
+        outcome = not_loaded out_of_memory (inl refl) refl refl;
+        reported = (refl, inr told);
+      };
+      rows_written = λ rows ask. not_asked words files rows ask out out err err err_after (Some out_of_memory) 1 out_of_memory refl refl (refl, inr told)
+          (λ can. plain_want refl) (inl refl);
+    }
 
     pub undone : (job : Stated) → IsJobDone net wire Loads job Before After 1
     undone (snmptranslate words) = (

@@ -40,8 +40,7 @@ use Rattle.snmp_words.specs.Words.{walk_line}
 use Rattle.snmp_tools.specs.Resolved.{names_in}
 use Rattle.snmp_tools.specs.agent.TableFile.{AreNamesIn}
 use Rattle.snmp_tools.specs.Answer.{IsFeasible, agent_over, first_of}
-use Rattle.snmp_tools.specs.Headline.{EndsAtStatus0, IsAsk, IsMishap, WritesAllAtStatus0}
-use Rattle.snmp_tools.specs.Headline.{WritesFront}
+use Rattle.snmp_tools.specs.Headline.{IsAsk, IsMishap, WritesRowsOf}
 use Rattle.snmp_tools.specs.Lines.{AreLines}
 use Rattle.snmp_tools.specs.Mib.{Mib}
 use Rattle.snmp_tools.specs.Question.{AskFor, Plan, Walk, of_walk, subtree}
@@ -282,11 +281,10 @@ pub prints_rows : IsTree [] bare [] → NumbersAreRead → AreNamesIn bare_mib.n
     → ((ls : List (List ℕ)) → AreTableBy (names_in bare_mib.naming) ls → (view : MibView) × IsTableOf (names_in bare_mib.naming) ls view × IsMibView view)
     → ((ls : List (List ℕ)) (view : MibView) → (IsMarked ls → ⊥) → (IsTableOf (names_in bare_mib.naming) ls view ↔ IsTableIn first_format ls view))
     → (files : Holdings) (path root text : List ℕ) (before after err_before err_after : Stream) (status : ℕ)
-    → HoldsTableFile files path root text → WritesFront (of_walk false (numeric_walk path root)) files before after
-    → WritesAllAtStatus0 (of_walk false (numeric_walk path root)) files before after status
-    → EndsAtStatus0 (of_walk false (numeric_walk path root)) files before after err_before err_after status
+    → HoldsTableFile files path root text
+    → WritesRowsOf (of_walk false (numeric_walk path root)) files before after err_before err_after status
     → PrintsRows (lines text) root before after err_before err_after status
-prints_rows loads read named law ordered one_get room tables plain files path root text before after err_before err_after status holds front all ends =
+prints_rows loads read named law ordered one_get room tables plain files path root text before after err_before err_after status holds writes =
     let stated = tables (lines text) (first_format, holds.unmarked, holds.table) in
     let view : MibView = stated.0 in
     let by : IsTableOf (names_in bare_mib.naming) (lines text) view = stated.1 in
@@ -298,16 +296,17 @@ prints_rows loads read named law ordered one_get room tables plain files path ro
     let got_root : IsGet view root got = subst (λ (o : List ℕ). IsGet view o got) (wire_is root holds.sendable) is_got in
     let rows : List VarBind = or_only got (rows_below root (variables view)) in
     let walk : IsAsk (of_walk false (numeric_walk path root)) files rows = walk_over files path root text holds loads read named view by got is_got in
-    let first = front rows walk in
+    let written = writes rows walk in
+    let first = written.front_written in
     record {
       rows = rows;
       are_walked = are_walked (lines text) root got (rows_below root (variables view)) (rows_are (lines text) view root is is_view law
           (ordered view root is_view)) (got_is (lines text) view root got is got_root);
       front = front_is bare_mib before after rows first.0 first.1 first.2 bare_has_no_syntax first.3 first.4 first.5;
       all = λ zero_status. (
-          let whole = all rows walk zero_status in
+          let whole = written.all_written_at_status_0 zero_status in
           all_are bare_mib before after rows whole.0 bare_has_no_syntax whole.1 whole.2
           );
       ends = λ short few. mishap_is before after err_before err_after status
-          (ends rows walk (feasible (lines text) path root view got holds.identifier holds.sendable is is_view room short few));
+          (written.ends_at_status_0 (feasible (lines text) path root view got holds.identifier holds.sendable is is_view room short few));
     }

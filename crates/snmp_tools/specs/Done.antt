@@ -4,7 +4,7 @@ use Rattle.snmp_walk.specs.declared.link.Link.{Ghosts as LinkFacts}
 use Rattle.snmp_net.specs.declared.links.Links.{Ghosts as Network}
 use Rattle.snmp_words.specs.Words.{Stated, snmpbulkwalk, snmpd, snmpget, snmptranslate, snmpwalk}
 use Rattle.snmp_tools.specs.loading.Loaded.{LoadFacts}
-use Rattle.snmp_tools.specs.Headline.{EndsAtStatus0, WritesAllAtStatus0, WritesFront}
+use Rattle.snmp_tools.specs.Headline.{WritesRowsOf}
 use Rattle.snmp_tools.specs.Message.{Fault}
 use Rattle.snmp_tools.specs.Outcome.{IsOutcome, IsRun}
 use Rattle.snmp_tools.specs.Question.{AskWords, of_get, of_walk}
@@ -18,10 +18,7 @@ use Rattle.snmp_tools.specs.translation.Outcome.{IsTranslateOutcome}
 pub record IsAskDone {N V D : Type 0} (net : Network N V D) (wire : LinkFacts V)
     (Loads : LoadFacts) (words : AskWords) (before after : Seen N) (status : ℕ) : Type 0 where
   pub outcome_reported : IsRun net wire Loads words before after status
-  pub front_written : WritesFront words before.files before.out after.out
-  pub all_written_at_status_0 : WritesAllAtStatus0 words before.files before.out after.out status
-  pub ends_at_status_0 : EndsAtStatus0 words before.files before.out after.out before.err after.err
-      status
+  pub rows_written : WritesRowsOf words before.files before.out after.out before.err after.err status
 
 -- The job that was stated so was done: its status is this, and the world outside went from one
 -- state to the other. `net` is what is known of the network, `wire` of its links, and `Loads` of

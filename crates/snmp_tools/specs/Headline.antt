@@ -44,21 +44,6 @@ abbrev pub IsWholeText : Mib → Plan → (rows : List VarBind) → List ℕ →
 IsWholeText mib plan rows text = (shown : List ℕ) × AreLines mib plan.letters rows shown
     × (text ≡ shown ++ count_text (counts_in plan.question) (length rows))
 
--- Whatever fails, a front of the lines of the first rows is written, or of the whole text, and
--- nothing else.
-abbrev pub WritesFront : AskWords → Holdings → (before after : Stream) → Type 0
-WritesFront words files before after =
-    (rows : List VarBind) (ask : IsAsk words files rows)
-    → (first : List VarBind) × (rest : List VarBind) × (text : List ℕ) × (rows ≡ first ++ rest)
-    × (AreLines ask.mib ask.plan.letters first text ⊎ IsWholeText ask.mib ask.plan rows text)
-    × TakesFront before text after
-
--- At status 0 the whole text is.
-abbrev pub WritesAllAtStatus0 : AskWords → Holdings → (before after : Stream) → ℕ → Type 0
-WritesAllAtStatus0 words files before after status =
-    (rows : List VarBind) (ask : IsAsk words files rows) → status ≡ 0
-    → (text : List ℕ) × IsWholeText ask.mib ask.plan rows text × (after ≡ extended before text)
-
 -- It was reported that memory ran out, and before that the modules' warnings, if it was later: of
 -- each a front where standard error failed.
 abbrev pub IsOutOfMemory : List Warning → (err_before err_after : Stream) → Type 0
@@ -71,9 +56,26 @@ abbrev pub IsMishap : List Warning → (before after err_before err_after : Stre
 IsMishap warnings before after err_before err_after status = (status ≡ 1)
     × (HasRisen before.faults after.faults ⊎ IsOutOfMemory warnings err_before err_after)
 
--- What is feasible ends at status 0, unless the output fails or memory runs out.
-abbrev pub EndsAtStatus0 : AskWords → Holdings → (before after err_before err_after : Stream) → ℕ
+-- what is written of the rows that the words ask for, and the status
+pub record WritesRows (words : AskWords) (files : Holdings) (rows : List VarBind)
+    (ask : IsAsk words files rows) (before after err_before err_after : Stream) (status : ℕ)
+    : Type 0 where
+  -- Whatever fails, a front of the lines of the first rows is written, or of the whole text, and
+  -- nothing else.
+  pub front_written : (first : List VarBind) × (rest : List VarBind) × (text : List ℕ)
+      × (rows ≡ first ++ rest)
+      × (AreLines ask.mib ask.plan.letters first text ⊎ IsWholeText ask.mib ask.plan rows text)
+      × TakesFront before text after
+  -- At status 0 the whole text is.
+  pub all_written_at_status_0 : status ≡ 0
+      → (text : List ℕ) × IsWholeText ask.mib ask.plan rows text × (after ≡ extended before text)
+  -- What is feasible ends at status 0, unless the output fails or memory runs out.
+  pub ends_at_status_0 : IsFeasible ask.plan ask.view
+      → (status ≡ 0) ⊎ IsMishap ask.warnings before after err_before err_after status
+
+-- that is written of whatever rows the words ask for
+abbrev pub WritesRowsOf : AskWords → Holdings → (before after err_before err_after : Stream) → ℕ
     → Type 0
-EndsAtStatus0 words files before after err_before err_after status =
-    (rows : List VarBind) (ask : IsAsk words files rows) → IsFeasible ask.plan ask.view
-    → (status ≡ 0) ⊎ IsMishap ask.warnings before after err_before err_after status
+WritesRowsOf words files before after err_before err_after status =
+    (rows : List VarBind) (ask : IsAsk words files rows)
+    → WritesRows words files rows ask before after err_before err_after status

@@ -5,7 +5,7 @@ ghost use Rattle.snmp_io.specs.Files.{Holdings};
 ghost use Rattle.snmp_io.specs.Output.{Stream};
 ghost use Rattle.snmp_words.specs.Command.{is_taken};
 ghost use Rattle.snmp_words.specs.Words.{StateJob, snmpwalk};
-ghost use Rattle.snmp_tools.specs.Headline.{EndsAtStatus0, WritesAllAtStatus0, WritesFront};
+ghost use Rattle.snmp_tools.specs.Headline.{WritesRowsOf};
 ghost use Rattle.snmp_tools.specs.Planned.{numeric_walk};
 ghost use Rattle.snmp_tools.specs.Question.{of_walk};
 ghost use Rattle.snmp_tools.specs.TableWalk.{HoldsTableFile, PrintsRows, table_walk};
@@ -27,9 +27,7 @@ pub(crate) fn table_walks()
     ensures printed { (files : Holdings) (path root text : List ℕ)
         (before after err_before err_after : Stream) (status : ℕ)
         → HoldsTableFile files path root text
-        → WritesFront (of_walk false (numeric_walk path root)) files before after
-        → WritesAllAtStatus0 (of_walk false (numeric_walk path root)) files before after status
-        → EndsAtStatus0 (of_walk false (numeric_walk path root)) files before after
+        → WritesRowsOf (of_walk false (numeric_walk path root)) files before after
         err_before err_after status
         → PrintsRows (lines text) root before after err_before err_after status }
 {

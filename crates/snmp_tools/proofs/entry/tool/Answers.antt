@@ -36,14 +36,14 @@ returns-in-Ok-clause-rows_printed g c = λ path root text words holds.
     let walk = snmpwalk (numeric_walk path root) in
     let stated = subst (λ (ws : List (List ℕ)). StateJob ws walk) (sym words) (c.table_walks.ensures.stated path root) in
     let done = of_words g.L.Links g.L.Wire.Link (g.F.ModuleFiles.loads c.args.files.now) _ _ _ c.one_job.ensures _ _ walk c.in-Ok.ensures.job stated c.run_job.ensures in
-    c.table_walks.ensures.printed _ path root text _ _ _ _ _ holds done.front_written done.all_written_at_status_0 done.ends_at_status_0
+    c.table_walks.ensures.printed _ path root text _ _ _ _ _ holds done.rows_written
 
 pub returns-in-Err-Memory-clause-rows_printed : goal.returns-in-Err-Memory-clause-rows_printed
 returns-in-Err-Memory-clause-rows_printed g c = λ path root text words holds.
     let done = undone g.L.Links g.L.Wire.Link (g.F.ModuleFiles.loads c.args.files.now)
     (g.F.Files.text_at c.args.files.now) c.args.links.now (g.O.Output.stream c.args.out.now) (g.E.ErrorOutput.stream c.args.err.now) _
     c.tell-in-Err-Memory.ensures (snmpwalk (numeric_walk path root)) in
-    c.table_walks.ensures.printed _ path root text _ _ _ _ _ holds done.front_written done.all_written_at_status_0 done.ends_at_status_0
+    c.table_walks.ensures.printed _ path root text _ _ _ _ _ holds done.rows_written
 
 pub returns-in-Err-Parse-default-false : goal.returns-in-Err-Parse-default-false
 returns-in-Err-Parse-default-false g c =
