@@ -1,4 +1,4 @@
-use Rattle.std.proofs.Common.{ℕ, List, Bor, Ok, inl, inr, refl, sym, option_map, subst}
+use Rattle.std.proofs.Common.{◌≡◌, ℕ, List, Bor, Ok, inl, inr, refl, sym, option_map, subst}
 use Rattle.smi_show.specs.name.Meant.{TextMeans}
 use Rattle.snmp_tools.specs.Asking.{NameFails}
 use Rattle.snmp_tools.specs.Chosen.{chosen}
@@ -7,6 +7,7 @@ use Rattle.snmp_tools.specs.Planned.{HasTextsOf, NamesFail, mib_in, request_of}
 use Rattle.snmp_tools.specs.Question.{IsQuestionOf, IsWalkOf, Walk, subtree}
 use Rattle.snmp_tools.specs.declared.failure.Failure.{Failure}
 use Rattle.snmp_tools.specs.declared.plan.Question.TheVariants as planned
+use Rattle.snmp_tools.specs.declared.plan.Walk.{Walk as PlannedWalk}
 use Rattle.snmp_tools.specs.declared.request.Request.{Request}
 use Rattle.snmp_tools.proofs.Steps.{text_or}
 use Rattle.snmp_tools.proofs.Wholes.{if_err}
@@ -54,7 +55,11 @@ returns-in_ok-name_if_given-in-Walk-clause-stated g c =
     } in
     subst (λ (r : Request). IsQuestionOf (request_of r) (chosen c.args.choices) mib (subtree w)) (sym c.in-Walk.is) is
 
+-- the texts of a walk are those of the request that it is made of
+of_walk : (request r : Request) (w : PlannedWalk) → request ≡ r → HasTextsOf (request_of r) (planned.Walk w) → HasTextsOf (request_of request) (planned.Walk w)
+of_walk request r w e = subst (λ (x : Request). HasTextsOf (request_of x) (planned.Walk w)) (sym e)
+
 pub returns-in_ok-name_if_given-in-Walk-clause-texts : goal.returns-in_ok-name_if_given-in-Walk-clause-texts
 returns-in_ok-name_if_given-in-Walk-clause-texts g c =
-    subst (λ (r : Request). HasTextsOf (request_of r) (planned.Walk _)) (sym c.in-Walk.is)
+    of_walk _ _ _ c.in-Walk.is
     (text_or c.in-Walk.root _ _ c.unwrap_or-root_text.ensures, text_or c.in-Walk.after _ _ c.unwrap_or-after_text.ensures)
