@@ -5,7 +5,7 @@ ghost use Rattle.snmp_wire.specs.ber.Canon.{IsEncodableValue};
 ghost use Rattle.snmp_wire.specs.ber.Value.{datum};
 ghost use Rattle.snmp_wire.specs.Message.{var_bind};
 
-use crate::table::repeated;
+use crate::table::{repeated, table_of};
 use snmp_agent::{Config, Outcome, Table, Why, answer};
 use snmp_wire::{
     Binding, MessageRef, Parts, ValueRef, binding_size, decode, encode_binding, encode_head,
@@ -91,7 +91,7 @@ pub(crate) fn assert_dropped(
 
 #[test]
 fn a_get_has_its_reply_in_the_shortest_encoding(rt: HostRuntime) {
-    let table = Table::read(rt.alloc(), SYS_NAME).expect(&rt, "a table");
+    let table = table_of(&rt, rt.alloc(), SYS_NAME);
     assert_reply(&rt, &table, 1472, &GET, &GOT);
     assert_reply(&rt, &table, 43, &GET, &GOT);
     let mut long_length = [0; 42];
@@ -102,7 +102,7 @@ fn a_get_has_its_reply_in_the_shortest_encoding(rt: HostRuntime) {
 
 #[test]
 fn a_reply_too_long_is_too_big(rt: HostRuntime) {
-    let table = Table::read(rt.alloc(), SYS_NAME).expect(&rt, "a table");
+    let table = table_of(&rt, rt.alloc(), SYS_NAME);
     assert_reply(&rt, &table, 42, &GET, &TOO_BIG);
     assert_reply(&rt, &table, 26, &GET, &TOO_BIG);
     assert_dropped(&rt, &table, 25, &GET, Why::TooLong);
@@ -110,13 +110,13 @@ fn a_reply_too_long_is_too_big(rt: HostRuntime) {
 
 #[test]
 fn nothing_is_written(rt: HostRuntime) {
-    let table = Table::read(rt.alloc(), SYS_NAME).expect(&rt, "a table");
+    let table = table_of(&rt, rt.alloc(), SYS_NAME);
     assert_reply(&rt, &table, 1472, &SET, &NOT_SET);
 }
 
 #[test]
 fn a_get_next_gives_the_next_variable(rt: HostRuntime) {
-    let table = Table::read(rt.alloc(), b"1.3.6.1.2.1.1.5.1|4|wes").expect(&rt, "a table");
+    let table = table_of(&rt, rt.alloc(), b"1.3.6.1.2.1.1.5.1|4|wes");
     let mut request = GET;
     request[13] = 0xA1;
     let mut reply = GOT;
@@ -157,7 +157,7 @@ fn assert_other_lengths_dropped(rt: &impl Abort, table: &Table) {
 
 #[test]
 fn others_are_dropped(rt: HostRuntime) {
-    let table = Table::read(rt.alloc(), SYS_NAME).expect(&rt, "a table");
+    let table = table_of(&rt, rt.alloc(), SYS_NAME);
     for (place, octet, why) in OTHERS {
         assert_dropped(&rt, &table, 1472, &with_octet(&GET, *place, *octet), *why);
     }
@@ -180,7 +180,7 @@ const NOT_SET_COUNTER: [u8; 42] = [
 
 #[test]
 fn values_of_a_set_come_back_in_the_shortest_encoding(rt: HostRuntime) {
-    let table = Table::read(rt.alloc(), SYS_NAME).expect(&rt, "a table");
+    let table = table_of(&rt, rt.alloc(), SYS_NAME);
     assert_reply(&rt, &table, 42, &SET_COUNTER, &NOT_SET_COUNTER);
     assert_reply(&rt, &table, 41, &SET_COUNTER, &TOO_BIG);
 }
@@ -206,8 +206,8 @@ fn assert_longest_name(rt: &impl Abort, table: &Table) {
 
 #[test]
 fn the_longest_name_is_given(rt: HostRuntime) {
-    let text = repeated(rt.alloc(), b"1.3.6", b".4294967295", 125, b"|2|1").expect(&rt, "memory");
-    let table = Table::read(rt.alloc(), &text).expect(&rt, "a table");
+    let text = repeated(&rt, rt.alloc(), b"1.3.6", b".4294967295", 125, b"|2|1");
+    let table = table_of(&rt, rt.alloc(), &text);
     assert_longest_name(&rt, &table);
     assert_reply(&rt, &table, 669, &NEXT, &TOO_BIG);
 }
@@ -289,7 +289,7 @@ fn assert_messages(rt: &impl Abort, table: &Table, request: &[u8; 40]) {
 
 #[test]
 fn with_any_octet_changed_a_reply_is_in_its_shortest_encoding(rt: HostRuntime) {
-    let table = Table::read(rt.alloc(), SYS_NAME).expect(&rt, "a table");
+    let table = table_of(&rt, rt.alloc(), SYS_NAME);
     assert_messages(&rt, &table, &GET);
     assert_messages(&rt, &table, &with_octet(&GET, 13, 0xA1));
     assert_messages(&rt, &table, &with_octet(&GET, 13, 0xA3));

@@ -1,6 +1,7 @@
 //! GetBulks and their replies, worked out by hand.
 
 use crate::agent::{assert_dropped, outcome};
+use crate::table::table_of;
 use snmp_agent::{Outcome, Table, Why};
 use snmp_wire::{Binding, Bindings, ValueRef, decode};
 use std::alloc::{AllocError, Global};
@@ -78,22 +79,30 @@ fn assert_integers(
 
 const ALL: &[(u32, i32)] = &[(1, 1), (2, 2), (3, 3), (4, 4), (5, 5), (6, 6), (6, -1)];
 
+/// In messages of each of these sizes the reply has so many octets, and so many of the integers.
+fn assert_fits(rt: &impl Abort, table: &Table, cases: &[(usize, usize, usize)]) {
+    for &(max_size, octets, rows) in cases {
+        assert_integers(rt, table, max_size, &BULK, octets, &ALL[..rows.min(7)]);
+    }
+}
+
 #[test]
 fn as_many_come_as_fit(rt: HostRuntime) {
-    let table = Table::read(rt.alloc(), SIX).expect(&rt, "a table");
-    assert_integers(&rt, &table, 134, &BULK, 116, &ALL[..5]);
-    assert_integers(&rt, &table, 135, &BULK, 135, &ALL[..6]);
-    assert_integers(&rt, &table, 1472, &BULK, 153, ALL);
+    let table = table_of(&rt, rt.alloc(), SIX);
+    assert_fits(&rt, &table, &[(134, 116, 5), (135, 135, 6), (1472, 153, 7)]);
 }
 
 #[test]
 fn a_reply_fits_to_the_octet(rt: HostRuntime) {
-    let table = Table::read(rt.alloc(), SIX).expect(&rt, "a table");
-    assert_integers(&rt, &table, 153, &BULK, 153, ALL);
-    assert_integers(&rt, &table, 152, &BULK, 135, &ALL[..6]);
-    assert_integers(&rt, &table, 44, &BULK, 44, &ALL[..1]);
-    assert_integers(&rt, &table, 43, &BULK, 26, &[]);
-    assert_integers(&rt, &table, 26, &BULK, 26, &[]);
+    const CASES: &[(usize, usize, usize)] = &[
+        (153, 153, 7),
+        (152, 135, 6),
+        (44, 44, 1),
+        (43, 26, 0),
+        (26, 26, 0),
+    ];
+    let table = table_of(&rt, rt.alloc(), SIX);
+    assert_fits(&rt, &table, CASES);
     assert_dropped(&rt, &table, 25, &BULK, Why::TooLong);
 }
 
@@ -128,7 +137,7 @@ const FIRST: &[(u32, i32)] = &[(1, 1), (1, 1), (6, 6)];
 
 #[test]
 fn names_repeat_after_those_that_do_not(rt: HostRuntime) {
-    let table = Table::read(rt.alloc(), SIX).expect(&rt, "a table");
+    let table = table_of(&rt, rt.alloc(), SIX);
     let wanted = &[(1, 1), (1, 1), (6, 6), (2, 2), (6, -1)];
     assert_three(&rt, &table, 1, 2, 115, wanted);
 }
@@ -137,44 +146,50 @@ const FEW: &[i32] = &[-5, -1, 0, i32::MIN];
 
 const MANY: &[i32] = &[3, 9, i32::MAX];
 
-#[test]
-fn numbers_are_taken_within_bounds(rt: HostRuntime) {
-    let table = Table::read(rt.alloc(), SIX).expect(&rt, "a table");
+/// Numbers below 0 are taken for 0, and more non-repeaters than names for their count.
+fn assert_bounds(rt: &impl Abort, table: &Table) {
     for few in FEW {
-        assert_three(&rt, &table, *few, 1, 80, FIRST);
-        assert_three(&rt, &table, 1, *few, 44, &FIRST[..1]);
-        assert_three(&rt, &table, *few, *few, 26, &[]);
+        assert_three(rt, table, *few, 1, 80, FIRST);
+        assert_three(rt, table, 1, *few, 44, &FIRST[..1]);
+        assert_three(rt, table, *few, *few, 26, &[]);
     }
     for many in MANY {
-        assert_three(&rt, &table, *many, 1, 80, FIRST);
-        assert_three(&rt, &table, *many, i32::MAX, 80, FIRST);
-        assert_three(&rt, &table, *many, -1, 80, FIRST);
+        assert_three(rt, table, *many, 1, 80, FIRST);
+        assert_three(rt, table, *many, i32::MAX, 80, FIRST);
+        assert_three(rt, table, *many, -1, 80, FIRST);
     }
 }
 
 #[test]
+fn numbers_are_taken_within_bounds(rt: HostRuntime) {
+    let table = table_of(&rt, rt.alloc(), SIX);
+    assert_bounds(&rt, &table);
+}
+
+/// The successor of the first name, and all rounds of the others.
+const ROUNDS: &[(u32, i32)] = &[
+    (1, 1),
+    (1, 1),
+    (6, 6),
+    (2, 2),
+    (6, -1),
+    (3, 3),
+    (6, -1),
+    (4, 4),
+    (6, -1),
+    (5, 5),
+    (6, -1),
+    (6, 6),
+    (6, -1),
+    (6, -1),
+    (6, -1),
+];
+
+#[test]
 fn a_round_of_ends_is_the_last(rt: HostRuntime) {
-    let table = Table::read(rt.alloc(), SIX).expect(&rt, "a table");
-    let wanted = &[
-        (1, 1),
-        (6, 6),
-        (2, 2),
-        (6, -1),
-        (3, 3),
-        (6, -1),
-        (4, 4),
-        (6, -1),
-        (5, 5),
-        (6, -1),
-        (6, 6),
-        (6, -1),
-        (6, -1),
-        (6, -1),
-    ];
-    let mut all = [(1, 1); 15];
-    all[1..].copy_from_slice(wanted);
-    assert_three(&rt, &table, 1, i32::MAX, 295, &all);
-    assert_three(&rt, &table, 1, 7, 295, &all);
+    let table = table_of(&rt, rt.alloc(), SIX);
+    assert_three(&rt, &table, 1, i32::MAX, 295, ROUNDS);
+    assert_three(&rt, &table, 1, 7, 295, ROUNDS);
 }
 
 /// The octets of the length of an element, in the form of three octets.
@@ -186,8 +201,15 @@ fn long_length(length: u16) -> [u8; 3] {
 /// The GetBulk of `count` names, 1.3.6.128 and those after it, with three repetitions: ten octets a
 /// binding.
 fn bulk_of(alloc: Global, count: u16) -> Result<Vec<u8>, AllocError> {
+    let mut octets = Vec::new(alloc);
+    add_bulk(&mut octets, count)?;
+    Ok(octets)
+}
+
+/// Adds the octets of that GetBulk.
+fn add_bulk(octets: &mut Vec<u8>, count: u16) -> Result<(), AllocError> {
     let size = count.wrapping_mul(10);
-    let mut octets = vec![in alloc; 0x30]?;
+    octets.push(0x30)?;
     octets.extend_from_slice(&long_length(size.wrapping_add(28)))?;
     octets.extend_from_slice(b"\x02\x01\x01\x04\x06public\xA5")?;
     octets.extend_from_slice(&long_length(size.wrapping_add(13)))?;
@@ -209,18 +231,23 @@ fn bulk_of(alloc: Global, count: u16) -> Result<Vec<u8>, AllocError> {
         ];
         octets.extend_from_slice(&binding)?;
     }
-    Ok(octets)
+    Ok(())
 }
 
 /// The text of a row for each number from 128 to `last`: its name is 1.3.6 and the number, and its
 /// value is the number.
-pub(crate) fn numbers_to(alloc: Global, last: u32) -> Result<Vec<u8>, AllocError> {
-    let mut text = Vec::new(alloc);
+fn numbers_to(alloc: Global, last: u32) -> Result<String, AllocError> {
+    let mut text = String::new(alloc);
     for number in 128..=last {
-        let line = format!(in alloc; "1.3.6.{number}|65|{number}\n")?;
-        text.extend_from_slice(line.as_bytes())?;
+        write!(text, "1.3.6.{number}|65|{number}\n")?;
     }
     Ok(text)
+}
+
+/// The table of these rows.
+pub(crate) fn table_to(rt: &impl Abort, alloc: Global, last: u32) -> Table {
+    let text = numbers_to(alloc, last).expect(rt, "memory for rows");
+    table_of(rt, alloc, text.as_bytes())
 }
 
 /// Whether the binding is the row of this number, or past the last endOfMibView with its name.
@@ -256,12 +283,17 @@ fn rounds_in(reply: &[u8], count: u32, last: u32) -> Option<u32> {
 
 /// How many bindings the reply to the GetBulk of `count` names has, where they are its rounds. The
 /// last name comes to the end of the view in the last of them.
-fn rounds_of(alloc: Global, count: u16) -> Option<u32> {
-    let last = u32::from(count).wrapping_add(129);
-    let table = Table::read(alloc, &numbers_to(alloc, last).ok()?).ok()?;
+fn rounds_of(rt: &impl Abort, alloc: Global, count: u16) -> Option<u32> {
     let request = bulk_of(alloc, count).ok()?;
+    let last = u32::from(count).wrapping_add(129);
+    let table = table_to(rt, alloc, last);
+    rounds_by(&table, &request, count, last)
+}
+
+/// How many bindings the reply to that request has, where they are its rounds.
+fn rounds_by(table: &Table, request: &[u8], count: u16, last: u32) -> Option<u32> {
     let mut out = [0; 65507];
-    match outcome(&table, 65507, &request, &mut out) {
+    match outcome(table, 65507, request, &mut out) {
         Outcome::Reply(size) => rounds_in(&out[..size.min(65507)], u32::from(count), last),
         Outcome::Dropped(_) => None,
     }
@@ -273,7 +305,7 @@ fn many_names_have_their_rounds(rt: HostRuntime) {
     const CASES: &[(u16, u32)] = &[(1, 3), (63, 189), (64, 192), (65, 195), (4000, 5456)];
     for &(count, bindings) in CASES {
         assert!(rt;
-            rounds_of(rt.alloc(), count) == Some(bindings),
+            rounds_of(&rt, rt.alloc(), count) == Some(bindings),
             "{count} names"
         );
     }

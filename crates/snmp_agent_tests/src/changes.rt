@@ -1,6 +1,6 @@
 //! Rows that are put into a table and removed again.
 
-use crate::table::{all_rows, gives};
+use crate::table::{all_rows, assert_get, name, table_of};
 use snmp_agent::{PutError, Table};
 use snmp_wire::{Binding, Oid, ValueRef, parse_numeric};
 use std::process::Abort;
@@ -54,20 +54,35 @@ fn is_removed(table: &mut Table, number: u32) -> bool {
     }
 }
 
+/// Asserts that the row of the number is put where there was none.
+fn assert_added(rt: &impl Abort, table: &mut Table, number: u32) {
+    assert!(rt; is_added(table, number));
+}
+
+/// Asserts that the row of the number is removed once.
+fn assert_removed(rt: &impl Abort, table: &mut Table, number: u32) {
+    assert!(rt; is_removed(table, number));
+    assert!(rt; !is_removed(table, number));
+}
+
 #[test]
 fn rows_put_in_falling_order_are_removed_in_rising_order(rt: HostRuntime) {
-    let mut table = Table::read(rt.alloc(), b"object 1.3.6.1.4.1.32473.1\n").expect(&rt, "a table");
+    let mut table = table_of(&rt, rt.alloc(), b"object 1.3.6.1.4.1.32473.1\n");
     for number in (1..=600).rev() {
-        assert!(rt; is_added(&mut table, number));
+        assert_added(&rt, &mut table, number);
         assert_rows(&rt, &table, number, 600);
     }
     for number in 1..=600 {
-        assert!(rt; is_removed(&mut table, number));
-        assert!(rt; !is_removed(&mut table, number));
+        assert_removed(&rt, &mut table, number);
         assert_rows(&rt, &table, number + 1, 600);
     }
     // The object prefix stays.
-    assert!(rt; gives(&table, b"1.3.6.1.4.1.32473.1.1.0", ValueRef::NoSuchInstance));
+    assert_get(
+        &rt,
+        &table,
+        b"1.3.6.1.4.1.32473.1.1.0",
+        ValueRef::NoSuchInstance,
+    );
 }
 
 /// Puts the value at the name, and returns whether there was a row, or why it is not put.
@@ -81,15 +96,13 @@ fn put(table: &mut Table, name: &[u8], value: ValueRef<'_>) -> Option<Result<boo
 /// Asserts that the row of 1.3.6.2 has the new value, once it is put there.
 fn assert_replaced(rt: &impl Abort, table: &mut Table, value: ValueRef<'_>, same: ValueRef<'_>) {
     assert!(rt; put(table, b"1.3.6.2", value) == Some(Ok(true)));
-    assert!(rt; gives(table, b"1.3.6.2", same));
+    assert_get(rt, table, b"1.3.6.2", same);
 }
 
 #[test]
 fn a_row_put_again_has_the_new_value(rt: HostRuntime) {
-    let id = parse_numeric(b"1.3.6.1").expect(&rt, "a name");
-    let mut table = Table::read(rt.alloc(), b"1.3.6.1|2|1\n1.3.6.2|4|wes\n1.3.6.3|2|3").expect(
-        &rt, "a table",
-    );
+    let id = name(&rt, b"1.3.6.1");
+    let mut table = table_of(&rt, rt.alloc(), b"1.3.6.1|2|1\n1.3.6.2|4|wes\n1.3.6.3|2|3");
     assert_replaced(
         &rt,
         &mut table,
@@ -102,8 +115,8 @@ fn a_row_put_again_has_the_new_value(rt: HostRuntime) {
         ValueRef::ObjectId(id.copy()),
         ValueRef::ObjectId(id),
     );
-    assert!(rt; gives(&table, b"1.3.6.1", ValueRef::Integer(1)));
-    assert!(rt; gives(&table, b"1.3.6.3", ValueRef::Integer(3)));
+    assert_get(&rt, &table, b"1.3.6.1", ValueRef::Integer(1));
+    assert_get(&rt, &table, b"1.3.6.3", ValueRef::Integer(3));
 }
 
 /// Asserts that no value is put at the name.
@@ -115,7 +128,7 @@ fn assert_bad_name(rt: &impl Abort, table: &mut Table, name: &[u8]) {
 /// Asserts that the value is not put at 1.3.6.1, which keeps 1.
 fn assert_bad_value(rt: &impl Abort, table: &mut Table, value: ValueRef<'_>) {
     assert!(rt; put(table, b"1.3.6.1", value) == Some(Err(PutError::BadValue)));
-    assert!(rt; gives(table, b"1.3.6.1", ValueRef::Integer(1)));
+    assert_get(rt, table, b"1.3.6.1", ValueRef::Integer(1));
 }
 
 /// Asserts that a string of all 65536 octets is not put at 1.3.6.1, and that one of 65535 is.
@@ -128,8 +141,8 @@ fn assert_longest(rt: &impl Abort, table: &mut Table, octets: &[u8; 65536]) {
 
 #[test]
 fn bad_names_and_values_are_not_put(rt: HostRuntime) {
-    let id = parse_numeric(b"1").expect(&rt, "a name");
-    let mut table = Table::read(rt.alloc(), b"1.3.6.1|2|1").expect(&rt, "a table");
+    let id = name(&rt, b"1");
+    let mut table = table_of(&rt, rt.alloc(), b"1.3.6.1|2|1");
     assert_bad_name(&rt, &mut table, b"1.3");
     assert_bad_name(&rt, &mut table, b".");
     assert_bad_name(&rt, &mut table, b"1.40.1");

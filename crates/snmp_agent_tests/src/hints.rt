@@ -1,6 +1,7 @@
 //! An agent that is asked in turn, and keeps a hint from one request to the next.
 
-use crate::bulk::numbers_to;
+use crate::bulk::table_to;
+use crate::table::table_of;
 use snmp_agent::{Config, Hint, Outcome, Table, answer, answer_near};
 use snmp_wire::{EncodedName, Kind, MAX_CONTENT, Oid, Parts, encode_asking, seal};
 use std::alloc::{AllocError, Global};
@@ -59,10 +60,36 @@ fn is_same(table: &Table, request: &[u8], hint: &mut Hint) -> bool {
     }
 }
 
-/// The table of the rows of the numbers from 128 to `last`.
-fn table_to(rt: &impl Abort, alloc: Global, last: u32) -> Table {
-    let text = numbers_to(alloc, last).expect(rt, "memory for rows");
-    Table::read(alloc, &text).expect(rt, "a table")
+/// Asserts that the replies over both tables are the same with the hint, which is then that of
+/// another table.
+fn assert_unchanged(rt: &impl Abort, many: &Table, few: &Table, number: u16, hint: &mut Hint) {
+    assert!(rt; is_same_reply(many, number, hint), "after {number}");
+    assert!(rt; is_same_reply(few, 129, hint), "over few rows");
+    let mut other = *hint;
+    assert!(rt;
+        is_same_reply(many, number, &mut other),
+        "after {number} again"
+    );
+}
+
+/// Asserts that the reply to the GetNext of this number is the same with the hint.
+fn assert_same_reply(rt: &impl Abort, table: &Table, number: u16, hint: &mut Hint) {
+    assert!(rt; is_same_reply(table, number, hint), "after {number}");
+}
+
+/// Asserts that the reply to the request is the same with the hint.
+fn assert_same(
+    rt: &impl Abort,
+    table: &Table,
+    request: &[u8],
+    hint: &mut Hint,
+    place: u32,
+    round: u32,
+) {
+    assert!(rt;
+        is_same(table, request, hint),
+        "{place} in {round}: {request:?}"
+    );
 }
 
 #[test]
@@ -72,18 +99,25 @@ fn no_hint_changes_a_reply(rt: HostRuntime) {
     let mut hint = Hint::default();
     // In turn, past the end too; then from elsewhere, with the hint of another row.
     for number in 128..=702 {
-        assert!(rt; is_same_reply(&many, number, &mut hint), "after {number}");
+        assert_same_reply(&rt, &many, number, &mut hint);
     }
     for &number in &[383, 128, 384, 700, 639, 640, 129] {
-        assert!(rt; is_same_reply(&many, number, &mut hint), "after {number}");
-        // The hint is that of another table.
-        assert!(rt; is_same_reply(&few, 129, &mut hint), "over few rows");
-        let mut other = hint;
-        assert!(rt;
-            is_same_reply(&many, number, &mut other),
-            "after {number} again"
-        );
+        assert_unchanged(&rt, &many, &few, number, &mut hint);
     }
+}
+
+/// Removes the row of this name, and returns whether there was one.
+fn is_removed(rt: &impl Abort, table: &mut Table, name: &[u32]) -> bool {
+    let name = Oid::from_slice(name).expect(rt, "a name");
+    table.remove(&name)
+}
+
+/// Asserts that there was a row of this number, which is removed.
+fn assert_removed(rt: &impl Abort, table: &mut Table, number: u32) {
+    assert!(rt;
+        is_removed(rt, table, &[1, 3, 6, number]),
+        "no row of {number}"
+    );
 }
 
 #[test]
@@ -91,17 +125,31 @@ fn a_hint_that_is_out_of_date_changes_no_reply(rt: HostRuntime) {
     let mut table = table_to(&rt, rt.alloc(), 700);
     let mut hint = Hint::default();
     for number in 300..500 {
-        assert!(rt; is_same_reply(&table, number, &mut hint), "after {number}");
+        assert_same_reply(&rt, &table, number, &mut hint);
         // The row of the hint goes, or one before it.
         let back = if number % 2 == 0 { 0 } else { 100 };
         let last = u32::from(number).wrapping_add(1).wrapping_sub(back);
-        let name = Oid::from_slice(&[1, 3, 6, last]).expect(&rt, "a name");
-        assert!(rt; table.remove(&name), "no row of {last}");
-        assert!(rt;
-            is_same_reply(&table, number.wrapping_add(1), &mut hint),
-            "after {number} and one more"
-        );
+        assert_removed(&rt, &mut table, last);
+        assert_same_reply(&rt, &table, number.wrapping_add(1), &mut hint);
     }
+}
+
+/// Asserts that a Get, a GetNext and a GetBulk of this number have the same replies with the hint.
+fn assert_same_kinds(rt: &impl Abort, table: &Table, number: u16, hint: &mut Hint, round: u32) {
+    assert!(rt; is_same_value(table, number, hint), "{number} in {round}");
+    assert!(rt;
+        is_same_reply(table, number, hint),
+        "after {number} in {round}"
+    );
+    assert!(rt;
+        is_same_column(table, number, hint),
+        "five after {number} in {round}"
+    );
+}
+
+/// Asserts that the reply over a table of few rows is the same with the hint.
+fn assert_same_value(rt: &impl Abort, few: &Table, hint: &mut Hint, round: u32) {
+    assert!(rt; is_same_value(few, 129, hint), "over few rows in {round}");
 }
 
 #[test]
@@ -113,33 +161,13 @@ fn names_asked_for_again_have_the_same_replies(rt: HostRuntime) {
     for round in 0..4 {
         for step in 0..800_u16 {
             let number = step.wrapping_mul(331) % 800 + 128;
-            assert!(rt;
-                is_same_value(&table, number, &mut hint),
-                "{number} in {round}"
-            );
-            assert!(rt;
-                is_same_reply(&table, number, &mut hint),
-                "after {number} in {round}"
-            );
-            assert!(rt;
-                is_same_column(&table, number, &mut hint),
-                "five after {number} in {round}"
-            );
+            assert_same_kinds(&rt, &table, number, &mut hint, round);
         }
-        assert!(rt;
-            is_same_value(&few, 129, &mut hint),
-            "over few rows in {round}"
-        );
+        assert_same_value(&rt, &few, &mut hint, round);
         // Rows go, so that others stand elsewhere.
         for number in 0..60_u32 {
-            let name = Oid::from_slice(&[
-                1,
-                3,
-                6,
-                number.wrapping_mul(13).wrapping_add(128 + round),
-            ]);
-            let name = name.expect(&rt, "a name");
-            let _ = table.remove(&name);
+            let last = number.wrapping_mul(13).wrapping_add(128 + round);
+            let _ = is_removed(&rt, &mut table, &[1, 3, 6, last]);
         }
     }
 }
@@ -158,11 +186,14 @@ fn marked_next_of(number: u16) -> [u8; 40] {
 }
 
 /// The text of the rows of each second number from 128 to `last` below 1.3.6.1.4.1.1.
-fn marked_rows(alloc: Global, last: u32) -> Result<Vec<u8>, AllocError> {
-    let mut text = Vec::new(alloc);
+fn marked_rows(alloc: Global, last: u32) -> Result<String, AllocError> {
+    let mut text = String::new(alloc);
     for number in 64..=last / 2 {
-        let line = format!(in alloc; "1.3.6.1.4.1.1.{}|65|{number}\n", number.wrapping_mul(2))?;
-        text.extend_from_slice(line.as_bytes())?;
+        write!(
+            text,
+            "1.3.6.1.4.1.1.{}|65|{number}\n",
+            number.wrapping_mul(2)
+        )?;
     }
     Ok(text)
 }
@@ -170,7 +201,7 @@ fn marked_rows(alloc: Global, last: u32) -> Result<Vec<u8>, AllocError> {
 #[test]
 fn more_names_than_a_hint_keeps_have_the_same_replies(rt: HostRuntime) {
     let text = marked_rows(rt.alloc(), 2200).expect(&rt, "memory for rows");
-    let mut table = Table::read(rt.alloc(), &text).expect(&rt, "a table");
+    let mut table = table_of(&rt, rt.alloc(), text.as_bytes());
     let mut hint = Hint::default();
     // Rows and names between them, in no order and asked for again; a hint keeps 1,024 names.
     for round in 0..3_u32 {
@@ -179,10 +210,7 @@ fn more_names_than_a_hint_keeps_have_the_same_replies(rt: HostRuntime) {
             let mut request = marked_next_of(number);
             for &kind in &[0xA0, 0xA1] {
                 request[13] = kind;
-                assert!(rt;
-                    is_same(&table, &request, &mut hint),
-                    "{number} by {kind} in {round}"
-                );
+                assert_same(&rt, &table, &request, &mut hint, u32::from(number), round);
             }
         }
         // Rows go, so that others stand elsewhere.
@@ -191,8 +219,7 @@ fn more_names_than_a_hint_keeps_have_the_same_replies(rt: HostRuntime) {
                 .wrapping_mul(26)
                 .wrapping_add(660)
                 .wrapping_add(round.wrapping_mul(2));
-            let name = Oid::from_slice(&[1, 3, 6, 1, 4, 1, 1, last]).expect(&rt, "a name");
-            let _ = table.remove(&name);
+            let _ = is_removed(&rt, &mut table, &[1, 3, 6, 1, 4, 1, 1, last]);
         }
     }
 }
@@ -215,18 +242,24 @@ fn route(place: u32) -> Option<Oid> {
 }
 
 /// The text of that table.
-fn routes(alloc: Global) -> Result<Vec<u8>, AllocError> {
-    let mut text = Vec::new(alloc);
+fn routes(alloc: Global) -> Result<String, AllocError> {
+    let mut text = String::new(alloc);
     for column in 1..=COLUMNS {
         for row in 0..ROUTES {
-            let line = format!(in alloc;
+            write!(
+                text,
                 "1.3.6.1.2.1.4.24.7.1.{column}.2.16.253.0.170.187.204.{row}\
 .0.0.0.0.0.0.0.0.0.0.64.2.0.0.1.4.10.1.1.1|65|{row}\n"
             )?;
-            text.extend_from_slice(line.as_bytes())?;
         }
     }
     Ok(text)
+}
+
+/// That table.
+fn routes_table(rt: &impl Abort, alloc: Global) -> Table {
+    let text = routes(alloc).expect(rt, "memory for rows");
+    table_of(rt, alloc, text.as_bytes())
 }
 
 /// Writes a request for the names of `count` rows of that table, `step` places apart, and returns
@@ -274,8 +307,7 @@ fn written(name: &Oid, from: usize, out: &mut [u8; 65507]) -> usize {
 
 #[test]
 fn columns_of_rows_with_a_long_index_have_the_same_replies(rt: HostRuntime) {
-    let text = routes(rt.alloc()).expect(&rt, "memory for rows");
-    let table = Table::read(rt.alloc(), &text).expect(&rt, "a table");
+    let table = routes_table(&rt, rt.alloc());
     let mut hint = Hint::default();
     let mut request = [0; 65507];
     // All columns of one row after the other, again and again; and past the last column.
@@ -283,10 +315,8 @@ fn columns_of_rows_with_a_long_index_have_the_same_replies(rt: HostRuntime) {
         for row in 0..ROUTES {
             for &kind in &[Kind::GetRequest, Kind::GetNextRequest, Kind::GetBulkRequest] {
                 let size = asking(kind, 3, row, ROUTES, COLUMNS, &mut request);
-                assert!(rt;
-                    is_same(&table, request.get(..size).unwrap_or(&[]), &mut hint),
-                    "{row} in {round}"
-                );
+                let request = &request[..size.min(65507)];
+                assert_same(&rt, &table, request, &mut hint, row, round);
             }
         }
     }
@@ -294,8 +324,7 @@ fn columns_of_rows_with_a_long_index_have_the_same_replies(rt: HostRuntime) {
 
 #[test]
 fn walks_in_turn_have_the_same_replies(rt: HostRuntime) {
-    let text = routes(rt.alloc()).expect(&rt, "memory for rows");
-    let table = Table::read(rt.alloc(), &text).expect(&rt, "a table");
+    let table = routes_table(&rt, rt.alloc());
     let mut hint = Hint::default();
     let mut request = [0; 65507];
     // Two by GetNext, two by GetBulk of one column, one by GetBulk of two, and Gets between them.
@@ -309,10 +338,8 @@ fn walks_in_turn_have_the_same_replies(rt: HostRuntime) {
             (Kind::GetRequest, 0, step.wrapping_mul(3), 2),
         ] {
             let size = asking(kind, repetitions, place, ROUTES, count, &mut request);
-            assert!(rt;
-                is_same(&table, request.get(..size).unwrap_or(&[]), &mut hint),
-                "{place} in {step}"
-            );
+            let request = &request[..size.min(65507)];
+            assert_same(&rt, &table, request, &mut hint, place, step);
         }
     }
 }

@@ -2,6 +2,7 @@
 ghost use Rattle.std.specs.Prelude.{◌≤◌, length};
 
 use crate::agent::{GET, GOT, SYS_NAME};
+use crate::table::table_of;
 use snmp_agent::{Config, Endpoint, EndpointFault, Served, Table, serve, serve_at};
 use std::net::{Net, UdpSocket};
 use std::process::Abort;
@@ -29,6 +30,17 @@ fn assert_served(rt: &impl Abort, served: Served, wanted: Served) {
     assert_eq!(rt; served, wanted);
 }
 
+/// Asserts what is served in so many turns.
+fn assert_turns(rt: &impl Abort, server: &UdpSocket, table: &Table, turns: u64, wanted: Served) {
+    assert_served(rt, serve(server, table, &public(), turns), wanted);
+}
+
+/// Connects the server with the client.
+fn connect(rt: &impl Abort, server: &UdpSocket, client: &UdpSocket) {
+    let address = client.local_addr().expect(rt, "an address");
+    server.connect(address).expect(rt, "a connection");
+}
+
 /// Sends the server the datagram.
 fn send(rt: &impl Abort, client: &UdpSocket, server: &UdpSocket, datagram: &[u8]) {
     let address = server.local_addr().expect(rt, "an address");
@@ -48,77 +60,86 @@ fn assert_reply(rt: &impl Abort, client: &UdpSocket, server: &UdpSocket, id: u8)
 
 #[test]
 fn a_request_has_its_reply(rt: HostRuntime) {
-    let table = Table::read(rt.alloc(), SYS_NAME).expect(&rt, "a table");
+    let table = table_of(&rt, rt.alloc(), SYS_NAME);
     let server = socket_of(&rt);
     let client = socket_of(&rt);
     send(&rt, &client, &server, &GET);
-    let served = serve(&server, &table, &public(), 1);
     let one = Served {
         replies: 1,
-        ..Served::default()
+        dropped: 0,
+        idle: 0,
+        faults: 0,
     };
-    assert_served(&rt, served, one);
+    assert_turns(&rt, &server, &table, 1, one);
     assert_reply(&rt, &client, &server, 1);
 }
 
 #[test]
 fn a_silent_socket_is_idle(rt: HostRuntime) {
-    let table = Table::read(rt.alloc(), SYS_NAME).expect(&rt, "a table");
+    let table = table_of(&rt, rt.alloc(), SYS_NAME);
     let server = socket_of(&rt);
-    let served = serve(&server, &table, &public(), 2);
     let idle = Served {
+        replies: 0,
+        dropped: 0,
         idle: 2,
-        ..Served::default()
+        faults: 0,
     };
-    assert_served(&rt, served, idle);
-    let none = serve(&server, &table, &public(), 0);
-    assert_served(&rt, none, Served::default());
+    assert_turns(&rt, &server, &table, 2, idle);
+    assert_turns(&rt, &server, &table, 0, Served::default());
 }
 
-#[test]
-fn each_sender_has_its_own_reply(rt: HostRuntime) {
-    let table = Table::read(rt.alloc(), SYS_NAME).expect(&rt, "a table");
-    let server = socket_of(&rt);
-    let first = socket_of(&rt);
-    let second = socket_of(&rt);
+/// Asserts that two senders of two datagrams each have one reply each, to its own request.
+fn assert_own_replies(
+    rt: &impl Abort,
+    table: &Table,
+    server: &UdpSocket,
+    first: &UdpSocket,
+    second: &UdpSocket,
+) {
     let mut request = GET;
     request[17] = 2;
-    send(&rt, &first, &server, &GET);
-    send(&rt, &first, &server, b"no message");
-    send(&rt, &second, &server, b"");
-    send(&rt, &second, &server, &request);
-    let served = serve(&server, &table, &public(), 5);
+    send(rt, first, server, &GET);
+    send(rt, first, server, b"no message");
+    send(rt, second, server, b"");
+    send(rt, second, server, &request);
     let two = Served {
         replies: 2,
         dropped: 2,
         idle: 1,
         faults: 0,
     };
-    assert_served(&rt, served, two);
-    assert_reply(&rt, &first, &server, 1);
-    assert_reply(&rt, &second, &server, 2);
+    assert_turns(rt, server, table, 5, two);
+    assert_reply(rt, first, server, 1);
+    assert_reply(rt, second, server, 2);
     assert!(rt; first.recv_from(&mut [0; 1472]).is_err());
+}
+
+#[test]
+fn each_sender_has_its_own_reply(rt: HostRuntime) {
+    let table = table_of(&rt, rt.alloc(), SYS_NAME);
+    let server = socket_of(&rt);
+    let first = socket_of(&rt);
+    let second = socket_of(&rt);
+    assert_own_replies(&rt, &table, &server, &first, &second);
 }
 
 /// The reply goes to a port that is closed by then, which the next receive of a connected socket
 /// reports as an error, once.
 #[test]
 fn a_receive_that_fails_at_a_socket_is_a_fault(rt: HostRuntime) {
-    let table = Table::read(rt.alloc(), SYS_NAME).expect(&rt, "a table");
+    let table = table_of(&rt, rt.alloc(), SYS_NAME);
     let server = socket_of(&rt);
     let client = socket_of(&rt);
     send(&rt, &client, &server, &GET);
-    let address = client.local_addr().expect(&rt, "an address");
-    server.connect(address).expect(&rt, "a connection");
+    connect(&rt, &server, &client);
     drop(client);
-    let served = serve(&server, &table, &public(), 3);
     let wanted = Served {
         replies: 1,
         dropped: 0,
         idle: 1,
         faults: 1,
     };
-    assert_served(&rt, served, wanted);
+    assert_turns(&rt, &server, &table, 3, wanted);
 }
 
 /// An endpoint at which each second receive fails, and each second reply.
@@ -165,7 +186,7 @@ impl Endpoint for Failing {
 
 #[test]
 fn what_fails_is_counted_and_the_next_turn_follows(rt: HostRuntime) {
-    let table = Table::read(rt.alloc(), SYS_NAME).expect(&rt, "a table");
+    let table = table_of(&rt, rt.alloc(), SYS_NAME);
     let mut endpoint = Failing {
         receives: 0,
         replies: 0,

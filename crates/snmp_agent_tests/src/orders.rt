@@ -1,9 +1,11 @@
 //! Tables in no order, beside a plain model: rows put one by one.
 
-use crate::pages::{Random, has_rows};
+use crate::pages::{EVEN, Random, has_rows, map_of, text_of};
+use crate::table::{add_row, fault_of};
 use snmp_agent::{Table, TableError};
 use std::alloc::{AllocError, Global};
 use std::collections::BTreeMap;
+use std::process::Abort;
 
 /// How many rows in order, of the even numbers, stand before the others. They fill so many pages
 /// that a table takes the others to be in no order where these come to many pages, and gathers
@@ -40,7 +42,7 @@ struct Wrong {
 /// A text, and what it states: these rows, or else this fault.
 #[derive(Drop)]
 struct Stated {
-    text: Vec<u8>,
+    text: String,
     map: BTreeMap<u32, u32>,
     fault: Option<TableError>,
 }
@@ -74,31 +76,21 @@ fn faulty_line(kind: u32, line: usize) -> (&'static str, TableError) {
 }
 
 /// The lines of the rows that stand first.
-fn first_lines(alloc: Global) -> Result<Vec<u8>, AllocError> {
-    let mut text = Vec::new(alloc);
-    for place in 0..FIRST_ROWS {
-        let number = place.wrapping_mul(2);
-        let line = format!(in alloc; "1.3.6.1.4.1.32473.1.{number}.0|65|{number}\n")?;
-        text.extend_from_slice(line.as_bytes())?;
-    }
-    Ok(text)
+fn first_lines(rt: &impl Abort, alloc: Global) -> String {
+    text_of(alloc, FIRST_ROWS, 1, EVEN).expect(rt, "memory")
+}
+
+/// A text that begins with those lines, in the second format where it is marked.
+fn beginning(alloc: Global, first_lines: &str, is_marked: bool) -> Result<String, AllocError> {
+    let mark = if is_marked { "#snmptab 2\n" } else { "" };
+    format!(in alloc; "{mark}{first_lines}")
 }
 
 impl Stated {
     /// The rows that stand first, in the second format where the text is marked.
-    fn of_first(alloc: Global, first_lines: &[u8], is_marked: bool) -> Result<Stated, AllocError> {
-        let mut text = Vec::new(alloc);
-        let mut map = BTreeMap::new(alloc);
-        if is_marked {
-            text.extend_from_slice(b"#snmptab 2\n")?;
-        }
-        text.extend_from_slice(first_lines)?;
-        for place in 0..FIRST_ROWS {
-            let number = place.wrapping_mul(2);
-            if map.insert(number, number).is_err() {
-                return Err(AllocError);
-            }
-        }
+    fn of_first(alloc: Global, first_lines: &str, is_marked: bool) -> Result<Stated, AllocError> {
+        let text = beginning(alloc, first_lines, is_marked)?;
+        let map = map_of(alloc, FIRST_ROWS, EVEN)?;
         Ok(Stated {
             text,
             map,
@@ -107,15 +99,8 @@ impl Stated {
     }
 
     /// Adds the line of this number, of a row.
-    fn add_row(
-        &mut self,
-        alloc: Global,
-        line: usize,
-        number: u32,
-        value: u32,
-    ) -> Result<(), AllocError> {
-        let octets = format!(in alloc; "1.3.6.1.4.1.32473.1.{number}.0|65|{value}\n")?;
-        self.text.extend_from_slice(octets.as_bytes())?;
+    fn add_row(&mut self, line: usize, number: u32, value: u32) -> Result<(), AllocError> {
+        add_row(&mut self.text, number, value)?;
         if self.map.contains_key(&number) {
             self.fault = self.fault.or(Some(TableError::Double { line }));
         } else if self.map.insert(number, value).is_err() {
@@ -126,42 +111,65 @@ impl Stated {
 
     /// Adds the line of this number, with a fault of this kind.
     fn add_fault(&mut self, line: usize, kind: u32) -> Result<(), AllocError> {
-        let (octets, fault) = faulty_line(kind, line);
-        self.text.extend_from_slice(octets.as_bytes())?;
+        let (shown, fault) = faulty_line(kind, line);
+        self.text.push_str(shown)?;
         self.fault = self.fault.or(Some(fault));
+        Ok(())
+    }
+
+    /// Adds the lines of the other rows, after `lines` lines.
+    fn add_rows(&mut self, order: &Order, wrong: &Wrong, lines: usize) -> Result<(), AllocError> {
+        let mut line = lines;
+        for place in 0..order.count {
+            line = line.wrapping_add(1);
+            if place == wrong.bad {
+                self.add_fault(line, wrong.kind)?;
+                continue;
+            }
+            let row = if place == wrong.again {
+                wrong.first
+            } else {
+                place
+            };
+            self.add_row(line, order.number(row), place)?;
+        }
         Ok(())
     }
 }
 
 /// The text of such rows, in the second format where it is marked.
-fn text_of(
+fn text_stated(
     alloc: Global,
-    first_lines: &[u8],
+    first_lines: &str,
     order: &Order,
     wrong: &Wrong,
     is_marked: bool,
 ) -> Result<Stated, AllocError> {
     let mut stated = Stated::of_first(alloc, first_lines, is_marked)?;
-    let mut line = (FIRST_ROWS as usize).wrapping_add(usize::from(is_marked));
-    for place in 0..order.count {
-        line = line.wrapping_add(1);
-        if place == wrong.bad {
-            stated.add_fault(line, wrong.kind)?;
-            continue;
-        }
-        let row = if place == wrong.again {
-            wrong.first
-        } else {
-            place
-        };
-        stated.add_row(alloc, line, order.number(row), place)?;
-    }
+    let lines = (FIRST_ROWS as usize).wrapping_add(usize::from(is_marked));
+    stated.add_rows(order, wrong, lines)?;
     Ok(stated)
+}
+
+/// Asserts that the text of such rows is read as it is stated.
+fn assert_read_so(
+    rt: &impl Abort,
+    alloc: Global,
+    first_lines: &str,
+    order: &Order,
+    wrong: &Wrong,
+    is_marked: bool,
+) {
+    let stated = text_stated(alloc, first_lines, order, wrong, is_marked).expect(rt, "memory");
+    assert!(rt;
+        is_read_so(alloc, &stated),
+        "{order:?}, {wrong:?}, marked: {is_marked}"
+    );
 }
 
 /// Whether the text is read as it is stated.
 fn is_read_so(alloc: Global, stated: &Stated) -> bool {
-    match (Table::read(alloc, &stated.text), stated.fault) {
+    match (Table::read(alloc, stated.text.as_bytes()), stated.fault) {
         (Ok(table), None) => has_rows(&table, &stated.map),
         (Err(error), Some(fault)) => error == fault,
         _ => false,
@@ -197,25 +205,19 @@ fn any_wrong(random: &mut Random, count: u32) -> Wrong {
 
 #[test]
 fn tables_in_any_order_are_read_as_row_by_row(rt: HostRuntime) {
-    let first_lines = first_lines(rt.alloc()).expect(&rt, "memory");
+    let first_lines = first_lines(&rt, rt.alloc());
     let mut random = Random { state: 7 };
     for _ in 0..12 {
         let order = any_order(&mut random);
         let wrong = any_wrong(&mut random, order.count);
         let is_marked = random.below(2) == 0;
-        let stated = text_of(rt.alloc(), &first_lines, &order, &wrong, is_marked).expect(
-            &rt, "memory",
-        );
-        assert!(rt;
-            is_read_so(rt.alloc(), &stated),
-            "{order:?}, {wrong:?}, marked: {is_marked}"
-        );
+        assert_read_so(&rt, rt.alloc(), &first_lines, &order, &wrong, is_marked);
     }
 }
 
 #[test]
 fn the_first_double_where_rows_begin_to_be_gathered_is_told(rt: HostRuntime) {
-    let first_lines = first_lines(rt.alloc()).expect(&rt, "memory");
+    let first_lines = first_lines(&rt, rt.alloc());
     for again in SEEN - 2..SEEN + 3 {
         let order = Order {
             count: SEEN + 8,
@@ -229,10 +231,7 @@ fn the_first_double_where_rows_begin_to_be_gathered_is_told(rt: HostRuntime) {
                 bad: SEEN + 7,
                 kind: 0,
             };
-            let stated = text_of(rt.alloc(), &first_lines, &order, &wrong, false).expect(
-                &rt, "memory",
-            );
-            assert!(rt; is_read_so(rt.alloc(), &stated), "{wrong:?}");
+            assert_read_so(&rt, rt.alloc(), &first_lines, &order, &wrong, false);
         }
     }
 }
@@ -266,43 +265,51 @@ const OF_ONE_HASH: [(&str, &str); 6] = [
     ),
 ];
 
-/// The fault of a text of the first rows, the first name of each such pair, `before` rows in no
-/// order, the second name of each pair, and the row of the place `again`.
-fn fault_of_names(
-    alloc: Global,
-    first_lines: &[u8],
-    before: u32,
-    again: u32,
-) -> Option<TableError> {
+/// Adds the first name of each such pair, `before` rows in no order, the second name of each pair,
+/// and the row of the place `again`.
+fn add_names(text: &mut String, before: u32, again: u32) -> Result<(), AllocError> {
     let order = Order {
         count: before,
         columns: 1,
         step: 619,
     };
-    let mut text = Vec::new(alloc);
-    text.extend_from_slice(first_lines).ok()?;
     for (name, _) in &OF_ONE_HASH {
-        let line = format!(in alloc; "{name}|65|1\n").ok()?;
-        text.extend_from_slice(line.as_bytes()).ok()?;
+        write!(text, "{name}|65|1\n")?;
     }
     for place in 0..before {
-        let number = order.number(place);
-        let line = format!(in alloc; "1.3.6.1.4.1.32473.1.{number}.0|65|1\n").ok()?;
-        text.extend_from_slice(line.as_bytes()).ok()?;
+        add_row(text, order.number(place), 1)?;
     }
     for (_, name) in &OF_ONE_HASH {
-        let line = format!(in alloc; "{name}|65|1\n").ok()?;
-        text.extend_from_slice(line.as_bytes()).ok()?;
+        write!(text, "{name}|65|1\n")?;
     }
-    let number = order.number(again);
-    let line = format!(in alloc; "1.3.6.1.4.1.32473.1.{number}.0|65|1\n").ok()?;
-    text.extend_from_slice(line.as_bytes()).ok()?;
-    Table::read(alloc, &text).err()
+    add_row(text, order.number(again), 1)
+}
+
+/// The fault of a text of the first rows and those names and rows.
+fn fault_of_names(alloc: Global, first_lines: &str, before: u32, again: u32) -> Option<TableError> {
+    let mut text = beginning(alloc, first_lines, false).ok()?;
+    add_names(&mut text, before, again).ok()?;
+    fault_of(alloc, text.as_bytes())
+}
+
+/// Asserts that this fault is that of the text of those names and rows.
+fn assert_fault(
+    rt: &impl Abort,
+    alloc: Global,
+    first_lines: &str,
+    before: u32,
+    again: u32,
+    fault: Option<TableError>,
+) {
+    assert!(rt;
+        fault_of_names(alloc, first_lines, before, again) == fault,
+        "{before} rows, that of {again} again"
+    );
 }
 
 #[test]
 fn names_of_one_hash_are_told_apart(rt: HostRuntime) {
-    let first_lines = first_lines(rt.alloc()).expect(&rt, "memory");
+    let first_lines = first_lines(&rt, rt.alloc());
     for before in [377, 378, 379, 1000] {
         let double = Some(TableError::Double {
             line: (FIRST_ROWS as usize)
@@ -310,11 +317,8 @@ fn names_of_one_hash_are_told_apart(rt: HostRuntime) {
                 .saturating_add(13),
         });
         for again in [0, 378, 999] {
-            assert!(rt;
-                fault_of_names(rt.alloc(), &first_lines, before, again)
-                    == if again < before { double } else { None },
-                "{before} rows, that of {again} again"
-            );
+            let fault = if again < before { double } else { None };
+            assert_fault(&rt, rt.alloc(), &first_lines, before, again, fault);
         }
     }
 }

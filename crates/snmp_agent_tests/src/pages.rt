@@ -1,7 +1,7 @@
 //! Tables of several pages, whose rows are compared with those of a plain map.
 
 use crate::changes::{is_numbered, name_of};
-use crate::table::all_rows;
+use crate::table::{add_row, all_rows, fault_of, table_of};
 use snmp_agent::{Table, TableError};
 use snmp_wire::{Binding, ValueRef};
 use std::alloc::{AllocError, Global};
@@ -62,55 +62,85 @@ fn is_removed(table: &mut Table, map: &mut BTreeMap<u32, u32>, number: u32) -> b
     }
 }
 
-#[test]
-fn changes_in_no_order_are_those_of_a_map(rt: HostRuntime) {
-    let mut table = Table::read(rt.alloc(), b"").expect(&rt, "a table");
-    let mut map = BTreeMap::new(rt.alloc());
+/// Asserts that changes of both in no order are the same.
+fn assert_changed(rt: &impl Abort, table: &mut Table, map: &mut BTreeMap<u32, u32>) {
     let mut random = Random { state: 1 };
     for change in 0..10000 {
         let number = random.below(1500);
         if random.below(3) == 0 {
-            assert!(rt; is_removed(&mut table, &mut map, number));
+            assert!(rt; is_removed(table, map, number));
         } else {
-            assert!(rt; is_put(&mut table, &mut map, number, change));
+            assert!(rt; is_put(table, map, number, change));
         }
         if change % 500 == 499 {
-            assert!(rt; has_rows(&table, &map), "after {change} changes");
+            assert!(rt; has_rows(table, map), "after {change} changes");
         }
     }
 }
 
-/// The text of `count` rows, whose numbers go up by `step`, modulo `count`, and are spread by the
-/// factor.
-fn text_of(alloc: Global, count: u32, step: u32, factor: u32) -> Result<Vec<u8>, AllocError> {
-    let mut text = Vec::new(alloc);
+#[test]
+fn changes_in_no_order_are_those_of_a_map(rt: HostRuntime) {
+    let mut table = table_of(&rt, rt.alloc(), b"");
+    let mut map = BTreeMap::new(rt.alloc());
+    assert_changed(&rt, &mut table, &mut map);
+}
+
+/// How the number of a row is made of a smaller one: the factors of its square and of itself.
+pub(crate) type Spread = (u32, u32);
+
+/// Each number as it is, and its double.
+const PLAIN: Spread = (0, 1);
+
+pub(crate) const EVEN: Spread = (0, 2);
+
+fn spread(number: u32, (square, single): Spread) -> u32 {
+    let squares = number.wrapping_mul(number).wrapping_mul(square);
+    squares.wrapping_add(number.wrapping_mul(single))
+}
+
+/// The text of `count` rows, whose numbers go up by `step`, modulo `count`, and are spread so.
+pub(crate) fn text_of(
+    alloc: Global,
+    count: u32,
+    step: u32,
+    factors: Spread,
+) -> Result<String, AllocError> {
+    let mut text = String::new(alloc);
     let mut number: u32 = 0;
     for _ in 0..count {
-        let shown = spread(number, factor);
-        let line = format!(in alloc; "1.3.6.1.4.1.32473.1.{shown}.0|65|{shown}\n")?;
-        text.extend_from_slice(line.as_bytes())?;
+        let shown = spread(number, factors);
+        add_row(&mut text, shown, shown)?;
         number = number.wrapping_add(step) % count.max(1);
     }
     Ok(text)
 }
 
-/// The number times itself and the factor, or the number alone where the factor is 0.
-fn spread(number: u32, factor: u32) -> u32 {
-    if factor == 0 {
-        return number;
+/// The map from the number of each such row to its value.
+pub(crate) fn map_of(
+    alloc: Global,
+    count: u32,
+    factors: Spread,
+) -> Result<BTreeMap<u32, u32>, AllocError> {
+    let mut map = BTreeMap::new(alloc);
+    for number in 0..count {
+        let shown = spread(number, factors);
+        if map.insert(shown, shown).is_err() {
+            return Err(AllocError);
+        }
     }
-    number.wrapping_mul(number).wrapping_mul(factor)
+    Ok(map)
+}
+
+/// The table that is read of such rows.
+fn table_read(alloc: Global, count: u32, step: u32, factors: Spread) -> Option<Table> {
+    let text = text_of(alloc, count, step, factors).ok()?;
+    Table::read(alloc, text.as_bytes()).ok()
 }
 
 /// Whether a table that is read of `count` such rows has them.
-fn is_read(alloc: Global, count: u32, step: u32, factor: u32) -> Option<bool> {
-    let text = text_of(alloc, count, step, factor).ok()?;
-    let table = Table::read(alloc, &text).ok()?;
-    let mut map = BTreeMap::new(alloc);
-    for number in 0..count {
-        let shown = spread(number, factor);
-        map.insert(shown, shown).ok()?;
-    }
+fn is_read(alloc: Global, count: u32, step: u32, factors: Spread) -> Option<bool> {
+    let table = table_read(alloc, count, step, factors)?;
+    let map = map_of(alloc, count, factors).ok()?;
     Some(has_rows(&table, &map))
 }
 
@@ -119,11 +149,11 @@ fn rows_are_read_around_the_size_of_a_page(rt: HostRuntime) {
     // A step that has no factor in common with a count comes to each number once.
     for &count in &[0, 1, 127, 128, 129, 255, 256, 257, 512, 513] {
         assert!(rt;
-            is_read(rt.alloc(), count, 1, 0) == Some(true),
+            is_read(rt.alloc(), count, 1, PLAIN) == Some(true),
             "{count} rows that rise"
         );
         assert!(rt;
-            is_read(rt.alloc(), count, 101, 0) == Some(true),
+            is_read(rt.alloc(), count, 101, PLAIN) == Some(true),
             "{count} rows in no order"
         );
     }
@@ -153,7 +183,7 @@ const IN_NO_ORDER: [(u32, u32); 14] = [
 fn rows_in_no_order_are_read_around_the_times_when_they_are_put_in_place(rt: HostRuntime) {
     for &(count, step) in &IN_NO_ORDER {
         assert!(rt;
-            is_read(rt.alloc(), count, step, 0) == Some(true),
+            is_read(rt.alloc(), count, step, PLAIN) == Some(true),
             "{count} rows"
         );
     }
@@ -164,15 +194,39 @@ fn names_of_short_and_long_numbers_in_no_order_are_read(rt: HostRuntime) {
     // Up to 2,999 times itself and 400, which 32 bits hold: encodings of one octet to five.
     for &(count, step) in &[(200, 123), (1000, 619), (3000, 1853)] {
         assert!(rt;
-            is_read(rt.alloc(), count, step, 400) == Some(true),
+            is_read(rt.alloc(), count, step, (400, 0)) == Some(true),
             "{count} rows"
         );
     }
 }
 
-/// The fault of a text of `count` such rows, whose line `again` has the row of its line `first`,
-/// and whose line `bad`, if there is one, states no row. Lines count from 1.
-fn fault_of(
+/// Adds `count` such rows, whose line `again` has the row of its line `first`, and whose line
+/// `bad`, if there is one, states no row. Lines count from 1.
+fn add_rows(
+    text: &mut String,
+    count: u32,
+    step: u32,
+    first: u32,
+    again: u32,
+    bad: u32,
+) -> Result<(), AllocError> {
+    let mut number: u32 = 0;
+    for place in 0..count {
+        if place.wrapping_add(1) == bad {
+            text.push_str("no row\n")?;
+        } else if place.wrapping_add(1) == again {
+            let number = first.wrapping_sub(1).wrapping_mul(step) % count.max(1);
+            add_row(text, number, 1)?;
+        } else {
+            add_row(text, number, number)?;
+        }
+        number = number.wrapping_add(step) % count.max(1);
+    }
+    Ok(())
+}
+
+/// The fault of a text of such rows.
+fn fault_of_rows(
     alloc: Global,
     count: u32,
     step: u32,
@@ -180,21 +234,9 @@ fn fault_of(
     again: u32,
     bad: u32,
 ) -> Option<TableError> {
-    let mut text = Vec::new(alloc);
-    let mut number: u32 = 0;
-    for place in 0..count {
-        let line = if place.wrapping_add(1) == bad {
-            format!(in alloc; "no row\n").ok()?
-        } else if place.wrapping_add(1) == again {
-            let number = first.wrapping_sub(1).wrapping_mul(step) % count.max(1);
-            format!(in alloc; "1.3.6.1.4.1.32473.1.{number}.0|65|1\n").ok()?
-        } else {
-            format!(in alloc; "1.3.6.1.4.1.32473.1.{number}.0|65|{number}\n").ok()?
-        };
-        text.extend_from_slice(line.as_bytes()).ok()?;
-        number = number.wrapping_add(step) % count.max(1);
-    }
-    Table::read(alloc, &text).err()
+    let mut text = String::new(alloc);
+    add_rows(&mut text, count, step, first, again, bad).ok()?;
+    fault_of(alloc, text.as_bytes())
 }
 
 /// The first and the second line of a name.
@@ -218,7 +260,7 @@ fn a_name_that_is_there_is_told_behind_gathered_rows_that_were_put_in_place(rt: 
             line: again as usize,
         });
         assert!(rt;
-            fault_of(rt.alloc(), 40_000, 24_697, first, again, 0) == double,
+            fault_of_rows(rt.alloc(), 40_000, 24_697, first, again, 0) == double,
             "lines {first} and {again}"
         );
     }
@@ -232,14 +274,14 @@ fn the_first_line_of_a_name_that_is_there_is_told(rt: HostRuntime) {
         });
         for &bad in &[0, again.wrapping_add(1), 2501] {
             assert!(rt;
-                fault_of(rt.alloc(), 2500, 1543, first, again, bad) == double,
+                fault_of_rows(rt.alloc(), 2500, 1543, first, again, bad) == double,
                 "lines {first} and {again}, and a fault in {bad}"
             );
         }
         let bad = again.wrapping_sub(1);
         if bad != first {
             assert!(rt;
-                fault_of(rt.alloc(), 2500, 1543, first, again, bad)
+                fault_of_rows(rt.alloc(), 2500, 1543, first, again, bad)
                     == Some(TableError::BadLine { line: bad as usize }),
                 "a fault in {bad}, before {again}"
             );
@@ -250,25 +292,36 @@ fn the_first_line_of_a_name_that_is_there_is_told(rt: HostRuntime) {
 /// The numbers before and after which an encoding becomes longer.
 const EDGES: [u32; 7] = [127, 128, 16383, 16384, 2097151, 2097152, 4294967295];
 
-/// Whether the rows of the edges are in order, once they were put in their permutation of this
-/// number.
-fn is_ordered(alloc: Global, order: usize) -> Option<bool> {
-    let mut table = Table::read(alloc, b"").ok()?;
-    let mut map = BTreeMap::new(alloc);
-    let mut left = Vec::from_array(alloc, EDGES).ok()?;
+/// Puts the rows of these numbers in their permutation of this number, and returns whether there
+/// were none of them.
+fn are_put(
+    table: &mut Table,
+    map: &mut BTreeMap<u32, u32>,
+    left: &mut Vec<u32>,
+    order: usize,
+) -> bool {
     let mut order = order;
     for _ in 0..EDGES.len() {
         let count = left.len();
         if count == 0 {
-            return None;
+            return false;
         }
         let number = left.remove(order % count);
         order /= count;
-        if !is_put(&mut table, &mut map, number, number) {
-            return None;
+        if !is_put(table, map, number, number) {
+            return false;
         }
     }
-    Some(has_rows(&table, &map))
+    true
+}
+
+/// Whether the rows of the edges are in order, once they were put in their permutation of this
+/// number.
+fn is_ordered(alloc: Global, order: usize) -> Option<bool> {
+    let mut left = Vec::from_array(alloc, EDGES).ok()?;
+    let mut table = Table::read(alloc, b"").ok()?;
+    let mut map = BTreeMap::new(alloc);
+    Some(are_put(&mut table, &mut map, &mut left, order) && has_rows(&table, &map))
 }
 
 #[test]
@@ -281,31 +334,24 @@ fn names_at_the_edges_of_encodings_are_in_order(rt: HostRuntime) {
     }
 }
 
-/// A table of `count` rows, of the even numbers from 0 on, and the map of the same rows.
-fn even_rows(alloc: Global, count: u32) -> Option<(Table, BTreeMap<u32, u32>)> {
-    let mut text = Vec::new(alloc);
-    let mut map = BTreeMap::new(alloc);
-    for place in 0..count {
-        let number = place.wrapping_mul(2);
-        let line = format!(in alloc; "1.3.6.1.4.1.32473.1.{number}.0|65|{number}\n").ok()?;
-        text.extend_from_slice(line.as_bytes()).ok()?;
-        map.insert(number, number).ok()?;
-    }
-    Some((Table::read(alloc, &text).ok()?, map))
+/// Whether a table of `count` rows, of even numbers, has the rows of a map after each change at
+/// this place.
+fn is_changed_at(alloc: Global, count: u32, place: u32) -> Option<bool> {
+    let mut table = table_read(alloc, count, 1, EVEN)?;
+    let mut map = map_of(alloc, count, EVEN).ok()?;
+    Some(is_changed(&mut table, &mut map, place))
 }
 
-/// Whether a table of `count` rows has the rows of the map after each change: the row at this place
-/// gets a new value, one is put beside it, and both are removed.
-fn is_changed_at(alloc: Global, count: u32, place: u32) -> Option<bool> {
-    let (mut table, mut map) = even_rows(alloc, count)?;
-    let (table, map) = (&mut table, &mut map);
+/// Whether the table has the rows of the map after each change: the row at this place gets a new
+/// value, one is put beside it, and both are removed.
+fn is_changed(table: &mut Table, map: &mut BTreeMap<u32, u32>, place: u32) -> bool {
     let number = place.wrapping_mul(2);
     let beside = number.wrapping_add(1);
     let replaced = is_put(table, map, number, 7) && has_rows(table, map);
     let inserted = is_put(table, map, beside, 8) && has_rows(table, map);
     let removed = is_removed(table, map, number) && has_rows(table, map);
     let emptied = is_removed(table, map, beside) && has_rows(table, map);
-    Some(replaced && inserted && removed && emptied)
+    replaced && inserted && removed && emptied
 }
 
 #[test]

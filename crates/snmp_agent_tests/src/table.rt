@@ -25,6 +25,16 @@ fn next<'a>(table: &'a Table, name: &EncodedName<'_>) -> Binding<'a> {
     binding
 }
 
+/// The table of this text.
+pub(crate) fn table_of(rt: &impl Abort, alloc: Global, text: &[u8]) -> Table {
+    Table::read(alloc, text).expect(rt, "a table")
+}
+
+/// The identifier of this text.
+pub(crate) fn name(rt: &impl Abort, text: &[u8]) -> Oid {
+    parse_numeric(text).expect(rt, "a name")
+}
+
 /// The rows behind the name, if it has an encoding.
 fn rows_after<'a>(table: &'a Table, name: &Oid) -> Option<Successors<'a>> {
     if !name.is_wire() {
@@ -78,17 +88,22 @@ const LAST: &[u8] = b"1.3.6.1.4.1.32473.1.10.0";
 
 const PAST: &[u8] = b"2.100.3";
 
+/// Asserts that each row comes after the one before.
+fn assert_order(rt: &impl Abort, table: &Table) {
+    assert_read(rt, table, ROOT, 0, FIRST, ValueRef::Integer(1));
+    assert_read(rt, table, FIRST, 0, SECOND, ValueRef::Octets(b"wes"));
+    assert_read(rt, table, SECOND, 0, LAST, ValueRef::Integer(3));
+    assert_read(rt, table, ROOT, 2, LAST, ValueRef::Integer(3));
+    assert_read(rt, table, LAST, 0, LAST, ValueRef::EndOfMibView);
+    assert_read(rt, table, ROOT, 3, LAST, ValueRef::EndOfMibView);
+    assert_read(rt, table, PAST, 0, PAST, ValueRef::EndOfMibView);
+    assert_read(rt, table, PAST, 7, PAST, ValueRef::EndOfMibView);
+}
+
 #[test]
 fn rows_are_in_order(rt: HostRuntime) {
-    let table = Table::read(rt.alloc(), ROWS).expect(&rt, "a table");
-    assert_read(&rt, &table, ROOT, 0, FIRST, ValueRef::Integer(1));
-    assert_read(&rt, &table, FIRST, 0, SECOND, ValueRef::Octets(b"wes"));
-    assert_read(&rt, &table, SECOND, 0, LAST, ValueRef::Integer(3));
-    assert_read(&rt, &table, ROOT, 2, LAST, ValueRef::Integer(3));
-    assert_read(&rt, &table, LAST, 0, LAST, ValueRef::EndOfMibView);
-    assert_read(&rt, &table, ROOT, 3, LAST, ValueRef::EndOfMibView);
-    assert_read(&rt, &table, PAST, 0, PAST, ValueRef::EndOfMibView);
-    assert_read(&rt, &table, PAST, 7, PAST, ValueRef::EndOfMibView);
+    let table = table_of(&rt, rt.alloc(), ROWS);
+    assert_order(&rt, &table);
 }
 
 /// A binding that walks along the rows of a table.
@@ -122,8 +137,8 @@ fn assert_walk(rt: &impl Abort, walk: &mut Walk<'_>) {
 
 #[test]
 fn a_binding_walks_along_the_rows(rt: HostRuntime) {
-    let name = parse_numeric(ROOT).expect(&rt, "a name");
-    let table = Table::read(rt.alloc(), ROWS).expect(&rt, "a table");
+    let name = name(&rt, ROOT);
+    let table = table_of(&rt, rt.alloc(), ROWS);
     let mut walk = Walk {
         rows: rows_after(&table, &name).expect(&rt, "rows"),
         binding: Binding {
@@ -135,7 +150,7 @@ fn a_binding_walks_along_the_rows(rt: HostRuntime) {
 }
 
 /// Whether a Get of the name gives the value.
-pub(crate) fn gives(table: &Table, name: &[u8], value: ValueRef<'_>) -> bool {
+fn gives(table: &Table, name: &[u8], value: ValueRef<'_>) -> bool {
     match parse_numeric(name) {
         Ok(name) => table.get(&name) == value,
         Err(_) => false,
@@ -143,13 +158,13 @@ pub(crate) fn gives(table: &Table, name: &[u8], value: ValueRef<'_>) -> bool {
 }
 
 /// A Get of the name gives the value.
-fn assert_get(rt: &impl Abort, table: &Table, name: &[u8], value: ValueRef<'_>) {
+pub(crate) fn assert_get(rt: &impl Abort, table: &Table, name: &[u8], value: ValueRef<'_>) {
     assert!(rt; gives(table, name, value), "{name:?}");
 }
 
 #[test]
 fn names_without_a_row_have_exceptions(rt: HostRuntime) {
-    let table = Table::read(rt.alloc(), ROWS).expect(&rt, "a table");
+    let table = table_of(&rt, rt.alloc(), ROWS);
     assert_get(&rt, &table, LAST, ValueRef::Integer(3));
     assert_get(&rt, &table, ROOT, ValueRef::NoSuchInstance);
     assert_get(
@@ -178,7 +193,7 @@ fn assert_states(rt: &impl Abort, alloc: Global, line: &[u8], value: ValueRef<'_
 
 #[test]
 fn each_tag_states_its_values(rt: HostRuntime) {
-    let id = parse_numeric(b"2.4294967295.0").expect(&rt, "a name");
+    let id = name(&rt, b"2.4294967295.0");
     let alloc = rt.alloc();
     assert_states(
         &rt,
@@ -308,67 +323,82 @@ const FAULTS: &[(&[u8], TableError)] = &[
 ];
 
 /// The fault of the text, if it states no table.
-fn fault_of(alloc: Global, text: &[u8]) -> Option<TableError> {
+pub(crate) fn fault_of(alloc: Global, text: &[u8]) -> Option<TableError> {
     Table::read(alloc, text).err()
+}
+
+/// The text has this fault.
+fn assert_fault(rt: &impl Abort, alloc: Global, text: &[u8], fault: TableError) {
+    assert!(rt; fault_of(alloc, text) == Some(fault), "of {text:?}");
 }
 
 #[test]
 fn the_first_faulty_line_is_reported(rt: HostRuntime) {
     for (text, fault) in FAULTS {
-        assert!(rt; fault_of(rt.alloc(), text) == Some(*fault), "of {text:?}");
+        assert_fault(&rt, rt.alloc(), text, *fault);
     }
+}
+
+/// Adds these octets.
+fn put(rt: &impl Abort, text: &mut Vec<u8>, octets: &[u8]) {
+    text.extend_from_slice(octets).expect(rt, "memory");
 }
 
 /// `before`, `part` repeated `count` times, and `after`.
 pub(crate) fn repeated(
+    rt: &impl Abort,
     alloc: Global,
     before: &[u8],
     part: &[u8],
     count: usize,
     after: &[u8],
-) -> Result<Vec<u8>, AllocError> {
+) -> Vec<u8> {
     let mut text = Vec::new(alloc);
-    text.extend_from_slice(before)?;
+    put(rt, &mut text, before);
     for _ in 0..count {
-        text.extend_from_slice(part)?;
+        put(rt, &mut text, part);
     }
-    text.extend_from_slice(after)?;
-    Ok(text)
+    put(rt, &mut text, after);
+    text
+}
+
+/// Adds the line of the row of this number, 1.3.6.1.4.1.32473.1, the number and 0, with this value.
+pub(crate) fn add_row(text: &mut String, number: u32, value: u32) -> Result<(), AllocError> {
+    write!(text, "1.3.6.1.4.1.32473.1.{number}.0|65|{value}\n")
 }
 
 /// The count of numbers of the name after 1.3.6 in the table of the text.
 fn length_of_name(alloc: Global, text: &[u8]) -> Option<usize> {
-    let table = Table::read(alloc, text).ok()?;
     let root = EncodedName::read(&[0x2b, 6])?;
+    let table = Table::read(alloc, text).ok()?;
     Some(next(&table, &root).name.len())
 }
 
 #[test]
 fn names_have_128_numbers_at_most(rt: HostRuntime) {
     let alloc = rt.alloc();
-    let longest = repeated(alloc, b"1.3.6", b".4294967295", 125, b"|2|1").expect(&rt, "memory");
+    let longest = repeated(&rt, alloc, b"1.3.6", b".4294967295", 125, b"|2|1");
     assert!(rt; length_of_name(alloc, &longest) == Some(128));
-    let longer = repeated(alloc, b"1.3.6", b".4294967295", 126, b"|2|1").expect(&rt, "memory");
-    assert!(rt; fault_of(alloc, &longer) == Some(TableError::BadName { line: 1 }));
+    let longer = repeated(&rt, alloc, b"1.3.6", b".4294967295", 126, b"|2|1");
+    assert_fault(&rt, alloc, &longer, TableError::BadName { line: 1 });
 }
 
 /// The count of octets of the string at 1.3.6 in the table of the text.
 fn length_of_string(alloc: Global, text: &[u8]) -> Option<usize> {
-    match (Table::read(alloc, text), parse_numeric(b"1.3.6")) {
-        (Ok(table), Ok(name)) => match table.get(&name) {
-            ValueRef::Octets(octets) => Some(octets.len()),
-            _ => None,
-        },
+    let name = parse_numeric(b"1.3.6").ok()?;
+    let table = Table::read(alloc, text).ok()?;
+    match table.get(&name) {
+        ValueRef::Octets(octets) => Some(octets.len()),
         _ => None,
     }
 }
 
 /// Asserts that a string of 65535 parts after the tag is read, and that one part more is a fault.
 fn assert_longest(rt: &impl Abort, alloc: Global, tag: &[u8], part: &[u8]) {
-    let longest = repeated(alloc, tag, part, 65535, b"").expect(rt, "memory");
+    let longest = repeated(rt, alloc, tag, part, 65535, b"");
     assert!(rt; length_of_string(alloc, &longest) == Some(65535));
-    let longer = repeated(alloc, tag, part, 65536, b"").expect(rt, "memory");
-    assert!(rt; fault_of(alloc, &longer) == Some(TableError::BadValue { line: 1 }));
+    let longer = repeated(rt, alloc, tag, part, 65536, b"");
+    assert_fault(rt, alloc, &longer, TableError::BadValue { line: 1 });
 }
 
 #[test]
