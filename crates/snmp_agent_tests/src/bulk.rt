@@ -287,13 +287,8 @@ fn rounds_of(rt: &impl Abort, alloc: Global, count: u16) -> Option<u32> {
     let request = bulk_of(alloc, count).ok()?;
     let last = u32::from(count).wrapping_add(129);
     let table = table_to(rt, alloc, last);
-    rounds_by(&table, &request, count, last)
-}
-
-/// How many bindings the reply to that request has, where they are its rounds.
-fn rounds_by(table: &Table, request: &[u8], count: u16, last: u32) -> Option<u32> {
     let mut out = [0; 65507];
-    match outcome(table, 65507, request, &mut out) {
+    match outcome(&table, 65507, &request, &mut out) {
         Outcome::Reply(size) => rounds_in(&out[..size.min(65507)], u32::from(count), last),
         Outcome::Dropped(_) => None,
     }

@@ -54,28 +54,23 @@ fn is_removed(table: &mut Table, number: u32) -> bool {
     }
 }
 
-/// Asserts that the row of the number is put where there was none.
-fn assert_added(rt: &impl Abort, table: &mut Table, number: u32) {
-    assert!(rt; is_added(table, number));
-}
-
-/// Asserts that the row of the number is removed once.
-fn assert_removed(rt: &impl Abort, table: &mut Table, number: u32) {
-    assert!(rt; is_removed(table, number));
-    assert!(rt; !is_removed(table, number));
+/// Asserts that rows are put in falling order, and then removed in rising order.
+fn assert_changed(rt: &impl Abort, table: &mut Table) {
+    for number in (1..=600).rev() {
+        assert!(rt; is_added(table, number));
+        assert_rows(rt, table, number, 600);
+    }
+    for number in 1..=600 {
+        assert!(rt; is_removed(table, number));
+        assert!(rt; !is_removed(table, number));
+        assert_rows(rt, table, number + 1, 600);
+    }
 }
 
 #[test]
 fn rows_put_in_falling_order_are_removed_in_rising_order(rt: HostRuntime) {
     let mut table = table_of(&rt, rt.alloc(), b"object 1.3.6.1.4.1.32473.1\n");
-    for number in (1..=600).rev() {
-        assert_added(&rt, &mut table, number);
-        assert_rows(&rt, &table, number, 600);
-    }
-    for number in 1..=600 {
-        assert_removed(&rt, &mut table, number);
-        assert_rows(&rt, &table, number + 1, 600);
-    }
+    assert_changed(&rt, &mut table);
     // The object prefix stays.
     assert_get(
         &rt,

@@ -7,38 +7,27 @@ use snmp_wire::{EncodedName, Kind, MAX_CONTENT, Oid, Parts, encode_asking, seal}
 use std::alloc::{AllocError, Global};
 use std::process::Abort;
 
-/// The GetNext of 1.3.6 and this number, from 128 to 16383.
-fn next_of(number: u16) -> [u8; 36] {
+/// The tags of a Get, a GetNext and a GetBulk.
+const GET: u8 = 0xA0;
+
+const NEXT: u8 = 0xA1;
+
+const BULK: u8 = 0xA5;
+
+/// The request with this tag for 1.3.6 and this number, from 128 to 16383. A GetBulk has five
+/// repetitions.
+fn request_of(tag: u8, number: u16) -> [u8; 36] {
     let [high, low] = number.wrapping_mul(2).to_be_bytes();
     let mut request = [
         0x30, 0x22, 0x02, 0x01, 0x01, 0x04, 0x06, 0x70, 0x75, 0x62, 0x6C, 0x69, 0x63, 0xA1, 0x15,
         0x02, 0x01, 0x01, 0x02, 0x01, 0x00, 0x02, 0x01, 0x00, 0x30, 0x0A, 0x30, 0x08, 0x06, 0x04,
         0x2B, 0x06, 0x81, 0x00, 0x05, 0x00,
     ];
+    request[13] = tag;
+    request[23] = if tag == BULK { 5 } else { 0 };
     request[32] = high | 0x80;
     request[33] = low / 2;
     request
-}
-
-/// Whether the agent has a reply to the GetNext of this number, and the same with the hint as
-/// without one.
-fn is_same_reply(table: &Table, number: u16, hint: &mut Hint) -> bool {
-    is_same(table, &next_of(number), hint)
-}
-
-/// [`is_same_reply`] for a Get.
-fn is_same_value(table: &Table, number: u16, hint: &mut Hint) -> bool {
-    let mut request = next_of(number);
-    request[13] = 0xA0;
-    is_same(table, &request, hint)
-}
-
-/// [`is_same_reply`] for a GetBulk of five repetitions.
-fn is_same_column(table: &Table, number: u16, hint: &mut Hint) -> bool {
-    let mut request = next_of(number);
-    request[13] = 0xA5;
-    request[23] = 5;
-    is_same(table, &request, hint)
 }
 
 /// Whether the agent has a reply to the request, and the same with the hint as without one.
@@ -60,36 +49,20 @@ fn is_same(table: &Table, request: &[u8], hint: &mut Hint) -> bool {
     }
 }
 
-/// Asserts that the replies over both tables are the same with the hint, which is then that of
-/// another table.
-fn assert_unchanged(rt: &impl Abort, many: &Table, few: &Table, number: u16, hint: &mut Hint) {
-    assert!(rt; is_same_reply(many, number, hint), "after {number}");
-    assert!(rt; is_same_reply(few, 129, hint), "over few rows");
-    let mut other = *hint;
-    assert!(rt;
-        is_same_reply(many, number, &mut other),
-        "after {number} again"
-    );
-}
-
-/// Asserts that the reply to the GetNext of this number is the same with the hint.
-fn assert_same_reply(rt: &impl Abort, table: &Table, number: u16, hint: &mut Hint) {
-    assert!(rt; is_same_reply(table, number, hint), "after {number}");
-}
-
 /// Asserts that the reply to the request is the same with the hint.
-fn assert_same(
-    rt: &impl Abort,
-    table: &Table,
-    request: &[u8],
-    hint: &mut Hint,
-    place: u32,
-    round: u32,
-) {
+fn assert_same(rt: &impl Abort, table: &Table, request: &[u8], hint: &mut Hint, at: (u32, u32)) {
+    let (place, round) = at;
     assert!(rt;
         is_same(table, request, hint),
         "{place} in {round}: {request:?}"
     );
+}
+
+/// [`assert_same`] for the request with this tag for this number.
+fn assert_asked(rt: &impl Abort, table: &Table, asked: (u8, u16), hint: &mut Hint, round: u32) {
+    let (tag, number) = asked;
+    let request = request_of(tag, number);
+    assert_same(rt, table, &request, hint, (u32::from(number), round));
 }
 
 #[test]
@@ -99,10 +72,14 @@ fn no_hint_changes_a_reply(rt: HostRuntime) {
     let mut hint = Hint::default();
     // In turn, past the end too; then from elsewhere, with the hint of another row.
     for number in 128..=702 {
-        assert_same_reply(&rt, &many, number, &mut hint);
+        assert_asked(&rt, &many, (NEXT, number), &mut hint, 0);
     }
     for &number in &[383, 128, 384, 700, 639, 640, 129] {
-        assert_unchanged(&rt, &many, &few, number, &mut hint);
+        assert_asked(&rt, &many, (NEXT, number), &mut hint, 1);
+        // The hint is that of another table.
+        assert_asked(&rt, &few, (NEXT, 129), &mut hint, 1);
+        let mut other = hint;
+        assert_asked(&rt, &many, (NEXT, number), &mut other, 2);
     }
 }
 
@@ -125,31 +102,13 @@ fn a_hint_that_is_out_of_date_changes_no_reply(rt: HostRuntime) {
     let mut table = table_to(&rt, rt.alloc(), 700);
     let mut hint = Hint::default();
     for number in 300..500 {
-        assert_same_reply(&rt, &table, number, &mut hint);
+        assert_asked(&rt, &table, (NEXT, number), &mut hint, 0);
         // The row of the hint goes, or one before it.
         let back = if number % 2 == 0 { 0 } else { 100 };
         let last = u32::from(number).wrapping_add(1).wrapping_sub(back);
         assert_removed(&rt, &mut table, last);
-        assert_same_reply(&rt, &table, number.wrapping_add(1), &mut hint);
+        assert_asked(&rt, &table, (NEXT, number.wrapping_add(1)), &mut hint, 1);
     }
-}
-
-/// Asserts that a Get, a GetNext and a GetBulk of this number have the same replies with the hint.
-fn assert_same_kinds(rt: &impl Abort, table: &Table, number: u16, hint: &mut Hint, round: u32) {
-    assert!(rt; is_same_value(table, number, hint), "{number} in {round}");
-    assert!(rt;
-        is_same_reply(table, number, hint),
-        "after {number} in {round}"
-    );
-    assert!(rt;
-        is_same_column(table, number, hint),
-        "five after {number} in {round}"
-    );
-}
-
-/// Asserts that the reply over a table of few rows is the same with the hint.
-fn assert_same_value(rt: &impl Abort, few: &Table, hint: &mut Hint, round: u32) {
-    assert!(rt; is_same_value(few, 129, hint), "over few rows in {round}");
 }
 
 #[test]
@@ -161,9 +120,11 @@ fn names_asked_for_again_have_the_same_replies(rt: HostRuntime) {
     for round in 0..4 {
         for step in 0..800_u16 {
             let number = step.wrapping_mul(331) % 800 + 128;
-            assert_same_kinds(&rt, &table, number, &mut hint, round);
+            for &tag in &[GET, NEXT, BULK] {
+                assert_asked(&rt, &table, (tag, number), &mut hint, round);
+            }
         }
-        assert_same_value(&rt, &few, &mut hint, round);
+        assert_asked(&rt, &few, (GET, 129), &mut hint, round);
         // Rows go, so that others stand elsewhere.
         for number in 0..60_u32 {
             let last = number.wrapping_mul(13).wrapping_add(128 + round);
@@ -208,9 +169,9 @@ fn more_names_than_a_hint_keeps_have_the_same_replies(rt: HostRuntime) {
         for step in 0..1500_u16 {
             let number = step.wrapping_mul(331) % 1500 + 650;
             let mut request = marked_next_of(number);
-            for &kind in &[0xA0, 0xA1] {
-                request[13] = kind;
-                assert_same(&rt, &table, &request, &mut hint, u32::from(number), round);
+            for &tag in &[GET, NEXT] {
+                request[13] = tag;
+                assert_same(&rt, &table, &request, &mut hint, (u32::from(number), round));
             }
         }
         // Rows go, so that others stand elsewhere.
@@ -316,7 +277,7 @@ fn columns_of_rows_with_a_long_index_have_the_same_replies(rt: HostRuntime) {
             for &kind in &[Kind::GetRequest, Kind::GetNextRequest, Kind::GetBulkRequest] {
                 let size = asking(kind, 3, row, ROUTES, COLUMNS, &mut request);
                 let request = &request[..size.min(65507)];
-                assert_same(&rt, &table, request, &mut hint, row, round);
+                assert_same(&rt, &table, request, &mut hint, (row, round));
             }
         }
     }
@@ -339,7 +300,7 @@ fn walks_in_turn_have_the_same_replies(rt: HostRuntime) {
         ] {
             let size = asking(kind, repetitions, place, ROUTES, count, &mut request);
             let request = &request[..size.min(65507)];
-            assert_same(&rt, &table, request, &mut hint, place, step);
+            assert_same(&rt, &table, request, &mut hint, (place, step));
         }
     }
 }

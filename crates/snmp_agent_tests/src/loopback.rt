@@ -25,6 +25,16 @@ fn public() -> Config<'static> {
     }
 }
 
+/// What was served: replies, dropped datagrams, idle turns and faults.
+fn of_counts(replies: u64, dropped: u64, idle: u64, faults: u64) -> Served {
+    Served {
+        replies,
+        dropped,
+        idle,
+        faults,
+    }
+}
+
 /// Asserts that this was served.
 fn assert_served(rt: &impl Abort, served: Served, wanted: Served) {
     assert_eq!(rt; served, wanted);
@@ -64,13 +74,7 @@ fn a_request_has_its_reply(rt: HostRuntime) {
     let server = socket_of(&rt);
     let client = socket_of(&rt);
     send(&rt, &client, &server, &GET);
-    let one = Served {
-        replies: 1,
-        dropped: 0,
-        idle: 0,
-        faults: 0,
-    };
-    assert_turns(&rt, &server, &table, 1, one);
+    assert_turns(&rt, &server, &table, 1, of_counts(1, 0, 0, 0));
     assert_reply(&rt, &client, &server, 1);
 }
 
@@ -78,13 +82,7 @@ fn a_request_has_its_reply(rt: HostRuntime) {
 fn a_silent_socket_is_idle(rt: HostRuntime) {
     let table = table_of(&rt, rt.alloc(), SYS_NAME);
     let server = socket_of(&rt);
-    let idle = Served {
-        replies: 0,
-        dropped: 0,
-        idle: 2,
-        faults: 0,
-    };
-    assert_turns(&rt, &server, &table, 2, idle);
+    assert_turns(&rt, &server, &table, 2, of_counts(0, 0, 2, 0));
     assert_turns(&rt, &server, &table, 0, Served::default());
 }
 
@@ -102,13 +100,7 @@ fn assert_own_replies(
     send(rt, first, server, b"no message");
     send(rt, second, server, b"");
     send(rt, second, server, &request);
-    let two = Served {
-        replies: 2,
-        dropped: 2,
-        idle: 1,
-        faults: 0,
-    };
-    assert_turns(rt, server, table, 5, two);
+    assert_turns(rt, server, table, 5, of_counts(2, 2, 1, 0));
     assert_reply(rt, first, server, 1);
     assert_reply(rt, second, server, 2);
     assert!(rt; first.recv_from(&mut [0; 1472]).is_err());
@@ -133,13 +125,7 @@ fn a_receive_that_fails_at_a_socket_is_a_fault(rt: HostRuntime) {
     send(&rt, &client, &server, &GET);
     connect(&rt, &server, &client);
     drop(client);
-    let wanted = Served {
-        replies: 1,
-        dropped: 0,
-        idle: 1,
-        faults: 1,
-    };
-    assert_turns(&rt, &server, &table, 3, wanted);
+    assert_turns(&rt, &server, &table, 3, of_counts(1, 0, 1, 1));
 }
 
 /// An endpoint at which each second receive fails, and each second reply.
@@ -193,12 +179,6 @@ fn what_fails_is_counted_and_the_next_turn_follows(rt: HostRuntime) {
         faults: 0,
     };
     let served = serve_at(&mut endpoint, &table, &public(), 1000);
-    let wanted = Served {
-        replies: 250,
-        dropped: 0,
-        idle: 0,
-        faults: 750,
-    };
-    assert_served(&rt, served, wanted);
+    assert_served(&rt, served, of_counts(250, 0, 0, 750));
     assert!(rt; endpoint.replies == 500 && endpoint.faults() == 750);
 }

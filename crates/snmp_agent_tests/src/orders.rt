@@ -90,7 +90,7 @@ impl Stated {
     /// The rows that stand first, in the second format where the text is marked.
     fn of_first(alloc: Global, first_lines: &str, is_marked: bool) -> Result<Stated, AllocError> {
         let text = beginning(alloc, first_lines, is_marked)?;
-        let map = map_of(alloc, FIRST_ROWS, EVEN)?;
+        let map = map_of(alloc, FIRST_ROWS, EVEN).ok_or(AllocError)?;
         Ok(Stated {
             text,
             map,
@@ -137,21 +137,8 @@ impl Stated {
     }
 }
 
-/// The text of such rows, in the second format where it is marked.
-fn text_stated(
-    alloc: Global,
-    first_lines: &str,
-    order: &Order,
-    wrong: &Wrong,
-    is_marked: bool,
-) -> Result<Stated, AllocError> {
-    let mut stated = Stated::of_first(alloc, first_lines, is_marked)?;
-    let lines = (FIRST_ROWS as usize).wrapping_add(usize::from(is_marked));
-    stated.add_rows(order, wrong, lines)?;
-    Ok(stated)
-}
-
-/// Asserts that the text of such rows is read as it is stated.
+/// Asserts that the text of such rows, in the second format where it is marked, is read as it is
+/// stated.
 fn assert_read_so(
     rt: &impl Abort,
     alloc: Global,
@@ -160,9 +147,11 @@ fn assert_read_so(
     wrong: &Wrong,
     is_marked: bool,
 ) {
-    let stated = text_stated(alloc, first_lines, order, wrong, is_marked).expect(rt, "memory");
+    let mut stated = Stated::of_first(alloc, first_lines, is_marked).expect(rt, "memory");
+    let lines = (FIRST_ROWS as usize).wrapping_add(usize::from(is_marked));
+    let added = stated.add_rows(order, wrong, lines);
     assert!(rt;
-        is_read_so(alloc, &stated),
+        added.is_ok() && is_read_so(alloc, &stated),
         "{order:?}, {wrong:?}, marked: {is_marked}"
     );
 }
@@ -292,17 +281,17 @@ fn fault_of_names(alloc: Global, first_lines: &str, before: u32, again: u32) -> 
     fault_of(alloc, text.as_bytes())
 }
 
-/// Asserts that this fault is that of the text of those names and rows.
-fn assert_fault(
-    rt: &impl Abort,
-    alloc: Global,
-    first_lines: &str,
-    before: u32,
-    again: u32,
-    fault: Option<TableError>,
-) {
+/// Asserts that the text of those names and rows has a row twice where that of `again` is one of
+/// those before.
+fn assert_told(rt: &impl Abort, alloc: Global, first_lines: &str, before: u32, again: u32) {
+    let double = Some(TableError::Double {
+        line: (FIRST_ROWS as usize)
+            .saturating_add(before as usize)
+            .saturating_add(13),
+    });
     assert!(rt;
-        fault_of_names(alloc, first_lines, before, again) == fault,
+        fault_of_names(alloc, first_lines, before, again)
+            == if again < before { double } else { None },
         "{before} rows, that of {again} again"
     );
 }
@@ -311,14 +300,8 @@ fn assert_fault(
 fn names_of_one_hash_are_told_apart(rt: HostRuntime) {
     let first_lines = first_lines(&rt, rt.alloc());
     for before in [377, 378, 379, 1000] {
-        let double = Some(TableError::Double {
-            line: (FIRST_ROWS as usize)
-                .saturating_add(before as usize)
-                .saturating_add(13),
-        });
         for again in [0, 378, 999] {
-            let fault = if again < before { double } else { None };
-            assert_fault(&rt, rt.alloc(), &first_lines, before, again, fault);
+            assert_told(&rt, rt.alloc(), &first_lines, before, again);
         }
     }
 }

@@ -116,19 +116,13 @@ pub(crate) fn text_of(
 }
 
 /// The map from the number of each such row to its value.
-pub(crate) fn map_of(
-    alloc: Global,
-    count: u32,
-    factors: Spread,
-) -> Result<BTreeMap<u32, u32>, AllocError> {
+pub(crate) fn map_of(alloc: Global, count: u32, factors: Spread) -> Option<BTreeMap<u32, u32>> {
     let mut map = BTreeMap::new(alloc);
     for number in 0..count {
         let shown = spread(number, factors);
-        if map.insert(shown, shown).is_err() {
-            return Err(AllocError);
-        }
+        map.insert(shown, shown).ok()?;
     }
-    Ok(map)
+    Some(map)
 }
 
 /// The table that is read of such rows.
@@ -140,7 +134,7 @@ fn table_read(alloc: Global, count: u32, step: u32, factors: Spread) -> Option<T
 /// Whether a table that is read of `count` such rows has them.
 fn is_read(alloc: Global, count: u32, step: u32, factors: Spread) -> Option<bool> {
     let table = table_read(alloc, count, step, factors)?;
-    let map = map_of(alloc, count, factors).ok()?;
+    let map = map_of(alloc, count, factors)?;
     Some(has_rows(&table, &map))
 }
 
@@ -200,16 +194,13 @@ fn names_of_short_and_long_numbers_in_no_order_are_read(rt: HostRuntime) {
     }
 }
 
-/// Adds `count` such rows, whose line `again` has the row of its line `first`, and whose line
-/// `bad`, if there is one, states no row. Lines count from 1.
-fn add_rows(
-    text: &mut String,
-    count: u32,
-    step: u32,
-    first: u32,
-    again: u32,
-    bad: u32,
-) -> Result<(), AllocError> {
+/// The line of a row, the line that has the same row, and the line that states no row, if there is
+/// one. Lines count from 1.
+type Lines = (u32, u32, u32);
+
+/// Adds `count` such rows, with these faults.
+fn add_rows(text: &mut String, count: u32, step: u32, lines: Lines) -> Result<(), AllocError> {
+    let (first, again, bad) = lines;
     let mut number: u32 = 0;
     for place in 0..count {
         if place.wrapping_add(1) == bad {
@@ -226,16 +217,9 @@ fn add_rows(
 }
 
 /// The fault of a text of such rows.
-fn fault_of_rows(
-    alloc: Global,
-    count: u32,
-    step: u32,
-    first: u32,
-    again: u32,
-    bad: u32,
-) -> Option<TableError> {
+fn fault_of_rows(alloc: Global, count: u32, step: u32, lines: Lines) -> Option<TableError> {
     let mut text = String::new(alloc);
-    add_rows(&mut text, count, step, first, again, bad).ok()?;
+    add_rows(&mut text, count, step, lines).ok()?;
     fault_of(alloc, text.as_bytes())
 }
 
@@ -260,7 +244,7 @@ fn a_name_that_is_there_is_told_behind_gathered_rows_that_were_put_in_place(rt: 
             line: again as usize,
         });
         assert!(rt;
-            fault_of_rows(rt.alloc(), 40_000, 24_697, first, again, 0) == double,
+            fault_of_rows(rt.alloc(), 40_000, 24_697, (first, again, 0)) == double,
             "lines {first} and {again}"
         );
     }
@@ -274,14 +258,14 @@ fn the_first_line_of_a_name_that_is_there_is_told(rt: HostRuntime) {
         });
         for &bad in &[0, again.wrapping_add(1), 2501] {
             assert!(rt;
-                fault_of_rows(rt.alloc(), 2500, 1543, first, again, bad) == double,
+                fault_of_rows(rt.alloc(), 2500, 1543, (first, again, bad)) == double,
                 "lines {first} and {again}, and a fault in {bad}"
             );
         }
         let bad = again.wrapping_sub(1);
         if bad != first {
             assert!(rt;
-                fault_of_rows(rt.alloc(), 2500, 1543, first, again, bad)
+                fault_of_rows(rt.alloc(), 2500, 1543, (first, again, bad))
                     == Some(TableError::BadLine { line: bad as usize }),
                 "a fault in {bad}, before {again}"
             );
@@ -338,7 +322,7 @@ fn names_at_the_edges_of_encodings_are_in_order(rt: HostRuntime) {
 /// this place.
 fn is_changed_at(alloc: Global, count: u32, place: u32) -> Option<bool> {
     let mut table = table_read(alloc, count, 1, EVEN)?;
-    let mut map = map_of(alloc, count, EVEN).ok()?;
+    let mut map = map_of(alloc, count, EVEN)?;
     Some(is_changed(&mut table, &mut map, place))
 }
 
