@@ -9,6 +9,7 @@ use snmp_oid::Oid;
 use snmp_wire::ValueRef;
 use std::alloc::Global;
 use std::process::Abort;
+use std::slice::from_ref;
 use std::test::Fail;
 
 const COUNTED: &[IndexPart] = &[IndexPart::Text(Extent::Counted)];
@@ -33,7 +34,14 @@ fn has_line(
 ) -> Result<bool, Fail> {
     let mut out = Vec::from_slice(alloc, b"before")?;
     line(tree, letters, name, value, &mut out)?;
-    Ok(out.strip_prefix(b"before") == Some(text))
+    Ok(is_after_before(&out, text))
+}
+
+fn is_after_before(out: &[u8], text: &[u8]) -> bool {
+    match out.strip_prefix(b"before") {
+        Some(rest) => rest == text,
+        None => false,
+    }
 }
 
 /// Whether a line ends in the text of its value.
@@ -157,9 +165,8 @@ fn identifiers_are_shown_as_names(rt: HostRuntime) -> Result<(), Fail> {
 
 #[test]
 fn a_syntax_shows_values_of_its_type_alone(rt: HostRuntime) -> Result<(), Fail> {
-    let names = [up(rt.alloc())?];
-    assert_integers(&rt, rt.alloc(), &names)?;
-    assert_others(&rt, rt.alloc(), &names)
+    let name = up(rt.alloc())?;
+    assert_by_base(&rt, rt.alloc(), from_ref(&name))
 }
 
 /// The name `up` of the number 1.
@@ -174,11 +181,14 @@ fn up(alloc: Global) -> Result<NamedNumber, Fail> {
 
 /// The nodes, with a base, names of numbers, and units.
 fn known_with(base: ValueBase, names: &[NamedNumber]) -> Known<'_> {
-    let mut tree = known();
-    tree.base = Some(base);
-    tree.names = names;
-    tree.units = Some(b"jobs");
-    tree
+    Known {
+        nodes: Sample::new(COUNTED),
+        definition: None,
+        base: Some(base),
+        names,
+        hint: None,
+        units: Some(b"jobs"),
+    }
 }
 
 /// Checks the line of a value of `iso`.
@@ -193,59 +203,36 @@ fn assert_iso(
     assert_line(rt, alloc, tree, letters, &[1], value, text)
 }
 
-fn assert_integers(rt: &impl Abort, alloc: Global, names: &[NamedNumber]) -> Result<(), Fail> {
-    let tree = known_with(ValueBase::Integer, names);
-    assert_iso(
-        rt,
-        alloc,
-        &tree,
-        b"",
-        &ValueRef::Integer(1),
-        "iso = INTEGER: up(1)\n",
-    )?;
-    assert_iso(rt, alloc, &tree, b"q", &ValueRef::Integer(1), "iso up\n")?;
-    assert_iso(
-        rt,
-        alloc,
-        &tree,
-        b"e",
-        &ValueRef::Integer(1),
-        "iso = INTEGER: 1\n",
-    )?;
-    assert_iso(
-        rt,
-        alloc,
-        &tree,
-        b"",
-        &ValueRef::Integer(2),
-        "iso = INTEGER: 2 jobs\n",
-    )?;
-    assert_iso(
-        rt,
-        alloc,
-        &tree,
-        b"U",
-        &ValueRef::Integer(2),
-        "iso = INTEGER: 2\n",
-    )?;
-    assert_iso(
-        rt,
-        alloc,
-        &tree,
-        b"",
-        &ValueRef::Gauge32(2),
-        "iso = Gauge32: 2\n",
-    )?;
-    assert_iso(rt, alloc, &tree, b"", &ValueRef::Null, "iso = NULL\n")
+/// Checks lines by a syntax of each base with these names.
+fn assert_by_base(rt: &impl Abort, alloc: Global, names: &[NamedNumber]) -> Result<(), Fail> {
+    assert_integers(rt, alloc, &known_with(ValueBase::Integer, names))?;
+    let bits = ValueRef::Octets(b"\x40");
+    let tree = known_with(ValueBase::Bits, names);
+    assert_iso(rt, alloc, &tree, b"", &bits, "iso = BITS: 40 up(1) \n")?;
+    let ticks = ValueRef::TimeTicks(14096763);
+    let tree = known_with(ValueBase::TimeTicks, names);
+    assert_iso(rt, alloc, &tree, b"t", &ticks, "iso = 14096763 jobs\n")
 }
 
-fn assert_others(rt: &impl Abort, alloc: Global, names: &[NamedNumber]) -> Result<(), Fail> {
-    let tree = known_with(ValueBase::Bits, names);
-    let bits = ValueRef::Octets(b"\x40");
-    assert_iso(rt, alloc, &tree, b"", &bits, "iso = BITS: 40 up(1) \n")?;
-    let tree = known_with(ValueBase::TimeTicks, names);
-    let ticks = ValueRef::TimeTicks(14096763);
-    assert_iso(rt, alloc, &tree, b"t", &ticks, "iso = 14096763 jobs\n")
+/// Letters, and the line of the number 1 by the letters.
+static ONE: [(&[u8], &str); 3] = [
+    (b"", "iso = INTEGER: up(1)\n"),
+    (b"q", "iso up\n"),
+    (b"e", "iso = INTEGER: 1\n"),
+];
+
+/// Letters, and the line of the number 2, which has no name.
+static TWO: [(&[u8], &str); 2] = [
+    (b"", "iso = INTEGER: 2 jobs\n"),
+    (b"U", "iso = INTEGER: 2\n"),
+];
+
+fn assert_integers(rt: &impl Abort, alloc: Global, tree: &Known<'_>) -> Result<(), Fail> {
+    assert_lines(rt, alloc, tree, &[1], &ValueRef::Integer(1), &ONE)?;
+    assert_lines(rt, alloc, tree, &[1], &ValueRef::Integer(2), &TWO)?;
+    let gauge = ValueRef::Gauge32(2);
+    assert_iso(rt, alloc, tree, b"", &gauge, "iso = Gauge32: 2\n")?;
+    assert_iso(rt, alloc, tree, b"", &ValueRef::Null, "iso = NULL\n")
 }
 
 #[test]

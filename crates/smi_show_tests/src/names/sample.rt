@@ -25,14 +25,9 @@ impl<'a> Sample<'a> {
         let mut root = Oid::new();
         root.push_with_room(1);
         let mut parent = Oid::new();
-        parent.push_with_room(1);
-        parent.push_with_room(3);
-        parent.push_with_room(6);
+        parent.set_to_numbers(&[1, 3, 6]);
         let mut column = Oid::new();
-        column.push_with_room(1);
-        column.push_with_room(3);
-        column.push_with_room(6);
-        column.push_with_room(2);
+        column.set_to_numbers(&[1, 3, 6, 2]);
         Sample {
             root,
             parent,

@@ -42,8 +42,14 @@ fn is_fault(tree: &Sample<'_>, text: &[u8], fault: NameError) -> bool {
 
 /// Whether `resolve_into` reads a text as `resolve` does.
 fn is_read_alike(tree: &Sample<'_>, text: &[u8], oid: &mut Oid) -> bool {
-    match (resolve(tree, text), resolve_into(tree, text, oid)) {
-        (Ok(found), Ok(())) => found == *oid,
+    let found = resolve(tree, text);
+    let other = resolve_into(tree, text, oid);
+    are_alike(&found, &other, oid)
+}
+
+fn are_alike(found: &Result<Oid, NameError>, other: &Result<(), NameError>, oid: &Oid) -> bool {
+    match (found, other) {
+        (Ok(found), Ok(())) => found == oid,
         (Err(fault), Err(other)) => fault == other,
         _ => false,
     }
@@ -198,12 +204,20 @@ fn assert_fronts(rt: &impl Abort, tree: &Sample<'_>) {
 /// `resolve_front` and by `resolve_front_into`.
 fn front_means(tree: &Sample<'_>, text: &[u8], stop: u8, numbers: &[u32], size: usize) -> bool {
     let mut oid = Oid::new();
-    match (
-        resolve_front(tree, text, stop),
-        resolve_front_into(tree, text, stop, &mut oid),
-    ) {
+    let found = resolve_front(tree, text, stop);
+    let other = resolve_front_into(tree, text, stop, &mut oid);
+    are_fronts(&found, &other, numbers, size) && oid.as_slice() == numbers
+}
+
+fn are_fronts(
+    found: &Result<(Oid, usize), NameError>,
+    other: &Result<usize, NameError>,
+    numbers: &[u32],
+    size: usize,
+) -> bool {
+    match (found, other) {
         (Ok((found, length)), Ok(other)) => {
-            found.as_slice() == numbers && length == size && found == oid && other == size
+            found.as_slice() == numbers && *length == size && *other == size
         }
         _ => false,
     }
@@ -221,29 +235,23 @@ fn is_front_fault(tree: &Sample<'_>, text: &[u8], stop: u8, fault: NameError) ->
     }
 }
 
+/// `iso`, 128 sevens, a label and a number that is too great. The first 257 octets are a name of 128
+/// numbers.
+const SEVENS: &[u8] = b"\
+iso.7.7.7.7.7.7.7.7.7.7.7.7.7.7.7.7.7.7.7.7.7.7.7.7.7.7.7.7.7.7.7.7.7.7.7.7.7.7.7.7.7.7.7.7.7.7.\
+7.7.7.7.7.7.7.7.7.7.7.7.7.7.7.7.7.7.7.7.7.7.7.7.7.7.7.7.7.7.7.7.7.7.7.7.7.7.7.7.7.7.7.7.7.7.7.7.\
+7.7.7.7.7.7.7.7.7.7.7.7.7.7.7.7.7.7.7.7.7.7.7.7.7.7.7.7.7.7.7.7.7.7.x.4294967296";
+
 #[test]
-fn a_name_has_at_most_128_numbers(rt: HostRuntime) -> Result<(), Fail> {
-    let mut text = Vec::new(rt.alloc());
-    assert_limit(&rt, &Sample::new(COUNTED), &mut text)
+fn a_name_has_at_most_128_numbers(rt: HostRuntime) {
+    let tree = Sample::new(COUNTED);
+    assert_limit(&rt, &tree);
 }
 
-/// Appends a name of 128 numbers.
-fn push_sevens(text: &mut Vec<u8>) -> Result<(), Fail> {
-    text.extend_from_slice(b"iso")?;
-    for _ in 0..127 {
-        text.extend_from_slice(b".7")?;
-    }
-    Ok(())
-}
-
-fn assert_limit(rt: &impl Abort, tree: &Sample<'_>, text: &mut Vec<u8>) -> Result<(), Fail> {
-    push_sevens(text)?;
-    assert!(rt; is_meant(tree, text));
-    text.extend_from_slice(b".7")?;
-    assert!(rt; is_fault(tree, text, NameError::TooLong));
-    text.extend_from_slice(b".x.4294967296")?;
-    assert!(rt; is_fault(tree, text, NameError::TooLong));
-    Ok(())
+fn assert_limit(rt: &impl Abort, tree: &Sample<'_>) {
+    assert!(rt; is_meant(tree, &SEVENS[..257]));
+    assert!(rt; is_fault(tree, &SEVENS[..259], NameError::TooLong));
+    assert!(rt; is_fault(tree, SEVENS, NameError::TooLong));
 }
 
 /// The index of the column, whether it is shown as numbers, the numbers after the column, and the
@@ -300,22 +308,28 @@ fn shows(
     let mut oid = Oid::from_slice(&[1, 3, 6, 2])?;
     oid.extend_from_slice(tail)?;
     let mut out = Vec::new(alloc);
-    push_name(tree, NameForm::ModuleLabel, numeric_index, &oid, &mut out)?;
+    let letters = letters_by(NameForm::ModuleLabel, numeric_index);
+    push_name(tree, &letters, &oid, &mut out)?;
     Ok(out.as_slice() == text.as_bytes() && means(tree, &out, oid.as_slice()))
+}
+
+/// The letters of a form of names, and of whether indexes are shown as numbers.
+fn letters_by(names: NameForm, numeric_index: bool) -> Letters {
+    Letters {
+        names,
+        numeric_index,
+        ..Letters::new()
+    }
 }
 
 /// Appends the name of an identifier.
 fn push_name(
     tree: &Sample<'_>,
-    form: NameForm,
-    numeric_index: bool,
+    letters: &Letters,
     oid: &Oid,
     out: &mut Vec<u8>,
 ) -> Result<(), Fail> {
-    let mut letters = Letters::new();
-    letters.names = form;
-    letters.numeric_index = numeric_index;
-    name_text(tree, &letters, oid, out)?;
+    name_text(tree, letters, oid, out)?;
     Ok(())
 }
 
@@ -338,20 +352,21 @@ fn is_read_back(
     oid: &Oid,
 ) -> Result<bool, Fail> {
     let tree = Sample::new(index);
+    let numeric = letters_by(NameForm::Numeric, numeric_index);
+    let named = letters_by(NameForm::ModuleLabel, numeric_index);
     Ok(
-        is_name_read_back(alloc, &tree, NameForm::Numeric, numeric_index, oid)?
-            && is_name_read_back(alloc, &tree, NameForm::ModuleLabel, numeric_index, oid)?,
+        is_name_read_back(alloc, &tree, &numeric, oid)?
+            && is_name_read_back(alloc, &tree, &named, oid)?,
     )
 }
 
 fn is_name_read_back(
     alloc: Global,
     tree: &Sample<'_>,
-    form: NameForm,
-    numeric_index: bool,
+    letters: &Letters,
     oid: &Oid,
 ) -> Result<bool, Fail> {
     let mut out = Vec::new(alloc);
-    push_name(tree, form, numeric_index, oid, &mut out)?;
+    push_name(tree, letters, oid, &mut out)?;
     Ok(means(tree, &out, oid.as_slice()))
 }
