@@ -49,7 +49,7 @@ fn is_same(table: &Table, request: &[u8], hint: &mut Hint) -> bool {
     }
 }
 
-/// Asserts that the reply to the request is the same with the hint.
+/// Asserts that the reply to the request, at this place in this round, is the same with the hint.
 fn assert_same(rt: &impl Abort, table: &Table, request: &[u8], hint: &mut Hint, at: (u32, u32)) {
     let (place, round) = at;
     assert!(rt;

@@ -88,11 +88,13 @@ fn changes_in_no_order_are_those_of_a_map(rt: HostRuntime) {
 /// How the number of a row is made of a smaller one: the factors of its square and of itself.
 pub(crate) type Spread = (u32, u32);
 
-/// Each number as it is, and its double.
+/// Each number as it is.
 const PLAIN: Spread = (0, 1);
 
+/// The double of each number.
 pub(crate) const EVEN: Spread = (0, 2);
 
+/// The number of a row that is made of this one.
 fn spread(number: u32, (square, single): Spread) -> u32 {
     let squares = number.wrapping_mul(number).wrapping_mul(square);
     squares.wrapping_add(number.wrapping_mul(single))
