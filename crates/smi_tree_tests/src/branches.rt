@@ -8,7 +8,7 @@ use std::process::Abort;
 use std::test::Fail;
 
 /// `1.3.6` stands at two places, `1.3.6.1` at three.
-const OIDS: [&str; 10] = [
+static OIDS: [&str; 10] = [
     "1",
     "1.3.6",
     "1.3.6.10",
@@ -21,12 +21,18 @@ const OIDS: [&str; 10] = [
     "2.5.1",
 ];
 
-fn identifiers(alloc: Global) -> Result<Identifiers, Fail> {
+/// The identifiers, in a box, whose `drop` is proved once.
+fn identifiers(alloc: Global) -> Result<Box<Identifiers>, Fail> {
     let mut oids = Vec::new(alloc);
-    for text in OIDS {
+    push_oids(&mut oids)?;
+    Ok(Box::new(alloc, Identifiers::new(alloc, oids)?)?)
+}
+
+fn push_oids(oids: &mut Vec<Oid>) -> Result<(), Fail> {
+    for text in &OIDS {
         oids.push(oid(text)?)?;
     }
-    Ok(Identifiers::new(alloc, oids)?)
+    Ok(())
 }
 
 static FIRST: [(&str, Option<usize>); 10] = [
@@ -113,7 +119,8 @@ fn children_come_in_order(rt: HostRuntime) -> Result<(), Fail> {
 
 fn assert_children(rt: &impl Abort, identifiers: &Identifiers) -> Result<(), Fail> {
     for (text, expected) in &CHILDREN {
-        assert!(rt; has_children(identifiers, &oid(text)?, expected), "{text}");
+        let oid = oid(text)?;
+        assert!(rt; has_children(identifiers, &oid, expected), "{text}");
     }
     Ok(())
 }
@@ -122,10 +129,18 @@ fn assert_children(rt: &impl Abort, identifiers: &Identifiers) -> Result<(), Fai
 fn has_children(identifiers: &Identifiers, oid: &Oid, expected: &[usize]) -> bool {
     let mut left = expected;
     for place in identifiers.children(oid) {
-        match left {
-            [first, rest @ ..] if *first == place => left = rest,
-            _ => return false,
+        match rest_after(left, place) {
+            Some(rest) => left = rest,
+            None => return false,
         }
     }
     left.is_empty()
+}
+
+/// The other places, where the first is this one.
+fn rest_after(places: &[usize], place: usize) -> Option<&[usize]> {
+    match places {
+        [first, rest @ ..] if *first == place => Some(rest),
+        _ => None,
+    }
 }

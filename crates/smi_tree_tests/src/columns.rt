@@ -3,10 +3,10 @@
 
 ghost use Rattle.std.specs.Prelude.{◌≡◌};
 
-use crate::reading::TINY;
-use smi_names::{Gathered, NameHash, Names, Source, gather_nodes};
+use crate::reading::{TINY, modules_of, names_of};
+use smi_names::{Gathered, Names, Source, gather_nodes};
 use smi_show::{Extent, IndexPart};
-use smi_text::{Module, parse_modules};
+use smi_text::Module;
 use smi_tree::{Identifiers, Indexes, Types};
 use std::alloc::Global;
 use std::test::Fail;
@@ -62,8 +62,8 @@ fn first_wrong(
 
 /// The first wrong row over the modules of a text.
 fn wrong_row(alloc: Global, text: &[u8], rows: &[Row<'_>]) -> Result<Option<usize>, Fail> {
-    let modules = parse_modules(alloc, text)?;
-    let names = Names::new(alloc, NameHash::Fixed, &modules)?;
+    let modules = modules_of(alloc, text)?;
+    let names = names_of(alloc, &modules)?;
     wrong_row_by(alloc, &names, &modules, rows)
 }
 

@@ -1,8 +1,8 @@
 //! What names mean in modules that import from one another.
 
-use crate::reading::comes_to;
-use smi_names::{Decider, NameHash, Names};
-use smi_text::{Module, parse_modules};
+use crate::reading::{comes_to, modules_of, names_of};
+use smi_names::{Decider, Names};
+use smi_text::Module;
 use std::alloc::Global;
 use std::process::Abort;
 use std::test::Fail;
@@ -46,11 +46,11 @@ END
 A DEFINITIONS ::= BEGIN hidden OBJECT IDENTIFIER ::= { iso 12 } END
 ";
 
+/// A module, a name there, and what it resolves to.
+type Row = (&'static str, &'static str, &'static str);
+
 /// The first row whose name doesn't resolve, in the row's module, to what the row says.
-fn unresolved_row<'a>(
-    names: &Names<'a>,
-    rows: &[(&'a str, &'a str, &'static str)],
-) -> Option<usize> {
+fn unresolved_row(names: &Names<'_>, rows: &[Row]) -> Option<usize> {
     for (k, (home, name, expected)) in rows.iter().enumerate() {
         let found = names.resolution(home.as_bytes(), name.as_bytes());
         if !comes_to(found, expected) {
@@ -79,8 +79,11 @@ fn is_decided(decider: Option<Decider<'_>>, expected: Decided<'_>) -> bool {
     }
 }
 
+/// A module, a name there, and what decides it.
+type Decision = (&'static str, &'static str, Decided<'static>);
+
 /// The first row whose name isn't decided, in the row's module, by what the row says.
-fn undecided_row<'a>(names: &Names<'a>, rows: &[(&'a str, &'a str, Decided<'a>)]) -> Option<usize> {
+fn undecided_row(names: &Names<'_>, rows: &[Decision]) -> Option<usize> {
     for (k, (home, name, expected)) in rows.iter().enumerate() {
         if !is_decided(names.decider(home.as_bytes(), name.as_bytes()), *expected) {
             return Some(k);
@@ -91,14 +94,24 @@ fn undecided_row<'a>(names: &Names<'a>, rows: &[(&'a str, &'a str, Decided<'a>)]
 
 #[test]
 fn names_resolve_in_their_modules(rt: HostRuntime) -> Result<(), Fail> {
-    let modules = parse_modules(rt.alloc(), MODULES)?;
-    assert_resolutions(&rt, rt.alloc(), &modules)
+    let modules = modules_of(rt.alloc(), MODULES)?;
+    assert_names(&rt, rt.alloc(), &modules, &RESOLUTIONS, &[])
 }
 
-fn assert_resolutions(rt: &impl Abort, alloc: Global, modules: &[Module]) -> Result<(), Fail> {
-    let names = Names::new(alloc, NameHash::Fixed, modules)?;
-    assert!(rt; unresolved_row(&names, &RESOLUTIONS).is_none() && are_loaded(&names));
+fn assert_names(
+    rt: &impl Abort,
+    alloc: Global,
+    modules: &[Module],
+    rows: &[Row],
+    decisions: &[Decision],
+) -> Result<(), Fail> {
+    let names = names_of(alloc, modules)?;
+    assert!(rt; are_loaded(&names) && are_named(&names, rows, decisions));
     Ok(())
+}
+
+fn are_named(names: &Names<'_>, rows: &[Row], decisions: &[Decision]) -> bool {
+    unresolved_row(names, rows).is_none() && undecided_row(names, decisions).is_none()
 }
 
 /// Whether modules are loaded by their names alone.
@@ -109,7 +122,7 @@ fn are_loaded(names: &Names<'_>) -> bool {
         && !names.is_loaded(b"")
 }
 
-static RESOLUTIONS: [(&str, &str, &str); 29] = [
+static RESOLUTIONS: [Row; 29] = [
     // Its own definition, not the imports of the name.
     ("A", "x", "2.1"),
     // The first import of the name.
@@ -148,17 +161,11 @@ static RESOLUTIONS: [(&str, &str, &str); 29] = [
 
 #[test]
 fn names_are_decided(rt: HostRuntime) -> Result<(), Fail> {
-    let modules = parse_modules(rt.alloc(), MODULES)?;
-    assert_decisions(&rt, rt.alloc(), &modules)
+    let modules = modules_of(rt.alloc(), MODULES)?;
+    assert_names(&rt, rt.alloc(), &modules, &[], &DECISIONS)
 }
 
-fn assert_decisions(rt: &impl Abort, alloc: Global, modules: &[Module]) -> Result<(), Fail> {
-    let names = Names::new(alloc, NameHash::Fixed, modules)?;
-    assert!(rt; undecided_row(&names, &DECISIONS).is_none());
-    Ok(())
-}
-
-static DECISIONS: [(&str, &str, Decided<'static>); 10] = [
+static DECISIONS: [Decision; 10] = [
     ("A", "x", Some((10, "", 0))),
     ("A", "T", Some((20, "", 0))),
     ("A", "y", Some((2, "B", 0))),

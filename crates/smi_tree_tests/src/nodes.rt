@@ -1,8 +1,8 @@
 //! The nodes of definitions, in order of loading.
 
-use crate::reading::oid;
-use smi_names::{Gathered, NameHash, Names, Source, gather_nodes};
-use smi_text::{Module, parse_modules};
+use crate::reading::{modules_of, names_of, oid};
+use smi_names::{Gathered, Source, gather_nodes};
+use smi_text::Module;
 use snmp_oid::Oid;
 use std::alloc::Global;
 use std::process::Abort;
@@ -35,12 +35,12 @@ static NODES: [(Option<(usize, usize)>, &str); 7] = [
 
 #[test]
 fn nodes_come_in_order_of_loading(rt: HostRuntime) -> Result<(), Fail> {
-    let modules = parse_modules(rt.alloc(), MODULES)?;
+    let modules = modules_of(rt.alloc(), MODULES)?;
     assert_nodes(&rt, rt.alloc(), &modules)
 }
 
 fn assert_nodes(rt: &impl Abort, alloc: Global, modules: &[Module]) -> Result<(), Fail> {
-    let names = Names::new(alloc, NameHash::Fixed, modules)?;
+    let names = names_of(alloc, modules)?;
     let gathered = gather_nodes(alloc, &names, modules)?;
     assert_gathered(rt, &gathered)
 }

@@ -1,7 +1,11 @@
 //! Helpers of the tests: two modules, identifiers from texts, and what names resolve to.
 
-use smi_names::Resolution;
+ghost use Rattle.std.specs.Prelude.{◌≡◌, IfOk};
+
+use smi_names::{NameHash, Names, Resolution};
+use smi_text::{Module, parse_modules};
 use snmp_oid::{Oid, parse_numeric};
+use std::alloc::Global;
 use std::test::Fail;
 
 /// Two modules with an object, two tables, and names that are missing or lead back to themselves.
@@ -42,6 +46,19 @@ END
 /// The identifier of a text such as `1.3.6`.
 pub(crate) fn oid(text: &str) -> Result<Oid, Fail> {
     Ok(parse_numeric(text.as_bytes()).ok().ok_or("no identifier")?)
+}
+
+/// The modules of a text.
+pub(crate) fn modules_of(alloc: Global, text: &[u8]) -> Result<Vec<Module>, Fail> {
+    Ok(parse_modules(alloc, text)?)
+}
+
+/// The names of modules, in a box, whose `drop` is proved once.
+pub(crate) fn names_of<'a>(alloc: Global, modules: &'a [Module]) -> Result<Box<Names<'a>>, Fail>
+    ensures { IfOk result (λ names. names.value ≡ modules.now) }
+{
+    let names = Names::new(alloc, NameHash::Fixed, modules)?;
+    Ok(Box::new(alloc, names)?)
 }
 
 /// Whether a name resolves to this identifier, or for this reason to none.

@@ -1,9 +1,8 @@
 //! Names by the tree of the tiny modules. `tests/program.sh` tests what else is shown by modules.
 
-use crate::reading::{TINY, oid};
+use crate::reading::{TINY, modules_of, oid};
 use smi_show::{Letters, LineWriter, line, name_text, resolve};
 use smi_show_tests::names::random_oid;
-use smi_text::parse_modules;
 use smi_tree::{NameHash, Tree};
 use snmp_oid::Oid;
 use snmp_wire::ValueRef;
@@ -17,10 +16,11 @@ const MAC: &str = "1.3.6.1.4.1.32473.2.1.2.3.119.101.115";
 
 const USE: &str = "1.3.6.1.4.1.32473.3.1.1.119.101.115";
 
-fn tiny(alloc: Global) -> Result<Tree, Fail> {
-    let modules = parse_modules(alloc, TINY)?;
+/// The tree of the tiny modules, in a box, whose `drop` is proved once.
+fn tiny(alloc: Global) -> Result<Box<Tree>, Fail> {
+    let modules = modules_of(alloc, TINY)?;
     let (tree, _warnings) = Tree::load(alloc, NameHash::Fixed, modules)?;
-    Ok(tree)
+    Ok(Box::new(alloc, tree)?)
 }
 
 #[test]
@@ -98,8 +98,12 @@ fn is_read_back(alloc: Global, tree: &Tree, letters: &str, name: &Oid) -> Result
 #[test]
 fn a_writer_shows_each_line_as_it_is_alone(rt: HostRuntime) -> Result<(), Fail> {
     let tree = tiny(rt.alloc())?;
+    assert_writers(&rt, rt.alloc(), &tree)
+}
+
+fn assert_writers(rt: &impl Abort, alloc: Global, tree: &Tree) -> Result<(), Fail> {
     for letters in ["", "b", "f", "n", "q", "v"] {
-        assert_written(&rt, rt.alloc(), &tree, &letters_of(letters)?)?;
+        assert_written(rt, alloc, tree, &letters_of(letters)?)?;
     }
     Ok(())
 }
@@ -133,10 +137,14 @@ fn is_written_alike(
     letters: &Letters,
     name: &Oid,
 ) -> Result<bool, Fail> {
-    let value = ValueRef::Integer(1);
-    let mut alone = Vec::new(alloc);
-    line(tree, letters, name, &value, &mut alone)?;
+    let alone = alone(alloc, tree, letters, name)?;
     let mut written = Vec::new(alloc);
-    writer.line(letters, name, &value, &mut written)?;
+    writer.line(letters, name, &ValueRef::Integer(1), &mut written)?;
     Ok(written.as_slice() == alone.as_slice())
+}
+
+fn alone(alloc: Global, tree: &Tree, letters: &Letters, name: &Oid) -> Result<Vec<u8>, Fail> {
+    let mut text = Vec::new(alloc);
+    line(tree, letters, name, &ValueRef::Integer(1), &mut text)?;
+    Ok(text)
 }

@@ -1,7 +1,6 @@
 //! Trees of whole modules: their warnings in order, and what each look-up finds.
 
-use crate::reading::oid;
-use smi_text::parse_modules;
+use crate::reading::{modules_of, oid};
 use smi_tree::{NameHash, NodeId, Tree, Warning};
 use snmp_oid::Oid;
 use std::alloc::Global;
@@ -52,11 +51,11 @@ struct Loaded {
     warnings: Vec<Warning>,
 }
 
-/// The tree of a text's modules.
-fn load(alloc: Global, text: &str) -> Result<Loaded, Fail> {
-    let modules = parse_modules(alloc, text.as_bytes())?;
+/// The tree of a text's modules, in a box, whose `drop` is proved once.
+fn load(alloc: Global, text: &str) -> Result<Box<Loaded>, Fail> {
+    let modules = modules_of(alloc, text.as_bytes())?;
     let (tree, warnings) = Tree::load(alloc, NameHash::Fixed, modules)?;
-    Ok(Loaded { tree, warnings })
+    Ok(Box::new(alloc, Loaded { tree, warnings })?)
 }
 
 /// The texts in a row.
@@ -132,9 +131,19 @@ fn say(sentences: &[&str], warnings: &[Warning]) -> bool {
     true
 }
 
+/// The node of a label in a module.
+fn find(tree: &Tree, home: &[u8], label: &[u8]) -> Option<NodeId> {
+    tree.find(home, label)
+}
+
+/// The first node of a label in any module.
+fn find_any(tree: &Tree, label: &[u8]) -> Option<NodeId> {
+    tree.find_any(label)
+}
+
 /// Whether a label in a module has this identifier.
 fn is_found(tree: &Tree, home: &str, label: &str, wanted: &str) -> Result<bool, Fail> {
-    Ok(match tree.find(home.as_bytes(), label.as_bytes()) {
+    Ok(match find(tree, home.as_bytes(), label.as_bytes()) {
         Some(id) => id < tree.len() && tree.node(id).oid == &oid(wanted)?,
         None => false,
     })
@@ -178,9 +187,9 @@ fn assert_tiny_tree(rt: &impl Abort, loaded: &Loaded) -> Result<(), Fail> {
     assert!(rt;
         tree.has_module(b"TINY-MIB")
             && !tree.has_module(b"GONE-MIB")
-            && tree.find(b"TINY-MIB", b"enterprises").is_none()
-            && tree.find(b"GONE-MIB", b"other").is_none()
-            && tree.find_any(b"loopA").is_none()
+            && find(tree, b"TINY-MIB", b"enterprises").is_none()
+            && find(tree, b"GONE-MIB", b"other").is_none()
+            && find_any(tree, b"loopA").is_none()
     );
     Ok(())
 }
@@ -245,7 +254,7 @@ fn assert_one_and_two(rt: &impl Abort, tree: &Tree) -> Result<(), Fail> {
     for (text, expected) in &DEEPEST {
         assert!(rt; is_deepest(tree, text, *expected)?, "{text}");
     }
-    assert!(rt; child(tree, "1", "one")? == tree.find(b"A", b"one"));
+    assert!(rt; child(tree, "1", "one")? == find(tree, b"A", b"one"));
     assert!(rt; child(tree, "1", "two")?.is_none() && child(tree, "2", "one")?.is_none());
     Ok(())
 }
@@ -301,13 +310,13 @@ fn assert_shared(rt: &impl Abort, tree: &Tree) -> Result<(), Fail> {
     assert!(rt; has_nodes(tree, &SHARED_NODES)?);
     for (home, label) in &ABSENT {
         assert!(rt;
-            tree.find(home.as_bytes(), label.as_bytes()).is_none(),
+            find(tree, home.as_bytes(), label.as_bytes()).is_none(),
             "{home}::{label}"
         );
     }
-    assert!(rt; tree.find_any(b"shared") == tree.find(b"A", b"shared"));
-    assert!(rt; tree.find_any(b"mine") == tree.find(b"B", b"mine"));
-    assert!(rt; tree.find_any(b"iso") == Some(1) && tree.find_any(b"gone").is_none());
+    assert!(rt; find_any(tree, b"shared") == find(tree, b"A", b"shared"));
+    assert!(rt; find_any(tree, b"mine") == find(tree, b"B", b"mine"));
+    assert!(rt; find_any(tree, b"iso") == Some(1) && find_any(tree, b"gone").is_none());
     Ok(())
 }
 
@@ -379,7 +388,7 @@ fn has_wide_tree(alloc: Global, text: &str) -> Result<bool, Fail> {
 fn is_wide(tree: &Tree) -> Result<bool, Fail> {
     Ok(
         children_in_order(tree, &oid("1.9")?) == Some(5000)
-            && child(tree, "1.9", "c4999")? == tree.find(b"M", b"c4999")
+            && child(tree, "1.9", "c4999")? == find(tree, b"M", b"c4999")
             && child(tree, "1.9", "top")?.is_none(),
     )
 }

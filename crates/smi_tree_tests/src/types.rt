@@ -1,10 +1,11 @@
 //! The syntax of objects: what their chains of types give, through modules that import from one
 //! another.
 
+ghost use Rattle.std.specs.Prelude.{IfOk};
 ghost use Rattle.smi_tree.specs.types.Kept.{AreTypesOf};
 
-use smi_names::{NameHash, Names};
-use smi_text::{Module, NamedNumber, Range, parse_modules};
+use crate::reading::{modules_of, names_of};
+use smi_text::{Module, NamedNumber, Range};
 use smi_tree::{TypeBase, TypeSyntax, Types};
 use std::alloc::Global;
 use std::process::Abort;
@@ -33,7 +34,7 @@ END
 fn modules(alloc: Global, rows: &[Row<'_>]) -> Result<Vec<Module>, Fail> {
     let mut text = String::new(alloc);
     push_objects(&mut text, rows)?;
-    Ok(parse_modules(alloc, text.as_bytes())?)
+    modules_of(alloc, text.as_bytes())
 }
 
 fn push_objects(text: &mut String, rows: &[Row<'_>]) -> Result<(), Fail> {
@@ -111,9 +112,15 @@ fn wrong_row_from(
     first: usize,
     rows: &[Row<'_>],
 ) -> Result<Option<usize>, Fail> {
-    let names = Names::new(alloc, NameHash::Fixed, modules)?;
-    let types = Types::new(alloc, &names, modules)?;
+    let types = types_of(alloc, modules)?;
     Ok(first_wrong(modules, &types, first, rows))
+}
+
+fn types_of(alloc: Global, modules: &[Module]) -> Result<Types, Fail>
+    ensures { IfOk result (λ types. AreTypesOf modules.now types) }
+{
+    let names = names_of(alloc, modules)?;
+    Ok(Types::new(alloc, &names, modules)?)
 }
 
 fn first_wrong(modules: &[Module], types: &Types, first: usize, rows: &[Row<'_>]) -> Option<usize>
@@ -169,8 +176,7 @@ fn only_objects_have_a_syntax(rt: HostRuntime) -> Result<(), Fail> {
 }
 
 fn assert_objects(rt: &impl Abort, alloc: Global, modules: &[Module]) -> Result<(), Fail> {
-    let names = Names::new(alloc, NameHash::Fixed, modules)?;
-    let types = Types::new(alloc, &names, modules)?;
+    let types = types_of(alloc, modules)?;
     assert!(rt; first_object(modules, &types) == Some(BEFORE));
     assert!(rt; are_no_objects(modules, &types));
     Ok(())
@@ -215,7 +221,7 @@ fn push_chain(text: &mut String) -> Result<(), Fail> {
 fn chain(alloc: Global) -> Result<Vec<Module>, Fail> {
     let mut text = String::new(alloc);
     push_chain(&mut text)?;
-    Ok(parse_modules(alloc, text.as_bytes())?)
+    modules_of(alloc, text.as_bytes())
 }
 
 #[test]

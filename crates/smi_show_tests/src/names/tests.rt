@@ -235,8 +235,8 @@ fn is_front_fault(tree: &Sample<'_>, text: &[u8], stop: u8, fault: NameError) ->
     }
 }
 
-/// `iso`, 128 sevens, a label and a number that is too great. The first 257 octets are a name of 128
-/// numbers.
+/// `iso`, 128 sevens, a label and a number that is too great. The first 257 octets are a name of
+/// 128 numbers.
 const SEVENS: &[u8] = b"\
 iso.7.7.7.7.7.7.7.7.7.7.7.7.7.7.7.7.7.7.7.7.7.7.7.7.7.7.7.7.7.7.7.7.7.7.7.7.7.7.7.7.7.7.7.7.7.7.\
 7.7.7.7.7.7.7.7.7.7.7.7.7.7.7.7.7.7.7.7.7.7.7.7.7.7.7.7.7.7.7.7.7.7.7.7.7.7.7.7.7.7.7.7.7.7.7.7.\
