@@ -35,7 +35,8 @@ pub trait Output {
     fn faults(&self) -> u64
         ensures { result ≡ (stream self.now).faults };
 
-    /// What is known of that output: it took these octets too, and no other write failed.
+    /// What is known of that output: it took these octets too, and no other write failed. So
+    /// one write of several lines is as good as a write of each.
     ghost after_takes: { (out : Self) (text : List ℕ)
         → stream (after out text) ≡ extended (stream out) text };
 }

@@ -34,6 +34,7 @@ pub trait Links {
     /// Opens a link to the agent at a UDP port of a host. A receive over it waits this many
     /// seconds. A fault is counted.
     fn open(&mut self, host: &str, port: u16, seconds: u64) -> Result<Self::Wire, LinkFault>
+        // A receive waits at least a second.
         requires { 0 < seconds }
         ensures opened { IfOk result (λ wire. opens self.old host.now port seconds wire) }
         ensures fresh { IfOk result (λ wire. (Self.Wire.traffic wire).sent ≡ []) }

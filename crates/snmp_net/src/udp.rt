@@ -62,6 +62,7 @@ impl Link for UdpLink {
     ghost use Rattle.snmp_walk.specs.Link.{Agents};
     ghost use Rattle.snmp_walk.specs.Traffic.{Traffic};
 
+    // Nothing is known of it but its count of faults.
     ghost keeps = { λ _. ⊥ };
 
     ghost honest = { λ _. ⊥ };

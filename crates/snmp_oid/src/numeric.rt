@@ -33,7 +33,9 @@ pub enum OidTextError {
 pub fn parse_numeric(text: &[u8]) -> Result<Oid, OidTextError>
     ensures found { IfOk result (IsNumericName text.now) }
     ensures at_most_128 { IfOk result (λ o. length o ≤ 128) }
+    // A text that names an identifier of at most 128 numbers is read.
     ensures only { (o : List ℕ) → IsNumericName text.now o → length o ≤ 128 → result ≡ Ok o }
+    // The place is that of the first part that is no number of 32 bits, as an empty part isn't.
     ensures bad_number { (at : ℕ)
         → (result ≡ Err (OidTextError.BadNumber at)) ↔ IsFirstBadPart text.now at }
     ensures too_long { (result ≡ Err OidTextError.TooLong) ↔ IsTooLong text.now }

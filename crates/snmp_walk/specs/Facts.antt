@@ -265,7 +265,11 @@ pub record TableFacts (agents : Agents) (old : Traffic) (first : Walker)
 -- rows to the sink, and then the one that was refused, if any was.
 pub record WalkFacts (agents : Agents) (tries : ℕ) (old : Traffic) (first : Walker)
     (rows refused : List VarBind) (end : WalkEnd) (new : Traffic) : Type 0 where
+  -- each row given is the next instance, in one of the tables, after the name before it; before
+  -- these comes the root's own, where the mode says so; in their place a plain walk may give what a
+  -- Get of the root gives
   pub part : IsPartOfWalk (IsNextFrom agents) (IsGotFrom agents) first (rows ++ refused)
+  -- the link and the sink may stop it at any time; each other end comes only for its reason
   pub lawful : IsLawfulEnd agents (HasNoReply agents tries old new) first rows end
   -- the end is that of the request sent last
   pub last_request : IsEndedBy agents (HasNoReply agents tries old new) (IsLastSent tries end new)
@@ -304,6 +308,7 @@ pub record SendFacts (agents : Agents) (honest : Type 0) (tries : ℕ) (old : Tr
   pub sent : new.sent ≡ old.sent ++ sent_by requests
   -- ids rise by one, and each request is sent at most this many times
   pub are_tries : AreTries tries first rows first.id requests
+  -- the last id is at most 2147483647
   pub few : first.id + length requests ≤ 2147483648
   -- each was sent at least once, unless the link failed at the first send of the last,
   pub each_sent : (before : List Try) × (last : Try) × (requests ≡ before ++ last ∷ [])

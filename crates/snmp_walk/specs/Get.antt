@@ -210,6 +210,8 @@ pub record GetFacts (agents : Agents) (tries : ℕ) (old : Traffic) (request : M
   -- it ends with an error status only where the agents' messages have no room, and never because
   -- the reply has other names than those asked for
   pub ends : IsEndOfGet (IsTooBig agents request names) ⊥ (Unit {0}) request names end
+  -- no reply came only where it was sent by each try, and an agent has none or the deliveries lost
+  -- it
   pub lost_without_response : end ≡ ending.NoResponse
       → IsLostGet agents tries old (canon request) new
   -- Where there is room, and each receive gives the reply to the latest datagram, a Get is done

@@ -22,6 +22,7 @@ agents_over tables config = record {
 abbrev pub agents_of : MemoryLink → Agents
 agents_of link = agents_over link.tables.now link.config
 
+-- the datagrams sent over the link, and the deliveries that it hasn't used
 abbrev pub traffic_of : MemoryLink → Traffic
 traffic_of link = record {
   sent = link.arena.datagrams;

@@ -64,6 +64,7 @@ IsException _ = ⊥
 -- alone, and for the name that the walk begins from with an exception.
 pub record HasRoomForEach (agents : Agents) (view : MibView) (first : Walker) : Type 0 where
   pub community : first.community ≡ agents.community
+  -- where a row has room, its name has room with endOfMibView too
   pub rows : (p : VarBind) → IsRow view p → HasRoom agents p
   pub exceptions : (v : Datum) → IsException v
       → HasRoom agents (record { name = first.asked; value = v })

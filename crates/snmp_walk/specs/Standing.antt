@@ -168,6 +168,9 @@ IsReplyTooLarge Next Got Large phase.Last o = IsLarge Got Large o
 IsReplyTooLarge Next Got Large phase.Over o = ⊥
 
 -- the walk may end in this way after these bindings, w being its state that waited for the reply
+-- An error status is tooBig with index 0, and an error status or no progress comes only where a
+-- binding has no room. There are too many requests only after the last id. A reply out of place
+-- never ends it.
 abbrev pub Ends : (Next Got : List ℕ → VarBind → Type 0) → (ℕ → VarBind → Type 0) → Walker
     → Walker → List VarBind → WalkEnd → Type 0
 Ends Next Got Large first w given (ending.Done n) = (n ≡ length given)

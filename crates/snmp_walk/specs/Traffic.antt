@@ -19,6 +19,7 @@ use Rattle.std.specs.Prelude.{
 use Rattle.std.specs.List.{slice_get}
 use Rattle.snmp_walk.specs.Link.{Agents, IsReplyFrom, IsUnanswered}
 
+-- what was sent over a link, and what will be received
 pub record Traffic : Type 0 where
   -- the datagrams sent, in order
   pub sent : List (List ℕ)

@@ -7,6 +7,7 @@ use Rattle.snmp_walk.specs.declared.mode.Method.{Method}
 use Rattle.snmp_walk.specs.declared.mode.Method.TheVariants.{Next, Bulk}
 use Rattle.snmp_walk.specs.declared.phase.Phase.{Phase}
 
+-- a state of a walk, as contracts see it
 pub record Walker : Type 0 where
   pub root : List ℕ
   pub mode : Mode

@@ -96,6 +96,7 @@ impl<'a> MemoryLink<'a> {
     pub fn reserve(&mut self, sends: usize, octets: usize) -> Result<(), AllocError>
         ensures ready { OnOk result (IsReadyFor self.new sends octets) }
         ensures agents { agents_of self.new ≡ agents_of self.old }
+        // Which table replies to which datagram stays the same.
         ensures uses { self.new.uses.now ≡ self.old.uses.now }
         ensures traffic { traffic_of self.new ≡ traffic_of self.old }
         ensures no_fault { self.new.fault_count ≡ self.old.fault_count }

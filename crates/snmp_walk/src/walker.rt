@@ -102,7 +102,9 @@ impl WalkCore {
         requires community { length community.now ≤ 255 }
         requires first_id { first_id < 2 ^ 31 }
         ensures ok { IfOk result (λ w. w ≡ started root mode method community.now first_id) }
+        // It has taken no reply yet.
         ensures fresh { IfOk result IsFresh }
+        // What it gives of a table is the walk of its root.
         ensures walk { IfOk result (λ w. (view : MibView) (got : VarBind) → IsMibView view
             → walk_at w view got ≡ walk_of mode root got (variables view)) }
         ensures variant { IsOk result ↔ IsWire (wire root) }
@@ -142,6 +144,8 @@ impl WalkCore {
         requires first_id { first_id < 2 ^ 31 }
         ensures ok { IfOk result (λ w. w ≡ resumed root after.now method community.now first_id) }
         ensures fresh { IfOk result IsFresh }
+        // What it gives of a table is the rest of the walk: the rows below the root that come
+        // after the name.
         ensures walk { IfOk result (λ w. (view : MibView) (got : VarBind)
             → walk_at w view got ≡ rest_of root (wire after.now) (variables view)) }
         ensures variant { IsOk result ↔ (IsWire (wire root)

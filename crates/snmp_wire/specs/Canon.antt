@@ -20,6 +20,7 @@ unfoldable pub canon_binding : VarBind → List ℕ
 canon_binding binding =
     canon_element sequence_tag (canon_value (object_id binding.name) ++ canon_value binding.value)
 
+-- the bindings, one after the other
 unfoldable pub canon_bindings : List VarBind → List ℕ
 canon_bindings bindings = flat_map canon_binding bindings
 

@@ -31,5 +31,6 @@ pub record Message : Type 0 where
 abbrev pub var_bind : Binding → VarBind
 var_bind b = record { name = b.name; value = datum b.value }
 
+-- the bindings without where they lie
 abbrev pub var_binds : List Binding → List VarBind
 var_binds bindings = map var_bind bindings

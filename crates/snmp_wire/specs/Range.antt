@@ -7,6 +7,7 @@ use Rattle.snmp_wire.specs.ber.Value.{integer_value, octet_string, object_id}
 use Rattle.snmp_wire.specs.Message.{VarBind, Message}
 pub use Rattle.snmp_wire.specs.ber.Range.{IsInRange, IsOfType}
 
+-- the name and the value of the binding are within their ranges
 pub record IsBindingInRange (binding : VarBind) : Type 0 where
   pub name : IsInRange (object_id binding.name)
   pub value : IsInRange binding.value

@@ -43,6 +43,7 @@ fields_at octets = do
   fields ← fields_of binding.0
   Ok (fields, binding.1)
 
+-- the binding of these fields: an identifier, and the value of the tag and the content
 unfoldable pub binding_of : Fields → Result VarBind BerError
 binding_of fields = do
   name ← identifier_of fields.name
@@ -64,6 +65,7 @@ bindings_within (suc fuel) (octet ∷ rest) = do
   more ← bindings_within fuel first.1
   Ok (first.0 ∷ more)
 
+-- the bindings that the octets are, one after the other
 unfoldable pub bindings_of : List ℕ → Result (List VarBind) BerError
 bindings_of octets = bindings_within (length octets) octets
 

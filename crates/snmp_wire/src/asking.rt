@@ -91,6 +91,7 @@ pub fn asking_size(name: &EncodedName<'_>) -> u64
 ///
 /// None only where `out` is shorter, and then it is unchanged.
 pub fn encode_asking(name: &EncodedName<'_>, out: &mut [u8]) -> Option<usize>
+    // The octets after it stay as they were.
     ensures some { IfSome result (λ n.
         (n ≡ length (canon_binding (asking name.now)))
         × (out.new ≡ canon_binding (asking name.now) ++ drop n out.old)) }

@@ -92,6 +92,7 @@ impl<'a> Bindings<'a> {
     /// This is [`Iterator::next`] for a caller that reads many: a binding has over a thousand
     /// octets, and here none of them is moved.
     pub fn read_next(&mut self, into: &mut Binding<'a>) -> bool
+        // Bindings are read in order, and none is left out.
         ensures some { result ≡ true → self.old ≡ var_bind into.new ∷ self.new }
         ensures none { result ≡ false → (self.old ≡ []) × (self.new ≡ []) × (into.new ≡ into.old) }
     {
@@ -353,6 +354,7 @@ pub(crate) fn pair_size(name: &Oid, value: &ValueRef<'_>) -> u64
 /// None only where `out` is shorter, and then it is unchanged.
 pub fn encode_binding(binding: &Binding<'_>, out: &mut [u8]) -> Option<usize>
     requires { IsEncodable (var_bind binding.now) }
+    // The octets after it stay as they were.
     ensures some { IfSome result (λ n.
         (n ≡ length (canon_binding (var_bind binding.now)))
         × (out.new ≡ canon_binding (var_bind binding.now) ++ drop n out.old)) }

@@ -30,6 +30,7 @@ impl Model for EncodedBinding {
 
     ghost view = { λ b. binding_in (octets_of b.octets) };
 
+    // It is kept as the computed encoding of its binding.
     ghost invariant = { λ b. IsKept (octets_of b.octets) };
 }
 
@@ -53,6 +54,7 @@ impl EncodedBinding {
     /// The shortest encoding.
     #[inline]
     pub fn octets(&self) -> &[u8]
+        // The computed encoding; the laws of messages say that none is shorter.
         ensures encoding { result.now ≡ canon_binding self.now }
         ensures range { IsBindingInRange self.now }
     {

@@ -234,6 +234,7 @@ pub fn size(parts: &Parts<'_>) -> u64
     requires bindings { All (λ b. IsEncodable (var_bind b)) parts.now.bindings.now }
     requires total { length (canon_bindings (var_binds parts.now.bindings.now)) ≤ 4000000000 }
     ensures value { result ≡ length (canon (parts_message parts.now)) }
+    // Of a message in range, each shortest encoding has this many octets.
     ensures shortest { (octets : List ℕ) → IsMessageInRange (parts_message parts.now)
         → IsShortestEncoding octets (parts_message parts.now) → result ≡ length octets }
 {
@@ -250,9 +251,11 @@ pub fn encode(parts: &Parts<'_>, out: &mut [u8]) -> Option<usize>
     requires community { length parts.now.community.now ≤ 65535 }
     requires bindings { All (λ b. IsEncodable (var_bind b)) parts.now.bindings.now }
     requires total { length (canon_bindings (var_binds parts.now.bindings.now)) ≤ 4000000000 }
+    // The octets after it stay as they were.
     ensures some { IfSome result (λ n.
         (n ≡ length (canon (parts_message parts.now)))
         × (out.new ≡ canon (parts_message parts.now) ++ drop n out.old)) }
+    // Of a message in range, this is a shortest encoding; it has just one.
     ensures shortest { IsMessageInRange (parts_message parts.now)
         → IfSome result (λ n. IsShortestEncoding (take n out.new) (parts_message parts.now)) }
     ensures variant { IsSome result ↔ (length (canon (parts_message parts.now)) ≤ length out.old) }
@@ -305,9 +308,11 @@ pub fn head_size(parts: &Parts<'_>, total: u64) -> u64
 pub fn encode_head(parts: &Parts<'_>, total: u64, out: &mut [u8]) -> Option<usize>
     requires community { length parts.now.community.now ≤ 65535 }
     requires total { total ≤ 4000000000 }
+    // The octets after it stay as they were.
     ensures some { IfSome result (λ n.
         (n ≡ length (canon_head (parts_message parts.now) total))
         × (out.new ≡ canon_head (parts_message parts.now) total ++ drop n out.old)) }
+    // With these bindings after it, the head of a message in range makes a shortest encoding.
     ensures shortest { (bindings : List VarBind)
         → IsMessageInRange (with_bindings parts.now bindings)
         → total ≡ length (canon_bindings bindings)
@@ -342,6 +347,7 @@ pub fn seal(parts: &Parts<'_>, at: usize, len: usize, out: &mut [u8]) -> Option<
         (n ≡ length (canon_head (parts_message parts.now) len) + len)
         × (take n out.new
         ≡ canon_head (parts_message parts.now) len ++ take len (drop at out.old))) }
+    // Of a message in range, this is a shortest encoding.
     ensures shortest { (bindings : List VarBind)
         → IsMessageInRange (with_bindings parts.now bindings)
         → take len (drop at out.old) ≡ canon_bindings bindings

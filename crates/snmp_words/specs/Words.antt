@@ -263,6 +263,7 @@ serve_words s = record {
   turns = s.turns;
 }
 
+-- the words of a job, with its command
 abbrev pub job_words : Job → Stated
 job_words (job.Translate t) = snmptranslate (translate_words t)
 job_words (job.Get g) = snmpget (get_words g)
@@ -272,6 +273,7 @@ job_words (job.Serve s) = snmpd (serve_words s)
 
 -- ---- refusals
 
+-- memory ran out
 abbrev pub IsMemory : UsageError → Type 0
 IsMemory e = e ≡ Memory
 
@@ -305,6 +307,7 @@ abbrev pub walk_line : List Text → Text → Text → List Text
 walk_line letters path numbers = codes "snmp" ∷ codes "snmpwalk" ∷ (letters ++ ((codes "table:"
     ++ path) ∷ (codes "." ++ numbers) ∷ []))
 
+-- what that line states: letters for numbers, and the defaults for all else
 abbrev pub words_of_walk : Text → Text → WalkWords
 words_of_walk path numbers = record {
   asking = record {
@@ -329,6 +332,7 @@ abbrev pub translate_line : (first second name : Text) → List Text
 translate_line first second name = codes "snmp" ∷ codes "snmptranslate" ∷ (codes "--mib=" ++ first)
     ∷ (codes "--mib=" ++ second) ∷ codes "-Td" ∷ (codes "." ++ name) ∷ []
 
+-- what that line states
 abbrev pub words_of_translation : (first second name : Text) → TranslateWords
 words_of_translation first second name = record {
   mibs = first ∷ second ∷ [];
@@ -342,6 +346,7 @@ abbrev pub get_line : (modules host first second : Text) → List Text
 get_line modules host first second = codes "snmp" ∷ codes "snmpget" ∷ (codes "--mib=" ++ modules)
     ∷ codes "-On" ∷ (codes "udp:" ++ host) ∷ (codes "." ++ first) ∷ (codes "." ++ second) ∷ []
 
+-- what that line states, with the defaults
 abbrev pub words_of_get : (modules host first second : Text) → GetWords
 words_of_get modules host first second = record {
   asking = record {

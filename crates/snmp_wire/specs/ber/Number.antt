@@ -2,6 +2,7 @@
 use Rattle.std.specs.Prelude.{◌≡◌, ℕ, ℤ, pos, ◌-ℤ◌, ◌+◌, ◌*◌, ◌^◌, ◌<◌, ◌≤◌, ◌⊎◌, List, [], ◌∷◌}
 use Rattle.std.specs.Prelude.{length, slice_index, nat_lt, if◌then◌else◌, All}
 
+-- each number is an octet
 abbrev pub AreOctets : List ℕ → Type 0
 AreOctets octets = All (λ octet. octet < 256) octets
 

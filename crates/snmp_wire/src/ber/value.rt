@@ -57,6 +57,7 @@ pub enum ValueRef<'a> {
 // Hot: each binding that is checked.
 #[inline(always)]
 pub fn check_value(tag: u8, content: &[u8]) -> Result<(), BerError>
+    // Ok exactly where they encode a value: `value_gives` and `value_again` of the proofs.
     ensures { AgreesBy (λ u. u) result (checked (reading.typed_value tag content.now)) }
 {
     match tag {
@@ -246,6 +247,8 @@ pub fn put_value(out: &mut [u8], end: usize, value: &ValueRef<'_>) -> usize
     requires encodable { IsEncodableValue (datum value.now) }
     requires room { length (canon_value (datum value.now)) ≤ end }
     requires within { end ≤ length out.old }
+    // What is written of a value in range is a strict encoding, and no other is as short:
+    // `spells_value` and `value_least` of the proofs.
     ensures { Writes out.old result end (canon_value (datum value.now)) out.new }
 {
     match value {
