@@ -36,6 +36,7 @@ pub record IsValueText (naming : Naming) (letters : Letters) (syntax : Option Ob
   pub are_names : AreNamesBy naming letters names
   pub shows : ShowsValue names letters syntax value text
 
+-- the text is the line of a binding: its name, its value and a newline, by the letters
 pub record IsLine (naming : Naming) (letters : Letters) (syntax : Option ObjectSyntax)
     (name : List ℕ) (value : Datum) (text : List ℕ) : Type 0 where
   pub shown_name : List ℕ

@@ -36,6 +36,7 @@ pub struct Found<'a> {
 
 /// A tree of nodes that knows the syntax of objects.
 pub trait ShowTree: DetailTree {
+    // The syntax that the tree has for an identifier.
     ghost syntax_at: { Self → List ℕ → Option ObjectSyntax };
 
     /// The syntax of the node that stands for the longest beginning of an identifier, if that is an

@@ -33,6 +33,7 @@ impl<'t, T: ShowTree> Model for LineWriter<'t, T> {
 
     ghost view = { λ w. w.tree.now };
 
+    // What it keeps was found by its tree for each name below one identifier.
     ghost invariant = { λ w. IsFoundBelow (T.naming w.tree.now) (T.syntax_at w.tree.now) w.found };
 }
 

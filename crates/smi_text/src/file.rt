@@ -163,6 +163,8 @@ pub fn parse_modules(alloc: Global, text: &[u8]) -> Result<Vec<Module>, ParseErr
         → MatchResult result (λ found. found.items ≡ ms) (λ error. error ≡ ParseError.Memory) }
 
     // Each error is returned only with its cause.
+    // The lexer's fault where the text breaks off, Syntax where it spells no modules, and
+    // DoubleName with the line of the first definition of a name that its module has defined.
     ensures cause { IfErr result (λ error. IsCause error text.now) }
 {
     let mut parser = Parser::new(alloc, text);

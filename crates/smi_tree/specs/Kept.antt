@@ -21,6 +21,7 @@ contents ms ss os types indexes = record {
   indexes = indexes;
 }
 
+-- what a tree keeps is the tree of its modules, and the places by which it finds names
 pub record IsTreeKept (ms : List Module) (ss : List Source) (os : List (List ℕ)) (types : Types)
     (indexes : List (Option (List IndexPart))) (of_homes of_labels : Places)
     (of_others : Others) : Type 0 where

@@ -14,6 +14,7 @@ pub record Longest : Type 0 where
   pub place : ℕ
   pub depth : ℕ
 
+-- what the code returns of the longest beginning: the place of its node, and its length
 abbrev pub longest_of : Deepest → Longest
 longest_of d = record { place = d.place; depth = d.depth }
 
@@ -28,6 +29,7 @@ longest_up_to oids o zero = at_depth 0 (place_of oids [])
 longest_up_to oids o (suc j) =
     or_else (at_depth (suc j) (place_of oids (take (suc j) o))) (longest_up_to oids o j)
 
+-- the node whose identifier is the longest beginning of o, None where none is one
 abbrev pub longest : List Node → List ℕ → Option Longest
 longest nodes o = longest_up_to (oids_of nodes) o (length o)
 

@@ -149,6 +149,7 @@ impl Tree {
 
     /// A node.
     pub fn node(&self, id: NodeId) -> Node<'_>
+        // The place is that of a node.
         requires { id < length self.now.nodes }
         ensures { slice_get self.now.nodes id ≡ Some (seen_node result) }
     {

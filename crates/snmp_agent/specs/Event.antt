@@ -17,12 +17,14 @@ abbrev pub logged : {Peer : Type 0} → Option (List (Event Peer)) → List (Eve
     → Option (List (Event Peer))
 logged log events = option_map (λ before. before ++ events) log
 
+-- what a receive adds to the log: a datagram that came, silence, or a fault
 abbrev pub event_of_receive : {Peer : Type 0} → Result (Option (ℕ × Peer)) EndpointFault → List ℕ
     → List (Event Peer)
 event_of_receive (Ok (Some (n, peer))) buffer = came peer (take n buffer) ∷ []
 event_of_receive (Ok None) buffer = silence ∷ []
 event_of_receive (Err _) buffer = receive_failed ∷ []
 
+-- what a send adds to the log: a datagram that was sent, or a fault
 abbrev pub event_of_reply : {Peer : Type 0} → Result (Unit {0}) EndpointFault → Peer → List ℕ
     → List (Event Peer)
 event_of_reply (Ok _) peer datagram = sent peer datagram ∷ []

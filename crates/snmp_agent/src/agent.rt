@@ -42,9 +42,12 @@ pub fn answer(
     request: &[u8],
     out: &mut [u8; MAX_DATAGRAM],
 ) -> Outcome
+    // A GetBulk gets as many of its bindings as fit; where another Response doesn't fit, tooBig
+    // comes.
     ensures reply { (n : ℕ) → result ≡ Outcome.Reply n
         → IsReply (agent_of table.now config.now) request.now (take n out.new) }
     ensures length { (n : ℕ) → result ≡ Outcome.Reply n → n ≤ config.now.max_size }
+    // The reason is the first that applies.
     ensures dropped { (why : Why) → result ≡ Outcome.Dropped why
         → IsDropped (agent_of table.now config.now) request.now why }
 {

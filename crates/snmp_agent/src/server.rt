@@ -55,9 +55,12 @@ pub fn serve_at<E: Endpoint>(
     turns: u64,
 ) -> Served
     ensures adds_up { result.replies + result.dropped + result.idle + result.faults ≡ turns }
+    // Where a log is kept: each datagram that came got the agent's reply, sent to its peer, or is
+    // one that the agent drops, or the send of that reply failed.
     ensures turns { (events : List (Event E.Peer))
         × AreTurns (agent_of table.now config.now) turns result events
         × (E.log endpoint.new ≡ logged (E.log endpoint.old) events) }
+    // As many receives and sends failed as turns count as faults.
     ensures faults { HasRisenBy result.faults (E.fault_count endpoint.old)
         (E.fault_count endpoint.new) }
 {

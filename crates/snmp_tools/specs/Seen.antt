@@ -9,6 +9,7 @@ pub record Seen (N : Type 0) : Type 0 where
   pub out : Stream
   pub err : Stream
 
+-- the world outside, as contracts see it
 abbrev pub seen : {N : Type 0} → Holdings → (links : N) → (out err : Stream) → Seen N
 seen {N} files links out err =
     record { files = files; links = links; out = out; err = err }

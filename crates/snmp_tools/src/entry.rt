@@ -30,20 +30,26 @@ pub fn tool<F: ModuleFiles<E>, L: Links, O: Output, E: ErrorOutput>(
     out: &mut O,
     err: &mut E,
 ) -> u8
+    // A walk of a table file in numbers prints the lines of its rows below the root, and no
+    // others.
     ensures rows_printed { (path root text : List ℕ)
         → texts_at words.now ≡ table_walk path root
         → HoldsTableFile (F.text_at files.now) path root text
         → PrintsRows (lines text) root (O.stream out.old) (O.stream out.new)
         (E.stream err.old) (E.stream err.new) result }
+    // The job that the words state is done, or refused as its steps say.
     ensures done { (job : Stated) → AreFaultless (texts_at words.now)
         → StateJob (texts_at words.now) job
         → IsJobDone L.Links L.Wire.Link (F.loads files.now) job
         (seen (F.text_at files.now) links.old (O.stream out.old) (E.stream err.old))
         (seen (F.text_at files.now) links.new (O.stream out.new) (E.stream err.new)) result }
+    // Words without a fault that state no job, if there are any, are refused for want of memory.
     ensures unstated { AreFaultless (texts_at words.now)
         → ((job : Stated) → StateJob (texts_at words.now) job → ⊥)
         → ReportsOnly (codes "Out of memory.\n") (O.stream out.old) (O.stream out.new)
         (E.stream err.old) (E.stream err.new) result }
+    // Words with a fault give status 1 and a message, or ask for help or the version, which is
+    // printed.
     ensures help_or_mistake { AreFaulty (texts_at words.now)
         → IsHelpOrMistake (texts_at words.now) (O.stream out.old) (O.stream out.new)
         (E.stream err.old) (E.stream err.new) result }

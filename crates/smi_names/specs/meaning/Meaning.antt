@@ -104,6 +104,7 @@ abbrev pub origin_in : QualifiedName → Option Module → Origin QualifiedName
 origin_in a None = nowhere
 origin_in a (Some m) = origin_by a (decision m a.name)
 
+-- where a name of a module comes from
 abbrev pub origin : List Module → QualifiedName → Origin QualifiedName
 origin ms a = origin_in a (module_named ms a.home)
 

@@ -20,6 +20,7 @@ NamePlaces = IndexMap (List ℕ) ℕ NameHash
 abbrev pub place_in : NamePlaces → List ℕ → Option ℕ
 place_in scope x = get bytes_eq scope x
 
+-- what decides a name: a definition, an import, or a root
 abbrev pub decision_of : Decider → Decision
 decision_of (D.Definition d) = defined d.now
 decision_of (D.Import i) = imported i.now
@@ -31,6 +32,7 @@ pub record Content : Type 0 where
   pub name : List ℕ
   pub decided : Decision
 
+-- what an entry of the code says
 abbrev pub content_of : Entry → Content
 content_of e = record { home = e.«module».now; name = e.name.now; decided = decision_of e.decider }
 

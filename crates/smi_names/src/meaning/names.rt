@@ -74,6 +74,8 @@ impl<'a> Names<'a> {
 
     /// What a name resolves to in the module named `home`; None if it has no meaning there.
     pub fn resolution(&self, home: &'a [u8], name: &'a [u8]) -> Option<&Resolution>
+        // The module's own definition decides, else an import with the meaning of the name there,
+        // else a root. It leads to one identifier, or to none for one reason.
         ensures { let qualified : QualifiedName = record { home = home.now; name = name.now } in
             MatchOption result (origin self.now qualified ≡ nowhere)
             (λ resolution. ComesTo (origin self.now) qualified resolution.now) }

@@ -225,6 +225,7 @@ pub fn gather_nodes<'a>(
     names: &Names<'a>,
     modules: &'a [Module],
 ) -> Result<Gathered, AllocError>
+    // The names are those of these modules.
     requires { names.now ≡ modules.now }
     ensures { IfOk result (λ gathered. AreGathered modules.now gathered modules.now) }
 {

@@ -3,6 +3,7 @@ use Rattle.std.specs.Option.{option_copied}
 use Rattle.smi_show.specs.name.Naming.{Standing}
 use Rattle.smi_show.specs.declared.name.tree.Node.{Node}
 
+-- what a node of the code says
 abbrev pub standing_of : Node → Standing
 standing_of node = record {
   home = option_copied node.home;

@@ -16,6 +16,7 @@ use snmp_io::Draft;
 #[tactic(auto, using(crate::proofs::TokenTexts::own_tokens))]
 pub fn syntax_text(syntax: &Syntax, draft: &mut Draft)
     ensures added { Adds draft.old (syntax_text syntax.now) draft.new }
+    // They are the tokens that the spelling of modules has for the type.
     ensures own_tokens { (tokens : List Lexeme) → AreTokensOf syntax.now tokens
         → syntax_text syntax.now ≡ joined_by_blanks tokens }
 {

@@ -9,6 +9,7 @@ use snmp_oid::Oid;
 
 /// A tree of nodes that knows their definitions.
 pub trait DetailTree: NameTree {
+    // The definition that the tree has for an identifier.
     ghost definition_at: { Self → List ℕ → Option Def };
 
     /// The definition of the node that stands for the longest beginning of an identifier; None if

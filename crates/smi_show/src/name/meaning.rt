@@ -33,6 +33,7 @@ use snmp_oid::{Oid, front_number, names, read_numeric};
 /// numbers, is read back.
 pub fn resolve<T: NameTree>(tree: &T, text: &[u8]) -> Result<Oid, NameError>
     ensures stated { TextMeans (T.naming tree.now) text.now result }
+    // What is shown by module and label, or in numbers, means the identifier that it is shown for.
     ensures reads_back { (form : NameForm) (numeric_index : Bool) (o : List ℕ)
         → ReadsBack form → IsIdentifier o
         → IsName (T.naming tree.now) form numeric_index o text.now → result ≡ Ok o }

@@ -23,6 +23,7 @@ pub struct Node<'a> {
 
 /// A tree of nodes with labels, by which names are read and shown.
 pub trait NameTree {
+    // What the look-ups of the tree return.
     ghost naming: { Self → Naming };
 
     /// Whether a module of this name is loaded.

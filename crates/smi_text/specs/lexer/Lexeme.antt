@@ -64,6 +64,7 @@ IsLiteral is_digit upper lower text = (digits : List ℕ) × (letter : ℕ)
     × (text ≡ codes "'" ++ digits ++ codes "'" ++ letter ∷ [])
     × IsTrue (list_all is_digit digits) × ((letter ≡ upper) ⊎ (letter ≡ lower))
 
+-- the text is a lexeme of this kind
 abbrev pub IsLexeme : TokenKind → List ℕ → Type 0
 IsLexeme K.Lower text = IsWord is_ascii_lowercase text
 IsLexeme K.Upper text = IsWord is_ascii_uppercase text

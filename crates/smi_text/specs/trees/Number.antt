@@ -72,9 +72,11 @@ up_to most n = then_some (nat_le n most) n
 abbrev pub arc_in : List ℕ → Option ℕ
 arc_in x = then_some (is_arc x) (magnitude x)
 
+-- the number that the token writes, None where it is none
 abbrev pub stated_number : List ℕ → Option ℤ
 stated_number x = then_some (is_number x) (signed_value x)
 
+-- the end of a range that the token writes, None where it is none
 abbrev pub bound_in : TokenKind → List ℕ → Option ℤ
 bound_in k x = then_some (is_bound k x) (bound_value k x)
 

@@ -29,5 +29,6 @@ reserved_words =
     codes "INDEX" ∷ codes "IMPLIED" ∷ codes "AUGMENTS" ∷ codes "OF" ∷ codes "INTEGER" ∷
     codes "OCTET" ∷ codes "STRING" ∷ codes "BITS" ∷ codes "SIZE" ∷ []
 
+-- a word that can't be a name
 unfoldable pub is_reserved : List ℕ → Bool
 is_reserved x = list_any (same_text x) reserved_words

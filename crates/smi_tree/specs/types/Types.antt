@@ -146,6 +146,7 @@ object_in (Some m) (Some d) = origin_of_object m.name.octets d
 abbrev pub def_at : List Module → ℕ → ℕ → Option Def
 def_at ms i k = option_and_then (λ m. slice_get m.defs k) (slice_get ms i)
 
+-- where the syntax of a definition comes from, each by its place
 abbrev pub object_origin : List Module → ℕ → ℕ → TypeOrigin QualifiedName
 object_origin ms i k = object_in (slice_get ms i) (def_at ms i k)
 
@@ -156,6 +157,7 @@ pub record Facts : Type 0 where
   pub names : Option (List NamedNumber)
   pub sizes : Option (List Range)
 
+-- the chain of types from here gives these facts
 pub record HasSyntax (ms : List Module) (origin : TypeOrigin QualifiedName) (facts : Facts)
     : Type 0 where
   pub layers : List Layer
@@ -164,5 +166,6 @@ pub record HasSyntax (ms : List Module) (origin : TypeOrigin QualifiedName) (fac
   pub names : facts.names ≡ nearest (λ l. l.names) layers
   pub sizes : facts.sizes ≡ nearest (λ l. l.sizes) layers
 
+-- no chain of types leads from here to a base type
 abbrev pub HasNoSyntax : List Module → TypeOrigin QualifiedName → Type 0
 HasNoSyntax ms origin = (facts : Facts) → HasSyntax ms origin facts → ⊥

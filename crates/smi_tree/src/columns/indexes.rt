@@ -45,6 +45,7 @@ impl Indexes {
         sources: &[Source],
         identifiers: &Identifiers,
     ) -> Result<Indexes, AllocError>
+        // Names, types, sources and identifiers are those of these modules.
         requires named { names.now ≡ modules.now }
         requires typed { AreTypesOf modules.now types.now }
         requires long { length sources.now ≡ length identifiers.now }

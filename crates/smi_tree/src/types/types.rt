@@ -48,6 +48,7 @@ impl Types {
         names: &Names<'a>,
         modules: &'a [Module],
     ) -> Result<Types, AllocError>
+        // The names are those of these modules.
         requires { names.now ≡ modules.now }
         ensures { IfOk result (λ types. AreTypesOf modules.now types) }
     {

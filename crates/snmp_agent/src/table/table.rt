@@ -39,6 +39,7 @@ impl Model for Table {
 
     ghost view = { λ t. view_of t.rows (map (λ o. o.items) t.objects.keys) };
 
+    // Every table is a MIB view.
     ghost invariant = { λ t. IsMibView (view_of t.rows (map (λ o. o.items) t.objects.keys)) };
 }
 

@@ -7,6 +7,7 @@ use Rattle.snmp_tools.specs.declared.loading.error.FilesError.{FilesError}
 use Rattle.snmp_tools.specs.declared.loading.error.FilesError.TheVariants as error
 use Rattle.snmp_tools.specs.loading.Files.{Refusal, faulty, no_memory, unreadable}
 
+-- what an error of the code means
 abbrev pub refusal_of : FilesError → Refusal
 refusal_of (error.Unreadable path) = unreadable path.now
 refusal_of (error.Text path fault) = faulty path.now fault

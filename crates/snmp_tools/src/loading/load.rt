@@ -34,6 +34,7 @@ pub fn load_tree<'a, F: Files, E: ErrorOutput>(
     ensures only { (ms : List Module)
         → AreModulesOf (Holds (F.text_at files.now)) (texts paths.now) ms
         → IfErr result (λ e. refusal_of e ≡ no_memory) }
+    // After an error nothing was written.
     ensures untold { OnErr result (E.stream err.new ≡ E.stream err.old) }
 {
     let modules = read_modules(alloc, files, paths)?;

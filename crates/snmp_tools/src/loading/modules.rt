@@ -40,6 +40,8 @@ pub trait ModuleFiles<E: ErrorOutput>: Files {
         ensures loaded { IfOk result (λ names. AreLoadedAs (MayHold (Self.text_at self.now))
             (texts paths.now) (Self.Names.naming names) (Self.Names.definition_at names)
             (Self.Names.syntax_at names) (E.stream err.old) (E.stream err.new)) }
+        // Nothing else says this of the error output. So a job that acts before it loads, or that
+        // writes the warnings by itself, doesn't meet its contract.
         ensures loads { OnOk result (
             loads self.now (texts paths.now) (E.stream err.old) (E.stream err.new)) }
         ensures refused { IfErr result (λ e.
