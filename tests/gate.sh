@@ -1,0 +1,272 @@
+#!/usr/bin/env bash
+# Tests what decides whether the other tests say anything: the gate, whether a program is that of the sources, and the
+# build of ./snmp; in folders of its own, with a stand-in for the toolchain.
+#
+#   tests/gate.sh [WORD..]      runs the tests whose titles contain one of the words; without words, all
+# shellcheck disable=SC2016  # scripts are written that expand later
+. "$(dirname "${BASH_SOURCE[0]}")/lib/tests.sh"
+
+# -- a checkout of four crates, and a stand-in for rt
+
+# tree: a new one, in $tree: `app` and `other` are programs, `app` stands on `mid`, `mid` and `other` on `low`.
+tree=$got/tree
+tree() {
+    rm -rf "$tree"
+    mkdir -p "$tree/tests/lib" "$tree/.ci" "$got/bin"
+    local crate
+    for crate in snmp other; do mkdir -p "$tree/crates/$crate/src"; echo 'fn main' >"$tree/crates/$crate/src/main.rt"; done
+    for crate in mid low; do
+        mkdir -p "$tree/crates/$crate/src/part" "$tree/crates/$crate/specs"
+        echo "mod $crate" | tee "$tree/crates/$crate/src/lib.rt" >"$tree/crates/$crate/src/part/deep.rt"
+    done
+    printf '%s\n' '# The crates.' 'low:' 'mid: low kit' 'snmp: mid' 'other: low' >"$tree/crates.txt"
+    printf '%s\n' '# A page' 'Proved with: `kit-1`. It' >"$tree/README.md"
+    cp -r "$top/snmp" "$top/tools" "$tree"
+    cp "$top/tests/is-current" "$tree/tests"
+    cp "$top/.ci/run" "$tree/.ci"
+    printf '%s\n' '#!/bin/sh' 'echo "13 crates are as their edits were tried"' >"$tree/tests/edits.py"
+    for part in wrong.py gate.sh program.sh operator.sh sessions.py random_walks.py network.py attack.py heap.py room.py \
+        modules.py edge.py fleet.py; do
+        printf '%s\n' '#!/bin/sh' "echo \"\${SAYS:-1 passed, 0 failed, 0 skipped}\"" >"$tree/tests/$part"
+    done
+    chmod +x "$tree"/tests/*.*
+    : >"$got/calls"
+}
+
+# The stand-in writes what it is called for, and builds programs of what stands in their sources; $rt is run before.
+cat >"$got/rt" <<'RT'
+#!/usr/bin/env bash
+here=${PWD##*/}
+echo "$1 $here begins" >>"$CALLS"
+eval "${RT_DOES:-}"
+build() { mkdir -p "$1/out" && { echo '#!/bin/sh'; cat "$1"/src/*.rt | sed 's/^/# /'; echo 'echo "snmp ran: $*"'; } >"$1/out/new" &&
+    chmod +x "$1/out/new" && mv "$1/out/new" "$1/out/$2"; }
+case $1 in
+    run) build . "$here" ;;
+    ci) for at in crates/*/src/main.rt; do at=${at%/src/main.rt}; build "$at" "${at##*/}"; done; echo "5 passed, 0 failed (of these 2 in this run)" ;;
+esac
+echo "$1 $here ends" >>"$CALLS"
+RT
+mkdir -p "$got/bin"
+mv "$got/rt" "$got/bin/rt"
+chmod +x "$got/bin/rt"
+export CALLS=$got/calls
+PATH=$got/bin:$PATH
+
+in_tree() { (cd "$tree" && "$@" 2>&1); }
+program=crates/snmp/out/snmp
+# current TITLE STATUS MESSAGE: the program is that of the sources, or it is said why it isn't; and of a program of another
+# crate that stands on nothing that was changed it is the same as before.
+current() {
+    local said
+    said=$(in_tree tests/is-current "$program")
+    same "$1" "$2 ${3:+tests/is-current: $program$3: ./snmp --build builds snmp, and ./.ci/run all programs}" "$? $said"
+}
+stale=" isn't that of the sources as they stand"
+built() { tree && in_tree ./snmp --build >"$got/out"; }
+
+# -- whether a program is that of the sources
+
+tree
+current 'a program that is not built' 1 " isn't built"
+mkdir -p "$tree/crates/snmp/out"
+cp /bin/true "$tree/$program"
+current 'a program of which nothing says what it is built from' 1 ': nothing says what it was built from'
+built
+current 'a program by ./snmp --build' 0 ''
+current 'a program that is asked for again' 0 ''
+touch "$tree/crates/low/src/lib.rt"
+current 'a source that has another date alone' 0 ''
+sleep 1.1
+touch "$tree/crates/low/src/lib.rt" -d 2000-01-01
+current 'a source that has an older date alone' 0 ''
+current 'a source that has an older date, asked for again' 0 ''
+echo 'another' >>"$tree/crates/low/src/part/deep.rt"
+current 'a source of a library that was edited' 1 "$stale"
+built
+cp -p "$tree/crates/mid/src/lib.rt" "$got/kept.rt"
+touch -d 2000-01-01 "$got/old.rt"
+echo 'mod old' >"$got/old.rt"
+touch -d 2000-01-01 "$got/old.rt"
+cp -p "$got/old.rt" "$tree/crates/mid/src/lib.rt"
+current 'a source that an older file was copied over (cp -p)' 1 "$stale"
+cp -p "$got/kept.rt" "$tree/crates/mid/src/lib.rt"
+current 'a source that is as it was again' 0 ''
+mv "$got/old.rt" "$tree/crates/mid/src/new.rt"
+current 'an older source that was put there (mv)' 1 "$stale"
+rm "$tree/crates/mid/src/new.rt"
+current 'a source that was put there and taken away' 0 ''
+rm "$tree/crates/mid/src/part/deep.rt"
+current 'a source that was removed' 1 "$stale"
+built
+mv "$tree/crates/mid/src/part/deep.rt" "$tree/crates/mid/src/part/renamed.rt"
+current 'a source that has another name' 1 "$stale"
+built
+same_size=$(tr d b <"$tree/crates/low/src/lib.rt")
+kept=$(stat -c %y "$tree/crates/low/src/lib.rt")
+in_tree tests/is-current "$program" >"$got/out"
+echo "$same_size" >"$tree/crates/low/src/lib.rt"
+touch -d "$kept" "$tree/crates/low/src/lib.rt"
+current 'a source of the same size and date' 1 "$stale"
+built
+sed -i 's/^mid: low/mid: low other/' "$tree/crates.txt"
+current 'a crate that stands on one more' 1 "$stale"
+built
+sed -i 's/^# The/# These/' "$tree/crates.txt"
+echo 'more' >>"$tree/README.md"
+echo 'fn more' >>"$tree/crates/other/src/main.rt"
+echo 'lemma' >"$tree/crates/low/specs/Low.antt"
+current 'what the program is not built from' 0 ''
+sed -i 's/kit-1/kit-2/' "$tree/README.md"
+current 'another toolchain' 1 "$stale"
+built
+cp /bin/false "$tree/$program"
+current 'another program in its place' 1 "$stale"
+built
+in_tree git init -q
+in_tree git add -A
+in_tree git -c user.name=a -c user.email=a commit -qm one
+echo 'another' >>"$tree/crates/mid/src/lib.rt"
+in_tree git -c user.name=a -c user.email=a commit -qam two
+in_tree git checkout -q HEAD^
+current 'the commit that it is built of is checked out again' 0 ''
+in_tree git checkout -q -
+current 'another commit is checked out' 1 "$stale"
+built
+same 'words that tests/is-current does not take' \
+    '1 tests/is-current: usage: tests/is-current [--sources] crates/NAME/out/FILE, or --built crates/NAME/out/FILE HASH' \
+    "$(in_tree tests/is-current tests/edits.py >"$got/out"; echo "$? $(cat "$got/out")")"
+
+# -- the build of ./snmp
+
+export RT_DOES=''
+built
+same 'the last line of a build' 'snmp: built; ./snmp runs the proved program now' "$(tail -n 1 "$got/out")"
+same 'a built program runs' 'snmp ran: a b' "$(in_tree ./snmp a b)"
+same 'what a build proves, in order' 'check low,lib low,check mid,lib mid,run snmp' \
+    "$(sed -n 's/ begins$//p' "$CALLS" | paste -sd ,)"
+echo 'another' >>"$tree/crates/mid/src/lib.rt"
+same 'after an edit the sources are run' 'snmp: unproved run from the sources' "$(in_tree ./snmp a 2>&1 | cut -d , -f 1 | head -n 1)"
+built
+RT_DOES='[ "$1 $here" != "check low" ] || echo edited >>src/lib.rt' in_tree ./snmp --build >"$got/out"
+same 'a source that is edited during the build' \
+    "1 tests/is-current: $tree/$program: its sources were changed while it was built" "$? $(tail -n 1 "$got/out")"
+current 'a program whose source was edited during its build' 1 "$stale"
+tree
+RT_DOES='[ "$1 $here" != "check low" ] || { seq 30; exit 1; }' in_tree ./snmp --build >"$got/out"
+same 'a library that is not proved ends the build' 1 $?
+same 'the last lines of its log are shown' "snmp: low is not proved: its last lines follow, and the rest is in $tree/crates/snmp/out/logs/low.log
+$(seq 11 30)" "$(tail -n 21 "$got/out")"
+same 'nothing is proved above it' 'check low' "$(sed -n 's/ begins$//p' "$CALLS" | paste -sd ,)"
+tree
+RT_DOES='[ "$1" != run ] || { echo wrong; exit 1; }' in_tree ./snmp --build >"$got/out"
+same 'a program that is not proved ends the build' \
+    "1 snmp: the build failed: its last lines follow, and the rest is in $tree/crates/snmp/out/build.log wrong" \
+    "$? $(tail -n 2 "$got/out" | paste -sd ' ')"
+
+# wide LANES: seven libraries, of which five stand on the first, and of these one is below another and has most files.
+wide() {
+    tree
+    local crate
+    printf '%s\n' 'a:' 'b: a' 'c: a' 'd: a' 'e: a' 'f: a' 'g: f' 'snmp: b c d e g' 'away: a' >"$tree/crates.txt"
+    for crate in a b c d e f g away; do mkdir -p "$tree/crates/$crate/src"; echo "$crate" >"$tree/crates/$crate/src/lib.rt"; done
+    seq 1000 >"$tree/crates/f/src/lib.rt"
+    seq 200 >"$tree/crates/c/src/lib.rt"
+    export LANES=$1
+    RT_DOES='[ "$1" != check ] || sleep 0.2' in_tree ./snmp --build >"$got/out"
+    unset LANES
+}
+# The most that ran at once.
+most() { awk '/ begins$/ { n++; if (n > most) most = n } / ends$/ { n-- } END { print most }' "$CALLS"; }
+wide 1
+same 'one crate at a time, the longest chain first' 'a f c b d e g' \
+    "$(sed -n 's/^check \(.\) begins$/\1/p' "$CALLS" | paste -sd ' ')"
+same 'one crate at a time' 1 "$(most)"
+wide 3
+same 'three crates side by side' 3 "$(most)"
+same 'each library is proved once, and no other crate' 'a b c d e f g' "$(sed -n 's/^check \(.*\) begins$/\1/p' "$CALLS" | sort | paste -sd ' ')"
+same 'a library is built before what stands on it is proved' '' "$(awk '
+    /^lib .* ends/ { built[$2] = 1 }
+    /^check .* begins/ && ($2 != "a" && !built["a"] || $2 == "g" && !built["f"]) { print }' "$CALLS")"
+least 'side by side by the processors of this machine' 1 "$(in_tree tools/lanes)"
+count 'side by side by the processors of this machine, at most four' "$([ "$(in_tree tools/lanes)" -le 4 ] || echo more)"
+tree
+printf '%s\n' 'low: mid' 'mid: low' 'snmp: mid' >"$tree/crates.txt"
+same 'crates that stand on each other' "1 tools/prove-below: the crates stand on each other in a ring" \
+    "$(in_tree ./snmp --build >"$got/out"; echo "$?") $(tail -n 1 "$got/out")"
+
+# -- the gate
+
+# gate: what the gate of the tree prints last, with its status.
+gate() { in_tree ./.ci/run >"$got/out"; echo "$? $(tail -n "${lines:-1}" "$got/out" | paste -sd ' ')"; }
+# part TEXT..: the body of a part of the tree, which otherwise passes.
+part() { printf '%s\n' '#!/bin/sh' "$@" >"$tree/tests/network.py"; }
+
+tree
+same 'a gate whose parts pass' '0 17 passed, 0 failed, 0 skipped' "$(gate)"
+current 'a program of a fresh clone after the gate' 0 ''
+same 'a gate that runs again' '0 17 passed, 0 failed, 0 skipped' "$(gate)"
+tree
+built
+echo 'another' >>"$tree/crates/low/src/lib.rt"
+same 'a gate over an edit' '0 17 passed, 0 failed, 0 skipped' "$(gate)"
+current 'a program after an edit and the gate' 0 ''
+tree
+same 'a gate during which a source is edited' \
+    "1 FAILED: $program: its sources were changed meanwhile 6 passed, 1 failed, 0 skipped" \
+    "$(RT_DOES='[ "$1" != ci ] || echo edited >>crates/mid/src/lib.rt' lines=2 gate)"
+# fails TITLE WHY COUNTS: a gate fails where part tests/network.py says this, which isn't right.
+fails() { same "$1" "1 FAILED: tests/network.py: $2 $3" "$(lines=2 gate)"; }
+not_so="the last line, of status 0, isn't 'N passed, M failed'"
+tree
+part true
+fails 'a part that says nothing' "$not_so" '10 passed, 1 failed, 0 skipped'
+part 'echo nothing ran'
+fails 'a part that says no counts' "$not_so" '10 passed, 1 failed, 0 skipped'
+part 'echo "1 passed, 0 failed, 0 skipped"; echo more'
+fails 'a part whose last line has no counts' "$not_so" '10 passed, 1 failed, 0 skipped'
+part 'exit 3'
+fails 'a part that ends early' "${not_so/0/3}" '10 passed, 1 failed, 0 skipped'
+part 'echo "0 passed, 0 failed, 0 skipped"'
+fails 'a part that ran nothing' 'no test ran' '10 passed, 1 failed, 0 skipped'
+part 'echo "3 passed, 2 failed, 0 skipped"'
+fails 'a part of which tests failed, and that ends with status 0' 'status 0, and 2 tests failed' '13 passed, 2 failed, 0 skipped'
+part 'echo "3 passed, 0 failed, 0 skipped"; exit 1'
+fails 'a part that passes, and ends with status 1' 'status 1, and 0 tests failed' '13 passed, 1 failed, 0 skipped'
+part 'echo "0 passed, 0 failed, 2 skipped"'
+fails 'a part that skips tests without a reason' '2 tests were skipped, and nothing says why' '10 passed, 1 failed, 2 skipped'
+part 'sleep 60 & echo "1 passed, 0 failed, 0 skipped"; sleep 60'
+export PART_SECONDS=2
+fails 'a part that does not end' 'not done after 2 seconds' '10 passed, 1 failed, 0 skipped'
+unset PART_SECONDS
+part 'echo "not tried: zsh: no zsh here" >&2' 'echo "0 passed, 0 failed, 2 skipped"'
+same 'a part that skips all with a reason' \
+    '0  Not tried here: tests/network.py: zsh: no zsh here 16 passed, 0 failed, 2 skipped' "$(lines=4 gate)"
+part 'echo "1 passed, 0 failed, 0 skipped"'
+sed -i '1s/.*/#!\/nowhere\/python3/' "$tree/tests/network.py"
+same 'a part that cannot run' 1 "$(gate | cut -d ' ' -f 1)"
+tree
+same 'an rt ci that fails' "1 FAILED: rt: status 1, and 2 tests failed 2 passed, 2 failed, 0 skipped" \
+    "$(RT_DOES='[ "$1" != ci ] || { echo "1 passed, 2 failed"; exit 1; }' lines=2 gate)"
+same 'an rt ci that says no counts' "1 FAILED: rt: $not_so 1 passed, 1 failed, 0 skipped" \
+    "$(RT_DOES='[ "$1" != ci ] || { echo "all is well"; exit; }' lines=2 gate)"
+same 'an rt ci that builds nothing' 1 "$(RT_DOES='[ "$1" != ci ] || { echo "1 passed, 0 failed"; exit; }' gate | cut -d ' ' -f 1)"
+built
+for other in "$tree/crates/other/out/other"; do
+    mkdir -p "${other%/*}"
+    cp /bin/true "$other"
+done
+echo 'another' >>"$tree/crates/low/src/lib.rt"
+same 'an rt ci that leaves programs of other sources' 1 \
+    "$(RT_DOES='[ "$1" != ci ] || { echo "1 passed, 0 failed"; exit; }' gate | cut -d ' ' -f 1)"
+tree
+printf '%s\n' '#!/bin/sh' 'echo "mid: stale"; echo "12 crates are as their edits were tried"; exit 1' >"$tree/tests/edits.py"
+same 'edits that were not tried over what stands here' \
+    '1 FAILED: tests/edits.py: the edits of a crate were not tried over what stands here 0 passed, 1 failed, 0 skipped' "$(lines=2 gate)"
+echo '#!/bin/sh' >"$tree/tests/edits.py"
+same 'no crate with edits' '1 FAILED: tests/edits.py: nothing was compared 0 passed, 1 failed, 0 skipped' "$(lines=2 gate)"
+tree
+part 'kill $(cat "$CALLS.gate"); sleep 60'
+same 'a gate that is ended by a signal' '1 FAILED: the gate was ended by a signal 10 passed, 1 failed, 0 skipped' \
+    "$( (echo "$BASHPID" >"$CALLS.gate"; cd "$tree" && exec ./.ci/run) >"$got/out" 2>&1; echo "$? $(tail -n 2 "$got/out" | paste -sd ' ')")"
+end

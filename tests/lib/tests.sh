@@ -1,0 +1,74 @@
+# shellcheck shell=bash
+# What the tests in shell share. They source it with the words of their command line: where there are some, a test runs
+# where its title contains one of them.
+set -uo pipefail
+export LC_ALL=C
+top=$(cd "$(dirname "${BASH_SOURCE[0]}")/../.." && pwd) || exit 1
+script=tests/${0##*/}
+words=("$@")
+passed=0
+failed=0
+skipped=0
+# What a test writes; it and what the script started go where the script ends, by a signal too.
+got=$(mktemp -d) || exit 1
+# shellcheck disable=SC2046  # each number is a word
+trap 'kill $(jobs -p) 2>/dev/null; rm -rf "$got"' EXIT
+trap 'exit 1' INT TERM HUP
+
+# Whether the test of this title runs.
+chosen() {
+    local word
+    [ ${#words[@]} -gt 0 ] || return 0
+    for word in "${words[@]}"; do [[ $1 != *"$word"* ]] || return 0; done
+    return 1
+}
+
+# count TITLE WRONG: counts a test, which failed where there is a text that says why.
+count() {
+    chosen "$1" || return 0
+    if [ -z "$2" ]; then
+        passed=$((passed + 1))
+    else
+        failed=$((failed + 1))
+        printf 'FAILED: %s: %s\n' "$1" "$2"
+    fi
+}
+
+# same TITLE WANTED GOT: two texts are one.
+same() {
+    if [ "$2" = "$3" ]; then count "$1" ''; else count "$1" "$(diff <(echo "$2") <(echo "$3"))"; fi
+}
+
+# least TITLE NUMBER GOT: there are so many, at least.
+least() { count "$1" "$([ "$3" -ge "$2" ] || echo "there are $3, and not $2")"; }
+
+# has NUMBER TITLE COMMAND..: whether this machine has these commands. Where it lacks one, so many tests are skipped,
+# and it is told which.
+has() {
+    local command
+    chosen "$2" || return 1
+    for command in "${@:3}"; do
+        command -v "$command" >/dev/null || {
+            skipped=$((skipped + $1))
+            echo "not tried: $2: no $command here" >&2
+            return 1
+        }
+    done
+}
+
+# A port of UDP that is free.
+free_port() { PYTHONPATH=$top/tests python3 -c 'from lib import ports; print(ports.free_port())'; }
+
+# are_current NAME..: the built programs of these crates are those of the sources, else the script ends.
+are_current() {
+    local name
+    for name; do "$top/tests/is-current" "$top/crates/$name/out/$name" || exit 1; done
+}
+
+# The last line, and the status of the script.
+end() {
+    [ $((passed + failed + skipped)) -gt 0 ] || echo "$script: no test has a title with: ${words[*]}" >&2
+    echo "$passed passed, $failed failed, $skipped skipped"
+    [ "$failed" = 0 ] && [ $((passed + skipped)) -gt 0 ]
+    exit
+}
