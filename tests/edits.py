@@ -8,10 +8,15 @@ usage: edits.py [CRATE..]
 The edits of a crate are tried in a copy of the repository, in place of the gate's, over what `rt check` kept of it:
 so check the crate first. Each takes a processor 10 to 60 seconds, those of large crates most. Where all of a crate's
 were refused, its line in tests/edits/tried.txt has the hash of what they were tried over: its sources, definitions,
-proofs and edits, without comments. Where one wasn't, the crate has no line.
+proofs and edits, and the definitions of all crates below it, all without comments, and the toolchain that README.md
+names. Where one wasn't, the crate has no line. The last line is 'N passed, M failed, 0 skipped'.
 
-With --stale, as in the gate, nothing is tried: a crate passes where its line has the hash of what is here, and fails
-where the line has another hash or isn't there. The last line is 'N passed, M failed'.
+The copy is a folder `.edits-..` beside the checkout, of second names of its files (hard links): so the folder above the
+checkout must be writable, and of the same file system. What is written in place in a file of one is written in the
+other too; nothing here does, and an editor that does is best left alone meanwhile.
+
+With --stale, as in the gate, nothing is tried: it fails where a crate's line has another hash than what is here, or
+isn't there, and where a library has no edits. The last line says how many crates are as they were tried.
 """
 import hashlib
 import os
@@ -22,16 +27,53 @@ import sys
 import tempfile
 
 TOP = os.path.dirname(os.path.dirname(os.path.abspath(__file__)))
-EDITS = os.path.join(TOP, "tests", "edits")
+EDITS = os.path.join("tests", "edits")
 TRIED = os.path.join(EDITS, "tried.txt")
 HEAD = "# Of each crate whose edits were all refused, the hash of what they were tried over: tests/edits.py wrote it.\n"
 COMMENTS = {".rt": b"//", ".antt": b"--"}
+REFUSED = re.compile(r"rt: must-fail (\w+)/(\w+)\.edit: refused, as it must be(: .*)?\n?")
+
+
+def at(path):
+    """A path of the checkout."""
+    return os.path.join(TOP, path)
+
+
+def edits_in(folder):
+    """The names of the edits in a folder, which needn't be there."""
+    names = os.listdir(at(folder)) if os.path.isdir(at(folder)) else []
+    return {name.removesuffix(".edit") for name in names if name.endswith(".edit")}
 
 
 def edits_of_crates():
-    """The edits of each crate that has some, by their names."""
-    crates = sorted(entry.name for entry in os.scandir(EDITS) if entry.is_dir())
-    return {crate: {name.removesuffix(".edit") for name in os.listdir(os.path.join(EDITS, crate))} for crate in crates}
+    """The edits of each crate that has a folder of them, by their names."""
+    crates = sorted(entry.name for entry in os.scandir(at(EDITS)) if entry.is_dir())
+    return {crate: edits_in(os.path.join(EDITS, crate)) for crate in crates}
+
+
+def crates_of_list():
+    """The crates of crates.txt, each with those that it uses."""
+    with open(at("crates.txt"), encoding="utf-8") as file:
+        lines = [line.partition("#")[0].partition(":") for line in file]
+    uses = {head.split()[0]: used.split() for head, colon, used in lines if colon}
+    return {crate: [name for name in used if name in uses] for crate, used in uses.items()}
+
+
+def crates_below(crate):
+    """The crates that a crate stands on, also through others."""
+    uses = crates_of_list()
+    found, left = set(), [crate]
+    while left:
+        new = set(uses.get(left.pop(), [])) - found
+        found |= new
+        left += new
+    return sorted(found)
+
+
+def libraries():
+    """The crates whose contracts others rest on, or which promise what the pages say: not tests, and not bench."""
+    return [crate for crate in crates_of_list() if os.path.exists(at(f"crates/{crate}/src/lib.rt"))
+            and not crate.endswith("_tests") and crate != "bench"]
 
 
 def statements_of(path):
@@ -42,14 +84,24 @@ def statements_of(path):
         return b" ".join(line for line in lines if line and not (mark and line.startswith(mark)))
 
 
+def toolchain():
+    """The toolchain that README.md names."""
+    with open(at("README.md"), encoding="utf-8") as file:
+        found = re.search(r"^Proved with: `([^`]+)`", file.read(), re.MULTILINE)
+    if not found:
+        sys.exit("edits.py: README.md doesn't name the toolchain, as 'Proved with: `..`'")
+    return found[1]
+
+
 def hash_of(crate):
-    """The hash of a crate and its edits. The crates below it have lines of their own, and what their contracts no longer
-    say its proofs can't use."""
-    folders = [f"crates/{crate}/{part}" for part in ("src", "specs", "proofs")] + [f"tests/edits/{crate}"]
-    hashed = hashlib.sha256()
+    """The hash of what decides whether the edits of a crate are refused. Of the crates below it those are their
+    definitions, in whose words its contracts speak; what their contracts no longer say its proofs can't use, and what
+    they say more is true."""
+    folders = [f"crates/{crate}/{part}" for part in ("src", "specs", "proofs")] + [os.path.join(EDITS, crate)]
+    folders += [f"crates/{below}/specs" for below in crates_below(crate)]
+    hashed = hashlib.sha256(toolchain().encode())
     for folder in folders:
-        paths = (os.path.join(at, name) for at, _, names in os.walk(os.path.join(TOP, folder)) for name in names)
-        for path in sorted(paths):
+        for path in sorted(os.path.join(room, name) for room, _, names in os.walk(at(folder)) for name in names):
             said = statements_of(path)
             hashed.update(f"{os.path.relpath(path, TOP)} {len(said)}\n".encode() + said)
     return hashed.hexdigest()
@@ -57,80 +109,107 @@ def hash_of(crate):
 
 def tried():
     """The hash of each crate that has a line."""
-    if not os.path.exists(TRIED):
+    if not os.path.exists(at(TRIED)):
         return {}
-    with open(TRIED, encoding="ascii") as file:
+    with open(at(TRIED), encoding="ascii") as file:
         return dict(line.split() for line in file if not line.startswith("#"))
 
 
 def write_tried(hashes):
-    with open(TRIED, "w", encoding="ascii") as file:
+    with open(at(TRIED), "w", encoding="ascii") as file:
         file.write(HEAD + "".join(f"{crate} {hashes[crate]}\n" for crate in sorted(hashes)))
 
 
+def wrong_of(crate, of, hashes):
+    """What is wrong with a crate, its edits and its line."""
+    ours = f"crates/{crate}/must-fail"
+    for folder in ours, f"{EDITS}/{crate}":
+        if os.path.isdir(at(folder)) and not edits_in(folder):
+            return f"{folder} has no edits"
+    if crate not in of:
+        return "it has a line and no edits" if crate in hashes else "" if edits_in(ours) else "a library without edits"
+    if crate not in hashes:
+        return "it has no line"
+    return "" if hash_of(crate) == hashes[crate] else "it isn't what its edits were tried over"
+
+
 def say_stale(of):
-    """Says which crates don't stand as their edits were tried, and returns how many those are."""
-    hashes, stale = tried(), 0
-    for crate in sorted({*of, *hashes}):
-        if crate not in of:
-            wrong = "it has a line and no edits"
-        elif crate not in hashes:
-            wrong = "it has no line"
-        else:
-            wrong = "" if hash_of(crate) == hashes[crate] else "it isn't what its edits were tried over"
-        if wrong:
-            print(f"{crate}: {wrong} (tests/edits.py {crate})")
-        stale += wrong != ""
-    print(f"{len({*of, *hashes}) - stale} passed, {stale} failed")
-    return stale
+    """Says which crates don't stand as their edits were tried, and returns the status."""
+    hashes = tried()
+    crates = sorted({*of, *hashes, *libraries()})
+    wrong = {crate: text for crate in crates if (text := wrong_of(crate, of, hashes))}
+    for crate, text in wrong.items():
+        print(f"{crate}: {text} (tests/edits.py {crate})")
+    more = f", {len(wrong)} aren't" if wrong else ""
+    print(f"{len(crates) - len(wrong)} crates are as their edits were tried{more}")
+    return 1 if wrong else 0
 
 
 def copied(room):
     """Copies what is proved, with the edits in place of those of the gate; a crate's kept work by links."""
     for name in "crates.txt", "HANDLES":
-        shutil.copy(os.path.join(TOP, name), room)
-    subprocess.run(["cp", "-al", os.path.join(TOP, "crates"), room], check=True)
+        shutil.copy(at(name), room)
+    subprocess.run(["cp", "-al", at("crates"), room], check=True)
     for crate in os.listdir(os.path.join(room, "crates")):
         place = os.path.join(room, "crates", crate, "must-fail")
         shutil.rmtree(place, ignore_errors=True)
-        if os.path.isdir(os.path.join(EDITS, crate)):
-            shutil.copytree(os.path.join(EDITS, crate), place)
+        if os.path.isdir(at(f"{EDITS}/{crate}")):
+            shutil.copytree(at(f"{EDITS}/{crate}"), place)
 
 
-def refused(crates, of):
-    """Tries the edits of these crates, and returns those of each that were refused."""
-    found = {crate: set() for crate in crates}
-    # Beside the checkout, so that files can have a second name there.
-    with tempfile.TemporaryDirectory(prefix=".edits-", dir=os.path.dirname(TOP)) as room:
-        copied(room)
-        tries = subprocess.Popen(["rt", "must-fail", *crates], cwd=room, stdout=subprocess.PIPE, text=True)
-        for line in tries.stdout:
-            print(line, end="", flush=True)
-            if ": refused, as it must be" in line and "only because a proof file names" not in line:
-                words = set(re.findall(r"\w+", line))
-                for crate in words.intersection(crates):
-                    found[crate] |= of[crate] & words
-        tries.wait()
+def refused_by(line):
+    """The crate and the edit that a line says was refused, by the whole of the line."""
+    verdict = REFUSED.fullmatch(line)
+    return None if not verdict or "only because a proof file names" in line else verdict.groups()[:2]
+
+
+def refused(crates):
+    """Tries the edits of these crates, and returns those that were refused, each with its crate."""
+    found, above = set(), os.path.dirname(TOP)
+    try:
+        # Beside the checkout, so that files can have a second name there.
+        place = tempfile.TemporaryDirectory(prefix=".edits-", dir=above)
+    except OSError as fault:
+        sys.exit(f"edits.py: no copy can be made beside the checkout, in {above}: {fault.strerror}")
+    with place as room:
+        try:
+            copied(room)
+        except (OSError, subprocess.CalledProcessError) as fault:
+            why = fault if isinstance(fault, OSError) else "cp -al failed"
+            sys.exit(f"edits.py: no copy can be made beside the checkout, in {above}: {why}")
+        try:
+            tries = subprocess.Popen(["rt", "must-fail", *crates], cwd=room, stdout=subprocess.PIPE, text=True)
+        except FileNotFoundError:
+            sys.exit("edits.py: the command rt, which tries the edits, isn't on PATH")
+        with tries:
+            for line in tries.stdout:
+                print(line, end="", flush=True)
+                found.add(refused_by(line))
     return found
 
 
 def main(names):
     of = edits_of_crates()
     if names == ["--stale"]:
-        return 1 if say_stale(of) else 0
+        return say_stale(of)
     unknown = [name for name in names if name not in of]
     if unknown:
         sys.exit(f"edits.py: no edits of {unknown[0]}; there are some of {' '.join(of)}")
     crates = names or list(of)
     before = {crate: hash_of(crate) for crate in crates}
-    found = refused(crates, of)
+    found = refused(crates)
+    left = {crate: [edit for edit in of[crate] if (crate, edit) not in found] for crate in crates}
     # What has changed since it was copied was tried in part at most.
-    passed = {crate: before[crate] for crate in crates if found[crate] == of[crate] and hash_of(crate) == before[crate]}
+    passed = {crate: before[crate] for crate in crates if of[crate] and not left[crate] and hash_of(crate) == before[crate]}
     write_tried({crate: value for crate, value in tried().items() if crate not in crates} | passed)
-    done = sum(len(found[crate]) for crate in crates)
-    failed = sum(len(of[crate]) for crate in crates) - done
-    print(f"{done} passed, {failed} failed")
-    return 1 if failed else 0
+    for crate in crates:
+        for edit in sorted(left[crate]):
+            print(f"FAILED: {crate}/{edit}.edit isn't refused")
+        if not left[crate] and crate not in passed:
+            print(f"{crate}: {'no edits' if not of[crate] else 'it was changed meanwhile'}, so it has no line")
+    failed = sum(map(len, left.values()))
+    print(f"{sum(len(of[crate]) for crate in crates) - failed} passed, {failed} failed, 0 skipped")
+    return 1 if failed or len(passed) < len(crates) else 0
 
 
 if __name__ == "__main__":

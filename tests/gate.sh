@@ -20,6 +20,7 @@ tree() {
         echo "mod $crate" | tee "$tree/crates/$crate/src/lib.rt" >"$tree/crates/$crate/src/part/deep.rt"
     done
     printf '%s\n' '# The crates.' 'low:' 'mid: low kit' 'snmp: mid' 'other: low' >"$tree/crates.txt"
+    echo 'Handles allowed: none.' >"$tree/HANDLES"
     printf '%s\n' '# A page' 'Proved with: `kit-1`. It' >"$tree/README.md"
     cp -r "$top/snmp" "$top/tools" "$tree"
     cp "$top/tests/is-current" "$tree/tests"
@@ -43,6 +44,7 @@ build() { mkdir -p "$1/out" && { echo '#!/bin/sh'; cat "$1"/src/*.rt | sed 's/^/
     chmod +x "$1/out/new" && mv "$1/out/new" "$1/out/$2"; }
 case $1 in
     run) build . "$here" ;;
+    must-fail) cat "$SAYS" ;;
     ci) for at in crates/*/src/main.rt; do at=${at%/src/main.rt}; build "$at" "${at##*/}"; done; echo "5 passed, 0 failed (of these 2 in this run)" ;;
 esac
 echo "$1 $here ends" >>"$CALLS"
@@ -252,10 +254,8 @@ same 'an rt ci that says no counts' "1 FAILED: rt: $not_so 1 passed, 1 failed, 0
     "$(RT_DOES='[ "$1" != ci ] || { echo "all is well"; exit; }' lines=2 gate)"
 same 'an rt ci that builds nothing' 1 "$(RT_DOES='[ "$1" != ci ] || { echo "1 passed, 0 failed"; exit; }' gate | cut -d ' ' -f 1)"
 built
-for other in "$tree/crates/other/out/other"; do
-    mkdir -p "${other%/*}"
-    cp /bin/true "$other"
-done
+mkdir -p "$tree/crates/other/out"
+cp /bin/true "$tree/crates/other/out/other"
 echo 'another' >>"$tree/crates/low/src/lib.rt"
 same 'an rt ci that leaves programs of other sources' 1 \
     "$(RT_DOES='[ "$1" != ci ] || { echo "1 passed, 0 failed"; exit; }' gate | cut -d ' ' -f 1)"
@@ -269,4 +269,77 @@ tree
 part 'kill $(cat "$CALLS.gate"); sleep 60'
 same 'a gate that is ended by a signal' '1 FAILED: the gate was ended by a signal 10 passed, 1 failed, 0 skipped' \
     "$( (echo "$BASHPID" >"$CALLS.gate"; cd "$tree" && exec ./.ci/run) >"$got/out" 2>&1; echo "$? $(tail -n 2 "$got/out" | paste -sd ' ')")"
+
+# -- the edits that were tried
+
+# edited: a tree whose libraries have an edit each, `one` both, which the stand-in says were refused.
+export SAYS=$got/says
+edited() {
+    tree
+    cp "$top/tests/edits.py" "$tree/tests"
+    for crate in low mid; do mkdir -p "$tree/tests/edits/$crate" && echo 'file: x' >"$tree/tests/edits/$crate/one.edit"; done
+    mkdir -p "$tree/crates/low/must-fail"
+    echo 'file: x' >"$tree/crates/low/must-fail/ours.edit"
+    echo 'def' >"$tree/crates/low/specs/Low.antt"
+    printf 'rt: must-fail %s/one.edit: refused, as it must be: note\n' low mid >"$SAYS"
+    in_tree tests/edits.py >"$got/out"
+}
+# stale TITLE STATUS LINE..: what the gate is told of the edits.
+stale() {
+    local said
+    said=$(in_tree tests/edits.py --stale; echo "status $?")
+    same "$1" "$(printf '%s\n' "${@:3}" "status $2")" "$said"
+}
+no_line() { stale "$1" 1 "$2: $3 (tests/edits.py $2)" '1 crates are as their edits were tried, 1 aren'"'"'t'; }
+edited
+same 'edits that were refused' '0 2 passed, 0 failed, 0 skipped' "$? $(tail -n 1 "$got/out")"
+stale 'edits that were tried' 0 '2 crates are as their edits were tried'
+printf '\n-- a comment\n' >>"$tree/crates/low/specs/Low.antt"
+stale 'a comment in a definition below' 0 '2 crates are as their edits were tried'
+echo 'more' >>"$tree/crates/low/src/lib.rt"
+no_line 'a source of another crate' low "it isn't what its edits were tried over"
+edited
+echo 'more' >>"$tree/crates/low/specs/Low.antt"
+stale 'a definition below' 1 "low: it isn't what its edits were tried over (tests/edits.py low)" \
+    "mid: it isn't what its edits were tried over (tests/edits.py mid)" "0 crates are as their edits were tried, 2 aren't"
+edited
+sed -i 's/kit-1/kit-2/' "$tree/README.md"
+stale 'another toolchain' 1 "low: it isn't what its edits were tried over (tests/edits.py low)" \
+    "mid: it isn't what its edits were tried over (tests/edits.py mid)" "0 crates are as their edits were tried, 2 aren't"
+edited
+rm "$tree/tests/edits/mid/one.edit"
+no_line 'a folder of edits that is empty' mid 'tests/edits/mid has no edits'
+rmdir "$tree/tests/edits/mid"
+no_line 'edits that were taken away' mid 'it has a line and no edits'
+sed -i '/^mid/d' "$tree/tests/edits/tried.txt"
+no_line 'edits and a line that were taken away' mid 'a library without edits'
+edited
+rm "$tree/crates/low/must-fail/ours.edit"
+no_line 'a folder of edits of the gate that is empty' low 'crates/low/must-fail has no edits'
+edited
+sed -i '/^mid/d' "$tree/tests/edits/tried.txt"
+no_line 'edits without a line' mid 'it has no line'
+# says TITLE TEXT: of the two edits that of `mid` isn't refused, whose line says this.
+says() {
+    { echo 'rt: must-fail low/one.edit: refused, as it must be: mid one'; echo "$2"; } >"$SAYS"
+    same "$1" '1 FAILED: mid/one.edit isn'"'"'t refused 1 passed, 1 failed, 0 skipped' \
+        "$(in_tree tests/edits.py >"$got/out"; echo "$? $(tail -n 2 "$got/out" | paste -sd ' ')")"
+}
+says 'an edit of which nothing is said' ''
+says 'an edit whose name is another one'"'"'s too' 'rt: must-fail mid/two.edit: refused, as it must be: one'
+says 'words of a verdict in another line' 'note: rt: must-fail mid/one.edit: refused, as it must be: note'
+says 'an edit that is proved' 'rt: must-fail mid/one.edit: NOT REFUSED: proved'
+says 'an edit that is refused for a name alone' \
+    'rt: must-fail mid/one.edit: refused, as it must be: only because a proof file names it'
+no_line 'an edit that was not refused leaves no line' mid 'it has no line'
+edited
+RT_DOES='echo more >>"$HERE/crates/mid/src/lib.rt"' HERE=$tree in_tree tests/edits.py >"$got/out"
+same 'a crate that is changed while its edits are tried' "1 mid: it was changed meanwhile, so it has no line" \
+    "$? $(tail -n 2 "$got/out" | head -n 1)"
+printf '%s\n' '#!/bin/sh' 'echo "cp: another file system" >&2' 'exit 1' >"$got/bin/cp"
+chmod +x "$got/bin/cp"
+same 'a checkout beside which no copy can be made' \
+    "1 edits.py: no copy can be made beside the checkout, in $got: cp -al failed" \
+    "$(in_tree tests/edits.py >"$got/out"; echo "$? $(tail -n 1 "$got/out")")"
+rm "$got/bin/cp"
 end
