@@ -1,42 +1,17 @@
 #!/usr/bin/env bash
 # Tests what an operator meets beside the program's own output: the help, whole, and its examples; the manual
 # and the completions against the options that the program takes; the install, walks that become tables, and
-# the version. The last line is 'N passed, M failed'.
+# the version.
+#
+#   tests/operator.sh [WORD..]    runs the tests whose titles contain one of the words; without words, all
+#
+# The last line is 'N passed, M failed, K skipped'.
 # shellcheck disable=SC2016,SC2086  # words are split on purpose, and backquotes are those of pages
-set -uo pipefail
-export LC_ALL=C
-cd "$(dirname "${BASH_SOURCE[0]}")/.." || exit 1
-top=$PWD
+. "$(dirname "${BASH_SOURCE[0]}")/lib/tests.sh"
+are_current snmp
+cd "$top" || exit 1
 program=$top/crates/snmp/out/snmp
-[ -x "$program" ] || { echo "tests/operator.sh: the program isn't built: ./snmp --build" >&2; exit 1; }
-passed=0
-failed=0
-got=$(mktemp -d) || exit 1
-trap 'rm -rf "$got"' EXIT
 commands='snmptranslate snmpget snmpwalk snmpbulkwalk snmpd'
-
-# Counts a test, which failed where there is a text that says why.
-count() {
-    if [ -z "$1" ]; then
-        passed=$((passed + 1))
-    else
-        failed=$((failed + 1))
-        printf 'FAILED: %s\n' "$1"
-    fi
-}
-
-# same TITLE WANTED GOT: two texts are one.
-same() {
-    if [ "$2" = "$3" ]; then count ''; else count "$1: $(diff <(echo "$2") <(echo "$3"))"; fi
-}
-
-# has TITLE COMMAND..: whether this machine has these commands; else what isn't tried for want of one is told.
-has() {
-    local command
-    for command in "${@:2}"; do
-        command -v "$command" >/dev/null || { echo "not tried: $1: no $command here" >&2; return 1; }
-    done
-}
 
 # -- the options that the program takes, by its help
 
@@ -59,14 +34,7 @@ letters() {
 
 # -- the help, whole; its example, wherever it is pasted; and the version
 
-# A port of UDP that is free.
-free_port() {
-    python3 -c 'import socket
-door = socket.socket(socket.AF_INET, socket.SOCK_DGRAM)
-door.bind(("127.0.0.1", 0))
-print(door.getsockname()[1])'
-}
-port=$(free_port)
+hold_port
 
 # shown COMMAND: what the example in the help of a command prints. The agent's has no turns, at a port that is free.
 shown() {
@@ -95,9 +63,11 @@ ranges() {
     "$program" "$1" --help | sed -nE 's/^ +(-[a-zA-Z]|--[a-z-]+) <[A-Z]+> .* ([0-9]+) to ([0-9]+).*/\1 \2 \3/p'
 }
 
-# takes WORD..: whether the program takes the words' numbers.
-takes() {
-    case $("$program" "$@" 2>&1) in "error: invalid value"*) echo no ;; *) echo yes ;; esac
+# ends WORD..: the status of a run, and all that it says.
+ends() {
+    local said
+    said=$("$program" "$@" 2>&1)
+    echo "$? $said"
 }
 
 asking='-r
@@ -110,11 +80,20 @@ for command in $commands; do
         *) wanted=$asking rest='table:/dev/null .1.3' ;;
     esac
     same "the options of $command with a range" "$wanted" "$(ranges "$command" | cut -d ' ' -f 1)"
+    plain=$(ends "$command" $rest)
     while read -r option low high; do
         case $option in --*) joined=$option= ;; *) joined=$option ;; esac
         for number in $((low - 1)) $low $high $((high + 1)); do
-            fits=$([ "$number" -lt "$low" ] || [ "$number" -gt "$high" ] && echo no || echo yes)
-            same "$command $joined$number, where the help says $low to $high" "$fits" "$(takes "$command" "$joined$number" $rest)"
+            said=$(ends "$command" "$joined$number" $rest)
+            wanted=$plain
+            if [ "$number" -lt "$low" ] || [ "$number" -gt "$high" ]; then
+                wanted="1 error: invalid value '$number' for '$option "
+                said=${said:0:${#wanted}}
+            elif [ "$command$option" != snmpd--max-size ] && [ "$option$number" = --max-size1 ]; then
+                # No message fits the agent, which it can't say.
+                wanted='1 Timeout: No Response from table:/dev/null.'
+            fi
+            same "$command $joined$number, where the help says $low to $high" "$wanted" "$said"
         done
     done < <(ranges "$command")
 done
@@ -122,6 +101,7 @@ done
 # -- the first command of README
 
 command=$(sed -n 's/^    \(\.\/snmp snmpwalk .*\)/\1/p' README.md)
+least 'the lines behind the first command of README' 3 "$(grep -c '^    \.1\..* = ' README.md)"
 same 'the first command of README' "$(sed -n 's/^    \(\.1\..* = .*\)/\1/p' README.md)" "$($command 2>&1)"
 
 # -- the manual
@@ -154,14 +134,16 @@ done
 described=$(sed -n 's/^\.It Fl \([^ ]*\) Ar.*/\1/p; s/^\.It Fl \([hV]\) , -\(.*\)/\1\n-\2/p' docs/snmp.1 | sort)
 synopsis=$(sed -n '/^\.Sh SYNOPSIS/,/^\.Sh DESC/s/^\.\(Op \)\?Fl \([^ ]*\).*/\2/p' docs/snmp.1; echo V; echo -version; echo -help)
 same 'the options that the manual describes' "$(sort -u <<<"$synopsis")" "$described"
-while read -r message; do
-    count "$(grep -qxF ".It Li \"$message\"" docs/snmp.1 || echo "the manual lacks the message $message")"
-done < <(sed -n '/^| what | message |/,/^$/s/.*| \(.*\) |$/\1/p; /^Warnings change no status/p' docs/PROFILE.md |
+mapfile -t messages < <(sed -n '/^| what | message |/,/^$/s/.*| \(.*\) |$/\1/p; /^Warnings change no status/p' docs/PROFILE.md |
     grep -o '`[^`]*`' | tr -d '`' | grep -E '^([A-Z][a-z]|snmp: )')
-if has 'mandoc -Tlint' mandoc; then
+least 'the messages that docs/PROFILE.md has' 26 ${#messages[@]}
+for message in "${messages[@]}"; do
+    count "the manual has the message $message" "$(grep -qxF ".It Li \"$message\"" docs/snmp.1 || echo "it isn't there")"
+done
+if has 1 'mandoc -Tlint' mandoc; then
     same 'mandoc -Tlint' '' "$(mandoc -Tlint -W warning docs/snmp.1 2>&1)"
 fi
-if has 'man --warnings' man groff; then
+if has 1 'man --warnings' man groff; then
     same 'man --warnings' '' "$(man --warnings -E UTF-8 -l -Tutf8 -Z docs/snmp.1 2>&1 >/dev/null)"
 fi
 
@@ -221,27 +203,53 @@ offers 'table:' snmp snmpget -c ta ta
 offers '' snmp snmpget table:x ta
 offers '' snmp snmpget --after ta
 offers '-Td' snmptranslate -T
-if has 'zsh -n' zsh; then
-    same 'zsh -n' '' "$(zsh -n completions/_snmp 2>&1)"
-fi
-for letter in $(letters snmpwalk -O); do
-    count "$(grep -qF "'${letter}[" completions/_snmp || echo "zsh isn't offered -O $letter")"
-done
-for command in $commands; do
-    for option in $(taken "$command" | sed -n 's/^\(-[^ ]*\) .*/\1/p'); do
-        count "$(grep -qE -e "['*\"]${option}[+=]\[" completions/_snmp || echo "zsh isn't offered $option")"
+# by_zsh COMMAND WORD..: what _arguments and _values are told by the functions of the completions, a word a line.
+by_zsh() {
+    zsh -fc '
+        _arguments() { print -rl -- "$@" }
+        _values() { print -rl -- "$@" }
+        eval "$(sed "\$d" completions/_snmp)"
+        "$@"' by_zsh "$@"
+}
+# The options of a command that zsh offers; what it offers behind one; and the letters among that.
+zsh_options() { by_zsh _snmp_command "$1" | sed -nE 's/^\*?(\([^)]*\))?(-[a-zA-Z]|--[a-z-]+)[+=]?\[.*/\2/p' | sort; }
+zsh_action() { by_zsh _snmp_command "$1" | sed -nE "s/^\\*?$2[+=]\\[[^]]*\\]:[^:]*://p"; }
+zsh_letters() {
+    case $2 in
+        '(('*'))') grep -oE '[a-zA-Z]\\:' <<<"$2" | cut -c 1 ;;
+        *) by_zsh eval "$2" | sed -n 's/^\([a-zA-Z]\)\[.*/\1/p' ;;
+    esac | sort
+}
+if has 13 'the completions of zsh' zsh; then
+    same 'zsh -n: the completions of zsh' '' "$(zsh -n completions/_snmp 2>&1)"
+    for command in $commands; do
+        options=$({ taken "$command" | sed -n 's/^\(-[^ ]*\) .*/\1/p'; printf '%s\n' -h --help -V --version; } | sort)
+        same "the completions of zsh: options of $command" "$options" "$(zsh_options "$command")"
+        for option in $(grep -xE -e '-[OCT]' <<<"$options"); do
+            case $command$option in
+                snmpwalk-C) wanted=$'I\ni\np' ;;
+                snmpbulkwalk-C) wanted=$'i\np\nr' ;;
+                *) wanted=$(letters "$command" "$option") ;;
+            esac
+            same "the completions of zsh: letters of $command $option" "$wanted" \
+                "$(zsh_letters "$command" "$(zsh_action "$command" "$option")")"
+        done
     done
-done
+fi
 
 # -- the install
 
 # A folder with what an install takes, so that nothing of the repository is touched.
 tree() {
     rm -rf "${got:?}/tree" "${got:?}/usr" "${got:?}/names"
-    mkdir -p "$got/tree/crates/snmp/out" "$got/tree/modules"
+    mkdir -p "$got/tree/crates/snmp/out" "$got/tree/crates/snmp/src" "$got/tree/modules" "$got/tree/tests"
     cp -r snmp tools completions docs examples "$got/tree"
+    cp tests/is-current "$got/tree/tests"
     ln -s "$program" "$got/tree/crates/snmp/out/snmp"
-    touch "$got/tree/crates.txt" -d 2000-01-01
+    echo 'snmp:' >"$got/tree/crates.txt"
+    echo 'fn main() {}' >"$got/tree/crates/snmp/src/main.rt"
+    "$got/tree/tests/is-current" --built "$got/tree/crates/snmp/out/snmp" \
+        "$("$got/tree/tests/is-current" --sources "$got/tree/crates/snmp/out/snmp")"
     echo 'base' >"$got/tree/modules/base.txt"
 }
 install_with() { (cd "$got" && tree/snmp --install "$@" 2>&1); }
@@ -260,14 +268,16 @@ same 'an installed lines-to-table runs' '1.3.6|2|1' "$(echo '.1.3.6 = INTEGER: 1
 for file in tools/lines-to-table:bin/lines-to-table docs/snmp.1:share/man/man1/snmp.1 \
     docs/PROFILE.md:share/doc/snmp/PROFILE.md examples/printer.tab:share/snmp/examples/printer.tab \
     completions/snmp.bash:share/bash-completion/completions/snmp completions/_snmp:share/zsh/site-functions/_snmp; do
-    count "$(cmp "${file%%:*}" "$got/usr/${file#*:}" 2>&1)"
+    count "the installed ${file#*:}" "$(cmp "${file%%:*}" "$got/usr/${file#*:}" 2>&1)"
 done
 # What the manual says is there; the modules are those of the repository and not of this tree.
-while read -r named; do
-    case $named in */modules/*) at=${named#share/snmp/} ;; *) at=$got/usr/$named ;; esac
-    count "$([ -e "$at" ] || echo "the manual names $named, which isn't there")"
-done < <(grep -oE 'share/(snmp|doc)/[a-zA-Z0-9/.-]*[a-zA-Z0-9]' docs/snmp.1 | sort -u)
-count "$(grep -n 'docs/' docs/snmp.1 | grep -v '^[0-9]*:\.\\"')"
+mapfile -t named < <(grep -oE 'share/(snmp|doc)/[a-zA-Z0-9/.-]*[a-zA-Z0-9]' docs/snmp.1 | sort -u)
+least 'the files that the manual names' 5 ${#named[@]}
+for name in "${named[@]}"; do
+    case $name in */modules/*) at=${name#share/snmp/} ;; *) at=$got/usr/$name ;; esac
+    count "the manual names $name" "$([ -e "$at" ] || echo "it isn't there")"
+done
+count 'the manual names no file of docs/' "$(grep -n 'docs/' docs/snmp.1 | grep -v '^[0-9]*:\.\\"')"
 same 'modes of an install' '644 755' "$(stat -c %a "$got/usr/share/man/man1/snmp.1" "$got/usr/bin/snmp" | xargs)"
 
 install_with usr --with-names names >"$got/out"
@@ -292,7 +302,7 @@ same 'a file of another is left as it is' \
     "snmp: $got/names/snmpwalk: is there, and is no script of an install; --force replaces it" \
     "$(install_with usr --with-names names)"
 same 'nothing is installed then' "names/snmpwalk another" "$(there) $(cat "$got/names/snmpwalk")"
-count "$([ ! -e "$got/usr" ] || echo 'folders are left')"
+count 'no folder of a refused install is left' "$([ ! -e "$got/usr" ] || echo 'it is')"
 install_with usr --with-names names --force >"$got/out"
 same '--force replaces it' "$three" "$("$got/names/snmpwalk" -On table:examples/three.tab .1)"
 
@@ -303,7 +313,7 @@ same 'nothing is left of it' '' "$(there)$(find "$got/usr/bin" 2>/dev/null)"
 tree
 same 'a file that cannot be written whole' "snmp: $got/usr/bin/snmp: cannot be written" \
     "$(trap '' XFSZ; ulimit -f 16; install_with usr)"
-count "$([ ! -e "$got/usr" ] || echo 'folders are left')"
+count 'no folder of an install that failed is left' "$([ ! -e "$got/usr" ] || echo 'it is')"
 tree
 touch "$got/usr"
 same 'a prefix that is no folder' "snmp: $got/usr: cannot be made" "$(install_with usr)"
@@ -313,11 +323,11 @@ same 'no names' 'snmp: --with-names needs a folder' "$(install_with a --with-nam
 same 'another option' 'snmp: --install has no option --prefix' "$(install_with --prefix a)"
 tree
 rm "$got/tree/crates/snmp/out/snmp"
-same 'no program' "snmp: the program isn't built, or is older than its sources: ./snmp --build" "$(install_with usr)"
+same 'no program' "snmp: the program isn't built, or isn't that of the sources: ./snmp --build" "$(install_with usr)"
 same 'nothing is installed of it' '' "$(there)"
 tree
-touch "$got/tree/crates.txt" -d 2100-01-01
-same 'an old program' "snmp: the program isn't built, or is older than its sources: ./snmp --build" "$(install_with usr)"
+echo 'fn more() {}' >>"$got/tree/crates/snmp/src/main.rt"
+same 'a program of other sources' "snmp: the program isn't built, or isn't that of the sources: ./snmp --build" "$(install_with usr)"
 
 # -- walks as tables
 
@@ -362,10 +372,10 @@ for letters in n nx ne S; do
 done
 
 # The copy as an agent, over UDP.
-place=127.0.0.1:$(free_port)
-"$program" snmpd --table "$got/copy.tab" --listen $place >"$got/listening" &
+place=127.0.0.1:$port
+"$program" snmpd --table "$got/copy.tab" --listen $place --turns 600 >"$got/listening" &
 server=$!
-for _ in {1..200}; do [ -s "$got/listening" ] && break; sleep 0.05; done
+for _ in {1..600}; do [ -s "$got/listening" ] && break; sleep 0.05; done
 same 'a walk of the copy that is served' "$(walk -Onx "table:$got/all.tab" .1)" "$(walk -Onx $place .1)"
 kill $server
 wait $server 2>/dev/null
@@ -432,17 +442,14 @@ same 'an output that takes no more' "1 lines-to-table: [Errno 28] No space left 
 # -- the drawing of README
 
 same 'the drawing of the figures' "$(cat docs/speed.svg)" "$(tools/draw-speed)"
-while read -r figure; do
-    count "$(grep -qF ">$figure" docs/speed.svg || echo "the drawing lacks $figure, which README says of it")"
-done < <(sed -n 's/^!\[\([^]]*\)\](docs\/speed.svg)$/\1/p' README.md | grep -oE '[0-9]{1,3}(,[0-9]{3})+')
+mapfile -t figures < <(sed -n 's/^!\[\([^]]*\)\](docs\/speed.svg)$/\1/p' README.md | grep -oE '[0-9]{1,3}(,[0-9]{3})+')
+least 'the figures that README says of the drawing' 12 ${#figures[@]}
+for figure in "${figures[@]}"; do
+    count "the drawing has the figure $figure" "$(grep -qF ">$figure" docs/speed.svg || echo "it isn't there")"
+done
 
 # -- the version
 
 version=$("$program" --version)
 same 'the version of the changelog' "$version" "snmp $(sed -n 's/^## \([0-9][0-9.]*\).*/\1/p' CHANGELOG.md | head -n 1)"
-while read -r _ stated; do
-    same 'the version of README.md' "$version" "snmp $stated"
-done < <(grep -ohE '(\bsnmp|[Vv]ersion) [0-9]+\.[0-9]+\.[0-9]+' README.md | sort -u)
-
-echo "$passed passed, $failed failed"
-[ $failed = 0 ]
+end

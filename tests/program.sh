@@ -1,30 +1,17 @@
 #!/usr/bin/env bash
 # Runs the built program on a table of words, and compares what it wrote to its output and to its error
-# output, and its status, with what must come. Words without --mib are run by snmp_bare too. The last
-# line is 'N passed, M failed'.
+# output, and its status, with what must come. Words without --mib are run by snmp_bare too.
+#
+#   tests/program.sh [WORD..]     runs the tests whose titles, most of which are the words of a command line,
+#                                 contain one of the words; without words, all
+#
+# The last line is 'N passed, M failed, K skipped'.
 # shellcheck disable=SC2086  # words are split on purpose
-set -uo pipefail
-export LC_ALL=C
-cd "$(dirname "${BASH_SOURCE[0]}")/data" || exit 1
-program=$PWD/../../crates/snmp/out/snmp
-bare=$PWD/../../crates/snmp_bare/out/snmp_bare
-for built in "$program" "$bare"; do
-    [ -x "$built" ] || { echo "tests/program.sh: ${built##*/} isn't built: ./.ci/run builds it" >&2; exit 1; }
-done
-passed=0
-failed=0
-got=$(mktemp -d)
-trap 'rm -rf "$got"' EXIT
-
-# Counts a test, which failed where there is a text that says why.
-count() {
-    if [ -z "$1" ]; then
-        passed=$((passed + 1))
-    else
-        failed=$((failed + 1))
-        printf 'FAILED: %s\n' "$1"
-    fi
-}
+. "$(dirname "${BASH_SOURCE[0]}")/lib/tests.sh"
+are_current snmp snmp_bare
+cd "$top/tests/data" || exit 1
+program=$top/crates/snmp/out/snmp
+bare=$top/crates/snmp_bare/out/snmp_bare
 
 # Texts are whole but for their last newline, which must come where the text isn't empty. Where a text
 # ends in ..., it need only begin as it does before that.
@@ -36,11 +23,12 @@ matches() {
     esac
 }
 
-# same TITLE TEXT FILE: the file has this text.
-same() {
+# holds TITLE TEXT FILE: the file has this text.
+holds() {
     local has
+    chosen "$1" || return 0
     has=$(cat "$3"; echo .)
-    if matches "$2" "${has%.}"; then count ''; else count "$(printf '%s: %q' "$1" "${has%.}")"; fi
+    if matches "$2" "${has%.}"; then count "$1" ''; else count "$1" "$(printf '%q' "${has%.}")"; fi
 }
 
 # expect STATUS OUTPUT MESSAGES WORD..; with `target` or `errors` before it, output or messages go there, and
@@ -52,8 +40,10 @@ expect() {
 
 # writes PROGRAM STATUS OUTPUT MESSAGES WORD..: the program does, but for its own name.
 writes() {
-    local run=$1 status=$2 output=$3 messages=$4 ended wrote said
+    local run=$1 status=$2 output=$3 messages=$4 title ended wrote said
     shift 4
+    title="${run##*/} $*"
+    chosen "$title" || return 0
     : >"$got/out"
     : >"$got/err"
     (
@@ -65,10 +55,10 @@ writes() {
     wrote=$(sed 's/snmp_bare/snmp/g' "$got/out"; echo .)
     said=$(sed 's/snmp_bare/snmp/g' "$got/err"; echo .)
     if [ $ended = "$status" ] && matches "$output" "${wrote%.}" && matches "$messages" "${said%.}"; then
-        count ''
+        count "$title" ''
     else
-        count "$(printf '%s %s\n  status %s, not %s\n  output: %q\n  messages: %q' \
-            "${run##*/}" "$*" $ended "$status" "${wrote%.}" "${said%.}")"
+        count "$title" "$(printf 'status %s, not %s\n  output: %q\n  messages: %q' \
+            $ended "$status" "${wrote%.}" "${said%.}")"
     fi
 }
 prints() { expect 0 "$1" '' "${@:2}"; }
@@ -80,7 +70,7 @@ helps() {
     shift
     "$program" $words >"$got/out" 2>"$got/err" </dev/null && [ ! -s "$got/err" ] || missing=' status 0'
     for text; do grep -qF -e "  $text " "$got/out" || missing+=" $text"; done
-    count "${missing:+the help of snmp $words lacks$missing}"
+    count "the help of snmp $words" "${missing:+it lacks$missing}"
 }
 
 # table LINE..: the file t.tab has these lines.
@@ -574,7 +564,8 @@ refuses "error: unrecognized subcommand 'snmpset'
   tip: agents are read here and never written..." snmpset
 
 # numbers at their ends and past them
-place=127.0.0.1:$((20000 + RANDOM % 10000))
+hold_port
+place=127.0.0.1:$port
 accepts() { prints "$first" snmpwalk "$@" -On table:three.tab $e.1.1.0; }
 for words in '-r 0' '-r 1000' '-t 1' '-t 3600' '--max-size 65507' '-v 2c' '-r 0001'; do
     accepts $words
@@ -940,8 +931,9 @@ one='TINY-MIB::tinyState.0 = INTEGER: up(1)'
 listening="listening on $place
 0 replies, 0 dropped"
 warns_first() {
+    chosen "the warnings of $2 and its lines" || return 0
     "$program" "${@:2}" >"$got/both" 2>&1 </dev/null
-    same "the warnings of $2 and its lines" "$warnings"$'\n'"$1" "$got/both"
+    holds "the warnings of $2 and its lines" "$warnings"$'\n'"$1" "$got/both"
 }
 for walker in $walkers; do warns_first "$tiny" $walker --mib tiny.txt table:tiny.tab tiny; done
 warns_first "$one" snmpget --mib tiny.txt table:tiny.tab tinyState.0
@@ -952,20 +944,38 @@ warns_first "$listening" snmpd --mib tiny.txt --table two.tab --listen "$place" 
 mkfifo "$got/pipe"
 exec 9<>"$got/pipe"
 drain() { dd if="$got/pipe" iflag=nonblock bs=65536 2>/dev/null | tr -d '\0' >>"$got/err"; }
+# is_waiting PID: whether a program waits for its error output to take more: it is in a write to it; where this can't be
+# seen, it sleeps at three looks in a row.
+is_waiting() {
+    local look
+    [[ $(readlink "/proc/$1/exe") == */out/snmp ]] || return 1
+    for look in 1 2 3; do
+        case $(cat "/proc/$1/syscall" 2>/dev/null) in '1 0x2 '*) return 0 ;; running*) return 1 ;; esac
+        [[ $(sed 's/.*) //' "/proc/$1/stat" 2>/dev/null) == S* ]] || return 1
+        sleep 0.05
+    done
+}
 waits() {
-    local early=''
+    local early='' look title="the warnings and lines of $2, by ${*:3}, after a wait"
+    chosen "$title" || return 0
     : >"$got/err"
     dd if=/dev/zero of="$got/pipe" oflag=nonblock bs=4096 2>/dev/null
     "$program" "${@:2}" >"$got/out" 2>&9 </dev/null &
-    sleep 0.3
-    [ ! -s "$got/out" ] || early=' printed'
+    for look in {1..3000}; do
+        ! is_waiting $! || break
+        kill -0 $! 2>/dev/null || break
+        sleep 0.02
+    done
+    is_waiting $! || early=' ended, or never waited,'
+    [ ! -s "$got/out" ] || early+=' printed'
     case $(readlink /proc/$!/fd/* | grep -vxF "$(readlink /proc/$$/fd/*)") in *socket:*) early+=' a socket' ;; esac
     drain
+    timeout 60 tail --pid=$! -f /dev/null || kill -9 $!
     wait $!
     drain
-    count "${early:+before its warnings were taken, $2 had:$early}"
-    same "the lines of $2 after a wait" "$1" "$got/out"
-    same "the warnings of $2 after a wait" "$warnings" "$got/err"
+    count "$title: nothing before it" "${early:+before its warnings were taken, it had$early}"
+    holds "$title: its lines" "$1" "$got/out"
+    holds "$title: its warnings" "$warnings" "$got/err"
 }
 waits "$tiny" snmpwalk --mib tiny.txt table:tiny.tab tiny
 waits "$one" snmpget --mib tiny.txt table:tiny.tab tinyState.0
@@ -973,12 +983,13 @@ waits "$e.1.0" snmptranslate --mib tiny.txt -On tinyState.0
 waits "$listening" snmpd --mib tiny.txt --table two.tab --listen "$place" --turns 0
 # An error output that fails, as one that is full or closed, changes nothing else.
 unheard() {
-    local ended
+    local ended title="snmp ${*:3}, without an error output"
     errors=/dev/full expect "$1" "$2" '' "${@:3}"
-    "$program" "${@:3}" >"$got/out" 2>&- </dev/null
+    chosen "$title" || return 0
+    timeout 60 "$program" "${@:3}" >"$got/out" 2>&- </dev/null
     ended=$?
-    if [ $ended = "$1" ]; then count ''; else count "${*:3}, without an error output: status $ended"; fi
-    same "${*:3}, without an error output" "$2" "$got/out"
+    count "$title" "$([ $ended = "$1" ] || echo "status $ended")"
+    holds "$title: its lines" "$2" "$got/out"
 }
 for walker in $walkers; do unheard 0 "$tiny" $walker --mib tiny.txt table:tiny.tab tiny; done
 unheard 0 "$one" snmpget --mib tiny.txt table:tiny.tab tinyState.0
@@ -995,20 +1006,18 @@ done
 
 seq -f "$e.1.%.0f|2|1" 20000 >"$got/t.tab"
 { "$program" snmpwalk -On "table:$got/t.tab" $e 2>"$got/err"; echo $? >"$got/status"; } | head -n 1 >"$got/out"
-same 'the line that a closed pipe took' "$e.1.1 = INTEGER: 1" "$got/out"
-same 'the message about a closed pipe' 'The output failed.' "$got/err"
-same 'the status after a closed pipe' 1 "$got/status"
+holds 'the line that a closed pipe took' "$e.1.1 = INTEGER: 1" "$got/out"
+holds 'the message about a closed pipe' 'The output failed.' "$got/err"
+holds 'the status after a closed pipe' 1 "$got/status"
 
 # over UDP, two walks at once
-"$program" snmpd --table three.tab --listen "$place" >"$got/server" &
-server=$!
-trap 'kill $server 2>/dev/null; rm -rf "$got"' EXIT
-for _ in {1..100}; do [ -s "$got/server" ] && break; sleep 0.1; done
-"$program" snmpwalk -On "$place" $e.1 >"$got/other" 2>&1 &
+"$program" snmpd --table three.tab --listen "$place" --turns 600 >"$got/server" &
+for _ in {1..300}; do [ -s "$got/server" ] && break; sleep 0.1; done
+timeout 60 "$program" snmpwalk -On "$place" $e.1 >"$got/other" 2>&1 &
 other=$!
 prints "$three" snmpwalk -On "$place" $e.1
 wait $other
-same 'a walk beside another' "$three" "$got/other"
+holds 'a walk beside another' "$three" "$got/other"
 prints "$three
 Variables found: 3" snmpbulkwalk -On -Cp -Cr2 "$place" $e.1
 prints "$third
@@ -1020,6 +1029,4 @@ for command in $walkers snmpget; do
     refuses 'Name cannot be sent: .3' $command "$place" .3
 done
 refuses 'Request too long.' snmpget "$place" "${many[@]}"
-
-echo "$passed passed, $failed failed"
-[ $failed = 0 ]
+end

@@ -5,7 +5,7 @@ set -uo pipefail
 export LC_ALL=C
 top=$(cd "$(dirname "${BASH_SOURCE[0]}")/../.." && pwd) || exit 1
 script=tests/${0##*/}
-words=("$@")
+titles=("$@")
 passed=0
 failed=0
 skipped=0
@@ -18,8 +18,8 @@ trap 'exit 1' INT TERM HUP
 # Whether the test of this title runs.
 chosen() {
     local word
-    [ ${#words[@]} -gt 0 ] || return 0
-    for word in "${words[@]}"; do [[ $1 != *"$word"* ]] || return 0; done
+    [ ${#titles[@]} -gt 0 ] || return 0
+    for word in "${titles[@]}"; do [[ $1 != *"$word"* ]] || return 0; done
     return 1
 }
 
@@ -56,8 +56,14 @@ has() {
     done
 }
 
-# A port of UDP that is free.
-free_port() { PYTHONPATH=$top/tests python3 -c 'from lib import ports; print(ports.free_port())'; }
+# hold_port: port is one of UDP at 127.0.0.1 that is free, and that no other test draws while this script lasts.
+hold_port() {
+    local door
+    exec {door}< <(PYTHONPATH=$top/tests exec python3 -m lib.hold_port)
+    read -r port <&"$door"
+    exec {door}<&-
+    [ -n "$port" ] || { echo "$script: no port is free here" >&2; exit 1; }
+}
 
 # are_current NAME..: the built programs of these crates are those of the sources, else the script ends.
 are_current() {
@@ -67,7 +73,7 @@ are_current() {
 
 # The last line, and the status of the script.
 end() {
-    [ $((passed + failed + skipped)) -gt 0 ] || echo "$script: no test has a title with: ${words[*]}" >&2
+    [ $((passed + failed + skipped)) -gt 0 ] || echo "$script: no test has a title with: ${titles[*]}" >&2
     echo "$passed passed, $failed failed, $skipped skipped"
     [ "$failed" = 0 ] && [ $((passed + skipped)) -gt 0 ]
     exit
