@@ -8,17 +8,15 @@ trap 'rm -rf "$work"' EXIT
 
 library=$top/crates/bench/out/libbench.a
 
-# is_built FILE: whether the file is there, and is younger than every source.
-is_built() {
-    [ -f "$1" ] && [ -z "$(find "$top/crates.txt" "$top/crates" -name out -prune -o -name must-fail -prune -o \
-        \( -name '*.rt' -o -name crates.txt \) -newer "$1" -print -quit)" ]
-}
+# is_built FILE: whether the file is there, and was built from the sources as they stand.
+is_built() { "$top/tests/is-current" "$1" 2>/dev/null; }
 
-# build: proves and builds the library, which all drivers link. Where no source changed, the build leaves
-# the library's date as it is.
+# build: proves and builds the library, which all drivers link.
 build() {
+    local hash
+    hash=$("$top/tests/is-current" --sources "$library")
     (cd "$top/crates/bench" && rt lib) >"$work/lib.log" 2>&1 || { tail -n 20 "$work/lib.log" >&2; exit 1; }
-    touch -c "$library"
+    "$top/tests/is-current" --built "$library" "$hash"
 }
 
 # driver SOURCE: links the C program with the library, as $work/driver.

@@ -44,6 +44,7 @@ build() { mkdir -p "$1/out" && { echo '#!/bin/sh'; cat "$1"/src/*.rt | sed 's/^/
     chmod +x "$1/out/new" && mv "$1/out/new" "$1/out/$2"; }
 case $1 in
     run) build . "$here" ;;
+    lib) mkdir -p out && cat src/*.rt >"out/lib$here.a" ;;
     must-fail) cat "$SAYS" ;;
     ci) for at in crates/*/src/main.rt; do at=${at%/src/main.rt}; build "$at" "${at##*/}"; done; echo "5 passed, 0 failed (of these 2 in this run)" ;;
 esac
@@ -138,6 +139,20 @@ built
 same 'words that tests/is-current does not take' \
     '1 tests/is-current: usage: tests/is-current [--sources] crates/NAME/out/FILE, or --built crates/NAME/out/FILE HASH' \
     "$(in_tree tests/is-current tests/edits.py >"$got/out"; echo "$? $(cat "$got/out")")"
+
+# -- the library of the benchmarks
+
+printf '%s\n' 'bench staticlib: low' >>"$tree/crates.txt"
+mkdir -p "$tree/crates/bench/src" "$tree/bench"
+echo 'mod bench' >"$tree/crates/bench/src/lib.rt"
+cp "$top/bench/common.sh" "$tree/bench"
+# bench WORD..: what a script of bench/ gets by a function of common.sh, with its status.
+bench() { in_tree bash -c '. bench/common.sh; "$@"' bench "$@"; echo "$?"; }
+library=$tree/crates/bench/out/libbench.a
+same 'a library of the benchmarks that is not built' 1 "$(bench is_built "$library")"
+same 'a library of the benchmarks that is built' '0 0' "$(bench build) $(bench is_built "$library")"
+echo 'another' >>"$tree/crates/low/src/lib.rt"
+same 'a library of the benchmarks whose sources were edited' 1 "$(bench is_built "$library")"
 
 # -- the build of ./snmp
 

@@ -1,7 +1,8 @@
 #!/usr/bin/env python3
 """Runs the sessions that pages show, and compares what is printed with what they show.
 
-    tests/sessions.py [PAGE..]
+    tests/sessions.py [WORD..]      the sessions whose titles, PAGE:LINE: and their commands, contain one of the
+                                    words; without words, all
 
 A session is a block whose first line begins with `$ `: of a page in Markdown a fenced block, or one that is
 indented by four blanks; of a manual one between .Bd -literal and .Ed. `$ ` begins a command, which lines
@@ -10,19 +11,21 @@ at the end of a line don't count. A command that ends in & goes on while the ses
 
 Each session runs in a folder of its own, which has what the repository's has for words as ./snmp and
 examples/three.tab, and with the program installed into a new folder, which stands for /usr/local. Port 1161
-is replaced by one that is free. The last line is 'N passed, M failed'.
+is replaced by one that is free. A page of which fewer sessions are found than it has is a failure: where its
+sessions change, so does the number here. The last line is 'N passed, M failed, K skipped'.
 """
 import os
 import re
-import signal
-import socket
 import subprocess
 import sys
 import tempfile
 import time
 
-TOP = os.path.dirname(os.path.dirname(os.path.realpath(__file__)))
-PAGES = ["README.md", "docs/PROFILE.md", "docs/FROM-NET-SNMP.md", "docs/snmp.1"]
+from lib import ports, programs, runner
+
+TOP = programs.TOP
+# How many sessions each page has, at least.
+PAGES = {"README.md": 2, "docs/PROFILE.md": 4, "docs/FROM-NET-SNMP.md": 7, "docs/snmp.1": 8}
 
 
 def blocks_of(path):
@@ -54,31 +57,29 @@ def trimmed(text):
     return [line.rstrip(" ") for line in text.split("\n")]
 
 
-def free_port():
-    with socket.socket(socket.AF_INET, socket.SOCK_DGRAM) as door:
-        door.bind(("127.0.0.1", 0))
-        return door.getsockname()[1]
-
-
 def started(command, shown, path, folder, environment):
     """Starts a command that goes on, and waits for what it prints into a file of this path. It returns the
-    process and this."""
+    process and this. An agent of no turns gets some, so that none is left where nobody ends it."""
+    command = command.rstrip().removesuffix("&")
+    if "snmpd" in command and "--turns" not in command:
+        command += " --turns 600"
     with open(path, "wb") as out:
-        process = subprocess.Popen(["bash", "-c", command.rstrip().removesuffix("&")], cwd=folder, env=environment,
-                                   stdin=subprocess.DEVNULL, stdout=out, stderr=out, start_new_session=True)
-    end = time.monotonic() + 20
+        process = programs.Program(["bash", "-c", command], cwd=folder, env=environment, stdin=subprocess.DEVNULL,
+                                   stdout=out, stderr=out)
+    end = time.monotonic() + programs.PATIENCE
     while True:
+        ended = process.poll() is not None
         with open(path, encoding="utf-8") as file:
             printed = file.read()
-        if len(trimmed(printed)) >= len(trimmed(shown)) or time.monotonic() > end:
+        if len(trimmed(printed)) >= len(trimmed(shown)) or ended or time.monotonic() > end:
             return process, printed
         time.sleep(0.02)
 
 
-def run(block, prefix):
-    """Runs a session. It returns what is wrong."""
-    port, status, going = str(free_port()), 0, []
-    block = block.replace("127.0.0.1:1161", "127.0.0.1:" + port).replace("/usr/local", prefix)
+def run(block, prefix, port):
+    """Runs a session at a port. It returns what is wrong."""
+    status, going = 0, []
+    block = block.replace("127.0.0.1:1161", f"127.0.0.1:{port}").replace("/usr/local", prefix)
     environment = dict(os.environ, PATH=f"{prefix}/bin:{os.environ['PATH']}")
     with tempfile.TemporaryDirectory() as folder:
         for name in [name for name in os.listdir(TOP) if name[0] != "."]:
@@ -90,38 +91,54 @@ def run(block, prefix):
                     process, printed = started(command, shown, path, folder, environment)
                     going.append(process)
                 else:
-                    ran = subprocess.run(["bash", "-c", f"(exit {status}); {command}"], cwd=folder, env=environment,
-                                         stdin=subprocess.DEVNULL, stdout=subprocess.PIPE, stderr=subprocess.STDOUT,
-                                         timeout=120, check=False)
-                    status, printed = ran.returncode, ran.stdout.decode("utf-8", "replace")
+                    ended = programs.ran(["bash", "-c", f"(exit {status}); {command}"], cwd=folder, env=environment,
+                                         stderr=subprocess.STDOUT)
+                    status, printed = ended.status, ended.output
                 if trimmed(printed) != trimmed(shown):
                     return f"$ {command}\n{printed}-- and not\n{shown}"
         finally:
             for process in going:
-                os.killpg(process.pid, signal.SIGTERM)
+                process.kill()
                 process.wait()
     return ""
 
 
+def sessions_of(path):
+    """The sessions of a page, each with its title."""
+    for line, block in blocks_of(path):
+        if block.startswith("$ "):
+            yield f"{path}:{line}: {next(commands_of(block))[0]}", block
+
+
+def tests():
+    """The tests, each with its title: a page has so many sessions, and each of these prints what is shown."""
+    for path, least in PAGES.items():
+        title = f"{path}: {least} sessions at least"
+        if not os.path.exists(os.path.join(TOP, path)):
+            yield title, lambda prefix: "the page isn't there"
+            continue
+        sessions = list(sessions_of(path))
+        yield title, lambda prefix, found=len(sessions), least=least: "" if found >= least else f"it has {found}"
+        for title, block in sessions:
+            yield title, lambda prefix, block=block: ports.over_free_port(lambda port: run(block, prefix, port))
+
+
 def main():
-    passed = failed = 0
+    all_tests = list(tests())
+    chosen = runner.chosen_by(sys.argv[1:], "tests/sessions.py", [title for title, _ in all_tests])
+    if not programs.are_current("tests/sessions.py", programs.BUILT):
+        return 1
+    runner.end_at_signals()
+    counts = runner.Counts()
     with tempfile.TemporaryDirectory() as prefix:
-        installed = subprocess.run([os.path.join(TOP, "snmp"), "--install", prefix], stdout=subprocess.DEVNULL, check=False)
-        if installed.returncode:
+        installed = programs.ran([os.path.join(TOP, "snmp"), "--install", prefix])
+        if installed.status != 0:
+            print(f"FAILED: the program can't be installed\n  {installed.messages}")
             return 1
-        for path in sys.argv[1:] or PAGES:
-            for line, block in blocks_of(path):
-                if not block.startswith("$ "):
-                    continue
-                if "modules/" in block and not os.path.isdir(os.path.join(TOP, "modules")):
-                    print(f"not tried: {path}:{line}: no modules/ here", file=sys.stderr)
-                    continue
-                wrong = run(block, prefix)
-                passed, failed = passed + (not wrong), failed + bool(wrong)
-                if wrong:
-                    print(f"FAILED: {path}:{line}: {wrong}")
-    print(f"{passed} passed, {failed} failed")
-    return 1 if failed else 0
+        for title, test in all_tests:
+            if chosen(title):
+                counts.found(title, runner.tried(lambda test=test: test(prefix)))
+    return counts.end()
 
 
 if __name__ == "__main__":

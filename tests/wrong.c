@@ -11,9 +11,11 @@
 #include <stdio.h>
 #include <stdlib.h>
 #include <string.h>
+#include <sys/resource.h>
 #include <sys/socket.h>
 #include <sys/syscall.h>
 #include <sys/time.h>
+#include <time.h>
 #include <unistd.h>
 #ifdef HEAP
 #include HEAP
@@ -71,6 +73,25 @@ int getaddrinfo(const char *restrict h, const char *restrict p, const struct add
     return e;
 }
 #endif
+#ifdef LAST_ADDRESS
+int getaddrinfo(const char *restrict h, const char *restrict p, const struct addrinfo *restrict hints,
+                struct addrinfo **restrict r) {
+    NEXT(getaddrinfo);
+    struct addrinfo *first = NULL, *last = NULL;
+    int e = next(h, p, hints, r);
+    for (struct addrinfo *it = e ? NULL : *r; it; it = it->ai_next)
+        if (it->ai_family == AF_INET) last = it, first = first ? first : it;
+    if (last) memcpy(first->ai_addr, last->ai_addr, sizeof(struct sockaddr_in));
+    return e;
+}
+#endif
+#ifdef SOCKET_FIRST
+// A program that takes a while to start, which then opens a socket before it says anything.
+__attribute__((constructor)) static void open_first(void) {
+    while (clock() < CLOCKS_PER_SEC / 2) continue;
+    (void)!socket(AF_INET, SOCK_DGRAM, 0);
+}
+#endif
 
 // What is sent: `tampered` does it in the place of a send.
 #if defined SECOND_SOCKET || defined LAST_OCTET_WRONG || defined A_REPLY_IS_LOST || defined ANY_ID || defined ANY_SENDER
@@ -100,7 +121,7 @@ ssize_t sendto(int s, const void *b, size_t n, int f, const struct sockaddr *a, 
 }
 #endif
 #if defined ANY_ID || defined ANY_SENDER || defined INTERRUPTED_IS_SILENCE || defined INTERRUPTED_IS_FAULT || \
-    defined KEEPS_MEMORY || defined DIES_OF_A_DATAGRAM || defined MORE_OF_THE_STACK
+    defined FAULT_IS_SILENCE || defined FAULT_IS_NO_TURN || defined KEEPS_MEMORY || defined DIES_OF_A_DATAGRAM || defined MORE_OF_THE_STACK
 // Where the id of a message stands: behind its length, its version, its community, and the PDU's tag and length.
 static __attribute__((unused)) unsigned char *id_of(unsigned char *it, size_t n) {
     size_t at = 0;
@@ -115,6 +136,12 @@ static __attribute__((unused)) unsigned char *id_of(unsigned char *it, size_t n)
 ssize_t recvfrom(int s, void *restrict b, size_t n, int f, struct sockaddr *restrict a, socklen_t *restrict an) {
     NEXT(recvfrom);
     ssize_t r = next(s, b, n, f, a, an);
+#ifdef FAULT_IS_SILENCE
+    if (r < 0 && errno != EINTR) errno = EAGAIN;
+#endif
+#ifdef FAULT_IS_NO_TURN
+    while (r < 0 && errno != EINTR && errno != EAGAIN) r = next(s, b, n, f, a, an);
+#endif
 #ifdef INTERRUPTED_IS_SILENCE
     if (r < 0 && errno == EINTR) errno = EAGAIN;
 #endif
@@ -275,6 +302,26 @@ ssize_t read(int d, void *b, size_t n) {
     ssize_t r = next(d, b, n);
     if (r > 0) got += (size_t)r;
     return r;
+}
+#endif
+
+// -- words and limits
+
+#ifdef REFUSES_ITS_MOST
+__attribute__((constructor)) static void refuse(int n, char **words) {
+    for (int i = 1; i < n; i++) {
+        size_t size = strlen(words[i]);
+        if (size > 4 && !strcmp(words[i] + size - 4, "1000")) {
+            (void)!write(2, "error: too many retries\n", 24);
+            _exit(1);
+        }
+    }
+}
+#endif
+#ifdef CRASHES_IN_LITTLE_MEMORY
+__attribute__((constructor)) static void crash(void) {
+    struct rlimit most;
+    if (!getrlimit(RLIMIT_AS, &most) && most.rlim_cur != RLIM_INFINITY) raise(SIGSEGV);
 }
 #endif
 

@@ -1,31 +1,39 @@
 #!/usr/bin/env python3
 """Makes the built program wrong, in one way after the other, and sees that each test that is named for it fails. It
-isn't a part of the gate.
+isn't a part of the gate: it takes an hour, and each change of the program would have to wait for it.
 
 usage: wrong.py [NAME..]
+       wrong.py --stale
 
 The ways are those of wrong.c, which stands between the program and the C library (LD_PRELOAD). Without names, all are
-tried. Below each is the beginning of what the test says of it. The last line is 'N passed, M failed'.
+tried. Below each is the beginning of what the test says of it. Where a way has a test that isn't there, or a test of
+edge.py has no way, that is a failure too. The last line is 'N passed, M failed, K skipped'.
+
+Where all were tried and caught, tests/wrong.txt has the hash of the tests and of the ways; not of the program, which is
+another with each change. With --stale, as in the gate, nothing is tried: it is told where that hash is another.
 """
 import contextlib
+import glob
+import hashlib
 import io
 import os
 import random
+import shutil
 import subprocess
 import sys
 import tempfile
-import traceback
 
-import network
-from network import PROGRAM, here
+from lib import programs, runner
+from lib.commands import lacks
 
-import edge
-OF_EDGE = list(network.tests)
-import heap
-OF_HEAP = list(network.tests)
 import attack
+import edge
 import fleet
+import heap
+import network
 
+TESTS, TOP = programs.TESTS, programs.TOP
+RECORD = os.path.join(TESTS, "wrong.txt")
 WALKED = 40
 FOLDER = tempfile.TemporaryDirectory()
 
@@ -34,9 +42,12 @@ AT_THE_EDGE = {
     "BOUND_TO_LOOPBACK": ["have one socket", "another of this machine's addresses"],
     "SECOND_SOCKET": ["open one socket, and send"],
     "ANY_FAMILY": ["of a host's addresses"],
+    "LAST_ADDRESS": ["of a host's addresses"],
     "WAITS_TWO_SECONDS": ["six turns of snmpd"],
     "NO_PORT_IS_NO_FAULT": ["no port is free"],
     "LINK_IS_MEMORY": ["no port is free", "no descriptor is left"],
+    "FAULT_IS_SILENCE": ["a receive or a send that fails ends a walk"],
+    "FAULT_IS_NO_TURN": ["a receive or a send of snmpd that fails"],
     "INTERRUPTED_IS_SILENCE": ["stopped thrice"],
     "INTERRUPTED_IS_FAULT": ["stopped thrice"],
     "PART_IS_WHOLE": ["isn't read takes", "read slowly", "stopped while a pipe", "takes so many octets"],
@@ -44,16 +55,17 @@ AT_THE_EDGE = {
     "FULL_IS_WHOLE": ["takes so many octets", "a disk that is full"],
     "GONE_IS_TAKEN": ["reader goes away ends", "a reader that goes away has"],
     "WRITE_INTERRUPTED_IS_FAULT": ["a signal interrupts is made again"],
-    "WRITE_IS_MADE_AGAIN_ONCE": ["a signal interrupts is made again"],
+    "WRITE_IS_MADE_AGAIN_ONCE": ["a signal interrupts is made again", "interrupt several times in a row"],
     "PIECES": ["append to one file", "written at once"],
     "HELD_BACK": ["a signal ends a walk at once", "written at once"],
     "READ_ONCE": ["grows while it is read"],
-    "CUT_AT_LIMIT": ["a file of 268435456"],
+    "CUT_AT_LIMIT": ["a file of 268435456", "grows beyond the limit"],
     "TERM_IGNORED": ["a signal ends a walk at once", "ends snmpd at once", "may cut the line"],
     "TERM_ENDS_BY_ITSELF": ["a signal ends a walk at once", "ends snmpd at once", "may cut the line"],
     "LONG_IS_MEMORY": ["no refusal but for want"],
     "UNREADABLE_IS_MEMORY": ["no refusal but for want"],
     "TABLE_IS_MEMORY": ["no refusal but for want", "no descriptor is left"],
+    "CRASHES_IN_LITTLE_MEMORY": ["less and less memory"],
     "MORE_OF_THE_STACK": ["a stack of 256 KiB"],
     "STATUS_0": ["isn't read takes", "takes so many octets", "less and less memory", "ids are used up"],
     "ANOTHER_MESSAGE": ["ids are used up", "no refusal but for want"],
@@ -78,86 +90,180 @@ UNDER_ATTACK = {
     attack.attack_walkers: ["ANY_ID", "ANY_SENDER", "HALF_A_LINE", "LINES_COME_TWICE", "OUTSIDE_OF_THE_ROOT",
                             "NOTHING_IS_SAID", "ANOTHER_MESSAGE", "STATUS_0", "NEVER_ENDS"],
 }
-# Those that fleet.py catches.
+# Those that fleet.py catches; and network.py; and scripts in shell, which run those of their tests with these titles.
 IN_A_FLEET = ["NOTHING_IS_SAID", "STATUS_0", "HALF_A_LINE", "LINES_ARE_LEFT_OUT", "LINK_IS_MEMORY"]
+IN_A_NETWORK = {
+    "HALF_A_LINE": ["replies with random faults end a get"],
+    "LAST_OCTET_WRONG": ["after 300 requests with random faults"],
+}
+IN_SHELL = {
+    "SOCKET_FIRST": [("program.sh", "after a wait")],
+    "REFUSES_ITS_MOST": [("operator.sh", "where the help says")],
+    "ANOTHER_MESSAGE": [("program.sh", "Bad agent"), ("operator.sh", "where the help says")],
+}
 
 
 def library(name, *words):
     """A library that makes a program wrong so."""
     path = f"{FOLDER.name}/{name}.so"
-    subprocess.run(["cc", "-O1", "-w", "-shared", "-fPIC", f"-D{name}", *words, "-o", path, f"{here}/wrong.c"],
-                   check=True)
+    subprocess.run(["cc", "-O1", "-w", "-shared", "-fPIC", f"-D{name}", *words, "-o", path, f"{TESTS}/wrong.c"],
+                   check=True, timeout=programs.PATIENCE)
     return path
 
 
-def wrong_program(name):
-    path = f"{FOLDER.name}/{name}"
+def wrong_program(name, built=programs.BUILT):
+    path = f"{FOLDER.name}/{name}-{os.path.basename(built)}"
     with open(path, "w", encoding="ascii") as file:
-        file.write(f'#!/bin/sh\nLD_PRELOAD={library(name)} exec "{os.path.realpath(PROGRAM)}" "$@"\n')
+        file.write(f'#!/bin/sh\nLD_PRELOAD={library(name)} exec "{os.path.realpath(built)}" "$@"\n')
     os.chmod(path, 0o755)
     return path
 
 
 def use(name):
     """From here on the tests run this wrong program."""
-    network.PROGRAM = edge.PROGRAM = wrong_program(name)
+    programs.PROGRAM = wrong_program(name)
 
 
 def use_in_fleet(name):
     """By this wrong program they poll agents that the program as it is serves."""
-    network.PROGRAM, fleet.PROGRAM = PROGRAM, wrong_program(name)
+    programs.PROGRAM, fleet.PROGRAM = programs.BUILT, wrong_program(name)
 
 
 def use_heap(name):
     """They run the program as it is over the heap of heap.c, whose library makes it wrong, and knows by it where memory
     was refused."""
-    network.PROGRAM = PROGRAM
-    os.replace(library(name, f'-DHEAP="{here}/heap.c"'), f"{heap.folder.name}/heap.so")
+    programs.PROGRAM = programs.BUILT
+    os.replace(library(name, f'-DHEAP="{TESTS}/heap.c"'), f"{heap.heap.folder.name}/heap.so")
 
 
-def tests_of(name):
+def use_in_shell(name):
+    """They run in a folder that has what the checkout has, and in the place of its programs these wrong ones."""
+    top = f"{FOLDER.name}/checkout"
+    shutil.rmtree(top, ignore_errors=True)
+    for part in os.listdir(TOP):
+        if part not in ("tests", "crates") and part[0] != ".":
+            os.makedirs(top, exist_ok=True)
+            os.symlink(os.path.join(TOP, part), os.path.join(top, part))
+    shutil.copytree(TESTS, f"{top}/tests", symlinks=True)
+    for crate in os.listdir(f"{TOP}/crates"):
+        os.makedirs(f"{top}/crates/{crate}")
+        if os.path.isdir(f"{TOP}/crates/{crate}/src"):
+            os.symlink(f"{TOP}/crates/{crate}/src", f"{top}/crates/{crate}/src")
+    for crate in "snmp", "snmp_bare":
+        os.makedirs(f"{top}/crates/{crate}/out")
+        path = f"crates/{crate}/out/{crate}"
+        shutil.copy(wrong_program(name, f"{TOP}/{path}"), f"{top}/{path}")
+        hashed = programs.ran([f"{top}/tests/is-current", "--sources", f"{top}/{path}"]).output.strip()
+        programs.ran([f"{top}/tests/is-current", "--built", f"{top}/{path}", hashed])
+
+
+def by_shell(script, word):
+    """What those tests of a script say whose titles have this word."""
+    ran = programs.ran([f"{FOLDER.name}/checkout/tests/{script}", word], 1800)
+    if ran.status not in (0, 1):
+        raise RuntimeError(f"{script} {word}: status {ran.status}\n{ran.messages}")
+    return ran.output if ran.status else ""
+
+
+def titled(tests, word):
+    """Those tests whose titles have a word; those of them that this machine has no means for, with the reasons."""
+    return [it for it in tests if word in it[0]], [it for it in tests.untried if word in it[0]]
+
+
+def tests_of(name, counts):
     """The tests that are named for a way to be wrong, each with its title, and with what makes the program so."""
-    def chosen(tests, words):
-        for word in words:
-            if not any(word in title for title, _ in tests):
-                print(f"not tried: {name}: no test here whose title has {word!r}", file=sys.stderr)
-        return [(title, test) for title, test in tests if any(word in title for word in words)]
-    yield from ((use, *it) for it in chosen(OF_EDGE, AT_THE_EDGE.get(name, [])))
-    yield from ((use_heap, *it) for it in chosen(OF_HEAP, WITHOUT_MEMORY.get(name, [])))
+    for how, tests, words in [(use, edge.tests, AT_THE_EDGE), (use, network.tests, IN_A_NETWORK),
+                              (use_heap, heap.tests, WITHOUT_MEMORY)]:
+        for word in words.get(name, []):
+            chosen, untried = titled(tests, word)
+            if not chosen and not untried:
+                counts.found(f"{name}: {tests.script}", f"no test there has {word!r} in its title")
+            for title, reason in untried:
+                counts.left_out(f"{name} by {title!r}", reason)
+            yield from ((how, *it) for it in chosen)
     for part, names in UNDER_ATTACK.items():
         if name in names:
             count = 20000 if part is attack.attack_snmpd else 2 if name == "NEVER_ENDS" else WALKED
             yield use, part.__name__, lambda part=part, count=count: part(random.Random(1), count)
     if name in IN_A_FLEET:
-        yield use_in_fleet, "fleet.py", fleet.main
+        yield use_in_fleet, "fleet.py", lambda: fleet.main([])
+    for script, word in IN_SHELL.get(name, []):
+        yield use_in_shell, f"{script} {word!r}", lambda script=script, word=word: by_shell(script, word)
 
 
-def found(way, name, test):
+def found(how, name, test):
     """What a test finds wrong with such a program, as a text."""
-    way(name)
-    try:
-        with contextlib.redirect_stdout(io.StringIO()) as printed:
-            wrong = test()
-    except Exception:
-        return traceback.format_exc()
+    with contextlib.redirect_stdout(io.StringIO()) as printed:
+        wrong = runner.tried(lambda: how(name) or test())
     return "\n".join(wrong) if isinstance(wrong, list) else printed.getvalue() if wrong == 1 else wrong or ""
 
 
-def main():
-    ways = [*AT_THE_EDGE, *WITHOUT_MEMORY, *sum(UNDER_ATTACK.values(), []), *IN_A_FLEET]
-    passed, failed, as_it_is = 0, 0, {}
-    for name in sys.argv[1:] or dict.fromkeys(ways):
-        for way, title, test in tests_of(name):
+def all_ways():
+    return list(dict.fromkeys([*AT_THE_EDGE, *WITHOUT_MEMORY, *sum(UNDER_ATTACK.values(), []), *IN_A_FLEET,
+                               *IN_A_NETWORK, *IN_SHELL]))
+
+
+def without_a_way():
+    """The tests of edge.py that catch none of these ways."""
+    words = sum(AT_THE_EDGE.values(), [])
+    return [title for title, _ in [*edge.tests, *edge.tests.untried] if not any(word in title for word in words)]
+
+
+def hash_of_tests():
+    """The hash of the tests and the ways."""
+    paths = [f"{TESTS}/{name}" for name in ("wrong.py", "wrong.c", "heap.c", "edge.py", "heap.py", "attack.py", "fleet.py",
+                                            "network.py", "program.sh", "operator.sh")]
+    hashed = hashlib.sha256()
+    for path in [*paths, *sorted(glob.glob(f"{TESTS}/lib/*.py")), f"{TESTS}/lib/tests.sh"]:
+        with open(path, "rb") as file:
+            text = file.read()
+        hashed.update(f"{os.path.relpath(path, TESTS)} {len(text)}\n".encode() + text)
+    return hashed.hexdigest()
+
+
+def say_stale():
+    recorded = ""
+    if os.path.exists(RECORD):
+        with open(RECORD, encoding="ascii") as file:
+            recorded = file.read().split()[-1]
+    if recorded != hash_of_tests():
+        why = "the tests aren't those that caught them all" if recorded else "no run that caught them all is recorded"
+        print(f"not tried: the wrong programs of tests/wrong.py: {why}", file=sys.stderr)
+    return 0
+
+
+def main(names):
+    if names == ["--stale"]:
+        return say_stale()
+    unknown = [name for name in names if name not in all_ways()]
+    if unknown:
+        print(f"tests/wrong.py: no way is named {unknown[0]}; there are {' '.join(all_ways())}", file=sys.stderr)
+        return 2
+    bare = os.path.join(TOP, "crates", "snmp_bare", "out", "snmp_bare")
+    if not programs.are_current("tests/wrong.py", programs.BUILT, programs.CHECKS, bare):
+        return 1
+    counts, before, as_it_is = runner.Counts(), hash_of_tests(), {}
+    if lacks("cc"):
+        counts.left_out("all ways of tests/wrong.py", f"{lacks('cc')}, a C compiler", len(names or all_ways()))
+        return counts.end()
+    runner.end_at_signals()
+    for title in without_a_way():
+        counts.found(title, "a test of edge.py that no way is named for")
+    for name in names or all_ways():
+        for how, title, test in tests_of(name, counts):
             # A test that the program fails as it is shows nothing.
             if title not in as_it_is:
-                as_it_is[title] = found(way, "NOTHING_IS_WRONG", test)
-            caught = not as_it_is[title] and found(way, name, test)
-            passed, failed = passed + bool(caught), failed + (not caught)
-            said = "caught by" if caught else "not wrong alone for" if as_it_is[title] else "NOT CAUGHT by"
-            print(f"{name}: {said} {title!r}\n  {(caught or as_it_is[title])[:300]}", flush=True)
-    print(f"{passed} passed, {failed} failed")
-    return 1 if failed else 0
+                as_it_is[title] = found(how, "NOTHING_IS_WRONG", test)
+            caught = not as_it_is[title] and found(how, name, test)
+            counts.found(f"{name} by {title!r}", "" if caught else f"not wrong alone: {as_it_is[title][:600]}"
+                         if as_it_is[title] else "it isn't caught")
+            if caught:
+                print(f"{name}: caught by {title!r}\n  {caught[:300]}", flush=True)
+    if not names and not counts.failed and not counts.skipped and hash_of_tests() == before:
+        with open(RECORD, "w", encoding="ascii") as file:
+            file.write(f"# The tests that caught all wrong programs, by their hash: tests/wrong.py wrote it.\n{before}\n")
+    return counts.end()
 
 
 if __name__ == "__main__":
-    sys.exit(main())
+    sys.exit(main(sys.argv[1:]))

@@ -16,11 +16,12 @@ trap 'kill $(jobs -p) 2>/dev/null; rm -rf "$got"' EXIT
 trap 'exit 1' INT TERM HUP
 
 # Whether the test of this title runs.
+declare -A found=()
 chosen() {
-    local word
+    local word status=1
     [ ${#titles[@]} -gt 0 ] || return 0
-    for word in "${titles[@]}"; do [[ $1 != *"$word"* ]] || return 0; done
-    return 1
+    for word in "${titles[@]}"; do [[ $1 != *"$word"* ]] || { found[$word]=yes status=0; }; done
+    return $status
 }
 
 # count TITLE WRONG: counts a test, which failed where there is a text that says why.
@@ -71,9 +72,12 @@ are_current() {
     for name; do "$top/tests/is-current" "$top/crates/$name/out/$name" || exit 1; done
 }
 
-# The last line, and the status of the script.
+# The last line, and the status of the script: 2 where a word stands in no title.
 end() {
-    [ $((passed + failed + skipped)) -gt 0 ] || echo "$script: no test has a title with: ${titles[*]}" >&2
+    local word
+    for word in "${titles[@]}"; do
+        [ -n "${found[$word]:-}" ] || { echo "$script: no test here has '$word' in its title" >&2; exit 2; }
+    done
     echo "$passed passed, $failed failed, $skipped skipped"
     [ "$failed" = 0 ] && [ $((passed + skipped)) -gt 0 ]
     exit
