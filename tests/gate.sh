@@ -126,16 +126,17 @@ built
 cp /bin/false "$tree/$program"
 current 'another program in its place' 1 "$stale"
 built
-in_tree git init -q
-in_tree git add -A
-in_tree git -c user.name=a -c user.email=a commit -qm one
-echo 'another' >>"$tree/crates/mid/src/lib.rt"
-in_tree git -c user.name=a -c user.email=a commit -qam two
-in_tree git checkout -q HEAD^
-current 'the commit that it is built of is checked out again' 0 ''
-in_tree git checkout -q -
-current 'another commit is checked out' 1 "$stale"
-built
+if has 2 'a commit is checked out' git; then
+    commit() { in_tree git add -A && in_tree git -c user.name=a -c user.email=a commit -qm "$1"; }
+    in_tree git init -q
+    commit one
+    echo 'another' >>"$tree/crates/mid/src/lib.rt"
+    commit two
+    in_tree git checkout -q HEAD^
+    current 'a commit is checked out: that of which it is built' 0 ''
+    in_tree git checkout -q -
+    current 'a commit is checked out: another one' 1 "$stale"
+fi
 same 'words that tests/is-current does not take' \
     '1 tests/is-current: usage: tests/is-current [--sources] crates/NAME/out/FILE, or --built crates/NAME/out/FILE HASH' \
     "$(in_tree tests/is-current tests/edits.py >"$got/out"; echo "$? $(cat "$got/out")")"

@@ -261,7 +261,7 @@ share/doc/snmp/FROM-NET-SNMP.md share/doc/snmp/MANY-DEVICES.md share/doc/snmp/PR
 $(printf 'share/snmp/%s\n' examples/*) share/snmp/modules/base.txt share/zsh/site-functions/_snmp"
 files=$(printf 'usr/%s\n' $files)
 scripts=$(printf 'names/%s\n' $commands)
-same 'an install lists its files' "$files" "$(install_with usr | sed "s:^$got/::" | sort)"
+same 'an install lists its files' "$files" "$(install_with usr | cut -c $((${#got} + 2))- | sort)"
 same 'the files of an install' "$files" "$(there)"
 same 'an installed program runs' "$("$program" --version)" "$(cd / && "$got/usr/bin/snmp" --version)"
 same 'an installed lines-to-table runs' '1.3.6|2|1' "$(echo '.1.3.6 = INTEGER: 1' | "$got/usr/bin/lines-to-table")"

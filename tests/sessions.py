@@ -1,8 +1,8 @@
 #!/usr/bin/env python3
 """Runs the sessions that pages show, and compares what is printed with what they show.
 
-    tests/sessions.py [WORD..]      the sessions whose titles, PAGE:LINE: and their commands, contain one of the
-                                    words; without words, all
+    tests/sessions.py [WORD..]      the tests whose titles contain one of the words; without words, all. That of a
+                                    session is PAGE:LINE: and its first command
 
 A session is a block whose first line begins with `$ `: of a page in Markdown a fenced block, or one that is
 indented by four blanks; of a manual one between .Bd -literal and .Ed. `$ ` begins a command, which lines
@@ -11,9 +11,10 @@ at the end of a line don't count. A command that ends in & goes on while the ses
 
 Each session runs in a folder of its own, which has what the repository's has for words as ./snmp and
 examples/three.tab, and with the program installed into a new folder, which stands for /usr/local. Port 1161
-is replaced by one that is free. A page of which fewer sessions are found than it has is a failure: where its
-sessions change, so does the number here. The last line is 'N passed, M failed, K skipped'.
+is replaced by one that is free. Of each page each line that begins with `$ ` has to stand in a session, so that none
+is passed over. The last line is 'N passed, M failed, K skipped'.
 """
+import glob
 import os
 import re
 import subprocess
@@ -24,8 +25,14 @@ import time
 from lib import ports, programs, runner
 
 TOP = programs.TOP
-# How many sessions each page has, at least.
-PAGES = {"README.md": 2, "docs/PROFILE.md": 4, "docs/FROM-NET-SNMP.md": 7, "docs/snmp.1": 8}
+# So many sessions the pages have, at least.
+LEAST = 15
+
+
+def pages():
+    forms = [os.path.join(glob.escape(TOP), "docs", form) for form in ("**/*.md", "*.[1-8]")]
+    found = [path for form in forms for path in glob.glob(form, recursive=True)]
+    return ["README.md", *sorted(os.path.relpath(path, TOP) for path in found)]
 
 
 def blocks_of(path):
@@ -110,15 +117,22 @@ def sessions_of(path):
             yield f"{path}:{line}: {next(commands_of(block))[0]}", block
 
 
+def passed_over(path, sessions):
+    """What is wrong where lines of a page begin as commands do, and are none of its sessions."""
+    with open(os.path.join(TOP, path), encoding="utf-8") as file:
+        lines = len(re.findall(r"^(?: {4})?\$ ", file.read(), re.MULTILINE))
+    known = sum(len(list(commands_of(block))) for _, block in sessions)
+    return "" if lines == known else f"{lines} lines begin with `$ `, and {known} of them are commands of a session"
+
+
 def tests():
-    """The tests, each with its title: a page has so many sessions, and each of these prints what is shown."""
-    for path, least in PAGES.items():
-        title = f"{path}: {least} sessions at least"
-        if not os.path.exists(os.path.join(TOP, path)):
-            yield title, lambda prefix: "the page isn't there"
-            continue
-        sessions = list(sessions_of(path))
-        yield title, lambda prefix, found=len(sessions), least=least: "" if found >= least else f"it has {found}"
+    """The tests, each with its title and told where the program is installed."""
+    found = {path: list(sessions_of(path)) for path in pages()}
+    count = sum(map(len, found.values()))
+    yield f"the pages have {LEAST} sessions at least", lambda prefix: "" if count >= LEAST else f"they have {count}"
+    for path, sessions in found.items():
+        yield (f"{path}: each command stands in a session",
+               lambda prefix, path=path, sessions=sessions: passed_over(path, sessions))
         for title, block in sessions:
             yield title, lambda prefix, block=block: ports.over_free_port(lambda port: run(block, prefix, port))
 

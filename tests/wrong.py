@@ -35,7 +35,8 @@ import network
 TESTS, TOP = programs.TESTS, programs.TOP
 RECORD = os.path.join(TESTS, "wrong.txt")
 WALKED = 40
-FOLDER = tempfile.TemporaryDirectory()
+# Blanks and colons divide the names of LD_PRELOAD.
+FOLDER = tempfile.TemporaryDirectory(dir="/tmp")
 
 # Each way to be wrong, with words of the titles of the tests of edge.py that catch it.
 AT_THE_EDGE = {

@@ -10,6 +10,8 @@ passed=0
 failed=0
 skipped=0
 # What a test writes; it and what the script started go where the script ends, by a signal too.
+# A colon in its name would divide PATH.
+[[ ${TMPDIR:-} != *:* ]] || TMPDIR=/tmp
 got=$(mktemp -d) || exit 1
 # shellcheck disable=SC2046  # each number is a word
 trap 'kill $(jobs -p) 2>/dev/null; rm -rf "$got"' EXIT
