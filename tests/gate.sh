@@ -45,6 +45,12 @@ build() { mkdir -p "$1/out" && { echo '#!/bin/sh'; cat "$1"/src/*.rt | sed 's/^/
 case $1 in
     run) build . "$here" ;;
     lib) mkdir -p out && cat src/*.rt >"out/lib$here.a" ;;
+    try)
+        shift 4
+        echo 'Usage: program [OPTIONS]'
+        for word; do case $word in --table=*) cat "${word#--table=}" ;; esac; done
+        printf '%s: bad\n' "$@" 'run=ended status=3' 'checked: ended status=3' | sed 's/=3: bad/=3/' >&2
+        exit 3 ;;
     must-fail) cat "$SAYS" ;;
     ci) for at in crates/*/src/main.rt; do at=${at%/src/main.rt}; build "$at" "${at##*/}"; done; echo "5 passed, 0 failed (of these 2 in this run)" ;;
 esac
@@ -181,6 +187,26 @@ RT_DOES='[ "$1" != run ] || { echo wrong; exit 1; }' in_tree ./snmp --build >"$g
 same 'a program that is not proved ends the build' \
     "1 snmp: the build failed: its last lines follow, and the rest is in $tree/crates/snmp/out/build.log wrong" \
     "$? $(tail -n 2 "$got/out" | paste -sd ' ')"
+
+# A trial: the sources are run as they stand, by words that name files as the caller does.
+tree
+mkdir -p "$got/t:m p"
+echo 'of a file' >"$tree/f.txt"
+TMPDIR="$got/t:m p" in_tree ./snmp snmpwalk --mib f.txt --table=/dev/stdin .1 <<<'of the input' >"$got/out"
+same 'an unproved run: its status' 3 $?
+same 'an unproved run: what it prints' "snmp: unproved run from the sources, one to two minutes each time; ./snmp --build \
+proves and builds the program once, in half an hour to an hour
+Usage: snmp [OPTIONS]
+of the input
+snmpwalk: bad
+--mib: bad
+f.txt: bad
+--table=/dev/stdin: bad
+.1: bad" "$(cat "$got/out")"
+same 'an unproved run: of all sources' 'try snmp' "$(sed -n 's/ begins$//p' "$CALLS")"
+mkdir "$tree/crates/snmp_bare"
+in_tree ./snmp snmpget table:f.txt >"$got/out"
+same 'an unproved run: without --mib' 'try snmp_bare' "$(sed -n 's/ begins$//p' "$CALLS" | tail -n 1)"
 
 # wide LANES: seven libraries, of which five stand on the first, and of these one is below another and has most files.
 wide() {
