@@ -39,6 +39,16 @@ int bind(int s, const struct sockaddr *a, socklen_t n) {
     return next(s, (struct sockaddr *)&it, sizeof it);
 }
 #endif
+#ifdef BOUND_TO_ALL
+int bind(int s, const struct sockaddr *a, socklen_t n) {
+    NEXT(bind);
+    struct sockaddr_in it;
+    if (a->sa_family != AF_INET) return next(s, a, n);
+    memcpy(&it, a, sizeof it);
+    it.sin_addr.s_addr = htonl(INADDR_ANY);
+    return next(s, (struct sockaddr *)&it, sizeof it);
+}
+#endif
 #ifdef NO_PORT_IS_NO_FAULT
 int bind(int s, const struct sockaddr *a, socklen_t n) {
     NEXT(bind);
@@ -121,7 +131,7 @@ ssize_t sendto(int s, const void *b, size_t n, int f, const struct sockaddr *a, 
 }
 #endif
 #if defined ANY_ID || defined ANY_SENDER || defined INTERRUPTED_IS_SILENCE || defined INTERRUPTED_IS_FAULT || \
-    defined FAULT_IS_SILENCE || defined FAULT_IS_NO_TURN || defined KEEPS_MEMORY || defined DIES_OF_A_DATAGRAM || defined MORE_OF_THE_STACK
+    defined FAULT_IS_SILENCE || defined FAULT_ENDS_AT_ONCE || defined KEEPS_MEMORY || defined DIES_OF_A_DATAGRAM || defined MORE_OF_THE_STACK
 // Where the id of a message stands: behind its length, its version, its community, and the PDU's tag and length.
 static __attribute__((unused)) unsigned char *id_of(unsigned char *it, size_t n) {
     size_t at = 0;
@@ -139,8 +149,8 @@ ssize_t recvfrom(int s, void *restrict b, size_t n, int f, struct sockaddr *rest
 #ifdef FAULT_IS_SILENCE
     if (r < 0 && errno != EINTR) errno = EAGAIN;
 #endif
-#ifdef FAULT_IS_NO_TURN
-    while (r < 0 && errno != EINTR && errno != EAGAIN) r = next(s, b, n, f, a, an);
+#ifdef FAULT_ENDS_AT_ONCE
+    if (r < 0 && errno != EINTR && errno != EAGAIN) _exit(1);
 #endif
 #ifdef INTERRUPTED_IS_SILENCE
     if (r < 0 && errno == EINTR) errno = EAGAIN;

@@ -41,6 +41,7 @@ FOLDER = tempfile.TemporaryDirectory(dir="/tmp")
 # Each way to be wrong, with words of the titles of the tests of edge.py that catch it.
 AT_THE_EDGE = {
     "BOUND_TO_LOOPBACK": ["have one socket", "another of this machine's addresses"],
+    "BOUND_TO_ALL": ["an agent at 127.0.0.2"],
     "SECOND_SOCKET": ["open one socket, and send"],
     "ANY_FAMILY": ["of a host's addresses"],
     "LAST_ADDRESS": ["of a host's addresses"],
@@ -48,7 +49,7 @@ AT_THE_EDGE = {
     "NO_PORT_IS_NO_FAULT": ["no port is free"],
     "LINK_IS_MEMORY": ["no port is free", "no descriptor is left"],
     "FAULT_IS_SILENCE": ["a receive or a send that fails ends a walk"],
-    "FAULT_IS_NO_TURN": ["a receive or a send of snmpd that fails"],
+    "FAULT_ENDS_AT_ONCE": ["a receive or a send that fails ends a walk", "a receive or a send of snmpd that fails"],
     "INTERRUPTED_IS_SILENCE": ["stopped thrice"],
     "INTERRUPTED_IS_FAULT": ["stopped thrice"],
     "PART_IS_WHOLE": ["isn't read takes", "read slowly", "stopped while a pipe", "takes so many octets"],
