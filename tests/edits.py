@@ -1,6 +1,6 @@
 #!/usr/bin/env python3
-"""Tries the edits of tests/edits, each of which makes a crate wrong: the proofs must refuse it. The gate itself tries the
-most telling ones, those of crates/NAME/must-fail, and asks whether the others were tried over what stands here.
+"""Tries the edits of tests/edits, each of which makes a crate wrong: the proofs must refuse it. The gate itself tries
+the most telling ones, those of crates/NAME/must-fail, and asks whether the others were tried over what stands here.
 
 usage: edits.py [CRATE..]
        edits.py --stale
@@ -200,7 +200,8 @@ def main(names):
     found = refused(crates)
     left = {crate: [edit for edit in of[crate] if (crate, edit) not in found] for crate in crates}
     # What has changed since it was copied was tried in part at most.
-    passed = {crate: before[crate] for crate in crates if of[crate] and not left[crate] and hash_of(crate) == before[crate]}
+    passed = {crate: before[crate] for crate in crates
+              if of[crate] and not left[crate] and hash_of(crate) == before[crate]}
     write_tried({crate: value for crate, value in tried().items() if crate not in crates} | passed)
     for crate in crates:
         for edit in sorted(left[crate]):

@@ -14,7 +14,10 @@ tree() {
     rm -rf "$tree"
     mkdir -p "$tree/tests/lib" "$tree/.ci" "$got/bin"
     local crate
-    for crate in snmp other; do mkdir -p "$tree/crates/$crate/src"; echo 'fn main' >"$tree/crates/$crate/src/main.rt"; done
+    for crate in snmp other; do
+        mkdir -p "$tree/crates/$crate/src"
+        echo 'fn main' >"$tree/crates/$crate/src/main.rt"
+    done
     for crate in mid low; do
         mkdir -p "$tree/crates/$crate/src/part" "$tree/crates/$crate/specs"
         echo "mod $crate" | tee "$tree/crates/$crate/src/lib.rt" >"$tree/crates/$crate/src/part/deep.rt"
@@ -26,8 +29,8 @@ tree() {
     cp "$top/tests/is-current" "$tree/tests"
     cp "$top/.ci/run" "$tree/.ci"
     printf '%s\n' '#!/bin/sh' 'echo "13 crates are as their edits were tried"' >"$tree/tests/edits.py"
-    for part in wrong.py gate.sh program.sh operator.sh sessions.py random_walks.py network.py attack.py heap.py room.py \
-        modules.py edge.py fleet.py; do
+    for part in wrong.py gate.sh program.sh operator.sh sessions.py random_walks.py network.py attack.py heap.py \
+        room.py modules.py edge.py fleet.py; do
         printf '%s\n' '#!/bin/sh' "echo \"\${SAYS:-1 passed, 0 failed, 0 skipped}\"" >"$tree/tests/$part"
     done
     chmod +x "$tree"/tests/*.*
@@ -40,8 +43,12 @@ cat >"$got/rt" <<'RT'
 here=${PWD##*/}
 echo "$1 $here begins" >>"$CALLS"
 eval "${RT_DOES:-}"
-build() { mkdir -p "$1/out" && { echo '#!/bin/sh'; cat "$1"/src/*.rt | sed 's/^/# /'; echo 'echo "snmp ran: $*"'; } >"$1/out/new" &&
-    chmod +x "$1/out/new" && mv "$1/out/new" "$1/out/$2"; }
+build() {
+    mkdir -p "$1/out"
+    { echo '#!/bin/sh'; sed 's/^/# /' "$1"/src/*.rt; echo 'echo "snmp ran: $*"'; } >"$1/out/new"
+    chmod +x "$1/out/new"
+    mv "$1/out/new" "$1/out/$2"
+}
 case $1 in
     run) build . "$here" ;;
     lib) mkdir -p out && cat src/*.rt >"out/lib$here.a" ;;
@@ -52,7 +59,9 @@ case $1 in
         printf '%s: bad\n' "$@" 'run=ended status=3' 'checked: ended status=3' | sed 's/=3: bad/=3/' >&2
         exit 3 ;;
     must-fail) cat "$SAYS" ;;
-    ci) for at in crates/*/src/main.rt; do at=${at%/src/main.rt}; build "$at" "${at##*/}"; done; echo "5 passed, 0 failed (of these 2 in this run)" ;;
+    ci)
+        for at in crates/*/src/main.rt; do at=${at%/src/main.rt}; build "$at" "${at##*/}"; done
+        echo "5 passed, 0 failed (of these 2 in this run)" ;;
 esac
 echo "$1 $here ends" >>"$CALLS"
 RT
@@ -64,8 +73,7 @@ PATH=$got/bin:$PATH
 
 in_tree() { (cd "$tree" && "$@" 2>&1); }
 program=crates/snmp/out/snmp
-# current TITLE STATUS MESSAGE: the program is that of the sources, or it is said why it isn't; and of a program of another
-# crate that stands on nothing that was changed it is the same as before.
+# current TITLE STATUS MESSAGE: the program is that of the sources, or it is said why it isn't.
 current() {
     local said
     said=$(in_tree tests/is-current "$program")
@@ -144,8 +152,8 @@ if has 2 'a commit is checked out' git; then
     current 'a commit is checked out: another one' 1 "$stale"
 fi
 same 'words that tests/is-current does not take' \
-    '1 tests/is-current: usage: tests/is-current [--sources] crates/NAME/out/FILE, or --built crates/NAME/out/FILE HASH' \
-    "$(in_tree tests/is-current tests/edits.py >"$got/out"; echo "$? $(cat "$got/out")")"
+    '1 tests/is-current: usage: tests/is-current [--sources] crates/NAME/out/FILE,' \
+    "$(in_tree tests/is-current tests/edits.py >"$got/out"; echo "$? $(cut -d " " -f -5 "$got/out")")"
 
 # -- the library of the benchmarks
 
@@ -170,7 +178,8 @@ same 'a built program runs' 'snmp ran: a b' "$(in_tree ./snmp a b)"
 same 'what a build proves, in order' 'check low,lib low,check mid,lib mid,run snmp' \
     "$(sed -n 's/ begins$//p' "$CALLS" | paste -sd ,)"
 echo 'another' >>"$tree/crates/mid/src/lib.rt"
-same 'after an edit the sources are run' 'snmp: unproved run from the sources' "$(in_tree ./snmp a 2>&1 | cut -d , -f 1 | head -n 1)"
+same 'after an edit the sources are run' 'snmp: unproved run from the sources' \
+    "$(in_tree ./snmp a 2>&1 | cut -d , -f 1 | head -n 1)"
 built
 RT_DOES='[ "$1 $here" != "check low" ] || echo edited >>src/lib.rt' in_tree ./snmp --build >"$got/out"
 same 'a source that is edited during the build' \
@@ -179,7 +188,8 @@ current 'a program whose source was edited during its build' 1 "$stale"
 tree
 RT_DOES='[ "$1 $here" != "check low" ] || { seq 30; exit 1; }' in_tree ./snmp --build >"$got/out"
 same 'a library that is not proved ends the build' 1 $?
-same 'the last lines of its log are shown' "snmp: low is not proved: its last lines follow, and the rest is in $tree/crates/snmp/out/logs/low.log
+same 'the last lines of its log are shown' \
+    "snmp: low is not proved: its last lines follow, and the rest is in $tree/crates/snmp/out/logs/low.log
 $(seq 11 30)" "$(tail -n 21 "$got/out")"
 same 'nothing is proved above it' 'check low' "$(sed -n 's/ begins$//p' "$CALLS" | paste -sd ,)"
 tree
@@ -194,8 +204,9 @@ mkdir -p "$got/t:m p"
 echo 'of a file' >"$tree/f.txt"
 TMPDIR="$got/t:m p" in_tree ./snmp snmpwalk --mib f.txt --table=/dev/stdin .1 <<<'of the input' >"$got/out"
 same 'an unproved run: its status' 3 $?
-same 'an unproved run: what it prints' "snmp: unproved run from the sources, one to two minutes each time; ./snmp --build \
-proves and builds the program once, in half an hour to an hour
+same 'an unproved run: what it prints' \
+    "snmp: unproved run from the sources, one to two minutes each time; ./snmp --build proves and builds the program \
+once, in half an hour to an hour
 Usage: snmp [OPTIONS]
 of the input
 snmpwalk: bad
@@ -213,7 +224,10 @@ wide() {
     tree
     local crate
     printf '%s\n' 'a:' 'b: a' 'c: a' 'd: a' 'e: a' 'f: a' 'g: f' 'snmp: b c d e g' 'away: a' >"$tree/crates.txt"
-    for crate in a b c d e f g away; do mkdir -p "$tree/crates/$crate/src"; echo "$crate" >"$tree/crates/$crate/src/lib.rt"; done
+    for crate in a b c d e f g away; do
+        mkdir -p "$tree/crates/$crate/src"
+        echo "$crate" >"$tree/crates/$crate/src/lib.rt"
+    done
     seq 1000 >"$tree/crates/f/src/lib.rt"
     seq 200 >"$tree/crates/c/src/lib.rt"
     export LANES=$1
@@ -228,12 +242,14 @@ same 'one crate at a time, the longest chain first' 'a f c b d e g' \
 same 'one crate at a time' 1 "$(most)"
 wide 3
 same 'three crates side by side' 3 "$(most)"
-same 'each library is proved once, and no other crate' 'a b c d e f g' "$(sed -n 's/^check \(.*\) begins$/\1/p' "$CALLS" | sort | paste -sd ' ')"
+same 'each library is proved once, and no other crate' 'a b c d e f g' \
+    "$(sed -n 's/^check \(.*\) begins$/\1/p' "$CALLS" | sort | paste -sd ' ')"
 same 'a library is built before what stands on it is proved' '' "$(awk '
     /^lib .* ends/ { built[$2] = 1 }
     /^check .* begins/ && ($2 != "a" && !built["a"] || $2 == "g" && !built["f"]) { print }' "$CALLS")"
 least 'side by side by the processors of this machine' 1 "$(in_tree tools/lanes)"
-count 'side by side by the processors of this machine, at most four' "$([ "$(in_tree tools/lanes)" -le 4 ] || echo more)"
+count 'side by side by the processors of this machine, at most four' \
+    "$([ "$(in_tree tools/lanes)" -le 4 ] || echo 'they are more')"
 tree
 printf '%s\n' 'low: mid' 'mid: low' 'snmp: mid' >"$tree/crates.txt"
 same 'crates that stand on each other' "1 tools/prove-below: the crates stand on each other in a ring" \
@@ -274,11 +290,13 @@ fails 'a part that ends early' "${not_so/0/3}" '10 passed, 1 failed, 0 skipped'
 part 'echo "0 passed, 0 failed, 0 skipped"'
 fails 'a part that ran nothing' 'no test ran' '10 passed, 1 failed, 0 skipped'
 part 'echo "3 passed, 2 failed, 0 skipped"'
-fails 'a part of which tests failed, and that ends with status 0' 'status 0, and 2 tests failed' '13 passed, 2 failed, 0 skipped'
+fails 'a part of which tests failed, and that ends with status 0' 'status 0, and 2 tests failed' \
+    '13 passed, 2 failed, 0 skipped'
 part 'echo "3 passed, 0 failed, 0 skipped"; exit 1'
 fails 'a part that passes, and ends with status 1' 'status 1, and 0 tests failed' '13 passed, 1 failed, 0 skipped'
 part 'echo "0 passed, 0 failed, 2 skipped"'
-fails 'a part that skips tests without a reason' '2 tests were skipped, and nothing says why' '10 passed, 1 failed, 2 skipped'
+fails 'a part that skips tests without a reason' '2 tests were skipped, and nothing says why' \
+    '10 passed, 1 failed, 2 skipped'
 part 'sleep 60 & echo "1 passed, 0 failed, 0 skipped"; sleep 60'
 export PART_SECONDS=2
 fails 'a part that does not end' 'not done after 2 seconds' '10 passed, 1 failed, 0 skipped'
@@ -294,7 +312,8 @@ same 'an rt ci that fails' "1 FAILED: rt: status 1, and 2 tests failed 2 passed,
     "$(RT_DOES='[ "$1" != ci ] || { echo "1 passed, 2 failed"; exit 1; }' lines=2 gate)"
 same 'an rt ci that says no counts' "1 FAILED: rt: $not_so 1 passed, 1 failed, 0 skipped" \
     "$(RT_DOES='[ "$1" != ci ] || { echo "all is well"; exit; }' lines=2 gate)"
-same 'an rt ci that builds nothing' 1 "$(RT_DOES='[ "$1" != ci ] || { echo "1 passed, 0 failed"; exit; }' gate | cut -d ' ' -f 1)"
+same 'an rt ci that builds nothing' 1 \
+    "$(RT_DOES='[ "$1" != ci ] || { echo "1 passed, 0 failed"; exit; }' gate | cut -d ' ' -f 1)"
 built
 mkdir -p "$tree/crates/other/out"
 cp /bin/true "$tree/crates/other/out/other"
@@ -302,15 +321,18 @@ echo 'another' >>"$tree/crates/low/src/lib.rt"
 same 'an rt ci that leaves programs of other sources' 1 \
     "$(RT_DOES='[ "$1" != ci ] || { echo "1 passed, 0 failed"; exit; }' gate | cut -d ' ' -f 1)"
 tree
-printf '%s\n' '#!/bin/sh' 'echo "mid: stale"; echo "12 crates are as their edits were tried"; exit 1' >"$tree/tests/edits.py"
+printf '%s\n' '#!/bin/sh' 'echo "12 crates are as their edits were tried"; exit 1' >"$tree/tests/edits.py"
 same 'edits that were not tried over what stands here' \
-    '1 FAILED: tests/edits.py: the edits of a crate were not tried over what stands here 0 passed, 1 failed, 0 skipped' "$(lines=2 gate)"
+    '1 FAILED: tests/edits.py: edits were not tried over what stands here 0 passed, 1 failed, 0 skipped' \
+    "$(lines=2 gate)"
 echo '#!/bin/sh' >"$tree/tests/edits.py"
-same 'no crate with edits' '1 FAILED: tests/edits.py: nothing was compared 0 passed, 1 failed, 0 skipped' "$(lines=2 gate)"
+same 'no crate with edits' '1 FAILED: tests/edits.py: nothing was compared 0 passed, 1 failed, 0 skipped' \
+    "$(lines=2 gate)"
 tree
 part 'kill $(cat "$CALLS.gate"); sleep 60'
+(echo "$BASHPID" >"$CALLS.gate"; cd "$tree" && exec ./.ci/run) >"$got/out" 2>&1
 same 'a gate that is ended by a signal' '1 FAILED: the gate was ended by a signal 10 passed, 1 failed, 0 skipped' \
-    "$( (echo "$BASHPID" >"$CALLS.gate"; cd "$tree" && exec ./.ci/run) >"$got/out" 2>&1; echo "$? $(tail -n 2 "$got/out" | paste -sd ' ')")"
+    "$? $(tail -n 2 "$got/out" | paste -sd ' ')"
 
 # -- the edits that were tried
 
@@ -319,7 +341,10 @@ export SAYS=$got/says
 edited() {
     tree
     cp "$top/tests/edits.py" "$tree/tests"
-    for crate in low mid; do mkdir -p "$tree/tests/edits/$crate" && echo 'file: x' >"$tree/tests/edits/$crate/one.edit"; done
+    for crate in low mid; do
+        mkdir -p "$tree/tests/edits/$crate"
+        echo 'file: x' >"$tree/tests/edits/$crate/one.edit"
+    done
     mkdir -p "$tree/crates/low/must-fail"
     echo 'file: x' >"$tree/crates/low/must-fail/ours.edit"
     echo 'def' >"$tree/crates/low/specs/Low.antt"
@@ -342,12 +367,13 @@ echo 'more' >>"$tree/crates/low/src/lib.rt"
 no_line 'a source of another crate' low "it isn't what its edits were tried over"
 edited
 echo 'more' >>"$tree/crates/low/specs/Low.antt"
-stale 'a definition below' 1 "low: it isn't what its edits were tried over (tests/edits.py low)" \
-    "mid: it isn't what its edits were tried over (tests/edits.py mid)" "0 crates are as their edits were tried, 2 aren't"
+both=("low: it isn't what its edits were tried over (tests/edits.py low)"
+    "mid: it isn't what its edits were tried over (tests/edits.py mid)"
+    "0 crates are as their edits were tried, 2 aren't")
+stale 'a definition below' 1 "${both[@]}"
 edited
 sed -i 's/kit-1/kit-2/' "$tree/README.md"
-stale 'another toolchain' 1 "low: it isn't what its edits were tried over (tests/edits.py low)" \
-    "mid: it isn't what its edits were tried over (tests/edits.py mid)" "0 crates are as their edits were tried, 2 aren't"
+stale 'another toolchain' 1 "${both[@]}"
 edited
 rm "$tree/tests/edits/mid/one.edit"
 no_line 'a folder of edits that is empty' mid 'tests/edits/mid has no edits'

@@ -213,10 +213,11 @@ def without_a_way():
 
 def hash_of_tests():
     """The hash of the tests and the ways."""
-    paths = [f"{TESTS}/{name}" for name in ("wrong.py", "wrong.c", "heap.c", "edge.py", "heap.py", "attack.py", "fleet.py",
-                                            "network.py", "program.sh", "operator.sh")]
+    names = ["wrong.py", "wrong.c", "heap.c", "edge.py", "heap.py", "attack.py", "fleet.py", "network.py", "program.sh",
+             "operator.sh", "lib/tests.sh"]
+    paths = [f"{TESTS}/{name}" for name in names] + sorted(glob.glob(f"{glob.escape(TESTS)}/lib/*.py"))
     hashed = hashlib.sha256()
-    for path in [*paths, *sorted(glob.glob(f"{TESTS}/lib/*.py")), f"{TESTS}/lib/tests.sh"]:
+    for path in paths:
         with open(path, "rb") as file:
             text = file.read()
         hashed.update(f"{os.path.relpath(path, TESTS)} {len(text)}\n".encode() + text)
@@ -263,7 +264,7 @@ def main(names):
                 print(f"{name}: caught by {title!r}\n  {caught[:300]}", flush=True)
     if not names and not counts.failed and not counts.skipped and hash_of_tests() == before:
         with open(RECORD, "w", encoding="ascii") as file:
-            file.write(f"# The tests that caught all wrong programs, by their hash: tests/wrong.py wrote it.\n{before}\n")
+            file.write(f"# The hash of the tests that caught all wrong programs: tests/wrong.py wrote it.\n{before}\n")
     return counts.end()
 
 

@@ -1,5 +1,6 @@
-"""Prints a port of UDP that nobody has, and holds it at 127.0.0.2 while the script lasts that started this: a program can
-have it at 127.0.0.1, and no other test draws it."""
+"""Prints a port of UDP that nobody has, and holds it at 127.0.0.2 while the script lasts that started this: a program
+can have it at 127.0.0.1, and no other test draws it.
+"""
 import os
 import socket
 import sys
