@@ -334,6 +334,18 @@ part 'kill $(cat "$CALLS.gate"); sleep 60'
 same 'a gate that is ended by a signal' '1 FAILED: the gate was ended by a signal 10 passed, 1 failed, 0 skipped' \
     "$? $(tail -n 2 "$got/out" | paste -sd ' ')"
 
+# Each script of tests/ is a part of the gate, or is run by hand; and a page says of it what it does.
+for script in "$top"/tests/*.py "$top"/tests/*.sh; do
+    name=${script##*/}
+    case $name in
+        edits.py | wrong.py) form="^run tests/$name --stale" ;;
+        soak.py | module_facts.py | module_texts.py) form='' ;;
+        *) form="^part tests/$name" ;;
+    esac
+    count "tests/$name in the gate" "$(grep -q "$form" "$top/.ci/run" || echo "it isn't there")"
+    count "tests/$name in tests/README.md" "$(grep -qF "\`$name\`" "$top/tests/README.md" || echo "it isn't there")"
+done
+
 # -- the edits that were tried
 
 # edited: a tree whose libraries have an edit each, `one` both, which the stand-in says were refused.
