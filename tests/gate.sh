@@ -173,7 +173,11 @@ same 'a library of the benchmarks whose sources were edited' 1 "$(bench is_built
 
 export RT_DOES=''
 built
-same 'the last line of a build' 'snmp: built; ./snmp runs the proved program now' "$(tail -n 1 "$got/out")"
+same 'what a build says' "snmp: proving and building the program: half an hour to an hour on two processors at \
+first, less after an edit
+snmp: low is proved, 1 of 2 libraries
+snmp: mid is proved, 2 of 2 libraries
+snmp: built; ./snmp runs the proved program now" "$(cat "$got/out")"
 same 'a built program runs' 'snmp ran: a b' "$(in_tree ./snmp a b)"
 same 'what a build proves, in order' 'check low,lib low,check mid,lib mid,run snmp' \
     "$(sed -n 's/ begins$//p' "$CALLS" | paste -sd ,)"
