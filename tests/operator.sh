@@ -301,15 +301,15 @@ echo another >"$got/names/snmpwalk"
 same 'a file of another is left as it is' \
     "snmp: $got/names/snmpwalk: is there, and is no script of an install; --force replaces it" \
     "$(install_with usr --with-names names)"
-same 'nothing is installed then' "names/snmpwalk another" "$(there) $(cat "$got/names/snmpwalk")"
+same 'nothing is installed beside a file of another' "names/snmpwalk another" "$(there) $(cat "$got/names/snmpwalk")"
 count 'no folder of a refused install is left' "$([ ! -e "$got/usr" ] || echo 'it is')"
 install_with usr --with-names names --force >"$got/out"
-same '--force replaces it' "$three" "$("$got/names/snmpwalk" -On table:examples/three.tab .1)"
+same '--force replaces a file of another' "$three" "$("$got/names/snmpwalk" -On table:examples/three.tab .1)"
 
 tree
 mkdir -p "$got/usr/share/man/man1/snmp.1"
 same 'a folder in the way' "snmp: $got/usr/share/man/man1/snmp.1: is a folder" "$(install_with usr)"
-same 'nothing is left of it' '' "$(there)$(find "$got/usr/bin" 2>/dev/null)"
+same 'nothing is left of an install with a folder in the way' '' "$(there)$(find "$got/usr/bin" 2>/dev/null)"
 tree
 same 'a file that cannot be written whole' "snmp: $got/usr/bin/snmp: cannot be written" \
     "$(trap '' XFSZ; ulimit -f 16; install_with usr)"
@@ -324,7 +324,7 @@ same 'another option' 'snmp: --install has no option --prefix' "$(install_with -
 tree
 rm "$got/tree/crates/snmp/out/snmp"
 same 'no program' "snmp: the program isn't built, or isn't that of the sources: ./snmp --build" "$(install_with usr)"
-same 'nothing is installed of it' '' "$(there)"
+same 'nothing is installed without a program' '' "$(there)"
 tree
 echo 'fn more() {}' >>"$got/tree/crates/snmp/src/main.rt"
 same 'a program of other sources' "snmp: the program isn't built, or isn't that of the sources: ./snmp --build" "$(install_with usr)"
