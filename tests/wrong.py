@@ -142,11 +142,9 @@ def use_in_shell(name):
     """They run in a folder that has what the checkout has, and in the place of its programs these wrong ones."""
     top = f"{FOLDER.name}/checkout"
     shutil.rmtree(top, ignore_errors=True)
-    for part in os.listdir(TOP):
-        if part not in ("tests", "crates") and part[0] != ".":
-            os.makedirs(top, exist_ok=True)
-            os.symlink(os.path.join(TOP, part), os.path.join(top, part))
-    shutil.copytree(TESTS, f"{top}/tests", symlinks=True)
+    hidden = shutil.ignore_patterns(".*", "crates", "modules", "__pycache__")
+    shutil.copytree(TOP, top, ignore=lambda folder, names: hidden(folder, names) if folder == TOP else [])
+    os.symlink(f"{TOP}/modules", f"{top}/modules")
     for crate in os.listdir(f"{TOP}/crates"):
         os.makedirs(f"{top}/crates/{crate}")
         if os.path.isdir(f"{TOP}/crates/{crate}/src"):
