@@ -2,10 +2,11 @@
 """Runs each command of docs/MANY-DEVICES.md over agents on loopback, most of which the program's own snmpd
 serves, and compares what is collected with what their tables hold.
 
-usage: fleet.py
+usage: fleet.py [WORD..]
 
-The page's commands are the blocks that it marks as `sh`; they run in order, in one folder. Its last line is
-'N passed, M failed'.
+The page's commands are the blocks that it marks as `sh`; they run in order, in one folder. Of these tests, whose titles
+are the page's headings, those count whose titles have one of the words; what stands before them on the page runs too.
+Without words, all count. The last line is 'N passed, M failed, K skipped'.
 
 Catches, in wrong programs that would prove as well: a run that fails with status 0, without its message or with that of
 another fault; lines that are left out or cut, where all is there and where descriptors or memory are not.
@@ -15,20 +16,28 @@ import contextlib
 import os
 import re
 import shutil
-import subprocess
 import sys
 import tempfile
 import time
-import traceback
 
-import network
-from network import Agent, PROGRAM, Server, differs, dotted, failing, integer, served, silent
+from lib import programs
+from lib.agents import Agent, failing, silent
+from lib.commands import lacks, lacks_parallel
+from lib.messages import integer, served
+from lib.ports import closed_port
+from lib.runner import Counts, chosen_by, differs, end_at_signals, tried, wrongs
+from lib.server import Server
+from lib.texts import NO_OBJECT, dotted
 
-PAGE = os.path.join(network.here, "..", "docs", "MANY-DEVICES.md")
+PAGE = os.path.join(programs.TOP, "docs", "MANY-DEVICES.md")
+# What polls, which tests/wrong.py makes another one.
+PROGRAM = programs.BUILT
 ROWS_OF_INTERFACES = (1, 3, 6, 1, 2, 1, 2, 2, 1)
 NAMES_OF_INTERFACES = ROWS_OF_INTERFACES + (2,)
 RECEIVED = ROWS_OF_INTERFACES + (10,)
 SERVED = 50
+# No block of the page takes so long, in seconds; nor is a server sent so many datagrams.
+LONG = 600
 
 # -- the agents
 
@@ -90,9 +99,10 @@ def fleet(stack):
     with; and those that break off, with what they hold."""
     rows, ends, breaking = {}, {}, {}
     for device in range(SERVED):
-        rows[stack.enter_context(Server(table=table(interfaces(device)))).place] = interfaces(device)
-    closed = f"127.0.0.1:{next(network.ports)}"
-    other = stack.enter_context(Server("-c", "other", table=table(interfaces(0)))).place
+        server = Server(table=table(interfaces(device)), datagrams=10 * LONG)
+        rows[stack.enter_context(server).place] = interfaces(device)
+    closed = f"127.0.0.1:{stack.enter_context(closed_port())}"
+    other = stack.enter_context(Server("-c", "other", table=table(interfaces(0)), datagrams=10 * LONG)).place
     for place in stack.enter_context(Agent(silent)).place, stack.enter_context(Agent(silent)).place, closed, other:
         ends[place] = 1, f"Timeout: No Response from {place}."
     ends["a..b"] = 1, "The link failed."
@@ -129,10 +139,9 @@ class Folder:
         """Runs commands, which must end with status 0 and no message. A reply has twice the page's second to come, as
         this machine has the agents' work too."""
         commands = commands.replace(" -t 1 ", " -t 2 ")
-        ran = subprocess.run(["bash", "-e", "-c", commands], cwd=self.path, env=self.environment, capture_output=True,
-                             text=True, timeout=300, stdin=subprocess.DEVNULL, check=False)
-        self.said = ran.stdout
-        return differs((ran.returncode, ran.stderr), (0, ""))
+        ran = programs.ran(["bash", "-e", "-c", commands], LONG, cwd=self.path, env=self.environment)
+        self.said = ran.output
+        return differs((ran.status, ran.messages), (0, ""))
 
     def text(self, name):
         with open(f"{self.path}/{name}", encoding="ascii") as file:
@@ -293,7 +302,7 @@ def a_check(folder, block):
     label = dotted(NAMES_OF_INTERFACES) + ".1"
     for words, status, text in [
             (f"{first} {name} 2", 0, f"OK - {name} is 2 | value=2\n"), (f"{dead} {name} 2", 3, f"UNKNOWN - {said}\n"),
-            (f"{first} .1.3 2", 3, f"UNKNOWN - .1.3 is {network.NO_OBJECT}\n"),
+            (f"{first} .1.3 2", 3, f"UNKNOWN - .1.3 is {NO_OBJECT}\n"),
             (f"{first} {label} 2", 3, f'UNKNOWN - {label} is "port 1 of 0"\n')]:
         wrong += [folder.run(f"./check_value {words} || [ $? = {status} ]"), differs(folder.said, text)]
     return wrong
@@ -318,36 +327,38 @@ TESTS = {"The devices": [the_devices], "A file for each device": [files_of_devic
          "Several machines": [over_machines], "A check of a monitoring system": [a_check],
          "Lines for a collector": [for_a_collector]}
 BY_PARALLEL = "GNU parallel", "Several machines"
+SHAPE = "each block of the page has its test"
 
 
-def main():
-    if not os.access(PROGRAM, os.X_OK):
-        print("tests/fleet.py: the program isn't built: ./snmp --build", file=sys.stderr)
+def main(words=()):
+    headings = [heading for heading, tests in TESTS.items() for _ in tests]
+    chosen = chosen_by(words, "tests/fleet.py", [SHAPE, *TESTS])
+    if not programs.are_current("tests/fleet.py", programs.BUILT):
         return 1
-    counts = collections.Counter()
-
-    def told(title, found):
-        wrong = "\n  ".join(filter(None, found))
-        counts[not wrong] += 1
-        if wrong:
-            print(f"FAILED: {title}\n  {wrong[:5000]}")
-    page = blocks()
-    shape = {heading: len(listed) for heading, listed in page.items()}
-    told("each block of the page has its test", [differs(shape, {heading: len(it) for heading, it in TESTS.items()})])
+    end_at_signals()
+    counts, page = Counts(), blocks()
+    if lacks("bash", "xargs"):
+        counts.left_out(f"{1 + len(headings)} tests of tests/fleet.py", lacks("bash", "xargs"), 1 + len(headings))
+        return counts.end()
+    if chosen(SHAPE):
+        shape = {heading: len(listed) for heading, listed in page.items()}
+        counts.found(SHAPE, differs(shape, {heading: len(tests) for heading, tests in TESTS.items()}))
+    last = max([at for at, heading in enumerate(headings) if chosen(heading)], default=-1)
     with contextlib.ExitStack() as stack:
-        folder = Folder(stack.enter_context(tempfile.TemporaryDirectory()), fleet(stack))
+        folder = Folder(stack.enter_context(tempfile.TemporaryDirectory()), fleet(stack)) if last >= 0 else None
         for heading, tests in TESTS.items():
-            if heading in BY_PARALLEL and not shutil.which("parallel"):
-                print(f"not tried: {heading}: parallel isn't installed", file=sys.stderr)
+            if headings.index(heading) > last:
+                break
+            if heading in BY_PARALLEL and lacks_parallel():
+                if chosen(heading):
+                    counts.left_out(heading, lacks_parallel(), len(tests))
                 continue
             for block, test in zip(page.get(heading, []), tests):
-                try:
-                    told(heading, test(folder, block))
-                except Exception:
-                    told(heading, [traceback.format_exc()])
-    print(f"{counts[True]} passed, {counts[False]} failed")
-    return 1 if counts[False] else 0
+                wrong = tried(lambda test=test, block=block: wrongs(*test(folder, block)))
+                if chosen(heading):
+                    counts.found(heading, wrong[:5000])
+    return counts.end()
 
 
 if __name__ == "__main__":
-    sys.exit(main())
+    sys.exit(main(sys.argv[1:]))

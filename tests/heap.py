@@ -2,52 +2,44 @@
 """Refuses memory, one request after the other, over the heap of tests/heap.c: to the calls that take it, by the program
 heap_checks, and to command lines of the tools.
 
-usage: heap.py
+usage: heap.py [WORD..]
 
 Each run has its whole answer, or is refused, and what was to be changed is as it was; each block that it took is given
 back. Of a command line that is refused, what is written is whole lines from the beginning of its text, and 'Out of
 memory.' with status 1 (or that of an agent's error). Where no request was refused, the answer is the whole one, with
 the message of its own reason; so it is where one was that can't end the call: memory for rows that are gathered, or
-where that was made once more. The last line is 'N passed, M failed'.
+where that was made once more. Tests run whose titles have one of the words; without words, all. The last line is 'N passed, M
+failed, K skipped'.
 
 Catches, in wrong programs that prove as well: half a line where memory runs out; a beginning of the lines at status 0,
 or without a message; a line that is left out; a block that is kept; 'Out of memory.' where no request was refused; a
 run that gives up wherever one is.
 """
-import os
-import shutil
-import subprocess
+import hashlib
 import sys
-import tempfile
 
-import network
-from network import (E, GET, NULL, PROGRAM, RESPONSE, ROOT, Server, dotted, element, here, integer, message, read,
-                     served, test, text)
+from lib import programs
+from lib.commands import lacks
+from lib.heaps import Heap
+from lib.messages import GET, NULL, RESPONSE, element, integer, message, read, served, text
+from lib.ports import over_free_port
+from lib.rows import E, NO_LINK, NO_MEMORY, ROOT, WARNINGS
+from lib.runner import Tests, differs, wrongs
+from lib.server import Server
+from lib.texts import NO_OBJECT, dotted
 
-# Its own tests are run by itself.
-network.tests.clear()
-CHECKS = os.path.join(here, "..", "crates", "heap_checks", "out", "heap_checks")
-MEMORY = "Out of memory.\n"
-folder = tempfile.TemporaryDirectory()
-
-
-def path(name, octets):
-    """A file with these octets, in the folder where programs run. It is there whole at once, as tests that run side by
-    side share it."""
-    with tempfile.NamedTemporaryFile(dir=folder.name, delete=False) as file:
-        file.write(octets)
-    os.replace(file.name, f"{folder.name}/{name}")
-    return name
+tests = Tests("tests/heap.py")
+test = tests.test
+heap = Heap("heap")
 
 
 def judged(words, is_whole, is_refused, keeps=False, spared=0):
     """What is wrong with the answers of a program, whose status, output and messages these are told; the second is told
     first whether one request was refused `alone`, or `later` ones too. Where requests are spared, none of the last, so
     many at least, ends it alone: until then it is refused, but for one request perhaps of those for its words."""
-    ran = subprocess.run(words, cwd=folder.name, env={**os.environ, "LD_PRELOAD": f"{folder.name}/heap.so"},
-                         stdin=subprocess.DEVNULL, capture_output=True, text=True, timeout=300, check=False)
+    ran = heap.run(words)
     wrong, refusals, wholes, last_refused, last_whole = [], 0, 0, 0, 0
-    for line in ran.stdout.splitlines():
+    for line in ran.output.splitlines():
         how, *numbers, output, said = line.split(" ")
         times, first, last, status, kept = (int(number) for number in numbers)
         answer = (status, *(bytes.fromhex(it.strip("-")).decode(errors="replace") for it in (output, said)))
@@ -59,22 +51,22 @@ def judged(words, is_whole, is_refused, keeps=False, spared=0):
             wholes, last_whole = wholes + times, max(last, last_whole)
         elif how == "alone":
             last_refused = max(last, last_refused)
-    if ran.returncode or ran.stderr or refusals == 0:
-        wrong.append(f"status {ran.returncode}, {ran.stderr!r}, {refusals} runs were refused memory")
+    if ran.status != 0 or ran.messages or refusals == 0:
+        wrong.append(f"status {ran.status}, {ran.messages!r}, {refusals} runs were refused memory")
     late = last_whole - last_refused
     if spared and (late < spared or wholes > late + 1):
         wrong.append(f"alone, whole at {wholes} requests, and {late} of these after the last at which it is refused")
-    return "\n  ".join(wrong[:5])
+    return wrongs(*wrong[:5])
 
 
 # -- the calls
 
-with open(f"{here}/data/tiny.txt", "rb") as tiny:
-    TINY = tiny.read()
-with open(f"{here}/data/tiny.tab", "rb") as tiny:
-    TINY_TABLE = tiny.read()
-with open(f"{here}/data/two.tab", "rb") as two:
-    TWO_TABLE = two.read()
+def data(name):
+    with open(f"{programs.TESTS}/data/{name}", "rb") as file:
+        return file.read()
+
+
+TINY, TINY_TABLE, TWO_TABLE = data("tiny.txt"), data("tiny.tab"), data("two.tab")
 # More rows than a page of a table has.
 ROWS = {E + (1, i, 0): text(b"%d" % i) for i in range(1, 300) if i != 5}
 TABLE = "".join(f"{dotted(name)}|4|{name[-2]}\n" for name in ROWS).encode()
@@ -90,9 +82,9 @@ def shown(rows):
 def calls(title, check, a, b, whole, spared=0):
     @test(f"{title}, with each request for memory refused")
     def it():
-        files = [path(f"{title.replace(' ', '_')}.{i}", octets) for i, octets in enumerate([a, b])]
+        files = [heap.put(f"{title.replace(' ', '_')}.{i}", octets) for i, octets in enumerate([a, b])]
         refused = {"alone": [(1, "", "")], "later": [(1, "", ""), (3, "", "")]}
-        return judged([CHECKS, check, *files], lambda *answer: answer == (0, whole, ""),
+        return judged([programs.CHECKS, check, *files], lambda *answer: answer == (0, whole, ""),
                       lambda how, *answer: answer in refused[how], spared=spared)
 
 
@@ -166,46 +158,56 @@ calls("detail", "detail", TINY, ROOT.encode(), f"before: {DETAIL}")
 # -- the tools
 
 THREE = b"1.3.6.1.4.1.32473.1.10.0|2|3\n1.3.6.1.4.1.32473.1.2.0|4|wes\n1.3.6.1.4.1.32473.1.1.0|2|1\n"
-WARNINGS = """snmp: TINY-MIB imports absent from TINY-SMI, which has no absent
-snmp: TINY-MIB imports from GONE-MIB, which is not loaded
-snmp: TINY-MIB::loopA stands on a cycle
-snmp: TINY-MIB::loopB stands on a cycle
-"""
 FIRST, SECOND, THIRD = (f"{ROOT}.{rest}\n" for rest in ("1.0 = INTEGER: 1", '2.0 = STRING: "wes"', "10.0 = INTEGER: 3"))
-MISSING = "No Such Object available on this agent at this OID"
+
+
+def refused_in(words, output, messages, status, files):
+    """What is wrong with a command line over these files, with and without memory. Where nothing is told of its output,
+    that is what it prints as it is."""
+    line, said = words, messages
+    for name, octets in files.items():
+        path = heap.put(f"{name}.{hashlib.sha256(octets).hexdigest()[:16]}", octets)
+        line, said = line.replace(name, path), said.replace(name, path)
+    line = [programs.PROGRAM, *line.split(" ")]
+    whole = programs.ran(line, cwd=heap.folder.name)
+    wrong = differs(whole, (status, whole.output if output is None else output, said))
+    warnings = WARNINGS if messages.startswith(WARNINGS) else ""
+    # The status of an agent's error stays where its message can't be made.
+    return wrong or judged(line, lambda *answer: answer == whole, lambda _, ended, wrote, said: (
+        ended in (1, status or 1) and whole.output.startswith(wrote) and wrote[-1:] in ("", "\n")
+        and said in (NO_MEMORY, warnings + NO_MEMORY)))
 
 
 def runs(words, output, messages="", status=0, table=THREE, modules=TINY):
-    """A test that a command line prints this, and that with memory refused it is refused so. Where nothing is told of
-    its output, that is what it prints as it is."""
-    warnings = WARNINGS if messages.startswith(WARNINGS) else ""
-    assert MEMORY not in messages
+    """A test that a command line prints this, and that with memory refused it is refused so."""
+    assert NO_MEMORY not in messages
 
     @test(f"{words[:70]}, with each request for memory refused")
     def it():
-        files = {name: path(f"{name}.{abs(hash(octets))}", octets)
-                 for name, octets in [("TABLE", table), ("MODULES", modules)]}
-        line, said = words, messages
-        for name, file in files.items():
-            line, said = line.replace(name, file), said.replace(name, file)
-        line = [PROGRAM, *line.split(" ")]
-        whole = subprocess.run(line, cwd=folder.name, capture_output=True, text=True, timeout=60, check=False)
-        whole = whole.returncode, whole.stdout, whole.stderr
-        wrong = network.differs(whole, (status, whole[1] if output is None else output, said))
-        # The status of an agent's error stays where its message can't be made.
-        return wrong or judged(line, lambda *answer: answer == whole, lambda _, ended, wrote, said: (
-            ended in (1, status or 1) and whole[1].startswith(wrote) and wrote[-1:] in ("", "\n")
-            and said in (MEMORY, warnings + MEMORY)))
+        return refused_in(words, output, messages, status, {"TABLE": table, "MODULES": modules})
+
+
+def listens(words, messages="", table=THREE):
+    """The same of snmpd at a port that is free, DOOR."""
+    @test(f"{words[:70]}, with each request for memory refused")
+    def it():
+        def listening(port):
+            door = f"127.0.0.1:{port}"
+            return refused_in(words.replace("DOOR", door), f"listening on {door}\n0 replies, 0 dropped\n", messages, 0,
+                              {"TABLE": table, "MODULES": TINY})
+        return over_free_port(listening)
 
 
 @test("a walk over UDP, with each request for memory refused")
 def over_udp():
     whole = FIRST + SECOND + THIRD
-    with Server(table=THREE.decode()) as server:
+    # Each of several hundred runs walks the table.
+    with Server(table=THREE.decode(), datagrams=100000) as server:
         # The system's own calls take memory too, and may keep it.
-        return judged([PROGRAM, "snmpwalk", "-On", "-t4", server.place, ROOT], lambda *answer: answer == (0, whole, ""),
+        return judged([programs.PROGRAM, "snmpwalk", "-On", "-t4", server.place, ROOT],
+                      lambda *answer: answer == (0, whole, ""),
                       lambda _, status, wrote, said: (status == 1 and whole.startswith(wrote) and wrote[-1:] in ("", "\n")
-                                                   and said in (MEMORY, "The link failed.\n")), keeps=True)
+                                                      and said in (NO_MEMORY, NO_LINK)), keeps=True)
 
 
 AGENT = "table:TABLE"
@@ -220,14 +222,11 @@ TINY-MIB::tiny.9.0 = OID: TINY-MIB::tinyMac
 """
 runs(f"snmpbulkwalk --mib MODULES {AGENT} tiny", TWO, WARNINGS, table=TWO_TABLE)
 runs(f"snmpbulkwalk -On -Cr2 -Cp --after {ROOT}.1.0 {AGENT} {ROOT}", f"{SECOND}{THIRD}Variables found: 2\n")
-runs(f"snmpget -On {AGENT} {ROOT}.10.0 {ROOT}.3.0", f"{THIRD}{ROOT}.3.0 = {MISSING}\n")
+runs(f"snmpget -On {AGENT} {ROOT}.10.0 {ROOT}.3.0", f"{THIRD}{ROOT}.3.0 = {NO_OBJECT}\n")
 runs("snmptranslate --mib MODULES -Td TINY-MIB::tinyState", DETAIL, WARNINGS)
 runs("snmptranslate --mib MODULES -On TINY-MIB::tinyMac.\"wes\" iso.3", f"{MAC}\n.1.3\n", WARNINGS)
-DOOR = f"127.0.0.1:{next(network.ports)}"
-runs(f"snmpd --table TABLE --listen {DOOR} --turns 0", f"listening on {DOOR}\n0 replies, 0 dropped\n")
-DOOR = f"127.0.0.1:{next(network.ports)}"
-runs(f"snmpd --mib MODULES --table TABLE --listen {DOOR} --turns 0", f"listening on {DOOR}\n0 replies, 0 dropped\n",
-     WARNINGS, table=TWO_TABLE)
+listens("snmpd --table TABLE --listen DOOR --turns 0")
+listens("snmpd --mib MODULES --table TABLE --listen DOOR --turns 0", WARNINGS, TWO_TABLE)
 runs("snmpget --help", None)
 runs("--version", None)
 
@@ -254,13 +253,12 @@ runs(f"snmpbulkwalk -On --max-size 1 {AGENT} {ROOT}", "", f"Timeout: No Response
 runs(f"snmpget -c {FAR} {AGENT} .1", "", "Community too long.\n", 1)
 
 
+def main(words):
+    if lacks("cc"):
+        return tests.leave_out(words, f"{lacks('cc')}, a C compiler")
+    heap.make()
+    return tests.main(words, programs.BUILT, programs.CHECKS)
+
+
 if __name__ == "__main__":
-    if shutil.which("cc") is None:
-        print("not tried: memory that is refused, as there is no C compiler here (cc)", file=sys.stderr)
-        print("0 passed, 0 failed")
-        sys.exit(0)
-    if not os.access(CHECKS, os.X_OK):
-        print("tests/heap.py: the program heap_checks isn't built: rt run, in crates/heap_checks", file=sys.stderr)
-        sys.exit(1)
-    subprocess.run(["cc", "-O2", "-shared", "-fPIC", "-o", f"{folder.name}/heap.so", f"{here}/heap.c"], check=True)
-    sys.exit(network.run_tests("tests/heap.py", network.tests))
+    sys.exit(main(sys.argv[1:]))

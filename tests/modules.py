@@ -4,27 +4,29 @@ names, and translates names both ways; and reads the texts by itself (module_tex
 there twice, names without a parent, columns whose index or rows whose columns can't be read, and hints that
 the program doesn't take.
 
-usage: modules.py [ROOT]
+usage: modules.py [--root ROOT] [WORD..]
 
 What must come was written from the standards: tests/data has the lines of the walks, and the names here have
 their numbers from the RFCs. Where the packages python3-pysnmp4-mibs and libsnmp-base of Debian stand below ROOT,
-which is / by default, the facts of the texts are compared with theirs. Its last line is 'N passed, M failed'.
+which is / by default, the facts of the texts are compared with theirs. All is run, and those tests count whose titles
+have one of the words; without words, all. The last line is 'N passed, M failed, K skipped'.
 """
+import argparse
 import glob
 import os
 import random
 import re
 import shutil
-import subprocess
 import sys
 import tempfile
+
+from lib import programs
+from lib.programs import TOP
+from lib.runner import Counts, end_at_signals, tried
 
 import module_facts
 import module_texts
 
-here = os.path.dirname(os.path.abspath(__file__))
-TOP = os.path.join(here, "..")
-PROGRAM = os.path.join(TOP, "crates", "snmp", "out", "snmp")
 ALL, CORE = MADE = "modules/all.txt", "modules/core.txt"
 TABLE = "table:examples/interfaces.tab"
 
@@ -118,26 +120,34 @@ ifOperStatus OBJECT-TYPE
 UNREAD = "SNMPv2-SMI DEFINITIONS ::= BEGIN\nInteger32 ::=\n    [UNIVERSAL 2] IMPLICIT INTEGER (-2147483648..2147483647)\nEND\n"
 OTHER = "IF-MIB DEFINITIONS ::= BEGIN\nIMPORTS mib-2 FROM SNMPv2-SMI;\nother OBJECT IDENTIFIER ::= { mib-2 2 }\nEND\n"
 
-passed = failed = 0
+# The devices of examples/ whose lines are in tests/data.
+DEVICES = ["host", "interfaces", "printer", "switch", "ups"]
+
+
+class Titles(Counts):
+    """Counts of those tests whose titles have one of the words, where there are some."""
+
+    def __init__(self):
+        super().__init__()
+        self.words, self.found_words = [], set()
+
+    def found(self, title, wrong):
+        words = {word for word in self.words if word in title}
+        self.found_words |= words
+        if words or not self.words:
+            super().found(title, wrong)
+
+
+counts = Titles()
 
 
 def check(title, got, wanted):
-    global passed, failed
-    if got == wanted:
-        passed += 1
-    else:
-        failed += 1
-        print(f"FAILED: {title}\n  wanted {wanted!r}\n  got    {got!r}")
+    counts.found(title, "" if got == wanted else f"wanted {wanted!r}\n  got    {got!r}")
 
 
 def run(*words):
     """The status of the program, what it wrote and what it said."""
-    try:
-        ran = subprocess.run([PROGRAM, *words], cwd=TOP, capture_output=True, text=True, timeout=300,
-                             stdin=subprocess.DEVNULL)
-    except subprocess.TimeoutExpired:
-        return None, "", "no end in 300 seconds"
-    return ran.returncode, ran.stdout, ran.stderr
+    return programs.ran([programs.PROGRAM, *words], cwd=TOP)
 
 
 def mibs(files):
@@ -180,7 +190,7 @@ def joined():
         shutil.copytree(os.path.join(TOP, "tools"), f"{top}/tools")
 
         def join(*words):
-            return subprocess.run([f"{top}/tools/join-modules", *words], capture_output=True).returncode
+            return programs.ran([f"{top}/tools/join-modules", *words]).status
         check("modules/all.txt and modules/core.txt are what tools/join-modules makes", join("--check"), 0)
         with open(f"{top}/modules/z.txt", "w", encoding="ascii") as file:
             file.write("Z-MIB DEFINITIONS ::= BEGIN END\n")
@@ -313,7 +323,7 @@ def facts(world, root):
             compared += found[0]
             check(f"{module.name} is as the package has it", found[1], [])
     if not compared:
-        print("not tried: facts of modules, as neither python3-pysnmp4-mibs nor libsnmp-base is there", file=sys.stderr)
+        counts.left_out("facts of modules", f"neither python3-pysnmp4-mibs nor libsnmp-base is below {root}")
 
 
 def loads(files):
@@ -358,9 +368,11 @@ def walks(files):
 def devices():
     """What devices return, by names: each table of examples/ whose lines are in tests/data. A switch has ports as
     bits, and neighbours whose rows are marked with a time."""
-    for path in sorted(glob.glob(os.path.join(TOP, "examples", "*.tab"))):
-        name = os.path.basename(path)[:-len(".tab")]
-        if name == "interfaces" or not os.path.exists(os.path.join(TOP, "tests", "data", f"{name}.txt")):
+    examples, data = ({os.path.splitext(os.path.basename(path))[0] for path in glob.glob(os.path.join(TOP, pattern))}
+                      for pattern in ("examples/*.tab", "tests/data/*.txt"))
+    check("the devices of examples/ that have their lines in tests/data", sorted(examples & data), DEVICES)
+    for name in DEVICES:
+        if name == "interfaces":
             continue
         lines = by_all(text_of(f"tests/data/{name}.txt"))
         for walker in "snmpwalk", "snmpbulkwalk":
@@ -426,26 +438,30 @@ def beside():
               (1, "", f"{folder}/unread.txt:3: syntax\n"))
 
 
-def main():
-    if not os.access(PROGRAM, os.X_OK):
-        print("tests/modules.py: the program isn't built: ./snmp --build", file=sys.stderr)
+def main(words):
+    parser = argparse.ArgumentParser()
+    parser.add_argument("--root", default="/")
+    parser.add_argument("words", nargs="*")
+    words = parser.parse_args(words)
+    counts.words = words.words
+    if not programs.are_current("tests/modules.py", programs.BUILT):
         return 1
+    end_at_signals()
     files = sorted(f"modules/{os.path.basename(path)}" for path in glob.glob(os.path.join(TOP, "modules", "*.txt")))
     files = [file for file in files if file not in MADE]
     world = module_texts.World(module for file in files for module in module_texts.read(text_of(file)))
-    joined()
-    texts(world, files)
-    indexes(world)
-    hints(world)
-    facts(world, sys.argv[1] if len(sys.argv) > 1 else "/")
-    loads(files)
-    walks(files)
-    devices()
-    translations(files)
-    beside()
-    print(f"{passed} passed, {failed} failed")
-    return 1 if failed else 0
+    for part, *given in ((joined,), (texts, world, files), (indexes, world), (hints, world), (facts, world, words.root),
+                         (loads, files), (walks, files), (devices,), (translations, files), (beside,)):
+        # A part that breaks off is a failure, whatever the words are.
+        wrong = tried(lambda part=part, given=given: part(*given))
+        if wrong:
+            Counts.found(counts, part.__name__, wrong)
+    unknown = [word for word in counts.words if word not in counts.found_words]
+    if unknown:
+        print(f"tests/modules.py: no test here has {unknown[0]!r} in its title", file=sys.stderr)
+        return 2
+    return counts.end()
 
 
 if __name__ == "__main__":
-    sys.exit(main())
+    sys.exit(main(sys.argv[1:]))

@@ -2,292 +2,41 @@
 """Runs the built program over UDP on loopback: its commands against an agent that this script plays, and
 its snmpd against requests that this script makes.
 
-usage: network.py
+usage: network.py [WORD..]
 
-It knows nothing of the program's code: messages are written and read anew here, from RFC 1901 and 3416 and
-X.690. Its last line is 'N passed, M failed'.
+Tests run whose titles have one of the words; without words, all. Nothing here knows the program's code: messages
+are written and read anew, from RFC 1901 and 3416 and X.690. The last line is 'N passed, M failed, K skipped'.
 """
-import collections
-import concurrent.futures
-import glob
+import contextlib
 import itertools
 import os
 import random
 import re
-import select
 import signal
 import socket
-import subprocess
 import sys
-import tempfile
-import threading
 import time
-import traceback
 
-here = os.path.dirname(os.path.abspath(__file__))
-PROGRAM = os.path.join(here, "..", "crates", "snmp", "out", "snmp")
-NO_OBJECT = "No Such Object available on this agent at this OID"
-NO_INSTANCE = "No Such Instance currently exists at this OID"
+from lib import programs
+from lib.agents import Elsewhere, failing, losing, run, saying, serving, silent, stopping
+from lib.messages import (ASKED, BULK, END, GET, INFORM, INSTANCE, NAME, NEXT, NULL, OBJECT, REPORT, RESPONSE, SET,
+                          STATUSES, TOLD, TOO_BIG, TRAP, answered, bulks, element, get, identifier, integer, message,
+                          nexts, read, read_or_none, replied, reply, served, text)
+from lib.mutations import ends_of_get, faults_of, mutated
+from lib.ports import closed_port
+from lib.programs import patient
+from lib.relays import Unlucky, random_walk
+from lib.rows import (AGENT_ROWS, BAD, E, FIRST, LINES, MISSING, NAMES, NO_LINK, OBJECTS, R, ROOT, ROWS, SECOND,
+                      SILENT, THIRD, WARNINGS, lines_of, stated)
+from lib.runner import Tests, differs, sent_not, shown, side_by_side, wrongs
+from lib.server import Server, sockets_of
+from lib.texts import NO_INSTANCE, NO_OBJECT, dotted
 
-# -- messages
-
-GET, NEXT, RESPONSE, SET, BULK, INFORM, TRAP, REPORT = 0xA0, 0xA1, 0xA2, 0xA3, 0xA5, 0xA6, 0xA7, 0xA8
-Message = collections.namedtuple("Message", "version community kind id a b bindings")
-
-
-def element(tag, content):
-    size = len(content)
-    digits = size.to_bytes((size.bit_length() + 7) // 8, "big")
-    return bytes([tag, size] if size < 128 else [tag, 0x80 | len(digits), *digits]) + content
-
-
-def integer(n, tag=0x02):
-    size = next(size for size in itertools.count(1) if -(1 << 8 * size - 1) <= n < 1 << 8 * size - 1)
-    return element(tag, n.to_bytes(size, "big", signed=True))
-
-
-def identifier(name):
-    content = b""
-    for number in (40 * name[0] + name[1], *name[2:]):
-        digits = bytes([number & 127])
-        while number := number >> 7:
-            digits = bytes([0x80 | number & 127]) + digits
-        content += digits
-    return element(0x06, content)
-
-
-def text(octets):
-    return element(0x04, octets)
-
-
-NULL = element(0x05, b"")
-OBJECT, INSTANCE, END = (element(tag, b"") for tag in (0x80, 0x81, 0x82))
-
-
-def message(kind, id, bindings, a=0, b=0, community=b"public", version=1):
-    listed = b"".join(element(0x30, identifier(name) + value) for name, value in bindings)
-    pdu = element(kind, integer(id) + integer(a) + integer(b) + element(0x30, listed))
-    return element(0x30, integer(version) + text(community) + pdu)
-
-
-def elements(octets):
-    """The tags and contents of elements one after the other."""
-    while octets:
-        tag, size, octets = octets[0], octets[1], octets[2:]
-        if size >= 128:
-            size, octets = int.from_bytes(octets[:size - 128], "big"), octets[size - 128:]
-        assert size <= len(octets)
-        yield tag, octets[:size]
-        octets = octets[size:]
-
-
-def name_in(content):
-    numbers, number = [], 0
-    for octet in content:
-        number = number << 7 | octet & 127
-        if octet < 128:
-            numbers.append(number)
-            number = 0
-    first = min(numbers[0] // 40, 2)
-    return (first, numbers[0] - 40 * first, *numbers[1:])
-
-
-def read(datagram):
-    (_, whole), = elements(datagram)
-    (_, version), (_, community), (kind, pdu) = elements(whole)
-    *numbers, (_, listed) = elements(pdu)
-    bindings = []
-    for _, binding in elements(listed):
-        (_, name), (tag, value) = elements(binding)
-        bindings.append((name_in(name), element(tag, value)))
-    id, a, b = (int.from_bytes(number, "big", signed=True) for _, number in numbers)
-    return Message(int.from_bytes(version, "big"), community, kind, id, a, b, bindings)
-
-
-# Messages as the standards have them, octet by octet.
-NAME = (1, 3, 6, 1, 2, 1, 1, 5, 0)
-ASKED = bytes.fromhex("3026020101 04067075626C6963 A019 020101 020100 020100 300E 300C 06082B06010201010500 0500")
-TOLD = bytes.fromhex("3029020101 04067075626C6963 A21C 020101 020100 020100 3011 300F 06082B06010201010500 0403776573")
-TOO_BIG = bytes.fromhex("3018020101 04067075626C6963 A20B 020101 020101 020100 3000")
-assert message(GET, 1, [(NAME, NULL)]) == ASKED and read(ASKED).bindings == [(NAME, NULL)]
-assert message(RESPONSE, 1, [(NAME, text(b"wes"))]) == TOLD and message(RESPONSE, 1, [], 1) == TOO_BIG
-assert message(BULK, 1, [((1, 3, 6, 1, 4, 1, 32473, 1), NULL)], 0, 10) == bytes.fromhex(
-    "3027020101 04067075626C6963 A51A 020101 020100 02010A 300F 300D 06092B0601040181FD5901 0500")
-assert identifier((2, 4294967295, 0)) == bytes.fromhex("06069080 80804F00") and integer(-129) == b"\2\2\xff\x7f"
-assert integer(200, 0x41) == b"\x41\2\0\xc8" and integer(4294967295, 0x42) == b"\x42\5\0" + b"\xff" * 4
-
-
-def dotted(name):
-    return "".join(f".{n}" for n in name)
-
-
-# -- what an agent over rows replies (RFC 3416, section 4.2)
-
-def successor(rows, name):
-    above = min((other for other in rows if other > name), default=None)
-    return (name, END) if above is None else (above, rows[above])
-
-
-def answered(rows, request):
-    """The bindings of the reply."""
-    names = [name for name, _ in request.bindings]
-    if request.kind == GET:
-        return [(name, rows.get(name, OBJECT)) for name in names]
-    if request.kind == NEXT:
-        return [successor(rows, name) for name in names]
-    once = min(max(request.a, 0), len(names))
-    bindings, names = [successor(rows, name) for name in names[:once]], names[once:]
-    for _ in range(max(request.b, 0) if names else 0):
-        found = [successor(rows, name) for name in names]
-        bindings, names = bindings + found, [name for name, _ in found]
-        if all(value == END for _, value in found):
-            break
-    return bindings
-
-
-def reply(request, bindings, status=0, index=0):
-    return message(RESPONSE, request.id, bindings, status, index, request.community)
-
-
-def served(rows, request):
-    return reply(request, answered(rows, request))
+tests = Tests("tests/network.py")
+test = tests.test
 
 
 # -- the program against an agent of this script
-#
-# An agent is a function from the requests so far, of which the last has just come, to what it does then: the
-# datagrams that it sends, and pauses in seconds among them. `elsewhere` sends from another port, and
-# `stopping` stops the program for a moment and lets it go on.
-
-Elsewhere = collections.namedtuple("Elsewhere", "datagram")
-stopping = object()
-
-
-def serving(rows):
-    return lambda seen: [served(rows, seen[-1])]
-
-
-def silent(seen):
-    return []
-
-
-def losing(count, agent):
-    """The agent, after this many datagrams are lost."""
-    return lambda seen: agent(seen) if len(seen) > count else []
-
-
-def saying(*replies):
-    """Replies with these bindings to the first request, the second, and so on."""
-    return lambda seen: [reply(seen[-1], replies[len(seen) - 1])]
-
-
-def failing(status, index, bindings=()):
-    return lambda seen: [reply(seen[-1], bindings, status, index)]
-
-
-class Agent:
-    """An agent of this script at one of this machine's addresses, with what it was sent and by whom. `pid` is told
-    of the program that asks, where the agent stops it."""
-
-    def __init__(self, agent, host="127.0.0.1"):
-        self.agent, self.host = agent, host
-        self.seen, self.senders, self.faults, self.pid = [], [], [], concurrent.futures.Future()
-
-    def __enter__(self):
-        self.door = socket.socket(socket.AF_INET, socket.SOCK_DGRAM)
-        self.door.bind((self.host, 0))
-        self.port = self.door.getsockname()[1]
-        self.place = f"{self.host}:{self.port}"
-        self.player = threading.Thread(target=self.play)
-        self.player.start()
-        return self
-
-    def __exit__(self, *_):
-        with socket.socket(socket.AF_INET, socket.SOCK_DGRAM) as ender:
-            ender.sendto(b"", (self.host, self.port))
-        self.player.join()
-        self.door.close()
-
-    def play(self):
-        """Plays the agent, up to an empty datagram."""
-        with socket.socket(socket.AF_INET, socket.SOCK_DGRAM) as other:
-            while True:
-                datagram, sender = self.door.recvfrom(65535)
-                if not datagram:
-                    return
-                self.seen.append(datagram)
-                self.senders.append(sender)
-                try:
-                    for act in self.agent([read(request) for request in self.seen]):
-                        if act is stopping:
-                            pid = self.pid.result()
-                            os.kill(pid, signal.SIGSTOP)
-                            time.sleep(0.1)
-                            os.kill(pid, signal.SIGCONT)
-                        elif isinstance(act, Elsewhere):
-                            other.sendto(act.datagram, sender)
-                        elif isinstance(act, bytes):
-                            self.door.sendto(act, sender)
-                        else:
-                            time.sleep(act)
-                except Exception:
-                    self.faults.append(traceback.format_exc())
-
-
-# A child holds what is open here until it is another program: what is closed under this lock is closed for good.
-starting = threading.Lock()
-
-
-class Program(subprocess.Popen):
-    """A program that is started while no other is."""
-
-    def __init__(self, *words, **where):
-        with starting:
-            super().__init__(*words, **where)
-
-
-Run = collections.namedtuple("Run", "status output messages asked seconds faults")
-
-
-def patient(words):
-    """The words of a walk or a Get, where they say nothing of it with four seconds to wait for each reply, so that a
-    machine with other work sends nothing again."""
-    said = words[0] in ("snmpd", "snmptranslate") or any(word.startswith("-t") for word in words)
-    return [*words] if said or not words[0].startswith("snmp") else [words[0], "-t", "4", *words[1:]]
-
-
-def run(words, agent):
-    """Runs the program, `AGENT` among the words standing for the agent's place; that is what it says then."""
-    with Agent(agent) as asked:
-        begun = time.monotonic()
-        words = [word.replace("AGENT", asked.place).replace("PORT", str(asked.port)) for word in words]
-        with Program([PROGRAM, *words], stdin=subprocess.DEVNULL, stdout=subprocess.PIPE,
-                     stderr=subprocess.PIPE) as program:
-            asked.pid.set_result(program.pid)
-            try:
-                output, messages = program.communicate(timeout=60)
-            except subprocess.TimeoutExpired:
-                program.kill()
-                output, messages = program.communicate()
-        seconds = time.monotonic() - begun
-    output, messages = (octets.decode().replace(asked.place, "AGENT") for octets in (output, messages))
-    return Run(program.returncode, output, messages, asked.seen, seconds, asked.faults)
-
-
-def shown(datagrams):
-    return "\n    ".join(datagram.hex()[:400] for datagram in datagrams) or "none"
-
-
-tests = []
-
-
-def test(title):
-    """Marks a function that returns what is wrong, or nothing, as a test."""
-    def mark(function):
-        tests.append((title, function))
-        return function
-    return mark
-
 
 def walks(title, words, agent, output="", messages="", status=0, asked=()):
     """The program, run against the agent, prints this, says this, ends so, and sends just these datagrams."""
@@ -297,35 +46,7 @@ def walks(title, words, agent, output="", messages="", status=0, asked=()):
         wrong = list(ran.faults)
         if (ran.status, ran.output, ran.messages) != (status, output, messages):
             wrong.append(f"status {ran.status}\n  output {ran.output!r}\n  messages {ran.messages!r}")
-        if ran.asked != list(asked):
-            wrong.append(f"sent\n    {shown(ran.asked)}\n  not\n    {shown(asked)}")
-        return "\n  ".join(wrong)
-
-
-E = (1, 3, 6, 1, 4, 1, 32473)
-R = E + (1,)
-ROWS = {R + (1, 0): integer(1), R + (2, 0): text(b"wes"), R + (10, 0): integer(3)}
-NAMES = [R, *ROWS]
-FIRST, SECOND, THIRD = (f"{dotted(name)} = {value}\n"
-                        for name, value in zip(ROWS, ["INTEGER: 1", 'STRING: "wes"', "INTEGER: 3"]))
-LINES = FIRST + SECOND + THIRD
-ROOT = dotted(R)
-MISSING = f"{ROOT} = {NO_OBJECT}\n"
-SILENT = "Timeout: No Response from AGENT.\n"
-BAD = "Bad reply from AGENT.\n"
-
-
-def nexts(*names, community=b"public", first=1):
-    """The GetNext requests for these names, one after the other."""
-    return [message(NEXT, id, [(name, NULL)], community=community) for id, name in enumerate(names, first)]
-
-
-def bulks(repetitions, *names):
-    return [message(BULK, id, [(name, NULL)], 0, repetitions) for id, name in enumerate(names, 1)]
-
-
-def get(*names, id=1):
-    return [message(GET, id, [(name, NULL) for name in names])]
+        return wrongs(*wrong, sent_not(ran.asked, asked))
 
 
 def row(number, value=1):
@@ -369,12 +90,13 @@ walks("--after the last name, nothing is left", f"snmpbulkwalk -On --after {ROOT
       serving(ROWS), asked=bulks(10, NAMES[3]))
 walks("where nothing is below the root, it is asked for", f"snmpwalk -On AGENT {ROOT}", serving({}), MISSING,
       asked=nexts(R) + get(R, id=2))
-walks("... and its value is printed", f"snmpbulkwalk -On AGENT {ROOT}.1.0", serving(ROWS), FIRST,
-      asked=bulks(10, NAMES[1]) + get(NAMES[1], id=2))
-walks("... not with -CI", f"snmpwalk -On -CI AGENT {ROOT}", serving({}), asked=nexts(R))
+walks("where nothing is below the root, its value is printed", f"snmpbulkwalk -On AGENT {ROOT}.1.0", serving(ROWS),
+      FIRST, asked=bulks(10, NAMES[1]) + get(NAMES[1], id=2))
+walks("where nothing is below the root, no more is asked with -CI", f"snmpwalk -On -CI AGENT {ROOT}", serving({}),
+      asked=nexts(R))
 walks("with -Ci the root is asked for first", f"snmpwalk -On -Ci AGENT {ROOT}.1.0", serving(ROWS), FIRST,
       asked=get(NAMES[1]) + nexts(NAMES[1], first=2))
-walks("... and isn't printed where it isn't there", f"snmpwalk -On -Ci AGENT {ROOT}", serving(ROWS), LINES,
+walks("with -Ci a root that isn't there isn't printed", f"snmpwalk -On -Ci AGENT {ROOT}", serving(ROWS), LINES,
       asked=get(R) + nexts(*NAMES, first=2))
 walks("-Cp counts the lines", f"snmpwalk -On -Cp AGENT {ROOT}", serving(ROWS), LINES + "Variables found: 3\n",
       asked=nexts(*NAMES))
@@ -425,19 +147,19 @@ walks("what was printed stays where the agent falls silent", f"snmpwalk -On -Cp 
 
 @test("a request is sent again as often as the help has by default")
 def retries_by_default():
-    said = subprocess.run([PROGRAM, "snmpget", "--help"], capture_output=True, text=True, timeout=60).stdout
+    said = programs.run("snmpget", "--help").output
     retries, = re.findall(r"^ +-r <RETRIES> .* by default (\d+)$", said, re.M)
     ran = run(["snmpget", "AGENT", ROOT], silent)
-    if (ran.status, ran.output, ran.messages, ran.asked) != (1, "", SILENT, get(R) * (1 + int(retries))):
-        return f"the help has {retries}, and sent were\n    {shown(ran.asked)}"
+    return wrongs(differs((ran.status, ran.output, ran.messages), (1, "", SILENT)),
+                  sent_not(ran.asked, get(R) * (1 + int(retries))), *ran.faults)
 
 
 # Neither shows how long a try is: only that the words reach the socket, and that the program ends.
 @test("two tries of a second each end in time")
 def tries_end():
     ran = run(["snmpget", "-r", "1", "-t", "1", "AGENT", ROOT], silent)
-    if (ran.status, ran.output, ran.messages) != (1, "", SILENT) or not 1.5 <= ran.seconds <= 30:
-        return f"{ran}"
+    return wrongs(differs((ran.status, ran.output, ran.messages), (1, "", SILENT)), *ran.faults,
+                  differs(1.5 <= ran.seconds <= 30, True) and f"it took {ran.seconds:.1f} seconds")
 
 
 walks("with -t 8 a reply after a second is taken", f"snmpget -On -r 0 -t 8 AGENT {ROOT}.1.0",
@@ -448,12 +170,11 @@ walks("a datagram that is no reply begins the wait again", f"snmpget -On -r 0 -t
 
 
 @test("a port where nobody listens brings no reply")
-def closed_port():
-    place = f"127.0.0.1:{next(ports)}"
-    for words in ["snmpwalk"], ["snmpget"]:
-        ran = subprocess.run([PROGRAM, *words, "-r", "1", place, ROOT], capture_output=True, text=True, timeout=60)
-        if (ran.returncode, ran.stdout, ran.stderr) != (1, "", f"Timeout: No Response from {place}.\n"):
-            return f"{ran}"
+def nobody_listens():
+    with closed_port() as port:
+        place = f"127.0.0.1:{port}"
+        return wrongs(*(differs(programs.run(command, "-t", "1", "-r", "1", place, ROOT),
+                                (1, "", SILENT.replace("AGENT", place))) for command in ("snmpwalk", "snmpget")))
 
 
 # Datagrams that come twice, late, from elsewhere or as no reply: only the reply to the waiting request counts.
@@ -498,19 +219,16 @@ assert all(stray != RIGHT for stray in STRAYS.values())
 for kind, stray in STRAYS.items():
     walks(f"no reply: {kind}", f"snmpget -On -r 0 AGENT {ROOT}.1.0",
           lambda seen, stray=stray: [stray, served(ROWS, seen[-1])], FIRST, asked=get(NAMES[1]))
-walks("63 such datagrams leave a receive", f"snmpget -On -r 0 AGENT {ROOT}.1.0",
+walks("63 datagrams that are no reply leave a receive", f"snmpget -On -r 0 AGENT {ROOT}.1.0",
       lambda seen: [b"\x30"] * 63 + [served(ROWS, seen[-1])], FIRST, asked=get(NAMES[1]))
-walks("64 such datagrams end a try", f"snmpget -On -r 1 AGENT {ROOT}.1.0",
+walks("64 datagrams that are no reply end a try", f"snmpget -On -r 1 AGENT {ROOT}.1.0",
       lambda seen: [b"\x30"] * 64 + [served(ROWS, seen[-1])] if len(seen) == 1 else [], FIRST,
       asked=get(NAMES[1]) * 2)
-walks("... and the last try", f"snmpwalk -On -r 0 AGENT {ROOT}",
+walks("64 datagrams that are no reply end the last try", f"snmpwalk -On -r 0 AGENT {ROOT}",
       lambda seen: [b"\x30"] * 64 + [served(ROWS, seen[-1])], "", SILENT, 1, asked=nexts(R))
 
 # Error statuses.
-STATUSES = ["tooBig", "noSuchName", "badValue", "readOnly", "genErr", "noAccess", "wrongType", "wrongLength",
-            "wrongEncoding", "wrongValue", "noCreation", "inconsistentValue", "resourceUnavailable", "commitFailed",
-            "undoFailed", "authorizationError", "notWritable", "inconsistentName", "unknown"]
-for number, name in enumerate(STATUSES, 1):
+for number, name in enumerate([*STATUSES, "unknown"], 1):
     walks(f"an error status: {name}", f"snmpget AGENT {ROOT}", failing(number, 1), "",
           f"Error in packet: {name} ({number}), index 1\n", 2, asked=get(R))
 walks("an error status amid a walk", f"snmpwalk -On -Cp AGENT {ROOT}",
@@ -601,149 +319,29 @@ def unlucky_walks():
         sent = [datagram for datagram, _ in itertools.groupby(ran.asked)]
         right = (ran.status, ran.output, ran.messages, sent) == (0, lines, "", bulks(3, R, *list(rows)[2::3]))
         return "" if right else f"seed {seed}: {ran}"
-    with concurrent.futures.ThreadPoolExecutor(8) as pool:
-        return "\n  ".join(filter(None, pool.map(walk, range(8))))
+    return wrongs(*side_by_side(walk, range(8), 8))
 
 
+# Catches: an error, or a value that no reply has, at status 0.
 @test("replies with random faults end a get in a stated way")
 def faulty_replies():
     rng = random.Random(1)
-    wrong = []
-    for count in range(200):
+    wrong, ends = [], set()
+    for _ in range(200):
         faulty = mutated(rng, message(RESPONSE, 1, [(NAMES[1], integer(1)), (NAMES[2], text(b"wes"))]))
-        ran = run(patient(["snmpget", "-On", "-r", "0", "AGENT", f"{ROOT}.1.0", f"{ROOT}.2.0"]),
-                  lambda seen: [faulty, served(ROWS, seen[-1])])
-        messages = ("", BAD, "Error in packet: ")
-        if ran.status not in (0, 1, 2) or not ran.messages.startswith(messages[ran.status]) or ran.faults:
-            wrong.append(f"{faulty.hex()}: {ran}")
-    return "\n  ".join(wrong)
-
-
-def mutated(rng, octets):
-    """The octets with one to three of them changed, taken out, put in or repeated."""
-    octets = bytearray(octets)
-    for _ in range(rng.randint(1, 3)):
-        at = rng.randrange(len(octets) + 1)
-        kind = rng.randrange(5)
-        if kind == 0:
-            octets[at:at + 1] = bytes([rng.randrange(256)])
-        elif kind == 1:
-            octets[at:at + rng.randint(1, 4)] = b""
-        elif kind == 2:
-            octets[at:at] = rng.randbytes(rng.randint(1, 4))
-        elif kind == 3:
-            octets[at:at] = octets[at:at + 8]
-        elif at < len(octets):
-            octets[at] ^= 1 << rng.randrange(8)
-    return bytes(octets)
+        words = ["snmpget", "-On", "-r", "0", "AGENT", f"{ROOT}.1.0", f"{ROOT}.2.0"]
+        ran = run(patient(words), lambda seen: [faulty, served(ROWS, seen[-1])])
+        asked = read(ran.asked[0])
+        datagrams = [faulty, served(ROWS, asked)]
+        ends.add(ran.status)
+        found = list(faults_of(words, ran, [(asked, datagram) for datagram in datagrams]))
+        if ran[:3] not in ends_of_get(asked, datagrams):
+            found.append("no end that a Get has")
+        wrong += [f"{faulty.hex()}: {fault}\n    {ran}" for fault in found]
+    return wrongs(*wrong, differs(ends, {0, 1, 2}))
 
 
 # -- snmpd against requests of this script
-
-AGENT_VALUES = [identifier((2, 4294967295, 0)), integer(200, 0x41), integer(4294967295, 0x42), integer(127, 0x43),
-                integer(18446744073709551615, 0x46), element(0x40, bytes([192, 0, 2, 1])), element(0x44, b"\x9f"),
-                text(b"\x00\xff"), text(b"x" * 300)]
-AGENT_ROWS = {**ROWS, E + (9,): integer(-129), **{E + (9, i): value for i, value in enumerate(AGENT_VALUES, 1)}}
-TABLE = f"""object {ROOT}.2
-{ROOT}.10.0|2|3
-{ROOT}.2.0|4|wes
-{ROOT}.1.0|2|1
-{dotted(E)}.9|2|-129
-{dotted(E)}.9.1|6|2.4294967295.0
-{dotted(E)}.9.2|65|200
-{dotted(E)}.9.3|66|4294967295
-{dotted(E)}.9.4|67|127
-{dotted(E)}.9.5|70|18446744073709551615
-{dotted(E)}.9.6|64|192.0.2.1
-{dotted(E)}.9.7|68x|9F
-{dotted(E)}.9.8|4x|00FF
-{dotted(E)}.9.9|4|{"x" * 300}
-"""
-
-
-# Ports below those that sockets get which ask for none (from 32768 on, where the machine doesn't say other).
-ports = itertools.count(random.randrange(10000, 30000))
-
-
-# What is said of tests/data/tiny.txt.
-WARNINGS = ["snmp: TINY-MIB imports absent from TINY-SMI, which has no absent",
-            "snmp: TINY-MIB imports from GONE-MIB, which is not loaded", "snmp: TINY-MIB::loopA stands on a cycle",
-            "snmp: TINY-MIB::loopB stands on a cycle"]
-
-
-class Server:
-    """snmpd over a table, with a command that runs it before its words, and a socket that asks it."""
-
-    def __init__(self, *words, table=TABLE, host="127.0.0.1", before=()):
-        self.words, self.table, self.host, self.before = words, table, host, before
-
-    def __enter__(self):
-        self.file = tempfile.NamedTemporaryFile("w", suffix=".tab")
-        self.file.write(self.table)
-        self.file.flush()
-        self.socket = socket.socket(socket.AF_INET, socket.SOCK_DGRAM)
-        self.socket.settimeout(20)
-        # Another program may have the port.
-        for self.port in itertools.islice(ports, 20):
-            self.place = f"{self.host}:{self.port}"
-            self.program = Program(
-                [*self.before, PROGRAM, "snmpd", "--table", self.file.name, "--listen", self.place, *self.words],
-                stdin=subprocess.DEVNULL, stdout=subprocess.PIPE, stderr=subprocess.PIPE, text=True)
-            # One that never says so would be waited for.
-            ender = threading.Timer(60, self.program.kill)
-            ender.start()
-            self.listening = self.program.stdout.readline()
-            ender.cancel()
-            if self.listening:
-                return self
-            ended = self.end()
-            if ended != (1, "", "The link failed.\n"):
-                break
-        raise RuntimeError(f"snmpd ended: {ended}")
-
-    def __exit__(self, *_):
-        self.program.kill()
-        self.program.communicate()
-        self.socket.close()
-        self.file.close()
-
-    def send(self, datagram):
-        self.socket.sendto(datagram, ("127.0.0.1", self.port))
-
-    def receive(self):
-        datagram, sender = self.socket.recvfrom(65535)
-        assert sender == ("127.0.0.1", self.port)
-        return datagram
-
-    def ask(self, datagram, community=b"public"):
-        """What it sends for this datagram: all that comes before the reply to a Get of nothing."""
-        probe = message(GET, 7777777, [], community=community)
-        self.send(datagram)
-        self.send(probe)
-        replies, last = [], message(RESPONSE, 7777777, [], community=community)
-        while (got := self.receive()) != last:
-            replies.append(got)
-        return replies
-
-    def end(self):
-        """Its status, and what else it wrote."""
-        output, messages = self.program.communicate(timeout=60)
-        return self.program.returncode, output, messages
-
-
-def sockets_of(pid):
-    """How many sockets a program has, and the addresses and ports of those of UDP, as /proc/net/udp has them."""
-    links = [os.readlink(link) for link in glob.glob(f"/proc/{pid}/fd/*")]
-    sockets = [link[len("socket:["):-1] for link in links if link.startswith("socket:[")]
-    # A line of it may come twice where other sockets go while it is read.
-    with open("/proc/net/udp", encoding="ascii") as file:
-        places = {fields[1] for fields in map(str.split, file) if fields[9] in sockets}
-    return len(sockets), sorted(places)
-
-
-def differs(got, wanted):
-    return "" if got == wanted else f"{got!r}\n  not {wanted!r}"
-
 
 @test("snmpd replies to Get, GetNext, GetBulk and Set, and to nothing else")
 def snmpd_replies():
@@ -790,10 +388,12 @@ def snmpd_replies():
     case("an octet more", right + b"\0")
     case("no stated length", b"\x30\x80" + right[2:] + b"\0\0")
     case("the longest datagram", b"\x30" * 65507)
+    wrong = []
     with Server("--max-size", "65507") as server:
-        wrong = [f"{title}: {shown(got)}\n  not\n    {shown(wanted)}" for title, (datagram, wanted) in cases.items()
-                 if (got := server.ask(datagram)) != wanted]
-    return "\n  ".join(wrong)
+        for title, (datagram, wanted) in cases.items():
+            differing = sent_not(server.ask(datagram), wanted)
+            wrong.append(differing and f"{title}: {differing}")
+    return wrongs(*wrong)
 
 
 @test("snmpd replies to 500 random requests as the standard says")
@@ -806,29 +406,21 @@ def snmpd_random():
     wrong = []
     for size in 200, 1472:
         rows = {some_name(): rng.randrange(-200, 200) for _ in range(40)}
-        with Server("--max-size", str(size), table="".join(f"{dotted(n)}|2|{v}\n" for n, v in rows.items())) as server:
+        with Server("--max-size", str(size), table=stated(rows), datagrams=500) as server:
             rows = {name: integer(value) for name, value in rows.items()}
             for _ in range(250):
                 names = [(some_name(), NULL) for _ in range(rng.randint(0, 5))]
                 kind, id = rng.choice([GET, NEXT, BULK]), rng.randrange(-2 ** 31, 2 ** 31)
                 a, b = rng.choice([-1, 0, 1, 3]), rng.choice([-1, 0, 1, 2, 20, 2147483647])
                 asked = message(kind, id, names, a, b)
-                bindings = answered(rows, read(asked))
-                whole = reply(read(asked), bindings)
-                while len(whole) > size and kind == BULK:
-                    bindings.pop()
-                    whole = reply(read(asked), bindings)
-                if len(whole) > size:
-                    whole = reply(read(asked), [], 1)
-                if (got := server.ask(asked)) != [whole]:
-                    wrong.append(f"{shown(got)}\n  not\n    {shown([whole])}")
-    return "\n  ".join(wrong)
+                wrong.append(sent_not(server.ask(asked), [replied(rows, read(asked), size)]))
+    return wrongs(*wrong)
 
 
 @test("a request with each octet replaced by each other one: a reply is its own shortest encoding")
 def snmpd_octets():
     asked, replies, wrong = message(NEXT, 1, [(E + (1,), NULL)]), 0, []
-    with Server() as server:
+    with Server(datagrams=2 * 256 * len(asked)) as server:
         for place, octet in itertools.product(range(len(asked)), range(256)):
             changed = asked[:place] + bytes([octet]) + asked[place + 1:]
             for got in server.ask(changed):
@@ -842,20 +434,25 @@ def snmpd_octets():
     return "\n  ".join(wrong[:5])
 
 
+# What isn't as the standard has it may be a request here, as far as this script reads it, and none to snmpd: so it may
+# have no reply, but no other one. Catches: a wrong reply to what is a request still, and any reply to what is none.
 @test("snmpd still replies after 300 requests with random faults")
 def snmpd_faults():
     rng = random.Random(1)
     kinds = [message(kind, 1, [(R, NULL), (R + (1, 0), NULL)], 1, 2) for kind in (GET, NEXT, BULK, SET)]
     right = message(NEXT, 2, [(R, NULL)])
-    wrong = []
-    with Server() as server:
+    wrong, replies = [], 0
+    with Server(datagrams=1200) as server:
         for _ in range(300):
             faulty = mutated(rng, rng.choice(kinds))
-            if len(server.ask(faulty)) > 1:
-                wrong.append(faulty.hex())
+            it, got = read_or_none(faulty), server.ask(faulty)
+            asks = it is not None and it[:2] == (1, b"public") and it.kind in (GET, NEXT, BULK, SET)
+            replies += len(got)
+            if got not in ([], [replied(AGENT_ROWS, it, 1472, OBJECTS)] if asks else []):
+                wrong.append(f"{faulty.hex()} has the reply {shown(got)}")
             if server.ask(right) != [message(RESPONSE, 2, [(R + (1, 0), integer(1))])]:
                 wrong.append(f"after {faulty.hex()}")
-    return "\n  ".join(wrong)
+    return wrongs(*wrong, differs(replies > 30, True))
 
 
 @test("snmpd replies by -c alone")
@@ -869,54 +466,75 @@ def snmpd_community():
 
 @test("snmpd sends no more than --max-size")
 def snmpd_sizes():
-    six = {R + (i, 0): integer(i) for i in range(1, 7)}
-    table = "".join(f"{dotted(name)}|2|{name[-2]}\n" for name in six)
+    six = {R + (i, 0): i for i in range(1, 7)}
+    rows = {name: integer(value) for name, value in six.items()}
     bulk = message(BULK, 1, [(R, NULL)], 0, 10)
     wrong = []
     for size, count, octets in (134, 5, 116), (135, 6, 135), (152, 6, 135), (153, 7, 153), (1472, 7, 153):
-        with Server("--max-size", str(size), table=table) as server:
-            whole = reply(read(bulk), answered(six, read(bulk))[:count])
+        with Server("--max-size", str(size), table=stated(six)) as server:
+            whole = reply(read(bulk), answered(rows, read(bulk))[:count])
             assert len(whole) == octets
             wrong.append(differs(server.ask(bulk), [whole]))
-    # The reply by which an `ask` ends is too long for these sizes, so the counts show what is dropped.
-    for size, replied in (43, TOLD), (42, TOO_BIG), (26, TOO_BIG), (25, None):
-        with Server("--max-size", str(size), "--turns", "1", table=dotted(NAME) + "|4|wes\n") as server:
+    # The reply by which an `ask` ends is too long for these sizes, so the counts show what is dropped; the turns that
+    # are left bring nothing.
+    sizes = (43, TOLD), (42, TOO_BIG), (26, TOO_BIG), (25, None)
+    with contextlib.ExitStack() as stack:
+        table = dotted(NAME) + "|4|wes\n"
+        servers = [stack.enter_context(Server("--max-size", str(size), "--turns", "11", table=table))
+                   for size, _ in sizes]
+        for server in servers:
             server.send(ASKED)
-            if replied is not None:
-                wrong.append(differs(server.receive(), replied))
-            counts = "0 replies, 1 dropped\n" if replied is None else "1 replies, 0 dropped\n"
+        for server, (_, wanted) in zip(servers, sizes):
+            if wanted is not None:
+                wrong.append(differs(server.receive(), wanted))
+            counts = "0 replies, 1 dropped\n" if wanted is None else "1 replies, 0 dropped\n"
             wrong.append(differs(server.end(), (0, counts, "")))
-    return "\n  ".join(filter(None, wrong))
+    return wrongs(*wrong)
 
 
 @test("snmpd serves a table that names objects to the program's own walkers")
 def snmpd_names():
-    modules, table = (os.path.join(here, "data", name) for name in ("tiny.txt", "two.tab"))
+    modules, table = (os.path.join(programs.TESTS, "data", name) for name in ("tiny.txt", "two.tab"))
     with open(table, encoding="ascii") as file:
-        server = Server("--mib", modules, "--turns", "50", table=file.read())
-    lines = ["TINY-MIB::tinyState.0 = INTEGER: up(1)", 'TINY-MIB::tinyMac."a|b" = STRING: 0:16:3e:5a:78:8e',
-             "TINY-MIB::tiny.9.0 = OID: TINY-MIB::tinyMac"]
+        server = Server("--mib", modules, "--turns", "600", table=file.read())
+    lines = ["TINY-MIB::tinyState.0 = INTEGER: up(1)\n", 'TINY-MIB::tinyMac."a|b" = STRING: 0:16:3e:5a:78:8e\n',
+             "TINY-MIB::tiny.9.0 = OID: TINY-MIB::tinyMac\n"]
     wrong = []
     with server:
         for command, names, wanted in (("snmpwalk", ["tiny"], lines), ("snmpbulkwalk", ["tiny"], lines),
                                        ("snmpget", ["tiny.9.0", 'tinyMac."a|b"'], [lines[2], lines[1]])):
-            words = [PROGRAM, command, "--mib", modules, server.place, *names]
-            ran = subprocess.run(words, stdin=subprocess.DEVNULL, capture_output=True, text=True, timeout=60)
-            wrong.append(differs((ran.returncode, ran.stdout.splitlines()), (0, wanted)))
+            ran = programs.run(command, "--mib", modules, server.place, *names)
+            wrong.append(differs(ran, (0, "".join(wanted), WARNINGS)))
         server.program.send_signal(signal.SIGTERM)
-        wrong.append(differs(server.end()[2].splitlines(), WARNINGS))
-    return "\n  ".join(filter(None, wrong))
+        wrong.append(differs(server.end().messages, WARNINGS))
+    return wrongs(*wrong)
 
 
 @test("snmpd ends after its turns, with their counts")
 def snmpd_turns():
-    with Server("--turns", "5") as server:
+    with Server("--turns", "15") as server:
         said = server.listening
         for id in range(1, 6):
             server.send(message(GET, id, [], community=b"public" if id % 2 else b"other"))
         replies = [read(server.receive()).id for _ in range(3)]
         return differs((said, replies, server.end()),
                        (f"listening on {server.place}\n", [1, 3, 5], (0, "3 replies, 2 dropped\n", "")))
+
+
+# Where all datagrams were sent within a second of the server's start, no turn was idle; else there may be fewer
+# datagrams than turns, and never more. Catches: a turn more than was asked for, or less.
+@test("each datagram is a turn of snmpd, and there are as many as it was told")
+def snmpd_as_many_turns():
+    counts = [(0, f"{turns // 2} replies, {turns - turns // 2} dropped\n", "") for turns in range(6)]
+    for _ in range(50):
+        with Server("--turns", "5") as server:
+            for id in range(15):
+                server.send(message(GET, id, [], community=b"public" if id % 2 else b"other"))
+            prompt = time.monotonic() - server.begun < 0.9
+            ended = server.end()
+        if prompt or ended not in counts:
+            return differs(ended, counts[5])
+    return "fifteen datagrams took a second, each of fifty times"
 
 
 @test("a turn of snmpd may bring nothing")
@@ -928,7 +546,7 @@ def snmpd_idle():
 @test("snmpd replies to each sender")
 def snmpd_senders():
     with Server() as server, socket.socket(socket.AF_INET, socket.SOCK_DGRAM) as other:
-        other.settimeout(20)
+        other.settimeout(60)
         server.send(message(GET, 1, []))
         other.sendto(message(GET, 2, []), ("127.0.0.1", server.port))
         server.send(message(GET, 3, []))
@@ -943,7 +561,7 @@ def snmpd_hosts():
         with Server(host=host) as server:
             wrong.append(differs(server.listening, f"listening on {host}:{server.port}\n"))
             wrong.append(differs(server.ask(ASKED), [message(RESPONSE, 1, [(NAME, OBJECT)])]))
-    return "\n  ".join(filter(None, wrong))
+    return wrongs(*wrong)
 
 
 @test("a snmpd that is stopped for a moment goes on")
@@ -964,131 +582,51 @@ def snmpd_port():
 @test("snmpd refuses a port that another listens on")
 def snmpd_twice():
     with Server() as server:
-        words = ["snmpd", "--table", server.file.name, "--listen", server.place]
-        ran = subprocess.run([PROGRAM, *words], capture_output=True, text=True, timeout=60, stdin=subprocess.DEVNULL)
-        return differs((ran.returncode, ran.stdout, ran.stderr), (1, "", "The link failed.\n"))
+        ran = programs.run("snmpd", "--table", server.file.name, "--listen", server.place, "--turns", "1")
+        return differs(ran, (1, "", NO_LINK))
 
 
 @test("snmpd ends by a signal, and its port is free again")
 def snmpd_killed():
     with Server() as server:
         server.program.terminate()
-        server.program.wait(20)
-        words = ["snmpd", "--table", server.file.name, "--listen", server.place, "--turns", "0"]
-        ran = subprocess.run([PROGRAM, *words], capture_output=True, text=True, timeout=60, stdin=subprocess.DEVNULL)
-        return differs((ran.returncode, ran.stdout, ran.stderr),
-                       (0, f"listening on {server.place}\n0 replies, 0 dropped\n", ""))
+        ended = server.end()
+        ran = programs.run("snmpd", "--table", server.file.name, "--listen", server.place, "--turns", "0")
+        return differs((ended, ran), ((-signal.SIGTERM, "", ""),
+                                      (0, f"listening on {server.place}\n0 replies, 0 dropped\n", "")))
 
 
 @test("the walkers print each of 500 rows that snmpd serves")
 def walks_of_snmpd():
     rows = {R + (i // 7, i): i for i in range(500)}
-    lines = "".join(f"{dotted(name)} = INTEGER: {value}\n" for name, value in rows.items())
-    wrong = []
-    with Server(table="".join(f"{dotted(name)}|2|{value}\n" for name, value in rows.items())) as server:
-        for words in ["snmpwalk"], ["snmpbulkwalk"], ["snmpbulkwalk", "-Cr1000"]:
-            ran = subprocess.run([PROGRAM, *words, "-On", server.place, ROOT], capture_output=True, text=True,
-                                 timeout=60, stdin=subprocess.DEVNULL)
-            wrong.append(differs((ran.returncode, ran.stdout, ran.stderr), (0, lines, "")))
-    return "\n  ".join(filter(None, wrong))
+    with Server(table=stated(rows), datagrams=1000) as server:
+        return wrongs(*(differs(programs.run(*words, "-On", server.place, ROOT), (0, lines_of(rows), ""))
+                        for words in (["snmpwalk"], ["snmpbulkwalk"], ["snmpbulkwalk", "-Cr1000"])))
 
 
 # -- walks of what snmpd serves, behind a network with faults
 
-def carry(door, back, rng, chance):
-    """Carries datagrams between a walker at one socket and an agent at the other, up to an empty one. By this
-    chance one is lost, or comes more than once, or late, after those that were sent behind it."""
-    walker, due = None, []
-    while True:
-        ready, _, _ = select.select([door, back], [], [], 0.02)
-        for end in ready:
-            datagram, sender = end.recvfrom(65535)
-            if not datagram:
-                return
-            walker = sender if end is door else walker
-            waits = rng.choice([[], [0.3], [1.5], [0, 0], [0, 0.01, 1.5]]) if rng.random() < chance else [0]
-            due += [(time.monotonic() + wait, end, datagram) for wait in waits]
-        now = time.monotonic()
-        for _, end, datagram in [it for it in due if it[0] <= now]:
-            if end is door:
-                back.send(datagram)
-            else:
-                door.sendto(datagram, walker)
-        due = [it for it in due if it[0] > now]
-
-
-def relayed(words, server, rng, chance):
-    """What the program prints and says, and its status, where such a network stands between it and snmpd."""
-    with (socket.socket(socket.AF_INET, socket.SOCK_DGRAM) as door,
-          socket.socket(socket.AF_INET, socket.SOCK_DGRAM) as back,
-          socket.socket(socket.AF_INET, socket.SOCK_DGRAM) as ender):
-        door.bind(("127.0.0.1", 0))
-        back.connect(("127.0.0.1", server.port))
-        place = "127.0.0.1:{1}".format(*door.getsockname())
-        carrier = threading.Thread(target=carry, args=(door, back, rng, chance))
-        carrier.start()
-        try:
-            ran = subprocess.run([PROGRAM, *words, place, ROOT], capture_output=True, text=True, timeout=60,
-                                 stdin=subprocess.DEVNULL)
-        finally:
-            ender.sendto(b"", door.getsockname())
-            carrier.join()
-    return ran.returncode, ran.stdout, ran.stderr.replace(place, "AGENT")
-
-
-def relayed_walk(seed, most):
+def relayed_walk(seed):
     """Walks a random table. It returns what is wrong, and whether all rows were printed."""
     rng = random.Random(seed)
-    rows = {}
-    for _ in range(rng.randint(20, most)):
-        name = R + tuple(rng.choice([0, 1, 127, 128, 4294967295]) for _ in range(rng.randint(1, 4)))
-        rows[name] = rng.choice([0, -1, 200, 2147483647])
-    names = sorted(rows)
-    longest = max(len(message(RESPONSE, 2147483647, [(name, integer(rows[name]))])) for name in names)
-    size = longest + rng.choice([0, 1, 20, 100, 400])
-    walker = rng.choice([["snmpwalk"], ["snmpbulkwalk"], ["snmpbulkwalk", f"-Cr{rng.choice([1, 2, 7, 1000])}"]])
-    stated = [f"{dotted(name)}|2|{value}\n" for name, value in rows.items()]
-    rng.shuffle(stated)
-    with Server("--max-size", str(size), table="".join(stated)) as server:
-        words = [*walker, "-On", "-r", str(rng.choice([0, 5, 5]))]
-        status, output, messages = ran = relayed(words, server, rng, rng.choice([5, 10]) / len(rows))
-    lines = [f"{dotted(name)} = INTEGER: {rows[name]}\n" for name in names]
-    if ran == (0, "".join(lines), ""):
+    walk = random_walk(rng, 40, [0, 1, 127, 128, 4294967295])
+    with Server("--max-size", str(walk.size), table=walk.table) as server, \
+            Unlucky(server.port, rng, rng.choice([5, 10]) / len(walk.lines)) as relay:
+        words = [*walk.words, "-r", str(rng.choice([0, 5, 5])), relay.place, ROOT]
+        ran = programs.ran([programs.PROGRAM, *words])
+        status, output, messages = ran
+    if ran == (0, "".join(walk.lines), ""):
         return "", True
-    broken = (status, messages) == (1, SILENT) and output.splitlines(True) == lines[:output.count("\n")]
+    broken = (status, messages) == (1, SILENT.replace("AGENT", relay.place)) and (
+        output.splitlines(True) == walk.lines[:output.count("\n")])
     return "" if broken else f"seed {seed}: {words}: {ran}", False
 
 
 @test("behind a network with faults a walk prints all rows, or the first of them and that the agent fell silent")
 def relayed_walks():
-    with concurrent.futures.ThreadPoolExecutor(8) as pool:
-        outcomes = list(pool.map(relayed_walk, range(8), [40] * 8))
-    wrong = [text for text, _ in outcomes if text]
-    return "\n  ".join(wrong) or differs(any(whole for _, whole in outcomes), True)
-
-
-def run_tests(script, tests):
-    """Runs these tests, and prints what is wrong and the counts; the script's exit status."""
-    if not os.access(PROGRAM, os.X_OK):
-        print(f"{script}: the program isn't built: ./snmp --build", file=sys.stderr)
-        return 1
-
-    def tried(function):
-        try:
-            return function()
-        except Exception:
-            return traceback.format_exc()
-    # Most of the time goes by in waiting, so many run at once.
-    with concurrent.futures.ThreadPoolExecutor(16) as pool:
-        outcomes = list(pool.map(tried, [function for _, function in tests]))
-    failed = 0
-    for (title, _), wrong in zip(tests, outcomes):
-        if wrong:
-            failed += 1
-            print(f"FAILED: {title}\n  {wrong}")
-    print(f"{len(tests) - failed} passed, {failed} failed")
-    return 1 if failed else 0
+    outcomes = list(side_by_side(relayed_walk, range(8), 8))
+    return wrongs(*(wrong for wrong, _ in outcomes)) or differs(any(whole for _, whole in outcomes), True)
 
 
 if __name__ == "__main__":
-    sys.exit(run_tests("tests/network.py", tests))
+    sys.exit(tests.main(sys.argv[1:], programs.BUILT))

@@ -1,48 +1,19 @@
 #!/usr/bin/env python3
 """Compares walks of the built program over random tables with a plain reading of what it should print.
 
-usage: random_walks.py RUNS [SEED]
+usage: random_walks.py RUNS [SEED] [WORD..]
 
 It knows nothing of the program's code: tables, order, walks and lines are written anew here from
-docs/PROFILE.md. Its last line is 'N passed, M failed'.
+docs/PROFILE.md. A run's title is `run N of seed S: ` with its words; those run whose titles have one of the
+words given. The last line is 'N passed, M failed, K skipped'.
 """
-import os
 import random
-import subprocess
 import sys
 import tempfile
 
-here = os.path.dirname(os.path.abspath(__file__))
-PROGRAM = os.path.join(here, "..", "crates", "snmp", "out", "snmp")
-NO_OBJECT = "No Such Object available on this agent at this OID"
-NO_INSTANCE = "No Such Instance currently exists at this OID"
-
-
-def dotted(name):
-    return "".join(f".{n}" for n in name) or "."
-
-
-def ticks(n):
-    seconds, hundredths = divmod(n, 100)
-    minutes, seconds = divmod(seconds, 60)
-    hours, minutes = divmod(minutes, 60)
-    days, hours = divmod(hours, 24)
-    before = "" if days == 0 else "1 day, " if days == 1 else f"{days} days, "
-    return f"Timeticks: ({n}) {before}{hours}:{minutes:02}:{seconds:02}.{hundredths:02}"
-
-
-def hexadecimal(octets):
-    lines = [octets[i:i + 16] for i in range(0, len(octets), 16)]
-    return "\n".join("".join(f"{octet:02X} " for octet in line) for line in lines)
-
-
-def string(octets):
-    if not octets:
-        return '""'
-    if all(32 <= octet <= 126 for octet in octets):
-        text = octets.decode().replace("\\", "\\\\").replace('"', '\\"')
-        return f'STRING: "{text}"'
-    return "Hex-STRING: " + hexadecimal(octets)
+from lib import programs
+from lib.runner import Counts, chosen_by, differs, end_at_signals
+from lib.texts import NO_INSTANCE, NO_OBJECT, dotted, hexadecimal, string, ticks
 
 
 def random_name(rng):
@@ -146,24 +117,37 @@ def random_walk(rng, rows, objects):
     return words + ["table:t.tab", dotted(root)], lines + f"Variables found: {len(bindings)}\n" * counts
 
 
-def main():
-    runs, seed = int(sys.argv[1]), int(sys.argv[2]) if len(sys.argv) > 2 else 1
-    rng = random.Random(seed)
-    passed = failed = 0
+def one_run(rng):
+    """A run's table as a file states it, its words, and what it has to print."""
+    rows, objects, text = random_table(rng)
+    return (text, *random_walk(rng, rows, objects))
+
+
+def main(words):
+    if not words or not words[0].isdigit() or int(words[0]) == 0:
+        print("usage: tests/random_walks.py RUNS [SEED] [WORD..]", file=sys.stderr)
+        return 2
+    count, words = int(words[0]), words[1:]
+    seed, words = (int(words[0]), words[1:]) if words and words[0].isdigit() else (1, words)
+    rng, runs = random.Random(seed), {}
+    for number in range(count):
+        text, *run = one_run(rng)
+        runs[f"run {number} of seed {seed}: {' '.join(run[0])}"] = text, run
+    chosen = chosen_by(words, "tests/random_walks.py", runs)
+    if not programs.are_current("tests/random_walks.py", programs.BUILT):
+        return 1
+    end_at_signals()
+    counts = Counts()
     with tempfile.TemporaryDirectory() as folder:
-        for run in range(runs):
-            rows, objects, text = random_table(rng)
-            with open(f"{folder}/t.tab", "w", newline="") as file:
-                file.write(text)
-            words, lines = random_walk(rng, rows, objects)
-            ran = subprocess.run([PROGRAM, *words], cwd=folder, capture_output=True)
-            if (ran.returncode, ran.stdout.decode(), ran.stderr) == (0, lines, b""):
-                passed += 1
-            else:
-                failed += 1
-                print(f"FAILED: run {run} of seed {seed}: {words}\n{text}\n-- wanted\n{lines}\n-- got\n{ran}")
-    print(f"{passed} passed, {failed} failed")
-    return 1 if failed else 0
+        for title, (text, (words, lines)) in runs.items():
+            if chosen(title):
+                with open(f"{folder}/t.tab", "w", newline="", encoding="ascii") as file:
+                    file.write(text)
+                ran = programs.ran([programs.PROGRAM, *words], cwd=folder)
+                wrong = differs(ran, (0, lines, ""))
+                counts.found(title, wrong and f"{wrong}\n  over\n{text}")
+    return counts.end()
 
 
-sys.exit(main())
+if __name__ == "__main__":
+    sys.exit(main(sys.argv[1:]))

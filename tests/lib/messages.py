@@ -1,0 +1,170 @@
+"""SNMP messages, written and read anew from RFC 1901, RFC 3416 and X.690; and what an agent over rows replies.
+
+Nothing here knows the program's code.
+"""
+import collections
+import itertools
+
+GET, NEXT, RESPONSE, SET, BULK, INFORM, TRAP, REPORT = 0xA0, 0xA1, 0xA2, 0xA3, 0xA5, 0xA6, 0xA7, 0xA8
+Message = collections.namedtuple("Message", "version community kind id a b bindings")
+STATUSES = ["tooBig", "noSuchName", "badValue", "readOnly", "genErr", "noAccess", "wrongType", "wrongLength",
+            "wrongEncoding", "wrongValue", "noCreation", "inconsistentValue", "resourceUnavailable",
+            "commitFailed", "undoFailed", "authorizationError", "notWritable", "inconsistentName"]
+
+
+# -- written
+
+def element(tag, content):
+    size = len(content)
+    digits = size.to_bytes((size.bit_length() + 7) // 8, "big")
+    return bytes([tag, size] if size < 128 else [tag, 0x80 | len(digits), *digits]) + content
+
+
+def integer(n, tag=0x02):
+    size = next(size for size in itertools.count(1) if -(1 << 8 * size - 1) <= n < 1 << 8 * size - 1)
+    return element(tag, n.to_bytes(size, "big", signed=True))
+
+
+def identifier(name):
+    content = b""
+    for number in (40 * name[0] + name[1], *name[2:]):
+        digits = bytes([number & 127])
+        while number := number >> 7:
+            digits = bytes([0x80 | number & 127]) + digits
+        content += digits
+    return element(0x06, content)
+
+
+def text(octets):
+    return element(0x04, octets)
+
+
+NULL = element(0x05, b"")
+OBJECT, INSTANCE, END = (element(tag, b"") for tag in (0x80, 0x81, 0x82))
+
+
+def message(kind, id, bindings, a=0, b=0, community=b"public", version=1):
+    listed = b"".join(element(0x30, identifier(name) + value) for name, value in bindings)
+    pdu = element(kind, integer(id) + integer(a) + integer(b) + element(0x30, listed))
+    return element(0x30, integer(version) + text(community) + pdu)
+
+
+def nexts(*names, community=b"public", first=1):
+    """The GetNext requests for these names, one after the other."""
+    return [message(NEXT, id, [(name, NULL)], community=community) for id, name in enumerate(names, first)]
+
+
+def bulks(repetitions, *names):
+    return [message(BULK, id, [(name, NULL)], 0, repetitions) for id, name in enumerate(names, 1)]
+
+
+def get(*names, id=1):
+    return [message(GET, id, [(name, NULL) for name in names])]
+
+
+# -- read
+
+def elements(octets):
+    """The tags and contents of elements one after the other."""
+    while octets:
+        tag, size, octets = octets[0], octets[1], octets[2:]
+        if size >= 128:
+            size, octets = int.from_bytes(octets[:size - 128], "big"), octets[size - 128:]
+        assert size <= len(octets)
+        yield tag, octets[:size]
+        octets = octets[size:]
+
+
+def name_in(content):
+    numbers, number = [], 0
+    for octet in content:
+        number = number << 7 | octet & 127
+        if octet < 128:
+            numbers.append(number)
+            number = 0
+    first = min(numbers[0] // 40, 2)
+    return (first, numbers[0] - 40 * first, *numbers[1:])
+
+
+def read(datagram):
+    (_, whole), = elements(datagram)
+    (_, version), (_, community), (kind, pdu) = elements(whole)
+    *numbers, (_, listed) = elements(pdu)
+    bindings = []
+    for _, binding in elements(listed):
+        (_, name), (tag, value) = elements(binding)
+        bindings.append((name_in(name), element(tag, value)))
+    id, a, b = (int.from_bytes(number, "big", signed=True) for _, number in numbers)
+    return Message(int.from_bytes(version, "big"), community, kind, id, a, b, bindings)
+
+
+def read_or_none(datagram):
+    """The message that a datagram is, as far as this reads it: what isn't as the standard has it may be one here."""
+    try:
+        return read(datagram)
+    except (AssertionError, IndexError, ValueError):
+        return None
+
+
+# Messages as the standards have them, octet by octet.
+NAME = (1, 3, 6, 1, 2, 1, 1, 5, 0)
+ASKED = bytes.fromhex("3026020101 04067075626C6963 A019 020101 020100 020100 300E 300C 06082B06010201010500 0500")
+TOLD = bytes.fromhex("3029020101 04067075626C6963 A21C 020101 020100 020100 3011 300F 06082B06010201010500 0403776573")
+TOO_BIG = bytes.fromhex("3018020101 04067075626C6963 A20B 020101 020101 020100 3000")
+assert message(GET, 1, [(NAME, NULL)]) == ASKED and read(ASKED).bindings == [(NAME, NULL)]
+assert message(RESPONSE, 1, [(NAME, text(b"wes"))]) == TOLD and message(RESPONSE, 1, [], 1) == TOO_BIG
+assert message(BULK, 1, [((1, 3, 6, 1, 4, 1, 32473, 1), NULL)], 0, 10) == bytes.fromhex(
+    "3027020101 04067075626C6963 A51A 020101 020100 02010A 300F 300D 06092B0601040181FD5901 0500")
+assert identifier((2, 4294967295, 0)) == bytes.fromhex("06069080 80804F00") and integer(-129) == b"\2\2\xff\x7f"
+assert integer(200, 0x41) == b"\x41\2\0\xc8" and integer(4294967295, 0x42) == b"\x42\5\0" + b"\xff" * 4
+
+
+# -- what an agent over rows replies (RFC 3416, section 4.2)
+
+def successor(rows, name):
+    above = min((other for other in rows if other > name), default=None)
+    return (name, END) if above is None else (above, rows[above])
+
+
+def answered(rows, request, objects=()):
+    """The bindings of the reply. Below an object a name that has no row is no instance."""
+    names = [name for name, _ in request.bindings]
+    if request.kind == GET:
+        return [(name, rows.get(name) or (INSTANCE if any(name[:len(it)] == it for it in objects) else OBJECT))
+                for name in names]
+    if request.kind == NEXT:
+        return [successor(rows, name) for name in names]
+    once = min(max(request.a, 0), len(names))
+    bindings, names = [successor(rows, name) for name in names[:once]], names[once:]
+    for _ in range(max(request.b, 0) if names else 0):
+        found = [successor(rows, name) for name in names]
+        bindings, names = bindings + found, [name for name, _ in found]
+        if all(value == END for _, value in found):
+            break
+    return bindings
+
+
+def reply(request, bindings, status=0, index=0):
+    return message(RESPONSE, request.id, bindings, status, index, request.community)
+
+
+def served(rows, request):
+    return reply(request, answered(rows, request))
+
+
+def replied(rows, request, size, objects=()):
+    """The reply that has at most this many octets, or none where not even the error tooBig has."""
+    if request.kind == SET:
+        whole = reply(request, request.bindings, 17, 1 if request.bindings else 0)
+        return whole if len(whole) <= size else too_big(request, size)
+    bindings = answered(rows, request, objects)
+    whole = reply(request, bindings)
+    while len(whole) > size and request.kind == BULK and bindings:
+        bindings.pop()
+        whole = reply(request, bindings)
+    return whole if len(whole) <= size else too_big(request, size)
+
+
+def too_big(request, size):
+    whole = reply(request, [], 1)
+    return whole if len(whole) <= size else None
