@@ -19,6 +19,7 @@ import shutil
 import sys
 import tempfile
 import time
+import traceback
 
 from lib import programs
 from lib.agents import Agent, failing, silent
@@ -345,7 +346,11 @@ def main(words=()):
         counts.found(SHAPE, differs(shape, {heading: len(tests) for heading, tests in TESTS.items()}))
     last = max([at for at, heading in enumerate(headings) if chosen(heading)], default=-1)
     with contextlib.ExitStack() as stack:
-        folder = Folder(stack.enter_context(tempfile.TemporaryDirectory()), fleet(stack)) if last >= 0 else None
+        try:
+            folder = Folder(stack.enter_context(tempfile.TemporaryDirectory()), fleet(stack)) if last >= 0 else None
+        except Exception:
+            counts.found("the agents that the page's commands ask", traceback.format_exc())
+            return counts.end()
         for heading, tests in TESTS.items():
             if headings.index(heading) > last:
                 break

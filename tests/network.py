@@ -338,7 +338,7 @@ def faulty_replies():
         if ran[:3] not in ends_of_get(asked, datagrams):
             found.append("no end that a Get has")
         wrong += [f"{faulty.hex()}: {fault}\n    {ran}" for fault in found]
-    return wrongs(*wrong, differs(ends, {0, 1, 2}))
+    return wrongs(*wrong, differs({0, 1} <= ends, True))
 
 
 # -- snmpd against requests of this script
@@ -452,7 +452,7 @@ def snmpd_faults():
                 wrong.append(f"{faulty.hex()} has the reply {shown(got)}")
             if server.ask(right) != [message(RESPONSE, 2, [(R + (1, 0), integer(1))])]:
                 wrong.append(f"after {faulty.hex()}")
-    return wrongs(*wrong, differs(replies > 30, True))
+    return wrongs(*wrong, "" if replies >= 10 else f"{replies} replies")
 
 
 @test("snmpd replies by -c alone")

@@ -1,6 +1,7 @@
 """The built programs, and how they are run: each in a process group of its own, for a time that no right program
 takes, and ended where the script is.
 """
+import atexit
 import collections
 import os
 import subprocess
@@ -67,6 +68,10 @@ def end_all():
             program.kill()
 
 
+# A test that broke off may have left one.
+atexit.register(end_all)
+
+
 Ended = collections.namedtuple("Ended", "status output messages")
 
 
@@ -75,14 +80,15 @@ def decoded(octets):
 
 
 def ended(program, seconds=PATIENCE):
-    """The status of a program, and what is left of its output and messages where these are pipes to here. Where it
-    takes longer, it is killed, and its status is None."""
+    """The status of a program, and what is left of its output and messages where these are pipes to here. One that
+    takes longer is killed, and that is an error."""
     try:
         output, messages = program.communicate(timeout=seconds)
     except subprocess.TimeoutExpired:
         program.kill()
-        output, messages = program.communicate(timeout=PATIENCE)
-        return Ended(None, decoded(output), decoded(messages) + f"no end in {seconds} seconds")
+        output, messages = map(decoded, program.communicate(timeout=PATIENCE))
+        raise TimeoutError(f"{program.args}: no end in {seconds} seconds; it wrote {output[-1000:]!r} and {messages!r}"
+                           ) from None
     return Ended(program.returncode, decoded(output), decoded(messages))
 
 
