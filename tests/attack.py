@@ -88,12 +88,12 @@ class Attack:
         except TimeoutError:
             got = b""
         self.right += got == wanted
-        if got != wanted:
-            return f"after {self.mutated} datagrams\n    {asked.hex()}\n  got\n    {got.hex()}\n  not\n    {wanted.hex()}"
-        return ""
+        if got == wanted:
+            return ""
+        return f"after {self.mutated} datagrams\n    {asked.hex()}\n  got\n    {got.hex()}\n  not\n    {wanted.hex()}"
 
     def end(self):
-        """Asks until the server has had its turns, as a pause of this script may have taken some of them; what is wrong
+        """Asks until the server has had its turns, of which pauses of this script may have taken some; what is wrong
         with its counts, to which each datagram belongs but the last, if it came too late."""
         late = False
         while self.server.program.poll() is None and not late:

@@ -701,29 +701,32 @@ def ends_by_itself(status, output, said, whole):
     return (status, output, said) == (0, whole, "") or (status, said) == (1, NO_MEMORY) and whole.startswith(output)
 
 
-# Below what `--version` needs the system refuses to start the program, or the loader: by a status with a message, or
-# by SIGKILL or SIGSEGV as there is no program yet, and nothing is printed. From there on each run ends by itself.
-# Catches: a beginning of the lines at status 0; a crash where memory is short; a program that never says that it is.
+# Below what `--version` needs, the system or the loader refuses to start the program: by a status with a message, or,
+# with less memory than lets the loader speak, by SIGKILL or SIGSEGV in the program's place. From there on each run ends
+# by itself. Catches: a beginning of the lines at status 0; a crash where memory is short; a program that never says
+# that it is.
 @test("with less and less memory, a run prints the whole, or ends with a status and a message", lacks_limits())
 def little_memory():
     rows = {R + (i,): i for i in range(20000)}
-    kinds, wrong, version = {}, [], run("--version").output
+    wrong, kinds, version = [], set(), run("--version").output
     with table_of(SOME) as table, table_of(rows) as large, Server(table=stated(SOME), datagrams=20000) as server:
         for agent, whole in ((f"table:{table}", SOME_TEXT), (server.place, SOME_TEXT),
                              (f"table:{large}", lines_of(rows))):
+            speaks = False
             for kibibytes in [*range(1000, 12000, 250), 20000, 40000]:
                 before = ["prlimit", f"--as={kibibytes * 1024}"]
                 starts = ends_by_itself(*run("--version", before=before), version)
                 status, output, said = ran = run("snmpwalk", "-On", agent, ROOT, before=before)
-                kind = "refused by the system" if not starts else "whole" if status == 0 else "refused by itself"
-                kinds[kind] = kinds.get(kind, 0) + 1
+                speaks = speaks or starts or f"{programs.PROGRAM}: " in said
                 if starts:
-                    fine = ends_by_itself(*ran, whole)
+                    kind, fine = "refused by itself" if status else "whole", ends_by_itself(*ran, whole)
                 else:
-                    fine = output == "" and (status in (1, 126, 127) and said not in ("", NO_MEMORY)
-                                             or status in (-signal.SIGKILL, -signal.SIGSEGV))
+                    told = status in (1, 126, 127) and said not in ("", NO_MEMORY)
+                    killed = status in (-signal.SIGKILL, -signal.SIGSEGV) and not speaks
+                    kind, fine = "refused by the system", output == "" and (told or killed)
+                kinds.add(kind)
                 if not fine:
-                    wrong.append(f"{agent}, {kibibytes} KiB: {kind}, {status}, {output[-200:]!r}, {said[:200]!r}")
+                    wrong.append(f"{agent}, {kibibytes} KiB, {kind}: {status}, {output[-200:]!r}, {said[:200]!r}")
     return wrongs(*wrong, differs(sorted(kinds), ["refused by itself", "refused by the system", "whole"]))
 
 

@@ -8,8 +8,8 @@ Each run has its whole answer, or is refused, and what was to be changed is as i
 back. Of a command line that is refused, what is written is whole lines from the beginning of its text, and 'Out of
 memory.' with status 1 (or that of an agent's error). Where no request was refused, the answer is the whole one, with
 the message of its own reason; so it is where one was that can't end the call: memory for rows that are gathered, or
-where that was made once more. Tests run whose titles have one of the words; without words, all. The last line is 'N passed, M
-failed, K skipped'.
+where that was made once more. Tests run whose titles have one of the words; without words, all. The last line is 'N passed,
+M failed, K skipped'.
 
 Catches, in wrong programs that prove as well: half a line where memory runs out; a beginning of the lines at status 0,
 or without a message; a line that is left out; a block that is kept; 'Out of memory.' where no request was refused; a
@@ -19,7 +19,7 @@ import hashlib
 import sys
 
 from lib import programs
-from lib.commands import lacks
+from lib.commands import lacks_compiler
 from lib.heaps import Heap
 from lib.messages import GET, NULL, RESPONSE, element, integer, message, read, served, text
 from lib.ports import over_free_port
@@ -206,8 +206,9 @@ def over_udp():
         # The system's own calls take memory too, and may keep it.
         return judged([programs.PROGRAM, "snmpwalk", "-On", "-t4", server.place, ROOT],
                       lambda *answer: answer == (0, whole, ""),
-                      lambda _, status, wrote, said: (status == 1 and whole.startswith(wrote) and wrote[-1:] in ("", "\n")
-                                                      and said in (NO_MEMORY, NO_LINK)), keeps=True)
+                      lambda _, status, wrote, said: (
+                          status == 1 and whole.startswith(wrote) and wrote[-1:] in ("", "\n")
+                          and said in (NO_MEMORY, NO_LINK)), keeps=True)
 
 
 AGENT = "table:TABLE"
@@ -253,12 +254,5 @@ runs(f"snmpbulkwalk -On --max-size 1 {AGENT} {ROOT}", "", f"Timeout: No Response
 runs(f"snmpget -c {FAR} {AGENT} .1", "", "Community too long.\n", 1)
 
 
-def main(words):
-    if lacks("cc"):
-        return tests.leave_out(words, f"{lacks('cc')}, a C compiler")
-    heap.make()
-    return tests.main(words, programs.BUILT, programs.CHECKS)
-
-
 if __name__ == "__main__":
-    sys.exit(main(sys.argv[1:]))
+    sys.exit(tests.main(sys.argv[1:], programs.BUILT, programs.CHECKS, lacks=lacks_compiler(), prepare=heap.make))

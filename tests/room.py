@@ -13,7 +13,7 @@ Catches, in wrong programs that prove as well: pages that keep the room of rows 
 import sys
 
 from lib import programs
-from lib.commands import lacks
+from lib.commands import lacks_compiler
 from lib.heaps import Heap
 from lib.messages import GET, NULL, integer, message, read, served
 from lib.rows import E
@@ -53,12 +53,5 @@ follows("sparse", 64, 12)
 follows("half", 2, 44)
 
 
-def main(words):
-    if lacks("cc"):
-        return tests.leave_out(words, f"{lacks('cc')}, a C compiler")
-    heap.make()
-    return tests.main(words, programs.CHECKS)
-
-
 if __name__ == "__main__":
-    sys.exit(main(sys.argv[1:]))
+    sys.exit(tests.main(sys.argv[1:], programs.CHECKS, lacks=lacks_compiler(), prepare=heap.make))

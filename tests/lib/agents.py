@@ -1,8 +1,8 @@
 """Agents that a script plays, and runs of the program against them.
 
-An agent is a function from the requests so far, of which the last has just come, to what it does then: the datagrams
-that it sends, and pauses in seconds among them. `Elsewhere` is sent from another port, and `stopping` stops the program
-for a moment and lets it go on.
+An agent is a function from the requests so far, of which the last has just come, to what it does then: the
+datagrams that it sends, and pauses in seconds among them. `Elsewhere` is sent from another port, and `stopping`
+stops the program for a moment and lets it go on.
 """
 import collections
 import concurrent.futures

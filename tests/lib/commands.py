@@ -22,6 +22,11 @@ def fails(*words):
         return True
 
 
+def lacks_compiler():
+    """What is missing for a library that stands between a program and the C library."""
+    return "no C compiler here (cc)" if lacks("cc") else ""
+
+
 @functools.lru_cache(None)
 def lacks_traces():
     """What is missing for seeing and answering calls of the system."""

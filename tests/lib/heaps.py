@@ -20,14 +20,14 @@ class Heap:
         os.replace(file.name, f"{self.folder.name}/heap.so")
 
     def put(self, name, octets):
-        """A file with these octets, by its name in the folder. It is there whole at once, as tests that run side by side
-        share it."""
+        """A file with these octets, by its name in the folder. It is there whole at once, as tests that run side by
+        side share it."""
         with tempfile.NamedTemporaryFile(dir=self.folder.name, delete=False) as file:
             file.write(octets)
         os.replace(file.name, f"{self.folder.name}/{name}")
         return name
 
     def run(self, words):
-        """Runs a program by these words over the heap. That is named as it stands in the folder where the program runs:
-        blanks and colons divide the names of LD_PRELOAD."""
+        """Runs a program by these words over the heap. That is named from the folder where the program runs, as blanks
+        and colons divide the names of LD_PRELOAD."""
         return programs.ran(words, cwd=self.folder.name, env={**os.environ, "LD_PRELOAD": "./heap.so"})

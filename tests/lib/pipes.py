@@ -1,5 +1,5 @@
-"""Pipes that a program reads or writes. Nothing here waits for a program that has ended, or for longer than a right one
-takes.
+"""Pipes that a program reads or writes. Nothing here waits for a program that has ended, or for longer than a right
+one takes.
 """
 import contextlib
 import errno

@@ -91,27 +91,27 @@ class Tests(list):
             return function
         return mark
 
-    def main(self, words, *built):
-        """Runs those that the words choose, of these programs; the script's status."""
-        chosen = chosen_by(words, self.script, [title for title, _ in [*self, *self.untried]])
+    def main(self, words, *built, lacks="", prepare=None):
+        """Runs those that the words choose, of these built programs, once they are prepared for; none where something
+        is lacking. The script's status."""
+        titles = [title for title, _ in [*self, *self.untried]]
+        chosen = chosen_by(words, self.script, titles)
         if not programs.are_current(self.script, *built):
             return 1
         end_at_signals()
         counts = Counts()
+        if lacks:
+            count = sum(map(chosen, titles))
+            counts.left_out(f"{count} tests of {self.script}", lacks, count)
+            return counts.end()
+        if prepare:
+            prepare()
         tests = [test for test in self if chosen(test[0])]
         for (title, _), wrong in zip(tests, side_by_side(tried, [function for _, function in tests], 16)):
             counts.found(title, wrong)
         for title, reason in self.untried:
             if chosen(title):
                 counts.left_out(title, reason)
-        return counts.end()
-
-    def leave_out(self, words, reason):
-        """Runs none, for this reason; the script's status."""
-        chosen = chosen_by(words, self.script, [title for title, _ in [*self, *self.untried]])
-        counts = Counts()
-        count = sum(chosen(title) for title, _ in [*self, *self.untried])
-        counts.left_out(f"{count} tests of {self.script}", reason, count)
         return counts.end()
 
 

@@ -15,8 +15,8 @@ IDLE = 600
 
 
 class Server:
-    """snmpd over a table, with a command that runs it before its words. Where these don't say how many turns it has, it
-    has one for each of `datagrams`, the most that a test sends it, and those that it may be idle."""
+    """snmpd over a table, with a command that runs it before its words. Where these don't say how many turns it has,
+    it has one for each of `datagrams`, the most that a test sends it, and those that it may be idle."""
 
     def __init__(self, *words, table=TABLE, host="127.0.0.1", before=(), datagrams=0):
         turns = () if "--turns" in words else ("--turns", str(datagrams + IDLE))
