@@ -1,18 +1,23 @@
-"""The facts of modules as two packages of Debian have them: python3-pysnmp4-mibs, which holds those of the RFCs
-as Python, and libsnmp-base, which holds Net-SNMP's own as texts. Numbers, syntaxes, named numbers, access, indexes
-and hints are compared; units and statuses are in the texts alone."""
+"""The facts of modules as packages of Debian have them: libsnmp-base, which holds Net-SNMP's own as texts (and
+keepalived VRRP-MIB); python3-pysnmp4-mibs, which holds those of the RFCs as Python; and, of SNMP's own modules,
+erlang-snmp as texts and python3-pysnmp4 as Python. The first that has a module counts. Numbers, syntaxes, named
+numbers, access, indexes and hints are compared; units and statuses are in the texts alone."""
 import glob
 import os
 import re
 
 import module_texts
 
-PYTHON, TEXTS = "usr/lib/python3/dist-packages/pysnmp_mibs", "usr/share/snmp/mibs"
+PYTHON = "usr/lib/python3/dist-packages/pysnmp_mibs", "usr/lib/python3/dist-packages/pysnmp/smi/mibs"
+TEXTS = "usr/share/snmp/mibs/{}.txt", "usr/lib/erlang/lib/snmp-*/mibs/{}.mib"
+# Of these erlang-snmp has another revision, or other hints.
+OTHER = {"SNMP-COMMUNITY-MIB", "SNMP-FRAMEWORK-MIB", "SNMP-TARGET-MIB"}
 NAMES = {"Integer": "Integer32", "INTEGER": "Integer32", "OctetString": "OCTET STRING",
-         "ObjectIdentifier": "OBJECT IDENTIFIER", "Bits": "BITS"}
+         "ObjectIdentifier": "OBJECT IDENTIFIER", "Bits": "BITS", "Counter": "Counter32", "Gauge": "Gauge32"}
 ACCESS = {"readonly": "read-only", "readwrite": "read-write", "readcreate": "read-create",
-          "noaccess": "not-accessible", "notifyonly": "accessible-for-notify"}
-# What stands in modules/ by a later revision than that of the package.
+          "noaccess": "not-accessible", "notifyonly": "accessible-for-notify",
+          "accessiblefornotify": "accessible-for-notify"}
+# What stands in modules/ by a later revision than that of the package; and where that has a type of its own.
 MEDIA = """10GbaseT 10GbaseLRM 1000baseKX 10GbaseKX4 10GbaseKR 40GbaseKR4 40GbaseCR4 40GbaseSR4 40GbaseFR 40GbaseLR4
     100GbaseCR10 100GbaseSR10 100GbaseLR4 100GbaseER4 25GbaseCR 25GbaseKR 25GbaseSR 25GbaseT 100GbaseCR4 100GbaseKR4
     100GbaseSR4 2p5GigT 5GigT"""
@@ -20,7 +25,7 @@ LATER = {"ENTITY-MIB": {"entPhysicalClass", "entPhysicalUUID", "entity4Complianc
                         "entityPhysical4Group", "entityPhysicalCRGroup"},
          "IANA-MAU-MIB": {"dot3MauType" + medium for medium in MEDIA.split()},
          "IANA-CHARSET-MIB": {"IANACharset"}, "IANA-RTPROTO-MIB": {"IANAipRouteProtocol"},
-         "IANAifType-MIB": {"IANAifType", "IANAtunnelType"}}
+         "IANAifType-MIB": {"IANAifType", "IANAtunnelType"}, "SNMP-FRAMEWORK-MIB": {"snmpEngineTime"}}
 
 
 def merged(ranges):
@@ -48,7 +53,7 @@ def of_line(kind, rest):
     if kind in ("MibScalar", "MibTableColumn"):
         name = re.match(r", (\w+)\(", rest)[1]
         fact["syntax"] = NAMES.get(name, name), *constraints(rest)
-        fact["access"] = ACCESS[access[1]]
+        fact["access"] = ACCESS[access[1] if access else "noaccess"]
     if kind == "MibTableRow" and "setIndexNames" in rest:
         parts = re.findall(r'\((\d), "[^"]*", "([^"]*)"\)', rest)
         fact["index"] = [("IMPLIED " if implied == "1" else "") + label for implied, label in parts]
@@ -62,9 +67,12 @@ def of_python(path):
     with open(path, encoding="latin-1") as file:
         text = file.read()
     found = {}
-    types, _, rest = text.partition("\n# Objects\n")
+    types, found_objects, rest = text.partition("\n# Objects\n")
+    if not found_objects:
+        rest = types
     for label, bases, body in re.findall(r"^class (\S+)\(([^)]*)\):\n((?:[ \t]+.*\n|\n)*)", types + "\n", re.M):
-        name, hint = bases.split(",")[-1].strip(), re.search(r'displayHint = "(.*)"', body)
+        name = next(base for base in bases.split(", ") if base != "TextualConvention")
+        hint = re.search(r"""displayHint = ["'](.*)["']""", body)
         found[label] = {"base": (NAMES.get(name, name), *constraints(body)), "hint": hint and hint[1]}
     for label, kind, numbers, more in re.findall(r"^(\w+) = (\w+)\(\(([\d, ]+)\)(.*)", rest, re.M):
         place = tuple(map(int, re.findall(r"\d+", numbers)))
@@ -99,14 +107,17 @@ def of_text(world, module, definition):
 
 def of_package(root, name):
     """What the packages below a root have of a module, or None."""
-    python, text = f"{root}/{PYTHON}/{name}.py", f"{root}/{TEXTS}/{name}.txt"
-    if os.path.exists(text):
-        read = []
-        for path in [text, *glob.glob(f"{root}/{TEXTS}/*.txt")]:
-            with open(path, encoding="latin-1") as file:
-                read += module_texts.read(file.read())
-        return read
-    return of_python(python) if os.path.exists(python) else None
+    for text, folder in zip(TEXTS, PYTHON):
+        texts, python = glob.glob(f"{root}/{text.format(name)}"), f"{root}/{folder}/{name}.py"
+        if texts and not (folder == PYTHON[1] and name in OTHER):
+            read = []
+            for path in [*texts, *glob.glob(f"{root}/{text.format('*')}")]:
+                with open(path, encoding="latin-1") as file:
+                    read += module_texts.read(file.read())
+            return read
+        if os.path.exists(python):
+            return of_python(python)
+    return None
 
 
 def agree(names, others):

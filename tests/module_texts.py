@@ -87,7 +87,9 @@ class Module:
 
     def definition(self, tokens, at):
         label, sign = tokens[at], tokens.index("::=", at)
-        if sign == at + 1 and tokens[sign + 1] != "TEXTUAL-CONVENTION":
+        if tokens[at + 1] == "MACRO":
+            found, end = Definition(label, "macro", [], []), tokens.index("END", sign) + 1
+        elif sign == at + 1 and tokens[sign + 1] != "TEXTUAL-CONVENTION":
             found = Definition(label, "type", [], [])
             found.type = Type(tokens, sign + 1)
             end = found.type.end
@@ -114,6 +116,8 @@ def read(text):
         begin = tokens.index("BEGIN", at)
         end = begin + 1
         while tokens[end] != "END":
+            if tokens[end] == "MACRO":
+                end = tokens.index("END", end)
             end = group_end(tokens, end) if tokens[end] in OPEN else end + 1
         found.append(Module(tokens[at], tokens[begin + 1:end]))
         at = end + 1
