@@ -25,7 +25,7 @@ LATER = {"ENTITY-MIB": {"entPhysicalClass", "entPhysicalUUID", "entity4Complianc
                         "entityPhysical4Group", "entityPhysicalCRGroup"},
          "IANA-MAU-MIB": {"dot3MauType" + medium for medium in MEDIA.split()},
          "IANA-CHARSET-MIB": {"IANACharset"}, "IANA-RTPROTO-MIB": {"IANAipRouteProtocol"},
-         "IANAifType-MIB": {"IANAifType", "IANAtunnelType"}, "SNMP-FRAMEWORK-MIB": {"snmpEngineTime"}}
+         "IANAifType-MIB": {"IANAifType", "IANAtunnelType"}, "SNMP-FRAMEWORK-MIB": {"snmpEngineTime", "SnmpEngineTime"}}
 
 
 def merged(ranges):
@@ -125,18 +125,31 @@ def agree(names, others):
     return all(number == others.get(name, number) for name, number in names.items())
 
 
-def differences(root, world, module):
-    """How many facts of a module are as the packages have them, and a text on each that isn't; or None."""
+def named(root, world, module):
+    """What the packages have of a module, by its labels and types; or None."""
     theirs = of_package(root, module.name)
     if isinstance(theirs, list):
         other = module_texts.World(theirs + list(world.modules.values()))
         owner = other.modules[module.name]
         theirs = {label: of_text(other, owner, found) for label, found in owner.definitions.items()}
+    return theirs
+
+
+def lacks(root, world, module):
+    """The labels and conventions that the packages have of a module, and that its text neither has nor imports."""
+    there = {*module.definitions, *module.imports, *LATER.get(module.name, ())}
+    return [label for label, fact in (named(root, world, module) or {}).items()
+            if label not in there and ("numbers" in fact or "base" in fact)]
+
+
+def differences(root, world, module):
+    """How many facts of a module are as the packages have them, and a text on each that isn't; or None."""
+    theirs = named(root, world, module)
     if theirs is None:
         return None
     same, told = 0, []
     for label, definition in module.definitions.items():
-        if definition.macro == "type":
+        if definition.macro in ("type", "macro"):
             continue
         ours, wanted, later = of_text(world, module, definition), theirs.get(label), label in LATER.get(module.name, ())
         if wanted is None:

@@ -7,9 +7,10 @@ the program doesn't take.
 usage: modules.py [--root ROOT] [WORD..]
 
 What must come was written from the standards: tests/data has the lines of the walks, and the names here have
-their numbers from the RFCs. Where the packages python3-pysnmp4-mibs and libsnmp-base of Debian stand below ROOT,
-which is / by default, the facts of the texts are compared with theirs. All is run, and those tests count whose titles
-have one of the words; without words, all. The last line is 'N passed, M failed, K skipped'.
+their numbers from the RFCs. Where packages of Debian with modules stand below ROOT, which is / by default
+(module_facts.py names them), the facts of the texts are compared with theirs, and RFC1213-MIB as published is loaded.
+tools/join-modules and tools/lines-to-table are tried too. All is run, and those tests count whose titles have one of
+the words; without words, all. The last line is 'N passed, M failed, K skipped'.
 """
 import argparse
 import glob
@@ -84,6 +85,21 @@ NAMES = {
     "IP-FORWARD-MIB::ipCidrRouteIfIndex.192.0.2.0.255.255.255.0.0.0.0.0.0":
         ".1.3.6.1.2.1.4.24.4.1.5.192.0.2.0.255.255.255.0.0.0.0.0.0",
     "IF-INVERTED-STACK-MIB::ifInvStackStatus.2.5": ".1.3.6.1.2.1.77.1.1.1.1.2.5",
+    "IF-INVERTED-STACK-MIB::ifInvCompliance": ".1.3.6.1.2.1.77.1.2.2.1",
+    "ENTITY-SENSOR-MIB::entitySensorValueGroup": ".1.3.6.1.2.1.99.3.2.1",
+    "EtherLike-MIB::dot3Compliance2": ".1.3.6.1.2.1.35.2.2.4",
+    "MAU-MIB::mauModIfCompl3": ".1.3.6.1.2.1.26.6.1.5",
+    "Printer-MIB::prtMIB2Compliance": ".1.3.6.1.2.1.43.2.3",
+    "UPS-MIB::upsSubsetCompliance": ".1.3.6.1.2.1.33.3.1.1",
+    "SNMP-TARGET-MIB::snmpTargetCommandResponderCompliance": ".1.3.6.1.6.3.12.3.1.1",
+    "SNMPv2-TM::snmpv2TM": ".1.3.6.1.6.3.19",
+    "SNMPv2-TM::rfc1157Domain": ".1.3.6.1.6.2.1.1",
+    "SNMP-COMMUNITY-MIB::snmpTargetAddrMMS.'mon'": ".1.3.6.1.6.3.18.1.2.1.2.109.111.110",
+    "FLOAT-TC-MIB::floatTcMIB": ".1.3.6.1.2.1.201",
+    "RFC1213-MIB::egpNeighState.192.0.2.1": ".1.3.6.1.2.1.8.5.1.1.192.0.2.1",
+    "OSPF-MIB::ospfAreaLsaCountNumber.0.0.0.0.1": ".1.3.6.1.2.1.14.20.1.3.0.0.0.0.1",
+    "VRRP-MIB::vrrpTrapNewMaster": ".1.3.6.1.2.1.68.0.1",
+    "NET-SNMP-TC::netSnmpTLSTCPDomain": ".1.3.6.1.4.1.8072.3.3.10",
     "Printer-MIB::prtMarkerSuppliesLevel.1.6": ".1.3.6.1.2.1.43.11.1.1.9.1.6",
     "Printer-MIB::printerV2Alert": ".1.3.6.1.2.1.43.18.2.0.1",
     "Printer-MIB::prtConsoleColor.1.2": ".1.3.6.1.2.1.43.17.6.1.4.1.2",
@@ -118,6 +134,61 @@ ifOperStatus OBJECT-TYPE
 ::= { iso(1) org(3) dod(6) internet(1) mgmt(2) mib-2(1) interfaces(2) ifTable(2) ifEntry(1) 8 }
 """
 UNREAD = "SNMPv2-SMI DEFINITIONS ::= BEGIN\nInteger32 ::=\n    [UNIVERSAL 2] IMPLICIT INTEGER (-2147483648..2147483647)\nEND\n"
+# Modules of which modules/ has a part: what others import.
+PARTS = {"RMON2-MIB"}
+FULL = "RMON2-MIB DEFINITIONS ::= BEGIN\nIMPORTS mib-2 FROM SNMPv2-SMI;\nrmon OBJECT IDENTIFIER ::= { mib-2 16 }\n" \
+    "probeConfig OBJECT IDENTIFIER ::= { rmon 19 }\nprobeCapabilities OBJECT-TYPE SYNTAX BITS { a(0) } MAX-ACCESS " \
+    'read-only\nSTATUS current DESCRIPTION "" ::= { probeConfig 1 }\nEND\n'
+# What makes SMIv1's RFC1213-MIB loadable: its access, and no traps (a TRAP-TYPE on a line of IMPORTS is none).
+CURE = [r"s/(^|[[:blank:]])ACCESS([[:blank:]])/\1MAX-ACCESS\2/",
+        r"/[[:alnum:]][[:blank:]]+TRAP-TYPE[[:blank:]]*$/,/::=[[:blank:]]*[0-9]/d"]
+TRAPS = """TRAPS-MIB DEFINITIONS ::= BEGIN
+IMPORTS
+    OBJECT-TYPE
+        FROM RFC-1212
+    TRAP-TYPE
+        FROM RFC-1215
+    enterprises
+        FROM RFC1155-SMI;
+traps OBJECT IDENTIFIER ::= { enterprises 32473 8 }
+trapsState OBJECT-TYPE SYNTAX INTEGER
+    ACCESS read-only STATUS mandatory DESCRIPTION "" ::= { traps 1 }
+trapsStart TRAP-TYPE
+    ENTERPRISE traps
+    DESCRIPTION "It starts."
+    ::= 1
+trapsEnd OBJECT IDENTIFIER ::= { traps 2 }
+END
+"""
+OLD_ROWS = """\
+1.3.6.1.4.1.32473.9.1.0|4|an old one
+1.3.6.1.4.1.32473.9.2.1.1.7.2.101.48|65|4
+1.3.6.1.4.1.32473.9.2.1.2.7.2.101.48|66|5
+1.3.6.1.4.1.32473.9.2.1.3.7.2.101.48|4x|00163E5A788E
+1.3.6.1.4.1.32473.9.2.1.4.7.2.101.48|64|192.0.2.1
+1.3.6.1.4.1.32473.10.1.0|65|6
+"""
+OLD_LINES = """\
+OLD-MIB::oldName.0 = STRING: an old one
+OLD-MIB::oldCount.7."e0" = Counter32: 4 frames
+OLD-MIB::oldRate.7."e0" = Gauge32: 5
+OLD-MIB::oldPhys.7."e0" = STRING: 0:16:3e:5a:78:8e
+OLD-MIB::oldPeer.7."e0" = IpAddress: 192.0.2.1
+OLDER-MIB::olderCount.0 = Counter32: 6 frames
+"""
+VENDOR = """VENDOR-MIB DEFINITIONS ::= BEGIN -- a comment -- IMPORTS -- another
+    Counter32, enterprises FROM SNMPv2-SMI DisplayString FROM SNMPv2-TC ifIndex FROM IF-MIB OBJECT-TYPE FROM SNMPv2-SMI;
+vendorTable OBJECT-TYPE SYNTAX SEQUENCE OF VendorEntry MAX-ACCESS not-accessible STATUS current
+    DESCRIPTION "It says -- so." REFERENCE "None." ::= { enterprises 32473 7 }
+vendorEntry OBJECT-TYPE SYNTAX VendorEntry MAX-ACCESS not-accessible STATUS current
+    DESCRIPTION "END" INDEX { ifIndex } ::= { vendorTable 1 }
+VendorEntry ::= SEQUENCE { vendorCount Counter32, vendorName DisplayString }
+vendorCount OBJECT-TYPE SYNTAX Counter32 UNITS "frames" MAX-ACCESS read-only STATUS current
+    DESCRIPTION "A count." ::= { vendorEntry 1 }
+vendorName OBJECT-TYPE SYNTAX DisplayString (SIZE (1 | 3..9)) MAX-ACCESS read-only STATUS current
+    DESCRIPTION "A name." DEFVAL { 'FF'H } ::= { vendorEntry 2 }
+END
+"""
 OTHER = "IF-MIB DEFINITIONS ::= BEGIN\nIMPORTS mib-2 FROM SNMPv2-SMI;\nother OBJECT IDENTIFIER ::= { mib-2 2 }\nEND\n"
 
 # The devices of examples/ whose lines are in tests/data.
@@ -200,6 +271,62 @@ def joined():
             with open(f"{top}/{made}", encoding="ascii") as file:
                 check(f"and {made} is right", file.read(), text_of(made) + more)
         check("tools/join-modules has no other words", join("--wrong"), 2)
+    check("modules/core.txt is the text of the benchmark", text_of(CORE), text_of("bench/modules.txt"))
+    chosen()
+
+
+def chosen():
+    """Files of just the modules that are needed load without a warning, and show what all modules do."""
+    def join(*words):
+        ran = subprocess.run(["tools/join-modules", *words], cwd=TOP, capture_output=True, text=True)
+        return ran.returncode, ran.stdout, ran.stderr
+    with tempfile.TemporaryDirectory() as folder:
+        def kept(name, *words):
+            status, text, said = join(*words)
+            check(f"tools/join-modules {' '.join(words)}", (status, said), (0, ""))
+            with open(f"{folder}/{name}", "w", encoding="ascii") as file:
+                file.write(text)
+            return f"{folder}/{name}"
+        silent = 0, ".1.3.6.1\n", ""
+        homes = {module: file for file in glob.glob(os.path.join(TOP, "modules", "*-*.txt")) for module in modules_of(file)}
+        for module in sorted(homes):
+            status, text, said = join("--terse", module)
+            path = f"{folder}/one.txt"
+            with open(path, "w", encoding="ascii") as file:
+                file.write(text)
+            check(f"{module} and what it needs", (status, said, run("snmptranslate", "--mib", path, "-On", ".1.3.6.1")),
+                  (0, "", silent))
+        plain, short = kept("poll.txt", "IF-MIB"), kept("short.txt", "--terse", "IF-MIB")
+        wanted = ["SNMPv2-SMI", "SNMPv2-TC", "SNMPv2-CONF", "SNMPv2-MIB", "IANAifType-MIB", "IF-MIB"]
+        check("IF-MIB needs five modules", modules_of(plain), wanted)
+        check("each is as it stands", [part for part in text_of(plain).split("\n\n") if part.strip() not in text_of(ALL)], [])
+        lines = run("snmpwalk", "--mib", ALL, TABLE, "ifXTable")
+        for file in plain, short:
+            check(f"a walk by {os.path.basename(file)}", run("snmpwalk", "--mib", file, TABLE, "ifXTable"), lines)
+        check("--terse leaves out comments and descriptions", re.findall(r"--|\"[^\"]*[a-z]{3} [^\"]*\"", text_of(short)), [])
+        check("and with them a third", len(text_of(short)) < len(text_of(plain)) * 2 / 3, True)
+        terse = kept("terse.txt", "--terse")
+        check("all modules so", run("snmptranslate", "--mib", terse, "-On", *NAMES), run("snmptranslate", "--mib", ALL, "-On", *NAMES))
+        for device in "switch", "printer", "host", "ups":
+            words = f"table:examples/{device}.tab", ".1"
+            check(f"the {device} by them", run("snmpwalk", "--mib", terse, *words), run("snmpwalk", "--mib", ALL, *words))
+        with open(f"{folder}/vendor.txt", "w", encoding="ascii") as file:
+            file.write(VENDOR)
+        path = kept("vendor-terse.txt", "--terse", "--mib", f"{folder}/vendor.txt", "VENDOR-MIB")
+        check("a vendor's module needs IF-MIB", sorted(re.findall(r"^(\S+) DEFINITIONS", text_of(path), re.M)),
+              sorted([*wanted, "VENDOR-MIB"]))
+        check("and its names and units are there", run("snmptranslate", "--mib", path, "-Td", "vendorCount"),
+              (0, 'VENDOR-MIB::vendorCount\nvendorCount OBJECT-TYPE\n  -- FROM\tVENDOR-MIB\n  SYNTAX\tCounter32\n  UNITS\t"frames"\n'
+               '  MAX-ACCESS\tread-only\n  STATUS\tcurrent\n  DESCRIPTION\t""\n::= { iso(1) org(3) dod(6) internet(1) '
+               "private(4) enterprises(1) vendorTable(32473.7) vendorEntry(1) 1 }\n", ""))
+        with open(f"{folder}/gone.txt", "w", encoding="ascii") as file:
+            file.write("HERE-MIB DEFINITIONS ::= BEGIN IMPORTS a FROM GONE-MIB mib-2 FROM SNMPv2-SMI; END\n")
+        status, text, said = join("--terse", "--mib", f"{folder}/gone.txt", "HERE-MIB")
+        check("a module that isn't there is told", (status, said, "HERE-MIB" in text and "SNMPv2-SMI" in text),
+              (1, "join-modules: HERE-MIB imports from GONE-MIB, which isn't there\n", True))
+    check("no module of that name", join("IF-MIB", "NO-MIB"), (1, "", "join-modules: no module NO-MIB\n"))
+    check("no such file", join("--mib", "no.txt", "IF-MIB"), (1, "", "join-modules: no.txt: No such file or directory\n"))
+    check("the help of join-modules", join("--help")[1].startswith("Joins modules to one file, for --mib:\n"), True)
 
 
 def texts(world, files):
@@ -315,13 +442,24 @@ def hints(world):
 
 
 def facts(world, root):
-    """The facts of the texts are those that packages of Debian have, where these are there."""
+    """The facts of the texts are those that packages of Debian have, where these are there; and what is a part of
+    a module says so at once."""
     compared = 0
     for module in world.modules.values():
         found = module_facts.differences(root, world, module)
         if found:
             compared += found[0]
             check(f"{module.name} is as the package has it", found[1], [])
+            lacks = module_facts.lacks(root, world, module)
+            check(f"{module.name} is {'a part' if module.name in PARTS else 'whole'}", bool(lacks), module.name in PARTS)
+    starts = {module: text_of(file).splitlines() for file in glob.glob(os.path.join(TOP, "modules", "*-*.txt"))
+              for module in modules_of(file)}
+    check("what is a part says so in its first line",
+          {name for name, lines in starts.items() if lines[0].startswith(f"-- A part of {name} ")}, PARTS)
+    check("and what to do in its second",
+          {name for name, lines in starts.items() if lines[1].endswith("give the full text before this.")},
+          PARTS)
+    published(root)
     if not compared:
         counts.left_out("facts of modules", f"neither python3-pysnmp4-mibs nor libsnmp-base is below {root}")
 
@@ -366,8 +504,12 @@ def walks(files):
 
 
 def devices():
-    """What devices return, by names: each table of examples/ whose lines are in tests/data. A switch has ports as
-    bits, and neighbours whose rows are marked with a time."""
+    """What devices return, by names: each table of examples/ whose lines are in tests/data, and a table of what
+    routers and agents of SNMPv3 have. A switch has ports as bits, and neighbours whose rows are marked with a time."""
+    for walker in "snmpwalk", "snmpbulkwalk":
+        check(f"{walker} prints the router by names",
+              run(walker, "--mib", ALL, "table:tests/data/router.tab", ".1"), (0, by_all(text_of("tests/data/router.txt")), ""))
+    captures()
     examples, data = ({os.path.splitext(os.path.basename(path))[0] for path in glob.glob(os.path.join(TOP, pattern))}
                       for pattern in ("examples/*.tab", "tests/data/*.txt"))
     check("the devices of examples/ that have their lines in tests/data", sorted(examples & data), DEVICES)
@@ -436,6 +578,77 @@ def beside():
         check("a module text with [UNIVERSAL 2] is refused",
               run("snmptranslate", *mibs([f"{folder}/unread.txt"]), "mib-2"),
               (1, "", f"{folder}/unread.txt:3: syntax\n"))
+
+
+    old_imports()
+
+
+def old_imports():
+    """Modules that import of SMIv1's have their names and hints. A text that is given before ours counts."""
+    with tempfile.TemporaryDirectory() as folder:
+        for name, text in (("old.tab", OLD_ROWS), ("full.txt", FULL), ("traps.txt", TRAPS),
+                           ("rfc1213.txt", "RFC1213-MIB DEFINITIONS ::= BEGIN\nIMPORTS mgmt FROM RFC1155-SMI;\n"
+                            "mib-2 OBJECT IDENTIFIER ::= { mgmt 1 }\nat OBJECT IDENTIFIER ::= { mib-2 3 }\nEND\n")):
+            with open(f"{folder}/{name}", "w", encoding="ascii") as file:
+                file.write(text)
+        for order in [ALL, "tests/data/old.txt"], ["tests/data/old.txt", ALL]:
+            check("old imports have names and hints",
+                  run("snmpwalk", *mibs(order), f"table:{folder}/old.tab", ".1.3.6.1.4.1.32473"), (0, OLD_LINES, ""))
+        check("RFC1213-MIB before ours stands in its place",
+              run("snmptranslate", *mibs([f"{folder}/rfc1213.txt", ALL]), "RFC1213-MIB::mib-2.3", ".1.3.6.1.2.1.3.1"),
+              (0, "RFC1213-MIB::at\nRFC1213-MIB::at.1\n", "snmp: RFC1213-MIB is loaded twice\n"))
+        twice = "snmp: RMON2-MIB is loaded twice\n"
+        name, number = "RMON2-MIB::probeCapabilities.0", ".1.3.6.1.2.1.16.19.1.0\n"
+        check("a full text before our part of it has its names",
+              run("snmptranslate", *mibs([f"{folder}/full.txt", "modules/base.txt", "modules/rmon2-mib.txt"]), "-On", name),
+              (0, number, twice))
+        check("and behind it none", run("snmptranslate", *mibs([ALL, f"{folder}/full.txt"]), "-On", name),
+              (1, "", f"{twice}Unknown name: {name}\n"))
+        cured = f"{folder}/cured.txt"
+        with open(cured, "w", encoding="ascii") as file:
+            subprocess.run(["sed", "-E", "-e", CURE[0], "-e", CURE[1], f"{folder}/traps.txt"], stdout=file, check=True)
+        check("a module without its traps", run("snmptranslate", *mibs([cured, ALL]), "-On", "trapsState.0", "trapsEnd"),
+              (0, ".1.3.6.1.4.1.32473.8.1.0\n.1.3.6.1.4.1.32473.8.2\n", ""))
+
+
+def published(root):
+    """RFC1213-MIB and STANDARD-MIB, which is its older text, as a package of Debian has them."""
+    paths = sorted(glob.glob(f"{root}/usr/lib/erlang/lib/snmp-*/mibs/*-MIB.mib"))
+    paths = {name: path for path in paths for name in ("RFC1213-MIB", "STANDARD-MIB") if path.endswith(f"/{name}.mib")}
+    if not paths:
+        counts.left_out("RFC1213-MIB as published", "erlang-snmp isn't there")
+    for name, path in paths.items():
+        with tempfile.TemporaryDirectory() as folder:
+            with open(f"{folder}/cured.txt", "w", encoding="ascii") as file:
+                subprocess.run(["sed", "-E", "-e", CURE[0], "-e", CURE[1], path], stdout=file, check=True)
+            said = "snmp: RFC1213-MIB is loaded twice\n" if name == "RFC1213-MIB" else ""
+            check(f"{name} as published loads", run("snmptranslate", *mibs([f"{folder}/cured.txt", ALL]), "-On", f"{name}::sysDescr"),
+                  (0, ".1.3.6.1.2.1.1.1\n", said))
+
+
+def captures():
+    """tools/lines-to-table reads lines that end with CR LF, and tells of those without types in one line."""
+    def turn(text):
+        ran = subprocess.run(["tools/lines-to-table"], cwd=TOP, capture_output=True, input=text.encode())
+        return ran.returncode, ran.stdout.decode(), ran.stderr.decode()
+    lines = run("snmpbulkwalk", "-Onx", "table:examples/switch.tab", ".1")[1]
+    table = turn(lines)
+    check("a capture from .1 has LLDP", (table[0], "\n1.0.8802." in f"\n{table[1]}", table[2]), (0, True, ""))
+    check("a capture with CR LF", turn(lines.replace("\n", "\r\n")), table)
+    check("a CR in a string is kept where lines end with LF, and the one of the line's end isn't",
+          turn('.1.3.6.1 = STRING: "a\r\nb"\n.1.3.6.2 = STRING: "a\r\r\nb"\r\n.1.3.6.3 = Hex-STRING: 00 01 \r\n02\r\n\r\n'
+               "Variables found: 3\r\n"), (0, "1.3.6.1|4x|610D0A62\n1.3.6.2|4x|610D0A62\n1.3.6.3|4x|000102\n", ""))
+    check("a capture with CR LF that is cut", turn(".1.3.6.1 = INTEGER: 12\r\n.1.3.6.2 = INTEGER: 1\r"),
+          (1, "1.3.6.1|2|12\n", "input:2: cut off: .1.3.6.2 = INTEGER: 1\n"))
+    for letters in "nq", "nv", "nqv":
+        untyped = run("snmpbulkwalk", f"-O{letters}", TABLE, ".1")[1]
+        first, count = untyped.split("\n")[0][:60], untyped.count("\n")
+        check(f"a capture with -O{letters}", turn(untyped), (1, "", "input:1: no NAME = TYPE: VALUE, nor in "
+              f"{count - 1} more lines: walk without -Oq, -OQ, -Ov and -Ot: {first}\n"))
+    for letters in "nQ", "nt":
+        status, rows, said = turn(run("snmpbulkwalk", f"-O{letters}", TABLE, ".1")[1])
+        check(f"a capture with -O{letters}", (status, said.count("\n"), "walk without" in said), (1, 1, True))
+    check("one line without a type", turn(".1.3.6.1 = 5\n"), (1, "", "input:1: no type that a table has: .1.3.6.1 = 5\n"))
 
 
 def main(words):
