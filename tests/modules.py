@@ -177,7 +177,8 @@ OLD-MIB::oldPeer.7."e0" = IpAddress: 192.0.2.1
 OLDER-MIB::olderCount.0 = Counter32: 6 frames
 """
 VENDOR = """VENDOR-MIB DEFINITIONS ::= BEGIN -- a comment -- IMPORTS -- another
-    Counter32, enterprises FROM SNMPv2-SMI DisplayString FROM SNMPv2-TC ifIndex FROM IF-MIB OBJECT-TYPE FROM SNMPv2-SMI;
+    Counter32, enterprises FROM SNMPv2-SMI DisplayString FROM SNMPv2-TC ifIndex FROM IF-MIB
+    OBJECT-TYPE FROM SNMPv2-SMI;
 vendorTable OBJECT-TYPE SYNTAX SEQUENCE OF VendorEntry MAX-ACCESS not-accessible STATUS current
     DESCRIPTION "It says -- so." REFERENCE "None." ::= { enterprises 32473 7 }
 vendorEntry OBJECT-TYPE SYNTAX VendorEntry MAX-ACCESS not-accessible STATUS current
@@ -188,6 +189,17 @@ vendorCount OBJECT-TYPE SYNTAX Counter32 UNITS "frames" MAX-ACCESS read-only STA
 vendorName OBJECT-TYPE SYNTAX DisplayString (SIZE (1 | 3..9)) MAX-ACCESS read-only STATUS current
     DESCRIPTION "A name." DEFVAL { 'FF'H } ::= { vendorEntry 2 }
 END
+"""
+VENDOR_DETAILS = """\
+VENDOR-MIB::vendorCount
+vendorCount OBJECT-TYPE
+  -- FROM\tVENDOR-MIB
+  SYNTAX\tCounter32
+  UNITS\t"frames"
+  MAX-ACCESS\tread-only
+  STATUS\tcurrent
+  DESCRIPTION\t""
+::= { iso(1) org(3) dod(6) internet(1) private(4) enterprises(1) 32473 vendorTable(7) vendorEntry(1) 1 }
 """
 OTHER = "IF-MIB DEFINITIONS ::= BEGIN\nIMPORTS mib-2 FROM SNMPv2-SMI;\nother OBJECT IDENTIFIER ::= { mib-2 2 }\nEND\n"
 
@@ -288,44 +300,46 @@ def chosen():
                 file.write(text)
             return f"{folder}/{name}"
         silent = 0, ".1.3.6.1\n", ""
-        homes = {module: file for file in glob.glob(os.path.join(TOP, "modules", "*-*.txt")) for module in modules_of(file)}
-        for module in sorted(homes):
+        for module in modules_of(ALL):
             status, text, said = join("--terse", module)
             path = f"{folder}/one.txt"
             with open(path, "w", encoding="ascii") as file:
                 file.write(text)
-            check(f"{module} and what it needs", (status, said, run("snmptranslate", "--mib", path, "-On", ".1.3.6.1")),
-                  (0, "", silent))
+            check(f"{module} and what it needs",
+                  (status, said, run("snmptranslate", "--mib", path, "-On", ".1.3.6.1")), (0, "", silent))
         plain, short = kept("poll.txt", "IF-MIB"), kept("short.txt", "--terse", "IF-MIB")
         wanted = ["SNMPv2-SMI", "SNMPv2-TC", "SNMPv2-CONF", "SNMPv2-MIB", "IANAifType-MIB", "IF-MIB"]
         check("IF-MIB needs five modules", modules_of(plain), wanted)
-        check("each is as it stands", [part for part in text_of(plain).split("\n\n") if part.strip() not in text_of(ALL)], [])
+        whole = text_of(ALL)
+        check("each is as it stands", [part for part in text_of(plain).split("\n\n") if part.strip() not in whole], [])
         lines = run("snmpwalk", "--mib", ALL, TABLE, "ifXTable")
         for file in plain, short:
             check(f"a walk by {os.path.basename(file)}", run("snmpwalk", "--mib", file, TABLE, "ifXTable"), lines)
-        check("--terse leaves out comments and descriptions", re.findall(r"--|\"[^\"]*[a-z]{3} [^\"]*\"", text_of(short)), [])
+        check("--terse leaves out comments and descriptions",
+              re.findall(r'--|"[^"]*[a-z]{3} [^"]*"', text_of(short)), [])
         check("and with them a third", len(text_of(short)) < len(text_of(plain)) * 2 / 3, True)
         terse = kept("terse.txt", "--terse")
-        check("all modules so", run("snmptranslate", "--mib", terse, "-On", *NAMES), run("snmptranslate", "--mib", ALL, "-On", *NAMES))
+        check("all modules so", run("snmptranslate", "--mib", terse, "-On", *NAMES),
+              (0, "".join(f"{number}\n" for number in NAMES.values()), ""))
         for device in "switch", "printer", "host", "ups":
             words = f"table:examples/{device}.tab", ".1"
-            check(f"the {device} by them", run("snmpwalk", "--mib", terse, *words), run("snmpwalk", "--mib", ALL, *words))
+            check(f"the {device} by them", run("snmpwalk", "--mib", terse, *words),
+                  run("snmpwalk", "--mib", ALL, *words))
         with open(f"{folder}/vendor.txt", "w", encoding="ascii") as file:
             file.write(VENDOR)
         path = kept("vendor-terse.txt", "--terse", "--mib", f"{folder}/vendor.txt", "VENDOR-MIB")
         check("a vendor's module needs IF-MIB", sorted(re.findall(r"^(\S+) DEFINITIONS", text_of(path), re.M)),
               sorted([*wanted, "VENDOR-MIB"]))
         check("and its names and units are there", run("snmptranslate", "--mib", path, "-Td", "vendorCount"),
-              (0, 'VENDOR-MIB::vendorCount\nvendorCount OBJECT-TYPE\n  -- FROM\tVENDOR-MIB\n  SYNTAX\tCounter32\n  UNITS\t"frames"\n'
-               '  MAX-ACCESS\tread-only\n  STATUS\tcurrent\n  DESCRIPTION\t""\n::= { iso(1) org(3) dod(6) internet(1) '
-               "private(4) enterprises(1) vendorTable(32473.7) vendorEntry(1) 1 }\n", ""))
+              (0, VENDOR_DETAILS, ""))
         with open(f"{folder}/gone.txt", "w", encoding="ascii") as file:
             file.write("HERE-MIB DEFINITIONS ::= BEGIN IMPORTS a FROM GONE-MIB mib-2 FROM SNMPv2-SMI; END\n")
         status, text, said = join("--terse", "--mib", f"{folder}/gone.txt", "HERE-MIB")
         check("a module that isn't there is told", (status, said, "HERE-MIB" in text and "SNMPv2-SMI" in text),
               (1, "join-modules: HERE-MIB imports from GONE-MIB, which isn't there\n", True))
     check("no module of that name", join("IF-MIB", "NO-MIB"), (1, "", "join-modules: no module NO-MIB\n"))
-    check("no such file", join("--mib", "no.txt", "IF-MIB"), (1, "", "join-modules: no.txt: No such file or directory\n"))
+    check("no such file", join("--mib", "no.txt", "IF-MIB"),
+          (1, "", "join-modules: no.txt: No such file or directory\n"))
     check("the help of join-modules", join("--help")[1].startswith("Joins modules to one file, for --mib:\n"), True)
 
 
@@ -451,7 +465,7 @@ def facts(world, root):
             compared += found[0]
             check(f"{module.name} is as the package has it", found[1], [])
             lacks = module_facts.lacks(root, world, module)
-            check(f"{module.name} is {'a part' if module.name in PARTS else 'whole'}", bool(lacks), module.name in PARTS)
+            check(f"{module.name} is whole, or is known to be a part", bool(lacks), module.name in PARTS)
     starts = {module: text_of(file).splitlines() for file in glob.glob(os.path.join(TOP, "modules", "*-*.txt"))
               for module in modules_of(file)}
     check("what is a part says so in its first line",
@@ -505,10 +519,12 @@ def walks(files):
 
 def devices():
     """What devices return, by names: each table of examples/ whose lines are in tests/data, and a table of what
-    routers and agents of SNMPv3 have. A switch has ports as bits, and neighbours whose rows are marked with a time."""
+    routers and agents of SNMPv3 have. A switch has ports as bits, and neighbours whose rows are marked with a
+    time."""
+    lines = by_all(text_of("tests/data/router.txt"))
     for walker in "snmpwalk", "snmpbulkwalk":
         check(f"{walker} prints the router by names",
-              run(walker, "--mib", ALL, "table:tests/data/router.tab", ".1"), (0, by_all(text_of("tests/data/router.txt")), ""))
+              run(walker, "--mib", ALL, "table:tests/data/router.tab", ".1"), (0, lines, ""))
     captures()
     examples, data = ({os.path.splitext(os.path.basename(path))[0] for path in glob.glob(os.path.join(TOP, pattern))}
                       for pattern in ("examples/*.tab", "tests/data/*.txt"))
@@ -600,14 +616,15 @@ def old_imports():
         twice = "snmp: RMON2-MIB is loaded twice\n"
         name, number = "RMON2-MIB::probeCapabilities.0", ".1.3.6.1.2.1.16.19.1.0\n"
         check("a full text before our part of it has its names",
-              run("snmptranslate", *mibs([f"{folder}/full.txt", "modules/base.txt", "modules/rmon2-mib.txt"]), "-On", name),
-              (0, number, twice))
+              run("snmptranslate", *mibs([f"{folder}/full.txt", "modules/base.txt", "modules/rmon2-mib.txt"]),
+                  "-On", name), (0, number, twice))
         check("and behind it none", run("snmptranslate", *mibs([ALL, f"{folder}/full.txt"]), "-On", name),
               (1, "", f"{twice}Unknown name: {name}\n"))
         cured = f"{folder}/cured.txt"
         with open(cured, "w", encoding="ascii") as file:
             subprocess.run(["sed", "-E", "-e", CURE[0], "-e", CURE[1], f"{folder}/traps.txt"], stdout=file, check=True)
-        check("a module without its traps", run("snmptranslate", *mibs([cured, ALL]), "-On", "trapsState.0", "trapsEnd"),
+        check("a module without its traps",
+              run("snmptranslate", *mibs([cured, ALL]), "-On", "trapsState.0", "trapsEnd"),
               (0, ".1.3.6.1.4.1.32473.8.1.0\n.1.3.6.1.4.1.32473.8.2\n", ""))
 
 
@@ -622,7 +639,8 @@ def published(root):
             with open(f"{folder}/cured.txt", "w", encoding="ascii") as file:
                 subprocess.run(["sed", "-E", "-e", CURE[0], "-e", CURE[1], path], stdout=file, check=True)
             said = "snmp: RFC1213-MIB is loaded twice\n" if name == "RFC1213-MIB" else ""
-            check(f"{name} as published loads", run("snmptranslate", *mibs([f"{folder}/cured.txt", ALL]), "-On", f"{name}::sysDescr"),
+            check(f"{name} as published loads",
+                  run("snmptranslate", *mibs([f"{folder}/cured.txt", ALL]), "-On", f"{name}::sysDescr"),
                   (0, ".1.3.6.1.2.1.1.1\n", said))
 
 
@@ -636,8 +654,9 @@ def captures():
     check("a capture from .1 has LLDP", (table[0], "\n1.0.8802." in f"\n{table[1]}", table[2]), (0, True, ""))
     check("a capture with CR LF", turn(lines.replace("\n", "\r\n")), table)
     check("a CR in a string is kept where lines end with LF, and the one of the line's end isn't",
-          turn('.1.3.6.1 = STRING: "a\r\nb"\n.1.3.6.2 = STRING: "a\r\r\nb"\r\n.1.3.6.3 = Hex-STRING: 00 01 \r\n02\r\n\r\n'
-               "Variables found: 3\r\n"), (0, "1.3.6.1|4x|610D0A62\n1.3.6.2|4x|610D0A62\n1.3.6.3|4x|000102\n", ""))
+          turn('.1.3.6.1 = STRING: "a\r\nb"\n.1.3.6.2 = STRING: "a\r\r\nb"\r\n'
+               ".1.3.6.3 = Hex-STRING: 00 01 \r\n02\r\n\r\nVariables found: 3\r\n"),
+          (0, "1.3.6.1|4x|610D0A62\n1.3.6.2|4x|610D0A62\n1.3.6.3|4x|000102\n", ""))
     check("a capture with CR LF that is cut", turn(".1.3.6.1 = INTEGER: 12\r\n.1.3.6.2 = INTEGER: 1\r"),
           (1, "1.3.6.1|2|12\n", "input:2: cut off: .1.3.6.2 = INTEGER: 1\n"))
     for letters in "nq", "nv", "nqv":
@@ -648,7 +667,8 @@ def captures():
     for letters in "nQ", "nt":
         status, rows, said = turn(run("snmpbulkwalk", f"-O{letters}", TABLE, ".1")[1])
         check(f"a capture with -O{letters}", (status, said.count("\n"), "walk without" in said), (1, 1, True))
-    check("one line without a type", turn(".1.3.6.1 = 5\n"), (1, "", "input:1: no type that a table has: .1.3.6.1 = 5\n"))
+    check("one line without a type", turn(".1.3.6.1 = 5\n"),
+          (1, "", "input:1: no type that a table has: .1.3.6.1 = 5\n"))
 
 
 def main(words):
