@@ -91,6 +91,9 @@ def of_text(world, module, definition):
     fact, clauses = {}, definition.clauses
     if definition.value:
         fact["numbers"] = world.numbers(module, definition)
+    if "STATUS" in clauses:
+        # What SMIv1 calls mandatory is current.
+        fact["status"] = clauses["STATUS"].replace("mandatory", "current")
     row = clauses.get("INDEX") or ["AUGMENTS " + label for label in clauses.get("AUGMENTS", [])]
     if row:
         fact["index"] = row

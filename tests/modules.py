@@ -17,6 +17,7 @@ import glob
 import os
 import random
 import re
+import runpy
 import shutil
 import sys
 import tempfile
@@ -299,14 +300,14 @@ def chosen():
             with open(f"{folder}/{name}", "w", encoding="ascii") as file:
                 file.write(text)
             return f"{folder}/{name}"
-        silent = 0, ".1.3.6.1\n", ""
-        for module in modules_of(ALL):
-            status, text, said = join("--terse", module)
-            path = f"{folder}/one.txt"
-            with open(path, "w", encoding="ascii") as file:
-                file.write(text)
-            check(f"{module} and what it needs",
-                  (status, said, run("snmptranslate", "--mib", path, "-On", ".1.3.6.1")), (0, "", silent))
+        script = runpy.run_path(os.path.join(TOP, "tools", "join-modules"))
+        world = script["world_of"]([os.path.join(TOP, ALL)])
+        for module in world:
+            for is_terse in False, True:
+                with open(f"{folder}/one.txt", "w", encoding="ascii") as file:
+                    file.write(script["written"]([module], world, is_terse)[0])
+                check(f"{module} and what it needs, terse: {is_terse}",
+                      run("snmptranslate", "--mib", f"{folder}/one.txt", "-On", ".1.3.6.1"), (0, ".1.3.6.1\n", ""))
         plain, short = kept("poll.txt", "IF-MIB"), kept("short.txt", "--terse", "IF-MIB")
         wanted = ["SNMPv2-SMI", "SNMPv2-TC", "SNMPv2-CONF", "SNMPv2-MIB", "IANAifType-MIB", "IF-MIB"]
         check("IF-MIB needs five modules", modules_of(plain), wanted)
