@@ -11,13 +11,13 @@ import module_texts
 PYTHON = "usr/lib/python3/dist-packages/pysnmp_mibs", "usr/lib/python3/dist-packages/pysnmp/smi/mibs"
 TEXTS = "usr/share/snmp/mibs/{}.txt", "usr/lib/erlang/lib/snmp-*/mibs/{}.mib"
 # Of these erlang-snmp has another revision, or other hints.
-OTHER = {"SNMP-COMMUNITY-MIB", "SNMP-FRAMEWORK-MIB", "SNMP-TARGET-MIB"}
+OTHER = {"SNMP-COMMUNITY-MIB", "SNMP-FRAMEWORK-MIB", "SNMP-TARGET-MIB", "SNMPv2-TM"}
 NAMES = {"Integer": "Integer32", "INTEGER": "Integer32", "OctetString": "OCTET STRING",
          "ObjectIdentifier": "OBJECT IDENTIFIER", "Bits": "BITS", "Counter": "Counter32", "Gauge": "Gauge32"}
 ACCESS = {"readonly": "read-only", "readwrite": "read-write", "readcreate": "read-create",
           "noaccess": "not-accessible", "notifyonly": "accessible-for-notify",
           "accessiblefornotify": "accessible-for-notify"}
-# What stands in modules/ by a later revision than that of the package; and where that has a type of its own.
+# What stands in modules/ by a later revision than that of the package; and where that has types of its own.
 MEDIA = """10GbaseT 10GbaseLRM 1000baseKX 10GbaseKX4 10GbaseKR 40GbaseKR4 40GbaseCR4 40GbaseSR4 40GbaseFR 40GbaseLR4
     100GbaseCR10 100GbaseSR10 100GbaseLR4 100GbaseER4 25GbaseCR 25GbaseKR 25GbaseSR 25GbaseT 100GbaseCR4 100GbaseKR4
     100GbaseSR4 2p5GigT 5GigT"""
@@ -25,7 +25,8 @@ LATER = {"ENTITY-MIB": {"entPhysicalClass", "entPhysicalUUID", "entity4Complianc
                         "entityPhysical4Group", "entityPhysicalCRGroup"},
          "IANA-MAU-MIB": {"dot3MauType" + medium for medium in MEDIA.split()},
          "IANA-CHARSET-MIB": {"IANACharset"}, "IANA-RTPROTO-MIB": {"IANAipRouteProtocol"},
-         "IANAifType-MIB": {"IANAifType", "IANAtunnelType"}, "SNMP-FRAMEWORK-MIB": {"snmpEngineTime", "SnmpEngineTime"}}
+         "IANAifType-MIB": {"IANAifType", "IANAtunnelType"}, "SNMP-FRAMEWORK-MIB": {"snmpEngineTime", "SnmpEngineTime"},
+         "SNMPv2-TM": {"SnmpOSIAddress"}}
 
 
 def merged(ranges):

@@ -93,7 +93,7 @@ NAMES = {
     "Printer-MIB::prtMIB2Compliance": ".1.3.6.1.2.1.43.2.3",
     "UPS-MIB::upsSubsetCompliance": ".1.3.6.1.2.1.33.3.1.1",
     "SNMP-TARGET-MIB::snmpTargetCommandResponderCompliance": ".1.3.6.1.6.3.12.3.1.1",
-    "SNMPv2-TM::snmpv2TM": ".1.3.6.1.6.3.19",
+    "SNMPv2-TM::snmpv2tm": ".1.3.6.1.6.3.19",
     "SNMPv2-TM::rfc1157Domain": ".1.3.6.1.6.2.1.1",
     "SNMP-COMMUNITY-MIB::snmpTargetAddrMMS.'mon'": ".1.3.6.1.6.3.18.1.2.1.2.109.111.110",
     "FLOAT-TC-MIB::floatTcMIB": ".1.3.6.1.2.1.201",
