@@ -630,7 +630,7 @@ def old_imports():
 
 
 def published(root):
-    """RFC1213-MIB and STANDARD-MIB, which is its older text, as a package of Debian has them."""
+    """RFC1213-MIB, and STANDARD-MIB, which is a part of it with traps, as a package of Debian has them in SMIv1."""
     paths = sorted(glob.glob(f"{root}/usr/lib/erlang/lib/snmp-*/mibs/*-MIB.mib"))
     paths = {name: path for path in paths for name in ("RFC1213-MIB", "STANDARD-MIB") if path.endswith(f"/{name}.mib")}
     if not paths:
