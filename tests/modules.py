@@ -595,8 +595,6 @@ def beside():
         check("a module text with [UNIVERSAL 2] is refused",
               run("snmptranslate", *mibs([f"{folder}/unread.txt"]), "mib-2"),
               (1, "", f"{folder}/unread.txt:3: syntax\n"))
-
-
     old_imports()
 
 
