@@ -73,21 +73,11 @@ impl<'a> Parser<'a> {
     {
         let def = self.definition()?;
         let line = def.line;
-        // A definition is dropped by a call: at the end of a scope, the code that drops each of its
-        // variants would be inlined.
-        match names::add(names, label) {
-            Ok(true) => {
-                keep(defs, def)?;
-                Ok(())
-            }
-            Ok(false) => {
-                drop(def);
-                Err(ParseError::DoubleName { line })
-            }
-            Err(stop) => {
-                drop(def);
-                Err(ParseError::from(stop))
-            }
+        keep(defs, def)?;
+        if names::add(names, label)? {
+            Ok(())
+        } else {
+            Err(ParseError::DoubleName { line })
         }
     }
 

@@ -7,7 +7,7 @@ use crate::trees::items::{Items, Text};
 use crate::trees::names::Name;
 
 /// A module (RFC 2578, section 3).
-#[derive(Debug, Drop)]
+#[derive(Debug)]
 pub struct Module {
     pub name: Name,
     /// The identifier in braces after the name, if there are braces. It may be empty.
@@ -16,6 +16,18 @@ pub struct Module {
     pub imports: Option<Items<Import>>,
     /// The definitions, in the order of the text. No two have the same label.
     pub defs: Items<Def>,
+}
+
+// By hand, as that of `Text`: who owns a module calls this, and needs the drop of no other part.
+impl Drop for Module {
+    fn drop(self) {
+        let Module {
+            name: _name,
+            heading: _heading,
+            imports: _imports,
+            defs: _defs,
+        } = self;
+    }
 }
 
 /// The symbols that one FROM clause imports (RFC 2578, section 3.2).

@@ -5,8 +5,8 @@ was-true : (b : Bool) → not b ≡ false → b ≡ true
 was-true true h = refl
 was-true false h = absurd (cc)
 
-pub returns-in-Ok-false-clause-fault : goal.returns-in-Ok-false-clause-fault
-returns-in-Ok-false-clause-fault c = (
-  was-true _ (sym c.in-Ok-false.ensures.new ∙ c.in-Ok-false.field-0-test),
+pub returns-else-branch-clause-fault : goal.returns-else-branch-clause-fault
+returns-else-branch-clause-fault c = (
+  was-true _ (sym c.in_ok-add.ensures.new ∙ c.if-branch.false),
   record { def = c.in_ok-def.def; rest = _; read = c.in_ok-def.ensures; on_line = refl },
 )
