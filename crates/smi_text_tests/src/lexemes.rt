@@ -28,13 +28,13 @@ const TOKENS: &[Row] = &[
     (TokenKind::Colon, ":", 45, 46, 3),
 ];
 
-/// Asserts that a token is this one.
-fn assert_token(rt: &impl Abort, token: &Token<'_>, row: &Row) {
+/// Whether a token is this one.
+fn is_token(token: &Token<'_>, row: &Row) -> bool {
     let (kind, octets, start, end, line) = *row;
-    assert_eq!(rt; token.kind, kind);
-    assert_eq!(rt; token.span, Span { start, end });
-    assert_eq!(rt; token.text, octets.as_bytes());
-    assert_eq!(rt; token.line, line);
+    token.kind == kind
+        && token.span == Span { start, end }
+        && token.text == octets.as_bytes()
+        && token.line == line
 }
 
 #[test]
@@ -44,7 +44,7 @@ fn tokens_spans_and_lines(rt: HostRuntime) -> Result<(), Fail> {
         let Some(Ok(token)) = lexer.next() else {
             return Err("no token".into());
         };
-        assert_token(&rt, &token, row);
+        assert!(rt; is_token(&token, row), "{row:?}");
     }
     assert_eq!(rt; lexer.next(), Some(Err(LexError::BadByte { line: 3 })));
     assert_eq!(rt; lexer.next(), None);

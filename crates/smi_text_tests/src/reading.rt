@@ -1,6 +1,6 @@
 //! Helpers of the tests: reading texts, and comparing what was read.
 
-use smi_text::{Def, LexError, Module, Name, ParseError, Text, TokenText, parse_modules};
+use smi_text::{Def, LexError, Module, Name, ParseError, Part, Text, TokenText, parse_modules};
 use std::alloc::{AllocError, Global};
 use std::process::Abort;
 
@@ -151,4 +151,12 @@ pub(crate) fn definition<'a>(modules: &'a [Module], name: &str) -> Option<&'a De
         }
     }
     None
+}
+
+/// The parts of a definition's identifier value, none for a type.
+pub(crate) fn parts_of(def: &Def) -> &[Part] {
+    match def.identifier() {
+        Some(parts) => parts.as_slice(),
+        None => &[],
+    }
 }

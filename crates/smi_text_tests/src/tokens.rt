@@ -13,37 +13,38 @@ type Row = (TokenKind, &'static [u8], usize);
 /// A text, its tokens, and its fault if it breaks off.
 type Case = (&'static [u8], &'static [Row], Option<LexError>);
 
-/// Compares a token of a text, also with the octets at its span.
-fn expect_token(rt: &impl Abort, text: &[u8], token: &Token<'_>, row: &Row) {
+/// Whether a token of a text is this one, also by the octets at its span.
+fn is_token(text: &[u8], token: &Token<'_>, row: &Row) -> bool {
     let (kind, octets, line) = row;
-    assert_eq!(rt; token.kind, *kind, "in {text:?}");
-    assert_eq!(rt; token.text, *octets, "in {text:?}");
-    assert_eq!(rt; token.line, *line, "in {text:?}");
     let span = token.span;
-    assert_eq!(rt;
-        text.get(span.start..span.end),
-        Some(*octets),
-        "in {text:?}"
-    );
+    token.kind == *kind
+        && token.text == *octets
+        && token.line == *line
+        && text.get(span.start..span.end) == Some(*octets)
 }
 
-/// Compares the tokens and the fault of a text, and checks that the lexer ends after them.
-fn expect(rt: &impl Abort, text: &[u8], rows: &[Row], fault: Option<LexError>) {
+/// Whether a text has these tokens and this fault, and the lexer ends after them.
+fn is_lexed(text: &[u8], rows: &[Row], fault: Option<LexError>) -> bool {
     let mut lexer = Lexer::new(text);
     for row in rows {
         match lexer.next() {
-            Some(Ok(token)) => expect_token(rt, text, &token, row),
-            _ => assert!(rt; false, "a token is missing in {text:?}"),
+            Some(Ok(token)) if is_token(text, &token, row) => {}
+            _ => return false,
         }
     }
     if let Some(fault) = fault {
-        match lexer.next() {
-            Some(Err(found)) => assert_eq!(rt; found, fault, "in {text:?}"),
-            _ => assert!(rt; false, "the fault is missing in {text:?}"),
+        if lexer.next() != Some(Err(fault)) {
+            return false;
         }
     }
-    assert!(rt; lexer.next().is_none(), "too many tokens in {text:?}");
-    assert!(rt; lexer.next().is_none(), "no end in {text:?}");
+    lexer.next().is_none() && lexer.next().is_none()
+}
+
+/// Asserts that each text has its tokens and its fault.
+fn expect(rt: &impl Abort, cases: &[Case]) {
+    for (text, rows, fault) in cases {
+        assert!(rt; is_lexed(text, rows, *fault), "{text:?}");
+    }
 }
 
 const GAPS: &[Case] = &[
@@ -227,35 +228,25 @@ const FAULTS: &[Case] = &[
 
 #[test]
 fn gaps_are_lexed(rt: HostRuntime) {
-    for (text, rows, fault) in GAPS {
-        expect(&rt, text, rows, *fault);
-    }
+    expect(&rt, GAPS);
 }
 
 #[test]
 fn words_and_numbers_are_lexed(rt: HostRuntime) {
-    for (text, rows, fault) in WORDS_AND_NUMBERS {
-        expect(&rt, text, rows, *fault);
-    }
+    expect(&rt, WORDS_AND_NUMBERS);
 }
 
 #[test]
 fn strings_and_literals_are_lexed(rt: HostRuntime) {
-    for (text, rows, fault) in STRINGS_AND_LITERALS {
-        expect(&rt, text, rows, *fault);
-    }
+    expect(&rt, STRINGS_AND_LITERALS);
 }
 
 #[test]
 fn symbols_are_lexed(rt: HostRuntime) {
-    for (text, rows, fault) in SYMBOLS {
-        expect(&rt, text, rows, *fault);
-    }
+    expect(&rt, SYMBOLS);
 }
 
 #[test]
 fn faults_are_lexed(rt: HostRuntime) {
-    for (text, rows, fault) in FAULTS {
-        expect(&rt, text, rows, *fault);
-    }
+    expect(&rt, FAULTS);
 }

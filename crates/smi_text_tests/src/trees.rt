@@ -1,9 +1,10 @@
 //! The trees of texts in which each production of the grammar stands.
 
-use crate::reading::{are, are_tokens, counts, definition, is, is_named, is_some};
+use crate::reading::{are, are_tokens, counts, definition, is, is_named, is_some, parts_of};
 use smi_text::{
-    Base, Def, DefKind, Index, Module, ModuleIdentity, ObjectType, Part, Range, Refinement, Status,
-    Syntax, TextualConvention, TokenText, TypeAssignment, parse_modules,
+    Base, DefKind, Group, Import, Index, Module, ModuleIdentity, NamedNumber, NotificationType,
+    ObjectType, Part, Range, Refinement, Revision, SimpleType, Status, Syntax, TextualConvention,
+    TokenText, TypeAssignment, parse_modules,
 };
 use std::process::Abort;
 use std::test::Fail;
@@ -60,7 +61,8 @@ fn assert_right(rt: &impl Abort, right: Option<bool>, what: &str) {
     assert_eq!(rt; right, Some(true), "{what}");
 }
 
-/// The name, line, kind and identifier value of each definition, with `@` between them.
+/// The name, line, words of the kind and identifier value of each definition, with `@` between
+/// them. An assigned type has no words.
 const SHAPES: &[&str] = &[
     "m@5@MODULE-IDENTITY@iso 1",
     "o@7@OBJECT IDENTIFIER@iso org(3) dod(6) 1",
@@ -79,15 +81,15 @@ const SHAPES: &[&str] = &[
     "c2@20@AGENT-CAPABILITIES@o 10",
     "Tc@21@TEXTUAL-CONVENTION@",
     "Tc2@22@TEXTUAL-CONVENTION@",
-    "App@23@type@",
-    "Plain@24@type@",
-    "Rows@25@type@",
+    "App@23@@",
+    "Plain@24@@",
+    "Rows@25@@",
     "Row@26@SEQUENCE@",
     "Ch@27@CHOICE@",
     "OBJECT-TYPE@28@MACRO@",
     "MyMacro@29@MACRO@",
     "t7@30@OBJECT-TYPE@o 11",
-    "Bare@31@type@",
+    "Bare@31@@",
 ];
 
 fn has_shape(modules: &[Module], row: &str) -> bool {
@@ -98,42 +100,16 @@ fn has_shape(modules: &[Module], row: &str) -> bool {
         return false;
     };
     match definition(modules, name) {
-        Some(def) => def.line == line && kind_name(def) == kind && are_parts(value_of(def), value),
+        Some(def) => def.line == line
+            && def.kind_words() == kind.as_bytes()
+            && are_parts(parts_of(def), value),
         None => false,
     }
 }
 
-fn kind_name(def: &Def) -> &'static str {
-    match &def.kind {
-        DefKind::ObjectIdentifier(_) => "OBJECT IDENTIFIER",
-        DefKind::ModuleIdentity(_) => "MODULE-IDENTITY",
-        DefKind::ObjectIdentity(_) => "OBJECT-IDENTITY",
-        DefKind::ObjectType(_) => "OBJECT-TYPE",
-        DefKind::NotificationType(_) => "NOTIFICATION-TYPE",
-        DefKind::ObjectGroup(_) => "OBJECT-GROUP",
-        DefKind::NotificationGroup(_) => "NOTIFICATION-GROUP",
-        DefKind::ModuleCompliance(_) => "MODULE-COMPLIANCE",
-        DefKind::AgentCapabilities(_) => "AGENT-CAPABILITIES",
-        DefKind::TextualConvention(_) => "TEXTUAL-CONVENTION",
-        DefKind::TypeAssignment(_) => "type",
-        DefKind::Sequence(_) => "SEQUENCE",
-        DefKind::Choice(_) => "CHOICE",
-        DefKind::Macro(_) => "MACRO",
-    }
-}
-
-/// The parts of a definition's identifier value, if it has one.
-fn value_of(def: &Def) -> &[Part] {
-    match &def.kind {
-        DefKind::ObjectIdentifier(value) => value.as_slice(),
-        DefKind::ModuleIdentity(d) => d.value.as_slice(),
-        DefKind::ObjectIdentity(d) => d.value.as_slice(),
-        DefKind::ObjectType(d) => d.value.as_slice(),
-        DefKind::NotificationType(d) => d.value.as_slice(),
-        DefKind::ObjectGroup(d) | DefKind::NotificationGroup(d) => d.value.as_slice(),
-        DefKind::ModuleCompliance(d) | DefKind::AgentCapabilities(d) => d.value.as_slice(),
-        _ => &[],
-    }
+/// Whether a name and its number are these.
+fn is_numbered(numbered: &NamedNumber, name: &str, number: &str) -> bool {
+    is_named(&numbered.name, name) && is(&numbered.number, number)
 }
 
 /// Whether a part is written like this.
@@ -144,7 +120,7 @@ fn is_part(part: &Part, word: &str) -> bool {
         Part::NamedNumber(part) => {
             let (name, rest) = word.split_once('(').unwrap_or(("", ""));
             let (number, _) = rest.split_once(')').unwrap_or(("", ""));
-            is_named(&part.name, name) && is(&part.number, number)
+            is_numbered(part, name, number)
         }
     }
 }
@@ -179,6 +155,13 @@ fn has_heads(modules: &[Module]) -> bool {
         && second.defs.len() == 0
 }
 
+/// Whether a FROM clause on this line imports these symbols from this module.
+fn is_import(import: &Import, symbols: &str, source: &str, line: usize) -> bool {
+    are_tokens(import.symbols.as_slice(), symbols)
+        && is_named(&import.source, source)
+        && import.line == line
+}
+
 fn has_imports(first: &Module, second: &Module) -> bool {
     let (Some(imports), Some(none)) = (&first.imports, &second.imports) else {
         return false;
@@ -186,13 +169,8 @@ fn has_imports(first: &Module, second: &Module) -> bool {
     let [c, e] = imports.as_slice() else {
         return false;
     };
-    let symbols = are_tokens(c.symbols.as_slice(), "a B OBJECT-TYPE MODULE-IDENTITY")
-        && are_tokens(e.symbols.as_slice(), "d");
-    symbols
-        && is_named(&c.source, "C")
-        && is_named(&e.source, "E")
-        && c.line == 3
-        && e.line == 4
+    is_import(c, "a B OBJECT-TYPE MODULE-IDENTITY", "C", 3)
+        && is_import(e, "d", "E", 4)
         && none.len() == 0
 }
 
@@ -222,6 +200,11 @@ fn has_identities(modules: &[Module]) -> Option<bool> {
     Some(is_identity(m) && is_status(&oi.status, "current", "\"d\"", "\"r\""))
 }
 
+/// Whether a REVISION and its DESCRIPTION are these.
+fn is_revision(revision: &Revision, date: &str, description: &str) -> bool {
+    is(&revision.date, date) && is(&revision.description, description)
+}
+
 fn is_identity(m: &ModuleIdentity) -> bool {
     let [one, two] = m.revisions.as_slice() else {
         return false;
@@ -230,26 +213,28 @@ fn is_identity(m: &ModuleIdentity) -> bool {
         && is(&m.organization, "\"2\"")
         && is(&m.contact_info, "\"3\"")
         && is(&m.description, "\"4\"");
-    clauses
-        && is(&one.date, "\"5\"")
-        && is(&one.description, "\"6\"")
-        && is(&two.date, "\"7\"")
-        && is(&two.description, "\"8\"")
+    clauses && is_revision(one, "\"5\"", "\"6\"") && is_revision(two, "\"7\"", "\"8\"")
+}
+
+fn notification<'a>(modules: &'a [Module], name: &str) -> Option<&'a NotificationType> {
+    match kind(modules, name)? {
+        DefKind::NotificationType(notification) => Some(notification),
+        _ => None,
+    }
+}
+
+fn group<'a>(modules: &'a [Module], name: &str) -> Option<&'a Group> {
+    match kind(modules, name)? {
+        DefKind::ObjectGroup(group) | DefKind::NotificationGroup(group) => Some(group),
+        _ => None,
+    }
 }
 
 fn has_groups(modules: &[Module]) -> Option<bool> {
-    let DefKind::NotificationType(n1) = kind(modules, "n1")? else {
-        return None;
-    };
-    let DefKind::NotificationType(n2) = kind(modules, "n2")? else {
-        return None;
-    };
-    let DefKind::ObjectGroup(g1) = kind(modules, "g1")? else {
-        return None;
-    };
-    let DefKind::NotificationGroup(g2) = kind(modules, "g2")? else {
-        return None;
-    };
+    let n1 = notification(modules, "n1")?;
+    let n2 = notification(modules, "n2")?;
+    let g1 = group(modules, "g1")?;
+    let g2 = group(modules, "g2")?;
     let objects = n1.objects.as_ref()?;
     let notices = are(objects.as_slice(), "t1 t2")
         && n2.objects.is_none()
@@ -290,11 +275,17 @@ fn has_objects(modules: &[Module]) -> Option<bool> {
     Some(first && second && all)
 }
 
+/// The type, if it isn't SEQUENCE OF.
+fn as_simple(syntax: &Syntax) -> Option<&SimpleType> {
+    match syntax {
+        Syntax::Simple(simple) => Some(simple),
+        Syntax::SequenceOf(_) => None,
+    }
+}
+
 /// Whether a type is `INTEGER { a(1), b(-2) }`.
 fn has_numbers(syntax: &Syntax) -> Option<bool> {
-    let Syntax::Simple(simple) = syntax else {
-        return None;
-    };
+    let simple = as_simple(syntax)?;
     let Some(Refinement::Numbers(numbers)) = &simple.refinement else {
         return None;
     };
@@ -303,10 +294,8 @@ fn has_numbers(syntax: &Syntax) -> Option<bool> {
     };
     Some(
         matches!(simple.base, Base::Integer)
-            && is_named(&a.name, "a")
-            && is(&a.number, "1")
-            && is_named(&b.name, "b")
-            && is(&b.number, "-2"),
+            && is_numbered(a, "a", "1")
+            && is_numbered(b, "b", "-2"),
     )
 }
 
@@ -346,31 +335,37 @@ fn convention<'a>(modules: &'a [Module], name: &str) -> Option<&'a TextualConven
     }
 }
 
-fn has_conventions(modules: &[Module]) -> Option<bool> {
-    let tc = convention(modules, "Tc")?;
-    let tc2 = convention(modules, "Tc2")?;
-    let Syntax::Simple(string) = &tc.syntax else {
+/// Whether a type is `OCTET STRING (SIZE (0..8 | '10'H..'11111'B | 99))`.
+fn has_sizes(syntax: &Syntax) -> Option<bool> {
+    let simple = as_simple(syntax)?;
+    let Some(Refinement::Size(sizes)) = &simple.refinement else {
         return None;
     };
-    let Some(Refinement::Size(sizes)) = &string.refinement else {
-        return None;
-    };
-    let Syntax::Simple(named) = &tc2.syntax else {
-        return None;
-    };
-    let (Base::Named(name), Some(Refinement::Values(values))) = (&named.base, &named.refinement)
+    Some(
+        matches!(simple.base, Base::OctetString)
+            && are_ranges(sizes.as_slice(), "0 8 '10'H '11111'B 99 -"),
+    )
+}
+
+/// Whether a type is `Tc (1 | 2..3)`.
+fn has_values(syntax: &Syntax) -> Option<bool> {
+    let simple = as_simple(syntax)?;
+    let (Base::Named(name), Some(Refinement::Values(values))) = (&simple.base, &simple.refinement)
     else {
         return None;
     };
-    let first = is_some(&tc.display_hint, "\"1d\"")
-        && is_status(&tc.status, "current", "\"d\"", "\"r\"")
-        && matches!(string.base, Base::OctetString)
-        && are_ranges(sizes.as_slice(), "0 8 '10'H '11111'B 99 -");
+    Some(is_named(name, "Tc") && are_ranges(values.as_slice(), "1 - 2 3"))
+}
+
+fn has_conventions(modules: &[Module]) -> Option<bool> {
+    let tc = convention(modules, "Tc")?;
+    let tc2 = convention(modules, "Tc2")?;
     Some(
-        first
+        is_some(&tc.display_hint, "\"1d\"")
+            && is_status(&tc.status, "current", "\"d\"", "\"r\"")
+            && has_sizes(&tc.syntax)?
             && tc2.display_hint.is_none()
-            && is_named(name, "Tc")
-            && are_ranges(values.as_slice(), "1 - 2 3"),
+            && has_values(&tc2.syntax)?,
     )
 }
 
@@ -406,9 +401,7 @@ fn has_types(modules: &[Module]) -> Option<bool> {
     let app = assignment(modules, "App")?;
     let bare = assignment(modules, "Bare")?;
     let rows = assignment(modules, "Rows")?;
-    let Syntax::Simple(simple) = &bare.syntax else {
-        return None;
-    };
+    let simple = as_simple(&bare.syntax)?;
     let plain = matches!(simple.base, Base::ObjectIdentifier) && simple.refinement.is_none();
     Some(
         is_some(&app.tag, "3")
@@ -435,9 +428,7 @@ fn has_raw_tokens(modules: &[Module]) -> Option<bool> {
     let [a, b] = fields.as_slice() else {
         return None;
     };
-    let Syntax::Simple(bits) = &a.syntax else {
-        return None;
-    };
+    let bits = as_simple(&a.syntax)?;
     let columns = is_named(&a.label, "a")
         && is_named(&b.label, "b")
         && matches!(bits.base, Base::Bits);

@@ -1,6 +1,7 @@
 //! What a module defines and imports, and the values of its numbers and strings.
 
-use smi_text::{Def, Module, Part, TokenKind, arc, bound, number, parse_modules};
+use crate::reading::parts_of;
+use smi_text::{Module, TokenKind, arc, bound, number, parse_modules};
 use std::process::Abort;
 use std::test::Fail;
 
@@ -63,14 +64,6 @@ fn assert_names(rt: &impl Abort, module: &Module) {
     }
     for (name, expected) in DEFINED {
         assert!(rt; definition_of(module, name) == *expected);
-    }
-}
-
-/// The parts of a definition's identifier value, none for a type.
-fn parts_of(def: &Def) -> &[Part] {
-    match def.identifier() {
-        Some(parts) => parts.as_slice(),
-        None => &[],
     }
 }
 
