@@ -7,16 +7,17 @@ use snmp_net::Links;
 use snmp_tools::tool;
 use snmp_walk::{Link, LinkFault, MemoryLink};
 use std::alloc::{AllocError, Global};
+use std::cell::Cell;
 use std::process::Abort;
 use std::test::Fail;
 
-/// A link in memory that takes the datagrams of which `expected` consists, in their order, and no
-/// others.
+/// A link in memory that takes the expected datagrams, each whole and in their order, and no
+/// others. `sent` counts them, and is the greatest number once another one was to be sent.
 #[derive(Drop)]
 struct Expecting<'a> {
     link: MemoryLink<'a>,
-    expected: &'a [u8],
-    sent: usize,
+    expected: &'a [&'a [u8]],
+    sent: &'a Cell<usize>,
     fault_count: u64,
 }
 
@@ -44,9 +45,14 @@ impl<'a> Link for Expecting<'a> {
     ghost lawful = { λ _ h. absurd h };
 
     fn send(&mut self, datagram: &[u8]) -> Result<(), LinkFault> {
-        let (_, ahead) = self.expected.split_at(self.sent.min(self.expected.len()));
-        if ahead.starts_with(datagram) && self.link.send(datagram).is_ok() {
-            self.sent = self.sent.saturating_add(datagram.len());
+        let sent = self.sent.get();
+        let is_next = matches!(self.expected.get(sent), Some(next) if *next == datagram);
+        self.sent.set(if is_next {
+            sent.saturating_add(1)
+        } else {
+            usize::MAX
+        });
+        if is_next && self.link.send(datagram).is_ok() {
             return Ok(());
         }
         self.fault_count = self.fault_count.saturating_add(1);
@@ -70,13 +76,14 @@ impl<'a> Link for Expecting<'a> {
 #[derive(Drop)]
 struct NoDoor;
 
-/// Links to an agent in memory, each of which takes these datagrams, and how many links were asked
+/// Links to an agent in memory, which together take these datagrams, and how many links were asked
 /// for.
 #[derive(Drop)]
 struct Counting<'a> {
     alloc: Global,
     table: &'a Table,
-    expected: &'a [u8],
+    expected: &'a [&'a [u8]],
+    sent: &'a Cell<usize>,
     deliveries: &'a [Option<usize>],
     asked: u64,
     fault_count: u64,
@@ -104,7 +111,7 @@ impl<'a> Links for Counting<'a> {
         Ok(Expecting {
             link: MemoryLink::new(self.alloc, self.table, config, self.deliveries),
             expected: self.expected,
-            sent: 0,
+            sent: self.sent,
             fault_count: 0,
         })
     }
@@ -134,10 +141,11 @@ impl<'a> Links for Counting<'a> {
 }
 
 /// A command line, what it prints on standard output and on standard error, its status, how many
-/// links it opens, and what it sends.
-type Asking<'a> = ((&'a str, &'a str, &'a str, u8), u64, &'a [u8]);
+/// links it opens, and the datagrams that it sends.
+type Asking<'a> = ((&'a str, &'a str, &'a str, u8), u64, &'a [&'a [u8]]);
 
-/// Whether the command line prints its texts, opens so many links, and sends these datagrams.
+/// Whether the command line prints its texts, opens so many links, and sends these datagrams, all
+/// of them and no others.
 fn asks(
     alloc: Global,
     table: &Table,
@@ -147,10 +155,12 @@ fn asks(
     let ((line, lines, messages, status), opened, expected) = asking;
     let words: Vec<&str> = line.split(' ').collect(alloc)?;
     let files = MemoryFiles { files: OF_THREE };
+    let sent = Cell::new(0);
     let mut links = Counting {
         alloc,
         table,
         expected,
+        sent: &sent,
         deliveries,
         asked: 0,
         fault_count: 0,
@@ -162,7 +172,8 @@ fn asks(
         ended == status
             && out.octets() == lines.as_bytes()
             && err.octets() == messages.as_bytes()
-            && links.asked == opened,
+            && links.asked == opened
+            && sent.get() == expected.len(),
     )
 }
 
@@ -180,15 +191,6 @@ fn assert_asks(
         assert!(rt; matches!(asks, Ok(true)), "{}", asking.0.0);
     }
     Ok(())
-}
-
-/// A datagram so many times.
-fn repeated(alloc: Global, datagram: &[u8], times: u32) -> Result<Vec<u8>, AllocError> {
-    let mut octets = Vec::new(alloc);
-    for _ in 0..times {
-        octets.extend_from_slice(datagram)?;
-    }
-    Ok(octets)
 }
 
 /// The GetNext of 1.3.6.1.4.1.32473.1, in community `secret` with id 1.
@@ -246,33 +248,47 @@ const SILENT: &str = "Timeout: No Response from device.\n";
 
 #[test]
 fn one_link_is_opened_and_the_stated_requests_are_sent(rt: HostRuntime) -> Result<(), Fail> {
-    let mut steps = Vec::from_slice(rt.alloc(), FROM_ROOT)?;
-    steps.extend_from_slice(FROM_FIRST)?;
-    steps.extend_from_slice(FROM_SECOND)?;
-    steps.extend_from_slice(FROM_LAST)?;
     assert_asks(
         &rt,
         rt.alloc(),
         &[],
         &[
-            ((WALK, THREE_LINES, "", 0), 1, &steps),
-            ((BULK_WALK, THREE_LINES, "", 0), 1, BULK),
-            ((TWO, TWO_LINES, "", 0), 1, GET),
+            (
+                (WALK, THREE_LINES, "", 0),
+                1,
+                &[FROM_ROOT, FROM_FIRST, FROM_SECOND, FROM_LAST],
+            ),
+            ((BULK_WALK, THREE_LINES, "", 0), 1, &[BULK]),
+            ((TWO, TWO_LINES, "", 0), 1, &[GET]),
+        ],
+    )
+}
+
+/// Nothing comes until the sixth datagram was sent, whose reply it is that comes then.
+const AT_SIXTH: &[Option<usize>] = &[None, None, None, None, None, Some(6)];
+
+#[test]
+fn a_request_is_sent_again_over_the_same_link(rt: HostRuntime) -> Result<(), Fail> {
+    assert_asks(
+        &rt,
+        rt.alloc(),
+        AT_SIXTH,
+        &[
+            ((BULK_WALK, THREE_LINES, "", 0), 1, &[BULK; 6]),
+            ((TWO, TWO_LINES, "", 0), 1, &[GET; 6]),
         ],
     )
 }
 
 #[test]
-fn a_request_is_sent_again_over_the_same_link(rt: HostRuntime) -> Result<(), Fail> {
-    let tries = repeated(rt.alloc(), BULK, 6)?;
-    let gets = repeated(rt.alloc(), GET, 6)?;
+fn a_request_is_sent_six_times_at_most(rt: HostRuntime) -> Result<(), Fail> {
     assert_asks(
         &rt,
         rt.alloc(),
-        &[None, None, None, None, None, None],
+        &[None; 6],
         &[
-            ((BULK_WALK, "", SILENT, 1), 1, &tries),
-            ((TWO, "", SILENT, 1), 1, &gets),
+            ((BULK_WALK, "", SILENT, 1), 1, &[BULK; 6]),
+            ((TWO, "", SILENT, 1), 1, &[GET; 6]),
         ],
     )
 }
