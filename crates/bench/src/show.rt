@@ -1,8 +1,8 @@
 //! Lines, as a function that a C program can call and that `bench/lines.sh` measures.
 
 use smi_show::{Letters, NameForm, line};
-use smi_show_tests::Known;
-use smi_show_tests::names::Sample;
+use smi_tree_tests::Known;
+use smi_tree_tests::names::Sample;
 use snmp_oid::Oid;
 use snmp_wire::ValueRef;
 use std::alloc::Global;

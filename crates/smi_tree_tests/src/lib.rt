@@ -1,6 +1,12 @@
-//! Tests of the layers that make a tree of names out of modules: chains, branches, meanings,
-//! types, nodes and indexes. They are a separate crate so that those layers are proved only once.
+//! Tests of the layers from modules to lines: chains, branches, meanings, types, nodes and indexes,
+//! the tree of names that is made of them, and the names, lines and details that are shown by a
+//! tree. They are a separate crate so that those layers are proved only once.
 #![tactic(auto)]
+
+mod known;
+pub mod names;
+
+pub use known::Known;
 
 #[cfg(test)]
 mod branches;
@@ -8,6 +14,10 @@ mod branches;
 mod chains;
 #[cfg(test)]
 mod columns;
+#[cfg(test)]
+mod details;
+#[cfg(test)]
+mod lines;
 #[cfg(test)]
 mod meanings;
 #[cfg(test)]

@@ -1,8 +1,8 @@
 //! Names by the tree of the tiny modules. `tests/program.sh` tests what else is shown by modules.
 
+use crate::names::random_oid;
 use crate::reading::{TINY, modules_of, oid};
 use smi_show::{Letters, LineWriter, line, name_text, resolve};
-use smi_show_tests::names::random_oid;
 use smi_tree::{NameHash, Tree};
 use snmp_oid::Oid;
 use snmp_wire::ValueRef;

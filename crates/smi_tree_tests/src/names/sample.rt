@@ -4,7 +4,7 @@ ghost use Rattle.std.specs.Option.{option_copied};
 ghost use Rattle.std.specs.Str.{bytes_eq};
 ghost use Rattle.smi_show.specs.name.Naming.{Naming};
 ghost use Rattle.smi_show.specs.name.Standing.{standing_of};
-ghost use Rattle.smi_show_tests.specs.names.Sample.{begins_with, deepest_in, found, sample};
+ghost use Rattle.smi_tree_tests.specs.names.Sample.{begins_with, deepest_in, found, sample};
 
 use smi_show::{IndexPart, NameTree, Node};
 use snmp_oid::Oid;

@@ -1,7 +1,7 @@
 //! A tree of two nodes, with one definition and one syntax for all identifiers.
 ghost use Rattle.std.specs.Prelude.{◌≡◌, option_map};
 ghost use Rattle.std.specs.Option.{option_copied};
-ghost use Rattle.smi_show_tests.specs.names.Sample.{sample};
+ghost use Rattle.smi_tree_tests.specs.names.Sample.{sample};
 
 use crate::names::Sample;
 use smi_show::{DetailTree, Found, NameTree, Near, Node, ShowTree};

@@ -4,8 +4,8 @@ use Rattle.std.proofs.lemmas.Slice.Eq.{bytes_eq-Decides}
 use Rattle.smi_show.specs.declared.index.part.IndexPart.{IndexPart}
 use Rattle.smi_text.specs.trees.Word.{is_word}
 use Rattle.smi_show.specs.name.Naming.{Naming, Standing, IsSound, LabelLeadsTo}
-use Rattle.smi_show_tests.specs.names.Sample.{begins_with, root_node, column_node, deepest_in, sample}
-use Rattle.smi_show_tests.proofs.names.sample.SampleNameTree.sound.Goals as goal
+use Rattle.smi_tree_tests.specs.names.Sample.{begins_with, root_node, column_node, deepest_in, sample}
+use Rattle.smi_tree_tests.proofs.names.sample.SampleNameTree.sound.Goals as goal
 
 front_is : (front o : List ℕ) → begins_with front o ≡ true → take (length front) o ≡ front
 front_is front o h = (bytes_eq-Decides (take (length front) o) front).0 h
