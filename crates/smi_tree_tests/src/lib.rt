@@ -1,6 +1,6 @@
 //! Tests of the layers from modules to lines: chains, branches, meanings, types, nodes and indexes,
-//! the tree of names that is made of them, and the names, lines and details that are shown by a
-//! tree. They are a separate crate so that those layers are proved only once.
+//! the tree of names that is made of them, the texts of values, and the names, lines and details
+//! that are shown by a tree. They are a separate crate so that those layers are proved only once.
 #![tactic(auto)]
 
 mod known;
@@ -17,6 +17,10 @@ mod columns;
 #[cfg(test)]
 mod details;
 #[cfg(test)]
+mod hints;
+#[cfg(test)]
+mod letters;
+#[cfg(test)]
 mod lines;
 #[cfg(test)]
 mod meanings;
@@ -30,3 +34,5 @@ mod shown;
 mod tree;
 #[cfg(test)]
 mod types;
+#[cfg(test)]
+mod values;
