@@ -22,15 +22,7 @@ fn joined(alloc: Global, pieces: &[&[u8]]) -> Result<Vec<u8>, AllocError> {
 
 /// Asserts that the octets are refused with this error.
 fn assert_refused(rt: &impl Abort, datagram: &[u8], error: BerError) {
-    assert_eq!(rt; decode(datagram).err(), Some(error));
-}
-
-/// The message that the octets encode.
-fn message_of<'a>(rt: &impl Abort, datagram: &'a [u8]) -> MessageRef<'a> {
-    let Ok(message) = decode(datagram) else {
-        panic!(rt; "it spells a message")
-    };
-    message
+    assert!(rt; decode(datagram).err() == Some(error), "{datagram:?}");
 }
 
 /// Whether the octets encode a message, so that what an error says is false of them.
@@ -48,38 +40,37 @@ fn no_error_is_true_of_a_request(rt: HostRuntime) {
     assert!(rt; is_faultless(&RESPONSE));
 }
 
-/// Asserts that a binding has this name and value.
-fn assert_binding(rt: &impl Abort, binding: &Binding<'_>, name: &[u32], value: &ValueRef<'_>) {
-    assert_eq!(rt; binding.name.as_slice(), name);
-    assert_eq!(rt; &binding.value, value);
+/// Whether a binding has this name and value.
+fn is_binding(binding: &Binding<'_>, name: &[u32], value: &ValueRef<'_>) -> bool {
+    binding.name.as_slice() == name && binding.value == *value
 }
 
-/// Asserts that a message has one binding, with this name and value.
-fn assert_one(rt: &impl Abort, message: &MessageRef<'_>, name: &[u32], value: &ValueRef<'_>) {
+/// Whether a message has one binding, with this name and value.
+fn has_one(message: &MessageRef<'_>, name: &[u32], value: &ValueRef<'_>) -> bool {
     let mut bindings = message.bindings();
-    let Some(binding) = bindings.next() else {
-        panic!(rt; "it has a binding")
-    };
-    assert_binding(rt, &binding, name, value);
-    assert!(rt; bindings.next().is_none());
+    match bindings.next() {
+        Some(binding) => is_binding(&binding, name, value) && bindings.next().is_none(),
+        None => false,
+    }
 }
 
 /// sysName.0.
 const NAME: [u32; 9] = [1, 3, 6, 1, 2, 1, 1, 5, 0];
 
-/// Asserts that a message has the head of `REQUEST`.
-fn assert_head(rt: &impl Abort, message: &MessageRef<'_>) {
-    assert_eq!(rt; message.version(), 1);
-    assert_eq!(rt; message.community(), b"public".as_slice());
-    assert_eq!(rt; message.kind(), Kind::GetRequest);
-    assert_eq!(rt; [message.id(), message.a(), message.b()], [1, 0, 0]);
+/// Whether a message has the head of `REQUEST`.
+fn has_head(message: &MessageRef<'_>) -> bool {
+    message.version() == 1
+        && message.community() == b"public".as_slice()
+        && message.kind() == Kind::GetRequest
+        && [message.id(), message.a(), message.b()] == [1, 0, 0]
 }
 
-/// Asserts that the octets encode the message of `REQUEST`.
-fn assert_request(rt: &impl Abort, datagram: &[u8]) {
-    let message = message_of(rt, datagram);
-    assert_head(rt, &message);
-    assert_one(rt, &message, &NAME, &ValueRef::Null);
+/// Whether the octets encode the message of `REQUEST`.
+fn is_request(datagram: &[u8]) -> bool {
+    match decode(datagram) {
+        Ok(message) => has_head(&message) && has_one(&message, &NAME, &ValueRef::Null),
+        Err(_) => false,
+    }
 }
 
 /// A Response of 1.3 with the value of these octets.
@@ -99,6 +90,19 @@ fn with_value(rt: &impl Abort, alloc: Global, value: &[u8]) -> Result<Vec<u8>, A
     )
 }
 
+/// Whether the octets encode a message of the one binding 1.3, with this value.
+fn is_value(datagram: &[u8], value: &ValueRef<'_>) -> bool {
+    match decode(datagram) {
+        Ok(message) => has_one(&message, &[1, 3], value),
+        Err(_) => false,
+    }
+}
+
+/// Asserts that octets are read as a value.
+fn assert_value(rt: &impl Abort, datagram: &[u8], value: &ValueRef<'_>) {
+    assert!(rt; is_value(datagram, value), "{datagram:?}");
+}
+
 /// Asserts that octets are read as these values.
 fn assert_values(
     rt: &impl Abort,
@@ -106,8 +110,7 @@ fn assert_values(
     rows: &[(&[u8], ValueRef<'_>)],
 ) -> Result<(), AllocError> {
     for (octets, value) in rows {
-        let datagram = with_value(rt, alloc, octets)?;
-        assert_one(rt, &message_of(rt, &datagram), &[1, 3], value);
+        assert_value(rt, &with_value(rt, alloc, octets)?, value);
     }
     Ok(())
 }
@@ -121,16 +124,29 @@ fn assert_bad_contents(rt: &impl Abort, alloc: Global, rows: &[&[u8]]) -> Result
     Ok(())
 }
 
+/// Asserts that the octets encode the message of `REQUEST`.
+fn assert_request(rt: &impl Abort, datagram: &[u8]) {
+    assert!(rt; is_request(datagram), "{datagram:?}");
+}
+
 #[test]
 fn request(rt: HostRuntime) {
     assert_request(&rt, &REQUEST);
 }
 
+/// Whether the octets encode the Response to it.
+fn is_response(datagram: &[u8]) -> bool {
+    match decode(datagram) {
+        Ok(message) => {
+            message.kind() == Kind::Response && has_one(&message, &NAME, &ValueRef::Octets(b"wes"))
+        }
+        Err(_) => false,
+    }
+}
+
 #[test]
 fn response(rt: HostRuntime) {
-    let message = message_of(&rt, &RESPONSE);
-    assert_eq!(rt; message.kind(), Kind::Response);
-    assert_one(&rt, &message, &NAME, &ValueRef::Octets(b"wes"));
+    assert!(rt; is_response(&RESPONSE));
 }
 
 #[test]
@@ -157,11 +173,19 @@ fn wide_version(rt: HostRuntime) -> Result<(), Fail> {
     Ok(())
 }
 
+/// Whether the octets encode a message of this version.
+fn has_version(datagram: &[u8], version: i32) -> bool {
+    match decode(datagram) {
+        Ok(message) => message.version() == version,
+        Err(_) => false,
+    }
+}
+
 #[test]
 fn other_version(rt: HostRuntime) {
     let mut datagram = REQUEST;
     datagram[4] = 0x00;
-    assert_eq!(rt; message_of(&rt, &datagram).version(), 0);
+    assert!(rt; has_version(&datagram, 0));
 }
 
 #[test]
@@ -195,13 +219,30 @@ const CHANGES: &[(usize, u8, BerError)] = &[
     (14, 0x18, BerError::Content),
 ];
 
+/// Asserts that the request with this octet at a place is refused with this error.
+fn assert_refused_with(rt: &impl Abort, at: usize, octet: u8, error: BerError) {
+    let mut datagram = REQUEST;
+    if let Some(place) = datagram.get_mut(at) {
+        *place = octet;
+    }
+    assert!(rt; decode(&datagram).err() == Some(error), "octet {at}");
+}
+
 #[test]
 fn faults_of_one_octet(rt: HostRuntime) {
     for (at, octet, error) in CHANGES {
-        let mut datagram = REQUEST;
-        assert!(rt; *at < 40);
-        datagram[*at] = *octet;
-        assert_eq!(rt; decode(&datagram).err(), Some(*error), "octet {at}");
+        assert_refused_with(&rt, *at, *octet, *error);
+    }
+}
+
+/// Whether the octets encode a message, whose bindings are then all read.
+fn is_read(datagram: &[u8]) -> bool {
+    match decode(datagram) {
+        Ok(message) => {
+            for _ in message.bindings() {}
+            true
+        }
+        Err(_) => false,
     }
 }
 
@@ -214,13 +255,12 @@ fn each_octet_replaced(rt: HostRuntime) {
         for octet in 0..=255u8 {
             let mut datagram = REQUEST;
             datagram[at] = octet;
-            if let Ok(message) = decode(&datagram) {
-                for _ in message.bindings() {}
+            if is_read(&datagram) {
                 right = right.saturating_add(1);
             }
         }
     }
-    assert_eq!(rt; right, 4507);
+    assert!(rt; right == 4507, "{right}");
 }
 
 /// Octets of no whole number.
@@ -388,58 +428,86 @@ fn long_name(alloc: Global, more: u8) -> Result<Vec<u8>, AllocError> {
     Ok(datagram)
 }
 
+/// Whether the octets encode a message whose first binding has a name of 128 numbers, of which the
+/// last is the greatest.
+fn has_longest_name(datagram: &[u8]) -> bool {
+    match first_of(datagram) {
+        Some(binding) => {
+            let name = binding.name.as_slice();
+            name.len() == 128 && name.last() == Some(&4294967295)
+        }
+        None => false,
+    }
+}
+
+/// Asserts that they do.
+fn assert_longest_name(rt: &impl Abort, datagram: &[u8]) {
+    assert!(rt; has_longest_name(datagram));
+}
+
 #[test]
 fn longest_name(rt: HostRuntime) -> Result<(), Fail> {
     let longest = long_name(rt.alloc(), 125)?;
-    assert_longest_name(&rt, &first_of(&rt, &longest).name);
+    assert_longest_name(&rt, &longest);
     let longer = long_name(rt.alloc(), 126)?;
     assert_refused(&rt, &longer, BerError::Content);
     Ok(())
 }
 
 /// The first binding of the message that the octets encode.
-fn first_of<'a>(rt: &impl Abort, datagram: &'a [u8]) -> Binding<'a> {
-    let Some(binding) = message_of(rt, datagram).bindings().next() else {
-        panic!(rt; "it has a binding")
-    };
-    binding
+fn first_of(datagram: &[u8]) -> Option<Binding<'_>> {
+    decode(datagram).ok()?.bindings().next()
 }
 
-/// Asserts that a name has 128 numbers and ends in the greatest one.
-fn assert_longest_name(rt: &impl Abort, name: &Oid) {
-    assert_eq!(rt; name.len(), 128);
-    assert_eq!(rt; name.as_slice().last(), Some(&4294967295));
+/// The octets of a Response, with a string that makes it as long as a datagram may be.
+fn longest_response(alloc: Global) -> Result<Vec<u8>, AllocError> {
+    joined(
+        alloc,
+        &[
+            &[0x30, 0x82, 0xFF, 0xDF],
+            &REQUEST[2..13],
+            &[0xA2, 0x82, 0xFF, 0xD0],
+            &REQUEST[15..24],
+            &[0x30, 0x82, 0xFF, 0xC3, 0x30, 0x82, 0xFF, 0xBF],
+            &[0x06, 0x01, 0x2B, 0x04, 0x82, 0xFF, 0xB8],
+            &[b'x'; 65464],
+        ],
+    )
 }
 
-/// Appends the octets of a Response, with a string that makes it as long as a datagram may be.
-fn put_longest(datagram: &mut Vec<u8>) -> Result<(), AllocError> {
-    datagram.extend_from_slice(&[0x30, 0x82, 0xFF, 0xDF])?;
-    datagram.extend_from_slice(&REQUEST[2..13])?;
-    datagram.extend_from_slice(&[0xA2, 0x82, 0xFF, 0xD0])?;
-    datagram.extend_from_slice(&REQUEST[15..24])?;
-    datagram.extend_from_slice(&[0x30, 0x82, 0xFF, 0xC3, 0x30, 0x82, 0xFF, 0xBF])?;
-    datagram.extend_from_slice(&[0x06, 0x01, 0x2B, 0x04, 0x82, 0xFF, 0xB8])?;
-    for _ in 0..65464u32 {
-        datagram.push(b'x')?;
+/// Whether the octets encode a message whose first binding has a string of this length.
+fn has_string(datagram: &[u8], length: usize) -> bool {
+    match first_of(datagram) {
+        Some(binding) => match binding.value {
+            ValueRef::Octets(octets) => octets.len() == length,
+            _ => false,
+        },
+        None => false,
     }
-    Ok(())
+}
+
+/// Asserts that the datagram is as long as one may be, and has its string.
+fn assert_longest(rt: &impl Abort, datagram: &[u8]) {
+    assert!(rt; datagram.len() == 65507 && has_string(datagram, 65464));
 }
 
 #[test]
 fn longest_datagram(rt: HostRuntime) -> Result<(), Fail> {
-    let mut datagram = Vec::new(rt.alloc());
-    put_longest(&mut datagram)?;
-    assert_eq!(rt; datagram.len(), 65507);
-    assert_longest_string(&rt, &first_of(&rt, &datagram).value);
+    assert_longest(&rt, &longest_response(rt.alloc())?);
     Ok(())
 }
 
-/// Asserts that a value is a string of 65464 octets.
-fn assert_longest_string(rt: &impl Abort, value: &ValueRef<'_>) {
-    let ValueRef::Octets(octets) = value else {
-        panic!(rt; "it is a string")
-    };
-    assert_eq!(rt; octets.len(), 65464);
+/// Whether an owned value is the string `wes`.
+fn is_wes(value: &Value) -> bool {
+    match value {
+        Value::Octets(octets) => octets.as_slice() == b"wes".as_slice(),
+        _ => false,
+    }
+}
+
+/// Asserts that it is.
+fn assert_wes(rt: &impl Abort, value: &Value) {
+    assert!(rt; is_wes(value));
 }
 
 #[test]
@@ -447,14 +515,6 @@ fn owned_string(rt: HostRuntime) -> Result<(), Fail> {
     let value = Value::from_ref(rt.alloc(), &ValueRef::Octets(b"wes"))?;
     assert_wes(&rt, &value);
     Ok(())
-}
-
-/// Asserts that an owned value is the string `wes`.
-fn assert_wes(rt: &impl Abort, value: &Value) {
-    let Value::Octets(octets) = value else {
-        panic!(rt; "it is a string")
-    };
-    assert_eq!(rt; octets.as_slice(), b"wes".as_slice());
 }
 
 /// A Response of four bindings: 1.3.6.1.2 with Counter32 200, 1.3 with Counter32 256, 1.3.1000 with
@@ -466,19 +526,29 @@ const FOUR_BINDINGS: [u8; 64] = [
     0x08, 0x06, 0x03, 0x2B, 0x87, 0x68, 0x04, 0x01, 0x78, 0x30, 0x05, 0x06, 0x01, 0x2B, 0x05, 0x00,
 ];
 
-/// Reads the next binding of both, of `read` into an existing binding, and asserts that both have
+/// Reads the next binding of both, of `read` into an existing binding. Returns whether both have
 /// this name and value.
-fn assert_next<'a>(
-    rt: &impl Abort,
+fn are_next<'a>(
     given: &mut Bindings<'a>,
     read: &mut Bindings<'a>,
     binding: &mut Binding<'a>,
     name: &[u32],
     value: &ValueRef<'_>,
-) {
-    assert!(rt; read.read_next(binding));
-    assert_binding(rt, binding, name, value);
-    assert_eq!(rt; given.next().as_ref(), Some(&*binding));
+) -> bool {
+    read.read_next(binding)
+        && is_binding(binding, name, value)
+        && given.next().as_ref() == Some(&*binding)
+}
+
+/// Whether none is left, and the binding is as it was.
+fn are_read<'a>(
+    given: &mut Bindings<'a>,
+    read: &mut Bindings<'a>,
+    binding: &mut Binding<'a>,
+) -> bool {
+    !read.read_next(binding)
+        && is_binding(binding, &[1, 3], &ValueRef::Null)
+        && given.next().is_none()
 }
 
 /// Reads the bindings of the message as an iterator and into an existing binding, and asserts that
@@ -491,12 +561,11 @@ fn assert_read_in_place<'a>(
 ) {
     let mut given = message.bindings();
     let mut read = message.bindings();
+    let mut all = true;
     for (name, value) in expected {
-        assert_next(rt, &mut given, &mut read, binding, name, value);
+        all = are_next(&mut given, &mut read, binding, name, value) && all;
     }
-    assert!(rt; !read.read_next(binding));
-    assert_binding(rt, binding, &[1, 3], &ValueRef::Null);
-    assert!(rt; given.next().is_none());
+    assert!(rt; all && are_read(&mut given, &mut read, binding));
 }
 
 #[test]
@@ -511,7 +580,9 @@ fn bindings_read_in_place(rt: HostRuntime) -> Result<(), Fail> {
         (&[1, 3, 1000], ValueRef::Octets(b"x")),
         (&[1, 3], ValueRef::Null),
     ];
-    let message = message_of(&rt, &FOUR_BINDINGS);
+    let Ok(message) = decode(&FOUR_BINDINGS) else {
+        panic!(rt; "it spells a message")
+    };
     assert_read_in_place(&rt, &message, &mut binding, &expected);
     Ok(())
 }

@@ -126,23 +126,44 @@ fn size_of_binding(binding: &Binding<'_>) -> u64
     binding_size(binding)
 }
 
-/// Asserts that octets stand at the front, and that what stands after them is as it was.
-fn assert_front(rt: &impl Abort, out: &[u8], octets: &[u8]) {
-    assert!(rt; octets.len() <= out.len());
+/// Whether octets stand at the front, and what stands after them is as it was.
+fn is_front(out: &[u8], octets: &[u8]) -> bool {
+    if octets.len() > out.len() {
+        return false;
+    }
     let (front, rest) = out.split_at(octets.len());
-    assert_eq!(rt; front, octets);
-    assert!(rt; is_untouched(rest));
+    front == octets && is_untouched(rest)
 }
 
-/// Writes the message of these parts to the front of a slice, and asserts that it is these octets
-/// and that what stands after them stays.
-fn assert_put(rt: &impl Abort, parts: &Parts<'_>, out: &mut [u8], octets: &[u8])
+/// Writes the message of these parts to the front of a slice, and returns whether it is these
+/// octets and what stands after them stays.
+fn is_put(parts: &Parts<'_>, out: &mut [u8], octets: &[u8]) -> bool
     requires community { length parts.now.community.now ≤ 65535 }
     requires bindings { All (λ b. IsEncodable (var_bind b)) parts.now.bindings.now }
     requires total { length (canon_bindings (var_binds parts.now.bindings.now)) ≤ 4000000000 }
 {
-    assert_eq!(rt; put(parts, out), Some(octets.len()));
-    assert_front(rt, out, octets);
+    put(parts, out) == Some(octets.len()) && is_front(out, octets)
+}
+
+/// Whether the message of these parts isn't written to a slice of this length, at most 512, and
+/// nothing else is.
+fn is_not_put(parts: &Parts<'_>, room: usize) -> bool
+    requires community { length parts.now.community.now ≤ 65535 }
+    requires bindings { All (λ b. IsEncodable (var_bind b)) parts.now.bindings.now }
+    requires total { length (canon_bindings (var_binds parts.now.bindings.now)) ≤ 4000000000 }
+{
+    let mut out = [0xEE; 512];
+    put(parts, &mut out[..room.min(512)]).is_none() && is_untouched(&out)
+}
+
+/// [`is_put`] in a slice of this length, at most 512.
+fn is_put_in(parts: &Parts<'_>, room: usize, octets: &[u8]) -> bool
+    requires community { length parts.now.community.now ≤ 65535 }
+    requires bindings { All (λ b. IsEncodable (var_bind b)) parts.now.bindings.now }
+    requires total { length (canon_bindings (var_binds parts.now.bindings.now)) ≤ 4000000000 }
+{
+    let mut out = [0xEE; 512];
+    is_put(parts, &mut out[..room.min(512)], octets)
 }
 
 /// Asserts that the message of these parts is written as these octets, to slices of the three
@@ -154,13 +175,10 @@ fn assert_parts(rt: &impl Abort, parts: &Parts<'_>, octets: &[u8])
 {
     let len = octets.len();
     assert!(rt; 0 < len && len < 512);
-    assert_eq!(rt; size_of(parts), len as u64);
-    let mut out = [0xEE; 512];
-    assert_eq!(rt; put(parts, &mut out[..len - 1]), None);
-    assert!(rt; is_untouched(&out));
-    assert_put(rt, parts, &mut out[..len], octets);
-    let mut out = [0xEE; 512];
-    assert_put(rt, parts, &mut out, octets);
+    assert!(rt; size_of(parts) == len as u64);
+    assert!(rt; is_not_put(parts, len - 1));
+    assert!(rt; is_put_in(parts, len, octets));
+    assert!(rt; is_put_in(parts, 512, octets));
 }
 
 #[test]
@@ -186,19 +204,38 @@ fn assert_value(rt: &impl Abort, value: ValueRef<'_>, octets: &[u8]) {
     assert_binding(rt, &binding(rt, &[1, 3], value), octets);
 }
 
+/// Whether a binding isn't written to a slice of this length, at most 1024, and nothing else is.
+fn is_binding_not_put(binding: &Binding<'_>, room: usize) -> bool
+    requires { IsEncodable (var_bind binding.now) }
+{
+    let mut out = [0xEE; 1024];
+    put_binding(binding, &mut out[..room.min(1024)]).is_none() && is_untouched(&out)
+}
+
+/// Whether a binding of the name 1.3 is written with these octets as its value, fewer than 100.
+fn is_binding_put(binding: &Binding<'_>, octets: &[u8]) -> bool
+    requires { IsEncodable (var_bind binding.now) }
+{
+    let len = octets.len();
+    if len >= 100 {
+        return false;
+    }
+    let mut out = [0xEE; 1024];
+    let head = [0x30, (len + 3) as u8, 0x06, 0x01, 0x2B];
+    put_binding(binding, &mut out) == Some(len + 5)
+        && out.starts_with(&head)
+        && is_front(&out[5..], octets)
+}
+
 /// Asserts that the value of this binding of the name 1.3 is written as these octets.
 fn assert_binding(rt: &impl Abort, binding: &Binding<'_>, octets: &[u8])
     requires { IsEncodable (var_bind binding.now) }
 {
     let len = octets.len();
     assert!(rt; len < 100);
-    assert_eq!(rt; size_of_binding(binding), (len + 5) as u64);
-    let mut out = [0xEE; 1024];
-    assert_eq!(rt; put_binding(binding, &mut out[..len + 4]), None);
-    assert!(rt; is_untouched(&out));
-    assert_eq!(rt; put_binding(binding, &mut out), Some(len + 5));
-    assert_front(rt, &out[..5], &[0x30, (len + 3) as u8, 0x06, 0x01, 0x2B]);
-    assert_front(rt, &out[5..], octets);
+    assert!(rt; size_of_binding(binding) == (len + 5) as u64);
+    assert!(rt; is_binding_not_put(binding, len + 4));
+    assert!(rt; is_binding_put(binding, octets), "{octets:?}");
 }
 
 #[test]
@@ -266,15 +303,11 @@ fn the_longest_name(rt: HostRuntime) {
     name[2] = 6;
     let binding = binding(&rt, &name, ValueRef::Null);
     let mut out = [0xEE; 1024];
-    assert_eq!(rt; encode_binding(&binding, &mut out), Some(637));
-    assert_eq!(rt;
-        &out[..15],
-        [
-            0x30, 0x82, 0x02, 0x79, 0x06, 0x82, 0x02, 0x73, 0x2B, 0x06, 0x8F, 0xFF, 0xFF, 0xFF,
-            0x7F
-        ]
-        .as_slice()
-    );
+    assert!(rt; put_binding(&binding, &mut out) == Some(637));
+    let front = [
+        0x30, 0x82, 0x02, 0x79, 0x06, 0x82, 0x02, 0x73, 0x2B, 0x06, 0x8F, 0xFF, 0xFF, 0xFF, 0x7F,
+    ];
+    assert!(rt; out.starts_with(&front));
 }
 
 /// The parts of a message with these bindings.
@@ -308,7 +341,7 @@ fn write_again<'a>(
     let Some(len) = encode(&parts, out) else {
         panic!(rt; "there is room")
     };
-    assert_eq!(rt; size(&parts), len as u64);
+    assert!(rt; size(&parts) == len as u64);
     len
 }
 
@@ -327,20 +360,28 @@ fn what_is_read_is_written(rt: HostRuntime) {
     }
 }
 
-/// Asserts that the heads of messages are the same.
-fn assert_same_head(rt: &impl Abort, again: &MessageRef<'_>, message: &MessageRef<'_>) {
-    assert_eq!(rt; again.version(), message.version());
-    assert_eq!(rt; again.kind(), message.kind());
-    assert_eq!(rt; again.id(), message.id());
-    assert_eq!(rt; [again.a(), again.b()], [message.a(), message.b()]);
+/// Whether the heads of messages are the same.
+fn have_same_head(again: &MessageRef<'_>, message: &MessageRef<'_>) -> bool {
+    again.version() == message.version()
+        && again.kind() == message.kind()
+        && again.id() == message.id()
+        && again.a() == message.a()
+        && again.b() == message.b()
 }
 
-/// Asserts that a message of at most one binding is written as these octets.
-fn assert_written_as(rt: &impl Abort, message: &MessageRef<'_>, octets: &[u8]) {
+/// Whether a message of at most one binding is written as these octets.
+fn is_written_as(rt: &impl Abort, message: &MessageRef<'_>, octets: &[u8]) -> bool {
     let mut out = [0; 512];
     let len = write_all(rt, message, &mut out);
-    assert!(rt; len <= out.len());
-    assert_eq!(rt; &out[..len], octets);
+    out.get(..len) == Some(octets)
+}
+
+/// Whether the octets encode a message with the head of this one, which is written as they are.
+fn is_read_again(rt: &impl Abort, octets: &[u8], message: &MessageRef<'_>) -> bool {
+    match decode(octets) {
+        Ok(again) => have_same_head(&again, message) && is_written_as(rt, &again, octets),
+        Err(_) => false,
+    }
 }
 
 /// Asserts that a message of at most one binding is written, and that what is written is read as
@@ -349,12 +390,7 @@ fn assert_written(rt: &impl Abort, message: &MessageRef<'_>) {
     let mut out = [0; 512];
     let len = write_all(rt, message, &mut out);
     assert!(rt; len <= out.len());
-    let octets = &out[..len];
-    let Ok(again) = decode(octets) else {
-        panic!(rt; "it spells a message")
-    };
-    assert_same_head(rt, &again, message);
-    assert_written_as(rt, &again, octets);
+    assert!(rt; is_read_again(rt, &out[..len], message));
 }
 
 /// Writes a message of at most one binding to the front of `out`, and returns its length.
@@ -374,9 +410,7 @@ fn bindings_written_before_their_head_are_sealed(rt: HostRuntime) {
     let parts = message(Kind::GetBulkRequest, 10, &[]);
     let mut out = [0; 60];
     out[20..37].copy_from_slice(&BULK[24..]);
-    assert_eq!(rt; seal(&parts, 22, 15, &mut out), Some(41));
-    assert_eq!(rt; &out[..41], &BULK[..]);
+    assert!(rt; seal(&parts, 22, 15, &mut out) == Some(41) && out.starts_with(&BULK));
     let mut short = [7; 40];
-    assert_eq!(rt; seal(&parts, 25, 15, &mut short), None);
-    assert_eq!(rt; short, [7; 40]);
+    assert!(rt; seal(&parts, 25, 15, &mut short).is_none() && short == [7; 40]);
 }

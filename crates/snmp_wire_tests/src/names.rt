@@ -1,11 +1,10 @@
 //! Names compared as they are encoded, against the comparison of their numbers.
 
 use snmp_wire::{
-    Binding, EncodedName, MAX_CONTENT, NameBuffer, Oid, OidError, ValueRef, encode_asking,
-    encode_binding, parse_numeric,
+    Binding, EncodedName, MAX_CONTENT, NameBuffer, Oid, encode_asking, encode_binding,
+    parse_numeric,
 };
 use std::process::Abort;
-use std::test::Fail;
 
 /// Numbers around those at which an encoding becomes longer, or an octet has all of its bits set.
 const AT_EDGES: &[u32] = &[
@@ -13,77 +12,99 @@ const AT_EDGES: &[u32] = &[
     268435456, 4294967295,
 ];
 
-/// Asserts that two names compare as their numbers do, and that each is below the other just where
-/// its numbers are.
-fn assert_compared(rt: &impl Abort, o: &Oid, p: &Oid) {
-    assert!(rt; o.is_wire() && p.is_wire());
+/// Whether two names compare as their numbers do, and each is below the other just where its
+/// numbers are.
+fn is_compared(o: &Oid, p: &Oid) -> bool {
+    if !o.is_wire() || !p.is_wire() {
+        return false;
+    }
     let mut room = [0; MAX_CONTENT];
     let mut other_room = [0; MAX_CONTENT];
     let name = EncodedName::write(o, &mut room);
     let other = EncodedName::write(p, &mut other_room);
-    assert_eq!(rt; name.compare(&other), o.cmp(p));
-    assert_eq!(rt; name.is_below(&other), o.is_below(p));
+    name.compare(&other) == o.cmp(p) && name.is_below(&other) == o.is_below(p)
 }
 
-/// A name of 1.3.6.1, and of two numbers behind it.
-fn with_two(first: u32, second: u32) -> Result<Oid, OidError> {
-    Oid::from_slice(&[1, 3, 6, 1, first, second])
+/// [`is_compared`] of the names of these numbers.
+fn are_compared(numbers: &[u32], others: &[u32]) -> bool {
+    match (Oid::from_slice(numbers), Oid::from_slice(others)) {
+        (Ok(o), Ok(p)) => is_compared(&o, &p),
+        _ => false,
+    }
+}
+
+/// Asserts that the names of these numbers compare so.
+fn assert_compared(rt: &impl Abort, numbers: &[u32], others: &[u32]) {
+    assert!(rt; are_compared(numbers, others), "{numbers:?} and {others:?}");
 }
 
 #[test]
-fn names_compare_as_their_numbers(rt: HostRuntime) -> Result<(), Fail> {
+fn names_compare_as_their_numbers(rt: HostRuntime) {
     for a in AT_EDGES {
         for b in AT_EDGES {
-            assert_compared(&rt, &with_two(*a, 7)?, &with_two(*b, 5)?);
-            assert_compared(&rt, &with_two(*a, *b)?, &with_two(*b, *a)?);
-            assert_compared(
-                &rt,
-                &Oid::from_slice(&[2, *a])?,
-                &Oid::from_slice(&[2, *b, 1])?,
-            );
+            assert_compared(&rt, &[1, 3, 6, 1, *a, 7], &[1, 3, 6, 1, *b, 5]);
+            assert_compared(&rt, &[1, 3, 6, 1, *a, *b], &[1, 3, 6, 1, *b, *a]);
+            assert_compared(&rt, &[2, *a], &[2, *b, 1]);
         }
     }
-    Ok(())
 }
 
 #[test]
-fn first_two_numbers_are_one(rt: HostRuntime) -> Result<(), Fail> {
+fn first_two_numbers_are_one(rt: HostRuntime) {
     for a in [0, 1] {
         for b in 0..40 {
             for c in [0, 47, 48, 127, 4294967295] {
-                assert_compared(&rt, &Oid::from_slice(&[a, b])?, &Oid::from_slice(&[2, c])?);
-                assert_compared(&rt, &Oid::from_slice(&[1, b])?, &Oid::from_slice(&[a, 39])?);
+                assert_compared(&rt, &[a, b], &[2, c]);
+                assert_compared(&rt, &[1, b], &[a, 39]);
             }
         }
     }
-    Ok(())
 }
 
-/// Asserts that a content is read as the name of this text, and written again.
-fn assert_read(rt: &impl Abort, content: &[u8], text: &[u8]) -> Result<(), Fail> {
-    let Some(name) = EncodedName::read(content) else {
-        panic!(rt; "a content is refused");
-    };
-    let mut oid = Oid::from_slice(&[1, 2, 3])?;
-    name.read_into(&mut oid);
-    assert_eq!(rt; &oid, &parse_numeric(text)?);
+/// Whether the text names the identifier.
+fn is_named(text: &[u8], oid: &Oid) -> bool {
+    match parse_numeric(text) {
+        Ok(named) => named == *oid,
+        Err(_) => false,
+    }
+}
+
+/// Whether the identifier is written as this content.
+fn is_written(oid: &Oid, content: &[u8]) -> bool {
+    if !oid.is_wire() {
+        return false;
+    }
     let mut room = [0; MAX_CONTENT];
-    assert_eq!(rt; EncodedName::write(&oid, &mut room).content(), content);
-    assert!(rt; name.copy().compare(&name).is_eq());
-    Ok(())
+    EncodedName::write(oid, &mut room).content() == content
+}
+
+/// Whether a name is read as the identifier of this text, in place of another, and written again as
+/// this content.
+fn is_identifier(name: &EncodedName<'_>, text: &[u8], content: &[u8]) -> bool {
+    let mut oid = Oid::from_slice(&[1, 2, 3]).unwrap_or(Oid::new());
+    name.read_into(&mut oid);
+    is_named(text, &oid) && is_written(&oid, content)
+}
+
+/// Whether a content is read as the name of this text, and written again.
+fn is_read(content: &[u8], text: &[u8]) -> bool {
+    match EncodedName::read(content) {
+        Some(name) => { is_identifier(&name, text, content) && name.copy().compare(&name).is_eq() }
+        None => false,
+    }
 }
 
 #[test]
-fn contents_are_read(rt: HostRuntime) -> Result<(), Fail> {
-    assert_read(&rt, &[0x2B, 6, 1], b"1.3.6.1")?;
-    assert_read(&rt, &[0x00], b"0.0")?;
-    assert_read(
-        &rt,
-        &[0x2B, 0xFF, 0x7F, 0x81, 0x80, 0x00],
-        b"1.3.16383.16384",
-    )?;
-    assert_read(&rt, &[0x90, 0x80, 0x80, 0x80, 0x4F], b"2.4294967295")?;
-    Ok(())
+fn contents_are_read(rt: HostRuntime) {
+    let rows = [
+        ([0x2B, 6, 1].as_slice(), b"1.3.6.1".as_slice()),
+        (&[0x00], b"0.0"),
+        (&[0x2B, 0xFF, 0x7F, 0x81, 0x80, 0x00], b"1.3.16383.16384"),
+        (&[0x90, 0x80, 0x80, 0x80, 0x4F], b"2.4294967295"),
+    ];
+    for (content, text) in rows {
+        assert!(rt; is_read(content, text), "{content:?}");
+    }
 }
 
 #[test]
@@ -94,64 +115,75 @@ fn other_octets_are_no_name(rt: HostRuntime) {
         &[0x2B, 0x86],
         &[0x2B, 0x90, 0x80, 0x80, 0x80, 0x00],
     ] {
-        assert!(rt; EncodedName::read(content).is_none());
+        assert!(rt; EncodedName::read(content).is_none(), "{content:?}");
+    }
+}
+
+/// The numbers of the longest name.
+fn longest() -> [u32; 128] {
+    let mut numbers = [4294967295; 128];
+    numbers[0] = 2;
+    numbers
+}
+
+/// Whether the name of these numbers has a content of this many octets.
+fn has_length(numbers: &[u32], length: usize) -> bool {
+    match Oid::from_slice(numbers) {
+        Ok(oid) if oid.is_wire() => {
+            let mut room = [0; MAX_CONTENT];
+            EncodedName::write(&oid, &mut room).content().len() == length
+        }
+        _ => false,
     }
 }
 
 #[test]
-fn the_longest_name_is_written(rt: HostRuntime) -> Result<(), Fail> {
-    let mut numbers = [4294967295; 128];
-    numbers[0] = 2;
-    let longest = Oid::from_slice(&numbers)?;
-    let mut room = [0; MAX_CONTENT];
-    assert_eq!(rt;
-        EncodedName::write(&longest, &mut room).content().len(),
-        635
-    );
-    let root = Oid::from_slice(&numbers[..127])?;
-    assert_compared(&rt, &longest, &root);
-    assert_compared(&rt, &root, &longest);
-    Ok(())
+fn the_longest_name_is_written(rt: HostRuntime) {
+    let numbers = longest();
+    assert!(rt; has_length(&numbers, 635));
+    assert_compared(&rt, &numbers, &numbers[..127]);
+    assert_compared(&rt, &numbers[..127], &numbers);
 }
 
-/// Asserts that the binding that asks for a name is the one of the name and NULL, and that it needs
-/// as much room.
-fn assert_asked(rt: &impl Abort, name: &EncodedName<'_>) {
+/// Whether the binding that asks for a name is the one of the name and NULL, and needs as much
+/// room.
+fn is_asked(name: &EncodedName<'_>) -> bool {
     let mut out = [0xAA; 700];
     let mut expected = [0xAA; 700];
-    let mut binding = Binding {
-        name: Oid::new(),
-        value: ValueRef::Null,
-    };
+    let mut binding = Binding::empty();
     name.read_into(&mut binding.name);
-    assert!(rt; binding.name.is_wire());
-    let Some(size) = encode_binding(&binding, &mut expected) else {
-        panic!(rt; "a binding without room");
-    };
-    assert_eq!(rt; encode_asking(name, &mut out), Some(size));
-    assert_eq!(rt; out.as_slice(), expected.as_slice());
-    assert_eq!(rt;
-        encode_asking(name, &mut out[..size.saturating_sub(1)]),
-        None
-    );
+    if !binding.name.is_wire() {
+        return false;
+    }
+    match encode_binding(&binding, &mut expected) {
+        Some(size) => {
+            encode_asking(name, &mut out) == Some(size)
+                && out == expected
+                && encode_asking(name, &mut out[..size.saturating_sub(1)]).is_none()
+        }
+        None => false,
+    }
+}
+
+/// Changes the name that is kept to the one of these numbers, and returns whether it is asked for.
+fn is_asked_next(kept: &mut NameBuffer, numbers: &[u32]) -> bool {
+    match Oid::from_slice(numbers) {
+        Ok(oid) if oid.is_wire() => {
+            let mut room = [0; MAX_CONTENT];
+            kept.set_to(&EncodedName::write(&oid, &mut room));
+            is_asked(&kept.name())
+        }
+        _ => false,
+    }
 }
 
 #[test]
-fn names_are_asked_for(rt: HostRuntime) -> Result<(), Fail> {
-    let mut room = [0; MAX_CONTENT];
-    let mut kept = NameBuffer::new(&EncodedName::write(&Oid::from_slice(&[1, 3])?, &mut room));
-    assert_asked(&rt, &kept.name());
+fn names_are_asked_for(rt: HostRuntime) {
+    let first = EncodedName::read(&[0x2B]).expect(&rt, "1.3");
+    let mut kept = NameBuffer::new(&first);
+    assert!(rt; is_asked(&kept.name()));
     for len in [24, 25, 26, 52, 60, 128] {
-        let long = Oid::from_slice(&[2; 128][..len])?;
-        let mut other_room = [0; MAX_CONTENT];
-        kept.set_to(&EncodedName::write(&long, &mut other_room));
-        assert_asked(&rt, &kept.name());
+        assert!(rt; is_asked_next(&mut kept, &[2; 128][..len]), "{len} numbers");
     }
-    let mut numbers = [4294967295; 128];
-    numbers[0] = 2;
-    let longest = Oid::from_slice(&numbers)?;
-    let mut last_room = [0; MAX_CONTENT];
-    kept.set_to(&EncodedName::write(&longest, &mut last_room));
-    assert_asked(&rt, &kept.name());
-    Ok(())
+    assert!(rt; is_asked_next(&mut kept, &longest()));
 }

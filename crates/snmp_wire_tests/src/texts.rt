@@ -5,15 +5,16 @@ use std::alloc::AllocError;
 use std::process::Abort;
 use std::test::Fail;
 
-/// Asserts that a text names the identifier.
-fn assert_names(rt: &impl Abort, text: &[u8], oid: &Oid) -> Result<(), OidTextError> {
-    let read = parse_numeric(text)?;
-    assert_eq!(rt; &read, oid);
-    Ok(())
+/// Whether a text names the identifier of these numbers.
+fn is_named(text: &[u8], numbers: &[u32]) -> bool {
+    match parse_numeric(text) {
+        Ok(oid) => oid.as_slice() == numbers,
+        Err(_) => false,
+    }
 }
 
 #[test]
-fn names_are_read(rt: HostRuntime) -> Result<(), Fail> {
+fn names_are_read(rt: HostRuntime) {
     let rows = [
         (b".".as_slice(), [].as_slice()),
         (b"0", &[0]),
@@ -24,14 +25,13 @@ fn names_are_read(rt: HostRuntime) -> Result<(), Fail> {
         (b"00000000000000000000000000000000000000001", &[1]),
     ];
     for (text, numbers) in rows {
-        assert_names(&rt, text, &Oid::from_slice(numbers)?)?;
+        assert!(rt; is_named(text, numbers), "{text:?}");
     }
-    Ok(())
 }
 
-/// Asserts that a text is refused with this error.
-fn assert_refused(rt: &impl Abort, text: &[u8], error: OidTextError) {
-    assert_eq!(rt; parse_numeric(text), Err(error));
+/// Whether a text is refused with this error.
+fn is_refused(text: &[u8], error: OidTextError) -> bool {
+    parse_numeric(text).err() == Some(error)
 }
 
 #[test]
@@ -50,13 +50,16 @@ fn the_first_bad_part_is_reported(rt: HostRuntime) {
         (b"1.3.18446744073709551617.x", 4),
     ];
     for (text, at) in rows {
-        assert_refused(&rt, text, OidTextError::BadNumber(at));
+        assert!(rt; is_refused(text, OidTextError::BadNumber(at)), "{text:?}");
     }
 }
 
-/// How many numbers the identifier has that a text names.
-fn count(text: &[u8]) -> Result<usize, OidTextError> {
-    Ok(parse_numeric(text)?.len())
+/// Whether a text names an identifier of 128 numbers.
+fn has_128(text: &[u8]) -> bool {
+    match parse_numeric(text) {
+        Ok(oid) => oid.len() == 128,
+        Err(_) => false,
+    }
 }
 
 /// Appends 125 greatest numbers to a text of three, and asserts that no more are read.
@@ -64,11 +67,11 @@ fn assert_at_most_128(rt: &impl Abort, text: &mut Vec<u8>) -> Result<(), AllocEr
     for _ in 0..125 {
         text.extend_from_slice(b".4294967295")?;
     }
-    assert_eq!(rt; count(text), Ok(128));
+    assert!(rt; has_128(text));
     text.extend_from_slice(b".0")?;
-    assert_refused(rt, text, OidTextError::TooLong);
+    assert!(rt; is_refused(text, OidTextError::TooLong));
     text.extend_from_slice(b".")?;
-    assert_refused(rt, text, OidTextError::BadNumber(1383));
+    assert!(rt; is_refused(text, OidTextError::BadNumber(1383)));
     Ok(())
 }
 
@@ -79,20 +82,18 @@ fn numbers_are_at_most_128(rt: HostRuntime) -> Result<(), Fail> {
     Ok(())
 }
 
-#[test]
-fn the_longest_text_is_read_again(rt: HostRuntime) -> Result<(), Fail> {
-    let oid = Oid::from_slice(&[4294967295; MAX_LEN])?;
-    assert_longest(&rt, &oid)?;
-    Ok(())
+/// Whether the text of an identifier is the longest, fits where there is room for it and not where
+/// there is less, and is read again.
+fn is_longest(oid: &Oid) -> bool {
+    let mut text = [0; LONGEST_TEXT];
+    let mut short = [0; 1407];
+    write_numeric(oid, &mut text) == Some(LONGEST_TEXT)
+        && is_named(&text, oid.as_slice())
+        && write_numeric(oid, &mut short).is_none()
 }
 
-/// Asserts that the text of an identifier is the longest, that it fits where there is room for it
-/// and not where there is less, and that it is read again.
-fn assert_longest(rt: &impl Abort, oid: &Oid) -> Result<(), OidTextError> {
-    let mut text = [0; LONGEST_TEXT];
-    assert_eq!(rt; write_numeric(oid, &mut text), Some(LONGEST_TEXT));
-    assert_names(rt, &text, oid)?;
-    let mut short = [0; 1407];
-    assert_eq!(rt; write_numeric(oid, &mut short), None);
-    Ok(())
+#[test]
+fn the_longest_text_is_read_again(rt: HostRuntime) {
+    let oid = Oid::from_slice(&[4294967295; MAX_LEN]).expect(&rt, "128 numbers");
+    assert!(rt; is_longest(&oid));
 }
