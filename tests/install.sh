@@ -1,0 +1,197 @@
+#!/usr/bin/env bash
+# Tests the install, its end, and the packages: with a stand-in for the program, but where the program has to be the
+# built one.
+#
+# usage: tests/install.sh [WORD..]
+#
+# The last line is 'N passed, M failed, K skipped'.
+# shellcheck disable=SC2046,SC2086  # words are split on purpose
+. "$(dirname "${BASH_SOURCE[0]}")/lib/tests.sh"
+cd "$top" || exit 1
+names='snmptranslate snmpget snmpwalk snmpbulkwalk snmpd'
+
+# A folder with what an install takes, so that nothing of the repository is touched.
+tree() {
+    rm -rf "${got:?}/tree" "${got:?}/usr" "${got:?}/names" "${got:?}/stage"
+    mkdir -p "$got/tree/crates/snmp/out" "$got/tree/modules"
+    cp -r tools completions docs examples "$got/tree"
+    printf '#!/bin/sh\necho "stand-in $*"\n' >"$got/tree/crates/snmp/out/snmp"
+    chmod 755 "$got/tree/crates/snmp/out/snmp"
+    echo 'base' >"$got/tree/modules/base.txt"
+}
+install_with() { (cd "$got" && tree/tools/install "$@" 2>&1); }
+there() { (cd "$got" && find usr names -type f -o -type l 2>/dev/null | sort); }
+hashes() { (cd "$got" && find usr names -type f -exec sha256sum {} + 2>/dev/null | sort -k 2); }
+files=$(printf 'usr/%s\n' bin/lines-to-table bin/snmp share/bash-completion/completions/snmp \
+    $(for page in FROM-NET-SNMP HOWTO MANY-DEVICES PERFORMANCE PROFILE PROMISES TROUBLESHOOTING; do
+        [ ! -e docs/$page.md ] || echo share/doc/snmp/$page.md
+    done) \
+    $(for page in docs/*.[1-9]; do echo "share/man/man${page##*.}/${page##*/}"; done) \
+    $(printf 'share/snmp/%s\n' examples/*) share/snmp/installed share/snmp/modules/base.txt share/zsh/site-functions/_snmp)
+scripts=$(printf 'names/%s\n' $names)
+pages=$(for name in $names; do echo usr/share/man/man1/$name.1; done)
+
+# -- what an install puts in place
+
+tree
+same 'an install lists its files' "$files" "$(install_with usr | sed "s:^$got/::" | sort)"
+same 'the files of an install' "$files" "$(there)"
+same 'its list has their hashes' "$(grep -cv '^usr/share/snmp/installed$' <<<"$files")" \
+    "$(sha256sum -c "$got/usr/share/snmp/installed" 2>&1 | grep -c ': OK$')"
+same 'an installed program runs' 'stand-in x' "$(cd / && "$got/usr/bin/snmp" x)"
+same 'an installed lines-to-table runs' '1.3.6|2|1' "$(echo '.1.3.6 = INTEGER: 1' | "$got/usr/bin/lines-to-table")"
+for file in tools/lines-to-table:bin/lines-to-table docs/snmp.1:share/man/man1/snmp.1 \
+    docs/PROFILE.md:share/doc/snmp/PROFILE.md examples/printer.tab:share/snmp/examples/printer.tab \
+    completions/snmp.bash:share/bash-completion/completions/snmp completions/_snmp:share/zsh/site-functions/_snmp; do
+    count "an install puts ${file%%:*} in place" "$(cmp "${file%%:*}" "$got/usr/${file#*:}" 2>&1)"
+done
+# What the manual says is there; the modules are those of the repository and not of this tree.
+while read -r named; do
+    case $named in */modules/*) at=${named#share/snmp/} ;; *) at=$got/usr/$named ;; esac
+    count "the manual names $named" "$([ -e "$at" ] || echo "it isn't there")"
+done < <(grep -ohE 'share/(snmp|doc)/[a-zA-Z0-9/.-]*[a-zA-Z0-9]' docs/*.[1-9] | sort -u)
+count 'the manual names no file of the repository' "$(grep -n 'docs/' docs/*.[1-9] | grep -v ':\.\\"')"
+same 'modes of an install' '644 755' "$(stat -c %a "$got/usr/share/man/man1/snmp.1" "$got/usr/bin/snmp" | xargs)"
+(umask 077 && tree && install_with usr >"$got/out")
+same 'modes of an install, whatever the umask' '755 644 755' \
+    "$(stat -c %a "$got/usr/bin" "$got/usr/share/man/man1/snmp.1" "$got/usr/bin/snmp" | xargs)"
+tree
+install_with usr >"$got/out"
+install_with usr --with-names names >"$got/out"
+same 'an install over an install, with names' "$(printf '%s\n' "$files" "$pages" "$scripts" | sort)" "$(there)"
+for name in $names; do
+    same "$name by its name" "stand-in $name --help" "$("$got/names/$name" --help)"
+    same "the page of $name" '.so man1/snmp.1' "$(cat "$got/usr/share/man/man1/$name.1")"
+done
+install_with usr --with-names names >"$got/out"
+same 'names over those of an install' 0 $?
+mkdir "$got/it's"
+install_with "it's here" --with-names "it's" >"$got/out"
+same 'a folder with a quote' 'stand-in snmpwalk x' "$("$got/it's/snmpwalk" x)"
+rm -rf "${got:?}/it's" "${got:?}/it's here"
+tree
+printf '#!/bin/sh\nexec '\''/old/bin/snmp'\'' snmpwalk "$@"\n' >"$got/old-script"
+mkdir "$got/names" && cp "$got/old-script" "$got/names/snmpwalk"
+install_with usr --with-names names >"$got/out"
+same 'a script of an install without a list is replaced' 0 $?
+
+# -- files of others
+
+# refused TITLE MESSAGE WORD..: an install that is refused, and changes nothing.
+refused() {
+    local before after
+    before=$(hashes; cd "$got" && find usr names -printf '%p %y %i\n' 2>/dev/null | sort)
+    same "$1" "snmp: $2" "$(install_with "${@:3}")"
+    after=$(hashes; cd "$got" && find usr names -printf '%p %y %i\n' 2>/dev/null | sort)
+    same "$1: nothing is changed" "$before" "$after"
+}
+foreign='is there, and is no file of an install; --force replaces it'
+for file in bin/snmp bin/lines-to-table share/man/man1/snmp.1 share/snmp/examples/three.tab; do
+    tree
+    mkdir -p "$got/usr/${file%/*}"
+    echo another >"$got/usr/$file"
+    refused "another's $file is left" "$got/usr/$file: $foreign" usr
+done
+install_with usr --force >"$got/out"
+same '--force replaces a file of another' 0 "$(cmp -s examples/three.tab "$got/usr/share/snmp/examples/three.tab"; echo $?)"
+tree
+mkdir -p "$got/usr/bin"
+ln -s /bin/true "$got/usr/bin/snmp"
+refused 'a link in the way' "$got/usr/bin/snmp: $foreign" usr
+install_with usr --force >"$got/out"
+same '--force replaces a link, and not what it leads to' 'stand-in x regular' \
+    "$("$got/usr/bin/snmp" x) $(stat -c %F "$got/usr/bin/snmp" | cut -d ' ' -f 1)"
+tree
+mkdir "$got/names"
+echo another >"$got/names/snmpwalk"
+refused "another's snmpwalk is left" "$got/names/snmpwalk: $foreign" usr --with-names names
+ln -sf /bin/true "$got/names/snmpwalk"
+install_with usr --with-names names --force >"$got/out"
+same '--force replaces a link by a script' 'stand-in snmpwalk x' "$("$got/names/snmpwalk" x)"
+tree
+install_with usr >"$got/out"
+echo changed >>"$got/usr/share/snmp/examples/three.tab"
+refused 'a file that was changed since is left' "$got/usr/share/snmp/examples/three.tab: $foreign" usr
+tree
+mkdir -p "$got/usr/bin"
+echo another >"$got/usr/bin/snmp.new"
+install_with usr >"$got/out"
+same "another's snmp.new is left by an install" another "$(cat "$got/usr/bin/snmp.new")"
+tree
+mkdir -p "$got/usr/bin" "$got/usr/share/man/man1/snmp.1"
+echo another >"$got/usr/bin/snmp.new"
+refused 'a folder in the way' "$got/usr/share/man/man1/snmp.1: is a folder" usr
+
+# -- what fails
+
+tree
+head -c 100000 /dev/zero >>"$got/tree/crates/snmp/out/snmp"
+same 'a file that cannot be written whole' "snmp: $got/usr/bin/snmp: cannot be written: File too large" \
+    "$(trap '' XFSZ; ulimit -f 16; install_with usr)"
+count 'no folder is left of it' "$([ ! -e "$got/usr" ] || echo 'folders are left')"
+tree
+touch "$got/usr"
+same 'a prefix that is no folder' "snmp: $got/usr: cannot be made: File exists" "$(install_with usr)"
+same 'no prefix' 'snmp: usage: ./snmp --install PREFIX [--with-names DIR] [--force], or ./snmp --uninstall PREFIX' "$(install_with)"
+same 'two prefixes' 'snmp: --install takes one folder, and b is a second' "$(install_with a b)"
+same 'no names' 'snmp: --with-names needs a folder' "$(install_with a --with-names)"
+same 'another option' 'snmp: --install has no option --prefix' "$(install_with --prefix a)"
+# A move that fails: the fifth, over an install of before and without one.
+mkdir "$got/bin"
+cat >"$got/bin/mv" <<'STAND_IN'
+#!/bin/sh
+# Fails at the fifth move of a new file.
+case $* in *-fT*) ;; *) exec /bin/mv "$@" ;; esac
+echo >>"$ROOM/moves"
+[ "$(wc -l <"$ROOM/moves")" != 5 ] || { echo "mv: cannot move: No space left on device" >&2; exit 1; }
+exec /bin/mv "$@"
+STAND_IN
+chmod 755 "$got/bin/mv"
+for before in none one; do
+    tree
+    [ $before = none ] || install_with usr >"$got/out"
+    [ $before = none ] || echo '# another' >>"$got/tree/docs/snmp.1"
+    was=$(hashes)
+    rm -f "$got/moves"
+    same "a move that fails, over $before before" 'cannot be written: No space left on device' \
+        "$(ROOM=$got PATH=$got/bin:$PATH install_with usr | sed 's/^[^:]*: [^:]*: //')"
+    same "a move that fails, over $before before: all is as it was" "$was" "$(hashes)"
+    same "a move that fails, over $before before: nothing is left" '' "$(find "$got/usr" -name '.snmp.*' 2>/dev/null)"
+done
+tree
+install_with usr | head -n 1 >"$got/out"
+same 'a reader that goes away leaves a whole install' "$files" "$(there)"
+tree
+(cd "$got" && tree/tools/install usr >/dev/full 2>"$got/err")
+same 'an output that is full has status 1, and a message' '1 snmp: installed, but the list of files cannot be printed' "$? $(cat "$got/err")"
+same 'an output that is full leaves a whole install' "$files" "$(there)"
+
+# -- a folder for a package, and the end of an install
+
+tree
+DESTDIR=$got/stage install_with /usr --with-names /opt/names >"$got/out"
+wanted=$({
+    sed 's:^usr:stage/usr:' <<<"$files"
+    for name in $names; do printf '%s\n' "stage/opt/names/$name" "stage/usr/share/man/man1/$name.1"; done
+} | sort)
+same 'DESTDIR holds all files' "$wanted" "$(cd "$got" && find stage -type f | sort)"
+same 'scripts name what is below the prefix' "exec '/usr/bin/snmp' snmpget \"\$@\"" "$(tail -n 1 "$got/stage/opt/names/snmpget")"
+same 'the list names what is below the prefix' '' "$(grep -v ' /usr/\| /opt/' "$got/stage/usr/share/snmp/installed")"
+
+uninstall_of() { (cd "$got" && tree/tools/install --uninstall "$@" 2>&1); }
+tree
+mkdir -p "$got/usr/bin"
+echo another >"$got/usr/bin/other"
+install_with usr --with-names names >"$got/out"
+same 'an uninstall is silent' '' "$(uninstall_of usr)"
+same 'an uninstall leaves what it did not put' 'usr/bin/other' "$(there)"
+same 'an uninstall takes its folders' 'usr usr/bin usr/bin/other' "$(cd "$got" && find usr | sort | xargs)"
+tree
+install_with usr >"$got/out"
+echo changed >>"$got/usr/share/snmp/examples/three.tab"
+same 'an uninstall leaves what was changed, and says so' "1 snmp: $got/usr/share/snmp/examples/three.tab: was changed, and is left" \
+    "$(said=$(uninstall_of usr); echo "$? $said")"
+same 'an uninstall leaves nothing else' 'usr/share/snmp/examples/three.tab' "$(there)"
+same 'an uninstall where none is' "snmp: $got/usr/share/snmp/installed: cannot be read, so nothing is known of an install there" \
+    "$(uninstall_of usr)"
+end
