@@ -22,12 +22,12 @@ tree() {
 install_with() { (cd "$got" && tree/tools/install "$@" 2>&1); }
 there() { (cd "$got" && find usr names -type f -o -type l 2>/dev/null | sort); }
 hashes() { (cd "$got" && find usr names -type f -exec sha256sum {} + 2>/dev/null | sort -k 2); }
-files=$(printf 'usr/%s\n' bin/lines-to-table bin/snmp share/bash-completion/completions/snmp \
+files=$(printf 'usr/%s\n' bin/join-modules bin/lines-to-table bin/snmp share/bash-completion/completions/snmp \
     $(for page in FROM-NET-SNMP HOWTO MANY-DEVICES PERFORMANCE PROFILE PROMISES TROUBLESHOOTING; do
         [ ! -e docs/$page.md ] || echo share/doc/snmp/$page.md
     done) \
     $(for page in docs/*.[1-9]; do echo "share/man/man${page##*.}/${page##*/}"; done) \
-    $(printf 'share/snmp/%s\n' examples/*) share/snmp/installed share/snmp/modules/base.txt share/zsh/site-functions/_snmp)
+    $(printf 'share/snmp/%s\n' examples/*) share/snmp/installed share/snmp/modules/base.txt share/zsh/site-functions/_snmp | sort)
 scripts=$(printf 'names/%s\n' $names)
 pages=$(for name in $names; do echo usr/share/man/man1/$name.1; done)
 
@@ -86,7 +86,7 @@ refused() {
     same "$1: nothing is changed" "$before" "$after"
 }
 foreign='is there, and is no file of an install; --force replaces it'
-for file in bin/snmp bin/lines-to-table share/man/man1/snmp.1 share/snmp/examples/three.tab; do
+for file in bin/snmp bin/join-modules share/man/man1/snmp.1 share/snmp/examples/three.tab; do
     tree
     mkdir -p "$got/usr/${file%/*}"
     echo another >"$got/usr/$file"

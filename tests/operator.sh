@@ -237,7 +237,7 @@ if has 13 'the completions of zsh' zsh; then
     done
 fi
 
-# -- the install
+# -- the install, of which tests/install.sh tests the rest
 
 # A folder with what an install takes, so that nothing of the repository is touched.
 tree() {
@@ -256,71 +256,15 @@ install_with() { (cd "$got" && tree/snmp --install "$@" 2>&1); }
 there() { (cd "$got" && find usr names -type f -o -type l 2>/dev/null | sort); }
 
 tree
-files="bin/lines-to-table bin/snmp share/bash-completion/completions/snmp
-share/doc/snmp/FROM-NET-SNMP.md share/doc/snmp/MANY-DEVICES.md share/doc/snmp/PROFILE.md share/man/man1/snmp.1
-$(printf 'share/snmp/%s\n' examples/*) share/snmp/modules/base.txt share/zsh/site-functions/_snmp"
-files=$(printf 'usr/%s\n' $files)
-scripts=$(printf 'names/%s\n' $commands)
-same 'an install lists its files' "$files" "$(install_with usr | cut -c $((${#got} + 2))- | sort)"
-same 'the files of an install' "$files" "$(there)"
-same 'an installed program runs' "$("$program" --version)" "$(cd / && "$got/usr/bin/snmp" --version)"
-same 'an installed lines-to-table runs' '1.3.6|2|1' "$(echo '.1.3.6 = INTEGER: 1' | "$got/usr/bin/lines-to-table")"
-for file in tools/lines-to-table:bin/lines-to-table docs/snmp.1:share/man/man1/snmp.1 \
-    docs/PROFILE.md:share/doc/snmp/PROFILE.md examples/printer.tab:share/snmp/examples/printer.tab \
-    completions/snmp.bash:share/bash-completion/completions/snmp completions/_snmp:share/zsh/site-functions/_snmp; do
-    count "the installed ${file#*:}" "$(cmp "${file%%:*}" "$got/usr/${file#*:}" 2>&1)"
-done
-# What the manual says is there; the modules are those of the repository and not of this tree.
-mapfile -t named < <(grep -oE 'share/(snmp|doc)/[a-zA-Z0-9/.-]*[a-zA-Z0-9]' docs/snmp.1 | sort -u)
-least 'the files that the manual names' 5 ${#named[@]}
-for name in "${named[@]}"; do
-    case $name in */modules/*) at=${name#share/snmp/} ;; *) at=$got/usr/$name ;; esac
-    count "the manual names $name" "$([ -e "$at" ] || echo "it isn't there")"
-done
-count 'the manual names no file of docs/' "$(grep -n 'docs/' docs/snmp.1 | grep -v '^[0-9]*:\.\\"')"
-same 'modes of an install' '644 755' "$(stat -c %a "$got/usr/share/man/man1/snmp.1" "$got/usr/bin/snmp" | xargs)"
-
 install_with usr --with-names names >"$got/out"
-same 'an install over an install, with names' "$(printf '%s\n' "$files" "$scripts" | sort)" "$(there)"
+same 'an installed program runs' "$("$program" --version)" "$(cd / && "$got/usr/bin/snmp" --version)"
 for command in $commands; do
     same "$command by its name" "$("$program" "$command" --help)" "$("$got/names/$command" --help)"
 done
-three='.1.3.6.1.4.1.32473.1.1.0 = INTEGER: 1
+same 'a walk by its own name' '.1.3.6.1.4.1.32473.1.1.0 = INTEGER: 1
 .1.3.6.1.4.1.32473.1.2.0 = STRING: "wes"
-.1.3.6.1.4.1.32473.1.10.0 = INTEGER: 3'
-same 'a walk by its own name' "$three" "$("$got/names/snmpwalk" -v2c -cpublic -On table:examples/three.tab .1)"
-install_with usr --with-names names >"$got/out"
-same 'names over those of an install' 0 $?
-mkdir "$got/it's"
-install_with "it's here" --with-names "it's" >"$got/out"
-same 'a folder with a quote' "$three" "$("$got/it's/snmpwalk" -On table:examples/three.tab .1)"
-
-tree
-mkdir "$got/names"
-echo another >"$got/names/snmpwalk"
-same 'a file of another is left as it is' \
-    "snmp: $got/names/snmpwalk: is there, and is no script of an install; --force replaces it" \
-    "$(install_with usr --with-names names)"
-same 'nothing is installed beside a file of another' "names/snmpwalk another" "$(there) $(cat "$got/names/snmpwalk")"
-count 'no folder of a refused install is left' "$([ ! -e "$got/usr" ] || echo 'it is')"
-install_with usr --with-names names --force >"$got/out"
-same '--force replaces a file of another' "$three" "$("$got/names/snmpwalk" -On table:examples/three.tab .1)"
-
-tree
-mkdir -p "$got/usr/share/man/man1/snmp.1"
-same 'a folder in the way' "snmp: $got/usr/share/man/man1/snmp.1: is a folder" "$(install_with usr)"
-same 'nothing is left of an install with a folder in the way' '' "$(there)$(find "$got/usr/bin" 2>/dev/null)"
-tree
-same 'a file that cannot be written whole' "snmp: $got/usr/bin/snmp: cannot be written" \
-    "$(trap '' XFSZ; ulimit -f 16; install_with usr)"
-count 'no folder of an install that failed is left' "$([ ! -e "$got/usr" ] || echo 'it is')"
-tree
-touch "$got/usr"
-same 'a prefix that is no folder' "snmp: $got/usr: cannot be made" "$(install_with usr)"
-same 'no prefix' 'snmp: usage: ./snmp --install PREFIX [--with-names DIR] [--force]' "$(install_with)"
-same 'two prefixes' 'snmp: --install takes one folder, and b is a second' "$(install_with a b)"
-same 'no names' 'snmp: --with-names needs a folder' "$(install_with a --with-names)"
-same 'another option' 'snmp: --install has no option --prefix' "$(install_with --prefix a)"
+.1.3.6.1.4.1.32473.1.10.0 = INTEGER: 3' "$("$got/names/snmpwalk" -v2c -cpublic -On table:examples/three.tab .1)"
+same 'an uninstall by ./snmp' '' "$(cd "$got" && tree/snmp --uninstall usr 2>&1)$(there)"
 tree
 rm "$got/tree/crates/snmp/out/snmp"
 same 'no program' "snmp: the program isn't built, or isn't that of the sources: ./snmp --build" "$(install_with usr)"
