@@ -9,6 +9,7 @@ that would prove as well and that the test catches. What this machine has no mea
 line is 'N passed, M failed, K skipped'.
 """
 import fcntl
+import itertools
 import os
 import re
 import resource
@@ -696,38 +697,44 @@ def no_excuses():
     return wrongs(*wrong)
 
 
-def ends_by_itself(status, output, said, whole):
-    """Whether a run printed the whole, or ended by itself where memory ran out."""
-    return (status, output, said) == (0, whole, "") or (status, said) == (1, NO_MEMORY) and whole.startswith(output)
+def limited(limit, kibibytes, whole, *words):
+    """How a run ends with so much memory: the whole is printed, it is refused by itself with a beginning of that, by
+    the system or the loader in its place, or killed before it printed something; or what it wrote, where that is none
+    of these."""
+    ran = status, output, said = run(*words, before=["prlimit", f"--{limit}={kibibytes * 1024}"])
+    if ran == (0, whole, ""):
+        return "whole"
+    # Names of hosts are resolved by the system's library.
+    if (status, said) == (1, NO_MEMORY) and whole.startswith(output) or ran == (1, "", NO_LINK):
+        return "refused by itself"
+    if status in (1, 126, 127) and said and not output:
+        return "refused by the system"
+    if status in (-signal.SIGKILL, -signal.SIGSEGV) and not output + said:
+        return "killed"
+    return f"status {status}, {output[-200:]!r}, {said[:200]!r}"
 
 
-# Below what `--version` needs, the system or the loader refuses to start the program: by a status with a message, or,
-# with less memory than lets the loader speak, by SIGKILL or SIGSEGV in the program's place. From there on each run ends
-# by itself. Catches: a beginning of the lines at status 0; a crash where memory is short; a program that never says
-# that it is.
+# With a limit of all addresses the system kills a program that it can't load, or whose stack can't grow. One of data
+# leaves the stack alone: from where `--version` is printed, a run ends by itself. Catches: a beginning of the lines at
+# status 0; a crash where memory is short; a program that never says that it is.
 @test("with less and less memory, a run prints the whole, or ends with a status and a message", lacks_limits())
 def little_memory():
     rows = {R + (i,): i for i in range(20000)}
-    wrong, kinds, version = [], set(), run("--version").output
-    with table_of(SOME) as table, table_of(rows) as large, Server(table=stated(SOME), datagrams=20000) as server:
-        for agent, whole in ((f"table:{table}", SOME_TEXT), (server.place, SOME_TEXT),
-                             (f"table:{large}", lines_of(rows))):
-            speaks = False
-            for kibibytes in [*range(1000, 12000, 250), 20000, 40000]:
-                before = ["prlimit", f"--as={kibibytes * 1024}"]
-                starts = ends_by_itself(*run("--version", before=before), version)
-                status, output, said = ran = run("snmpwalk", "-On", agent, ROOT, before=before)
-                speaks = speaks or starts or f"{programs.PROGRAM}: " in said
-                if starts:
-                    kind, fine = "refused by itself" if status else "whole", ends_by_itself(*ran, whole)
-                else:
-                    told = status in (1, 126, 127) and said not in ("", NO_MEMORY)
-                    killed = status in (-signal.SIGKILL, -signal.SIGSEGV) and not speaks
-                    kind, fine = "refused by the system", output == "" and (told or killed)
+    wrong, version = [], run("--version").output
+    with table_of(SOME) as table, table_of(rows) as large, Server(table=stated(SOME), datagrams=30000) as server:
+        agents = {f"table:{table}": SOME_TEXT, server.place: SOME_TEXT, f"table:{large}": lines_of(rows)}
+        for limit, least in ("as", 1000), ("data", 100):
+            kinds = set()
+            for agent, kibibytes in itertools.product(agents, [*range(least, 12000, 250), 20000, 40000]):
+                kind = limited(limit, kibibytes, agents[agent], "snmpwalk", "-On", agent, ROOT)
                 kinds.add(kind)
-                if not fine:
-                    wrong.append(f"{agent}, {kibibytes} KiB, {kind}: {status}, {output[-200:]!r}, {said[:200]!r}")
-    return wrongs(*wrong, differs(sorted(kinds), ["refused by itself", "refused by the system", "whole"]))
+                ends = {"whole", "refused by itself"}
+                if limit == "as" or limited(limit, kibibytes, version, "--version") not in ends:
+                    ends |= {"refused by the system", "killed"}
+                if kind not in ends:
+                    wrong.append(f"{agent}, {limit}, {kibibytes} KiB: {kind}")
+            wrong += [f"{limit}: none was {kind}" for kind in ("whole", "refused by itself") if kind not in kinds]
+    return wrongs(*wrong)
 
 
 # tests/program.sh walks and asks in memory with this stack. Catches: more of it taken where datagrams come.

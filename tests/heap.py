@@ -202,7 +202,7 @@ def listens(words, messages="", table=THREE):
 def over_udp():
     whole = FIRST + SECOND + THIRD
     # Each of several hundred runs walks the table.
-    with Server(table=THREE.decode(), datagrams=100000) as server:
+    with Server(table=THREE.decode(), datagrams=20000) as server:
         # The system's own calls take memory too, and may keep it.
         return judged([programs.PROGRAM, "snmpwalk", "-On", "-t4", server.place, ROOT],
                       lambda *answer: answer == (0, whole, ""),
