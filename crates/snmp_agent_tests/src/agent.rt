@@ -65,18 +65,23 @@ pub(crate) fn outcome(
     answer(table, &config, request, out)
 }
 
-/// The agent of `public`, with messages of at most `max_size` octets, from 1 to 65507, replies with
-/// just these octets.
-fn assert_reply(rt: &impl Abort, table: &Table, max_size: usize, request: &[u8], reply: &[u8]) {
+/// Whether the agent of `public`, with messages of at most `max_size` octets, from 1 to 65507,
+/// replies with just these octets.
+fn is_reply(table: &Table, max_size: usize, request: &[u8], reply: &[u8]) -> bool {
     let mut out = [0; 65507];
     match outcome(table, max_size, request, &mut out) {
-        Outcome::Reply(size) => assert_eq!(rt; &out[..size.min(65507)], reply),
-        Outcome::Dropped(why) => assert!(rt; false, "{why}"),
+        Outcome::Reply(size) => out.get(..size) == Some(reply),
+        Outcome::Dropped(_) => false,
     }
 }
 
-/// The agent of `public`, with messages of at most `max_size` octets, from 1 to 65507, drops the
-/// request for this reason.
+/// Asserts that it does.
+fn assert_reply(rt: &impl Abort, table: &Table, max_size: usize, request: &[u8], reply: &[u8]) {
+    assert!(rt; is_reply(table, max_size, request, reply), "{request:?}");
+}
+
+/// Asserts that the agent of `public`, with messages of at most `max_size` octets, from 1 to 65507,
+/// drops the request for this reason.
 pub(crate) fn assert_dropped(
     rt: &impl Abort,
     table: &Table,
@@ -85,8 +90,10 @@ pub(crate) fn assert_dropped(
     why: Why,
 ) {
     let mut out = [0; 65507];
-    let replied = outcome(table, max_size, request, &mut out);
-    assert_eq!(rt; replied, Outcome::Dropped(why));
+    assert!(rt;
+        outcome(table, max_size, request, &mut out) == Outcome::Dropped(why),
+        "{request:?}"
+    );
 }
 
 #[test]
@@ -192,16 +199,20 @@ const NEXT: [u8; 34] = [
     0x05, 0x00,
 ];
 
-/// Asserts that the reply to the GetNext has the longest name of the table.
-fn assert_longest_name(rt: &impl Abort, table: &Table) {
+/// Whether the reply to the GetNext has the longest name of the table.
+fn has_longest_name(table: &Table) -> bool {
     let mut out = [0; 65507];
-    let replied = outcome(table, 1472, &NEXT, &mut out);
-    assert_eq!(rt; replied, Outcome::Reply(670));
-    assert!(rt; out.starts_with(&[0x30, 0x82, 0x02, 0x9A]));
     let name = [
         0x06, 0x82, 0x02, 0x73, 0x2B, 0x06, 0x8F, 0xFF, 0xFF, 0xFF, 0x7F,
     ];
-    assert!(rt; out[36..].starts_with(&name));
+    outcome(table, 1472, &NEXT, &mut out) == Outcome::Reply(670)
+        && out.starts_with(&[0x30, 0x82, 0x02, 0x9A])
+        && out[36..].starts_with(&name)
+}
+
+/// Asserts that it has.
+fn assert_longest_name(rt: &impl Abort, table: &Table) {
+    assert!(rt; has_longest_name(table));
 }
 
 #[test]
@@ -269,8 +280,7 @@ fn assert_shortest(rt: &impl Abort, octets: &[u8]) {
         let written = encode_binding(&binding, &mut out[size..]);
         size = size.saturating_add(written.expect(rt, "room for a binding"));
     }
-    assert!(rt; size <= out.len());
-    assert_eq!(rt; octets, &out[..size]);
+    assert!(rt; out.get(..size) == Some(octets));
 }
 
 /// With any octet of the request changed to any other, it is dropped, or its reply is a message in

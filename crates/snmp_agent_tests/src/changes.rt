@@ -1,6 +1,6 @@
 //! Rows that are put into a table and removed again.
 
-use crate::table::{all_rows, assert_get, name, table_of};
+use crate::table::{all_rows, assert_get, gives, name, table_of};
 use snmp_agent::{PutError, Table};
 use snmp_wire::{Binding, Oid, ValueRef, parse_numeric};
 use std::process::Abort;
@@ -20,22 +20,21 @@ pub(crate) fn is_numbered(binding: &Binding<'_>, number: u32, value: u32) -> boo
     }
 }
 
-/// The rows are those of the numbers from `low` to `high`, each with its number, and no others.
-fn assert_rows(rt: &impl Abort, table: &Table, low: u32, high: u32) {
-    let mut binding = Binding {
-        name: Oid::new(),
-        value: ValueRef::Null,
+/// Whether the rows are those of the numbers from `low` to `high`, each with its number, and no
+/// others.
+fn has_rows(table: &Table, low: u32, high: u32) -> bool {
+    let mut binding = Binding::empty();
+    let Some(mut rows) = all_rows(table) else {
+        return false;
     };
-    let mut rows = all_rows(table).expect(rt, "rows");
     for number in low..=high {
         rows.advance(&mut binding);
-        assert!(rt; is_numbered(&binding, number, number), "no row of {number}");
+        if !is_numbered(&binding, number, number) {
+            return false;
+        }
     }
     rows.advance(&mut binding);
-    assert!(rt;
-        matches!(binding.value, ValueRef::EndOfMibView),
-        "a row past {high}"
-    );
+    matches!(binding.value, ValueRef::EndOfMibView)
 }
 
 /// Puts the row of the number, with the number as its value, and returns whether there was none.
@@ -57,13 +56,18 @@ fn is_removed(table: &mut Table, number: u32) -> bool {
 /// Asserts that rows are put in falling order, and then removed in rising order.
 fn assert_changed(rt: &impl Abort, table: &mut Table) {
     for number in (1..=600).rev() {
-        assert!(rt; is_added(table, number));
-        assert_rows(rt, table, number, 600);
+        assert!(rt;
+            is_added(table, number) && has_rows(table, number, 600),
+            "{number} is put"
+        );
     }
     for number in 1..=600 {
-        assert!(rt; is_removed(table, number));
-        assert!(rt; !is_removed(table, number));
-        assert_rows(rt, table, number + 1, 600);
+        assert!(rt;
+            is_removed(table, number)
+                && !is_removed(table, number)
+                && has_rows(table, number + 1, 600),
+            "{number} is removed"
+        );
     }
 }
 
@@ -76,76 +80,81 @@ fn rows_put_in_falling_order_are_removed_in_rising_order(rt: HostRuntime) {
         &rt,
         &table,
         b"1.3.6.1.4.1.32473.1.1.0",
-        ValueRef::NoSuchInstance,
+        &ValueRef::NoSuchInstance,
     );
 }
 
-/// Puts the value at the name, and returns whether there was a row, or why it is not put.
-fn put(table: &mut Table, name: &[u8], value: ValueRef<'_>) -> Option<Result<bool, PutError>> {
+/// Puts the value at the name, and returns whether there was a row.
+fn is_put_again(table: &mut Table, name: &[u8], value: ValueRef<'_>) -> bool {
     match parse_numeric(name) {
-        Ok(name) => Some(table.put(&name, value)),
-        Err(_) => None,
+        Ok(name) => matches!(table.put(&name, value), Ok(true)),
+        Err(_) => false,
     }
 }
 
 /// Asserts that the row of 1.3.6.2 has the new value, once it is put there.
-fn assert_replaced(rt: &impl Abort, table: &mut Table, value: ValueRef<'_>, same: ValueRef<'_>) {
-    assert!(rt; put(table, b"1.3.6.2", value) == Some(Ok(true)));
-    assert_get(rt, table, b"1.3.6.2", same);
+fn assert_replaced(rt: &impl Abort, table: &mut Table, value: ValueRef<'_>, same: &ValueRef<'_>) {
+    assert!(rt; is_put_again(table, b"1.3.6.2", value) && gives(table, b"1.3.6.2", same));
 }
 
 #[test]
 fn a_row_put_again_has_the_new_value(rt: HostRuntime) {
     let id = name(&rt, b"1.3.6.1");
     let mut table = table_of(&rt, rt.alloc(), b"1.3.6.1|2|1\n1.3.6.2|4|wes\n1.3.6.3|2|3");
-    assert_replaced(
-        &rt,
-        &mut table,
-        ValueRef::Octets(b"new"),
-        ValueRef::Octets(b"new"),
-    );
-    assert_replaced(
-        &rt,
-        &mut table,
-        ValueRef::ObjectId(id.copy()),
-        ValueRef::ObjectId(id),
-    );
-    assert_get(&rt, &table, b"1.3.6.1", ValueRef::Integer(1));
-    assert_get(&rt, &table, b"1.3.6.3", ValueRef::Integer(3));
+    let string = ValueRef::Octets(b"new");
+    assert_replaced(&rt, &mut table, ValueRef::Octets(b"new"), &string);
+    let copy = ValueRef::ObjectId(id.copy());
+    assert_replaced(&rt, &mut table, copy, &ValueRef::ObjectId(id));
+    assert_get(&rt, &table, b"1.3.6.1", &ValueRef::Integer(1));
+    assert_get(&rt, &table, b"1.3.6.3", &ValueRef::Integer(3));
+}
+
+/// Puts the value at the name, and returns whether it is refused with this error.
+fn is_refused(table: &mut Table, name: &[u8], value: ValueRef<'_>, error: PutError) -> bool {
+    match parse_numeric(name) {
+        Ok(name) => table.put(&name, value).err() == Some(error),
+        Err(_) => false,
+    }
 }
 
 /// Asserts that no value is put at the name.
 fn assert_bad_name(rt: &impl Abort, table: &mut Table, name: &[u8]) {
-    assert!(rt; put(table, name, ValueRef::Integer(1)) == Some(Err(PutError::BadName)));
-    assert!(rt; put(table, name, ValueRef::Null) == Some(Err(PutError::BadName)));
+    assert!(rt;
+        is_refused(table, name, ValueRef::Integer(1), PutError::BadName)
+            && is_refused(table, name, ValueRef::Null, PutError::BadName),
+        "{name:?}"
+    );
 }
 
-/// Asserts that the value is not put at 1.3.6.1, which keeps 1.
-fn assert_bad_value(rt: &impl Abort, table: &mut Table, value: ValueRef<'_>) {
-    assert!(rt; put(table, b"1.3.6.1", value) == Some(Err(PutError::BadValue)));
-    assert_get(rt, table, b"1.3.6.1", ValueRef::Integer(1));
+/// Whether the value is not put at 1.3.6.1, which keeps 1.
+fn is_bad_value(table: &mut Table, value: ValueRef<'_>) -> bool {
+    is_refused(table, b"1.3.6.1", value, PutError::BadValue)
+        && gives(table, b"1.3.6.1", &ValueRef::Integer(1))
+}
+
+/// Asserts that values that no instance holds, and this one, are not put at 1.3.6.1.
+fn assert_bad_values(rt: &impl Abort, table: &mut Table, value: ValueRef<'_>) {
+    assert!(rt; is_bad_value(table, ValueRef::Null));
+    assert!(rt; is_bad_value(table, ValueRef::NoSuchObject));
+    assert!(rt; is_bad_value(table, ValueRef::NoSuchInstance));
+    assert!(rt; is_bad_value(table, ValueRef::EndOfMibView));
+    assert!(rt; is_bad_value(table, value));
 }
 
 /// Asserts that a string of all 65536 octets is not put at 1.3.6.1, and that one of 65535 is.
 fn assert_longest(rt: &impl Abort, table: &mut Table, octets: &[u8; 65536]) {
-    assert_bad_value(rt, table, ValueRef::Octets(octets));
-    assert_bad_value(rt, table, ValueRef::Opaque(octets));
-    let longest = ValueRef::Octets(&octets[..65535]);
-    assert!(rt; put(table, b"1.3.6.1", longest) == Some(Ok(true)));
+    assert!(rt; is_bad_value(table, ValueRef::Octets(octets)));
+    assert!(rt; is_bad_value(table, ValueRef::Opaque(octets)));
+    assert!(rt; is_put_again(table, b"1.3.6.1", ValueRef::Octets(&octets[..65535])));
 }
 
 #[test]
 fn bad_names_and_values_are_not_put(rt: HostRuntime) {
     let id = name(&rt, b"1");
     let mut table = table_of(&rt, rt.alloc(), b"1.3.6.1|2|1");
-    assert_bad_name(&rt, &mut table, b"1.3");
-    assert_bad_name(&rt, &mut table, b".");
-    assert_bad_name(&rt, &mut table, b"1.40.1");
-    assert_bad_name(&rt, &mut table, b"3.1.1");
-    assert_bad_value(&rt, &mut table, ValueRef::Null);
-    assert_bad_value(&rt, &mut table, ValueRef::NoSuchObject);
-    assert_bad_value(&rt, &mut table, ValueRef::NoSuchInstance);
-    assert_bad_value(&rt, &mut table, ValueRef::EndOfMibView);
-    assert_bad_value(&rt, &mut table, ValueRef::ObjectId(id));
+    for name in [b"1.3".as_slice(), b".", b"1.40.1", b"3.1.1"] {
+        assert_bad_name(&rt, &mut table, name);
+    }
+    assert_bad_values(&rt, &mut table, ValueRef::ObjectId(id));
     assert_longest(&rt, &mut table, &[b'a'; 65536]);
 }

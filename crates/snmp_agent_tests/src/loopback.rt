@@ -35,14 +35,12 @@ fn of_counts(replies: u64, dropped: u64, idle: u64, faults: u64) -> Served {
     }
 }
 
-/// Asserts that this was served.
-fn assert_served(rt: &impl Abort, served: Served, wanted: Served) {
-    assert_eq!(rt; served, wanted);
-}
-
 /// Asserts what is served in so many turns.
 fn assert_turns(rt: &impl Abort, server: &UdpSocket, table: &Table, turns: u64, wanted: Served) {
-    assert_served(rt, serve(server, table, &public(), turns), wanted);
+    assert!(rt;
+        serve(server, table, &public(), turns) == wanted,
+        "{wanted:?}"
+    );
 }
 
 /// Connects the server with the client.
@@ -60,12 +58,11 @@ fn send(rt: &impl Abort, client: &UdpSocket, server: &UdpSocket, datagram: &[u8]
 /// Asserts that the client has a reply of the server, with this id.
 fn assert_reply(rt: &impl Abort, client: &UdpSocket, server: &UdpSocket, id: u8) {
     let mut buffer = [0; 1472];
-    let (size, sender) = client.recv_from(&mut buffer).expect(rt, "a reply");
     let mut reply = GOT;
     reply[17] = id;
-    assert_eq!(rt; &buffer[..size.min(1472)], reply.as_slice());
+    let (size, sender) = client.recv_from(&mut buffer).expect(rt, "a reply");
     let address = server.local_addr().expect(rt, "an address");
-    assert!(rt; sender == address);
+    assert!(rt; buffer.get(..size) == Some(reply.as_slice()) && sender == address);
 }
 
 #[test]
@@ -179,6 +176,6 @@ fn what_fails_is_counted_and_the_next_turn_follows(rt: HostRuntime) {
         faults: 0,
     };
     let served = serve_at(&mut endpoint, &table, &public(), 1000);
-    assert_served(&rt, served, of_counts(250, 0, 0, 750));
+    assert!(rt; served == of_counts(250, 0, 0, 750));
     assert!(rt; endpoint.replies == 500 && endpoint.faults() == 750);
 }

@@ -11,9 +11,9 @@ const ROWS: &[u8] =
 1.3.6.1.4.1.32473.1.2.0|4|wes\n.1.3.6.1.4.1.32473.1.1.0|2|1";
 
 /// Whether the binding is the variable of this name and value.
-fn is_variable(binding: &Binding<'_>, name: &[u8], value: ValueRef<'_>) -> bool {
+fn is_variable(binding: &Binding<'_>, name: &[u8], value: &ValueRef<'_>) -> bool {
     match parse_numeric(name) {
-        Ok(name) => binding.name == name && binding.value == value,
+        Ok(name) => binding.name == name && binding.value == *value,
         Err(_) => false,
     }
 }
@@ -49,23 +49,9 @@ pub(crate) fn all_rows<'a>(table: &'a Table) -> Option<Successors<'a>> {
     Some(table.after(&EncodedName::read(&[0])?))
 }
 
-/// This variable is read `rounds` rows past the one after `from`, into a binding that held the one
-/// after `from`.
-fn assert_read(
-    rt: &impl Abort,
-    table: &Table,
-    from: &[u8],
-    rounds: usize,
-    name: &[u8],
-    value: ValueRef<'_>,
-) {
-    assert!(rt;
-        is_read(table, from, rounds, name, value),
-        "{rounds} rows past the first after {from:?}"
-    );
-}
-
-fn is_read(table: &Table, from: &[u8], rounds: usize, name: &[u8], value: ValueRef<'_>) -> bool {
+/// Whether this variable is read `rounds` rows past the one after `from`, into a binding that held
+/// the one after `from`.
+fn is_read(table: &Table, from: &[u8], rounds: usize, name: &[u8], value: &ValueRef<'_>) -> bool {
     match parse_numeric(from) {
         Ok(from) if from.is_wire() => {
             let mut content = [0; MAX_CONTENT];
@@ -90,14 +76,22 @@ const PAST: &[u8] = b"2.100.3";
 
 /// Asserts that each row comes after the one before.
 fn assert_order(rt: &impl Abort, table: &Table) {
-    assert_read(rt, table, ROOT, 0, FIRST, ValueRef::Integer(1));
-    assert_read(rt, table, FIRST, 0, SECOND, ValueRef::Octets(b"wes"));
-    assert_read(rt, table, SECOND, 0, LAST, ValueRef::Integer(3));
-    assert_read(rt, table, ROOT, 2, LAST, ValueRef::Integer(3));
-    assert_read(rt, table, LAST, 0, LAST, ValueRef::EndOfMibView);
-    assert_read(rt, table, ROOT, 3, LAST, ValueRef::EndOfMibView);
-    assert_read(rt, table, PAST, 0, PAST, ValueRef::EndOfMibView);
-    assert_read(rt, table, PAST, 7, PAST, ValueRef::EndOfMibView);
+    let rows = [
+        (ROOT, 0, FIRST, ValueRef::Integer(1)),
+        (FIRST, 0, SECOND, ValueRef::Octets(b"wes")),
+        (SECOND, 0, LAST, ValueRef::Integer(3)),
+        (ROOT, 2, LAST, ValueRef::Integer(3)),
+        (LAST, 0, LAST, ValueRef::EndOfMibView),
+        (ROOT, 3, LAST, ValueRef::EndOfMibView),
+        (PAST, 0, PAST, ValueRef::EndOfMibView),
+        (PAST, 7, PAST, ValueRef::EndOfMibView),
+    ];
+    for (from, rounds, name, value) in &rows {
+        assert!(rt;
+            is_read(table, from, *rounds, name, value),
+            "{rounds} rows past the first after {from:?}"
+        );
+    }
 }
 
 #[test]
@@ -115,24 +109,24 @@ struct Walk<'a> {
 
 impl Walk<'_> {
     /// Advances the binding. Whether it is the variable of this name and value then.
-    fn comes_to(&mut self, name: &[u8], value: ValueRef<'_>) -> bool {
+    fn comes_to(&mut self, name: &[u8], value: &ValueRef<'_>) -> bool {
         self.rows.advance(&mut self.binding);
         is_variable(&self.binding, name, value)
     }
 }
 
-/// Asserts that the walk, a step on, comes to the variable of this name and value.
-fn assert_step(rt: &impl Abort, walk: &mut Walk<'_>, name: &[u8], value: ValueRef<'_>) {
-    assert!(rt; walk.comes_to(name, value), "{name:?}");
-}
-
 /// Asserts that the walk comes to each row, and then to the end.
 fn assert_walk(rt: &impl Abort, walk: &mut Walk<'_>) {
-    assert_step(rt, walk, FIRST, ValueRef::Integer(1));
-    assert_step(rt, walk, SECOND, ValueRef::Octets(b"wes"));
-    assert_step(rt, walk, LAST, ValueRef::Integer(3));
-    assert_step(rt, walk, LAST, ValueRef::EndOfMibView);
-    assert_step(rt, walk, LAST, ValueRef::EndOfMibView);
+    let steps = [
+        (FIRST, ValueRef::Integer(1)),
+        (SECOND, ValueRef::Octets(b"wes")),
+        (LAST, ValueRef::Integer(3)),
+        (LAST, ValueRef::EndOfMibView),
+        (LAST, ValueRef::EndOfMibView),
+    ];
+    for (name, value) in &steps {
+        assert!(rt; walk.comes_to(name, value), "{name:?}");
+    }
 }
 
 #[test]
@@ -150,112 +144,85 @@ fn a_binding_walks_along_the_rows(rt: HostRuntime) {
 }
 
 /// Whether a Get of the name gives the value.
-fn gives(table: &Table, name: &[u8], value: ValueRef<'_>) -> bool {
+pub(crate) fn gives(table: &Table, name: &[u8], value: &ValueRef<'_>) -> bool {
     match parse_numeric(name) {
-        Ok(name) => table.get(&name) == value,
+        Ok(name) => table.get(&name) == *value,
         Err(_) => false,
     }
 }
 
-/// A Get of the name gives the value.
-pub(crate) fn assert_get(rt: &impl Abort, table: &Table, name: &[u8], value: ValueRef<'_>) {
+/// Asserts that it does.
+pub(crate) fn assert_get(rt: &impl Abort, table: &Table, name: &[u8], value: &ValueRef<'_>) {
     assert!(rt; gives(table, name, value), "{name:?}");
+}
+
+/// Asserts that names without a row have exceptions.
+fn assert_exceptions(rt: &impl Abort, table: &Table) {
+    let given = [
+        (LAST, ValueRef::Integer(3)),
+        (ROOT, ValueRef::NoSuchInstance),
+        (b"1.3.6.1.4.1.32473.1.3", ValueRef::NoSuchInstance),
+        (b"1.3.6.1.4.1.32473", ValueRef::NoSuchObject),
+        (b"1.3.6.1.4.1.32473.2", ValueRef::NoSuchObject),
+        (b".", ValueRef::NoSuchObject),
+    ];
+    for (name, value) in &given {
+        assert_get(rt, table, name, value);
+    }
 }
 
 #[test]
 fn names_without_a_row_have_exceptions(rt: HostRuntime) {
     let table = table_of(&rt, rt.alloc(), ROWS);
-    assert_get(&rt, &table, LAST, ValueRef::Integer(3));
-    assert_get(&rt, &table, ROOT, ValueRef::NoSuchInstance);
-    assert_get(
-        &rt,
-        &table,
-        b"1.3.6.1.4.1.32473.1.3",
-        ValueRef::NoSuchInstance,
-    );
-    assert_get(&rt, &table, b"1.3.6.1.4.1.32473", ValueRef::NoSuchObject);
-    assert_get(&rt, &table, b"1.3.6.1.4.1.32473.2", ValueRef::NoSuchObject);
-    assert_get(&rt, &table, b".", ValueRef::NoSuchObject);
+    assert_exceptions(&rt, &table);
 }
 
 /// Whether the line states this value of 1.3.6.
-fn states(alloc: Global, line: &[u8], value: ValueRef<'_>) -> bool {
+fn states(alloc: Global, line: &[u8], value: &ValueRef<'_>) -> bool {
     match Table::read(alloc, line) {
         Ok(table) => gives(&table, b"1.3.6", value),
         Err(_) => false,
     }
 }
 
-/// The line states this value of 1.3.6.
-fn assert_states(rt: &impl Abort, alloc: Global, line: &[u8], value: ValueRef<'_>) {
+/// Asserts that it does.
+fn assert_states(rt: &impl Abort, alloc: Global, line: &[u8], value: &ValueRef<'_>) {
     assert!(rt; states(alloc, line, value), "of {line:?}");
 }
 
 #[test]
 fn each_tag_states_its_values(rt: HostRuntime) {
     let id = name(&rt, b"2.4294967295.0");
-    let alloc = rt.alloc();
-    assert_states(
-        &rt,
-        alloc,
-        b"1.3.6|2|-2147483648",
-        ValueRef::Integer(i32::MIN),
-    );
-    assert_states(
-        &rt,
-        alloc,
-        b"1.3.6|2|0002147483647",
-        ValueRef::Integer(i32::MAX),
-    );
-    assert_states(&rt, alloc, b"1.3.6|2|-0", ValueRef::Integer(0));
-    assert_states(&rt, alloc, b"1.3.6|4|", ValueRef::Octets(b""));
-    assert_states(&rt, alloc, b"1.3.6|4|a|b \r", ValueRef::Octets(b"a|b \r"));
-    assert_states(&rt, alloc, b"1.3.6|4|a\r\n", ValueRef::Octets(b"a"));
-    assert_states(
-        &rt,
-        alloc,
-        b"1.3.6|4x|00fFe0",
-        ValueRef::Octets(&[0x00, 0xFF, 0xE0]),
-    );
-    assert_states(
-        &rt,
-        alloc,
-        b"1.3.6|64|192.0.2.255",
-        ValueRef::IpAddress([192, 0, 2, 255]),
-    );
-    assert_states(
-        &rt,
-        alloc,
-        b"1.3.6|65|4294967295",
-        ValueRef::Counter32(u32::MAX),
-    );
-    assert_states(&rt, alloc, b"1.3.6|66|0", ValueRef::Gauge32(0));
-    assert_states(
-        &rt,
-        alloc,
-        b"1.3.6|67|14096763",
-        ValueRef::TimeTicks(14_096_763),
-    );
-    assert_states(&rt, alloc, b"1.3.6|68x|9f", ValueRef::Opaque(&[0x9F]));
-    assert_states(
-        &rt,
-        alloc,
-        b"1.3.6|70|18446744073709551615",
-        ValueRef::Counter64(u64::MAX),
-    );
-    assert_states(
-        &rt,
-        alloc,
-        b"1.3.6|6|2.4294967295.0",
-        ValueRef::ObjectId(id),
-    );
-    assert_states(&rt, alloc, b"#snmptab 2\n.1.3.6|2|3", ValueRef::Integer(3));
-    assert_states(
-        &rt,
-        alloc,
-        b"#snmptab 2\n1.3.6|4|\"a|b",
-        ValueRef::Octets(b"\"a|b"),
-    );
+    let rows = [
+        (
+            b"1.3.6|2|-2147483648".as_slice(),
+            ValueRef::Integer(i32::MIN),
+        ),
+        (b"1.3.6|2|0002147483647", ValueRef::Integer(i32::MAX)),
+        (b"1.3.6|2|-0", ValueRef::Integer(0)),
+        (b"1.3.6|4|", ValueRef::Octets(b"")),
+        (b"1.3.6|4|a|b \r", ValueRef::Octets(b"a|b \r")),
+        (b"1.3.6|4|a\r\n", ValueRef::Octets(b"a")),
+        (b"1.3.6|4x|00fFe0", ValueRef::Octets(&[0x00, 0xFF, 0xE0])),
+        (
+            b"1.3.6|64|192.0.2.255",
+            ValueRef::IpAddress([192, 0, 2, 255]),
+        ),
+        (b"1.3.6|65|4294967295", ValueRef::Counter32(u32::MAX)),
+        (b"1.3.6|66|0", ValueRef::Gauge32(0)),
+        (b"1.3.6|67|14096763", ValueRef::TimeTicks(14_096_763)),
+        (b"1.3.6|68x|9f", ValueRef::Opaque(&[0x9F])),
+        (
+            b"1.3.6|70|18446744073709551615",
+            ValueRef::Counter64(u64::MAX),
+        ),
+        (b"#snmptab 2\n.1.3.6|2|3", ValueRef::Integer(3)),
+        (b"#snmptab 2\n1.3.6|4|\"a|b", ValueRef::Octets(b"\"a|b")),
+        (b"1.3.6|6|2.4294967295.0", ValueRef::ObjectId(id)),
+    ];
+    for (line, value) in &rows {
+        assert_states(&rt, rt.alloc(), line, value);
+    }
 }
 
 /// Texts, each with the fault of its first faulty line.
@@ -367,36 +334,51 @@ pub(crate) fn add_row(text: &mut String, number: u32, value: u32) -> Result<(), 
     write!(text, "1.3.6.1.4.1.32473.1.{number}.0|65|{value}\n")
 }
 
-/// The count of numbers of the name after 1.3.6 in the table of the text.
-fn length_of_name(alloc: Global, text: &[u8]) -> Option<usize> {
-    let root = EncodedName::read(&[0x2b, 6])?;
-    let table = Table::read(alloc, text).ok()?;
-    Some(next(&table, &root).name.len())
+/// Whether the name after 1.3.6 in the table of the text has 128 numbers.
+fn has_longest_name(alloc: Global, text: &[u8]) -> bool {
+    let Some(root) = EncodedName::read(&[0x2b, 6]) else {
+        return false;
+    };
+    match Table::read(alloc, text) {
+        Ok(table) => next(&table, &root).name.len() == 128,
+        Err(_) => false,
+    }
+}
+
+/// Asserts that it has.
+fn assert_longest_name(rt: &impl Abort, alloc: Global, text: &[u8]) {
+    assert!(rt; has_longest_name(alloc, text));
 }
 
 #[test]
 fn names_have_128_numbers_at_most(rt: HostRuntime) {
     let alloc = rt.alloc();
     let longest = repeated(&rt, alloc, b"1.3.6", b".4294967295", 125, b"|2|1");
-    assert!(rt; length_of_name(alloc, &longest) == Some(128));
+    assert_longest_name(&rt, alloc, &longest);
     let longer = repeated(&rt, alloc, b"1.3.6", b".4294967295", 126, b"|2|1");
     assert_fault(&rt, alloc, &longer, TableError::BadName { line: 1 });
 }
 
-/// The count of octets of the string at 1.3.6 in the table of the text.
-fn length_of_string(alloc: Global, text: &[u8]) -> Option<usize> {
-    let name = parse_numeric(b"1.3.6").ok()?;
-    let table = Table::read(alloc, text).ok()?;
-    match table.get(&name) {
-        ValueRef::Octets(octets) => Some(octets.len()),
-        _ => None,
+/// Whether a Get of 1.3.6 gives a string of 65535 octets.
+fn gives_longest(table: &Table) -> bool {
+    match parse_numeric(b"1.3.6") {
+        Ok(name) => match table.get(&name) {
+            ValueRef::Octets(octets) => octets.len() == 65535,
+            _ => false,
+        },
+        Err(_) => false,
     }
+}
+
+/// Asserts that the table of the text gives that.
+fn assert_longest_string(rt: &impl Abort, alloc: Global, text: &[u8]) {
+    assert!(rt; gives_longest(&table_of(rt, alloc, text)));
 }
 
 /// Asserts that a string of 65535 parts after the tag is read, and that one part more is a fault.
 fn assert_longest(rt: &impl Abort, alloc: Global, tag: &[u8], part: &[u8]) {
     let longest = repeated(rt, alloc, tag, part, 65535, b"");
-    assert!(rt; length_of_string(alloc, &longest) == Some(65535));
+    assert_longest_string(rt, alloc, &longest);
     let longer = repeated(rt, alloc, tag, part, 65536, b"");
     assert_fault(rt, alloc, &longer, TableError::BadValue { line: 1 });
 }
