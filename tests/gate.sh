@@ -29,7 +29,7 @@ tree() {
     cp "$top/tests/is-current" "$tree/tests"
     cp "$top/.ci/run" "$tree/.ci"
     printf '%s\n' '#!/bin/sh' 'echo "13 crates are as their edits were tried"' >"$tree/tests/edits.py"
-    for part in wrong.py gate.sh program.sh operator.sh sessions.py random_walks.py network.py attack.py heap.py \
+    for part in wrong.py gate.sh program.sh install.sh operator.sh sessions.py random_walks.py network.py attack.py heap.py \
         room.py modules.py edge.py fleet.py; do
         printf '%s\n' '#!/bin/sh' "echo \"\${SAYS:-1 passed, 0 failed, 0 skipped}\"" >"$tree/tests/$part"
     done
@@ -268,13 +268,13 @@ gate() { in_tree ./.ci/run >"$got/out"; echo "$? $(tail -n "${lines:-1}" "$got/o
 part() { printf '%s\n' '#!/bin/sh' "$@" >"$tree/tests/network.py"; }
 
 tree
-same 'a gate whose parts pass' '0 18 passed, 0 failed, 0 skipped' "$(gate)"
+same 'a gate whose parts pass' '0 19 passed, 0 failed, 0 skipped' "$(gate)"
 current 'a program of a fresh clone after the gate' 0 ''
-same 'a gate that runs again' '0 18 passed, 0 failed, 0 skipped' "$(gate)"
+same 'a gate that runs again' '0 19 passed, 0 failed, 0 skipped' "$(gate)"
 tree
 built
 echo 'another' >>"$tree/crates/low/src/lib.rt"
-same 'a gate over an edit' '0 18 passed, 0 failed, 0 skipped' "$(gate)"
+same 'a gate over an edit' '0 19 passed, 0 failed, 0 skipped' "$(gate)"
 current 'a program after an edit and the gate' 0 ''
 tree
 same 'a gate during which a source is edited' \
@@ -285,30 +285,30 @@ fails() { same "$1" "1 FAILED: tests/network.py: $2 $3" "$(lines=2 gate)"; }
 not_so="the last line, of status 0, isn't 'N passed, M failed'"
 tree
 part true
-fails 'a part that says nothing' "$not_so" '11 passed, 1 failed, 0 skipped'
+fails 'a part that says nothing' "$not_so" '12 passed, 1 failed, 0 skipped'
 part 'echo nothing ran'
-fails 'a part that says no counts' "$not_so" '11 passed, 1 failed, 0 skipped'
+fails 'a part that says no counts' "$not_so" '12 passed, 1 failed, 0 skipped'
 part 'echo "1 passed, 0 failed, 0 skipped"; echo more'
-fails 'a part whose last line has no counts' "$not_so" '11 passed, 1 failed, 0 skipped'
+fails 'a part whose last line has no counts' "$not_so" '12 passed, 1 failed, 0 skipped'
 part 'exit 3'
-fails 'a part that ends early' "${not_so/0/3}" '11 passed, 1 failed, 0 skipped'
+fails 'a part that ends early' "${not_so/0/3}" '12 passed, 1 failed, 0 skipped'
 part 'echo "0 passed, 0 failed, 0 skipped"'
-fails 'a part that ran nothing' 'no test ran' '11 passed, 1 failed, 0 skipped'
+fails 'a part that ran nothing' 'no test ran' '12 passed, 1 failed, 0 skipped'
 part 'echo "3 passed, 2 failed, 0 skipped"'
 fails 'a part of which tests failed, and that ends with status 0' 'status 0, and 2 tests failed' \
-    '14 passed, 2 failed, 0 skipped'
+    '15 passed, 2 failed, 0 skipped'
 part 'echo "3 passed, 0 failed, 0 skipped"; exit 1'
-fails 'a part that passes, and ends with status 1' 'status 1, and 0 tests failed' '14 passed, 1 failed, 0 skipped'
+fails 'a part that passes, and ends with status 1' 'status 1, and 0 tests failed' '15 passed, 1 failed, 0 skipped'
 part 'echo "0 passed, 0 failed, 2 skipped"'
 fails 'a part that skips tests without a reason' '2 tests were skipped, and nothing says why' \
-    '11 passed, 1 failed, 2 skipped'
+    '12 passed, 1 failed, 2 skipped'
 part 'sleep 60 & echo "1 passed, 0 failed, 0 skipped"; sleep 60'
 export PART_SECONDS=2
-fails 'a part that does not end' 'not done after 2 seconds' '11 passed, 1 failed, 0 skipped'
+fails 'a part that does not end' 'not done after 2 seconds' '12 passed, 1 failed, 0 skipped'
 unset PART_SECONDS
 part 'echo "not tried: zsh: no zsh here" >&2' 'echo "0 passed, 0 failed, 2 skipped"'
 same 'a part that skips all with a reason' \
-    '0  Not tried here: tests/network.py: zsh: no zsh here 17 passed, 0 failed, 2 skipped' "$(lines=4 gate)"
+    '0  Not tried here: tests/network.py: zsh: no zsh here 18 passed, 0 failed, 2 skipped' "$(lines=4 gate)"
 part 'echo "1 passed, 0 failed, 0 skipped"'
 sed -i '1s/.*/#!\/nowhere\/python3/' "$tree/tests/network.py"
 same 'a part that cannot run' 1 "$(gate | cut -d ' ' -f 1)"
@@ -336,7 +336,7 @@ same 'no crate with edits' '1 FAILED: tests/edits.py: nothing was compared 0 pas
 tree
 part 'kill $(cat "$CALLS.gate"); sleep 60'
 (echo "$BASHPID" >"$CALLS.gate"; cd "$tree" && exec ./.ci/run) >"$got/out" 2>&1
-same 'a gate that is ended by a signal' '1 FAILED: the gate was ended by a signal 11 passed, 1 failed, 0 skipped' \
+same 'a gate that is ended by a signal' '1 FAILED: the gate was ended by a signal 12 passed, 1 failed, 0 skipped' \
     "$? $(tail -n 2 "$got/out" | paste -sd ' ')"
 
 # Each script of tests/ is a part of the gate, or is run by hand; and a page says of it what it does.
