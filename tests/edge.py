@@ -151,11 +151,15 @@ def asked_at(host):
     return wrongs(*wrong)
 
 
-# Catches: a socket that is bound to 127.0.0.1, which then asks the others from there.
 OWN = own_address()
-test("an agent at another of this machine's addresses is asked, from the address that the system chooses",
-     "" if OWN else "this machine has none that isn't a loopback one")(lambda: asked_at(OWN))
-test("an agent at 127.0.0.2 is asked, and snmpd listens there and not elsewhere")(lambda: asked_at("127.0.0.2"))
+if not OWN:
+    tests.untried.append(("an agent at another of this machine's addresses that isn't a loopback one", "it has none"))
+
+
+# Catches: a socket that is bound to 127.0.0.1, which then asks the others from there; a server that listens at all.
+@test("an agent at another of this machine's addresses is asked, from the address that the system chooses")
+def other_addresses():
+    return wrongs(*map(asked_at, filter(None, ["127.0.0.2", OWN])))
 
 
 # -- names of several addresses
