@@ -317,14 +317,20 @@ same 'an rt ci that fails' "1 FAILED: rt: status 1, and 2 tests failed 3 passed,
     "$(RT_DOES='[ "$1" != ci ] || { echo "1 passed, 2 failed"; exit 1; }' lines=2 gate)"
 same 'an rt ci that says no counts' "1 FAILED: rt: $not_so 2 passed, 1 failed, 0 skipped" \
     "$(RT_DOES='[ "$1" != ci ] || { echo "all is well"; exit; }' lines=2 gate)"
-same 'an rt ci that builds nothing' 1 \
-    "$(RT_DOES='[ "$1" != ci ] || { echo "1 passed, 0 failed"; exit; }' gate | cut -d ' ' -f 1)"
+nothing='[ "$1" != ci ] || { echo "1 passed, 0 failed"; exit; }'
+none() {
+    same "$1" '1 rt ci built none 3 passed, 1 failed, 0 skipped' \
+        "$(RT_DOES=$nothing lines=2 gate | sed 's/FAILED: .*: rt/rt/')"
+}
+none 'an rt ci that builds nothing'
 built
 mkdir -p "$tree/crates/other/out"
 cp /bin/true "$tree/crates/other/out/other"
 echo 'another' >>"$tree/crates/low/src/lib.rt"
-same 'an rt ci that leaves programs of other sources' 1 \
-    "$(RT_DOES='[ "$1" != ci ] || { echo "1 passed, 0 failed"; exit; }' gate | cut -d ' ' -f 1)"
+none 'an rt ci that leaves programs of other sources'
+tree
+gate >"$got/last"
+same 'an rt ci that leaves programs of these sources' '0 14 passed, 0 failed, 0 skipped' "$(RT_DOES=$nothing gate)"
 tree
 printf '%s\n' '#!/bin/sh' 'echo "12 crates are as their edits were tried"; exit 1' >"$tree/tests/edits.py"
 same 'edits that were not tried over what stands here' \
