@@ -224,7 +224,8 @@ mkdir "$tree/crates/snmp_bare"
 in_tree ./snmp snmpget table:f.txt >"$got/out"
 same 'an unproved run: without --mib' 'try snmp_bare' "$(sed -n 's/ begins$//p' "$CALLS" | tail -n 1)"
 
-# wide LANES: seven libraries, of which five stand on the first, and of these one is below another and has most files.
+# wide LANES SECONDS: seven libraries, of which five stand on the first, and of these one is below another and has most
+# files; the proof of each takes so long.
 wide() {
     tree
     local crate
@@ -236,16 +237,16 @@ wide() {
     seq 1000 >"$tree/crates/f/src/lib.rt"
     seq 200 >"$tree/crates/c/src/lib.rt"
     export LANES=$1
-    RT_DOES='[ "$1" != check ] || sleep 0.2' in_tree ./snmp --build >"$got/out"
+    RT_DOES="[ \"\$1\" != check ] || sleep $2" in_tree ./snmp --build >"$got/out"
     unset LANES
 }
 # The most that ran at once.
 most() { awk '/ begins$/ { n++; if (n > most) most = n } / ends$/ { n-- } END { print most }' "$CALLS"; }
-wide 1
+wide 1 0
 same 'one crate at a time, the longest chain first' 'a f c b d e g' \
     "$(sed -n 's/^check \(.\) begins$/\1/p' "$CALLS" | paste -sd ' ')"
 same 'one crate at a time' 1 "$(most)"
-wide 3
+wide 3 1.5
 same 'three crates side by side' 3 "$(most)"
 same 'each library is proved once, and no other crate' 'a b c d e f g' \
     "$(sed -n 's/^check \(.*\) begins$/\1/p' "$CALLS" | sort | paste -sd ' ')"
@@ -303,8 +304,8 @@ part 'echo "0 passed, 0 failed, 2 skipped"'
 fails 'a part that skips tests without a reason' '2 tests were skipped, and nothing says why' \
     '12 passed, 1 failed, 2 skipped'
 part 'sleep 60 & echo "1 passed, 0 failed, 0 skipped"; sleep 60'
-export PART_SECONDS=2
-fails 'a part that does not end' 'not done after 2 seconds' '12 passed, 1 failed, 0 skipped'
+export PART_SECONDS=8
+fails 'a part that does not end' 'not done after 8 seconds' '12 passed, 1 failed, 0 skipped'
 unset PART_SECONDS
 part 'echo "not tried: zsh: no zsh here" >&2' 'echo "0 passed, 0 failed, 2 skipped"'
 same 'a part that skips all with a reason' \

@@ -41,7 +41,7 @@ FOLDER = tempfile.TemporaryDirectory(dir="/tmp")
 # Each way to be wrong, with words of the titles of the tests of edge.py that catch it.
 AT_THE_EDGE = {
     "BOUND_TO_LOOPBACK": ["have one socket", "another of this machine's addresses"],
-    "BOUND_TO_ALL": ["an agent at 127.0.0.2"],
+    "BOUND_TO_ALL": ["another of this machine's addresses is asked"],
     "SECOND_SOCKET": ["open one socket, and send"],
     "ANY_FAMILY": ["of a host's addresses"],
     "LAST_ADDRESS": ["of a host's addresses"],
