@@ -89,7 +89,7 @@ NAMES = {
     "IF-INVERTED-STACK-MIB::ifInvCompliance": ".1.3.6.1.2.1.77.1.2.2.1",
     "ENTITY-SENSOR-MIB::entitySensorValueGroup": ".1.3.6.1.2.1.99.3.2.1",
     "EtherLike-MIB::dot3Compliance2": ".1.3.6.1.2.1.35.2.2.4",
-    "MAU-MIB::mauModIfCompl3": ".1.3.6.1.2.1.26.6.1.5",
+    "MAU-MIB::mauModIfCompl3": ".1.3.6.1.2.1.26.6.1.1.5",
     "Printer-MIB::prtMIB2Compliance": ".1.3.6.1.2.1.43.2.3",
     "UPS-MIB::upsSubsetCompliance": ".1.3.6.1.2.1.33.3.1.1",
     "SNMP-TARGET-MIB::snmpTargetCommandResponderCompliance": ".1.3.6.1.6.3.12.3.1.1",
@@ -291,8 +291,7 @@ def joined():
 def chosen():
     """Files of just the modules that are needed load without a warning, and show what all modules do."""
     def join(*words):
-        ran = subprocess.run(["tools/join-modules", *words], cwd=TOP, capture_output=True, text=True)
-        return ran.returncode, ran.stdout, ran.stderr
+        return tuple(programs.ran(["tools/join-modules", *words], cwd=TOP))
     with tempfile.TemporaryDirectory() as folder:
         def kept(name, *words):
             status, text, said = join(*words)
@@ -317,7 +316,8 @@ def chosen():
         for file in plain, short:
             check(f"a walk by {os.path.basename(file)}", run("snmpwalk", "--mib", file, TABLE, "ifXTable"), lines)
         check("--terse leaves out comments and descriptions",
-              re.findall(r'--|"[^"]*[a-z]{3} [^"]*"', text_of(short)), [])
+              re.findall('--.*|(?:DESCRIPTION|CONTACT-INFO|ORGANIZATION)(?!"").*|REFERENCE|REVISION',
+                         text_of(short)), [])
         check("and with them a third", len(text_of(short)) < len(text_of(plain)) * 2 / 3, True)
         terse = kept("terse.txt", "--terse")
         check("all modules so", run("snmptranslate", "--mib", terse, "-On", *NAMES),
@@ -329,7 +329,7 @@ def chosen():
         with open(f"{folder}/vendor.txt", "w", encoding="ascii") as file:
             file.write(VENDOR)
         path = kept("vendor-terse.txt", "--terse", "--mib", f"{folder}/vendor.txt", "VENDOR-MIB")
-        check("a vendor's module needs IF-MIB", sorted(re.findall(r"^(\S+) DEFINITIONS", text_of(path), re.M)),
+        check("a vendor's module needs IF-MIB", sorted(re.findall(r"^(\S+) DEFINITIONS::=BEGIN", text_of(path), re.M)),
               sorted([*wanted, "VENDOR-MIB"]))
         check("and its names and units are there", run("snmptranslate", "--mib", path, "-Td", "vendorCount"),
               (0, VENDOR_DETAILS, ""))
@@ -619,12 +619,18 @@ def old_imports():
                   "-On", name), (0, number, twice))
         check("and behind it none", run("snmptranslate", *mibs([ALL, f"{folder}/full.txt"]), "-On", name),
               (1, "", f"{twice}Unknown name: {name}\n"))
-        cured = f"{folder}/cured.txt"
-        with open(cured, "w", encoding="ascii") as file:
-            subprocess.run(["sed", "-E", "-e", CURE[0], "-e", CURE[1], f"{folder}/traps.txt"], stdout=file, check=True)
+        cured = cure(f"{folder}/traps.txt", folder)
         check("a module without its traps",
               run("snmptranslate", *mibs([cured, ALL]), "-On", "trapsState.0", "trapsEnd"),
               (0, ".1.3.6.1.4.1.32473.8.1.0\n.1.3.6.1.4.1.32473.8.2\n", ""))
+
+
+def cure(path, folder):
+    """Makes a text of SMIv1 loadable, in this folder."""
+    with open(f"{folder}/cured.txt", "wb") as file:
+        check(f"sed -E over {os.path.basename(path)}",
+              programs.ran(["sed", "-E", "-e", CURE[0], "-e", CURE[1], path], stdout=file), (0, "", ""))
+    return f"{folder}/cured.txt"
 
 
 def published(root):
@@ -635,19 +641,20 @@ def published(root):
         counts.left_out("RFC1213-MIB as published", "erlang-snmp isn't there")
     for name, path in paths.items():
         with tempfile.TemporaryDirectory() as folder:
-            with open(f"{folder}/cured.txt", "w", encoding="ascii") as file:
-                subprocess.run(["sed", "-E", "-e", CURE[0], "-e", CURE[1], path], stdout=file, check=True)
+            cured = cure(path, folder)
             said = "snmp: RFC1213-MIB is loaded twice\n" if name == "RFC1213-MIB" else ""
             check(f"{name} as published loads",
-                  run("snmptranslate", *mibs([f"{folder}/cured.txt", ALL]), "-On", f"{name}::sysDescr"),
+                  run("snmptranslate", *mibs([cured, ALL]), "-On", f"{name}::sysDescr"),
                   (0, ".1.3.6.1.2.1.1.1\n", said))
 
 
 def captures():
     """tools/lines-to-table reads lines that end with CR LF, and tells of those without types in one line."""
     def turn(text):
-        ran = subprocess.run(["tools/lines-to-table"], cwd=TOP, capture_output=True, input=text.encode())
-        return ran.returncode, ran.stdout.decode(), ran.stderr.decode()
+        with tempfile.TemporaryFile() as file:
+            file.write(text.encode())
+            file.seek(0)
+            return tuple(programs.ran(["tools/lines-to-table"], cwd=TOP, stdin=file))
     lines = run("snmpbulkwalk", "-Onx", "table:examples/switch.tab", ".1")[1]
     table = turn(lines)
     check("a capture from .1 has LLDP", (table[0], "\n1.0.8802." in f"\n{table[1]}", table[2]), (0, True, ""))
