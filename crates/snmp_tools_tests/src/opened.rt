@@ -293,39 +293,37 @@ fn a_request_is_sent_six_times_at_most(rt: HostRuntime) -> Result<(), Fail> {
     )
 }
 
+/// Command lines that send nothing.
+const NOTHING_SENT: &[Asking<'static>] = &[
+    (
+        (
+            "snmp snmpwalk -On table:t.tab .1.3.6.1.4.1.32473.1",
+            THREE_LINES,
+            "",
+            0,
+        ),
+        0,
+        &[],
+    ),
+    (("snmp snmptranslate -On iso", ".1\n", "", 0), 0, &[]),
+    (
+        ("snmp snmpwalk device x", "", "Unknown name: x\n", 1),
+        0,
+        &[],
+    ),
+    (
+        (
+            "snmp snmpwalk device .3",
+            "",
+            "Name cannot be sent: .3\n",
+            1,
+        ),
+        1,
+        &[],
+    ),
+];
+
 #[test]
 fn without_an_agent_no_link_is_opened(rt: HostRuntime) -> Result<(), Fail> {
-    assert_asks(
-        &rt,
-        rt.alloc(),
-        &[],
-        &[
-            (
-                (
-                    "snmp snmpwalk -On table:t.tab .1.3.6.1.4.1.32473.1",
-                    THREE_LINES,
-                    "",
-                    0,
-                ),
-                0,
-                &[],
-            ),
-            (("snmp snmptranslate -On iso", ".1\n", "", 0), 0, &[]),
-            (
-                ("snmp snmpwalk device x", "", "Unknown name: x\n", 1),
-                0,
-                &[],
-            ),
-            (
-                (
-                    "snmp snmpwalk device .3",
-                    "",
-                    "Name cannot be sent: .3\n",
-                    1,
-                ),
-                1,
-                &[],
-            ),
-        ],
-    )
+    assert_asks(&rt, rt.alloc(), &[], NOTHING_SENT)
 }
