@@ -1,6 +1,6 @@
 //! Table files whose names are read by the nodes of loaded modules.
 
-use crate::run::{Held, NO_LIMITS, assert_prints, assert_runs_within};
+use crate::run::{Held, NO_LIMITS, Run, assert_prints, assert_runs_within};
 
 /// A module without a warning: a table with a column whose index is a string.
 const NAMED: &[u8] = b"NAMED-MIB DEFINITIONS ::= BEGIN
@@ -76,37 +76,77 @@ NAMED-MIB::named.5.0 = No Such Object available on this agent at this OID\n",
     );
 }
 
-#[test]
-fn texts_that_the_modules_dont_know_are_refused(rt: HostRuntime) {
-    let faults = [
-        ("label.tab", "label.tab:3: bad name\n"),
-        ("module.tab", "module.tab:2: bad name\n"),
-        ("root.tab", "root.tab:2: bad name\n"),
-        ("child.tab", "child.tab:2: bad name\n"),
-        ("object.tab", "object.tab:2: bad name\n"),
-        ("value.tab", "value.tab:2: bad value\n"),
-        ("bar.tab", "bar.tab:2: bad value\n"),
-        ("open.tab", "open.tab:2: bad line\n"),
-        ("double.tab", "double.tab:3: double name\n"),
-        ("first.tab", "first.tab:1: bad name\n"),
-    ];
-    for (path, message) in faults {
-        let line = format!(in rt.alloc();
-            "snmp snmpwalk --mib=named.txt table:{path} named"
-        ).expect(&rt, "memory");
-        assert_runs_within(
-            &rt,
-            rt.alloc(),
-            FILES,
-            NO_LIMITS,
-            &[(&line, "", message, 1)],
-        );
-    }
-    let unread = (
+/// Walks over the tables with a fault, and one over names without a module.
+const REFUSED: &[Run<'static>] = &[
+    (
+        "snmp snmpwalk --mib=named.txt table:label.tab named",
+        "",
+        "label.tab:3: bad name\n",
+        1,
+    ),
+    (
+        "snmp snmpwalk --mib=named.txt table:module.tab named",
+        "",
+        "module.tab:2: bad name\n",
+        1,
+    ),
+    (
+        "snmp snmpwalk --mib=named.txt table:root.tab named",
+        "",
+        "root.tab:2: bad name\n",
+        1,
+    ),
+    (
+        "snmp snmpwalk --mib=named.txt table:child.tab named",
+        "",
+        "child.tab:2: bad name\n",
+        1,
+    ),
+    (
+        "snmp snmpwalk --mib=named.txt table:object.tab named",
+        "",
+        "object.tab:2: bad name\n",
+        1,
+    ),
+    (
+        "snmp snmpwalk --mib=named.txt table:value.tab named",
+        "",
+        "value.tab:2: bad value\n",
+        1,
+    ),
+    (
+        "snmp snmpwalk --mib=named.txt table:bar.tab named",
+        "",
+        "bar.tab:2: bad value\n",
+        1,
+    ),
+    (
+        "snmp snmpwalk --mib=named.txt table:open.tab named",
+        "",
+        "open.tab:2: bad line\n",
+        1,
+    ),
+    (
+        "snmp snmpwalk --mib=named.txt table:double.tab named",
+        "",
+        "double.tab:3: double name\n",
+        1,
+    ),
+    (
+        "snmp snmpwalk --mib=named.txt table:first.tab named",
+        "",
+        "first.tab:1: bad name\n",
+        1,
+    ),
+    (
         "snmp snmpwalk table:named.tab .1",
         "",
         "named.tab:2: bad name\n",
         1,
-    );
-    assert_runs_within(&rt, rt.alloc(), FILES, NO_LIMITS, &[unread]);
+    ),
+];
+
+#[test]
+fn texts_that_the_modules_dont_know_are_refused(rt: HostRuntime) {
+    assert_runs_within(&rt, rt.alloc(), FILES, NO_LIMITS, REFUSED);
 }
