@@ -132,7 +132,8 @@ class Folder:
 
     def __init__(self, path, fleet):
         self.path, self.fleet, self.said = path, fleet, ""
-        self.environment = {**os.environ, "PATH": f"{path}/bin:{os.environ['PATH']}", "HOME": path, "LC_ALL": "C"}
+        self.environment = {**os.environ, "PATH": f"{path}/bin:{os.environ['PATH']}", "HOME": path, "LC_ALL": "C",
+                            "COMMUNITY": "public"}
         os.mkdir(f"{path}/bin")
         shutil.copy(PROGRAM, f"{path}/bin/snmp")
 
@@ -319,7 +320,7 @@ def for_a_collector(folder, block):
               for name, (_, value, _) in held.items() if name[:-1] == RECEIVED]
     return [wrong, differs(sorted(point[1] for point in points), sorted(wanted)),
             differs([point[0] for point in points if not begun <= int(point[2]) <= time.time()], []),
-            differs(messages(folder), sorted(said for _, said in folder.fleet.failing.values()))]
+            differs(messages(folder), sorted(f"{place} {said}" for place, (_, said) in folder.fleet.failing.items()))]
 
 
 TESTS = {"The devices": [the_devices], "A file for each device": [files_of_devices], "What failed": [what_failed],

@@ -571,8 +571,9 @@ def translations(files):
             labels += [f"{module}::{label}"] if label else []
         numbers = run("snmptranslate", "--mib", ALL, "-On", *labels)[1].split()
         check(f"each label of {file} has numbers", len(numbers), len(labels))
-        check(f"each number of {file} has its label", run("snmptranslate", "--mib", ALL, *numbers),
-              (0, "".join(f"{TWICE.get(label, label)}\n" for label in labels), ""))
+        if labels:
+            check(f"each number of {file} has its label", run("snmptranslate", "--mib", ALL, *numbers),
+                  (0, "".join(f"{TWICE.get(label, label)}\n" for label in labels), ""))
 
 
 def beside():
