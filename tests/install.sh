@@ -194,4 +194,63 @@ same 'an uninstall leaves what was changed, and says so' "1 snmp: $got/usr/share
 same 'an uninstall leaves nothing else' 'usr/share/snmp/examples/three.tab' "$(there)"
 same 'an uninstall where none is' "snmp: $got/usr/share/snmp/installed: cannot be read, so nothing is known of an install there" \
     "$(uninstall_of usr)"
+
+# -- packages, of the built program and a commit
+
+package='packages of the built program'
+packaged=''
+if ! tests/is-current crates/snmp/out/snmp 2>/dev/null; then
+    chosen "$package" && skipped=$((skipped + 1)) && echo "not tried: $package: the program isn't built" >&2
+elif [ -n "$(git status --porcelain 2>&1 | head -n 1)" ]; then
+    chosen "$package" && skipped=$((skipped + 1)) && echo "not tried: $package: the checkout isn't a commit" >&2
+else
+    packaged=yes
+fi
+three='.1.3.6.1.4.1.32473.1.1.0 = INTEGER: 1
+.1.3.6.1.4.1.32473.1.2.0 = STRING: "wes"
+.1.3.6.1.4.1.32473.1.10.0 = INTEGER: 3'
+
+# session ROOT: what the first walk of README prints, by the program below this folder.
+session() { "$1/bin/snmp" snmpwalk -On "table:$1/share/snmp/examples/three.tab" .1.3.6.1.4.1.32473.1 2>&1; }
+
+if [ -n "$packaged" ]; then
+    version=$(crates/snmp/out/snmp --version | cut -d ' ' -f 2)
+    line="snmp $version: commit $(git rev-parse HEAD), proved and built by $(grep -o 'rattle-kit-[0-9a-z]* logic [0-9a-f]*' README.md |
+        head -n 1); SHA-256 of bin/snmp $(sha256sum <crates/snmp/out/snmp | cut -d ' ' -f 1)"
+    tools/package "$got/first" 2>"$got/err"
+    same "$package: they are written" 0 $?
+    tools/package "$got/second" 2>"$got/err"
+    same "$package: they come out the same twice" "$(cd "$got/first" && sha256sum -- *)" "$(cd "$got/second" && sha256sum -- *)"
+    mkdir "$got/unpacked"
+    tar -xzf "$got/first/snmp-$version-$(uname -m).tar.gz" -C "$got/unpacked"
+    same "$package: the archive's program runs" "$three" "$(session "$got/unpacked/snmp-$version")"
+    same "$package: the archive says what it was built from" "$line" "$(cat "$got/unpacked/snmp-$version/share/doc/snmp/BUILD")"
+    if has 5 "$package: Debian's" dpkg-deb dpkg; then
+        root=$got/root
+        mkdir -p "$root/var/lib/dpkg/info" "$root/var/lib/dpkg/updates"
+        : >"$root/var/lib/dpkg/status"
+        debian() { dpkg --root="$root" --force-depends --force-not-root --log=/dev/null "$@" 2>&1; }
+        debian --install "$got"/first/*.deb >"$got/out"
+        same "$package: Debian's program runs" "$three" "$(session "$root/usr")"
+        same "$package: Debian's says what it was built from" "$line" "$(cat "$root/usr/share/doc/proved-snmp/BUILD")"
+        same "$package: Debian's has its files below /usr" '' \
+            "$(dpkg-deb -c "$got"/first/*.deb | awk '$6 !~ "^\\./(usr/.*)?$" { print $6 }')"
+        same "$package: Debian's takes no file of Debian's snmp and snmpd" '' "$(for other in snmp snmpd; do
+            dpkg -L $other 2>/dev/null | while read -r file; do
+                [ -d "$file" ] || [ ! -e "$root$file" ] || echo "$file"
+            done
+        done)"
+        debian --purge proved-snmp >"$got/out"
+        same "$package: Debian's goes without a trace" '' "$(find "$root" -path "$root/var/lib/dpkg" -prune -o -type f -print)"
+    fi
+    same "$package: no folder" 'package: usage: tools/package FOLDER' "$(tools/package 2>&1)"
+fi
+mkdir -p "$got/checkout/tests"
+cp -r tools README.md "$got/checkout"
+cp tests/is-current "$got/checkout/tests"
+mkdir -p "$got/checkout/crates/snmp/src"
+echo 'snmp:' >"$got/checkout/crates.txt"
+same "a package of no program is refused" 'package: the program has to be built first: ./snmp --build' \
+    "$("$got/checkout/tools/package" "$got/none" 2>&1 | tail -n 1)"
+count 'a package that is refused leaves nothing' "$([ ! -e "$got/none" ] || echo 'a folder is left')"
 end
