@@ -3,14 +3,20 @@
 // The program is run by its words again and again: its i-th request for memory is refused alone, and then with all
 // later ones, for i from 1 until a run asks for fewer, so that none is refused. Each answer is printed once: which
 // requests were refused (`none`, one `alone`, or one and `later` ones), how often it came, the first and the last i of
-// it, the status (128 and more for a signal), how many blocks were kept at the end, and what was written to output and
-// error output, in hexadecimal, `-` for nothing.
+// it, the status (128 and more for a signal), how many blocks were kept at the end, how many requests came between two
+// of MARK octets, -1 where there weren't two, and what was written to output and error output, in hexadecimal, `-` for
+// nothing.
+//
+// Built with -DCOUNTS it refuses nothing, and the program is run once: as it ends, it is told on error output how often it
+// called recvfrom and sendto, and how many requests came from the first to the last of these.
 #define _GNU_SOURCE
+#include <dlfcn.h>
 #include <stddef.h>
 #include <stdio.h>
 #include <stdlib.h>
 #include <string.h>
 #include <sys/mman.h>
+#include <sys/socket.h>
 #include <sys/wait.h>
 #include <unistd.h>
 
@@ -18,29 +24,43 @@ void *__libc_malloc(size_t size);
 void *__libc_realloc(void *block, size_t size);
 void __libc_free(void *block);
 
+// What a wrong program does where it is refused memory.
+#ifndef ON_REFUSAL
+#define ON_REFUSAL
+#endif
+
+// A size that only marks in heap_checks ask for.
+#define MARK 77777
+
 // What a run and this share.
 static struct run {
-    unsigned long first, last, asked, refused;
-    long kept;
+    unsigned long first, last, asked, refused, marks, marked;
+    long kept, between;
 } *run;
 
-static int refuses(void) {
+static int refuses(size_t size) {
     if (run == NULL) return 0;
     run->asked++;
+    if (size == MARK) {
+        run->between = run->marks == 1 ? (long)(run->asked - run->marked - 1) : -1;
+        run->marked = run->asked;
+        run->marks++;
+    }
     if (run->asked < run->first || run->asked > run->last) return 0;
     run->refused++;
+    ON_REFUSAL;
     return 1;
 }
 
 void *malloc(size_t size) {
-    void *block = refuses() ? NULL : __libc_malloc(size);
+    void *block = refuses(size) ? NULL : __libc_malloc(size);
     if (run != NULL) run->kept += block != NULL;
     return block;
 }
 
 void *realloc(void *block, size_t size) {
     if (block == NULL) return malloc(size);
-    return refuses() ? NULL : __libc_realloc(block, size);
+    return refuses(size) ? NULL : __libc_realloc(block, size);
 }
 
 void free(void *block) {
@@ -48,12 +68,43 @@ void free(void *block) {
     __libc_free(block);
 }
 
+#ifdef COUNTS
+static __typeof__(&recvfrom) next_recvfrom;
+static __typeof__(&sendto) next_sendto;
+static unsigned long calls, at_first_call, at_last_call;
+
+static void call(void) {
+    at_last_call = run->asked;
+    if (calls++ == 0) at_first_call = at_last_call;
+}
+
+ssize_t recvfrom(int s, void *restrict b, size_t n, int f, struct sockaddr *restrict a, socklen_t *restrict an) {
+    call();
+    return next_recvfrom(s, b, n, f, a, an);
+}
+
+ssize_t sendto(int s, const void *b, size_t n, int f, const struct sockaddr *a, socklen_t an) {
+    call();
+    return next_sendto(s, b, n, f, a, an);
+}
+
+__attribute__((constructor)) static void begin(void) {
+    static struct run only = {.between = -1};
+    next_recvfrom = dlsym(RTLD_NEXT, "recvfrom");
+    next_sendto = dlsym(RTLD_NEXT, "sendto");
+    run = &only;
+}
+
+__attribute__((destructor)) static void end(void) {
+    dprintf(2, "%lu requests in %lu calls\n", at_last_call - at_first_call, calls);
+}
+#else
 #define ANSWERS 2048
 enum { NONE, ALONE, LATER };
 static struct answer {
     unsigned long times, from, to;
     int refused, status;
-    long kept;
+    long kept, between;
     size_t length[2];
     char *text[2];
 } answers[ANSWERS];
@@ -63,7 +114,8 @@ static void note(struct answer *got) {
     size_t i = 0;
     while (i < count) {
         struct answer *it = &answers[i];
-        int same = it->refused == got->refused && it->status == got->status && it->kept == got->kept;
+        int same = it->refused == got->refused && it->status == got->status && it->kept == got->kept &&
+            it->between == got->between;
         for (int to = 0; to < 2 && same; to++)
             same = it->length[to] == got->length[to] && !memcmp(it->text[to], got->text[to], got->length[to]);
         if (same) break;
@@ -79,7 +131,7 @@ static void note(struct answer *got) {
 // which then goes on to the program's `main`.
 static int goes_on(int files[2], unsigned long first, unsigned long last) {
     struct answer got = {.from = first, .to = first};
-    *run = (struct run){first, last, 0, 0, 0};
+    *run = (struct run){.first = first, .last = last, .between = -1};
     for (int to = 0; to < 2; to++)
         if (ftruncate(files[to], 0)) _exit(99);
     pid_t child = fork();
@@ -96,6 +148,7 @@ static int goes_on(int files[2], unsigned long first, unsigned long last) {
     got.refused = run->refused == 0 ? NONE : last == first ? ALONE : LATER;
     got.status = WIFSIGNALED(status) ? 128 + WTERMSIG(status) : WEXITSTATUS(status);
     got.kept = run->kept;
+    got.between = run->between;
     for (int to = 0; to < 2; to++) {
         got.length[to] = (size_t)lseek(files[to], 0, SEEK_END);
         got.text[to] = __libc_malloc(got.length[to] + 1);
@@ -121,7 +174,7 @@ __attribute__((constructor)) static void begin(void) {
     for (size_t i = 0; i < count; i++) {
         struct answer *it = &answers[i];
         const char *refused = it->refused == NONE ? "none" : it->refused == ALONE ? "alone" : "later";
-        printf("%s %lu %lu %lu %d %ld", refused, it->times, it->from, it->to, it->status, it->kept);
+        printf("%s %lu %lu %lu %d %ld %ld", refused, it->times, it->from, it->to, it->status, it->kept, it->between);
         for (int to = 0; to < 2; to++) {
             printf(it->length[to] ? " " : " -");
             for (size_t at = 0; at < it->length[to]; at++) printf("%02x", (unsigned char)it->text[to][at]);
@@ -131,3 +184,4 @@ __attribute__((constructor)) static void begin(void) {
     fflush(stdout);
     _exit(0);
 }
+#endif

@@ -7,23 +7,26 @@ usage: heap.py [WORD..]
 Each run has its whole answer, or is refused, and what was to be changed is as it was; each block that it took is given
 back. Of a command line that is refused, what is written is whole lines from the beginning of its text, and 'Out of
 memory.' with status 1 (or that of an agent's error). Where no request was refused, the answer is the whole one, with
-the message of its own reason; so it is where one was that can't end the call: memory for rows that are gathered, or
-where that was made once more. Tests run whose titles have one of the words; without words, all. The last line is 'N passed,
-M failed, K skipped'.
+the message of its own reason; so it is where one was that can't end the call: memory for rows that are gathered, to give
+room back, or where that was made once more. Of calls that ask for no memory the requests are counted, and of snmpd as it
+serves. Tests run whose titles have one of the words; without words, all. The last line is 'N passed, M failed,
+K skipped'.
 
 Catches, in wrong programs that prove as well: half a line where memory runs out; a beginning of the lines at status 0,
 or without a message; a line that is left out; a block that is kept; 'Out of memory.' where no request was refused; a
-run that gives up wherever one is.
+run that gives up wherever one is; a call that asks for memory where it says that it asks for none.
 """
 import hashlib
+import re
 import sys
 
 from lib import programs
 from lib.commands import lacks_compiler
 from lib.heaps import Heap
-from lib.messages import GET, NULL, RESPONSE, element, integer, message, read, served, text
+from lib.messages import (BULK, GET, NEXT, NULL, RESPONSE, SET, asking, element, integer, message, read, replied,
+                          served, text)
 from lib.ports import over_free_port
-from lib.rows import E, NO_LINK, NO_MEMORY, ROOT, WARNINGS
+from lib.rows import AGENT_ROWS, E, NO_LINK, NO_MEMORY, OBJECTS, R, ROOT, WARNINGS
 from lib.runner import Tests, differs, wrongs
 from lib.server import Server
 from lib.texts import NO_OBJECT, dotted
@@ -33,20 +36,26 @@ test = tests.test
 heap = Heap("heap")
 
 
-def judged(words, is_whole, is_refused, keeps=False, spared=0):
+def judged(words, is_whole, is_refused, keeps=False, spared=0, reads=0, between=-1):
     """What is wrong with the answers of a program, whose status, output and messages these are told; the second is told
     first whether one request was refused `alone`, or `later` ones too. Where requests are spared, none of the last, so
-    many at least, ends it alone: until then it is refused, but for one request perhaps of those for its words."""
+    many at least, ends it alone: until then it is refused, but for one request perhaps of those for its words. Where it
+    reads by so many requests first, those come after them, and don't end it together either. Where it makes two marks,
+    so many requests come between them."""
     ran = heap.run(words)
-    wrong, refusals, wholes, last_refused, last_whole = [], 0, 0, 0, 0
+    wrong, refusals, wholes, last_refused, last_whole, last_later = [], 0, 0, 0, 0, 0
     for line in ran.output.splitlines():
         how, *numbers, output, said = line.split(" ")
-        times, first, last, status, kept = (int(number) for number in numbers)
+        times, first, last, status, kept, came = (int(number) for number in numbers)
         answer = (status, *(bytes.fromhex(it.strip("-")).decode(errors="replace") for it in (output, said)))
         whole = is_whole(*answer)
         refusals += times * (how != "none")
         if not (whole or how != "none" and is_refused(how, *answer)) or (kept and not keeps):
             wrong.append(f"{how}, {times} times from the {first}. request on, {kept} blocks kept: {str(answer)[:300]}")
+        if how == "none" and came != between:
+            wrong.append(f"{came} requests between two marks, not {between}; -1 stands for no marks")
+        if how == "later" and not whole:
+            last_later = max(last, last_later)
         if how == "alone" and whole:
             wholes, last_whole = wholes + times, max(last, last_whole)
         elif how == "alone":
@@ -54,8 +63,10 @@ def judged(words, is_whole, is_refused, keeps=False, spared=0):
     if ran.status != 0 or ran.messages or refusals == 0:
         wrong.append(f"status {ran.status}, {ran.messages!r}, {refusals} runs were refused memory")
     late = last_whole - last_refused
-    if spared and (late < spared or wholes > late + 1):
+    if spared and (last_whole - max(last_refused, reads) < spared or wholes > late + 1):
         wrong.append(f"alone, whole at {wholes} requests, and {late} of these after the last at which it is refused")
+    if reads and last_later > reads:
+        wrong.append(f"refused where the {last_later}. request is, and those after it, but {reads} are for the reading")
     return wrongs(*wrong[:5])
 
 
@@ -79,13 +90,30 @@ def shown(rows):
     return served(rows, read(ASKED)).decode(errors="replace")
 
 
-def calls(title, check, a, b, whole, spared=0):
+def checked(title, check, a, b, whole, **how_many):
+    """What is wrong with a check of heap_checks, whose whole answer this is."""
+    files = [heap.put(f"{title.replace(' ', '_')}.{i}", octets) for i, octets in enumerate([a, b])]
+    refused = {"alone": [(1, "", "")], "later": [(1, "", ""), (3, "", "")]}
+    return judged([programs.CHECKS, check, *files], lambda *answer: answer == (0, whole, ""),
+                  lambda how, *answer: answer in refused[how], **how_many)
+
+
+def asked_in(check, a, b):
+    """How many requests a check of heap_checks makes."""
+    ran = heap.run([programs.CHECKS, check, *(heap.put(f"asked_in_{check}.{i}", it) for i, it in enumerate([a, b]))])
+    return next(int(line.split(" ")[2]) - 1 for line in ran.output.splitlines() if line.startswith("none "))
+
+
+def calls(title, check, a, b, whole, **how_many):
     @test(f"{title}, with each request for memory refused")
     def it():
-        files = [heap.put(f"{title.replace(' ', '_')}.{i}", octets) for i, octets in enumerate([a, b])]
-        refused = {"alone": [(1, "", "")], "later": [(1, "", ""), (3, "", "")]}
-        return judged([programs.CHECKS, check, *files], lambda *answer: answer == (0, whole, ""),
-                      lambda how, *answer: answer in refused[how], spared=spared)
+        return checked(title, check, a, b, whole, **how_many)
+
+
+def free_calls(title, check, a, b, whole):
+    @test(f"{title} asks for no memory")
+    def it():
+        return checked(title, check, a, b, whole, between=0)
 
 
 calls("Value::from_ref", "values",
@@ -115,6 +143,20 @@ LONG = b"a string of 43 octets, more than in a place"
 calls("Table::put of a long value", "put_long", TABLE, ASKED, shown({**ROWS, E + (1, 5, 0): text(LONG)}))
 calls("Table::put of a long value in place of another", "put_long", IN_PLACE, ASKED,
       shown({**ROWS, E + (1, 5, 0): text(LONG)}))
+
+
+# Each page gives room back more than once as its rows are removed. The requests for that come after those by which the
+# table is read.
+@test("Table::remove, with each request for memory refused")
+def removing():
+    full = {E + (1, i, 0): integer(i) for i in range(1, 301)}
+    table = "".join(f"{dotted(name)}|2|{name[-2]}\n" for name in full).encode()
+    asked = message(BULK, 1, [(E, NULL)], 0, 10)
+    stay = {name: value for name, value in full.items() if name[-2] in (64, 128, 192, 256, 300)}
+    reply = served(stay, read(asked)).decode(errors="replace")
+    return checked("Table::remove", "remove", table, asked, reply, spared=10, reads=asked_in("table", table, asked))
+
+
 GIVEN = "".join(f"{dotted(name)}\n{name[-2]}\n" for name in ROWS)
 calls("run_walk by GetNext", "walk", TABLE, f"{dotted(E)}.1".encode(), GIVEN, spared=10)
 calls("run_walk by GetBulk", "bulk_walk", TABLE, f"{dotted(E)}.1".encode(), GIVEN, spared=5)
@@ -153,6 +195,67 @@ tinyState OBJECT-TYPE
 ::= { iso(1) 3 6 internet(1) private(4) enterprises(1) tiny(32473) 1 }
 """
 calls("detail", "detail", TINY, ROOT.encode(), f"before: {DETAIL}")
+
+
+# -- calls that ask for no memory
+
+NO_MESSAGE = b"\x30" * 3000
+FREE = ROWS | {E + (2, 0): text(b"x" * 1400)}
+FREE_TABLE = TABLE + f"{dotted(E)}.2.0|4|{'x' * 1400}\n".encode()
+for title, request in {
+        "answer to a Get": ASKED, "answer to a Get of nothing": message(GET, 1, []),
+        "answer to a GetNext": message(NEXT, 1, [(name, NULL) for name in [*NAMES, E + (3,)]]),
+        "answer to a GetBulk": message(BULK, 1, [(E + (1, 1), NULL), (E, NULL)], 1, 100),
+        "answer to a Set": message(SET, 1, [(name, integer(7)) for name in NAMES]),
+        "answer that is tooBig": message(GET, 1, [(E + (2, 0), NULL)] * 2),
+        "answer to a request of 20,000 octets": asking(20000, BULK, NAMES * 10, 20, 9),
+        "answer to no message": NO_MESSAGE}.items():
+    free_calls(title, "free_answer", FREE_TABLE, request, "" if request == NO_MESSAGE else
+               replied(FREE, read(request), 1472).decode(errors="replace"))
+free_calls("run_walk by GetNext over a link with memory reserved", "free_walk", TABLE, f"{dotted(E)}.1".encode(), GIVEN)
+free_calls("run_walk by GetBulk over a link with memory reserved", "free_bulk_walk", TABLE, f"{dotted(E)}.1".encode(),
+           GIVEN)
+free_calls("run_get over a link with memory reserved", "free_get", TABLE, b"",
+           "".join(f"{dotted(name)}\n{shown}" for name, shown in zip(NAMES, ["4\n", "", "6\n"])))
+# The first nodes are roots, which no module defines.
+FIRST_CHILDREN = {".1.3.6.1": ".4", ".1.3.6.1.4": ".1", ".1.3.6.1.4.1": ".32473", dotted(E): ".1", f"{dotted(E)}.2": ".1",
+                  f"{dotted(E)}.2.1": ".1", f"{dotted(E)}.3": ".1", f"{dotted(E)}.3.1": ".1"}
+WITH_SYNTAX = [f"{dotted(E)}{rest}" for rest in (".1", ".2.1.1", ".2.1.2", ".3.1.1")]
+free_calls("each look-up of a loaded tree", "free_look_ups", TINY, b"", "".join(
+    (f"{name}\nin a module\n" if at > 2 else "") + f"{name}\n" * 2
+    + (f"{name}{FIRST_CHILDREN[name]}\n" if name in FIRST_CHILDREN else "")
+    + ("with a syntax\n" if name in WITH_SYNTAX else "") + ("with an index\n" if name in WITH_SYNTAX[1:] else "")
+    for at, name in enumerate(NODES)))
+for name, meaning in {'TINY-MIB::tinyMac."wes"': MAC, "tinyKeyUse.'wes'": f"{dotted(E)}.3.1.1.119.101.115",
+                      "iso.3.6.internet": ".1.3.6.1", "nosuch": "a fault"}.items():
+    free_calls(f"resolve of {name}", "free_resolve", TINY, name.encode(), f"{meaning}\n")
+free_calls("resolve of a name of 128 numbers", "free_resolve", TINY, b".1" * 128, ".1" * 128 + "\n")
+free_calls("resolve of a name of 129 numbers", "free_resolve", TINY, b".1" * 129, "a fault\n")
+for hint, kind in {b"2d-1d-1d,1d:1d:1d.1d,1a1d:1d": "of octets", b"*1x:" * 200: "of octets", b"d-2": "of integers",
+                   b"5": "no hint"}.items():
+    free_calls(f"Hint::parse of {hint[:30].decode()}", "free_hint", hint, b"", f"{kind}\n")
+
+
+# Requests of each kind, of none, and ones that have no reply; long ones too. The turns that are left bring nothing.
+@test("snmpd asks for no memory as it serves")
+def serving_is_free():
+    counting, wrong = Heap("heap"), []
+    counting.make("-DCOUNTS")
+    names = [R, *AGENT_ROWS, E + (10,)]
+    dropped = [b"", NO_MESSAGE, message(GET, 1, [(name, NULL) for name in names], community=b"other")]
+    requests = dropped + [message(GET, 1, []), message(SET, 1, [])]
+    requests += [asking(size, kind, names, 2, 40) for size in (1000, 30000) for kind in (GET, NEXT, BULK, SET)]
+    before = ["sh", "-c", 'cd "$0" && LD_PRELOAD=./heap.so exec "$@"', counting.folder.name]
+    with Server("--turns", str(2 * len(requests) + 10), before=before) as server:
+        for request in requests:
+            right = [] if request in dropped else [replied(AGENT_ROWS, read(request), 1472, OBJECTS)]
+            wrong.append(differs(server.ask(request), right))
+        ended = server.end()
+    counted = re.fullmatch(r"(\d+) requests in (\d+) calls\n", ended.messages)
+    if counted is None:
+        return wrongs(*wrong, repr(ended))
+    asked, called = map(int, counted.groups())
+    return wrongs(*wrong, differs((ended.status, asked), (0, 0)), "" if called > 4 * len(requests) else f"{called} calls")
 
 
 # -- the tools

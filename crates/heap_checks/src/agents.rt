@@ -78,7 +78,7 @@ pub fn table_with(
 }
 
 /// Appends the reply to a request.
-fn reply(table: &Table, request: &[u8], room: &mut Room<'_>) {
+pub(crate) fn reply(table: &Table, request: &[u8], room: &mut Room<'_>) {
     let mut octets = [0; 65507];
     if let Outcome::Reply(size) = answer(table, &CONFIG, request, &mut octets) {
         room.append(octets.get(..size).unwrap_or(&[]));
@@ -117,18 +117,10 @@ pub fn put(
     }
 }
 
-/// `Table::remove` of the rows of 1.3.6.1.4.1.32473.1.1.0 to 20000.0, but for each whose number is
-/// a multiple of `each`: the reply to a request then, and once the text is read again. What is held
-/// at most says what the rows that stay take.
-pub fn removed(
-    alloc: Global,
-    text: &[u8],
-    request: &[u8],
-    each: u32,
-    room: &mut Room<'_>,
-) -> Result<(), Fault> {
-    let mut table = table_of(alloc, text)?;
-    'rows: for number in 1..=20000_u32 {
+/// `Table::remove` of the rows of 1.3.6.1.4.1.32473.1.1.0 to `last`.0, but for each whose number is
+/// a multiple of `each`.
+fn remove_rows(table: &mut Table, each: u32, last: u32) -> Result<(), Fault> {
+    'rows: for number in 1..=last {
         if number % each.max(1) != 0 {
             let Ok(name) = Oid::from_slice(&[1, 3, 6, 1, 4, 1, 32473, 1, number, 0]) else {
                 return Err(Fault::Wrong);
@@ -138,8 +130,37 @@ pub fn removed(
             }
         }
     }
+    Ok(())
+}
+
+/// `Table::remove` of 20,000 rows, but for each whose number is a multiple of `each`: the reply to
+/// a request then, and once the text is read again. What is held at most says what the rows that
+/// stay take.
+pub fn removed(
+    alloc: Global,
+    text: &[u8],
+    request: &[u8],
+    each: u32,
+    room: &mut Room<'_>,
+) -> Result<(), Fault> {
+    let mut table = table_of(alloc, text)?;
+    remove_rows(&mut table, each, 20000)?;
     let whole = table_of(alloc, text)?;
     reply(&table, request, room);
     drop(whole);
+    Ok(())
+}
+
+/// `Table::remove` of 299 rows, but for each whose number is a multiple of 64: the reply to a
+/// request then.
+pub fn remove(
+    alloc: Global,
+    text: &[u8],
+    request: &[u8],
+    room: &mut Room<'_>,
+) -> Result<(), Fault> {
+    let mut table = table_of(alloc, text)?;
+    remove_rows(&mut table, 64, 299)?;
+    reply(&table, request, room);
     Ok(())
 }

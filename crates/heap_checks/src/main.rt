@@ -9,6 +9,7 @@
 #![tactic(auto)]
 
 mod agents;
+mod free;
 mod modules;
 mod room;
 mod texts;
@@ -97,6 +98,7 @@ fn check_by(
         "put_long" => agents::put(alloc, first, LONG, second, room),
         "half" => agents::removed(alloc, first, second, 2, room),
         "sparse" => agents::removed(alloc, first, second, 64, room),
+        "remove" => agents::remove(alloc, first, second, room),
         "walk" => walks::walk(alloc, first, second, Method::Next, room),
         "bulk_walk" => walks::walk(alloc, first, second, Method::Bulk(10), room),
         "reserved" => walks::reserved(alloc, first, second, room),
@@ -104,6 +106,27 @@ fn check_by(
         "tree" => modules::tree(alloc, first, room),
         "hint" => texts::hint(alloc, first, second, room),
         "lines" => texts::lines(alloc, first, second, room),
-        _ => texts::shown(alloc, check, first, second, room),
+        "name" | "value" | "line" | "detail" => texts::shown(alloc, check, first, second, room),
+        _ => free_by(alloc, check, first, second, room),
+    }
+}
+
+/// The check of this name, of calls that ask the heap for nothing.
+fn free_by(
+    alloc: Global,
+    check: &str,
+    first: &[u8],
+    second: &[u8],
+    room: &mut Room<'_>,
+) -> Result<(), Fault> {
+    match check {
+        "free_answer" => free::answered(alloc, first, second, room),
+        "free_walk" => free::walked(alloc, first, second, Method::Next, room),
+        "free_bulk_walk" => free::walked(alloc, first, second, Method::Bulk(10), room),
+        "free_get" => free::got(alloc, first, room),
+        "free_look_ups" => free::look_ups(alloc, first, room),
+        "free_resolve" => free::resolved(alloc, first, second, room),
+        "free_hint" => free::hint_parsed(alloc, first, room),
+        _ => Err(Fault::Wrong),
     }
 }

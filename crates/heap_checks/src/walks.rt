@@ -3,6 +3,7 @@
 use crate::Fault;
 use crate::agents::{CONFIG, table_of};
 use crate::room::Room;
+use snmp_agent::Table;
 use snmp_oid::parse_numeric;
 use snmp_walk::{Link, MemoryLink, Method, Mode, Sink, SinkFault, WalkCore, WalkEnd, run_walk};
 use snmp_wire::{Binding, ValueRef};
@@ -15,8 +16,8 @@ const REQUEST_SIZE: usize = 1000;
 
 /// Appends the name of each of its bindings, and its value where that is a string, as lines.
 #[derive(Drop)]
-struct Rows<'r, 'a> {
-    room: &'r mut Room<'a>,
+pub struct Rows<'r, 'a> {
+    pub room: &'r mut Room<'a>,
 }
 
 impl<'r, 'a> Sink for Rows<'r, 'a> {
@@ -31,8 +32,21 @@ impl<'r, 'a> Sink for Rows<'r, 'a> {
     }
 }
 
+/// A link to the agent of a table, which brings each reply.
+pub(crate) fn link_of<'a>(alloc: Global, table: &'a Table) -> MemoryLink<'a> {
+    MemoryLink::new(alloc, table, CONFIG, &[])
+}
+
+/// Reserves memory for a walk.
+pub(crate) fn reserve(link: &mut MemoryLink<'_>) -> Result<(), Fault> {
+    match link.reserve(REQUESTS, REQUESTS * REQUEST_SIZE) {
+        Ok(()) => Ok(()),
+        Err(_) => Err(Fault::Refused),
+    }
+}
+
 /// How the walk below a root ends; what it gives is appended.
-fn walk_over(
+pub(crate) fn walk_over(
     link: &mut MemoryLink<'_>,
     root: &[u8],
     method: Method,
@@ -62,7 +76,7 @@ pub fn walk(
     room: &mut Room<'_>,
 ) -> Result<(), Fault> {
     let table = table_of(alloc, text)?;
-    let mut link = MemoryLink::new(alloc, &table, CONFIG, &[]);
+    let mut link = link_of(alloc, &table);
     let mut octets = [0; 16384];
     let mut front = Room::new(&mut octets);
     match walk_over(&mut link, root, method, &mut front)? {
@@ -84,8 +98,8 @@ pub fn walk(
 /// as before, and serves one too.
 pub fn reserved(alloc: Global, text: &[u8], root: &[u8], room: &mut Room<'_>) -> Result<(), Fault> {
     let table = table_of(alloc, text)?;
-    let mut link = MemoryLink::new(alloc, &table, CONFIG, &[]);
-    let ready = link.reserve(REQUESTS, REQUESTS * REQUEST_SIZE).is_ok();
+    let mut link = link_of(alloc, &table);
+    let ready = reserve(&mut link).is_ok();
     match walk_over(&mut link, root, Method::Next, room)? {
         WalkEnd::Done(_) => Ok(()),
         WalkEnd::Link if !ready => Err(Fault::Again),

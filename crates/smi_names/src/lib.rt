@@ -23,7 +23,7 @@ mod name;
 mod nodes;
 
 pub use chains::{Resolution, ordered};
-pub use hash::NameHash;
+pub use hash::{KeySource, NameHash};
 pub use meaning::{
     Decider, Entries, Entry, Names, TypeBase, one_identifier, one_resolution, root_arc, root_label,
 };

@@ -34,6 +34,6 @@ pub use crate::name::{
 };
 pub use binding::{line, line_near, one_line, one_value, value_text};
 pub use smi_value::{Letters, NameForm};
-pub use text::{detail, name_text};
+pub use text::{detail, name_text, one_detail, one_name};
 pub use tree::{Found, Near, ShowTree};
 pub use writer::LineWriter;

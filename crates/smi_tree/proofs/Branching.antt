@@ -9,22 +9,22 @@ use Rattle.std.proofs.Math.Seq.{take-append_seam}
 use Rattle.std.proofs.lemmas.Option.{slice_get_past}
 use Rattle.std.specs.Option.{option_and_then}
 use Rattle.smi_tree.specs.branches.Standing.{place_of, oid_at, HasNoBeginning, IsDeepestAt}
-use Rattle.smi_tree.specs.branches.Branches.{follower, standing_at, walk, branch_of}
-use Rattle.smi_tree.specs.branches.Branches.{AreBranchesOf, SoFar, IsUnderWay}
+use Rattle.smi_tree.specs.branches.Branches.{follower, standing_at, walk, branch_of, IsBeginning}
+use Rattle.smi_tree.specs.branches.Branches.{AreBranches, AreBranchesOf, SoFar, IsUnderWay}
 use Rattle.smi_tree.specs.branches.Branches.{deeper_of}
 use Rattle.smi_tree.specs.branches.Branches.{GrowsBranch, there, made}
 use Rattle.snmp_oid.specs.Identifier.{IsBelow}
 use Rattle.smi_tree.specs.declared.branches.branch.Branch.{Branch}
 use Rattle.smi_tree.specs.declared.branches.identifiers.Deepest.{Deepest}
 use Rattle.smi_names.specs.meaning.Meaning.{or_else}
-use Rattle.smi_tree.proofs.Growing.{follower_past}
+use Rattle.smi_tree.proofs.Growing.{follower_past, standing_inside}
 use Rattle.smi_tree.proofs.PlacesLemmas.{place_found, place_push_itself, place_push_other}
 use Rattle.smi_tree.proofs.Walking.{same_or_not, walk-push, walk_front, walk_within, walk_made}
 use Rattle.smi_tree.proofs.Walking.{walk_kept, none_there, by_last}
 
 -- what no branch leads to is none of the identifiers
-pub place_off : (oids : List (List ℕ)) (bs : List Branch) → AreBranchesOf oids bs → (o : List ℕ) → branch_of bs o ≡ None → place_of oids o ≡ None
-place_off oids bs are o e = by (place_of oids o) refl
+pub place_off : (known oids : List (List ℕ)) (bs : List Branch) → AreBranches known oids bs → (o : List ℕ) → branch_of bs o ≡ None → place_of oids o ≡ None
+place_off known oids bs are o e = by (place_of oids o) refl
   where
     by : (r : Option ℕ) → place_of oids o ≡ r → r ≡ None
     by None h = refl
@@ -32,23 +32,23 @@ place_off oids bs are o e = by (place_of oids o) refl
         let f = place_found oids o k h in let b = are.each k f.0 in let same = rw f.1 at b.1 in absurd (cc)
 
 -- nor is anything that goes on from it
-pub places_off : (oids : List (List ℕ)) (bs : List Branch) → AreBranchesOf oids bs → (xs ys : List ℕ) → branch_of bs xs ≡ None
+pub places_off : (known oids : List (List ℕ)) (bs : List Branch) → AreBranches known oids bs → (xs ys : List ℕ) → branch_of bs xs ≡ None
     → place_of oids (xs ++ ys) ≡ None
-places_off oids bs are xs ys e = place_off oids bs are (xs ++ ys) (by (branch_of bs (xs ++ ys)) refl)
+places_off known oids bs are xs ys e = place_off known oids bs are (xs ++ ys) (by (branch_of bs (xs ++ ys)) refl)
   where
     by : (r : Option ℕ) → branch_of bs (xs ++ ys) ≡ r → r ≡ None
     by None h = refl
     by (Some c) h = let f = walk_front (follower bs) 0 xs ys c h in let there = f.1 in absurd (cc)
 
-module _ (oids : List (List ℕ)) (bs new : List Branch) (q : List ℕ) (at n : ℕ) (are : AreBranchesOf oids bs)
-    (here : branch_of bs q ≡ Some at) where
-  grown_there : (b : ℕ) → new ≡ bs → follower bs at n ≡ Some b → AreBranchesOf oids new × (branch_of new (q ++ n ∷ []) ≡ Some b)
+module _ (known oids : List (List ℕ)) (bs new : List Branch) (q : List ℕ) (at n : ℕ) (are : AreBranches known oids bs)
+    (here : branch_of bs q ≡ Some at) (begins : IsBeginning known (q ++ n ∷ [])) where
+  grown_there : (b : ℕ) → new ≡ bs → follower bs at n ≡ Some b → AreBranches known oids new × (branch_of new (q ++ n ∷ []) ≡ Some b)
   grown_there b e f = rw e (are, walk-push (follower bs) 0 q n ∙ rw here f)
 
   grown_made : length new ≡ length bs + 1 → follower bs at n ≡ None → follower new at n ≡ Some (length bs)
       → ((c m : ℕ) → (c ≡ at → m ≡ n → ⊥) → follower new c m ≡ follower bs c m)
       → ((c : ℕ) → standing_at new c ≡ standing_at bs c)
-      → AreBranchesOf oids new × (branch_of new (q ++ n ∷ []) ≡ Some (length bs))
+      → AreBranches known oids new × (branch_of new (q ++ n ∷ []) ≡ Some (length bs))
   grown_made long none leads others stands =
       let f = follower bs in let g = follower new in
       let past : (m : ℕ) → follower bs (length bs) m ≡ None = λ m. follower_past bs (length bs) m (omega arith) in
@@ -77,30 +77,37 @@ module _ (oids : List (List ℕ)) (bs new : List Branch) (q : List ℕ) (at n : 
           ];
           standing = λ o b e. elim (same_or_not o (q ++ n ∷ [])) [
             | inl s ↦ let is : length bs ≡ b = let w = rw s at e in cc in
-                stands b ∙ rw (sym is, slice_get_past bs (length bs) (omega arith)) (sym (rw s (place_off oids bs are (q ++ n ∷ []) off)))
+                stands b ∙ rw (sym is, slice_get_past bs (length bs) (omega arith)) (sym (rw s (place_off known oids bs are (q ++ n ∷ []) off)))
             | inr s ↦ stands b ∙ are.standing o b (sym (kept o s) ∙ e)
           ];
           each = λ k l. let b = are.each k l in elim (same_or_not (oid_at oids k) (q ++ n ∷ [])) [
             | inl s ↦ let w = rw s at b.1 in absurd (cc)
             | inr s ↦ (b.0, kept (oid_at oids k) s ∙ b.1)
           ];
-          reached = λ c p e. let r = are.reached c p (sym (stands c) ∙ e) in
-              (r.0, kept r.0 (λ s. let w = rw s at r.1 in absurd (cc)) ∙ r.1);
+          only = λ o b e f. elim (same_or_not o (q ++ n ∷ [])) [
+            | inl s ↦ rw s begins
+            | inr s ↦ are.only o b (sym (kept o s) ∙ e) f
+          ];
+          reached = λ c l. elim (cases_lt c (length bs)) [
+            | inl m ↦ let r = are.reached c m in (r.0, kept r.0 (λ s. let w = rw s at r.1 in absurd (cc)) ∙ r.1)
+            | inr m ↦ let is : length bs ≡ c = omega arith in (q ++ n ∷ [], came ∙ ap (λ x. Some x) is)
+          ];
         },
         came,
       )
 
-pub Branches-grown : (oids : List (List ℕ)) (bs new : List Branch) (q : List ℕ) (at n b : ℕ) → AreBranchesOf oids bs
-    → branch_of bs q ≡ Some at → GrowsBranch bs new at n b → AreBranchesOf oids new × (branch_of new (q ++ n ∷ []) ≡ Some b)
-Branches-grown oids bs new q at n b are here (there e f) = grown_there oids bs new q at n are here b e f
-Branches-grown oids bs new q at n b are here (made is long none leads others stands) =
-    rw is (grown_made oids bs new q at n are here long none (leads ∙ ap (λ x. Some x) is) others stands)
+pub Branches-grown : (known oids : List (List ℕ)) (bs new : List Branch) (q : List ℕ) (at n b : ℕ) → AreBranches known oids bs
+    → branch_of bs q ≡ Some at → IsBeginning known (q ++ n ∷ []) → GrowsBranch bs new at n b
+    → AreBranches known oids new × (branch_of new (q ++ n ∷ []) ≡ Some b)
+Branches-grown known oids bs new q at n b are here begins (there e f) = grown_there known oids bs new q at n are here begins b e f
+Branches-grown known oids bs new q at n b are here begins (made is long none leads others stands) =
+    rw is (grown_made known oids bs new q at n are here begins long none (leads ∙ ap (λ x. Some x) is) others stands)
 
 -- where numbers led to a branch they still do
-pub branch_kept : (oids : List (List ℕ)) (bs new : List Branch) (q : List ℕ) (at n b : ℕ) → AreBranchesOf oids bs
+pub branch_kept : (known oids : List (List ℕ)) (bs new : List Branch) (q : List ℕ) (at n b : ℕ) → AreBranches known oids bs
     → branch_of bs q ≡ Some at → GrowsBranch bs new at n b → (o : List ℕ) (c : ℕ) → branch_of bs o ≡ Some c → branch_of new o ≡ Some c
-branch_kept oids bs new q at n b are here (there e f) o c leads = rw e leads
-branch_kept oids bs new q at n b are here (made is long none new_at others stands) o c leads =
+branch_kept known oids bs new q at n b are here (there e f) o c leads = rw e leads
+branch_kept known oids bs new q at n b are here (made is long none new_at others stands) o c leads =
     let f = follower bs in let g = follower new in
     let past : (m : ℕ) → follower bs (length bs) m ≡ None = λ m. follower_past bs (length bs) m (omega arith) in
     let at_new : follower new at n ≡ Some (length bs) = new_at ∙ ap (λ x. Some x) is in
@@ -119,8 +126,26 @@ walk-same f g same at (n ∷ o) = rw (same at n) (by (f at n) (λ b. walk-same f
 pub branch-same : (bs new : List Branch) → ((c m : ℕ) → follower new c m ≡ follower bs c m) → (o : List ℕ) → branch_of new o ≡ branch_of bs o
 branch-same bs new same o = walk-same (follower bs) (follower new) same 0 o
 
+-- more is known
+pub Branches-known : (known oids : List (List ℕ)) (p : List ℕ) (bs : List Branch) → AreBranches known oids bs → AreBranches (known ++ p ∷ []) oids bs
+Branches-known known oids p bs are = record {
+  some = are.some;
+  within = are.within;
+  apart = are.apart;
+  standing = are.standing;
+  each = are.each;
+  only = λ o b e f. let r = are.only o b e f in
+      (r.0, r.1, omega (arith, r.2, length_push known p), get_or_append_left known (p ∷ []) [] r.0 r.2 ∙ r.3);
+  reached = are.reached;
+}
+
+-- the new identifier's own beginnings are known
+pub begins_push : (known : List (List ℕ)) (p : List ℕ) (j : ℕ) → IsBeginning (known ++ p ∷ []) (take j p)
+begins_push known p j =
+    (length known, drop j p, omega (arith, length_push known p), get_or_push known p [] (length known) refl ∙ sym (take-append-drop j p))
+
 -- the new identifier stands where its numbers lead, if none stands there
-pub Branches-ended : (oids : List (List ℕ)) (p : List ℕ) (bs new : List Branch) (at : ℕ) → AreBranchesOf oids bs
+pub Branches-ended : (oids : List (List ℕ)) (p : List ℕ) (bs new : List Branch) (at : ℕ) → AreBranches (oids ++ p ∷ []) oids bs
     → branch_of bs p ≡ Some at → length new ≡ length bs → ((c m : ℕ) → follower new c m ≡ follower bs c m)
     → standing_at new at ≡ or_else (standing_at bs at) (Some (length oids))
     → ((c : ℕ) → c ≢ at → standing_at new c ≡ standing_at bs c)
@@ -144,10 +169,8 @@ Branches-ended oids p bs new at are here long same stands others =
               ∙ rw (get_or_push oids p [] k is) here,
         )
       ];
-      reached = λ c k e. elim (cases_eq c at) [
-        | inl s ↦ (p, walks 0 p ∙ here ∙ ap (λ x. Some x) (sym s))
-        | inr s ↦ let r = are.reached c k (sym (others c s) ∙ e) in (r.0, walks 0 r.0 ∙ r.1)
-      ];
+      only = λ o b e f. are.only o b (sym (walks 0 o) ∙ e) f;
+      reached = λ c l. let r = are.reached c (omega (arith, l, long)) in (r.0, walks 0 r.0 ∙ r.1);
     }
 
 -- the branches of no identifier
@@ -160,16 +183,13 @@ Branches-none b none stands =
       apart = λ o p c eo ep. (only_first o c eo).0 ∙ sym (only_first p c ep).0;
       standing = λ o c e. rw (only_first o c e).1 stands;
       each = λ k l. absurd (omega arith);
-      reached = λ c k e. absurd (none_stands c k e);
+      only = λ o c e f. absurd (f (only_first o c e).0);
+      reached = λ c l. let is : 0 ≡ c = omega (arith, l) in ([], ap (λ x. Some x) is);
     }
   where
     none_at : (c n d : ℕ) → follower (b ∷ []) c n ≡ Some d → ⊥
     none_at zero n d e = let f = none n in cc
     none_at (suc c) n d e = cc
-
-    none_stands : (c k : ℕ) → standing_at (b ∷ []) c ≡ Some k → ⊥
-    none_stands zero k e = cc
-    none_stands (suc c) k e = cc
 
     step : (xs : List ℕ) (x c : ℕ) → option_and_then (λ d. follower (b ∷ []) d x) (branch_of (b ∷ []) xs) ≡ Some c → ⊥
     step xs x c e = by (branch_of (b ∷ []) xs) e
@@ -179,8 +199,8 @@ Branches-none b none stands =
         by (Some d) e = none_at d x c e
 
 -- a branch lies within
-pub branch_inside : (oids : List (List ℕ)) (bs : List Branch) → AreBranchesOf oids bs → (o : List ℕ) (b : ℕ) → branch_of bs o ≡ Some b → b < length bs
-branch_inside oids bs are = by_last (λ o. (b : ℕ) → branch_of bs o ≡ Some b → b < length bs)
+pub branch_inside : (known oids : List (List ℕ)) (bs : List Branch) → AreBranches known oids bs → (o : List ℕ) (b : ℕ) → branch_of bs o ≡ Some b → b < length bs
+branch_inside known oids bs are = by_last (λ o. (b : ℕ) → branch_of bs o ≡ Some b → b < length bs)
     (λ b e. let first : 0 ≡ b = cc in omega (arith, are.some))
     (λ xs x ih b e. step (branch_of bs xs) x b (sym (walk-push (follower bs) 0 xs x) ∙ e))
   where
@@ -240,7 +260,7 @@ none_beyond oids bs are o i at l e f j m =
     let none = branch_more bs o i at l e ∙ f in
     let split : take (i + 1) o ++ drop (i + 1) (take j o) ≡ take j o =
     rw (sym (take-take (i + 1) j o (omega arith))) (take-append-drop (i + 1) (take j o)) in
-    rw (sym split) (places_off oids bs are (take (i + 1) o) (drop (i + 1) (take j o)) none)
+    rw (sym split) (places_off oids oids bs are (take (i + 1) o) (drop (i + 1) (take j o)) none)
 
 pub SoFar-deeper : (oids : List (List ℕ)) (o : List ℕ) (i b : ℕ) (r : Option Deepest) (s : Option ℕ) → SoFar oids o i r → s ≡ place_of oids (take (i + 1) o)
     → SoFar oids o (i + 1) (deeper_of s b (i + 1) r)
@@ -252,7 +272,7 @@ pub way_known : (oids : List (List ℕ)) (bs : List Branch) → AreBranchesOf oi
     → oid_at oids place ≡ known → IsBelow o known
     → IsUnderWay oids bs o (length known) at (Some (record { place = place; depth = length known; branch = at }))
 way_known oids bs are o known at place stands read below =
-    let r = are.reached at place stands in
+    let r = are.reached at (standing_inside bs at place stands) in
     let there : place_of oids r.0 ≡ Some place = sym (are.standing r.0 at r.1) ∙ stands in
     let same : r.0 ≡ known = sym (place_found oids r.0 place there).1 ∙ read in
     let front : take (length known) o ≡ known = rw below.2 (take-append_seam known below.0) in

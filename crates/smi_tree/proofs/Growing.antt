@@ -1,9 +1,10 @@
 -- A branch is made.
 use Rattle.std.proofs.Common.{◌≡◌, ◌≢◌, ℕ, zero, suc, ◌<◌, ◌≤◌, inl, inr, List, [], ◌∷◌, ◌++◌}
-use Rattle.std.proofs.Common.{length, set, get_or, Some, None, refl, sym, ap, ◌∙◌, arith}
+use Rattle.std.proofs.Common.{length, set, get_or, Option, Some, None, refl, sym, ap, ◌∙◌, arith}
 use Rattle.std.proofs.lemmas.List.{length_push, length-set, get_or_append_left, get_or-set_same}
 use Rattle.std.proofs.lemmas.Bool.{cases_eq}
-use Rattle.std.proofs.lemmas.Option.{slice_get_past, slice_get_read}
+use Rattle.std.proofs.lemmas.Option.{slice_get_past, slice_get_read, slice_get_within}
+use Rattle.std.specs.Option.{option_and_then}
 use Rattle.std.specs.List.{slice_get}
 use Rattle.std.specs.Ordering.{nat_cmp}
 use Rattle.std.specs.BTreeMap.{get}
@@ -72,3 +73,11 @@ standing-set_other bs at b c f = rw (get-set_other bs at c b f) refl
 
 pub standing_read : (bs : List Branch) (at : ℕ) (a : Branch) → at < length bs → a ≡ get_or bs at a → standing_at bs at ≡ a.standing
 standing_read bs at a inside read = rw (slice_get_read bs (length bs) at a refl inside read) refl
+
+-- a place stands at a branch that is there
+pub standing_inside : (bs : List Branch) (at place : ℕ) → standing_at bs at ≡ Some place → at < length bs
+standing_inside bs at place e = by (slice_get bs at) refl e
+  where
+    by : (r : Option Branch) → slice_get bs at ≡ r → option_and_then (λ b. b.standing) r ≡ Some place → at < length bs
+    by None h f = absurd (cc)
+    by (Some b) h f = slice_get_within bs at b h

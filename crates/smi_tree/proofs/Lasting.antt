@@ -8,6 +8,7 @@ use Rattle.smi_tree.specs.branches.Branches.{follower, standing_at, branch_of, A
 use Rattle.snmp_oid.specs.Identifier.{IsBelow}
 use Rattle.smi_tree.specs.declared.branches.branch.Branch.{Branch}
 use Rattle.smi_tree.proofs.Branching.{places_off}
+use Rattle.smi_tree.proofs.Growing.{standing_inside}
 use Rattle.smi_tree.proofs.PlacesLemmas.{place_found}
 use Rattle.smi_tree.proofs.Walking.{walk-push}
 
@@ -15,7 +16,7 @@ use Rattle.smi_tree.proofs.Walking.{walk-push}
 pub none_below : (oids : List (List ℕ)) (bs : List Branch) → AreBranchesOf oids bs → (known : List ℕ) (at place : ℕ) → standing_at bs at ≡ Some place
     → oid_at oids place ≡ known → ((n : ℕ) → follower bs at n ≡ None) → HasNoneBelow oids known
 none_below oids bs are known at place stands read ends p below =
-    let r = are.reached at place stands in
+    let r = are.reached at (standing_inside bs at place stands) in
     let there : place_of oids r.0 ≡ Some place = sym (are.standing r.0 at r.1) ∙ stands in
     let same : r.0 ≡ known = sym (place_found oids r.0 place there).1 ∙ read in
     let here : branch_of bs known ≡ Some at = rw (sym same) r.1 in
@@ -25,7 +26,7 @@ none_below oids bs are known at place stands read ends p below =
     by [] some here = absurd (some refl)
     by (n ∷ more) some here =
         let off : branch_of bs (known ++ n ∷ []) ≡ None = walk-push (follower bs) 0 known n ∙ rw here (ends n) in
-        ap (place_of oids) (sym (append_assoc known (n ∷ []) more)) ∙ places_off oids bs are (known ++ n ∷ []) more off
+        ap (place_of oids) (sym (append_assoc known (n ∷ []) more)) ∙ places_off oids oids bs are (known ++ n ∷ []) more off
 
 -- what stands for one identifier stands for each that is below it
 pub deepest_below : (oids : List (List ℕ)) (o p root : List ℕ) (place depth : ℕ) → IsDeepestAt oids o place depth → root ≡ oid_at oids place

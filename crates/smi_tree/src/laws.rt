@@ -22,6 +22,16 @@ pub fn one_tree()
     one_loading();
 }
 
+/// An identifier has one deepest node at most: one place stands for its longest beginning in a list
+/// of identifiers, which has one length.
+///
+/// A law: the call does nothing, and its caller may use what it ensures.
+pub fn one_deepest()
+    ensures { (oids : List (List ℕ)) (o : List ℕ) (place other depth more : ℕ)
+        → IsDeepestAt oids o place depth → IsDeepestAt oids o other more
+        → (place ≡ other) × (depth ≡ more) }
+{}
+
 /// The tree of no modules has the roots alone, without warnings (RFC 2578, section 3.5).
 ///
 /// A law: the call does nothing, and its caller may use what it ensures.

@@ -4,7 +4,7 @@
 ghost use Rattle.std.specs.Prelude.{◌≡◌, ◌==◌, ℕ, List, Some, None, IfOk, OnOk, if◌then◌else◌};
 ghost use Rattle.std.specs.Prelude.{unwrap_or};
 ghost use Rattle.std.specs.List.{position_from};
-ghost use Rattle.indexmap.specs.IndexMap.{get};
+ghost use Rattle.indexmap.specs.IndexMap.{get, hasher_of};
 ghost use Rattle.smi_names.specs.meaning.Meaning.{or_else};
 ghost use Rattle.smi_names.specs.meaning.Names.{module_place};
 ghost use Rattle.smi_tree.specs.Places as places;
@@ -25,6 +25,7 @@ pub(crate) type Places = IndexMap<NameBuf, usize, NameHash>;
 pub(crate) type Others = IndexMap<(usize, usize), usize, NameHash>;
 
 /// The places of labels.
+#[derive(Drop)]
 pub(crate) struct LabelPlaces {
     /// The first source of each label.
     pub(crate) labels: Places,
@@ -41,6 +42,7 @@ fn put_first<K: Eq + Hash + Drop>(
     ensures put { OnOk result ((x : K) → get K.eq places.new x
         ≡ or_else (get K.eq places.old x) (if K.eq key x then Some place else None)) }
     ensures returned { IfOk result (λ p. p ≡ unwrap_or (get K.eq places.old key) place) }
+    ensures hashed { OnOk result (hasher_of places.new ≡ hasher_of places.old) }
 {
     Ok(*places.entry(key)?.or_insert(place))
 }
@@ -54,8 +56,9 @@ pub(crate) fn find(places: &Places, name: &[u8]) -> Option<usize>
 
 /// The place of each module, by its name: the first of those that have it.
 pub(crate) fn homes(alloc: Global, hash: NameHash, modules: &[Module]) -> Result<Places, AllocError>
-    ensures { IfOk result (λ homes. (x : List ℕ)
+    ensures placed { IfOk result (λ homes. (x : List ℕ)
         → kept_place homes x ≡ module_place modules.now x) }
+    ensures hashed { IfOk result (λ homes. hasher_of homes ≡ hash) }
 {
     let mut homes = IndexMap::with_hasher(alloc, hash);
     'modules: for (i, module) in modules.iter().enumerate() {
@@ -94,6 +97,8 @@ pub(crate) fn labels(
         ≡ position_from (places.has_label modules.now x) 0 sources.now) }
     ensures others { IfOk result
         (λ made. AreOthers modules.now sources.now made.others sources.now) }
+    ensures hashed { IfOk result
+        (λ made. (hasher_of made.labels ≡ hash) × (hasher_of made.others ≡ hash)) }
 {
     let mut labels = IndexMap::with_capacity_and_hasher(alloc, sources.len(), hash)?;
     let mut others = IndexMap::with_hasher(alloc, hash);

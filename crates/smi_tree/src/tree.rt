@@ -21,7 +21,7 @@ ghost use Rattle.smi_names.specs.declared.nodes.warning.Warning.{Warning};
 use crate::branches::{Children, Deepest, Identifiers};
 use crate::columns::Indexes;
 use crate::node::{Node, at, definition, home, is_in_module, label};
-use crate::places::{LabelPlaces, Others, Places, find, homes, labels};
+use crate::places::{Others, Places, find, homes, labels};
 use crate::shown::{syntax, units_of, value_syntax};
 use crate::types::{TypeSyntax, Types};
 use smi_names::{NameHash, Names, Source, Warning, gather_nodes};
@@ -40,7 +40,6 @@ pub type NodeId = usize;
 ///
 /// Of several nodes with one identifier the first in order of loading stands for it. No call but
 /// [`Tree::load`] allocates.
-#[derive(Drop)]
 pub struct Tree {
     modules: Vec<Module>,
     /// Where each node comes from.
@@ -73,7 +72,25 @@ impl Model for Tree {
         s.others };
 }
 
+impl Drop for Tree {
+    // Written out, so that it is proved here alone: a derived one is proved in each crate above,
+    // with that of each type of the modules.
+    fn drop(self) {
+        let Tree {
+            modules: _modules,
+            sources: _sources,
+            identifiers: _identifiers,
+            homes: _homes,
+            labels: _labels,
+            others: _others,
+            types: _types,
+            indexes: _indexes,
+        } = self;
+    }
+}
+
 /// What modules define, resolved.
+#[derive(Drop)]
 struct Resolved {
     /// Where each node comes from.
     sources: Vec<Source>,
@@ -92,11 +109,23 @@ fn resolve(alloc: Global, hash: NameHash, modules: &[Module]) -> Result<Resolved
     ensures { IfOk result (λ resolved. IsResolved modules.now resolved) }
 {
     let names = Names::new(alloc, hash, modules)?;
-    let gathered = gather_nodes(alloc, &names, modules)?;
-    let sources = gathered.sources;
+    resolve_by(alloc, &names, modules)
+}
+
+/// What modules define, by their names.
+fn resolve_by<'a>(
+    alloc: Global,
+    names: &Names<'a>,
+    modules: &'a [Module],
+) -> Result<Resolved, AllocError>
+    requires { names.now ≡ modules.now }
+    ensures { IfOk result (λ resolved. IsResolved modules.now resolved) }
+{
+    let types = Types::new(alloc, names, modules)?;
+    let gathered = gather_nodes(alloc, names, modules)?;
     let identifiers = Identifiers::new(alloc, gathered.oids)?;
-    let types = Types::new(alloc, &names, modules)?;
-    let indexes = Indexes::new(alloc, &names, modules, &types, &sources, &identifiers)?;
+    let sources = gathered.sources;
+    let indexes = Indexes::new(alloc, names, modules, &types, &sources, &identifiers)?;
     Ok(Resolved {
         sources,
         identifiers,
@@ -118,26 +147,20 @@ impl Tree {
     ) -> Result<(Tree, Vec<Warning>), AllocError>
         ensures { IfOk result (λ loaded. IsTree modules.items loaded.0 loaded.1.items) }
     {
-        let Resolved {
-            sources,
-            identifiers,
-            types,
-            indexes,
-            warnings,
-        } = resolve(alloc, hash, &modules)?;
+        let resolved = resolve(alloc, hash, &modules)?;
         let homes = homes(alloc, hash, &modules)?;
-        let LabelPlaces { labels, others } = labels(alloc, hash, &modules, &homes, &sources)?;
+        let places = labels(alloc, hash, &modules, &homes, &resolved.sources)?;
         let tree = Tree {
             modules,
-            sources,
-            identifiers,
+            sources: resolved.sources,
+            identifiers: resolved.identifiers,
             homes,
-            labels,
-            others,
-            types,
-            indexes,
+            labels: places.labels,
+            others: places.others,
+            types: resolved.types,
+            indexes: resolved.indexes,
         };
-        Ok((tree, warnings))
+        Ok((tree, resolved.warnings))
     }
 
     /// How many nodes there are, the roots included.
@@ -147,9 +170,8 @@ impl Tree {
         self.sources.len()
     }
 
-    /// A node.
+    /// The node at a place, which is below `len()`.
     pub fn node(&self, id: NodeId) -> Node<'_>
-        // The place is that of a node.
         requires { id < length self.now.nodes }
         ensures { slice_get self.now.nodes id ≡ Some (seen_node result) }
     {

@@ -17,6 +17,8 @@ mod columns;
 #[cfg(test)]
 mod details;
 #[cfg(test)]
+mod hash;
+#[cfg(test)]
 mod hints;
 #[cfg(test)]
 mod letters;

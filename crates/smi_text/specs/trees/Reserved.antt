@@ -1,4 +1,5 @@
--- The reserved words: those that stand in quotes in the grammar. No name is one of them.
+-- The reserved words: those that stand in quotes in the grammar. Of names, only that of a macro may
+-- be one of them.
 use Rattle.std.specs.Prelude.{ℕ, Bool, List, [], ◌∷◌, codes}
 use Rattle.std.specs.List.{list_any}
 use Rattle.smi_text.specs.trees.Mark.{same_text}
@@ -29,6 +30,6 @@ reserved_words =
     codes "INDEX" ∷ codes "IMPLIED" ∷ codes "AUGMENTS" ∷ codes "OF" ∷ codes "INTEGER" ∷
     codes "OCTET" ∷ codes "STRING" ∷ codes "BITS" ∷ codes "SIZE" ∷ []
 
--- a word that can't be a name
+-- the text is one of these
 unfoldable pub is_reserved : List ℕ → Bool
 is_reserved x = list_any (same_text x) reserved_words

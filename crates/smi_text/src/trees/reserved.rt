@@ -1,4 +1,5 @@
-//! The reserved words: those that stand in quotes in the grammar. No name is one of them.
+//! The reserved words: those that stand in quotes in the grammar. Of names, only that of a macro
+//! may be one of them.
 #![tactic(auto, unfolding(crate::specs::trees::Reserved::is_reserved, crate::specs::trees::Number::is_macro))]
 
 ghost use Rattle.std.specs.Prelude.{◌≡◌, get_or, map};

@@ -14,7 +14,8 @@ pub struct Module {
     pub heading: Option<Items<Part>>,
     /// What is imported, one item for each FROM, if there is an IMPORTS. It may be empty.
     pub imports: Option<Items<Import>>,
-    /// The definitions, in the order of the text. No two have the same label.
+    /// The definitions, in the order of the text. In a module that
+    /// [`parse_modules`](crate::parse_modules) returns, no two have the same label.
     pub defs: Items<Def>,
 }
 

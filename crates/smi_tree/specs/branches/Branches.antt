@@ -1,6 +1,7 @@
 -- What follows each beginning of an identifier of a list.
 use Rattle.std.specs.Prelude.{
   ◌≡◌,
+  ◌≢◌,
   ℕ,
   ◌+◌,
   ◌<◌,
@@ -8,6 +9,7 @@ use Rattle.std.specs.Prelude.{
   List,
   [],
   ◌∷◌,
+  ◌++◌,
   length,
   take,
   slice_index_or,
@@ -40,16 +42,25 @@ walk next at (n ∷ rest) = option_and_then (λ b. walk next b rest) (next at n)
 abbrev pub branch_of : List Branch → List ℕ → Option ℕ
 branch_of bs o = walk (follower bs) 0 o
 
--- at most one list of numbers leads to each branch; the place that stands there is that of these
--- numbers in `oids`; and each identifier of `oids` leads to a branch
-pub record AreBranchesOf (oids : List (List ℕ)) (bs : List Branch) : Type 0 where
+-- one of the identifiers begins with o
+abbrev pub IsBeginning : List (List ℕ) → List ℕ → Type 0
+IsBeginning oids o = (k : ℕ) × (rest : List ℕ) × (k < length oids) × (oid_at oids k ≡ o ++ rest)
+
+-- to each branch one list of numbers leads: that of the first branch is empty, and each other one
+-- is a beginning of one of `known`; the place that stands there is that of these numbers in `oids`;
+-- and each identifier of `oids` leads to a branch
+pub record AreBranches (known oids : List (List ℕ)) (bs : List Branch) : Type 0 where
   pub some : 0 < length bs
   pub within : (at n b : ℕ) → follower bs at n ≡ Some b → b < length bs
   pub apart : (o p : List ℕ) (b : ℕ) → branch_of bs o ≡ Some b → branch_of bs p ≡ Some b → o ≡ p
   pub standing : (o : List ℕ) (b : ℕ) → branch_of bs o ≡ Some b → standing_at bs b ≡ place_of oids o
   pub each : (k : ℕ) → k < length oids → (b : ℕ) × (branch_of bs (oid_at oids k) ≡ Some b)
-  pub reached : (at place : ℕ) → standing_at bs at ≡ Some place
-      → (o : List ℕ) × (branch_of bs o ≡ Some at)
+  pub only : (o : List ℕ) (b : ℕ) → branch_of bs o ≡ Some b → o ≢ [] → IsBeginning known o
+  pub reached : (at : ℕ) → at < length bs → (o : List ℕ) × (branch_of bs o ≡ Some at)
+
+-- the branches are just those of the beginnings of these identifiers
+abbrev pub AreBranchesOf : List (List ℕ) → List Branch → Type 0
+AreBranchesOf oids bs = AreBranches oids oids bs
 
 -- branch `at` leads by the number n to a branch that was there or is added, and nothing else is
 -- changed, for private clauses

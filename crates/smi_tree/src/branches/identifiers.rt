@@ -78,7 +78,7 @@ impl Identifiers {
         self.oids.len()
     }
 
-    /// The identifier at a place.
+    /// The identifier at a place, which is below `len()`.
     pub fn get(&self, place: usize) -> &Oid
         requires { place < length self.now }
         ensures { result.now ≡ oid_at self.now place }

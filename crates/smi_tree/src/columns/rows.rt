@@ -16,7 +16,7 @@ use smi_text::{Def, DefKind, Index};
 use std::alloc::{AllocError, Global};
 
 /// The row that was looked up last.
-#[derive(Clone, Copy, Debug)]
+#[derive(Clone, Copy)]
 struct LastRow<'i> {
     /// The numbers of its identifier.
     numbers: &'i [u32],

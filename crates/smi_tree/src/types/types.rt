@@ -22,7 +22,7 @@ use std::alloc::{AllocError, Global};
 
 /// A syntax, with the places of the definitions that state its hint, its names and its SIZE: of the
 /// module, and in that.
-#[derive(Clone, Copy, Debug)]
+#[derive(Clone, Copy)]
 pub(crate) struct KeptSyntax {
     /// The base type at the end of the chain.
     base: TypeBase,
@@ -42,7 +42,7 @@ pub struct Types {
 }
 
 impl Types {
-    /// The types of these modules. Each name is visited once, without recursion.
+    /// The types of modules, whose names are given. Each name is visited once, without recursion.
     pub fn new<'a>(
         alloc: Global,
         names: &Names<'a>,

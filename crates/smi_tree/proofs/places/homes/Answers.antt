@@ -6,9 +6,12 @@ use Rattle.smi_tree.proofs.First.{more}
 use Rattle.smi_tree.proofs.places.homes.Goals as goal
 
 pub modules-preserved : goal.modules-preserved
-modules-preserved c = λ x.
-    let inside : c.modules.i < length c.args.modules.now = search rules in
-    let name : c.in_ok-new.field-0 ≡ c.index-modules-i.result.name.octets = c.in_ok-new.ensures ∙ c.as_bytes.ensures.octets in
-    let step = rw (← c.index-modules-i.is) at
-    (more (λ (n : Module). same_text n.name.octets x) c.args.modules.now c.modules.i c.index-modules-i.result inside) in
-    c.in_ok-put_first.ensures.put x ∙ rw (name, c.modules.invariant x) (sym step)
+modules-preserved c = record {
+  placed = λ x.
+      let inside : c.modules.i < length c.args.modules.now = search rules in
+      let name : c.in_ok-new.field-0 ≡ c.index-modules-i.result.name.octets = c.in_ok-new.ensures ∙ c.as_bytes.ensures.octets in
+      let step = rw (← c.index-modules-i.is) at
+      (more (λ (n : Module). same_text n.name.octets x) c.args.modules.now c.modules.i c.index-modules-i.result inside) in
+      c.in_ok-put_first.ensures.put x ∙ rw (name, c.modules.invariant.placed x) (sym step);
+  hashed = c.in_ok-put_first.ensures.hashed ∙ c.modules.invariant.hashed;
+}

@@ -27,6 +27,11 @@ sources-preserved c =
             | in_default w ↦ (let none : c.key_of.result ≡ None = search rules in
                 rw (w.others-is, ← c.key_of.ensures, none) (sym (or_else_none (get same_key c.sources.others y))))
           ]) c.sources.invariant.others;
+      hashed_labels = c.in_ok-first.ensures.hashed ∙ c.sources.invariant.hashed_labels;
+      hashed_others = elim c.match-key_of.branch [
+        | in-Some+in_ok-put_first w ↦ rw w.others-is (w.in_ok-put_first.ensures.hashed ∙ c.sources.invariant.hashed_others)
+        | in_default w ↦ rw w.others-is c.sources.invariant.hashed_others
+      ];
     }
 
 pub returns-clause-others : goal.returns-clause-others

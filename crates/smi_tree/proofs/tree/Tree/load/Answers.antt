@@ -3,12 +3,12 @@ use Rattle.smi_tree.proofs.tree.Tree.load.Goals as goal
 
 pub invariant_of-tree : goal.invariant_of-tree
 invariant_of-tree c =
-    let found = rw (c.deref.ensures.value) at c.in_ok-sources.ensures in
-    let homes = rw (c.deref-2.ensures.value) at c.in_ok-homes.ensures in
-    let places = rw (c.deref-3.ensures.value, c.deref-4.ensures.value) at c.in_ok-labels.ensures in
+    let found = rw (c.deref.ensures.value) at c.in_ok-resolved.ensures in
+    let homes = rw (c.deref-2.ensures.value) at c.in_ok-homes.ensures.placed in
+    let places = rw (c.deref-3.ensures.value, c.deref-4.ensures.value) at c.in_ok-places.ensures in
     record {
       long = found.long;
-      warnings = c.in_ok-sources.field-0.warnings.items;
+      warnings = c.in_ok-resolved.resolved.warnings.items;
       tree = found.tree;
       homes = homes;
       labels = places.labels;
@@ -17,5 +17,5 @@ invariant_of-tree c =
 
 pub returns : goal.returns
 returns c =
-    let found = rw (c.deref.ensures.value) at c.in_ok-sources.ensures in
+    let found = rw (c.deref.ensures.value) at c.in_ok-resolved.ensures in
     found.tree

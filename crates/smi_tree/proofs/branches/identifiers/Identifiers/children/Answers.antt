@@ -44,7 +44,7 @@ children oids bs are o es same each rising = record {
 }
   where
     by : (n k : ℕ) (r : Option ℕ) → branch_of bs (o ++ n ∷ []) ≡ r → place_of oids (o ++ n ∷ []) ≡ Some k → Contains (keys_of es) n
-    by n k None e f = let none = place_off oids bs are (o ++ n ∷ []) e in absurd (cc)
+    by n k None e f = let none = place_off oids oids bs are (o ++ n ∷ []) e in absurd (cc)
     by n k (Some b) e f = found es n b (same n ∙ e)
 
 pub returns : goal.returns

@@ -9,4 +9,4 @@ returns-in_err-at c =
     let out : c.from_residual.result ≡ None = search rules in
     let none : branch_of c.self.inside.branches.items c.args.numbers.now ≡ None = search rules in
     rw (out, sym c.self.view_is) (sym
-    (place_off c.self.inside.oids.items c.self.inside.branches.items c.self.invariant.0 c.args.numbers.now none))
+    (place_off c.self.inside.oids.items c.self.inside.oids.items c.self.inside.branches.items c.self.invariant.0 c.args.numbers.now none))

@@ -1,7 +1,7 @@
 -- What is gathered is a tree.
 use Rattle.std.proofs.Common.{◌≡◌, length, sym, ap, ◌∙◌}
 use Rattle.smi_tree.proofs.Syntaxes.{is_tree, syntaxes_right}
-use Rattle.smi_tree.proofs.tree.resolve.Goals as goal
+use Rattle.smi_tree.proofs.tree.resolve_by.Goals as goal
 
 pub returns : goal.returns
 returns c =

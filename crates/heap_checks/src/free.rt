@@ -1,0 +1,176 @@
+//! Calls that ask the heap for nothing: each stands between two marks, by which `tests/heap.c`
+//! knows how many requests it makes.
+ghost use Rattle.std.specs.Prelude.{◌≡◌, All, true};
+ghost use Rattle.snmp_oid.specs.Identifier.{IsWire, wire};
+
+use crate::Fault;
+use crate::agents::{reply, table_of};
+use crate::modules::tree_of;
+use crate::room::Room;
+use crate::walks::{Rows, link_of, reserve, walk_over};
+use smi_show::resolve;
+use smi_tree::{NodeId, Tree};
+use smi_value::Hint;
+use snmp_oid::Oid;
+use snmp_walk::{Link, Method, Sink, WalkEnd, run_get};
+use std::alloc::Global;
+
+/// So many octets only a mark asks for.
+const MARK: usize = 77_777;
+
+/// A mark, which lasts as long as what is returned: so the compiler leaves it there.
+#[inline(never)]
+fn mark(alloc: Global) -> Result<Vec<u8>, Fault> {
+    match Vec::with_capacity(alloc, MARK) {
+        Ok(marked) => Ok(marked),
+        Err(_) => Err(Fault::Refused),
+    }
+}
+
+/// `answer` to a request.
+pub fn answered(
+    alloc: Global,
+    text: &[u8],
+    request: &[u8],
+    room: &mut Room<'_>,
+) -> Result<(), Fault> {
+    let table = table_of(alloc, text)?;
+    let _begun = mark(alloc)?;
+    reply(&table, request, room);
+    let _ended = mark(alloc)?;
+    Ok(())
+}
+
+/// `run_walk` over a link for which memory is reserved.
+pub fn walked(
+    alloc: Global,
+    text: &[u8],
+    root: &[u8],
+    method: Method,
+    room: &mut Room<'_>,
+) -> Result<(), Fault> {
+    let table = table_of(alloc, text)?;
+    let mut link = link_of(alloc, &table);
+    reserve(&mut link)?;
+    let _begun = mark(alloc)?;
+    let end = walk_over(&mut link, root, method, room)?;
+    let _ended = mark(alloc)?;
+    is_done(&end)
+}
+
+/// `run_get` of 1.3.6.1.4.1.32473.1.4.0, 1.5.0 and 1.6.0 over a link for which memory is reserved.
+pub fn got(alloc: Global, text: &[u8], room: &mut Room<'_>) -> Result<(), Fault> {
+    let table = table_of(alloc, text)?;
+    let mut link = link_of(alloc, &table);
+    reserve(&mut link)?;
+    let _begun = mark(alloc)?;
+    let names = [instance(4)?, instance(5)?, instance(6)?];
+    let end = get_over(&mut link, &names, &mut Rows { room })?;
+    let _ended = mark(alloc)?;
+    is_done(&end)
+}
+
+/// The name 1.3.6.1.4.1.32473.1.N.0.
+fn instance(number: u32) -> Result<Oid, Fault> {
+    match Oid::from_slice(&[1, 3, 6, 1, 4, 1, 32473, 1, number, 0]) {
+        Ok(name) => Ok(name),
+        Err(_) => Err(Fault::Wrong),
+    }
+}
+
+/// Whether each name can be sent.
+fn are_sendable(names: &[Oid]) -> bool
+    ensures { result ≡ true → All (λ o. IsWire (wire o)) names.now }
+{
+    names.iter().all(|name| name.to_wire().is_ok())
+}
+
+/// How the Get of these names ends; what it gives goes to the sink.
+fn get_over<L: Link, S: Sink>(link: &mut L, names: &[Oid], sink: &mut S) -> Result<WalkEnd, Fault> {
+    if are_sendable(names) {
+        Ok(run_get(link, names, b"public", 1, 0, sink))
+    } else {
+        Err(Fault::Wrong)
+    }
+}
+
+/// What is told of a walk or a Get for which memory was reserved.
+fn is_done(end: &WalkEnd) -> Result<(), Fault> {
+    match end {
+        WalkEnd::Done(_) => Ok(()),
+        _ => Err(Fault::Wrong),
+    }
+}
+
+/// The look-ups in a loaded tree: of each node what stands for its label in its module and in all,
+/// for its identifier, and first below that; and whether it has a syntax and an index.
+pub fn look_ups(alloc: Global, text: &[u8], room: &mut Room<'_>) -> Result<(), Fault> {
+    let tree = tree_of(alloc, text)?;
+    let _begun = mark(alloc)?;
+    'nodes: for id in 0..tree.len() {
+        append_look_ups(&tree, id, room);
+    }
+    let _ended = mark(alloc)?;
+    Ok(())
+}
+
+/// Appends what is looked up of a node.
+fn append_look_ups(tree: &Tree, id: NodeId, room: &mut Room<'_>) {
+    if id >= tree.len() {
+        return;
+    }
+    let node = tree.node(id);
+    if let Some(home) = node.home {
+        append_node(tree, tree.find(home.name.as_bytes(), node.label), room);
+        if tree.has_module(home.name.as_bytes()) {
+            room.append_line(b"in a module");
+        }
+    }
+    append_node(tree, tree.find_any(node.label), room);
+    if let Some(deepest) = tree.deepest(node.oid) {
+        append_node(tree, Some(deepest.place), room);
+    }
+    let mut children = tree.children(node.oid);
+    append_node(tree, children.next(), room);
+    if tree.syntax_of(id).is_some() {
+        room.append_line(b"with a syntax");
+    }
+    if tree.index_of(id).is_some() {
+        room.append_line(b"with an index");
+    }
+}
+
+/// Appends the identifier of a node that was found.
+fn append_node(tree: &Tree, found: Option<NodeId>, room: &mut Room<'_>) {
+    if let Some(id) = found {
+        if id < tree.len() {
+            room.append_name(tree.node(id).oid);
+        }
+    }
+}
+
+/// `resolve` of a name, by a loaded tree.
+pub fn resolved(alloc: Global, text: &[u8], name: &[u8], room: &mut Room<'_>) -> Result<(), Fault> {
+    let tree = tree_of(alloc, text)?;
+    let _begun = mark(alloc)?;
+    let meaning = resolve(&tree, name);
+    let _ended = mark(alloc)?;
+    match meaning {
+        Ok(name) => room.append_name(&name),
+        Err(_) => room.append_line(b"a fault"),
+    }
+    Ok(())
+}
+
+/// `Hint::parse`: whether a text is a hint, and whether it is one of integers.
+pub fn hint_parsed(alloc: Global, text: &[u8], room: &mut Room<'_>) -> Result<(), Fault> {
+    let _begun = mark(alloc)?;
+    let hint = Hint::parse(text);
+    let _ended = mark(alloc)?;
+    match hint {
+        Some(hint) if hint.is_number() => room.append_line(b"of integers"),
+        Some(_) => room.append_line(b"of octets"),
+        None => room.append_line(b"no hint"),
+    }
+    Ok(())
+}
