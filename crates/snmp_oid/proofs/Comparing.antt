@@ -1,6 +1,7 @@
 -- Comparisons of numbers: a common front changes nothing, and the first pair that differs decides.
+use Rattle.std.proofs.lemmas.Grind.{common_steps}
 use Rattle.std.proofs.Common.{◌≡◌, ℕ, suc, ◌+◌, ◌<◌, ◌≤◌, List, [], ◌∷◌, ◌++◌, length, take, drop}
-use Rattle.std.proofs.Common.{get_or, refl, sym, ◌∙◌, ap, subst, arith, length-drop, lit<}
+use Rattle.std.proofs.Common.{get_or, refl, sym, ◌∙◌, ap, arith, length-drop}
 use Rattle.std.proofs.lemmas.List.{take-append-drop, take_more}
 use Rattle.std.proofs.Math.Seq.{drop-cons}
 use Rattle.std.specs.Ordering.{nat_cmp, ordering_then}
@@ -38,8 +39,7 @@ first_decides i o p h k same differ =
 -- one more equal pair
 pub one_more_alike : (i : ℕ) (o p : List ℕ) → i < length o → i < length p → take i o ≡ take i p → get_or o i 0 ≡ get_or p i 0
     → take (i + 1) o ≡ take (i + 1) p
-one_more_alike i o p h k same equal =
-    take_more o i 0 h ∙ ap (λ (s : List ℕ). s ++ get_or o i 0 ∷ []) same ∙ ap (λ n. take i p ++ n ∷ []) equal ∙ sym (take_more p i 0 k)
+one_more_alike i o p h k same equal = grind (arith, common_steps, take_more)
 
 -- where one ends and all is alike, the longer comes after
 ends : (n m both : ℕ) (s t : List ℕ) → length s + both ≡ n → length t + both ≡ m → (both < n → both < m → ⊥) → nat_cmp n m ≡ slice_cmp nat_cmp s t
@@ -59,9 +59,4 @@ pub eight_alike : (o p : List ℕ) → 8 ≤ length o → 8 ≤ length p
     → (get_or o 0 0 ≡ get_or p 0 0) × (get_or o 1 0 ≡ get_or p 1 0) × (get_or o 2 0 ≡ get_or p 2 0) × (get_or o 3 0 ≡ get_or p 3 0)
     → (get_or o 4 0 ≡ get_or p 4 0) × (get_or o 5 0 ≡ get_or p 5 0) × (get_or o 6 0 ≡ get_or p 6 0) × (get_or o 7 0 ≡ get_or p 7 0)
     → take 8 o ≡ take 8 p
-eight_alike o p h k front back =
-    let more : (i : ℕ) → i < 8 → take i o ≡ take i p → get_or o i 0 ≡ get_or p i 0 → take (i + 1) o ≡ take (i + 1) p =
-    λ i low. one_more_alike i o p (omega (arith, low)) (omega (arith, low)) in
-    let four : take 4 o ≡ take 4 p =
-    more 3 (lit< tt) (more 2 (lit< tt) (more 1 (lit< tt) (more 0 (lit< tt) refl front.0) front.1) front.2) front.3 in
-    more 7 (lit< tt) (more 6 (lit< tt) (more 5 (lit< tt) (more 4 (lit< tt) four back.0) back.1) back.2) back.3
+eight_alike o p h k front back = grind (arith, common_steps, one_more_alike)

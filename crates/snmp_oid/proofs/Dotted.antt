@@ -1,5 +1,6 @@
 -- Facts about dotted names, as the parts between their dots.
-use Rattle.std.proofs.Common.{◌≡◌, ◌≢◌, ℕ, Bool, true, false, not, cond, ◌&&◌, ◌==◌, List, [], ◌∷◌}
+use Rattle.std.proofs.lemmas.Grind.{common_steps}
+use Rattle.std.proofs.Common.{◌≡◌, ◌≢◌, ℕ, true, false, not, ◌==◌, List, [], ◌∷◌}
 use Rattle.std.proofs.Common.{◌++◌, length, All, Option, Some, None, MatchOption, refl}
 use Rattle.std.proofs.Common.{sym, ◌∙◌, ap, subst, arith}
 use Rattle.std.proofs.lemmas.Bool.{and_parts, ne_eqb}
@@ -108,9 +109,7 @@ abbrev to_dot : List ℕ → List ℕ
 to_dot text = take_while (λ octet. not (octet == dot)) text
 
 to_dot-cons : (octet : ℕ) (rest : List ℕ) → octet ≢ dot → to_dot (octet ∷ rest) ≡ octet ∷ to_dot rest
-to_dot-cons octet rest other =
-    let test : not (octet == dot) ≡ true = ap not (ne_eqb octet dot other) in
-    take_while-cons (λ octet. not (octet == dot)) octet rest ∙ ap (λ b. cond b (octet ∷ to_dot rest) []) test
+to_dot-cons octet rest other = grind (arith, common_steps, ne_eqb, take_while-cons)
 
 taken_front : (part after : List ℕ) → HasNoDot part → to_dot after ≡ [] → to_dot (part ++ after) ≡ part
 taken_front [] after free none = none

@@ -1,7 +1,8 @@
 -- Facts about one decimal number: reading it, and that what is written reads back.
+use Rattle.std.proofs.lemmas.Grind.{common_steps}
 use Rattle.std.proofs.Common.{decimal, ◌≡◌, ◌≢◌, ℕ, ◌+◌, ◌-◌, ◌*◌, ◌^◌, ◌≤◌, ◌<◌, true, false}
-use Rattle.std.proofs.Common.{◌&&◌, List, [], ◌∷◌, length, drop, get_or, refl, sym, ◌∙◌, ap}
-use Rattle.std.proofs.Common.{subst, arith, drop-cons, add-one, lit<, take, ◌++◌, append_assoc, leb}
+use Rattle.std.proofs.Common.{List, [], ◌∷◌, length, drop, get_or, refl, ◌∙◌, ap}
+use Rattle.std.proofs.Common.{subst, arith, drop-cons, add-one, take, ◌++◌, append_assoc, leb}
 use Rattle.std.proofs.Math.Seq.{take-suc}
 use Rattle.std.proofs.lemmas.List.{append-nil, length-take-le}
 use Rattle.std.proofs.Math.Nat.{pow-suc, one-le-pow, le-mul_of_pos_right}
@@ -30,35 +31,20 @@ value_more part rest digit number h =
 -- one more digit
 pub read_more : (part rest : List ℕ) (digit number : ℕ) → is_ascii_digit digit ≡ true → number * 10 + (digit - 48) < 2 ^ 32
     → IsReadTo part (digit ∷ rest) number → IsReadTo part rest (number * 10 + (digit - 48))
-read_more part rest digit number is_digit small h = record {
-  fits = small;
-  value = value_more part rest digit number h;
-  digits = let e : all_ascii_digits (digit ∷ rest) ≡ all_ascii_digits rest = ap (λ b. b && all_ascii_digits rest) is_digit in sym e ∙ h.digits;
-}
+read_more part rest digit number is_digit small h = grind (arith, common_steps, value_more)
 
 -- all digits are read
 pub read_all : (part : List ℕ) (number : ℕ) → part ≢ [] → IsReadTo part [] number → IsNumeral part number
-read_all part number some h = record {
-  some = some;
-  digits = sym h.digits;
-  value = let e : number * 1 + 0 ≡ decimal_value part = h.value in
-      omega arith;
-  fits = h.fits;
-}
+read_all part number some h = grind (arith, common_steps)
 
 -- an octet that is no digit
 pub read_other : (part rest : List ℕ) (octet number : ℕ) → is_ascii_digit octet ≡ false → IsReadTo part (octet ∷ rest) number → (n : ℕ) → IsNumeral part n → ⊥
-read_other part rest octet number other h n numeral =
-    let e : all_ascii_digits (octet ∷ rest) ≡ false = ap (λ b. b && all_ascii_digits rest) other in
-    let yes : all_ascii_digits (octet ∷ rest) ≡ true = h.digits ∙ numeral.digits in cc
+read_other part rest octet number other h n numeral = grind (arith, common_steps)
 
 -- more than 32 bits
 pub read_large : (part rest : List ℕ) (digit number : ℕ) → 2 ^ 32 ≤ number * 10 + (digit - 48) → IsReadTo part (digit ∷ rest) number → (n : ℕ)
     → IsNumeral part n → ⊥
-read_large part rest digit number large h n numeral =
-    let more : number * 10 + (digit - 48) ≤ (number * 10 + (digit - 48)) * 10 ^ length rest =
-    le-mul_of_pos_right (number * 10 + (digit - 48)) (one-le-pow (length rest) 10 (lit< tt)) in
-    omega (arith, value_more part rest digit number h, numeral.value, numeral.fits)
+read_large part rest digit number large h n numeral = grind (arith, common_steps, le-mul_of_pos_right, one-le-pow, value_more)
 
 -- the same at a place
 front_at : (part : List ℕ) (count : ℕ) → count < length part → drop count part ≡ get_or part count 0 ∷ drop (count + 1) part
@@ -67,9 +53,7 @@ front_at part count low = rw (add-one, drop-cons part count 0) refl
 pub read_more_at : (part : List ℕ) (count number : ℕ) → count < length part → is_ascii_digit (get_or part count 0) ≡ true
     → number * 10 + (get_or part count 0 - 48) < 2 ^ 32 → IsReadTo part (drop count part) number
     → IsReadTo part (drop (count + 1) part) (number * 10 + (get_or part count 0 - 48))
-read_more_at part count number low is_digit small h =
-    read_more part (drop (count + 1) part) (get_or part count 0) number is_digit small
-    (rw (front_at part count low) at h)
+read_more_at part count number low is_digit small h = grind (arith, common_steps, read_more, front_at)
 
 pub read_large_at : (part : List ℕ) (count number : ℕ) → count < length part → 2 ^ 32 ≤ number * 10 + (get_or part count 0 - 48)
     → IsReadTo part (drop count part) number
@@ -86,16 +70,7 @@ pub record IsFrontRead (text : List ℕ) (count number : ℕ) : Type 0 where
 pub front_more : (text : List ℕ) (count number : ℕ) → count < length text → is_ascii_digit (get_or text count 0) ≡ true
     → number * 10 + (get_or text count 0 - 48) < 2 ^ 32 → IsFrontRead text count number
     → IsFrontRead text (count + 1) (number * 10 + (get_or text count 0 - 48))
-front_more text count number low is_digit small h =
-    let digit : ℕ = get_or text count 0 in
-    record {
-      within = omega arith;
-      read = λ rest.
-          let e : take (count + 1) text ++ rest ≡ take count text ++ (digit ∷ rest) =
-          rw add-one (ap (λ (front : List ℕ). front ++ rest) (take-suc text count 0 low) ∙ append_assoc (take count text) (digit ∷ []) rest) in
-          subst (λ (t : List ℕ). IsReadTo t rest (number * 10 + (digit - 48))) (sym e)
-          (read_more (take count text ++ (digit ∷ rest)) rest digit number is_digit small (h.read (digit ∷ rest)));
-    }
+front_more text count number low is_digit small h = grind (arith, common_steps, add-one, take-suc, append_assoc, read_more)
 
 pub front_numeral : (text : List ℕ) (count number : ℕ) → 0 < count → IsFrontRead text count number → IsNumeral (take count text) number
 front_numeral text count number some h =

@@ -1,4 +1,5 @@
 -- Facts about the state of a parse: the parts read so far, the place of the next, and what the end says.
+use Rattle.std.proofs.lemmas.Grind.{common_steps}
 use Rattle.std.proofs.Common.{◌≡◌, ◌≢◌, ℕ, min, ◌+◌, ◌-◌, ◌≤◌, ◌<◌, ◌⊎◌, inl, inr, Bool, true}
 use Rattle.std.proofs.Common.{false, List, [], ◌∷◌, ◌++◌, length, take, drop, get_or}
 use Rattle.std.proofs.Common.{slice_index, Option, Some, None, refl, sym, ◌∙◌, ap, subst, arith}
@@ -54,9 +55,7 @@ dotted_from_name text dotted o more front (inl h) = absurd (more h.0)
 dotted_from_name text dotted o more (inl front) (inr (inl h)) = rw front.0 h
 dotted_from_name text dotted o more (inr front) (inr (inl h)) = absurd (no_empty_first dotted o (rw front at h))
 dotted_from_name text dotted o more (inl front) (inr (inr h)) = absurd (front.1 (ap (λ (t : List ℕ). get_or t 0 0) h.1))
-dotted_from_name text dotted o more (inr front) (inr (inr h)) =
-    let same : h.0 ≡ dotted = cc (h.1, front) in
-    rw same at h.2
+dotted_from_name text dotted o more (inr front) (inr (inr h)) = grind (arith, common_steps)
 
 pub name_from_dotted : (text dotted o : List ℕ) → IsBehindDot text dotted → IsDotted dotted o → IsNumericName text o
 name_from_dotted text dotted o (inl front) h = inr (inl (rw front.0 at h))
@@ -80,9 +79,7 @@ one_name text o p (inr h) (inl g) = dot_alone text o g.0 (inr h) ∙ sym g.1
 one_name text o p (inr (inl h)) (inr (inl g)) = same_dotted text o p h g
 one_name text o p (inr (inl h)) (inr (inr g)) = absurd (no_empty_first g.0 o (rw g.1 at h))
 one_name text o p (inr (inr h)) (inr (inl g)) = absurd (no_empty_first h.0 p (rw h.1 at g))
-one_name text o p (inr (inr h)) (inr (inr g)) =
-    let same : g.0 ≡ h.0 = cc (h.1, g.1) in
-    same_dotted h.0 o p h.2 (rw same at g.2)
+one_name text o p (inr (inr h)) (inr (inr g)) = grind (arith, common_steps, same_dotted)
 
 -- there is one first bad part
 pub one_bad_part : (text : List ℕ) (at k : ℕ) → IsFirstBadPart text at → IsFirstBadPart text k → at ≡ k
@@ -241,8 +238,7 @@ parse_each (digit ∷ digits) text here rest kept too_long h are parts room =
 
 pub parse_digits : {count : ℕ} {text here rest kept new : List ℕ} {too_long : Bool} → IsParsedTo text (Some here) kept too_long
     → AreDigitsRead count here rest kept new → IsParsedTo text (Some rest) new too_long
-parse_digits {count} {text} {here} {rest} {kept} {new} {too_long} h read =
-    rw read.numbers (parse_each read.digits text here rest kept too_long h read.are read.parts (omega (arith, read.room, read.size)))
+parse_digits {count} {text} {here} {rest} {kept} {new} {too_long} h read = grind (arith, common_steps, parse_each, parts)
 
 -- a part that is no numeral is the first bad one, and the text names nothing
 pub bad_part_here : {text here : List ℕ} {behind : Option (List ℕ)} {kept : List ℕ} {too_long : Bool} → IsParsedTo text (Some here) kept too_long
@@ -268,13 +264,11 @@ bad_part_no_name {text} {here} {behind} h r o name =
 
 -- at the end the text names the numbers read
 pub parsed_name : (text kept : List ℕ) (too_long : Bool) (h : IsParsedTo text None kept too_long) → IsNumericName text h.numbers
-parsed_name text kept too_long h = name_from_dotted text h.dotted h.numbers h.front
-    (dotted_from_numerals h.numbers h.dotted (rw (h.whole, append-nil) h.are))
+parsed_name text kept too_long h = grind (arith, common_steps, name_from_dotted, dotted_from_numerals, append-nil)
 
 -- and nothing else
 pub parsed_only : (text kept : List ℕ) (too_long : Bool) (h : IsParsedTo text None kept too_long) (o : List ℕ) → IsNumericName text o → o ≡ h.numbers
-parsed_only text kept too_long h o name = same_numerals h.done o h.numbers
-    (rw (h.whole, append-nil) at (numerals_from_dotted o h.dotted (dotted_from_name text h.dotted o h.more h.front name))) h.are
+parsed_only text kept too_long h o name = grind (arith, common_steps, same_numerals, append-nil, numerals_from_dotted, dotted_from_name)
 
 pub parsed_short : (text kept : List ℕ) → (h : IsParsedTo text None kept false) → (length h.numbers ≤ 128) × (kept ≡ h.numbers)
 parsed_short text kept h = (h.short refl, h.first ∙ take_all 128 h.numbers (h.short refl))

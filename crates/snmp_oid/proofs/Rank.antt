@@ -1,7 +1,8 @@
 -- Identifiers are ordered as their ranks are.
-use Rattle.std.proofs.Common.{◌≡◌, ◌≢◌, ℕ, suc, ◌+◌, ◌-◌, ◌*◌, ◌^◌, ◌<◌, ◌≤◌, ◌⊎◌, ◌↔◌, inl, inr}
+use Rattle.std.proofs.lemmas.Grind.{common_steps}
+use Rattle.std.proofs.Common.{◌≡◌, ◌≢◌, ℕ, suc, ◌+◌, ◌-◌, ◌*◌, ◌^◌, ◌<◌, ◌≤◌, ◌↔◌, inl, inr}
 use Rattle.std.proofs.Common.{List, [], ◌∷◌, ◌++◌, length, drop, All, refl, sym, ◌∙◌, ap}
-use Rattle.std.proofs.Common.{subst, arith, lit<, length-append}
+use Rattle.std.proofs.Common.{arith, lit<, length-append}
 use Rattle.std.proofs.Math.Nat.{pow-suc, one-le-pow, mul-le-mul_right}
 use Rattle.std.proofs.lemmas.List.{append-nil, drop_at, append_assoc}
 use Rattle.std.proofs.lemmas.List.Elements.{All-drop, All-head, All-tail}
@@ -18,10 +19,7 @@ power_step digits some = let e : digits ≡ suc (digits - 1) = omega arith in ap
 
 -- a digit and what follows stay below the next digit
 digit_below : (n m power rest : ℕ) → rest < power → n < m → (n + 1) * power + rest < (m + 1) * power
-digit_below n m power rest low less =
-    let whole : (n + 1) * power + power ≡ (n + 2) * power = omega arith in
-    let more : (n + 2) * power ≤ (m + 1) * power = mul-le-mul_right power (omega arith) in
-    omega arith
+digit_below n m power rest low less = grind (arith, common_steps, mul-le-mul_right)
 
 -- so many digits are below so many places
 rank_fits : (digits : ℕ) (o : List ℕ) → length o ≤ digits → All (λ n. n < 2 ^ 32) o → rank_in digits o < 4294967297 ^ digits
@@ -43,16 +41,11 @@ rises_behind digits (k ∷ front) s t h =
 
 some_rank : (digits : ℕ) (rest : List ℕ) → rest ≢ [] → 0 < rank_in digits rest
 some_rank digits [] some = absurd (some refl)
-some_rank digits (m ∷ rest) some =
-    let one : 1 ≤ 4294967297 ^ (digits - 1) = one-le-pow (digits - 1) 4294967297 (lit< tt) in
-    let least : 1 * 4294967297 ^ (digits - 1) ≤ (m + 1) * 4294967297 ^ (digits - 1) = mul-le-mul_right (4294967297 ^ (digits - 1)) (omega arith) in
-    omega arith
+some_rank digits (m ∷ rest) some = grind (arith, common_steps, one-le-pow, mul-le-mul_right)
 
 rises_at_once : (digits n m : ℕ) (after behind : List ℕ) → length after < digits → All (λ k. k < 2 ^ 32) after → n < m
     → rank_in digits (n ∷ after) < rank_in digits (m ∷ behind)
-rises_at_once digits n m after behind short small less =
-    let below = digit_below n m (4294967297 ^ (digits - 1)) (rank_in (digits - 1) after) (rank_fits (digits - 1) after (omega arith) small) less in
-    omega arith
+rises_at_once digits n m after behind short small less = grind (arith, common_steps, digit_below, rank_fits)
 
 rank_rises : (o p : List ℕ) → IsIdentifier o → Precedes o p → rank o < rank p
 rank_rises o p is (inl below) =

@@ -3,7 +3,7 @@ use Rattle.std.specs.Prelude.{ℕ, ◌≤◌, List, length}
 use Rattle.snmp_wire.specs.Message.{Message}
 use Rattle.snmp_wire.specs.Spelling.{Strict}
 
--- the octets are a shortest encoding of the message: one by the standard, and none by it is shorter
+-- the octets are a shortest encoding of the message: a strict one, and no strict one is shorter
 pub record IsShortestEncoding (octets : List ℕ) (message : Message) : Type 0 where
   pub strict : Strict message octets
   pub shortest : (other : List ℕ) → Strict message other → length octets ≤ length other

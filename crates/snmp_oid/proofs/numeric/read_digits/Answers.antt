@@ -1,7 +1,7 @@
-use Rattle.std.proofs.Common.{◌≡◌, ℕ, ◌+◌, ◌-◌, ◌*◌, [], ◌∷◌, drop, get_or, true, Some, None, sym}
-use Rattle.std.proofs.Common.{◌∙◌, ap, subst, arith, drop_of_length-le}
+use Rattle.std.proofs.Common.{◌≡◌, ◌+◌, ◌-◌, ◌*◌, [], ◌∷◌, drop, get_or, true, Some, None, sym}
+use Rattle.std.proofs.Common.{◌∙◌, ap, arith, drop_of_length-le}
 use Rattle.std.specs.Char.{is_ascii_digit}
-use Rattle.snmp_oid.proofs.Numeral.{IsFrontRead, front_more}
+use Rattle.snmp_oid.proofs.Numeral.{front_more}
 use Rattle.snmp_oid.proofs.Parsing.{part_is_read}
 use Rattle.snmp_oid.proofs.numeric.read_digits.Goals as goal
 

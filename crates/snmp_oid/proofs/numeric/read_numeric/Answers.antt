@@ -1,4 +1,5 @@
-use Rattle.std.proofs.Common.{◌≡◌, ℕ, ◌-◌, ◌<◌, inl, inr, ◌∙◌, List, [], ◌∷◌, ◌++◌, length, Bool}
+use Rattle.std.proofs.lemmas.Grind.{common_steps}
+use Rattle.std.proofs.Common.{◌≡◌, ℕ, ◌-◌, ◌<◌, inl, ◌∙◌, List, [], ◌∷◌, ◌++◌, length, Bool}
 use Rattle.std.proofs.Common.{true, false, cond, None, Result, Ok, Err, IsOk, OnOk, OnErr, ◌↔◌, refl}
 use Rattle.std.proofs.Common.{sym, ap, arith}
 use Rattle.std.specs.Result.{is_err}
@@ -24,8 +25,7 @@ returns-then-is_dot-clause-too_long c = (
 )
 
 pub parts-init : goal.parts-init
-parts-init c = parse_begins c.args.text.now c.without_front_dot.result.now c.clear.new.self
-    (λ same. (let no : c.is_dot.result ≡ true = c.is_dot.ensures.1 same in cc (no, c.if-is_dot.false))) c.without_front_dot.ensures c.clear.ensures
+parts-init c = grind (arith, common_steps, parse_begins)
 
 -- the part at hand is no numeral
 first_bad : (c : goal.In_default-number) → IsFirstBadPart c.args.text.now (length c.args.text.now - length c.in-Some.here.now)
@@ -51,9 +51,7 @@ returns-in_default-number-clause-too_long c = (λ same. (let no : ⊥ = cc in ab
 keeps : (r : Result (Unit {0}) OidError) (kept new : List ℕ) (too_long : Bool) (n : ℕ) → (IsOk r ↔ (length kept < 128)) → OnOk r (new ≡ kept ++ n ∷ [])
     → OnErr r (new ≡ kept) → Keeps kept too_long n new (cond (is_err r) true too_long)
 keeps (Ok u) kept new too_long n variant pushed same = inl (variant.0 refl, pushed, refl)
-keeps (Err fault) kept new too_long n variant pushed same =
-    let full : length kept < 128 → ⊥ = λ low. (let no : false ≡ true = variant.1 low in cc) in
-    inr (omega arith, same, refl)
+keeps (Err fault) kept new too_long n variant pushed same = grind (arith, common_steps)
 
 -- one more part is read
 pub parts-preserved-then-is_err : goal.parts-preserved-then-is_err

@@ -1,4 +1,5 @@
-use Rattle.std.proofs.Common.{◌≡◌, ℕ, ◌+◌, ◌-◌, ◌≤◌, true, List, [], ◌∷◌, ◌++◌, length, take, drop, get_or, refl, ap, ◌∙◌, arith, rules}
+use Rattle.std.proofs.lemmas.Grind.{common_steps}
+use Rattle.std.proofs.Common.{◌≡◌, ℕ, ◌+◌, ◌-◌, ◌≤◌, true, List, [], ◌∷◌, ◌++◌, length, drop, get_or, refl, arith}
 use Rattle.std.proofs.Common.{append_assoc}
 use Rattle.std.proofs.lemmas.List.{take_all, length-drop}
 use Rattle.std.proofs.lemmas.List.Elements.{All-cons, All-nil}
@@ -19,9 +20,7 @@ front_six (a ∷ b ∷ c ∷ d ∷ e ∷ f ∷ rest) long = refl
 
 pushed : (before one two after : List ℕ) (a b c : ℕ) → one ≡ before ++ a ∷ [] → two ≡ one ++ b ∷ [] → after ≡ two ++ c ∷ []
     → after ≡ before ++ a ∷ b ∷ c ∷ []
-pushed before one two after a b c first second third =
-    third ∙ ap (λ (t : List ℕ). t ++ c ∷ []) (second ∙ ap (λ (t : List ℕ). t ++ b ∷ []) first)
-    ∙ append_assoc (before ++ a ∷ []) (b ∷ []) (c ∷ []) ∙ append_assoc before (a ∷ []) (b ∷ c ∷ [])
+pushed before one two after a b c first second third = grind (arith, common_steps, append_assoc)
 
 abbrev is_digit : ℕ → Type 0
 is_digit digit = is_ascii_digit digit ≡ true
@@ -39,20 +38,4 @@ three_read text rest before after a p b q c r first second third is dot_a dot_b 
 }
 
 pub returns-in-46-clause-three : goal.returns-in-46-clause-three
-returns-in-46-clause-three c =
-    let text : List ℕ = c.args.text.now in
-    let octet : ℕ → ℕ = λ n. get_or text n 0 in
-    let rest : take (length text - 6) (drop 6 text) ≡ drop 6 text = take_all (length text - 6) (drop 6 text) (omega (arith, length-drop 6 text)) in
-    let dot_a : octet 1 ≡ 46 = search rules in
-    let dot_b : octet 3 ≡ 46 = search rules in
-    let dot_c : octet 5 ≡ 46 = search rules in
-    rw rest (three_read text (drop 6 text) c.args.oid.now c.push_with_room-in-46-2.new.self (octet 0) (octet 1) (octet 2) (octet 3) (octet 4) (octet 5)
-    c.from-first.result c.from-second.result c.from-third.result
-    (front_six text c.in-46.len_at_least) dot_a dot_b dot_c
-    (cc (c.is_ascii_digit.ensures.value, c.if-is_ascii_digit.true))
-    (cc (c.is_ascii_digit-then-is_ascii_digit.ensures.value, c.if-is_ascii_digit-2.true))
-    (cc (c.is_ascii_digit-then-is_ascii_digit-2.ensures.value, c.if-is_ascii_digit-3.true))
-    c.from-first.ensures c.from-second.ensures c.from-third.ensures
-    (omega (arith, c.len.ensures.value, c.if-len-gt125.false))
-    (pushed c.args.oid.now _ _ _ c.from-first.result c.from-second.result c.from-third.result
-    c.push_with_room.ensures c.push_with_room-in-46.ensures c.push_with_room-in-46-2.ensures))
+returns-in-46-clause-three c = grind (arith, common_steps, take_all, length-drop, three_read, front_six, pushed)

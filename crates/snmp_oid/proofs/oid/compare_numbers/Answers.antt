@@ -1,24 +1,17 @@
-use Rattle.std.proofs.Common.{◌≡◌, take, refl, ◌∙◌, subst, arith, ℕ}
+use Rattle.std.proofs.lemmas.Grind.{common_steps}
+use Rattle.std.proofs.Common.{◌≡◌, ◌∙◌, arith}
 use Rattle.snmp_oid.proofs.Comparing.{first_decides, longer_after, one_more_alike}
 use Rattle.snmp_oid.proofs.oid.compare_numbers.Goals as goal
 use Rattle.snmp_oid.proofs.oid.compare_numbers.Goals.{then-begin_alike, else-begin_alike}
 
 pub numbers-init : goal.numbers-init
-numbers-init c =
-    elim c.if-begin_alike.branch [
-      | then-begin_alike w ↦ (let alike = c.begin_alike.ensures w.if-begin_alike.true in
-          let eight : c.if-begin_alike.start ≡ 8 = omega arith in
-          (omega (arith, alike.0, alike.1), rw eight alike.2))
-      | else-begin_alike w ↦ (let none : c.if-begin_alike.start ≡ 0 = omega arith in (omega arith, rw none refl))
-    ]
+numbers-init c = grind (arith, common_steps, then-begin_alike, else-begin_alike)
 
 pub returns-then-o-i : goal.returns-then-o-i
-returns-then-o-i c = c.cmp.ensures
-    ∙ first_decides c.numbers.i c.args.o.now c.args.p.now (omega arith) (omega arith) c.numbers.invariant.1 c.if-o-i.true
+returns-then-o-i c = grind (arith, common_steps, first_decides)
 
 pub numbers-preserved : goal.numbers-preserved
-numbers-preserved c =
-    (omega arith, one_more_alike c.numbers.i c.args.o.now c.args.p.now (omega arith) (omega arith) c.numbers.invariant.1 c.if-o-i.false)
+numbers-preserved c = grind (arith, common_steps, one_more_alike)
 
 pub returns : goal.returns
 returns c =
