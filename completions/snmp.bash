@@ -19,6 +19,7 @@ _snmp_options() {
 # The letters of an option of a command.
 _snmp_letters() {
     case $1:$2 in
+        snmptranslate:-O) echo n f s S b ;;
         *:-O) echo n f s S q Q v e t b U x a ;;
         snmptranslate:-T) echo d ;;
         snmpwalk:-C) echo i p I ;;

@@ -25,20 +25,23 @@ fn helps(alloc: Global, words: &[&str], lines: &[&str]) -> bool {
     helped
 }
 
-const LETTERS: [&str; 13] = [
+const LETTERS_OF_NAMES: &[&str] = &[
     "n: names in numbers",
     "f: names with the labels from the root on",
     "s: names with their last label",
     "S: names with module and label; the default",
+    "b: indexes in names as numbers",
+];
+
+const LETTERS_OF_VALUES: &[&str] = &[
     "q: a blank in place of the equals sign, and no types",
     "Q: no types",
     "v: values alone",
     "e: enumerations as numbers",
     "t: TimeTicks as a number",
-    "b: indexes in names as numbers",
     "U: no units",
-    "x: strings in hexadecimal",
-    "a: strings as text",
+    "x: strings without a display hint in hexadecimal",
+    "a: strings without a display hint as text",
 ];
 
 /// Each command with the lines of its usage, of its example and of its statuses.
@@ -93,6 +96,7 @@ const COMMANDS: &[(&str, &[&str])] = &[
             "0  all turns were served",
             "1  a file or the address was refused, or another fault, with a message on \
              standard error",
+            "man snmp explains each message, man snmp-table the format of tables",
         ],
     ),
 ];
@@ -105,21 +109,66 @@ fn each_command_has_help_and_an_example(rt: HostRuntime) {
     }
 }
 
-const COMMANDS_WITH_LETTERS: &[&str] = &["snmptranslate", "snmpget", "snmpwalk", "snmpbulkwalk"];
+/// Whether the help of the command has one of these lines.
+fn has_any(alloc: Global, command: &str, lines: &[&str]) -> bool {
+    let mut any = false;
+    for line in lines {
+        any = any || helps(alloc, &["snmp", command, "--help"], &[*line]);
+    }
+    any
+}
+
+/// Whether the help of the command has all of these lines.
+fn has_all(alloc: Global, command: &str, lines: &[&str]) -> bool {
+    helps(alloc, &["snmp", command, "--help"], lines)
+}
+
+const ASKING: &[&str] = &["snmpget", "snmpwalk", "snmpbulkwalk"];
 
 #[test]
-fn help_lists_each_letter(rt: HostRuntime) {
-    for command in COMMANDS_WITH_LETTERS {
-        assert!(rt; helps(rt.alloc(), &["snmp", command, "--help"], &LETTERS));
+fn help_lists_the_letters_that_act_in_a_command(rt: HostRuntime) {
+    for command in ASKING {
+        assert!(rt; has_all(rt.alloc(), command, LETTERS_OF_NAMES));
+        assert!(rt; has_all(rt.alloc(), command, LETTERS_OF_VALUES));
+        assert!(rt; !has_any(rt.alloc(), command, &["d: details"]));
     }
-    assert!(rt;
-        helps(
-            rt.alloc(),
-            &["snmp", "snmptranslate", "--help"],
-            &["d: details"]
-        )
-    );
-    assert!(rt; !helps(rt.alloc(), &["snmp", "snmpget", "--help"], &["d: details"]));
+    assert!(rt; has_all(rt.alloc(), "snmptranslate", LETTERS_OF_NAMES));
+    assert!(rt; !has_any(rt.alloc(), "snmptranslate", LETTERS_OF_VALUES));
+    assert!(rt; has_all(rt.alloc(), "snmptranslate", &["d: details"]));
+}
+
+const OF_BOTH_WALKS: &[&str] = &[
+    "i: the root's own instance comes first",
+    "p: the number of bindings is printed at the end, exceptions too",
+];
+
+const OF_WALKS: &[&str] = &["I: the root's own instance isn't printed in place of an empty walk"];
+
+const OF_BULK_WALKS: &[&str] = &["rN: N instances a request, 1 to 2147483647; by default 10"];
+
+#[test]
+fn help_lists_the_letters_of_a_walk(rt: HostRuntime) {
+    assert!(rt; has_all(rt.alloc(), "snmpwalk", OF_BOTH_WALKS));
+    assert!(rt; has_all(rt.alloc(), "snmpwalk", OF_WALKS));
+    assert!(rt; !has_any(rt.alloc(), "snmpwalk", OF_BULK_WALKS));
+    assert!(rt; has_all(rt.alloc(), "snmpbulkwalk", OF_BOTH_WALKS));
+    assert!(rt; has_all(rt.alloc(), "snmpbulkwalk", OF_BULK_WALKS));
+    assert!(rt; !has_any(rt.alloc(), "snmpbulkwalk", OF_WALKS));
+    assert!(rt; !has_any(rt.alloc(), "snmpget", OF_BOTH_WALKS));
+}
+
+#[test]
+fn help_names_the_manual_and_the_version(rt: HostRuntime) {
+    const MANUAL: &[&str] = &["man snmp has a sample of each letter, and explains each message"];
+    const VERSION: &[&str] = &[
+        "-v <VERSION>             The version of SNMP: 2c alone, which is the default, and neither \
+         1 nor 3",
+    ];
+    for command in ASKING {
+        assert!(rt; has_all(rt.alloc(), command, MANUAL));
+        assert!(rt; has_all(rt.alloc(), command, VERSION));
+    }
+    assert!(rt; has_all(rt.alloc(), "snmptranslate", MANUAL));
 }
 
 const FORMS_OF_AGENTS: &[&str] = &[

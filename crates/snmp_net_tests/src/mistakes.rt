@@ -196,6 +196,36 @@ const VALUES: &[(&[&str], &str)] = &[
          For more information, try 'snmp snmpwalk --help'.\n",
     ),
     (
+        &["snmp", "snmptranslate", "x", "-O"],
+        "error: a value is required for '-O <LETTERS>' but none was supplied\n\n\
+         \x20 tip: LETTERS are some of n, f, s, S and b\n\n\
+         For more information, try 'snmp snmptranslate --help'.\n",
+    ),
+    (
+        &["snmp", "snmptranslate", "x", "-T"],
+        "error: a value is required for '-T <LETTERS>' but none was supplied\n\n\
+         \x20 tip: LETTERS are d\n\n\
+         For more information, try 'snmp snmptranslate --help'.\n",
+    ),
+    (
+        &["snmp", "snmpwalk", "router", "-C"],
+        "error: a value is required for '-C <LETTERS>' but none was supplied\n\n\
+         \x20 tip: LETTERS are some of i, p and I\n\n\
+         For more information, try 'snmp snmpwalk --help'.\n",
+    ),
+    (
+        &["snmp", "snmpbulkwalk", "router", "-C"],
+        "error: a value is required for '-C <LETTERS>' but none was supplied\n\n\
+         \x20 tip: LETTERS are some of i, p and rN, such as r25\n\n\
+         For more information, try 'snmp snmpbulkwalk --help'.\n",
+    ),
+    (
+        &["snmp", "snmpget", "router", "-v"],
+        "error: a value is required for '-v <VERSION>' but none was supplied\n\n\
+         \x20 tip: VERSION is 2c, and neither 1 nor 3\n\n\
+         For more information, try 'snmp snmpget --help'.\n",
+    ),
+    (
         &["snmp", "snmpd", "--listen"],
         "error: a value is required for '--listen <HOST:PORT>' but none was supplied\n\n\
          \x20 tip: HOST:PORT is an address of this machine, such as 127.0.0.1:1161\n\n\
@@ -212,4 +242,40 @@ const VALUES: &[(&[&str], &str)] = &[
 #[test]
 fn values_that_are_refused_say_what_is_expected(rt: HostRuntime) {
     assert_said(&rt, rt.alloc(), VALUES);
+}
+
+const VERSIONS: &[(&[&str], &str)] = &[
+    (
+        &["snmp", "snmpwalk", "-v1", "-m", "ALL", "router"],
+        "error: unexpected argument '-m' found\n\n\
+         \x20 tip: --mib FILE names a file of modules, and may be repeated\n\
+         \x20 tip: 2c is the only version, and the default: leave -v out\n\n\
+         Usage: snmp snmpwalk [OPTIONS] <AGENT> [NAME]\n\n\
+         For more information, try 'snmp snmpwalk --help'.\n",
+    ),
+    (
+        &["snmp", "snmpget", "-v", "3", "-q", "router", ".1"],
+        "error: unexpected argument '-q' found\n\n\
+         \x20 tip: 2c is the only version, and the default: leave -v out\n\n\
+         Usage: snmp snmpget [OPTIONS] <AGENT> <NAME>...\n\n\
+         For more information, try 'snmp snmpget --help'.\n",
+    ),
+    (
+        &["snmp", "snmpwalk", "-v3", "-l", "authPriv", "router"],
+        "error: unexpected argument '-l' found\n\n\
+         \x20 tip: there is SNMPv2c alone: a community (-c), and neither users nor keys\n\n\
+         Usage: snmp snmpwalk [OPTIONS] <AGENT> [NAME]\n\n\
+         For more information, try 'snmp snmpwalk --help'.\n",
+    ),
+    (
+        &["snmp", "snmpwalk", "-v", "2c", "-q", "router"],
+        "error: unexpected argument '-q' found\n\n\
+         Usage: snmp snmpwalk [OPTIONS] <AGENT> [NAME]\n\n\
+         For more information, try 'snmp snmpwalk --help'.\n",
+    ),
+];
+
+#[test]
+fn a_mistake_beside_another_version_has_a_tip_on_that(rt: HostRuntime) {
+    assert_said(&rt, rt.alloc(), VERSIONS);
 }

@@ -67,14 +67,19 @@ entered_states : (a : App) → AllState a.subs → (stop : Option (Text × List 
 entered_states a all None = inl refl
 entered_states a all (Some p) = found_states (λ s. answers_to p.0 (label_of s)) a.subs p.1 all
 
+-- the words name no command, or state a job
+pub stated_or_none : (words : List Text)
+    → (subcommand_of snmp_app words ≡ None) ⊎ (is_some (stated_in (subcommand_of snmp_app words)) ≡ true)
+stated_or_none words =
+    let all : AllState (built snmp_app).subs = (λ rows. refl, (λ rows. refl, (λ rows. refl, (λ rows. refl, (λ rows. refl, tt))))) in
+    entered_states (built snmp_app) all (stop_after (built snmp_app).top.rules (names_of (built snmp_app)) (argument_words snmp_app words))
+
 -- matches of the command that met a subcommand state a job
 pub states_job : (m : ArgMatches) (words : List Text) → has_subcommand m ≡ true → subcommand_rows_of m ≡ subcommand_of snmp_app words
     → IsSome (stated_in (subcommand_rows_of m))
 states_job m words met rows =
     let some : is_some (subcommand_of snmp_app words) ≡ true = ap is_some (sym rows) ∙ is_some-map _ _ ∙ met in
-    let all : AllState (built snmp_app).subs = (λ rows. refl, (λ rows. refl, (λ rows. refl, (λ rows. refl, (λ rows. refl, tt))))) in
-    let states : (subcommand_of snmp_app words ≡ None) ⊎ (is_some (stated_in (subcommand_of snmp_app words)) ≡ true) =
-    entered_states (built snmp_app) all (stop_after (built snmp_app).top.rules (names_of (built snmp_app)) (argument_words snmp_app words)) in
+    let states : (subcommand_of snmp_app words ≡ None) ⊎ (is_some (stated_in (subcommand_of snmp_app words)) ≡ true) = stated_or_none words in
     elim states [
       | inl none ↦ absurd (true≢false (sym some ∙ ap is_some none))
       | inr stated ↦ ap (λ o. is_some (stated_in o)) rows ∙ stated

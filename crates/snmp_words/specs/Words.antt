@@ -65,12 +65,15 @@ pub record GetWords : Type 0 where
   pub asking : AskingWords
   pub names : List Text
 
+-- the words of snmpwalk or snmpbulkwalk: its letters of -C, the name to go on after, and its name
 pub record WalkWords : Type 0 where
   pub asking : AskingWords
   pub letters : Text
   pub after : Option Text
   pub name : Option Text
 
+-- the words of snmpd: its module files, its table file, where requests are received, and how many
+-- turns are served
 pub record ServeWords : Type 0 where
   pub mibs : List Text
   pub table : Text
@@ -323,6 +326,47 @@ words_of_walk path numbers = record {
   letters = [];
   after = None;
   name = Some (codes "." ++ numbers);
+}
+
+-- the words of a bulk walk of an agent on a host, by 50 instances a request, from a name in numbers
+abbrev pub bulk_walk_line : (host numbers : Text) → List Text
+bulk_walk_line host numbers = codes "snmp" ∷ codes "snmpbulkwalk" ∷ codes "-Cr50" ∷ codes "-On"
+    ∷ (codes "udp:" ++ host) ∷ (codes "." ++ numbers) ∷ []
+
+-- what that line states, with the defaults
+abbrev pub words_of_bulk_walk : (host numbers : Text) → WalkWords
+words_of_bulk_walk host numbers = record {
+  asking = record {
+    mibs = [];
+    letters = codes "n";
+    protocol = codes "2c";
+    community = codes "public";
+    retries = 5;
+    seconds = 1;
+    max_size = 1472;
+    agent = codes "udp:" ++ host;
+  };
+  letters = codes "r50";
+  after = None;
+  name = Some (codes "." ++ numbers);
+}
+
+-- ---- the words of an agent
+
+-- the words that serve a table file at a place
+abbrev pub serve_line : (path place : Text) → List Text
+serve_line path place = codes "snmp" ∷ codes "snmpd" ∷ (codes "--table=" ++ path)
+    ∷ (codes "--listen=" ++ place) ∷ []
+
+-- what that line states, with the defaults
+abbrev pub words_of_server : (path place : Text) → ServeWords
+words_of_server path place = record {
+  mibs = [];
+  table = path;
+  community = codes "public";
+  listen = place;
+  max_size = 1472;
+  turns = most_turns;
 }
 
 -- ---- the words of a translation and of a get

@@ -13,14 +13,16 @@ use std::alloc::{AllocError, Global};
 pub(crate) const VERSION: &str = "0.6.0";
 
 // What help says of the walks, and what stands after the help of each command: an example that
-// needs no file, and the statuses.
+// needs no file, the statuses, and what to read.
 const TRANSLATE_END: &str = "\
 Example:
   snmp snmptranslate -On iso.3.6.1.2.1.1.5.0
 
 Exit status:
   0  each name was printed
-  1  a name without a meaning, or another fault, with a message on standard error";
+  1  a name without a meaning, or another fault, with a message on standard error
+
+man snmp has a sample of each letter, and explains each message";
 
 const GET_END: &str = "\
 Example:
@@ -29,7 +31,9 @@ Example:
 Exit status:
   0  each name has its line, also where there is no such instance
   1  no reply, or another fault, with a message on standard error
-  2  the agent reports an error";
+  2  the agent reports an error
+
+man snmp has a sample of each letter, and explains each message";
 
 const WALK_ABOUT: &str =
     "Prints the instances below a name in their order, asking for one at a time";
@@ -41,7 +45,9 @@ Example:
 Exit status:
   0  all below the name was printed
   1  no reply, or another fault, with a message on standard error
-  2  the agent reports an error";
+  2  the agent reports an error
+
+man snmp has a sample of each letter, and explains each message";
 
 const BULK_ABOUT: &str =
     "Prints the instances below a name in their order, asking for many at a time";
@@ -53,7 +59,9 @@ Example:
 Exit status:
   0  all below the name was printed
   1  no reply, or another fault, with a message on standard error
-  2  the agent reports an error";
+  2  the agent reports an error
+
+man snmp has a sample of each letter, and explains each message";
 
 const SERVE_END: &str = "\
 Example, an agent for half a minute:
@@ -61,7 +69,9 @@ Example, an agent for half a minute:
 
 Exit status:
   0  all turns were served
-  1  a file or the address was refused, or another fault, with a message on standard error";
+  1  a file or the address was refused, or another fault, with a message on standard error
+
+man snmp explains each message, man snmp-table the format of tables";
 
 // A command, unless memory ran out.
 type Made<'a> = Result<Command<'a>, AllocError>;
@@ -72,9 +82,11 @@ pub(crate) fn snmp_command<'a>(alloc: Global) -> Made<'a>
 {
     let with_translate = with_command(Ok(top_command(alloc)), translate_command(alloc));
     let with_get = with_command(with_translate, get_command(alloc));
-    let walk = walk_command(alloc, "snmpwalk", WALK_ABOUT, WALK_END);
+    let walk_letters = options::LETTERS_OF_WALKS;
+    let walk = walk_command(alloc, "snmpwalk", WALK_ABOUT, walk_letters, WALK_END);
     let with_walk = with_command(with_get, walk);
-    let bulk_walk = walk_command(alloc, "snmpbulkwalk", BULK_ABOUT, BULK_END);
+    let bulk_letters = options::LETTERS_OF_BULK_WALKS;
+    let bulk_walk = walk_command(alloc, "snmpbulkwalk", BULK_ABOUT, bulk_letters, BULK_END);
     let with_bulk_walk = with_command(with_walk, bulk_walk);
     with_command(with_bulk_walk, serve_command(alloc))
 }
@@ -95,7 +107,9 @@ fn top_command<'a>(alloc: Global) -> Command<'a>
         .about(
             "Translates names of managed objects, reads them from SNMP agents, and serves tables",
         )
-        .after_help("snmp COMMAND --help shows the words of a command, with an example")
+        .after_help(
+            "snmp COMMAND --help shows the words of a command, with an example; man snmp has more",
+        )
         .version(VERSION)
         .propagate_version(true)
         .subcommand_required(true)
@@ -116,7 +130,7 @@ fn translate_command<'a>(alloc: Global) -> Made<'a>
     let about = "Prints names of managed objects in another form, or details of them";
     described(alloc, "snmptranslate", about, TRANSLATE_END)
         .arg(options::mib_option(alloc))?
-        .arg(options::letters_option(alloc))?
+        .arg(options::letters_option(alloc, options::LETTERS_OF_NAMES))?
         .arg(options::details_option(alloc))?
         .arg(options::names_word(alloc))
 }
@@ -127,7 +141,7 @@ fn asking_command<'a>(alloc: Global, name: &'a str, about: &'a str, end: &'a str
 {
     described(alloc, name, about, end)
         .arg(options::mib_option(alloc))?
-        .arg(options::letters_option(alloc))?
+        .arg(options::letters_option(alloc, options::LETTERS_OF_LINES))?
         .arg(options::protocol_option(alloc))?
         .arg(options::community_option(alloc))?
         .arg(options::retries_option(alloc))?
@@ -149,12 +163,18 @@ fn get_command<'a>(alloc: Global) -> Made<'a>
     .arg(options::names_word(alloc))
 }
 
-/// The command snmpwalk, or snmpbulkwalk.
-fn walk_command<'a>(alloc: Global, name: &'a str, about: &'a str, end: &'a str) -> Made<'a>
+/// The command snmpwalk, or snmpbulkwalk, with the help on its letters of `-C`.
+fn walk_command<'a>(
+    alloc: Global,
+    name: &'a str,
+    about: &'a str,
+    letters: &'a str,
+    end: &'a str,
+) -> Made<'a>
     ensures { IsMade result (walk_app name.now) }
 {
     asking_command(alloc, name, about, end)?
-        .arg(options::walk_letters_option(alloc))?
+        .arg(options::walk_letters_option(alloc, letters))?
         .arg(options::after_option(alloc))?
         .arg(options::agent_word(alloc))?
         .arg(options::name_word(alloc))

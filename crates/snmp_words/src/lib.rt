@@ -28,9 +28,11 @@ ghost use Rattle.clap.specs.Walk.{Text, texts};
 ghost use Rattle.clap.specs.Words.{kind_of};
 ghost use Rattle.snmp_words.specs.Command.{faults_of, is_taken};
 ghost use Rattle.snmp_words.specs.Words.{HasFaultOf, IsMemory, StandsFor, StateJob};
-ghost use Rattle.snmp_words.specs.Words.{Stated, get_line, job_words, snmpget, snmptranslate};
-ghost use Rattle.snmp_words.specs.Words.{snmpwalk, translate_line, walk_line, words_of_get};
-ghost use Rattle.snmp_words.specs.Words.{words_of_translation, words_of_walk};
+ghost use Rattle.snmp_words.specs.Words.{Stated, bulk_walk_line, get_line, job_words, serve_line};
+ghost use Rattle.snmp_words.specs.Words.{snmpbulkwalk, snmpd, snmpget, snmptranslate, snmpwalk};
+ghost use Rattle.snmp_words.specs.Words.{translate_line, walk_line, words_of_bulk_walk};
+ghost use Rattle.snmp_words.specs.Words.{words_of_get, words_of_server, words_of_translation};
+ghost use Rattle.snmp_words.specs.Words.{words_of_walk};
 
 use clap::error::ErrorKind;
 use command::snmp_command;
@@ -92,6 +94,21 @@ pub fn walks_are_taken()
         (snmpwalk (words_of_walk path numbers)) }
 {}
 
+/// The words of a bulk walk of an agent on any host, from any numeric name, are taken, and state
+/// that walk.
+pub fn bulk_walks_are_taken()
+    ensures taken { (host numbers : List ℕ) → is_taken (bulk_walk_line host numbers) ≡ true }
+    ensures job { (host numbers : List ℕ) →
+        StateJob (bulk_walk_line host numbers) (snmpbulkwalk (words_of_bulk_walk host numbers)) }
+{}
+
+/// The words of an agent that serves any table file at any place are taken, and state that.
+pub fn servers_are_taken()
+    ensures taken { (path place : List ℕ) → is_taken (serve_line path place) ≡ true }
+    ensures job { (path place : List ℕ) →
+        StateJob (serve_line path place) (snmpd (words_of_server path place)) }
+{}
+
 /// The details of any numeric name, with any two files of modules, are asked for by words that are
 /// taken and state that translation: the files in their order.
 pub fn translations_are_taken()
@@ -119,6 +136,17 @@ pub fn gets_are_taken()
 pub fn one_job()
     ensures { (words : List Text) (job other : Stated)
         → StateJob words job → StateJob words other → job ≡ other }
+{}
+
+/// Words that the command takes, and words without a fault, state a job.
+///
+/// A law: the call does nothing, and its caller may use what it ensures.
+#[inline]
+pub fn faultless_words_state_a_job()
+    ensures taken { (words : List Text) → is_taken words ≡ true
+        → (job : Stated) × StateJob words job }
+    ensures faultless { (words : List Text) → faults_of words ≡ []
+        → (job : Stated) × StateJob words job }
 {}
 
 /// The error for words that the parser refuses: help or the version where they ask for it,

@@ -37,6 +37,9 @@ const MODULES: &str = "--mib FILE names a file of modules, and may be repeated";
 
 const USERS: &str = "there is SNMPv2c alone: a community (-c), and neither users nor keys";
 
+// A second tip, on another version in the words.
+const VERSIONS: &str = "2c is the only version, and the default: leave -v out";
+
 const DUMPS: &str = "messages are shown by tcpdump -vv -s0 udp port 161";
 
 const LOGS: &str = "messages are written to standard error, and nowhere else";
@@ -99,11 +102,7 @@ const VALUES: Tips = &[
         "LETTERS are some of n, f, s, S, q, Q, v, e, t, b, U, x and a",
     ),
     ("-T <LETTERS>", "LETTERS are d"),
-    (
-        "-C <LETTERS>",
-        "LETTERS are some of i, p, I (snmpwalk) and rN (snmpbulkwalk)",
-    ),
-    ("-v <VERSION>", "VERSION is 2c"),
+    ("-v <VERSION>", "VERSION is 2c, and neither 1 nor 3"),
     (
         "-c <COMMUNITY>",
         "COMMUNITY is a text of at most 255 octets, such as public",
@@ -126,6 +125,15 @@ const VALUES: Tips = &[
     ),
 ];
 
+const VALUES_OF_TRANSLATE: Tips = &[("-O <LETTERS>", "LETTERS are some of n, f, s, S and b")];
+
+const VALUES_OF_WALK: Tips = &[("-C <LETTERS>", "LETTERS are some of i, p and I")];
+
+const VALUES_OF_BULK_WALK: Tips = &[(
+    "-C <LETTERS>",
+    "LETTERS are some of i, p and rN, such as r25",
+)];
+
 /// The text for the user on words that the parser refused, or that ask for help or the version.
 pub(crate) fn text_of(
     alloc: Global,
@@ -137,7 +145,8 @@ pub(crate) fn text_of(
         ErrorKind::DisplayVersion => format!(in alloc; "snmp {VERSION}\n"),
         kind => {
             let text = format!(in alloc; "{error}")?;
-            explained(alloc, text.as_str(), command_of(kind, words))
+            let version = tip_on_version(words);
+            explained(alloc, text.as_str(), command_of(kind, words), version)
         }
     }
 }
@@ -151,20 +160,24 @@ fn command_of<'a>(kind: ErrorKind, words: &[&'a str]) -> Option<&'a str> {
     }
 }
 
-/// The parser's text with the tips of this program in place of its own.
+/// The parser's text with the tips of this program in place of its own, and one on the version.
 ///
 /// That text has parts with an empty line between: the mistake; tips, or none; the usage, or none;
 /// and the help to read.
-fn explained(alloc: Global, text: &str, command: Option<&str>) -> Result<String, AllocError> {
+fn explained(
+    alloc: Global,
+    text: &str,
+    command: Option<&str>,
+    version: Option<&str>,
+) -> Result<String, AllocError> {
     let (mistake, rest) = text.split_once("\n\n").unwrap_or((text, ""));
     let (tips, rest) = tips_before(rest);
     let usage = rest
         .strip_suffix("For more information, try '--help'.\n")
         .unwrap_or(rest);
     let mut explained = format!(in alloc; "{mistake}\n\n")?;
-    if let Some(tip) = tip_on(mistake, command).or(tip_among_parsers(tips)) {
-        write!(explained, "  tip: {tip}\n\n")?;
-    }
+    let tip = tip_on(mistake, command).or(tip_among_parsers(tips));
+    push_tips(&mut explained, tip, version)?;
     explained.push_str(usage)?;
     explained.push_str("For more information, try 'snmp ")?;
     if let Some(command) = command {
@@ -172,6 +185,44 @@ fn explained(alloc: Global, text: &str, command: Option<&str>) -> Result<String,
     }
     explained.push_str("--help'.\n")?;
     Ok(explained)
+}
+
+/// Appends the tip on a mistake and the one on the version, unless the first says it already.
+fn push_tips(
+    text: &mut String,
+    tip: Option<&str>,
+    version: Option<&str>,
+) -> Result<(), AllocError> {
+    if let Some(tip) = tip {
+        write!(text, "  tip: {tip}\n")?;
+    }
+    match version {
+        Some(version) if tip != Some(USERS) => write!(text, "  tip: {version}\n")?,
+        _ => {}
+    }
+    if tip.or(version).is_some() {
+        text.push('\n')?;
+    }
+    Ok(())
+}
+
+/// The tip on a version other than 2c, if the words have one.
+fn tip_on_version(words: &[&str]) -> Option<&'static str> {
+    let mut is_next = false;
+    for word in words {
+        let version = if is_next {
+            Some(*word)
+        } else {
+            word.strip_prefix("-v")
+        };
+        is_next = false;
+        match version {
+            Some("") => is_next = true,
+            Some("2c") | None => {}
+            Some(_) => return Some(VERSIONS),
+        }
+    }
+    None
 }
 
 /// The tips that a text begins with, and what follows them.
@@ -206,7 +257,18 @@ fn tip_on(mistake: &str, command: Option<&str>) -> Option<&'static str> {
     if mistake.starts_with("error: the following required") && mistake.contains("<AGENT>") {
         return Some("AGENT is HOST or HOST:PORT, such as 192.0.2.1, or table:FILE");
     }
-    tip_among(VALUES, option_of(mistake)?)
+    tip_on_value(option_of(mistake)?, command)
+}
+
+/// What the value of an option of a command is.
+fn tip_on_value(option: &str, command: Option<&str>) -> Option<&'static str> {
+    let own = match command {
+        Some("snmptranslate") => VALUES_OF_TRANSLATE,
+        Some("snmpwalk") => VALUES_OF_WALK,
+        Some("snmpbulkwalk") => VALUES_OF_BULK_WALK,
+        _ => VALUES,
+    };
+    tip_among(own, option).or(tip_among(VALUES, option))
 }
 
 /// What to write in place of a word that isn't known.

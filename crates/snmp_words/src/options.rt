@@ -8,29 +8,47 @@ ghost use Rattle.snmp_words.specs.Command.{size_rule, table_rule, turns_rule, wa
 use clap::{Arg, ArgAction, value_parser};
 use std::alloc::Global;
 
-const LETTERS_HELP: &str = "How names and values are shown; may be repeated\n\
-                            of n, f, s and S, of q and Q, and of x and a, the last one counts\n\
-                            n: names in numbers\n\
-                            f: names with the labels from the root on\n\
-                            s: names with their last label\n\
-                            S: names with module and label; the default\n\
-                            q: a blank in place of the equals sign, and no types\n\
-                            Q: no types\n\
-                            v: values alone\n\
-                            e: enumerations as numbers\n\
-                            t: TimeTicks as a number\n\
-                            b: indexes in names as numbers\n\
-                            U: no units\n\
-                            x: strings in hexadecimal\n\
-                            a: strings as text";
+/// The letters of `-O`.
+pub(crate) const LETTERS_OF_LINES: &str = "\
+How names and values are shown; may be repeated
+of n, f, s and S, of q and Q, and of x and a, the last one counts
+n: names in numbers
+f: names with the labels from the root on
+s: names with their last label
+S: names with module and label; the default
+q: a blank in place of the equals sign, and no types
+Q: no types
+v: values alone
+e: enumerations as numbers
+t: TimeTicks as a number
+b: indexes in names as numbers
+U: no units
+x: strings without a display hint in hexadecimal
+a: strings without a display hint as text";
 
-const WALK_LETTERS_HELP: &str = "What is walked; may be repeated\n\
-                                 i: the root's own instance comes first\n\
-                                 p: the number of bindings is printed at the end, exceptions too\n\
-                                 I: snmpwalk: the root's own instance isn't printed in place of \
-                                 an empty walk\n\
-                                 rN: snmpbulkwalk: N instances a request, 1 to 2147483647; \
-                                 by default 10";
+/// Those of `-O` that act on names: the others are taken beside names too, and change nothing.
+pub(crate) const LETTERS_OF_NAMES: &str = "\
+How names are shown; may be repeated
+of n, f, s and S the last one counts
+n: names in numbers
+f: names with the labels from the root on
+s: names with their last label
+S: names with module and label; the default
+b: indexes in names as numbers";
+
+/// The letters of `-C` of snmpwalk.
+pub(crate) const LETTERS_OF_WALKS: &str = "\
+What is walked; may be repeated
+i: the root's own instance comes first
+p: the number of bindings is printed at the end, exceptions too
+I: the root's own instance isn't printed in place of an empty walk";
+
+/// The letters of `-C` of snmpbulkwalk.
+pub(crate) const LETTERS_OF_BULK_WALKS: &str = "\
+What is walked; may be repeated
+i: the root's own instance comes first
+p: the number of bindings is printed at the end, exceptions too
+rN: N instances a request, 1 to 2147483647; by default 10";
 
 const MIB_HELP: &str = "A file of modules, whose names can be given and are shown\n\
                         may be repeated; the files are loaded in order";
@@ -41,8 +59,8 @@ const DETAILS_HELP: &str = "What is shown in place of names\n\
 const SIZE_HELP: &str = "The greatest reply of an agent that serves a table, 1 to 65507 octets; \
                          by default 1472";
 
-const TURNS_HELP: &str = "Ends after N turns: a request, or a second without one; by default \
-                          18446744073709551615";
+const TURNS_HELP: &str =
+    "Ends after N turns: a request, or a second without one; by default it doesn't end";
 
 const AGENT_HELP: &str = "The agent\n\
                           host[:port] or udp:host[:port]: the agent at that UDP port, by default \
@@ -61,14 +79,14 @@ pub(crate) fn mib_option<'a>(alloc: Global) -> Arg<'a>
         .action(ArgAction::Append)
 }
 
-/// `-O LETTERS`
-pub(crate) fn letters_option<'a>(alloc: Global) -> Arg<'a>
+/// `-O LETTERS`, with the help on these.
+pub(crate) fn letters_option<'a>(alloc: Global, letters: &'a str) -> Arg<'a>
     ensures { IsArg result letters_rule }
 {
     Arg::new(alloc, "letters")
         .short('O')
         .value_name("LETTERS")
-        .help(LETTERS_HELP)
+        .help(letters)
         .action(ArgAction::Append)
 }
 
@@ -89,7 +107,7 @@ pub(crate) fn protocol_option<'a>(alloc: Global) -> Arg<'a>
     Arg::new(alloc, "protocol")
         .short('v')
         .value_name("VERSION")
-        .help("The version of SNMP; 2c is the only one, and the default")
+        .help("The version of SNMP: 2c alone, which is the default, and neither 1 nor 3")
 }
 
 /// `-c COMMUNITY`
@@ -135,14 +153,14 @@ pub(crate) fn size_option<'a>(alloc: Global) -> Arg<'a>
         .value_parser(value_parser!(u64).range(1..=65507))
 }
 
-/// `-C LETTERS`
-pub(crate) fn walk_letters_option<'a>(alloc: Global) -> Arg<'a>
+/// `-C LETTERS`, with the help on these.
+pub(crate) fn walk_letters_option<'a>(alloc: Global, letters: &'a str) -> Arg<'a>
     ensures { IsArg result walk_letters_rule }
 {
     Arg::new(alloc, "walk")
         .short('C')
         .value_name("LETTERS")
-        .help(WALK_LETTERS_HELP)
+        .help(letters)
         .action(ArgAction::Append)
 }
 
