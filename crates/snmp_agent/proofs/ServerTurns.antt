@@ -1,36 +1,23 @@
 -- Facts about the turns of a server.
-use Rattle.std.proofs.Common.{◌≡◌, ℕ, zero, suc, ◌+◌, List, [], ◌∷◌, ◌++◌, take, Option, Some, None, Result}
-use Rattle.std.proofs.Common.{Ok, refl, sym, ap, ◌∙◌, subst, append-nil, append_assoc, arith}
+use Rattle.std.proofs.Common.{◌≡◌, ℕ, zero, suc, ◌+◌, List, [], ◌∷◌, ◌++◌}
+use Rattle.std.proofs.Common.{refl, sym, ap, ◌∙◌, subst, arith}
 use Rattle.std.specs.Prelude.{cond, count_by}
 use Rattle.std.proofs.lemmas.List.{flat_map_more, length_push}
 use Rattle.std.proofs.lemmas.List.Elements.{All-nil, All-push}
 use Rattle.std.proofs.lemmas.List.Sums.{sum_by_push}
 use Rattle.snmp_io.specs.Count.{HasRisenBy}
-use Rattle.snmp_agent.specs.declared.endpoint.EndpointFault.{EndpointFault}
 use Rattle.snmp_agent.specs.declared.server.Served.{Served}
 use Rattle.snmp_agent.specs.declared.server.Turn.{Turn}
 use Rattle.snmp_agent.specs.declared.server.Turn.TheVariants as turn
 use Rattle.snmp_agent.specs.Reply.{Agent}
 use Rattle.snmp_agent.specs.Serving.{AreTurns, IsTurn, TurnDone, same_turn, tally}
-use Rattle.snmp_agent.specs.Event.{Event, came, logged, event_of_receive, event_of_reply}
+use Rattle.snmp_agent.specs.Event.{Event, InTurn}
 
-pub extended_twice : {Peer : Type 0} (log : Option (List (Event Peer))) (a b : List (Event Peer)) → logged (logged log a) b ≡ logged log (a ++ b)
-extended_twice None a b = refl
-extended_twice (Some before) a b = ap (λ events. Some events) (append_assoc before a b)
-
-pub not_extended : {Peer : Type 0} (log : Option (List (Event Peer))) → log ≡ logged log []
-not_extended None = refl
-not_extended (Some before) = ap (λ events. Some events) (sym (append-nil before))
-
--- a datagram that came, and what became of the reply
-pub both_events : {Peer : Type 0} (old between new : Option (List (Event Peer))) (received : Result (Option (ℕ × Peer)) EndpointFault) (n : ℕ) (peer : Peer)
-    (buffer datagram : List ℕ) (sent_it : Result (Unit {0}) EndpointFault) → received ≡ Ok (Some (n, peer))
-    → between ≡ logged old (event_of_receive received buffer)
-    → new ≡ logged between (event_of_reply sent_it peer datagram)
-    → new ≡ logged old (came peer (take n buffer) ∷ event_of_reply sent_it peer datagram)
-both_events old between new received n peer buffer datagram sent_it is first second =
-    second ∙ ap (λ log. logged log (event_of_reply sent_it peer datagram)) (first ∙ ap (λ r. logged old (event_of_receive r buffer)) is)
-    ∙ extended_twice old (came peer (take n buffer) ∷ []) (event_of_reply sent_it peer datagram)
+-- steps, and then others
+pub in_turn-append : {L X : Type 0} (step : L → X → L → Type 0) (xs ys : List X) (old between new : L) → InTurn step old xs between
+    → InTurn step between ys new → InTurn step old (xs ++ ys) new
+in_turn-append step [] ys old between new h k = subst (λ l. InTurn step l ys new) h k
+in_turn-append step (x ∷ xs) ys old between new h k = (h.0, h.1, in_turn-append step xs ys h.0 between new h.2 k)
 
 abbrev sum : Served → ℕ
 sum s = s.replies + s.dropped + s.idle + s.faults

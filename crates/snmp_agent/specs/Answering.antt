@@ -1,5 +1,5 @@
--- How replies are made: what private functions are proved to find and to write. No clause of a
--- public function cites these definitions.
+-- How replies are made: what private functions are proved to find and to write. Only contracts of
+-- functions that the crate doesn't export cite these definitions.
 use Rattle.std.specs.Prelude.{◌≡◌, ◌⊎◌, ℕ, zero, suc, ℤ, pos, ◌+◌, ◌≤◌, ◌<◌, List, [], ◌∷◌}
 use Rattle.std.specs.Prelude.{◌++◌, ◌-◌, length, take, cond, leb}
 use Rattle.snmp_oid.specs.Identifier.{IsWire}

@@ -1,5 +1,5 @@
--- Where the names that repeat in a GetBulk stand among the variables of a view. No clause of a
--- public function cites these definitions.
+-- Where the names that repeat in a GetBulk stand among the variables of a view. Only contracts of
+-- functions that the crate doesn't export cite these definitions.
 use Rattle.std.specs.Prelude.{◌≡◌, ℕ, List, [], ◌∷◌, ◌++◌, All, map}
 use Rattle.snmp_oid.specs.Identifier.{IsWire}
 use Rattle.snmp_wire.specs.Message.{Datum, VarBind}

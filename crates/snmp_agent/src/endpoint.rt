@@ -12,30 +12,33 @@ pub struct EndpointFault;
 
 /// Where an agent receives datagrams and sends its replies.
 pub trait Endpoint {
-    ghost use Rattle.std.specs.Prelude.{ℕ, List, Option};
-    ghost use Rattle.snmp_agent.specs.Event.{Event, logged, event_of_receive, event_of_reply};
+    ghost use Rattle.std.specs.Prelude.{ℕ};
+    ghost use Rattle.snmp_agent.specs.Event.{Event, event_of_receive, event_of_reply};
 
     /// Who sends a datagram, and where the reply goes.
     type Peer: Copy;
 
-    /// What happened there so far, if that is known. For a socket it isn't.
-    ghost log: { Self → Option (List (Event Self.Peer)) };
+    /// Whether this may happen in the first state and leave the endpoint in the last one. Of a
+    /// socket nothing is known.
+    ghost happens: { Self → Event Self.Peer → Self → Type 0 };
 
     /// How many receives and replies failed.
     ghost fault_count: { Self → ℕ };
 
     /// Receives a datagram to the front of the buffer, and returns its length and who sent it, or
-    /// None where none comes in time. A fault is counted.
+    /// None where none comes in time. A buffer of 65507 octets has room for any datagram over UDP.
+    /// A fault is counted.
     fn receive(&mut self, buffer: &mut [u8]) -> Result<Option<(usize, Self::Peer)>, EndpointFault>
         ensures bound { IfOk result (λ received. IfSome received (λ r. r.0 ≤ length buffer.new)) }
-        ensures log { log self.new ≡ logged (log self.old) (event_of_receive result buffer.new) }
+        // With room for any datagram over UDP, the one that came is there whole.
+        ensures happens { 65507 ≤ length buffer.old
+            → happens self.old (event_of_receive result buffer.new) self.new }
         ensures count { OnOk result (fault_count self.new ≡ fault_count self.old) }
         ensures fault { OnErr result (HasRisen (fault_count self.old) (fault_count self.new)) };
 
     /// Sends a reply to this peer. A fault is counted.
     fn reply(&mut self, datagram: &[u8], peer: Self::Peer) -> Result<(), EndpointFault>
-        ensures log { log self.new
-            ≡ logged (log self.old) (event_of_reply result peer datagram.now) }
+        ensures happens { happens self.old (event_of_reply result peer datagram.now) self.new }
         ensures count { OnOk result (fault_count self.new ≡ fault_count self.old) }
         ensures fault { OnErr result (HasRisen (fault_count self.old) (fault_count self.new)) };
 
@@ -69,11 +72,9 @@ impl<'a> SocketEndpoint<'a> {
 }
 
 impl<'a> Endpoint for SocketEndpoint<'a> {
-    ghost use Rattle.std.specs.Prelude.{None};
-
     type Peer = SocketAddr;
 
-    ghost log = { λ _. None };
+    ghost happens = { λ _ _ _. Unit {0} };
 
     ghost fault_count = { λ endpoint. endpoint.faults };
 

@@ -22,8 +22,8 @@ pub fn one_reply()
     one_spelling();
 }
 
-/// A reply is the shortest encoding of its Response: it is one by the standard, and no other is as
-/// short. What a table serves is a MIB view ([`Table::is_mib_view`](crate::Table::is_mib_view)),
+/// A reply is the shortest encoding of its Response: a strict one, and each other strict one is
+/// longer. What a table serves is a MIB view ([`Table::is_mib_view`](crate::Table::is_mib_view)),
 /// and no configuration has messages of more than 65507 octets.
 pub fn shortest_reply()
     ensures shortest { (agent : Agent) (datagram octets : List ℕ) → IsMibView agent.view

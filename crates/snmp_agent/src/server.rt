@@ -1,7 +1,7 @@
 //! Serving a table: datagrams are received and replied to, one a turn.
 ghost use Rattle.std.specs.Prelude.{◌≡◌, ◌+◌, List, cond};
 ghost use Rattle.snmp_agent.specs.Reply.{agent_of};
-ghost use Rattle.snmp_agent.specs.Serving.{Event, logged, IsTurn, AreTurns, same_turn};
+ghost use Rattle.snmp_agent.specs.Serving.{Event, InTurn, IsTurn, AreTurns, same_turn};
 ghost use Rattle.snmp_io.specs.Count.{HasRisenBy};
 
 use crate::agent::answer_near;
@@ -55,11 +55,12 @@ pub fn serve_at<E: Endpoint>(
     turns: u64,
 ) -> Served
     ensures adds_up { result.replies + result.dropped + result.idle + result.faults ≡ turns }
-    // Where a log is kept: each datagram that came got the agent's reply, sent to its peer, or is
-    // one that the agent drops, or the send of that reply failed.
+    // The turns led from one state of the endpoint to the other: each datagram that came there,
+    // in order, got the agent's reply, sent to its peer, or is one that the agent drops, or the
+    // send of that reply failed.
     ensures turns { (events : List (Event E.Peer))
         × AreTurns (agent_of table.now config.now) turns result events
-        × (E.log endpoint.new ≡ logged (E.log endpoint.old) events) }
+        × InTurn E.happens endpoint.old events endpoint.new }
     // As many receives and sends failed as turns count as faults.
     ensures faults { HasRisenBy result.faults (E.fault_count endpoint.old)
         (E.fault_count endpoint.new) }
@@ -90,7 +91,7 @@ fn serve_once<E: Endpoint>(
 ) -> Turn
     ensures turn { (events : List (Event E.Peer))
         × IsTurn (agent_of table.now config.now) result events
-        × (E.log endpoint.new ≡ logged (E.log endpoint.old) events) }
+        × InTurn E.happens endpoint.old events endpoint.new }
     ensures faults { HasRisenBy (cond (same_turn Turn.Failed result) 1 0)
         (E.fault_count endpoint.old) (E.fault_count endpoint.new) }
 {

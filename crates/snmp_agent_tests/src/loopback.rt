@@ -134,11 +134,9 @@ struct Failing {
 }
 
 impl Endpoint for Failing {
-    ghost use Rattle.std.specs.Prelude.{None};
-
     type Peer = ();
 
-    ghost log = { λ _. None };
+    ghost happens = { λ _ _ _. Unit {0} };
 
     ghost fault_count = { λ endpoint. endpoint.faults };
 

@@ -166,12 +166,10 @@ fn insert_row(
     if count == rows.capacity() && count > PAGE_ROWS / 2 {
         rows.reserve_exact(PAGE_ROWS.saturating_sub(count))?;
     }
-    match rows.push(row) {
-        Ok(()) => {
-            // Moves the rows behind at once; `Vec::insert` moves them one by one.
-            rows[place..].rotate_right(1);
-            Ok(())
-        }
-        Err(_) => Err(AllocError),
-    }
+    let Ok(()) = rows.push(row) else {
+        return Err(AllocError);
+    };
+    // Moves the rows behind at once; `Vec::insert` moves them one by one.
+    rows[place..].rotate_right(1);
+    Ok(())
 }

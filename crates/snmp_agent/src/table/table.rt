@@ -17,7 +17,6 @@ use std::collections::BTreeSet;
 use std::marker::Model;
 
 /// What an agent serves.
-#[derive(Drop)]
 pub struct Table {
     alloc: Global,
     rows: Pages,
@@ -41,6 +40,18 @@ impl Model for Table {
 
     // Every table is a MIB view.
     ghost invariant = { λ t. IsMibView (view_of t.rows (map (λ o. o.items) t.objects.keys)) };
+}
+
+impl Drop for Table {
+    // Written out, so that it is proved here alone: a derived one is proved in each crate above,
+    // with that of each type of its rows.
+    fn drop(self) {
+        let Table {
+            alloc: _alloc,
+            rows: _rows,
+            objects: _objects,
+        } = self;
+    }
 }
 
 impl Table {
@@ -143,7 +154,9 @@ impl Table {
     }
 
     /// Removes the instance of this name, and returns whether there was one. All else is unchanged.
-    /// No memory is taken.
+    ///
+    /// Memory that it no longer needs is given back by a request for less. Where that is refused,
+    /// the memory is kept, and the table is the same.
     pub fn remove(&mut self, name: &Oid) -> bool
         ensures removed { self.new ≡ without_row self.old name.now }
         ensures found { result ≡ contains_key self.old.rows name.now }

@@ -220,7 +220,7 @@ fn signed(text: &[u8]) -> Option<i32>
     ensures { IsOnly (λ z. IsSignedDecimal text.now z × FitsSigned w32 z) result }
 {
     match text {
-        [b'-', digits @ ..] => i32::try_from(-i64::try_from(decimal(digits)?).ok()?).ok(),
+        [b'-', digits @ ..] => 0_i32.checked_sub_unsigned(unsigned(digits)?),
         _ => i32::try_from(decimal(text)?).ok(),
     }
 }
@@ -233,12 +233,9 @@ fn address(text: &[u8]) -> Option<[u8; 4]>
         return None;
     }
     match parse_numeric(text).ok()?.as_slice() {
-        [first, second, third, fourth] => Some([
-            u8::try_from(*first).ok()?,
-            u8::try_from(*second).ok()?,
-            u8::try_from(*third).ok()?,
-            u8::try_from(*fourth).ok()?,
-        ]),
+        [a @ 0..=255, b @ 0..=255, c @ 0..=255, d @ 0..=255] => {
+            Some([*a as u8, *b as u8, *c as u8, *d as u8])
+        }
         _ => None,
     }
 }

@@ -109,16 +109,8 @@ impl Draft {
         self.octets(buffer.format(n).as_bytes());
     }
 
-    /// Appends an octet as two upper-case digits to the base 16.
-    #[inline]
-    pub fn hexadecimal(&mut self, octet: u8)
-        ensures { Adds self.old (hexadecimal_octet octet) self.new }
-    {
-        self.octets(&[upper_digit(octet / 16), upper_digit(octet % 16)]);
-    }
-
-    /// Appends an octet as two upper-case digits to the base 16, and an octet after them: what
-    /// [`Draft::hexadecimal`] and [`Draft::octet`] append, in one piece.
+    /// Appends an octet as two upper-case digits to the base 16, and an octet after them, in one
+    /// piece.
     #[inline]
     pub fn hexadecimal_before(&mut self, octet: u8, next: u8)
         ensures { Adds self.old (hexadecimal_octet octet ++ next ∷ []) self.new }

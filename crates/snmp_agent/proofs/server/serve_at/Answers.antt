@@ -1,8 +1,7 @@
 use Rattle.std.proofs.Common.{◌≡◌, ◌+◌, ◌++◌, [], refl, sym, ap, ◌∙◌, arith, rules}
 use Rattle.snmp_agent.specs.declared.server.Served.{Served}
 use Rattle.snmp_agent.specs.declared.server.Turn.{Turn}
-use Rattle.snmp_agent.specs.Serving.{logged}
-use Rattle.snmp_agent.proofs.ServerTurns.{extended_twice, more_turns, no_turns, not_extended}
+use Rattle.snmp_agent.proofs.ServerTurns.{in_turn-append, more_turns, no_turns}
 use Rattle.snmp_agent.proofs.ServerTurns.{one_more, one_more_turn, risen_in_turn}
 use Rattle.snmp_agent.proofs.server.serve_at.Goals as goal
 use Rattle.snmp_agent.proofs.server.serve_at.Goals.{in-Replied, in-Dropped, in-Idle, in-Failed}
@@ -15,7 +14,7 @@ turns-init g c =
       events = [];
       turns = no_turns _ _ none;
       risen = (λ _. refl, λ some. absurd (omega (arith, some, ap (λ (s : Served). s.faults) none)));
-      log = not_extended _;
+      happened = refl;
     }
 
 pub turns-preserved : goal.turns-preserved
@@ -35,5 +34,5 @@ turns-preserved g c =
       events = so_far.events ++ made.0;
       turns = more_turns _ c.turns.counter c.turns.served _ so_far.events t made.0 more so_far.turns made.1;
       risen = risen_in_turn t c.turns.served _ _ _ _ more so_far.risen c.serve_once.ensures.faults;
-      log = made.2 ∙ ap (λ log. logged log made.0) so_far.log ∙ extended_twice (g.E.Endpoint.log c.args.endpoint.now) so_far.events made.0;
+      happened = in_turn-append g.E.Endpoint.happens so_far.events made.0 c.args.endpoint.now c.turns.endpoint c.serve_once.new.endpoint so_far.happened made.2;
     }

@@ -1,10 +1,10 @@
 use Rattle.std.proofs.Common.{◌≡◌, ◌+◌, List}
 use Rattle.snmp_io.specs.Count.{HasRisenBy}
 use Rattle.snmp_agent.specs.Reply.{agent_of}
-use Rattle.snmp_agent.specs.Serving.{Event, logged, AreTurns}
+use Rattle.snmp_agent.specs.Serving.{Event, InTurn, AreTurns}
 use Rattle.snmp_agent.proofs.server.serve_at.Given as goal
 
--- the turns so far, and what they left in the log
+-- the turns so far, and what happened in them
 abbrev pub invariant-turns : goal.invariant-turns
 invariant-turns g l = record {
   sum : l.served.replies + l.served.dropped + l.served.idle + l.served.faults ≡ l.counter;
@@ -12,5 +12,5 @@ invariant-turns g l = record {
   turns : AreTurns (agent_of l.table l.config) l.counter l.served events;
   risen : HasRisenBy l.served.faults (g.E.Endpoint.fault_count l.fn.endpoint)
       (g.E.Endpoint.fault_count l.endpoint);
-  log : g.E.Endpoint.log l.endpoint ≡ logged (g.E.Endpoint.log l.fn.endpoint) events;
+  happened : InTurn g.E.Endpoint.happens l.fn.endpoint events l.endpoint;
 }
