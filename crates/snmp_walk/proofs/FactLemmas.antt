@@ -10,7 +10,7 @@ use Rattle.snmp_walk.specs.Walker.{Walker, IsWalker}
 use Rattle.snmp_walk.specs.Standing.{Reaches, IsPartOfWalk, IsWholeWalk}
 use Rattle.snmp_walk.specs.Link.{Agents, OneOf, IsNextFrom, IsGotFrom, AreViews}
 use Rattle.snmp_walk.specs.Facts.{IsFresh, IsLastSent, IsEndedBy, IsLawfulEnd, HasNoReply, HasNone}
-use Rattle.snmp_walk.specs.Facts.{IsDone, TableFacts, WalkFacts, SendFacts, gets}
+use Rattle.snmp_walk.specs.Facts.{IsDone, GivenFacts, WalkFacts, SendFacts, gets}
 use Rattle.snmp_walk.specs.Codec.{Codec}
 use Rattle.snmp_walk.proofs.JoinLemmas.{variables_rise, variables_are, next_first, get_one}
 use Rattle.snmp_walk.proofs.JoinLemmas.{get_row, after_precedes}
@@ -27,7 +27,7 @@ use Rattle.snmp_walk.proofs.PartLemmas.{part_front}
 use Rattle.snmp_walk.proofs.FullLemmas.{AreRoomy, IsFast, fast_few}
 use Rattle.snmp_walk.specs.Walk.{rest_of}
 use Rattle.snmp_walk.specs.Room.{HasRoomForEach}
-use Rattle.snmp_walk.proofs.SendLemmas.{Sends, AreUsed}
+use Rattle.snmp_walk.proofs.SendLemmas.{Sends}
 use Rattle.snmp_walk.specs.Run.{IsEachSent, Try, sent_by}
 use Rattle.snmp_walk.specs.Request.{request_of, asked_for}
 use Rattle.snmp_wire.specs.Canon.{canon}
@@ -92,24 +92,30 @@ module _ (codec : Codec) (agents : Agents) (views : AreViews agents.tables) (fir
   pub in_names : (names : List (List ℕ)) → HoldsNames agents first names → HasFew (IsNextFrom agents) first (length names)
   in_names = few_rows codec agents views first fresh.begins.0 fresh.begins.1
 
-module _ (codec : Codec) (agents : Agents) (tries : ℕ) (old new : Traffic) (first : Walker) (rows refused : List VarBind) (end : WalkEnd) (some : 0 < tries)
+module _ (codec : Codec) (agents : Agents) (Silent : Walker → Type 0) (first : Walker) (rows refused : List VarBind) (end : WalkEnd)
     (fresh : IsFresh first) (views : AreViews agents.tables) (part : IsPartOfWalk (IsNextFrom agents) (IsGotFrom agents) first (rows ++ refused))
-    (lawful : IsLawfulEnd agents (HasNoReply agents tries old new) first rows end) where
-  -- nothing was lost
-  replied : old.ahead ≡ [] → IsLawfulEnd agents (HasNone agents) first rows end
-  replied none = lawful_by agents (HasNoReply agents tries old new) (HasNone agents) first rows end
-      (λ w h. none_lost agents tries old new w some none h) lawful
-
+    (lawful : IsLawfulEnd agents Silent first rows end) where
   whole : IsDone end → IsWholeWalk (IsNextFrom agents) (IsGotFrom agents) first rows
-  whole done = lawful_whole agents (HasNoReply agents tries old new) first rows end done lawful
+  whole done = lawful_whole agents Silent first rows end done lawful
 
-  table_facts : TableFacts agents old first rows refused end
-  table_facts =
+  pub given_facts : GivenFacts agents Silent first rows refused end
+  given_facts =
       let s = fresh.begins.0 in
       let begins = fresh.begins.1 in
       let given = part_front (IsNextFrom agents) (IsGotFrom agents) first rows refused part in
       let rising = rises codec agents views first s begins rows given in
       record {
+        part = part;
+        lawful = lawful;
+        beginning = λ view got e answer.
+            part_is (variables view) got (IsNextFrom agents) (IsGotFrom agents) first
+            (one_table codec agents first view got views e answer) s begins (rows ++ refused) part;
+        all_at_done = λ view got e answer done.
+            whole_is (variables view) got (IsNextFrom agents) (IsGotFrom agents) first
+            (one_table codec agents first view got views e answer) s begins rows (whole done);
+        done_unless_lost = λ view e rooms ids.
+            left_end codec agents first views (only_room agents first view e rooms) (length (rest_of first.root first.asked (variables view)))
+            (in_table codec agents views first fresh view e) ids Silent rows end lawful;
         from_tables = part_from codec agents views first s begins (rows ++ refused) part;
         common_names = λ name of each front last e passed. once rows name rising
             (common_in codec agents views first s begins rows given name of each
@@ -119,40 +125,35 @@ module _ (codec : Codec) (agents : Agents) (tries : ℕ) (old new : Traffic) (fi
         common_at_done = λ done name of each. once rows name rising (common_in_whole codec agents views first s begins rows (whole done) name of each);
         some_at_done = λ done plain. whole_some (IsNextFrom agents) (IsGotFrom agents) first rows (whole done) plain;
         done_unless_lost_in_tables = λ names all rooms ids.
-            left_end codec agents first views rooms (length names) (in_names codec agents views first fresh names all) ids
-            (HasNoReply agents tries old new) rows end lawful;
-        done_unless_stopped_in_tables = λ names all rooms ids none.
-            swift_end codec agents first views rooms (length names) (in_names codec agents views first fresh names all) ids rows end (replied none);
+            left_end codec agents first views rooms (length names) (in_names codec agents views first fresh names all) ids Silent rows end lawful;
       }
+
+module _ (codec : Codec) (agents : Agents) (tries : ℕ) (old new : Traffic) (first : Walker) (rows refused : List VarBind) (end : WalkEnd) (some : 0 < tries)
+    (fresh : IsFresh first) (views : AreViews agents.tables) (part : IsPartOfWalk (IsNextFrom agents) (IsGotFrom agents) first (rows ++ refused))
+    (lawful : IsLawfulEnd agents (HasNoReply agents tries old new) first rows end) where
+  -- nothing was lost
+  replied : old.ahead ≡ [] → IsLawfulEnd agents (HasNone agents) first rows end
+  replied none = lawful_by agents (HasNoReply agents tries old new) (HasNone agents) first rows end
+      (λ w h. none_lost agents tries old new w some none h) lawful
 
   pub facts : IsEndedBy agents (HasNoReply agents tries old new) (IsLastSent tries end new) first rows end
       → WalkFacts agents tries old first rows refused end new
   facts last = record {
-    part = part;
-    lawful = lawful;
+    given = given_facts codec agents (HasNoReply agents tries old new) first rows refused end fresh views part lawful;
     last_request = last;
     replied = replied;
-    beginning = λ view got e answer.
-        part_is (variables view) got (IsNextFrom agents) (IsGotFrom agents) first
-        (one_table codec agents first view got views e answer) fresh.begins.0 fresh.begins.1
-        (rows ++ refused) part;
-    all_at_done = λ view got e answer done.
-        whole_is (variables view) got (IsNextFrom agents) (IsGotFrom agents) first
-        (one_table codec agents first view got views e answer) fresh.begins.0 fresh.begins.1 rows (whole done);
-    done_unless_lost = λ view e rooms ids.
-        left_end codec agents first views (only_room agents first view e rooms) (length (rest_of first.root first.asked (variables view)))
-        (in_table codec agents views first fresh view e) ids (HasNoReply agents tries old new) rows end lawful;
     done_unless_stopped = λ view e rooms ids none.
         swift_end codec agents first views (only_room agents first view e rooms) (length (rest_of first.root first.asked (variables view)))
         (in_table codec agents views first fresh view e) ids rows end (replied none);
-    of_tables = table_facts;
+    done_unless_stopped_in_tables = λ names all rooms ids none.
+        swift_end codec agents first views rooms (length names) (in_names codec agents views first fresh names all) ids rows end (replied none);
   }
 
 -- what a run sent
 pub send_facts : Codec → (agents : Agents) (honest Roomy : Type 0) (tries : ℕ) (old new : Traffic) (first w : Walker) (rows given : List VarBind)
     (end : WalkEnd) → IsFresh first → IsWalker w
     → (h : Sends tries first rows old (w.id + 1) new)
-    → (honest → AreUsed old new × AreViews agents.tables × Reaches (IsNextFrom agents) (IsGotFrom agents) first w given
+    → (honest → ((used : List (Option ℕ)) × (old.ahead ≡ used ++ new.ahead) × (length used + 64 * length old.sent ≤ 64 * length new.sent)) × AreViews agents.tables × Reaches (IsNextFrom agents) (IsGotFrom agents) first w given
     × IsFast (IsNextFrom agents) (IsGotFrom agents) Roomy first given w.id w.phase)
     → (AreRoomy agents h.requests → Roomy)
     → (before : List Try) × (last : Try) × (h.requests ≡ before ++ last ∷ []) × IsEachSent before × (end ≢ ending.Link → 0 < last.times)
@@ -167,7 +168,7 @@ send_facts codec agents honest Roomy tries old new first w rows given end fresh 
   few = omega (arith, h.ids, good.id);
   used = λ k.
       let u = (honestly k).0 in
-      (u.used, u.parts, omega (arith, u.few, ap length h.sent, length-append old.sent (sent_by h.requests)));
+      (u.0, u.1, omega (arith, u.2, ap length h.sent, length-append old.sent (sent_by h.requests)));
   few_of_table = λ k view e. few k _ (in_table codec agents (honestly k).1 first fresh view e);
   few_of_tables = λ k names all. few k _ (in_names codec agents (honestly k).1 first fresh names all);
   few_of_table_where_all_fit = λ k room view e. fast k room _ (in_table codec agents (honestly k).1 first fresh view e);

@@ -2,12 +2,14 @@
 use Rattle.std.proofs.Common.{◌≡◌, ◌≢◌, ◌⊎◌, inl, inr, ℕ, ◌<◌, ◌≤◌, List, [], ◌∷◌, ◌++◌, length}
 use Rattle.std.proofs.Common.{take, refl, sym, ◌∙◌, ap, subst, arith, pos, append-nil, Option}
 use Rattle.std.proofs.lemmas.List.{length-take}
-use Rattle.std.specs.Prelude.{Result, Err, replicate}
+use Rattle.std.specs.Prelude.{Result, Ok, Err, replicate, Some, None}
+use Rattle.snmp_walk.specs.declared.end.LinkFault.{LinkFault}
 use Rattle.snmp_oid.specs.Identifier.{wire}
 use Rattle.snmp_wire.specs.Message.{VarBind, Message}
 use Rattle.snmp_wire.specs.Spelling.{Spells}
 use Rattle.snmp_wire.specs.Canon.{canon}
 use Rattle.snmp_wire.specs.Range.{IsMessageInRange}
+use Rattle.snmp_agent.specs.Event.{Event}
 use Rattle.snmp_walk.specs.Codec.{Codec}
 use Rattle.snmp_agent.specs.table.Table.{MibView, IsMibView}
 use Rattle.snmp_agent.specs.Reply.{response, got, got_next, unwritten, Fits, IsWhole}
@@ -17,30 +19,34 @@ use Rattle.snmp_walk.specs.declared.end.WalkEnd.{WalkEnd}
 use Rattle.snmp_walk.specs.declared.end.WalkEnd.TheVariants as ending
 use Rattle.snmp_walk.specs.declared.tries.Course.{Course}
 use Rattle.snmp_walk.specs.declared.tries.Course.TheVariants as course
-use Rattle.snmp_walk.specs.Link.{Agents, OneOf, AreLawful, IsReplyFrom, IsUnanswered, agent_in}
+use Rattle.snmp_walk.specs.Link.{Agents, OneOf, AreLawful, IsReplyFrom, agent_in}
 use Rattle.snmp_walk.specs.Traffic.{Traffic, Lost}
-use Rattle.snmp_walk.specs.Heard.{Exchanges, IsAsked}
-use Rattle.snmp_walk.specs.Facts.{IsDone, IsDoneOrStopped}
-use Rattle.snmp_walk.specs.Course.{heard_of}
+use Rattle.snmp_walk.specs.Facts.{IsDone, IsDoneOrCutOff, IsDoneOrStopped}
+use Rattle.snmp_walk.specs.Course.{Heard, heard_of}
 use Rattle.snmp_walk.specs.Course as heard
-use Rattle.snmp_walk.specs.Read.{IsRead}
+use Rattle.snmp_walk.specs.Read.{IsReadAs, Tells}
 use Rattle.snmp_walk.specs.Get.{get_request, got_step, AreFor, AreGot, MeansToGet}
 use Rattle.snmp_walk.specs.Get.{IsBrought, IsReasonOfGet, HasRoomForGet, IsEndOfGet, IsLostGet}
-use Rattle.snmp_walk.specs.Get.{IsTooBig, GetFacts}
+use Rattle.snmp_walk.specs.Get.{IsTooBig, GetFacts, GotFacts}
 use Rattle.snmp_walk.proofs.TestLemmas.{no_end}
 use Rattle.snmp_walk.proofs.ViewLemmas.{view_of, only_one, get_name, get_value}
 use Rattle.snmp_walk.proofs.JoinLemmas.{get_one}
-use Rattle.snmp_walk.proofs.GotLemmas.{asked_alone, brought, no_set}
+use Rattle.snmp_walk.proofs.EventLemmas.{all_tries, answered_tries}
+use Rattle.snmp_walk.proofs.GotLemmas.{brought, lost_get, no_set, response_of}
+use Rattle.snmp_walk.proofs.TurnLemmas.{Suits, agrees}
+use Rattle.snmp_walk.proofs.TriedMoves.{moved_of, sent_of, tries_as}
 use Rattle.snmp_walk.proofs.HonestLemmas.{no_drop, own as spelt_own}
 use Rattle.snmp_walk.proofs.GetEndLemmas.{IsByReply, IsFrontOfReply, IsGot, MayEnd, by_reply}
 use Rattle.snmp_walk.proofs.GetEndLemmas.{for_more, for_names, for_none, for_nothing}
 use Rattle.snmp_walk.proofs.GetEndLemmas.{front_of_reply}
-use Rattle.snmp_walk.proofs.MoveLemmas.{moves_as, moves_none, nil_front, tries_as}
+use Rattle.snmp_walk.proofs.MoveLemmas.{moves_as, moves_none, nil_front}
 use Rattle.snmp_walk.specs.Link.{Outcome}
 use Rattle.snmp_walk.specs.Link as outcome
-use Rattle.snmp_walk.specs.Moved.{IsMoved, IsMovedByTries}
-use Rattle.snmp_walk.specs.Ran.{IsFreshAndHonest, IsGetTried, IsGotOver, IsRun}
-use Rattle.snmp_walk.specs.Tries.{AreTried, IsNotAwaited}
+use Rattle.snmp_walk.specs.Moved.{IsMoved}
+use Rattle.snmp_walk.specs.Judged.{IsResponseTo}
+use Rattle.snmp_walk.specs.Network.{AreReplies}
+use Rattle.snmp_walk.specs.Ran.{HasHappened, IsFreshAndHonest, IsGetTried, IsGotOver, IsRun}
+use Rattle.snmp_walk.specs.Tries.{AreTried, Happens, InTurn, IsNotAwaited}
 use Rattle.snmp_walk.specs.declared.link.Link.{Ghosts as LinkFacts}
 
 -- Gets of the names give one list
@@ -57,9 +63,11 @@ for_got view good (o ∷ names) (p ∷ bindings) h =
     for_more o names p bindings ((get_name view (wire o) p h.0, no_end p.value (get_value view good (wire o) p h.0)), for_got view good names bindings h.1)
 for_got view good names bindings h = absurd h
 
-module _ (codec : Codec) (agents : Agents) (lawful : AreLawful agents) (tries : ℕ) (some : 0 < tries) (old new : Traffic) (community : List ℕ) (id : ℕ)
-    (names : List (List ℕ))
-    (own : length (canon (get_request community id names)) ≤ 65507 → Spells (get_request community id names) (canon (get_request community id names))) where
+unless_silent : (end : WalkEnd) → (end ≡ ending.NoResponse → ⊥) → IsDoneOrCutOff end → IsDoneOrStopped end
+unless_silent ending.NoResponse other h = absurd (other refl)
+unless_silent _ other h = h
+
+module _ (agents : Agents) (lawful : AreLawful agents) (community : List ℕ) (id : ℕ) (names : List (List ℕ)) where
   abbrev Request : Message
   Request = get_request community id names
 
@@ -113,17 +121,6 @@ module _ (codec : Codec) (agents : Agents) (lawful : AreLawful agents) (tries : 
   response_fits room view one m is =
       elim (from_response view m is) [ inl h ↦ h.1 | inr h ↦ absurd (h.1.2 (room.response_fits view h.1.0 one h.1.1)) ]
 
-  -- where there is room, and no deliveries are ahead, a reply comes
-  never_lost : HasRoomForGet agents Request names → old.ahead ≡ [] → IsLostGet agents tries old (canon Request) new → ⊥
-  never_lost room none lost = elim lost.lost [
-    | inl u ↦ no_drop codec Request (own room.request_fits) refl (agent_in agents u.view) room.community tt (response_fits room u.view u.one) u.why u.dropped
-    | inr h ↦
-        let lost_none : Lost agents (old.sent ++ canon Request ∷ []) (canon Request) [] tries 0 =
-        subst (λ (used : List (Option ℕ)). Lost agents (old.sent ++ canon Request ∷ []) (canon Request) used tries 0)
-        (nil_front h.0 new.ahead (sym none ∙ h.1)) h.2 in
-        omega (arith, some, lost_none)
-  ]
-
   -- what is true of the one table
   module _ (view : MibView) (all : List VarBind) (one_view : agents.tables ≡ view ∷ []) (are : AreGot view names all) where
     one_good : IsMibView view
@@ -134,27 +131,26 @@ module _ (codec : Codec) (agents : Agents) (lawful : AreLawful agents) (tries : 
         one_got view one_good names rows all (subst (λ (w : MibView). AreGot w names rows) (only_one view v agents.tables one_view one) h) are
 
   -- the facts, by how the Get ended
-  module _ (honest : Type 0) (is_honest : honest) (Tried : Outcome → Type 0) (rows refused : List VarBind) (end : WalkEnd)
-      (lost : end ≡ ending.NoResponse → IsLostGet agents tries old (canon Request) new) where
+  module _ (honest : Type 0) (is_honest : honest) (Tried : Outcome → Type 0) (rows refused : List VarBind) (end : WalkEnd) where
     abbrev Brought : Message → Type 0
     Brought m = IsBrought Tried agents honest community id names m
 
     abbrev HasLawfulEnd : WalkEnd → Type 0
     HasLawfulEnd why = IsEndOfGet (IsTooBig agents Request names) ⊥ (Unit {0}) Request names why
-        × (HasRoomForGet agents Request names → old.ahead ≡ [] → IsDoneOrStopped why)
+        × (HasRoomForGet agents Request names → IsDoneOrCutOff why)
 
-    end_of : (why : WalkEnd) → why ≡ end → IsReasonOfGet Tried Brought names rows refused why → MayEnd Request names why → HasLawfulEnd why
-    end_of (ending.Done count) same r may = (may, λ room ahead. tt)
-    end_of (ending.Sink fault) same r may = (tt, λ room ahead. tt)
-    end_of ending.Link same r may = (tt, λ room ahead. tt)
-    end_of ending.NoResponse same r may = (tt, λ room ahead. absurd (never_lost room ahead (lost (sym same))))
-    end_of ending.RequestTooLong same r may = (may, λ room ahead. absurd (omega (arith, may, room.request_fits)))
-    end_of why same r may =
+    end_of : (why : WalkEnd) → IsReasonOfGet Tried Brought names rows refused why → MayEnd Request names why → HasLawfulEnd why
+    end_of (ending.Done count) r may = (may, λ room. tt)
+    end_of (ending.Sink fault) r may = (tt, λ room. tt)
+    end_of ending.Link r may = (tt, λ room. tt)
+    end_of ending.NoResponse r may = (tt, λ room. tt)
+    end_of ending.RequestTooLong r may = (may, λ room. absurd (omega (arith, may, room.request_fits)))
+    end_of why r may =
         let from = r.1.1 is_honest in
         let big = brought_end from.0 from.1 r.0 from.3 why r.2 in
         subst HasLawfulEnd (sym big.0) (
           record { too_big = refl; no_index = refl; view = from.0; one = from.1; all = big.1.1.0; got = big.1.1.1; no_room = big.1.1.2 },
-          λ room ahead. absurd (big.1.1.2 (room.response_fits from.0 big.1.1.0 from.1 big.1.1.1)),
+          λ room. absurd (big.1.1.2 (room.response_fits from.0 big.1.1.0 from.1 big.1.1.1)),
         )
 
     -- what was given, where there is one table
@@ -167,32 +163,94 @@ module _ (codec : Codec) (agents : Agents) (lawful : AreLawful agents) (tries : 
         ((h.1, sym same), λ done. simp ((h.4 done).0, (h.4 done).1, append-nil) at same)
     given_front (inr h) view all one_view are = ((all, ap (λ (s : List VarBind). s ++ all) (sym h.0)), λ done. absurd (h.1 done))
 
-    pub get_facts : IsReasonOfGet Tried Brought names rows refused end → MayEnd Request names end → GetFacts agents tries old Request names rows refused end new
-    get_facts r may =
+    pub got_facts : IsReasonOfGet Tried Brought names rows refused end → MayEnd Request names end → GotFacts agents Request names rows refused end
+    got_facts r may =
         let front = given_front (front_of_reply names Tried Brought rows refused end r) in
-        let lawful_end = end_of end refl r may in record {
+        let lawful_end = end_of end r may in record {
           beginning = λ view all one_view are. (front view all one_view are).0;
           all_at_done = λ view all one_view are. (front view all one_view are).1;
           ends = lawful_end.0;
-          lost_without_response = lost;
-          done_unless_stopped = lawful_end.1;
+          done_unless_lost = lawful_end.1;
         }
 
--- a Get that no try had a reply to, by its exchange
-lost_exchange : Codec → (agents : Agents) (honest : Type 0) (lawful : honest
-    → AreLawful agents) (tries : ℕ) (community : List ℕ) (id : ℕ) (names : List (List ℕ))
-    → IsMessageInRange (get_request community id names) → (q : List ℕ) → q ≡ canon (get_request community id names)
-    → (old new : Traffic) (silent failed : Type 0)
-    → silent → Exchanges agents (honest × IsAsked agents community id q old.sent) tries q old silent failed new → honest → old.sent ≡ []
-    → IsLostGet agents tries old (canon (get_request community id names)) new
-lost_exchange codec agents honest lawful tries community id names ranged q is old new silent failed s x h none =
-    let asked = subst (λ (t : List ℕ). IsAsked agents community id t old.sent) (sym is)
-    (asked_alone codec community id names ranged agents (lawful h) old.sent none) in
-    let u = x.honestly (h, asked) in
-    subst (λ (t : List ℕ). IsLostGet agents tries old t new) is (record {
-      sent = x.sent ∙ ap (λ (n : ℕ). old.sent ++ replicate n q) (x.all s);
-      lost = elim (u.3 s) [ inl a ↦ inl a | inr l ↦ inr (u.0, u.1, l) ];
-    })
+  module _ (codec : Codec) (own : length (canon Request) ≤ 65507 → Spells Request (canon Request)) (tries : ℕ) (some : 0 < tries) (old new : Traffic) where
+    -- where there is room, and no deliveries are ahead, a reply comes
+    never_lost : HasRoomForGet agents Request names → old.ahead ≡ [] → IsLostGet agents tries old (canon Request) new → ⊥
+    never_lost room none lost = elim lost.lost [
+      | inl u ↦ no_drop codec Request (own room.request_fits) refl (agent_in agents u.view) room.community tt (response_fits room u.view u.one) u.why u.dropped
+      | inr h ↦
+          let lost_none : Lost agents (old.sent ++ canon Request ∷ []) (canon Request) [] tries 0 =
+          subst (λ (used : List (Option ℕ)). Lost agents (old.sent ++ canon Request ∷ []) (canon Request) used tries 0)
+          (nil_front h.0 new.ahead (sym none ∙ h.1)) h.2 in
+          omega (arith, some, lost_none)
+    ]
+
+    pub get_facts : (honest : Type 0) → honest → (Tried : Outcome → Type 0) (rows refused : List VarBind) (end : WalkEnd)
+        → (end ≡ ending.NoResponse → IsLostGet agents tries old (canon Request) new)
+        → IsReasonOfGet Tried (IsBrought Tried agents honest community id names) names rows refused end → MayEnd Request names end
+        → GetFacts agents tries old Request names rows refused end new
+    get_facts honest is_honest Tried rows refused end lost r may =
+        let given = got_facts honest is_honest Tried rows refused end r may in record {
+          given = given;
+          lost_without_response = lost;
+          done_unless_stopped = λ room ahead. unless_silent end (λ silent. never_lost room ahead (lost silent)) (given.done_unless_lost room);
+        }
+
+-- ---- what happened
+
+module _ {W : Type 0} (codec : Codec) (facts : LinkFacts W) (link after : W) (tries : ℕ) (community : List ℕ) (id : ℕ) (names : List (List ℕ))
+    (ranged : IsMessageInRange (get_request community id names)) where
+  abbrev Was : Outcome → Type 0
+  Was what = IsGetTried facts link after tries community id names what
+
+  abbrev q : List ℕ
+  q = canon (get_request community id names)
+
+  abbrev tried_events : (what : Outcome) → Was what → (events : List (Event (Unit {0}))) × InTurn (Happens facts) link events after
+  tried_events what h = all_tries facts q (IsNotAwaited community id) tries link after what h
+
+  -- the one datagram that was sent is the request
+  module _ (agents : Agents) (good : AreLawful agents) where
+    abbrev IsFromThese : Message → Type 0
+    IsFromThese m = IsBrought Was agents (Unit {0}) community id names m
+
+    from_agents : (m : Message) (d : List ℕ) → IsResponseTo community id m → Spells m d → (h : Was (outcome.answered d))
+        → AreReplies agents (tried_events (outcome.answered d) h).0 → IsFromThese m
+    from_agents m d response spelt h replies =
+        let a = answered_tries facts q (IsNotAwaited community id) tries link after d h in
+        let sent_it = replies a.1.0 [] tt d refl m spelt in
+        let reply = subst (λ (x : List ℕ). IsReplyFrom agents x d) (a.1.2 sent_it.0 sent_it.1) sent_it.2 in
+        (response, (λ _. response_of codec community id names ranged agents good m d spelt reply), (d, h, spelt))
+
+  module _ (rows refused : List VarBind) where
+    abbrev Known : WalkEnd → Type 0
+    Known end = HasHappened facts link after (λ agents. GotFacts agents (get_request community id names) names rows refused end)
+
+    known : (end : WalkEnd) (what : Outcome) (h : Was what) → MayEnd (get_request community id names) names end
+        → ((agents : Agents) (good : AreLawful agents) → AreReplies agents (tried_events what h).0
+        → IsReasonOfGet Was (IsFromThese agents good) names rows refused end) → Known end
+    known end what h may reason =
+        let e = tried_events what h in
+        record {
+          events = e.0;
+          in_turn = e.1;
+          replied = λ agents good replies. got_facts agents good community id names (Unit {0}) tt Was rows refused end (reason agents good replies) may;
+        }
+
+    module _ (other : Agents) (honest : Type 0) where
+      pub happened_by : (end : WalkEnd) → IsReasonOfGet Was (IsBrought Was other honest community id names) names rows refused end → MayEnd (get_request community id names) names end
+          → (end ≡ ending.RequestTooLong → ⊥) → Known end
+      happened_by (ending.Sink fault) r may short =
+          let from = r.3 in
+          known (ending.Sink fault) (outcome.answered from.2.0) from.2.1 may
+          (λ agents good replies. (r.0, r.1, r.2, from_agents agents good r.0 from.2.0 from.0 from.2.2 from.2.1 replies, r.4, r.5))
+      happened_by ending.NoResponse r may short = known ending.NoResponse outcome.missed r.0 may (λ agents good replies. r)
+      happened_by ending.Link r may short = known ending.Link outcome.cut_off r.0 may (λ agents good replies. r)
+      happened_by ending.RequestTooLong none may short = absurd (short refl)
+      happened_by end r may short =
+          let from = r.1 in
+          known end (outcome.answered from.2.0) from.2.1 may
+          (λ agents good replies. (r.0, from_agents agents good r.0 from.2.0 from.0 from.2.2 from.2.1 replies, r.2, r.3))
 
 -- ---- a Get over a link
 
@@ -218,8 +276,8 @@ module _ {W S : Type 0} (facts : LinkFacts W) (link : W) (tries : ℕ) (communit
       × (names ≢ [] → end ≢ ending.RequestTooLong → end ≢ ending.Link → 0 < times)
 
   abbrev HasMoved : W → WalkEnd → Type 0
-  HasMoved after end = (times : ℕ) × (times ≤ tries) × (names ≢ [] → end ≢ ending.RequestTooLong → 0 < times)
-      × IsMoved facts link (replicate times (canon Asked)) (end ≡ ending.Link) after
+  HasMoved after end = (times : ℕ) × (times ≤ tries) × (names ≢ [] → end ≢ ending.RequestTooLong → 0 < times) × (receives : ℕ)
+      × IsMoved facts link (replicate times (canon Asked)) receives (end ≡ ending.Link) after
 
   abbrev pub IsGotSo : W → S → WalkEnd → Type 0
   IsGotSo after sunk end = IsGot takes Asked names (Tried after) (From after) before sunk end
@@ -233,9 +291,18 @@ module _ {W S : Type 0} (facts : LinkFacts W) (link : W) (tries : ℕ) (communit
       (0, omega arith, sym (append-nil (facts.traffic link).sent), λ silent. absurd (heard silent), λ named fits fine. absurd (unsent named fits))
 
   moved_none : (end : WalkEnd) → (end ≡ ending.Link → ⊥) → (names ≢ [] → end ≢ ending.RequestTooLong → ⊥) → HasMoved link end
-  moved_none end fine unsent = (0, omega arith, λ named fits. absurd (unsent named fits), moves_as facts (λ f. absurd f) fine (moves_none facts link))
+  moved_none end fine unsent =
+      (0, omega arith, (λ named fits. absurd (unsent named fits)), 0, moves_as facts (omega arith) (λ f. absurd f) fine (moves_none facts link))
 
   -- without names
+  nothing_got : (agents : Agents) → names ≡ [] → GotFacts agents Asked names [] [] (ending.Done 0)
+  nothing_got agents none = record {
+    beginning = λ view all one are. ([], none_got view names all none are);
+    all_at_done = λ view all one are done. sym (none_got view names all none are);
+    ends = sym (ap length none);
+    done_unless_lost = λ room. tt;
+  }
+
   pub got_none : names ≡ [] → IsOver link before (ending.Done 0)
   got_none none = record {
     rows = [];
@@ -247,22 +314,22 @@ module _ {W S : Type 0} (facts : LinkFacts W) (link : W) (tries : ℕ) (communit
       unasked = λ _. refl;
       sent = sent_none (ending.Done 0) (λ silent. cc) (λ some. absurd (some none));
       judged = λ fresh. record {
-        beginning = λ view all one are. ([], none_got view names all none are);
-        all_at_done = λ view all one are done. sym (none_got view names all none are);
-        ends = sym (ap length none);
+        given = nothing_got (facts.agents link) none;
         lost_without_response = λ silent. let no : ⊥ = cc in absurd no;
         done_unless_stopped = λ room ahead. tt;
       };
       moved = moved_none (ending.Done 0) (λ e. cc) (λ some. absurd (some none));
+      happened = record { events = []; in_turn = refl; replied = λ agents good replies. nothing_got agents none };
     };
   }
 
   module _ (codec : Codec) (lawful : facts.honest link → AreLawful (facts.agents link)) (some : 0 < tries) (named : names ≢ []) where
-    got_over : (length (canon Asked) ≤ 65507 → Spells Asked (canon Asked)) → (after : W) (sunk : S) (end : WalkEnd) → IsGotSo after sunk end
+    got_over : (length (canon Asked) ≤ 65507 → Spells Asked (canon Asked)) → (after : W) (sunk : S) (end : WalkEnd) → (g : IsGotSo after sunk end)
+        → HasHappened facts link after (λ agents. GotFacts agents Asked names g.rows g.refused end)
         → (end ≡ ending.NoResponse → IsFreshAndHonest facts link → IsLostGet (facts.agents link) tries (facts.traffic link) (canon Asked) (facts.traffic after))
         → (65507 < length (canon Asked) → end ≡ ending.RequestTooLong) → (end ≡ ending.RequestTooLong → after ≡ link) → Sent after end
         → HasMoved after end → IsOver after sunk end
-    got_over spells after sunk end g lost long unasked sent moved = record {
+    got_over spells after sunk end g happened lost long unasked sent moved = record {
       rows = g.rows;
       refused = g.refused;
       took = g.took;
@@ -272,9 +339,10 @@ module _ {W S : Type 0} (facts : LinkFacts W) (link : W) (tries : ℕ) (communit
         reason = λ _. g.reason;
         unasked = elim [ inl none ↦ absurd (named none) | inr too_long ↦ unasked too_long ];
         sent = sent;
-        judged = λ fresh. get_facts codec (facts.agents link) (lawful fresh.0) tries some (facts.traffic link) (facts.traffic after) community id names spells
+        judged = λ fresh. get_facts (facts.agents link) (lawful fresh.0) community id names codec spells tries some (facts.traffic link) (facts.traffic after)
             (IsFreshAndHonest facts link) fresh (Tried after) g.rows g.refused end (λ silent. lost silent fresh) g.reason g.ends;
         moved = moved;
+        happened = happened;
       };
     }
 
@@ -282,51 +350,74 @@ module _ {W S : Type 0} (facts : LinkFacts W) (link : W) (tries : ℕ) (communit
     pub got_too_long : 65507 < length (canon Asked) → IsOver link before ending.RequestTooLong
     got_too_long long =
         got_over (λ fits. absurd (omega (arith, fits, long))) link before ending.RequestTooLong
-        (record { rows = []; refused = []; took = (refl, refl); reason = refl; ends = long }) (λ silent. let no : ⊥ = cc in absurd no) (λ _. refl)
+        (record { rows = []; refused = []; took = (refl, refl); reason = refl; ends = long })
+        (record {
+          events = [];
+          in_turn = refl;
+          replied = λ agents good replies. got_facts agents good community id names (Unit {0}) tt (Tried link) [] [] ending.RequestTooLong refl long;
+        })
+        (λ silent. let no : ⊥ = cc in absurd no) (λ _. refl)
         (λ _. refl) (sent_none ending.RequestTooLong (λ silent. cc) (λ _ fits. fits refl))
         (moved_none ending.RequestTooLong (λ e. cc) (λ _ fits. fits refl))
 
     -- by an exchange of the request that was written
-    module _ (ranged : IsMessageInRange Asked) (n : ℕ) (octets : List ℕ) (few : n ≤ 65507) (is : take n octets ≡ canon Asked) (after : W) where
-      pub got_asked : (sunk : S) (end : WalkEnd) → IsGotSo after sunk end → (end ≡ ending.RequestTooLong → ⊥) → (silent failed : Type 0)
-          → (end ≡ ending.NoResponse → silent) → (failed → end ≡ ending.Link) → (end ≡ ending.Link → failed)
-          → (facts.honest link → facts.keeps link)
-          → (facts.keeps link → Exchanges (facts.agents link)
-          (facts.honest link × IsAsked (facts.agents link) community id (take n octets) (facts.traffic link).sent) tries (take n octets) (facts.traffic link)
-          silent failed (facts.traffic after))
-          → IsMovedByTries facts link (take n octets) tries failed after → IsOver after sunk end
-      got_asked sunk end g short silent failed quiet there back keeping exchanged moves =
-          let m = tries_as facts is there back moves in
+    module _ (keeping : (l : W) → facts.honest l → facts.keeps l) (ranged : IsMessageInRange Asked) (n : ℕ) (octets : List ℕ) (few : n ≤ 65507)
+        (is : take n octets ≡ canon Asked) (after : W) where
+      got_asked : (what : Outcome) → Tried after what → (sunk : S) (end : WalkEnd) → Suits what end → (end ≡ ending.RequestTooLong → ⊥) → IsGotSo after sunk end
+          → IsOver after sunk end
+      got_asked what tried sunk end suits short g =
+          let a = agrees what end suits in
+          let x = sent_of facts (IsNotAwaited community id) (canon Asked) tries some what link after tried in
+          let m = tries_as facts (IsNotAwaited community id) (canon Asked) a.0 a.1
+          (moved_of facts (IsNotAwaited community id) (canon Asked) tries some what link after tried) in
           got_over (λ _. spelt_own codec Asked ranged no_set) after sunk end g
-          (λ s fresh.
-          lost_exchange codec (facts.agents link) (facts.honest link) lawful tries community id names ranged (take n octets) is (facts.traffic link)
-          (facts.traffic after) silent failed (quiet s) (exchanged (keeping fresh.0)) fresh.0 fresh.1)
+          (happened_by codec facts link after tries community id names ranged g.rows g.refused (facts.agents link)
+          (IsFreshAndHonest facts link) end g.reason g.ends short)
+          (λ silent fresh.
+          let none = a.2 silent in
+          let y = x (keeping link fresh.0) in
+          lost_get codec community id names ranged facts keeping link after tries lawful (subst (Tried after) none tried) fresh
+          (y.2 ∙ ap (λ (n : ℕ). (facts.traffic link).sent ++ replicate n (canon Asked)) (y.4 none)))
           (λ long. absurd (omega (arith, long, ap length is, few, length-take n octets))) (λ long. absurd (short long))
-          (λ keeps. let x = exchanged keeps in (
-            x.times,
-            x.few,
-            subst (λ (t : List ℕ). (facts.traffic after).sent ≡ (facts.traffic link).sent ++ replicate x.times t) is x.sent,
-            λ s. x.all (quiet s),
-            λ _ fits fine. x.some (λ f. fine (there f)),
-          )) (m.0, m.1, λ _ fits. m.2, m.3)
+          (λ keeps. let y = x keeps in (y.0, y.1, y.2, (λ silent. y.4 (a.2 silent)), λ _ sent fine. y.3 (λ cut. fine (a.0 cut))))
+          (m.0, m.1, (λ _ _. m.2), m.3, m.4)
 
-      -- by the reply that was read
-      pub got_read : {V : Type 0} (new : V) (sunk : S) (how : Course) (end : WalkEnd)
-          → IsRead (λ reply. AreTried facts (IsNotAwaited community id) (take n octets) tries link (outcome.answered reply) after)
-          (λ reply. facts.honest link → IsAsked (facts.agents link) community id (take n octets) (facts.traffic link).sent
-          → IsReplyFrom (facts.agents link) (take n octets) reply)
-          community id (λ m given _. given ≡ got_step names m) takes before (heard_of how end) new sunk
-          → (how ≡ course.Ends) × IsByReply end × IsGotSo after sunk end
-      got_read {V} new sunk how end r =
-          let b = brought codec community id names ranged (λ q o. AreTried facts (IsNotAwaited community id) q tries link o after) (facts.agents link)
-          (facts.honest link) lawful (take n octets) is (facts.traffic link).sent (λ m given _. given ≡ got_step names m) takes before (heard_of how end) new sunk r in
-          by_course how (by_reply takes Asked names (Tried after) (From after) before sunk r.is_read.message b r.is_read.given (heard_of how end)
-          r.is_read.read r.is_read.delivered)
+      -- by what it returned
+      abbrev IsReadSo : {V : Type 0} → V → S → List ℕ → Heard → Type 0
+      IsReadSo {V} new sunk d what = IsReadAs d community id (λ m given (_ : V). given ≡ got_step names m) takes before new sunk what
+
+      abbrev pub IsGetTurn : S → WalkEnd → Result (Option Course) LinkFault → Type 0
+      IsGetTurn sunk end (Ok (Some course.GoesOn)) = ⊥
+      IsGetTurn sunk end (Ok (Some course.Ends)) = IsOver after sunk end
+      IsGetTurn sunk end (Ok None) = IsOver after sunk ending.NoResponse
+      IsGetTurn sunk end (Err e) = IsOver after sunk ending.Link
+
+      pub get_of : {V : Type 0} (new : V) (same : Type 0) (sunk : S) (end : WalkEnd) (what : Outcome)
+          → AreTried facts (IsNotAwaited community id) (take n octets) tries link what after → (result other : Result (Option Course) LinkFault)
+          → Tells (λ d course. IsReadSo new sunk d (heard_of course end)) (same × (sunk ≡ before)) result what → result ≡ other → IsGetTurn sunk end other
+      get_of {V} new same sunk end what h result other told result_is = subst (IsGetTurn sunk end) result_is (by_result result told)
         where
-          by_course : (c : Course) → (why : WalkEnd) × (heard_of c end ≡ heard.ends why) × IsByReply why × IsGotSo after sunk why
-              → (c ≡ course.Ends) × IsByReply end × IsGotSo after sunk end
-          by_course course.GoesOn e = let is_on = e.1 in let no : ⊥ = cc in absurd no
-          by_course course.Ends e =
-              let is_so = e.1 in
-              let same : e.0 ≡ end = cc in
-              (refl, subst IsByReply same e.2, subst (λ (why : WalkEnd). IsGotSo after sunk why) same e.3)
+          came : (o : Outcome) → what ≡ o → Tried after o
+          came o e = subst (Tried after) e (subst (λ (x : List ℕ). AreTried facts (IsNotAwaited community id) x tries link what after) is h)
+
+          read_so : (d : List ℕ) (how : Heard) → what ≡ outcome.answered d → IsReadSo new sunk d how → (why : WalkEnd) × (how ≡ heard.ends why) × IsOver after sunk why
+          read_so d how e r =
+              let tried = came (outcome.answered d) e in
+              let b = by_reply takes Asked names (Tried after) (From after) before sunk r.message
+              (brought codec community id names ranged facts keeping link after tries lawful r.message d tried r.spelt r.awaited) r.given how r.read r.delivered in
+              (b.0, b.1, got_asked (outcome.answered d) tried sunk b.0 ((λ x. subst IsByReply x b.2), λ x. subst IsByReply x b.2) (λ x. subst IsByReply x b.2) b.3)
+
+          by_result : (x : Result (Option Course) LinkFault) → Tells (λ d course. IsReadSo new sunk d (heard_of course end)) (same × (sunk ≡ before)) x what
+              → IsGetTurn sunk end x
+          by_result (Ok (Some course.GoesOn)) t = let e = (read_so t.0 heard.goes_on t.1 t.2).1 in cc
+          by_result (Ok (Some course.Ends)) t =
+              let b = read_so t.0 (heard.ends end) t.1 t.2 in
+              let e = b.1 in
+              let same_end : b.0 ≡ end = cc in
+              subst (IsOver after sunk) same_end b.2
+          by_result (Ok None) t =
+              got_asked outcome.missed (came outcome.missed t.0) sunk ending.NoResponse refl (λ e. cc)
+              (record { rows = []; refused = []; took = (t.1.1, refl); reason = (came outcome.missed t.0, refl); ends = tt })
+          by_result (Err e) t =
+              got_asked outcome.cut_off (came outcome.cut_off t.0) sunk ending.Link refl (λ e. cc)
+              (record { rows = []; refused = []; took = (t.1.1, refl); reason = (came outcome.cut_off t.0, refl); ends = tt })

@@ -1,23 +1,25 @@
 -- An agent's reply to a Get is awaited, and is its Response.
-use Rattle.std.proofs.Common.{◌≡◌, ℕ, List, [], refl, sym, subst}
-use Rattle.std.specs.Prelude.{Result}
+use Rattle.std.proofs.Common.{◌≡◌, inl, inr, ℕ, true, List, [], ◌++◌, replicate, refl, sym, subst}
 use Rattle.snmp_wire.specs.declared.kind.Kind.TheVariants as kind
-use Rattle.snmp_wire.specs.Message.{VarBind, Message}
+use Rattle.snmp_wire.specs.Message.{Message}
 use Rattle.snmp_wire.specs.Canon.{canon}
+use Rattle.snmp_wire.specs.Spelling.{Spells}
 use Rattle.snmp_wire.specs.Range.{IsMessageInRange}
 use Rattle.snmp_walk.specs.Codec.{Codec}
 use Rattle.snmp_agent.specs.Reply.{IsResponse}
+use Rattle.snmp_agent.specs.table.Table.{MibView}
 use Rattle.snmp_walk.specs.Judged.{IsResponseTo}
-use Rattle.snmp_walk.specs.Link.{Agents, OneOf, AreLawful, IsReplyFrom, Outcome}
+use Rattle.snmp_walk.specs.Link.{Agents, OneOf, AreLawful, IsReplyFrom}
 use Rattle.snmp_walk.specs.Link as outcome
 use Rattle.snmp_walk.specs.Heard.{IsAsked}
-use Rattle.snmp_walk.specs.declared.end.SinkFault.{SinkFault}
-use Rattle.snmp_walk.specs.declared.rows.Step.{Step}
-use Rattle.snmp_walk.specs.Course.{Heard}
-use Rattle.snmp_walk.specs.Read.{IsRead}
-use Rattle.snmp_walk.specs.Get.{get_request, IsBrought}
+use Rattle.snmp_walk.specs.Taken.{awaits}
+use Rattle.snmp_walk.specs.Get.{get_request, IsBrought, IsLostGet}
+use Rattle.snmp_walk.specs.Ran.{IsFreshAndHonest, IsGetTried}
+use Rattle.snmp_walk.specs.Tries.{IsNotAwaited}
+use Rattle.snmp_walk.specs.declared.link.Link.{Ghosts as LinkFacts}
 use Rattle.snmp_walk.proofs.HonestLemmas.{IsAnsweredBy, answered_by}
 use Rattle.snmp_walk.proofs.JudgedLemmas.{response_to_decided}
+use Rattle.snmp_walk.proofs.LostLemmas.{lost_of, reply_of}
 
 pub no_set : kind.GetRequest ≡ kind.SetRequest → ⊥
 no_set k = cc
@@ -31,32 +33,40 @@ module _ (codec : Codec) (community : List ℕ) (id : ℕ) (names : List (List �
   answered agents lawful octets h =
       answered_by codec Asked ranged no_set agents lawful (λ view good all bindings k. let no : ⊥ = cc in absurd no) octets h
 
-  pub asked_alone : (agents : Agents) → AreLawful agents → (sent : List (List ℕ)) → sent ≡ [] → IsAsked agents community id (canon Asked) sent
+  -- a message that it spells is the Response of one of the agents
+  pub response_of : (agents : Agents) → AreLawful agents → (m : Message) (d : List ℕ) → Spells m d → IsReplyFrom agents (canon Asked) d
+      → (view : MibView) × OneOf agents.tables view × (community ≡ agents.community) × IsResponse view agents.max_size Asked m
+  response_of agents lawful m d spelt reply =
+      let a = answered agents lawful d reply in
+      let same = (codec.one a.message m d d [] [] a.spelt spelt refl).0 in
+      (a.view, a.one, a.named, subst (IsResponse a.view agents.max_size Asked) same a.is_response)
+
+  asked_alone : (agents : Agents) → AreLawful agents → (sent : List (List ℕ)) → sent ≡ [] → IsAsked agents (IsNotAwaited community id) (canon Asked) sent
   asked_alone agents lawful sent none = record {
-    own = λ octets reply.
-        let a = answered agents lawful octets reply in (
-          a.message,
-          a.spelt,
-          (response_to_decided community id a.message).1
-              (subst (IsResponseTo community id) (sym a.by.is) (record { version = refl; community_is = refl; kind = refl; id_is = refl })),
-        );
+    own = λ octets reply other. let a = answered agents lawful octets reply in
+        other a.message a.spelt (subst (IsResponseTo community id) (sym a.by.is) (record { version = refl; community_is = refl; kind = refl; id_is = refl }));
     others = λ d one. absurd (subst (λ (s : List (List ℕ)). OneOf s d) none one);
   }
 
-  -- the message that was heard
-  pub brought : {W S : Type 0} (Tried : List ℕ → Outcome → Type 0) (agents : Agents) (honest : Type 0) → (honest → AreLawful agents) → (q : List ℕ)
-      → q ≡ canon Asked
-      → (sent : List (List ℕ)) (reads : Message → Step → W → Type 0) (takes : S → VarBind → Result (Unit {0}) SinkFault → S → Type 0) (before : S)
-      (what : Heard) (new : W) (after : S)
-      → (r : IsRead (λ octets. Tried q (outcome.answered octets)) (λ octets. honest → IsAsked agents community id q sent → IsReplyFrom agents q octets) community id reads takes before what new after)
-      → IsBrought (Tried (canon Asked)) agents (honest × (sent ≡ [])) community id names r.is_read.message
-  brought Tried agents honest lawful q is sent reads takes before what new after here =
-      let m : Message = here.is_read.message in (
-        (response_to_decided community id m).0 here.is_read.awaited,
-        λ h.
-            let r = here.reply h.0 (subst (λ (x : List ℕ). IsAsked agents community id x sent) (sym is) (asked_alone agents (lawful h.0) sent h.1)) in
-            let a = answered agents (lawful h.0) here.datagram (subst (λ (x : List ℕ). IsReplyFrom agents x here.datagram) is r) in
-            let same = (codec.one a.message m here.datagram here.datagram [] [] a.spelt here.is_read.spelt refl).0 in
-            (a.view, a.one, a.named, subst (IsResponse a.view agents.max_size Asked) same a.is_response),
-        (here.datagram, subst (λ (x : List ℕ). Tried x (outcome.answered here.datagram)) is here.comes, here.is_read.spelt),
-      )
+  module _ {L : Type 0} (facts : LinkFacts L) (keeping : (link : L) → facts.honest link → facts.keeps link) (link after : L) (tries : ℕ)
+      (lawful : facts.honest link → AreLawful (facts.agents link)) where
+    -- the message that came
+    pub brought : (m : Message) (d : List ℕ) → IsGetTried facts link after tries community id names (outcome.answered d) → Spells m d → awaits community id m ≡ true
+        → IsBrought (IsGetTried facts link after tries community id names) (facts.agents link) (IsFreshAndHonest facts link) community id names m
+    brought m d tried spelt awaited = (
+      (response_to_decided community id m).0 awaited,
+      λ h. response_of (facts.agents link) (lawful h.0) m d spelt
+          (reply_of facts keeping (IsNotAwaited community id) (canon Asked) tries link after h.0
+          (asked_alone (facts.agents link) (lawful h.0) (facts.traffic link).sent h.1) d
+          (λ other. other m spelt ((response_to_decided community id m).0 awaited)) tried),
+      (d, tried, spelt),
+    )
+
+    -- none came
+    pub lost_get : IsGetTried facts link after tries community id names outcome.missed → IsFreshAndHonest facts link
+        → (facts.traffic after).sent ≡ (facts.traffic link).sent ++ replicate tries (canon Asked)
+        → IsLostGet (facts.agents link) tries (facts.traffic link) (canon Asked) (facts.traffic after)
+    lost_get tried h sent =
+        let l = lost_of facts keeping (IsNotAwaited community id) (canon Asked) tries link after h.0
+        (asked_alone (facts.agents link) (lawful h.0) (facts.traffic link).sent h.1) tried in
+        record { sent = sent; lost = elim l.2 [ inl none ↦ inl none | inr gone ↦ inr (l.0, l.1, gone) ] }

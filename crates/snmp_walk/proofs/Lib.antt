@@ -29,7 +29,8 @@ pub mod SwiftLemmas
 pub mod FullLemmas
 pub mod ArenaLemmas
 pub mod MemoryLemmas
-pub mod HearLemmas
+pub mod TriedMoves
+pub mod LostLemmas
 mod TryLemmas
 pub mod TriedLemmas
 pub mod GetLemmas
@@ -38,3 +39,8 @@ pub mod LawLemmas
 mod JudgedLemmas
 pub mod GetEndLemmas
 pub mod GetFactLemmas
+pub mod FreshLemmas
+pub mod NetworkLemmas
+mod EventLemmas
+mod GivenLemmas
+mod ServedLemmas

@@ -1,13 +1,12 @@
 -- Moves of a link, one after another.
-use Rattle.std.proofs.Common.{◌≡◌, ℕ, zero, suc, ◌+◌, ◌*◌, ◌<◌, ◌≤◌, List, [], ◌∷◌, ◌++◌, length}
-use Rattle.std.proofs.Common.{replicate, refl, sym, ◌∙◌, ap, subst, arith}
+use Rattle.std.proofs.Common.{◌≡◌, ℕ, zero, suc, ◌+◌, ◌*◌, ◌≤◌, List, [], ◌∷◌, ◌++◌, length}
+use Rattle.std.proofs.Common.{replicate, refl, sym, ◌∙◌, ap, subst, arith, Option}
 use Rattle.std.proofs.Common.{append-nil, append_assoc, length-append}
 use Rattle.std.proofs.lemmas.List.{nil_from_length}
-use Rattle.std.proofs.lemmas.Grind.{replicate_next}
-use Rattle.std.specs.Prelude.{Result, Ok, Err, IsErr, false, true}
+use Rattle.std.specs.Prelude.{false, true}
 use Rattle.snmp_io.specs.Count.{HasRisen}
-use Rattle.snmp_walk.specs.Moves.{AreSent, Moves, octets_in}
-use Rattle.snmp_walk.specs.Moved.{IsMoved, IsMovedByTries}
+use Rattle.snmp_walk.specs.Moves.{AreSent, AreUsed, Moves, octets_in}
+use Rattle.snmp_walk.specs.Moved.{IsMoved}
 use Rattle.snmp_walk.specs.declared.link.Link.{Ghosts as LinkFacts}
 
 -- ---- what was sent
@@ -24,15 +23,15 @@ pub nil_front : {X : Type 0} (front left : List X) → [] ≡ front ++ left → 
 nil_front front left e = nil_from_length front (omega (arith, ap length e, length-append front left))
 
 pub sent_nothing : (failed : Type 0) {before after : List (List ℕ)} → after ≡ before → AreSent [] failed before after
-sent_nothing failed {before} e = record { front = []; left = []; parts = refl; sent = e ∙ sym (append-nil before); all = λ fine. refl }
+sent_nothing failed {before} e =
+    record { front = []; left = []; parts = refl; sent = e ∙ sym (append-nil before); all = λ fine. refl; but_one = omega arith }
 
 pub sent_all : {tried before after : List (List ℕ)} {failed : Type 0} → (failed → ⊥) → AreSent tried failed before after → after ≡ before ++ tried
 sent_all {tried} {before} fine h =
     h.sent ∙ ap (λ (s : List (List ℕ)). before ++ s) (sym (h.parts ∙ ap (λ (s : List (List ℕ)). h.front ++ s) (h.all fine) ∙ append-nil h.front))
 
 pub sent_none : {before after : List (List ℕ)} {failed : Type 0} → AreSent [] failed before after → after ≡ before
-sent_none {before} h =
-    h.sent ∙ ap (λ (s : List (List ℕ)). before ++ s) (nil_front h.front h.left h.parts) ∙ append-nil before
+sent_none {before} h = h.sent ∙ ap (λ (s : List (List ℕ)). before ++ s) (nil_front h.front h.left h.parts) ∙ append-nil before
 
 sent_more : (tried more before between after : List (List ℕ)) (failed : Type 0) → between ≡ before ++ tried → AreSent more failed between after
     → AreSent (tried ++ more) failed before after
@@ -42,18 +41,23 @@ sent_more tried more before between after failed e h = record {
   parts = ap (λ (s : List (List ℕ)). tried ++ s) h.parts ∙ sym (append_assoc tried h.front h.left);
   sent = h.sent ∙ ap (λ (s : List (List ℕ)). s ++ h.front) e ∙ append_assoc before tried h.front;
   all = h.all;
+  but_one = h.but_one;
 }
-
--- ---- whether a call failed
-
-pub is_bad : {T E : Type 0} (r : Result T E) (e : E) → r ≡ Err e → IsErr r
-is_bad r e is = rw is
-
-pub never_bad : {T E : Type 0} (r : Result T E) (x : T) → r ≡ Ok x → IsErr r → ⊥
-never_bad r x is h = let no = subst IsErr is h in cc
 
 pub ok_fine : false ≡ true → ⊥
 ok_fine e = cc
+
+-- ---- the deliveries used
+
+pub used_on : {ahead between left : List (Option ℕ)} {m n : ℕ} → AreUsed ahead m between → AreUsed between n left → AreUsed ahead (m + n) left
+used_on {ahead} {between} {left} u v = (
+  u.0 ++ v.0,
+  u.1 ∙ ap (λ (es : List (Option ℕ)). u.0 ++ es) v.1 ∙ sym (append_assoc u.0 v.0 left),
+  omega (arith, u.2, v.2, length-append u.0 v.0),
+)
+
+pub unused : {ahead left : List (Option ℕ)} → AreUsed ahead 0 left → ahead ≡ left
+unused {ahead} {left} u = u.1 ∙ ap (λ (es : List (Option ℕ)). es ++ left) (nil_from_length u.0 (omega (arith, u.2)))
 
 -- ---- how the link moved
 
@@ -62,26 +66,28 @@ by_equal R s t o p e f h = subst (λ (x : ℕ). R x p) e (subst (R s) f h)
 
 module _ {W : Type 0} (facts : LinkFacts W) where
   -- a link that stays as it is
-  pub moves_none : (link : W) → IsMoved facts link [] ⊥ link
+  pub moves_none : (link : W) → IsMoved facts link [] 0 ⊥ link
   moves_none link = record {
     keeps = λ k. k;
     honest = λ h. h;
     agents = refl;
     sent = λ k. sent_nothing ⊥ refl;
+    used = λ h. ([], refl, omega arith);
     count = λ fine. refl;
     fault = λ f. absurd f;
     ready = λ s o r. (λ f. f, by_equal (facts.ready link) (s + 0) s (o + 0) o (omega arith) (omega arith) r);
   }
 
   -- one that moved twice, the first time without a fault
-  pub moves_on : {old between new : W} {tried more : List (List ℕ)} {failed : Type 0} → IsMoved facts old tried ⊥ between → IsMoved facts between more failed new
-      → IsMoved facts old (tried ++ more) failed new
-  moves_on {old} {between} {new} {tried} {more} {failed} m n = record {
+  pub moves_on : {old between new : W} {tried more : List (List ℕ)} {k l : ℕ} {failed : Type 0} → IsMoved facts old tried k ⊥ between
+      → IsMoved facts between more l failed new → IsMoved facts old (tried ++ more) (k + l) failed new
+  moves_on {old} {between} {new} {tried} {more} {k} {l} {failed} m n = record {
     keeps = λ k. n.keeps (m.keeps k);
     honest = λ h. n.honest (m.honest h);
     agents = n.agents ∙ m.agents;
     sent = λ k. sent_more tried more (facts.traffic old).sent (facts.traffic between).sent (facts.traffic new).sent failed
         (sent_all (λ f. f) (m.sent k)) (n.sent (m.keeps k));
+    used = λ h. used_on (m.used h) (n.used (m.honest h));
     count = λ fine. n.count fine ∙ m.count (λ f. f);
     fault = λ f. subst (λ (c : ℕ). HasRisen c (facts.fault_count new)) (m.count (λ no. no)) (n.fault f);
     ready = λ s o r. n.ready s o (m.ready (s + length more) (o + octets_in more)
@@ -89,63 +95,37 @@ module _ {W : Type 0} (facts : LinkFacts W) where
         (o + octets_in more + octets_in tried) (omega (arith, length-append tried more)) (omega (arith, octets-append tried more)) r)).1;
   }
 
-  -- the same, where its failure is said in other words
-  pub moves_as : {old new : W} {tried : List (List ℕ)} {failed other : Type 0} → (failed → other) → (other → failed) → IsMoved facts old tried failed new
-      → IsMoved facts old tried other new
-  moves_as {old} {new} {tried} {failed} {other} there back m = record {
+  -- the same, with more receives, where its failure is said in other words
+  pub moves_as : {old new : W} {tried : List (List ℕ)} {m n : ℕ} {failed other : Type 0} → m ≤ n → (failed → other) → (other → failed)
+      → IsMoved facts old tried m failed new → IsMoved facts old tried n other new
+  moves_as few there back m = record {
     keeps = m.keeps;
     honest = m.honest;
     agents = m.agents;
-    sent = λ k. let s = m.sent k in record { front = s.front; left = s.left; parts = s.parts; sent = s.sent; all = λ fine. s.all (λ f. fine (there f)) };
+    sent = λ k.
+        let s = m.sent k in
+        record { front = s.front; left = s.left; parts = s.parts; sent = s.sent; all = λ fine. s.all (λ f. fine (there f)); but_one = s.but_one };
+    used = λ h. let u = m.used h in (u.0, u.1, omega (arith, u.2, few));
     count = λ fine. m.count (λ f. fine (there f));
     fault = λ f. m.fault (back f);
     ready = λ s o r. let left = m.ready s o r in (λ f. left.0 (back f), left.1);
   }
 
-  -- where it didn't fail
-  pub went : {old new : W} {tried : List (List ℕ)} {failed : Type 0} → (failed → ⊥) → IsMoved facts old tried failed new → IsMoved facts old tried ⊥ new
-  went fine m = moves_as fine (λ f. absurd f) m
+  pub went : {old new : W} {tried : List (List ℕ)} {m n : ℕ} {failed : Type 0} → m ≤ n → (failed → ⊥) → IsMoved facts old tried m failed new
+      → IsMoved facts old tried n ⊥ new
+  went few fine m = moves_as few fine (λ f. absurd f) m
 
   -- a receive into a buffer that is long enough
-  received : {old new : W} {n : ℕ} {failed : Type 0} → 65507 ≤ n
-      → Moves facts.keeps facts.honest facts.agents facts.traffic facts.fault_count (λ link s o. (65507 ≤ n) × facts.ready link s o) old [] failed new
-      → IsMoved facts old [] failed new
+  pub received : {old new : W} {n : ℕ} {failed : Type 0} → 65507 ≤ n
+      → Moves facts.keeps facts.honest facts.agents facts.traffic facts.fault_count (λ link s o. (65507 ≤ n) × facts.ready link s o) old [] 1 failed new
+      → IsMoved facts old [] 1 failed new
   received long m = record {
     keeps = m.keeps;
     honest = m.honest;
     agents = m.agents;
     sent = m.sent;
+    used = m.used;
     count = m.count;
     fault = m.fault;
     ready = λ s o r. let left = m.ready s o (long, r) in (left.0, left.1.1);
   }
-
-  -- a receive whose failure is said in other words
-  pub receive_as : {old new : W} {n : ℕ} {failed other : Type 0} → 65507 ≤ n → (failed → other) → (other → failed)
-      → Moves facts.keeps facts.honest facts.agents facts.traffic facts.fault_count (λ link s o. (65507 ≤ n) × facts.ready link s o) old [] failed new
-      → IsMoved facts old [] other new
-  receive_as long there back m = moves_as there back (received long m)
-
-  -- one more receive
-  pub receives_on : {old between new : W} {n : ℕ} {failed other : Type 0} → 65507 ≤ n → (failed → other) → (other → failed) → IsMoved facts old [] ⊥ between
-      → Moves facts.keeps facts.honest facts.agents facts.traffic facts.fault_count (λ link s o. (65507 ≤ n) × facts.ready link s o) between [] failed new
-      → IsMoved facts old [] other new
-  receives_on long there back m n = moves_on m (receive_as long there back n)
-
-  -- one try more
-  pub tries_on : {old between new : W} {q : List ℕ} {failed : Type 0} (n : ℕ) → IsMoved facts old (replicate n q) ⊥ between
-      → IsMoved facts between (q ∷ []) failed new → IsMoved facts old (replicate (n + 1) q) failed new
-  tries_on {old} {between} {new} {q} {failed} n m t =
-      subst (λ (d : List (List ℕ)). IsMoved facts old d failed new) (sym (replicate_next n q)) (moves_on m t)
-
-  -- one try more of this request, after which the link moved without a send
-  pub try_moved : {old between now new : W} {q : List ℕ} {tries : ℕ} {failed other : Type 0} (n : ℕ) → n < tries → IsMoved facts old (replicate n q) ⊥ between
-      → IsMoved facts between (q ∷ []) ⊥ now → (failed → other) → (other → failed) → IsMoved facts now [] failed new
-      → IsMovedByTries facts old q tries other new
-  try_moved n less m sent there back rest = (n + 1, omega (arith, less), omega arith, tries_on n m (moves_on sent (moves_as there back rest)))
-
-  -- tries of this very request, whose failure is said in other words
-  pub tries_as : {old new : W} {q r : List ℕ} {tries : ℕ} {failed other : Type 0} → q ≡ r → (failed → other) → (other → failed)
-      → IsMovedByTries facts old q tries failed new → IsMovedByTries facts old r tries other new
-  tries_as {old} {new} {q} {r} {tries} {failed} {other} e there back h =
-      (h.0, h.1, h.2, subst (λ (d : List ℕ). IsMoved facts old (replicate h.0 d) other new) e (moves_as there back h.3))

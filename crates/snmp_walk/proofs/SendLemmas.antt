@@ -1,8 +1,7 @@
 -- What a run sends, request by request.
-use Rattle.std.proofs.Common.{◌≡◌, ◌⊎◌, inl, inr, ℕ, ◌+◌, ◌*◌, ◌^◌, ◌<◌, ◌≤◌, false, List, [], ◌∷◌}
+use Rattle.std.proofs.Common.{◌≡◌, ◌⊎◌, inl, inr, ℕ, ◌+◌, ◌^◌, ◌<◌, ◌≤◌, false, List, [], ◌∷◌}
 use Rattle.std.proofs.Common.{◌++◌, length, replicate, refl, sym, ◌∙◌, ap, subst, arith}
-use Rattle.std.proofs.Common.{append-nil, append_assoc, length-append, Option}
-use Rattle.std.proofs.lemmas.List.{length-replicate}
+use Rattle.std.proofs.Common.{append-nil, append_assoc, length-append}
 use Rattle.snmp_wire.specs.Message.{VarBind}
 use Rattle.snmp_wire.specs.Canon.{canon}
 use Rattle.snmp_walk.specs.declared.phase.Phase.{Phase}
@@ -12,11 +11,11 @@ use Rattle.snmp_walk.specs.Walker.{Walker, IsWalker}
 use Rattle.snmp_walk.specs.Request.{request_of}
 use Rattle.snmp_walk.specs.Taken.{is_over}
 use Rattle.snmp_walk.specs.Standing.{IsStage, IsPaced, Reaches, Rises, Named}
-use Rattle.snmp_walk.specs.Link.{Agents, OneOf}
+use Rattle.snmp_walk.specs.Link.{OneOf}
 use Rattle.snmp_walk.specs.Traffic.{Traffic}
-use Rattle.snmp_walk.specs.Heard.{Exchanges, IsSentBefore, IsEarlier}
+use Rattle.snmp_walk.specs.Heard.{IsSentBefore, IsEarlier}
 use Rattle.snmp_walk.specs.Run.{Try, sent_by, IsNameIn, AsksFor, Asks, AreTries, IsEachSent}
-use Rattle.snmp_walk.proofs.HearLemmas.{one_append, one_same}
+use Rattle.snmp_walk.proofs.LostLemmas.{one_append, one_same}
 
 -- ---- names
 
@@ -104,25 +103,24 @@ pub record Sends (tries : ℕ) (first : Walker) (given : List VarBind) (old : Tr
   pub ids : next ≡ first.id + length requests
 
 -- and with it
-abbrev pub sends_more : (agents : Agents) (honest silent failed : Type 0) (tries : ℕ) (first w : Walker) (given rows : List VarBind) (old now later : Traffic)
-    → IsWalker w
-    → Reaches Rises Named first w given → Sends tries first given old w.id now → Exchanges agents honest tries (canon (request_of w)) now silent failed later
-    → Sends tries first (given ++ rows) old (w.id + 1) later
-sends_more agents honest silent failed tries first w given rows old now later good stands h x =
-    let t : Try = record { by = w; times = x.times } in
+abbrev pub sends_more : (tries times : ℕ) (first w : Walker) (given rows : List VarBind) (old now later : Traffic) → IsWalker w
+    → Reaches Rises Named first w given → Sends tries first given old w.id now → times ≤ tries
+    → later.sent ≡ now.sent ++ replicate times (canon (request_of w)) → Sends tries first (given ++ rows) old (w.id + 1) later
+sends_more tries times first w given rows old now later good stands h few sent =
+    let t : Try = record { by = w; times = times } in
     record {
       requests = h.requests ++ t ∷ [];
-      sent = x.sent ∙ ap (λ (s : List (List ℕ)). s ++ replicate x.times (canon (request_of w))) h.sent
-          ∙ append_assoc old.sent (sent_by h.requests) (replicate x.times (canon (request_of w)))
+      sent = sent ∙ ap (λ (s : List (List ℕ)). s ++ replicate times (canon (request_of w))) h.sent
+          ∙ append_assoc old.sent (sent_by h.requests) (replicate times (canon (request_of w)))
           ∙ ap (λ (s : List (List ℕ)). old.sent ++ s) (sym (sent_push h.requests t));
       are_tries = tries_push tries first (given ++ rows) first.id h.requests t
-          (tries_more tries first given rows first.id h.requests h.are_tries) h.ids good.id x.few (asks_now first w given rows stands);
+          (tries_more tries first given rows first.id h.requests h.are_tries) h.ids good.id few (asks_now first w given rows stands);
       ids = omega (arith, h.ids, length-append h.requests (t ∷ []));
     }
 
 -- ---- what was sent before
 
-before_more : (w v : Walker) → IsWalker w → is_over w.phase ≡ false → w.id < v.id → (d : List ℕ) → IsSentBefore w d → IsSentBefore v d
+pub before_more : (w v : Walker) → IsWalker w → is_over w.phase ≡ false → w.id < v.id → (d : List ℕ) → IsSentBefore w d → IsSentBefore v d
 before_more w v good waits less d (inl e) = inr (w, good, waits, less, e)
 before_more w v good waits less d (inr u) = inr (u.0, u.1, u.2, omega (arith, u.3, less), u.4)
 
@@ -136,33 +134,3 @@ earlier_more w v sent later times good waits less e h d one =
 
 pub earlier_first : (sent : List (List ℕ)) (w : Walker) → sent ≡ [] → IsEarlier sent w
 earlier_first sent w none d one = absurd (subst (λ (s : List (List ℕ)). OneOf s d) none one)
-
--- ---- deliveries
-
--- at most 64 were used for each datagram sent
-pub record AreUsed (old now : Traffic) : Type 0 where
-  pub used : List (Option ℕ)
-  pub parts : old.ahead ≡ used ++ now.ahead
-  pub few : length used + 64 * length old.sent ≤ 64 * length now.sent
-
-pub used_first : (old : Traffic) → AreUsed old old
-used_first old = record { used = []; parts = refl; few = omega arith }
-
-pub used_more : (agents : Agents) (honest silent failed : Type 0) (tries : ℕ) (q : List ℕ) (old now later : Traffic) → honest → AreUsed old now
-    → Exchanges agents honest tries q now silent failed later → AreUsed old later
-used_more agents honest silent failed tries q old now later h u x =
-    let more = x.honestly h in
-    record {
-      used = u.used ++ more.0;
-      parts = u.parts ∙ ap (λ (es : List (Option ℕ)). u.used ++ es) more.1 ∙ sym (append_assoc u.used more.0 later.ahead);
-      few = omega (
-        arith,
-        u.few,
-        more.2,
-        length-append u.used more.0,
-        ap length x.sent,
-        length-append now.sent
-            (replicate x.times q),
-        length-replicate x.times q,
-      );
-    }

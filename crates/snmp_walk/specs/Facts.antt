@@ -85,12 +85,12 @@ rows_read readings = flat_map (λ r. r.rows) readings
 
 -- Each of these datagrams replied to the request of the walk, in turn, from one state of the link
 -- to the next, and the walk v read them as these rows, and is w then. `Tried` says what came of a
--- walk's request over the link.
+-- walk's request over the link. `IsWalker` holds of each walk that waited.
 abbrev pub AreRead : {L : Type 0} → (Tried : Walker → L → Outcome → L → Type 0) → Walker → L
     → List Reading → Walker → L → Type 0
 AreRead {L} Tried v old [] w new = (w ≡ v) × (new ≡ old)
 AreRead {L} Tried v old (r ∷ more) w new =
-    (u : Walker) × (between : L) × Tried v old (answered r.datagram) between
+    IsWalker v × (u : Walker) × (between : L) × Tried v old (answered r.datagram) between
     × MeansBy v r.datagram (step.Rows r.rows) u × AreRead Tried u between more w new
 
 -- The walk that began as `first` gave just the rows that it read in the replies to its requests,
@@ -236,11 +236,30 @@ abbrev pub IsDoneOrCutOff : WalkEnd → Type 0
 IsDoneOrCutOff ending.NoResponse = Unit {0}
 IsDoneOrCutOff why = IsDoneOrStopped why
 
--- What is promised of a run where the agents have several tables, each reply being that of one of
--- them.
-pub record TableFacts (agents : Agents) (old : Traffic) (first : Walker)
+-- What is promised of a run where each reply that it read is that of one of these agents to the
+-- request that waited. It gave these rows to the sink, and then the one that was refused, if any
+-- was. Where no reply came, `Silent` holds of the walker that waited.
+pub record GivenFacts (agents : Agents) (Silent : Walker → Type 0) (first : Walker)
     (rows refused : List VarBind) (end : WalkEnd) : Type 0 where
-  -- each binding given is that of one of the tables
+  -- each row given is the next instance, in one of the tables, after the name before it; before
+  -- these comes the root's own, where the mode says so; in their place a plain walk may give what a
+  -- Get of the root gives
+  pub part : IsPartOfWalk (IsNextFrom agents) (IsGotFrom agents) first (rows ++ refused)
+  -- the link and the sink may stop it at any time; each other end comes only for its reason
+  pub lawful : IsLawfulEnd agents Silent first rows end
+  -- over one table what was given, with what was refused, is a beginning of the walk,
+  pub beginning : (view : MibView) (got : VarBind) → agents.tables ≡ view ∷ []
+      → IsGet view first.asked got
+      → (more : List VarBind) × (walk_at first view got ≡ (rows ++ refused) ++ more)
+  -- and where the walk is done it is all of it
+  pub all_at_done : (view : MibView) (got : VarBind) → agents.tables ≡ view ∷ []
+      → IsGet view first.asked got → IsDone end
+      → rows ≡ walk_at first view got
+  -- Over one table, where there is room for each single binding and there are enough ids, a walk is
+  -- done unless the link or the sink stops it or no reply comes.
+  pub done_unless_lost : (view : MibView) → agents.tables ≡ view ∷ []
+      → HasRoomForEach agents view first → HasIds first view → IsDoneOrCutOff end
+  -- over several tables each binding given is that of one of them
   pub from_tables : AreFromTables agents first (rows ++ refused)
   -- each name of the walk that all tables have, and that doesn't come after the last name given, is
   -- given once,
@@ -254,46 +273,30 @@ pub record TableFacts (agents : Agents) (old : Traffic) (first : Walker)
   pub some_at_done : IsDone end → first.mode ≡ mode.Plain → rows ≢ []
   -- Where there is room for each single binding of each table, and enough ids for the names that
   -- the tables have together, a walk is done unless the link or the sink stops it or no reply
-  -- comes,
+  -- comes.
   pub done_unless_lost_in_tables : (names : List (List ℕ)) → HoldsNames agents first names
       → HasRoomInEach agents first → HasIdsFor first names → IsDoneOrCutOff end
-  -- and a reply comes where each receive gives the reply to the latest datagram
-  pub done_unless_stopped_in_tables : (names : List (List ℕ)) → HoldsNames agents first names
-      → HasRoomInEach agents first → HasIdsFor first names → old.ahead ≡ [] → IsDoneOrStopped end
 
 -- What is promised of a run over an honest link over which nothing was sent before. It gave these
 -- rows to the sink, and then the one that was refused, if any was.
 pub record WalkFacts (agents : Agents) (tries : ℕ) (old : Traffic) (first : Walker)
     (rows refused : List VarBind) (end : WalkEnd) (new : Traffic) : Type 0 where
-  -- each row given is the next instance, in one of the tables, after the name before it; before
-  -- these comes the root's own, where the mode says so; in their place a plain walk may give what a
-  -- Get of the root gives
-  pub part : IsPartOfWalk (IsNextFrom agents) (IsGotFrom agents) first (rows ++ refused)
-  -- the link and the sink may stop it at any time; each other end comes only for its reason
-  pub lawful : IsLawfulEnd agents (HasNoReply agents tries old new) first rows end
+  -- each reply was that of one of the agents to the request that waited, and where none came the
+  -- deliveries lost it
+  pub given : GivenFacts agents (HasNoReply agents tries old new) first rows refused end
   -- the end is that of the request sent last
   pub last_request : IsEndedBy agents (HasNoReply agents tries old new) (IsLastSent tries end new)
       first rows end
   -- where each receive gives the reply to the latest datagram, no reply comes only where one of the
   -- agents has none
   pub replied : old.ahead ≡ [] → IsLawfulEnd agents (HasNone agents) first rows end
-  -- over one table what was given, with what was refused, is a beginning of the walk,
-  pub beginning : (view : MibView) (got : VarBind) → agents.tables ≡ view ∷ []
-      → IsGet view first.asked got
-      → (more : List VarBind) × (walk_at first view got ≡ (rows ++ refused) ++ more)
-  -- and where the walk is done it is all of it
-  pub all_at_done : (view : MibView) (got : VarBind) → agents.tables ≡ view ∷ []
-      → IsGet view first.asked got → IsDone end
-      → rows ≡ walk_at first view got
-  -- Over one table, where there is room for each single binding and there are enough ids, a walk is
-  -- done unless the link or the sink stops it or no reply comes,
-  pub done_unless_lost : (view : MibView) → agents.tables ≡ view ∷ []
-      → HasRoomForEach agents view first → HasIds first view → IsDoneOrCutOff end
-  -- and a reply comes where each receive gives the reply to the latest datagram
+  -- and over one table, where there is room for each single binding and there are enough ids, a
+  -- walk is done unless the link or the sink stops it,
   pub done_unless_stopped : (view : MibView) → agents.tables ≡ view ∷ []
       → HasRoomForEach agents view first → HasIds first view → old.ahead ≡ [] → IsDoneOrStopped end
-  -- over several tables
-  pub of_tables : TableFacts agents old first rows refused end
+  -- as it is over several, where there are enough for the names that they have together
+  pub done_unless_stopped_in_tables : (names : List (List ℕ)) → HoldsNames agents first names
+      → HasRoomInEach agents first → HasIdsFor first names → old.ahead ≡ [] → IsDoneOrStopped end
 
 -- how many Gets a walk of this mode may send besides the requests for the next instances
 abbrev pub gets : Mode → ℕ

@@ -45,7 +45,7 @@ use Rattle.snmp_walk.specs.Judged.{IsResponseTo}
 use Rattle.snmp_walk.specs.Link.{Agents, OneOf, IsUnanswered}
 use Rattle.snmp_walk.specs.Link.{Outcome, answered, missed, cut_off}
 use Rattle.snmp_walk.specs.Traffic.{Traffic, Lost}
-use Rattle.snmp_walk.specs.Facts.{IsDone, IsDoneOrStopped}
+use Rattle.snmp_walk.specs.Facts.{IsDone, IsDoneOrCutOff, IsDoneOrStopped}
 use Rattle.snmp_agent.specs.table.Table.{MibView, IsGet}
 
 -- each name as it is sent, with the value Null
@@ -196,10 +196,10 @@ IsReasonOfGet Tried From names given refused ending.Link = Tried cut_off × (giv
 IsReasonOfGet Tried From names given refused end =
     (m : Message) × From m × MeansToGet names m (Err end) × (given ++ refused ≡ [])
 
--- What is promised of a Get over an honest link over which nothing was sent before. It gave these
--- rows to the sink, and then the one that was refused, if any was.
-pub record GetFacts (agents : Agents) (tries : ℕ) (old : Traffic) (request : Message) (names : List
-    (List ℕ)) (rows refused : List VarBind) (end : WalkEnd) (new : Traffic) : Type 0 where
+-- What is promised of a Get where the reply that it read, if any, is that of one of these agents to
+-- its request. It gave these rows to the sink, and then the one that was refused, if any was.
+pub record GotFacts (agents : Agents) (request : Message) (names : List (List ℕ))
+    (rows refused : List VarBind) (end : WalkEnd) : Type 0 where
   -- over one table what was given, with what was refused, is a beginning of what Gets of the names
   -- give,
   pub beginning : (view : MibView) (all : List VarBind) → agents.tables ≡ view ∷ []
@@ -210,6 +210,15 @@ pub record GetFacts (agents : Agents) (tries : ℕ) (old : Traffic) (request : M
   -- it ends with an error status only where the agents' messages have no room, and never because
   -- the reply has other names than those asked for
   pub ends : IsEndOfGet (IsTooBig agents request names) ⊥ (Unit {0}) request names end
+  -- where there is room, it is done unless the link or the sink stops it or no reply comes
+  pub done_unless_lost : HasRoomForGet agents request names → IsDoneOrCutOff end
+
+-- What is promised of a Get over an honest link over which nothing was sent before. It gave these
+-- rows to the sink, and then the one that was refused, if any was.
+pub record GetFacts (agents : Agents) (tries : ℕ) (old : Traffic) (request : Message) (names : List
+    (List ℕ)) (rows refused : List VarBind) (end : WalkEnd) (new : Traffic) : Type 0 where
+  -- a reply was that of one of the agents to the request
+  pub given : GotFacts agents request names rows refused end
   -- no reply came only where it was sent by each try, and an agent has none or the deliveries lost
   -- it
   pub lost_without_response : end ≡ ending.NoResponse

@@ -24,6 +24,9 @@ pub mod Run
 pub mod Tables
 pub mod Get
 pub mod Facts
+pub mod Network
 pub mod Ran
 pub mod Arena
 pub mod Memory
+pub mod MemoryNetwork
+pub mod CarriesLaws

@@ -1,24 +1,30 @@
 -- How a run moves its link.
-use Rattle.std.specs.Prelude.{◌≤◌, ◌<◌, ℕ, List, replicate}
+use Rattle.std.specs.Prelude.{◌≤◌, ◌<◌, ◌+◌, ◌*◌, ℕ, List, length, replicate}
 use Rattle.snmp_wire.specs.Message.{VarBind}
 use Rattle.snmp_walk.specs.Moves.{Moves}
 use Rattle.snmp_walk.specs.Run.{AreTries, IsEachSent, Try, sent_by}
 use Rattle.snmp_walk.specs.Walker.{Walker}
 use Rattle.snmp_walk.specs.declared.link.Link.{Ghosts as LinkFacts}
 
--- sends of these datagrams in turn, and receives, took the link from one state to the other, and
--- the last of these calls failed if `failed` holds
-abbrev pub IsMoved : {W : Type 0} → LinkFacts W → W → (tried : List (List ℕ)) → (failed : Type 0)
-    → W → Type 0
-IsMoved {W} facts old tried failed new = Moves facts.keeps facts.honest facts.agents facts.traffic
-    facts.fault_count facts.ready old tried failed new
+-- sends of these datagrams in turn, and so many receives at most, took the link from one state to
+-- the other, and the last of these calls failed if `failed` holds
+abbrev pub IsMoved : {W : Type 0} → LinkFacts W → W → (tried : List (List ℕ)) → (receives : ℕ)
+    → (failed : Type 0) → W → Type 0
+IsMoved {W} facts old tried receives failed new = Moves facts.keeps facts.honest facts.agents
+    facts.traffic facts.fault_count facts.ready old tried receives failed new
+
+-- at most 64 receives for each datagram sent, over a link that keeps these
+abbrev pub AreFew : {W : Type 0} → LinkFacts W → W → (receives : ℕ) → W → Type 0
+AreFew {W} facts old receives new = facts.keeps old
+    → receives + 64 * length (facts.traffic old).sent ≤ 64 * length (facts.traffic new).sent
 
 -- 1 to `tries` tries of this datagram moved the link so, for private clauses
 abbrev pub IsMovedByTries : {W : Type 0} → LinkFacts W → W → List ℕ → (tries : ℕ)
     → (failed : Type 0) → W → Type 0
 IsMovedByTries {W} facts old datagram tries failed new =
-    (times : ℕ) × (times ≤ tries) × (0 < times)
-    × IsMoved facts old (replicate times datagram) failed new
+    (times : ℕ) × (times ≤ tries) × (0 < times) × (receives : ℕ)
+    × IsMoved facts old (replicate times datagram) receives failed new
+    × AreFew facts old receives new
 
 -- requests of the walk that began as `first` and gave these rows moved the link so: their ids rise
 -- by one, and each was tried 1 to `tries` times
@@ -27,4 +33,6 @@ pub record IsMovedByRequests {W : Type 0} (facts : LinkFacts W) (tries : ℕ) (f
   pub requests : List Try
   pub are_tries : AreTries tries first given first.id requests
   pub each_tried : IsEachSent requests
-  pub moved : IsMoved facts old (sent_by requests) failed new
+  pub receives : ℕ
+  pub moved : IsMoved facts old (sent_by requests) receives failed new
+  pub few : AreFew facts old receives new

@@ -1,5 +1,5 @@
 -- How a link moves from one state to another, whatever it brings.
-use Rattle.std.specs.Prelude.{◌≡◌, ◌+◌, ℕ, List, [], ◌∷◌, ◌++◌, length}
+use Rattle.std.specs.Prelude.{◌≡◌, ◌+◌, ◌≤◌, ℕ, List, [], ◌∷◌, ◌++◌, length, Option}
 use Rattle.snmp_io.specs.Count.{HasRisen}
 use Rattle.snmp_walk.specs.Link.{Agents}
 use Rattle.snmp_walk.specs.Traffic.{Traffic}
@@ -10,7 +10,7 @@ octets_in [] = 0
 octets_in (datagram ∷ more) = length datagram + octets_in more
 
 -- Sends of these datagrams were tried, one after the other: the first of them were added to those
--- sent before, and all of them unless one failed.
+-- sent before, and all of them unless the last failed.
 pub record AreSent (tried : List (List ℕ)) (failed : Type 0) (before after : List (List ℕ)) :
     Type 0 where
   pub front : List (List ℕ)
@@ -18,19 +18,27 @@ pub record AreSent (tried : List (List ℕ)) (failed : Type 0) (before after : L
   pub parts : tried ≡ front ++ left
   pub sent : after ≡ before ++ front
   pub all : (failed → ⊥) → left ≡ []
+  pub but_one : length left ≤ 1
 
--- Sends of these datagrams in turn, with any receives between them, took the link from the old
--- state to the new one. `failed` says that the last of these calls failed; no other did. What a
--- link is, its agents and its facts, are arguments, since the trait's own clauses cite this.
+-- so many deliveries at most were used
+abbrev pub AreUsed : (ahead : List (Option ℕ)) → ℕ → (left : List (Option ℕ)) → Type 0
+AreUsed ahead count left =
+    (used : List (Option ℕ)) × (ahead ≡ used ++ left) × (length used ≤ count)
+
+-- Sends of these datagrams in turn, with so many receives at most between them, took the link from
+-- the old state to the new one. `failed` says that the last of these calls failed; no other did.
+-- What a link is, its agents and its facts, are arguments, since the trait's own clauses cite this.
 pub record Moves {W : Type 0} (Keeps Honest : W → Type 0) (agents_of : W → Agents)
     (traffic_of : W → Traffic) (faults_of : W → ℕ) (Ready : W → ℕ → ℕ → Type 0) (old : W)
-    (tried : List (List ℕ)) (failed : Type 0) (new : W) : Type 0 where
+    (tried : List (List ℕ)) (receives : ℕ) (failed : Type 0) (new : W) : Type 0 where
   -- it keeps what is sent if it did, is honest if it was, and has the same agents
   pub keeps : Keeps old → Keeps new
   pub honest : Honest old → Honest new
   pub agents : agents_of new ≡ agents_of old
   -- it sent what was tried, unless it failed, and nothing else
   pub sent : Keeps old → AreSent tried failed (traffic_of old).sent (traffic_of new).sent
+  -- if it is honest, each receive used one of the deliveries at most
+  pub used : Honest old → AreUsed (traffic_of old).ahead receives (traffic_of new).ahead
   -- its count of faults has risen if it failed, and is the same if it didn't
   pub count : (failed → ⊥) → faults_of new ≡ faults_of old
   pub fault : failed → HasRisen (faults_of old) (faults_of new)

@@ -1,18 +1,22 @@
 -- What is known of a run over a link: of a walk, and of a Get of names.
 use Rattle.std.specs.Prelude.{◌≡◌, ◌≢◌, ◌⊎◌, ◌<◌, ◌≤◌, ◌++◌, ℕ, List, [], Result, replicate}
+use Rattle.snmp_agent.specs.Event.{Event}
 use Rattle.snmp_wire.specs.Canon.{canon}
 use Rattle.snmp_wire.specs.Message.{VarBind}
 use Rattle.snmp_walk.specs.declared.end.SinkFault.{SinkFault}
 use Rattle.snmp_walk.specs.declared.end.WalkEnd.{WalkEnd}
 use Rattle.snmp_walk.specs.declared.end.WalkEnd.TheVariants as ending
 use Rattle.snmp_walk.specs.declared.link.Link.{Ghosts as LinkFacts}
-use Rattle.snmp_walk.specs.Facts.{EndFacts, IsLastSent, ReadyFacts, SendFacts, WalkFacts}
-use Rattle.snmp_walk.specs.Get.{AreForNames, GetFacts, IsBrought, IsReasonOfGet, get_request}
-use Rattle.snmp_walk.specs.Link.{Outcome}
+use Rattle.snmp_walk.specs.Facts.{EndFacts, GivenFacts, IsLastSent, ReadyFacts, SendFacts}
+use Rattle.snmp_walk.specs.Facts.{WalkFacts}
+use Rattle.snmp_walk.specs.Get.{AreForNames, GetFacts, GotFacts, IsBrought, IsReasonOfGet}
+use Rattle.snmp_walk.specs.Get.{get_request}
+use Rattle.snmp_walk.specs.Link.{Agents, AreLawful, Outcome}
 use Rattle.snmp_walk.specs.Moved.{IsMoved, IsMovedByRequests}
+use Rattle.snmp_walk.specs.Network.{AreReplies}
 use Rattle.snmp_walk.specs.Sink.{Took}
 use Rattle.snmp_walk.specs.Standing.{IsPartOfWalk, Named, Rises}
-use Rattle.snmp_walk.specs.Tries.{AreTried, IsNotAwaited, IsTried}
+use Rattle.snmp_walk.specs.Tries.{AreTried, Happens, InTurn, IsNotAwaited, IsTried}
 use Rattle.snmp_walk.specs.Walker.{Walker}
 
 -- A run gave bindings to a sink, which perhaps refused one more, and ended in this way. `Facts`
@@ -28,6 +32,15 @@ pub record IsRun {S : Type 0} (takes : S → VarBind → Result (Unit {0}) SinkF
 -- the link is honest, and nothing was sent over it before
 abbrev pub IsFreshAndHonest : {W : Type 0} → LinkFacts W → W → Type 0
 IsFreshAndHonest {W} facts link = facts.honest link × ((facts.traffic link).sent ≡ [])
+
+-- What happened at a link took it, in turn, from one state to the other. Where each message that
+-- came is the reply of one of these agents to a datagram that was sent before, `Given` holds of
+-- them.
+pub record HasHappened {W : Type 0} (facts : LinkFacts W) (link after : W)
+    (Given : Agents → Type 0) : Type 0 where
+  pub events : List (Event (Unit {0}))
+  pub in_turn : InTurn (Happens facts) link events after
+  pub replied : (agents : Agents) → AreLawful agents → AreReplies agents events → Given agents
 
 -- What is known of a walk over a link, which was `link` before the walk and is `after` then.
 pub record IsWalkedOver {W : Type 0} (facts : LinkFacts W) (link after : W) (tries : ℕ)
@@ -51,6 +64,9 @@ pub record IsWalkedOver {W : Type 0} (facts : LinkFacts W) (link after : W) (tri
       first end
   -- its requests moved the link, which failed where the walk ends because of it
   pub moved : IsMovedByRequests facts tries first given link (end ≡ ending.Link) after
+  -- what happened over any link, and what it gave where replies of agents are all that came
+  pub happened : HasHappened facts link after
+      (λ agents. GivenFacts agents (λ w. Unit {0}) first given refused end)
 
 -- what came of the request of a Get of these names, which took the link from one state to the other
 abbrev pub IsGetTried : {W : Type 0} → LinkFacts W → (link after : W) → (tries : ℕ)
@@ -85,5 +101,9 @@ pub record IsGotOver {W : Type 0} (facts : LinkFacts W) (link after : W) (tries 
   -- the Get ends because of it
   pub moved : (times : ℕ) × (times ≤ tries)
       × (names ≢ [] → end ≢ ending.RequestTooLong → 0 < times)
-      × IsMoved facts link (replicate times (canon (get_request community id names)))
+      × (receives : ℕ)
+      × IsMoved facts link (replicate times (canon (get_request community id names))) receives
       (end ≡ ending.Link) after
+  -- what happened over any link, and what it gave where replies of agents are all that came
+  pub happened : HasHappened facts link after
+      (λ agents. GotFacts agents (get_request community id names) names given refused end)

@@ -1,6 +1,7 @@
 -- What comes of a reply that was waited for: it is read, and its bindings are given to a sink. All
 -- but `rows_in` is for private clauses.
-use Rattle.std.specs.Prelude.{◌≡◌, ℕ, true, List, [], ◌∷◌, ◌++◌, Result, Err}
+use Rattle.std.specs.Prelude.{◌≡◌, ℕ, true, List, [], ◌∷◌, ◌++◌, Result, Ok, Err}
+use Rattle.std.specs.Prelude.{Option, Some, None}
 use Rattle.snmp_wire.specs.Message.{VarBind, Message}
 use Rattle.snmp_wire.specs.Spelling.{Spells}
 use Rattle.snmp_walk.specs.declared.end.SinkFault.{SinkFault}
@@ -11,6 +12,7 @@ use Rattle.snmp_walk.specs.Course.{Heard}
 use Rattle.snmp_walk.specs.Course as heard
 use Rattle.snmp_walk.specs.Taken.{awaits}
 use Rattle.snmp_walk.specs.Sink.{Given}
+use Rattle.snmp_walk.specs.Link.{Outcome, answered, missed, cut_off}
 
 -- the bindings that a step gives
 abbrev pub rows_in : Step → List VarBind
@@ -45,12 +47,11 @@ pub record IsReadAs {W S : Type 0} (datagram : List ℕ) (community : List ℕ) 
   pub read : reads message given new
   pub delivered : Delivers takes given before what after
 
--- a datagram was read so; `Comes` says how it came, and `Reply` whose reply it is
-pub record IsRead {W S : Type 0} (Comes Reply : List ℕ → Type 0) (community : List ℕ) (id : ℕ)
-    (reads : Message → Step → W → Type 0)
-    (takes : S → VarBind → Result (Unit {0}) SinkFault → S → Type 0) (before : S)
-    (what : Heard) (new : W) (after : S) : Type 0 where
-  pub datagram : List ℕ
-  pub comes : Comes datagram
-  pub reply : Reply datagram
-  pub is_read : IsReadAs datagram community id reads takes before new after what
+-- what a call that waits for a reply returns, by what came: the reply, which was read, or nothing,
+-- or that the link failed, which leave things as they were
+abbrev pub Tells : {X E : Type 0} → (IsReadSo : List ℕ → X → Type 0) → (Same : Type 0)
+    → Result (Option X) E → Outcome → Type 0
+Tells IsReadSo Same (Ok (Some x)) what = (datagram : List ℕ) × (what ≡ answered datagram)
+    × IsReadSo datagram x
+Tells IsReadSo Same (Ok None) what = (what ≡ missed) × Same
+Tells IsReadSo Same (Err e) what = (what ≡ cut_off) × Same

@@ -212,10 +212,10 @@ abbrev pub CountsAll : WalkEnd → List VarBind → Type 0
 CountsAll (ending.Done n) given = n ≡ length given
 CountsAll _ given = Unit {0}
 
--- Whatever the message is: a stray changes nothing, a next request has the next id, what was given
--- rises, and a walk that is done has counted it. For private clauses.
+-- Whatever the reply that was waited for is: a next request has the next id, what was given rises,
+-- and a walk that is done has counted it. For private clauses.
 abbrev pub AdvancesAnyhow : Walker → Walker → List VarBind → Step → Walker → Type 0
-AdvancesAnyhow first old given step.Stray w = w ≡ old
+AdvancesAnyhow first old given step.Stray w = ⊥
 AdvancesAnyhow first old given (step.Rows more) w = (w.id ≡ old.id + 1) × (w.id < 2 ^ 31)
     × Reaches Rises Named first w (given ++ more)
 AdvancesAnyhow first old given (step.Last more why) w = IsReplyEnd why

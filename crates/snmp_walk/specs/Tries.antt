@@ -1,13 +1,16 @@
 -- How the tries of a request go over any link, each from the state in which the one before it
 -- ended.
-use Rattle.std.specs.Prelude.{◌≡◌, ◌<◌, ℕ, ◌⊎◌, List, [], ◌∷◌, length}
+use Rattle.std.specs.Prelude.{◌≡◌, ◌<◌, ℕ, ◌⊎◌, List, [], ◌∷◌, length, Option, Some, None}
+use Rattle.snmp_agent.specs.Event.{Event, came, silence, receive_failed, sent, send_failed}
 use Rattle.snmp_wire.specs.Message.{Message}
 use Rattle.snmp_wire.specs.Spelling.{Spells}
 use Rattle.snmp_wire.specs.Canon.{canon}
+pub use Rattle.snmp_agent.specs.Event.{InTurn}
 use Rattle.snmp_walk.specs.Walker.{Walker}
 use Rattle.snmp_walk.specs.Request.{request_of}
 use Rattle.snmp_walk.specs.Judged.{IsResponseTo}
 use Rattle.snmp_walk.specs.Link.{OneOf, Outcome, answered, missed, cut_off}
+use Rattle.snmp_walk.specs.Traffic.{Receives}
 use Rattle.snmp_walk.specs.Moved.{IsMoved}
 use Rattle.snmp_walk.specs.declared.link.Link.{Ghosts as LinkFacts}
 
@@ -17,32 +20,41 @@ abbrev pub IsNotAwaited : List ℕ → ℕ → List ℕ → Type 0
 IsNotAwaited community id datagram = (m : Message) → Spells m datagram
     → IsResponseTo community id m → ⊥
 
--- these steps led from one state to the other, each from the state in which the one before it ended
-abbrev pub InTurn : {L X : Type 0} → (L → X → L → Type 0) → L → List X → L → Type 0
-InTurn {L} step old [] new = new ≡ old
-InTurn {L} step old (x ∷ more) new =
-    (between : L) × step old x between × InTurn step between more new
+-- the event may happen at the link, between these two of its states, as the link itself says
+abbrev pub Happens : {L : Type 0} → LinkFacts L → L → Event (Unit {0}) → L → Type 0
+Happens {L} facts old (sent peer datagram) new = facts.sends old datagram new
+Happens {L} facts old (send_failed peer datagram) new = facts.send_fails old datagram new
+Happens {L} facts old (came peer datagram) new = facts.brings old datagram new
+Happens {L} facts old silence new = facts.is_silent old new
+Happens {L} facts old receive_failed new = facts.receive_fails old new
 
 -- a send of the datagram, and one that failed, which left what was sent and what is ahead as it was
 abbrev pub Sends : {L : Type 0} → LinkFacts L → L → List ℕ → L → Type 0
 Sends {L} facts old datagram new = facts.sends old datagram new
-    × IsMoved facts old (datagram ∷ []) ⊥ new
+    × IsMoved facts old (datagram ∷ []) 0 ⊥ new
 
 abbrev pub SendFails : {L : Type 0} → LinkFacts L → L → List ℕ → L → Type 0
 SendFails {L} facts old datagram new = facts.send_fails old datagram new
-    × (facts.traffic new ≡ facts.traffic old) × IsMoved facts old (datagram ∷ []) (Unit {0}) new
+    × (facts.traffic new ≡ facts.traffic old) × IsMoved facts old (datagram ∷ []) 0 (Unit {0}) new
+
+-- a receive gave this, and an honest link what its next delivery gives
+abbrev pub Gets : {L : Type 0} → LinkFacts L → L → Option (List ℕ) → L → Type 0
+Gets {L} facts old given new = IsMoved facts old [] 1 ⊥ new
+    × (facts.honest old → Receives (facts.agents old) (facts.traffic old).sent
+    (facts.traffic old).ahead given (facts.traffic new).ahead)
 
 -- a receive that brought the datagram, one that brought nothing, and one that failed, which used no
 -- delivery
 abbrev pub Brings : {L : Type 0} → LinkFacts L → L → List ℕ → L → Type 0
-Brings {L} facts old datagram new = facts.brings old datagram new × IsMoved facts old [] ⊥ new
+Brings {L} facts old datagram new = facts.brings old datagram new
+    × Gets facts old (Some datagram) new
 
 abbrev pub BringsNothing : {L : Type 0} → LinkFacts L → L → L → Type 0
-BringsNothing {L} facts old new = facts.is_silent old new × IsMoved facts old [] ⊥ new
+BringsNothing {L} facts old new = facts.is_silent old new × Gets facts old None new
 
 abbrev pub ReceiveFails : {L : Type 0} → LinkFacts L → L → L → Type 0
 ReceiveFails {L} facts old new = facts.receive_fails old new
-    × (facts.traffic new ≡ facts.traffic old) × IsMoved facts old [] (Unit {0}) new
+    × (facts.traffic new ≡ facts.traffic old) × IsMoved facts old [] 1 (Unit {0}) new
 
 -- How a try ends after so many datagrams that weren't the reply: a receive brings it; or brings
 -- nothing, or 64 had come; or fails.

@@ -30,8 +30,12 @@ use std::marker::Model;
 /// The wire form of each name has an encoding (X.690, 8.19.4); the community has at most 255
 /// octets, and the id is at most 2147483647. Where there are no names, nothing is sent.
 /// `RequestTooLong` where the request has more than 65507 octets.
-// Not inlined: its two buffers are on the stack, and a caller with several such calls would have
-// room for each of them.
+///
+/// Over any link: where each message that came is the reply of one of these agents to a datagram
+/// that was sent before, as over a network that alters nothing (`honest_networks`), what is given
+/// is a beginning of what Gets of the names give, and all of it where the Get is done.
+// Not inlined: its buffer is on the stack, and a caller with several such calls would have room for
+// each of them.
 #[inline(never)]
 pub fn run_get<L: Link, S: Sink>(
     link: &mut L,
@@ -52,33 +56,54 @@ pub fn run_get<L: Link, S: Sink>(
     if names.is_empty() {
         return WalkEnd::Done(0);
     }
-    let mut request = [0; 65507];
-    let Some(length) = write_request(names, community, id, &mut request) else {
+    let mut buffer = [0; 65507];
+    let Some(size) = write_request(names, community, id, &mut buffer) else {
         return WalkEnd::RequestTooLong;
     };
-    let mut buffer = [0; 65507];
     let mut get = Get {
         names,
         community,
         id,
     };
+    // Nearly all requests are short, and room for the longest takes long to clear.
+    if size <= 2048 {
+        ask::<2048, L, S>(link, &mut get, retries, size, &mut buffer, sink)
+    } else {
+        ask::<65507, L, S>(link, &mut get, retries, size, &mut buffer, sink)
+    }
+}
+
+/// Runs a Get whose request, of at most `N` octets, is the first `size` octets of the buffer. Its
+/// replies come into the same buffer.
+// Not inlined: room for the longest requests is on the stack only where one is sent.
+#[inline(never)]
+fn ask<const N: usize, L: Link, S: Sink>(
+    link: &mut L,
+    get: &mut Get<'_>,
+    retries: u32,
+    size: usize,
+    buffer: &mut [u8; 65507],
+    sink: &mut S,
+) -> WalkEnd
+    requires some { get.old.names ≢ [] }
+    requires room { size ≤ N }
+    requires datagram { N ≤ 65507 }
+    requires request { take size buffer.old ≡ canon (get_request get.old.community get.old.id
+        get.old.names) }
+    requires range { IsMessageInRange (get_request get.old.community get.old.id get.old.names) }
+    ensures { IsRun S.takes sink.old result sink.new (λ given refused.
+        IsGotOver L.Link link.old link.new (retries + 1) get.old.community get.old.id
+        get.old.names given refused result) }
+{
+    codec();
+    let mut request = [0u8; N];
+    request[..size].copy_from_slice(&buffer[..size]);
     let mut end = WalkEnd::NoResponse;
-    let course = match exchange(
-        link,
-        &mut get,
-        retries,
-        &request[..length],
-        &mut buffer,
-        sink,
-        &mut end,
-    ) {
-        Ok(Some(course)) => course,
-        Ok(None) => return WalkEnd::NoResponse,
-        Err(_) => return WalkEnd::Link,
-    };
-    match course {
-        Course::GoesOn => unreachable!(),
-        Course::Ends => end,
+    match exchange(link, get, retries, &request[..size], buffer, sink, &mut end) {
+        Ok(Some(Course::GoesOn)) => unreachable!(),
+        Ok(Some(Course::Ends)) => end,
+        Ok(None) => WalkEnd::NoResponse,
+        Err(_) => WalkEnd::Link,
     }
 }
 

@@ -10,11 +10,12 @@ ghost use Rattle.snmp_walk.specs.Judged.{Means};
 ghost use Rattle.snmp_walk.specs.Walk.{rows_below, walk_of, rest_of};
 ghost use Rattle.snmp_walk.specs.Codec.{Codec};
 ghost use Rattle.snmp_walk.specs.Link.{Agents, OneOf};
+ghost use Rattle.snmp_walk.specs.Network.{AreReplies, AreServed, Happening, IsFaithful, of_walk};
 ghost use Rattle.snmp_walk.specs.Ordered.{AreOrdered, IsResumable};
 ghost use Rattle.snmp_walk.specs.Room.{HasRoomForEach, IsShort};
 ghost use Rattle.snmp_walk.specs.Walker.{Walker};
 
-use snmp_agent::one_answer;
+use snmp_agent::{Endpoint, one_answer};
 use snmp_oid::order;
 use snmp_wire::{
     element_sizes, encoding_is_strict, message_sizes, one_spelling, pieces, strict_is_read,
@@ -72,6 +73,18 @@ pub fn messages_mean()
 {
     order();
 }
+
+/// Over a network that makes nothing up and alters nothing, each message that comes to a walk is
+/// the reply of one of the agents that were served at the other end, to a datagram that the walk
+/// had tried to send before.
+///
+/// The network may lose, repeat and delay datagrams and bring them in another order, as UDP may
+/// (RFC 768); other clients may ask the agents; an agent may be started again, and its table may
+/// change. What a walk or a Get gives then, the contracts of `run_walk` and `run_get` say.
+pub fn honest_networks<E: Endpoint>()
+    ensures replies { (agents : Agents) (walker : E.Peer) (run : List (Happening E.Peer))
+        → IsFaithful walker run → AreServed agents run → AreReplies agents (of_walk run) }
+{}
 
 /// What the crates below state of names, of messages and their encodings, and of tables.
 #[inline]

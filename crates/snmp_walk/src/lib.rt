@@ -30,7 +30,9 @@ mod get;
 mod laws;
 mod link;
 mod memory;
+mod memory_network;
 mod mode;
+mod network;
 mod phase;
 mod root;
 mod rows;
@@ -41,10 +43,14 @@ mod walker;
 
 pub use end::{LinkFault, SinkFault, StartError, WalkEnd};
 pub use get::run_get;
-pub use laws::{instances_below, messages_mean, rest_of_a_walk, short_rows_have_room};
+pub use laws::{
+    honest_networks, instances_below, messages_mean, rest_of_a_walk, short_rows_have_room,
+};
 pub use link::Link;
 pub use memory::MemoryLink;
+pub use memory_network::{Delivery, MemoryNetwork};
 pub use mode::{Method, Mode};
+pub use network::{Network, walk_served};
 pub use phase::Phase;
 pub use rows::{Rows, Step};
 pub use run::run_walk;

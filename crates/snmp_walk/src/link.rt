@@ -61,11 +61,9 @@ pub trait Link {
     fn send(&mut self, datagram: &[u8]) -> Result<(), LinkFault>
         ensures sends { OnOk result (sends self.old datagram.now self.new) }
         ensures send_fails { OnErr result (send_fails self.old datagram.now self.new) }
-        ensures ahead { honest self.old
-            → OnOk result ((traffic self.new).ahead ≡ (traffic self.old).ahead) }
         ensures unchanged { OnErr result (traffic self.new ≡ traffic self.old) }
         ensures moves { Moves keeps honest agents traffic fault_count ready self.old
-            (datagram.now ∷ []) (IsErr result) self.new };
+            (datagram.now ∷ []) 0 (IsErr result) self.new };
 
     /// Receives a datagram into the front of the buffer and returns its length, or None where none
     /// comes in time. A fault is counted, and changes neither agents nor traffic.
@@ -82,7 +80,7 @@ pub trait Link {
         ensures unchanged { OnErr result (traffic self.new ≡ traffic self.old) }
         ensures moves { Moves keeps honest agents traffic fault_count
             (λ link sends octets. (65507 ≤ length buffer.old) × ready link sends octets) self.old []
-            (IsErr result) self.new };
+            1 (IsErr result) self.new };
 
     /// How many sends and receives failed, up to 18446744073709551615.
     fn faults(&self) -> u64

@@ -15,7 +15,6 @@ use std::alloc::{AllocError, Global};
 /// made with: nothing, or the agent's reply to the k-th datagram sent, counted from 1. After the
 /// last delivery a receive gives the reply to the latest datagram. Where the agent has no reply, or
 /// there is no such datagram, nothing is received.
-#[derive(Drop)]
 pub struct MemoryLink<'a> {
     tables: &'a [Table],
     config: Config<'a>,
@@ -27,6 +26,22 @@ pub struct MemoryLink<'a> {
     hint: Hint,
     ghost is_served: { 0 < length tables.now },
     ghost are_tables: { All (λ place. place < length tables.now) uses.now },
+}
+
+impl<'a> Drop for MemoryLink<'a> {
+    // Written out, so that it is proved here alone: a derived one is proved in each crate above.
+    fn drop(self) {
+        let MemoryLink {
+            tables: _tables,
+            config: _config,
+            uses: _uses,
+            deliveries: _deliveries,
+            used: _used,
+            arena: _arena,
+            fault_count: _fault_count,
+            hint: _hint,
+        } = self;
+    }
 }
 
 impl<'a> MemoryLink<'a> {
@@ -92,9 +107,11 @@ impl<'a> MemoryLink<'a> {
         }
     }
 
-    /// Reserves memory: the next `sends` sends, of at most `octets` octets together, succeed.
+    /// Reserves memory: the next `sends` sends, of at most `octets` octets together, succeed. What
+    /// was reserved before is kept, also where memory runs out.
     pub fn reserve(&mut self, sends: usize, octets: usize) -> Result<(), AllocError>
         ensures ready { OnOk result (IsReadyFor self.new sends octets) }
+        ensures kept { (s o : ℕ) → IsReadyFor self.old s o → IsReadyFor self.new s o }
         ensures agents { agents_of self.new ≡ agents_of self.old }
         // Which table replies to which datagram stays the same.
         ensures uses { self.new.uses.now ≡ self.old.uses.now }
@@ -200,11 +217,9 @@ impl<'a> Link for MemoryLink<'a> {
     fn send(&mut self, datagram: &[u8]) -> Result<(), LinkFault>
         ensures sends { OnOk result (IsSentOver self.old datagram.now self.new) }
         ensures send_fails { OnErr result (IsAfterFault self.old self.new) }
-        ensures ahead { IsHonest self.old
-            → OnOk result ((traffic_of self.new).ahead ≡ (traffic_of self.old).ahead) }
         ensures unchanged { OnErr result (traffic_of self.new ≡ traffic_of self.old) }
         ensures moves { Moves (λ _. Unit {0}) IsHonest agents_of traffic_of
-            (λ link. link.fault_count) IsReadyFor self.old (datagram.now ∷ []) (IsErr result)
+            (λ link. link.fault_count) IsReadyFor self.old (datagram.now ∷ []) 0 (IsErr result)
             self.new }
     {
         match self.arena.push(datagram) {
@@ -230,7 +245,7 @@ impl<'a> Link for MemoryLink<'a> {
         ensures moves { Moves (λ _. Unit {0}) IsHonest agents_of traffic_of
             (λ link. link.fault_count)
             (λ link sends octets. (65507 ≤ length buffer.old) × IsReadyFor link sends octets)
-            self.old [] (IsErr result) self.new }
+            self.old [] 1 (IsErr result) self.new }
     {
         let Some(out) = buffer.first_chunk_mut::<65507>() else {
             self.fault_count = self.fault_count.saturating_add(1);

@@ -1,5 +1,5 @@
-//! Tests of walks: over links in memory with any deliveries and tables, over an agent that lies,
-//! and over links and into sinks that fail.
+//! Tests of walks: over links in memory with any deliveries and tables, over a network in memory,
+//! over an agent that lies, and over links and into sinks that fail.
 #![tactic(auto)]
 
 #[cfg(test)]
@@ -10,6 +10,8 @@ mod gets;
 mod liar;
 #[cfg(test)]
 mod memory;
+#[cfg(test)]
+mod networks;
 #[cfg(test)]
 mod pages;
 #[cfg(test)]

@@ -1,26 +1,52 @@
-use Rattle.std.proofs.Common.{◌+◌, arith}
-use Rattle.snmp_walk.proofs.RunLemmas.{runs_first, runs_on, ran}
+use Rattle.std.proofs.Common.{◌+◌, ◌∙◌, ap, arith, Ok, Some}
+use Rattle.snmp_walk.proofs.RunLemmas.{runs_first, turn_of}
 use Rattle.snmp_walk.proofs.run.run_walk.Goals as goal
 
 pub turns-init : goal.turns-init
 turns-init g c = runs_first g.L.Link g.S.Sink.takes (c.args.retries + 1) c.args.core c.args.link.now c.args.sink.now c.requires
 
-pub returns-in-Ends : goal.returns-in-Ends
-returns-in-Ends g c =
-    let end = c.in-Ends.ensures in
-    ran c.codec.ensures (g.met.L.Link.keeping c.args.link.now) (λ h. (g.met.L.Link.lawful c.args.link.now h).views) c.turns.invariant end.walker
-    c.turn.new.link end.turns.0 c.turn.new.core c.turn.new.sink c.turn.new.end c.requires (omega arith) end.turns.1 end.exchanged end.moves
+pub turns-preserved : goal.turns-preserved
+turns-preserved g c =
+    let request = c.request_in-length.ensures in
+    let x = c.exchange.new in
+    let h = c.exchange.ensures in
+    let is = c.in-Ok-Some-GoesOn in
+    let turn = turn_of c.codec.ensures g.met.L.Link.keeping g.met.L.Link.lawful (omega arith) c.turns.invariant request.walker x.link c.requires
+    x.waiter x.sink x.end (λ on. (request.waiting on).1) h.0 h.1 c.exchange.result _ h.2 (is.is ∙ ap Ok (is.field-0-is ∙ ap Some is.field-0-0-is)) in
+    turn.0
 
 pub turns-smaller : goal.turns-smaller
 turns-smaller g c =
-    let turn = c.in-GoesOn.ensures in
-    let on = runs_on c.codec.ensures (g.met.L.Link.keeping c.args.link.now) (λ h. (g.met.L.Link.lawful c.args.link.now h).views) c.turns.invariant turn.walker
-    c.turn.new.link turn.turns.0 c.turn.new.core c.turn.new.sink turn.turns.1 turn.exchanged turn.moves in
-    omega (arith, on.1, on.2)
+    let request = c.request_in-length.ensures in
+    let x = c.exchange.new in
+    let h = c.exchange.ensures in
+    let is = c.in-Ok-Some-GoesOn in
+    let turn = turn_of c.codec.ensures g.met.L.Link.keeping g.met.L.Link.lawful (omega arith) c.turns.invariant request.walker x.link c.requires
+    x.waiter x.sink x.end (λ on. (request.waiting on).1) h.0 h.1 c.exchange.result _ h.2 (is.is ∙ ap Ok (is.field-0-is ∙ ap Some is.field-0-0-is)) in
+    omega (arith, turn.1, turn.2)
 
-pub turns-preserved : goal.turns-preserved
-turns-preserved g c =
-    let turn = c.in-GoesOn.ensures in
-    let on = runs_on c.codec.ensures (g.met.L.Link.keeping c.args.link.now) (λ h. (g.met.L.Link.lawful c.args.link.now h).views) c.turns.invariant turn.walker
-    c.turn.new.link turn.turns.0 c.turn.new.core c.turn.new.sink turn.turns.1 turn.exchanged turn.moves in
-    on.0
+pub returns-in-Ok-Some-Ends : goal.returns-in-Ok-Some-Ends
+returns-in-Ok-Some-Ends g c =
+    let request = c.request_in-length.ensures in
+    let x = c.exchange.new in
+    let h = c.exchange.ensures in
+    let is = c.in-Ok-Some-Ends in
+    turn_of c.codec.ensures g.met.L.Link.keeping g.met.L.Link.lawful (omega arith) c.turns.invariant request.walker x.link c.requires x.waiter
+    x.sink x.end (λ on. (request.waiting on).1) h.0 h.1 c.exchange.result _ h.2 (is.is ∙ ap Ok (is.field-0-is ∙ ap Some is.field-0-0-is))
+
+pub returns-in-Ok-None : goal.returns-in-Ok-None
+returns-in-Ok-None g c =
+    let request = c.request_in-length.ensures in
+    let x = c.exchange.new in
+    let h = c.exchange.ensures in
+    let is = c.in-Ok-None in
+    turn_of c.codec.ensures g.met.L.Link.keeping g.met.L.Link.lawful (omega arith) c.turns.invariant request.walker x.link c.requires x.waiter
+    x.sink x.end (λ on. (request.waiting on).1) h.0 h.1 c.exchange.result _ h.2 (is.is ∙ ap Ok is.field-0-is)
+
+pub returns-in-Err : goal.returns-in-Err
+returns-in-Err g c =
+    let request = c.request_in-length.ensures in
+    let x = c.exchange.new in
+    let h = c.exchange.ensures in
+    turn_of c.codec.ensures g.met.L.Link.keeping g.met.L.Link.lawful (omega arith) c.turns.invariant request.walker x.link c.requires x.waiter
+    x.sink x.end (λ on. (request.waiting on).1) h.0 h.1 c.exchange.result _ h.2 c.in-Err.is

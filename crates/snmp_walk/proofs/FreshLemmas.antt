@@ -1,0 +1,52 @@
+-- Where a walk begins, and how a reply ends it.
+use Rattle.std.proofs.Common.{◌≡◌, ℕ, List, [], ◌++◌, refl, sym, ap, subst, arith, append-nil}
+use Rattle.std.proofs.lemmas.List.Elements.{All-nil}
+use Rattle.std.specs.Prelude.{◌≢◌}
+use Rattle.snmp_wire.specs.Message.{VarBind}
+use Rattle.snmp_walk.specs.declared.mode.Mode.{Mode}
+use Rattle.snmp_walk.specs.declared.mode.Mode.TheVariants as mode
+use Rattle.snmp_walk.specs.declared.end.WalkEnd.{WalkEnd}
+use Rattle.snmp_walk.specs.declared.end.WalkEnd.TheVariants as ending
+use Rattle.snmp_walk.specs.Walker.{Walker}
+use Rattle.snmp_walk.specs.Request.{first_phase}
+use Rattle.snmp_walk.specs.Standing.{IsOpening, IsStage, IsPaced, Reaches, Ends, opening_gets}
+use Rattle.snmp_walk.specs.Link.{Agents, IsNextFrom, IsGotFrom, IsTooLarge}
+use Rattle.snmp_walk.specs.Facts.{IsFresh, IsLawfulEnd, BringsNone}
+
+-- before the first request
+pub fresh_stands : (Next Got : List ℕ → VarBind → Type 0) (first : Walker) → IsFresh first → Reaches Next Got first first []
+fresh_stands Next Got first h =
+    let at = by_mode first.mode refl in
+    record {
+      same = refl;
+      count = h.count;
+      paced = subst (IsPaced Next Got first [] first.id) (sym h.phase) at.1;
+      stage = subst (IsStage Next Got first [] first.asked) (sym h.phase) at.0;
+    }
+  where
+    by_mode : (m : Mode) → first.mode ≡ m → IsStage Next Got first [] first.asked (first_phase m) × IsPaced Next Got first [] first.id (first_phase m)
+    by_mode mode.Include e = ((refl, refl, e), refl)
+    by_mode _ e =
+        let opening : IsOpening Got first.mode first.asked [] = subst (λ (n : Mode). IsOpening Got n first.asked []) (sym e) refl in (
+          record { front = []; trail = []; parts = refl; opening = opening; is_trail = tt; last = refl },
+          record {
+            front = [];
+            replies = [];
+            parts = refl;
+            opening = opening;
+            some = All-nil (λ (r : List VarBind). r ≢ []);
+            is_trail = tt;
+            ids = omega (arith, ap opening_gets e);
+          },
+        )
+
+-- a reply ends it lawfully
+pub lawful_reply : (agents : Agents) (Silent : Walker → Type 0) (first w : Walker) (given more : List VarBind) (why : WalkEnd)
+    → BringsNone why more → Reaches (IsNextFrom agents) (IsGotFrom agents) first w given
+    → Ends (IsNextFrom agents) (IsGotFrom agents) (IsTooLarge agents) first w (given ++ more) why
+    → IsLawfulEnd agents Silent first (given ++ more) why
+lawful_reply agents Silent first w given more (ending.Done n) none h e = (w, given, more, refl, h, e)
+lawful_reply agents Silent first w given more ending.TooManyRequests none h e = (w, given, more, refl, h, e)
+lawful_reply agents Silent first w given more (ending.Fault a b) none h e = (w, rw (none, append-nil) h, e)
+lawful_reply agents Silent first w given more (ending.NoProgress o) none h e = (w, rw (none, append-nil) h, e)
+lawful_reply agents Silent first w given more _ none h e = absurd e

@@ -1,0 +1,289 @@
+-- What a walk gives where all that comes are replies of its agents.
+use Rattle.std.proofs.Common.{◌≡◌, ◌≢◌, false, inl, inr, ℕ, ◌<◌, List, [], ◌∷◌, ◌++◌}
+use Rattle.std.proofs.Common.{refl, sym, ◌∙◌, ap, subst, arith, append_assoc, append-nil}
+use Rattle.std.proofs.lemmas.Bool.{and_from}
+use Rattle.std.specs.Prelude.{not, Result}
+use Rattle.snmp_agent.specs.Event.{Event, came}
+use Rattle.snmp_wire.specs.Canon.{canon}
+use Rattle.snmp_wire.specs.Message.{VarBind, Message}
+use Rattle.snmp_wire.specs.Spelling.{Spells}
+use Rattle.snmp_walk.specs.Codec.{Codec}
+use Rattle.snmp_walk.specs.Facts.{IsFresh, IsLawfulEnd, GivenFacts, Reading, rows_read, AreRead}
+use Rattle.snmp_walk.specs.Facts.{IsAskedLast, IsReadSo, IsEndOfRun}
+use Rattle.snmp_walk.specs.Heard.{IsEarlier}
+use Rattle.snmp_walk.specs.Judged.{IsResponseTo, MeansBy}
+use Rattle.snmp_walk.specs.Link.{Agents, AreLawful, OneOf, IsReplyFrom, IsNextFrom, IsGotFrom}
+use Rattle.snmp_walk.specs.Link.{IsTooLarge, Outcome}
+use Rattle.snmp_walk.specs.Link as outcome
+use Rattle.snmp_walk.specs.Network.{AreReplies, tried}
+use Rattle.snmp_walk.specs.Ran.{HasHappened}
+use Rattle.snmp_walk.specs.Read.{rows_in}
+use Rattle.snmp_walk.specs.Request.{request_of}
+use Rattle.snmp_walk.specs.Sink.{Took}
+use Rattle.snmp_walk.specs.Standing.{Reaches, Advances, AdvancesAnyhow, IsPartOfWalk, Rises, Named}
+use Rattle.snmp_walk.specs.Taken.{take_of, awaits, is_over}
+use Rattle.snmp_walk.specs.Tries.{InTurn, Happens, IsTried, IsNotAwaited}
+use Rattle.snmp_walk.specs.Walker.{Walker, IsWalker}
+use Rattle.snmp_walk.specs.declared.end.SinkFault.{SinkFault}
+use Rattle.snmp_walk.specs.declared.end.WalkEnd.{WalkEnd}
+use Rattle.snmp_walk.specs.declared.end.WalkEnd.TheVariants as ending
+use Rattle.snmp_walk.specs.declared.link.Link.{Ghosts as LinkFacts}
+use Rattle.snmp_walk.specs.declared.rows.Step.{Step}
+use Rattle.snmp_walk.specs.declared.rows.Step.TheVariants as step
+use Rattle.snmp_walk.proofs.AnyLemmas.{Small, taken_any, rising_answers}
+use Rattle.snmp_walk.proofs.CaseLemmas.{EndsEmpty, ends_empty}
+use Rattle.snmp_walk.proofs.EventLemmas.{in_turn-append, all_tries, answered_tries}
+use Rattle.snmp_walk.proofs.FactLemmas.{given_facts}
+use Rattle.snmp_walk.proofs.FreshLemmas.{fresh_stands, lawful_reply}
+use Rattle.snmp_walk.proofs.HonestLemmas.{honest_reply}
+use Rattle.snmp_walk.proofs.JoinLemmas.{after_precedes}
+use Rattle.snmp_walk.proofs.JudgedLemmas.{only, response_to_decided}
+use Rattle.snmp_walk.proofs.LostLemmas.{one_append}
+use Rattle.snmp_walk.proofs.NetworkLemmas.{tried-append}
+use Rattle.snmp_walk.proofs.PartLemmas.{part_front}
+use Rattle.snmp_walk.proofs.ReplyLemmas.{asked_of, one_spelt}
+use Rattle.snmp_walk.proofs.SendLemmas.{before_more}
+use Rattle.snmp_walk.proofs.StandingLemmas.{taken, part_of_stage, waiting}
+use Rattle.snmp_walk.proofs.ViewLemmas.{views_answer}
+
+module _ {L : Type 0} (codec : Codec) (facts : LinkFacts L) (tries : ℕ) (first : Walker) (fresh : IsFresh first) (link after : L) where
+  abbrev Tried : Walker → L → Outcome → L → Type 0
+  Tried = IsTried facts tries
+
+  abbrev Events : L → L → Type 0
+  Events old new = (events : List (Event (Unit {0}))) × InTurn (Happens facts) old events new
+
+  abbrev tried_events : (w : Walker) (old new : L) (o : Outcome) → Tried w old o new → Events old new
+  tried_events w old new o h = all_tries facts (canon (request_of w)) (IsNotAwaited w.community w.id) tries old new o h
+
+  abbrev read_events : (readings : List Reading) (v w : Walker) (old now : L) → AreRead Tried v old readings w now → Events old now
+  read_events [] v w old now h = ([], h.1)
+  read_events (r ∷ more) v w old now h =
+      let a = tried_events v old h.2 (outcome.answered r.datagram) h.3 in
+      let b = read_events more h.1 w h.2 now h.5 in
+      (a.0 ++ b.0, in_turn-append (Happens facts) a.0 b.0 old h.2 now a.1 b.1)
+
+  abbrev Asked : (Walker → Type 0) → List VarBind → Outcome → Walker → List VarBind → Type 0
+  Asked Sent rows o w more = IsAskedLast Tried Sent first link rows after o w more
+
+  abbrev asked_events : (Sent : Walker → Type 0) (rows : List VarBind) (o : Outcome) (w : Walker) (more : List VarBind) → Asked Sent rows o w more → Events link after
+  asked_events Sent rows o w more a =
+      let b = read_events a.read.readings first w link a.now a.read.are_read in
+      let c = tried_events w a.now after o a.tried in
+      (b.0 ++ c.0, in_turn-append (Happens facts) b.0 c.0 link a.now after b.1 c.1)
+
+  module _ (agents : Agents) (good : AreLawful agents) (all : List (Event (Unit {0}))) (replies : AreReplies agents all) where
+    abbrev Next : List ℕ → VarBind → Type 0
+    Next = IsNextFrom agents
+
+    abbrev Got : List ℕ → VarBind → Type 0
+    Got = IsGotFrom agents
+
+    -- where a run stands
+    record Stands (w : Walker) (given : List VarBind) : Type 0 where
+      events : List (Event (Unit {0}))
+      earlier : IsEarlier (tried events) w
+      honestly : Reaches Next Got first w given
+      anyhow : Reaches Rises Named first w given
+
+    waits : (w : Walker) (given : List VarBind) → Stands w given → is_over w.phase ≡ false
+    waits w given s = waiting Rises Named Small rising_answers first given w.asked w.phase s.anyhow.stage
+
+    -- the reply that was read is one to the waiting request
+    read_is : (w : Walker) (l new : L) (given : List VarBind) (s : Stands w given) → IsWalker w → (r : List ℕ) (m : Message) → Spells m r
+        → IsResponseTo w.community w.id m → (h : Tried w l (outcome.answered r) new) → (rest : List (Event (Unit {0})))
+        → all ≡ s.events ++ ((tried_events w l new (outcome.answered r) h).0 ++ rest) → IsReplyFrom agents (canon (request_of w)) r
+    read_is w l new given s walker r m spelt response h rest is =
+        let a = answered_tries facts (canon (request_of w)) (IsNotAwaited w.community w.id) tries l new r h in
+        let cut : all ≡ (s.events ++ a.1.0) ++ came tt r ∷ rest =
+        is ∙ ap (λ (es : List (Event (Unit {0}))). s.events ++ es) (append_assoc a.1.0 (came tt r ∷ []) rest) ∙ sym (append_assoc s.events a.1.0 (came tt r ∷ rest)) in
+        let sent_it = replies (s.events ++ a.1.0) rest tt r cut m spelt in
+        let sooner : IsEarlier (tried (s.events ++ a.1.0)) w =
+        λ d one. elim (one_append (tried s.events) (tried a.1.0) d (subst (λ (ds : List (List ℕ)). OneOf ds d) (tried-append s.events a.1.0) one)) [
+          | inl o ↦ s.earlier d o
+          | inr o ↦ inl (a.1.2 d o)
+        ] in
+        let asked = asked_of codec agents (tried (s.events ++ a.1.0)) w good walker (waits w given s) sooner in
+        elim (asked.others sent_it.0 sent_it.1) [
+          | inl same ↦ subst (λ (d : List ℕ). IsReplyFrom agents d r) same sent_it.2
+          | inr other ↦ absurd (other r sent_it.2 m spelt response)
+        ]
+
+    -- what a reply that was read did, given a step that is no stray
+    record Steps (w : Walker) (given : List VarBind) (st : Step) (u : Walker) : Type 0 where
+      honestly : Advances Next Got (IsTooLarge agents) first w given st u
+      anyhow : AdvancesAnyhow first w given st u
+      empty : EndsEmpty st
+
+    reads : (w : Walker) (l new : L) (given : List VarBind) (s : Stands w given) → IsWalker w → (r : List ℕ) (st : Step) (u : Walker)
+        → (st ≡ step.Stray → ⊥) → MeansBy w r st u → (h : Tried w l (outcome.answered r) new) → (rest : List (Event (Unit {0})))
+        → all ≡ s.events ++ ((tried_events w l new (outcome.answered r) h).0 ++ rest) → Steps w given st u
+    reads w l new given s walker r st u gives (inr (none, stray)) h rest is = absurd (gives stray.0)
+    reads w l new given s walker r st u gives (inl (m, spelt, inr (unawaited, stray))) h rest is = absurd (gives stray.0)
+    reads w l new given s walker r st u gives (inl (m, spelt, inl (awaited, means))) h rest is =
+        let one = only codec.less st u w m (inl (awaited, means)) in
+        let reply = read_is w l new given s walker r m spelt awaited.response h rest is in
+        let honest = honest_reply codec agents good w walker (waits w given s) r reply in
+        let same = one_spelt codec honest.0 m r honest.1 spelt in
+        let step_of = taken Next Got (IsTooLarge agents) (views_answer agents good.views) first given w honest.0 s.honestly honest.2 in
+        rw (one.0, one.1) (record {
+          honestly = subst (λ (n : Message). Advances Next Got (IsTooLarge agents) first w given (take_of w n).0 (take_of w n).1) same step_of;
+          anyhow = taken_any first w given (after_precedes codec) m (and_from (not (is_over w.phase)) (awaits w.community w.id m)
+              (ap not (waits w given s)) ((response_to_decided w.community w.id m).1 awaited.response)) s.anyhow;
+          empty = ends_empty w m;
+        })
+
+    abbrev stands_first : Stands first []
+    stands_first = record {
+      events = [];
+      earlier = λ d one. absurd one;
+      honestly = fresh_stands Next Got first fresh;
+      anyhow = fresh_stands Rises Named first fresh;
+    }
+
+    by_front : {p : List ℕ → Type 0} (events : List (Event (Unit {0}))) → ((d : List ℕ) → OneOf (tried events) d → p d) → (r d : List ℕ)
+        → OneOf (tried (events ++ came tt r ∷ [])) d → p d
+    by_front events f r d one =
+        elim (one_append (tried events) [] d (subst (λ (ds : List (List ℕ)). OneOf ds d) (tried-append events (came tt r ∷ [])) one)) [
+          | inl o ↦ f d o
+          | inr none ↦ absurd none
+        ]
+
+    -- after one reading more, with what is left to happen
+    abbrev StandsBefore : Walker → List VarBind → List (Event (Unit {0})) → Type 0
+    StandsBefore w given rest = (s : Stands w given) × (all ≡ s.events ++ rest)
+
+    stands_on : (w u : Walker) (l new : L) (given rows : List VarBind) (s : Stands w given) → IsWalker w → (r : List ℕ)
+        → MeansBy w r (step.Rows rows) u → (h : Tried w l (outcome.answered r) new) → (rest : List (Event (Unit {0})))
+        → all ≡ s.events ++ ((tried_events w l new (outcome.answered r) h).0 ++ rest) → StandsBefore u (given ++ rows) rest
+    stands_on w u l new given rows s walker r means h rest is =
+        let on = reads w l new given s walker r (step.Rows rows) u (λ e. let no : ⊥ = cc in no) means h rest is in
+        let a = answered_tries facts (canon (request_of w)) (IsNotAwaited w.community w.id) tries l new r h in
+        let less : w.id < u.id = omega (arith, on.anyhow.0) in (
+          record {
+            events = s.events ++ (a.1.0 ++ came tt r ∷ []);
+            earlier = λ d one. elim (one_append (tried s.events) (tried (a.1.0 ++ came tt r ∷ [])) d
+                (subst (λ (ds : List (List ℕ)). OneOf ds d) (tried-append s.events (a.1.0 ++ came tt r ∷ [])) one)) [
+                  | inl o ↦ before_more w u walker (waits w given s) less d (s.earlier d o)
+                  | inr o ↦ before_more w u walker (waits w given s) less d (inl (by_front a.1.0 a.1.2 r d o))
+                ];
+            honestly = on.honestly;
+            anyhow = on.anyhow.2;
+          },
+          is ∙ sym (append_assoc s.events (a.1.0 ++ came tt r ∷ []) rest),
+        )
+
+    stands_all : (readings : List Reading) (v w : Walker) (old now : L) (given : List VarBind) (rest : List (Event (Unit {0})))
+        → (h : AreRead Tried v old readings w now) → StandsBefore v given ((read_events readings v w old now h).0 ++ rest)
+        → StandsBefore w (given ++ rows_read readings) rest
+    stands_all [] v w old now given rest h s =
+        rw append-nil (subst (λ (u : Walker). StandsBefore u given rest) (sym h.0) s)
+    stands_all (r ∷ more) v w old now given rest h s =
+        let later = (read_events more h.1 w h.2 now h.5).0 in
+        let mine = (tried_events v old h.2 (outcome.answered r.datagram) h.3).0 in
+        subst (λ (g : List VarBind). StandsBefore w g rest) (append_assoc given r.rows (rows_read more))
+        (stands_all more h.1 w h.2 now (given ++ r.rows) rest h.5
+        (stands_on v h.1 old h.2 given r.rows s.0 h.0 r.datagram h.4 h.3 (later ++ rest)
+        (s.1 ∙ ap (λ (es : List (Event (Unit {0}))). s.0.events ++ es) (append_assoc mine later rest))))
+
+    abbrev Silent : Walker → Type 0
+    Silent w = Unit {0}
+
+    stands_last : (Sent : Walker → Type 0) (rows : List VarBind) (o : Outcome) (w : Walker) (more : List VarBind) → (a : Asked Sent rows o w more)
+        → all ≡ (asked_events Sent rows o w more a).0 → StandsBefore w a.given ((tried_events w a.now after o a.tried).0 ++ [])
+    stands_last Sent rows o w more a is =
+        let late = (tried_events w a.now after o a.tried).0 in
+        subst (λ (g : List VarBind). StandsBefore w g (late ++ [])) (sym a.read.rows)
+        (stands_all a.read.readings first w link a.now [] (late ++ []) a.read.are_read
+        (stands_first, is ∙ ap (λ (es : List (Event (Unit {0}))). (read_events a.read.readings first w link a.now a.read.are_read).0 ++ es) (sym (append-nil late))))
+
+    abbrev IsHonestEnd : (rows refused : List VarBind) → WalkEnd → Type 0
+    IsHonestEnd rows refused end = IsPartOfWalk Next Got first (rows ++ refused) × IsLawfulEnd agents Silent first rows end
+
+    end_read : (Sent : Walker → Type 0) (rows : List VarBind) (end : WalkEnd) (datagram : List ℕ) (w : Walker) (more : List VarBind)
+        → (a : Asked Sent rows (outcome.answered datagram) w more) → (over : Walker) → MeansBy w datagram (step.Last more end) over
+        → all ≡ (asked_events Sent rows (outcome.answered datagram) w more a).0 → IsHonestEnd rows [] end
+    end_read Sent rows end datagram w more a over means is =
+        let s = stands_last Sent rows (outcome.answered datagram) w more a is in
+        let st = reads w a.now after a.given s.0 a.walker datagram (step.Last more end) over (λ e. let no : ⊥ = cc in no) means a.tried [] s.1 in
+        rw (append-nil, a.parts) (
+          st.honestly.0,
+          lawful_reply agents Silent first w a.given more end st.empty s.0.honestly st.honestly.1,
+        )
+
+    end_refused : (Sent : Walker → Type 0) (rows refused : List VarBind) (fault : SinkFault) → refused ≢ [] → (datagram : List ℕ) (w : Walker) (more : List VarBind)
+        → (a : Asked Sent rows (outcome.answered datagram) w more) → (st : Step) (over : Walker) (left : List VarBind) → MeansBy w datagram st over
+        → rows_in st ≡ more ++ (refused ++ left) → all ≡ (asked_events Sent rows (outcome.answered datagram) w more a).0
+        → IsHonestEnd rows refused (ending.Sink fault)
+    end_refused Sent rows refused fault some datagram w more a st over left means cut is =
+        let s = stands_last Sent rows (outcome.answered datagram) w more a is in
+        let h = reads w a.now after a.given s.0 a.walker datagram st over (λ e. some (no_rows e)) means a.tried [] s.1 in
+        let whole_rows : a.given ++ rows_in st ≡ (rows ++ refused) ++ left =
+        ap (λ (g : List VarBind). a.given ++ g) cut ∙ sym (append_assoc a.given more (refused ++ left)) ∙ ap (λ (g : List VarBind). g ++ (refused ++ left)) (sym a.parts)
+        ∙ sym (append_assoc rows refused left) in
+        (part_front Next Got first (rows ++ refused) left (subst (IsPartOfWalk Next Got first) whole_rows (part st over h.honestly)), tt)
+      where
+        no_rows : st ≡ step.Stray → refused ≡ []
+        no_rows e = nil_middle more refused left (sym cut ∙ ap rows_in e)
+          where
+            nil_middle : (a b c : List VarBind) → a ++ (b ++ c) ≡ [] → b ≡ []
+            nil_middle [] [] c e = refl
+            nil_middle [] (x ∷ b) c e = let no : ⊥ = cc in absurd no
+            nil_middle (x ∷ a) b c e = let no : ⊥ = cc in absurd no
+
+        part : (s : Step) (u : Walker) → Advances Next Got (IsTooLarge agents) first w a.given s u → IsPartOfWalk Next Got first (a.given ++ rows_in s)
+        part step.Stray u k = absurd k
+        part (step.Rows more) u k = part_of_stage Next Got (IsTooLarge agents) (views_answer agents good.views) first (a.given ++ more) u.asked u.phase k.stage
+        part (step.Last more why) u k = k.0
+
+    end_none : (Sent : Walker → Type 0) (rows : List VarBind) (o : Outcome) (w : Walker) (end : WalkEnd) → (a : Asked Sent rows o w [])
+        → all ≡ (asked_events Sent rows o w [] a).0 → (Reaches Next Got first w rows → IsLawfulEnd agents Silent first rows end) → IsHonestEnd rows [] end
+    end_none Sent rows o w end a is lawful =
+        let all_given : a.given ≡ rows = sym (append-nil a.given) ∙ sym a.parts in
+        let h = subst (Reaches Next Got first w) all_given (stands_last Sent rows o w [] a is).0.honestly in
+        (rw append-nil (part_of_stage Next Got (IsTooLarge agents) (views_answer agents good.views) first rows w.asked w.phase h.stage), lawful h)
+
+  -- what happened, and what follows where that are replies
+  abbrev Known : (rows refused : List VarBind) → WalkEnd → Type 0
+  Known rows refused end = HasHappened facts link after (λ agents. GivenFacts agents (λ w. Unit {0}) first rows refused end)
+
+  known_by : (Sent : Walker → Type 0) (rows refused : List VarBind) (end : WalkEnd) (o : Outcome) (w : Walker) (more : List VarBind)
+      → (a : Asked Sent rows o w more)
+      → ((agents : Agents) (good : AreLawful agents) → (replies : AreReplies agents (asked_events Sent rows o w more a).0)
+      → IsHonestEnd agents good (asked_events Sent rows o w more a).0 replies rows refused end) → Known rows refused end
+  known_by Sent rows refused end o w more a honestly =
+      let e = asked_events Sent rows o w more a in
+      record {
+        events = e.0;
+        in_turn = e.1;
+        replied = λ agents good replies.
+            let h = honestly agents good replies in
+            given_facts codec agents (λ w. Unit {0}) first rows refused end fresh good.views h.0 h.1;
+      }
+
+  known_read : (Sent : Walker → Type 0) (rows : List VarBind) (end : WalkEnd) → IsReadSo (Asked Sent rows) end → Known rows [] end
+  known_read Sent rows end (datagram, w, more, a, over, means) =
+      known_by Sent rows [] end (outcome.answered datagram) w more a
+      (λ agents good replies. end_read agents good _ replies Sent rows end datagram w more a over means refl)
+
+  known_none : (Sent : Walker → Type 0) (rows : List VarBind) (o : Outcome) (w : Walker) (end : WalkEnd) → (a : Asked Sent rows o w [])
+      → ((agents : Agents) → Reaches (IsNextFrom agents) (IsGotFrom agents) first w rows → IsLawfulEnd agents (λ w. Unit {0}) first rows end) → Known rows [] end
+  known_none Sent rows o w end a lawful =
+      known_by Sent rows [] end o w [] a (λ agents good replies. end_none agents good _ replies Sent rows o w end a refl (lawful agents))
+
+  pub given_by : (Sent : Walker → Type 0) (rows refused : List VarBind) (end : WalkEnd) → {S : Type 0} (takes : S → VarBind → Result (Unit {0}) SinkFault → S → Type 0)
+      (before now : S) → Took takes before rows refused end now → IsEndOfRun (Asked Sent rows) refused end → Known rows refused end
+  given_by Sent rows refused ending.RequestTooLong takes before now took h = absurd h
+  given_by Sent rows refused ending.NoResponse takes before now took h =
+      rw took.1 (known_none Sent rows outcome.missed h.0 ending.NoResponse h.1 (λ agents reaches. (h.0, h.1.walker, reaches, tt)))
+  given_by Sent rows refused ending.Link takes before now took h = rw took.1 (known_none Sent rows outcome.cut_off h.0 ending.Link h.1 (λ agents reaches. tt))
+  given_by Sent rows refused (ending.Sink fault) takes before now took (datagram, w, more, a, st, over, left, means, cut) =
+      known_by Sent rows refused (ending.Sink fault) (outcome.answered datagram) w more a
+      (λ agents good replies. end_refused agents good _ replies Sent rows refused fault (λ none. let r = took.2 in let no : ⊥ = cc in no) datagram w more a
+      st over left means cut refl)
+  given_by Sent rows refused (ending.Done n) takes before now took h = rw took.1 (known_read Sent rows (ending.Done n) h)
+  given_by Sent rows refused (ending.Fault s i) takes before now took h = rw took.1 (known_read Sent rows (ending.Fault s i) h)
+  given_by Sent rows refused (ending.NoProgress o) takes before now took h = rw took.1 (known_read Sent rows (ending.NoProgress o) h)
+  given_by Sent rows refused ending.BadReply takes before now took h = rw took.1 (known_read Sent rows ending.BadReply h)
+  given_by Sent rows refused (ending.NotIncreasing o p) takes before now took h = rw took.1 (known_read Sent rows (ending.NotIncreasing o p) h)
+  given_by Sent rows refused ending.TooManyRequests takes before now took h = rw took.1 (known_read Sent rows ending.TooManyRequests h)

@@ -1,0 +1,209 @@
+-- What an honest link brings as a request is tried over it: its own reply, or others, which lose it.
+use Rattle.std.proofs.Common.{◌≡◌, ◌≢◌, ◌⊎◌, inl, inr, ℕ, zero, suc, ◌+◌, ◌<◌, List, [], ◌∷◌}
+use Rattle.std.proofs.Common.{◌++◌, length, replicate, refl, sym, ◌∙◌, ap, subst, arith, append-nil}
+use Rattle.std.proofs.Common.{Option, Some, None}
+use Rattle.std.specs.List.{slice_get}
+use Rattle.snmp_walk.specs.Link.{Agents, OneOf, IsReplyFrom, IsUnanswered}
+use Rattle.snmp_walk.specs.Link as outcome
+use Rattle.snmp_walk.specs.Traffic.{latest, datagram_at, Gives, Receives, IsOther, resent}
+use Rattle.snmp_walk.specs.Traffic.{Lost}
+use Rattle.snmp_walk.specs.Heard.{IsAsked}
+use Rattle.snmp_walk.specs.Moved.{IsMoved}
+use Rattle.snmp_walk.specs.Tries.{InTurn, Gets, Brings, EndsTry, IsTry, AreTried}
+use Rattle.snmp_walk.specs.declared.link.Link.{Ghosts as LinkFacts}
+use Rattle.snmp_walk.proofs.MoveLemmas.{sent_all, unused}
+use Rattle.snmp_walk.proofs.TriedMoves.{few_strays, moved_before, moved_bringing, moved_missed}
+
+-- ---- the datagrams sent
+
+one_of : (sent : List (List ℕ)) (k : ℕ) (d : List ℕ) → slice_get sent k ≡ Some d → OneOf sent d
+one_of [] k d e = let no : ⊥ = cc in absurd no
+one_of (x ∷ sent) zero d e = let same : d ≡ x = cc in inl same
+one_of (x ∷ sent) (suc k) d e = inr (one_of sent k d e)
+
+found : (sent : List (List ℕ)) (k : ℕ) (d : List ℕ) → datagram_at sent k ≡ Some d → OneOf sent d
+found sent zero d e = let no : ⊥ = cc in absurd no
+found sent (suc k) d e = one_of sent k d e
+
+pub one_append : {X : Type 0} (xs ys : List X) (d : X) → OneOf (xs ++ ys) d → OneOf xs d ⊎ OneOf ys d
+one_append [] ys d one = inr one
+one_append (x ∷ xs) ys d (inl e) = inl (inl e)
+one_append (x ∷ xs) ys d (inr one) = elim (one_append xs ys d one) [ inl h ↦ inl (inr h) | inr h ↦ inr h ]
+
+pub one_same : (n : ℕ) (q d : List ℕ) → OneOf (replicate n q) d → d ≡ q
+one_same zero q d one = absurd one
+one_same (suc n) q d (inl e) = e
+one_same (suc n) q d (inr one) = one_same n q d one
+
+latest_is : (sent : List (List ℕ)) (q : List ℕ) → latest (sent ++ q ∷ []) ≡ Some q
+latest_is [] q = refl
+latest_is (d ∷ []) q = refl
+latest_is (d ∷ e ∷ sent) q = latest_is (e ∷ sent) q
+
+-- ---- one receive
+
+module _ (agents : Agents) (Other : List ℕ → Type 0) (q : List ℕ) where
+  -- a request that is sent again is no other
+  asked_on : (n : ℕ) (sent : List (List ℕ)) → IsAsked agents Other q sent → IsAsked agents Other q (sent ++ replicate n q)
+  asked_on n sent a = record {
+    own = a.own;
+    others = λ d one. elim (one_append sent (replicate n q) d one) [ inl h ↦ a.others d h | inr same ↦ inl (one_same n q d same) ];
+  }
+
+  -- how the deliveries lose so many tries of the request, the first of which has received `count` others
+  abbrev Loses : List (List ℕ) → List (Option ℕ) → (tries count : ℕ) → List (Option ℕ) → Type 0
+  Loses sent ahead tries count left =
+      (used : List (Option ℕ)) × (ahead ≡ used ++ left) × (IsUnanswered agents q ⊎ Lost agents sent q used tries count)
+
+  loses_more : {sent other : List (List ℕ)} {ahead left : List (Option ℕ)} (tries count fewer more : ℕ) (next : List (Option ℕ)) (e : Option ℕ) → ahead ≡ e ∷ next
+      → ((used : List (Option ℕ)) → Lost agents other q used fewer more → Lost agents sent q (e ∷ used) tries count) → Loses other next fewer more left
+      → Loses sent ahead tries count left
+  loses_more tries count fewer more next e parts lost l =
+      (e ∷ l.0, parts ∙ ap (λ (es : List (Option ℕ)). e ∷ es) l.1, elim l.2 [ inl u ↦ inl u | inr h ↦ inr (lost l.0 h) ])
+
+  module _ (sent : List (List ℕ)) (last : latest sent ≡ Some q) (asked : IsAsked agents Other q sent) where
+    -- the reply that is waited for
+    own_reply : (d : List ℕ) → (Other d → ⊥) → (ahead left : List (Option ℕ)) → Receives agents sent ahead (Some d) left → IsReplyFrom agents q d
+    own_reply d own [] left r = rw last at r.1
+    own_reply d own (None ∷ next) left r = let e = r.1 in let no : ⊥ = cc in absurd no
+    own_reply d own (Some k ∷ next) left r = by_datagram (datagram_at sent k) refl r.1
+      where
+        by_datagram : (x : Option (List ℕ)) → datagram_at sent k ≡ x → Gives agents x (Some d) → IsReplyFrom agents q d
+        by_datagram None e given = let no : ⊥ = cc in absurd no
+        by_datagram (Some x) e given = elim (asked.others x (found sent k x e)) [
+          | inl same ↦ subst (λ (y : List ℕ). IsReplyFrom agents y d) same given
+          | inr other ↦ absurd (own (other d given))
+        ]
+
+    module _ (t : ℕ) (final : List (Option ℕ)) where
+      -- nothing, which ends the try
+      nothing_lost : (count : ℕ) (ahead left : List (Option ℕ)) → Receives agents sent ahead None left → Loses (resent sent q t) left t 0 final
+          → Loses sent ahead (suc t) count final
+      nothing_lost count [] left r l = let none : IsUnanswered agents q = rw last at r.1 in (l.0, sym r.0 ∙ l.1, inl none)
+      nothing_lost count (None ∷ next) left r l =
+          loses_more (suc t) count t 0 left None (ap (λ (es : List (Option ℕ)). None ∷ es) (sym r.0)) (λ used h. inl (tt, h)) l
+      nothing_lost count (Some k ∷ next) left r l =
+          loses_more (suc t) count t 0 left (Some k) (ap (λ (es : List (Option ℕ)). Some k ∷ es) (sym r.0)) (λ used h. inl (r.1, h)) l
+
+      -- another reply, with which the try ends or goes on
+      other_lost : (count : ℕ) (d : List ℕ) → Other d → (ahead left : List (Option ℕ)) → Receives agents sent ahead (Some d) left
+          → ((count ≡ 63) × Loses (resent sent q t) left t 0 final) ⊎ ((count ≢ 63) × Loses sent left (suc t) (count + 1) final)
+          → Loses sent ahead (suc t) count final
+      other_lost count d other [] left r l = absurd (asked.own d (rw last at r.1) other)
+      other_lost count d other (None ∷ next) left r l = let e = r.1 in let no : ⊥ = cc in absurd no
+      other_lost count d other (Some k ∷ next) left r l =
+          let here = ap (λ (es : List (Option ℕ)). Some k ∷ es) (sym r.0) in
+          let it = by_datagram (datagram_at sent k) refl r.1 in
+          elim l [
+            | inl h ↦ loses_more (suc t) count t 0 left (Some k) here (λ used x. inr (inl (it, h.0, x))) h.1
+            | inr h ↦ loses_more (suc t) count (suc t) (count + 1) left (Some k) here (λ used x. inr (inr (it, h.0, x))) h.1
+          ]
+        where
+          by_datagram : (x : Option (List ℕ)) → datagram_at sent k ≡ x → Gives agents x (Some d) → IsOther agents sent q (Some k)
+          by_datagram None e given = let no : ⊥ = cc in absurd no
+          by_datagram (Some x) e given = (x, d, e, (λ same. asked.own d (subst (λ (y : List ℕ). IsReplyFrom agents y d) same given) other), given)
+
+-- where no try is left it doesn't matter what was sent
+resent_lost : (agents : Agents) (q : List ℕ) (sent : List (List ℕ)) (used : List (Option ℕ)) (t : ℕ) → Lost agents (sent ++ q ∷ []) q used t 0
+    → Lost agents (resent sent q t) q used t 0
+resent_lost agents q sent [] zero lost = lost
+resent_lost agents q sent (e ∷ used) zero lost = absurd lost
+resent_lost agents q sent used (suc t) lost = lost
+
+-- ---- tries
+
+module _ {L : Type 0} (facts : LinkFacts L) (keeping : (link : L) → facts.honest link → facts.keeps link) (agents : Agents) (Other : List ℕ → Type 0)
+    (q : List ℕ) where
+  abbrev Ahead : L → List (Option ℕ)
+  Ahead link = (facts.traffic link).ahead
+
+  -- an honest link of these agents, over which these were sent
+  pub record Serves (sent : List (List ℕ)) (link : L) : Type 0 where
+    pub honest : facts.honest link
+    pub agents_are : facts.agents link ≡ agents
+    pub sent_is : (facts.traffic link).sent ≡ sent
+
+  serves_on : {sent more : List (List ℕ)} {n : ℕ} (old new : L) → Serves sent old → IsMoved facts old more n ⊥ new → Serves (sent ++ more) new
+  serves_on {sent} {more} old new s m = record {
+    honest = m.honest s.honest;
+    agents_are = m.agents ∙ s.agents_are;
+    sent_is = sent_all (λ f. f) (m.sent (keeping old s.honest)) ∙ ap (λ (x : List (List ℕ)). x ++ more) s.sent_is;
+  }
+
+  module _ (sent : List (List ℕ)) (last : latest sent ≡ Some q) (asked : IsAsked agents Other q sent) where
+    still_serves : {n : ℕ} (old new : L) → Serves sent old → IsMoved facts old [] n ⊥ new → Serves sent new
+    still_serves old new s m = subst (λ (x : List (List ℕ)). Serves x new) (append-nil sent) (serves_on old new s m)
+
+    given_by : (old new : L) (given : Option (List ℕ)) → Serves sent old → Gets facts old given new → Receives agents sent (Ahead old) given (Ahead new)
+    given_by old new given s h = rw (s.agents_are, s.sent_is) at (h.1 s.honest)
+
+    -- a try that has received `count` others receives these too, `all` together, and misses the reply
+    try_lost : (t : ℕ) (final : List (Option ℕ)) (strays : List (List ℕ)) (count all : ℕ) (old now new : L) → all ≡ count + length strays → Serves sent old
+        → count < 64 → InTurn (Brings facts) old strays now → ((d : List ℕ) → OneOf strays d → Other d) → EndsTry facts all now outcome.missed new
+        → Loses agents Other q (resent sent q t) (Ahead new) t 0 final → Loses agents Other q sent (Ahead old) (suc t) count final
+    try_lost t final [] count all old now new is s less h others (inl over) l =
+        subst (λ (x : L). Loses agents Other q sent (Ahead x) (suc t) count final) h
+        (nothing_lost agents Other q sent last asked t final count (Ahead now) (Ahead new)
+        (given_by now new None (subst (Serves sent) (sym h) s) over.1.1) l)
+    try_lost t final [] count all old now new is s less h others (inr over) l = absurd (omega (arith, is, less, over.0))
+    try_lost t final (d ∷ []) count all old now new is s less h others (inr over) l =
+        other_lost agents Other q sent last asked t final count d (others d (inl refl)) (Ahead old) (Ahead h.0) (given_by old h.0 (Some d) s h.1.1)
+        (inl (omega (arith, is, over.0), rw (over.1, h.2) at l))
+    try_lost t final (d ∷ []) count all old now new is s less h others (inl over) l =
+        other_lost agents Other q sent last asked t final count d (others d (inl refl)) (Ahead old) (Ahead h.0) (given_by old h.0 (Some d) s h.1.1)
+        (inr (
+          (λ e. omega (arith, is, e, over.0)),
+          try_lost t final [] (count + 1) all h.0 now new (omega (arith, is)) (still_serves old h.0 s h.1.1.0)
+              (omega (arith, is, over.0)) h.2 (λ x one. absurd one) (inl over) l,
+        ))
+    try_lost t final (d ∷ more) count all old now new is s less h others over l =
+        let few = few_strays facts Other q all now new outcome.missed over in
+        other_lost agents Other q sent last asked t final count d (others d (inl refl)) (Ahead old) (Ahead h.0) (given_by old h.0 (Some d) s h.1.1)
+        (inr (
+          (λ e. omega (arith, is, e, few)),
+          try_lost t final more (count + 1) all h.0 now new (omega (arith, is)) (still_serves old h.0 s h.1.1.0)
+              (omega (arith, is, few)) h.2 (λ x one. others x (inr one)) over l,
+        ))
+
+  -- no try brings it
+  tries_lost : (received : List (List (List ℕ))) (old new : L) (sent : List (List ℕ)) → Serves sent old → IsAsked agents Other q sent
+      → InTurn (IsTry facts Other q outcome.missed) old received new
+      → Loses agents Other q (sent ++ q ∷ []) (Ahead old) (length received) 0 (Ahead new)
+  tries_lost [] old new sent s asked h = ([], ap Ahead (sym h), inr refl)
+  tries_lost (strays ∷ more) old new sent s asked h =
+      let now = sent ++ q ∷ [] in
+      let t = h.1 in
+      let still = asked_on agents Other q 1 sent asked in
+      let l = tries_lost more h.0 new now (serves_on old h.0 s (moved_missed facts Other q old h.0 strays t)) still h.2 in
+      let lost = try_lost now (latest_is sent q) still (length more) (Ahead new) strays 0 (length strays) t.between t.received.last h.0
+      (omega arith) (serves_on old t.between s t.sent.1) (omega arith) t.received.brought t.received.others t.received.over (
+        l.0,
+        l.1,
+        elim l.2 [ inl u ↦ inl u | inr x ↦ inr (resent_lost agents q now l.0 (length more) x) ],
+      ) in
+      (lost.0, unused (t.sent.1.used s.honest) ∙ lost.1, lost.2)
+
+-- what came of a request that was sent alone after these
+module _ {L : Type 0} (facts : LinkFacts L) (keeping : (link : L) → facts.honest link → facts.keeps link) (Other : List ℕ → Type 0) (q : List ℕ)
+    (tries : ℕ) (old new : L) (honest : facts.honest old) (asked : IsAsked (facts.agents old) Other q (facts.traffic old).sent) where
+  pub lost_of : AreTried facts Other q tries old outcome.missed new
+      → Loses (facts.agents old) Other q ((facts.traffic old).sent ++ q ∷ []) (facts.traffic old).ahead tries 0 (facts.traffic new).ahead
+  lost_of h = rw (← h.all) (tries_lost facts keeping (facts.agents old) Other q h.received old new (facts.traffic old).sent
+      (record { honest = honest; agents_are = refl; sent_is = refl }) asked h.are_missed)
+
+  pub reply_of : (d : List ℕ) → (Other d → ⊥) → AreTried facts Other q tries old (outcome.answered d) new → IsReplyFrom (facts.agents old) q d
+  reply_of d own h = elim h.4 [
+    | inl t ↦
+        let agents = facts.agents old in
+        let before = (facts.traffic old).sent ++ replicate h.0 q in
+        let first : Serves facts keeping agents Other q (facts.traffic old).sent old = record { honest = honest; agents_are = refl; sent_is = refl } in
+        let s = serves_on facts keeping agents Other q h.2 t.1.between (serves_on facts keeping agents Other q old h.2 first
+        (moved_before facts Other q h.0 old h.2 h.3)) t.1.sent.1 in
+        let still = asked_on agents Other q 1 before (asked_on agents Other q h.0 (facts.traffic old).sent asked) in
+        let r = t.1.received in
+        let now = still_serves facts keeping agents Other q (before ++ q ∷ []) (latest_is before q) still t.1.between r.last s
+        (moved_bringing facts Other q t.0 t.1.between r.last r.brought) in
+        own_reply agents Other q (before ++ q ∷ []) (latest_is before q) still d own (facts.traffic r.last).ahead (facts.traffic new).ahead
+        (given_by facts keeping agents Other q (before ++ q ∷ []) (latest_is before q) still r.last new (Some d) now r.over.1.1)
+    | inr f ↦ let e = f.0 in let never : ⊥ = cc in absurd never
+  ]

@@ -1,0 +1,104 @@
+-- A network between a walk and the agents that reply to it (RFC 3417, section 3), and what happens
+-- at its two ends.
+use Rattle.std.specs.Prelude.{◌≡◌, ◌⊎◌, ℕ, List, [], ◌∷◌, ◌++◌, flat_map, map, take, Option}
+use Rattle.std.specs.Prelude.{Some, None, Result, Ok, Err}
+use Rattle.snmp_agent.specs.Event.{Event, InTurn, came, silence, receive_failed, sent, send_failed}
+use Rattle.snmp_agent.specs.Reply.{Agent}
+use Rattle.snmp_agent.specs.Serving.{AreTurns}
+use Rattle.snmp_agent.specs.declared.server.Served.{Served}
+use Rattle.snmp_agent.specs.table.Table.{MibView}
+use Rattle.snmp_walk.specs.declared.end.LinkFault.{LinkFault}
+use Rattle.snmp_wire.specs.Message.{Message}
+use Rattle.snmp_wire.specs.Spelling.{Spells}
+use Rattle.snmp_walk.specs.Link.{Agents, OneOf, IsReplyFrom, agent_in}
+
+-- What happens at one end of the network: at that of the walk, which has one peer, or at that of
+-- the agents.
+pub data Happening (Peer : Type 0) : Type 0 where
+  at_walk : Event (Unit {0}) → Happening Peer
+  at_agents : Event Peer → Happening Peer
+
+-- what of it happened at the walk's end,
+abbrev pub of_walk : {Peer : Type 0} → List (Happening Peer) → List (Event (Unit {0}))
+of_walk [] = []
+of_walk (at_walk e ∷ more) = e ∷ of_walk more
+of_walk (at_agents e ∷ more) = of_walk more
+
+-- and at that of the agents
+abbrev pub of_agents : {Peer : Type 0} → List (Happening Peer) → List (Event Peer)
+of_agents [] = []
+of_agents (at_walk e ∷ more) = of_agents more
+of_agents (at_agents e ∷ more) = e ∷ of_agents more
+
+-- the datagrams that the walk sent, or tried to send: one whose send failed may have gone out
+abbrev pub tried : List (Event (Unit {0})) → List (List ℕ)
+tried [] = []
+tried (sent peer d ∷ more) = d ∷ tried more
+tried (send_failed peer d ∷ more) = d ∷ tried more
+tried (_ ∷ more) = tried more
+
+-- Each datagram that came to the walk, and encodes a message, is the reply of one of the agents to
+-- a datagram that the walk had tried to send before.
+abbrev pub AreReplies : Agents → List (Event (Unit {0})) → Type 0
+AreReplies agents events =
+    (before after : List (Event (Unit {0}))) (peer : Unit {0}) (r : List ℕ)
+    → events ≡ before ++ came peer r ∷ after → (m : Message) → Spells m r
+    → (d : List ℕ) × OneOf (tried before) d × IsReplyFrom agents d r
+
+-- the agents sent the datagram to the peer, or tried to
+abbrev pub IsTriedTo : {Peer : Type 0} → Peer → List (Happening Peer) → List ℕ → Type 0
+IsTriedTo peer run d = OneOf run (at_agents (sent peer d))
+    ⊎ OneOf run (at_agents (send_failed peer d))
+
+-- The network between a walk and its agents, to whom the walk is this peer, makes nothing up and
+-- alters nothing, whatever it loses, repeats, delays or brings in another order, as UDP may (RFC
+-- 768). Other peers may send the agents what they like, and no message of theirs comes to the walk.
+pub record IsFaithful {Peer : Type 0} (walker : Peer) (run : List (Happening Peer)) : Type 0 where
+  -- a message that came to the walk was sent to it before by the agents,
+  pub replies : (before after : List (Happening Peer)) (peer : Unit {0}) (d : List ℕ)
+      → run ≡ before ++ at_walk (came peer d) ∷ after → (m : Message) → Spells m d
+      → IsTriedTo walker before d
+  -- and a datagram that came to the agents from the walk was sent before by the walk
+  pub requests : (before after : List (Happening Peer)) (d : List ℕ)
+      → run ≡ before ++ at_agents (came walker d) ∷ after → OneOf (tried (of_walk before)) d
+
+-- how an agent was served for a while: its table, how many turns, their counts, and what happened
+-- in them
+pub record Service (Peer : Type 0) : Type 0 where
+  pub view : MibView
+  pub turns : ℕ
+  pub served : Served
+  pub events : List (Event Peer)
+
+-- each of them served one of the agents
+abbrev pub AreServices : {Peer : Type 0} → Agents → List (Service Peer) → Type 0
+AreServices agents [] = Unit {0}
+AreServices agents (s ∷ more) = OneOf agents.tables s.view
+    × AreTurns (agent_in agents s.view) s.turns s.served s.events × AreServices agents more
+
+-- One after the other they did all that happened at the agents' end. A server that was started
+-- again, or whose table changed, is another one.
+pub record AreServed {Peer : Type 0} (agents : Agents) (run : List (Happening Peer)) : Type 0 where
+  pub services : List (Service Peer)
+  pub each : AreServices agents services
+  pub in_turn : of_agents run ≡ flat_map (λ s. s.events) services
+
+-- what a send of the walk was: the datagram was sent, or a fault
+abbrev pub event_of_send : Result (Unit {0}) LinkFault → List ℕ → Event (Unit {0})
+event_of_send (Ok _) datagram = sent tt datagram
+event_of_send (Err _) datagram = send_failed tt datagram
+
+-- and a receive: a datagram that came, silence, or a fault
+abbrev pub event_of_got : Result (Option ℕ) LinkFault → List ℕ → Event (Unit {0})
+event_of_got (Ok (Some n)) buffer = came tt (take n buffer)
+event_of_got (Ok None) buffer = silence
+event_of_got (Err _) buffer = receive_failed
+
+-- An agent served some turns, and then this happened at the walk's end: together they led from one
+-- state of the network to the other. `carries` says what may happen between two of its states.
+abbrev pub IsServedThen : {N Peer : Type 0} → (carries : N → Happening Peer → N → Type 0) → Agent
+    → N → Event (Unit {0}) → N → Type 0
+IsServedThen {N} {Peer} carries agent old e new =
+    (turns : ℕ) × (served : Served) × (events : List (Event Peer))
+    × AreTurns agent turns served events
+    × InTurn carries old (map at_agents events ++ at_walk e ∷ []) new

@@ -1,0 +1,176 @@
+//! Walks over a network in memory to the agent at its other end, which loses, repeats and delays
+//! datagrams each way.
+ghost use Rattle.snmp_walk.specs.Facts.{IsFresh};
+
+use crate::runs::{ROOT, public, table_of, walk_of};
+use crate::sinks::Digits;
+use snmp_agent::{Endpoint, EndpointFault, Table};
+use snmp_walk::{
+    Delivery, LinkFault, MemoryNetwork, Method, Mode, Network, WalkCore, WalkEnd, walk_served,
+};
+use std::alloc::Global;
+use std::process::Abort;
+
+/// Three integers, each its place, from 1 on.
+const THREE: &[u8] =
+    b"1.3.6.1.4.1.32473.1.1.0|2|1\n1.3.6.1.4.1.32473.1.2.0|2|2\n1.3.6.1.4.1.32473.1.3.0|2|3\n";
+
+/// A walk by GetNext, whose requests each ask for the row after the one before: over the network of
+/// these deliveries, with so many retries.
+#[derive(Clone, Copy)]
+struct Case<'a> {
+    deliveries: &'a [Delivery],
+    retries: u32,
+}
+
+/// Whether the walk of a case gives these integers, as digits, and ends in this way.
+fn brings(
+    alloc: Global,
+    table: &Table,
+    core: WalkCore,
+    case: Case<'_>,
+    number: u64,
+    end: &WalkEnd,
+) -> bool
+    requires { IsFresh core }
+{
+    let network = MemoryNetwork::new(alloc, case.deliveries);
+    let mut digits = Digits::new();
+    walk_served(
+        network,
+        table,
+        public(1472),
+        core,
+        case.retries,
+        &mut digits,
+    ) == *end
+        && digits.number == number
+}
+
+/// The walk over the network of these deliveries gives these integers and ends in this way.
+fn assert_walk(
+    rt: &impl Abort,
+    alloc: Global,
+    deliveries: &[Delivery],
+    retries: u32,
+    number: u64,
+    end: &WalkEnd,
+) {
+    let case = Case {
+        deliveries,
+        retries,
+    };
+    let table = table_of(rt, alloc, THREE);
+    let core = walk_of(rt, ROOT, Mode::Plain, Method::Next, 1);
+    assert!(rt; brings(alloc, &table, core, case, number, end));
+}
+
+#[test]
+fn a_walk_gives_the_table_that_is_served(rt: HostRuntime) {
+    assert_walk(&rt, rt.alloc(), &[], 0, 123, &WalkEnd::Done(3));
+}
+
+#[test]
+fn lost_requests_are_sent_again(rt: HostRuntime) {
+    const LOST: &[Delivery] = &[Delivery::Nothing, Delivery::Nothing];
+    assert_walk(&rt, rt.alloc(), LOST, 2, 123, &WalkEnd::Done(3));
+    assert_walk(&rt, rt.alloc(), LOST, 1, 0, &WalkEnd::NoResponse);
+}
+
+#[test]
+fn a_request_whose_reply_is_lost_is_sent_again(rt: HostRuntime) {
+    const LOST: &[Delivery] = &[
+        Delivery::Request(1),
+        Delivery::Reply(1),
+        Delivery::Request(2),
+        Delivery::Nothing,
+    ];
+    assert_walk(&rt, rt.alloc(), LOST, 1, 123, &WalkEnd::Done(3));
+    assert_walk(&rt, rt.alloc(), LOST, 0, 1, &WalkEnd::NoResponse);
+}
+
+#[test]
+fn a_request_that_comes_twice_gives_its_row_once(rt: HostRuntime) {
+    const TWICE: &[Delivery] = &[
+        Delivery::Request(1),
+        Delivery::Request(1),
+        Delivery::Reply(1),
+        // The reply to the repeated request comes in place of that to the next.
+        Delivery::Reply(2),
+    ];
+    assert_walk(&rt, rt.alloc(), TWICE, 0, 123, &WalkEnd::Done(3));
+}
+
+#[test]
+fn a_reply_that_comes_twice_gives_its_row_once(rt: HostRuntime) {
+    const TWICE: &[Delivery] = &[
+        Delivery::Request(1),
+        Delivery::Reply(1),
+        Delivery::Reply(1),
+        Delivery::Request(2),
+        Delivery::Reply(1),
+        Delivery::Reply(2),
+        Delivery::Reply(2),
+    ];
+    assert_walk(&rt, rt.alloc(), TWICE, 0, 123, &WalkEnd::Done(3));
+}
+
+#[test]
+fn a_late_request_gives_nothing_more(rt: HostRuntime) {
+    const LATE: &[Delivery] = &[
+        // The first try is late, and the second brings the first row.
+        Delivery::Nothing,
+        Delivery::Request(2),
+        Delivery::Reply(1),
+        // Then the late one comes before the next request, and so does its reply.
+        Delivery::Request(1),
+        Delivery::Request(3),
+        Delivery::Reply(2),
+        Delivery::Reply(3),
+    ];
+    assert_walk(&rt, rt.alloc(), LATE, 1, 123, &WalkEnd::Done(3));
+}
+
+#[test]
+fn a_late_reply_gives_nothing_more(rt: HostRuntime) {
+    const LATE: &[Delivery] = &[
+        Delivery::Request(1),
+        Delivery::Nothing,
+        Delivery::Request(2),
+        Delivery::Reply(2),
+        // The reply to the first try comes in the place of that to the next request.
+        Delivery::Request(3),
+        Delivery::Reply(1),
+        Delivery::Reply(3),
+    ];
+    assert_walk(&rt, rt.alloc(), LATE, 1, 123, &WalkEnd::Done(3));
+}
+
+#[test]
+fn nothing_comes_of_a_datagram_that_was_not_sent(rt: HostRuntime) {
+    const EARLY: &[Delivery] = &[Delivery::Request(2), Delivery::Reply(1)];
+    assert_walk(&rt, rt.alloc(), EARLY, 0, 0, &WalkEnd::NoResponse);
+    assert_walk(&rt, rt.alloc(), EARLY, 1, 123, &WalkEnd::Done(3));
+}
+
+/// Whether a datagram of three octets is a fault of a receive into two, and comes whole into three.
+fn comes_whole(network: &mut MemoryNetwork<'_>) -> bool {
+    let mut short = [0; 2];
+    let mut exact = [0; 3];
+    network.receive(&mut short) == Err(EndpointFault)
+        && network.faults() == 1
+        && network.receive(&mut exact) == Ok(Some((3, ())))
+        && exact == [7, 8, 9]
+        && network.receive_reply(&mut short) == Err(LinkFault)
+        && network.receive_reply(&mut exact) == Ok(Some(3))
+        && exact == [4, 5, 6]
+        && network.faults() == 2
+}
+
+#[test]
+fn a_datagram_that_has_no_room_is_a_fault(rt: HostRuntime) {
+    let mut network = MemoryNetwork::new(rt.alloc(), &[]);
+    assert!(&rt; network.send(&[7, 8, 9]).is_ok());
+    assert!(&rt; network.reply(&[4, 5, 6], ()).is_ok());
+    assert!(&rt; comes_whole(&mut network));
+}
