@@ -1,11 +1,12 @@
 -- Which links are opened to agents in memory.
 use Rattle.std.specs.Prelude.{◌≡◌, ℕ, ◌==◌, ◌&&◌, List, [], ◌∷◌, Option, Some, None, find}
-use Rattle.std.specs.Prelude.{drop, map}
+use Rattle.std.specs.Prelude.{◌<◌, drop, length, map}
 use Rattle.std.specs.Borrow.{Bor}
 use Rattle.std.specs.Str.{bytes_eq}
 use Rattle.snmp_agent.specs.declared.server.Served.{Served}
 use Rattle.snmp_agent.specs.Reply.{Agent}
-use Rattle.snmp_agent.specs.Serving.{AreTurns, Event}
+use Rattle.snmp_agent.specs.Event.{Event, InTurn, came, silence, receive_failed, sent, send_failed}
+use Rattle.snmp_agent.specs.Serving.{AreTurns}
 use Rattle.snmp_walk.specs.Memory.{IsHonest, agents_of, agents_over, traffic_of}
 use Rattle.snmp_walk.specs.declared.memory.MemoryLink.{MemoryLink}
 use Rattle.snmp_net.specs.declared.memory.MemoryAgent.{MemoryAgent}
@@ -39,7 +40,20 @@ BindsAt agents requests host port door =
 abbrev pub ahead_of : MemoryDoor → List (List ℕ)
 ahead_of door = map (λ request. request.now) (drop door.used door.requests.now)
 
--- the agent served this many turns, with these counts
-abbrev pub AreServed : Agent → (turns : ℕ) → Served → Type 0
-AreServed agent turns served =
+-- What may happen at the door between two of its states: the next request comes, or none after
+-- the last, or the next is longer than any datagram over UDP and is passed over. A reply leaves
+-- what is still to come, and none fails.
+abbrev pub HappensAtDoor : MemoryDoor → Event (Unit {0}) → MemoryDoor → Type 0
+HappensAtDoor old (came peer datagram) new = ahead_of old ≡ datagram ∷ ahead_of new
+HappensAtDoor old silence new = (ahead_of old ≡ []) × (ahead_of new ≡ [])
+HappensAtDoor old receive_failed new = (request : List ℕ)
+    × (ahead_of old ≡ request ∷ ahead_of new) × (65507 < length request)
+HappensAtDoor old (sent peer datagram) new = ahead_of new ≡ ahead_of old
+HappensAtDoor old (send_failed peer datagram) new = ⊥
+
+-- The agent served this many turns at the door, with these counts, which led from one of its
+-- states to the other: each request that came there, in order, has its reply or is dropped.
+abbrev pub AreServed : MemoryDoor → Agent → (turns : ℕ) → Served → MemoryDoor → Type 0
+AreServed old agent turns served new =
     (events : List (Event (Unit {0}))) × AreTurns agent turns served events
+    × InTurn HappensAtDoor old events new

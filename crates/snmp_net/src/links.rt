@@ -18,15 +18,20 @@ pub trait Links {
     /// Where an agent receives requests and sends its replies.
     type Door: Drop;
 
-    /// Whether a link that is opened to this port of this host, over which a receive waits this
-    /// many seconds, may be this one.
-    ghost opens: { Self → (host : List ℕ) → (port seconds : ℕ) → Self.Wire → Type 0 };
+    /// Whether in the first state this link may be opened to this port of this host, over which a
+    /// receive waits this many seconds, and the network is left in the last state.
+    ghost opens: { Self → (host : List ℕ) → (port seconds : ℕ) → Self.Wire → Self → Type 0 };
 
-    /// Whether a door that is opened at this port of this host may be this one.
-    ghost binds: { Self → (host : List ℕ) → (port : ℕ) → Self.Door → Type 0 };
+    /// Whether in the first state this door may be opened at this port of this host, and the
+    /// network is left in the last state.
+    ghost binds: { Self → (host : List ℕ) → (port : ℕ) → Self.Door → Self → Type 0 };
 
-    /// What may have been served at a door by this agent in so many turns.
-    ghost serves: { Self.Door → Agent → (turns : ℕ) → Served → Type 0 };
+    /// What may be served by this agent in so many turns at a door, which leaves the network and
+    /// the door in the last states.
+    ghost serves: { Self → Self.Door → Agent → (turns : ℕ) → Served → Self → Self.Door → Type 0 };
+
+    /// Whether a call that fails may lead from the first state to the last one.
+    ghost fails: { Self → Self → Type 0 };
 
     /// How many calls failed.
     ghost fault_count: { Self → ℕ };
@@ -36,15 +41,18 @@ pub trait Links {
     fn open(&mut self, host: &str, port: u16, seconds: u64) -> Result<Self::Wire, LinkFault>
         // A receive waits at least a second.
         requires { 0 < seconds }
-        ensures opened { IfOk result (λ wire. opens self.old host.now port seconds wire) }
+        ensures opened { IfOk result (λ wire.
+            opens self.old host.now port seconds wire self.new) }
         ensures fresh { IfOk result (λ wire. (Self.Wire.traffic wire).sent ≡ []) }
         ensures count { OnOk result (fault_count self.new ≡ fault_count self.old) }
+        ensures failed { OnErr result (fails self.old self.new) }
         ensures fault { OnErr result (HasRisen (fault_count self.old) (fault_count self.new)) };
 
     /// Opens a door at a UDP port of a host. A fault is counted.
     fn bind(&mut self, host: &str, port: u16) -> Result<Self::Door, LinkFault>
-        ensures bound { IfOk result (λ door. binds self.old host.now port door) }
+        ensures bound { IfOk result (λ door. binds self.old host.now port door self.new) }
         ensures count { OnOk result (fault_count self.new ≡ fault_count self.old) }
+        ensures failed { OnErr result (fails self.old self.new) }
         ensures fault { OnErr result (HasRisen (fault_count self.old) (fault_count self.new)) };
 
     /// Serves a table at a door for a number of turns, as [`snmp_agent::serve`] does. A turn waits
@@ -57,7 +65,8 @@ pub trait Links {
         turns: u64,
     ) -> Served
         ensures adds_up { result.replies + result.dropped + result.idle + result.faults ≡ turns }
-        ensures served { serves door.old (agent_of table.now config.now) turns result }
+        ensures served { serves self.old door.old (agent_of table.now config.now) turns result
+            self.new door.new }
         ensures count { fault_count self.new ≡ fault_count self.old };
 
     /// How many calls failed, up to 18446744073709551615.

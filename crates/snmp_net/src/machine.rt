@@ -42,11 +42,13 @@ impl<N: Net> Links for MachineLinks<N> {
 
     type Door = UdpSocket;
 
-    ghost opens = { λ _ _ _ _ _. Unit {0} };
+    ghost opens = { λ _ _ _ _ _ _. Unit {0} };
 
-    ghost binds = { λ _ _ _ _. Unit {0} };
+    ghost binds = { λ _ _ _ _ _. Unit {0} };
 
-    ghost serves = { λ _ _ _ _. Unit {0} };
+    ghost serves = { λ _ _ _ _ _ _ _. Unit {0} };
+
+    ghost fails = { λ _ _. Unit {0} };
 
     ghost fault_count = { λ links. links.faults };
 

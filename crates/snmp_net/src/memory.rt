@@ -53,7 +53,9 @@ impl<'a> MemoryLinks<'a> {
 
     /// Counts a fault, and returns it.
     fn fault(&mut self) -> LinkFault
-        ensures { HasRisen self.old.faults self.new.faults }
+        ensures counted { HasRisen self.old.faults self.new.faults }
+        ensures agents { self.new.agents ≡ self.old.agents }
+        ensures requests { self.new.requests ≡ self.old.requests }
     {
         self.faults = self.faults.saturating_add(1);
         LinkFault
@@ -69,11 +71,16 @@ impl<'a> Links for MemoryLinks<'a> {
 
     type Door = MemoryDoor<'a>;
 
-    ghost opens = { λ links host port _. OpensTo links.agents.now host port };
+    ghost opens = { λ old host port _ link new.
+        OpensTo old.agents.now host port link × (new ≡ old) };
 
-    ghost binds = { λ links. BindsAt links.agents.now links.requests.now };
+    ghost binds = { λ old host port door new.
+        BindsAt old.agents.now old.requests.now host port door × (new ≡ old) };
 
-    ghost serves = { λ _. AreServed };
+    ghost serves = { λ old door agent turns served new after.
+        AreServed door agent turns served after × (new ≡ old) };
+
+    ghost fails = { λ old new. (new.agents ≡ old.agents) × (new.requests ≡ old.requests) };
 
     ghost fault_count = { λ links. links.faults };
 
@@ -109,7 +116,8 @@ impl<'a> Links for MemoryLinks<'a> {
         turns: u64,
     ) -> Served
         ensures adds_up { result.replies + result.dropped + result.idle + result.faults ≡ turns }
-        ensures served { AreServed (agent_of table.now config.now) turns result }
+        ensures served { AreServed door.old (agent_of table.now config.now) turns result door.new
+            × (self.new ≡ self.old) }
         ensures faults { HasRisenBy result.faults door.old.faults door.new.faults }
         ensures count { self.new.faults ≡ self.old.faults }
     {
@@ -143,14 +151,15 @@ pub struct MemoryDoor<'a> {
 }
 
 impl<'a> Endpoint for MemoryDoor<'a> {
-    ghost use Rattle.std.specs.Prelude.{◌≡◌, ◌<◌, ◌≤◌, ℕ, List, [], ◌∷◌, length, take, None};
+    ghost use Rattle.std.specs.Prelude.{◌≡◌, ◌<◌, ◌≤◌, ℕ, List, [], ◌∷◌, length, take};
     ghost use Rattle.std.specs.Prelude.{IfOk, IfSome, IfNone, OnErr, OnOk};
     ghost use Rattle.snmp_io.specs.Count.{HasRisen};
-    ghost use Rattle.snmp_net.specs.Memory.{ahead_of};
+    ghost use Rattle.snmp_agent.specs.Event.{event_of_receive, event_of_reply};
+    ghost use Rattle.snmp_net.specs.Memory.{HappensAtDoor, ahead_of};
 
     type Peer = ();
 
-    ghost log = { λ _. None };
+    ghost happens = { HappensAtDoor };
 
     ghost fault_count = { λ door. door.faults };
 
@@ -158,6 +167,8 @@ impl<'a> Endpoint for MemoryDoor<'a> {
     /// a fault, and is passed over.
     fn receive(&mut self, buffer: &mut [u8]) -> Result<Option<(usize, ())>, EndpointFault>
         ensures bound { IfOk result (λ received. IfSome received (λ r. r.0 ≤ length buffer.new)) }
+        ensures happens { 65507 ≤ length buffer.old
+            → HappensAtDoor self.old (event_of_receive result buffer.new) self.new }
         ensures next { IfOk result (λ received. IfSome received
             (λ r. ahead_of self.old ≡ take r.0 buffer.new ∷ ahead_of self.new)) }
         ensures silent_after_the_last { IfOk result (λ received. IfNone received
@@ -182,7 +193,9 @@ impl<'a> Endpoint for MemoryDoor<'a> {
     }
 
     /// Drops the reply. The requests that are still to come are the same.
-    fn reply(&mut self, _datagram: &[u8], _peer: ()) -> Result<(), EndpointFault>
+    fn reply(&mut self, datagram: &[u8], peer: ()) -> Result<(), EndpointFault>
+        ensures happens { HappensAtDoor self.old (event_of_reply result peer datagram.now)
+            self.new }
         ensures ahead { ahead_of self.new ≡ ahead_of self.old }
         ensures count { OnOk result (self.new.faults ≡ self.old.faults) }
         ensures fault { OnErr result (HasRisen self.old.faults self.new.faults) }

@@ -70,7 +70,7 @@ counted (names os) plan view given end reason e = let no : ⊥ = cc in absurd no
 counted (subtree w) plan view given end reason e = reason.1
 
 -- the rows of a walk, with the answer to a Get of the name that it begins from
-begun_rows : (after : Option (List ℕ)) (community : List ℕ) (w : Walk) (view : MibView) (rows : List VarBind) (asked : List ℕ) → AreRowsAfter after w view rows
+pub begun_rows : (after : Option (List ℕ)) (community : List ℕ) (w : Walk) (view : MibView) (rows : List VarBind) (asked : List ℕ) → AreRowsAfter after w view rows
     → asked ≡ (first_after after community w).asked → HasOne (IsGet view asked)
     → (got : VarBind) × IsGet view asked got × (rows ≡ rows_given after w got (variables view))
 begun_rows None community w view rows asked are e one = (are.0, subst (λ (o : List ℕ). IsGet view o are.0) (sym e) are.1, are.2)
@@ -106,10 +106,10 @@ module _ (plan : Plan) (view : MibView) (tries : ℕ) (old new : Traffic) (rows 
 
     is_got : IsAsked plan (names os) view rows refused (end_in_memory end)
     is_got = record {
-      front = λ all are. facts.beginning view all refl are;
-      whole = λ all are done. facts.all_at_done view all refl are (done_in end done);
+      front = λ all are. facts.given.beginning view all refl are;
+      whole = λ all are done. facts.given.all_at_done view all refl are (done_in end done);
       linked = no_link end;
-      reason = ends_in end refl facts.ends;
+      reason = ends_in end refl facts.given.ends;
       complete = λ room. own_end end (facts.done_unless_stopped room none);
     }
 
@@ -128,11 +128,11 @@ module _ (plan : Plan) (view : MibView) (tries : ℕ) (old new : Traffic) (rows 
     is_walked = record {
       front = λ whole are.
           let b = begins whole are in
-          let left = facts.beginning view b.0 refl b.1 in
+          let left = facts.given.beginning view b.0 refl b.1 in
           (left.0, b.2 ∙ sym (from.gives view b.0 good) ∙ left.1);
       whole = λ whole are done.
           let b = begins whole are in
-          facts.all_at_done view b.0 refl b.1 (done_in end done) ∙ from.gives view b.0 good ∙ sym b.2;
+          facts.given.all_at_done view b.0 refl b.1 (done_in end done) ∙ from.gives view b.0 good ∙ sym b.2;
       linked = no_link end;
       reason = (lawful, counts_rows plan view (first_of plan.community w) rows (end_in_memory end) lawful);
       complete = λ room.

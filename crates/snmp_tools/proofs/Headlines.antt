@@ -181,7 +181,7 @@ module _ (one_table : (names : Names) (ls : List (List ℕ)) (v w : MibView) →
                 run.fault status run.reported (counts_in plan.question) printed.end
                 (printed.facts.complete (over_table plan for (λ p v. IsFeasible p v) path view over states can).room) printed.lines printed.finish);
           }
-      told_by (not_linked plan host port for over risen same is) = absurd (no_net plan for host port over)
+      told_by (not_linked plan host port for over fails risen same is) = absurd (no_net plan for host port over)
       told_by (asked_over plan host port for over sent printed same) = absurd (no_net plan for host port over)
 
     told_of_all : IsOutcome net wire Loads words before End run.fault → Told

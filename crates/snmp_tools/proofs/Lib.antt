@@ -19,3 +19,5 @@ pub mod Refusals
 pub mod Serving
 pub mod Reading
 pub mod Jobs
+pub mod BothEnds
+pub mod InNumbers

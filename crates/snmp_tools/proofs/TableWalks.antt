@@ -49,7 +49,7 @@ use Rattle.snmp_tools.specs.RowText.{row_line}
 use Rattle.snmp_tools.specs.TableWalk as page
 use Rattle.snmp_tools.specs.TableWalk.{AreRowsBelow, AreWalked, HoldsTableFile, IsFree, IsGot}
 use Rattle.snmp_tools.specs.TableWalk.{IsOfObject, IsOutOfMemoryTold, PrintsRows, table_walk}
-use Rattle.snmp_tools.specs.Letters.{no_choices}
+use Rattle.snmp_tools.specs.Letters.{HaveChosen, no_choices}
 use Rattle.snmp_tools.proofs.BareNames.{bare_has_no_syntax, bare_is_loaded, bare_mib}
 use Rattle.snmp_tools.proofs.RowLines.{HasNoSyntax, lines_are, numeric_are, numeric_letters}
 
@@ -64,7 +64,7 @@ pub words_are : (path root : List ℕ) → table_walk path root ≡ walk_line (c
 words_are path root =
     ap (λ (t : List ℕ). codes "snmp" ∷ codes "snmpwalk" ∷ codes "-On" ∷ (codes "table:" ++ path) ∷ t ∷ []) (sym (begins_with_dot root))
 
-abbrev plain_walk : (root : List ℕ) → Walk
+abbrev pub plain_walk : (root : List ℕ) → Walk
 plain_walk root = record { root = root; after = None; mode = mode.Plain; method = method.Next; counts = false }
 
 abbrev walk_plan : (path root : List ℕ) → Plan
@@ -80,20 +80,24 @@ walk_plan path root = record {
 abbrev pub NumbersAreRead : Type 0
 NumbersAreRead = (naming : Naming) (o : List ℕ) → IsIdentifier o → TextMeans naming (numeric_text o) (Ok o)
 
+-- no letters of -C choose nothing
+pub nothing_chosen : HaveChosen false [] no_choices
+nothing_chosen = record {
+  letters = [];
+  order = refl;
+  known = tt;
+  includes_root = refl;
+  counts = refl;
+  leaves_last_get = refl;
+  repetitions = inl (refl, refl);
+}
+
 words_ask : NumbersAreRead → (path root : List ℕ) → path ≢ [] → IsIdentifier root → AskFor (of_walk false (numeric_walk path root)) bare_mib (walk_plan path root)
 words_ask read path root named identifier = record {
   version = refl;
   letters = record { known = refl; read = numeric_are };
   choices = no_choices;
-  chosen = record {
-    letters = [];
-    order = refl;
-    known = tt;
-    includes_root = refl;
-    counts = refl;
-    leaves_last_get = refl;
-    repetitions = inl (refl, refl);
-  };
+  chosen = nothing_chosen;
   short_community = omega arith;
   community = refl;
   max_size = refl;
@@ -146,7 +150,7 @@ object_of ls view o is (object, rest, has, parts) = (object, rest, (is.objects o
 no_object_of : (ls : List (List ℕ)) (view : MibView) (o : List ℕ) → IsTableIn first_format ls view → (HasObject view o → ⊥) → IsOfObject ls o → ⊥
 no_object_of ls view o is lacks (object, rest, has, parts) = lacks (object, rest, (is.objects object).1 has, parts)
 
-got_is : (ls : List (List ℕ)) (view : MibView) (o : List ℕ) (got : VarBind) → IsTableIn first_format ls view → IsGet view o got → IsGot ls o got
+pub got_is : (ls : List (List ℕ)) (view : MibView) (o : List ℕ) (got : VarBind) → IsTableIn first_format ls view → IsGet view o got → IsGot ls o got
 got_is ls view o got is (table.variable e row) = page.variable e ((is.rows got).0 row)
 got_is ls view o got is (table.unknown_object none lacks e) =
     page.unknown_object (free_name ls view o is none) (no_object_of ls view o is lacks) e
@@ -158,7 +162,7 @@ BelowAreRows = (view : MibView) (root : List ℕ) (p : VarBind) → IsMibView vi
     → (OneOf (rows_below root (variables view)) p → IsRow view p × IsBelow p.name root)
     × (IsRow view p × IsBelow p.name root → OneOf (rows_below root (variables view)) p)
 
-rows_are : (ls : List (List ℕ)) (view : MibView) (root : List ℕ) → IsTableIn first_format ls view → IsMibView view → BelowAreRows
+pub rows_are : (ls : List (List ℕ)) (view : MibView) (root : List ℕ) → IsTableIn first_format ls view → IsMibView view → BelowAreRows
     → AreOrdered (rows_below root (variables view)) → AreRowsBelow ls root (rows_below root (variables view))
 rows_are ls view root is is_view law ordered = record {
   ordered = pairs_ordered (rows_below root (variables view)) ordered;
@@ -171,14 +175,14 @@ rows_are ls view root is is_view law ordered = record {
   );
 }
 
-are_walked : (ls : List (List ℕ)) (root : List ℕ) (got : VarBind) (rows : List VarBind) → AreRowsBelow ls root rows → IsGot ls root got
+pub are_walked : (ls : List (List ℕ)) (root : List ℕ) (got : VarBind) (rows : List VarBind) → AreRowsBelow ls root rows → IsGot ls root got
     → AreWalked ls root (or_only got rows)
 are_walked ls root got [] are is_got = page.none_below got are is_got refl
 are_walked ls root got (row ∷ more) are is_got = page.below (λ e. cc) are
 
 -- ---- what is written
 
-front_is : (mib : Mib) (before after : Stream) (rows first rest : List VarBind) (text : List ℕ) → HasNoSyntax mib → rows ≡ first ++ rest
+pub front_is : (mib : Mib) (before after : Stream) (rows first rest : List VarBind) (text : List ℕ) → HasNoSyntax mib → rows ≡ first ++ rest
     → AreLines mib numeric_letters first text ⊎ ((shown : List ℕ) × AreLines mib numeric_letters rows shown × (text ≡ shown ++ []))
     → TakesFront before text after → TakesFront before (flat_map row_line rows) after
 front_is mib before after rows first rest text none parts (inl are) taken = record {
@@ -193,7 +197,7 @@ front_is mib before after rows first rest text none parts (inl are) taken = reco
 front_is mib before after rows first rest text none parts (inr (shown, are, whole)) taken =
     subst (λ (t : List ℕ). TakesFront before t after) (whole ∙ append-nil shown ∙ lines_are mib none rows shown are) taken
 
-all_are : (mib : Mib) (before after : Stream) (rows : List VarBind) (text : List ℕ) → HasNoSyntax mib
+pub all_are : (mib : Mib) (before after : Stream) (rows : List VarBind) (text : List ℕ) → HasNoSyntax mib
     → ((shown : List ℕ) × AreLines mib numeric_letters rows shown × (text ≡ shown ++ [])) → after ≡ extended before text
     → after ≡ extended before (flat_map row_line rows)
 all_are mib before after rows text none (shown, are, whole) written =
@@ -213,7 +217,7 @@ mishap_is before after err_before err_after status (inr (one, inr (now, told, sa
 
 -- ---- what is needed
 
-wire_is : (o : List ℕ) → IsWire o → wire o ≡ o
+pub wire_is : (o : List ℕ) → IsWire o → wire o ≡ o
 wire_is [] h = absurd h
 wire_is (x ∷ []) h = absurd h
 wire_is (x ∷ y ∷ more) h = refl

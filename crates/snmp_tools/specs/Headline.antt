@@ -44,6 +44,18 @@ abbrev pub IsWholeText : Mib → Plan → (rows : List VarBind) → List ℕ →
 IsWholeText mib plan rows text = (shown : List ℕ) × AreLines mib plan.letters rows shown
     × (text ≡ shown ++ count_text (counts_in plan.question) (length rows))
 
+-- a front of the lines of the first of these rows is written, or of the whole text
+abbrev pub IsFrontWritten : Mib → Plan → (rows : List VarBind) → (before after : Stream) → Type 0
+IsFrontWritten mib plan rows before after =
+    (first : List VarBind) × (rest : List VarBind) × (text : List ℕ) × (rows ≡ first ++ rest)
+    × (AreLines mib plan.letters first text ⊎ IsWholeText mib plan rows text)
+    × TakesFront before text after
+
+-- the whole text is
+abbrev pub IsWholeWritten : Mib → Plan → (rows : List VarBind) → (before after : Stream) → Type 0
+IsWholeWritten mib plan rows before after =
+    (text : List ℕ) × IsWholeText mib plan rows text × (after ≡ extended before text)
+
 -- It was reported that memory ran out, and before that the modules' warnings, if it was later: of
 -- each a front where standard error failed.
 abbrev pub IsOutOfMemory : List Warning → (err_before err_after : Stream) → Type 0
@@ -62,13 +74,9 @@ pub record WritesRows (words : AskWords) (files : Holdings) (rows : List VarBind
     : Type 0 where
   -- Whatever fails, a front of the lines of the first rows is written, or of the whole text, and
   -- nothing else.
-  pub front_written : (first : List VarBind) × (rest : List VarBind) × (text : List ℕ)
-      × (rows ≡ first ++ rest)
-      × (AreLines ask.mib ask.plan.letters first text ⊎ IsWholeText ask.mib ask.plan rows text)
-      × TakesFront before text after
+  pub front_written : IsFrontWritten ask.mib ask.plan rows before after
   -- At status 0 the whole text is.
-  pub all_written_at_status_0 : status ≡ 0
-      → (text : List ℕ) × IsWholeText ask.mib ask.plan rows text × (after ≡ extended before text)
+  pub all_written_at_status_0 : status ≡ 0 → IsWholeWritten ask.mib ask.plan rows before after
   -- What is feasible ends at status 0, unless the output fails or memory runs out.
   pub ends_at_status_0 : IsFeasible ask.plan ask.view
       → (status ≡ 0) ⊎ IsMishap ask.warnings before after err_before err_after status

@@ -1,5 +1,6 @@
 pub mod Answer
 pub mod Asking
+pub mod BothEnds
 pub mod Choosing
 pub mod Chosen
 pub mod Done

@@ -55,17 +55,17 @@ abbrev pub IsShown : (Facts : (given refused : List VarBind) → WalkEnd → Typ
 IsShown Facts mib plan agent before after fault =
     IsPrinted Facts mib plan.letters (counts_in plan.question) agent before after fault
 
--- a link was opened to a host and port, the network counted no fault, and else nothing changed
+-- one link was opened to a host and port, the network counted no fault, and else nothing changed
 pub record HasOpened {N V D : Type 0} (net : Network N V D) (host : List ℕ) (port seconds : ℕ)
     (before after : Seen N) : Type 0 where
   pub link : V
-  pub opened : net.opens before.links host port seconds link
+  pub opened : net.opens before.links host port seconds link after.links
   pub count : net.fault_count after.links ≡ net.fault_count before.links
   pub unchanged : after ≡ record before { links = after.links }
 
 -- What a job wrote by the names and types of its modules, and why it wasn't done, if it wasn't.
--- Where no agent is reached, or the agent is over a table, no link is opened. What can't be sent
--- isn't asked.
+-- Where no agent is reached, or the agent is over a table, the network is left as it was. What
+-- can't be sent isn't asked.
 pub data IsOutcomeBy {N V D : Type 0} (net : Network N V D) (wire : LinkFacts V) (words : AskWords)
     (mib : Mib) (before after : Seen N) (fault : Option Fault) : Type 0 where
   refused : (why : Fault) → IsLateRefusal words before.files mib why → after ≡ before
@@ -84,16 +84,18 @@ pub data IsOutcomeBy {N V D : Type 0} (net : Network N V D) (wire : LinkFacts V)
       fault
       → after ≡ record before { out = after.out }
       → IsOutcomeBy net wire words mib before after fault
-  -- no link was opened, and the network counted why
+  -- a call of the network failed, which it counted, and nothing was printed
   not_linked : (plan : Plan) (host : List ℕ) (port : ℕ) → IsPlanFor words before.files mib plan
-      → plan.agent ≡ udp host port
+      → plan.agent ≡ udp host port → net.fails before.links after.links
       → HasRisen (net.fault_count before.links) (net.fault_count after.links)
       → after.out ≡ before.out → fault ≡ Some (ended words.asking.agent ending.Link)
       → IsOutcomeBy net wire words mib before after fault
+  -- one link was opened, and asked over
   asked_over : (plan : Plan) (host : List ℕ) (port : ℕ) → IsPlanFor words before.files mib plan
       → plan.agent ≡ udp host port → CanBeSent plan.question
       → IsShown
-      (HasFacts (net.opens before.links host port words.asking.seconds) wire
+      (HasFacts
+      (λ link. net.opens before.links host port words.asking.seconds link after.links) wire
       (words.asking.retries + 1) plan) mib plan words.asking.agent before.out after.out fault
       → net.fault_count after.links ≡ net.fault_count before.links
       → IsOutcomeBy net wire words mib before after fault

@@ -5,7 +5,7 @@ ghost use Rattle.snmp_words.specs.Words.{AreFaulty, StateJob, Stated, texts_at};
 ghost use Rattle.snmp_tools.specs.Done.{IsJobDone};
 ghost use Rattle.snmp_tools.specs.Seen.{seen};
 ghost use Rattle.snmp_tools.specs.TableWalk.{HoldsTableFile, PrintsRows, table_walk};
-ghost use Rattle.snmp_tools.specs.Usage.{AreFaultless, IsHelpOrMistake, PrintsHelp, ReportsOnly};
+ghost use Rattle.snmp_tools.specs.Usage.{AreFaultless, IsHelpOrMistake, PrintsHelp};
 
 use crate::error_output::ErrorOutput;
 use crate::job::run_job;
@@ -43,16 +43,11 @@ pub fn tool<F: ModuleFiles<E>, L: Links, O: Output, E: ErrorOutput>(
         → IsJobDone L.Links L.Wire.Link (F.loads files.now) job
         (seen (F.text_at files.now) links.old (O.stream out.old) (E.stream err.old))
         (seen (F.text_at files.now) links.new (O.stream out.new) (E.stream err.new)) result }
-    // Words without a fault that state no job, if there are any, are refused for want of memory.
-    ensures unstated { AreFaultless (texts_at words.now)
-        → ((job : Stated) → StateJob (texts_at words.now) job → ⊥)
-        → ReportsOnly (codes "Out of memory.\n") (O.stream out.old) (O.stream out.new)
-        (E.stream err.old) (E.stream err.new) result }
     // Words with a fault give status 1 and a message, or ask for help or the version, which is
-    // printed.
+    // printed. The network stays as it was.
     ensures help_or_mistake { AreFaulty (texts_at words.now)
-        → IsHelpOrMistake (texts_at words.now) (O.stream out.old) (O.stream out.new)
-        (E.stream err.old) (E.stream err.new) result }
+        → (links.new ≡ links.old) × IsHelpOrMistake (texts_at words.now)
+        (O.stream out.old) (O.stream out.new) (E.stream err.old) (E.stream err.new) result }
 {
     table_walks();
     one_job();

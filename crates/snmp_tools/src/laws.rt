@@ -1,20 +1,29 @@
 //! Laws of the words and of what is promised of them, as calls that do nothing.
-ghost use Rattle.std.specs.Prelude.{◌≡◌, ℕ, List, false, true};
+ghost use Rattle.std.specs.Prelude.{◌≡◌, ℕ, List, [], false, true};
 ghost use Rattle.std.specs.Str.Lines.{lines};
 ghost use Rattle.snmp_io.specs.Files.{Holdings};
 ghost use Rattle.snmp_io.specs.Output.{Stream};
 ghost use Rattle.snmp_words.specs.Command.{is_taken};
-ghost use Rattle.snmp_words.specs.Words.{StateJob, snmpwalk};
+ghost use Rattle.snmp_words.specs.Words.{ServeWords, StateJob, WalkWords, snmpd, snmpwalk};
+ghost use Rattle.snmp_wire.specs.Message.{VarBind};
+ghost use Rattle.snmp_tools.specs.BothEnds.{IsAskInNumbers, IsAskOfServer, IsWalkInNumbers};
+ghost use Rattle.snmp_tools.specs.BothEnds.{PrintsServed, ServesInTurn};
+ghost use Rattle.snmp_tools.specs.Done.{IsAskDone};
 ghost use Rattle.snmp_tools.specs.Headline.{WritesRowsOf};
 ghost use Rattle.snmp_tools.specs.Planned.{numeric_walk};
-ghost use Rattle.snmp_tools.specs.Question.{of_walk};
+ghost use Rattle.snmp_tools.specs.Question.{AskWords, of_walk};
+ghost use Rattle.snmp_tools.specs.Seen.{Seen};
+ghost use Rattle.snmp_tools.specs.Serving.{IsServeRun};
 ghost use Rattle.snmp_tools.specs.TableWalk.{HoldsTableFile, PrintsRows, table_walk};
 
+use crate::error_output::ErrorOutput;
+use crate::loading::{ModuleFiles, one_list_of_modules};
 use crate::table_names::names_are_meant;
-use smi_show::numbers_are_read;
-use smi_tree::bare_tree;
-use snmp_agent::{one_answer, table_of_lines, unmarked_table};
-use snmp_walk::{instances_below, short_rows_have_room};
+use smi_show::{numbers_are_read, one_meaning};
+use smi_tree::{bare_tree, one_tree};
+use snmp_agent::{Endpoint, one_answer, one_table, table_of_lines, unmarked_table};
+use snmp_net::Links;
+use snmp_walk::{honest_networks, instances_below, short_rows_have_room};
 use snmp_words::walks_are_taken;
 
 /// The command takes the words of a walk of a table file whose root is in numbers, and from what is
@@ -40,4 +49,67 @@ pub(crate) fn table_walks()
     instances_below();
     one_answer();
     short_rows_have_room();
+}
+
+/// What a walk or a Get prints where `snmpd` serves the table of a file to it, by what
+/// [`tool`](crate::tool) promises of the two command lines: a beginning of the lines of just what
+/// the question gives of that file's table, in order, and at status 0 all of them, where the
+/// network between makes nothing up and alters nothing.
+///
+/// It may lose, repeat and delay datagrams and bring them in another order, as UDP may (RFC 768),
+/// and other clients may ask snmpd. `L` opens the link of the walk, and `M` the door of snmpd, at
+/// which `D` receives and sends. AGENT and `--listen` are joined by one thing alone: what happened
+/// at the two ends is one run of the network.
+///
+/// What the files hold is known, and snmpd has ended: where it served, it has served all its turns.
+/// Nothing is said of when status 0 comes. That snmpd serves in turn at its doors is what `M` says
+/// of them. Of the machine's own network nothing is known of its turns (its `serves` says nothing),
+/// so this is about networks that say what they serve, for example those in memory.
+pub fn served_tables<
+    F: ModuleFiles<E>,
+    E: ErrorOutput,
+    L: Links,
+    G: ModuleFiles<H>,
+    H: ErrorOutput,
+    M: Links,
+    D: Endpoint,
+>()
+    ensures printed { (endpoint_at : M.Door → D) (files : F) (words : AskWords)
+        (before after : Seen L) (status : ℕ) (server_files : G) (serving : ServeWords)
+        (server_before server_after : Seen M) (server_status : ℕ) (rows : List VarBind)
+        (ask : IsAskOfServer words before.files serving server_before.files rows)
+        → ServesInTurn M.Links endpoint_at D.happens
+        → IsAskDone L.Links L.Wire.Link (F.loads files) words before after status
+        → IsServeRun M.Links (G.loads server_files) serving server_before server_after
+        server_status
+        → PrintsServed L.Links L.Wire.Link M.Links endpoint_at D.happens words before after
+        status serving server_before server_after server_status rows ask }
+{
+    instances_below();
+    one_answer();
+    one_table();
+    table_of_lines();
+    one_list_of_modules();
+    one_tree();
+    one_meaning();
+    honest_networks::<D>();
+}
+
+/// What `snmpwalk -On AGENT ROOT` asks for, where `snmpd` serves a table file to it: what the
+/// file's lines state below the root, or where that is nothing, what a Get of the root gives. What
+/// is written of these rows, by [`served_tables`], is the line in numbers of each.
+pub fn served_walks_in_numbers()
+    ensures asked { (words : WalkWords) (files : Holdings) (serving : ServeWords)
+        (server_files : Holdings) (line : List (List ℕ)) (root text : List ℕ)
+        → IsWalkInNumbers words root → StateJob line (snmpd serving) → serving.mibs ≡ []
+        → HoldsTableFile server_files serving.table root text
+        → IsAskInNumbers words files serving server_files (lines text) root }
+{
+    numbers_are_read();
+    names_are_meant();
+    bare_tree();
+    table_of_lines();
+    unmarked_table();
+    instances_below();
+    one_answer();
 }

@@ -44,6 +44,9 @@ pub use entry::tool;
 pub use error_output::ErrorOutput;
 pub use failure::Failure;
 pub use job::run_job;
+pub use laws::{served_tables, served_walks_in_numbers};
 pub use snmp_io::{FileFault, Files, Output, OutputFault};
 pub use snmp_net::Links;
-pub use snmp_words::{Asking, GetJob, Job, ServeJob, UsageError, WalkJob, read_words};
+pub use snmp_words::{
+    Asking, GetJob, Job, ServeJob, TranslateJob, UsageError, WalkJob, read_words,
+};

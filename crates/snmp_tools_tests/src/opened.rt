@@ -94,11 +94,13 @@ impl<'a> Links for Counting<'a> {
 
     type Door = NoDoor;
 
-    ghost opens = { λ _ _ _ _ _. Unit {0} };
+    ghost opens = { λ _ _ _ _ _ _. Unit {0} };
 
-    ghost binds = { λ _ _ _ _. Unit {0} };
+    ghost binds = { λ _ _ _ _ _. Unit {0} };
 
-    ghost serves = { λ _ _ _ _. Unit {0} };
+    ghost serves = { λ _ _ _ _ _ _ _. Unit {0} };
+
+    ghost fails = { λ _ _. Unit {0} };
 
     ghost fault_count = { λ links. links.fault_count };
 

@@ -37,31 +37,42 @@ IsServedAndCounted Serves words view before after fault =
     × (served.replies + served.dropped + served.idle + served.faults ≡ words.turns)
     × IsTextPrinted before (counts_line served) after fault
 
--- the place isn't printed, or it is, and the table is served
-abbrev pub IsServing : (Serves : Agent → ℕ → Served → Type 0) → ServeWords → MibView
-    → (before after : Stream) → Option Fault → Type 0
-IsServing Serves words view before after fault =
-    StopsAtText before (listening_line words.listen) after fault
+-- the place isn't printed, and nothing was served; or it is, and then the table is served
+abbrev pub IsServing : (Serves : Agent → ℕ → Served → Type 0) → (Unserved : Type 0) → ServeWords
+    → MibView → (before after : Stream) → Option Fault → Type 0
+IsServing Serves Unserved words view before after fault =
+    (StopsAtText before (listening_line words.listen) after fault × Unserved)
     ⊎ IsServedAndCounted Serves words view (extended before (listening_line words.listen)) after
     fault
 
+-- what may be served at the door by one call, which leads from one state of the network to
+-- another
+abbrev pub ServesAt : {N V D : Type 0} → Network N V D → (before : N) → D → (after : N) → Agent → ℕ
+    → Served → Type 0
+ServesAt {N} {V} {D} net before door after agent turns served =
+    (later : D) × net.serves before door agent turns served after later
+
 -- What snmpd did by the nodes of its modules, for this port of this host, and why it stopped, if
--- it stopped before its turns were done. Where the table file is refused, no door is opened. The
--- network's count of faults rises only where a door can't be opened.
+-- it stopped before its turns were done. Where the table file is refused, the network is left as
+-- it was. Its count of faults rises only where a call of it failed.
 pub data IsServedBy {N V D : Type 0} (net : Network N V D) (words : ServeWords) (host : List ℕ)
     (port : ℕ) (naming : Naming) (before after : Seen N) (fault : Option Fault) : Type 0 where
   refused : (why : Fault) → IsTableRefusal words before.files naming why → after ≡ before
       → fault ≡ Some why → IsServedBy net words host port naming before after fault
-  -- no door was opened, the network counted why, and else nothing changed
+  -- a call of the network failed, which it counted, and else nothing changed
   not_bound : (view : MibView) → HasTable before.files naming words.table view
+      → net.fails before.links after.links
       → HasRisen (net.fault_count before.links) (net.fault_count after.links)
       → after ≡ record before { links = after.links }
       → fault ≡ Some (ended words.listen ending.Link)
       → IsServedBy net words host port naming before after fault
-  bound : (view : MibView) (door : D) → HasTable before.files naming words.table view
-      → net.binds before.links host port door
+  -- one door was opened, and once the place was printed, the table was served at it
+  bound : (view : MibView) (door : D) (opened : N)
+      → HasTable before.files naming words.table view
+      → net.binds before.links host port door opened
       → net.fault_count after.links ≡ net.fault_count before.links
-      → IsServing (net.serves door) words view before.out after.out fault
+      → IsServing (ServesAt net opened door after.links) (after.links ≡ opened) words view
+      before.out after.out fault
       → IsServedBy net words host port naming before after fault
 
 -- What snmpd did and, of the warnings of its modules, wrote on standard error, and why it stopped,

@@ -7,7 +7,7 @@ ghost use Rattle.snmp_words.specs.Words.{serve_words};
 ghost use Rattle.snmp_tools.specs.Message.{fault_of, outcome_of};
 ghost use Rattle.snmp_tools.specs.Seen.{seen};
 ghost use Rattle.snmp_tools.specs.agent.Outcome.{IsServeOutcome, IsServedBy, IsServing};
-ghost use Rattle.snmp_tools.specs.agent.Outcome.{counts_line, listening_line};
+ghost use Rattle.snmp_tools.specs.agent.Outcome.{ServesAt, counts_line, listening_line};
 ghost use Rattle.snmp_tools.specs.agent.Service.{ServiceFails};
 
 use crate::error_output::ErrorOutput;
@@ -89,7 +89,7 @@ fn serve_by<'a, T: NameTree, F: Files, L: Links, O: Output>(
     serve_at(alloc, job, &mut door, &table, links, out)
 }
 
-// Serves a table at a door.
+// Serves a table at a door, once, after the line that says where.
 fn serve_at<'a, L: Links, O: Output>(
     alloc: Global,
     job: &ServeJob<'a>,
@@ -99,7 +99,8 @@ fn serve_at<'a, L: Links, O: Output>(
     out: &mut O,
 ) -> Result<(), Failure<'a>>
     requires { length job.now.community.now ≤ 255 }
-    ensures served { IsServing (L.serves door.old) (serve_words job.now) table.now
+    ensures served { IsServing (ServesAt L.Links links.old door.old links.new)
+        (links.new ≡ links.old) (serve_words job.now) table.now
         (O.stream out.old) (O.stream out.new) (outcome_of result) }
     ensures count { L.fault_count links.new ≡ L.fault_count links.old }
 {

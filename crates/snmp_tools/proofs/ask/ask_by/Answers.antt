@@ -58,7 +58,7 @@ pub returns-in-Err : goal.returns-in-Err
 returns-in-Err g c = λ err.
     not_linked _ c.in-Udp.at.host.now c.in-Udp.at.port
     record { known = c.requires.known; asked = c.in_ok-plan.ensures.asked; only = c.in_ok-plan.ensures.only }
-    (ap address_of c.in-Udp.is) c.in-Err.ensures.fault refl refl
+    (ap address_of c.in-Udp.is) c.in-Err.ensures.failed c.in-Err.ensures.fault refl refl
 
 pub returns : goal.returns
 returns g c = λ err.

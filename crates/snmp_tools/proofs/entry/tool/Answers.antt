@@ -23,9 +23,6 @@ pub returns-in-Ok-clause-done : goal.returns-in-Ok-clause-done
 returns-in-Ok-clause-done g c = λ job taken stated.
     of_words g.L.Links g.L.Wire.Link (g.F.ModuleFiles.loads c.args.files.now) _ _ _ c.one_job.ensures _ _ job c.in-Ok.ensures.job stated c.run_job.ensures
 
-pub returns-in-Ok-clause-unstated : goal.returns-in-Ok-clause-unstated
-returns-in-Ok-clause-unstated g c = λ faultless none. absurd (none _ c.in-Ok.ensures.job)
-
 pub returns-in-Err-Memory-clause-done : goal.returns-in-Err-Memory-clause-done
 returns-in-Err-Memory-clause-done g c = λ job taken stated.
     undone g.L.Links g.L.Wire.Link (g.F.ModuleFiles.loads c.args.files.now) (g.F.Files.text_at c.args.files.now) c.args.links.now
@@ -58,6 +55,5 @@ returns-in-Err-Parse-default-false g c =
     record {
       rows_printed = λ path root lines words holds. absurd (refuted (inl (ap is_taken words ∙ c.table_walks.ensures.taken path root)));
       done = λ job faultless stated. absurd (refuted faultless);
-      unstated = λ faultless none_stated. absurd (refuted faultless);
-      help_or_mistake = λ faulty. inr (inl ((at.text, mistake), (c.as_bytes.result.now, (refl, c.tell.ensures, refl))));
+      help_or_mistake = λ faulty. (refl, inr (inl ((at.text, mistake), (c.as_bytes.result.now, (refl, c.tell.ensures, refl)))));
     }

@@ -1,0 +1,412 @@
+-- What is printed of a table file that snmpd serves, where the network between makes nothing up.
+use Rattle.std.proofs.Common.{◌≡◌, ◌≢◌, ◌⊎◌, inl, inr, ◌++◌, ◌+◌, ◌≤◌, ℕ, zero, suc, Bool, true, false, cond, List, [], ◌∷◌, length}
+use Rattle.std.proofs.Common.{Option, Some, None, refl, sym, ◌∙◌, ap, subst, arith, append-nil}
+use Rattle.std.specs.Prelude.{MatchOption, codes, drop, filter, if◌then◌else◌}
+use Rattle.std.specs.Str.{bytes_eq}
+use Rattle.std.specs.Str.Lines.{lines}
+use Rattle.smi_names.specs.declared.nodes.warning.Warning.{Warning}
+use Rattle.smi_show.specs.name.Naming.{Naming}
+use Rattle.smi_tree.specs.Naming.{naming_of}
+use Rattle.smi_tree.specs.Tree.{Contents}
+use Rattle.snmp_agent.specs.Event.{Event, InTurn}
+use Rattle.snmp_agent.specs.Serving.{AreTurns}
+use Rattle.snmp_agent.specs.table.Exact.{HasOne}
+use Rattle.snmp_agent.specs.table.Format.{Names}
+use Rattle.snmp_agent.specs.table.Listing.{variables}
+use Rattle.snmp_agent.specs.table.Stated.{AreTableBy, IsTableOf}
+use Rattle.snmp_agent.specs.table.Table.{IsGet, IsMibView, IsRow, MibView}
+use Rattle.snmp_io.specs.Files.{Holdings, Holds, HoldsIfKnown, MayHold}
+use Rattle.snmp_io.specs.Output.{TakesFront, extended}
+use Rattle.snmp_io.specs.Streams.{nothing_taken}
+use Rattle.snmp_net.specs.Address.{table, udp}
+use Rattle.snmp_net.specs.declared.links.Links.{Ghosts as Network}
+use Rattle.snmp_oid.specs.Identifier.{IsBelow, Precedes, wire}
+use Rattle.snmp_walk.specs.Facts.{IsDone, walk_at}
+use Rattle.snmp_walk.specs.Link.{Agents, AreLawful, OneOf}
+use Rattle.snmp_walk.specs.Names.{comes_after}
+use Rattle.snmp_walk.specs.Network.{AreReplies, AreServed, Happening, IsFaithful, of_agents, of_walk}
+use Rattle.snmp_walk.specs.Standing.{CountsAll}
+use Rattle.snmp_walk.specs.Tries.{Happens}
+use Rattle.snmp_walk.specs.Walk.{or_only, rest_of, rows_below, rows_named, walk_from, walk_of}
+use Rattle.snmp_walk.specs.declared.end.WalkEnd.{WalkEnd}
+use Rattle.snmp_walk.specs.declared.end.WalkEnd.TheVariants as ending
+use Rattle.snmp_walk.specs.declared.link.Link.{Ghosts as LinkFacts}
+use Rattle.snmp_walk.specs.declared.mode.Mode.{Mode}
+use Rattle.snmp_walk.specs.declared.mode.Mode.TheVariants as mode
+use Rattle.snmp_wire.specs.Message.{VarBind}
+use Rattle.snmp_words.specs.Words.{ServeWords, StateJob, Stated, StatesNumber, get_of_rows, readings, serve_of_rows, snmpbulkwalk, snmpd, snmpget}
+use Rattle.snmp_words.specs.Words.{snmptranslate, snmpwalk, stated_among, translate_of_rows, walk_of_rows}
+use Rattle.snmp_tools.specs.agent.Outcome as serve
+use Rattle.snmp_tools.specs.agent.Outcome.{IsServedBy, IsServeOutcome, listening_line}
+use Rattle.snmp_tools.specs.agent.Service.{IsPlaced, served_agent}
+use Rattle.snmp_tools.specs.agent.TableFile.{HasTable}
+use Rattle.snmp_tools.specs.loading.Loaded.{LoadFacts}
+use Rattle.snmp_tools.specs.Answer.{AreRowsOf, Counts, HasFacts, IsAskedOver, first_after, first_of as first_of_walk}
+use Rattle.snmp_tools.specs.BothEnds as ends
+use Rattle.snmp_tools.specs.BothEnds.{AreEndsOfOneRun, IsAskOfServer, IsAtAsker, IsAtServer, PrintsServed, ServesInTurn, events_of}
+use Rattle.snmp_tools.specs.Headline.{IsWholeText}
+use Rattle.snmp_tools.specs.Message.{Fault}
+use Rattle.snmp_tools.specs.Mib.{AreLoaded, Mib, mib_of}
+use Rattle.snmp_tools.specs.Outcome as outcome
+use Rattle.snmp_tools.specs.Outcome.{IsOutcome, IsOutcomeBy, IsRun, IsShown}
+use Rattle.snmp_tools.specs.Question.{AskFor, AskWords, IsPlanFor, Plan, Question, Walk, counts_in, names, subtree}
+use Rattle.snmp_tools.specs.Seen.{Seen}
+use Rattle.snmp_tools.specs.Serving.{IsServeRun}
+use Rattle.snmp_tools.specs.Start.{rows_given}
+use Rattle.snmp_tools.proofs.Asked.{begun_rows}
+use Rattle.snmp_tools.proofs.Outcomes.{IsFrontOf, finished, no_fault_at_0}
+use Rattle.snmp_tools.proofs.Plans.{OneList, OneTree, held_is, one_load, one_plan}
+use Rattle.snmp_tools.proofs.TableNames.{OneMeaning, one_look_up}
+use Rattle.snmp_tools.proofs.TableWalks.{BelowAreRows}
+
+-- ---- the greatest size that a command line states
+
+number_fits : (text : Option (List ℕ)) (n : ℕ)
+    → MatchOption text (n ≡ 1472) (λ t. StatesNumber 1 65507 t n ⊎ (((m : ℕ) → StatesNumber 1 65507 t m → ⊥) × (n ≡ 1472))) → n ≤ 65507
+number_fits None n e = omega (arith, e)
+number_fits (Some text) n (inl states) = states.to
+number_fits (Some text) n (inr (none, e)) = omega (arith, e)
+
+picked : {G : Type 0} (b : Bool) (x y : Option Stated) (job : Stated) → (x ≡ Some job → G) → (y ≡ Some job → G) → (if b then x else y) ≡ Some job → G
+picked true x y job f g e = f e
+picked false x y job f g e = g e
+
+module _ (words : ServeWords) (line : List (List ℕ)) (s : StateJob line (snmpd words)) where
+  -- what the words state where they name none of so many commands
+  abbrev later : ℕ → Option Stated
+  later k = stated_among (drop k (readings s.numbers)) (s.command, s.rows)
+
+  size_fits : words.max_size ≤ 65507
+  size_fits =
+      picked (bytes_eq s.command (codes "snmptranslate")) (Some (snmptranslate (translate_of_rows s.rows))) (later 1) (snmpd words)
+      (λ e. let no : ⊥ = cc in absurd no)
+      (picked (bytes_eq s.command (codes "snmpget")) (Some (snmpget (get_of_rows s.numbers s.rows))) (later 2) (snmpd words)
+      (λ e. let no : ⊥ = cc in absurd no)
+      (picked (bytes_eq s.command (codes "snmpwalk")) (Some (snmpwalk (walk_of_rows s.numbers s.rows))) (later 3) (snmpd words)
+      (λ e. let no : ⊥ = cc in absurd no)
+      (picked (bytes_eq s.command (codes "snmpbulkwalk")) (Some (snmpbulkwalk (walk_of_rows s.numbers s.rows))) (later 4) (snmpd words)
+      (λ e. let no : ⊥ = cc in absurd no)
+      (picked (bytes_eq s.command (codes "snmpd")) (Some (snmpd (serve_of_rows s.numbers s.rows))) None (snmpd words)
+      (λ e.
+      let is : serve_of_rows s.numbers s.rows ≡ words = cc in
+      subst (λ (w : ServeWords). w.max_size ≤ 65507) is
+      (number_fits _ (s.numbers (codes "size") 1472 1 65507) (s.are_numbers (codes "size") 1472 1 65507)))
+      (λ e. let no : ⊥ = cc in absurd no))))) s.stated
+
+-- ---- a walk that begins at its root
+
+all_pass : (test : VarBind → Bool) (rows : List VarBind) → ((row : VarBind) → OneOf rows row → test row ≡ true) → filter test rows ≡ rows
+all_pass test [] each = refl
+all_pass test (row ∷ more) each =
+    rw (each row (inl refl)) (ap (λ (s : List VarBind). row ∷ s) (all_pass test more (λ other one. each other (inr one))))
+
+kept : (b : Bool) (test : VarBind → Bool) (first : VarBind) (more : List VarBind) (row : VarBind) → test first ≡ b → (OneOf more row → test row ≡ true)
+    → OneOf (cond b (first ∷ more) more) row → test row ≡ true
+kept true test first more row is rest (inl same) = ap test same ∙ is
+kept true test first more row is rest (inr one) = rest one
+kept false test first more row is rest one = rest one
+
+passes : (test : VarBind → Bool) (rows : List VarBind) (row : VarBind) → OneOf (filter test rows) row → test row ≡ true
+passes test [] row one = absurd one
+passes test (first ∷ more) row one = kept (test first) test first (filter test more) row refl (passes test more row) one
+
+-- an instance below the root comes after the root as it is sent
+after_wire : (root o : List ℕ) → 3 ≤ length o → IsBelow o root → Precedes (wire root) o
+after_wire (a ∷ b ∷ root) o long below = inl below
+after_wire [] o long ([], some, e) = absurd (some refl)
+after_wire [] o long (x ∷ [], some, e) = let short : length o ≡ 1 = ap length e in absurd (omega (arith, long, short))
+after_wire [] o long (x ∷ y ∷ [], some, e) = let short : length o ≡ 2 = ap length e in absurd (omega (arith, long, short))
+after_wire [] o long (zero ∷ zero ∷ z ∷ rest, some, e) = inl (z ∷ rest, λ h. cc, e)
+after_wire [] o long (zero ∷ suc k ∷ z ∷ rest, some, e) =
+    inr record { front = 0 ∷ []; smaller = 0; larger = suc k; after = []; behind = z ∷ rest; this = refl; that = e; is_smaller = omega arith }
+after_wire [] o long (suc k ∷ y ∷ z ∷ rest, some, e) =
+    inr record { front = []; smaller = 0; larger = suc k; after = 0 ∷ []; behind = y ∷ z ∷ rest; this = refl; that = e; is_smaller = omega arith }
+after_wire (a ∷ []) o long ([], some, e) = absurd (some refl)
+after_wire (a ∷ []) o long (y ∷ [], some, e) = let short : length o ≡ 2 = ap length e in absurd (omega (arith, long, short))
+after_wire (a ∷ []) o long (zero ∷ z ∷ rest, some, e) = inl (z ∷ rest, λ h. cc, e)
+after_wire (a ∷ []) o long (suc k ∷ z ∷ rest, some, e) =
+    inr record { front = a ∷ []; smaller = 0; larger = suc k; after = []; behind = z ∷ rest; this = refl; that = e; is_smaller = omega arith }
+
+-- which rows are left below the root after a name
+abbrev pub LeftAreRows : Type 0
+LeftAreRows = (view : MibView) (root o : List ℕ) (p : VarBind) → IsMibView view
+    → (OneOf (rest_of root o (variables view)) p → IsRow view p × IsBelow p.name root × Precedes o p.name)
+    × (IsRow view p × IsBelow p.name root × Precedes o p.name → OneOf (rest_of root o (variables view)) p)
+
+-- the rows given are a front of those that a question asks for, and all of them where that is done
+record GivesRows (question : Question) (view : MibView) (given refused : List VarBind) (end : WalkEnd) : Type 0 where
+  front : (rows : List VarBind) → AreRowsOf question view rows → (more : List VarBind) × (rows ≡ (given ++ refused) ++ more)
+  whole : (rows : List VarBind) → AreRowsOf question view rows → IsDone end → given ≡ rows
+
+-- what happened at a link, and what was given where replies of the agent of one table are all that came
+record Heard {W : Type 0} (facts : LinkFacts W) (link later : W) (question : Question) (view : MibView) (given refused : List VarBind) (end : WalkEnd)
+    (events : List (Event (Unit {0}))) : Type 0 where
+  in_turn : InTurn (Happens facts) link events later
+  counted : counts_in question ≡ true → Counts end (length given)
+  replied : (agents : Agents) → agents.tables ≡ view ∷ [] → AreLawful agents → AreReplies agents events → GivesRows question view given refused end
+
+count_is : (end : WalkEnd) (given : List VarBind) → CountsAll end given → Counts end (length given)
+count_is (ending.Done n) given e = e
+count_is end given e = tt
+
+module _ (below : BelowAreRows) (left : LeftAreRows) (one_get : (view : MibView) (o : List ℕ) → HasOne (IsGet view o)) (view : MibView)
+    (good : IsMibView view) where
+  is_after : (root : List ℕ) (p : VarBind) → OneOf (rows_below root (variables view)) p → comes_after (wire root) p.name ≡ true
+  is_after root p one =
+      let is = (below view root p good).0 one in
+      let behind : Precedes (wire root) p.name = after_wire root p.name (good.names p is.0).long is.1 in
+      passes (λ row. comes_after (wire root) row.name) (rows_below root (variables view)) p ((left view root (wire root) p good).1 (is.0, is.1, behind))
+
+  rest_is : (root : List ℕ) → rest_of root (wire root) (variables view) ≡ rows_below root (variables view)
+  rest_is root = all_pass (λ row. comes_after (wire root) row.name) (rows_below root (variables view)) (is_after root)
+
+  from_root : (m : Mode) (root : List ℕ) (got : VarBind) → walk_from m root (wire root) got (variables view) ≡ walk_of m root got (variables view)
+  from_root mode.Plain root got = ap (or_only got) (rest_is root)
+  from_root mode.Include root got = ap (λ (s : List VarBind). rows_named (wire root) (variables view) ++ s) (rest_is root)
+  from_root mode.NoLast root got = rest_is root
+
+  -- what the walk of a question gives of the table
+  gives : (after : Option (List ℕ)) (community : List ℕ) (w : Walk) (got : VarBind)
+      → walk_at (first_after after community w) view got ≡ rows_given after w got (variables view)
+  gives None community w got = from_root w.mode w.root got
+  gives (Some after) community w got = refl
+
+  module _ {W : Type 0} (facts : LinkFacts W) (link later : W) (tries : ℕ) (plan : Plan) (given refused : List VarBind) (end : WalkEnd) where
+    heard : (question : Question) (run : IsAskedOver facts link later tries plan question given refused end)
+        → Heard facts link later question view given refused end (events_of facts link later tries plan question given refused end run)
+    heard (names os) run = record {
+      in_turn = run.happened.in_turn;
+      counted = λ e. let no : ⊥ = cc in absurd no;
+      replied = λ agents single lawful replies.
+          let got = run.happened.replied agents lawful replies in
+          record { front = λ rows are. got.beginning view rows single are; whole = λ rows are done. got.all_at_done view rows single are done };
+    }
+    heard (subtree w) run = record {
+      in_turn = run.happened.in_turn;
+      counted = λ e. count_is end given run.ends.counted;
+      replied = λ agents single lawful replies.
+          let walked = run.happened.replied agents lawful replies in
+          let asked : List ℕ = (first_of_walk plan.community w).asked in
+          record {
+            front = λ rows are.
+                let b = begun_rows w.after plan.community w view rows asked are refl (one_get view asked) in
+                let rest = walked.beginning view b.0 single b.1 in
+                (rest.0, b.2 ∙ sym (gives w.after plan.community w b.0) ∙ rest.1);
+            whole = λ rows are done.
+                let b = begun_rows w.after plan.community w view rows asked are refl (one_get view asked) in
+                walked.all_at_done view b.0 single b.1 done ∙ gives w.after plan.community w b.0 ∙ sym b.2;
+          };
+    }
+
+-- ---- the table that is served
+
+module _ (one_table : (names : Names) (ls : List (List ℕ)) (v w : MibView) → IsTableOf names ls v → IsTableOf names ls w → v ≡ w) where
+  -- a file that is known to hold a text states one table
+  one_view : (naming : Naming) (files : Holdings) (path text : List ℕ) (v w : MibView) → Holds files path text → HasTable files naming path v
+      → HasTable files naming path w → v ≡ w
+  one_view naming files path text v w held a b =
+      let looked : a.0 ≡ b.0 = one_look_up naming a.0 b.0 a.1 b.1 in
+      let same : a.2 ≡ b.2 = held_is (files path) a.2 text a.3 held ∙ sym (held_is (files path) b.2 text b.3 held) in
+      one_table b.0 (lines b.2) v w
+      (subst (λ (n : Names). IsTableOf n (lines b.2) v) looked (subst (λ (t : List ℕ). IsTableOf a.0 (lines t) v) same a.4)) b.4
+
+  is_view : ((names : Names) (ls : List (List ℕ)) → AreTableBy names ls → (view : MibView) × IsTableOf names ls view × IsMibView view)
+      → (naming : Naming) (files : Holdings) (path : List ℕ) (view : MibView) → HasTable files naming path view → IsMibView view
+  is_view tables naming files path view has =
+      let stated = tables has.0 (lines has.2) (has.4.0, has.4.1, has.4.2.good) in
+      subst IsMibView (one_table has.0 (lines has.2) stated.0 view stated.1 has.4) stated.2
+
+-- ---- the end of snmpd
+
+-- the agent that it serves
+abbrev server_agents : ServeWords → MibView → Agents
+server_agents words view = record { tables = view ∷ []; community = words.community; max_size = words.max_size }
+
+module _ {N V D P E : Type 0} (net : Network N V D) (endpoint_at : D → E) (happens : E → Event P → E → Type 0) (words : ServeWords) where
+  are_served : (view : MibView) (before after : Seen N) (status : ℕ) (events : List (Event P)) (run : List (Happening P)) → of_agents run ≡ events
+      → IsAtServer net endpoint_at happens words view before after status events → AreServed (server_agents words view) run
+  are_served view before after status events run same (ends.unserved none front not_0) =
+      record { services = []; each = tt; in_turn = same ∙ none }
+  are_served view before after status events run same (ends.served at door later opened counts fault warned bound made turns printed told) = record {
+    services = record { view = view; turns = words.turns; served = counts; events = events } ∷ [];
+    each = (inl refl, turns.0, tt);
+    in_turn = same ∙ sym (append-nil events);
+  }
+
+  module _ (one_table : (names : Names) (ls : List (List ℕ)) (v w : MibView) → IsTableOf names ls v → IsTableOf names ls w → v ≡ w) (one_list : OneList)
+      (one_tree : OneTree) (serves : ServesInTurn net endpoint_at happens) (Loads : LoadFacts) (before after : Seen N) (status : ℕ)
+      (run : IsServeRun net Loads words before after status) (nodes : Mib) (warnings : List Warning)
+      (known : AreLoaded (Holds before.files) words.mibs nodes warnings) (text : List ℕ) (held : Holds before.files words.table text) (view : MibView)
+      (has : HasTable before.files nodes.naming words.table view) where
+    abbrev End : Seen N
+    End = record after { err = run.warned }
+
+    abbrev AtServer : Type 0
+    AtServer = (events : List (Event P)) × IsAtServer net endpoint_at happens words view before after status events
+
+    not_0 : (why : Fault) → run.fault ≡ Some why → status ≢ 0
+    not_0 why is zero_status =
+        let none : run.fault ≡ None = no_fault_at_0 run.fault run.warned after.err status run.reported zero_status in let no : ⊥ = cc in no
+
+    not_served : (why : Fault) → TakesFront before.out (listening_line words.listen) after.out → run.fault ≡ Some why → AtServer
+    not_served why front is = ([], ends.unserved refl front (not_0 why is))
+
+    nothing_told : (why : Fault) → after.out ≡ before.out → run.fault ≡ Some why → AtServer
+    nothing_told why same is = not_served why (nothing_taken before.out after.out (listening_line words.listen) same) is
+
+    module _ (at : IsPlaced words) (tree : Contents) (nodes_are : nodes ≡ mib_of tree) where
+      view_is : (other : MibView) → HasTable before.files (naming_of tree) words.table other → other ≡ view
+      view_is other states =
+          one_view one_table (naming_of tree) before.files words.table text other view held states
+          (subst (λ (m : Mib). HasTable before.files m.naming words.table view) nodes_are has)
+
+      by_door : IsServedBy net words at.host at.port (naming_of tree) (record before { err = run.warned }) End run.fault → AtServer
+      by_door (serve.refused why refusal same is) = nothing_told why (ap (λ (s : Seen N). s.out) same) is
+      by_door (serve.not_bound other states fails risen same is) = nothing_told _ (ap (λ (s : Seen N). s.out) same) is
+      by_door (serve.bound other door opened states bound same (inl (inl (nothing, is), left))) = nothing_told _ nothing is
+      by_door (serve.bound other door opened states bound same (inl (inr (fails, is), left))) = not_served _ fails.begun is
+      by_door (serve.bound other door opened states bound same (inr (counts, (later, made), adds_up, printed))) =
+          let s = serves opened door (served_agent words other) words.turns counts after.links later made in (
+            s.0,
+            ends.served at door later opened counts run.fault run.warned bound
+                (subst (λ (v : MibView). net.serves opened door (served_agent words v) words.turns counts after.links later) (view_is other states) made)
+                (subst (λ (v : MibView). AreTurns (served_agent words v) words.turns counts s.0) (view_is other states) s.1.0, s.1.1) printed run.reported,
+          )
+
+    at_server : IsServeOutcome net Loads words before End run.fault → AtServer
+    at_server (serve.not_loaded why refusal same is) = nothing_told why (ap (λ (s : Seen N). s.out) same) is
+    at_server (serve.loaded at tree load made by) =
+        let loaded : AreLoaded (MayHold before.files) words.mibs (mib_of tree) load.warnings =
+        record { modules = load.modules; read = load.read; tree = tree; loads = load.loads; is = refl } in
+        let same = one_load one_list one_tree before.files words.mibs nodes (mib_of tree) warnings load.warnings known loaded in
+        by_door at tree same.0 by
+
+-- ---- both ends
+
+module _ (below : BelowAreRows) (left : LeftAreRows) (one_get : (view : MibView) (o : List ℕ) → HasOne (IsGet view o))
+    (one_table : (names : Names) (ls : List (List ℕ)) (v w : MibView) → IsTableOf names ls v → IsTableOf names ls w → v ≡ w)
+    (tables : (names : Names) (ls : List (List ℕ)) → AreTableBy names ls → (view : MibView) × IsTableOf names ls view × IsMibView view)
+    (one_list : OneList) (one_tree : OneTree) (one : OneMeaning) {N V C M X D P E : Type 0} (net : Network N V C) (wire : LinkFacts V) (Loads : LoadFacts)
+    (server : Network M X D) (endpoint_at : D → E) (happens : E → Event P → E → Type 0) (ServerLoads : LoadFacts)
+    (honest : (agents : Agents) (walker : P) (run : List (Happening P)) → IsFaithful walker run → AreServed agents run → AreReplies agents (of_walk run))
+    (serves : ServesInTurn server endpoint_at happens) (words : AskWords) (before after : Seen N) (status : ℕ) (serving : ServeWords)
+    (server_before server_after : Seen M) (server_status : ℕ) (rows : List VarBind) (ask : IsAskOfServer words before.files serving server_before.files rows)
+    (run : IsRun net wire Loads words before after status) (serve_run : IsServeRun server ServerLoads serving server_before server_after server_status) where
+  abbrev Both : Type 0
+  Both = PrintsServed net wire server endpoint_at happens words before after status serving server_before server_after server_status rows ask
+
+  abbrev AskEnd : Seen N
+  AskEnd = record after { err = run.warned }
+
+  abbrev Agent : Agents
+  Agent = server_agents serving ask.view
+
+  has_table : HasTable server_before.files ask.nodes.naming serving.table ask.view
+  has_table = (
+    ask.names,
+    ask.named,
+    ask.text,
+    subst (λ (h : Option (Option (List ℕ))). HoldsIfKnown h (Some ask.text)) (sym ask.held) refl,
+    ask.table,
+  )
+
+  good_view : IsMibView ask.view
+  good_view = is_view one_table tables ask.nodes.naming server_before.files serving.table ask.view has_table
+
+  lawful : AreLawful Agent
+  lawful = record { views = (good_view, tt); size = size_fits serving ask.line ask.stated }
+
+  served_end : (events : List (Event P))
+      × IsAtServer server endpoint_at happens serving ask.view server_before server_after server_status events
+  served_end =
+      at_server server endpoint_at happens serving one_table one_list one_tree serves ServerLoads server_before server_after server_status serve_run ask.nodes
+      ask.node_warnings ask.nodes_known ask.text ask.held ask.view has_table serve_run.outcome
+
+  ask_not_0 : (why : Fault) → run.fault ≡ Some why → status ≢ 0
+  ask_not_0 why is zero_status =
+      let none : run.fault ≡ None = no_fault_at_0 run.fault run.warned after.err status run.reported zero_status in let no : ⊥ = cc in no
+
+  nothing_asked : (why : Fault) → after.out ≡ before.out → run.fault ≡ Some why → Both
+  nothing_asked why same is = record {
+    asked = [];
+    at_asker = ends.unasked refl same (ask_not_0 why is);
+    served = served_end.0;
+    at_server = served_end.1;
+    front_written = λ ends_are. ([], rows, [], refl, inl refl, nothing_taken before.out after.out [] same);
+    all_written_at_status_0 = λ ends_are zero_status. absurd (ask_not_0 why is zero_status);
+  }
+
+  module _ (mib : Mib) (mib_is : ask.mib ≡ mib) (plan : Plan) (for : IsPlanFor words before.files mib plan) where
+    plan_is : ask.plan ≡ plan
+    plan_is = one_plan one words mib ask.plan plan (subst (λ (m : Mib). AskFor words m ask.plan) mib_is ask.asked) for.asked for.only
+
+    abbrev Written : Mib → Plan → Type 0
+    Written m p = IsFrontOf m p.letters (counts_in p.question) rows before.out after.out
+        × (run.fault ≡ None → (text : List ℕ) × IsWholeText m p rows text × (after.out ≡ extended before.out text))
+
+    of_ask : Written mib plan → Written ask.mib ask.plan
+    of_ask w = subst (λ (m : Mib). Written m ask.plan) (sym mib_is) (subst (Written mib) (sym plan_is) w)
+
+    rows_are : AreRowsOf plan.question ask.view rows
+    rows_are = subst (λ (p : Plan). AreRowsOf p.question ask.view rows) plan_is ask.are_rows
+
+    -- what is asked isn't asked of a table file
+    no_file : (path : List ℕ) → plan.agent ≡ table path → ⊥
+    no_file path over = let agents : udp ask.host ask.port ≡ table path = sym ask.over ∙ ap (λ (p : Plan). p.agent) plan_is ∙ over in cc
+
+    module _ (host : List ℕ) (port : ℕ) (over : plan.agent ≡ udp host port)
+        (shown : IsShown (HasFacts (λ link. net.opens before.links host port words.asking.seconds link after.links) wire (words.asking.retries + 1) plan)
+        mib plan words.asking.agent before.out after.out run.fault) where
+      abbrev happened : List (Event (Unit {0}))
+      happened =
+          events_of wire shown.facts.link shown.facts.after (words.asking.retries + 1) plan plan.question shown.given shown.refused shown.end
+          shown.facts.run
+
+      here : Heard wire shown.facts.link shown.facts.after plan.question ask.view shown.given shown.refused shown.end happened
+      here =
+          heard below left one_get ask.view good_view wire shown.facts.link shown.facts.after (words.asking.retries + 1) plan shown.given shown.refused
+          shown.end plan.question shown.facts.run
+
+      at_asker : IsAtAsker net wire words ask.mib ask.plan before after status happened
+      at_asker =
+          let by_plan = subst (λ (p : Plan). IsAtAsker net wire words mib p before after status happened) (sym plan_is)
+          (ends.asked host port run.fault run.warned over shown run.reported refl here.in_turn) in
+          subst (λ (m : Mib). IsAtAsker net wire words m ask.plan before after status happened) (sym mib_is) by_plan
+
+      written : AreEndsOfOneRun happened served_end.0 → Written ask.mib ask.plan
+      written are =
+          let served = are_served server endpoint_at happens serving ask.view server_before server_after server_status served_end.0 are.run are.at_agents
+          served_end.1 in
+          let replies = subst (AreReplies Agent) are.at_walk (honest Agent are.walker are.run are.faithful served) in
+          let gave = here.replied Agent refl lawful replies in
+          of_ask
+          (finished mib plan.letters words.asking.agent before.out rows (counts_in plan.question) shown.given shown.refused shown.end shown.between after.out
+          run.fault shown.lines shown.finish here.counted (gave.whole rows rows_are) (gave.front rows rows_are))
+
+      over_link : Both
+      over_link = record {
+        asked = happened;
+        at_asker = at_asker;
+        served = served_end.0;
+        at_server = served_end.1;
+        front_written = λ are. (written are).0;
+        all_written_at_status_0 = λ are zero_status.
+            (written are).1 (no_fault_at_0 run.fault run.warned after.err status run.reported zero_status);
+      }
+
+  told_by : (mib : Mib) → ask.mib ≡ mib → IsOutcomeBy net wire words mib (record before { err = run.warned }) AskEnd run.fault → Both
+  told_by mib same_mib (outcome.refused why refusal same is) = nothing_asked why (ap (λ (s : Seen N). s.out) same) is
+  told_by mib same_mib (outcome.not_begun why last plan for (inl (path, over, same)) is) = nothing_asked why (ap (λ (s : Seen N). s.out) same) is
+  told_by mib same_mib (outcome.not_begun why last plan for (inr (host, port, over, opened)) is) =
+      nothing_asked why (ap (λ (s : Seen N). s.out) opened.unchanged) is
+  told_by mib same_mib (outcome.asked plan path view for over states sent printed same) = absurd (no_file mib same_mib plan for path over)
+  told_by mib same_mib (outcome.not_linked plan host port for over fails risen same is) = nothing_asked _ same is
+  told_by mib same_mib (outcome.asked_over plan host port for over sent shown same) = over_link mib same_mib plan for host port over shown
+
+  both_ends : IsOutcome net wire Loads words before AskEnd run.fault → Both
+  both_ends (outcome.not_loaded why early same is) = nothing_asked why (ap (λ (s : Seen N). s.out) same) is
+  both_ends (outcome.loaded mib warnings loading made written by) =
+      told_by mib (one_load one_list one_tree before.files words.asking.mibs ask.mib mib ask.warnings warnings ask.known loading).0 by
+
+  pub prints_served : Both
+  prints_served = both_ends run.outcome

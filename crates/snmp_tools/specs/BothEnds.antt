@@ -1,0 +1,206 @@
+-- What a walk or a Get prints of a table file that `snmpd` serves: the words of both, what happened
+-- at the two ends of the network between them, and the lines, on one page.
+--
+-- `tool` promises `IsAskDone` of the words that ask and `IsServeRun` of those of snmpd (`Done`).
+-- From both follows `PrintsServed`. Its lines are those of `Headline`, and its premise about the
+-- network is `IsFaithful` (snmp_walk).
+use Rattle.std.specs.Prelude.{◌≡◌, ◌≢◌, ◌≤◌, ◌+◌, ℕ, false, List, [], length, codes}
+use Rattle.std.specs.Prelude.{Option, Some, None}
+use Rattle.std.specs.List.{flat_map}
+use Rattle.std.specs.Str.Lines.{lines}
+use Rattle.smi_names.specs.declared.nodes.warning.Warning.{Warning}
+use Rattle.snmp_agent.specs.Event.{Event, InTurn}
+use Rattle.snmp_agent.specs.Reply.{Agent}
+use Rattle.snmp_agent.specs.Serving.{AreTurns}
+use Rattle.snmp_agent.specs.declared.server.Served.{Served}
+use Rattle.snmp_agent.specs.table.Format.{Names}
+use Rattle.snmp_agent.specs.table.Stated.{IsTableOf}
+use Rattle.snmp_agent.specs.table.Table.{MibView}
+use Rattle.snmp_io.specs.Files.{Holdings, Holds}
+use Rattle.snmp_io.specs.Output.{Stream, TakesFront, extended}
+use Rattle.snmp_net.specs.Address.{IsAgent, udp}
+use Rattle.snmp_net.specs.declared.links.Links.{Ghosts as Network}
+use Rattle.snmp_oid.specs.Numeric.{numeric_text}
+use Rattle.snmp_walk.specs.Network.{Happening, IsFaithful, of_agents, of_walk}
+use Rattle.snmp_walk.specs.Tries.{Happens}
+use Rattle.snmp_walk.specs.declared.end.WalkEnd.{WalkEnd}
+use Rattle.snmp_walk.specs.declared.link.Link.{Ghosts as LinkFacts}
+use Rattle.snmp_wire.specs.Message.{VarBind}
+use Rattle.snmp_words.specs.Words.{ServeWords, StateJob, WalkWords, snmpd}
+use Rattle.snmp_tools.specs.agent.Outcome.{counts_line, listening_line}
+use Rattle.snmp_tools.specs.agent.Service.{IsPlaced, served_agent}
+use Rattle.snmp_tools.specs.agent.TableFile.{AreNamesIn}
+use Rattle.snmp_tools.specs.Answer.{AreRowsOf, HasFacts, IsAskedOver}
+use Rattle.snmp_tools.specs.Headline.{IsFrontWritten, IsWholeWritten}
+use Rattle.snmp_tools.specs.Lines.{IsTextPrinted}
+use Rattle.snmp_tools.specs.Message.{Fault}
+use Rattle.snmp_tools.specs.Mib.{AreLoaded, Mib}
+use Rattle.snmp_tools.specs.Outcome.{IsReported, IsShown}
+use Rattle.snmp_tools.specs.Question.{AskFor, AskWords, Plan, Question, names, of_walk as asking_of}
+use Rattle.snmp_tools.specs.Question.{subtree}
+use Rattle.snmp_tools.specs.RowText.{row_line}
+use Rattle.snmp_tools.specs.Seen.{Seen}
+use Rattle.snmp_tools.specs.TableWalk.{AreWalked}
+
+-- ---- what is asked, and of which table
+
+-- The words ask an agent over the network. A command line states those of snmpd, whose file is
+-- known to hold a table, and these rows are what the question gives of that table (`AreRowsOf`).
+-- Nothing says that the agent is the one at the place of snmpd, nor that the two have a community
+-- in common: an agent of another community drops what is asked.
+pub record IsAskOfServer (words : AskWords) (files : Holdings) (serving : ServeWords)
+    (server_files : Holdings) (rows : List VarBind) : Type 0 where
+  pub mib : Mib
+  pub warnings : List Warning
+  pub known : AreLoaded (Holds files) words.asking.mibs mib warnings
+  pub plan : Plan
+  pub asked : AskFor words mib plan
+  pub host : List ℕ
+  pub port : ℕ
+  pub over : plan.agent ≡ udp host port
+  pub line : List (List ℕ)
+  pub stated : StateJob line (snmpd serving)
+  pub nodes : Mib
+  pub node_warnings : List Warning
+  pub nodes_known : AreLoaded (Holds server_files) serving.mibs nodes node_warnings
+  pub text : List ℕ
+  pub held : Holds server_files serving.table text
+  pub view : MibView
+  pub names : Names
+  pub named : AreNamesIn nodes.naming names
+  pub table : IsTableOf names (lines text) view
+  pub are_rows : AreRowsOf plan.question view rows
+
+-- ---- what happened at the two ends
+
+-- what happened in a run that asks a question over a link
+abbrev pub events_of : {W : Type 0} → (facts : LinkFacts W) → (link later : W) → (tries : ℕ)
+    → (plan : Plan) → (question : Question) → (given refused : List VarBind) → (end : WalkEnd)
+    → IsAskedOver facts link later tries plan question given refused end → List (Event (Unit {0}))
+events_of {W} facts link later tries plan (names os) given refused end run = run.happened.events
+events_of {W} facts link later tries plan (subtree w) given refused end run = run.happened.events
+
+-- The end of the words that ask. A link was opened, the question was asked over it, and what that
+-- run gave is what was printed: these events happened in that run, in turn, as the link says. Or
+-- there were none, since no link was opened or nothing can be sent, and then nothing is printed, at
+-- another status than 0.
+pub data IsAtAsker {N V D : Type 0} (net : Network N V D) (wire : LinkFacts V) (words : AskWords)
+    (mib : Mib) (plan : Plan) (before after : Seen N) (status : ℕ)
+    (events : List (Event (Unit {0}))) : Type 0 where
+  unasked : events ≡ [] → after.out ≡ before.out → status ≢ 0
+      → IsAtAsker net wire words mib plan before after status events
+  asked : (host : List ℕ) (port : ℕ) (fault : Option Fault) (warned : Stream)
+      → plan.agent ≡ udp host port
+      → (shown : IsShown
+      (HasFacts
+      (λ link. net.opens before.links host port words.asking.seconds link after.links) wire
+      (words.asking.retries + 1) plan) mib plan words.asking.agent before.out after.out fault)
+      → IsReported fault warned after.err status
+      → events ≡ events_of wire shown.facts.link shown.facts.after (words.asking.retries + 1) plan
+      plan.question shown.given shown.refused shown.end shown.facts.run
+      → InTurn (Happens wire) shown.facts.link events shown.facts.after
+      → IsAtAsker net wire words mib plan before after status events
+
+-- These events are turns of the agent, with these counts, and led the endpoint at the door from one
+-- of its states to the other, as the endpoint says.
+abbrev pub AreTurnsAt : {D P E : Type 0} → (endpoint_at : D → E)
+    → (happens : E → Event P → E → Type 0) → (door : D) → Agent → (turns : ℕ) → Served
+    → (later : D) → (events : List (Event P)) → Type 0
+AreTurnsAt {D} {P} {E} endpoint_at happens door agent turns served later events =
+    AreTurns agent turns served events
+    × InTurn happens (endpoint_at door) events (endpoint_at later)
+
+-- At each door of the network an agent is served in turn: what may be served there are turns, in
+-- each of which a datagram that came got the agent's reply or was dropped, or none came, or a
+-- receive or a send failed.
+abbrev pub ServesInTurn : {N V D P E : Type 0} → Network N V D → (endpoint_at : D → E)
+    → (happens : E → Event P → E → Type 0) → Type 0
+ServesInTurn {N} {V} {D} {P} {E} net endpoint_at happens =
+    (before : N) (door : D) (agent : Agent) (turns : ℕ) (served : Served) (after : N) (later : D)
+    → net.serves before door agent turns served after later
+    → (events : List (Event P))
+    × AreTurnsAt endpoint_at happens door agent turns served later events
+
+-- The end of snmpd. A door was opened, all turns of the agent of its words were served at it, as
+-- the network says, with these counts, whose line is printed, or a front of it: these events are
+-- such turns. Or there were none, since it wasn't served: at most a front of the line of its place
+-- is printed, at another status than 0.
+pub data IsAtServer {N V D P E : Type 0} (net : Network N V D) (endpoint_at : D → E)
+    (happens : E → Event P → E → Type 0) (words : ServeWords) (view : MibView)
+    (before after : Seen N) (status : ℕ) (events : List (Event P)) : Type 0 where
+  unserved : events ≡ [] → TakesFront before.out (listening_line words.listen) after.out
+      → status ≢ 0
+      → IsAtServer net endpoint_at happens words view before after status events
+  served : (at : IsPlaced words) (door later : D) (opened : N) (counts : Served)
+      (fault : Option Fault) (warned : Stream)
+      → net.binds before.links at.host at.port door opened
+      → net.serves opened door (served_agent words view) words.turns counts after.links later
+      → AreTurnsAt endpoint_at happens door (served_agent words view) words.turns counts later
+      events
+      → IsTextPrinted (extended before.out (listening_line words.listen)) (counts_line counts)
+      after.out fault
+      → IsReported fault warned after.err status
+      → IsAtServer net endpoint_at happens words view before after status events
+
+-- These are the ends of one run of a network that makes nothing up and alters nothing. It may lose,
+-- repeat and delay datagrams, and bring them in another order.
+pub record AreEndsOfOneRun {P : Type 0} (asked : List (Event (Unit {0}))) (served : List (Event P))
+    : Type 0 where
+  pub walker : P
+  pub run : List (Happening P)
+  pub at_walk : of_walk run ≡ asked
+  pub at_agents : of_agents run ≡ served
+  pub faithful : IsFaithful walker run
+
+-- ---- what is printed
+
+-- What happened at both ends, and what is written of the rows where these are the ends of one
+-- faithful run of the network between
+pub record PrintsServed {N V C M W D P E : Type 0} (net : Network N V C) (wire : LinkFacts V)
+    (server : Network M W D) (endpoint_at : D → E) (happens : E → Event P → E → Type 0)
+    (words : AskWords) (before after : Seen N) (status : ℕ)
+    (serving : ServeWords) (server_before server_after : Seen M) (server_status : ℕ)
+    (rows : List VarBind) (ask : IsAskOfServer words before.files serving server_before.files rows)
+    : Type 0 where
+  pub asked : List (Event (Unit {0}))
+  pub at_asker : IsAtAsker net wire words ask.mib ask.plan before after status asked
+  pub served : List (Event P)
+  pub at_server : IsAtServer server endpoint_at happens serving ask.view server_before server_after
+      server_status served
+  -- Whatever fails, a front of the lines of the first rows is written, or of the whole text, and
+  -- nothing else.
+  pub front_written : AreEndsOfOneRun asked served
+      → IsFrontWritten ask.mib ask.plan rows before.out after.out
+  -- At status 0 the whole text is.
+  pub all_written_at_status_0 : AreEndsOfOneRun asked served → status ≡ 0
+      → IsWholeWritten ask.mib ask.plan rows before.out after.out
+
+-- ---- a walk in numbers
+
+-- The words of `snmpwalk -On AGENT ROOT`, where the agent is reached over the network, no module
+-- files are given and the root is in numbers. The community has 255 octets at most; the greatest
+-- size, the retries and the seconds may be any.
+pub record IsWalkInNumbers (words : WalkWords) (root : List ℕ) : Type 0 where
+  pub no_modules : words.asking.mibs ≡ []
+  pub numeric : words.asking.letters ≡ codes "n"
+  pub version : words.asking.protocol ≡ codes "2c"
+  pub short_community : length words.asking.community ≤ 255
+  pub host : List ℕ
+  pub port : ℕ
+  pub agent : IsAgent words.asking.agent (udp host port)
+  pub no_choices : words.letters ≡ []
+  pub whole : words.after ≡ None
+  pub from : words.name ≡ Some (numeric_text root)
+
+-- What the question of such a walk gives of the table of these lines: the rows below the root, or
+-- where there are none, what a Get of the root gives (`AreWalked`). What is written of them is
+-- `row_line` of each, as over a table file (`TableWalk`).
+pub record IsAskInNumbers (words : WalkWords) (files : Holdings) (serving : ServeWords)
+    (server_files : Holdings) (lines : List (List ℕ)) (root : List ℕ) : Type 0 where
+  pub rows : List VarBind
+  pub are_walked : AreWalked lines root rows
+  pub ask : IsAskOfServer (asking_of false words) files serving server_files rows
+  pub front : (before after : Stream) → IsFrontWritten ask.mib ask.plan rows before after
+      → TakesFront before (flat_map row_line rows) after
+  pub all : (before after : Stream) → IsWholeWritten ask.mib ask.plan rows before after
+      → after ≡ extended before (flat_map row_line rows)
