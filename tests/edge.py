@@ -8,9 +8,13 @@ Tests run whose titles have one of the words; without words, all. Above a test s
 that would prove as well and that the test catches. What this machine has no means for is named, and not tried. The last
 line is 'N passed, M failed, K skipped'.
 """
+import contextlib
+import errno
 import fcntl
+import glob
 import itertools
 import os
+import random
 import re
 import resource
 import signal
@@ -22,7 +26,8 @@ import time
 
 from lib import programs
 from lib.agents import Agent, failing, run as run_words, saying, serving, silent, stopping
-from lib.commands import lacks_limits, lacks_mounts, lacks_networks, lacks_signals, lacks_traces
+from lib.commands import lacks, lacks_compiler, lacks_counts, lacks_limits, lacks_mounts, lacks_networks, lacks_signals
+from lib.commands import lacks_traces
 from lib.messages import GET, RESPONSE, answered, bulks, get, integer, message, nexts, read, reply, served, text
 from lib.pipes import fifo, file, held, rest, some, taken, write, written
 from lib.ports import over_free_port
@@ -209,6 +214,42 @@ def both_families():
             wrong.append(differs(run("snmpget", "-On", "-t", "1", "-r", "0", place, f"{ROOT}.1.0", before=before),
                                  (1, "", SILENT.replace("AGENT", place))))
     return wrongs(*wrong)
+
+
+# A server of names that takes each question and replies to none, which only the program sees.
+SILENT_NAMES = """ip link set lo up || exit 99
+for name in resolv.conf nsswitch.conf; do mount --bind "$1/$name" "/etc/$name" || exit 99; done
+"$2" -c "$3" >"$1/bound" &
+until [ -s "$1/bound" ]; do kill -0 $! || exit 98; sleep 0.02; done
+shift 3
+"$@"
+status=$?
+kill $!
+exit $status
+"""
+NAME_SERVER = """import socket, time
+there = socket.socket(socket.AF_INET, socket.SOCK_DGRAM)
+there.bind(("127.0.0.1", 53))
+print("bound", flush=True)
+time.sleep(60)
+"""
+
+
+# How long it is asked is what /etc/resolv.conf says, and not -t: docs/TROUBLESHOOTING.md. Catches: a program that
+# takes this machine for a host that it can't find.
+@test("a host whose server of names is silent can't be asked, and snmpd can't serve there",
+      lacks("ip") or lacks_mounts() or lacks_networks())
+def silent_names():
+    with tempfile.TemporaryDirectory() as folder, table_of(ROWS) as table:
+        for name, said in ("nsswitch.conf", "hosts: dns\n"), ("resolv.conf", "nameserver 127.0.0.1\n"
+                                                              "options timeout:1 attempts:1\n"):
+            with open(os.path.join(folder, name), "w", encoding="ascii") as into:
+                into.write(said)
+        before = ["unshare", "-rmn", "sh", "-c", SILENT_NAMES, "-", folder, sys.executable, NAME_SERVER]
+        return wrongs(*(differs(run(*words, before=before), (1, "", NO_LINK)) for words in (
+            ("snmpget", "-t", "1", "-r", "0", "device.example", f"{ROOT}.1.0"),
+            ("snmpwalk", "-t", "1", "-r", "0", "device.example", ROOT),
+            ("snmpd", "--table", table, "--listen", "device.example:1161", "--turns", "0"))))
 
 
 # -- a walk that is stopped and let go on
@@ -638,7 +679,112 @@ def endless_files():
         return differs(fed(path, pieces, "snmpwalk", "-On", f"table:{path}", ROOT), refused)
 
 
+def has_open(pid, path):
+    """Whether a process has the file at a path open."""
+    with contextlib.suppress(FileNotFoundError):
+        return os.path.realpath(path) in [os.readlink(link) for link in glob.glob(f"/proc/{pid}/fd/*")]
+    return False
+
+
+def readers_of(path, program):
+    """How often a pipe is seen to be opened for reading until a program ends, each of which ends at once."""
+    count, end = 0, time.monotonic() + programs.PATIENCE
+    while program.poll() is None:
+        if time.monotonic() > end:
+            program.kill()
+            raise TimeoutError(f"{program.args}: no end in {programs.PATIENCE} seconds")
+        try:
+            os.close(os.open(path, os.O_WRONLY | os.O_NONBLOCK))
+            count += 1
+        except OSError as fault:
+            if fault.errno != errno.ENXIO:
+                raise
+        time.sleep(0.01)
+    return count
+
+
+def given_once(named, input, *words):
+    """How often the program opens a pipe once more that it read, for which `FIFO` stands, and how it ends. That brings
+    the one text, and its input the other."""
+    theirs, ours = os.pipe()
+    write(ours, input)
+    os.close(ours)
+    with fifo() as path:
+        program = start(*(word.replace("FIFO", path) for word in words), stdin=theirs)
+        os.close(theirs)
+        try:
+            with written(path, program) as pipe:
+                write(pipe, named)
+                until(lambda: program.poll() is not None or has_open(program.pid, path))
+            until(lambda: program.poll() is not None or not has_open(program.pid, path))
+            return readers_of(path, program), ended(program)
+        except BaseException:
+            program.kill()
+            raise
+
+
+# What a pipe brings is gone once it was read. Catches: a file that is read twice, or opened twice.
+@test("each module file and table is opened and read once")
+def files_read_once():
+    module, rows = b"M DEFINITIONS ::= BEGIN a OBJECT IDENTIFIER ::= { iso 3 } END", stated(SOME).encode()
+    once = 0, (0, SOME_TEXT.replace(".1.3.6.", "M::a.6."), "")
+
+    def listens(port):
+        place = f"127.0.0.1:{port}"
+        words = "snmpd", "--mib", "/dev/stdin", "--table", "FIFO", "--listen", place, "--turns", "0"
+        return differs(given_once(b"#snmptab 2\na.6.0|2|1\n", module, *words),
+                       (0, (0, f"listening on {place}\n0 replies, 0 dropped\n", "")))
+    return wrongs(*(differs(given_once(module, rows, walk, "--mib", "FIFO", "table:/dev/stdin", ROOT), once)
+                    for walk in ("snmpwalk", "snmpbulkwalk")),
+                  *(differs(given_once(rows, module, walk, "--mib", "/dev/stdin", "table:FIFO", ROOT), once)
+                    for walk in ("snmpwalk", "snmpbulkwalk")),
+                  differs(given_once(b"", module, "snmptranslate", "--mib", "FIFO", "--mib", "/dev/stdin", "-On", "a"),
+                          (0, (0, ".1.3\n", ""))), over_free_port(listens))
+
+
+# Nothing comes through the pipe, so that a program which opens it waits. Catches: a file that is opened before the
+# words are judged, and a table before the names are.
+@test("where the words have a fault no file is opened, and where a name has one no table")
+def no_file_opened():
+    wrong = []
+    with fifo() as path, table_of(SOME) as table, file(b"M DEFINITIONS ::= BEGIN END") as module:
+        for words in ["snmpwalk", "--no", f"table:{path}", ROOT], ["snmpwalk", f"table:{path}", ROOT, ROOT, ROOT], \
+                ["snmpwalk", "-OX", f"table:{path}", ROOT], ["snmpwalk", "-v3", f"table:{path}", ROOT], \
+                ["snmpwalk", "-CX", f"table:{path}", ROOT], ["snmpbulkwalk", "-Crx", f"table:{path}", ROOT], \
+                ["snmpget", "-c", "x" * 256, f"table:{path}", ROOT], ["snmpget", f"table:{path}"], \
+                ["snmpget", "--mib", path, "-OX", f"table:{table}", ROOT], ["snmpget", "--mib", path, "h:", ROOT], \
+                ["snmpbulkwalk", "--mib", path, "-c", "x" * 256, f"table:{table}", ROOT], \
+                ["snmptranslate", "--mib", path, "-OX", "iso"], ["snmptranslate", "--mib", path, "-TX", "iso"], \
+                ["snmptranslate", "--mib", path], ["snmpd", "--mib", path, "--table", table, "-c", "x" * 256], \
+                ["snmpd", "--table", path, "--listen", "h:"], ["snmpd", "--table", path, "--turns", "x"], \
+                ["snmpget", "--mib", module, f"table:{path}", ROOT, "nosuch"], \
+                ["snmpwalk", "--mib", module, "--after", "nosuch", f"table:{path}", ROOT]:
+            program = start(*words)
+            opened = readers_of(path, program)
+            ran = ended(program)
+            wrong.append(differs((words, opened, ran.status, ran.output, ran.messages != ""), (words, 0, 1, "", True)))
+    return wrongs(*wrong)
+
+
 # -- memory
+
+# Catches: memory that is said to run out with many rows, as of a list that has no room for so many.
+@test("200,000 rows, in order and in no order, are read and walked whole")
+def many_rows():
+    rows, wrong = {R + (i,): i for i in range(200000)}, []
+    lines = lines_of(rows)
+
+    def whole(order, ran):
+        wrong.append(differs((order, ran.status, ran.output == lines, ran.messages), (order, 0, True, "")))
+    no_order = dict(random.Random(1).sample(list(rows.items()), len(rows)))
+    for order, table in ("in order", rows), ("in no order", no_order):
+        with table_of(table) as path:
+            for walk in ["snmpwalk"], ["snmpbulkwalk", "-Cr50"]:
+                whole(order, run(*walk, "-On", f"table:{path}", ROOT))
+        with Server(table=stated(table), datagrams=10000) as server:
+            whole(order, run("snmpbulkwalk", "-On", "-Cr50", server.place, ROOT))
+    return wrongs(*wrong)
+
 
 # What is refused for a reason of its own has the message of that, however long it is: no limit is set, so the
 # system refuses no memory. Catches: 'Out of memory.' in the place of another message, as of one that is long.
@@ -750,6 +896,36 @@ def small_stack():
         return wrongs(*(differs(run(*words, before=before), (0, SOME_TEXT, "")) for words in (
             ["snmpwalk", "-On", server.place, ROOT], ["snmpbulkwalk", "-On", "-Cr50", server.place, ROOT])),
                       differs(run("snmpget", "-Onqv", server.place, *names, before=before)[0], 0))
+
+
+# -- the key of names
+
+def module_of(names):
+    """The text of a module with 20,000 names: `plain`, or `chosen` to come to one bucket by the fixed key."""
+    with tempfile.TemporaryDirectory() as folder:
+        made = programs.ran(["cc", "-O2", "-o", f"{folder}/chosen", f"{programs.TOP}/bench/chosen.c"])
+        ran = programs.ran([f"{folder}/chosen", names, "20000"])
+    if made.status != 0 or ran.status != 0:
+        raise RuntimeError(f"bench/chosen.c: {made} {ran.status}")
+    return ran.output.encode()
+
+
+# The instructions are counted, and no time: they are the same by each key but for a few names that share a bucket by
+# chance. Catches: a key from the system that isn't asked for, or is thrown away, by whatever call takes it on its way to
+# the maps of names.
+@test("names that were chosen for the fixed key of their hash load in at most twice the instructions of others",
+      lacks_counts() or lacks_compiler())
+def chosen_names():
+    wrong, counts = [], {}
+    for names in "plain", "chosen":
+        with file(module_of(names)) as module, file() as log:
+            before = ["valgrind", "--tool=callgrind", "--callgrind-out-file=/dev/null", f"--log-file={log}",
+                      "--trace-children=yes"]
+            ran = run("snmptranslate", "--mib", module, "-On", ".1.3", before=before)
+            with open(log, encoding="utf-8") as lines:
+                counts[names] = int(re.findall(r"Collected : (\d+)", lines.read())[-1])
+        wrong.append(differs((names, ran), (names, (0, ".1.3\n", ""))))
+    return wrongs(*wrong, "" if counts["chosen"] <= 2 * counts["plain"] else f"{counts} instructions")
 
 
 # -- descriptors and ports

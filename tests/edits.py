@@ -15,8 +15,8 @@ The copy is a folder `.edits-..` beside the checkout, of second names of its fil
 checkout must be writable, and of the same file system. What is written in place in a file of one is written in the
 other too; nothing here does, and an editor that does is best left alone meanwhile.
 
-With --stale, as in the gate, nothing is tried: it fails where a crate's line has another hash than what is here, or
-isn't there, and where a library has no edits. The last line says how many crates are as they were tried.
+With --stale, as in the gate, nothing is tried: the status is 2 where a crate's line has another hash than what is
+here, or isn't there, and 1 where a library has no edits. The last line says how many crates are as they were tried.
 """
 import hashlib
 import os
@@ -31,6 +31,9 @@ EDITS = os.path.join("tests", "edits")
 TRIED = os.path.join(EDITS, "tried.txt")
 HEAD = "# Of each crate whose edits were all refused, the hash of what they were tried over: tests/edits.py wrote it.\n"
 COMMENTS = {".rt": b"//", ".antt": b"--"}
+# Why a crate's edits are to be tried.
+NO_LINE = "it has no line"
+STALE = "it isn't what its edits were tried over"
 REFUSED = re.compile(r"rt: must-fail (\w+)/(\w+)\.edit: refused, as it must be(: .*)?\n?")
 
 
@@ -129,8 +132,8 @@ def wrong_of(crate, of, hashes):
     if crate not in of:
         return "it has a line and no edits" if crate in hashes else "" if edits_in(ours) else "a library without edits"
     if crate not in hashes:
-        return "it has no line"
-    return "" if hash_of(crate) == hashes[crate] else "it isn't what its edits were tried over"
+        return NO_LINE
+    return "" if hash_of(crate) == hashes[crate] else STALE
 
 
 def say_stale(of):
@@ -142,7 +145,7 @@ def say_stale(of):
         print(f"{crate}: {text} (tests/edits.py {crate})")
     more = f", {len(wrong)} aren't" if wrong else ""
     print(f"{len(crates) - len(wrong)} crates are as their edits were tried{more}")
-    return 1 if wrong else 0
+    return 0 if not wrong else 2 if set(wrong.values()) <= {NO_LINE, STALE} else 1
 
 
 def copied(room):
@@ -178,7 +181,9 @@ def refused(crates):
             why = fault if isinstance(fault, OSError) else "cp -al failed"
             sys.exit(f"edits.py: no copy can be made beside the checkout, in {above}: {why}")
         try:
-            tries = subprocess.Popen(["rt", "must-fail", *crates], cwd=room, stdout=subprocess.PIPE, text=True)
+            # Anew, since those that this machine tried before would have no line.
+            words = ["rt", "must-fail", "--anew", *crates]
+            tries = subprocess.Popen(words, cwd=room, stdout=subprocess.PIPE, text=True)
         except FileNotFoundError:
             sys.exit("edits.py: the command rt, which tries the edits, isn't on PATH")
         with tries:

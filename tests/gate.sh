@@ -28,7 +28,7 @@ tree() {
     cp -r "$top/snmp" "$top/tools" "$tree"
     cp "$top/tests/is-current" "$tree/tests"
     local part parts='gate.sh program.sh install.sh operator.sh sessions.py random_walks.py network.py attack.py heap.py
-        room.py modules.py edge.py fleet.py'
+        room.py modules.py edge.py users.py fleet.py'
     # The gate with these parts of tests/, whichever others it has.
     awk -v parts=" $(echo $parts) " '
         /^part tests\// { name = $2; sub("tests/", "", name); if (!index(parts, " " name " ")) next }
@@ -274,13 +274,13 @@ gate() { in_tree ./.ci/run >"$got/out"; echo "$? $(tail -n "${lines:-1}" "$got/o
 part() { printf '%s\n' '#!/bin/sh' "$@" >"$tree/tests/network.py"; }
 
 tree
-same 'a gate whose parts pass' '0 19 passed, 0 failed, 0 skipped' "$(gate)"
+same 'a gate whose parts pass' '0 20 passed, 0 failed, 0 skipped' "$(gate)"
 current 'a program of a fresh clone after the gate' 0 ''
-same 'a gate that runs again' '0 19 passed, 0 failed, 0 skipped' "$(gate)"
+same 'a gate that runs again' '0 20 passed, 0 failed, 0 skipped' "$(gate)"
 tree
 built
 echo 'another' >>"$tree/crates/low/src/lib.rt"
-same 'a gate over an edit' '0 19 passed, 0 failed, 0 skipped' "$(gate)"
+same 'a gate over an edit' '0 20 passed, 0 failed, 0 skipped' "$(gate)"
 current 'a program after an edit and the gate' 0 ''
 tree
 same 'a gate during which a source is edited' \
@@ -314,7 +314,7 @@ fails 'a part that does not end' 'not done after 8 seconds' '12 passed, 1 failed
 unset PART_SECONDS
 part 'echo "not tried: zsh: no zsh here" >&2' 'echo "0 passed, 0 failed, 2 skipped"'
 same 'a part that skips all with a reason' \
-    '0  Not tried here: tests/network.py: zsh: no zsh here 18 passed, 0 failed, 2 skipped' "$(lines=4 gate)"
+    '0  Not tried here: tests/network.py: zsh: no zsh here 19 passed, 0 failed, 2 skipped' "$(lines=4 gate)"
 part 'echo "1 passed, 0 failed, 0 skipped"'
 sed -i '1s/.*/#!\/nowhere\/python3/' "$tree/tests/network.py"
 same 'a part that cannot run' 1 "$(gate | cut -d ' ' -f 1)"
@@ -336,12 +336,27 @@ echo 'another' >>"$tree/crates/low/src/lib.rt"
 none 'an rt ci that leaves programs of other sources'
 tree
 gate >"$got/last"
-same 'an rt ci that leaves programs of these sources' '0 15 passed, 0 failed, 0 skipped' "$(RT_DOES=$nothing gate)"
+same 'an rt ci that leaves programs of these sources' '0 16 passed, 0 failed, 0 skipped' "$(RT_DOES=$nothing gate)"
 tree
 printf '%s\n' '#!/bin/sh' 'echo "12 crates are as their edits were tried"; exit 1' >"$tree/tests/edits.py"
-same 'edits that were not tried over what stands here' \
-    '1 FAILED: tests/edits.py: edits were not tried over what stands here 0 passed, 1 failed, 0 skipped' \
+same 'edits that are missing' '1 FAILED: tests/edits.py: edits are missing 0 passed, 1 failed, 0 skipped' \
     "$(lines=2 gate)"
+# untried COUNT WORDS: edits.py says of two crates that they aren't as they were tried, and COUNT; and tries them so.
+untried() {
+    printf '%s\n' '#!/bin/sh' 'echo "$*" >>"$CALLS"' '[ "$1" != --stale ] || {' \
+        'echo "mid: it has no line (tests/edits.py mid)"' "echo \"low: it isn't as it was (tests/edits.py low)\"" \
+        "echo \"11 crates are as their edits were tried, $1 aren't\"" 'exit 2; }' "$2" >"$tree/tests/edits.py"
+}
+untried 2 'echo "7 passed, 0 failed, 0 skipped"'
+gate >"$got/last"
+same 'edits that were not tried over what stands here are tried' 'mid low' "$(grep -x 'mid low' "$CALLS")"
+same 'edits that are tried and refused' '0 27 passed, 0 failed, 0 skipped' "$(gate)"
+untried 2 'echo "6 passed, 1 failed, 0 skipped"; exit 1'
+same 'edits that are tried and proved' '1 FAILED: tests/edits.py: status 1, and 1 tests failed' \
+    "$(lines=2 gate | cut -d ' ' -f -9)"
+untried 1 'echo "7 passed, 0 failed, 0 skipped"'
+same 'fewer crates than are not as they were tried' \
+    '1 FAILED: tests/edits.py: nothing was compared 0 passed, 1 failed, 0 skipped' "$(lines=2 gate)"
 echo '#!/bin/sh' >"$tree/tests/edits.py"
 same 'no crate with edits' '1 FAILED: tests/edits.py: nothing was compared 0 passed, 1 failed, 0 skipped' \
     "$(lines=2 gate)"
@@ -350,6 +365,19 @@ part 'kill $(cat "$CALLS.gate"); sleep 60'
 (echo "$BASHPID" >"$CALLS.gate"; cd "$tree" && exec ./.ci/run) >"$got/out" 2>&1
 same 'a gate that is ended by a signal' '1 FAILED: the gate was ended by a signal 12 passed, 1 failed, 0 skipped' \
     "$? $(tail -n 2 "$got/out" | paste -sd ' ')"
+
+# -- the layout of crates
+
+# layout: what tests/layout.sh of the tree says, where rt does this.
+layout() { (cd "$tree" && RT_DOES=$1 tests/layout.sh 2>&1; echo "$?") | paste -sd ' '; }
+tree
+cp "$top/tests/layout.sh" "$tree/tests"
+same 'crates that rt fmt leaves as they are' '4 passed, 0 failed, 0 skipped 0' "$(layout '')"
+same 'a crate that rt fmt lays out otherwise' "FAILED: crates/mid: run rt fmt there: rt: formatted src/lib.rt \
+3 passed, 1 failed, 0 skipped 1" "$(layout '[ "$here" != mid ] || echo "rt: formatted src/lib.rt"')"
+same 'a crate that rt fmt refuses' "FAILED: crates/low: run rt fmt there: src/lib.rt:1: error \
+3 passed, 1 failed, 0 skipped 1" "$(layout '[ "$here" != low ] || { echo "src/lib.rt:1: error"; exit 1; }')"
+same 'the layout of a tree, which stays' 'mod mid' "$(cat "$tree/crates/mid/src/lib.rt")"
 
 # Each script of tests/ is a part of the gate, or is run by hand; and a page says of it what it does.
 for script in "$top"/tests/*.py "$top"/tests/*.sh; do
@@ -386,7 +414,10 @@ stale() {
     said=$(in_tree tests/edits.py --stale; echo "status $?")
     same "$1" "$(printf '%s\n' "${@:3}" "status $2")" "$said"
 }
-no_line() { stale "$1" 1 "$2: $3 (tests/edits.py $2)" '1 crates are as their edits were tried, 1 aren'"'"'t'; }
+# one TITLE CRATE TEXT STATUS: that one of the two isn't as its edits were tried.
+one() { stale "$1" "$4" "$2: $3 (tests/edits.py $2)" '1 crates are as their edits were tried, 1 aren'"'"'t'; }
+no_line() { one "$@" 2; }
+no_edits() { one "$@" 1; }
 edited
 same 'edits that were refused' '0 2 passed, 0 failed, 0 skipped' "$? $(tail -n 1 "$got/out")"
 stale 'edits that were tried' 0 '2 crates are as their edits were tried'
@@ -399,20 +430,20 @@ echo 'more' >>"$tree/crates/low/specs/Low.antt"
 both=("low: it isn't what its edits were tried over (tests/edits.py low)"
     "mid: it isn't what its edits were tried over (tests/edits.py mid)"
     "0 crates are as their edits were tried, 2 aren't")
-stale 'a definition below' 1 "${both[@]}"
+stale 'a definition below' 2 "${both[@]}"
 edited
 sed -i 's/kit-1/kit-2/' "$tree/README.md"
-stale 'another toolchain' 1 "${both[@]}"
+stale 'another toolchain' 2 "${both[@]}"
 edited
 rm "$tree/tests/edits/mid/one.edit"
-no_line 'a folder of edits that is empty' mid 'tests/edits/mid has no edits'
+no_edits 'a folder of edits that is empty' mid 'tests/edits/mid has no edits'
 rmdir "$tree/tests/edits/mid"
-no_line 'edits that were taken away' mid 'it has a line and no edits'
+no_edits 'edits that were taken away' mid 'it has a line and no edits'
 sed -i '/^mid/d' "$tree/tests/edits/tried.txt"
-no_line 'edits and a line that were taken away' mid 'a library without edits'
+no_edits 'edits and a line that were taken away' mid 'a library without edits'
 edited
 rm "$tree/crates/low/must-fail/ours.edit"
-no_line 'a folder of edits of the gate that is empty' low 'crates/low/must-fail has no edits'
+no_edits 'a folder of edits of the gate that is empty' low 'crates/low/must-fail has no edits'
 edited
 sed -i '/^mid/d' "$tree/tests/edits/tried.txt"
 no_line 'edits without a line' mid 'it has no line'

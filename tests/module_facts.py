@@ -1,7 +1,8 @@
 """The facts of modules as packages of Debian have them: libsnmp-base, which holds Net-SNMP's own as texts (and
 keepalived VRRP-MIB); python3-pysnmp4-mibs, which holds those of the RFCs as Python; and, of SNMP's own modules,
 erlang-snmp as texts and python3-pysnmp4 as Python. The first that has a module counts. Numbers, syntaxes, named
-numbers, access, indexes and hints are compared; units and statuses are in the texts alone."""
+numbers, access, indexes and hints are compared. Statuses are in the texts alone, and units in these and, of scalars,
+in python3-pysnmp4-mibs."""
 import glob
 import os
 import re
@@ -55,6 +56,9 @@ def of_line(kind, rest):
         name = re.match(r", (\w+)\(", rest)[1]
         fact["syntax"] = NAMES.get(name, name), *constraints(rest)
         fact["access"] = ACCESS[access[1] if access else "noaccess"]
+        if kind == "MibScalar":
+            units = re.search(r"""\.setUnits\(["']([^"']*)["']\)""", rest)
+            fact["units"] = units and units[1]
     if kind == "MibTableRow" and "setIndexNames" in rest:
         parts = re.findall(r'\((\d), "[^"]*", "([^"]*)"\)', rest)
         fact["index"] = [("IMPLIED " if implied == "1" else "") + label for implied, label in parts]

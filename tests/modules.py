@@ -204,6 +204,43 @@ vendorCount OBJECT-TYPE
 """
 OTHER = "IF-MIB DEFINITIONS ::= BEGIN\nIMPORTS mib-2 FROM SNMPv2-SMI;\nother OBJECT IDENTIFIER ::= { mib-2 2 }\nEND\n"
 
+# What notifications carry, in the standards' order, which the packages don't keep.
+CARRIED = """
+    IF-MIB linkUp ifIndex ifAdminStatus ifOperStatus
+    IF-MIB linkDown ifIndex ifAdminStatus ifOperStatus
+    BGP4-MIB bgpEstablishedNotification bgpPeerRemoteAddr bgpPeerLastError bgpPeerState
+    BGP4-MIB bgpBackwardTransNotification bgpPeerRemoteAddr bgpPeerLastError bgpPeerState
+    BGP4-MIB bgpEstablished bgpPeerLastError bgpPeerState
+    BGP4-MIB bgpBackwardTransition bgpPeerLastError bgpPeerState
+    DISMAN-EVENT-MIB mteTriggerFired mteHotTrigger mteHotTargetName mteHotContextName mteHotOID mteHotValue
+    DISMAN-EVENT-MIB mteTriggerRising mteHotTrigger mteHotTargetName mteHotContextName mteHotOID mteHotValue
+    DISMAN-EVENT-MIB mteTriggerFalling mteHotTrigger mteHotTargetName mteHotContextName mteHotOID mteHotValue
+    DISMAN-EVENT-MIB mteTriggerFailure mteHotTrigger mteHotTargetName mteHotContextName mteHotOID mteFailedReason
+    DISMAN-EVENT-MIB mteEventSetFailure mteHotTrigger mteHotTargetName mteHotContextName mteHotOID mteFailedReason
+    ENTITY-STATE-MIB entStateOperEnabled entStateAdmin entStateAlarm
+    ENTITY-STATE-MIB entStateOperDisabled entStateAdmin entStateAlarm
+    LLDP-MIB lldpRemTablesChange lldpStatsRemTablesInserts lldpStatsRemTablesDeletes lldpStatsRemTablesDrops
+        lldpStatsRemTablesAgeouts
+    MAU-MIB rpMauJabberTrap rpMauJabberState
+    MAU-MIB ifMauJabberTrap ifMauJabberState
+    POWER-ETHERNET-MIB pethPsePortOnOffNotification pethPsePortDetectionStatus
+    POWER-ETHERNET-MIB pethMainPowerUsageOnNotification pethMainPseConsumptionPower
+    POWER-ETHERNET-MIB pethMainPowerUsageOffNotification pethMainPseConsumptionPower
+    Printer-MIB printerV2Alert prtAlertIndex prtAlertSeverityLevel prtAlertGroup prtAlertGroupIndex prtAlertLocation
+        prtAlertCode
+    RMON-MIB risingAlarm alarmIndex alarmVariable alarmSampleType alarmValue alarmRisingThreshold
+    RMON-MIB fallingAlarm alarmIndex alarmVariable alarmSampleType alarmValue alarmFallingThreshold
+    UPS-MIB upsTrapOnBattery upsEstimatedMinutesRemaining upsSecondsOnBattery upsConfigLowBattTime
+    UPS-MIB upsTrapTestCompleted upsTestId upsTestSpinLock upsTestResultsSummary upsTestResultsDetail upsTestStartTime
+        upsTestElapsedTime
+    UPS-MIB upsTrapAlarmEntryAdded upsAlarmId upsAlarmDescr
+    UPS-MIB upsTrapAlarmEntryRemoved upsAlarmId upsAlarmDescr
+    VRRP-MIB vrrpTrapNewMaster vrrpOperMasterIpAddr
+    VRRP-MIB vrrpTrapAuthFailure vrrpTrapPacketSrc vrrpTrapAuthErrorType
+""".replace("\n        ", " ").split("\n")[1:-1]
+# The groups of RFC 1628 leave out some of its objects.
+UNGROUPED = {"UPS-MIB"}
+
 # The devices of examples/ whose lines are in tests/data.
 DEVICES = ["host", "interfaces", "printer", "switch", "ups"]
 
@@ -338,6 +375,13 @@ def chosen():
         status, text, said = join("--terse", "--mib", f"{folder}/gone.txt", "HERE-MIB")
         check("a module that isn't there is told", (status, said, "HERE-MIB" in text and "SNMPv2-SMI" in text),
               (1, "join-modules: HERE-MIB imports from GONE-MIB, which isn't there\n", True))
+        with open(f"{folder}/marked.txt", "w", encoding="utf-8-sig") as file:
+            file.write(VENDOR)
+        for letters in [], ["--terse"]:
+            check(f"a byte-order mark before a module is left out, {letters}",
+                  kept("marked-out.txt", *letters, "--mib", f"{folder}/marked.txt", "VENDOR-MIB") and
+                  run("snmptranslate", "--mib", f"{folder}/marked-out.txt", "-On", "vendorCount"),
+                  (0, ".1.3.6.1.4.1.32473.7.1.1\n", ""))
     check("no module of that name", join("IF-MIB", "NO-MIB"), (1, "", "join-modules: no module NO-MIB\n"))
     check("no such file", join("--mib", "no.txt", "IF-MIB"),
           (1, "", "join-modules: no.txt: No such file or directory\n"))
@@ -362,6 +406,11 @@ def texts(world, files):
         check(f"{module.name} has rows, types, hints and notifications in order", [
             f"{found.label}: {fault}" for found in module.definitions.values()
             for fault in faults(world, module, found)], [])
+        check(f"{module.name} has statuses in order", list(statuses(module)), [])
+    check("notifications carry their objects in order", sorted(
+        f"{module.name} {label} {' '.join(found.clauses['OBJECTS'])}" for module in world.modules.values()
+        for label, found in module.definitions.items() if found.macro == "NOTIFICATION-TYPE"
+        and "OBJECTS" in found.clauses), sorted(line.strip() for line in CARRIED))
     check("numbers that stand in two modules",
           {name: names[0] for names in homes.values() for name in names[1:]}, TWICE)
 
@@ -385,6 +434,30 @@ def faults(world, module, found):
         base, hint = world.meaning(module, kind)[0], clauses["DISPLAY-HINT"]
         if not HINTS[base in module_texts.INTEGERS].fullmatch(hint):
             yield f"has a hint that is none of its type, {hint}"
+
+
+def statuses(module):
+    """What is wrong with the statuses of groups and of what they have, and of rows and columns; and what is in no
+    group (RFC 2580, sections 3.1 and 4.1)."""
+    rank = {label: ("current", "deprecated", "obsolete").index(found.clauses["STATUS"].replace("mandatory", "current"))
+            for label, found in module.definitions.items() if "STATUS" in found.clauses}
+    best = {}
+    for label, found in module.definitions.items():
+        above = module.definitions.get(found.value[0]) if found.value else None
+        if above and above.macro == found.macro == "OBJECT-TYPE" and rank[label] < rank[above.label]:
+            yield f"{label} is below {above.label}, which counts less"
+        if found.macro in ("OBJECT-GROUP", "NOTIFICATION-GROUP"):
+            for member in found.clauses.get("OBJECTS", []) + found.clauses.get("NOTIFICATIONS", []):
+                best[member] = min(rank[label], best.get(member, 2))
+                if rank[label] < rank[member]:
+                    yield f"{label} has {member}, which counts less"
+    for label, found in module.definitions.items() if best else ():
+        if found.macro != "NOTIFICATION-TYPE" and found.clauses.get("ACCESS") in (None, "not-accessible"):
+            continue
+        if label not in best and module.name not in UNGROUPED:
+            yield f"{label} is in no group"
+        elif rank[label] < best.get(label, 0):
+            yield f"{label} is only in groups that count less"
 
 
 def instance(world, parts):
@@ -650,10 +723,11 @@ def published(root):
 
 
 def captures():
-    """tools/lines-to-table reads lines that end with CR LF, and tells of those without types in one line."""
-    def turn(text):
+    """tools/lines-to-table reads lines that end with CR LF or begin with a byte-order mark, and tells of those without
+    types in one line."""
+    def turn(text, encoding="utf-8"):
         with tempfile.TemporaryFile() as file:
-            file.write(text.encode())
+            file.write(text.encode(encoding))
             file.seek(0)
             return tuple(programs.ran(["tools/lines-to-table"], cwd=TOP, stdin=file))
     lines = run("snmpbulkwalk", "-Onx", "table:examples/switch.tab", ".1")[1]
@@ -674,6 +748,11 @@ def captures():
     for letters in "nQ", "nt":
         status, rows, said = turn(run("snmpbulkwalk", f"-O{letters}", TABLE, ".1")[1])
         check(f"a capture with -O{letters}", (status, said.count("\n"), "walk without" in said), (1, 1, True))
+    for encoding in "utf-8-sig", "utf-16", "utf-16-be":
+        mark = "\ufeff" if encoding == "utf-16-be" else ""
+        check(f"a capture with a byte-order mark, {encoding}", turn(mark + lines, encoding), table)
+    check("a mark that isn't the first is no mark", turn(".1.3.6.1 = INTEGER: 1\n\ufeff.1.3.6.2 = INTEGER: 2\n")[:2],
+          (1, "1.3.6.1|2|1\n"))
     check("one line without a type", turn(".1.3.6.1 = 5\n"),
           (1, "", "input:1: no type that a table has: .1.3.6.1 = 5\n"))
 

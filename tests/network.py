@@ -14,14 +14,16 @@ import random
 import re
 import signal
 import socket
+import struct
 import sys
 import time
 
 from lib import programs
 from lib.agents import Elsewhere, failing, losing, run, saying, serving, silent, stopping
+from lib.commands import lacks_raw_datagrams
 from lib.messages import (ASKED, BULK, END, GET, INFORM, INSTANCE, NAME, NEXT, NULL, OBJECT, REPORT, RESPONSE, SET,
-                          STATUSES, TOLD, TOO_BIG, TRAP, answered, bulks, element, get, identifier, integer, message,
-                          nexts, read, read_or_none, replied, reply, served, text)
+                          STATUSES, TOLD, TOO_BIG, TRAP, answered, asking, bulks, element, get, identifier, integer,
+                          message, nexts, of_size, read, read_or_none, replied, reply, served, text)
 from lib.mutations import ends_of_get, faults_of, mutated
 from lib.ports import closed_port
 from lib.programs import patient
@@ -131,6 +133,21 @@ walks("long forms of lengths are read", f"snmpget -On AGENT {ROOT}.1.0",
 widest = 65507 - len(message(RESPONSE, 1, [(R, text(b"x" * 65000))])) + 65000
 walks("the longest datagram is read", f"snmpget -On AGENT {ROOT}", serving({R: text(b"x" * widest)}),
       f'{ROOT} = STRING: "{"x" * widest}"\n', asked=get(R))
+
+# Long requests and replies.
+for least, count in (2000, 130), (60000, 3600):
+    shown_as = {R + (i,): i % 100 for i in range(count)}
+    many = {name: integer(value) for name, value in shown_as.items()}
+    assert all(least <= len(it) <= 65507 for it in [*get(*many), served(many, read(*get(*many)))])
+    walks(f"a get of {count} names sends a request of {least} octets and more, and reads its reply",
+          f"snmpget -On AGENT {' '.join(map(dotted, many))}", serving(many), lines_of(shown_as), asked=get(*many))
+for least, count in (5000, 280), (65000, 3600):
+    shown_as = {R + (i,): i % 100 for i in range(count)} | {R + (count,): "x" * 300}
+    many = [(name, integer(it) if isinstance(it, int) else text(it.encode())) for name, it in shown_as.items()]
+    many.append((R + (count,), END))
+    assert least <= len(message(RESPONSE, 1, many)) <= 65507
+    walks(f"a bulk walk reads a reply of {least} octets and more", f"snmpbulkwalk -On -Cr9999 AGENT {ROOT}",
+          saying(many), lines_of(shown_as), asked=bulks(9999, R))
 
 # Datagrams that are lost: the same request goes out again, -r times at most.
 walks("a request without a reply is sent again", f"snmpwalk -On -r 2 AGENT {ROOT}", losing(2, serving(ROWS)), LINES,
@@ -490,6 +507,57 @@ def snmpd_sizes():
             counts = "0 replies, 1 dropped\n" if wanted is None else "1 replies, 0 dropped\n"
             wrong.append(differs(server.end(), (0, counts, "")))
     return wrongs(*wrong)
+
+
+# Catches: a datagram that is received up to 484 octets, or up to 4,096, and then has another reply or none.
+@test("snmpd replies to requests of 2,000 and of 60,000 octets by each of their bindings")
+def snmpd_long_requests():
+    rows, wrong = {R + (i,): i for i in range(0, 500, 8)}, []
+    served = {name: integer(value) for name, value in rows.items()}
+    with Server("--max-size", "65507", table=stated(rows)) as server:
+        for size, count in (2000, 110), (60000, 3300):
+            names = [R + (i * 7 % 501,) for i in range(count)]
+            for kind, a, b in (GET, 0, 0), (NEXT, 0, 0), (SET, 0, 0), (BULK, count, 0), (BULK, count - 9, 30):
+                asked = asking(size, kind, names, a, b)
+                wrong.append(sent_not(server.ask(asked), [replied(served, read(asked), 65507)]))
+    return wrongs(*wrong)
+
+
+# Catches: a reply that is sent up to 4,096 octets, and a smaller greatest message than --max-size has.
+@test("snmpd sends replies of 5,000, 65,000 and 65,507 octets whole, and none of an octet more")
+def snmpd_long_replies():
+    wrong, exact, longer = [], E + (2, 1), E + (2, 2)
+    for size in 5000, 65000, 65507:
+        # The reply with the value of a name has just this size, that of another an octet more; below R there are more
+        # rows than a reply has, each of which takes as many octets.
+        count = size // len(element(0x30, identifier(R + (1000,)) + integer(1)))
+        bound = {R + (1000 + i,): integer(i % 100) for i in range(count + 9)}
+        for name, octets in (exact, size), (longer, size + 1):
+            whole = of_size(octets, lambda left, name=name: message(RESPONSE, 1, [(name, text(b"x" * left))]))
+            bound.update(read(whole).bindings)
+        rows = {name: value.count(b"x") * "x" or value[-1] for name, value in bound.items()}
+        with Server("--max-size", str(size), table=stated(rows)) as server:
+            for kind, name, right in ((GET, exact, bound[exact]), (NEXT, E + (2,), bound[exact]), (GET, longer, None),
+                                      (NEXT, exact, None)):
+                it = message(RESPONSE, 1, [(exact, right)] if right else [], 0 if right else 1)
+                wrong.append(differs(len(it), size if right else len(TOO_BIG)))
+                wrong.append(sent_not(server.ask(message(kind, 1, [(name, NULL)])), [it]))
+            fronts = (message(RESPONSE, 1, list(bound.items())[:n]) for n in range(count + 9, 0, -1))
+            wrong.append(sent_not(server.ask(message(BULK, 1, [(R, NULL)], 0, count + 9)),
+                                  [next(it for it in fronts if len(it) <= size)]))
+    return wrongs(*wrong)
+
+
+# Nothing can be sent to port 0, from which a datagram may come. Catches: a reply that couldn't be sent, and counts as
+# one, or as a datagram that has none; a server that ends there.
+@test("a reply that can't be sent isn't counted, and the next turn follows", lacks_raw_datagrams())
+def snmpd_unsent():
+    with Server("--turns", "12") as server, \
+            socket.socket(socket.AF_INET, socket.SOCK_RAW, socket.IPPROTO_UDP) as raw:
+        asked = message(GET, 1, [])
+        raw.sendto(struct.pack("!4H", 0, server.port, 8 + len(asked), 0) + asked, ("127.0.0.1", 0))
+        return differs((server.ask(message(GET, 2, [])), server.end()),
+                       ([message(RESPONSE, 2, [])], (0, "2 replies, 0 dropped\n", "")))
 
 
 @test("snmpd serves a table that names objects to the program's own walkers")

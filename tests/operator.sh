@@ -113,7 +113,7 @@ stated() {
         on && /^\.(Op )?Fl/ { sub(/^\.(Op )?Fl /, ""); print "-" $1, "<" toupper($3) ">" }
         on && /^\.Op Ar/ { print "[" toupper($3) "]" }
         on && /^\.Ar/ { print "<" toupper($2) ">" ($3 == "..." ? "..." : "") }
-        $0 == ".Cm " command { on = 1 }
+        /^\.Cm / { on = 0; for (i = 2; i <= NF; i++) if ($i == command) on = 1 }
         /^\.Sh DESCRIPTION/ { exit }' docs/snmp.1 | sort
 }
 
@@ -127,10 +127,11 @@ stated_letters() {
 for command in $commands; do
     same "the manual's synopsis of $command" "$(taken "$command")" "$(stated "$command")"
 done
-for option in O C T; do
-    case $option in T) command=snmptranslate ;; *) command=snmpbulkwalk ;; esac
-    same "the manual's letters of -$option" "$(letters "$command" "-$option")" "$(stated_letters "$option")"
-done
+same "the manual's letters of -O" "$(letters snmpget -O)" "$(stated_letters O)"
+same "the manual's letters of -O that act on names" "$(letters snmptranslate -O)" \
+    "$(sed -n '/^shows names alone:/{n;s/^\.Cm //;s/ , /\n/g;p}' docs/snmp.1 | sort)"
+same "the manual's letters of -C" "$({ letters snmpwalk -C; letters snmpbulkwalk -C; } | sort -u)" "$(stated_letters C)"
+same "the manual's letters of -T" "$(letters snmptranslate -T)" "$(stated_letters T)"
 described=$(sed -n 's/^\.It Fl \([^ ]*\) Ar.*/\1/p; s/^\.It Fl \([hV]\) , -\(.*\)/\1\n-\2/p' docs/snmp.1 | sort)
 synopsis=$(sed -n '/^\.Sh SYNOPSIS/,/^\.Sh DESC/s/^\.\(Op \)\?Fl \([^ ]*\).*/\2/p' docs/snmp.1; echo V; echo -version; echo -help)
 same 'the options that the manual describes' "$(sort -u <<<"$synopsis")" "$described"
@@ -179,8 +180,9 @@ for command in $commands; do
     [ "$command" = snmpd ] ||
         same "letters of $command -O that bash offers" "$(letters "$command" -O)" "$(complete_words snmp "$command" -O '')"
 done
-same 'letters of -C that bash offers' "$(letters snmpwalk -C)" \
-    "$({ complete_words snmp snmpwalk -C ''; complete_words snmp snmpbulkwalk -C ''; } | sort -u)"
+for command in snmpwalk snmpbulkwalk; do
+    same "letters of $command -C that bash offers" "$(letters "$command" -C)" "$(complete_words snmp "$command" -C '')"
+done
 offers 'i p I' snmp snmpwalk -C ''
 offers 'i p r' snmp snmpbulkwalk -C ''
 offers '-Cip -Cir' snmp snmpbulkwalk -Ci
@@ -226,12 +228,7 @@ if has 13 'the completions of zsh' zsh; then
         options=$({ taken "$command" | sed -n 's/^\(-[^ ]*\) .*/\1/p'; printf '%s\n' -h --help -V --version; } | sort)
         same "the completions of zsh: options of $command" "$options" "$(zsh_options "$command")"
         for option in $(grep -xE -e '-[OCT]' <<<"$options"); do
-            case $command$option in
-                snmpwalk-C) wanted=$'I\ni\np' ;;
-                snmpbulkwalk-C) wanted=$'i\np\nr' ;;
-                *) wanted=$(letters "$command" "$option") ;;
-            esac
-            same "the completions of zsh: letters of $command $option" "$wanted" \
+            same "the completions of zsh: letters of $command $option" "$(letters "$command" "$option")" \
                 "$(zsh_letters "$command" "$(zsh_action "$command" "$option")")"
         done
     done

@@ -4,10 +4,12 @@
 #include <arpa/inet.h>
 #include <dlfcn.h>
 #include <errno.h>
+#include <fcntl.h>
 #include <netdb.h>
 #include <netinet/in.h>
 #include <poll.h>
 #include <signal.h>
+#include <stdarg.h>
 #include <stdio.h>
 #include <stdlib.h>
 #include <string.h>
@@ -18,6 +20,9 @@
 #include <time.h>
 #include <unistd.h>
 #ifdef HEAP
+#ifdef CRASHES_WITHOUT_MEMORY
+#define ON_REFUSAL raise(SIGSEGV)
+#endif
 #include HEAP
 #define IS_REFUSED (run != NULL && run->refused)
 #else
@@ -95,6 +100,14 @@ int getaddrinfo(const char *restrict h, const char *restrict p, const struct add
     return e;
 }
 #endif
+#ifdef UNKNOWN_IS_LOOPBACK
+int getaddrinfo(const char *restrict h, const char *restrict p, const struct addrinfo *restrict hints,
+                struct addrinfo **restrict r) {
+    NEXT(getaddrinfo);
+    int e = next(h, p, hints, r);
+    return e ? next("127.0.0.1", p, hints, r) : 0;
+}
+#endif
 #ifdef SOCKET_FIRST
 // A program that takes a while to start, which then opens a socket before it says anything.
 __attribute__((constructor)) static void open_first(void) {
@@ -104,7 +117,8 @@ __attribute__((constructor)) static void open_first(void) {
 #endif
 
 // What is sent: `tampered` does it in the place of a send.
-#if defined SECOND_SOCKET || defined LAST_OCTET_WRONG || defined A_REPLY_IS_LOST || defined ANY_ID || defined ANY_SENDER
+#if defined SECOND_SOCKET || defined LAST_OCTET_WRONG || defined A_REPLY_IS_LOST || defined ANY_ID || \
+    defined ANY_SENDER || defined SENDS_4096_OCTETS || defined FAILED_SEND_IS_SENT
 static struct sockaddr_in asked;
 static unsigned char sent[65536];
 static unsigned long sends;
@@ -127,11 +141,20 @@ ssize_t sendto(int s, const void *b, size_t n, int f, const struct sockaddr *a, 
 #ifdef A_REPLY_IS_LOST
     if (sends % 97 == 0) return (ssize_t)n;
 #endif
+#ifdef SENDS_4096_OCTETS
+    ssize_t r = next(s, sent, n < 4096 ? n : 4096, f, a, an);
+    return r < 0 ? r : (ssize_t)n;
+#endif
+#ifdef FAILED_SEND_IS_SENT
+    next(s, sent, n, f, a, an);
+    return (ssize_t)n;
+#endif
     return next(s, sent, n, f, a, an);
 }
 #endif
 #if defined ANY_ID || defined ANY_SENDER || defined INTERRUPTED_IS_SILENCE || defined INTERRUPTED_IS_FAULT || \
-    defined FAULT_IS_SILENCE || defined FAULT_ENDS_AT_ONCE || defined KEEPS_MEMORY || defined DIES_OF_A_DATAGRAM || defined MORE_OF_THE_STACK
+    defined FAULT_IS_SILENCE || defined FAULT_ENDS_AT_ONCE || defined KEEPS_MEMORY || defined DIES_OF_A_DATAGRAM || \
+    defined MORE_OF_THE_STACK || defined RECEIVES_484_OCTETS || defined RECEIVES_4096_OCTETS
 // Where the id of a message stands: behind its length, its version, its community, and the PDU's tag and length.
 static __attribute__((unused)) unsigned char *id_of(unsigned char *it, size_t n) {
     size_t at = 0;
@@ -145,6 +168,12 @@ static __attribute__((unused)) unsigned char *id_of(unsigned char *it, size_t n)
 }
 ssize_t recvfrom(int s, void *restrict b, size_t n, int f, struct sockaddr *restrict a, socklen_t *restrict an) {
     NEXT(recvfrom);
+#ifdef RECEIVES_484_OCTETS
+    n = n < 484 ? n : 484;
+#endif
+#ifdef RECEIVES_4096_OCTETS
+    n = n < 4096 ? n : 4096;
+#endif
     ssize_t r = next(s, b, n, f, a, an);
 #ifdef FAULT_IS_SILENCE
     if (r < 0 && errno != EINTR) errno = EAGAIN;
@@ -221,6 +250,15 @@ static int writes;
     char *at = d == 1 ? memmem(b, n, ".32473.1.", 9) : NULL; \
     if (at) { next(d, b, (size_t)(at - (char *)b)); next(d, ".32473.2.", 9); \
         next(d, at + 9, n - 9 - (size_t)(at - (char *)b)); return (ssize_t)n; }
+#endif
+#ifdef ANOTHER_VALUE
+// The last octet of the last value that snmpget prints.
+static int gets;
+__attribute__((constructor)) static void note_command(int n, char **words) { gets = n > 1 && !strcmp(words[1], "snmpget"); }
+#define WRITES \
+    if (d == 1 && n > 1 && gets) { \
+        char last[2] = {((const char *)b)[n - 2] ^ 1, '\n'}; \
+        next(d, b, n - 2); next(d, last, 2); return (ssize_t)n; }
 #endif
 #ifdef ANOTHER_MESSAGE
 #define WRITES if (d == 2) { next(d, "No.\n", 4); return (ssize_t)n; }
@@ -315,8 +353,69 @@ ssize_t read(int d, void *b, size_t n) {
 }
 #endif
 
+#if defined FILES_ARE_READ_TWICE || defined FILES_ARE_READ_FIRST
+static int word_count;
+static char **words;
+// The file that a word names, or none.
+static const char *file_of(int i) {
+    if (!strncmp(words[i], "table:", 6)) return words[i] + 6;
+    return !strcmp(words[i - 1], "--table") || !strcmp(words[i - 1], "--mib") ? words[i] : NULL;
+}
+static void read_all(int d) {
+    char octets[4096];
+    while (d >= 0 && read(d, octets, sizeof octets) > 0) continue;
+    if (d >= 0) close(d);
+}
+__attribute__((constructor)) static void keep_words(int n, char **all) {
+    word_count = n;
+    words = all;
+#ifdef FILES_ARE_READ_FIRST
+    for (int i = 2; i < n; i++)
+        if (file_of(i)) read_all(open(file_of(i), O_RDONLY));
+#endif
+}
+#endif
+#ifdef FILES_ARE_READ_TWICE
+#define OPENS(name, path, ...) \
+    NEXT(name); \
+    va_list more; \
+    va_start(more, flags); \
+    int mode = flags & O_CREAT ? va_arg(more, int) : 0; \
+    va_end(more); \
+    for (int i = 2; i < word_count; i++) \
+        if (file_of(i) && !strcmp(file_of(i), path)) { read_all(next(__VA_ARGS__)); break; } \
+    return next(__VA_ARGS__)
+int open(const char *path, int flags, ...) { OPENS(open, path, path, flags, mode); }
+int open64(const char *path, int flags, ...) { OPENS(open64, path, path, flags, mode); }
+int openat(int folder, const char *path, int flags, ...) { OPENS(openat, path, folder, path, flags, mode); }
+#endif
+
+// -- the key of names
+
+#ifdef KEY_IS_FIXED
+int getentropy(void *b, size_t n) {
+    memset(b, 0, n);
+    return 0;
+}
+#endif
+
 // -- words and limits
 
+#if defined A_TURN_MORE || defined MAX_SIZE_4096
+// Changes the number of an option among the words.
+static void change(int n, char **words, const char *option, unsigned long (*changed)(unsigned long)) {
+    for (int i = 1; i + 1 < n; i++)
+        if (!strcmp(words[i], option) && asprintf(&words[i + 1], "%lu", changed(strtoul(words[i + 1], NULL, 10))) < 0) _exit(99);
+}
+#endif
+#ifdef A_TURN_MORE
+static unsigned long more(unsigned long turns) { return turns + 1; }
+__attribute__((constructor)) static void change_turns(int n, char **words) { change(n, words, "--turns", more); }
+#endif
+#ifdef MAX_SIZE_4096
+static unsigned long less(unsigned long size) { return size < 4096 ? size : 4096; }
+__attribute__((constructor)) static void change_size(int n, char **words) { change(n, words, "--max-size", less); }
+#endif
 #ifdef REFUSES_ITS_MOST
 __attribute__((constructor)) static void refuse(int n, char **words) {
     for (int i = 1; i < n; i++) {
@@ -332,6 +431,40 @@ __attribute__((constructor)) static void refuse(int n, char **words) {
 __attribute__((constructor)) static void crash(void) {
     struct rlimit most;
     if (!getrlimit(RLIMIT_AS, &most) && most.rlim_cur != RLIM_INFINITY) raise(SIGSEGV);
+}
+#endif
+
+// -- memory
+
+#ifdef MANY_BLOCKS_ARE_REFUSED
+static unsigned long blocks;
+#define BLOCK(made) (++blocks > 2500 ? NULL : (made))
+#endif
+#if defined CRASHES_WITHOUT_MEMORY && !defined HEAP
+static void *block_or_crash(void *made) {
+    if (made == NULL) raise(SIGSEGV);
+    return made;
+}
+#define BLOCK(made) block_or_crash(made)
+#endif
+#ifdef BLOCK
+void *__libc_malloc(size_t size);
+void *__libc_realloc(void *old, size_t size);
+void *malloc(size_t size) { return BLOCK(__libc_malloc(size)); }
+void *realloc(void *old, size_t size) { return BLOCK(__libc_realloc(old, size)); }
+#endif
+#ifdef ASKS_FOR_MEMORY
+void *memcpy(void *restrict to, const void *restrict from, size_t n) {
+    void *at = to;
+    free(block = malloc(1));
+    __asm__ volatile("rep movsb" : "+D"(at), "+S"(from), "+c"(n) : : "memory");
+    return to;
+}
+void *memset(void *to, int octet, size_t n) {
+    void *at = to;
+    free(block = malloc(1));
+    __asm__ volatile("rep stosb" : "+D"(at), "+c"(n) : "a"(octet) : "memory");
+    return to;
 }
 #endif
 

@@ -1,6 +1,6 @@
 #!/usr/bin/env python3
 """Makes the built program wrong, in one way after the other, and sees that each test that is named for it fails. It
-isn't a part of the gate: it takes an hour, and each change of the program would have to wait for it.
+isn't a part of the gate, in which each change of the program would have to wait for it.
 
 usage: wrong.py [NAME..]
        wrong.py --stale
@@ -16,6 +16,8 @@ import contextlib
 import glob
 import hashlib
 import io
+import itertools
+import multiprocessing
 import os
 import random
 import shutil
@@ -23,7 +25,7 @@ import subprocess
 import sys
 import tempfile
 
-from lib import programs, runner
+from lib import ports, programs, runner
 from lib.commands import lacks
 
 import attack
@@ -35,8 +37,11 @@ import network
 TESTS, TOP = programs.TESTS, programs.TOP
 RECORD = os.path.join(TESTS, "wrong.txt")
 WALKED = 40
-# Blanks and colons divide the names of LD_PRELOAD.
+# So many processes try the tests side by side, most of whose time goes by in waiting.
+TOGETHER = 4
+# Blanks and colons divide the names of LD_PRELOAD. Each process has a folder of its own there.
 FOLDER = tempfile.TemporaryDirectory(dir="/tmp")
+own = FOLDER.name
 
 # Each way to be wrong, with words of the titles of the tests of edge.py that catch it.
 AT_THE_EDGE = {
@@ -45,6 +50,7 @@ AT_THE_EDGE = {
     "SECOND_SOCKET": ["open one socket, and send"],
     "ANY_FAMILY": ["of a host's addresses"],
     "LAST_ADDRESS": ["of a host's addresses"],
+    "UNKNOWN_IS_LOOPBACK": ["of a host's addresses", "server of names is silent"],
     "WAITS_TWO_SECONDS": ["six turns of snmpd"],
     "NO_PORT_IS_NO_FAULT": ["no port is free"],
     "LINK_IS_MEMORY": ["no port is free", "no descriptor is left"],
@@ -69,54 +75,77 @@ AT_THE_EDGE = {
     "TABLE_IS_MEMORY": ["no refusal but for want", "no descriptor is left"],
     "CRASHES_IN_LITTLE_MEMORY": ["less and less memory"],
     "MORE_OF_THE_STACK": ["a stack of 256 KiB"],
+    "KEY_IS_FIXED": ["chosen for the fixed key"],
     "STATUS_0": ["isn't read takes", "takes so many octets", "less and less memory", "ids are used up"],
     "ANOTHER_MESSAGE": ["ids are used up", "no refusal but for want"],
+    "FAILED_SEND_IS_SENT": ["a receive or a send that fails ends a walk", "a receive or a send of snmpd that fails"],
+    "FILES_ARE_READ_TWICE": ["opened and read once"],
+    "FILES_ARE_READ_FIRST": ["opened and read once", "no file is opened"],
+    "MANY_BLOCKS_ARE_REFUSED": ["200,000 rows"],
+    "CRASHES_WITHOUT_MEMORY": ["less and less memory"],
 }
 # Those that heap.py catches, of the tools by command lines, and of single calls.
 WITHOUT_MEMORY = {
     "HALF_A_LINE": ["snmpbulkwalk -On -Cr", "over UDP"],
     "LINES_ARE_LEFT_OUT": ["snmpbulkwalk -On -Cr", "snmptranslate --mib MODULES -"],
-    "NOTHING_IS_SAID": ["snmpwalk -On table", "snmpd", "over UDP"],
+    "NOTHING_IS_SAID": ["snmpwalk -On table", "snmpd --", "over UDP"],
     "STATUS_0": ["snmpwalk -On table", "snmpget --help", "over UDP"],
     "LONG_IS_MEMORY": ["snmpget -v", "snmpwalk table:x", "snmptranslate x"],
     "TABLE_IS_MEMORY": ["snmpwalk table:x"],
     "A_BLOCK_IS_KEPT": ["snmpwalk -On table", "line, with"],
-    "GIVES_UP": ["that are gathered", "gathered twice", "run_walk", "MemoryLink::reserve", "LineWriter::line"],
-    "ANOTHER_ANSWER": ["Value::from_ref", "Table::", "run_walk", "MemoryLink::reserve", "parse_modules", "Tree::load",
-                       "write_hint", "_text, with", "line, with", "detail, with"],
+    "GIVES_UP": ["that are gathered", "gathered twice", "run_walk by GetNext, with", "run_walk by GetBulk, with",
+                 "MemoryLink::reserve", "LineWriter::line", "Table::remove"],
+    "ANOTHER_ANSWER": ["Value::from_ref", "Table::", "run_walk", "run_get", "MemoryLink::reserve", "parse_modules",
+                       "Tree::load", "write_hint", "_text, with", "line, with", "detail, with", "Hint::parse",
+                       "answer to a Get asks", "resolve of iso", "look-up"],
+    "CRASHES_WITHOUT_MEMORY": ["snmpwalk -On table", "snmpget --help", "Table::read, with", "Table::remove",
+                               "run_walk by GetNext, with", "parse_modules", "line, with"],
+    "ASKS_FOR_MEMORY": ["answer to a Get asks"],
 }
+# Those that it catches of snmpd as it serves.
+AS_IT_SERVES = {"KEEPS_MEMORY": ["as it serves"]}
 # Those that attack.py catches, of snmpd and of the walkers.
 UNDER_ATTACK = {
     attack.attack_snmpd: ["KEEPS_MEMORY", "LAST_OCTET_WRONG", "A_REPLY_IS_LOST", "DIES_OF_A_DATAGRAM",
                           "LINES_COME_TWICE"],
     attack.attack_walkers: ["ANY_ID", "ANY_SENDER", "HALF_A_LINE", "LINES_COME_TWICE", "OUTSIDE_OF_THE_ROOT",
-                            "NOTHING_IS_SAID", "ANOTHER_MESSAGE", "STATUS_0", "NEVER_ENDS"],
+                            "ANOTHER_VALUE", "NOTHING_IS_SAID", "ANOTHER_MESSAGE", "STATUS_0", "NEVER_ENDS"],
 }
 # Those that fleet.py catches; and network.py; and scripts in shell, which run those of their tests with these titles.
 IN_A_FLEET = ["NOTHING_IS_SAID", "STATUS_0", "HALF_A_LINE", "LINES_ARE_LEFT_OUT", "LINK_IS_MEMORY"]
 IN_A_NETWORK = {
+    "RECEIVES_484_OCTETS": ["requests of 2,000", "of 2000 octets", "of 5000 octets"],
+    "RECEIVES_4096_OCTETS": ["requests of 2,000", "of 60000 octets", "of 5000 octets", "the longest datagram is read"],
+    "SENDS_4096_OCTETS": ["requests of 2,000", "of 60000 octets", "replies of 5,000"],
+    "MAX_SIZE_4096": ["requests of 2,000", "replies of 5,000"],
+    "FAILED_SEND_IS_SENT": ["a reply that can't be sent"],
+    "A_TURN_MORE": ["there are as many as it was told"],
+    "BOUND_TO_ALL": ["on the stated port and no other"],
+    "ANOTHER_VALUE": ["replies with random faults end a get", "a get asks once", "of 2000 octets"],
     "HALF_A_LINE": ["replies with random faults end a get"],
     "LAST_OCTET_WRONG": ["after 300 requests with random faults"],
 }
 IN_SHELL = {
     "SOCKET_FIRST": [("program.sh", "after a wait")],
     "REFUSES_ITS_MOST": [("operator.sh", "where the help says")],
-    "ANOTHER_MESSAGE": [("program.sh", "Bad agent"), ("operator.sh", "where the help says")],
+    "ANOTHER_MESSAGE": [("program.sh", "listen udp:"), ("operator.sh", "where the help says")],
 }
 
 
 def library(name, *words):
     """A library that makes a program wrong so."""
-    path = f"{FOLDER.name}/{name}.so"
+    path = f"{own}/{name}.so"
     subprocess.run(["cc", "-O1", "-w", "-shared", "-fPIC", f"-D{name}", *words, "-o", path, f"{TESTS}/wrong.c"],
                    check=True, timeout=programs.PATIENCE)
     return path
 
 
 def wrong_program(name, built=programs.BUILT):
-    path = f"{FOLDER.name}/{name}-{os.path.basename(built)}"
+    path = f"{own}/{name}-{os.path.basename(built)}"
     with open(path, "w", encoding="ascii") as file:
-        file.write(f'#!/bin/sh\nLD_PRELOAD={library(name)} exec "{os.path.realpath(built)}" "$@"\n')
+        # Such a library may stand between them already.
+        file.write(f'#!/bin/sh\nLD_PRELOAD="{library(name)}${{LD_PRELOAD:+:$LD_PRELOAD}}" '
+                   f'exec "{os.path.realpath(built)}" "$@"\n')
     os.chmod(path, 0o755)
     return path
 
@@ -140,7 +169,7 @@ def use_heap(name):
 
 def use_in_shell(name):
     """They run in a folder that has what the checkout has, and in the place of its programs these wrong ones."""
-    top = f"{FOLDER.name}/checkout"
+    top = f"{own}/checkout"
     shutil.rmtree(top, ignore_errors=True)
     hidden = shutil.ignore_patterns(".*", "crates", "modules", "__pycache__")
     shutil.copytree(TOP, top, ignore=lambda folder, names: hidden(folder, names) if folder == TOP else [])
@@ -159,7 +188,7 @@ def use_in_shell(name):
 
 def by_shell(script, word):
     """What those tests of a script say whose titles have this word."""
-    ran = programs.ran([f"{FOLDER.name}/checkout/tests/{script}", word], 1800)
+    ran = programs.ran([f"{own}/checkout/tests/{script}", word], 1800)
     if ran.status not in (0, 1):
         raise RuntimeError(f"{script} {word}: status {ran.status}\n{ran.messages}")
     return ran.output if ran.status else ""
@@ -173,7 +202,7 @@ def titled(tests, word):
 def tests_of(name, counts):
     """The tests that are named for a way to be wrong, each with its title, and with what makes the program so."""
     for how, tests, words in [(use, edge.tests, AT_THE_EDGE), (use, network.tests, IN_A_NETWORK),
-                              (use_heap, heap.tests, WITHOUT_MEMORY)]:
+                              (use, heap.tests, AS_IT_SERVES), (use_heap, heap.tests, WITHOUT_MEMORY)]:
         for word in words.get(name, []):
             chosen, untried = titled(tests, word)
             if not chosen and not untried:
@@ -191,15 +220,31 @@ def tests_of(name, counts):
         yield use_in_shell, f"{script} {word!r}", lambda script=script, word=word: by_shell(script, word)
 
 
-def found(how, name, test):
+def begin():
+    """Makes a process ready, which shares no file and draws no port that another one has."""
+    global own, left
+    # The other folder goes where this is dropped.
+    left = heap.heap.folder
+    own = tempfile.mkdtemp(dir=FOLDER.name)
+    heap.heap.folder = tempfile.TemporaryDirectory(dir=own)
+    ports.drawn = itertools.count(random.randrange(ports.BEHIND - ports.FIRST))
+    runner.end_at_signals()
+
+
+# What is tried: names of ways, each with a title, with what makes the program so, and with a test.
+tasks = []
+
+
+def found(number):
     """What a test finds wrong with such a program, as a text."""
+    name, how, _, test = tasks[number]
     with contextlib.redirect_stdout(io.StringIO()) as printed:
         wrong = runner.tried(lambda: how(name) or test())
     return "\n".join(wrong) if isinstance(wrong, list) else printed.getvalue() if wrong == 1 else wrong or ""
 
 
 def all_ways():
-    return list(dict.fromkeys([*AT_THE_EDGE, *WITHOUT_MEMORY, *sum(UNDER_ATTACK.values(), []), *IN_A_FLEET,
+    return list(dict.fromkeys([*AT_THE_EDGE, *WITHOUT_MEMORY, *AS_IT_SERVES, *sum(UNDER_ATTACK.values(), []), *IN_A_FLEET,
                                *IN_A_NETWORK, *IN_SHELL]))
 
 
@@ -243,22 +288,26 @@ def main(names):
     bare = os.path.join(TOP, "crates", "snmp_bare", "out", "snmp_bare")
     if not programs.are_current("tests/wrong.py", programs.BUILT, programs.CHECKS, bare):
         return 1
-    counts, before, as_it_is = runner.Counts(), hash_of_tests(), {}
+    counts, before = runner.Counts(), hash_of_tests()
     if lacks("cc"):
         counts.left_out("all ways of tests/wrong.py", f"{lacks('cc')}, a C compiler", len(names or all_ways()))
         return counts.end()
-    runner.end_at_signals()
     for title in without_a_way():
         counts.found(title, "a test of edge.py that no way is named for")
-    for name in names or all_ways():
-        for how, title, test in tests_of(name, counts):
-            # A test that the program fails as it is shows nothing.
-            if title not in as_it_is:
-                as_it_is[title] = found(how, "NOTHING_IS_WRONG", test)
-            caught = not as_it_is[title] and found(how, name, test)
-            counts.found(f"{name} by {title!r}", "" if caught else f"not wrong alone: {as_it_is[title][:600]}"
-                         if as_it_is[title] else "it isn't caught")
-            if caught:
+    wrong = [(name, *it) for name in names or all_ways() for it in tests_of(name, counts)]
+    # A test that the program fails as it is shows nothing.
+    right = {}
+    for _, how, title, test in wrong:
+        right.setdefault(title, ("NOTHING_IS_WRONG", how, title, test))
+    tasks.extend([*right.values(), *wrong])
+    runner.end_at_signals()
+    with multiprocessing.get_context("fork").Pool(TOGETHER, begin) as pool:
+        said = pool.imap(found, range(len(tasks)))
+        as_it_is = dict(zip(right, said))
+        for (name, _, title, _), caught in zip(wrong, said):
+            counts.found(f"{name} by {title!r}", f"not wrong alone: {as_it_is[title][:600]}" if as_it_is[title] else
+                         "" if caught else "it isn't caught")
+            if caught and not as_it_is[title]:
                 print(f"{name}: caught by {title!r}\n  {caught[:300]}", flush=True)
     if not names and not counts.failed and not counts.skipped and hash_of_tests() == before:
         with open(RECORD, "w", encoding="ascii") as file:

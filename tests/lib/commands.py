@@ -3,6 +3,7 @@ missing.
 """
 import functools
 import shutil
+import socket
 import subprocess
 import tempfile
 
@@ -34,6 +35,12 @@ def lacks_traces():
 
 
 @functools.lru_cache(None)
+def lacks_counts():
+    """What is missing for counting the instructions of a program."""
+    return lacks("valgrind") or ("valgrind runs no program here" if fails("valgrind", "--tool=none", "true") else "")
+
+
+@functools.lru_cache(None)
 def lacks_mounts():
     """What is missing for mounting files and disks that only a program sees."""
     with tempfile.NamedTemporaryFile() as file:
@@ -46,6 +53,16 @@ def lacks_networks():
     """What is missing for a network that only a program sees."""
     wrong = fails("unshare", "-rn", "sh", "-c", "echo 40000 40001 >/proc/sys/net/ipv4/ip_local_port_range")
     return lacks("unshare") or ("no network to itself here (unshare -rn)" if wrong else "")
+
+
+@functools.lru_cache(None)
+def lacks_raw_datagrams():
+    """What is missing for datagrams whose source port is 0."""
+    try:
+        socket.socket(socket.AF_INET, socket.SOCK_RAW, socket.IPPROTO_UDP).close()
+    except OSError:
+        return "no raw socket can be opened here (CAP_NET_RAW)"
+    return ""
 
 
 @functools.lru_cache(None)

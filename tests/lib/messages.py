@@ -62,6 +62,19 @@ def get(*names, id=1):
     return [message(GET, id, [(name, NULL) for name in names])]
 
 
+def of_size(size, made):
+    """What this makes of a number of octets, so many that it has just this size."""
+    most = size - len(made(0))
+    return next(it for it in map(made, range(most, most - 20, -1)) if len(it) == size)
+
+
+def asking(size, kind, names, a=0, b=0):
+    """A request for these names of just so many octets: as many as are left has its last value, which means nothing
+    where it isn't a Set."""
+    bindings, last = [(name, NULL) for name in names[:-1]], names[-1]
+    return of_size(size, lambda left: message(kind, 1, [*bindings, (last, text(b"x" * left))], a, b))
+
+
 # -- read
 
 def elements(octets):
