@@ -1,12 +1,12 @@
 -- There is an answer to each name.
-use Rattle.std.proofs.Common.{◌≡◌, ℕ, List, [], ◌∷◌, ◌++◌, refl, sym, ◌∙◌}
+use Rattle.std.proofs.Common.{◌≡◌, ℕ, List, [], ◌∷◌, refl, sym, ◌∙◌}
 use Rattle.snmp_wire.specs.declared.kind.Kind.{Kind}
 use Rattle.snmp_wire.specs.declared.kind.Kind.TheVariants as kind
 use Rattle.snmp_wire.specs.Message.{VarBind}
 use Rattle.snmp_agent.specs.table.Exact.{HasOne}
 use Rattle.snmp_agent.specs.table.Table.{MibView, IsGet, IsNext, IsNextAfter}
 use Rattle.snmp_agent.specs.Reply.{AreAnswers}
-use Rattle.snmp_agent.specs.Answering.{IsPaired, IsAnswer, AreGiven}
+use Rattle.snmp_agent.specs.Answering.{IsPaired, IsAnswer}
 
 -- the laws of a table: of each name it has one answer
 abbrev pub HasGets : Type 0
@@ -38,18 +38,6 @@ module _ (gets : HasGets) (nexts : HasNexts) where
   -- each binding of a request has an answer
   pub all_answered : (view : MibView) (k : Kind) (asked : List VarBind) → IsPaired k → (given : List VarBind) × AreAnswers (IsAnswer view k) asked given
   all_answered view k asked h = each (IsAnswer view k) (λ (a : VarBind). answered view k a h) asked
-
--- ---- rounds
-
--- each name has an answer in each round
-pub all_given : HasNextsAfter → (view : MibView) (round : ℕ) (names : List VarBind) → (given : List VarBind) × AreGiven view round names given
-all_given nexts view round names =
-    each (λ asked given. IsNextAfter view round asked.name given) (λ (asked : VarBind). let one = nexts view round asked.name in (one.0, one.1)) names
-
-pub answers_both : (R : VarBind → VarBind → Type 0) (a b x y : List VarBind) → AreAnswers R a x → AreAnswers R b y → AreAnswers R (a ++ b) (x ++ y)
-answers_both R [] b [] y h k = k
-answers_both R (q ∷ a) b (p ∷ x) y h k = (h.0, answers_both R a b x y h.1 k)
-answers_both R _ b _ y h k = absurd h
 
 -- ---- one answer
 

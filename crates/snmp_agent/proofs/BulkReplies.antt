@@ -16,8 +16,6 @@ use Rattle.snmp_agent.proofs.Requests.{bare, response_size, sealed, sealed_size}
 use Rattle.snmp_agent.proofs.Lengths.{longer, within, beyond}
 use Rattle.snmp_agent.proofs.ReplyBindings.{longer_by}
 use Rattle.snmp_agent.proofs.Fronts.{HasNoRoom, HoldsFront}
-use Rattle.snmp_agent.proofs.Answers.{HasNextsAfter}
-use Rattle.snmp_agent.proofs.Rounds.{all_bulk}
 
 -- a front that is longer than another has the binding behind that
 further : (added more ahead rest : List VarBind) → added ++ more ≡ ahead ++ rest → length added < length ahead
@@ -79,16 +77,14 @@ bulk_sent sizes pieces view limit room q m all reply n out new is asked parts ro
     )
 
 -- where not even a Response without bindings fits, none is sent
-pub bulk_unsent : MessageSizes → HasPieces → HasNextsAfter → (view : MibView) (limit : ℕ) (q m : Message) → q.kind ≡ kind.GetBulkRequest
-    → m ≡ response q no_error (pos 0) []
-    → limit < whole_size m 0 → IsResponseTooLong view limit q
-bulk_unsent sizes pieces nexts view limit q m is parts large =
-    let all = all_bulk nexts view q in
+pub bulk_unsent : MessageSizes → HasPieces → (view : MibView) (limit : ℕ) (q m : Message) (all : List VarBind) → q.kind ≡ kind.GetBulkRequest → IsBulk view q all
+    → m ≡ response q no_error (pos 0) [] → limit < whole_size m 0 → IsResponseTooLong view limit q
+bulk_unsent sizes pieces view limit q m all is asked parts large =
     let alone : limit < whole_size (response q no_error (pos 0) []) 0 = subst (λ (x : Message). limit < whole_size x 0) parts large in
     let size : length (canon_head (response q no_error (pos 0) []) 0) ≡ length (canon (response q no_error (pos 0) [])) = ap length (bare pieces q no_error
     (pos 0)) in
-    let longest : IsLongestFront limit q all.0 [] = record {
-      more = all.0;
+    let longest : IsLongestFront limit q all [] = record {
+      more = all;
       front = refl;
       fits = λ some. absurd (some refl);
       longest = λ ahead rest e fits.
@@ -100,4 +96,4 @@ bulk_unsent sizes pieces nexts view limit q m is parts large =
                 (pos 0) ahead,
           ));
     } in
-    (response q no_error (pos 0) [], bulk all.0 [] is all.1 longest refl, omega (arith, alone, size))
+    (response q no_error (pos 0) [], bulk all [] is asked longest refl, omega (arith, alone, size))

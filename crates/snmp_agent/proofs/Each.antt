@@ -1,11 +1,11 @@
 -- Each name has just one answer to a Get, and one to a GetNext.
-use Rattle.std.proofs.Common.{◌≡◌, ℕ, zero, suc, ◌+◌, ◌<◌, ◌⊎◌, inl, inr, Bool, true, false, T}
-use Rattle.std.proofs.Common.{List, [], ◌∷◌, ◌++◌, map, length, take, drop, Option, Some}
+use Rattle.std.proofs.Common.{◌≡◌, ℕ, zero, suc, ◌+◌, ◌<◌, ◌⊎◌, inl, inr, Bool, true, false}
+use Rattle.std.proofs.Common.{List, map, length, take, drop, Option, Some}
 use Rattle.std.proofs.Common.{None, Less, Equal, Greater, Ordering, refl, sym, ap, subst, ◌∙◌}
 use Rattle.std.proofs.Common.{⊎_elim, arith, length-append}
-use Rattle.std.specs.Ordering.{is_le, nat_cmp}
+use Rattle.std.specs.Ordering.{nat_cmp}
 use Rattle.std.specs.Cmp.Lexicographic.{slice_cmp}
-use Rattle.std.specs.FinMap.{get, entries, entries_sorted, get-entries, find, is_sorted}
+use Rattle.std.specs.FinMap.{get, entries}
 use Rattle.std.specs.FinSet.{contains}
 use Rattle.std.proofs.lemmas.Bool.{cases_lt}
 use Rattle.std.proofs.lemmas.List.{take-append-drop}
@@ -18,9 +18,10 @@ use Rattle.snmp_agent.specs.table.Table.{successor}
 use Rattle.snmp_agent.specs.table.Table.{end_of_view}
 use Rattle.snmp_agent.specs.table.Table.{IsNextAfter}
 use Rattle.snmp_agent.specs.table.Listing.{first_or_end}
-use Rattle.snmp_agent.specs.table.Places.{IsBeforeAll, IsBeforeNone, var_of}
-use Rattle.snmp_agent.proofs.Rising.{before_from, not_behind, same_name, second_of_both, turned}
-use Rattle.snmp_agent.proofs.Following.{IsOrder, is_next}
+use Rattle.snmp_agent.specs.table.Pages.{entries_after}
+use Rattle.snmp_agent.specs.table.Places.{var_of}
+use Rattle.snmp_agent.proofs.Rising.{same_name, turned}
+use Rattle.snmp_agent.proofs.Following.{IsOrder, behind_name, is_next}
 
 same_binding : (p q : VarBind) → p.name ≡ q.name → p.value ≡ q.value → p ≡ q
 same_binding p q name value = λ i. record { name = name i; value = value i }
@@ -96,42 +97,11 @@ one_get view o = let first = got view o in (first.0, first.1, λ q is. same_get 
 
 -- ---- GetNext
 
--- where the entries part at the name
-record Parting (o : List ℕ) (es : List (List ℕ × Datum)) : Type 0 where
-  front : List (List ℕ × Datum)
-  back : List (List ℕ × Datum)
-  parts : es ≡ front ++ back
-  passed : IsBeforeNone o front
-  ahead : IsBeforeAll o back
-
-parting : (o : List ℕ) (es : List (List ℕ × Datum)) → T (is_sorted (slice_cmp nat_cmp) es) → Parting o es
-parting o [] rising = record { front = []; back = []; parts = refl; passed = tt; ahead = tt }
-parting o (e ∷ es) rising =
-    let rest = parting o es (second_of_both _ _ rising) in
-    elim (is_le (slice_cmp nat_cmp e.0 o)) as (λ b. is_le (slice_cmp nat_cmp e.0 o) ≡ b → Parting o (e ∷ es)) [
-      | true ↦ λ up_to. record {
-        front = e ∷ rest.front;
-        back = rest.back;
-        parts = ap (λ fs. e ∷ fs) rest.parts;
-        passed = (not_behind o e.0 up_to, rest.passed);
-        ahead = rest.ahead;
-      }
-      | false ↦ λ begins. record { front = []; back = e ∷ es; parts = refl; passed = tt; ahead = before_from o e es rising begins }
-    ] refl
-
 module _ (order : IsOrder) where
   next : (view : MibView) (o : List ℕ) → (p : VarBind) × IsNext view o p
   next view o =
-      let es = entries view.rows in
-      let cut : Parting o es = parting o es (entries_sorted view.rows) in (
-        first_or_end o (map var_of cut.back),
-        is_next order view o cut.front cut.back (record {
-          found = λ q. get-entries view.rows q ∙ ap (find (slice_cmp nat_cmp) q) cut.parts;
-          rising = subst (λ (fs : List (List ℕ × Datum)). T (is_sorted (slice_cmp nat_cmp) fs)) cut.parts (entries_sorted view.rows);
-          passed = cut.passed;
-          ahead = cut.ahead;
-        }),
-      )
+      let back = behind_name view o in
+      (first_or_end o (map var_of (entries_after o (entries view.rows))), is_next order view o back.0 (entries_after o (entries view.rows)) back.1)
 
   -- two successors have one name, as neither lies between
   same_successor : (view : MibView) (o : List ℕ) (p q : VarBind) → IsSuccessor view o p → IsSuccessor view o q → p ≡ q

@@ -1,10 +1,13 @@
 -- What comes next in a list of entries whose names rise.
 use Rattle.std.proofs.Common.{◌≡◌, ◌↔◌, ℕ, zero, suc, inl, inr, T, List, [], ◌∷◌, ◌++◌, map, Some}
+use Rattle.std.proofs.Common.{true, false, cond}
 use Rattle.std.proofs.Common.{refl, sym, ◌∙◌, ap, subst, append_assoc, Less, ◌+◌, ◌≤◌}
 use Rattle.std.proofs.Common.{length, take, drop, arith, ◌-◌}
-use Rattle.std.specs.Ordering.{nat_cmp}
-use Rattle.std.specs.Cmp.Lexicographic.{slice_cmp}
-use Rattle.std.specs.FinMap.{find, is_sorted}
+use Rattle.std.specs.Ordering.{is_le, nat_cmp}
+use Rattle.std.specs.Cmp.Lexicographic.{slice_cmp, nat_list_cmp_total}
+use Rattle.std.specs.FinMap.{find, is_sorted, entries, entries_sorted, entries-from_sorted}
+use Rattle.std.specs.FinMap.{from_sorted, get-entries, get-from_sorted, same_map}
+use Rattle.std.specs.FinMap.{nat_cmp-IsAntisymmetric, slice_cmp-IsAntisymmetric}
 use Rattle.std.specs.List.{slice_get}
 use Rattle.snmp_oid.specs.Identifier.{Precedes}
 use Rattle.snmp_wire.specs.Message.{Datum, VarBind}
@@ -12,11 +15,11 @@ use Rattle.snmp_wire.specs.Message.Datum.{end_of_mib_view}
 use Rattle.snmp_agent.specs.table.Table.{MibView, IsRow, IsNext, successor, end_of_view}
 use Rattle.snmp_agent.specs.table.Table.{IsNextAfter}
 use Rattle.snmp_agent.specs.table.Listing.{first_or_end, nth_or_end}
-use Rattle.snmp_agent.specs.table.Places.{IsBeforeAll, var_of, last_name}
-use Rattle.snmp_agent.specs.table.Pages.{StandsApart, AreBehind, entries_of}
+use Rattle.snmp_agent.specs.table.Places.{IsBeforeAll, IsBeforeNone, var_of, last_name}
+use Rattle.snmp_agent.specs.table.Pages.{StandsApart, AreBehind, entries_after, entries_of}
 use Rattle.snmp_agent.proofs.Rising.{Listed, not_before_itself, not_both, before_listed}
 use Rattle.snmp_agent.proofs.Rising.{not_before_listed, listed_in_both, listed_in_second}
-use Rattle.snmp_agent.proofs.Rising.{before_later}
+use Rattle.snmp_agent.proofs.Rising.{before_from, before_later, is_behind, not_behind, second_of_both}
 use Rattle.snmp_agent.proofs.Rising.{before_no_earlier, find-listed, listed_from_find}
 
 -- the order of names is the standard's
@@ -102,6 +105,54 @@ module _ (order : IsOrder) where
       (asked_past view rounds p.0 (front ++ p ∷ []) back (past view o front back p apart) q next)
 
 -- ---- rows behind a name
+
+-- where entries part at a name
+parting : (o : List ℕ) (es : Entries) → T (is_sorted (slice_cmp nat_cmp) es)
+    → (front : Entries) × (es ≡ front ++ entries_after o es) × IsBeforeNone o front × IsBeforeAll o (entries_after o es)
+parting o [] rising = ([], refl, tt, tt)
+parting o (e ∷ es) rising =
+    let rest = parting o es (second_of_both _ _ rising) in
+    elim (is_le (slice_cmp nat_cmp e.0 o)) as (λ b. is_le (slice_cmp nat_cmp e.0 o) ≡ b
+    → (front : Entries) × (e ∷ es ≡ front ++ cond b (entries_after o es) (e ∷ es)) × IsBeforeNone o front
+    × IsBeforeAll o (cond b (entries_after o es) (e ∷ es))) [
+      | true ↦ λ up_to. (e ∷ rest.0, ap (λ fs. e ∷ fs) rest.1, (not_behind o e.0 up_to, rest.2), rest.3)
+      | false ↦ λ begins. ([], refl, tt, before_from o e es rising begins)
+    ] refl
+
+-- the variables after it are behind it
+pub behind_name : (view : MibView) (o : List ℕ) → AreBehind view o (entries_after o (entries view.rows))
+behind_name view o =
+    let parts = parting o (entries view.rows) (entries_sorted view.rows) in (
+      parts.0,
+      record {
+        found = λ q. get-entries view.rows q ∙ ap (find (slice_cmp nat_cmp) q) parts.1;
+        rising = subst (λ (es : Entries). T (is_sorted (slice_cmp nat_cmp) es)) parts.1 (entries_sorted view.rows);
+        passed = parts.2;
+        ahead = parts.3;
+      },
+    )
+
+after_both : (o : List ℕ) (front back : Entries) → IsBeforeNone o front → IsBeforeAll o back → entries_after o (front ++ back) ≡ back
+after_both o [] [] passed ahead = refl
+after_both o [] (e ∷ back) passed ahead =
+    elim (is_le (slice_cmp nat_cmp e.0 o)) as (λ b. is_le (slice_cmp nat_cmp e.0 o) ≡ b → cond b (entries_after o back) (e ∷ back) ≡ e ∷ back) [
+      | true ↦ λ up_to. absurd (not_behind o e.0 up_to ahead.0)
+      | false ↦ λ begins. refl
+    ] refl
+after_both o (e ∷ front) back passed ahead =
+    elim (is_le (slice_cmp nat_cmp e.0 o)) as (λ b. is_le (slice_cmp nat_cmp e.0 o) ≡ b
+    → cond b (entries_after o (front ++ back)) (e ∷ (front ++ back)) ≡ back) [
+      | true ↦ λ up_to. after_both o front back passed.1 ahead
+      | false ↦ λ begins. absurd (passed.0 (is_behind o e.0 begins))
+    ] refl
+
+-- and no others are
+pub all_behind : (view : MibView) (o : List ℕ) (back : List (List ℕ × Datum)) → AreBehind view o back → back ≡ entries_after o (entries view.rows)
+all_behind view o back h =
+    let es = h.0 ++ back in
+    let same : view.rows ≡ from_sorted es = same_map nat_list_cmp_total (slice_cmp-IsAntisymmetric nat_cmp-IsAntisymmetric) view.rows (from_sorted es)
+    (λ q. h.1.found q ∙ sym (get-from_sorted (slice_cmp nat_cmp) es q h.1.rising)) in
+    sym (ap (entries_after o) (ap entries same ∙ entries-from_sorted (slice_cmp nat_cmp) es h.1.rising) ∙ after_both o h.0 back h.1.passed h.1.ahead)
 
 -- the first of them is a variable
 pub first_row : (view : MibView) (o : List ℕ) (e : List ℕ × Datum) (es : List (List ℕ × Datum)) → AreBehind view o (e ∷ es) → IsRow view (var_of e)

@@ -7,7 +7,7 @@ use Rattle.std.proofs.lemmas.Bool.{cases_lt}
 use Rattle.snmp_wire.specs.Message.{VarBind}
 use Rattle.snmp_wire.specs.Canon.{canon_binding, canon_bindings, canon_element, canon_header}
 use Rattle.snmp_agent.specs.Reply.{AreAnswers}
-use Rattle.snmp_agent.specs.Answering.{Held, add, fill, Adds, Fills}
+use Rattle.snmp_agent.specs.Answering.{Held, add, fill, Adds}
 
 -- no binding is encoded by nothing
 some_octets : (p : VarBind) → 0 < length (canon_binding p)
@@ -60,11 +60,12 @@ goes_next R AreAll asked later first old now new e more go = λ rest h.
     let found = go (more.0 ∷ rest) (subst (λ (bs : List VarBind). AreAnswers R bs (more.0 ∷ rest)) (sym e) (more.1, h)) in
     (found.0, found.1, found.2 ∙ ap (λ (g : Held). fill g rest) (sym more.2))
 
-pub goes_end : (AreAll AreRest : List VarBind → Type 0) (old now : Held) → Goes AreAll AreRest old now → AreRest [] → Fills AreAll old now
+pub goes_end : (AreAll AreRest : List VarBind → Type 0) (old now : Held) → Goes AreAll AreRest old now → AreRest []
+    → (all : List VarBind) × AreAll all × (now ≡ fill old all)
 goes_end AreAll AreRest old now go none = let found = go [] none in (found.0, found.1, sym found.2)
 
 pub goes_full : (AreAll AreRest : List VarBind → Type 0) (old now : Held) → Goes AreAll AreRest old now → (rest : List VarBind) × AreRest rest → now.left ≡ 0
-    → Fills AreAll old now
+    → (all : List VarBind) × AreAll all × (now ≡ fill old all)
 goes_full AreAll AreRest old now go rest full =
     let found = go rest.0 rest.1 in
     (found.0, found.1, sym (found.2 ∙ fill_full now rest.0 full))

@@ -13,7 +13,6 @@ pub mod ReplyBindings
 pub mod Rounds
 pub mod Fronts
 pub mod BulkReplies
-pub mod RoundFronts
 pub mod Answering
 pub mod Changing
 pub mod Cuts

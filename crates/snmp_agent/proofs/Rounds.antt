@@ -1,11 +1,16 @@
 -- The rounds of a GetBulk.
-use Rattle.std.proofs.Common.{◌≡◌, ◌↔◌, ◌⊎◌, inl, inr, ℕ, zero, suc, ◌+◌, ◌≤◌, ◌<◌, List, [], ◌∷◌, ◌++◌}
-use Rattle.std.proofs.Common.{length, take, drop, refl, sym, ap, subst, ◌∙◌, arith}
+use Rattle.std.proofs.Common.{◌≡◌, ◌⊎◌, inl, inr, ℕ, zero, suc, ◌+◌, ◌-◌, ◌≤◌, ◌<◌, true, false, cond}
+use Rattle.std.proofs.Common.{List, [], ◌∷◌, ◌++◌, length, take, drop, refl, sym, ap, subst, ◌∙◌, arith}
+use Rattle.std.proofs.lemmas.List.{append-nil}
+use Rattle.std.specs.List.{list_all}
 use Rattle.snmp_wire.specs.Message.{Datum, end_of_mib_view, VarBind, Message}
-use Rattle.snmp_agent.specs.table.Table.{MibView}
+use Rattle.snmp_agent.specs.table.Table.{MibView, IsMibView}
 use Rattle.snmp_agent.specs.Reply.{AreEnds, AreRounds, IsBulk, joined, or_zero}
-use Rattle.snmp_agent.specs.Answering.{AreGiven, AreRoundsFrom, AreWritable, HasRow}
-use Rattle.snmp_agent.proofs.Answers.{HasNextsAfter, all_given}
+use Rattle.snmp_agent.specs.Answering.{AreGiven, Held, bulk_of, fill, rounds_from}
+use Rattle.snmp_agent.specs.Standing.{given_in, is_over, places_of}
+use Rattle.snmp_agent.proofs.Following.{IsOrder}
+use Rattle.snmp_agent.proofs.Fronts.{fill_both, fill_full}
+use Rattle.snmp_agent.proofs.Standing.{all_end, are_given}
 
 -- ---- endOfMibView throughout
 
@@ -13,7 +18,7 @@ is_end : (v : Datum) → (v ≡ end_of_mib_view) ⊎ (v ≡ end_of_mib_view → 
 is_end end_of_mib_view = inl refl
 is_end _ = inr (λ e. cc)
 
-pub ends_decided : (ps : List VarBind) → AreEnds ps ⊎ HasRow ps
+pub ends_decided : (ps : List VarBind) → AreEnds ps ⊎ (AreEnds ps → ⊥)
 ends_decided [] = inl tt
 ends_decided (p ∷ more) = elim (is_end p.value) [
   | inl here ↦ elim (ends_decided more) [
@@ -23,133 +28,112 @@ ends_decided (p ∷ more) = elim (is_end p.value) [
   | inr none ↦ inr (λ h. none h.0)
 ]
 
-pub ends_both : (a b : List VarBind) → (AreEnds a × AreEnds b) ↔ AreEnds (a ++ b)
-ends_both [] b = (λ h. h.1, λ h. (tt, h))
-ends_both (p ∷ a) b =
-    let rest = ends_both a b in
-    (λ h. (h.0.0, rest.0 (h.0.1, h.1)), λ h. let more = rest.1 h.1 in ((h.0, more.0), more.1))
-
--- ---- what is left
-
--- behind a round more follow, or none where it is endOfMibView throughout
-followed : (view : MibView) (names : List VarBind) (i left : ℕ) (round : List VarBind) → (rest : List (List VarBind)) × AreRoundsFrom view names i left rest
-    → (rest : List (List VarBind)) × ((AreEnds round × (rest ≡ [])) ⊎ (HasRow round × AreRoundsFrom view names i left rest))
-followed view names i left round there = elim (ends_decided round) [
-  | inl ends ↦ ([], inl (ends, refl))
-  | inr row ↦ (there.0, inr (row, there.1))
-]
-
-pub all_rounds : HasNextsAfter → (view : MibView) (names : List VarBind) (i left : ℕ) → (rounds : List (List VarBind)) × AreRoundsFrom view names i left rounds
-all_rounds nexts view names i zero = ([], tt)
-all_rounds nexts view names i (suc left) =
-    let here = all_given nexts view i names in
-    let there = followed view names (i + 1) left here.0 (all_rounds nexts view names (i + 1) left) in
-    (here.0 ∷ there.0, (here.1, there.1))
-
--- ---- the rounds by their places
-
-few_rounds : (view : MibView) (names : List VarBind) (i left : ℕ) (rounds : List (List VarBind)) → AreRoundsFrom view names i left rounds → length rounds ≤ left
-few_rounds view names i zero [] h = omega arith
-few_rounds view names i (suc left) (round ∷ more) h = elim h.1 [
-  | inl over ↦ omega (arith, ap (λ (rs : List (List VarBind)). length rs) over.1)
-  | inr goes ↦ omega (arith, few_rounds view names (i + 1) left more goes.1)
-]
-few_rounds view names i _ _ h = absurd h
-
 pub not_empty : (before later : List (List VarBind)) (round : List VarBind) → [] ≡ before ++ round ∷ later → ⊥
 not_empty [] later round e = cc
 not_empty (r ∷ before) later round e = cc
 
-given_at : (view : MibView) (names : List VarBind) (i left : ℕ) (rounds before later : List (List VarBind)) (round : List VarBind)
-    → AreRoundsFrom view names i left rounds
-    → rounds ≡ before ++ round ∷ later → AreGiven view (i + length before) names round
-given_at view names i zero [] before later round h e = absurd (not_empty before later round e)
-given_at view names i zero (r ∷ more) before later round h e = absurd h
-given_at view names i (suc left) [] before later round h e = absurd h
-given_at view names i (suc left) (r ∷ more) [] later round h e =
-    let same : r ≡ round = cc in
-    let here : i ≡ i + length {A = List VarBind} [] = omega arith in
-    subst (λ (k : ℕ). AreGiven view k names round) here (subst (λ (ps : List VarBind). AreGiven view i names ps) same h.0)
-given_at view names i (suc left) (r ∷ more) (b ∷ before) later round h e =
-    let rest : more ≡ before ++ round ∷ later = cc in
-    let place : (i + 1) + length before ≡ i + length (b ∷ before) = omega arith in
-    elim h.1 [
-      | inl over ↦ absurd (not_empty before later round (sym over.1 ∙ rest))
-      | inr goes ↦ subst (λ (k : ℕ). AreGiven view k names round) place (given_at view names (i + 1) left more before later round goes.1 rest)
-    ]
+-- ---- rounds that are added one after the other
 
-last_at : (view : MibView) (names : List VarBind) (i left : ℕ) (rounds before later : List (List VarBind)) (round : List VarBind)
-    → AreRoundsFrom view names i left rounds
-    → rounds ≡ before ++ round ∷ later → AreEnds round → later ≡ []
-last_at view names i zero [] before later round h e ends = absurd (not_empty before later round e)
-last_at view names i zero (r ∷ more) before later round h e ends = absurd h
-last_at view names i (suc left) [] before later round h e ends = absurd h
-last_at view names i (suc left) (r ∷ more) [] later round h e ends =
-    let same : r ≡ round = cc in
-    let rest : more ≡ later = cc in
-    elim h.1 [
-      | inl over ↦ sym rest ∙ over.1
-      | inr goes ↦ absurd (goes.0 (subst (λ (ps : List VarBind). AreEnds ps) (sym same) ends))
-    ]
-last_at view names i (suc left) (r ∷ more) (b ∷ before) later round h e ends =
-    let rest : more ≡ before ++ round ∷ later = cc in
-    elim h.1 [
-      | inl over ↦ absurd (not_empty before later round (sym over.1 ∙ rest))
-      | inr goes ↦ last_at view names (i + 1) left more before later round goes.1 rest ends
-    ]
+-- the rounds that are left after `round` others, added now, are all, added at the beginning
+abbrev pub AreLeft : MibView → List VarBind → ℕ → Held → ℕ → Held → Type 0
+AreLeft view names repetitions old round now = (left : ℕ) → round + left ≡ repetitions
+    → fill old (joined (rounds_from view names 0 repetitions)) ≡ fill now (joined (rounds_from view names round left))
 
-closed_early : (view : MibView) (names : List VarBind) (i left : ℕ) (rounds : List (List VarBind)) → AreRoundsFrom view names i left rounds
-    → length rounds < left
-    → (before : List (List VarBind)) × (round : List VarBind) × (rounds ≡ before ++ round ∷ []) × AreEnds round
-closed_early view names i zero rounds h short = absurd (omega (arith, short))
-closed_early view names i (suc left) [] h short = absurd h
-closed_early view names i (suc left) (r ∷ more) h short = elim h.1 [
-  | inl over ↦ ([], r, ap (λ rs. r ∷ rs) over.1, over.0)
-  | inr goes ↦
-      let rest = closed_early view names (i + 1) left more goes.1 (omega (arith, short)) in
-      (r ∷ rest.0, rest.1, ap (λ rs. r ∷ rs) rest.2, rest.3)
-]
+module _ (view : MibView) (names : List VarBind) (repetitions : ℕ) (old : Held) where
+  pub rounds_first : AreLeft view names repetitions old 0 old
+  rounds_first left e =
+      let same : repetitions ≡ left = omega (arith, e) in
+      ap (λ (k : ℕ). fill old (joined (rounds_from view names 0 k))) same
 
-pub are_rounds : (view : MibView) (repetitions : ℕ) (names : List VarBind) (rounds : List (List VarBind)) → AreRoundsFrom view names 0 repetitions rounds
-    → AreRounds view repetitions names rounds
-are_rounds view repetitions names rounds h = record {
-  few = few_rounds view names 0 repetitions rounds h;
-  successors = λ before later round e.
-      let place : 0 + length before ≡ length before = omega arith in
-      subst (λ (k : ℕ). AreGiven view k names round) place (given_at view names 0 repetitions rounds before later round h e);
-  last = λ before later round e ends. last_at view names 0 repetitions rounds before later round h e ends;
-  closed = λ short. closed_early view names 0 repetitions rounds h short;
-}
+  module _ (round : ℕ) (now new : Held) (are_left : AreLeft view names repetitions old round now) where
+    pub rounds_done : round + 0 ≡ repetitions → now ≡ fill old (joined (rounds_from view names 0 repetitions))
+    rounds_done e = sym (are_left 0 e)
 
--- ---- all bindings
+    module _ (added : new ≡ fill now (given_in view round names)) where
+      pub rounds_next : list_all is_over (places_of view round names) ≡ false → AreLeft view names repetitions old (round + 1) new
+      rounds_next goes left e =
+          let rest = rounds_from view names (round + 1) left in
+          are_left (suc left) (omega (arith, e))
+          ∙ ap (λ over. fill now (given_in view round names ++ joined (cond over [] rest))) goes ∙ fill_both now (given_in view round names) (joined rest)
+          ∙ ap (λ (h : Held). fill h (joined rest)) (sym added)
 
--- what the first names and the rounds of the others are given is all that is asked for
-pub is_bulk : (view : MibView) (q : Message) (singles : List VarBind) (rounds : List (List VarBind)) → AreGiven view 0 (take (or_zero q.a) q.bindings) singles
-    → AreRoundsFrom view (drop (or_zero q.a) q.bindings) 0 (or_zero q.b) rounds → IsBulk view q (singles ++ joined rounds)
-is_bulk view q singles rounds first others = record {
-  singles = singles;
-  rounds = rounds;
+      -- no room is left for others, or none follow
+      pub rounds_over : round < repetitions → (new.left ≡ 0) ⊎ (list_all is_over (places_of view round names) ≡ true)
+          → new ≡ fill old (joined (rounds_from view names 0 repetitions))
+      rounds_over below (inl full) =
+          let left = repetitions - (round + 1) in
+          let rest = joined (cond (list_all is_over (places_of view round names)) [] (rounds_from view names (round + 1) left)) in
+          sym (are_left (suc left) (omega (arith, below)) ∙ fill_both now (given_in view round names) rest ∙ ap (λ (h : Held). fill h rest) (sym added)
+          ∙ fill_full new rest full)
+      rounds_over below (inr over) =
+          let left = repetitions - (round + 1) in
+          sym (are_left (suc left) (omega (arith, below))
+          ∙ ap (λ over. fill now (given_in view round names ++ joined (cond over [] (rounds_from view names (round + 1) left)))) over
+          ∙ ap (fill now) (append-nil (given_in view round names)) ∙ sym added)
+
+-- ---- the rounds are those of the standard
+
+module _ (order : IsOrder) (view : MibView) (mib : IsMibView view) (names : List VarBind) where
+  -- what stands at a place, and that none follows the last one
+  at_place : (i left : ℕ) (before later : List (List VarBind)) (round : List VarBind) → rounds_from view names i left ≡ before ++ round ∷ later
+      → AreGiven view (i + length before) names round × (AreEnds round → later ≡ [])
+  at_place i zero before later round e = absurd (not_empty before later round e)
+  at_place i (suc left) [] later round e =
+      let same : given_in view i names ≡ round = cc in
+      let rest : cond (list_all is_over (places_of view i names)) [] (rounds_from view names (i + 1) left) ≡ later = cc in
+      let place : i ≡ i + length {A = List VarBind} [] = omega arith in (
+        subst (λ (k : ℕ). AreGiven view k names round) place (subst (λ (ps : List VarBind). AreGiven view i names ps) same (are_given order view i names)),
+        λ ends.
+            sym rest ∙ ap (λ over. cond over [] (rounds_from view names (i + 1) left))
+            ((all_end view mib i names).1 (subst (λ (ps : List VarBind). AreEnds ps) (sym same) ends)),
+      )
+  at_place i (suc left) (b ∷ before) later round e =
+      let rest : cond (list_all is_over (places_of view i names)) [] (rounds_from view names (i + 1) left) ≡ before ++ round ∷ later = cc in
+      elim (list_all is_over (places_of view i names)) as (λ over. cond over [] (rounds_from view names (i + 1) left) ≡ before ++ round ∷ later
+      → AreGiven view (i + length (b ∷ before)) names round × (AreEnds round → later ≡ [])) [
+        | true ↦ λ none. absurd (not_empty before later round none)
+        | false ↦ λ goes.
+            let there = at_place (i + 1) left before later round goes in
+            let place : (i + 1) + length before ≡ i + length (b ∷ before) = omega arith in
+            (subst (λ (k : ℕ). AreGiven view k names round) place there.0, there.1)
+      ] rest
+
+  -- where there are fewer, the last one is endOfMibView throughout
+  early : (i left : ℕ) → (length (rounds_from view names i left) ≤ left)
+      × (length (rounds_from view names i left) < left
+      → (before : List (List VarBind)) × (round : List VarBind) × (rounds_from view names i left ≡ before ++ round ∷ []) × AreEnds round)
+  early i zero = (omega arith, λ short. absurd (omega (arith, short)))
+  early i (suc left) =
+      let given = given_in view i names in
+      elim (list_all is_over (places_of view i names)) as (λ over. list_all is_over (places_of view i names) ≡ over
+      → (length (given ∷ cond over [] (rounds_from view names (i + 1) left)) ≤ suc left)
+      × (length (given ∷ cond over [] (rounds_from view names (i + 1) left)) < suc left
+      → (before : List (List VarBind)) × (round : List VarBind) × (given ∷ cond over [] (rounds_from view names (i + 1) left) ≡ before ++ round ∷ [])
+      × AreEnds round)) [
+        | true ↦ λ over. (omega arith, λ short. ([], given, refl, (all_end view mib i names).0 over))
+        | false ↦ λ goes.
+            let rest = early (i + 1) left in (
+              omega (arith, rest.0),
+              λ short. let last = rest.1 (omega (arith, short)) in (given ∷ last.0, last.1, ap (λ rs. given ∷ rs) last.2, last.3),
+            )
+      ] refl
+
+  are_rounds : (repetitions : ℕ) → AreRounds view repetitions names (rounds_from view names 0 repetitions)
+  are_rounds repetitions = record {
+    few = (early 0 repetitions).0;
+    successors = λ before later round e.
+        let place : 0 + length before ≡ length before = omega arith in
+        subst (λ (k : ℕ). AreGiven view k names round) place (at_place 0 repetitions before later round e).0;
+    last = λ before later round e. (at_place 0 repetitions before later round e).1;
+    closed = (early 0 repetitions).1;
+  }
+
+-- and all bindings are those that a GetBulk asks for
+pub is_bulk : IsOrder → (view : MibView) → IsMibView view → (q : Message) → IsBulk view q (bulk_of view q)
+is_bulk order view mib q = record {
+  singles = given_in view 0 (take (or_zero q.a) q.bindings);
+  rounds = rounds_from view (drop (or_zero q.a) q.bindings) 0 (or_zero q.b);
   parts = refl;
-  are_singles = first;
-  are_rounds = are_rounds view (or_zero q.b) (drop (or_zero q.a) q.bindings) rounds others;
+  are_singles = are_given order view 0 (take (or_zero q.a) q.bindings);
+  are_rounds = are_rounds order view mib (drop (or_zero q.a) q.bindings) (or_zero q.b);
 }
-
-pub all_bulk : HasNextsAfter → (view : MibView) (q : Message) → (all : List VarBind) × IsBulk view q all
-all_bulk nexts view q =
-    let singles = all_given nexts view 0 (take (or_zero q.a) q.bindings) in
-    let rounds = all_rounds nexts view (drop (or_zero q.a) q.bindings) 0 (or_zero q.b) in
-    (singles.0 ++ joined rounds.0, is_bulk view q singles.0 rounds.0 singles.1 rounds.1)
-
--- the same, as found
-pub bulk_of : (view : MibView) (q : Message) (count repetitions : ℕ) (bindings names singles : List VarBind) (rounds : List (List VarBind))
-    → count ≡ or_zero q.a → repetitions ≡ or_zero q.b
-    → bindings ≡ q.bindings → names ≡ drop count bindings → AreGiven view 0 (take count bindings) singles → AreRoundsFrom view names 0 repetitions rounds
-    → IsBulk view q (singles ++ joined rounds)
-bulk_of view q count repetitions bindings names singles rounds same_count same_repetitions same_bindings behind first others =
-    is_bulk view q singles rounds (rw (same_count, same_bindings) at first) (rw (behind, same_count, same_bindings, same_repetitions) at others)
-
--- what is left of the names has encodings
-pub writable_drop : (count : ℕ) (names : List VarBind) → AreWritable names → AreWritable (drop count names)
-writable_drop zero names h = h
-writable_drop (suc count) [] h = tt
-writable_drop (suc count) (name ∷ names) h = writable_drop count names h.1

@@ -1,7 +1,8 @@
 -- How replies are made: what private functions are proved to find and to write. Only contracts of
 -- functions that the crate doesn't export cite these definitions.
-use Rattle.std.specs.Prelude.{◌≡◌, ◌⊎◌, ℕ, zero, suc, ℤ, pos, ◌+◌, ◌≤◌, ◌<◌, List, [], ◌∷◌}
-use Rattle.std.specs.Prelude.{◌++◌, ◌-◌, length, take, cond, leb}
+use Rattle.std.specs.Prelude.{◌≡◌, ℕ, zero, suc, ℤ, pos, ◌+◌, ◌≤◌, ◌<◌, List, [], ◌∷◌}
+use Rattle.std.specs.Prelude.{◌++◌, ◌-◌, length, take, drop, cond, leb}
+use Rattle.std.specs.List.{list_all}
 use Rattle.snmp_oid.specs.Identifier.{IsWire}
 use Rattle.snmp_wire.specs.declared.kind.Kind.{Kind}
 use Rattle.snmp_wire.specs.declared.kind.Kind.TheVariants as kind
@@ -10,8 +11,9 @@ use Rattle.snmp_wire.specs.Message.{VarBind, Message}
 use Rattle.snmp_wire.specs.Canon.{canon, canon_binding, canon_bindings, canon_head}
 use Rattle.snmp_agent.specs.table.Table.{MibView, IsGet, IsNext, IsNextAfter}
 use Rattle.snmp_agent.specs.declared.room.ReplyBindings.{ReplyBindings}
-use Rattle.snmp_agent.specs.Reply.{AreAnswers, AreEnds, IsResponse, not_writable, no_error}
-use Rattle.snmp_agent.specs.Reply.{failed_place, joined}
+use Rattle.snmp_agent.specs.Reply.{AreAnswers, IsResponse, not_writable, no_error}
+use Rattle.snmp_agent.specs.Reply.{failed_place, joined, or_zero}
+use Rattle.snmp_agent.specs.Standing.{given_in, is_over, places_of}
 
 -- the kinds of request whose reply has one binding for each of theirs
 abbrev pub IsPaired : Kind → Type 0
@@ -117,29 +119,21 @@ fill h (p ∷ more) = fill (add h p) more
 abbrev pub Adds : (VarBind → Type 0) → Held → Held → Type 0
 Adds IsGiven old new = (p : VarBind) × IsGiven p × (new ≡ add old p)
 
--- bindings are appended of which this is true
-abbrev pub Fills : (List VarBind → Type 0) → Held → Held → Type 0
-Fills AreAll old new = (all : List VarBind) × AreAll all × (new ≡ fill old all)
-
 -- ---- GetBulk
 
 -- what a GetBulk returns for the names in the round after `round` others
 abbrev pub AreGiven : MibView → ℕ → List VarBind → List VarBind → Type 0
 AreGiven view round = AreAnswers (λ asked given. IsNextAfter view round asked.name given)
 
--- a round after which another may come: not all of it is endOfMibView
-abbrev pub HasRow : List VarBind → Type 0
-HasRow round = AreEnds round → ⊥
+-- the rounds of the names after `round` others, at most `left`; none comes after one before which
+-- no variable was left at any place
+abbrev pub rounds_from : MibView → List VarBind → ℕ → ℕ → List (List VarBind)
+rounds_from view names round zero = []
+rounds_from view names round (suc left) = given_in view round names
+    ∷ cond (list_all is_over (places_of view round names)) []
+    (rounds_from view names (round + 1) left)
 
--- the rounds from number `i` on, counted from 0; the fourth argument is how many more are asked for
-abbrev pub AreRoundsFrom : MibView → List VarBind → ℕ → ℕ → List (List VarBind) → Type 0
-AreRoundsFrom view names i zero [] = Unit {0}
-AreRoundsFrom view names i (suc left) (round ∷ more) =
-    AreGiven view i names round × ((AreEnds round × (more ≡ [])) ⊎ ((AreEnds round
-    → ⊥) × AreRoundsFrom view names (i + 1) left more))
-AreRoundsFrom view names i _ _ = ⊥
-
--- the rounds of the names are appended
-abbrev pub FillsRounds : MibView → List VarBind → ℕ → Held → Held → Type 0
-FillsRounds view names repetitions old new = (rounds : List (List VarBind))
-    × AreRoundsFrom view names 0 repetitions rounds × (new ≡ fill old (joined rounds))
+-- all bindings that a GetBulk asks for
+abbrev pub bulk_of : MibView → Message → List VarBind
+bulk_of view q = given_in view 0 (take (or_zero q.a) q.bindings)
+    ++ joined (rounds_from view (drop (or_zero q.a) q.bindings) 0 (or_zero q.b))

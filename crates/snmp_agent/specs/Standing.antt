@@ -1,18 +1,18 @@
--- Where the names that repeat in a GetBulk stand among the variables of a view. Only contracts of
--- functions that the crate doesn't export cite these definitions.
-use Rattle.std.specs.Prelude.{◌≡◌, ℕ, List, [], ◌∷◌, ◌++◌, All, map}
-use Rattle.snmp_oid.specs.Identifier.{IsWire}
+-- Where the names that repeat in a GetBulk stand among the variables of a view, and what they are
+-- given there. Only contracts of functions that the crate doesn't export cite these definitions.
+use Rattle.std.specs.Prelude.{ℕ, Bool, true, false, List, [], ◌∷◌, drop, map, take}
+use Rattle.std.specs.FinMap.{entries}
 use Rattle.snmp_wire.specs.Message.{Datum, VarBind}
-use Rattle.snmp_agent.specs.table.Table.{MibView, IsNext, IsNextAfter}
+use Rattle.snmp_agent.specs.table.Table.{MibView}
 use Rattle.snmp_agent.specs.table.Listing.{first_or_end}
-use Rattle.snmp_agent.specs.table.Pages.{AreBehind}
-use Rattle.snmp_agent.specs.table.Places.{var_of}
+use Rattle.snmp_agent.specs.table.Pages.{entries_after}
+use Rattle.snmp_agent.specs.table.Places.{last_name, var_of}
 use Rattle.snmp_agent.specs.declared.place.Given.{Given}
 use Rattle.snmp_agent.specs.declared.place.Given.TheVariants as given
 
 -- the name of what was given last
 abbrev pub name_of : Given → List ℕ
-name_of given.Nothing = []
+name_of given.Nothing = 0 ∷ 0 ∷ []
 name_of (given.Asked name) = name
 name_of (given.Row row) = row.now.name
 
@@ -34,29 +34,23 @@ next_at place = first_or_end place.name (map var_of place.rows)
 abbrev pub passed : Standing → Standing
 passed place = behind_first place.name place.rows
 
--- the place is where a name stands after `round` rounds: what comes next there is what the name is
--- given in the round after them
-pub record Stands (view : MibView) (round : ℕ) (asked : List ℕ) (place : Standing) : Type 0 where
-  pub wire : IsWire place.name
-  pub behind : AreBehind view place.name place.rows
-  pub chain : (p : VarBind) → IsNext view place.name p → IsNextAfter view round asked p
+abbrev pub has_none : List (List ℕ × Datum) → Bool
+has_none [] = true
+has_none (e ∷ es) = false
 
--- each name stands at the place that is beside it
-abbrev pub AreStanding : MibView → ℕ → List VarBind → List Standing → Type 0
-AreStanding view round [] [] = Unit {0}
-AreStanding view round (asked ∷ more) (place ∷ places) = Stands view round asked.name place
-    × AreStanding view round more places
-AreStanding view round _ _ = ⊥
+-- whether no variable is left at the place
+abbrev pub is_over : Standing → Bool
+is_over place = has_none place.rows
 
--- the names at the places have encodings
-abbrev pub AreWireNames : List Standing → Type 0
-AreWireNames places = All (λ (place : Standing). IsWire place.name) places
+-- where a name stands after `round` rounds
+unfoldable pub place_of : MibView → ℕ → List ℕ → Standing
+place_of view round o =
+    let back = entries_after o (entries view.rows) in
+    record { name = last_name o (take round back); rows = drop round back }
 
--- no variable is left at any place
-abbrev pub AreAtEnd : List Standing → Type 0
-AreAtEnd places = All (λ (place : Standing). place.rows ≡ []) places
+abbrev pub places_of : MibView → ℕ → List VarBind → List Standing
+places_of view round names = map (λ (asked : VarBind). place_of view round asked.name) names
 
--- the first of the names stand at the places, and the others are left
-abbrev pub StandIn : MibView → ℕ → List VarBind → List Standing → List VarBind → Type 0
-StandIn view round names places others = (first : List VarBind) × (names ≡ first ++ others)
-    × AreStanding view round first places
+-- what a GetBulk returns for the names in the round after `round` others
+abbrev pub given_in : MibView → ℕ → List VarBind → List VarBind
+given_in view round names = map next_at (places_of view round names)

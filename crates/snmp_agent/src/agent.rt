@@ -14,7 +14,8 @@ use crate::bulk::append_bulk;
 use crate::config::{Config, Outcome, Why};
 use crate::draft::{append_answers, room_for_bindings};
 use crate::room::ReplyBindings;
-use crate::table::{Guesses, Hint, Last, Table, one_answer};
+use crate::table::{Guesses, Hint, Last, Table};
+use snmp_oid::order;
 use snmp_wire::{
     Kind, MAX_DATAGRAM, MessageRef, Parts, decode, encode_head, head_size, message_sizes, pieces,
     seal,
@@ -155,12 +156,12 @@ fn bulk_reply<'a>(
 ) -> Option<usize>
     requires bulk { request.now.kind ≡ kind.GetBulkRequest }
     requires community { length request.now.community ≤ 255 }
-    requires writable { AreWritable request.now.bindings }
     ensures sent { IfSome result
         (λ n. IsResponseWritten table.now config.now.max_size request.now n out.new) }
     ensures none { IfNone result (IsResponseTooLong table.now config.now.max_size request.now) }
 {
-    one_answer();
+    order();
+    table.is_mib_view();
     message_sizes();
     pieces();
     let parts = response(request, NO_ERROR, 0);

@@ -2,21 +2,17 @@
 //!
 //! They are written to the front of the output, as those of other replies are, and end before the
 //! first for which there is no room.
-ghost use Rattle.std.specs.Prelude.{◌≡◌, ◌≢◌, ◌↔◌, List, [], ◌∷◌, ◌++◌, take, drop, map};
-ghost use Rattle.std.specs.Prelude.{IsTrue};
-ghost use Rattle.snmp_wire.specs.Message.{VarBind};
-ghost use Rattle.snmp_agent.specs.Reply.{AreEnds, IsBulk, or_zero};
-ghost use Rattle.snmp_agent.specs.Answering.{AreWritable, AreGiven, Fills, FillsRounds, fill, held};
-ghost use Rattle.snmp_oid.specs.Identifier.{IsWire};
-ghost use Rattle.snmp_agent.specs.Standing.{AreStanding, AreWireNames, AreAtEnd, StandIn};
-ghost use Rattle.snmp_agent.specs.Standing.{next_at, passed};
+ghost use Rattle.std.specs.Prelude.{◌≡◌, ◌≢◌, ◌⊎◌, [], ◌∷◌, ◌++◌, true, false, take, drop, map};
+ghost use Rattle.std.specs.List.{list_all};
+ghost use Rattle.snmp_agent.specs.Reply.{joined, or_zero};
+ghost use Rattle.snmp_agent.specs.Answering.{bulk_of, fill, held, rounds_from};
+ghost use Rattle.snmp_agent.specs.Standing.{given_in, is_over, next_at, passed, places_of};
 
 use crate::draft::append_next;
 use crate::place::Place;
 use crate::room::ReplyBindings;
-use crate::table::{Guesses, Table, one_answer};
+use crate::table::{Guesses, Table};
 use arrayvec::ArrayVec;
-use snmp_oid::order;
 use snmp_wire::{BindingRef, Bindings, MAX_DATAGRAM, MessageRef};
 
 /// The most names that keep their places from one round to the next.
@@ -30,10 +26,8 @@ pub fn append_bulk<'a>(
     out: &mut [u8; MAX_DATAGRAM],
     hint: &mut Guesses<'_>,
 ) -> ReplyBindings
-    requires { AreWritable request.now.bindings }
-    ensures { Fills (IsBulk table.now request.now) (held reply out.old) (held result out.new) }
+    ensures { held result out.new ≡ fill (held reply out.old) (bulk_of table.now request.now) }
 {
-    one_answer();
     let mut bindings = request.bindings();
     let count = or_zero(request.a());
     let reply = append_singles(table, count, &mut bindings, reply, out, hint);
@@ -61,12 +55,10 @@ fn append_singles<'a>(
     out: &mut [u8; MAX_DATAGRAM],
     hint: &mut Guesses<'_>,
 ) -> ReplyBindings
-    requires { AreWritable bindings.old }
-    ensures filled { Fills (AreGiven table.now 0 (take count bindings.old)) (held reply out.old)
-        (held result out.new) }
+    ensures filled { held result out.new
+        ≡ fill (held reply out.old) (given_in table.now 0 (take count bindings.old)) }
     ensures left { result.left ≢ 0 → bindings.new ≡ drop count bindings.old }
 {
-    one_answer();
     let mut reply = reply;
     'singles: for _ in 0..count {
         let Some(asked) = bindings.next_ref() else {
@@ -89,9 +81,8 @@ fn append_repeaters<'a>(
     out: &mut [u8; MAX_DATAGRAM],
     hint: &mut Guesses<'_>,
 ) -> ReplyBindings
-    requires { AreWritable bindings }
-    ensures { FillsRounds table.now bindings.entry repetitions (held reply out.old)
-        (held result out.new) }
+    ensures { held result out.new ≡ fill (held reply out.old)
+        (joined (rounds_from table.now bindings.entry 0 repetitions)) }
 {
     let mut others = bindings.left();
     match (others.next_ref(), others.next_ref()) {
@@ -110,13 +101,9 @@ fn append_column<'a>(
     out: &mut [u8; MAX_DATAGRAM],
     hint: &mut Guesses<'_>,
 ) -> ReplyBindings
-    requires { IsWire asked.name }
-    ensures { FillsRounds table.now (asked.entry ∷ []) repetitions (held reply out.old)
-        (held result out.new) }
+    ensures { held result out.new ≡ fill (held reply out.old)
+        (joined (rounds_from table.now (asked.entry ∷ []) 0 repetitions)) }
 {
-    one_answer();
-    order();
-    table.is_mib_view();
     let mut reply = reply;
     let mut place = Place::of_walk(table, asked.name(), hint);
     'rounds: for _ in 0..repetitions {
@@ -149,9 +136,8 @@ fn append_columns<'a>(
     out: &mut [u8; MAX_DATAGRAM],
     hint: &mut Guesses<'_>,
 ) -> ReplyBindings
-    requires { AreWritable bindings }
-    ensures { FillsRounds table.now bindings.entry repetitions (held reply out.old)
-        (held result out.new) }
+    ensures { held result out.new ≡ fill (held reply out.old)
+        (joined (rounds_from table.now bindings.entry 0 repetitions)) }
 {
     let mut others = bindings.left();
     let mut places = ArrayVec::new();
@@ -167,10 +153,9 @@ fn keep_places<'a>(
     places: &mut ArrayVec<Place<'a>, MAX_PLACES>,
     hint: &mut Guesses<'_>,
 )
-    requires writable { AreWritable bindings.old }
-    requires none { places.old.items ≡ [] }
-    ensures standing { StandIn table.now 0 bindings.old places.new.items bindings.new }
-    ensures writable { AreWritable bindings.new }
+    requires { places.old.items ≡ [] }
+    ensures { places.new.items ++ places_of table.now 0 bindings.new
+        ≡ places_of table.now 0 bindings.old }
 {
     'names: while !places.is_full() {
         let Some(asked) = bindings.next_ref() else {
@@ -192,33 +177,63 @@ fn append_rounds<'a>(
     reply: ReplyBindings,
     out: &mut [u8; MAX_DATAGRAM],
 ) -> ReplyBindings
-    requires standing { StandIn table.now 0 bindings.now places.old others }
-    requires writable { AreWritable others }
-    ensures { FillsRounds table.now bindings.now repetitions (held reply out.old)
-        (held result out.new) }
+    requires { places.old ++ places_of table.now 0 others ≡ places_of table.now 0 bindings.now }
+    ensures { held result out.new ≡ fill (held reply out.old)
+        (joined (rounds_from table.now bindings.now 0 repetitions)) }
 {
-    one_answer();
-    order();
-    table.is_mib_view();
     let mut reply = reply;
     'rounds: for round in 0..repetitions {
-        let are_over = are_at_end(places);
-        reply = append_places(places, reply, out);
-        let (end, is_over) = append_others(table, round, others.left(), are_over, reply, out);
+        let (end, is_over) = append_round(table, round, places, others.left(), reply, out);
         reply = end;
         if is_over {
-            return reply;
-        }
-        if reply.is_full() {
             return reply;
         }
     }
     reply
 }
 
+/// Appends what comes next at each place, and moves the places behind that. Then appends what each
+/// of the other bindings is given after `round` rounds. Also returns whether no round follows:
+/// there is no room for more, or no row was left at any place.
+fn append_round<'a>(
+    table: &'a Table,
+    round: usize,
+    places: &mut [Place<'a>],
+    mut others: Bindings<'a>,
+    reply: ReplyBindings,
+    out: &mut [u8; MAX_DATAGRAM],
+) -> (ReplyBindings, bool)
+    ensures filled { held result.0 out.new ≡ fill (held reply out.old)
+        (map next_at (places.old ++ places_of table.now round others.entry)) }
+    ensures last { result.1 ≡ true → (result.0.left ≡ 0)
+        ⊎ (list_all is_over (places.old ++ places_of table.now round others.entry) ≡ true) }
+    ensures goes { result.1 ≡ false
+        → list_all is_over (places.old ++ places_of table.now round others.entry) ≡ false }
+    ensures moved { result.1 ≡ false → places.new ≡ map passed places.old }
+{
+    let mut reply = reply;
+    let mut are_over = are_at_end(places);
+    'places: for place in places.iter_mut() {
+        reply = place.append_next(reply, out);
+        if reply.is_full() {
+            return (reply, true);
+        }
+    }
+    'others: while let Some(asked) = others.next_ref() {
+        let mut place = Place::after_rounds(table, asked.name(), round);
+        let is_last = place.is_at_end();
+        are_over = are_over && is_last;
+        reply = place.append_next(reply, out);
+        if reply.is_full() {
+            return (reply, true);
+        }
+    }
+    (reply, are_over)
+}
+
 /// Whether no row is left at any place.
 fn are_at_end(places: &[Place<'_>]) -> bool
-    ensures { IsTrue result ↔ AreAtEnd places.now }
+    ensures { result ≡ list_all is_over places.now }
 {
     'places: for place in places {
         if !place.is_at_end() {
@@ -226,58 +241,4 @@ fn are_at_end(places: &[Place<'_>]) -> bool
         }
     }
     true
-}
-
-/// Appends what comes next at each place, and moves the places behind that, until there is no room.
-fn append_places(
-    places: &mut [Place<'_>],
-    reply: ReplyBindings,
-    out: &mut [u8; MAX_DATAGRAM],
-) -> ReplyBindings
-    requires { AreWireNames places.old }
-    ensures filled { held result out.new ≡ fill (held reply out.old) (map next_at places.old) }
-    ensures moved { result.left ≢ 0 → places.new ≡ map passed places.old }
-{
-    let mut reply = reply;
-    'places: for place in places.iter_mut() {
-        reply = place.append_next(reply, out);
-        if reply.is_full() {
-            return reply;
-        }
-    }
-    reply
-}
-
-/// Appends what each binding is given in the round after `round` others, until there is no room.
-/// Also returns whether the round is the last one: no row was left for these bindings nor, as
-/// `are_over` says, for those before them.
-fn append_others<'a>(
-    table: &'a Table,
-    round: usize,
-    mut bindings: Bindings<'a>,
-    are_over: bool,
-    reply: ReplyBindings,
-    out: &mut [u8; MAX_DATAGRAM],
-) -> (ReplyBindings, bool)
-    requires { AreWritable bindings }
-    ensures { (all : List VarBind) × AreGiven table.now round bindings.entry all
-        × (held result.0 out.new ≡ fill (held reply out.old) all)
-        × (IsTrue result.1 → IsTrue are_over × AreEnds all)
-        × (result.0.left ≢ 0 → IsTrue are_over → AreEnds all → IsTrue result.1) }
-{
-    one_answer();
-    order();
-    table.is_mib_view();
-    let mut reply = reply;
-    let mut are_over = are_over;
-    'bindings: while let Some(asked) = bindings.next_ref() {
-        if reply.is_full() {
-            return (reply, false);
-        }
-        let mut place = Place::after_rounds(table, asked.name(), round);
-        let is_last = place.is_at_end();
-        are_over = are_over && is_last;
-        reply = place.append_next(reply, out);
-    }
-    (reply, are_over)
 }

@@ -10,7 +10,8 @@ ghost use Rattle.snmp_agent.specs.Reply.{AreAnswers};
 ghost use Rattle.snmp_agent.specs.Answering.{IsPaired, IsAnswer, IsWritable, AreWritable};
 ghost use Rattle.snmp_agent.specs.Answering.{HoldsBindings, IsRoom, PassesLimit, whole_size};
 ghost use Rattle.snmp_agent.specs.Answering.{Adds, add, held};
-ghost use Rattle.snmp_agent.specs.table.Table.{IsGet, IsNext};
+ghost use Rattle.snmp_agent.specs.Standing.{next_at, place_of};
+ghost use Rattle.snmp_agent.specs.table.Table.{IsGet};
 
 use crate::config::Config;
 use crate::place::{Given, append_end};
@@ -69,6 +70,7 @@ fn append_answer(
     requires writable { IsWritable asked.now }
     ensures { Adds (IsAnswer table.now kind asked.now) (held reply out.old) (held result out.new) }
 {
+    order();
     match kind {
         Kind::GetRequest => append_get(table, asked, reply, out, hint),
         Kind::GetNextRequest => append_next(table, asked, reply, out, hint),
@@ -84,7 +86,6 @@ fn append_get(
     out: &mut [u8; MAX_DATAGRAM],
     hint: &mut Guesses<'_>,
 ) -> ReplyBindings
-    requires { IsWritable asked.now }
     ensures { Adds (IsGet table.now asked.now.name) (held reply out.old) (held result out.new) }
 {
     match table.row_near(&asked.name(), hint) {
@@ -102,12 +103,13 @@ fn append_exception(
     reply: ReplyBindings,
     out: &mut [u8; MAX_DATAGRAM],
 ) -> ReplyBindings
-    requires writable { IsWritable asked.now }
-    requires none { get table.now.rows asked.now.name ≡ None }
+    requires { get table.now.rows asked.now.name ≡ None }
     ensures { Adds (IsGet table.now asked.now.name) (held reply out.old) (held result out.new) }
 {
     let mut binding = blank();
-    asked.name().read_into(&mut binding.name);
+    let name = asked.name();
+    let _content = name.content();
+    name.read_into(&mut binding.name);
     binding.value = table.exception(&binding.name);
     reply.append(out, &binding)
 }
@@ -121,10 +123,9 @@ pub fn append_next(
     out: &mut [u8; MAX_DATAGRAM],
     hint: &mut Guesses<'_>,
 ) -> ReplyBindings
-    requires { IsWritable asked.now }
-    ensures { Adds (IsNext table.now asked.now.name) (held reply out.old) (held result out.new) }
+    ensures { held result out.new
+        ≡ add (held reply out.old) (next_at (place_of table.now 0 asked.now.name)) }
 {
-    order();
     let name = asked.name();
     let mut rows = table.after_last(&name, hint);
     match rows.next_row() {

@@ -7,19 +7,39 @@ ghost use Rattle.snmp_agent.specs.Standing.{name_of};
 
 use crate::room::{ReplyBindings, blank};
 use crate::table::{Guesses, Successors, Table};
-use snmp_oid::order;
-use snmp_wire::{EncodedBinding, EncodedName, MAX_DATAGRAM, ValueRef};
+use snmp_wire::{EncodedBinding, EncodedName, MAX_DATAGRAM, Oid, ValueRef};
 use std::marker::Model;
 
 /// What a repeating name of a GetBulk was given in the round before.
 #[derive(Drop)]
 pub enum Given<'a> {
-    /// Nothing, and there is no name: the default, for an array of places.
+    /// Nothing, and the name is 0.0: the default, for an array of places.
     Nothing,
     /// Nothing yet: this is the name in the request.
     Asked(EncodedName<'a>),
     /// A row.
     Row(&'a EncodedBinding),
+}
+
+impl Given<'_> {
+    /// Reads the name, which has an encoding, into an existing one.
+    fn read_name(&self, into: &mut Oid)
+        ensures name { into.new ≡ name_of self.now }
+        ensures wire { IsWire into.new }
+    {
+        match self {
+            Given::Nothing => into.set_to_numbers(&[0, 0]),
+            Given::Asked(name) => {
+                let _content = name.content();
+                name.read_into(into);
+            }
+            Given::Row(row) => {
+                let name = row.name();
+                let _content = name.content();
+                name.read_into(into);
+            }
+        }
+    }
 }
 
 /// The place of a repeating name of a GetBulk among the rows of the table.
@@ -40,9 +60,9 @@ impl<'a> Model for Place<'a> {
 }
 
 impl<'a> Default for Place<'a> {
-    ghost use Rattle.std.specs.Prelude.{◌≡◌, []};
+    ghost use Rattle.std.specs.Prelude.{◌≡◌, ◌∷◌, []};
 
-    ghost is_default = { λ place. place.name ≡ [] };
+    ghost is_default = { λ place. place.name ≡ 0 ∷ 0 ∷ [] };
 
     fn default() -> Place<'a> {
         Place {
@@ -53,16 +73,13 @@ impl<'a> Default for Place<'a> {
 }
 
 impl<'a> Place<'a> {
-    ghost use Rattle.std.specs.Prelude.{◌≡◌, ◌↔◌, [], IsTrue};
-    ghost use Rattle.snmp_oid.specs.Identifier.{IsWire};
+    ghost use Rattle.std.specs.Prelude.{◌≡◌};
     ghost use Rattle.snmp_agent.specs.Answering.{add, held};
-    ghost use Rattle.snmp_agent.specs.Standing.{Stands, next_at, passed};
-    ghost use Rattle.snmp_agent.specs.table.Pages.{AreBehind};
+    ghost use Rattle.snmp_agent.specs.Standing.{is_over, next_at, passed, place_of};
 
     /// The place of a name of a request, before any round.
     pub fn new(table: &'a Table, name: EncodedName<'a>, hint: &mut Guesses<'_>) -> Place<'a>
-        ensures name { result.name ≡ name.entry }
-        ensures behind { AreBehind table.now name.entry result.rows }
+        ensures { result ≡ place_of table.now 0 name.entry }
     {
         let rows = table.after_near(&name, hint);
         Place {
@@ -73,8 +90,7 @@ impl<'a> Place<'a> {
 
     /// [`Place::new`] for the name that a walk asks from, mostly that of the row given last.
     pub fn of_walk(table: &'a Table, name: EncodedName<'a>, hint: &mut Guesses<'_>) -> Place<'a>
-        ensures name { result.name ≡ name.entry }
-        ensures behind { AreBehind table.now name.entry result.rows }
+        ensures { result ≡ place_of table.now 0 name.entry }
     {
         let rows = table.after_last(&name, hint);
         Place {
@@ -85,11 +101,8 @@ impl<'a> Place<'a> {
 
     /// The place of a name of a request after this many rounds.
     pub fn after_rounds(table: &'a Table, name: EncodedName<'a>, rounds: usize) -> Place<'a>
-        requires { IsWire name }
-        ensures { Stands table.now rounds name.entry result }
+        ensures { result ≡ place_of table.now rounds name.entry }
     {
-        order();
-        table.is_mib_view();
         let mut rows = table.after(&name);
         match rows.skip_rows(rounds) {
             Some(row) => Place {
@@ -112,7 +125,7 @@ impl<'a> Place<'a> {
     /// Whether no row is left, so that the name is given `EndOfMibView`.
     #[inline]
     pub fn is_at_end(&self) -> bool
-        ensures { IsTrue result ↔ (self.now.rows ≡ []) }
+        ensures { result ≡ is_over self.now }
     {
         self.rows.is_empty()
     }
@@ -124,7 +137,6 @@ impl<'a> Place<'a> {
         reply: ReplyBindings,
         out: &mut [u8; MAX_DATAGRAM],
     ) -> ReplyBindings
-        requires { IsWire self.old.name }
         ensures added { held result out.new ≡ add (held reply out.old) (next_at self.old) }
         ensures moved { self.new ≡ passed self.old }
     {
@@ -146,16 +158,11 @@ pub fn append_end(
     reply: ReplyBindings,
     out: &mut [u8; MAX_DATAGRAM],
 ) -> ReplyBindings
-    requires { IsWire (name_of given.now) }
     ensures { held result out.new ≡ add (held reply out.old)
         (record { name = name_of given.now; value = end_of_mib_view }) }
 {
     let mut binding = blank();
-    match given {
-        Given::Nothing => {}
-        Given::Asked(name) => name.read_into(&mut binding.name),
-        Given::Row(row) => row.name().read_into(&mut binding.name),
-    }
+    given.read_name(&mut binding.name);
     binding.value = ValueRef::EndOfMibView;
     reply.append(out, &binding)
 }

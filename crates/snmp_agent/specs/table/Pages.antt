@@ -1,7 +1,7 @@
 -- How a table keeps its rows: in pages, by rising names over all of them. Of these definitions,
 -- clauses of public functions cite `AreBehind` alone.
 use Rattle.std.specs.Prelude.{◌≡◌, ℕ, suc, Some, ◌≤◌, ◌<◌, T, Bool, true, is_some, List, [], ◌∷◌}
-use Rattle.std.specs.Prelude.{◌++◌, map, length, take, drop}
+use Rattle.std.specs.Prelude.{◌++◌, map, length, take, drop, cond}
 use Rattle.std.specs.Ordering.{nat_cmp, is_le}
 use Rattle.std.specs.List.{slice_get, remove as remove_at}
 use Rattle.std.specs.Cmp.Lexicographic.{slice_cmp}
@@ -106,3 +106,8 @@ pub record StandsApart (rows : FinMap (slice_cmp nat_cmp) Datum) (o : List ℕ) 
 -- these are the variables of the view after the name
 abbrev pub AreBehind : MibView → List ℕ → List (List ℕ × Datum) → Type 0
 AreBehind view o back = (front : List (List ℕ × Datum)) × StandsApart view.rows o front back
+
+-- of entries by rising names, those after the name
+abbrev pub entries_after : List ℕ → List (List ℕ × Datum) → List (List ℕ × Datum)
+entries_after o [] = []
+entries_after o (e ∷ es) = cond (is_le (slice_cmp nat_cmp e.0 o)) (entries_after o es) (e ∷ es)

@@ -3,30 +3,31 @@ use Rattle.std.proofs.lemmas.List.{length-take-le}
 use Rattle.std.proofs.lemmas.Option.{IfSome_then}
 use Rattle.snmp_wire.specs.Parts.{parts_message}
 use Rattle.snmp_agent.specs.declared.room.ReplyBindings.{ReplyBindings}
-use Rattle.snmp_agent.specs.Answering.{Held, whole_size, held, fill}
+use Rattle.snmp_agent.specs.Answering.{Held, bulk_of, whole_size, held, fill}
 use Rattle.snmp_agent.proofs.BulkReplies.{bulk_sent, bulk_unsent}
 use Rattle.snmp_agent.proofs.Fronts.{HoldsFront, all_front}
 use Rattle.snmp_agent.proofs.Lengths.{not_none, within}
+use Rattle.snmp_agent.proofs.Rounds.{is_bulk}
 use Rattle.snmp_agent.proofs.agent.bulk_reply.Goals as goal
 use Rattle.snmp_agent.proofs.agent.bulk_reply.Goals.{After-append_bulk-bindings}
 
-front : (c : After-append_bulk-bindings)
-    → HoldsFront c.in-Some.room [] c.append_bulk-bindings.ensures.0 (held c.append_bulk-bindings.result c.append_bulk-bindings.new.out)
+front : (c : After-append_bulk-bindings) → HoldsFront c.in-Some.room [] (bulk_of c.args.table.now c.args.request.now)
+    (held c.append_bulk-bindings.result c.append_bulk-bindings.new.out)
 front c =
-    let all = c.append_bulk-bindings.ensures in
+    let all = bulk_of c.args.table.now c.args.request.now in
     let none : record { octets = []; left = c.in-Some.room } ≡ held c.new.result c.args.out.now = λ i. record {
       octets = take (sym c.new.ensures.empty i) c.args.out.now;
       left = sym c.new.ensures.room i;
     } in
-    all_front c.in-Some.room all.0 _ (all.2 ∙ ap (λ (h : Held). fill h all.0) (sym none))
+    all_front c.in-Some.room all _ (c.append_bulk-bindings.ensures ∙ ap (λ (h : Held). fill h all) (sym none))
 
 pub returns-in-Some-clause-sent : goal.returns-in-Some-clause-sent
 returns-in-Some-clause-sent c =
-    let all = c.append_bulk-bindings.ensures in
     let bindings : ReplyBindings = c.append_bulk-bindings.result in
     IfSome_then c.seal.result c.seal.ensures.some (λ n h. bulk_sent c.message_sizes.ensures c.pieces.ensures c.args.table.now c.args.config.now.max_size
-    c.in-Some.room c.args.request.now (parts_message c.response-parts.result) all.0 bindings n c.append_bulk-bindings.new.out
-    c.seal.new.out c.requires.bulk all.1 c.response-parts.ensures c.in-Some.ensures.room
+    c.in-Some.room c.args.request.now (parts_message c.response-parts.result) (bulk_of c.args.table.now c.args.request.now) bindings n
+    c.append_bulk-bindings.new.out c.seal.new.out c.requires.bulk
+    (is_bulk c.order.ensures.less c.args.table.now c.is_mib_view.ensures c.args.request.now) c.response-parts.ensures c.in-Some.ensures.room
     (front (goal.at.returns-in-Some-clause-sent c).After-append_bulk-bindings)
     (length-take-le _ _ (omega arith)) h.0 h.1)
 
@@ -42,5 +43,6 @@ returns-in-Some-clause-none c =
 
 pub returns-in-None-clause-none : goal.returns-in-None-clause-none
 returns-in-None-clause-none c =
-    bulk_unsent c.message_sizes.ensures c.pieces.ensures c.one_answer.ensures.get_bulk c.args.table.now c.args.config.now.max_size c.args.request.now
-    (parts_message c.response-parts.result) c.requires.bulk c.response-parts.ensures c.in-None.ensures.none
+    bulk_unsent c.message_sizes.ensures c.pieces.ensures c.args.table.now c.args.config.now.max_size c.args.request.now
+    (parts_message c.response-parts.result) (bulk_of c.args.table.now c.args.request.now) c.requires.bulk
+    (is_bulk c.order.ensures.less c.args.table.now c.is_mib_view.ensures c.args.request.now) c.response-parts.ensures c.in-None.ensures.none

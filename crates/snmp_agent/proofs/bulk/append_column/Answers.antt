@@ -1,62 +1,59 @@
-use Rattle.std.proofs.Common.{◌∙◌, ◌≡◌, ◌⊎◌, inl, inr, ℕ, List, [], ◌∷◌, subst, arith}
-use Rattle.snmp_agent.specs.Reply.{AreEnds}
-use Rattle.snmp_agent.specs.Answering.{AreGiven, FillsRounds, held}
-use Rattle.snmp_agent.specs.Standing.{next_at}
-use Rattle.snmp_agent.specs.table.Pages.{AreBehind}
-use Rattle.snmp_agent.proofs.RoundFronts.{rounds_first, rounds_next, rounds_end, rounds_over}
-use Rattle.snmp_agent.proofs.Standing.{given_there, stands_first, stands_passed, end_there}
-use Rattle.snmp_agent.proofs.Standing.{row_there}
+use Rattle.std.proofs.Common.{◌∙◌, ◌≡◌, ◌⊎◌, inl, inr, ◌&&◌, Bool, true, false, [], ◌∷◌, refl, ap, sym, arith}
+use Rattle.std.specs.List.{list_all}
+use Rattle.snmp_agent.specs.Reply.{joined}
+use Rattle.snmp_agent.specs.Answering.{add, fill, held, rounds_from}
+use Rattle.snmp_agent.specs.Standing.{Standing, given_in, is_over, next_at, passed, place_of, places_of}
+use Rattle.snmp_agent.proofs.Rounds.{rounds_done, rounds_first, rounds_next, rounds_over}
+use Rattle.snmp_agent.proofs.Standing.{place_passed}
 use Rattle.snmp_agent.proofs.bulk.append_column.Goals as goal
 use Rattle.snmp_agent.proofs.bulk.append_column.Goals.{After-append_next-reply}
 
 pub rounds-init : goal.rounds-init
 rounds-init c = record {
-  others = rounds_first c.args.table.now (c.args.asked ∷ []) c.args.repetitions (held c.args.reply c.args.out.now);
-  stands =
-      stands_first c.args.table.now c.args.asked.name c.of_walk-place.result c.requires (c.of_walk-place.ensures.name ∙ c.name.ensures)
-      (subst (λ (o : List ℕ). AreBehind c.args.table.now o c.of_walk-place.result.rows) c.name.ensures c.of_walk-place.ensures.behind);
+  rounds = rounds_first c.args.table.now (c.args.asked ∷ []) c.args.repetitions (held c.args.reply c.args.out.now);
+  place = c.of_walk-place.ensures ∙ ap (place_of c.args.table.now 0) c.name.ensures;
 }
 
-pub append_next-reply-requires : goal.append_next-reply-requires
-append_next-reply-requires c = c.rounds.invariant.stands.wire
+-- what the round adds
+added : (c : After-append_next-reply) → held c.append_next-reply.result c.append_next-reply.new.out
+    ≡ fill (held c.rounds.reply c.rounds.out) (given_in c.args.table.now c.rounds.counter (c.args.asked ∷ []))
+added c = c.append_next-reply.ensures.added ∙ ap (λ (place : Standing). add (held c.rounds.reply c.rounds.out) (next_at place)) c.rounds.invariant.place
 
--- what the round gives
-given : (c : After-append_next-reply) → AreGiven c.args.table.now c.rounds.counter (c.args.asked ∷ []) (next_at c.rounds.place ∷ [])
-given c = (
-  given_there c.order.ensures.less c.args.table.now c.rounds.counter c.args.asked.name c.rounds.place c.rounds.invariant.stands,
-  tt,
-)
+with_true : (b : Bool) → (b && true) ≡ b
+with_true true = refl
+with_true false = refl
 
--- the last round
-over : (c : After-append_next-reply) → (c.append_next-reply.result.left ≡ 0) ⊎ AreEnds (next_at c.rounds.place ∷ [])
-    → FillsRounds c.args.table.now (c.args.asked ∷ []) c.args.repetitions (held c.args.reply c.args.out.now)
-    (held c.append_next-reply.result c.append_next-reply.new.out)
-over c is =
-    rounds_over c.args.table.now (c.args.asked ∷ []) c.args.repetitions (held c.args.reply c.args.out.now) c.one_answer.ensures.get_bulk c.rounds.counter
-    (held c.rounds.reply c.rounds.out) (held c.append_next-reply.result c.append_next-reply.new.out) (next_at c.rounds.place ∷ []) c.rounds-test.true
-    c.rounds.invariant.others (given c) c.append_next-reply.ensures.added is
+-- whether it is the last one
+last : (c : After-append_next-reply) → list_all is_over (places_of c.args.table.now c.rounds.counter (c.args.asked ∷ [])) ≡ c.is_at_end-is_last.result
+last c = with_true _ ∙ ap is_over (sym c.rounds.invariant.place) ∙ sym c.is_at_end-is_last.ensures
+
+over : (c : After-append_next-reply)
+    → (c.append_next-reply.result.left ≡ 0) ⊎ (list_all is_over (places_of c.args.table.now c.rounds.counter (c.args.asked ∷ [])) ≡ true)
+    → held c.append_next-reply.result c.append_next-reply.new.out
+    ≡ fill (held c.args.reply c.args.out.now) (joined (rounds_from c.args.table.now (c.args.asked ∷ []) 0 c.args.repetitions))
+over c =
+    rounds_over c.args.table.now (c.args.asked ∷ []) c.args.repetitions (held c.args.reply c.args.out.now) c.rounds.counter (held c.rounds.reply c.rounds.out)
+    (held c.append_next-reply.result c.append_next-reply.new.out) c.rounds.invariant.rounds (added c) c.rounds-test.true
 
 pub returns-then-is_full : goal.returns-then-is_full
 returns-then-is_full c = over (goal.at.returns-then-is_full c).After-append_next-reply (inl (c.is_full.ensures.0 c.if-is_full.true))
 
 pub returns-then-is_last : goal.returns-then-is_last
-returns-then-is_last c = over (goal.at.returns-then-is_last c).After-append_next-reply
-    (inr (end_there c.rounds.place (c.is_at_end-is_last.ensures.0 c.if-is_last.true), tt))
+returns-then-is_last c =
+    let k = (goal.at.returns-then-is_last c).After-append_next-reply in
+    over k (inr (last k ∙ c.if-is_last.true))
 
 pub rounds-preserved : goal.rounds-preserved
 rounds-preserved c =
-    let so_far = c.rounds.invariant in
+    let k = (goal.at.rounds-preserved c).After-append_next-reply in
     record {
-      others = rounds_next c.args.table.now (c.args.asked ∷ []) c.args.repetitions (held c.args.reply c.args.out.now) c.rounds.counter
-          (held c.rounds.reply c.rounds.out) (held c.append_next-reply.result c.append_next-reply.new.out) (next_at c.rounds.place ∷ []) so_far.others
-          (given (goal.at.rounds-preserved c).After-append_next-reply)
-          (λ ends. row_there c.args.table.now c.rounds.place c.is_mib_view.ensures so_far.stands.behind
-          (λ none. let is = c.is_at_end-is_last.ensures.1 none in let isnt = c.if-is_last.false in absurd (cc)) ends.0) c.append_next-reply.ensures.added;
-      stands = rw c.append_next-reply.ensures.moved (stands_passed c.order.ensures.less c.args.table.now c.is_mib_view.ensures c.rounds.counter
-          c.args.asked.name c.rounds.place so_far.stands);
+      rounds = rounds_next c.args.table.now (c.args.asked ∷ []) c.args.repetitions (held c.args.reply c.args.out.now) c.rounds.counter
+          (held c.rounds.reply c.rounds.out) (held c.append_next-reply.result c.append_next-reply.new.out) c.rounds.invariant.rounds (added k)
+          (last k ∙ c.if-is_last.false);
+      place = c.append_next-reply.ensures.moved ∙ ap passed c.rounds.invariant.place ∙ place_passed c.args.table.now c.rounds.counter c.args.asked.name;
     }
 
 pub returns : goal.returns
 returns c =
-    rounds_end c.args.table.now (c.args.asked ∷ []) c.args.repetitions (held c.args.reply c.args.out.now) c.rounds.counter
-    (held c.rounds.reply c.rounds.out) (omega (arith, c.rounds-test.false)) c.rounds.invariant.others
+    rounds_done c.args.table.now (c.args.asked ∷ []) c.args.repetitions (held c.args.reply c.args.out.now) c.rounds.counter (held c.rounds.reply c.rounds.out)
+    (held c.rounds.reply c.rounds.out) c.rounds.invariant.rounds (omega (arith, c.rounds-test.false))

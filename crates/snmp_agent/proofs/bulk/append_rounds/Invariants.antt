@@ -1,11 +1,12 @@
+use Rattle.std.proofs.Common.{◌≡◌, ◌++◌}
 use Rattle.snmp_agent.specs.Answering.{held}
-use Rattle.snmp_agent.specs.Standing.{StandIn}
-use Rattle.snmp_agent.proofs.RoundFronts.{RoundsGo}
+use Rattle.snmp_agent.specs.Standing.{places_of}
+use Rattle.snmp_agent.proofs.Rounds.{AreLeft}
 use Rattle.snmp_agent.proofs.bulk.append_rounds.Given as goal
 
 -- with the rounds that are left all are there, and the places are where those before leave the names
 abbrev pub invariant-rounds : goal.invariant-rounds
 invariant-rounds l = record {
-  rounds : RoundsGo l.table l.bindings l.repetitions l.round (held l.fn.reply l.fn.out) (held l.reply l.out);
-  standing : StandIn l.table l.round l.bindings l.places l.others;
+  rounds : AreLeft l.table l.bindings l.repetitions (held l.fn.reply l.fn.out) l.round (held l.reply l.out);
+  places : l.places ++ places_of l.table l.round l.others ≡ places_of l.table l.round l.bindings;
 }

@@ -1,14 +1,10 @@
-use Rattle.std.proofs.Common.{length}
-use Rattle.snmp_agent.specs.Answering.{AreWritable}
-use Rattle.snmp_agent.specs.Standing.{StandIn}
+use Rattle.std.proofs.Common.{◌≡◌, ◌++◌, length}
+use Rattle.snmp_agent.specs.Standing.{places_of}
 use Rattle.snmp_agent.proofs.bulk.keep_places.Given as goal
 
--- the names so far have their places
+-- the places so far, and those of the names that are left, are all
 abbrev pub invariant-names : goal.invariant-names
-invariant-names l = record {
-  standing : StandIn l.table 0 l.fn.bindings l.places.items l.bindings;
-  writable : AreWritable l.bindings;
-}
+invariant-names l = l.places.items ++ places_of l.table 0 l.bindings ≡ places_of l.table 0 l.fn.bindings
 
 abbrev pub decreases-names : goal.decreases-names
 decreases-names l = length l.bindings

@@ -10,6 +10,6 @@ returns-in-Some c = (
   c.append_row.ensures,
 )
 
-pub append_exception-requires-clause-none : goal.append_exception-requires-clause-none
-append_exception-requires-clause-none c =
+pub append_exception-requires : goal.append_exception-requires
+append_exception-requires c =
     subst (λ (o : List ℕ). get c.args.table.now.rows o ≡ None) c.name.ensures c.in-None.ensures.none

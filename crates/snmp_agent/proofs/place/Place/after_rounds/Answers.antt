@@ -1,14 +1,14 @@
 use Rattle.std.proofs.Common.{sym, ap, ◌∙◌}
 use Rattle.std.specs.Option.{option_map_or}
-use Rattle.snmp_agent.proofs.Standing.{stands_later}
+use Rattle.snmp_agent.proofs.Standing.{place_past}
 use Rattle.snmp_agent.proofs.place.Place.after_rounds.Goals as goal
 
 pub returns-in-Some : goal.returns-in-Some
 returns-in-Some c =
-    stands_later c.order.ensures.less c.args.table.now c.is_mib_view.ensures c.args.rounds c.args.name c.after-rows.result _ c.requires c.after-rows.ensures
+    place_past c.args.table.now c.args.rounds c.args.name c.after-rows.result _ _ c.after-rows.ensures
     (sym (ap (λ row. option_map_or (λ row. row.now.name) row c.args.name) c.in-Some.is) ∙ c.skip_rows.ensures.last c.args.name) c.skip_rows.ensures.left
 
 pub returns-in-None : goal.returns-in-None
 returns-in-None c =
-    stands_later c.order.ensures.less c.args.table.now c.is_mib_view.ensures c.args.rounds c.args.name c.after-rows.result _ c.requires c.after-rows.ensures
+    place_past c.args.table.now c.args.rounds c.args.name c.after-rows.result _ _ c.after-rows.ensures
     (sym (ap (λ row. option_map_or (λ row. row.now.name) row c.args.name) c.in-None.is) ∙ c.skip_rows.ensures.last c.args.name) c.skip_rows.ensures.left

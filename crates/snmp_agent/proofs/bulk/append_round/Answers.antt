@@ -1,0 +1,140 @@
+use Rattle.std.proofs.Common.{◌≡◌, ◌<◌, ◌≤◌, ◌+◌, inl, inr, Bool, true, false, ◌&&◌, List, ◌++◌, map, length, take}
+use Rattle.std.proofs.Common.{drop, slice_set, refl, sym, ap, ◌∙◌, arith}
+use Rattle.std.specs.List.{list_all}
+use Rattle.std.proofs.lemmas.List.{append-nil, drop_all, map-append, take_all}
+use Rattle.std.proofs.lemmas.List.Edits.{map_over_more}
+use Rattle.std.proofs.lemmas.List.Folds.{list_all-append}
+use Rattle.snmp_wire.specs.Message.{VarBind}
+use Rattle.snmp_agent.specs.Answering.{Held, add, fill, held}
+use Rattle.snmp_agent.specs.Standing.{Standing, given_in, is_over, next_at, passed, place_of, places_of}
+use Rattle.snmp_agent.proofs.Fronts.{fill_both, fill_full}
+use Rattle.snmp_agent.proofs.Lists.{still_there}
+use Rattle.snmp_agent.proofs.bulk.append_round.Goals as goal
+use Rattle.snmp_agent.proofs.bulk.append_round.Goals.{After-append_next-reply, After-append_next-reply-in-Some, In_default}
+use Rattle.snmp_agent.proofs.bulk.append_round.Goals.{then-are_over, else-are_over}
+
+-- ---- the places
+
+pub places-init : goal.places-init
+places-init c = record { moved = refl; rest = refl }
+
+-- what is added with one more place
+next : (c : After-append_next-reply) → fill (held c.args.reply c.args.out.now) (map next_at c.args.places.now)
+    ≡ fill (held c.append_next-reply.result c.append_next-reply.new.out) (map next_at (drop (c.places.place-index + 1) c.args.places.now))
+next c =
+    let low : c.places.place-index < length c.args.places.now = omega (arith, c.places-test.true, c.places.auto.places) in
+    let here = still_there passed c.args.places.now c.places.places c.places.place-index c.place-item.result low c.places.invariant.moved c.place-item.is in
+    let rest = map next_at (drop (c.places.place-index + 1) c.args.places.now) in
+    let new : held c.append_next-reply.result c.append_next-reply.new.out ≡ add (held c.places.reply c.places.out) (next_at c.place-item.result) =
+    c.append_next-reply.ensures.added ∙ ap (λ (x : Standing). add (held c.places.reply c.places.out) (next_at x)) (sym c.place-item.is) in
+    c.places.invariant.rest ∙ ap (λ (ps : List Standing). fill (held c.places.reply c.places.out) (map next_at ps)) here
+    ∙ ap (λ (h : Held). fill h rest) (sym new)
+
+pub places-preserved : goal.places-preserved
+places-preserved c =
+    let i = c.places.place-index in
+    let low : i < length c.args.places.now = omega (arith, c.places-test.true, c.places.auto.places) in
+    record {
+      moved = ap (slice_set c.places.places i) (c.append_next-reply.ensures.moved ∙ ap passed (sym c.place-item.is))
+          ∙ map_over_more passed c.args.places.now c.places.places i c.place-item.result low c.places.invariant.moved c.place-item.is;
+      rest = next (goal.at.places-preserved c).After-append_next-reply;
+    }
+
+parts : (old : Held) (front back : List Standing) → fill old (map next_at (front ++ back)) ≡ fill (fill old (map next_at front)) (map next_at back)
+parts old front back = ap (fill old) (map-append next_at front back) ∙ fill_both old (map next_at front) (map next_at back)
+
+pub returns-then-is_full-clause-filled : goal.returns-then-is_full-clause-filled
+returns-then-is_full-clause-filled c =
+    let now : Held = held c.append_next-reply.result c.append_next-reply.new.out in
+    let others = map next_at (places_of c.args.table.now c.args.round c.args.others) in
+    let full = c.is_full.ensures.0 c.if-is_full.true in
+    sym (parts (held c.args.reply c.args.out.now) c.args.places.now (places_of c.args.table.now c.args.round c.args.others)
+    ∙ ap (λ (h : Held). fill h others) (next (goal.at.returns-then-is_full-clause-filled c).After-append_next-reply ∙ fill_full now (map next_at (drop (c.places.place-index + 1) c.args.places.now)) full)
+    ∙ fill_full now others full)
+
+pub returns-then-is_full-clause-last : goal.returns-then-is_full-clause-last
+returns-then-is_full-clause-last c = λ _. inl (c.is_full.ensures.0 c.if-is_full.true)
+
+-- ---- the other names
+
+pub others-init : goal.others-init
+others-init c =
+    let places = c.args.places.now in
+    let others = places_of c.args.table.now c.args.round c.args.others in
+    let all : length places ≤ c.places.place-index = omega (arith, c.places-test.false, c.places.auto.places) in
+    record {
+      rest = parts (held c.args.reply c.args.out.now) places others
+          ∙ ap (λ (h : Held). fill h (map next_at others))
+          (c.places.invariant.rest ∙ ap (λ (ps : List Standing). fill (held c.places.reply c.places.out) (map next_at ps)) (drop_all c.places.place-index places all));
+      over = list_all-append is_over places others ∙ ap (λ b. b && list_all is_over others) (sym c.are_at_end-are_over.ensures);
+    }
+
+both : (a b rest : Bool) → (a && (b && rest)) ≡ ((a && b) && rest)
+both true b rest = refl
+both false b rest = refl
+
+-- what is added with one more name
+more : (c : After-append_next-reply-in-Some) → fill (held c.args.reply c.args.out.now)
+    (map next_at (c.args.places.now ++ places_of c.args.table.now c.args.round c.args.others))
+    ≡ fill (held c.append_next-reply-in-Some.result c.append_next-reply-in-Some.new.out) (given_in c.args.table.now c.args.round c.next_ref.new.self)
+more c =
+    let at = c.after_rounds-place.ensures ∙ ap (place_of c.args.table.now c.args.round) c.name.ensures in
+    c.others.invariant.rest
+    ∙ ap (λ (bs : List VarBind). fill (held c.others.reply c.others.out) (given_in c.args.table.now c.args.round bs)) c.in-Some.ensures.some
+    ∙ ap (λ (h : Held). fill h (given_in c.args.table.now c.args.round c.next_ref.new.self))
+    (sym (c.append_next-reply-in-Some.ensures.added ∙ ap (λ (place : Standing). add (held c.others.reply c.others.out) (next_at place)) at))
+
+pub others-preserved : goal.others-preserved
+others-preserved c =
+    let at = c.after_rounds-place.ensures ∙ ap (place_of c.args.table.now c.args.round) c.name.ensures in
+    let rest = list_all is_over (places_of c.args.table.now c.args.round c.next_ref.new.self) in
+    let last = c.is_at_end-is_last.ensures ∙ ap is_over at in
+    let now : c.if-are_over.are_over ≡ (c.others.are_over && c.is_at_end-is_last.result) = elim c.if-are_over.branch [
+      | then-are_over w ↦ w.are_over-is ∙ sym (ap (λ b. b && c.is_at_end-is_last.result) w.if-are_over.true)
+      | else-are_over w ↦ w.are_over-is ∙ w.if-are_over.false ∙ sym (ap (λ b. b && c.is_at_end-is_last.result) w.if-are_over.false)
+    ] in
+    record {
+      rest = more (goal.at.others-preserved c).After-append_next-reply-in-Some;
+      over = c.others.invariant.over
+          ∙ ap (λ (bs : List VarBind). c.others.are_over && list_all is_over (places_of c.args.table.now c.args.round bs)) c.in-Some.ensures.some
+          ∙ both c.others.are_over _ rest ∙ sym (ap (λ b. b && rest) (now ∙ ap (λ b. c.others.are_over && b) last));
+    }
+
+pub returns-then-is_full-2-clause-filled : goal.returns-then-is_full-2-clause-filled
+returns-then-is_full-2-clause-filled c =
+    sym (more (goal.at.returns-then-is_full-2-clause-filled c).After-append_next-reply-in-Some
+    ∙ fill_full (held c.append_next-reply-in-Some.result c.append_next-reply-in-Some.new.out) (given_in c.args.table.now c.args.round c.next_ref.new.self) (c.is_full-in-Some.ensures.0 c.if-is_full-2.true))
+
+pub returns-then-is_full-2-clause-last : goal.returns-then-is_full-2-clause-last
+returns-then-is_full-2-clause-last c = λ _. inl (c.is_full-in-Some.ensures.0 c.if-is_full-2.true)
+
+-- ---- the end
+
+with_true : (b : Bool) → (b && true) ≡ b
+with_true true = refl
+with_true false = refl
+
+pub returns-clause-filled : goal.returns-clause-filled
+returns-clause-filled c =
+    sym (c.others.invariant.rest
+    ∙ ap (λ (bs : List VarBind). fill (held c.others.reply c.others.out) (given_in c.args.table.now c.args.round bs)) c.in_default.ensures.none.0)
+
+over : (c : In_default) → list_all is_over (c.args.places.now ++ places_of c.args.table.now c.args.round c.args.others) ≡ c.others.are_over
+over c =
+    c.others.invariant.over
+    ∙ ap (λ (bs : List VarBind). c.others.are_over && list_all is_over (places_of c.args.table.now c.args.round bs)) c.in_default.ensures.none.0
+    ∙ with_true c.others.are_over
+
+pub returns-clause-last : goal.returns-clause-last
+returns-clause-last c = λ is. inr (over (goal.at.returns-clause-last c).In_default ∙ is)
+
+pub returns-clause-goes : goal.returns-clause-goes
+returns-clause-goes c = λ is. over (goal.at.returns-clause-goes c).In_default ∙ is
+
+pub returns-clause-moved : goal.returns-clause-moved
+returns-clause-moved c = λ _.
+    let places = c.args.places.now in
+    let i = c.places.place-index in
+    let all : length places ≤ i = omega (arith, c.places-test.false, c.places.auto.places) in
+    c.places.invariant.moved ∙ ap (λ (ps : List Standing). map passed (take i places) ++ ps) (drop_all i places all) ∙ append-nil (map passed (take i places))
+    ∙ ap (map passed) (take_all i places all)
