@@ -1,13 +1,13 @@
 -- Each name has just one answer to a Get, and one to a GetNext.
-use Rattle.std.proofs.Common.{◌≡◌, ℕ, zero, suc, ◌+◌, ◌<◌, ◌⊎◌, inl, inr, Bool, true, false}
-use Rattle.std.proofs.Common.{List, map, length, take, drop, Option, Some}
+use Rattle.std.proofs.Common.{◌≡◌, ℕ, zero, suc, ◌+◌, inl, inr, Bool, true, false}
+use Rattle.std.proofs.Common.{List, [], map, length, take, drop, Option, Some}
 use Rattle.std.proofs.Common.{None, Less, Equal, Greater, Ordering, refl, sym, ap, subst, ◌∙◌}
-use Rattle.std.proofs.Common.{⊎_elim, arith, length-append}
+use Rattle.std.proofs.Common.{⊎_elim, ◌≤◌, arith, cond, length-append, unwrap_or}
 use Rattle.std.specs.Ordering.{nat_cmp}
 use Rattle.std.specs.Cmp.Lexicographic.{slice_cmp}
 use Rattle.std.specs.FinMap.{get, entries}
 use Rattle.std.specs.FinSet.{contains}
-use Rattle.std.proofs.lemmas.Bool.{cases_lt}
+use Rattle.std.proofs.lemmas.Bool.{cases_lt, false≢true, or_cases, or_parts}
 use Rattle.std.proofs.lemmas.List.{take-append-drop}
 use Rattle.std.proofs.Math.Seq.{take-append_seam}
 use Rattle.snmp_wire.specs.Message.{Datum, no_such_object, no_such_instance, VarBind}
@@ -17,7 +17,7 @@ use Rattle.snmp_agent.specs.table.Table.{unknown_object, unknown_instance, IsSuc
 use Rattle.snmp_agent.specs.table.Table.{successor}
 use Rattle.snmp_agent.specs.table.Table.{end_of_view}
 use Rattle.snmp_agent.specs.table.Table.{IsNextAfter}
-use Rattle.snmp_agent.specs.table.Listing.{first_or_end}
+use Rattle.snmp_agent.specs.table.Listing.{first_or_end, got_at, has_prefix}
 use Rattle.snmp_agent.specs.table.Pages.{entries_after}
 use Rattle.snmp_agent.specs.table.Places.{var_of}
 use Rattle.snmp_agent.proofs.Rising.{same_name, turned}
@@ -34,44 +34,40 @@ some_none v e = let no : ⊥ = cc in no
 
 -- ---- Get
 
--- a beginning of the name is an object prefix, or none of its shortest ones is
-
-seek : (view : MibView) (o : List ℕ) (n : ℕ)
-    → ((k : ℕ) × (contains view.objects (take k o) ≡ true)) ⊎ ((k : ℕ) → k < n → contains view.objects (take k o) ≡ true → ⊥)
-seek view o zero = inr (λ k h e. absurd (omega arith))
-seek view o (suc n) = elim (seek view o n) [
-  | inl found ↦ inl found
-  | inr none ↦ here (contains view.objects (take n o)) refl none
-]
-  where
-    here : (b : Bool) → contains view.objects (take n o) ≡ b → ((k : ℕ) → k < n → contains view.objects (take k o) ≡ true → ⊥)
-        → ((k : ℕ) × (contains view.objects (take k o) ≡ true)) ⊎ ((k : ℕ) → k < suc n → contains view.objects (take k o) ≡ true → ⊥)
-    here true e none = inl (n, e)
-    here false e none = inr (λ k h is. ⊎_elim
-        (λ below. none k below is)
-        (λ above.
-        let same : k ≡ n = omega arith in
-        let both : contains view.objects (take k o) ≡ false = ap (λ j. contains view.objects (take j o)) same ∙ e in cc)
-        (cases_lt k n))
-
-object_decided : (view : MibView) (o : List ℕ) → HasObject view o ⊎ (HasObject view o → ⊥)
-object_decided view o = elim (seek view o (suc (length o))) [
-  | inl found ↦ inl (take found.0 o, drop found.0 o, found.1, sym (take-append-drop found.0 o))
-  | inr none ↦ inr (λ has.
-      let front : take (length has.0) o ≡ has.0 = ap (take (length has.0)) has.3 ∙ take-append_seam has.0 has.1 in
-      let long : length o ≡ length has.0 + length has.1 = ap length has.3 ∙ length-append has.0 has.1 in
-      none (length has.0) (omega arith) (ap (contains view.objects) front ∙ has.2))
+-- a beginning of the name is an object prefix
+prefix_found : (view : MibView) (o : List ℕ) (n : ℕ) → has_prefix view o n ≡ true → HasObject view o
+prefix_found view o zero e = ([], o, e, refl)
+prefix_found view o (suc n) e = elim (or_cases _ _ e) [
+  | inl here ↦ (take (suc n) o, drop (suc n) o, here, sym (take-append-drop (suc n) o))
+  | inr there ↦ prefix_found view o n there
 ]
 
-got : (view : MibView) (o : List ℕ) → (p : VarBind) × IsGet view o p
-got view o = by_value (get view.rows o) refl
+-- or none of its shortest ones is
+no_prefix : (view : MibView) (o : List ℕ) (n k : ℕ) → has_prefix view o n ≡ false → k ≤ n → contains view.objects (take k o) ≡ true → ⊥
+no_prefix view o zero zero e low is = false≢true (sym e ∙ is)
+no_prefix view o zero (suc k) e low is = absurd (omega (arith, low))
+no_prefix view o (suc n) k e low is =
+    let none = or_parts _ _ e in
+    ⊎_elim (λ below. no_prefix view o n k none.1 (omega (arith, below)) is)
+    (λ above.
+    let same : k ≡ suc n = omega (arith, above, low) in
+    false≢true (sym none.0 ∙ ap (λ j. contains view.objects (take j o)) (sym same) ∙ is))
+    (cases_lt k (suc n))
+
+pub is_got : (view : MibView) (o : List ℕ) → IsGet view o (got_at view o)
+is_got view o = by_value (get view.rows o) refl
   where
-    by_value : (found : Option Datum) → get view.rows o ≡ found → (p : VarBind) × IsGet view o p
-    by_value (Some value) e = (record { name = o; value = value }, variable refl e)
-    by_value None e = elim (object_decided view o) [
-      | inl has ↦ (record { name = o; value = no_such_instance }, unknown_instance e has refl)
-      | inr hasnt ↦ (record { name = o; value = no_such_object }, unknown_object e hasnt refl)
-    ]
+    by_prefix : get view.rows o ≡ None → (b : Bool) → has_prefix view o (length o) ≡ b → IsGet view o (record { name = o; value = cond b no_such_instance no_such_object })
+    by_prefix e true has = unknown_instance e (prefix_found view o (length o) has) refl
+    by_prefix e false none = unknown_object e (λ has.
+        let front : take (length has.0) o ≡ has.0 = ap (take (length has.0)) has.3 ∙ take-append_seam has.0 has.1 in
+        let long : length o ≡ length has.0 + length has.1 = ap length has.3 ∙ length-append has.0 has.1 in
+        no_prefix view o (length o) (length has.0) none (omega (arith, long)) (ap (contains view.objects) front ∙ has.2)) refl
+
+    by_value : (found : Option Datum) → get view.rows o ≡ found
+        → IsGet view o (record { name = o; value = unwrap_or found (cond (has_prefix view o (length o)) no_such_instance no_such_object) })
+    by_value (Some value) e = variable refl e
+    by_value None e = by_prefix e (has_prefix view o (length o)) refl
 
 module _ (view : MibView) (o : List ℕ) where
   row_at : (p : VarBind) → p.name ≡ o → IsRow view p → get view.rows o ≡ Some p.value
@@ -80,7 +76,7 @@ module _ (view : MibView) (o : List ℕ) where
   no_row : (p : VarBind) → p.name ≡ o → IsRow view p → get view.rows o ≡ None → ⊥
   no_row p name row none = some_none p.value (sym (row_at p name row) ∙ none)
 
-  same_get : (p q : VarBind) → IsGet view o p → IsGet view o q → p ≡ q
+  pub same_get : (p q : VarBind) → IsGet view o p → IsGet view o q → p ≡ q
   same_get p q (variable name row) (variable other at) =
       same_binding p q (name ∙ sym other) (some_once p.value q.value (sym (row_at p name row) ∙ row_at q other at))
   same_get p q (variable name row) (unknown_object none never is) = absurd (no_row p name row none)
@@ -93,7 +89,7 @@ module _ (view : MibView) (o : List ℕ) where
   same_get p q (unknown_instance none some is) (unknown_instance nothing other same) = is ∙ sym same
 
 pub one_get : (view : MibView) (o : List ℕ) → HasOne (IsGet view o)
-one_get view o = let first = got view o in (first.0, first.1, λ q is. same_get view o q first.0 is first.1)
+one_get view o = (got_at view o, is_got view o, λ q is. same_get view o q (got_at view o) is (is_got view o))
 
 -- ---- GetNext
 

@@ -1,16 +1,16 @@
 -- What the bindings of a reply hold.
-use Rattle.std.proofs.Common.{◌≡◌, ◌≢◌, ℕ, ◌+◌, ◌-◌, ◌≤◌, ◌<◌, List, [], ◌∷◌, ◌++◌, length, refl}
+use Rattle.std.proofs.Common.{◌≡◌, ◌≢◌, ℕ, ◌+◌, ◌-◌, ◌≤◌, ◌<◌, List, [], ◌∷◌, ◌++◌, length, take, refl}
 use Rattle.std.proofs.Common.{⊎_elim, sym, ap, subst, ◌∙◌, arith, length-append, append_assoc}
 use Rattle.std.proofs.lemmas.List.{append-nil}
 use Rattle.std.proofs.lemmas.Bool.Decides.{nat_tests}
 use Rattle.std.proofs.lemmas.Bool.{cases_lt}
 use Rattle.snmp_wire.specs.Message.{VarBind}
 use Rattle.snmp_wire.specs.Canon.{canon_binding, canon_bindings, canon_element, canon_header}
-use Rattle.snmp_agent.specs.Reply.{AreAnswers}
-use Rattle.snmp_agent.specs.Answering.{Held, add, fill, Adds}
+use Rattle.snmp_agent.specs.declared.room.ReplyBindings.{ReplyBindings}
+use Rattle.snmp_agent.specs.Answering.{Held, add, fill, held}
 
 -- no binding is encoded by nothing
-some_octets : (p : VarBind) → 0 < length (canon_binding p)
+pub some_octets : (p : VarBind) → 0 < length (canon_binding p)
 unfolding canon_binding canon_element canon_header
 some_octets p = omega arith
 
@@ -47,28 +47,6 @@ add_full h p full = refused h p (omega (arith, some_octets p)) ∙ (λ i. record
 pub fill_full : (h : Held) (more : List VarBind) → h.left ≡ 0 → fill h more ≡ h
 fill_full h [] full = refl
 fill_full h (p ∷ more) full = ap (λ (g : Held). fill g more) (add_full h p full) ∙ fill_full h more full
-
--- ---- a list that is worked off
-
--- what the rest is given, added now, is what all are given, added at the beginning
-abbrev pub Goes : (AreAll AreRest : List VarBind → Type 0) → Held → Held → Type 0
-Goes AreAll AreRest old now = (rest : List VarBind) → AreRest rest → (all : List VarBind) × AreAll all × (fill old all ≡ fill now rest)
-
-pub goes_next : (R : VarBind → VarBind → Type 0) (AreAll : List VarBind → Type 0) (asked later : List VarBind) (first : VarBind) (old now new : Held)
-    → asked ≡ first ∷ later → Adds (R first) now new → Goes AreAll (AreAnswers R asked) old now → Goes AreAll (AreAnswers R later) old new
-goes_next R AreAll asked later first old now new e more go = λ rest h.
-    let found = go (more.0 ∷ rest) (subst (λ (bs : List VarBind). AreAnswers R bs (more.0 ∷ rest)) (sym e) (more.1, h)) in
-    (found.0, found.1, found.2 ∙ ap (λ (g : Held). fill g rest) (sym more.2))
-
-pub goes_end : (AreAll AreRest : List VarBind → Type 0) (old now : Held) → Goes AreAll AreRest old now → AreRest []
-    → (all : List VarBind) × AreAll all × (now ≡ fill old all)
-goes_end AreAll AreRest old now go none = let found = go [] none in (found.0, found.1, sym found.2)
-
-pub goes_full : (AreAll AreRest : List VarBind → Type 0) (old now : Held) → Goes AreAll AreRest old now → (rest : List VarBind) × AreRest rest → now.left ≡ 0
-    → (all : List VarBind) × AreAll all × (now ≡ fill old all)
-goes_full AreAll AreRest old now go rest full =
-    let found = go rest.0 rest.1 in
-    (found.0, found.1, sym (found.2 ∙ fill_full now rest.0 full))
 
 -- ---- fronts
 
@@ -137,7 +115,10 @@ front_of room h (p ∷ more) is = ⊎_elim
     }))
     (cases_lt h.left (length (canon_binding p)))
 
--- of all that was added to nothing, a front is held
-pub all_front : (room : ℕ) (all : List VarBind) (end : Held) → end ≡ fill (record { octets = []; left = room }) all → HoldsFront room [] all end
-all_front room all end same =
-    subst (λ (h : Held). HoldsFront room [] all h) (sym same) (front_of room (record { octets = []; left = room }) all (omega arith))
+-- of all that was added to no bindings, a front is held
+pub all_front : (room : ℕ) (all : List VarBind) (fresh reply : ReplyBindings) (out new : List ℕ) → fresh.total ≡ 0 → fresh.left ≡ room
+    → held reply new ≡ fill (held fresh out) all → HoldsFront room [] all (held reply new)
+all_front room all fresh reply out new empty left same =
+    let none : Held = record { octets = []; left = room } in
+    let begun : held fresh out ≡ none = λ i. record { octets = take (empty i) out; left = left i } in
+    subst (λ (h : Held). HoldsFront room [] all h) (sym (same ∙ ap (λ (h : Held). fill h all) begun)) (front_of room none all (omega arith))

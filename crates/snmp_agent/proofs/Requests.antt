@@ -4,9 +4,8 @@ use mir.Syntax.{w32}
 use mir.Val.{of_z, to_z, SFits}
 use Rattle.std.proofs.lemmas.Int.{to_z-of_z}
 use Rattle.std.proofs.Common.{◌≡◌, ℕ, ℤ, pos, Bool, true, false, not, nat_eq, ◌⊎◌, inl, inr, ◌+◌}
-use Rattle.std.proofs.Common.{◌≤◌, List, [], ◌∷◌, ◌++◌, length, take, refl, sym, ap, subst}
-use Rattle.std.proofs.Common.{◌∙◌, arith}
-use Rattle.std.proofs.lemmas.List.{append-nil}
+use Rattle.std.proofs.Common.{◌≤◌, ◌<◌, List, [], ◌∷◌, ◌++◌, length, map, take, refl, sym, ap, subst}
+use Rattle.std.proofs.Common.{◌∙◌, arith, Option, Some, None, IfNone}
 use Rattle.snmp_wire.specs.declared.kind.Kind.{Kind}
 use Rattle.snmp_wire.specs.declared.kind.Kind.TheVariants as kind
 use Rattle.snmp_wire.specs.Message.{VarBind, Message}
@@ -14,12 +13,14 @@ use Rattle.snmp_wire.specs.Canon.{canon, canon_bindings, canon_fields, canon_fro
 use Rattle.snmp_wire.specs.Canon.{canon_head, canon_opening}
 use Rattle.snmp_wire.specs.Laws.{HasPieces}
 use Rattle.snmp_wire.specs.Sizes.{MessageSizes}
-use Rattle.snmp_agent.specs.table.Table.{MibView}
-use Rattle.snmp_agent.specs.Reply.{IsServed, AreAnswers, IsWhole, IsResponse, whole, shortened}
-use Rattle.snmp_agent.specs.Reply.{too_big, got, got_next, unwritten, response, not_writable}
-use Rattle.snmp_agent.specs.Reply.{failed_place}
-use Rattle.snmp_agent.specs.Answering.{IsPaired, IsAnswer, IsResponseWritten, HoldsBindings}
-use Rattle.snmp_agent.specs.Answering.{PassesLimit, whole_size, whole_status, whole_index}
+use Rattle.snmp_agent.specs.table.Table.{MibView, IsGet, IsNext}
+use Rattle.snmp_agent.specs.Reply.{IsServed, AreAnswers, IsWhole, IsResponse, got, got_next}
+use Rattle.snmp_agent.specs.Reply.{unwritten, response, not_writable, failed_place}
+use Rattle.snmp_agent.specs.Answering.{IsResponseWritten, IsResponseTooLong, answer_to}
+use Rattle.snmp_agent.specs.Answering.{answers_to, whole_size, whole_status, whole_index}
+use Rattle.snmp_agent.proofs.Each.{is_got}
+use Rattle.snmp_agent.proofs.Following.{IsOrder}
+use Rattle.snmp_agent.proofs.Standing.{given_there}
 
 -- the head of a message doesn't look at its bindings
 pub same_head : (q : Message) (status index : ℤ) (bindings : List VarBind) (total : ℕ)
@@ -27,23 +28,32 @@ pub same_head : (q : Message) (status index : ℤ) (bindings : List VarBind) (to
 unfolding canon_head canon_front canon_opening canon_fields
 same_head q status index bindings total = refl
 
+-- each binding has the answer that is computed
+each : (R : VarBind → VarBind → Type 0) (f : VarBind → VarBind) → ((asked : VarBind) → R asked (f asked)) → (asked : List VarBind) → AreAnswers R asked (map f asked)
+each R f one [] = tt
+each R f one (p ∷ asked) = (one p, each R f one asked)
+
 -- the bindings of a Set are its own answers
-own : (asked given : List VarBind) → AreAnswers (λ a g. g ≡ a) asked given → given ≡ asked
-own [] [] h = refl
-own (a ∷ more) (g ∷ gs) h = let rest : gs ≡ more = own more gs h.1 in let first : g ≡ a = h.0 in cc
-own _ _ h = absurd h
+own : (view : MibView) (asked : List VarBind) → answers_to view kind.SetRequest asked ≡ asked
+own view [] = refl
+own view (p ∷ asked) = ap (λ ps. p ∷ ps) (own view asked)
 
-by_kind : (view : MibView) (q : Message) (given : List VarBind) (k : Kind) → q.kind ≡ k → IsPaired k → AreAnswers (IsAnswer view k) q.bindings given
-    → IsWhole view q (response q (whole_status k) (whole_index k q.bindings) given)
-by_kind view q given kind.GetRequest e h answers = got given e answers refl
-by_kind view q given kind.GetNextRequest e h answers = got_next given e answers refl
-by_kind view q given kind.SetRequest e h answers = unwritten e (ap (λ bs. response q not_writable (failed_place q.bindings) bs) (own q.bindings given answers))
-by_kind view q given _ e h answers = absurd h
+by_kind : IsOrder → (view : MibView) (q : Message) (k : Kind) → q.kind ≡ k → IsServed k → (k ≡ kind.GetBulkRequest → ⊥)
+    → IsWhole view q (response q (whole_status k) (whole_index k q.bindings) (answers_to view k q.bindings))
+by_kind order view q kind.GetRequest e h other =
+    got (answers_to view kind.GetRequest q.bindings) e (each (λ asked given. IsGet view asked.name given) (answer_to view kind.GetRequest)
+    (λ (asked : VarBind). is_got view asked.name) q.bindings) refl
+by_kind order view q kind.GetNextRequest e h other =
+    got_next (answers_to view kind.GetNextRequest q.bindings) e (each (λ asked given. IsNext view asked.name given) (answer_to view kind.GetNextRequest)
+    (λ (asked : VarBind). given_there order view 0 asked.name) q.bindings) refl
+by_kind order view q kind.SetRequest e h other = unwritten e (ap (λ bs. response q not_writable (failed_place q.bindings) bs) (own view q.bindings))
+by_kind order view q kind.GetBulkRequest e h other = absurd (other refl)
+by_kind order view q _ e h other = absurd h
 
--- the Response to a request whose bindings are answered, whatever its size
-pub whole_response : (view : MibView) (q : Message) (given : List VarBind) → IsPaired q.kind → AreAnswers (IsAnswer view q.kind) q.bindings given
-    → IsWhole view q (response q (whole_status q.kind) (whole_index q.kind q.bindings) given)
-whole_response view q given h answers = by_kind view q given q.kind refl h answers
+-- the Response to a request that has one binding for each of its own, whatever its size
+pub whole_response : IsOrder → (view : MibView) (q : Message) → IsServed q.kind → (q.kind ≡ kind.GetBulkRequest → ⊥)
+    → IsWhole view q (response q (whole_status q.kind) (whole_index q.kind q.bindings) (answers_to view q.kind q.bindings))
+whole_response order view q h other = by_kind order view q q.kind refl h other
 
 -- ---- sizes
 
@@ -54,28 +64,27 @@ response_size sizes q status index given =
     ap (λ head. length head + length (canon_bindings given)) (same_head q status index given (length (canon_bindings given)))
     ∙ sym (sizes.whole (response q status index given))
 
--- a head and the bindings behind it are the Response
-pub sealed : HasPieces → (q : Message) (status index : ℤ) (limit : ℕ) (given : List VarBind) (total : ℕ) (out : List ℕ)
-    → HoldsBindings (response q status index []) limit given total out
-    → canon_head (response q status index []) total ++ take total out ≡ canon (response q status index given)
-sealed pieces q status index limit given total out holds =
-    let r = response q status index given in
-    let head : canon_head (response q status index []) total ≡ canon_head r (length (canon_bindings given)) = same_head q status index given total
-    ∙ ap (canon_head r) holds.total_size in
-    let both : canon_head (response q status index []) total ++ take total out ≡ canon_head r (length (canon_bindings given)) ++ canon_bindings given = cc
-    (head, holds.octets) in
-    both ∙ sym (pieces r)
+-- a Response whose bindings lie in the output
+module _ (sizes : MessageSizes) (pieces : HasPieces) (view : MibView) (limit : ℕ) (q m : Message) (status index : ℤ) (given : List VarBind) (total : ℕ)
+    (out : List ℕ) (parts : m ≡ response q status index []) (total_size : total ≡ length (canon_bindings given)) where
+  -- how long it is
+  pub whole_length : whole_size m total ≡ length (canon (response q status index given))
+  whole_length = ap (λ (x : Message). whole_size x total) parts ∙ ap (whole_size (response q status index [])) total_size
+      ∙ response_size sizes q status index given
 
-pub sealed_size : MessageSizes → (q : Message) (status index : ℤ) (limit : ℕ) (given : List VarBind) (total : ℕ) (out : List ℕ)
-    → HoldsBindings (response q status index []) limit given total out
-    → whole_size (response q status index []) total ≡ length (canon (response q status index given))
-sealed_size sizes q status index limit given total out holds = ap (whole_size (response q status index [])) holds.total_size
-    ∙ response_size sizes q status index given
+  module _ (is : IsResponse view limit q (response q status index given)) where
+    -- with the head before the bindings it is the reply
+    pub written : take total out ≡ canon_bindings given → (n : ℕ) (new : List ℕ) → n ≡ whole_size m total → n ≤ limit
+        → take n new ≡ canon_head m total ++ take total out → IsResponseWritten view limit q n new
+    written octets n new long fits text =
+        let r = response q status index given in
+        let head : canon_head m total ≡ canon_head r (length (canon_bindings given)) = ap (λ (x : Message). canon_head x total) parts
+        ∙ same_head q status index given total ∙ ap (canon_head r) total_size in
+        let both : canon_head m total ++ take total out ≡ canon_head r (length (canon_bindings given)) ++ canon_bindings given = cc (head, octets) in
+        (r, is, omega (arith, long, fits, whole_length), text ∙ both ∙ sym (pieces r), long ∙ whole_length)
 
--- a Response without bindings is its head
-pub bare : HasPieces → (q : Message) (status index : ℤ) → canon_head (response q status index []) 0 ≡ canon (response q status index [])
-unfolding canon_bindings
-bare pieces q status index = sym (pieces (response q status index []) ∙ append-nil (canon_head (response q status index []) 0))
+    pub not_written : limit < whole_size m total → IsResponseTooLong view limit q
+    not_written large = (response q status index given, is, omega (arith, large, whole_length))
 
 -- ---- what a request is tested for
 
@@ -111,43 +120,7 @@ other_kind {found} {theirs} e get next bulk set served = by_cases theirs e serve
     by_cases kind.GetBulkRequest is h = bulk is
     by_cases _ is h = h
 
--- what is served and is no GetBulk has one binding for each of the request's
-pub paired_kind : {found theirs : Kind} → found ≡ theirs → (found ≡ kind.GetBulkRequest → ⊥) → IsServed theirs → IsPaired theirs
-paired_kind {found} {theirs} e other served = by_cases theirs e served
-  where
-    by_cases : (k : Kind) → found ≡ k → IsServed k → IsPaired k
-    by_cases kind.GetBulkRequest is h = absurd (other is)
-    by_cases _ is h = h
-
--- ---- replies
-
--- bindings with the head before them are the Response
-pub finished : MessageSizes → HasPieces
-    → (view : MibView) (limit : ℕ) (q : Message) (k : Kind) (bindings given : List VarBind) (m : Message) (total n : ℕ) (out new : List ℕ)
-    → IsPaired q.kind → k ≡ q.kind → bindings ≡ q.bindings
-    → m ≡ response q (whole_status q.kind) (whole_index q.kind q.bindings) [] → AreAnswers (IsAnswer view k) bindings given
-    → HoldsBindings m limit given total out → n ≡ whole_size m total → take n new ≡ canon_head m total ++ take total out
-    → IsResponseWritten view limit q n new
-finished sizes pieces view limit q k bindings given m total n out new served same_kind same_bindings parts h holds size octets =
-    let st = whole_status q.kind in
-    let ix = whole_index q.kind q.bindings in
-    let here : HoldsBindings (response q st ix []) limit given total out = subst (λ (x : Message). HoldsBindings x limit given total out) parts holds in
-    let long : n ≡ length (canon (response q st ix given)) = size ∙ ap (λ (x : Message). whole_size x total) parts
-    ∙ sealed_size sizes q st ix limit given total out here in
-    let text : take n new ≡ canon (response q st ix given) = octets ∙ ap (λ (x : Message). canon_head x total ++ take total out) parts
-    ∙ sealed pieces q st ix limit given total out here in
-    let fits : length (canon (response q st ix given)) ≤ limit = omega (arith, ap (λ (x : Message). whole_size x total) parts, holds.fits) in
-    (response q st ix given, whole (whole_response view q given served (rw (same_kind, same_bindings) at h)) fits, fits, text, long)
-
--- where the answers pass the limit, the Response is an error
-pub replaced : MessageSizes → (view : MibView) (limit : ℕ) (q : Message) (k : Kind) (bindings given : List VarBind) (m : Message) → IsPaired q.kind → k ≡ q.kind
-    → bindings ≡ q.bindings
-    → m ≡ response q (whole_status q.kind) (whole_index q.kind q.bindings) [] → AreAnswers (IsAnswer view k) bindings given → PassesLimit m limit given
-    → IsResponse view limit q (response q too_big (pos 0) [])
-replaced sizes view limit q k bindings given m served same_kind same_bindings parts h large =
-    let st = whole_status q.kind in
-    let ix = whole_index q.kind q.bindings in
-    let size : whole_size m (length (canon_bindings given)) ≡ length (canon (response q st ix given)) = ap (λ (x : Message). whole_size x (length
-    (canon_bindings given))) parts ∙ response_size sizes q st ix given in
-    shortened (response q st ix given) (whole_response view q given served (rw (same_kind, same_bindings) at h)) (λ fits. absurd
-    (omega (arith, size))) refl
+-- what follows where there is nothing
+pub if_none : {A : Type 0} {P Q : Type 0} (o : Option A) → IfNone o P → (P → Q) → IfNone o Q
+if_none None h f = f h
+if_none (Some x) h f = tt

@@ -1,33 +1,29 @@
 -- How replies are made: what private functions are proved to find and to write. Only contracts of
 -- functions that the crate doesn't export cite these definitions.
-use Rattle.std.specs.Prelude.{◌≡◌, ℕ, zero, suc, ℤ, pos, ◌+◌, ◌≤◌, ◌<◌, List, [], ◌∷◌}
-use Rattle.std.specs.Prelude.{◌++◌, ◌-◌, length, take, drop, cond, leb}
+use Rattle.std.specs.Prelude.{◌≡◌, ◌≢◌, ℕ, zero, suc, ℤ, pos, ◌+◌, ◌≤◌, ◌<◌, List, [], ◌∷◌}
+use Rattle.std.specs.Prelude.{◌++◌, ◌-◌, length, map, take, drop, cond, leb}
 use Rattle.std.specs.List.{list_all}
 use Rattle.snmp_oid.specs.Identifier.{IsWire}
 use Rattle.snmp_wire.specs.declared.kind.Kind.{Kind}
 use Rattle.snmp_wire.specs.declared.kind.Kind.TheVariants as kind
 use Rattle.snmp_wire.specs.Message.{Datum, object_id, octet_string, opaque_octets}
 use Rattle.snmp_wire.specs.Message.{VarBind, Message}
-use Rattle.snmp_wire.specs.Canon.{canon, canon_binding, canon_bindings, canon_head}
-use Rattle.snmp_agent.specs.table.Table.{MibView, IsGet, IsNext, IsNextAfter}
+use Rattle.snmp_wire.specs.Canon.{canon, canon_binding, canon_head}
+use Rattle.snmp_agent.specs.table.Listing.{got_at}
+use Rattle.snmp_agent.specs.table.Table.{MibView, IsNextAfter}
 use Rattle.snmp_agent.specs.declared.room.ReplyBindings.{ReplyBindings}
 use Rattle.snmp_agent.specs.Reply.{AreAnswers, IsResponse, not_writable, no_error}
 use Rattle.snmp_agent.specs.Reply.{failed_place, joined, or_zero}
-use Rattle.snmp_agent.specs.Standing.{given_in, is_over, places_of}
+use Rattle.snmp_agent.specs.Standing.{given_in, is_over, next_at, place_of, places_of}
 
--- the kinds of request whose reply has one binding for each of theirs
-abbrev pub IsPaired : Kind → Type 0
-IsPaired kind.GetRequest = Unit {0}
-IsPaired kind.GetNextRequest = Unit {0}
-IsPaired kind.SetRequest = Unit {0}
-IsPaired _ = ⊥
+-- what the reply to a request of the kind has for one of its bindings, and for each
+abbrev pub answer_to : MibView → Kind → VarBind → VarBind
+answer_to view kind.GetRequest asked = got_at view asked.name
+answer_to view kind.GetNextRequest asked = next_at (place_of view 0 asked.name)
+answer_to view _ asked = asked
 
--- what the reply to a request of the kind has for one of its bindings
-abbrev pub IsAnswer : MibView → Kind → VarBind → VarBind → Type 0
-IsAnswer view kind.GetRequest asked given = IsGet view asked.name given
-IsAnswer view kind.GetNextRequest asked given = IsNext view asked.name given
-IsAnswer view kind.SetRequest asked given = given ≡ asked
-IsAnswer view _ asked given = ⊥
+abbrev pub answers_to : MibView → Kind → List VarBind → List VarBind
+answers_to view k asked = map (answer_to view k) asked
 
 -- a value that has an encoding, whatever its length
 abbrev pub HasEncoding : Datum → Type 0
@@ -53,18 +49,6 @@ IsShortValue _ = Unit {0}
 abbrev pub whole_size : Message → ℕ → ℕ
 whole_size m total = length (canon_head m total) + total
 
--- the front of the output is the encodings of the bindings, and the message with them keeps to the
--- limit
-pub record HoldsBindings (m : Message) (limit : ℕ) (bindings : List VarBind) (total : ℕ)
-    (out : List ℕ) : Type 0 where
-  pub total_size : total ≡ length (canon_bindings bindings)
-  pub octets : take total out ≡ canon_bindings bindings
-  pub fits : whole_size m total ≤ limit
-
--- the message with these bindings is longer than the limit
-abbrev pub PassesLimit : Message → ℕ → List VarBind → Type 0
-PassesLimit m limit bindings = limit < whole_size m (length (canon_bindings bindings))
-
 -- the error-status and the error-index of the whole Response to a request of the kind
 abbrev pub whole_status : Kind → ℤ
 whole_status kind.SetRequest = not_writable
@@ -84,9 +68,10 @@ abbrev pub IsResponseTooLong : MibView → ℕ → Message → Type 0
 IsResponseTooLong view limit q = (r : Message) × IsResponse view limit q r
     × (limit < length (canon r))
 
--- `room` is the most octets that the bindings of the message may take where it keeps to the limit
+-- `room` is the most octets that the bindings of the message may take where it keeps to the limit,
+-- or 0 where it doesn't even without bindings
 pub record IsRoom (m : Message) (limit room : ℕ) : Type 0 where
-  pub fits : whole_size m room ≤ limit
+  pub fits : room ≢ 0 → whole_size m room ≤ limit
   pub most : limit < whole_size m (room + 1)
 
 -- ---- the bindings of a reply
@@ -114,10 +99,6 @@ add h p = put h (canon_binding p)
 abbrev pub fill : Held → List VarBind → Held
 fill h [] = h
 fill h (p ∷ more) = fill (add h p) more
-
--- a binding is appended of which this is true
-abbrev pub Adds : (VarBind → Type 0) → Held → Held → Type 0
-Adds IsGiven old new = (p : VarBind) × IsGiven p × (new ≡ add old p)
 
 -- ---- GetBulk
 

@@ -1,14 +1,14 @@
 //! Requests and their replies.
-ghost use Rattle.std.specs.Prelude.{◌≡◌, ℕ, pos, ◌≤◌, ◌<◌, [], length, take, IfOk, IfErr, IfSome};
+ghost use Rattle.std.specs.Prelude.{◌≡◌, ◌≢◌, ◌++◌, ℕ, ◌≤◌, ◌<◌, [], length, take, IfOk, IfErr, IfSome};
 ghost use Rattle.std.specs.Prelude.{IfNone};
 ghost use Rattle.snmp_wire.specs.declared.kind.Kind.TheVariants as kind;
-ghost use Rattle.snmp_wire.specs.Canon.{canon};
+ghost use Rattle.snmp_wire.specs.Canon.{canon_head};
 ghost use Rattle.snmp_wire.specs.Parts.{parts_message};
 ghost use Rattle.snmp_agent.specs.Reply.{agent_of, IsReply, IsDropped, IsRequest, IsRefused};
-ghost use Rattle.snmp_agent.specs.Reply.{IsServed, IsResponse, Fits, response, failed_place};
-ghost use Rattle.snmp_agent.specs.Reply.{too_big};
-ghost use Rattle.snmp_agent.specs.Answering.{IsPaired, AreWritable, IsResponseWritten};
-ghost use Rattle.snmp_agent.specs.Answering.{IsResponseTooLong, whole_status, whole_index};
+ghost use Rattle.snmp_agent.specs.Reply.{IsServed, response, failed_place};
+ghost use Rattle.snmp_agent.specs.Answering.{AreWritable, IsResponseWritten};
+ghost use Rattle.snmp_agent.specs.Answering.{IsResponseTooLong, whole_index, whole_size};
+ghost use Rattle.snmp_agent.specs.Answering.{whole_status};
 
 use crate::bulk::append_bulk;
 use crate::config::{Config, Outcome, Why};
@@ -16,10 +16,7 @@ use crate::draft::{append_answers, room_for_bindings};
 use crate::room::ReplyBindings;
 use crate::table::{Guesses, Hint, Last, Table};
 use snmp_oid::order;
-use snmp_wire::{
-    Kind, MAX_DATAGRAM, MessageRef, Parts, decode, encode_head, head_size, message_sizes, pieces,
-    seal,
-};
+use snmp_wire::{Kind, MAX_DATAGRAM, MessageRef, Parts, decode, message_sizes, pieces, seal};
 
 /// The version of SNMPv2c (RFC 1901, section 3).
 const VERSION: i32 = 1;
@@ -165,13 +162,9 @@ fn bulk_reply<'a>(
     message_sizes();
     pieces();
     let parts = response(request, NO_ERROR, 0);
-    match room_for_bindings(&parts, config.max_size) {
-        Some(room) => {
-            let bindings = append_bulk(table, request, ReplyBindings::new(room), out, hint);
-            seal(&parts, 0, bindings.total, &mut out[..])
-        }
-        None => None,
-    }
+    let room = room_for_bindings(&parts, config.max_size);
+    let bindings = append_bulk(table, request, ReplyBindings::new(room), out, hint);
+    sealed(&parts, bindings.total, config, out)
 }
 
 /// Writes the reply to another request, as [`reply`] does: with one binding for each of the
@@ -183,27 +176,33 @@ fn paired_reply(
     out: &mut [u8; MAX_DATAGRAM],
     hint: &mut Guesses<'_>,
 ) -> Option<usize>
-    requires paired { IsPaired request.now.kind }
+    requires served { IsServed request.now.kind }
+    requires other { request.now.kind ≢ kind.GetBulkRequest }
     requires community { length request.now.community ≤ 255 }
     requires writable { AreWritable request.now.bindings }
     ensures sent { IfSome result
         (λ n. IsResponseWritten table.now config.now.max_size request.now n out.new) }
     ensures none { IfNone result (IsResponseTooLong table.now config.now.max_size request.now) }
 {
+    order();
     message_sizes();
     pieces();
     let parts = whole_parts(request);
-    match append_answers(
+    let room = config.max_size;
+    let bindings = append_answers(
         table,
         request.kind(),
         request.bindings(),
-        &parts,
-        config,
+        ReplyBindings::new(room),
         out,
         hint,
-    ) {
-        Some(total) => seal(&parts, 0, total, &mut out[..]),
-        None => shortened(request, config, out),
+    );
+    // Where a binding had no room, none is left for the head either. Then the error tooBig comes
+    // (RFC 3416, section 4.2.1).
+    let total = room - bindings.left;
+    match sealed(&parts, total, config, out) {
+        Some(size) => Some(size),
+        None => sealed(&response(request, TOO_BIG, 0), 0, config, out),
     }
 }
 
@@ -243,24 +242,21 @@ fn response<'a>(request: &MessageRef<'a>, status: i32, index: i32) -> Parts<'a>
     }
 }
 
-/// Writes the error tooBig in place of a Response that doesn't fit (RFC 3416, section 4.2.1). None
-/// where it has more than `max_size` octets itself.
-fn shortened(
-    request: &MessageRef<'_>,
+/// Makes the message of these parts with the bindings that are the first `total` octets of the
+/// output, in their place. None where it has more than `max_size` octets.
+fn sealed(
+    parts: &Parts<'_>,
+    total: usize,
     config: &Config<'_>,
     out: &mut [u8; MAX_DATAGRAM],
 ) -> Option<usize>
-    requires { length request.now.community ≤ 255 }
-    ensures sent { IfSome result
-        (λ n. let r = response request.now too_big (pos 0) [] in (length (canon r) ≤
-        config.now.max_size) × (take n out.new ≡ canon r) × (n ≡ length (canon r))) }
-    ensures none { IfNone result (config.now.max_size < length (canon (response request.now too_big
-        (pos 0) []))) }
+    requires community { length parts.now.community.now ≤ 255 }
+    requires within { total ≤ config.now.max_size }
+    ensures some { IfSome result (λ n. (n ≡ whole_size (parts_message parts.now) total)
+        × (n ≤ config.now.max_size) × (take n out.new
+        ≡ canon_head (parts_message parts.now) total ++ take total out.old)) }
+    ensures none { IfNone result
+        (config.now.max_size < whole_size (parts_message parts.now) total) }
 {
-    pieces();
-    let parts = response(request, TOO_BIG, 0);
-    if head_size(&parts, 0) > config.max_size as u64 {
-        return None;
-    }
-    encode_head(&parts, 0, &mut out[..])
+    seal(parts, 0, total, &mut out[..config.max_size])
 }

@@ -2,58 +2,41 @@
 //!
 //! They are written to the front of the output, one after the other. Once all are there, they are
 //! moved to make room for the head.
-ghost use Rattle.std.specs.Prelude.{◌≡◌, ◌≤◌, ◌<◌, List, length, IfSome, IfNone};
+ghost use Rattle.std.specs.Prelude.{◌≡◌, ◌≤◌, length};
 ghost use Rattle.std.specs.FinMap.{get};
-ghost use Rattle.snmp_wire.specs.Message.{VarBind};
 ghost use Rattle.snmp_wire.specs.Parts.{parts_message};
-ghost use Rattle.snmp_agent.specs.Reply.{AreAnswers};
-ghost use Rattle.snmp_agent.specs.Answering.{IsPaired, IsAnswer, IsWritable, AreWritable};
-ghost use Rattle.snmp_agent.specs.Answering.{HoldsBindings, IsRoom, PassesLimit, whole_size};
-ghost use Rattle.snmp_agent.specs.Answering.{Adds, add, held};
+ghost use Rattle.snmp_agent.specs.Answering.{AreWritable, IsRoom, IsWritable, add, answer_to};
+ghost use Rattle.snmp_agent.specs.Answering.{answers_to, fill, held};
 ghost use Rattle.snmp_agent.specs.Standing.{next_at, place_of};
-ghost use Rattle.snmp_agent.specs.table.Table.{IsGet};
+ghost use Rattle.snmp_agent.specs.table.Listing.{got_at};
 
-use crate::config::Config;
 use crate::place::{Given, append_end};
 use crate::room::{ReplyBindings, blank};
-use crate::table::{Guesses, Table, one_answer};
+use crate::table::{Guesses, Table};
 use snmp_oid::order;
 use snmp_wire::{BindingRef, Bindings, Kind, MAX_DATAGRAM, Parts, head_size, message_sizes};
 
-/// Writes the bindings of the reply to a request to the front of `out`, and returns how many octets
-/// they take together. None where a message of these parts with these bindings has more than
-/// `max_size` octets.
+/// Appends the bindings of the reply to a request, until there is no room.
 pub fn append_answers<'a>(
     table: &'a Table,
     kind: Kind,
     mut bindings: Bindings<'a>,
-    parts: &Parts<'_>,
-    config: &Config<'_>,
+    reply: ReplyBindings,
     out: &mut [u8; MAX_DATAGRAM],
     hint: &mut Guesses<'_>,
-) -> Option<usize>
-    requires paired { IsPaired kind }
-    requires writable { AreWritable bindings }
-    requires community { length parts.now.community.now ≤ 255 }
-    ensures written { IfSome result (λ total. (given : List VarBind)
-        × AreAnswers (IsAnswer table.now kind) bindings.entry given
-        × HoldsBindings (parts_message parts.now) config.now.max_size given total out.new) }
-    ensures too_long { IfNone result ((given : List VarBind)
-        × AreAnswers (IsAnswer table.now kind) bindings.entry given
-        × PassesLimit (parts_message parts.now) config.now.max_size given) }
+) -> ReplyBindings
+    requires { AreWritable bindings }
+    ensures { held result out.new
+        ≡ fill (held reply out.old) (answers_to table.now kind bindings.entry) }
 {
-    one_answer();
-    message_sizes();
-    let room = room_for_bindings(parts, config.max_size)?;
-    // With room for one octet more than may be sent: all bindings fit where some room is left.
-    let mut reply = ReplyBindings::new(room + 1);
+    let mut reply = reply;
     'bindings: while let Some(asked) = bindings.next_ref() {
         reply = append_answer(table, kind, &asked, reply, out, hint);
         if reply.is_full() {
-            return None;
+            return reply;
         }
     }
-    Some(reply.total)
+    reply
 }
 
 /// Appends what the reply to a request of this kind has for one binding of it: for a Get the
@@ -66,9 +49,9 @@ fn append_answer(
     out: &mut [u8; MAX_DATAGRAM],
     hint: &mut Guesses<'_>,
 ) -> ReplyBindings
-    requires paired { IsPaired kind }
-    requires writable { IsWritable asked.now }
-    ensures { Adds (IsAnswer table.now kind asked.now) (held reply out.old) (held result out.new) }
+    requires { IsWritable asked.now }
+    ensures { held result out.new
+        ≡ add (held reply out.old) (answer_to table.now kind asked.now) }
 {
     order();
     match kind {
@@ -86,7 +69,7 @@ fn append_get(
     out: &mut [u8; MAX_DATAGRAM],
     hint: &mut Guesses<'_>,
 ) -> ReplyBindings
-    ensures { Adds (IsGet table.now asked.now.name) (held reply out.old) (held result out.new) }
+    ensures { held result out.new ≡ add (held reply out.old) (got_at table.now asked.now.name) }
 {
     match table.row_near(&asked.name(), hint) {
         Some(row) => reply.append_row(out, row),
@@ -104,7 +87,7 @@ fn append_exception(
     out: &mut [u8; MAX_DATAGRAM],
 ) -> ReplyBindings
     requires { get table.now.rows asked.now.name ≡ None }
-    ensures { Adds (IsGet table.now asked.now.name) (held reply out.old) (held result out.new) }
+    ensures { held result out.new ≡ add (held reply out.old) (got_at table.now asked.now.name) }
 {
     let mut binding = blank();
     let name = asked.name();
@@ -154,25 +137,18 @@ fn append_same(
 }
 
 /// The most octets that the bindings of a message of these parts may take if it is to have at most
-/// `max_size`. None where it has more even without bindings.
-pub fn room_for_bindings(parts: &Parts<'_>, max_size: usize) -> Option<usize>
+/// `max_size`, or 0 where it has more even without bindings.
+pub fn room_for_bindings(parts: &Parts<'_>, max_size: usize) -> usize
     requires community { length parts.now.community.now ≤ 255 }
     requires datagram { max_size ≤ 65507 }
-    ensures room { IfSome result (IsRoom (parts_message parts.now) max_size) }
-    ensures below_max_size { IfSome result (λ room. room < max_size) }
-    ensures none { IfNone result (max_size < whole_size (parts_message parts.now) 0) }
+    ensures { IsRoom (parts_message parts.now) max_size result }
 {
     message_sizes();
-    let head = head_size(parts, 0) as usize;
-    if head > max_size {
-        return None;
-    }
-    // This head is at least as long as the one that is sent, so the search begins at the room or
-    // below it.
-    let longest = head_size(parts, (max_size - head) as u64) as usize;
+    // No head is longer than this one, so the search begins at the room or below it.
+    let longest = head_size(parts, max_size as u64) as usize;
     let mut room = max_size.saturating_sub(longest);
     'octets: while head_size(parts, room as u64 + 1) as usize + room < max_size {
         room += 1;
     }
-    Some(room)
+    room
 }

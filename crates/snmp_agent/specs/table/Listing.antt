@@ -1,8 +1,10 @@
 -- The list of a view's variables, by rising names, with which proofs calculate.
-use Rattle.std.specs.Prelude.{ℕ, zero, suc, List, [], ◌∷◌, map}
-use Rattle.std.specs.FinMap.{entries}
+use Rattle.std.specs.Prelude.{ℕ, zero, suc, Bool, ◌||◌, cond, List, [], ◌∷◌, length, map, take}
+use Rattle.std.specs.Prelude.{unwrap_or}
+use Rattle.std.specs.FinMap.{entries, get}
+use Rattle.std.specs.FinSet.{contains}
 use Rattle.snmp_wire.specs.Message.{VarBind}
-use Rattle.snmp_wire.specs.Message.Datum.{end_of_mib_view}
+use Rattle.snmp_wire.specs.Message.Datum.{end_of_mib_view, no_such_instance, no_such_object}
 use Rattle.snmp_agent.specs.table.Table.{MibView}
 
 -- the variables by rising names
@@ -20,3 +22,16 @@ abbrev pub nth_or_end : List ℕ → List VarBind → ℕ → VarBind
 nth_or_end o [] rounds = record { name = o; value = end_of_mib_view }
 nth_or_end o (p ∷ ps) zero = p
 nth_or_end o (p ∷ ps) (suc rounds) = nth_or_end p.name ps rounds
+
+-- whether an object prefix of at most so many numbers equals the name or begins it
+abbrev pub has_prefix : MibView → List ℕ → ℕ → Bool
+has_prefix view o zero = contains view.objects []
+has_prefix view o (suc n) = contains view.objects (take (suc n) o) || has_prefix view o n
+
+-- what a Get of the name gives
+abbrev pub got_at : MibView → List ℕ → VarBind
+got_at view o = record {
+  name = o;
+  value = unwrap_or (get view.rows o)
+      (cond (has_prefix view o (length o)) no_such_instance no_such_object);
+}

@@ -1,48 +1,55 @@
-use Rattle.std.proofs.Common.{◌≡◌, ◌≤◌, [], length, take, sym, ap, ◌∙◌, arith}
+use Rattle.std.proofs.Common.{◌≡◌, [], length, pos, sym, ap, ◌∙◌, arith}
 use Rattle.std.proofs.lemmas.List.{length-take-le}
 use Rattle.std.proofs.lemmas.Option.{IfSome_then}
+use Rattle.snmp_wire.specs.Canon.{canon_bindings}
 use Rattle.snmp_wire.specs.Parts.{parts_message}
 use Rattle.snmp_agent.specs.declared.room.ReplyBindings.{ReplyBindings}
-use Rattle.snmp_agent.specs.Answering.{Held, bulk_of, whole_size, held, fill}
-use Rattle.snmp_agent.proofs.BulkReplies.{bulk_sent, bulk_unsent}
+use Rattle.snmp_agent.specs.Reply.{IsResponse, no_error, response}
+use Rattle.snmp_agent.specs.Answering.{bulk_of, held}
+use Rattle.snmp_agent.proofs.BulkReplies.{bulk_response}
 use Rattle.snmp_agent.proofs.Fronts.{HoldsFront, all_front}
-use Rattle.snmp_agent.proofs.Lengths.{not_none, within}
+use Rattle.snmp_agent.proofs.Lengths.{room_within}
+use Rattle.snmp_agent.proofs.Requests.{if_none, not_written, written}
 use Rattle.snmp_agent.proofs.Rounds.{is_bulk}
 use Rattle.snmp_agent.proofs.agent.bulk_reply.Goals as goal
 use Rattle.snmp_agent.proofs.agent.bulk_reply.Goals.{After-append_bulk-bindings}
 
-front : (c : After-append_bulk-bindings) → HoldsFront c.in-Some.room [] (bulk_of c.args.table.now c.args.request.now)
+-- what is held, of all that is asked for
+front : (c : After-append_bulk-bindings) → HoldsFront c.room_for_bindings-room.result [] (bulk_of c.args.table.now c.args.request.now)
     (held c.append_bulk-bindings.result c.append_bulk-bindings.new.out)
 front c =
-    let all = bulk_of c.args.table.now c.args.request.now in
-    let none : record { octets = []; left = c.in-Some.room } ≡ held c.new.result c.args.out.now = λ i. record {
-      octets = take (sym c.new.ensures.empty i) c.args.out.now;
-      left = sym c.new.ensures.room i;
-    } in
-    all_front c.in-Some.room all _ (c.append_bulk-bindings.ensures ∙ ap (λ (h : Held). fill h all) (sym none))
+    all_front c.room_for_bindings-room.result (bulk_of c.args.table.now c.args.request.now) c.new.result c.append_bulk-bindings.result c.args.out.now
+    c.append_bulk-bindings.new.out c.new.ensures.empty c.new.ensures.room c.append_bulk-bindings.ensures
 
-pub returns-in-Some-clause-sent : goal.returns-in-Some-clause-sent
-returns-in-Some-clause-sent c =
+is_response : (c : After-append_bulk-bindings) → IsResponse c.args.table.now c.args.config.now.max_size c.args.request.now
+    (response c.args.request.now no_error (pos 0) (front c).added)
+is_response c =
+    bulk_response c.message_sizes.ensures c.args.table.now c.args.config.now.max_size c.room_for_bindings-room.result c.args.request.now
+    (parts_message c.response-parts.result) (bulk_of c.args.table.now c.args.request.now) (held c.append_bulk-bindings.result c.append_bulk-bindings.new.out)
+    c.requires.bulk (is_bulk c.order.ensures.less c.args.table.now c.is_mib_view.ensures c.args.request.now) c.response-parts.ensures
+    c.room_for_bindings-room.ensures (front c)
+
+total : (c : After-append_bulk-bindings) → c.append_bulk-bindings.result.total ≡ length (canon_bindings (front c).added)
+total c =
     let bindings : ReplyBindings = c.append_bulk-bindings.result in
-    IfSome_then c.seal.result c.seal.ensures.some (λ n h. bulk_sent c.message_sizes.ensures c.pieces.ensures c.args.table.now c.args.config.now.max_size
-    c.in-Some.room c.args.request.now (parts_message c.response-parts.result) (bulk_of c.args.table.now c.args.request.now) bindings n
-    c.append_bulk-bindings.new.out c.seal.new.out c.requires.bulk
-    (is_bulk c.order.ensures.less c.args.table.now c.is_mib_view.ensures c.args.request.now) c.response-parts.ensures c.in-Some.ensures.room
-    (front (goal.at.returns-in-Some-clause-sent c).After-append_bulk-bindings)
-    (length-take-le _ _ (omega arith)) h.0 h.1)
+    sym (length-take-le bindings.total c.append_bulk-bindings.new.out (omega arith)) ∙ ap length (front c).octets
 
-pub returns-in-Some-clause-none : goal.returns-in-Some-clause-none
-returns-in-Some-clause-none c =
-    let bindings : ReplyBindings = c.append_bulk-bindings.result in
-    let here = front (goal.at.returns-in-Some-clause-none c).After-append_bulk-bindings in
-    let long : length (take bindings.total c.append_bulk-bindings.new.out) ≡ bindings.total = length-take-le _ _ (omega arith) in
-    let fits : whole_size (parts_message c.response-parts.result) bindings.total ≤ c.args.config.now.max_size =
-    within c.message_sizes.ensures (parts_message c.response-parts.result) c.args.config.now.max_size c.in-Some.room bindings.total
-    c.in-Some.ensures.room (omega (arith, long, here.fits)) in
-    not_none _ c.seal.result (c.seal.ensures.variant.1 (omega (arith, fits, c.args.config.now.datagram, c.append_bulk-bindings.array_long)))
+pub sealed-requires-clause-within : goal.sealed-requires-clause-within
+sealed-requires-clause-within c =
+    let k = (goal.at.sealed-requires-clause-within c).After-append_bulk-bindings in
+    let room = room_within (parts_message c.response-parts.result) c.args.config.now.max_size c.room_for_bindings-room.result c.room_for_bindings-room.ensures in
+    omega (arith, room, total k, ap length (front k).octets, (front k).fits)
 
-pub returns-in-None-clause-none : goal.returns-in-None-clause-none
-returns-in-None-clause-none c =
-    bulk_unsent c.message_sizes.ensures c.pieces.ensures c.args.table.now c.args.config.now.max_size c.args.request.now
-    (parts_message c.response-parts.result) (bulk_of c.args.table.now c.args.request.now) c.requires.bulk
-    (is_bulk c.order.ensures.less c.args.table.now c.is_mib_view.ensures c.args.request.now) c.response-parts.ensures c.in-None.ensures.none
+pub returns-clause-sent : goal.returns-clause-sent
+returns-clause-sent c =
+    let k = (goal.at.returns-clause-sent c).After-append_bulk-bindings in
+    IfSome_then c.sealed.result c.sealed.ensures.some (λ n h. written c.message_sizes.ensures c.pieces.ensures c.args.table.now c.args.config.now.max_size
+    c.args.request.now (parts_message c.response-parts.result) no_error (pos 0) (front k).added c.append_bulk-bindings.result.total
+    c.append_bulk-bindings.new.out c.response-parts.ensures (total k) (is_response k) (front k).octets n c.sealed.new.out h.0 h.1 h.2)
+
+pub returns-clause-none : goal.returns-clause-none
+returns-clause-none c =
+    let k = (goal.at.returns-clause-none c).After-append_bulk-bindings in
+    if_none c.sealed.result c.sealed.ensures.none (not_written c.message_sizes.ensures c.pieces.ensures c.args.table.now c.args.config.now.max_size
+    c.args.request.now (parts_message c.response-parts.result) no_error (pos 0) (front k).added c.append_bulk-bindings.result.total
+    c.append_bulk-bindings.new.out c.response-parts.ensures (total k) (is_response k))

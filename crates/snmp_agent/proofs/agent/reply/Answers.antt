@@ -1,5 +1,5 @@
-use Rattle.snmp_agent.proofs.Requests.{paired_kind}
+use Rattle.std.proofs.Common.{◌∙◌}
 use Rattle.snmp_agent.proofs.agent.reply.Goals as goal
 
-pub paired_reply-requires-clause-paired : goal.paired_reply-requires-clause-paired
-paired_reply-requires-clause-paired c = paired_kind c.kind.ensures c.in_default.not-GetBulkRequest c.requires.served
+pub paired_reply-requires-clause-other : goal.paired_reply-requires-clause-other
+paired_reply-requires-clause-other c = λ is. c.in_default.not-GetBulkRequest (c.kind.ensures ∙ is)

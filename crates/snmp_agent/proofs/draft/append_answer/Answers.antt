@@ -1,15 +1,18 @@
-use Rattle.std.proofs.Common.{sym, subst}
+use Rattle.std.proofs.Common.{◌≡◌, ap, refl, ◌∙◌}
 use Rattle.snmp_wire.specs.declared.kind.Kind.{Kind}
-use Rattle.snmp_agent.specs.Answering.{IsAnswer}
-use Rattle.snmp_agent.specs.Standing.{next_at, place_of}
-use Rattle.snmp_agent.proofs.Standing.{given_there}
+use Rattle.snmp_wire.specs.declared.kind.Kind.TheVariants as kind
+use Rattle.snmp_wire.specs.Message.{VarBind}
+use Rattle.snmp_agent.specs.Answering.{add, answer_to, held}
+use Rattle.snmp_agent.specs.table.Table.{MibView}
 use Rattle.snmp_agent.proofs.draft.append_answer.Goals as goal
 
-pub returns-in-GetNextRequest : goal.returns-in-GetNextRequest
-returns-in-GetNextRequest c =
-    let p = next_at (place_of c.args.table.now 0 c.args.asked.now.name) in (
-      p,
-      subst (λ (k : Kind). IsAnswer c.args.table.now k c.args.asked.now p) (sym c.in-GetNextRequest.is)
-          (given_there c.order.ensures.less c.args.table.now 0 c.args.asked.now.name),
-      c.append_next.ensures,
-    )
+-- the answer to another request than a Get or a GetNext
+same : (view : MibView) (k : Kind) (asked : VarBind) → (k ≡ kind.GetRequest → ⊥) → (k ≡ kind.GetNextRequest → ⊥) → asked ≡ answer_to view k asked
+same view kind.GetRequest asked get next = absurd (get refl)
+same view kind.GetNextRequest asked get next = absurd (next refl)
+same view _ asked get next = refl
+
+pub returns-in_default : goal.returns-in_default
+returns-in_default c =
+    c.append_same.ensures ∙ ap (add (held c.args.reply c.args.out.now))
+    (same c.args.table.now c.args.kind c.args.asked.now c.in_default.not-GetRequest c.in_default.not-GetNextRequest)

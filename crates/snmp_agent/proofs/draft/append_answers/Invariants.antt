@@ -1,16 +1,11 @@
-use Rattle.std.proofs.Common.{◌+◌, ◌≢◌, ◌≤◌, [], length}
-use Rattle.snmp_agent.specs.Reply.{AreAnswers}
-use Rattle.snmp_agent.specs.Answering.{IsAnswer, AreWritable, held}
-use Rattle.snmp_agent.proofs.Fronts.{Goes}
+use Rattle.std.proofs.Common.{◌≡◌, length}
+use Rattle.snmp_agent.specs.Answering.{AreWritable, answers_to, fill, held}
 use Rattle.snmp_agent.proofs.draft.append_answers.Given as goal
 
--- with answers to the bindings that are left, all are answered
+-- what is still to be answered, added now, is all, added at the beginning
 abbrev pub invariant-bindings : goal.invariant-bindings
 invariant-bindings l = record {
-  others : Goes (AreAnswers (IsAnswer l.table l.kind) l.fn.bindings) (AreAnswers (IsAnswer l.table l.kind) l.bindings)
-      (record { octets = []; left = l.room + 1 }) (held l.reply l.out);
-  some : l.reply.left ≢ 0;
-  long : l.reply.total ≤ length l.out;
+  others : fill (held l.fn.reply l.fn.out) (answers_to l.table l.kind l.fn.bindings) ≡ fill (held l.reply l.out) (answers_to l.table l.kind l.bindings);
   writable : AreWritable l.bindings;
 }
 

@@ -1,8 +1,10 @@
-use Rattle.std.proofs.Common.{◌≡◌, List, ℕ, None, sym, subst, ◌∙◌}
+use Rattle.std.proofs.Common.{◌≡◌, List, ℕ, None, ap, sym, subst, ◌∙◌}
 use Rattle.std.specs.FinMap.{get}
 use Rattle.snmp_oid.specs.Identifier.{IsWire}
 use Rattle.snmp_wire.specs.Message.{datum}
-use Rattle.snmp_agent.specs.table.Table.{IsGet}
+use Rattle.snmp_agent.specs.Answering.{add, held}
+use Rattle.snmp_agent.specs.table.Listing.{got_at}
+use Rattle.snmp_agent.proofs.Each.{is_got, same_get}
 use Rattle.snmp_agent.proofs.Encodings.{answer_value}
 use Rattle.snmp_agent.proofs.draft.append_exception.Goals as goal
 
@@ -17,9 +19,8 @@ append-requires c = record {
 }
 
 pub returns : goal.returns
-returns c = (
-  record { name = c.read_into.new.oid; value = datum c.exception-binding.result },
-  subst (λ (o : List ℕ). IsGet c.args.table.now o (record { name = c.read_into.new.oid; value = datum c.exception-binding.result }))
-      (c.read_into.ensures ∙ c.name-name.ensures) c.exception-binding.ensures.answer,
-  c.append.ensures,
-)
+returns c =
+    let view = c.args.table.now in
+    let o = c.read_into.new.oid in
+    c.append.ensures ∙ ap (add (held c.args.reply c.args.out.now)) (same_get view o (record { name = o; value = datum c.exception-binding.result })
+    (got_at view o) c.exception-binding.ensures.answer (is_got view o) ∙ ap (got_at view) (c.read_into.ensures ∙ c.name-name.ensures))

@@ -1,11 +1,11 @@
-use Rattle.std.proofs.Common.{◌≤◌, ◌-◌}
+use Rattle.std.proofs.Common.{◌≢◌, ◌≤◌, ◌-◌}
 use Rattle.snmp_wire.specs.Parts.{parts_message}
 use Rattle.snmp_agent.specs.Answering.{whole_size}
 use Rattle.snmp_agent.proofs.draft.room_for_bindings.Given as goal
 
 -- the message with so many octets keeps to the limit
 abbrev pub invariant-octets : goal.invariant-octets
-invariant-octets l = whole_size (parts_message l.parts) l.room ≤ l.max_size
+invariant-octets l = l.room ≢ 0 → whole_size (parts_message l.parts) l.room ≤ l.max_size
 
 abbrev pub decreases-octets : goal.decreases-octets
 decreases-octets l = l.max_size - l.room
