@@ -4,8 +4,10 @@ use mir.Syntax.{w32}
 use mir.Val.{of_z, to_z, SFits}
 use Rattle.std.proofs.lemmas.Int.{to_z-of_z}
 use Rattle.std.proofs.Common.{◌≡◌, ℕ, ℤ, pos, Bool, true, false, not, nat_eq, ◌⊎◌, inl, inr, ◌+◌}
-use Rattle.std.proofs.Common.{◌≤◌, ◌<◌, List, [], ◌∷◌, ◌++◌, length, map, take, refl, sym, ap, subst}
-use Rattle.std.proofs.Common.{◌∙◌, arith, Option, Some, None, IfNone}
+use Rattle.std.proofs.Common.{◌≤◌, List, [], ◌∷◌, ◌++◌, length, map, take, refl, sym, ap, subst}
+use Rattle.std.proofs.Common.{◌∙◌, ◌↔◌, ⊎_elim, arith, Option, Some, None, IsSome, IfSome}
+use Rattle.std.proofs.lemmas.Bool.{cases_lt}
+use Rattle.std.proofs.lemmas.List.{take-append-le}
 use Rattle.snmp_wire.specs.declared.kind.Kind.{Kind}
 use Rattle.snmp_wire.specs.declared.kind.Kind.TheVariants as kind
 use Rattle.snmp_wire.specs.Message.{VarBind, Message}
@@ -14,19 +16,18 @@ use Rattle.snmp_wire.specs.Canon.{canon_head, canon_opening}
 use Rattle.snmp_wire.specs.Laws.{HasPieces}
 use Rattle.snmp_wire.specs.Sizes.{MessageSizes}
 use Rattle.snmp_agent.specs.table.Table.{MibView, IsGet, IsNext}
-use Rattle.snmp_agent.specs.Reply.{IsServed, AreAnswers, IsWhole, IsResponse, got, got_next}
+use Rattle.snmp_agent.specs.Reply.{IsServed, AreAnswers, IsWhole, got, got_next}
 use Rattle.snmp_agent.specs.Reply.{unwritten, response, not_writable, failed_place}
-use Rattle.snmp_agent.specs.Answering.{IsResponseWritten, IsResponseTooLong, answer_to}
-use Rattle.snmp_agent.specs.Answering.{answers_to, whole_size, whole_status, whole_index}
+use Rattle.snmp_agent.specs.Answering.{IsWritten, answer_to, answers_to}
+use Rattle.snmp_agent.specs.Answering.{whole_size, whole_status, whole_index}
 use Rattle.snmp_agent.proofs.Each.{is_got}
 use Rattle.snmp_agent.proofs.Following.{IsOrder}
 use Rattle.snmp_agent.proofs.Standing.{given_there}
 
 -- the head of a message doesn't look at its bindings
-pub same_head : (q : Message) (status index : ℤ) (bindings : List VarBind) (total : ℕ)
-    → canon_head (response q status index []) total ≡ canon_head (response q status index bindings) total
+same_head : (m : Message) (total : ℕ) → canon_head (record m { bindings = [] }) total ≡ canon_head m total
 unfolding canon_head canon_front canon_opening canon_fields
-same_head q status index bindings total = refl
+same_head m total = refl
 
 -- each binding has the answer that is computed
 each : (R : VarBind → VarBind → Type 0) (f : VarBind → VarBind) → ((asked : VarBind) → R asked (f asked)) → (asked : List VarBind) → AreAnswers R asked (map f asked)
@@ -61,30 +62,31 @@ whole_response order view q h other = by_kind order view q q.kind refl h other
 pub response_size : MessageSizes → (q : Message) (status index : ℤ) (given : List VarBind)
     → whole_size (response q status index []) (length (canon_bindings given)) ≡ length (canon (response q status index given))
 response_size sizes q status index given =
-    ap (λ head. length head + length (canon_bindings given)) (same_head q status index given (length (canon_bindings given)))
+    ap (λ head. length head + length (canon_bindings given)) (same_head (response q status index given) (length (canon_bindings given)))
     ∙ sym (sizes.whole (response q status index given))
 
--- a Response whose bindings lie in the output
-module _ (sizes : MessageSizes) (pieces : HasPieces) (view : MibView) (limit : ℕ) (q m : Message) (status index : ℤ) (given : List VarBind) (total : ℕ)
-    (out : List ℕ) (parts : m ≡ response q status index []) (total_size : total ≡ length (canon_bindings given)) where
-  -- how long it is
-  pub whole_length : whole_size m total ≡ length (canon (response q status index given))
-  whole_length = ap (λ (x : Message). whole_size x total) parts ∙ ap (whole_size (response q status index [])) total_size
-      ∙ response_size sizes q status index given
+-- the message of these parts whose bindings are the first octets of the output, in the part of it that the message may take
+module _ (sizes : MessageSizes) (pieces : HasPieces) (limit total : ℕ) (m r : Message) (out part rest : List ℕ) (parts : m ≡ record r { bindings = [] })
+    (octets : take total out ≡ canon_bindings r.bindings) (long : length (take total out) ≡ total) (room : length part ≡ limit) where
+  total_size : total ≡ length (canon_bindings r.bindings)
+  total_size = sym long ∙ ap length octets
 
-  module _ (is : IsResponse view limit q (response q status index given)) where
-    -- with the head before the bindings it is the reply
-    pub written : take total out ≡ canon_bindings given → (n : ℕ) (new : List ℕ) → n ≡ whole_size m total → n ≤ limit
-        → take n new ≡ canon_head m total ++ take total out → IsResponseWritten view limit q n new
-    written octets n new long fits text =
-        let r = response q status index given in
-        let head : canon_head m total ≡ canon_head r (length (canon_bindings given)) = ap (λ (x : Message). canon_head x total) parts
-        ∙ same_head q status index given total ∙ ap (canon_head r) total_size in
-        let both : canon_head m total ++ take total out ≡ canon_head r (length (canon_bindings given)) ++ canon_bindings given = cc (head, octets) in
-        (r, is, omega (arith, long, fits, whole_length), text ∙ both ∙ sym (pieces r), long ∙ whole_length)
+  head : canon_head m total ≡ canon_head r (length (canon_bindings r.bindings))
+  head = ap (λ (x : Message). canon_head x total) parts ∙ same_head r total ∙ ap (canon_head r) total_size
 
-    pub not_written : limit < whole_size m total → IsResponseTooLong view limit q
-    not_written large = (response q status index given, is, omega (arith, large, whole_length))
+  size : whole_size m total ≡ length (canon r)
+  size = omega (arith, ap length head, total_size, sizes.whole r)
+
+  pub is_written : (result : Option ℕ) → IsSome result ↔ (whole_size m total ≤ limit)
+      → IfSome result (λ n. (n ≡ whole_size m total) × (take n part ≡ canon_head m total ++ take total out)) → IsWritten limit r result (part ++ rest)
+  is_written None fits h = ⊎_elim (λ large. omega (arith, large, size)) (λ low. let is = fits.1 low in absurd (cc)) (cases_lt limit (whole_size m total))
+  is_written (Some n) fits h =
+      let low : whole_size m total ≤ limit = fits.0 refl in
+      let both : canon_head m total ++ take total out ≡ canon_head r (length (canon_bindings r.bindings)) ++ canon_bindings r.bindings = cc (head, octets) in (
+        omega (arith, low, size),
+        take-append-le n part rest (omega (arith, h.0, low, room)) ∙ h.1 ∙ both ∙ sym (pieces r),
+        h.0 ∙ size,
+      )
 
 -- ---- what a request is tested for
 
@@ -119,8 +121,3 @@ other_kind {found} {theirs} e get next bulk set served = by_cases theirs e serve
     by_cases kind.SetRequest is h = set is
     by_cases kind.GetBulkRequest is h = bulk is
     by_cases _ is h = h
-
--- what follows where there is nothing
-pub if_none : {A : Type 0} {P Q : Type 0} (o : Option A) → IfNone o P → (P → Q) → IfNone o Q
-if_none None h f = f h
-if_none (Some x) h f = tt

@@ -2,6 +2,7 @@
 -- functions that the crate doesn't export cite these definitions.
 use Rattle.std.specs.Prelude.{◌≡◌, ◌≢◌, ℕ, zero, suc, ℤ, pos, ◌+◌, ◌≤◌, ◌<◌, List, [], ◌∷◌}
 use Rattle.std.specs.Prelude.{◌++◌, ◌-◌, length, map, take, drop, cond, leb}
+use Rattle.std.specs.Prelude.{Option, None, Some}
 use Rattle.std.specs.List.{list_all}
 use Rattle.snmp_oid.specs.Identifier.{IsWire}
 use Rattle.snmp_wire.specs.declared.kind.Kind.{Kind}
@@ -58,15 +59,17 @@ abbrev pub whole_index : Kind → List VarBind → ℤ
 whole_index kind.SetRequest bindings = failed_place bindings
 whole_index _ bindings = pos 0
 
--- the first n octets of the output are the Response that is to be sent
-abbrev pub IsResponseWritten : MibView → ℕ → Message → ℕ → List ℕ → Type 0
-IsResponseWritten view limit q n out = (r : Message) × IsResponse view limit q r
-    × (length (canon r) ≤ limit) × (take n out ≡ canon r) × (n ≡ length (canon r))
+-- the message was written to the front of the output, and this is its length; None where it is
+-- longer than the limit
+abbrev pub IsWritten : ℕ → Message → Option ℕ → List ℕ → Type 0
+IsWritten limit r None out = limit < length (canon r)
+IsWritten limit r (Some n) out =
+    (length (canon r) ≤ limit) × (take n out ≡ canon r) × (n ≡ length (canon r))
 
--- the Response that is to be sent doesn't fit
-abbrev pub IsResponseTooLong : MibView → ℕ → Message → Type 0
-IsResponseTooLong view limit q = (r : Message) × IsResponse view limit q r
-    × (limit < length (canon r))
+-- so was the Response to a request
+abbrev pub IsAnswered : MibView → ℕ → Message → Option ℕ → List ℕ → Type 0
+IsAnswered view limit q result out =
+    (r : Message) × IsResponse view limit q r × IsWritten limit r result out
 
 -- `room` is the most octets that the bindings of the message may take where it keeps to the limit,
 -- or 0 where it doesn't even without bindings

@@ -1,13 +1,12 @@
 //! Requests and their replies.
-ghost use Rattle.std.specs.Prelude.{◌≡◌, ◌≢◌, ◌++◌, ℕ, ◌≤◌, ◌<◌, [], length, take, IfOk, IfErr, IfSome};
-ghost use Rattle.std.specs.Prelude.{IfNone};
+ghost use Rattle.std.specs.Prelude.{◌≡◌, ◌≢◌, ℕ, ◌≤◌, ◌<◌, [], length, take, IfOk, IfErr, IsSome};
 ghost use Rattle.snmp_wire.specs.declared.kind.Kind.TheVariants as kind;
-ghost use Rattle.snmp_wire.specs.Canon.{canon_head};
+ghost use Rattle.snmp_wire.specs.Canon.{canon_bindings};
+ghost use Rattle.snmp_wire.specs.Message.{Message};
 ghost use Rattle.snmp_wire.specs.Parts.{parts_message};
 ghost use Rattle.snmp_agent.specs.Reply.{agent_of, IsReply, IsDropped, IsRequest, IsRefused};
 ghost use Rattle.snmp_agent.specs.Reply.{IsServed, response, failed_place};
-ghost use Rattle.snmp_agent.specs.Answering.{AreWritable, IsResponseWritten};
-ghost use Rattle.snmp_agent.specs.Answering.{IsResponseTooLong, whole_index, whole_size};
+ghost use Rattle.snmp_agent.specs.Answering.{AreWritable, IsAnswered, IsWritten, whole_index};
 ghost use Rattle.snmp_agent.specs.Answering.{whole_status};
 
 use crate::bulk::append_bulk;
@@ -133,9 +132,7 @@ fn reply(
     requires served { IsServed request.now.kind }
     requires community { length request.now.community ≤ 255 }
     requires writable { AreWritable request.now.bindings }
-    ensures sent { IfSome result
-        (λ n. IsResponseWritten table.now config.now.max_size request.now n out.new) }
-    ensures none { IfNone result (IsResponseTooLong table.now config.now.max_size request.now) }
+    ensures { IsAnswered table.now config.now.max_size request.now result out.new }
 {
     match request.kind() {
         Kind::GetBulkRequest => bulk_reply(table, config, request, out, hint),
@@ -153,14 +150,11 @@ fn bulk_reply<'a>(
 ) -> Option<usize>
     requires bulk { request.now.kind ≡ kind.GetBulkRequest }
     requires community { length request.now.community ≤ 255 }
-    ensures sent { IfSome result
-        (λ n. IsResponseWritten table.now config.now.max_size request.now n out.new) }
-    ensures none { IfNone result (IsResponseTooLong table.now config.now.max_size request.now) }
+    ensures { IsAnswered table.now config.now.max_size request.now result out.new }
 {
     order();
     table.is_mib_view();
     message_sizes();
-    pieces();
     let parts = response(request, NO_ERROR, 0);
     let room = room_for_bindings(&parts, config.max_size);
     let bindings = append_bulk(table, request, ReplyBindings::new(room), out, hint);
@@ -180,13 +174,10 @@ fn paired_reply(
     requires other { request.now.kind ≢ kind.GetBulkRequest }
     requires community { length request.now.community ≤ 255 }
     requires writable { AreWritable request.now.bindings }
-    ensures sent { IfSome result
-        (λ n. IsResponseWritten table.now config.now.max_size request.now n out.new) }
-    ensures none { IfNone result (IsResponseTooLong table.now config.now.max_size request.now) }
+    ensures { IsAnswered table.now config.now.max_size request.now result out.new }
 {
     order();
     message_sizes();
-    pieces();
     let parts = whole_parts(request);
     let room = config.max_size;
     let bindings = append_answers(
@@ -252,11 +243,13 @@ fn sealed(
 ) -> Option<usize>
     requires community { length parts.now.community.now ≤ 255 }
     requires within { total ≤ config.now.max_size }
-    ensures some { IfSome result (λ n. (n ≡ whole_size (parts_message parts.now) total)
-        × (n ≤ config.now.max_size) × (take n out.new
-        ≡ canon_head (parts_message parts.now) total ++ take total out.old)) }
-    ensures none { IfNone result
-        (config.now.max_size < whole_size (parts_message parts.now) total) }
+    ensures written { (r : Message) → parts_message parts.now ≡ record r { bindings = [] }
+        → take total out.old ≡ canon_bindings r.bindings
+        → IsWritten config.now.max_size r result out.new }
+    // The head takes some octets too.
+    ensures room { IsSome result → total < config.now.max_size }
 {
+    message_sizes();
+    pieces();
     seal(parts, 0, total, &mut out[..config.max_size])
 }

@@ -11,19 +11,19 @@ reply-requires-clause-writable c = read_message c.in-Ok.message c.args.request.n
 pub returns-in-Some-clause-reply : goal.returns-in-Some-clause-reply
 returns-in-Some-clause-reply c = λ n e.
     let same : c.in-Some.size ≡ n = cc in
-    let sent = c.in-Some.ensures.sent in
+    let sent = rw c.in-Some.is at c.reply.ensures in
     record {
       request = c.in-Ok.message;
       response = sent.0;
       is_request = c.in-Ok.ensures.found;
       is_response = sent.1;
-      fits = sent.2;
-      encoding = ap (λ k. take k c.reply.new.out) (sym same) ∙ sent.3;
+      fits = sent.2.0;
+      encoding = ap (λ k. take k c.reply.new.out) (sym same) ∙ sent.2.1;
     }
 
 pub returns-in-None-clause-dropped : goal.returns-in-None-clause-dropped
 returns-in-None-clause-dropped c = λ reason e.
     let same : why.TooLong ≡ reason = cc in
-    let none = c.in-None.ensures.none in
+    let none = rw c.in-None.is at c.reply.ensures in
     subst (λ (w : Why). IsDropped (agent_of c.args.table.now c.args.config.now) c.args.request.now w) same
-    (c.in-Ok.message, none.0, c.in-Ok.ensures.found, none.1, λ fits. absurd (omega arith))
+    (c.in-Ok.message, none.0, c.in-Ok.ensures.found, none.1, λ fits. absurd (omega (arith, fits, none.2)))
