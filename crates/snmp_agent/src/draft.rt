@@ -71,7 +71,7 @@ fn append_get(
 ) -> ReplyBindings
     ensures { held result out.new ≡ add (held reply out.old) (got_at table.now asked.now.name) }
 {
-    match table.row_near(&asked.name(), hint) {
+    match table.rows.find_near(&asked.name(), hint) {
         Some(row) => reply.append_row(out, row),
         None => append_exception(table, asked, reply, out),
     }
@@ -91,6 +91,7 @@ fn append_exception(
 {
     let mut binding = blank();
     let name = asked.name();
+    // This call states that the name has an encoding.
     let _content = name.content();
     name.read_into(&mut binding.name);
     binding.value = table.exception(&binding.name);
@@ -110,7 +111,7 @@ pub fn append_next(
         ≡ add (held reply out.old) (next_at (place_of table.now 0 asked.now.name)) }
 {
     let name = asked.name();
-    let mut rows = table.after_last(&name, hint);
+    let mut rows = table.rows.after_last(&name, hint);
     match rows.next_row() {
         Some(row) => {
             hint.keep_last(rows.left());

@@ -22,7 +22,7 @@ pub enum Given<'a> {
 }
 
 impl Given<'_> {
-    /// Reads the name, which has an encoding, into an existing one.
+    /// Reads the name into an existing one. It has an encoding, as its content says.
     fn read_name(&self, into: &mut Oid)
         ensures name { into.new ≡ name_of self.now }
         ensures wire { IsWire into.new }
@@ -81,7 +81,7 @@ impl<'a> Place<'a> {
     pub fn new(table: &'a Table, name: EncodedName<'a>, hint: &mut Guesses<'_>) -> Place<'a>
         ensures { result ≡ place_of table.now 0 name.entry }
     {
-        let rows = table.after_near(&name, hint);
+        let rows = table.rows.after_near(&name, hint);
         Place {
             given: Given::Asked(name),
             rows,
@@ -92,7 +92,7 @@ impl<'a> Place<'a> {
     pub fn of_walk(table: &'a Table, name: EncodedName<'a>, hint: &mut Guesses<'_>) -> Place<'a>
         ensures { result ≡ place_of table.now 0 name.entry }
     {
-        let rows = table.after_last(&name, hint);
+        let rows = table.rows.after_last(&name, hint);
         Place {
             given: Given::Asked(name),
             rows,

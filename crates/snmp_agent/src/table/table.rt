@@ -19,7 +19,8 @@ use std::marker::Model;
 /// What an agent serves.
 pub struct Table {
     alloc: Global,
-    rows: Pages,
+    /// Replies search the rows themselves, by a hint.
+    pub(crate) rows: Pages,
     objects: BTreeSet<Vec<u32>>,
 }
 
@@ -176,18 +177,6 @@ impl Table {
         let _ = &self.rows;
     }
 
-    /// The row of this name. Nothing is searched where the hint is right.
-    pub(crate) fn row_near(
-        &self,
-        name: &EncodedName<'_>,
-        hint: &mut Guesses<'_>,
-    ) -> Option<&EncodedBinding>
-        ensures some { IfSome result (λ row. IsGet self.now name.now row.now) }
-        ensures none { IfNone result (get self.now.rows name.now ≡ None) }
-    {
-        self.rows.find_near(name, hint)
-    }
-
     /// The row of this name. No row has a name without an encoding.
     fn row_of(&self, name: &Oid) -> Option<&EncodedBinding>
         ensures { option_map (λ row. row.now.value) result ≡ get self.now.rows name.now }
@@ -240,29 +229,6 @@ impl Table {
         let mut last = Last::default();
         self.rows
             .after_near(name, &mut Guesses::without_names(&mut last))
-    }
-
-    /// The rows after a name, in order. Nothing is searched where the hint is right.
-    pub(crate) fn after_near(
-        &self,
-        name: &EncodedName<'_>,
-        hint: &mut Guesses<'_>,
-    ) -> Successors<'_>
-        ensures { AreBehind self.now name.now result }
-    {
-        self.rows.after_near(name, hint)
-    }
-
-    /// [`Table::after_near`] for a walk, which mostly asks from the row that was given last.
-    #[inline(always)]
-    pub(crate) fn after_last(
-        &self,
-        name: &EncodedName<'_>,
-        hint: &mut Guesses<'_>,
-    ) -> Successors<'_>
-        ensures { AreBehind self.now name.now result }
-    {
-        self.rows.after_last(name, hint)
     }
 
     /// Changes a binding to what a GetNext of the name gives when it is repeated `rounds` times

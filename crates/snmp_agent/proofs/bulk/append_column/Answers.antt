@@ -1,4 +1,5 @@
-use Rattle.std.proofs.Common.{◌∙◌, ◌≡◌, ◌⊎◌, inl, inr, ◌&&◌, Bool, true, false, [], ◌∷◌, refl, ap, sym, arith}
+use mathlib.Core.Bool.{and-true}
+use Rattle.std.proofs.Common.{◌∙◌, ◌≡◌, ◌⊎◌, inl, inr, true, [], ◌∷◌, ap, sym, arith}
 use Rattle.std.specs.List.{list_all}
 use Rattle.snmp_agent.specs.Reply.{joined}
 use Rattle.snmp_agent.specs.Answering.{add, fill, held, rounds_from}
@@ -19,13 +20,9 @@ added : (c : After-append_next-reply) → held c.append_next-reply.result c.appe
     ≡ fill (held c.rounds.reply c.rounds.out) (given_in c.args.table.now c.rounds.counter (c.args.asked ∷ []))
 added c = c.append_next-reply.ensures.added ∙ ap (λ (place : Standing). add (held c.rounds.reply c.rounds.out) (next_at place)) c.rounds.invariant.place
 
-with_true : (b : Bool) → (b && true) ≡ b
-with_true true = refl
-with_true false = refl
-
 -- whether it is the last one
 last : (c : After-append_next-reply) → list_all is_over (places_of c.args.table.now c.rounds.counter (c.args.asked ∷ [])) ≡ c.is_at_end-is_last.result
-last c = with_true _ ∙ ap is_over (sym c.rounds.invariant.place) ∙ sym c.is_at_end-is_last.ensures
+last c = and-true _ ∙ ap is_over (sym c.rounds.invariant.place) ∙ sym c.is_at_end-is_last.ensures
 
 over : (c : After-append_next-reply)
     → (c.append_next-reply.result.left ≡ 0) ⊎ (list_all is_over (places_of c.args.table.now c.rounds.counter (c.args.asked ∷ [])) ≡ true)

@@ -1,4 +1,5 @@
-use Rattle.std.proofs.Common.{◌≡◌, ◌<◌, ◌≤◌, ◌+◌, inl, inr, Bool, true, false, ◌&&◌, List, ◌++◌, map, length, take}
+use mathlib.Core.Bool.{and-true, and_assoc}
+use Rattle.std.proofs.Common.{◌≡◌, ◌<◌, ◌≤◌, ◌+◌, inl, inr, ◌&&◌, List, ◌++◌, map, length, take}
 use Rattle.std.proofs.Common.{drop, slice_set, refl, sym, ap, ◌∙◌, arith}
 use Rattle.std.specs.List.{list_all}
 use Rattle.std.proofs.lemmas.List.{append-nil, drop_all, map-append, take_all}
@@ -69,10 +70,6 @@ others-init c =
       over = list_all-append is_over places others ∙ ap (λ b. b && list_all is_over others) (sym c.are_at_end-are_over.ensures);
     }
 
-both : (a b rest : Bool) → (a && (b && rest)) ≡ ((a && b) && rest)
-both true b rest = refl
-both false b rest = refl
-
 -- what is added with one more name
 more : (c : After-append_next-reply-in-Some) → fill (held c.args.reply c.args.out.now)
     (map next_at (c.args.places.now ++ places_of c.args.table.now c.args.round c.args.others))
@@ -97,7 +94,7 @@ others-preserved c =
       rest = more (goal.at.others-preserved c).After-append_next-reply-in-Some;
       over = c.others.invariant.over
           ∙ ap (λ (bs : List VarBind). c.others.are_over && list_all is_over (places_of c.args.table.now c.args.round bs)) c.in-Some.ensures.some
-          ∙ both c.others.are_over _ rest ∙ sym (ap (λ b. b && rest) (now ∙ ap (λ b. c.others.are_over && b) last));
+          ∙ sym (ap (λ b. b && rest) (now ∙ ap (λ b. c.others.are_over && b) last) ∙ and_assoc c.others.are_over _ rest);
     }
 
 pub returns-then-is_full-2-clause-filled : goal.returns-then-is_full-2-clause-filled
@@ -110,10 +107,6 @@ returns-then-is_full-2-clause-last c = λ _. inl (c.is_full-in-Some.ensures.0 c.
 
 -- ---- the end
 
-with_true : (b : Bool) → (b && true) ≡ b
-with_true true = refl
-with_true false = refl
-
 pub returns-clause-filled : goal.returns-clause-filled
 returns-clause-filled c =
     sym (c.others.invariant.rest
@@ -123,7 +116,7 @@ over : (c : In_default) → list_all is_over (c.args.places.now ++ places_of c.a
 over c =
     c.others.invariant.over
     ∙ ap (λ (bs : List VarBind). c.others.are_over && list_all is_over (places_of c.args.table.now c.args.round bs)) c.in_default.ensures.none.0
-    ∙ with_true c.others.are_over
+    ∙ and-true c.others.are_over
 
 pub returns-clause-last : goal.returns-clause-last
 returns-clause-last c = λ is. inr (over (goal.at.returns-clause-last c).In_default ∙ is)
