@@ -14,7 +14,7 @@ use Rattle.snmp_wire.specs.Message.{Datum, VarBind}
 use Rattle.snmp_wire.specs.Message.Datum.{end_of_mib_view}
 use Rattle.snmp_agent.specs.table.Table.{MibView, IsRow, IsNext, successor, end_of_view}
 use Rattle.snmp_agent.specs.table.Table.{IsNextAfter}
-use Rattle.snmp_agent.specs.table.Listing.{first_or_end, nth_or_end}
+use Rattle.snmp_agent.specs.table.Listing.{first_or_end}
 use Rattle.snmp_agent.specs.table.Places.{IsBeforeAll, IsBeforeNone, var_of, last_name}
 use Rattle.snmp_agent.specs.table.Pages.{StandsApart, AreBehind, entries_after, entries_of}
 use Rattle.snmp_agent.proofs.Rising.{Listed, not_before_itself, not_both, before_listed}
@@ -77,17 +77,6 @@ module _ (order : IsOrder) where
     nearest = λ q row behind.
         nearest_in p back q (before_later front back p apart.rising) (later_listed view o front (p ∷ back) apart q row behind);
   }
-
-  is_next_after : (view : MibView) (rounds : ℕ) (o : List ℕ) (front back : Entries) → StandsApart view.rows o front back
-      → IsNextAfter view rounds o (nth_or_end o (map var_of back) rounds)
-  is_next_after view zero o front [] apart = is_next view o front [] apart
-  is_next_after view zero o front (p ∷ back) apart = is_next view o front (p ∷ back) apart
-  is_next_after view (suc rounds) o front [] apart =
-      let last : VarBind = record { name = o; value = end_of_mib_view } in
-      next_from view rounds o last last (is_next view o front [] apart) (is_next_after view rounds o front [] apart)
-  is_next_after view (suc rounds) o front (p ∷ back) apart =
-      next_from view rounds o (var_of p) (nth_or_end p.0 (map var_of back) rounds) (is_next view o front (p ∷ back) apart)
-      (is_next_after view rounds p.0 (front ++ p ∷ []) back (past view o front back p apart))
 
   -- what is asked from the last name of some entries that follow comes that many rounds later
   pub asked_past : (view : MibView) (rounds : ℕ) (o : List ℕ) (front back : List (List ℕ × Datum)) → StandsApart view.rows o front back → (q : VarBind)

@@ -16,13 +16,6 @@ abbrev pub first_or_end : List ℕ → List VarBind → VarBind
 first_or_end o [] = record { name = o; value = end_of_mib_view }
 first_or_end o (p ∷ ps) = p
 
--- What a GetNext gives when it is repeated `rounds` times more, where `ps` are the variables after
--- the name: the one at that place in the list, and past its end the last name with endOfMibView.
-abbrev pub nth_or_end : List ℕ → List VarBind → ℕ → VarBind
-nth_or_end o [] rounds = record { name = o; value = end_of_mib_view }
-nth_or_end o (p ∷ ps) zero = p
-nth_or_end o (p ∷ ps) (suc rounds) = nth_or_end p.name ps rounds
-
 -- whether an object prefix of at most so many numbers equals the name or begins it
 abbrev pub has_prefix : MibView → List ℕ → ℕ → Bool
 has_prefix view o zero = contains view.objects []
