@@ -1,5 +1,6 @@
 pub mod Climbing
 pub mod Filling
+pub mod Leading
 pub mod Sharing
 pub mod Bridging
 pub mod Equating

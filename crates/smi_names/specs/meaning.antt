@@ -5,3 +5,4 @@ pub mod Names
 pub mod Directory
 pub mod Resolved
 pub mod Known
+pub mod Along

@@ -1,8 +1,8 @@
 //! Chains of names, followed without recursion: the places whose chains end, in order, and which
 //! numbers come along them.
 //!
-//! Depends on object identifiers alone. Meanings resolve definitions and imports with it, and the
-//! tree of names follows types, and names to their definitions: each has a place, a number.
+//! Depends on object identifiers alone. Meanings follow definitions and imports with it: each name
+//! has a place, a number.
 
 mod link;
 mod order;

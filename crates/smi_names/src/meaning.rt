@@ -1,7 +1,9 @@
 //! What names mean in modules: each name of each module is decided once, and its chain is resolved.
 //!
-//! Depends on module trees and on chains. The nodes are made from what is resolved here.
+//! Depends on module trees and on chains. The nodes are made from what is resolved here, and the
+//! tree of names follows names to types and to definitions.
 
+mod along;
 mod base;
 mod directory;
 mod entries;
@@ -10,6 +12,7 @@ mod laws;
 mod names;
 mod scope;
 
+pub use along::Meaning;
 pub use base::TypeBase;
 pub use entries::Entries;
 pub use entry::{Decider, Entry};

@@ -14,7 +14,6 @@ pub mod Growing
 pub mod PlacesLemmas
 pub mod Walking
 pub mod Choosing
-pub mod Stating
 pub mod Following
 pub mod Lasting
 pub mod Refining
@@ -26,4 +25,3 @@ pub mod Using
 pub mod Indexing
 pub mod ColumnsSingle
 pub mod Pairing
-pub mod Filling

@@ -1,45 +1,13 @@
--- The definition to which a name leads, by what decides the name at its place.
-use Rattle.std.proofs.Common.{◌≡◌, ℕ, ◌≤◌, List, length, Option, Some, None, refl, sym, ap, ◌∙◌}
-use Rattle.std.proofs.lemmas.Option.{slice_get_past}
-use Rattle.std.specs.List.{slice_get}
-use Rattle.std.specs.Option.{option_and_then}
+-- The definition to which a name leads.
+use Rattle.std.proofs.Common.{◌≡◌, ℕ, inl, inr, List, MatchOption, Option, Some, None, refl}
 use Rattle.smi_names.specs.chains.Chain.{HasEnd, ends, leads_on}
-use Rattle.smi_names.specs.chains.Order.{next_at}
 use Rattle.smi_text.specs.declared.trees.tree.Module.{Module}
 use Rattle.smi_text.specs.declared.trees.tree.Def.{Def}
 use Rattle.smi_text.specs.declared.trees.tree.Import.{Import}
-use Rattle.smi_names.specs.meaning.Meaning.{QualifiedName, Decision, defined, imported, root}
-use Rattle.smi_names.specs.meaning.Meaning.{decision, module_named}
-use Rattle.smi_names.specs.meaning.Scopes.{Content, decided_as}
-use Rattle.smi_names.specs.meaning.Known.{KnownNames, content_named}
+use Rattle.smi_names.specs.meaning.Meaning.{QualifiedName, defined, imported, decision, module_named}
+use Rattle.smi_names.specs.meaning.Along.{decided, next_name, Comes, unknown, of_root, through as by_import, at_end, after, IsMeant, leads_nowhere, stands_at}
 use Rattle.smi_tree.specs.columns.Definitions.{IsDefinedBy, own, through}
-use Rattle.smi_tree.specs.columns.Named.{AreNexts, IsDefinedAt}
-
-abbrev content : Module → List ℕ → Decision → Content
-content m x d = record { home = m; name = x; decided = d }
-
--- what a name means in a module
-record IsDecided (ms : List Module) (p : QualifiedName) (c : Content) : Type 0 where
-  home : module_named ms p.home ≡ Some c.home
-  by : decision c.home p.name ≡ Some c.decided
-  name : c.name ≡ p.name
-
-decided-content : (p : QualifiedName) (c : Content) (m : Module) (d : Option Decision) → decision m p.name ≡ d → decided_as m p.name d ≡ Some c
-    → (m ≡ c.home) × (decision m p.name ≡ Some c.decided) × (c.name ≡ p.name)
-decided-content p c m None e f = absurd (cc)
-decided-content p c m (Some d) e f =
-    let same : content m p.name d ≡ c = cc in
-    (ap (λ (k : Content). k.home) same, e ∙ ap (λ (k : Content). Some k.decided) same, sym (ap (λ (k : Content). k.name) same))
-
-decided_by : (ms : List Module) (p : QualifiedName) (c : Content) (m : Option Module) → module_named ms p.home ≡ m
-    → option_and_then (λ m. decided_as m p.name (decision m p.name)) m ≡ Some c → IsDecided ms p c
-decided_by ms p c None e f = absurd (cc)
-decided_by ms p c (Some m) e f =
-    let h = decided-content p c m (decision m p.name) refl f in
-    record { home = e ∙ ap (λ k. Some k) h.0; by = rw (← h.0) h.1; name = h.2 }
-
-is_decided : (ms : List Module) (p : QualifiedName) (c : Content) → content_named ms p ≡ Some c → IsDecided ms p c
-is_decided ms p c e = decided_by ms p c (module_named ms p.home) refl e
+use Rattle.smi_tree.specs.columns.Named.{IsFoundAt, IsUndefined}
 
 -- the definition to which an imported name leads is that of the name in the module after FROM
 behind : (ms : List Module) (home : Module) (i : Import) {a : QualifiedName} {m : Module} {d : Def} → IsDefinedBy ms a m d
@@ -55,51 +23,38 @@ behind ms home i (through {m = m} {i = j} named by rest) here decided =
     let clause : j ≡ i = cc in
     rw clause at rest
 
-module _ (k : KnownNames) (p : ℕ) where
-  -- a name that a definition decides
-  pub defined_here : (c : Content) (d : Def) → slice_get k.names p ≡ Some c → c.decided ≡ defined d → (i j : ℕ) → slice_get k.modules i ≡ Some c.home
-      → slice_get c.home.defs j ≡ Some d → IsDefinedAt k p (Some (i, j))
-  defined_here c d there by i j of_module of_def = λ a named.
-      let is = is_decided k.modules a c (sym named ∙ there) in
-      record { home = c.home; at_module = of_module; definition = d; there = of_def; named = own is.home (is.by ∙ ap (λ x. Some x) by) }
+-- a name that leads to a definition is decided by it or by an import
+undecided : (ms : List Module) {a : QualifiedName} {m : Module} {d : Def} → IsDefinedBy ms a m d
+    → ((d : Def) → decided ms a ≡ Some (defined d) → ⊥) → ((i : Import) → decided ms a ≡ Some (imported i) → ⊥) → ⊥
+undecided ms (own {d = d} named by) f g = f d (rw (named, by) refl)
+undecided ms (through {i = i} named by rest) f g = g i (rw (named, by) refl)
 
-  -- a name that neither a definition nor an import decides
-  pub undefined_here : ((c : Content) → slice_get k.names p ≡ Some c → (n : ℕ) × (c.decided ≡ root n)) → IsDefinedAt k p None
-  undefined_here other = λ a named m d leads. by leads named
-    where
-      by : {a : QualifiedName} {m : Module} {d : Def} → IsDefinedBy k.modules a m d → slice_get k.names p ≡ content_named k.modules a → ⊥
-      by (own {p = a} {m = m} {d = d} home decided) named =
-          let is = (other (content m a.name (defined d)) (named ∙ rw (home, decided) refl)).1 in absurd (cc)
-      by (through {p = a} {m = m} {i = i} home decided rest) named =
-          let is = (other (content m a.name (imported i)) (named ∙ rw (home, decided) refl)).1 in absurd (cc)
+module _ (ms : List Module) where
+  has_end : {a : QualifiedName} {m : Module} {d : Def} → IsDefinedBy ms a m d → HasEnd (next_name ms leads_nowhere) a
+  has_end (own named by) = ends (rw (named, by) refl)
+  has_end (through named by rest) = leads_on (rw (named, by) refl) (has_end rest)
 
-  pub undefined_past : length k.names ≤ p → IsDefinedAt k p None
-  undefined_past past = undefined_here (λ c there. let none = slice_get_past k.names p past in absurd (cc))
+  abbrev pub Found : QualifiedName → Option (ℕ × ℕ) → Type 0
+  Found a found = MatchOption found (IsUndefined ms a) (λ at. IsFoundAt ms a at.0 at.1)
 
-  -- an imported name leads where the name does in the module after FROM
-  pub defined_there : (c : Content) (i : Import) → slice_get k.names p ≡ Some c → c.decided ≡ imported i → (q : ℕ)
-      → slice_get k.names q ≡ content_named k.modules (record { home = i.source.octets; name = c.name }) → (found : Option (ℕ × ℕ))
-      → IsDefinedAt k q found → IsDefinedAt k p found
-  defined_there c i there by q to None none = λ a named m d leads.
-      let is = is_decided k.modules a c (sym named ∙ there) in
-      none (record { home = i.source.octets; name = a.name }) (to ∙ rw is.name refl) m d
-      (behind k.modules c.home i leads is.home (is.by ∙ ap (λ x. Some x) by))
-  defined_there c i there by q to (Some at) found = λ a named.
-      let is = is_decided k.modules a c (sym named ∙ there) in
-      let f = found (record { home = i.source.octets; name = a.name }) (to ∙ rw is.name refl) in
-      record {
-        home = f.home;
-        at_module = f.at_module;
-        definition = f.definition;
-        there = f.there;
-        named = through is.home (is.by ∙ ap (λ x. Some x) by) f.named;
-      }
+  imports : (a : QualifiedName) (m : Module) (i : Import) (found : Option (ℕ × ℕ)) → module_named ms a.home ≡ Some m
+      → decision m a.name ≡ Some (imported i) → Found (record { home = i.source.octets; name = a.name }) found → Found a found
+  imports a m i None named by none = λ n d leads. none n d (behind ms m i leads named by)
+  imports a m i (Some at) named by f = record {
+    home = f.home;
+    at_module = f.at_module;
+    definition = f.definition;
+    there = f.there;
+    named = through named by f.named;
+  }
 
--- a name that leads to a definition has an end
-pub defined_ends : (k : KnownNames) (next : List (Option ℕ)) → AreNexts k.modules k.names next → {a : QualifiedName} {m : Module} {d : Def}
-    → IsDefinedBy k.modules a m d → (p : ℕ) → slice_get k.names p ≡ content_named k.modules a → HasEnd (next_at next) p
-defined_ends k next nexts (own {p = a} {m = m} {d = d} home by) p named =
-    ends (nexts.each p (content m a.name (defined d)) (named ∙ rw (home, by) refl))
-defined_ends k next nexts (through {p = a} {m = m} {i = i} home by rest) p named =
-    let led = nexts.each p (content m a.name (imported i)) (named ∙ rw (home, by) refl) in
-    leads_on led.1 (defined_ends k next nexts rest led.0 led.2)
+  meant : {a : QualifiedName} {found : Option (ℕ × ℕ)} → Comes ms leads_nowhere stands_at a found → Found a found
+  meant {a} (unknown e) = λ m d leads. undecided ms leads (λ d is. cc) (λ i is. cc)
+  meant {a} (of_root e) = λ m d leads. undecided ms leads (λ d is. cc) (λ i is. cc)
+  meant {a} {found} (by_import {m = m} {i = i} named by c) = imports a m i found named by (meant c)
+  meant {a} (at_end {d = d} o e is) =
+      rw is (record { home = o.home; at_module = o.at_module; definition = d; there = o.there; named = own o.named o.decides })
+  meant (after o e c is) = absurd (cc)
+
+  pub is_meant : (a : QualifiedName) (found : Option (ℕ × ℕ)) → IsMeant ms leads_nowhere stands_at a found → Found a found
+  is_meant a found m = elim m [ inl c ↦ meant c | inr none ↦ rw none.1 (λ m d leads. none.0 (has_end leads)) ]

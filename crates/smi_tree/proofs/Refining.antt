@@ -1,5 +1,5 @@
 -- What a type states is nearer than what the type states that it refines.
-use Rattle.std.proofs.Common.{◌≡◌, ℕ, cond, is_some, List, [], ◌∷◌, Option, Some, None, MatchOption, Vec, refl, ap, ◌∙◌, arith}
+use Rattle.std.proofs.Common.{◌≡◌, ℕ, inl, inr, cond, is_some, List, [], ◌∷◌, Option, Some, None, MatchOption, Vec, refl, ap, ◌∙◌, arith}
 use Rattle.std.proofs.lemmas.List.{get_or_past}
 use Rattle.std.proofs.lemmas.Option.{slice_get_within, get_or_from_slice_get}
 use Rattle.std.specs.Global.{Global}
@@ -10,29 +10,24 @@ use Rattle.smi_text.specs.declared.trees.tree.Module.{Module}
 use Rattle.smi_text.specs.declared.trees.tree.Def.{Def}
 use Rattle.smi_text.specs.declared.trees.tree.DefKind.{DefKind}
 use Rattle.smi_text.specs.declared.trees.tree.DefKind.TheVariants as D
-use Rattle.smi_text.specs.declared.trees.tree.Import.{Import}
 use Rattle.smi_text.specs.declared.trees.tree.SimpleType.{SimpleType}
 use Rattle.smi_text.specs.declared.trees.tree.Base.{Base}
 use Rattle.smi_text.specs.declared.trees.tree.Base.TheVariants as B
 use Rattle.smi_names.specs.meaning.Meaning.{QualifiedName, or_else}
-use Rattle.smi_names.specs.meaning.Known.{KnownNames}
-use Rattle.smi_names.specs.meaning.Names.{IsSourced}
-use Rattle.smi_names.specs.meaning.Scopes.{content_of}
-use Rattle.smi_names.specs.declared.meaning.entry.Entry.{Entry}
-use Rattle.smi_names.specs.declared.meaning.entry.Decider.TheVariants as W
+use Rattle.smi_names.specs.meaning.Along.{Comes, unknown, of_root, through, at_end as at_definition, after, IsOwn, IsMeant}
 use Rattle.smi_tree.specs.types.Chain.{Layer, at_base, on_name, no_type, TypeChain, at_end}
 use Rattle.smi_tree.specs.types.Chain.{on_type, nearest}
-use Rattle.smi_tree.specs.types.Types.{type_origin, base_in, names_in, sizes_in, simple_in, layer, no_layer, type_hint}
+use Rattle.smi_tree.specs.types.Types.{type_origin, base_in, name_in, name_in_base, names_in, sizes_in, simple_in, layer, no_layer, type_hint}
 use Rattle.smi_tree.specs.types.Types.{origin_of_base, origin_of_simple, object_syntax, type_syntax}
 use Rattle.smi_tree.specs.types.Types.{object_in, object_origin, def_at, Facts, HasSyntax, HasNoSyntax}
-use Rattle.smi_tree.specs.types.Leads.{content_origin, origin_at, LeadsTo, at_place}
-use Rattle.smi_tree.specs.types.Kept.{facts_of, facts_at, type_in, names_of, sizes_of, def_of, IsKept, IsLed}
+use Rattle.smi_names.specs.chains.Order.{at_place}
+use Rattle.smi_tree.specs.types.Kept.{facts_of, facts_at, type_in, names_of, sizes_of, def_of, IsKept, refines, type_at}
 use Rattle.smi_tree.specs.types.Kept.{base_or, refined_by, AreKeptOf, AreKeptOfAll}
 use Rattle.smi_names.specs.declared.meaning.base.TypeBase.{TypeBase}
 use Rattle.smi_tree.specs.declared.types.syntax.TypeSyntax.{TypeSyntax}
 use Rattle.smi_tree.specs.declared.types.types.KeptSyntax.{KeptSyntax}
 use Rattle.smi_tree.proofs.Pairing.{pair_at}
-use Rattle.smi_tree.proofs.Following.{placed, no_syntax, past_get}
+use Rattle.smi_tree.proofs.Following.{by_decision, has_end, no_syntax, past_get}
 
 pub is_some-copied : {X : Type 0} (r : Option (Bor X)) → is_some r ≡ is_some (option_copied r)
 is_some-copied None = refl
@@ -52,7 +47,7 @@ no_syntax_on ms l a none f h = by h.chain
         (record { base = f.base; hint = nearest (λ m. m.hint) layers; names = nearest (λ m. m.names) layers; sizes = nearest (λ m. m.sizes) layers })
         (record { layers = layers; chain = c; hint = refl; names = refl; sizes = refl })
 
-module _ (k : KnownNames) (at : ℕ × ℕ) (d : Def) (there : def_at k.modules at.0 at.1 ≡ Some d) (s : SimpleType) (states : type_in d.kind ≡ Some s)
+module _ (ms : List Module) (at : ℕ × ℕ) (d : Def) (there : def_at ms at.0 at.1 ≡ Some d) (s : SimpleType) (states : type_in d.kind ≡ Some s)
     (hint : Option (List ℕ)) (hinted : type_hint d.kind ≡ hint) where
   abbrev l : Layer
   l = layer hint s.refinement
@@ -66,11 +61,11 @@ module _ (k : KnownNames) (at : ℕ × ℕ) (d : Def) (there : def_at k.modules 
   }
 
   near : {X : Type 0} (field : Def → Option X) (v : Option X) (far : Option (ℕ × ℕ)) → field d ≡ v
-      → option_and_then field (def_of k.modules (cond (is_some v) (Some at) far)) ≡ or_else v (option_and_then field (def_of k.modules far))
+      → option_and_then field (def_of ms (cond (is_some v) (Some at) far)) ≡ or_else v (option_and_then field (def_of ms far))
   near field None far e = refl
   near field (Some x) far e = rw there e
 
-  own : (b : TypeBase) → HasSyntax k.modules (at_base l b) (facts_at k.modules (refined (record { base = b; hint = None; names = None; sizes = None })))
+  own : (b : TypeBase) → HasSyntax ms (at_base l b) (facts_at ms (refined (record { base = b; hint = None; names = None; sizes = None })))
   own b = record {
     layers = l ∷ [];
     chain = at_end;
@@ -79,9 +74,9 @@ module _ (k : KnownNames) (at : ℕ × ℕ) (d : Def) (there : def_at k.modules 
     sizes = near sizes_of (sizes_in s.refinement) None (rw states refl);
   }
 
-  on : (a : QualifiedName) (far : Option KeptSyntax) → IsKept k.modules (type_origin k.modules a) far
-      → IsKept k.modules (on_name l a) (option_map refined far)
-  on a None none = no_syntax_on k.modules l a none
+  on : (a : QualifiedName) (far : Option KeptSyntax) → IsKept ms (type_origin ms a) far
+      → IsKept ms (on_name l a) (option_map refined far)
+  on a None none = no_syntax_on ms l a none
   on a (Some f) h = record {
     layers = l ∷ h.layers;
     chain = on_type h.chain;
@@ -90,17 +85,17 @@ module _ (k : KnownNames) (at : ℕ × ℕ) (d : Def) (there : def_at k.modules 
     sizes = near sizes_of (sizes_in s.refinement) f.sizes (rw states refl) ∙ ap (λ x. or_else (sizes_in s.refinement) x) h.sizes;
   }
 
-  by_base : (home : List ℕ) (c : Base) (t : Option TypeBase) → base_in c ≡ t → (to : Option ℕ) (far : Option KeptSyntax)
-      → LeadsTo k (origin_of_base home l c t) to → IsLed k to far → IsKept k.modules (origin_of_base home l c t) (option_map refined (base_or t far))
-  by_base home c (Some b) e to far leads led = own b
-  by_base home (B.Named x) None e to far leads led =
-      let a : QualifiedName = record { home = home; name = x.octets } in
-      on a far (rw (placed k leads.0 a leads.2) at (led leads.0 leads.1))
-  by_base home _ None e to far leads led = absurd (cc)
+  by_base : (home : List ℕ) (c : Base) (t : Option TypeBase) → base_in c ≡ t → (far : Option KeptSyntax)
+      → ((x : List ℕ) → name_in_base c t ≡ Some x → IsKept ms (type_origin ms (record { home = home; name = x })) far)
+      → IsKept ms (origin_of_base home l c t) (option_map refined (base_or t far))
+  by_base home c (Some b) e far named = own b
+  by_base home (B.Named x) None e far named = on (record { home = home; name = x.octets }) far (named x.octets refl)
+  by_base home _ None e far named = absurd (cc)
 
-  pub refined_right : (home : List ℕ) (to : Option ℕ) (far : Option KeptSyntax) → LeadsTo k (origin_of_simple home hint (Some s)) to → IsLed k to far
-      → IsKept k.modules (origin_of_simple home hint (Some s)) (refined_by at (is_some hint) s far)
-  refined_right home to far leads led = by_base home s.base (base_in s.base) refl to far leads led
+  pub refined_right : (home : List ℕ) (far : Option KeptSyntax)
+      → ((x : List ℕ) → name_in s.base ≡ Some x → IsKept ms (type_origin ms (record { home = home; name = x })) far)
+      → IsKept ms (origin_of_simple home hint (Some s)) (refined_by at (is_some hint) s far)
+  refined_right home far named = by_base home s.base (base_in s.base) refl far named
 
 -- a result by its facts
 pub by_facts : (N : Type 0) (P : Facts → Type 0) (r : Option TypeSyntax) → MatchOption (option_map facts_of r) N P → MatchOption r N (λ s. P (facts_of s))
@@ -126,29 +121,36 @@ are_types ms os are i j = by (slice_get ms i) (slice_get os i) refl refl
     by (Some m) None e f = absurd (omega (arith, are.long, slice_get_within ms i m e, past_get os i f))
     by (Some m) (Some v) e f = of m v.items (are.each i m v e f) (slice_get m.defs j) refl
 
--- ---- what the name at a place means
+-- ---- what a name means
 
-module _ (k : KnownNames) (p : ℕ) (e : Entry) (at : slice_get k.names p ≡ Some (content_of e)) (to : Option ℕ) (leads : LeadsTo k (origin_at k p) to)
-    (far : Option KeptSyntax) (led : IsLed k to far) where
-  pub means_defined : IsSourced k.modules e → (d : Bor Def) → e.decider ≡ W.Definition d → (s : SimpleType)
-      → option_and_then simple_in (type_syntax d.now.kind) ≡ Some s
-      → IsKept k.modules (origin_at k p) (refined_by e.source (is_some (type_hint d.now.kind)) s far)
-  means_defined sourced d by s is =
-      let origin : origin_at k p ≡ origin_of_simple e.«module».now.name.octets (type_hint d.now.kind) (Some s) = rw (at, by, is) refl in
-      let there : def_at k.modules e.source.0 e.source.1 ≡ Some d.now = rw sourced.0 (sourced.1 d.now (rw by refl)) in
-      rw origin (refined_right k e.source d.now there s (rw is refl) (type_hint d.now.kind) refl e.«module».now.name.octets to far
-      (rw origin at leads) led)
-
-  pub means_imported : (i : Bor Import) → e.decider ≡ W.Import i → IsKept k.modules (origin_at k p) far
-  means_imported i by =
-      let a : QualifiedName = record { home = i.now.source.octets; name = e.name.now } in
-      let origin : origin_at k p ≡ on_name no_layer a = rw (at, by) refl in
-      let to_name = rw origin at leads in
-      rw origin (through a far (rw (placed k to_name.0 a to_name.2) at (led to_name.0 to_name.1)))
+module _ (ms : List Module) where
+  by_definition : (a : QualifiedName) (i j : ℕ) (d : Def) → IsOwn ms a i j d → (far : Option KeptSyntax)
+      → ((x : List ℕ) → refines d ≡ Some x → IsKept ms (type_origin ms (record { home = a.home; name = x })) far)
+      → IsKept ms (type_origin ms a) (type_at (i, j) d far)
+  by_definition a i j d own far named =
+      let origin : type_origin ms a ≡ origin_of_simple a.home (type_hint d.kind) (option_and_then simple_in (type_syntax d.kind)) =
+      rw (own.named, own.decides) refl in
+      rw origin (by (option_and_then simple_in (type_syntax d.kind)) refl)
     where
-      through : (a : QualifiedName) (r : Option KeptSyntax) → IsKept k.modules (type_origin k.modules a) r → IsKept k.modules (on_name no_layer a) r
-      through a None none = no_syntax_on k.modules no_layer a none
-      through a (Some f) h = record { layers = no_layer ∷ h.layers; chain = on_type h.chain; hint = h.hint; names = h.names; sizes = h.sizes }
+      by : (s : Option SimpleType) → option_and_then simple_in (type_syntax d.kind) ≡ s
+          → IsKept ms (origin_of_simple a.home (type_hint d.kind) s) (option_and_then (λ t. refined_by (i, j) (is_some (type_hint d.kind)) t far) s)
+      by None e = no_syntax ms no_type refl
+      by (Some s) e = refined_right ms (i, j) d (rw own.at_module own.there) s (rw e refl) (type_hint d.kind) refl a.home far (λ x is. named x (rw e is))
 
-  pub means_other : content_origin (content_of e) ≡ no_type → HasNoSyntax k.modules (origin_at k p)
-  means_other other = no_syntax k.modules (origin_at k p) (rw at other)
+  by_import : (a : QualifiedName) (r : Option KeptSyntax) → IsKept ms (type_origin ms a) r → IsKept ms (on_name no_layer a) r
+  by_import a None none = no_syntax_on ms no_layer a none
+  by_import a (Some f) h = record { layers = no_layer ∷ h.layers; chain = on_type h.chain; hint = h.hint; names = h.names; sizes = h.sizes }
+
+  meant : {a : QualifiedName} {x : Option KeptSyntax} → Comes ms refines type_at a x → IsKept ms (type_origin ms a) x
+  meant {a} (unknown e) = no_syntax ms (type_origin ms a) (by_decision ms a ∙ rw e refl)
+  meant {a} (of_root e) = no_syntax ms (type_origin ms a) (by_decision ms a ∙ rw e refl)
+  meant {a} {x} (through {i = i} named decides c) =
+      let b : QualifiedName = record { home = i.source.octets; name = a.name } in
+      let origin : type_origin ms a ≡ on_name no_layer b = rw (named, decides) refl in
+      rw origin (by_import b x (meant c))
+  meant {a} (at_definition {i = i} {k = j} {d = d} own e is) = rw is (by_definition a i j d own None (λ x some. absurd (cc)))
+  meant {a} (after {i = i} {k = j} {d = d} {y = y} {far = far} own e c is) =
+      rw is (by_definition a i j d own far (λ x some. let same : y ≡ x = cc in rw (← same) (meant c)))
+
+  pub is_meant : (a : QualifiedName) (x : Option KeptSyntax) → IsMeant ms refines type_at a x → IsKept ms (type_origin ms a) x
+  is_meant a x m = elim m [ inl c ↦ meant c | inr none ↦ rw none.1 (λ f h. none.0 (has_end ms h.chain a refl)) ]

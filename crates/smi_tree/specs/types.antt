@@ -1,4 +1,3 @@
 pub mod Chain
 pub mod Types
-pub mod Leads
 pub mod Kept

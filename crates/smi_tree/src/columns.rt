@@ -4,7 +4,6 @@
 //! Depends on the nodes of modules and on the types of their objects. The tree of names keeps the
 //! index of each node beside the node.
 
-mod definitions;
 mod indexes;
 mod objects;
 mod part;

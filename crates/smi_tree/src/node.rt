@@ -1,10 +1,10 @@
 //! The nodes of a tree, by where each comes from.
 ghost use Rattle.std.specs.Prelude.{◌≡◌};
 ghost use Rattle.std.specs.List.{slice_get};
-ghost use Rattle.std.specs.Option.{option_and_then, option_copied};
+ghost use Rattle.std.specs.Option.{option_copied};
 ghost use Rattle.smi_tree.specs.Nodes.{is_named};
 ghost use Rattle.smi_tree.specs.Places.{home_from, label_from, definition_from};
-ghost use Rattle.smi_tree.specs.types.Leads.{at_place};
+ghost use Rattle.smi_names.specs.chains.Order.{at_place};
 
 use smi_names::{Source, root_label};
 use smi_text::{Def, Module};
@@ -36,16 +36,6 @@ pub(crate) fn kept<T: Copy>(list: &[Option<T>], place: usize) -> Option<T>
 {
     match list.get(place) {
         Some(found) => *found,
-        None => None,
-    }
-}
-
-/// What a list has at the place to which something leads, if it leads to one.
-pub(crate) fn led<T: Copy>(list: &[Option<T>], to: Option<usize>) -> Option<T>
-    ensures { result ≡ option_and_then (λ p. at_place list.now p) to }
-{
-    match to {
-        Some(place) => kept(list, place),
         None => None,
     }
 }

@@ -4,7 +4,6 @@
 //! Depends on module trees and on what decides their names. The tree of names keeps the types of
 //! its modules, and shows values and reads indexes by them.
 
-mod leads;
 mod syntax;
 mod types;
 

@@ -18,6 +18,10 @@ use Rattle.std.specs.Prelude.{
 abbrev pub next_at : List (Option ℕ) → ℕ → Option ℕ
 next_at next p = slice_index_or next p None
 
+-- what a list has at a place
+abbrev pub at_place : {X : Type 0} → List (Option X) → ℕ → Option X
+at_place xs p = slice_index_or xs p None
+
 -- each place of the order comes after the one that it leads to, if that is a place
 abbrev pub ComeAfterNext : List (Option ℕ) → List ℕ → Type 0
 ComeAfterNext next order =

@@ -1,6 +1,5 @@
 -- What is kept of the types of modules, and what it gives.
 use Rattle.std.specs.Prelude.{
-  ◌≡◌,
   ℕ,
   Bool,
   List,
@@ -28,6 +27,7 @@ use Rattle.smi_tree.specs.Pairwise.{ArePairwise}
 use Rattle.smi_tree.specs.types.Chain.{TypeOrigin}
 use Rattle.smi_tree.specs.types.Types.{
   base_in,
+  name_in,
   names_in,
   sizes_in,
   simple_in,
@@ -41,7 +41,8 @@ use Rattle.smi_tree.specs.types.Types.{
   HasSyntax,
   HasNoSyntax,
 }
-use Rattle.smi_tree.specs.types.Leads.{at_place, origin_at}
+use Rattle.smi_names.specs.chains.Order.{at_place}
+use Rattle.smi_names.specs.meaning.Along.{AreMeant}
 use Rattle.smi_names.specs.declared.meaning.base.TypeBase.{TypeBase}
 use Rattle.smi_tree.specs.declared.types.syntax.TypeSyntax.{TypeSyntax}
 use Rattle.smi_tree.specs.declared.types.types.KeptSyntax.{KeptSyntax}
@@ -111,13 +112,19 @@ refined_by at hint s far = option_map (λ f. record {
   sizes = if is_some (sizes_in s.refinement) then Some at else f.sizes;
 }) (base_or (base_in s.base) far)
 
--- `far` is the syntax of the name at the place to which a type leads
-abbrev pub IsLed : KnownNames → Option ℕ → Option KeptSyntax → Type 0
-IsLed k to far = (q : ℕ) → to ≡ Some q → IsKept k.modules (origin_at k q) far
+-- the name of its module that a definition of a type refines
+abbrev pub refines : Def → Option (List ℕ)
+refines d = option_and_then (λ s. name_in s.base)
+    (option_and_then simple_in (type_syntax d.kind))
+
+-- the syntax of a type that the definition at a place states
+abbrev pub type_at : ℕ × ℕ → Def → Option KeptSyntax → Option KeptSyntax
+type_at at d far = option_and_then (λ s. refined_by at (is_some (type_hint d.kind)) s far)
+    (option_and_then simple_in (type_syntax d.kind))
 
 -- what a list has at the place of each name is the syntax that the name means as a type
 abbrev pub AreFollowed : KnownNames → List (Option KeptSyntax) → Type 0
-AreFollowed k types = (p : ℕ) → IsKept k.modules (origin_at k p) (at_place types p)
+AreFollowed k types = AreMeant k refines type_at types
 
 -- the syntaxes of the definitions of a module as objects
 abbrev pub AreKeptOf : List Module → Module → List (Option KeptSyntax) → Type 0

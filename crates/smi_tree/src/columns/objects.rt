@@ -5,13 +5,14 @@ ghost use Rattle.smi_names.specs.chains.Resolution.{ComesTo};
 ghost use Rattle.smi_names.specs.meaning.Meaning.{origin, QualifiedName};
 ghost use Rattle.smi_tree.specs.types.Kept.{AreTypesOf};
 ghost use Rattle.smi_tree.specs.columns.Index.{IsIndexPart, clause_of, is_implied};
+ghost use Rattle.smi_tree.specs.columns.Named.{IsFoundAt, IsUndefined};
 ghost use Rattle.smi_tree.specs.columns.Kept.{HasNoPart, IsReading, items_of};
 ghost use Rattle.smi_tree.specs.columns.Kept.{IsOwn, AreOwn, AreOwnOfAll};
 
-use crate::columns::definitions::Definitions;
 use crate::columns::part::part;
+use crate::node::kept;
 use crate::types::Types;
-use smi_names::{Names, Resolution, one_resolution};
+use smi_names::{Entries, Names, Resolution, one_resolution};
 use smi_show::IndexPart;
 use smi_text::{Def, DefKind, Index, IndexParts, Module, Name};
 use std::alloc::{AllocError, Global};
@@ -22,8 +23,10 @@ use std::marker::Model;
 pub(crate) struct Objects<'n, 'a> {
     /// The loaded modules.
     pub(crate) modules: &'a [Module],
-    /// The definitions that names lead to.
-    pub(crate) definitions: Definitions<'n, 'a>,
+    /// The places of names.
+    entries: Entries<'n, 'a>,
+    /// For each name, where the definition to which it leads stands, if it leads to one.
+    found: Vec<Option<(usize, usize)>>,
     /// What names resolve to.
     names: &'n Names<'a>,
     /// The syntax of types and objects.
@@ -33,14 +36,16 @@ pub(crate) struct Objects<'n, 'a> {
 impl<'n, 'a> Model for Objects<'n, 'a> {
     ghost use Rattle.std.specs.Prelude.{List, ◌≡◌};
     ghost use Rattle.smi_text.specs.declared.trees.tree.Module.{Module};
+    ghost use Rattle.smi_names.specs.meaning.Along.{AreMeant, leads_nowhere, stands_at};
     ghost use Rattle.smi_tree.specs.types.Kept.{AreTypesOf};
 
     ghost Value = { List Module };
 
     ghost view = { λ s. s.modules.now };
 
-    ghost invariant = { λ s. (s.definitions ≡ s.modules.now) × (s.names.now ≡ s.modules.now)
-        × AreTypesOf s.modules.now s.types.now };
+    ghost invariant = { λ s. (s.entries.modules ≡ s.modules.now) × (s.names.now ≡ s.modules.now)
+        × AreTypesOf s.modules.now s.types.now
+        × AreMeant s.entries leads_nowhere stands_at s.found.items };
 }
 
 /// The INDEX or AUGMENTS clause of a definition.
@@ -81,13 +86,25 @@ impl<'n, 'a> Objects<'n, 'a> {
         requires typed { AreTypesOf modules.now types.now }
         ensures { IfOk result (λ objects. objects ≡ modules.now) }
     {
-        let definitions = Definitions::new(alloc, names)?;
+        let entries = names.entries();
+        let found = entries.along(alloc)?;
         Ok(Objects {
             modules,
-            definitions,
+            entries,
+            found,
             names,
             types,
         })
+    }
+
+    /// The definition to which a name leads in the module named `home`, by the place of its module
+    /// and its own place in that.
+    pub(crate) fn find(&self, home: &'a [u8], name: &'a [u8]) -> Option<(usize, usize)>
+        ensures { let qualified : QualifiedName = record { home = home.now; name = name.now } in
+            MatchOption result (IsUndefined self.now qualified)
+            (λ at. IsFoundAt self.now qualified at.0 at.1) }
+    {
+        kept(&self.found, self.entries.place(home, name))
     }
 
     /// Whether a name resolves to an identifier in the module named `home`.
@@ -114,7 +131,7 @@ impl<'n, 'a> Objects<'n, 'a> {
         if !self.has_identifier(home, name) {
             return None;
         }
-        let (module, def) = self.definitions.find(home, name)?;
+        let (module, def) = self.find(home, name)?;
         let syntax = self.types.syntax(self.modules, module, def)?;
         part(syntax.base, syntax.sizes, implied)
     }

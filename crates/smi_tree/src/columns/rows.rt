@@ -90,10 +90,7 @@ impl<'n, 'a> Objects<'n, 'a> {
         let def = module.defs.as_slice().get(k)?;
         match clause(def)? {
             Index::Own(_) => Some((i, k)),
-            Index::Augments(name) => {
-                self.definitions
-                    .find(module.name.as_bytes(), name.as_bytes())
-            }
+            Index::Augments(name) => self.find(module.name.as_bytes(), name.as_bytes()),
         }
     }
 

@@ -1,13 +1,15 @@
 //! What types state, and the syntax of an object.
-ghost use Rattle.std.specs.Prelude.{◌≡◌};
+ghost use Rattle.std.specs.Prelude.{◌≡◌, option_map};
 ghost use Rattle.std.specs.Option.{option_copied, option_and_then};
 ghost use Rattle.smi_tree.specs.types.Types.{names_in, sizes_in, simple_in, type_hint};
 ghost use Rattle.smi_tree.specs.types.Types.{type_syntax};
-ghost use Rattle.smi_tree.specs.types.Types.{object_syntax, base_in};
+ghost use Rattle.smi_tree.specs.types.Types.{object_syntax, base_in, name_in};
 ghost use Rattle.smi_tree.specs.types.Kept.{names_of, sizes_of, type_in};
 
 use smi_names::TypeBase;
-use smi_text::{Base, Def, DefKind, NamedNumber, Range, Refinement, SimpleType, Syntax, Text};
+use smi_text::{
+    Base, Def, DefKind, Name, NamedNumber, Range, Refinement, SimpleType, Syntax, Text,
+};
 
 /// The syntax of an object: what its chain of types gives. It borrows its texts from the modules.
 #[derive(Clone, Copy, Debug)]
@@ -52,6 +54,19 @@ pub(crate) fn base_of(simple: &SimpleType) -> Option<TypeBase>
         Base::ObjectIdentifier => Some(TypeBase::ObjectIdentifier),
         Base::Bits => Some(TypeBase::Bits),
         Base::Named(name) => TypeBase::named(name.as_bytes()),
+    }
+}
+
+/// The name of the type that a type refines, if that is no base type.
+pub(crate) fn name_of(simple: &SimpleType) -> Option<&Name>
+    ensures { option_map (λ name. name.now.octets) result ≡ name_in simple.now.base }
+{
+    if base_of(simple).is_some() {
+        return None;
+    }
+    match &simple.base {
+        Base::Named(name) => Some(name),
+        _ => None,
     }
 }
 

@@ -1,27 +1,25 @@
 //! The types of modules, each followed to its end once.
 ghost use Rattle.std.specs.Prelude.{◌≡◌, IfOk, MatchOption, Option, Some, option_map};
-ghost use Rattle.std.specs.Prelude.{ℕ, if◌then◌else◌};
+ghost use Rattle.std.specs.Prelude.{ℕ, List, if◌then◌else◌};
 ghost use Rattle.std.specs.Option.{option_copied};
 ghost use Rattle.std.specs.List.{slice_get};
 ghost use Rattle.smi_tree.specs.types.Types.{base_in, object_origin, origin_of_object, def_at};
-ghost use Rattle.smi_tree.specs.types.Types.{HasSyntax, HasNoSyntax};
-ghost use Rattle.smi_tree.specs.types.Leads.{LeadsTo, origin_at};
+ghost use Rattle.smi_tree.specs.types.Types.{HasSyntax, HasNoSyntax, name_in, type_origin};
 ghost use Rattle.smi_tree.specs.types.Kept.{AreFollowed, AreKeptOf, AreKeptOfAll, AreTypesOf};
-ghost use Rattle.smi_tree.specs.types.Kept.{IsKept, IsLed, base_or, def_of, facts_of};
+ghost use Rattle.smi_tree.specs.types.Kept.{IsKept, base_or, def_of, facts_of};
 ghost use Rattle.smi_tree.specs.types.Kept.{kept_syntax, refined_by};
 
-use crate::node::{kept, led};
-use crate::types::leads::{lead_of_type, leads};
+use crate::node::kept;
 use crate::types::syntax::{
-    TypeSyntax, base_of, hint_of, names_in_definition, names_of, object_type_of,
+    TypeSyntax, base_of, hint_of, name_of, names_in_definition, names_of, object_type_of,
     sizes_in_definition, sizes_of, type_of,
 };
-use smi_names::{Decider, Entries, Names, TypeBase, ordered};
-use smi_text::{Def, Module, SimpleType};
+use smi_names::{Entries, Meaning, Names, TypeBase};
+use smi_text::{Def, Module, Name, SimpleType};
 use std::alloc::{AllocError, Global};
 
 /// A syntax, with the places of the definitions that state its hint, its names and its SIZE: of the
-/// module, and in that.
+/// module, and in that. A name means it as a type.
 #[derive(Clone, Copy)]
 pub(crate) struct KeptSyntax {
     /// The base type at the end of the chain.
@@ -41,6 +39,30 @@ pub struct Types {
     objects: Vec<Vec<Option<KeptSyntax>>>,
 }
 
+impl Meaning for KeptSyntax {
+    ghost use Rattle.smi_tree.specs.types.Kept.{refines, type_at};
+
+    ghost leads = { refines };
+
+    ghost means = { type_at };
+
+    fn lead(def: &Def) -> Option<&Name> {
+        match type_of(&def.kind) {
+            Some(simple) => name_of(simple),
+            None => None,
+        }
+    }
+
+    fn meaning(at: (usize, usize), def: &Def, far: Option<KeptSyntax>) -> Option<KeptSyntax>
+        ensures { result ≡ type_at at def.now far }
+    {
+        match type_of(&def.kind) {
+            Some(simple) => refined(at, hint_of(&def.kind).is_some(), simple, far),
+            None => None,
+        }
+    }
+}
+
 impl Types {
     /// The types of modules, whose names are given. Each name is visited once, without recursion.
     pub fn new<'a>(
@@ -53,7 +75,7 @@ impl Types {
         ensures { IfOk result (λ types. AreTypesOf modules.now types) }
     {
         let entries = names.entries();
-        let types = followed(alloc, &entries)?;
+        let types = entries.along::<KeptSyntax>(alloc)?;
         Ok(Types {
             objects: objects(alloc, &entries, &types, modules)?,
         })
@@ -126,42 +148,6 @@ fn definition(modules: &[Module], at: Option<(usize, usize)>) -> Option<&Def>
     }
 }
 
-/// For each name, the syntax that it means as a type, if it has one.
-fn followed(alloc: Global, entries: &Entries<'_, '_>) -> Result<Vec<Option<KeptSyntax>>, AllocError>
-    ensures { IfOk result (λ types. AreFollowed entries.now types.items) }
-{
-    let leads = leads(alloc, entries)?;
-    let order = ordered(alloc, &leads)?;
-    let mut types = vec![in alloc; None; leads.len()]?;
-    'places: for place in &order {
-        let place = *place;
-        types[place] = meant(entries, place, led(&types, leads[place]));
-    }
-    Ok(types)
-}
-
-/// The syntax that the name at a place means, given that of the name to which it leads.
-fn meant(entries: &Entries<'_, '_>, place: usize, far: Option<KeptSyntax>) -> Option<KeptSyntax>
-    ensures { let k = entries.now in
-        (to : Option ℕ) → LeadsTo k (origin_at k place) to → IsLed k to far
-        → IsKept k.modules (origin_at k place) result }
-{
-    let Some(entry) = entries.get(place) else {
-        return None;
-    };
-    match entry.decider {
-        Decider::Definition(def) => match type_of(&def.kind) {
-            Some(simple) => {
-                let hint = hint_of(&def.kind).is_some();
-                refined(entry.source, hint, simple, far)
-            }
-            None => None,
-        },
-        Decider::Import(_) => far,
-        Decider::Root(_) => None,
-    }
-}
-
 /// The syntax of a type that the definition at a place states, with a hint or without. What it
 /// states is nearer than what the type states that it refines.
 fn refined(
@@ -205,6 +191,23 @@ fn nearer(states: bool, at: (usize, usize), far: Option<(usize, usize)>) -> Opti
     if states { Some(at) } else { far }
 }
 
+/// The syntax of the type that a type of a module refines, if that is no base type.
+fn named<'a>(
+    entries: &Entries<'_, 'a>,
+    types: &[Option<KeptSyntax>],
+    home: &'a [u8],
+    simple: &'a SimpleType,
+) -> Option<KeptSyntax>
+    requires followed { AreFollowed entries.now types.now }
+    ensures { (x : List ℕ) → name_in simple.now.base ≡ Some x → IsKept entries.now.modules
+        (type_origin entries.now.modules (record { home = home.now; name = x })) result }
+{
+    match name_of(simple) {
+        Some(name) => kept(types, entries.place(home, name.as_bytes())),
+        None => None,
+    }
+}
+
 /// The syntax of an object of a module, by its place.
 fn object<'a>(
     entries: &Entries<'_, 'a>,
@@ -219,8 +222,8 @@ fn object<'a>(
 {
     match object_type_of(&def.kind) {
         Some(simple) => {
-            let lead = lead_of_type(entries, home.name.as_bytes(), Some(simple));
-            refined(at, false, simple, led(types, lead))
+            let far = named(entries, types, home.name.as_bytes(), simple);
+            refined(at, false, simple, far)
         }
         None => None,
     }

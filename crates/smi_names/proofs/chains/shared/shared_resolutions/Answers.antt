@@ -7,7 +7,8 @@ use Rattle.smi_names.specs.chains.Chain.{next_of}
 use Rattle.smi_names.specs.chains.Order.{ComeAfterNext}
 use Rattle.smi_names.specs.chains.Resolving.{resolution_at, resolution_by}
 use Rattle.smi_names.specs.chains.Shared.{shared}
-use Rattle.smi_names.proofs.Filling.{Fills-step, Fills-start, EachComesTo-filled, nexts}
+use Rattle.smi_names.specs.chains.Resolution.{ComesTo}
+use Rattle.smi_names.proofs.Filling.{Resolves-step, Fills-start, EachComesTo-filled, beyond_comes, nexts}
 use Rattle.smi_names.proofs.Sharing.{shared-grown, AreWithin-grown, HasReasons-grown, shared-start}
 use Rattle.smi_names.specs.declared.chains.resolution.Resolution.TheVariants as R
 use Rattle.smi_names.proofs.chains.shared.shared_resolutions.Goals as goal
@@ -21,7 +22,8 @@ places-init c =
       length-replicate n 1,
       ([], refl),
       All-replicate (λ k. k < 3) n 1 (omega arith),
-      rw (shared-start (R.Unresolved ∷ R.Cycle ∷ R.TooLong ∷ []) n refl) (Fills-start (origin_at c.args.links.now) n),
+      rw (shared-start (R.Unresolved ∷ R.Cycle ∷ R.TooLong ∷ []) n refl)
+          (Fills-start (ComesTo (origin_at c.args.links.now)) R.Cycle R.Unresolved n (beyond_comes c.args.links.now)),
     )
 
 pub places-preserved : goal.places-preserved
@@ -52,7 +54,7 @@ places-preserved c =
       HasReasons-grown old new at r c.places.invariant.1 grown,
       AreWithin-grown old new c.places.places.items p at r c.places.invariant.2 grown,
       rw (shared-grown old new c.places.places.items p at r c.places.invariant.2 grown) (
-          Fills-step links order rs c.places.place-index c.index-links-place.result long fills i_in
+          Resolves-step links order rs c.places.place-index c.index-links-place.result long fills i_in
           (omega (arith, inside, length-map links (λ x. next_of (origin_of x)))) found after_next
           ),
     )
@@ -70,4 +72,4 @@ returns-clause-each c =
     let long : length (shared c.places.list.items c.places.places.items) ≡ length c.args.links.now =
     length-map c.places.places.items (λ k. resolution_at c.places.list.items k) ∙ c.places.invariant.0 in
     EachComesTo-filled links order (shared c.places.list.items c.places.places.items) long fills
-    (λ p l h. ended p (omega (arith, length-map links (λ x. next_of (origin_of x)))) h)
+    ended

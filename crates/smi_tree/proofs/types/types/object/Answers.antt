@@ -12,12 +12,11 @@ returns-in-Some c =
     let s = c.in-Some.simple.now in
     let home = c.args.home.now.name.octets in
     let states = object_states d.kind s (sym c.in-Some.ensures) in
-    let leads = rw c.as_bytes.ensures.octets at (c.lead_of_type-lead.ensures None) in
+    let named = rw c.as_bytes.ensures.octets at c.named-far.ensures in
     let origin : origin_of_object c.args.home.now.name.octets c.args.def.now
     ≡ origin_of_simple c.args.home.now.name.octets None (Some c.in-Some.simple.now) =
     ap (λ x. origin_of_simple c.args.home.now.name.octets None x) (sym c.in-Some.ensures) in
-    rw (origin, c.refined.ensures, c.led.ensures) (refined_right k c.args.at d c.requires.there s states.0 None states.1 home c.lead_of_type-lead.result _ leads
-    (λ q e. rw e (c.requires.followed q)))
+    rw (origin, c.refined.ensures) (refined_right k.modules c.args.at d c.requires.there s states.0 None states.1 home c.named-far.result named)
 
 pub returns-in-None : goal.returns-in-None
 returns-in-None c =

@@ -11,7 +11,7 @@ pub returns-in_err-syntax : goal.returns-in_err-syntax
 returns-in_err-syntax c =
     let ms : c.self.inside.modules.now ≡ c.args.self.now = c.self.view_is in
     let found : IsFoundAt c.args.self.now (qualified_name c.args.home.now c.args.name.now.octets) c.in_ok-module.module c.in_ok-module.def =
-    rw (c.self.invariant.0, ms, c.as_bytes-home.ensures.octets, c.as_bytes-name.ensures.octets) at c.in_ok-module.ensures in
+    rw (c.as_bytes-home.ensures.octets, c.as_bytes-name.ensures.octets) at c.in_ok-module.ensures in
     rw c.from_residual-in_err-syntax.ensures (part_untyped c.args.self.now c.args.home.now c.args.name.now.octets c.in_ok-module.module c.in_ok-module.def
     found c.args.implied (rw ms at c.in_err-syntax.ensures))
 
@@ -19,7 +19,7 @@ pub returns : goal.returns
 returns c =
     let ms : c.self.inside.modules.now ≡ c.args.self.now = c.self.view_is in
     let found : IsFoundAt c.args.self.now (qualified_name c.args.home.now c.args.name.now.octets) c.in_ok-module.module c.in_ok-module.def =
-    rw (c.self.invariant.0, ms, c.as_bytes-home.ensures.octets, c.as_bytes-name.ensures.octets) at c.in_ok-module.ensures in
+    rw (c.as_bytes-home.ensures.octets, c.as_bytes-name.ensures.octets) at c.in_ok-module.ensures in
     let holds : IsTrue c.has_identifier.result = search rules in
     let identifier = rw (c.as_bytes-home.ensures.octets, c.as_bytes-name.ensures.octets) at (c.has_identifier.ensures.0 holds) in
     part_read c.args.self.now c.args.home.now c.args.name.now.octets c.in_ok-module.module c.in_ok-module.def

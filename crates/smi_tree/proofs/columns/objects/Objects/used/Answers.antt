@@ -35,5 +35,5 @@ returns-in-Augments c =
     let def = slice_get_read c.as_slice.result.now (length c.as_slice.result.now) k d refl c.in_ok-def.ensures.lookup.3.0 c.in_ok-def.ensures.lookup.1 in
     let there : slice_get c.in_ok-module.module.now.defs c.in-Definition.k ≡ Some c.in_ok-def.def.now = rw c.as_slice.ensures at def in
     let is : clause_of c.in_ok-def.def.now.kind ≡ Some (Augments c.in-Augments.name) = sym c.in_ok-name.ensures ∙ rw c.in-Augments.is refl in
-    let found = rw (c.self.invariant.0, view, c.as_bytes.ensures.octets, c.as_bytes-in-Augments.ensures.octets) at c.find.ensures in
+    let found = rw (c.as_bytes.ensures.octets, c.as_bytes-in-Augments.ensures.octets) at c.find.ensures in
     rw c.in-Definition.is (uses_named c.args.self.now i k m d at there c.in-Augments.name c.find.result is found)

@@ -1,0 +1,173 @@
+-- Where the name at a place leads, and what it means, by what decides it.
+use Rattle.std.proofs.Common.{◌≡◌, ℕ, ◌+◌, ◌<◌, ◌≤◌, ◌⊎◌, inl, inr, List, [], ◌∷◌, ◌++◌, length, MatchOption, Option, Some, None, refl, sym, ap, ◌∙◌, arith}
+use Rattle.std.proofs.lemmas.List.{get_or_past, get_or_append_left, get_or_push}
+use Rattle.std.proofs.lemmas.Bool.{cases_lt}
+use Rattle.std.proofs.lemmas.Option.{slice_get_past}
+use Rattle.std.specs.List.{slice_get}
+use Rattle.std.specs.Option.{option_and_then, option_map}
+use Rattle.smi_text.specs.trees.Mark.{same_text}
+use Rattle.smi_text.specs.declared.trees.tree.Module.{Module}
+use Rattle.smi_text.specs.declared.trees.tree.Def.{Def}
+use Rattle.smi_text.specs.declared.trees.tree.Import.{Import}
+use Rattle.smi_names.specs.chains.Chain.{HasEnd, ends, leads_on}
+use Rattle.smi_names.specs.chains.Order.{next_at, at_place}
+use Rattle.smi_names.specs.meaning.Meaning.{QualifiedName, Decision, defined, imported, root}
+use Rattle.smi_names.specs.meaning.Meaning.{decision, module_named}
+use Rattle.smi_names.specs.meaning.Scopes.{Content, decided_as}
+use Rattle.smi_names.specs.meaning.Known.{KnownNames, content_named, IsNextOf}
+use Rattle.smi_names.specs.meaning.Along.{next_by, decided, next_name, IsOwn, Comes, unknown, of_root, through, at_end, after, IsNext, MeansAt, AreMeant}
+use Rattle.smi_names.proofs.Knowing.{same}
+use Rattle.smi_names.proofs.Equating.{decided_at, find_true}
+
+-- what decides a name, by what its place has
+record IsDecided (ms : List Module) (a : QualifiedName) (c : Content) : Type 0 where
+  named : module_named ms a.home ≡ Some c.home
+  by : decision c.home a.name ≡ Some c.decided
+  name : c.name ≡ a.name
+  home : c.home.name.octets ≡ a.home
+
+is_decided : (ms : List Module) (a : QualifiedName) (c : Content) → content_named ms a ≡ Some c → IsDecided ms a c
+is_decided ms a c e = of_module (module_named ms a.home) refl e
+  where
+    content : Module → Decision → Content
+    content m d = record { home = m; name = a.name; decided = d }
+
+    of_decision : (m : Module) → module_named ms a.home ≡ Some m → (d : Option Decision) → decision m a.name ≡ d → decided_as m a.name d ≡ Some c
+        → IsDecided ms a c
+    of_decision m named None by e = absurd (cc)
+    of_decision m named (Some d) by e =
+        let is : record { home = m; name = a.name; decided = d } ≡ c = cc in
+        rw (← is) (record {
+          named = named;
+          by = by;
+          name = refl;
+          home = same m.name.octets a.home (find_true (λ n. same_text n.name.octets a.home) ms m named);
+        })
+
+    of_module : (r : Option Module) → module_named ms a.home ≡ r → option_and_then (λ m. decided_as m a.name (decision m a.name)) r ≡ Some c
+        → IsDecided ms a c
+    of_module None named e = absurd (cc)
+    of_module (Some m) named e = of_decision m named (decision m a.name) refl e
+
+module _ (k : KnownNames) (leads : Def → Option (List ℕ)) where
+  abbrev Leads : QualifiedName → Option ℕ → Type 0
+  Leads a to = MatchOption to (next_name k.modules leads a ≡ None)
+      (λ q. (b : QualifiedName) × (next_name k.modules leads a ≡ Some b) × (slice_get k.names q ≡ content_named k.modules b))
+
+  leads_nowhere : (a : QualifiedName) (to : Option ℕ) → Leads a to → next_name k.modules leads a ≡ None → to ≡ None
+  leads_nowhere a None l e = refl
+  leads_nowhere a (Some q) l e = let other = l.1 in cc
+
+  leads_to : (a b : QualifiedName) (to : Option ℕ) → Leads a to → next_name k.modules leads a ≡ Some b
+      → (q : ℕ) × (to ≡ Some q) × (slice_get k.names q ≡ content_named k.modules b)
+  leads_to a b None l e = absurd (cc)
+  leads_to a b (Some q) l e = let other = l.1 in let is : l.0 ≡ b = cc in (q, refl, rw is at l.2)
+
+  -- a chain of names that has an end is one of places
+  pub has_end : (next : List (Option ℕ)) → ((p : ℕ) → IsNext k leads p (next_at next p)) → {a : QualifiedName} → HasEnd (next_name k.modules leads) a
+      → (p : ℕ) → slice_get k.names p ≡ content_named k.modules a → HasEnd (next_at next) p
+  has_end next are {a} (ends e) p named = ends (leads_nowhere a (next_at next p) (are p a named) e)
+  has_end next are {a} (leads_on {b = b} e h) p named =
+      let on = leads_to a b (next_at next p) (are p a named) e in leads_on on.1 (has_end next are h on.0 on.2)
+
+  module _ (p : ℕ) where
+    -- what decides the names at a place
+    by_place : (s : Option Content) → slice_get k.names p ≡ s → (a : QualifiedName) → slice_get k.names p ≡ content_named k.modules a
+        → decided k.modules a ≡ option_map (λ c. c.decided) s
+    by_place s there a named = sym (decided_at a.name s (module_named k.modules a.home) (sym there ∙ named))
+
+    pub next_none : slice_get k.names p ≡ None → IsNext k leads p None
+    next_none there = λ a named. ap (next_by leads a) (by_place None there a named)
+
+    module _ (c : Content) (there : slice_get k.names p ≡ Some c) where
+      by_content : (d : Decision) → c.decided ≡ d → (a : QualifiedName) → slice_get k.names p ≡ content_named k.modules a
+          → next_name k.modules leads a ≡ next_by leads a (Some d)
+      by_content d is a named = ap (next_by leads a) (by_place (Some c) there a named ∙ ap (λ x. Some x) is)
+
+      pub next_root : (n : ℕ) → c.decided ≡ root n → IsNext k leads p None
+      next_root n is = λ a named. by_content (root n) is a named
+
+      pub next_import : (i : Import) → c.decided ≡ imported i → (to : Option ℕ) → IsNextOf k.modules k.names c.name c.decided to → IsNext k leads p to
+      next_import i is to next = λ a named.
+          let n = rw is at next in
+          rw n.1 (
+            record { home = i.source.octets; name = a.name },
+            by_content (imported i) is a named,
+            n.2 ∙ ap (λ x. content_named k.modules (record { home = i.source.octets; name = x })) ((is_decided k.modules a c (sym named ∙ there)).name),
+          )
+
+      pub next_last : (d : Def) → c.decided ≡ defined d → None ≡ leads d → IsNext k leads p None
+      next_last d is none = λ a named. by_content (defined d) is a named ∙ rw (← none) refl
+
+      pub next_defined : (d : Def) → c.decided ≡ defined d → (x : List ℕ) → Some x ≡ leads d → (q : ℕ)
+          → slice_get k.names q ≡ content_named k.modules (record { home = c.home.name.octets; name = x }) → IsNext k leads p (Some q)
+      next_defined d is x on q at = λ a named. (
+        record { home = a.home; name = x },
+        by_content (defined d) is a named ∙ rw (← on) refl,
+        at ∙ rw ((is_decided k.modules a c (sym named ∙ there)).home) refl,
+      )
+
+    module _ {X : Type 0} (means : ℕ × ℕ → Def → Option X → Option X) where
+      pub means_none : slice_get k.names p ≡ None → MeansAt k leads means p None
+      means_none there = λ a named. unknown (by_place None there a named)
+
+      module _ (c : Content) (there : slice_get k.names p ≡ Some c) where
+        pub means_root : (n : ℕ) → c.decided ≡ root n → MeansAt k leads means p None
+        means_root n is = λ a named. of_root {n = n} (by_place (Some c) there a named ∙ rw is refl)
+
+        module _ (to : Option ℕ) (next : IsNext k leads p to) (far : Option X) (led : MatchOption to (far ≡ None) (λ q. MeansAt k leads means q far)) where
+          pub means_import : (i : Import) → c.decided ≡ imported i → MeansAt k leads means p far
+          means_import i is = λ a named.
+              let own = is_decided k.modules a c (sym named ∙ there) in
+              let b : QualifiedName = record { home = i.source.octets; name = a.name } in
+              let on = leads_to a b to (next a named) (by_content c there (imported i) is a named) in
+              through {i = i} own.named (own.by ∙ rw is refl) ((rw on.1 at led) b on.2)
+
+          pub means_defined : (d : Def) → c.decided ≡ defined d → (i j : ℕ) → slice_get k.modules i ≡ Some c.home → slice_get c.home.defs j ≡ Some d
+              → MeansAt k leads means p (means (i, j) d far)
+          means_defined d is i j of_module of_def = λ a named.
+              let own = is_decided k.modules a c (sym named ∙ there) in
+              let decides : IsOwn k.modules a i j d =
+              record { home = c.home; named = own.named; decides = own.by ∙ rw is refl; at_module = of_module; there = of_def } in
+              by a decides (next a named) (by_content c there (defined d) is a named) (leads d) refl
+            where
+              by : (a : QualifiedName) → IsOwn k.modules a i j d → Leads a to → next_name k.modules leads a ≡ next_by leads a (Some (defined d))
+                  → (x : Option (List ℕ)) → leads d ≡ x → Comes k.modules leads means a (means (i, j) d far)
+              by a own l by_def None e = let none = leads_nowhere a to l (by_def ∙ rw e refl) in at_end own e (rw (rw none at led) refl)
+              by a own l by_def (Some x) e =
+                  let b : QualifiedName = record { home = a.home; name = x } in
+                  let on = leads_to a b to l (by_def ∙ rw e refl) in
+                  after own e ((rw on.1 at led) b on.2) refl
+
+pub next_push : (R : ℕ → Option ℕ → Type 0) (xs : List (Option ℕ)) (x : Option ℕ) (n : ℕ) → length xs ≡ n → ((p : ℕ) → p < n → R p (next_at xs p)) → R n x
+    → (p : ℕ) → p < n + 1 → R p (next_at (xs ++ x ∷ []) p)
+next_push R xs x n long all new p l = elim (cases_lt p n) [
+  | inl before ↦ rw (get_or_append_left xs (x ∷ []) None p (omega (arith, before, long))) (all p before)
+  | inr past ↦
+      let is : p ≡ n = omega (arith, past, l) in
+      rw (get_or_push xs x None p (long ∙ sym is), is) new
+]
+
+-- what a list has at the place to which a place leads
+pub far_of : {X : Type 0} (Right : ℕ → Option X → Type 0) (found : List (Option X)) (to : Option ℕ) → ((q : ℕ) → to ≡ Some q → Right q (at_place found q))
+    → MatchOption to (option_and_then (λ q. at_place found q) to ≡ None) (λ q. Right q (option_and_then (λ q. at_place found q) to))
+far_of Right found None f = refl
+far_of Right found (Some q) f = f q refl
+
+module _ {X : Type 0} (k : KnownNames) (leads : Def → Option (List ℕ)) (means : ℕ × ℕ → Def → Option X → Option X) (next : List (Option ℕ))
+    (long : length next ≡ length k.names) (within : (p : ℕ) → p < length next → IsNext k leads p (next_at next p)) where
+  pub each_next : (p : ℕ) → IsNext k leads p (next_at next p)
+  each_next p = elim (cases_lt p (length next)) [
+    | inl there ↦ within p there
+    | inr past ↦ rw (get_or_past next p None past) (next_none k leads p (slice_get_past k.names p (omega (arith, past, long))))
+  ]
+
+  pub none_past : (p : ℕ) → length next ≤ p → MeansAt k leads means p None
+  none_past p past = means_none k leads p means (slice_get_past k.names p (omega (arith, past, long)))
+
+  pub are_meant : (found : List (Option X))
+      → ((p : ℕ) → MeansAt k leads means p (at_place found p) ⊎ ((HasEnd (next_at next) p → ⊥) × (at_place found p ≡ None))) → AreMeant k leads means found
+  are_meant found each = λ p a named. elim (each p) [
+    | inl right ↦ inl (right a named)
+    | inr none ↦ inr (λ h. none.0 (has_end k leads next each_next h p named), none.1)
+  ]

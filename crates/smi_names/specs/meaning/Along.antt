@@ -1,0 +1,91 @@
+-- What names mean along chains: an import leads to the same name in the module after FROM, and a
+-- definition may lead to a name of its module.
+use Rattle.std.specs.Prelude.{◌≡◌, ◌⊎◌, ℕ, List, MatchOption, Option, Some, None, option_map}
+use Rattle.std.specs.List.{slice_get}
+use Rattle.std.specs.Option.{option_and_then}
+use Rattle.smi_text.specs.declared.trees.tree.Module.{Module}
+use Rattle.smi_text.specs.declared.trees.tree.Def.{Def}
+use Rattle.smi_text.specs.declared.trees.tree.Import.{Import}
+use Rattle.smi_names.specs.chains.Chain.{HasEnd}
+use Rattle.smi_names.specs.chains.Order.{at_place}
+use Rattle.smi_names.specs.meaning.Meaning.{QualifiedName, Decision, defined, imported, root}
+use Rattle.smi_names.specs.meaning.Meaning.{decision, module_named}
+use Rattle.smi_names.specs.meaning.Known.{KnownNames, content_named}
+
+-- the name to which a name leads, by what decides it; `leads` says it of definitions
+abbrev pub next_by : (Def → Option (List ℕ)) → QualifiedName → Option Decision
+    → Option QualifiedName
+next_by leads a None = None
+next_by leads a (Some (defined d)) = option_map (λ x. record { home = a.home; name = x }) (leads d)
+next_by leads a (Some (imported i)) = Some (record { home = i.source.octets; name = a.name })
+next_by leads a (Some (root n)) = None
+
+-- what decides a name, if it has a meaning
+abbrev pub decided : List Module → QualifiedName → Option Decision
+decided ms a = option_and_then (λ m. decision m a.name) (module_named ms a.home)
+
+abbrev pub next_name : List Module → (Def → Option (List ℕ)) → QualifiedName → Option QualifiedName
+next_name ms leads a = next_by leads a (decided ms a)
+
+-- this definition decides the name, by the places of its module and of itself in that
+pub record IsOwn (ms : List Module) (a : QualifiedName) (i k : ℕ) (d : Def) : Type 0 where
+  pub home : Module
+  pub named : module_named ms a.home ≡ Some home
+  pub decides : decision home a.name ≡ Some (defined d)
+  pub at_module : slice_get ms i ≡ Some home
+  pub there : slice_get home.defs k ≡ Some d
+
+-- what a name means, where `means` says it of definitions, by what the name means to which they
+-- lead: the least relation of which these five hold
+pub data Comes {X : Type 0} (ms : List Module) (leads : Def → Option (List ℕ))
+    (means : ℕ × ℕ → Def → Option X → Option X) : QualifiedName → Option X → Type 0 where
+  unknown : {a : QualifiedName} → decided ms a ≡ None → Comes ms leads means a None
+  of_root : {a : QualifiedName} {n : ℕ} → decided ms a ≡ Some (root n)
+      → Comes ms leads means a None
+  through : {a : QualifiedName} {m : Module} {i : Import} {x : Option X}
+      → module_named ms a.home ≡ Some m → decision m a.name ≡ Some (imported i)
+      → Comes ms leads means (record { home = i.source.octets; name = a.name }) x
+      → Comes ms leads means a x
+  at_end : {a : QualifiedName} {i k : ℕ} {d : Def} {x : Option X} → IsOwn ms a i k d
+      → leads d ≡ None → x ≡ means (i, k) d None → Comes ms leads means a x
+  after : {a : QualifiedName} {i k : ℕ} {d : Def} {y : List ℕ} {far x : Option X}
+      → IsOwn ms a i k d → leads d ≡ Some y
+      → Comes ms leads means (record { home = a.home; name = y }) far
+      → x ≡ means (i, k) d far → Comes ms leads means a x
+
+-- what a name means, or nothing if its chain has no end
+abbrev pub IsMeant : {X : Type 0} → List Module → (Def → Option (List ℕ))
+    → (ℕ × ℕ → Def → Option X → Option X) → QualifiedName → Option X → Type 0
+IsMeant ms leads means a x =
+    Comes ms leads means a x ⊎ ((HasEnd (next_name ms leads) a → ⊥) × (x ≡ None))
+
+-- a list has at the place of each name what the name means
+abbrev pub AreMeant : {X : Type 0} → KnownNames → (Def → Option (List ℕ))
+    → (ℕ × ℕ → Def → Option X → Option X) → List (Option X) → Type 0
+AreMeant k leads means found =
+    (p : ℕ) (a : QualifiedName) → slice_get k.names p ≡ content_named k.modules a
+    → IsMeant k.modules leads means a (at_place found p)
+
+-- where the definition stands to which the imports of a name lead
+abbrev pub leads_nowhere : Def → Option (List ℕ)
+leads_nowhere d = None
+
+abbrev pub stands_at : ℕ × ℕ → Def → Option (ℕ × ℕ) → Option (ℕ × ℕ)
+stands_at at d far = Some at
+
+-- ---- how it is found, for private clauses
+
+-- the names at a place lead to that at another
+abbrev pub IsNext : KnownNames → (Def → Option (List ℕ)) → ℕ → Option ℕ → Type 0
+IsNext k leads p to =
+    (a : QualifiedName) → slice_get k.names p ≡ content_named k.modules a
+    → MatchOption to (next_name k.modules leads a ≡ None)
+    (λ q. (b : QualifiedName) × (next_name k.modules leads a ≡ Some b)
+    × (slice_get k.names q ≡ content_named k.modules b))
+
+-- the names at a place mean this
+abbrev pub MeansAt : {X : Type 0} → KnownNames → (Def → Option (List ℕ))
+    → (ℕ × ℕ → Def → Option X → Option X) → ℕ → Option X → Type 0
+MeansAt k leads means p x =
+    (a : QualifiedName) → slice_get k.names p ≡ content_named k.modules a
+    → Comes k.modules leads means a x

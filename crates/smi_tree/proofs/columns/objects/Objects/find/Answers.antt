@@ -1,0 +1,12 @@
+-- By what the name means.
+use Rattle.std.proofs.Common.{◌≡◌, ◌∙◌}
+use Rattle.smi_names.specs.meaning.Meaning.{QualifiedName}
+use Rattle.smi_tree.proofs.NamingLemmas.{is_meant}
+use Rattle.smi_tree.proofs.columns.objects.Objects.find.Goals as goal
+
+pub returns : goal.returns
+returns c =
+    let a : QualifiedName = record { home = c.args.home.now; name = c.args.name.now } in
+    let view : c.self.inside.modules.now ≡ c.args.self.now = c.self.view_is in
+    let same : c.self.inside.entries.modules ≡ c.args.self.now = c.self.invariant.0 ∙ view in
+    rw (← same, c.kept.ensures, c.deref.ensures.value) (is_meant c.self.inside.entries.modules a _ (c.self.invariant.3 c.place.result a c.place.ensures))

@@ -1,0 +1,20 @@
+-- The name is no base type's.
+use Rattle.std.proofs.Common.{◌≡◌, false, Option, Some, None, is_some, refl, sym, ap, ◌∙◌}
+use Rattle.smi_text.specs.declared.trees.tree.Base.{Base}
+use Rattle.smi_text.specs.declared.trees.tree.Base.TheVariants as B
+use Rattle.smi_text.specs.declared.trees.names.Name.{Name}
+use Rattle.smi_tree.specs.types.Types.{base_in, name_in_base, name_in}
+use Rattle.smi_names.specs.declared.meaning.base.TypeBase.{TypeBase}
+use Rattle.smi_tree.proofs.types.syntax.name_of.Goals as goal
+
+named : (b : Base) (x : Name) → b ≡ B.Named x → is_some (base_in b) ≡ false → Some x.octets ≡ name_in b
+named b x e h = rw e (by (base_in (B.Named x)) (rw e at h))
+  where
+    by : (t : Option TypeBase) → is_some t ≡ false → Some x.octets ≡ name_in_base (B.Named x) t
+    by None h = refl
+    by (Some t) h = absurd (cc)
+
+pub returns-in-Named : goal.returns-in-Named
+returns-in-Named c =
+    let none : is_some (base_in c.args.simple.now.base) ≡ false = ap (λ r. is_some r) (sym c.base_of.ensures) ∙ sym c.if-is_some.ensures in
+    named c.args.simple.now.base c.in-Named.name c.in-Named.is none
