@@ -10,9 +10,9 @@ use Rattle.snmp_wire.specs.Message.{VarBind, var_bind, var_binds}
 use Rattle.snmp_wire.specs.ber.Value.{object_id, null_value}
 use Rattle.snmp_wire.specs.ber.Spelling.{sequence_tag}
 use Rattle.snmp_wire.specs.ber.Writing.{Writes}
-use Rattle.snmp_wire.specs.ber.ElementLaws.{header_short, content_fits, element_size, header_fits}
-use Rattle.snmp_wire.specs.ber.ElementLaws.{sizes_value, writes_element}
-use Rattle.snmp_wire.specs.ber.WritingLaws.{writes_same, writes_then}
+use Rattle.snmp_wire.proofs.ElementLaws.{header_short, content_fits, element_size, header_fits}
+use Rattle.snmp_wire.proofs.ElementLaws.{sizes_value, writes_element}
+use Rattle.snmp_wire.proofs.WritingLaws.{writes_same, writes_then}
 
 pub sizes_binding : (header name value : ℕ) (binding : VarBind) → name ≡ length (canon_value (object_id binding.name))
     → value ≡ length (canon_value binding.value) → header ≡ 1 + length (canon_length (name + value)) → header + (name + value) ≡ length (canon_binding binding)

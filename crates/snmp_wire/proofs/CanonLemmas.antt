@@ -15,9 +15,9 @@ use mir.Syntax.{w32}
 use lib.IntN.{nat_abs}
 use Rattle.snmp_wire.specs.ber.Canon.{canon_length, canon_number, digit_count, length_size}
 use Rattle.snmp_wire.specs.ber.Canon.{magnitude_of, number_size, octets, digits}
-use Rattle.snmp_wire.specs.ber.ElementLaws.{canon_length_short, header_short}
+use Rattle.snmp_wire.proofs.ElementLaws.{canon_length_short, header_short}
 use Rattle.snmp_wire.specs.ber.Writing.{Writes}
-use Rattle.snmp_wire.specs.ber.WritingLaws.{writes_same, writes_then}
+use Rattle.snmp_wire.proofs.WritingLaws.{writes_same, writes_then}
 use Rattle.snmp_wire.proofs.Digits.{digits-add, length-digits, digits-suc}
 
 pub count_taken : (base limit more n : ℕ) → n < limit → digit_count base limit (suc more) n ≡ 1

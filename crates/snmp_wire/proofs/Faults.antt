@@ -25,12 +25,12 @@ use Rattle.snmp_wire.specs.Fault.{BeginsWith, Place, at_message, at_version, at_
 use Rattle.snmp_wire.specs.Fault.{at_id, at_a, at_b, at_list, at_binding, at_name, at_value}
 use Rattle.snmp_wire.specs.Fault.{first_inside, next_behind, AllowsTag, Expects, starts, inside}
 use Rattle.snmp_wire.specs.Fault.{behind, IsFault, EndsEarly, HasForbiddenLength, Calls}
-use Rattle.snmp_wire.specs.ber.ReadingLaws.{Gives, a_fault, a_value, done, failed, failing, given}
-use Rattle.snmp_wire.specs.ber.ReadingLaws.{gives, gives_all, gives_either, gives_fault, gives_so}
-use Rattle.snmp_wire.specs.ber.ReadingLaws.{gives_then, ok_is}
-use Rattle.snmp_wire.specs.ber.LengthLaws.{IsBadElement, content_gives, element_gives}
-use Rattle.snmp_wire.specs.ber.LengthLaws.{element_shrinks, inner_gives, no_octets, some_octets}
-use Rattle.snmp_wire.specs.ber.LengthLaws.{element_again}
+use Rattle.snmp_wire.proofs.ReadingLaws.{Gives, a_fault, a_value, done, failed, failing, given}
+use Rattle.snmp_wire.proofs.ReadingLaws.{gives, gives_all, gives_either, gives_fault, gives_so}
+use Rattle.snmp_wire.proofs.ReadingLaws.{gives_then, ok_is}
+use Rattle.snmp_wire.proofs.LengthLaws.{IsBadElement, content_gives, element_gives}
+use Rattle.snmp_wire.proofs.LengthLaws.{element_shrinks, inner_gives, no_octets, some_octets}
+use Rattle.snmp_wire.proofs.LengthLaws.{element_again}
 use Rattle.snmp_wire.proofs.MessageElements.{SpellsAll, no_elements, value_then}
 use Rattle.snmp_wire.proofs.MessageElements.{elements_in_message, elements_in_pdu, elements_of}
 use Rattle.snmp_wire.proofs.MessageElements.{elements_of_bindings, of_row, Elements, element_then}

@@ -18,9 +18,9 @@ use Rattle.snmp_wire.specs.declared.ber.error.BerError.TheVariants as error
 use Rattle.snmp_wire.specs.ber.Reading.{◌>>=◌, subidentifier_from, subidentifier_at, number_at}
 use Rattle.snmp_wire.specs.ber.Reading.{checked, largest_subidentifier, numbers_of, numbers_in}
 use Rattle.snmp_wire.specs.ber.Reading.{IsPlainFront, first_number, second_number, identifier_of}
-use Rattle.snmp_wire.specs.ber.ReadingLaws.{done, passed, refused, ok_value, failed, ok_is}
-use Rattle.snmp_wire.specs.ber.ReadingLaws.{checked_err, is_ok_at, Gives, a_fault, a_value, failing}
-use Rattle.snmp_wire.specs.ber.ReadingLaws.{given, gives_either, gives_so, gives_then}
+use Rattle.snmp_wire.proofs.ReadingLaws.{done, passed, refused, ok_value, failed, ok_is}
+use Rattle.snmp_wire.proofs.ReadingLaws.{checked_err, is_ok_at, Gives, a_fault, a_value, failing}
+use Rattle.snmp_wire.proofs.ReadingLaws.{given, gives_either, gives_so, gives_then}
 use Rattle.snmp_wire.specs.ber.Number.{number_of}
 use Rattle.snmp_wire.specs.ber.Identifier.{IsSubidentifier, AreSubidentifiers, IsObjectId}
 use Rattle.snmp_wire.proofs.IdentifierWriting.{subidentifier_some}

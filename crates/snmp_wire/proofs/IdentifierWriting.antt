@@ -16,7 +16,7 @@ use Rattle.snmp_wire.specs.ber.Canon.{AreShort, canon_content, canon_subidentifi
 use Rattle.snmp_wire.specs.ber.Canon.{eight_from, septets, subidentifier_size}
 use Rattle.snmp_wire.specs.ber.Value.{object_id}
 use Rattle.snmp_wire.specs.ber.Writing.{Writes}
-use Rattle.snmp_wire.specs.ber.WritingLaws.{length-flat_map_drop, writes_same, writes_then}
+use Rattle.snmp_wire.proofs.WritingLaws.{length-flat_map_drop, writes_same, writes_then}
 use Rattle.snmp_wire.specs.ber.Identifier.{AreSubidentifiers, IsObjectId, IsSubidentifier}
 use Rattle.snmp_wire.specs.ber.Identifier.{subidentifiers}
 use Rattle.snmp_wire.specs.ber.Number.{number_of}

@@ -12,11 +12,11 @@ use Rattle.snmp_wire.specs.Message.{opaque_octets}
 use Rattle.snmp_wire.specs.Range.{IsBindingInRange, IsInRange}
 use Rattle.snmp_wire.specs.Reading.{bindings_in, bindings_of}
 use Rattle.snmp_wire.specs.Spelling.{SpellsBinding}
-use Rattle.snmp_wire.specs.ber.LengthLaws.{inner_again}
+use Rattle.snmp_wire.proofs.LengthLaws.{inner_again}
 use Rattle.snmp_wire.specs.ber.Number.{lenient}
 use Rattle.snmp_wire.specs.declared.ber.error.BerError.TheVariants as error
 use Rattle.snmp_wire.specs.ber.Reading.{content_at, identifier_of, inner_at, length_at}
-use Rattle.snmp_wire.specs.ber.ReadingLaws.{Gives, a_value, done, is_ok_at, ok_is, passed, refused}
+use Rattle.snmp_wire.proofs.ReadingLaws.{Gives, a_value, done, is_ok_at, ok_is, passed, refused}
 use Rattle.snmp_wire.proofs.MessageLaws.{four_then, binding_again, bindings_again}
 use Rattle.snmp_wire.proofs.IdentifierReading.{identifier_again}
 use Rattle.snmp_wire.proofs.MessageElements.{spells_binding}

@@ -15,3 +15,7 @@ pub mod NameOrder
 pub mod Shortest
 pub mod ValueLaws
 pub mod WritingLemmas
+pub mod ElementLaws
+pub mod LengthLaws
+pub mod ReadingLaws
+pub mod WritingLaws

@@ -14,11 +14,11 @@ use Rattle.snmp_wire.specs.ber.Reading.{inner_at, element_at, integer_at}
 use Rattle.snmp_wire.specs.Reading.{Fields, fields_of, fields_at, binding_of, binding_at}
 use Rattle.snmp_wire.specs.Reading.{bindings_within, bindings_of, bindings_in, kind_of}
 use Rattle.snmp_wire.specs.Reading.{outermost_of, pdu_of, message_of}
-use Rattle.snmp_wire.specs.ber.ReadingLaws.{ok_is, bind_ok, bind_same, ok_value, is_ok_at}
-use Rattle.snmp_wire.specs.ber.ReadingLaws.{checked_err, err_checked, ok_checked, Gives, a_value}
-use Rattle.snmp_wire.specs.ber.ReadingLaws.{given, gives_any, gives_so, gives_then, done}
-use Rattle.snmp_wire.specs.ber.LengthLaws.{inner_gives, element_shrinks, content_again, inner_again}
-use Rattle.snmp_wire.specs.ber.LengthLaws.{element_again}
+use Rattle.snmp_wire.proofs.ReadingLaws.{ok_is, bind_ok, bind_same, ok_value, is_ok_at}
+use Rattle.snmp_wire.proofs.ReadingLaws.{checked_err, err_checked, ok_checked, Gives, a_value}
+use Rattle.snmp_wire.proofs.ReadingLaws.{given, gives_any, gives_so, gives_then, done}
+use Rattle.snmp_wire.proofs.LengthLaws.{inner_gives, element_shrinks, content_again, inner_again}
+use Rattle.snmp_wire.proofs.LengthLaws.{element_again}
 use Rattle.snmp_wire.specs.declared.ber.error.BerError.TheVariants as error
 use Rattle.snmp_wire.specs.declared.kind.Kind.{Kind}
 use Rattle.snmp_wire.specs.declared.kind.Kind.TheVariants as kind

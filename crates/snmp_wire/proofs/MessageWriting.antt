@@ -11,9 +11,9 @@ use Rattle.snmp_wire.specs.ber.Value.{integer_value, octet_string}
 use Rattle.snmp_wire.specs.Spelling.{kind_tag}
 use Rattle.snmp_wire.specs.ber.Spelling.{sequence_tag}
 use Rattle.snmp_wire.specs.ber.Writing.{Writes}
-use Rattle.snmp_wire.specs.ber.ElementLaws.{length-canon_header}
+use Rattle.snmp_wire.proofs.ElementLaws.{length-canon_header}
 use Rattle.snmp_wire.specs.ber.Sizes.{ElementSizes}
-use Rattle.snmp_wire.specs.ber.WritingLaws.{writes_same, writes_then}
+use Rattle.snmp_wire.proofs.WritingLaws.{writes_same, writes_then}
 
 pub length-canon_fields : (message : Message) → length (canon_fields message)
     ≡ length (canon_value (integer_value message.id)) + length (canon_value (integer_value message.a)) + length (canon_value (integer_value message.b))

@@ -31,7 +31,7 @@ use Rattle.snmp_wire.specs.ber.Number.{number_of, AreOctets}
 use Rattle.snmp_wire.specs.ber.Value.{object_id}
 use Rattle.snmp_wire.specs.declared.ber.error.BerError.{BerError}
 use Rattle.snmp_wire.specs.ber.Reading.{identifier_of}
-use Rattle.snmp_wire.specs.ber.ReadingLaws.{is_ok_at, ok_is, ok_value}
+use Rattle.snmp_wire.proofs.ReadingLaws.{is_ok_at, ok_is, ok_value}
 use Rattle.snmp_wire.proofs.Digits.{AreDigits, Octets, back_octets, below_power, by_octets}
 use Rattle.snmp_wire.proofs.Digits.{front_octets, octets_by}
 use Rattle.snmp_wire.proofs.IdentifierWriting.{bits_below, is_object_id, length-low_bits, low_bits}

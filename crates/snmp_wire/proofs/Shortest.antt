@@ -17,7 +17,7 @@ use Rattle.snmp_wire.specs.ber.Canon.{canon_header, canon_value}
 use Rattle.snmp_wire.specs.ber.Length.{IsLength, IsElement, IsLongLength}
 use Rattle.snmp_wire.specs.ber.Number.{IsInteger, IsUnsigned, strict, twos_complement, unsigned}
 use Rattle.snmp_wire.specs.ber.Number.{number_of}
-use Rattle.snmp_wire.specs.ber.ElementLaws.{canon_length_short, length-canon_element}
+use Rattle.snmp_wire.proofs.ElementLaws.{canon_length_short, length-canon_element}
 use Rattle.snmp_wire.specs.ber.Value.{Datum, integer_value, octet_string, null_value, object_id}
 use Rattle.snmp_wire.specs.ber.Value.{ip_address, counter32, gauge32, time_ticks, opaque_octets}
 use Rattle.snmp_wire.specs.ber.Value.{counter64}

@@ -13,8 +13,8 @@ use Rattle.snmp_wire.specs.ber.Value.{ip_address, counter32, gauge32, time_ticks
 use Rattle.snmp_wire.specs.ber.Value.{counter64, no_such_object, no_such_instance, end_of_mib_view}
 use Rattle.snmp_wire.specs.ber.Spelling.{value_tag, IsContent}
 use Rattle.snmp_wire.specs.ber.Reading.{integer_of, has_width, unsigned_of, empty_of, typed_value}
-use Rattle.snmp_wire.specs.ber.ReadingLaws.{Gives, a_fault, a_value, done, gives_either, gives_so}
-use Rattle.snmp_wire.specs.ber.ReadingLaws.{gives_then}
+use Rattle.snmp_wire.proofs.ReadingLaws.{Gives, a_fault, a_value, done, gives_either, gives_so}
+use Rattle.snmp_wire.proofs.ReadingLaws.{gives_then}
 use Rattle.snmp_wire.proofs.IdentifierReading.{identifier_again, identifier_gives}
 
 -- ---- numbers

@@ -1,15 +1,11 @@
 pub mod Canon
-pub mod ElementLaws
 pub mod Identifier
 pub mod Length
-pub mod LengthLaws
 pub mod Number
 pub mod Owned
 pub mod Range
 pub mod Reading
-pub mod ReadingLaws
 pub mod Sizes
 pub mod Spelling
 pub mod Value
 pub mod Writing
-pub mod WritingLaws

@@ -2,7 +2,7 @@ use Rattle.std.proofs.lemmas.List.{at_drop_all}
 use Rattle.std.specs.List.{flat_map}
 use Rattle.std.proofs.Common.{ap, arith, drop, length, ◌≡◌}
 use Rattle.snmp_wire.proofs.BindingWriting.{binding_octets, bindings_are}
-use Rattle.snmp_wire.specs.ber.WritingLaws.{length-flat_map_drop}
+use Rattle.snmp_wire.proofs.WritingLaws.{length-flat_map_drop}
 use Rattle.snmp_wire.proofs.message.bindings_size.Goals as goal
 
 pub overflow_add-total : goal.overflow_add-total

@@ -3,7 +3,7 @@ use Rattle.std.proofs.lemmas.Int.{to_z-of_z}
 use mir.Syntax.{w32}
 use Rattle.snmp_wire.specs.ber.Canon.{canon_number}
 use Rattle.snmp_wire.specs.ber.Value.{integer_value}
-use Rattle.snmp_wire.specs.ber.ElementLaws.{content_number, sizes_value}
+use Rattle.snmp_wire.proofs.ElementLaws.{content_number, sizes_value}
 use Rattle.snmp_wire.proofs.message.integer_element_size.Goals as goal
 
 pub returns-clause-value : goal.returns-clause-value

@@ -1,6 +1,6 @@
 use Rattle.snmp_wire.proofs.BindingWriting.{binding_octets, bindings_are}
 use Rattle.std.proofs.Common.{length, List, ℕ, ◌≤◌, subst, sym}
-use Rattle.snmp_wire.specs.ber.WritingLaws.{piece_fits, writes_piece, writes_pieces, writes_same}
+use Rattle.snmp_wire.proofs.WritingLaws.{piece_fits, writes_piece, writes_pieces, writes_same}
 use Rattle.snmp_wire.proofs.message.put_bindings.Goals as goal
 
 pub put_binding-start-requires-clause-room : goal.put_binding-start-requires-clause-room

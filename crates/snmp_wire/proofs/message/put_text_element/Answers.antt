@@ -1,8 +1,8 @@
 use Rattle.std.proofs.Common.{List, length, refl, subst, sym, ℕ, ◌≤◌}
 use Rattle.snmp_wire.specs.ber.Value.{octet_string}
-use Rattle.snmp_wire.specs.ber.ElementLaws.{content_text, value_content_fits, value_header_fits}
-use Rattle.snmp_wire.specs.ber.ElementLaws.{writes_value}
-use Rattle.snmp_wire.specs.ber.WritingLaws.{writes_same}
+use Rattle.snmp_wire.proofs.ElementLaws.{content_text, value_content_fits, value_header_fits}
+use Rattle.snmp_wire.proofs.ElementLaws.{writes_value}
+use Rattle.snmp_wire.proofs.WritingLaws.{writes_same}
 use Rattle.snmp_wire.proofs.message.put_text_element.Goals as goal
 
 pub put_text-start-requires-clause-room : goal.put_text-start-requires-clause-room

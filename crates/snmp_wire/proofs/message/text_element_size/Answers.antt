@@ -1,6 +1,6 @@
 use Rattle.std.proofs.Common.{ap, length, sym}
 use Rattle.snmp_wire.specs.ber.Value.{octet_string}
-use Rattle.snmp_wire.specs.ber.ElementLaws.{content_text, sizes_value}
+use Rattle.snmp_wire.proofs.ElementLaws.{content_text, sizes_value}
 use Rattle.snmp_wire.proofs.message.text_element_size.Goals as goal
 
 pub returns-clause-value : goal.returns-clause-value

@@ -1,4 +1,4 @@
-use Rattle.snmp_wire.specs.ber.WritingLaws.{writes_then}
+use Rattle.snmp_wire.proofs.WritingLaws.{writes_then}
 use Rattle.snmp_wire.proofs.ber.identifier.put_eight.Goals as goal
 
 pub returns : goal.returns

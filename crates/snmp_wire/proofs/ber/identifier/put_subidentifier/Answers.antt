@@ -3,7 +3,7 @@ use Rattle.snmp_wire.proofs.IdentifierWriting.{length-canon_subidentifier, one_s
 use Rattle.snmp_wire.proofs.IdentifierWriting.{subidentifier_short, size_some}
 use Rattle.snmp_wire.proofs.IdentifierWriting.{subidentifier_three, subidentifier_two, two_septets}
 use Rattle.snmp_wire.proofs.IdentifierWriting.{writes_subidentifier}
-use Rattle.snmp_wire.specs.ber.WritingLaws.{writes_same, writes_then}
+use Rattle.snmp_wire.proofs.WritingLaws.{writes_same, writes_then}
 use Rattle.snmp_wire.proofs.ber.identifier.put_subidentifier.Goals as goal
 
 pub put_octet-last-requires-clause-room : goal.put_octet-last-requires-clause-room

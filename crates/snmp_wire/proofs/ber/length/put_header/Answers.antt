@@ -1,5 +1,5 @@
 use Rattle.std.proofs.Common.{arith}
-use Rattle.snmp_wire.specs.ber.ElementLaws.{length-canon_header}
+use Rattle.snmp_wire.proofs.ElementLaws.{length-canon_header}
 use Rattle.snmp_wire.proofs.ElementLemmas.{writes_tag}
 use Rattle.snmp_wire.proofs.ber.length.put_header.Goals as goal
 

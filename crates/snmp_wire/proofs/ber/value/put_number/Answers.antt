@@ -4,9 +4,9 @@ use Rattle.snmp_wire.proofs.CanonLemmas.{length-from_zero, fifth_octet_fits, fou
 use Rattle.snmp_wire.proofs.CanonLemmas.{size_five, size_four, writes_five_octets}
 use Rattle.snmp_wire.proofs.CanonLemmas.{writes_four_octets}
 use Rattle.snmp_wire.proofs.Digits.{length-digits}
-use Rattle.snmp_wire.specs.ber.ElementLaws.{content_fits, header_fits, writes_element}
+use Rattle.snmp_wire.proofs.ElementLaws.{content_fits, header_fits, writes_element}
 use Rattle.snmp_wire.proofs.ElementLemmas.{number_short, sized_header_fits, writes_sized}
-use Rattle.snmp_wire.specs.ber.WritingLaws.{writes_same}
+use Rattle.snmp_wire.proofs.WritingLaws.{writes_same}
 use Rattle.snmp_wire.proofs.ber.value.put_number.Goals as goal
 
 pub put_unsigned-start-requires-clause-room : goal.put_unsigned-start-requires-clause-room

@@ -1,4 +1,4 @@
-use Rattle.snmp_wire.specs.ber.ElementLaws.{content_fits, header_fits, writes_element}
+use Rattle.snmp_wire.proofs.ElementLaws.{content_fits, header_fits, writes_element}
 use Rattle.snmp_wire.proofs.ber.value.put_string.Goals as goal
 
 pub put_text-start-requires-clause-room : goal.put_text-start-requires-clause-room

@@ -1,6 +1,6 @@
 use Rattle.std.proofs.Common.{sym, ◌∙◌}
 use Rattle.snmp_wire.specs.Reading.{fields}
-use Rattle.snmp_wire.specs.ber.ReadingLaws.{some_left, none_left}
+use Rattle.snmp_wire.proofs.ReadingLaws.{some_left, none_left}
 use Rattle.snmp_wire.proofs.MessageLaws.{BeginsWithBinding, bindings_in_end, stands, with_fields}
 use Rattle.snmp_wire.proofs.binding.Bindings.next_ref.Goals as goal
 use Rattle.snmp_wire.proofs.binding.Bindings.next_ref.Goals.{After-fields_in}

@@ -1,6 +1,6 @@
 use Rattle.std.proofs.Common.{refl, sym, ◌∙◌}
 use Rattle.snmp_wire.specs.Reading.{fields}
-use Rattle.snmp_wire.specs.ber.ReadingLaws.{some_left, none_left}
+use Rattle.snmp_wire.proofs.ReadingLaws.{some_left, none_left}
 use Rattle.snmp_wire.proofs.MessageLaws.{stands, bindings_in_end}
 use Rattle.snmp_wire.proofs.binding.Bindings.read_next.Goals as goal
 

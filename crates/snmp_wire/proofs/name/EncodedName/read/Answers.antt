@@ -1,5 +1,5 @@
 use Rattle.std.proofs.Common.{refl, true≢false, sym}
-use Rattle.snmp_wire.specs.ber.ReadingLaws.{err_checked, never_err, is_ok_at}
+use Rattle.snmp_wire.proofs.ReadingLaws.{err_checked, never_err, is_ok_at}
 use Rattle.snmp_wire.specs.ber.Reading.{identifier_of}
 use Rattle.snmp_wire.proofs.IdentifierReading.{identifier_again, identifier_takes}
 use Rattle.snmp_wire.proofs.name.EncodedName.read.Goals as goal

@@ -1,7 +1,7 @@
 use Rattle.std.proofs.Common.{◌≡◌, ◌-◌, length, take, drop, Ok, sym, ap, ◌∙◌}
 use Rattle.snmp_wire.specs.ber.Canon.{canon_content}
 use Rattle.snmp_wire.specs.ber.Reading.{identifier_of}
-use Rattle.snmp_wire.specs.ber.ReadingLaws.{is_ok_at, ok_is}
+use Rattle.snmp_wire.proofs.ReadingLaws.{is_ok_at, ok_is}
 use Rattle.snmp_wire.specs.ber.Value.{object_id}
 use Rattle.snmp_wire.proofs.IdentifierReading.{identifier_again}
 use Rattle.snmp_wire.proofs.NameOrder.{content_short}

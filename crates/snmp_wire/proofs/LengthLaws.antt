@@ -14,8 +14,8 @@ use Rattle.snmp_wire.specs.ber.Number.{unsigned}
 use Rattle.snmp_wire.specs.ber.Length.{IsLength, IsElement}
 use Rattle.snmp_wire.specs.ber.Reading.{long_length_at, length_at, content_at, inner_at}
 use Rattle.snmp_wire.specs.ber.Reading.{element_at}
-use Rattle.snmp_wire.specs.ber.ReadingLaws.{Gives, a_fault, a_value, gives_either, gives_so}
-use Rattle.snmp_wire.specs.ber.ReadingLaws.{gives_then}
+use Rattle.snmp_wire.proofs.ReadingLaws.{Gives, a_fault, a_value, gives_either, gives_so}
+use Rattle.snmp_wire.proofs.ReadingLaws.{gives_then}
 
 -- ---- octets that end early
 

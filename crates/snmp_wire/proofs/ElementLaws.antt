@@ -8,7 +8,7 @@ use Rattle.snmp_wire.specs.ber.Canon.{canon_number, canon_value}
 use Rattle.snmp_wire.specs.ber.Value.{Datum, integer_value, octet_string}
 use Rattle.snmp_wire.specs.ber.Spelling.{value_tag}
 use Rattle.snmp_wire.specs.ber.Writing.{Writes}
-use Rattle.snmp_wire.specs.ber.WritingLaws.{writes_same, writes_then}
+use Rattle.snmp_wire.proofs.WritingLaws.{writes_same, writes_then}
 
 -- ---- headers
 
