@@ -6,8 +6,7 @@ use Rattle.std.proofs.lemmas.List.{length-replicate, get_or-replicate}
 use Rattle.std.proofs.lemmas.List.Elements.{Contains-push_cases}
 use Rattle.std.proofs.lemmas.Bool.{cases_lt, cases_eq}
 use borrow.Author.Tests.{leb-true, leb-false}
-use Rattle.smi_names.specs.chains.Chain.{Origin, numbers, after, nowhere, next_of, HasEnd, ends}
-use Rattle.smi_names.specs.chains.Chain.{leads_on, HasIdentifier, by_itself, after_another}
+use Rattle.smi_names.specs.chains.Chain.{Origin, numbers, after, nowhere, next_of, HasEnd, ends, leads_on, HasIdentifier, by_itself, after_another}
 use Rattle.smi_names.specs.chains.Chain.{here, further}
 use Rattle.smi_names.specs.chains.Link.{origin_of, origin_at}
 use Rattle.smi_names.specs.chains.Resolution.{ComesTo, EachComesTo}

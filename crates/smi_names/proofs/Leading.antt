@@ -11,8 +11,7 @@ use Rattle.smi_text.specs.declared.trees.tree.Def.{Def}
 use Rattle.smi_text.specs.declared.trees.tree.Import.{Import}
 use Rattle.smi_names.specs.chains.Chain.{HasEnd, ends, leads_on}
 use Rattle.smi_names.specs.chains.Order.{next_at, at_place}
-use Rattle.smi_names.specs.meaning.Meaning.{QualifiedName, Decision, defined, imported, root}
-use Rattle.smi_names.specs.meaning.Meaning.{decision, module_named}
+use Rattle.smi_names.specs.meaning.Meaning.{QualifiedName, Decision, defined, imported, root, decision, module_named}
 use Rattle.smi_names.specs.meaning.Scopes.{Content, decided_as}
 use Rattle.smi_names.specs.meaning.Known.{KnownNames, content_named, IsNextOf}
 use Rattle.smi_names.specs.meaning.Along.{next_by, decided, next_name, IsOwn, Comes, unknown, of_root, through, at_end, after, IsNext, MeansAt, AreMeant}

@@ -4,8 +4,7 @@ use Rattle.std.proofs.Common.{length, take, drop, get_or, Option, Some, None, re
 use Rattle.std.proofs.lemmas.List.{drop_more, append-nil, drop-drop}
 use Rattle.std.proofs.lemmas.Bool.{ne_eqb, or_from}
 use Rattle.snmp_io.specs.Quotes.{is_quote, open_after}
-use Rattle.smi_show.specs.name.Cutting.{with_prefix, parts_after, name_parts}
-use Rattle.smi_show.specs.name.Cutting.{module_after}
+use Rattle.smi_show.specs.name.Cutting.{with_prefix, parts_after, name_parts, module_after}
 use Rattle.smi_show.proofs.Readers.{at_colons, at_dot, before_module, module_reader, no_colon, one_more, parts_reader, some_part}
 
 abbrev pub AreCutAt : List ℕ → ℕ → Option ℕ → Type 0

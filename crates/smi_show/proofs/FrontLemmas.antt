@@ -1,13 +1,11 @@
 -- Digits up to a dot, or to the end, are one part of a name: a number.
-use Rattle.std.proofs.Common.{◌≡◌, ℕ, List, [], ◌∷◌, ◌++◌, MatchOption, Option, Some, None}
-use Rattle.std.proofs.Common.{Result, sym, ◌∙◌, ap}
+use Rattle.std.proofs.Common.{◌≡◌, ℕ, List, [], ◌∷◌, ◌++◌, MatchOption, Option, Some, None, Result, sym, ◌∙◌, ap}
 use Rattle.std.proofs.lemmas.List.{append-nil}
 use Rattle.snmp_oid.specs.Numeric.{IsNumeral, IsPartRead, dot}
 use Rattle.smi_show.specs.declared.name.error.NameError.{NameError}
 use Rattle.smi_show.specs.name.Cutting.{name_parts}
 use Rattle.smi_show.specs.name.Left.{parts_left}
-use Rattle.smi_show.specs.name.Meaning.{and_then, fitting, further_meaning, parts_meaning}
-use Rattle.smi_show.specs.name.Meaning.{word_meaning}
+use Rattle.smi_show.specs.name.Meaning.{and_then, fitting, further_meaning, parts_meaning, word_meaning}
 use Rattle.smi_show.specs.name.Naming.{Naming}
 use Rattle.smi_show.specs.name.Word.{Word}
 use Rattle.smi_show.proofs.PlainLemmas.{plain_digits}

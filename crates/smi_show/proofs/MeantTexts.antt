@@ -1,25 +1,19 @@
 -- What parts mean from the left, and what a text means.
-use Rattle.std.proofs.Common.{◌≡◌, ◌≢◌, ℕ, Bool, true, false, eqb, leb, cond, List, [], ◌∷◌, ◌++◌}
-use Rattle.std.proofs.Common.{length, Option, Some, None, Result, Ok, Err, refl, sym, ◌∙◌, ap, subst, inl}
-use Rattle.std.proofs.Common.{inr}
+use Rattle.std.proofs.Common.{◌≡◌, ◌≢◌, ℕ, Bool, true, false, eqb, leb, cond, List, [], ◌∷◌, ◌++◌, length, Option, Some, None, Result, Ok, Err, refl}
+use Rattle.std.proofs.Common.{sym, ◌∙◌, ap, subst, inl, inr}
 use Rattle.std.proofs.lemmas.Bool.{cond_both, eqb-true, eqb-false, leb-true, leb-false, le-leb, lt-leb, ne_eqb}
 use Rattle.smi_show.specs.index.Pieces.{piece_numbers}
 use Rattle.smi_show.specs.name.Cutting.{module_after, name_parts}
-use Rattle.smi_show.specs.name.Meaning.{and_then, meaning_in, fitting, meaning, or_unknown}
-use Rattle.smi_show.specs.name.Meaning.{part_meaning, parts_meaning, scope_meaning, scoped_meaning}
-use Rattle.smi_show.specs.name.Meaning.{word_meaning}
-use Rattle.smi_show.specs.name.Meant.{Scope, among_roots, anywhere, in_module, found_in, IsFound}
-use Rattle.smi_show.specs.name.Meant.{IsRoomFor, IsScoped, TextMeans, PartMeans, PartsMean}
-use Rattle.smi_show.specs.name.Meant.{ScopeMeans, is_loaded_in}
+use Rattle.smi_show.specs.name.Meaning.{and_then, meaning_in, fitting, meaning, or_unknown, part_meaning, parts_meaning, scope_meaning}
+use Rattle.smi_show.specs.name.Meaning.{scoped_meaning, word_meaning}
+use Rattle.smi_show.specs.name.Meant.{Scope, among_roots, anywhere, in_module, found_in, IsFound, IsRoomFor, IsScoped, TextMeans, PartMeans}
+use Rattle.smi_show.specs.name.Meant.{PartsMean, ScopeMeans, is_loaded_in}
 use Rattle.smi_show.specs.name.Naming.{Naming}
 use Rattle.smi_show.specs.name.Word.{Word, a_piece, a_label, word_of}
 use Rattle.smi_show.specs.declared.name.error.NameError.{NameError}
-use Rattle.smi_show.specs.declared.name.error.NameError.TheVariants.{BadIndex, BadNumber, TooLong}
-use Rattle.smi_show.specs.declared.name.error.NameError.TheVariants.{Unknown}
-use Rattle.smi_show.proofs.Parted.{are_parts, has_module, has_no_module, no_module, one_module}
-use Rattle.smi_show.proofs.Parted.{only_parts}
-use Rattle.smi_show.proofs.MeantWords.{WordIs, index_fails, label_word, number_fails, states_word}
-use Rattle.smi_show.proofs.MeantWords.{word_is}
+use Rattle.smi_show.specs.declared.name.error.NameError.TheVariants.{BadIndex, BadNumber, TooLong, Unknown}
+use Rattle.smi_show.proofs.Parted.{are_parts, has_module, has_no_module, no_module, one_module, only_parts}
+use Rattle.smi_show.proofs.MeantWords.{WordIs, index_fails, label_word, number_fails, states_word, word_is}
 use Rattle.smi_show.proofs.NumericMeaning.{scoped}
 
 abbrev Outcome : Type 0

@@ -1,8 +1,6 @@
 -- What a part of a name states on its own.
-use Rattle.std.proofs.Common.{◌≡◌, ◌≢◌, ℕ, ◌+◌, ◌-◌, ◌<◌, ◌^◌, Bool, true, false, ◌&&◌}
-use Rattle.std.proofs.Common.{eqb, ltb, cond, List, [], ◌∷◌, ◌++◌, length, take, get_or}
-use Rattle.std.proofs.Common.{Option, Some, None, Result, Ok, Err, refl, sym, ◌∙◌, ap, subst, inl}
-use Rattle.std.proofs.Common.{inr, arith}
+use Rattle.std.proofs.Common.{◌≡◌, ◌≢◌, ℕ, ◌+◌, ◌-◌, ◌<◌, ◌^◌, Bool, true, false, ◌&&◌, eqb, ltb, cond, List, [], ◌∷◌, ◌++◌, length, take, get_or}
+use Rattle.std.proofs.Common.{Option, Some, None, Result, Ok, Err, refl, sym, ◌∙◌, ap, subst, inl, inr, arith}
 use Rattle.std.specs.List.{list_all}
 use Rattle.std.specs.Char.{is_ascii_digit}
 use Rattle.std.specs.Str.{all_ascii_digits}
@@ -12,11 +10,9 @@ use Rattle.std.proofs.Math.Seq.{take-length}
 use Rattle.snmp_oid.specs.Numeric.{IsNumeral, decimal_value}
 use Rattle.smi_show.specs.index.Pieces.{Piece, plain_number, counted_text, plain_text, is_quotable}
 use Rattle.smi_show.specs.name.Meant.{IsBadIndex, IsBadNumber, IsLabel, StatesPiece}
-use Rattle.smi_show.specs.name.Word.{Word, a_piece, a_label, numeral_of, quoted_in, number_word}
-use Rattle.smi_show.specs.name.Word.{counted_word, plain_word, word_of}
+use Rattle.smi_show.specs.name.Word.{Word, a_piece, a_label, numeral_of, quoted_in, number_word, counted_word, plain_word, word_of}
 use Rattle.smi_show.specs.declared.name.error.NameError.{NameError}
-use Rattle.smi_show.specs.declared.name.error.NameError.TheVariants.{BadIndex, BadNumber, TooLong}
-use Rattle.smi_show.specs.declared.name.error.NameError.TheVariants.{Unknown}
+use Rattle.smi_show.specs.declared.name.error.NameError.TheVariants.{BadIndex, BadNumber, TooLong, Unknown}
 use Rattle.smi_show.proofs.NumeralLemmas.{no_numeral, numeral_is}
 use Rattle.smi_show.proofs.ReadingLemmas.{chosen}
 use Rattle.smi_show.proofs.WordLemmas.{digit_first, digits_word, quoted_back, some_text}

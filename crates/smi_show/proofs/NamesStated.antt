@@ -1,6 +1,5 @@
 -- The name that is computed is the one that the relation states, and there is no other.
-use Rattle.std.proofs.Common.{◌≡◌, ℕ, Bool, cond, List, ◌++◌, drop, Option, Some, None, refl, sym}
-use Rattle.std.proofs.Common.{◌∙◌, ap}
+use Rattle.std.proofs.Common.{◌≡◌, ℕ, Bool, cond, List, ◌++◌, drop, Option, Some, None, refl, sym, ◌∙◌, ap}
 use Rattle.smi_value.specs.declared.letters.letters.NameForm.{NameForm}
 use Rattle.smi_value.specs.declared.letters.letters.NameForm.TheVariants.{Numeric}
 use Rattle.smi_show.specs.index.Pieces.{shown_pieces}

@@ -1,7 +1,6 @@
 -- Decimal digits as a part of a name, written and read as a number.
-use Rattle.std.proofs.Common.{◌≡◌, ◌≢◌, ℕ, ◌<◌, ◌^◌, Bool, true, false, ◌&&◌, cond, ltb, List, []}
-use Rattle.std.proofs.Common.{IfSome, IfNone, Option, Some, None, refl, sym, ap, subst}
-use Rattle.std.proofs.Common.{arith, decimal, length}
+use Rattle.std.proofs.Common.{◌≡◌, ◌≢◌, ℕ, ◌<◌, ◌^◌, Bool, true, false, ◌&&◌, cond, ltb, List, [], IfSome, IfNone, Option, Some, None, refl, sym, ap}
+use Rattle.std.proofs.Common.{subst, arith, decimal, length}
 use Rattle.std.specs.Str.{all_ascii_digits}
 use Rattle.std.proofs.lemmas.Bool.{ltb-true, lt-ltb}
 use Rattle.std.proofs.lemmas.Fmt.{decimal_nonempty, digits_decimal, digits_value-decimal}

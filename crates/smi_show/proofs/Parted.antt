@@ -6,8 +6,7 @@ use Rattle.std.proofs.lemmas.List.{drop_at, take_at}
 use Rattle.snmp_io.specs.Quotes.{open_after}
 use Rattle.snmp_io.specs.QuoteLaws.{cut_once, is_closed, none_open, none_outside, quote_after}
 use Rattle.smi_show.specs.name.Cut.{AreParts, HasNoModule, IsModuleCut}
-use Rattle.smi_show.specs.name.Cutting.{is_double_colon, module_after}
-use Rattle.smi_show.specs.name.Cutting.{name_parts, parts_after, with_prefix}
+use Rattle.smi_show.specs.name.Cutting.{is_double_colon, module_after, name_parts, parts_after, with_prefix}
 use Rattle.smi_show.proofs.Readers.{at_colons, at_dot, before_module}
 
 -- wherever these octets stand in the text outside quotes, after this quote, this holds of what stands before them

@@ -1,13 +1,10 @@
 -- The pieces that show numbers: what one more value adds, and that the pieces stand for the numbers shown.
-use Rattle.std.proofs.Common.{◌≡◌, ◌≢◌, ℕ, ◌+◌, ◌<◌, ◌^◌, Bool, true, false, not, cond}
-use Rattle.std.proofs.Common.{nat_eq, List, [], ◌∷◌, ◌++◌, length, drop, get_or, Option, Some}
-use Rattle.std.proofs.Common.{None}
-use Rattle.std.proofs.Common.{option_map, unwrap_or, All, inl, inr, refl, sym, ◌∙◌, ap, subst}
+use Rattle.std.proofs.Common.{◌≡◌, ◌≢◌, ℕ, ◌+◌, ◌<◌, ◌^◌, Bool, true, false, not, cond, nat_eq, List, [], ◌∷◌, ◌++◌, length, drop, get_or, Option}
+use Rattle.std.proofs.Common.{Some, None, option_map, unwrap_or, All, inl, inr, refl, sym, ◌∙◌, ap, subst}
 use Rattle.std.specs.List.{list_all, flat_map}
 use Rattle.std.proofs.lemmas.Grind.{flat_map-append}
 use Rattle.std.proofs.lemmas.List.{at_drop_more, append-nil}
-use Rattle.std.proofs.lemmas.List.Elements.{All-nil, All-cons, All-append, All-map}
-use Rattle.std.proofs.lemmas.List.Elements.{All-take, All-drop}
+use Rattle.std.proofs.lemmas.List.Elements.{All-nil, All-cons, All-append, All-map, All-take, All-drop}
 use Rattle.std.proofs.lemmas.Bool.{and_parts}
 use Rattle.std.proofs.Math.Seq.{take-append_seam, drop-append_seam}
 use Rattle.smi_show.specs.declared.index.part.Extent.{Extent}
@@ -16,12 +13,8 @@ use Rattle.smi_show.specs.declared.index.part.IndexPart.{IndexPart}
 use Rattle.smi_show.specs.declared.index.part.IndexPart.TheVariants.{Number, Text}
 use Rattle.smi_show.specs.index.Index.{IsInExtent, ReadsValue, ReadValues, extent_of}
 use Rattle.smi_show.specs.index.Reading.{front_of, values_of, instance_pieces}
-use Rattle.smi_show.specs.index.Pieces.{Piece, plain_number, is_quotable, is_shown_text}
-use Rattle.smi_show.specs.index.Pieces.{piece_numbers, IsPiece, is_text}
-use Rattle.smi_show.specs.index.Pieces.{dotted_text, shown_pieces, as_numbers, as_text}
-use Rattle.smi_show.specs.index.Pieces.{extent_numbers}
-use Rattle.smi_show.specs.index.Pieces.{value_numbers, value_pieces, index_pieces}
-use Rattle.smi_show.specs.index.Pieces.{AreInstancePieces}
+use Rattle.smi_show.specs.index.Pieces.{Piece, plain_number, is_quotable, is_shown_text, piece_numbers, IsPiece, is_text, dotted_text, shown_pieces}
+use Rattle.smi_show.specs.index.Pieces.{as_numbers, as_text, extent_numbers, value_numbers, value_pieces, index_pieces, AreInstancePieces}
 use Rattle.smi_show.proofs.ReadingLemmas.{all_found, all_only, first_value}
 
 -- the first of the values that are left

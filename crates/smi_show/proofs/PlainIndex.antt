@@ -1,14 +1,12 @@
 -- An index without strings, or of which none is shown as a text, is shown as its numbers.
-use Rattle.std.proofs.Common.{◌≡◌, ℕ, true, false, ◌++◌, List, [], ◌∷◌, Option, Some, None}
-use Rattle.std.proofs.Common.{option_map, unwrap_or, refl, ap, ◌∙◌}
+use Rattle.std.proofs.Common.{◌≡◌, ℕ, true, false, ◌++◌, List, [], ◌∷◌, Option, Some, None, option_map, unwrap_or, refl, ap, ◌∙◌}
 use Rattle.std.specs.List.{list_all}
 use Rattle.std.proofs.lemmas.Bool.{and_parts, or_from, or_parts}
 use Rattle.std.proofs.lemmas.List.{map-append}
 use Rattle.smi_show.specs.declared.index.part.IndexPart.{IndexPart}
 use Rattle.smi_show.specs.declared.index.part.IndexPart.TheVariants.{Text}
 use Rattle.smi_show.specs.index.Index.{ReadValues}
-use Rattle.smi_show.specs.index.Pieces.{Piece, plain_number, as_numbers, index_pieces}
-use Rattle.smi_show.specs.index.Pieces.{is_plain, is_text, is_text_among, value_numbers}
+use Rattle.smi_show.specs.index.Pieces.{Piece, plain_number, as_numbers, index_pieces, is_plain, is_text, is_text_among, value_numbers}
 use Rattle.smi_show.specs.index.Reading.{has_text, instance_pieces, values_of}
 use Rattle.smi_show.proofs.ReadingLemmas.{all_found}
 use Rattle.smi_show.proofs.PieceLemmas.{read_whole}

@@ -1,7 +1,6 @@
 -- What a name shows by module and label, or in numbers, means the identifier again.
-use Rattle.std.proofs.Common.{◌≡◌, ◌≢◌, ℕ, ◌≤◌, Bool, true, false, eqb, cond, List, [], ◌∷◌, ◌++◌}
-use Rattle.std.proofs.Common.{length, map, take, drop, All, inl, inr, Option, Some, None, Result, Ok}
-use Rattle.std.proofs.Common.{refl, sym, ◌∙◌, ap, subst, append_assoc}
+use Rattle.std.proofs.Common.{◌≡◌, ◌≢◌, ℕ, ◌≤◌, Bool, true, false, eqb, cond, List, [], ◌∷◌, ◌++◌, length, map, take, drop, All, inl, inr, Option}
+use Rattle.std.proofs.Common.{Some, None, Result, Ok, refl, sym, ◌∙◌, ap, subst, append_assoc}
 use Rattle.std.specs.List.{flat_map}
 use Rattle.std.proofs.lemmas.List.{append-nil, take-append-drop}
 use Rattle.std.proofs.lemmas.List.Elements.{All-head, All-tail, All-drop}
@@ -17,8 +16,7 @@ use Rattle.smi_show.specs.name.Cutting.{name_parts, module_after}
 use Rattle.smi_show.specs.name.Naming.{Naming, Standing, IsSound, LabelLeadsTo}
 use Rattle.smi_show.specs.name.Word.{Word}
 use Rattle.smi_show.specs.name.Meant.{Scope, in_module, anywhere, found_in}
-use Rattle.smi_show.specs.name.Meaning.{and_then, meaning_in, further_meaning, meaning}
-use Rattle.smi_show.specs.name.Meaning.{part_meaning, plain_meaning, scoped_meaning, word_meaning}
+use Rattle.smi_show.specs.name.Meaning.{and_then, meaning_in, further_meaning, meaning, part_meaning, plain_meaning, scoped_meaning, word_meaning}
 use Rattle.smi_show.specs.name.Name.{qualified, ReadsBack}
 use Rattle.smi_show.specs.name.Shown.{standing_text, name_text}
 use Rattle.smi_show.proofs.NumericMeaning.{fits, numeric_meaning, scoped, shorter}

@@ -1,7 +1,6 @@
 -- What is computed at the front of the numbers is an encoding of a part, and each encoding is computed.
-use Rattle.std.proofs.Common.{◌≡◌, ◌≢◌, ℕ, Bool, true, false, cond, leb, List, [], ◌∷◌, ◌++◌}
-use Rattle.std.proofs.Common.{length, take, drop, Option, Some, None, option_map, option_and_then}
-use Rattle.std.proofs.Common.{is_some, refl, sym, ◌∙◌, ◌↔◌, IsTrue, ap, subst, arith, length-append}
+use Rattle.std.proofs.Common.{◌≡◌, ◌≢◌, ℕ, Bool, true, false, cond, leb, List, [], ◌∷◌, ◌++◌, length, take, drop, Option, Some, None, option_map}
+use Rattle.std.proofs.Common.{option_and_then, is_some, refl, sym, ◌∙◌, ◌↔◌, IsTrue, ap, subst, arith, length-append}
 use Rattle.std.specs.Bool.{OnTrue}
 use Rattle.std.specs.List.{list_all}
 use Rattle.std.proofs.lemmas.Bool.{leb-true, le-leb, false_from_ne_true, false≢true}
@@ -10,11 +9,8 @@ use Rattle.std.proofs.Math.Seq.{take-append_seam, drop-append_seam}
 use Rattle.smi_show.specs.declared.index.part.Extent.{Extent}
 use Rattle.smi_show.specs.declared.index.part.Extent.TheVariants.{Fixed, Counted, Implied}
 use Rattle.smi_show.specs.declared.index.part.IndexPart.{IndexPart}
-use Rattle.smi_show.specs.index.Index.{is_octet, AreOctetNumbers, IsInExtent, LeavesIn}
-use Rattle.smi_show.specs.index.Index.{extent_of, is_of_octets, ReadsValue, ReadValues}
-use Rattle.smi_show.specs.index.Reading.{front_and_rest, counted, remaining, of_octets, in_extent}
-use Rattle.smi_show.specs.index.Reading.{front_of}
-use Rattle.smi_show.specs.index.Reading.{values_of}
+use Rattle.smi_show.specs.index.Index.{is_octet, AreOctetNumbers, IsInExtent, LeavesIn, extent_of, is_of_octets, ReadsValue, ReadValues}
+use Rattle.smi_show.specs.index.Reading.{front_and_rest, counted, remaining, of_octets, in_extent, front_of, values_of}
 
 abbrev Pair : Type 0
 Pair = List ℕ × List ℕ

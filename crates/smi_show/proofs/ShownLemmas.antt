@@ -1,13 +1,11 @@
 -- Shown words are cut where they were joined, and nowhere else.
-use Rattle.std.proofs.Common.{◌≡◌, ℕ, true, false, eqb, List, [], ◌∷◌, ◌++◌, map, All, decimal}
-use Rattle.std.proofs.Common.{Option, Some, None, refl, ◌∙◌, ap}
+use Rattle.std.proofs.Common.{◌≡◌, ℕ, true, false, eqb, List, [], ◌∷◌, ◌++◌, map, All, decimal, Option, Some, None, refl, ◌∙◌, ap}
 use Rattle.std.specs.List.{list_all}
 use Rattle.std.proofs.lemmas.Bool.{and_parts, eq-eqb}
 use Rattle.std.proofs.lemmas.List.{append-nil}
 use Rattle.std.proofs.lemmas.List.Elements.{All-head, All-tail}
 use Rattle.snmp_io.specs.QuoteLaws.{quote_after}
-use Rattle.smi_show.specs.index.Pieces.{Piece, plain_number, counted_text, plain_text, is_quotable}
-use Rattle.smi_show.specs.index.Pieces.{IsPiece, shown_piece, shown_pieces}
+use Rattle.smi_show.specs.index.Pieces.{Piece, plain_number, counted_text, plain_text, is_quotable, IsPiece, shown_piece, shown_pieces}
 use Rattle.smi_show.specs.name.Cutting.{with_prefix, parts_after, name_parts, module_after}
 use Rattle.smi_show.proofs.NumeralLemmas.{written_numeral}
 use Rattle.smi_show.proofs.PlainLemmas.{ArePlain, apart, plain_digits}

@@ -1,13 +1,11 @@
 -- The text of a type is that of the tokens of its spelling, joined by blanks.
-use Rattle.std.proofs.Common.{◌≡◌, ℕ, List, [], ◌∷◌, ◌++◌, codes, Option, Some, None, refl, sym}
-use Rattle.std.proofs.Common.{◌∙◌, ap, append_assoc, append-nil}
+use Rattle.std.proofs.Common.{◌≡◌, ℕ, List, [], ◌∷◌, ◌++◌, codes, Option, Some, None, refl, sym, ◌∙◌, ap, append_assoc, append-nil}
 use Rattle.std.specs.List.{flat_map}
 use Rattle.std.proofs.lemmas.Grind.{flat_map-append}
 use Rattle.smi_text.specs.lexer.Token.{Lexeme}
 use Rattle.smi_text.specs.declared.lexer.token.TokenKind.TheVariants as K
 use Rattle.smi_text.specs.trees.Mark.{Mark, spelled, on_line, sign, MarksToken, Stands}
-use Rattle.smi_text.specs.trees.Spelling.{bound, of_list, of_named_number, of_range, of_ranges}
-use Rattle.smi_text.specs.trees.Spelling.{of_refinement, of_option, of_base, of_syntax}
+use Rattle.smi_text.specs.trees.Spelling.{bound, of_list, of_named_number, of_range, of_ranges, of_refinement, of_option, of_base, of_syntax}
 use Rattle.smi_text.specs.declared.trees.tree.NamedNumber.{NamedNumber}
 use Rattle.smi_text.specs.declared.trees.tree.Range.{Range}
 use Rattle.smi_text.specs.declared.trees.tree.TokenText.{TokenText}
@@ -17,9 +15,8 @@ use Rattle.smi_text.specs.declared.trees.tree.Base.{Base}
 use Rattle.smi_text.specs.declared.trees.tree.Base.TheVariants as B
 use Rattle.smi_text.specs.declared.trees.tree.Syntax.{Syntax}
 use Rattle.smi_text.specs.declared.trees.tree.Syntax.TheVariants as T
-use Rattle.smi_show.specs.details.Syntax.{named_number_text, more_numbers, numbers_text, high_text}
-use Rattle.smi_show.specs.details.Syntax.{range_text, more_ranges, ranges_text, refinement_text}
-use Rattle.smi_show.specs.details.Syntax.{refined_text, base_text, syntax_text}
+use Rattle.smi_show.specs.details.Syntax.{named_number_text, more_numbers, numbers_text, high_text, range_text, more_ranges, ranges_text}
+use Rattle.smi_show.specs.details.Syntax.{refinement_text, refined_text, base_text, syntax_text}
 use Rattle.smi_show.specs.details.Tokens.{AreTokensOf, joined_by_blanks}
 
 -- the text that a mark asks of its token

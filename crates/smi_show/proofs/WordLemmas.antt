@@ -35,10 +35,8 @@ use Rattle.std.proofs.lemmas.Bool.{and_parts, eq-eqb, lt-ltb}
 use Rattle.std.proofs.Math.Seq.{take-append_seam, get_or-append_seam}
 use Rattle.snmp_oid.specs.Numeric.{IsNumeral}
 use Rattle.smi_text.specs.trees.Word.{is_word}
-use Rattle.smi_show.specs.index.Pieces.{Piece, plain_number, counted_text, plain_text, is_quotable}
-use Rattle.smi_show.specs.index.Pieces.{IsPiece, shown_piece}
-use Rattle.smi_show.specs.name.Word.{a_piece, a_label, numeral_of, quoted_in, number_word}
-use Rattle.smi_show.specs.name.Word.{counted_word, plain_word, word_of}
+use Rattle.smi_show.specs.index.Pieces.{Piece, plain_number, counted_text, plain_text, is_quotable, IsPiece, shown_piece}
+use Rattle.smi_show.specs.name.Word.{a_piece, a_label, numeral_of, quoted_in, number_word, counted_word, plain_word, word_of}
 use Rattle.smi_show.proofs.NumeralLemmas.{numeral_is, written_numeral}
 use Rattle.smi_show.proofs.PlainLemmas.{plain_word_begins}
 

@@ -1,7 +1,6 @@
 -- The tree of no modules: what is found among the three roots.
-use Rattle.std.proofs.Common.{◌≡◌, ◌≢◌, ℕ, zero, suc, ◌<◌, ◌≤◌, Bool, false, cond}
-use Rattle.std.proofs.Common.{List, [], ◌∷◌, ◌++◌, length, take, get_or, slice_index_or}
-use Rattle.std.proofs.Common.{Option, Some, None, MatchOption, IfSome, refl, sym, ap, ◌∙◌, arith, nat_eq}
+use Rattle.std.proofs.Common.{◌≡◌, ◌≢◌, ℕ, zero, suc, ◌<◌, ◌≤◌, Bool, false, cond, List, [], ◌∷◌, ◌++◌, length, take, get_or, slice_index_or, Option}
+use Rattle.std.proofs.Common.{Some, None, MatchOption, IfSome, refl, sym, ap, ◌∙◌, arith, nat_eq}
 use Rattle.snmp_oid.specs.Identifier.{IsBelow}
 use Rattle.std.proofs.lemmas.Bool.{ne_eqb}
 use Rattle.std.proofs.Math.Bool.{and-false}
@@ -15,13 +14,11 @@ use Rattle.smi_names.specs.nodes.Nodes.{Node, roots, none_yet}
 use Rattle.smi_tree.specs.types.Types.{Facts}
 use Rattle.smi_show.specs.declared.index.part.IndexPart.{IndexPart}
 use Rattle.smi_tree.specs.columns.Index.{IsIndex, IsObjectType}
-use Rattle.smi_tree.specs.Nodes.{oids_of, place_anywhere, child_of, if_labelled, nothing}
-use Rattle.smi_tree.specs.Nodes.{of_lowest}
+use Rattle.smi_tree.specs.Nodes.{oids_of, place_anywhere, child_of, if_labelled, nothing, of_lowest}
 use Rattle.smi_tree.specs.Standing.{Longest, longest}
 use Rattle.smi_tree.specs.Shown.{IsSyntaxOf, shown_at}
 use Rattle.smi_tree.specs.Tree.{IsTree}
-use Rattle.smi_tree.specs.Naming.{home_name, standing_of_longest, oid_of, naming_of}
-use Rattle.smi_tree.specs.Naming.{nearest_definition, nearest_syntax}
+use Rattle.smi_tree.specs.Naming.{home_name, standing_of_longest, oid_of, naming_of, nearest_definition, nearest_syntax}
 use Rattle.smi_tree.specs.Bare.{bare, IsRootOf}
 use Rattle.smi_tree.proofs.Childhood.{child-is}
 use Rattle.smi_tree.proofs.Reaching.{longest-some, longest-none}

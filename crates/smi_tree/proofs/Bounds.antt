@@ -1,12 +1,10 @@
 -- The value of an end of a range fits 64 bits.
-use Rattle.std.proofs.Common.{◌≡◌, ℕ, Bool, true, false, cond, ◌||◌, nat_le, List, Some, ℤ, pos}
-use Rattle.std.proofs.Common.{◌-ℤ◌, ◌≤ℤ◌, refl, arith}
+use Rattle.std.proofs.Common.{◌≡◌, ℕ, Bool, true, false, cond, ◌||◌, nat_le, List, Some, ℤ, pos, ◌-ℤ◌, ◌≤ℤ◌, refl, arith}
 use Rattle.std.proofs.lemmas.Int.{ints}
 use Rattle.std.specs.Bool.{then_some}
 use Rattle.smi_text.specs.declared.lexer.token.TokenKind.{TokenKind}
 use Rattle.smi_text.specs.declared.lexer.token.TokenKind.TheVariants as K
-use Rattle.smi_text.specs.trees.Number.{is_negative, magnitude, number_value, literal_digits}
-use Rattle.smi_text.specs.trees.Number.{is_number, is_literal, is_bound, bound_in, bound_value}
+use Rattle.smi_text.specs.trees.Number.{is_negative, magnitude, number_value, literal_digits, is_number, is_literal, is_bound, bound_in, bound_value}
 use Rattle.smi_text.specs.trees.Number.{signed_value}
 
 pub then-some : {A : Type 0} (b : Bool) (x y : A) → then_some b x ≡ Some y → (b ≡ true) × (x ≡ y)

@@ -16,8 +16,7 @@ use Rattle.smi_names.specs.declared.meaning.base.TypeBase.{TypeBase}
 use Rattle.smi_names.specs.declared.meaning.base.TypeBase.TheVariants as T
 use Rattle.smi_names.specs.nodes.Nodes.{Node}
 use Rattle.smi_tree.specs.columns.Parts.{StatesBound, IsFixedBy, HasExtent, IsPartOf}
-use Rattle.smi_tree.specs.columns.Index.{IsIndexPart, AreParts, IsIndexed, IsIndexOf, IsIndex}
-use Rattle.smi_tree.specs.columns.Index.{AreIndexesOf, index_at, is_implied}
+use Rattle.smi_tree.specs.columns.Index.{IsIndexPart, AreParts, IsIndexed, IsIndexOf, IsIndex, AreIndexesOf, index_at, is_implied}
 use Rattle.smi_tree.proofs.Choosing.{one_syntax}
 use Rattle.smi_tree.proofs.Lists.{get_within, same_items}
 use Rattle.smi_tree.proofs.Parting.{defined_once}

@@ -7,8 +7,7 @@ use Rattle.smi_text.specs.declared.trees.tree.Module.{Module}
 use Rattle.smi_text.specs.declared.trees.tree.Def.{Def}
 use Rattle.smi_names.specs.meaning.Meaning.{QualifiedName, origin}
 use Rattle.smi_tree.specs.types.Chain.{TypeOrigin}
-use Rattle.smi_tree.specs.types.Types.{Facts, HasSyntax, HasNoSyntax, object_origin}
-use Rattle.smi_tree.specs.types.Types.{origin_of_object}
+use Rattle.smi_tree.specs.types.Types.{Facts, HasSyntax, HasNoSyntax, object_origin, origin_of_object}
 use Rattle.smi_tree.specs.columns.Definitions.{qualified_name, IsDefinedBy, own, through}
 use Rattle.smi_tree.specs.columns.Parts.{IsPartOf}
 use Rattle.smi_tree.specs.columns.Index.{IsIndexPart}

@@ -15,8 +15,7 @@ use Rattle.smi_text.specs.declared.trees.tree.Base.{Base}
 use Rattle.smi_text.specs.declared.trees.tree.Base.TheVariants as B
 use Rattle.smi_names.specs.meaning.Meaning.{QualifiedName, or_else}
 use Rattle.smi_names.specs.meaning.Along.{Comes, unknown, of_root, through, at_end as at_definition, after, IsOwn, IsMeant}
-use Rattle.smi_tree.specs.types.Chain.{Layer, at_base, on_name, no_type, TypeChain, at_end}
-use Rattle.smi_tree.specs.types.Chain.{on_type, nearest}
+use Rattle.smi_tree.specs.types.Chain.{Layer, at_base, on_name, no_type, TypeChain, at_end, on_type, nearest}
 use Rattle.smi_tree.specs.types.Types.{type_origin, base_in, name_in, name_in_base, names_in, sizes_in, simple_in, layer, no_layer, type_hint}
 use Rattle.smi_tree.specs.types.Types.{origin_of_base, origin_of_simple, object_syntax, type_syntax}
 use Rattle.smi_tree.specs.types.Types.{object_in, object_origin, def_at, Facts, HasSyntax, HasNoSyntax}

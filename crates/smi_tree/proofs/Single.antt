@@ -1,6 +1,5 @@
 -- Modules have one tree, by one list of nodes, of syntaxes, of indexes and of warnings.
-use Rattle.std.proofs.Common.{◌≡◌, List, ◌++◌, Option, Some}
-use Rattle.std.proofs.Common.{None, slice_index_or, refl, sym, ap, ◌∙◌, arith}
+use Rattle.std.proofs.Common.{◌≡◌, List, ◌++◌, Option, Some, None, slice_index_or, refl, sym, ap, ◌∙◌, arith}
 use Rattle.std.proofs.lemmas.List.{ext_get_or}
 use Rattle.smi_text.specs.declared.trees.tree.Module.{Module}
 use Rattle.smi_names.specs.nodes.Nodes.{Node, roots, Loads}

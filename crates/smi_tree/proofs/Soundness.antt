@@ -1,7 +1,6 @@
 -- Nodes of modules have words as labels, which lead to them.
-use Rattle.std.proofs.Common.{◌≡◌, ℕ, zero, suc, ◌⊎◌, inl, inr, Bool, true, false, cond, List, []}
-use Rattle.std.proofs.Common.{◌∷◌, ◌++◌}
-use Rattle.std.proofs.Common.{Option, Some, None, is_some, refl, subst}
+use Rattle.std.proofs.Common.{◌≡◌, ℕ, zero, suc, ◌⊎◌, inl, inr, Bool, true, false, cond, List, [], ◌∷◌, ◌++◌, Option, Some, None, is_some, refl}
+use Rattle.std.proofs.Common.{subst}
 use Rattle.std.specs.List.{slice_get}
 use Rattle.smi_names.specs.declared.chains.resolution.Resolution.TheVariants as R
 use Rattle.smi_text.specs.trees.Mark.{same_text}
@@ -10,8 +9,7 @@ use Rattle.smi_text.specs.declared.trees.tree.Module.{Module}
 use Rattle.smi_text.specs.declared.trees.tree.Def.{Def}
 use Rattle.smi_text.specs.declared.trees.tree.Part.{Part}
 use Rattle.smi_names.specs.meaning.Meaning.{Means, module_named}
-use Rattle.smi_names.specs.nodes.Nodes.{Node, node_of, roots, GivesNodesBy, Gathers, none, more}
-use Rattle.smi_names.specs.nodes.Nodes.{is_loaded, Brings, left_out, loaded, Loads, none_yet}
+use Rattle.smi_names.specs.nodes.Nodes.{Node, node_of, roots, GivesNodesBy, Gathers, none, more, is_loaded, Brings, left_out, loaded, Loads, none_yet}
 use Rattle.smi_names.specs.nodes.Nodes.{then_module}
 use Rattle.smi_names.specs.declared.nodes.warning.Warning.{Warning}
 use Rattle.smi_tree.proofs.Listing.{same_itself}

@@ -1,29 +1,23 @@
 -- Digits read from the front of a text, and written from the last to the first.
-use Rattle.std.proofs.Common.{◌≡◌, ℕ, suc, ◌+◌, ◌-◌, ◌*◌, ◌/◌, ◌%◌, ◌<◌, ◌≤◌, true, false, List}
-use Rattle.std.proofs.Common.{[], ◌∷◌, length, take, drop, get_or, refl, sym, ◌∙◌, ap}
-use Rattle.std.proofs.Common.{subst, arith, rules}
-use Rattle.std.specs.Fmt.{digits, digits_onto, digit_glyph}
+use Rattle.std.proofs.Common.{◌≡◌, ℕ, suc, ◌+◌, ◌-◌, ◌*◌, ◌/◌, ◌%◌, ◌<◌, ◌≤◌, true, false, List, [], ◌∷◌, length, take, drop, get_or, refl, sym, ◌∙◌}
+use Rattle.std.proofs.Common.{ap, subst, arith, rules, tests, add-one, ◌^◌, inl, inr}
+use Rattle.std.specs.Fmt.{digits, digits_onto, digit_glyph, decimal}
 use Rattle.std.specs.Char.{is_ascii_digit}
 use Rattle.std.specs.Int.{IsInRange}
 use Rattle.std.specs.List.{prefix_len}
 use Rattle.std.specs.Str.Parse.{digits_value}
-use Rattle.std.proofs.Common.{tests, add-one, ◌^◌}
 use Rattle.std.proofs.Math.ListN.{set}
-use Rattle.std.proofs.lemmas.List.{drop-set}
-use Rattle.std.proofs.lemmas.List.{get_or-take, take_more}
+use Rattle.std.proofs.lemmas.List.{drop-set, get_or-take, take_more}
 use Rattle.std.proofs.lemmas.List.Sums.{prefix_len_passes}
 use Rattle.std.proofs.lemmas.List.Folds.{length-prefix_len}
 use Rattle.std.proofs.lemmas.Int.Digits.{digits_value_more, number_after_append}
 use Rattle.std.proofs.lemmas.Str.{digit_value_digit}
 use Rattle.std.proofs.lemmas.Str.Parse.{digits_value-take-le}
 use Rattle.std.proofs.Math.Pow.{pow_mono}
-use Rattle.smi_value.specs.hint.Number.{front_digits, StartsWithNumber}
+use Rattle.smi_value.specs.hint.Number.{front_digits, StartsWithNumber, IsNumberHint}
 use Rattle.smi_value.specs.hint.Pieces.{number_of_octets}
 use Rattle.std.proofs.lemmas.Nat.{pow-add}
 use Rattle.std.proofs.lemmas.Fmt.{decimal_digit, decimal_step}
-use Rattle.std.specs.Fmt.{decimal}
-use Rattle.std.proofs.Common.{inl, inr}
-use Rattle.smi_value.specs.hint.Number.{IsNumberHint}
 use Rattle.smi_value.specs.declared.hint.number.NumberForm.{NumberForm}
 use Rattle.smi_value.specs.declared.hint.number.NumberForm.TheVariants as form
 use Rattle.std.specs.Bool.{◌==◌}

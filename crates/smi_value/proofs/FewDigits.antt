@@ -1,6 +1,5 @@
 -- Numbers that one to three digits state.
-use Rattle.std.proofs.Common.{◌≡◌, ℕ, pos, ◌+◌, ◌-◌, ◌*◌, ◌≤◌, true, false, [], ◌∷◌, List, Some, refl, length, get_or}
-use Rattle.std.proofs.Common.{arith, rules, tests}
+use Rattle.std.proofs.Common.{◌≡◌, ℕ, pos, ◌+◌, ◌-◌, ◌*◌, ◌≤◌, true, false, [], ◌∷◌, List, Some, refl, length, get_or, arith, rules, tests}
 use Rattle.std.specs.Bool.{nat_le}
 use Rattle.std.specs.Int.{IsInRange}
 use Rattle.smi_text.specs.trees.Number.{digit_value, number_value, is_negative, is_number, stated_number}

@@ -1,23 +1,17 @@
 -- The pieces and groups that octets are still to be cut into, and those that they were cut into.
-use Rattle.std.proofs.Common.{◌≡◌, ◌≢◌, ℕ, zero, suc, ◌+◌, ◌-◌, ◌<◌, ◌≤◌, Bool, true, false, List}
-use Rattle.std.proofs.Common.{[], ◌∷◌, ◌++◌, length, take, drop, replicate, refl, sym}
-use Rattle.std.proofs.Common.{◌∙◌, ap, subst, arith, rules, tests, inl, inr, ◌⊎◌, append-nil}
-use Rattle.std.proofs.Common.{Option, None, option_to_list, if◌then◌else◌, length-drop}
+use Rattle.std.proofs.Common.{◌≡◌, ◌≢◌, ℕ, zero, suc, ◌+◌, ◌-◌, ◌<◌, ◌≤◌, Bool, true, false, List, [], ◌∷◌, ◌++◌, length, take, drop, replicate, refl}
+use Rattle.std.proofs.Common.{sym, ◌∙◌, ap, subst, arith, rules, tests, inl, inr, ◌⊎◌, append-nil, Option, None, option_to_list, if◌then◌else◌}
+use Rattle.std.proofs.Common.{length-drop, map, append_assoc, not, min}
 use Rattle.std.specs.Bool.{◌==◌, nat_lt}
-use Rattle.std.proofs.lemmas.List.{length-replicate}
+use Rattle.std.proofs.lemmas.List.{length-replicate, length-map, length-take, length-take-le, drop_all}
 use Rattle.snmp_io.specs.draft.Draft.{Written, Grows, Adds}
 use Rattle.smi_value.specs.declared.hint.spec.Spec.{Spec}
-use Rattle.smi_value.specs.hint.Spec.{IsFirstSpec, AreSpecs, IsOctetHint, LastTakesOctets}
-use Rattle.smi_value.specs.hint.Spec.{takes_octets, most_octets}
-use Rattle.smi_value.specs.hint.Pieces.{ArePieces, IsCut, IsGroup, AreGroups, ShowsOctets}
-use Rattle.smi_value.specs.hint.Pieces.{piece_text, pieces_text, mark_before, last_mark, body_of}
+use Rattle.smi_value.specs.hint.Spec.{IsFirstSpec, AreSpecs, IsOctetHint, LastTakesOctets, takes_octets, most_octets}
+use Rattle.smi_value.specs.hint.Pieces.{ArePieces, IsCut, IsGroup, AreGroups, ShowsOctets, piece_text, pieces_text, mark_before, last_mark, body_of}
 use Rattle.smi_value.specs.hint.Pieces.{specs_after, is_single, single_text, marked_text, singles_text}
 use Rattle.smi_value.specs.declared.hint.spec.OctetFormat.{OctetFormat}
-use Rattle.std.proofs.Common.{map, append_assoc, not}
 use Rattle.std.proofs.lemmas.Bool.{and_parts, not-true, eqb-true, cases_order}
-use Rattle.std.proofs.Common.{min}
 use Rattle.std.specs.List.{flat_map}
-use Rattle.std.proofs.lemmas.List.{length-map, length-take, length-take-le, drop_all}
 use Rattle.smi_value.proofs.Growing.{grows_none, grows_both, adds_from}
 use Rattle.smi_value.proofs.Specs.{after_first, first_some, Begins}
 

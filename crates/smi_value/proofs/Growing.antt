@@ -1,6 +1,5 @@
 -- Texts that are appended in two steps.
-use Rattle.std.proofs.Common.{◌≡◌, ℕ, List, [], ◌++◌, refl, sym, ◌∙◌, ap, append_assoc, append-nil}
-use Rattle.std.proofs.Common.{Bool, true, ◌∷◌, length, arith, rules, tests}
+use Rattle.std.proofs.Common.{◌≡◌, ℕ, List, [], ◌++◌, refl, sym, ◌∙◌, ap, append_assoc, append-nil, Bool, true, ◌∷◌, length, arith, rules, tests}
 use Rattle.std.specs.Bool.{◌==◌}
 use Rattle.snmp_io.specs.draft.Draft.{Written, Grows, Adds}
 

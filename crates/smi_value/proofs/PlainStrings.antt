@@ -1,15 +1,11 @@
 -- Strings that stand between quotes as they are.
-use Rattle.std.proofs.Common.{◌≡◌, ℕ, suc, ◌+◌, ◌%◌, ◌^◌, ◌≤◌, Bool, true, false, cond, ltb, eqb}
-use Rattle.std.proofs.Common.{List, [], ◌∷◌, length, get_or, map, replicate, w8, refl, sym, ap, ◌∙◌, arith}
-use Rattle.std.proofs.Common.{rules, tests}
-use Rattle.std.proofs.Common.{◌||◌, not}
+use Rattle.std.proofs.Common.{◌≡◌, ℕ, suc, ◌+◌, ◌%◌, ◌^◌, ◌≤◌, Bool, true, false, cond, ltb, eqb, List, [], ◌∷◌, length, get_or, map, replicate, w8}
+use Rattle.std.proofs.Common.{refl, sym, ap, ◌∙◌, arith, rules, tests, ◌||◌, not, inl, inr}
 use Rattle.std.specs.Bool.{◌==◌, nat_le, OnTrue}
 use Rattle.std.specs.List.{flat_map, list_all}
-use Rattle.std.proofs.Common.{inl, inr}
 use Rattle.std.proofs.lemmas.Bool.{and_parts, and_from, cases_lt, not-true, eqb-true, OnTrue_from}
 use Rattle.std.proofs.lemmas.List.{length-map}
-use Rattle.std.proofs.lemmas.Simd.{length-chunk, bitmask_splat, tops_compared, zip2_splat_left, mask_l-mod}
-use Rattle.std.proofs.lemmas.Simd.{none_from_empty_mask}
+use Rattle.std.proofs.lemmas.Simd.{length-chunk, bitmask_splat, tops_compared, zip2_splat_left, mask_l-mod, none_from_empty_mask}
 use lib.Lanes.{chunk, mask_l, zip2, top}
 use Rattle.smi_value.specs.declared.letters.letters.StringForm.{StringForm}
 use Rattle.smi_value.specs.declared.letters.letters.StringForm.TheVariants as strings

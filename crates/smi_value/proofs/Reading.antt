@@ -1,14 +1,11 @@
 -- Letters that are read one after the other.
-use Rattle.std.proofs.Common.{◌≡◌, ℕ, ◌+◌, ◌<◌, Bool, true, false, not, List, [], ◌∷◌, ◌++◌}
-use Rattle.std.proofs.Common.{Option, Some, None, refl, sym, ◌∙◌, ap, take, drop, length}
-use Rattle.std.proofs.Common.{get_or, codes, if◌then◌else◌, suc, drop-cons, take-append-drop}
+use Rattle.std.proofs.Common.{◌≡◌, ℕ, ◌+◌, ◌<◌, Bool, true, false, not, List, [], ◌∷◌, ◌++◌, Option, Some, None, refl, sym, ◌∙◌, ap, take, drop}
+use Rattle.std.proofs.Common.{length, get_or, codes, if◌then◌else◌, suc, drop-cons, take-append-drop, ◌||◌}
 use Rattle.std.specs.Bool.{◌==◌}
-use Rattle.std.proofs.Common.{◌||◌}
 use Rattle.std.specs.List.{find}
 use Rattle.std.proofs.lemmas.List.{reverse-append, take_more}
 use Rattle.std.proofs.lemmas.List.Folds.{find-append}
-use Rattle.smi_value.specs.letters.Letters.{AreLetters, IsWith, is_one_of, last_of, has_letter}
-use Rattle.smi_value.specs.letters.Letters.{first_other, all_letters, name_form, type_form}
+use Rattle.smi_value.specs.letters.Letters.{AreLetters, IsWith, is_one_of, last_of, has_letter, first_other, all_letters, name_form, type_form}
 use Rattle.smi_value.specs.letters.Letters.{string_form}
 use Rattle.smi_value.specs.declared.letters.letters.Letters.{Letters}
 

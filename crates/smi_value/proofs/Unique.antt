@@ -1,6 +1,5 @@
 -- A hint shows a value in one way.
-use Rattle.std.proofs.Common.{◌≡◌, ℕ, ℤ, ◌-◌, inl, inr, List, [], ◌∷◌, ◌++◌, drop, get_or, refl}
-use Rattle.std.proofs.Common.{sym, ◌∙◌, ap, subst, arith}
+use Rattle.std.proofs.Common.{◌≡◌, ℕ, ℤ, ◌-◌, inl, inr, List, [], ◌∷◌, ◌++◌, drop, get_or, refl, sym, ◌∙◌, ap, subst, arith}
 use Rattle.std.specs.Str.Parse.{digits_value}
 use Rattle.smi_value.specs.hint.Number.{IsNumberHint, front_digits, number_text}
 use Rattle.smi_value.specs.hint.Hint.{ShowsNumber, Shows}
@@ -10,8 +9,7 @@ use Rattle.smi_value.specs.declared.hint.hint.HintValue.{HintValue}
 use Rattle.smi_value.specs.declared.hint.hint.HintValue.TheVariants as value
 use Rattle.smi_value.specs.hint.Spec.{AreSpecs}
 use Rattle.smi_value.specs.declared.hint.spec.Spec.{Spec}
-use Rattle.smi_value.specs.hint.Pieces.{IsCut, AreGroups, ShowsOctets, pieces_text, times_of}
-use Rattle.smi_value.specs.hint.Pieces.{body_of, specs_after}
+use Rattle.smi_value.specs.hint.Pieces.{IsCut, AreGroups, ShowsOctets, pieces_text, times_of, body_of, specs_after}
 use Rattle.smi_value.proofs.Specs.{same_spec, same_rest}
 
 same_specs : (text : List ℕ) (a b : List Spec) → AreSpecs text a → AreSpecs text b → a ≡ b

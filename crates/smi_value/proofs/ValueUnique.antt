@@ -1,6 +1,5 @@
 -- A value has one text, where the names of identifiers have one.
-use Rattle.std.proofs.Common.{◌≡◌, ℕ, ℤ, Bool, true, false, MatchBool, inl, inr, List, ◌++◌}
-use Rattle.std.proofs.Common.{Option, Some, None, sym, ◌∙◌, ap}
+use Rattle.std.proofs.Common.{◌≡◌, ℕ, ℤ, Bool, true, false, MatchBool, inl, inr, List, ◌++◌, Option, Some, None, sym, ◌∙◌, ap}
 use Rattle.std.specs.Prelude.{pos, codes}
 use Rattle.snmp_wire.specs.ber.Value.{Datum, integer_value, octet_string, object_id, gauge32}
 use Rattle.smi_text.specs.declared.trees.tree.NamedNumber.{NamedNumber}
@@ -8,8 +7,7 @@ use Rattle.smi_value.specs.declared.base.ValueBase.TheVariants as base
 use Rattle.smi_value.specs.declared.letters.letters.Letters.{Letters}
 use Rattle.smi_value.specs.Pieces.{IsBitsText, type_word, units_text}
 use Rattle.smi_value.specs.Syntax.{ObjectSyntax, syntax_at, is_of_bits, name_of_number}
-use Rattle.smi_value.specs.Value.{IsNumberText, IsTypedNumber, IsIntegerText, IsHintedString}
-use Rattle.smi_value.specs.Value.{IsStringText, IsOctetsText, ShowsValue}
+use Rattle.smi_value.specs.Value.{IsNumberText, IsTypedNumber, IsIntegerText, IsHintedString, IsStringText, IsOctetsText, ShowsValue}
 use Rattle.smi_value.proofs.Bits.{bits_once}
 use Rattle.smi_value.proofs.Unique.{same_shown, same_number}
 

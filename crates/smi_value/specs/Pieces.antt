@@ -1,8 +1,7 @@
 -- Pieces of the texts of values.
 use Rattle.std.specs.Prelude.{◌≡◌, ◌<◌, ℕ, pos, ◌+◌, ◌-◌, ◌*◌, ◌/◌, ◌%◌, ◌^◌, Bool, true, false}
 use Rattle.std.specs.Prelude.{◌==◌, ◌≤◌, ◌&&◌, ◌||◌, not, if◌then◌else◌, Contains, length}
-use Rattle.std.specs.Prelude.{slice_index}
-use Rattle.std.specs.Prelude.{List, [], ◌∷◌, ◌++◌, Option, Some, None, codes, decimal}
+use Rattle.std.specs.Prelude.{slice_index, List, [], ◌∷◌, ◌++◌, Option, Some, None, codes, decimal}
 use Rattle.std.specs.List.{flat_map, list_all}
 use Rattle.smi_value.specs.declared.letters.letters.Letters.{Letters}
 use Rattle.smi_value.specs.declared.letters.letters.TypeForm.{TypeForm}

@@ -1,12 +1,10 @@
 -- What a draft has behind one more line, and why the reading stops at it.
-use Rattle.std.proofs.Common.{◌≡◌, ℕ, List, [], ◌∷◌, ◌++◌, refl, sym, ap, subst, Result, Ok}
-use Rattle.std.proofs.Common.{Err, IfOk, IfErr, MatchResult, append-nil, ◌∙◌, Bool, ◌+◌, ◌<◌}
-use Rattle.std.proofs.Common.{◌≤◌, append_assoc, arith, length, length-append}
+use Rattle.std.proofs.Common.{◌≡◌, ℕ, List, [], ◌∷◌, ◌++◌, refl, sym, ap, subst, Result, Ok, Err, IfOk, IfErr, MatchResult, append-nil, ◌∙◌, Bool}
+use Rattle.std.proofs.Common.{◌+◌, ◌<◌, ◌≤◌, append_assoc, arith, length, length-append}
 use Rattle.std.specs.Str.Lines.{lines}
 use Rattle.std.specs.List.{Contains}
 use Rattle.std.specs.List.Sorted.{IsPermutation}
-use Rattle.std.proofs.lemmas.List.Sorted.{Contains-permutation, IsPermutation-append_left}
-use Rattle.std.proofs.lemmas.List.Sorted.{IsPermutation-sym, IsPermutation-trans}
+use Rattle.std.proofs.lemmas.List.Sorted.{Contains-permutation, IsPermutation-append_left, IsPermutation-sym, IsPermutation-trans}
 use Rattle.std.specs.FinMap.{entries, entries_sorted}
 use Rattle.snmp_wire.specs.Message.{Datum, VarBind}
 use Rattle.snmp_agent.specs.declared.table.draft.Draft.{Draft}
@@ -15,17 +13,14 @@ use Rattle.snmp_agent.specs.declared.table.draft.Halt.TheVariants as halt
 use Rattle.snmp_agent.specs.declared.table.error.TableError.{TableError}
 use Rattle.snmp_agent.specs.declared.table.error.TableError.TheVariants as error
 use Rattle.snmp_agent.specs.table.Stated.{IsBehindGood, IsFirstFaultIn, number_of}
-use Rattle.snmp_agent.specs.table.Draft.{AreDistinct, HaltsBy, HoldsTable}
-use Rattle.snmp_agent.specs.table.Draft.{IsDraft, IsFaultBehind, IsFirstHalt, IsFull, IsHalt}
-use Rattle.snmp_agent.specs.table.Draft.{IsHaltAt, IsStop, draft_entries}
-use Rattle.snmp_agent.specs.table.Draft.{draft_objects}
+use Rattle.snmp_agent.specs.table.Draft.{AreDistinct, HaltsBy, HoldsTable, IsDraft, IsFaultBehind, IsFirstHalt, IsFull, IsHalt, IsHaltAt, IsStop}
+use Rattle.snmp_agent.specs.table.Draft.{draft_entries, draft_objects}
 use Rattle.snmp_agent.specs.table.Form.{States, instance}
 use Rattle.snmp_agent.specs.table.Format.{Format}
 use Rattle.snmp_agent.specs.table.Places.{entry_of}
 use Rattle.snmp_agent.specs.table.Text.{AreTable}
 use Rattle.snmp_agent.proofs.OneStatement.{StatesOnly}
-use Rattle.snmp_agent.proofs.TableDrafts.{distinct_moved, distinct_sorted, double, good_lines}
-use Rattle.snmp_agent.proofs.TableDrafts.{holds_instance, whole}
+use Rattle.snmp_agent.proofs.TableDrafts.{distinct_moved, distinct_sorted, double, good_lines, holds_instance, whole}
 
 pub either : {A B : Type 0} {P P' : A → Type 0} {Q Q' : B → Type 0} (r : Result A B) → IfOk r P
     → IfErr r Q → ((a : A) → P a → P' a) → ((b : B) → Q b → Q' b) → MatchResult r P' Q'

@@ -3,10 +3,8 @@ use Rattle.std.proofs.Common.{◌≡◌, ℕ, zero, suc, List, sym, subst}
 use Rattle.snmp_oid.specs.Identifier.{IsWire}
 use Rattle.snmp_wire.specs.Message.{Datum, VarBind}
 use Rattle.snmp_wire.specs.Message.Datum.{no_such_object, no_such_instance, end_of_mib_view}
-use Rattle.snmp_agent.specs.table.Table.{MibView, IsMibView, IsInstanceValue, IsAnswerValue, IsGet}
-use Rattle.snmp_agent.specs.table.Table.{variable, unknown_object, unknown_instance, IsNext}
-use Rattle.snmp_agent.specs.table.Table.{successor}
-use Rattle.snmp_agent.specs.table.Table.{end_of_view, IsNextAfter}
+use Rattle.snmp_agent.specs.table.Table.{MibView, IsMibView, IsInstanceValue, IsAnswerValue, IsGet, variable, unknown_object, unknown_instance}
+use Rattle.snmp_agent.specs.table.Table.{IsNext, successor, end_of_view, IsNextAfter}
 
 instance_answer : (v : Datum) → IsInstanceValue v → IsAnswerValue v
 instance_answer no_such_object h = absurd h

@@ -1,8 +1,6 @@
 -- Each name has just one answer to a Get, and one to a GetNext.
-use Rattle.std.proofs.Common.{◌≡◌, ℕ, zero, suc, ◌+◌, inl, inr, Bool, true, false}
-use Rattle.std.proofs.Common.{List, [], map, length, take, drop, Option, Some}
-use Rattle.std.proofs.Common.{None, Less, Equal, Greater, Ordering, refl, sym, ap, subst, ◌∙◌}
-use Rattle.std.proofs.Common.{⊎_elim, ◌≤◌, arith, cond, length-append, unwrap_or}
+use Rattle.std.proofs.Common.{◌≡◌, ℕ, zero, suc, ◌+◌, inl, inr, Bool, true, false, List, [], map, length, take, drop, Option, Some, None, Less, Equal}
+use Rattle.std.proofs.Common.{Greater, Ordering, refl, sym, ap, subst, ◌∙◌, ⊎_elim, ◌≤◌, arith, cond, length-append, unwrap_or}
 use Rattle.std.specs.Ordering.{nat_cmp}
 use Rattle.std.specs.Cmp.Lexicographic.{slice_cmp}
 use Rattle.std.specs.FinMap.{get, entries}
@@ -12,11 +10,8 @@ use Rattle.std.proofs.lemmas.List.{take-append-drop}
 use Rattle.std.proofs.Math.Seq.{take-append_seam}
 use Rattle.snmp_wire.specs.Message.{Datum, no_such_object, no_such_instance, VarBind}
 use Rattle.snmp_agent.specs.table.Exact.{HasOne}
-use Rattle.snmp_agent.specs.table.Table.{MibView, IsRow, HasObject, IsGet, variable}
-use Rattle.snmp_agent.specs.table.Table.{unknown_object, unknown_instance, IsSuccessor, IsNext}
-use Rattle.snmp_agent.specs.table.Table.{successor}
-use Rattle.snmp_agent.specs.table.Table.{end_of_view}
-use Rattle.snmp_agent.specs.table.Table.{IsNextAfter}
+use Rattle.snmp_agent.specs.table.Table.{MibView, IsRow, HasObject, IsGet, variable, unknown_object, unknown_instance, IsSuccessor, IsNext, successor}
+use Rattle.snmp_agent.specs.table.Table.{end_of_view, IsNextAfter}
 use Rattle.snmp_agent.specs.table.Listing.{first_or_end, got_at, has_prefix}
 use Rattle.snmp_agent.specs.table.Pages.{entries_after}
 use Rattle.snmp_agent.specs.table.Places.{var_of}

@@ -1,16 +1,13 @@
 -- Lines that state a table have no fault.
-use Rattle.std.proofs.Common.{◌≡◌, inl, inr, ℕ, List, ◌∷◌, ◌++◌, length, length-append, get_or}
-use Rattle.std.proofs.Common.{◌<◌, refl, ◌∙◌, subst, arith}
+use Rattle.std.proofs.Common.{◌≡◌, inl, inr, ℕ, List, ◌∷◌, ◌++◌, length, length-append, get_or, ◌<◌, refl, ◌∙◌, subst, arith}
 use Rattle.std.specs.List.{All, AllPairs, Contains}
 use Rattle.std.proofs.Math.ListN.{get_or-append}
 use Rattle.std.proofs.Math.Seq.{get_or-append_seam}
 use Rattle.std.proofs.lemmas.List.Elements.{All-contains, Contains-append_right}
 use Rattle.snmp_agent.specs.declared.table.error.TableError.{TableError}
 use Rattle.snmp_agent.specs.declared.table.error.TableError.TheVariants as error
-use Rattle.snmp_agent.specs.table.Form.{IsObjectText, IsInstanceText, IsBadLine, IsBadName}
-use Rattle.snmp_agent.specs.table.Form.{IsBadValue}
-use Rattle.snmp_agent.specs.table.Text.{AreTable, DifferInName, IsGoodLine, IsValueText, a_blank}
-use Rattle.snmp_agent.specs.table.Text.{a_prefix, a_row}
+use Rattle.snmp_agent.specs.table.Form.{IsObjectText, IsInstanceText, IsBadLine, IsBadName, IsBadValue}
+use Rattle.snmp_agent.specs.table.Text.{AreTable, DifferInName, IsGoodLine, IsValueText, a_blank, a_prefix, a_row}
 use Rattle.snmp_agent.specs.table.Format.{Format, Names}
 use Rattle.snmp_agent.specs.table.Stated.{IsFirstFault, IsFirstFaultIn, IsTableOf}
 use Rattle.snmp_agent.specs.table.Table.{MibView}

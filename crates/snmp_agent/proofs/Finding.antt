@@ -1,7 +1,6 @@
 -- Finding the row of a name.
-use Rattle.std.proofs.Common.{◌≡◌, ℕ, zero, suc, ◌+◌, ◌<◌, inl, inr, List, [], ◌∷◌}
-use Rattle.std.proofs.Common.{map, length, take, Some, None, refl, sym, ◌∙◌, ap}
-use Rattle.std.proofs.Common.{subst, arith, ◌||◌, true, false, Vec, Global, length-append}
+use Rattle.std.proofs.Common.{◌≡◌, ℕ, zero, suc, ◌+◌, ◌<◌, inl, inr, List, [], ◌∷◌, map, length, take, Some, None, refl, sym, ◌∙◌, ap, subst, arith}
+use Rattle.std.proofs.Common.{◌||◌, true, false, Vec, Global, length-append}
 use Rattle.std.specs.Ordering.{nat_cmp, is_eq, eq_by_cmp}
 use Rattle.std.specs.Cmp.Lexicographic.{slice_cmp, nat_list_cmp_total}
 use Rattle.std.specs.FinSet.{contains, contains-from_list, from_list}
@@ -10,8 +9,7 @@ use Rattle.std.specs.FinMap.{get}
 use Rattle.std.specs.List.{slice_get, list_any}
 use Rattle.snmp_wire.specs.Message.{VarBind}
 use Rattle.snmp_wire.specs.Message.Datum.{no_such_object, no_such_instance}
-use Rattle.snmp_agent.specs.table.Table.{HasObject, IsGet, MibView, unknown_object}
-use Rattle.snmp_agent.specs.table.Table.{unknown_instance}
+use Rattle.snmp_agent.specs.table.Table.{HasObject, IsGet, MibView, unknown_object, unknown_instance}
 use Rattle.snmp_agent.specs.table.Places.{HasBeginning, entry_of}
 use Rattle.snmp_agent.specs.table.Pages.{entries_of}
 use Rattle.snmp_agent.proofs.Rising.{Listed}

@@ -1,26 +1,21 @@
 -- What comes next in a list of entries whose names rise.
-use Rattle.std.proofs.Common.{◌≡◌, ◌↔◌, ℕ, zero, suc, inl, inr, T, List, [], ◌∷◌, ◌++◌, map, Some}
-use Rattle.std.proofs.Common.{true, false, cond}
-use Rattle.std.proofs.Common.{refl, sym, ◌∙◌, ap, subst, append_assoc, Less, ◌+◌, ◌≤◌}
-use Rattle.std.proofs.Common.{length, take, drop, arith, ◌-◌}
+use Rattle.std.proofs.Common.{◌≡◌, ◌↔◌, ℕ, zero, suc, inl, inr, T, List, [], ◌∷◌, ◌++◌, map, Some, true, false, cond, refl, sym, ◌∙◌, ap, subst}
+use Rattle.std.proofs.Common.{append_assoc, Less, ◌+◌, ◌≤◌, length, take, drop, arith, ◌-◌}
 use Rattle.std.specs.Ordering.{is_le, nat_cmp}
 use Rattle.std.specs.Cmp.Lexicographic.{slice_cmp, nat_list_cmp_total}
-use Rattle.std.specs.FinMap.{find, is_sorted, entries, entries_sorted, entries-from_sorted}
-use Rattle.std.specs.FinMap.{from_sorted, get-entries, get-from_sorted, same_map}
+use Rattle.std.specs.FinMap.{find, is_sorted, entries, entries_sorted, entries-from_sorted, from_sorted, get-entries, get-from_sorted, same_map}
 use Rattle.std.specs.FinMap.{nat_cmp-IsAntisymmetric, slice_cmp-IsAntisymmetric}
 use Rattle.std.specs.List.{slice_get}
 use Rattle.snmp_oid.specs.Identifier.{Precedes}
 use Rattle.snmp_wire.specs.Message.{Datum, VarBind}
 use Rattle.snmp_wire.specs.Message.Datum.{end_of_mib_view}
-use Rattle.snmp_agent.specs.table.Table.{MibView, IsRow, IsNext, successor, end_of_view}
-use Rattle.snmp_agent.specs.table.Table.{IsNextAfter}
+use Rattle.snmp_agent.specs.table.Table.{MibView, IsRow, IsNext, successor, end_of_view, IsNextAfter}
 use Rattle.snmp_agent.specs.table.Listing.{first_or_end}
 use Rattle.snmp_agent.specs.table.Places.{IsBeforeAll, IsBeforeNone, var_of, last_name}
 use Rattle.snmp_agent.specs.table.Pages.{StandsApart, AreBehind, entries_after, entries_of}
-use Rattle.snmp_agent.proofs.Rising.{Listed, not_before_itself, not_both, before_listed}
-use Rattle.snmp_agent.proofs.Rising.{not_before_listed, listed_in_both, listed_in_second}
-use Rattle.snmp_agent.proofs.Rising.{before_from, before_later, is_behind, not_behind, second_of_both}
-use Rattle.snmp_agent.proofs.Rising.{before_no_earlier, find-listed, listed_from_find}
+use Rattle.snmp_agent.proofs.Rising.{Listed, not_before_itself, not_both, before_listed, not_before_listed, listed_in_both, listed_in_second}
+use Rattle.snmp_agent.proofs.Rising.{before_from, before_later, is_behind, not_behind, second_of_both, before_no_earlier, find-listed}
+use Rattle.snmp_agent.proofs.Rising.{listed_from_find}
 
 -- the order of names is the standard's
 abbrev pub IsOrder : Type 0

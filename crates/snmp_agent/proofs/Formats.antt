@@ -1,10 +1,8 @@
 -- Names in the two formats.
-use Rattle.std.proofs.Common.{◌≡◌, ◌↔◌, inl, inr, ℕ, List, [], ◌∷◌, Option, Some, None}
-use Rattle.std.proofs.Common.{MatchOption, sym, ◌∙◌, ap, subst, codes}
+use Rattle.std.proofs.Common.{◌≡◌, ◌↔◌, inl, inr, ℕ, List, [], ◌∷◌, Option, Some, None, MatchOption, sym, ◌∙◌, ap, subst, codes}
 use Rattle.snmp_io.specs.Quotes.{HasNoneOutside}
 use Rattle.snmp_agent.specs.table.Exact.{IsOnly}
-use Rattle.snmp_agent.specs.table.Format.{HasNoEnd, IsFrontRead, IsMarked, IsNameIn, Means, Names}
-use Rattle.snmp_agent.specs.table.Format.{bar, first_format, second_format}
+use Rattle.snmp_agent.specs.table.Format.{HasNoEnd, IsFrontRead, IsMarked, IsNameIn, Means, Names, bar, first_format, second_format}
 use Rattle.snmp_agent.proofs.Cuts.{HasNoBar, no_cut}
 
 -- ---- names of a reader

@@ -1,13 +1,8 @@
 -- Rows that are put in their places together are those that were there and those that came.
-use Rattle.std.proofs.Common.{◌≡◌, ℕ, Bool, true, false, List, [], ◌∷◌, ◌++◌}
-use Rattle.std.proofs.Common.{sym, ◌∙◌, ap, append_assoc}
-use Rattle.std.proofs.Common.{append-nil, is_some}
+use Rattle.std.proofs.Common.{◌≡◌, ℕ, Bool, true, false, List, [], ◌∷◌, ◌++◌, sym, ◌∙◌, ap, append_assoc, append-nil, is_some}
 use Rattle.std.specs.List.Sorted.{IsPermutation}
-use Rattle.std.proofs.lemmas.List.Sorted.{IsPermutation-trans}
-use Rattle.std.proofs.lemmas.List.Sorted.{IsPermutation-append_left, IsPermutation-append_right}
-use Rattle.std.proofs.lemmas.List.Sorted.{IsPermutation-middle, IsPermutation-append_comm}
-use Rattle.std.proofs.lemmas.List.Sorted.{IsPermutation-to_front}
-use Rattle.std.proofs.lemmas.List.Sorted.{Contains-permutation, IsPermutation-map}
+use Rattle.std.proofs.lemmas.List.Sorted.{IsPermutation-trans, IsPermutation-append_left, IsPermutation-append_right, IsPermutation-middle}
+use Rattle.std.proofs.lemmas.List.Sorted.{IsPermutation-append_comm, IsPermutation-to_front, Contains-permutation, IsPermutation-map}
 use Rattle.std.proofs.lemmas.List.Sorted.{IsPermutation-sym}
 use Rattle.std.specs.List.{Contains}
 use Rattle.std.specs.Ordering.{nat_cmp}
@@ -21,8 +16,7 @@ use Rattle.snmp_agent.specs.table.Pages.{IsSorted, entries_in, entries_of}
 use Rattle.snmp_agent.proofs.Partition.{rows-append}
 use Rattle.snmp_agent.specs.table.Draft.{AreDistinct}
 use Rattle.snmp_agent.proofs.Rising.{listed_from_find}
-use Rattle.snmp_agent.proofs.TableDrafts.{distinct_moved, distinct_sorted, listed_contained, none_of}
-use Rattle.snmp_agent.proofs.TableDrafts.{put_moves, some_of}
+use Rattle.snmp_agent.proofs.TableDrafts.{distinct_moved, distinct_sorted, listed_contained, none_of, put_moves, some_of}
 
 abbrev Entries : Type 0
 Entries = List (List ℕ × Datum)

@@ -2,22 +2,16 @@
 use Rattle.std.proofs.Common.{◌≡◌, ℕ, true, List, sym, ◌∙◌}
 use Rattle.std.specs.Ordering.{nat_cmp}
 use Rattle.std.specs.Cmp.Lexicographic.{slice_cmp, nat_list_cmp_total}
-use Rattle.std.specs.FinMap.{FinMap, entries, entries_sorted, entries-from_sorted, from_sorted}
-use Rattle.std.specs.FinMap.{same_entries_map, get, get-from_sorted, find}
+use Rattle.std.specs.FinMap.{FinMap, entries, entries_sorted, entries-from_sorted, from_sorted, same_entries_map, get, get-from_sorted, find}
 use Rattle.std.specs.FinSet.{contains, contains-from_list}
 use Rattle.snmp_oid.specs.Identifier.{IsIdentifier}
 use Rattle.snmp_wire.specs.Message.{Datum, VarBind}
 use Rattle.snmp_wire.specs.Range.{IsInRange}
-use Rattle.snmp_wire.specs.Message.Datum.{octet_string, null_value, object_id}
-use Rattle.snmp_wire.specs.Message.Datum.{ip_address}
-use Rattle.snmp_wire.specs.Message.Datum.{opaque_octets}
-use Rattle.snmp_wire.specs.Message.Datum.{no_such_object, no_such_instance}
+use Rattle.snmp_wire.specs.Message.Datum.{octet_string, null_value, object_id, ip_address, opaque_octets, no_such_object, no_such_instance}
 use Rattle.snmp_wire.specs.Message.Datum.{end_of_mib_view}
-use Rattle.snmp_agent.specs.table.Table.{IsRow, IsInstanceName, IsInstanceValue, IsMibView}
-use Rattle.snmp_agent.specs.table.Table.{MibView}
+use Rattle.snmp_agent.specs.table.Table.{IsRow, IsInstanceName, IsInstanceValue, IsMibView, MibView}
 use Rattle.snmp_agent.specs.table.Places.{view_of}
-use Rattle.snmp_agent.specs.table.Format.{Format, IsName, IsNameIn, Means, Names, first_format}
-use Rattle.snmp_agent.specs.table.Format.{names_by, numeric_names, second_format}
+use Rattle.snmp_agent.specs.table.Format.{Format, IsName, IsNameIn, Means, Names, first_format, names_by, numeric_names, second_format}
 use Rattle.snmp_agent.specs.table.Text.{HasPrefix, HasRow, IsValueText}
 use Rattle.snmp_agent.specs.table.Stated.{IsTableIn}
 use Rattle.snmp_agent.specs.table.Draft.{HoldsTable}

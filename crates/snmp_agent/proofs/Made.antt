@@ -1,9 +1,7 @@
 -- Good lines state a table.
-use Rattle.std.proofs.Common.{◌≡◌, ℕ, List, [], ◌∷◌, ◌++◌, Some, None, refl, sym, subst, T}
-use Rattle.std.proofs.Common.{append_assoc, append-nil}
+use Rattle.std.proofs.Common.{◌≡◌, ℕ, List, [], ◌∷◌, ◌++◌, Some, None, refl, sym, subst, T, append_assoc, append-nil}
 use Rattle.std.specs.List.Sorted.{IsPermutation}
-use Rattle.std.proofs.lemmas.List.Sorted.{IsPermutation-append_left, IsPermutation-refl}
-use Rattle.std.proofs.lemmas.List.Sorted.{IsPermutation-trans}
+use Rattle.std.proofs.lemmas.List.Sorted.{IsPermutation-append_left, IsPermutation-refl, IsPermutation-trans}
 use Rattle.std.specs.Ordering.{nat_cmp}
 use Rattle.std.specs.Cmp.Lexicographic.{slice_cmp, nat_list_cmp_total}
 use Rattle.std.specs.FinMap.{find, is_sorted, put}
@@ -16,13 +14,11 @@ use Rattle.snmp_agent.specs.table.Format.{Format, Names}
 use Rattle.snmp_agent.specs.table.Places.{entry_of}
 use Rattle.snmp_agent.specs.table.Stated.{AreTableBy, IsTableOf}
 use Rattle.snmp_agent.specs.table.Table.{IsMibView, MibView}
-use Rattle.snmp_agent.specs.table.Text.{AreTable, HasRow, IsGoodLine, IsRowLine, a_blank, a_prefix}
-use Rattle.snmp_agent.specs.table.Text.{a_row}
+use Rattle.snmp_agent.specs.table.Text.{AreTable, HasRow, IsGoodLine, IsRowLine, a_blank, a_prefix, a_row}
 use Rattle.snmp_agent.proofs.Faultless.{earlier_differs, line_good}
 use Rattle.snmp_agent.proofs.Keeping.{is_view, table_of, view_from}
 use Rattle.snmp_agent.proofs.OneStatement.{StatesOnly, states_only}
-use Rattle.snmp_agent.proofs.TableDrafts.{holds_instance, holds_no_lines, holds_nothing}
-use Rattle.snmp_agent.proofs.TableDrafts.{holds_object, put_moves, whole}
+use Rattle.snmp_agent.proofs.TableDrafts.{holds_instance, holds_no_lines, holds_nothing, holds_object, put_moves, whole}
 
 -- what the lines hold, and its entries in their places
 abbrev HasDraft : Format → List (List ℕ) → Type 0

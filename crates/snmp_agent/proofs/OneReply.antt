@@ -8,10 +8,8 @@ use Rattle.snmp_wire.specs.Canon.{canon}
 use Rattle.snmp_agent.specs.table.Table.{MibView, IsGet, IsNext, IsNextAfter}
 use Rattle.snmp_agent.specs.declared.config.Why.{Why}
 use Rattle.snmp_agent.specs.declared.config.Why.TheVariants as why
-use Rattle.snmp_agent.specs.Reply.{Agent, IsServed, response, AreAnswers, no_error, IsWhole, got}
-use Rattle.snmp_agent.specs.Reply.{got_next, unwritten, Fits, or_zero, AreEnds, joined}
-use Rattle.snmp_agent.specs.Reply.{AreRounds, IsBulk, IsLongestFront, IsResponse, whole, shortened}
-use Rattle.snmp_agent.specs.Reply.{bulk, IsReply, IsDropped}
+use Rattle.snmp_agent.specs.Reply.{Agent, IsServed, response, AreAnswers, no_error, IsWhole, got, got_next, unwritten, Fits, or_zero, AreEnds, joined}
+use Rattle.snmp_agent.specs.Reply.{AreRounds, IsBulk, IsLongestFront, IsResponse, whole, shortened, bulk, IsReply, IsDropped}
 use Rattle.snmp_agent.proofs.Answers.{HasGets, HasNexts, HasNextsAfter, same_answers}
 use Rattle.snmp_agent.proofs.Rounds.{ends_decided, not_empty}
 

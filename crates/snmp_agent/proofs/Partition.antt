@@ -1,8 +1,6 @@
 -- Where the rows behind a name begin.
-use Rattle.std.proofs.Common.{◌≡◌, ℕ, zero, suc, ◌-◌, ◌≤◌, ◌<◌, true, false, List, [], ◌∷◌, ◌++◌, ◌∙◌}
-use Rattle.std.proofs.Common.{length, take, drop, slice_index_or, slice_set, refl, sym, ap, subst}
-use Rattle.std.proofs.Common.{arith, append_assoc, Some}
-use Rattle.std.proofs.Common.{Less, Greater}
+use Rattle.std.proofs.Common.{◌≡◌, ℕ, zero, suc, ◌-◌, ◌≤◌, ◌<◌, true, false, List, [], ◌∷◌, ◌++◌, ◌∙◌, length, take, drop, slice_index_or, slice_set}
+use Rattle.std.proofs.Common.{refl, sym, ap, subst, arith, append_assoc, Some, Less, Greater}
 use Rattle.std.specs.Ordering.{nat_cmp, is_le}
 use Rattle.std.specs.Cmp.Lexicographic.{slice_cmp}
 use Rattle.std.specs.List.{AllWithin, slice_get}
@@ -13,8 +11,7 @@ use Rattle.snmp_wire.specs.Message.{Datum, VarBind}
 use Rattle.snmp_agent.specs.declared.table.page.Page.{Page}
 use Rattle.snmp_agent.specs.table.Halving.{IsHalvedTo}
 use Rattle.snmp_agent.specs.table.Places.{IsAfterAll, IsBeforeNone, IsBeforeAll, entry_of}
-use Rattle.snmp_agent.specs.table.Pages.{ArePages, IsPageOf, IsPlaceAfter, IsRising, IsSorted}
-use Rattle.snmp_agent.specs.table.Pages.{begins_up_to, entries_in, entries_of, is_up_to}
+use Rattle.snmp_agent.specs.table.Pages.{ArePages, IsPageOf, IsPlaceAfter, IsRising, IsSorted, begins_up_to, entries_in, entries_of, is_up_to}
 use Rattle.snmp_agent.proofs.Lists.{all_back, around}
 use Rattle.snmp_agent.proofs.Rising.{after_up_to, before_all, before_from, before_up_to, first_of_both}
 use Rattle.snmp_agent.proofs.Rising.{is_behind, not_behind, rising_rest, second_of_both, turned}

@@ -1,6 +1,5 @@
 -- A text that is cut at an octet.
-use Rattle.std.proofs.Common.{◌≡◌, ◌≢◌, ℕ, zero, suc, ◌<◌, List, [], ◌∷◌, ◌++◌, length, get_or}
-use Rattle.std.proofs.Common.{take, drop, ap, arith}
+use Rattle.std.proofs.Common.{◌≡◌, ◌≢◌, ℕ, zero, suc, ◌<◌, List, [], ◌∷◌, ◌++◌, length, get_or, take, drop, ap, arith}
 use Rattle.std.specs.List.{All}
 
 all_of : (octet o : ℕ) (text : List ℕ) → (o ≡ octet → ⊥) → All (λ x. x ≢ octet) text → All (λ x. x ≢ octet) (o ∷ text)

@@ -1,6 +1,5 @@
 -- Places among the variables of a view, and what names are given there.
-use Rattle.std.proofs.Common.{◌≡◌, ◌↔◌, ℕ, zero, suc, ◌+◌, true, List, [], ◌∷◌, map}
-use Rattle.std.proofs.Common.{take, drop, refl, ap, subst, ◌∙◌, add-one}
+use Rattle.std.proofs.Common.{◌≡◌, ◌↔◌, ℕ, zero, suc, ◌+◌, true, List, [], ◌∷◌, map, take, drop, refl, ap, subst, ◌∙◌, add-one}
 use Rattle.std.proofs.lemmas.Bool.{and_from, and_parts, false≢true}
 use Rattle.std.specs.FinMap.{entries}
 use Rattle.std.specs.List.{list_all}
@@ -12,10 +11,8 @@ use Rattle.snmp_agent.specs.table.Places.{var_of, last_name}
 use Rattle.snmp_agent.specs.table.Pages.{AreBehind, entries_after}
 use Rattle.snmp_agent.specs.Reply.{AreEnds}
 use Rattle.snmp_agent.specs.Answering.{AreGiven}
-use Rattle.snmp_agent.specs.Standing.{given_in, has_none, is_over, next_at}
-use Rattle.snmp_agent.specs.Standing.{passed, place_of, places_of}
-use Rattle.snmp_agent.proofs.Following.{IsOrder, all_behind, asked_past, behind_name}
-use Rattle.snmp_agent.proofs.Following.{behind_past, first_row, is_next}
+use Rattle.snmp_agent.specs.Standing.{given_in, has_none, is_over, next_at, passed, place_of, places_of}
+use Rattle.snmp_agent.proofs.Following.{IsOrder, all_behind, asked_past, behind_name, behind_past, first_row, is_next}
 
 abbrev Entries : Type 0
 Entries = List (List ℕ × Datum)

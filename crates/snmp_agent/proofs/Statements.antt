@@ -1,17 +1,13 @@
 -- Facts about what lines state.
-use Rattle.std.proofs.Common.{◌≡◌, ℕ, ◌^◌, ◌<◌, inl, inr, List, [], ◌∷◌, ◌++◌, Result, Ok, Err}
-use Rattle.std.proofs.Common.{IfErr, IfOk, refl, sym, ◌∙◌, ap}
-use Rattle.std.proofs.Common.{subst, append_assoc, arith, codes}
+use Rattle.std.proofs.Common.{◌≡◌, ℕ, ◌^◌, ◌<◌, inl, inr, List, [], ◌∷◌, ◌++◌, Result, Ok, Err, IfErr, IfOk, refl, sym, ◌∙◌, ap, subst, append_assoc}
+use Rattle.std.proofs.Common.{arith, codes}
 use Rattle.std.specs.List.{All}
 use Rattle.std.proofs.lemmas.List.{append_cancel_left}
 use Rattle.std.proofs.lemmas.List.Elements.{All-nil, All-cons}
 use Rattle.snmp_oid.specs.Numeric.{IsDotted, IsNumericName}
 use Rattle.snmp_wire.specs.Message.{Datum, VarBind}
-use Rattle.snmp_wire.specs.Message.Datum.{integer_value, octet_string, null_value, object_id}
-use Rattle.snmp_wire.specs.Message.Datum.{ip_address, counter32, gauge32, time_ticks}
-use Rattle.snmp_wire.specs.Message.Datum.{opaque_octets}
-use Rattle.snmp_wire.specs.Message.Datum.{counter64, no_such_object, no_such_instance}
-use Rattle.snmp_wire.specs.Message.Datum.{end_of_mib_view}
+use Rattle.snmp_wire.specs.Message.Datum.{integer_value, octet_string, null_value, object_id, ip_address, counter32, gauge32, time_ticks}
+use Rattle.snmp_wire.specs.Message.Datum.{opaque_octets, counter64, no_such_object, no_such_instance, end_of_mib_view}
 use Rattle.snmp_agent.specs.declared.table.value.Tag.{Tag}
 use Rattle.snmp_agent.specs.declared.table.value.Tag.TheVariants as tag
 use Rattle.snmp_agent.specs.declared.table.line.Line.{Line}

@@ -1,18 +1,13 @@
 -- Facts about what lines state together, and about the draft that holds it.
-use Rattle.std.proofs.Common.{◌≡◌, Option, is_some, ℕ, ◌⊎◌, inl, inr, ◌↔◌, Bool, true, false, cond}
-use Rattle.std.proofs.Common.{◌||◌, List, [], ◌∷◌, ◌++◌, map, Some, None, refl, sym, ◌∙◌, T}
-use Rattle.std.proofs.Common.{ap, Less, zero, suc, get_or, Equal, Greater, Vec, Global}
-use Rattle.std.proofs.Common.{◌+◌, ◌<◌, ◌≤◌, length, arith}
+use Rattle.std.proofs.Common.{◌≡◌, Option, is_some, ℕ, ◌⊎◌, inl, inr, ◌↔◌, Bool, true, false, cond, ◌||◌, List, [], ◌∷◌, ◌++◌, map, Some, None, refl}
+use Rattle.std.proofs.Common.{sym, ◌∙◌, T, ap, Less, zero, suc, get_or, Equal, Greater, Vec, Global, ◌+◌, ◌<◌, ◌≤◌, length, arith}
 use Rattle.std.specs.List.{All, AllPairs, Contains, list_any, sum_by}
 use Rattle.std.specs.List.Sorted.{IsPermutation}
-use Rattle.std.proofs.lemmas.List.Elements.{All-append, All-cons, All-contains_itself, All-nil}
-use Rattle.std.proofs.lemmas.List.Elements.{Contains-append_left}
-use Rattle.std.proofs.lemmas.List.Elements.{Contains-append_right, Contains-push}
-use Rattle.std.proofs.lemmas.List.Elements.{Contains-push_cases}
+use Rattle.std.proofs.lemmas.List.Elements.{All-append, All-cons, All-contains_itself, All-nil, Contains-append_left, Contains-append_right}
+use Rattle.std.proofs.lemmas.List.Elements.{Contains-push, Contains-push_cases}
 use Rattle.std.proofs.lemmas.List.Quantifiers.{all_pairs_push}
-use Rattle.std.proofs.lemmas.List.Sorted.{Contains-permutation, IsPermutation-cons}
-use Rattle.std.proofs.lemmas.List.Sorted.{IsPermutation-refl, IsPermutation-sym}
-use Rattle.std.proofs.lemmas.List.Sorted.{IsPermutation-to_front, sum_by-IsPermutation}
+use Rattle.std.proofs.lemmas.List.Sorted.{Contains-permutation, IsPermutation-cons, IsPermutation-refl, IsPermutation-sym, IsPermutation-to_front}
+use Rattle.std.proofs.lemmas.List.Sorted.{sum_by-IsPermutation}
 use Rattle.std.proofs.lemmas.List.Sums.{get_or-le-sum_by, sum_by-cons, sum_by_push}
 use Rattle.std.specs.Ordering.{nat_cmp, is_eq, eq_by_cmp, match_ordering}
 use Rattle.std.specs.Cmp.{tied_itself}
@@ -23,15 +18,13 @@ use Rattle.std.specs.BTreeSet.{insert_key}
 use Rattle.snmp_wire.specs.Message.{Datum, VarBind}
 use Rattle.snmp_agent.specs.table.Format.{Format}
 use Rattle.snmp_agent.specs.table.Form.{Statement, nothing, object_prefix, instance, States}
-use Rattle.snmp_agent.specs.table.Text.{AreTable, DifferInName, IsGoodLine, a_blank, a_prefix}
-use Rattle.snmp_agent.specs.table.Text.{a_row}
+use Rattle.snmp_agent.specs.table.Text.{AreTable, DifferInName, IsGoodLine, a_blank, a_prefix, a_row}
 use Rattle.snmp_agent.specs.table.Stated.{IsDouble}
 use Rattle.snmp_agent.specs.table.Places.{IsBeforeAll, entry_of}
 use Rattle.snmp_agent.specs.table.Draft.{AreDistinct, HoldsLines, HoldsTable, has_key}
 use Rattle.snmp_agent.proofs.Changing.{tied}
 use Rattle.snmp_agent.proofs.OneStatement.{StatesOnly}
-use Rattle.snmp_agent.proofs.Rising.{Listed, before_all, find-listed, first_of_both}
-use Rattle.snmp_agent.proofs.Rising.{listed_from_find, same_name, second_of_both}
+use Rattle.snmp_agent.proofs.Rising.{Listed, before_all, find-listed, first_of_both, listed_from_find, same_name, second_of_both}
 
 -- ---- entries in any order
 

@@ -1,15 +1,12 @@
 -- Lines state one table at most.
-use Rattle.std.proofs.Common.{◌≡◌, ◌↔◌, ℕ, Bool, true, false, List, subst, refl, sym, ◌∙◌, ap}
-use Rattle.std.proofs.Common.{Option, Some, None}
+use Rattle.std.proofs.Common.{◌≡◌, ◌↔◌, ℕ, Bool, true, false, List, subst, refl, sym, ◌∙◌, ap, Option, Some, None}
 use Rattle.std.specs.Ordering.{nat_cmp}
 use Rattle.std.specs.Cmp.Lexicographic.{slice_cmp, nat_list_cmp_total}
-use Rattle.std.specs.FinMap.{FinMap, get, same_map, nat_cmp-IsAntisymmetric}
-use Rattle.std.specs.FinMap.{slice_cmp-IsAntisymmetric}
+use Rattle.std.specs.FinMap.{FinMap, get, same_map, nat_cmp-IsAntisymmetric, slice_cmp-IsAntisymmetric}
 use Rattle.std.specs.FinSet.{FinSet, contains, same_set}
 use Rattle.snmp_wire.specs.Message.{Datum}
 use Rattle.snmp_agent.specs.table.Table.{MibView}
-use Rattle.snmp_agent.specs.table.Format.{Format, IsFormat, IsMarked, Names, first_format}
-use Rattle.snmp_agent.specs.table.Format.{second_format}
+use Rattle.snmp_agent.specs.table.Format.{Format, IsFormat, IsMarked, Names, first_format, second_format}
 use Rattle.snmp_agent.specs.table.Stated.{IsTableIn, IsTableOf}
 
 -- what one knows, the other knows

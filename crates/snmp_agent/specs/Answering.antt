@@ -1,14 +1,12 @@
 -- How replies are made: what private functions are proved to find and to write. Only contracts of
 -- functions that the crate doesn't export cite these definitions.
-use Rattle.std.specs.Prelude.{◌≡◌, ◌≢◌, ℕ, zero, suc, ℤ, pos, ◌+◌, ◌≤◌, ◌<◌, List, [], ◌∷◌}
-use Rattle.std.specs.Prelude.{◌++◌, ◌-◌, length, map, take, drop, cond, leb}
-use Rattle.std.specs.Prelude.{Option, None, Some}
+use Rattle.std.specs.Prelude.{◌≡◌, ◌≢◌, ℕ, zero, suc, ℤ, pos, ◌+◌, ◌≤◌, ◌<◌, List, [], ◌∷◌, ◌++◌}
+use Rattle.std.specs.Prelude.{◌-◌, length, map, take, drop, cond, leb, Option, None, Some}
 use Rattle.std.specs.List.{list_all}
 use Rattle.snmp_oid.specs.Identifier.{IsWire}
 use Rattle.snmp_wire.specs.declared.kind.Kind.{Kind}
 use Rattle.snmp_wire.specs.declared.kind.Kind.TheVariants as kind
-use Rattle.snmp_wire.specs.Message.{Datum, object_id, octet_string, opaque_octets}
-use Rattle.snmp_wire.specs.Message.{VarBind, Message}
+use Rattle.snmp_wire.specs.Message.{Datum, object_id, octet_string, opaque_octets, VarBind, Message}
 use Rattle.snmp_wire.specs.Canon.{canon, canon_binding, canon_head}
 use Rattle.snmp_agent.specs.table.Listing.{got_at}
 use Rattle.snmp_agent.specs.table.Table.{MibView, IsNextAfter}

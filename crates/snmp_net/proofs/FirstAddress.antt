@@ -1,6 +1,5 @@
 -- The first item of a kind, of those that an iterator over the front of a list has left.
-use Rattle.std.proofs.Common.{◌≡◌, ℕ, zero, suc, ◌+◌, ◌<◌, Bool, false, cond, List, [], ◌∷◌}
-use Rattle.std.proofs.Common.{length, take, find, Some, refl, ◌∙◌, ap, arith}
+use Rattle.std.proofs.Common.{◌≡◌, ℕ, zero, suc, ◌+◌, ◌<◌, Bool, false, cond, List, [], ◌∷◌, length, take, find, Some, refl, ◌∙◌, ap, arith}
 
 pub first_taken : {A : Type 0} (n m : ℕ) (s t : List A) (x : A) → s ≡ x ∷ t → m + 1 ≡ n → take n s ≡ x ∷ take m t
 first_taken n m s t x e k = let one_more : n ≡ suc m = omega (arith, k) in ap (λ j. take j s) one_more ∙ ap (take (suc m)) e

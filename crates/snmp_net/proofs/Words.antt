@@ -1,15 +1,12 @@
 -- Words with a colon or a prefix, and what they state.
-use Rattle.std.proofs.Common.{◌≡◌, ◌≢◌, ◌<◌, ◌++◌, ◌∷◌, ◌==◌, ◌↔◌, ℕ, Bool, true, false, not}
-use Rattle.std.proofs.Common.{IsTrue, refl, [], List, Bor}
-use Rattle.std.proofs.Common.{Contains, Option, Some, None, IfSome, IfNone, MatchOption, sym, ap}
-use Rattle.std.proofs.Common.{◌∙◌, length, slice_index, codes, arith, subst, inl, inr}
+use Rattle.std.proofs.Common.{◌≡◌, ◌≢◌, ◌<◌, ◌++◌, ◌∷◌, ◌==◌, ◌↔◌, ℕ, Bool, true, false, not, IsTrue, refl, [], List, Bor, Contains, Option, Some}
+use Rattle.std.proofs.Common.{None, IfSome, IfNone, MatchOption, sym, ap, ◌∙◌, length, slice_index, codes, arith, subst, inl, inr}
 use Rattle.std.specs.Str.Pattern.{FindsTextPrefix, StripsPrefix}
 use Rattle.std.proofs.lemmas.Bool.Decides.{nat_tests}
 use Rattle.std.proofs.lemmas.List.{get_or_default}
 use Rattle.std.proofs.lemmas.List.Elements.{Contains-append_right}
 use Rattle.std.proofs.lemmas.Str.Pattern.{IsSplitOnceResult, split_after}
-use Rattle.snmp_net.specs.Address.{Address, IsAgent, IsHost, IsHostAndPort, IsTarget, LacksPrefix}
-use Rattle.snmp_net.specs.Address.{colon, table, udp}
+use Rattle.snmp_net.specs.Address.{Address, IsAgent, IsHost, IsHostAndPort, IsTarget, LacksPrefix, colon, table, udp}
 use Rattle.snmp_net.specs.declared.address.UdpAddress.{UdpAddress}
 
 -- where no colon is contained, none stands at any place

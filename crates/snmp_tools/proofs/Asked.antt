@@ -20,9 +20,8 @@ use Rattle.snmp_walk.specs.declared.end.SinkFault.TheVariants as sink
 use Rattle.snmp_walk.specs.declared.end.WalkEnd.{WalkEnd}
 use Rattle.snmp_walk.specs.declared.end.WalkEnd.TheVariants as ending
 use Rattle.snmp_walk.specs.declared.link.Link.{Ghosts as LinkFacts}
-use Rattle.snmp_tools.specs.Answer.{AreRowsAfter, CanBeSent, Counts, HasReason, IsAsked}
-use Rattle.snmp_tools.specs.Answer.{IsAskedOver, IsOwnEnd, agent_over, end_in_memory, first_after}
-use Rattle.snmp_tools.specs.Answer.{first_of, request_for}
+use Rattle.snmp_tools.specs.Answer.{AreRowsAfter, CanBeSent, Counts, HasReason, IsAsked, IsAskedOver, IsOwnEnd, agent_over, end_in_memory}
+use Rattle.snmp_tools.specs.Answer.{first_after, first_of, request_for}
 use Rattle.snmp_tools.specs.Lines.{IsPrintedUpTo}
 use Rattle.snmp_tools.specs.Mib.{Mib}
 use Rattle.snmp_tools.specs.Question.{Plan, Question, Walk, counts_in, names, subtree}

@@ -1,6 +1,5 @@
 -- The headline, of what a job wrote and reported.
-use Rattle.std.proofs.Common.{◌≡◌, ◌⊎◌, inl, inr, ◌++◌, ℕ, Bool, true, false, List, [], Option}
-use Rattle.std.proofs.Common.{Some, None, refl, sym, ◌∙◌, ap, subst, codes}
+use Rattle.std.proofs.Common.{◌≡◌, ◌⊎◌, inl, inr, ◌++◌, ℕ, Bool, true, false, List, [], Option, Some, None, refl, sym, ◌∙◌, ap, subst, codes}
 use Rattle.std.specs.Str.Lines.{lines}
 use Rattle.snmp_wire.specs.Message.{VarBind}
 use Rattle.snmp_agent.specs.table.Table.{MibView}
@@ -27,13 +26,11 @@ use Rattle.snmp_tools.specs.Answer.{AreRowsOf, IsFeasible, IsOwnEnd}
 use Rattle.snmp_tools.specs.Done.{IsAskDone}
 use Rattle.snmp_tools.specs.Headline.{IsAsk, IsMishap, IsWholeText, WritesRows}
 use Rattle.snmp_tools.specs.Lines.{IsPrintedUpTo}
-use Rattle.snmp_tools.specs.Message.{Fault, bad_table, ended, fault_message, out_of_memory}
-use Rattle.snmp_tools.specs.Message.{status_of}
+use Rattle.snmp_tools.specs.Message.{Fault, bad_table, ended, fault_message, out_of_memory, status_of}
 use Rattle.snmp_tools.specs.Mib.{AreLoaded, Mib}
 use Rattle.snmp_tools.specs.Outcome.{IsFinished, IsOutcome, IsOutcomeBy, IsReported, IsRun, asked}
 use Rattle.snmp_tools.specs.Outcome.{asked_over, loaded, not_begun, not_linked, not_loaded, refused}
-use Rattle.snmp_tools.specs.Question.{AskFor, AskWords, IsLastRefusal, IsLateRefusal, IsPlanFor}
-use Rattle.snmp_tools.specs.Question.{Plan, counts_in}
+use Rattle.snmp_tools.specs.Question.{AskFor, AskWords, IsLastRefusal, IsLateRefusal, IsPlanFor, Plan, counts_in}
 use Rattle.snmp_tools.specs.Seen.{Seen}
 use Rattle.snmp_tools.proofs.Asked.{counted}
 use Rattle.snmp_tools.proofs.Outcomes.{IsFrontOf, finished, no_fault_at_0}

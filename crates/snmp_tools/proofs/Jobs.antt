@@ -1,6 +1,5 @@
 -- What is promised of a job, by what it wrote and reported.
-use Rattle.std.proofs.Common.{◌≡◌, ℕ, true, false, List, Option, Some, refl, sym, subst, inl, inr}
-use Rattle.std.proofs.Common.{codes}
+use Rattle.std.proofs.Common.{◌≡◌, ℕ, true, false, List, Option, Some, refl, sym, subst, inl, inr, codes}
 use Rattle.snmp_agent.specs.declared.table.error.TableError.{TableError}
 use Rattle.snmp_agent.specs.declared.table.error.TableError.TheVariants as table_error
 use Rattle.snmp_agent.specs.table.Format.{Names}
@@ -11,8 +10,7 @@ use Rattle.snmp_io.specs.Output.{IsWritten, Stream}
 use Rattle.snmp_net.specs.declared.links.Links.{Ghosts as Network}
 use Rattle.snmp_walk.specs.declared.link.Link.{Ghosts as LinkFacts}
 use Rattle.snmp_words.specs.declared.job.Job.{Job}
-use Rattle.snmp_words.specs.Words.{StateJob, Stated, job_words, snmpbulkwalk, snmpd, snmpget, snmptranslate}
-use Rattle.snmp_words.specs.Words.{snmpwalk}
+use Rattle.snmp_words.specs.Words.{StateJob, Stated, job_words, snmpbulkwalk, snmpd, snmpget, snmptranslate, snmpwalk}
 use Rattle.snmp_tools.specs.agent.Outcome as serve
 use Rattle.snmp_tools.specs.loading.Loaded.{LoadFacts}
 use Rattle.snmp_tools.specs.translation.Outcome as translated

@@ -1,7 +1,6 @@
 -- The letters of -C, found place by place.
-use Rattle.std.proofs.Common.{◌≡◌, ◌+◌, ◌*◌, ◌<◌, ◌≤◌, ℕ, Bool, true, false, List, [], ◌∷◌, zero, suc}
-use Rattle.std.proofs.Common.{Some, None, length, drop, slice_index_or, refl, sym, subst}
-use Rattle.std.proofs.Common.{drop-cons, add-one, arith, inl, inr, drop_of_length-le}
+use Rattle.std.proofs.Common.{◌≡◌, ◌+◌, ◌*◌, ◌<◌, ◌≤◌, ℕ, Bool, true, false, List, [], ◌∷◌, zero, suc, Some, None, length, drop, slice_index_or, refl}
+use Rattle.std.proofs.Common.{sym, subst, drop-cons, add-one, arith, inl, inr, drop_of_length-le}
 use Rattle.std.proofs.lemmas.Bool.{and_parts, cases_lt}
 use Rattle.std.proofs.lemmas.Bool.Decides.{nat_tests}
 use Rattle.std.proofs.lemmas.Str.{digit_value_digit}

@@ -28,13 +28,10 @@ use Rattle.smi_text.specs.declared.trees.tree.Module.{Module}
 use Rattle.smi_names.specs.declared.nodes.warning.Warning.{Warning}
 use Rattle.smi_tree.specs.Tree.{Contents, IsTree}
 use Rattle.snmp_tools.specs.Mib.{AreLoaded, Mib, mib_of}
-use Rattle.snmp_tools.specs.Question.{AreNames, AskFor, AskWords, FailsBy, FailsFor, IsAtOrBelow}
-use Rattle.snmp_tools.specs.Question.{IsDoneBy, IsEarlyRefusal, IsLastRefusal, IsLateRefusal}
-use Rattle.snmp_tools.specs.Question.{IsQuestionOf, LaterStep, LoadingStep, Plan, Question, Request}
-use Rattle.snmp_tools.specs.Question.{HasChosen, HasUnknown, goes_on_after, root_text, asking}
-use Rattle.snmp_tools.specs.Question.{choices_step, mibs_step, get, names, subtree, walk}
-use Rattle.snmp_tools.specs.Question.{name_steps, reaching_steps, sent_steps, below_step, name_step}
-use Rattle.snmp_tools.specs.Question.{reach_step, sent_step}
+use Rattle.snmp_tools.specs.Question.{AreNames, AskFor, AskWords, FailsBy, FailsFor, IsAtOrBelow, IsDoneBy, IsEarlyRefusal, IsLastRefusal}
+use Rattle.snmp_tools.specs.Question.{IsLateRefusal, IsQuestionOf, LaterStep, LoadingStep, Plan, Question, Request, HasChosen, HasUnknown}
+use Rattle.snmp_tools.specs.Question.{goes_on_after, root_text, asking, choices_step, mibs_step, get, names, subtree, walk, name_steps}
+use Rattle.snmp_tools.specs.Question.{reaching_steps, sent_steps, below_step, name_step, reach_step, sent_step}
 use Rattle.snmp_tools.proofs.ChosenLetters.{among, both, no_choice, one_choice}
 use Rattle.snmp_tools.proofs.TableNames.{OneMeaning, no_name, one_look_up, one_name}
 

@@ -1,6 +1,5 @@
 -- What a printer writes of the rows that it is given.
-use Rattle.std.proofs.Common.{◌≡◌, ◌++◌, ℕ, List, [], ◌∷◌, Result, Ok, Err, sym, refl, ◌∙◌, ap}
-use Rattle.std.proofs.Common.{subst, append-nil, append_assoc}
+use Rattle.std.proofs.Common.{◌≡◌, ◌++◌, ℕ, List, [], ◌∷◌, Result, Ok, Err, sym, refl, ◌∙◌, ap, subst, append-nil, append_assoc}
 use Rattle.smi_value.specs.declared.letters.letters.Letters.{Letters}
 use Rattle.snmp_wire.specs.Message.{VarBind}
 use Rattle.snmp_walk.specs.declared.end.SinkFault.{SinkFault}

@@ -5,8 +5,7 @@ use Rattle.snmp_io.specs.Output.{Stream, extended}
 use Rattle.snmp_io.specs.Streams.{extended-twice}
 use Rattle.snmp_words.specs.Words.{texts_at}
 use Rattle.snmp_tools.specs.Message.{Fault}
-use Rattle.snmp_tools.specs.translation.Outcome.{AreNamesPrinted, IsNamePrinted, StopsAtName}
-use Rattle.snmp_tools.specs.translation.Outcome.{StopsWithin}
+use Rattle.snmp_tools.specs.translation.Outcome.{AreNamesPrinted, IsNamePrinted, StopsAtName, StopsWithin}
 use Rattle.snmp_tools.specs.translation.Text.{AreTextsOf, DetailMib, IsTextOf}
 use Rattle.snmp_tools.specs.declared.translation.style.Style.{Style}
 use Rattle.snmp_tools.proofs.Texts.{texts-parts}

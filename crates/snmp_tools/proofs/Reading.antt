@@ -1,7 +1,6 @@
 -- The modules of one file more, and that there is one list of them.
-use Rattle.std.proofs.Common.{◌≡◌, ◌∙◌, ◌⊎◌, inl, inr, ◌++◌, ◌+◌, ◌<◌, ap, ap₂, refl, sym, subst}
-use Rattle.std.proofs.Common.{ℕ, List, [], ◌∷◌, Bor, Option, Some}
-use Rattle.std.proofs.Common.{take, drop, length, get_or, unwrap_or, append_assoc, append-nil}
+use Rattle.std.proofs.Common.{◌≡◌, ◌∙◌, ◌⊎◌, inl, inr, ◌++◌, ◌+◌, ◌<◌, ap, ap₂, refl, sym, subst, ℕ, List, [], ◌∷◌, Bor, Option, Some, take, drop}
+use Rattle.std.proofs.Common.{length, get_or, unwrap_or, append_assoc, append-nil}
 use Rattle.smi_text.specs.lexer.Lexes.{Lexes}
 use Rattle.smi_text.specs.lexer.Token.{Item, Lexeme, tokens_of}
 use Rattle.smi_text.specs.trees.Mark.{Stands}
@@ -10,8 +9,7 @@ use Rattle.smi_text.specs.declared.trees.tree.Module.{Module}
 use Rattle.smi_text.specs.Text.{AreSpelledBy}
 use Rattle.snmp_io.specs.Files.{Holdings, Holds, HoldsIfKnown, MayHold}
 use Rattle.snmp_io.specs.Steps.{AreDone}
-use Rattle.snmp_tools.specs.loading.Files.{AreModulesIn, AreModulesOf, FileFails, IsFilesRefusal}
-use Rattle.snmp_tools.specs.loading.Files.{MayHoldModules, Refusal, no_memory, texts}
+use Rattle.snmp_tools.specs.loading.Files.{AreModulesIn, AreModulesOf, FileFails, IsFilesRefusal, MayHoldModules, Refusal, no_memory, texts}
 use Rattle.snmp_tools.proofs.Texts.{texts-parts}
 
 pub AreModulesOf-more : (Held : (path text : List ℕ) → Type 0) (paths : List (List ℕ)) (path : List ℕ) (ms first : List Module)

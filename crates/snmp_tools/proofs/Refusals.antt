@@ -5,8 +5,7 @@ use Rattle.snmp_io.specs.Files.{Holdings}
 use Rattle.snmp_words.specs.Words.{TranslateWords}
 use Rattle.snmp_tools.specs.Asking.{MibsFail}
 use Rattle.snmp_tools.specs.Message.{Fault, bad_letter, out_of_memory}
-use Rattle.snmp_tools.specs.translation.Refusal.{IsTranslateRefusal, TranslationFails}
-use Rattle.snmp_tools.specs.translation.Refusal.{details_step, letters_step, modules_step}
+use Rattle.snmp_tools.specs.translation.Refusal.{IsTranslateRefusal, TranslationFails, details_step, letters_step, modules_step}
 use Rattle.snmp_tools.specs.translation.Style.{IsStyleOf, first_other_of_t}
 use Rattle.snmp_tools.specs.declared.translation.style.Style.{Style}
 use Rattle.snmp_tools.proofs.Steps.{first, later}

@@ -1,6 +1,5 @@
 -- The lines of a reply are written at once, as if the line of each binding was written by itself.
-use Rattle.std.proofs.Common.{◌≡◌, ◌∙◌, ◌++◌, ◌⊎◌, ℕ, List, [], ◌∷◌, Result, Ok, Err, OnOk, OnErr}
-use Rattle.std.proofs.Common.{IfErr, true, false, inl, inr, ap, refl, subst, sym}
+use Rattle.std.proofs.Common.{◌≡◌, ◌∙◌, ◌++◌, ◌⊎◌, ℕ, List, [], ◌∷◌, Result, Ok, Err, OnOk, OnErr, IfErr, true, false, inl, inr, ap, refl, subst, sym}
 use Rattle.std.proofs.Common.{append-nil, append_assoc}
 use Rattle.std.specs.Result.{is_err}
 use Rattle.smi_value.specs.declared.letters.letters.Letters.{Letters}

@@ -1,13 +1,11 @@
 -- The lines of rows where no object has a syntax: those of `RowText`.
-use Rattle.std.proofs.Common.{◌≡◌, refl, ap, ◌∙◌, subst, ℕ, Bool, true, false, List, [], ◌∷◌, ◌++◌}
-use Rattle.std.proofs.Common.{Option, None, append-nil}
+use Rattle.std.proofs.Common.{◌≡◌, refl, ap, ◌∙◌, subst, ℕ, Bool, true, false, List, [], ◌∷◌, ◌++◌, Option, None, append-nil}
 use Rattle.std.proofs.lemmas.Bool.{and_parts}
 use Rattle.std.specs.Prelude.{codes, if◌then◌else◌, decimal}
 use Rattle.std.specs.Fmt.{signed_decimal}
 use Rattle.std.specs.List.{flat_map, list_all}
 use Rattle.snmp_oid.specs.Numeric.{numeric_text}
-use Rattle.snmp_wire.specs.Message.{Datum, VarBind, integer_value, octet_string, object_id}
-use Rattle.snmp_wire.specs.Message.{counter32, gauge32, time_ticks, counter64}
+use Rattle.snmp_wire.specs.Message.{Datum, VarBind, integer_value, octet_string, object_id, counter32, gauge32, time_ticks, counter64}
 use Rattle.smi_value.specs.declared.letters.letters.Letters.{Letters}
 use Rattle.smi_value.specs.declared.letters.letters.NameForm.TheVariants as names
 use Rattle.smi_value.specs.declared.letters.letters.TypeForm.TheVariants as types

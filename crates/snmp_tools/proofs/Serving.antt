@@ -1,6 +1,5 @@
 -- Why nothing is served, and what is printed where something is.
-use Rattle.std.proofs.Common.{◌≡◌, ◌⊎◌, ◌<◌, ◌≤◌, ◌+◌, inl, inr, refl, subst, ℕ, List, [], ◌∷◌}
-use Rattle.std.proofs.Common.{Option, length}
+use Rattle.std.proofs.Common.{◌≡◌, ◌⊎◌, ◌<◌, ◌≤◌, ◌+◌, inl, inr, refl, subst, ℕ, List, [], ◌∷◌, Option, length}
 use Rattle.snmp_agent.specs.Reply.{Agent}
 use Rattle.snmp_agent.specs.declared.server.Served.{Served}
 use Rattle.snmp_io.specs.Files.{Holdings}
@@ -10,10 +9,8 @@ use Rattle.snmp_net.specs.declared.links.Links.{Ghosts as Network}
 use Rattle.smi_show.specs.name.Naming.{Naming}
 use Rattle.snmp_agent.specs.table.Table.{MibView}
 use Rattle.snmp_words.specs.Words.{ServeWords}
-use Rattle.snmp_tools.specs.agent.Outcome.{IsServedAndCounted, IsServedBy, counts_line}
-use Rattle.snmp_tools.specs.agent.Outcome.{listening_line}
-use Rattle.snmp_tools.specs.agent.Service.{IsServeRefusal, ServiceFails, community_step}
-use Rattle.snmp_tools.specs.agent.Service.{modules_step, place_step}
+use Rattle.snmp_tools.specs.agent.Outcome.{IsServedAndCounted, IsServedBy, counts_line, listening_line}
+use Rattle.snmp_tools.specs.agent.Service.{IsServeRefusal, ServiceFails, community_step, modules_step, place_step}
 use Rattle.snmp_tools.specs.Asking.{MibsFail}
 use Rattle.snmp_tools.specs.Lines.{IsTextPrinted}
 use Rattle.snmp_tools.specs.Message.{Fault, bad_agent, long_community, out_of_memory}

@@ -1,7 +1,6 @@
 -- The first step that fails, after those that are done.
-use Rattle.std.proofs.Common.{◌≡◌, ◌⊎◌, inl, inr, ◌++◌, ◌+◌, ◌<◌, ℕ, zero, suc, List, [], ◌∷◌, All}
-use Rattle.std.proofs.Common.{Bor, Option, Some, None, Ok, length, map, take, drop, get_or}
-use Rattle.std.proofs.Common.{option_map, unwrap_or, refl, sym, ◌∙◌, ap, subst, append_assoc, arith}
+use Rattle.std.proofs.Common.{◌≡◌, ◌⊎◌, inl, inr, ◌++◌, ◌+◌, ◌<◌, ℕ, zero, suc, List, [], ◌∷◌, All, Bor, Option, Some, None, Ok, length, map, take}
+use Rattle.std.proofs.Common.{drop, get_or, option_map, unwrap_or, refl, sym, ◌∙◌, ap, subst, append_assoc, arith}
 use Rattle.std.proofs.lemmas.List.Elements.{All-head, All-tail, AllZip-push}
 use Rattle.smi_show.specs.name.Meant.{TextMeans}
 use Rattle.snmp_oid.specs.Identifier.{IsWire, wire}
@@ -9,23 +8,17 @@ use Rattle.snmp_io.specs.Files.{Holdings, MayHold}
 use Rattle.snmp_io.specs.Steps.{AreDone, IsFirstToFail}
 use Rattle.snmp_net.specs.Address.{Address, address_of}
 use Rattle.snmp_words.specs.Words.{texts_at}
-use Rattle.snmp_tools.specs.Asking.{HasAgent, IsNameIfGiven, IsReached, MibsFail, NameFails}
-use Rattle.snmp_tools.specs.Asking.{ReachFails, agent_step, community_step, letters_step}
+use Rattle.snmp_tools.specs.Asking.{HasAgent, IsNameIfGiven, IsReached, MibsFail, NameFails, ReachFails, agent_step, community_step, letters_step}
 use Rattle.snmp_tools.specs.Asking.{version_step}
 use Rattle.snmp_tools.specs.Chosen.{chosen}
 use Rattle.snmp_tools.specs.Letters.{Choices}
 use Rattle.snmp_tools.specs.Message.{Fault, out_of_memory, unsendable}
 use Rattle.snmp_tools.specs.Mib.{IsMibOf, Mib}
-use Rattle.snmp_tools.specs.Planned.{AgentFails, AreOrdersOf, HasTextsOf, NamesFail, ShowingFails}
-use Rattle.snmp_tools.specs.Planned.{plan_of, question_of}
-use Rattle.snmp_tools.specs.Question.{AreNames, AskFor, AskWords, FailsBy, FailsFor, HasMeaning}
-use Rattle.snmp_tools.specs.Question.{HasSendable, HasUnsendable, IsDoneBy, IsDoneFor}
-use Rattle.snmp_tools.specs.Question.{IsEarlyRefusal, IsLastRefusal, IsLateRefusal, IsQuestionOf}
-use Rattle.snmp_tools.specs.Question.{LaterStep, LoadingStep, Question, Request, get, names}
-use Rattle.snmp_tools.specs.Question.{subtree, walk, asking, below_step, choices_step}
-use Rattle.snmp_tools.specs.Question.{goes_on_after, loading_steps, mibs_step, name_step}
-use Rattle.snmp_tools.specs.Question.{name_steps, reach_step, reaching_steps, root_text, sent_step}
-use Rattle.snmp_tools.specs.Question.{sent_steps}
+use Rattle.snmp_tools.specs.Planned.{AgentFails, AreOrdersOf, HasTextsOf, NamesFail, ShowingFails, plan_of, question_of}
+use Rattle.snmp_tools.specs.Question.{AreNames, AskFor, AskWords, FailsBy, FailsFor, HasMeaning, HasSendable, HasUnsendable, IsDoneBy, IsDoneFor}
+use Rattle.snmp_tools.specs.Question.{IsEarlyRefusal, IsLastRefusal, IsLateRefusal, IsQuestionOf, LaterStep, LoadingStep, Question, Request, get}
+use Rattle.snmp_tools.specs.Question.{names, subtree, walk, asking, below_step, choices_step, goes_on_after, loading_steps, mibs_step, name_step}
+use Rattle.snmp_tools.specs.Question.{name_steps, reach_step, reaching_steps, root_text, sent_step, sent_steps}
 use Rattle.snmp_tools.specs.Start.{BeginFails, ResumeFails}
 use Rattle.snmp_tools.specs.declared.plan.Orders.{Orders}
 use Rattle.snmp_tools.specs.declared.plan.Plan.{Plan}

@@ -1,7 +1,6 @@
 -- What the headline says of a walk of a table file in numbers: which lines are printed.
-use Rattle.std.proofs.Common.{◌≡◌, ◌≢◌, ◌⊎◌, inl, inr, refl, sym, ap, ◌∙◌, subst, ℕ, zero, suc, ◌+◌}
-use Rattle.std.proofs.Common.{◌<◌, ◌≤◌, Bool, false, List, [], ◌∷◌, ◌↔◌, ◌++◌, length, Some, None}
-use Rattle.std.proofs.Common.{Ok, arith, append-nil, append_assoc}
+use Rattle.std.proofs.Common.{◌≡◌, ◌≢◌, ◌⊎◌, inl, inr, refl, sym, ap, ◌∙◌, subst, ℕ, zero, suc, ◌+◌, ◌<◌, ◌≤◌, Bool, false, List, [], ◌∷◌, ◌↔◌, ◌++◌}
+use Rattle.std.proofs.Common.{length, Some, None, Ok, arith, append-nil, append_assoc}
 use Rattle.std.specs.Prelude.{AllPairs, Contains, codes, drop, filter, not, slice_index_or}
 use Rattle.std.specs.List.{flat_map}
 use Rattle.std.specs.FinMap.{get}
@@ -47,8 +46,7 @@ use Rattle.snmp_tools.specs.Question.{AskFor, Plan, Walk, of_walk, subtree}
 use Rattle.snmp_tools.specs.Planned.{numeric_walk}
 use Rattle.snmp_tools.specs.RowText.{row_line}
 use Rattle.snmp_tools.specs.TableWalk as page
-use Rattle.snmp_tools.specs.TableWalk.{AreRowsBelow, AreWalked, HoldsTableFile, IsFree, IsGot}
-use Rattle.snmp_tools.specs.TableWalk.{IsOfObject, IsOutOfMemoryTold, PrintsRows, table_walk}
+use Rattle.snmp_tools.specs.TableWalk.{AreRowsBelow, AreWalked, HoldsTableFile, IsFree, IsGot, IsOfObject, IsOutOfMemoryTold, PrintsRows, table_walk}
 use Rattle.snmp_tools.specs.Letters.{HaveChosen, no_choices}
 use Rattle.snmp_tools.proofs.BareNames.{bare_has_no_syntax, bare_is_loaded, bare_mib}
 use Rattle.snmp_tools.proofs.RowLines.{HasNoSyntax, lines_are, numeric_are, numeric_letters}

@@ -1,6 +1,5 @@
 -- What the outcome says of the texts of all names.
-use Rattle.std.proofs.Common.{◌≡◌, ◌∙◌, ◌++◌, inl, inr, refl, sym, subst, ℕ, List, [], ◌∷◌, Option}
-use Rattle.std.proofs.Common.{Some, None, append_assoc, append-nil}
+use Rattle.std.proofs.Common.{◌≡◌, ◌∙◌, ◌++◌, inl, inr, refl, sym, subst, ℕ, List, [], ◌∷◌, Option, Some, None, append_assoc, append-nil}
 use Rattle.snmp_tools.specs.loading.Loaded.{IsLoaded, LoadFacts}
 use Rattle.smi_text.specs.declared.trees.tree.Module.{Module}
 use Rattle.smi_tree.specs.Tree.{Contents, IsTree}
@@ -9,10 +8,8 @@ use Rattle.snmp_io.specs.Output.{Stream, extended}
 use Rattle.snmp_io.specs.Streams.{front_after, whole_taken}
 use Rattle.snmp_words.specs.Words.{TranslateWords}
 use Rattle.snmp_tools.specs.Message.{Fault}
-use Rattle.snmp_tools.specs.translation.Headline.{AskForTranslation, IsByTree, IsFront, PrintsAll}
-use Rattle.snmp_tools.specs.translation.Headline.{PrintsFront}
-use Rattle.snmp_tools.specs.translation.Outcome.{AreNamesPrinted, IsPrinting, IsTranslateOutcome}
-use Rattle.snmp_tools.specs.translation.Outcome.{StopsAtName, StopsWithin, ran, refused}
+use Rattle.snmp_tools.specs.translation.Headline.{AskForTranslation, IsByTree, IsFront, PrintsAll, PrintsFront}
+use Rattle.snmp_tools.specs.translation.Outcome.{AreNamesPrinted, IsPrinting, IsTranslateOutcome, StopsAtName, StopsWithin, ran, refused}
 use Rattle.snmp_tools.specs.translation.Style.{IsStyleOf}
 use Rattle.snmp_tools.specs.translation.Text.{DetailMib, detail_mib_of}
 use Rattle.snmp_tools.specs.declared.translation.style.Style.{Style}

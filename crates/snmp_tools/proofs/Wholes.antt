@@ -1,6 +1,5 @@
 -- What a job that asks an agent was told, and what it wrote.
-use Rattle.std.proofs.Common.{◌≡◌, ◌∙◌, ◌⊎◌, inl, inr, refl, ap, ℕ, Bool, List, Bor, Option, Some}
-use Rattle.std.proofs.Common.{Result, Ok, Err, subst, sym}
+use Rattle.std.proofs.Common.{◌≡◌, ◌∙◌, ◌⊎◌, inl, inr, refl, ap, ℕ, Bool, List, Bor, Option, Some, Result, Ok, Err, subst, sym}
 use Rattle.std.specs.Prelude.{IfErr}
 use Rattle.std.specs.Result.{IsErrAnd}
 use Rattle.smi_text.specs.declared.trees.tree.Def.{Def}
@@ -13,12 +12,10 @@ use Rattle.snmp_io.specs.Files.{Holdings, Holds, MayHold}
 use Rattle.snmp_io.specs.Output.{Stream}
 use Rattle.snmp_wire.specs.Message.{VarBind}
 use Rattle.snmp_walk.specs.declared.end.WalkEnd.{WalkEnd}
-use Rattle.snmp_tools.specs.loading.Files.{AreModulesOf, IsFilesRefusal, Refusal, no_memory}
-use Rattle.snmp_tools.specs.loading.Files.{texts}
+use Rattle.snmp_tools.specs.loading.Files.{AreModulesOf, IsFilesRefusal, Refusal, no_memory, texts}
 use Rattle.snmp_tools.specs.loading.Loaded.{AreLoadedAs, LoadFacts}
 use Rattle.snmp_tools.specs.Asking.{MibsFail}
-use Rattle.snmp_tools.specs.Message.{Fault, bad_modules, fault_of, modules_fault, out_of_memory}
-use Rattle.snmp_tools.specs.Message.{outcome_of}
+use Rattle.snmp_tools.specs.Message.{Fault, bad_modules, fault_of, modules_fault, out_of_memory, outcome_of}
 use Rattle.snmp_tools.specs.Mib.{AreLoaded, Mib}
 use Rattle.snmp_tools.specs.Outcome.{IsPrinted}
 use Rattle.snmp_tools.specs.Planned.{mib_in}

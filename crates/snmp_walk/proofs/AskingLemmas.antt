@@ -1,6 +1,5 @@
 -- The request of a walk, written as its head and then the binding that asks for a name.
-use Rattle.std.proofs.Common.{◌≡◌, ◌≤◌, ◌+◌, List, ℕ, [], ◌++◌, length, take, length-append}
-use Rattle.std.proofs.Common.{append_assoc, sym, ap, ◌∙◌, arith}
+use Rattle.std.proofs.Common.{◌≡◌, ◌≤◌, ◌+◌, List, ℕ, [], ◌++◌, length, take, length-append, append_assoc, sym, ap, ◌∙◌, arith}
 use Rattle.std.proofs.lemmas.List.{take_at}
 use Rattle.snmp_wire.specs.Canon.{canon, canon_binding, canon_head}
 use Rattle.snmp_wire.specs.Laws.{HasPieces}

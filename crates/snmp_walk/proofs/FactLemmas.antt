@@ -9,11 +9,9 @@ use Rattle.snmp_walk.specs.declared.end.WalkEnd.TheVariants as ending
 use Rattle.snmp_walk.specs.Walker.{Walker, IsWalker}
 use Rattle.snmp_walk.specs.Standing.{Reaches, IsPartOfWalk, IsWholeWalk}
 use Rattle.snmp_walk.specs.Link.{Agents, OneOf, IsNextFrom, IsGotFrom, AreViews}
-use Rattle.snmp_walk.specs.Facts.{IsFresh, IsLastSent, IsEndedBy, IsLawfulEnd, HasNoReply, HasNone}
-use Rattle.snmp_walk.specs.Facts.{IsDone, GivenFacts, WalkFacts, SendFacts, gets}
+use Rattle.snmp_walk.specs.Facts.{IsFresh, IsLastSent, IsEndedBy, IsLawfulEnd, HasNoReply, HasNone, IsDone, GivenFacts, WalkFacts, SendFacts, gets}
 use Rattle.snmp_walk.specs.Codec.{Codec}
-use Rattle.snmp_walk.proofs.JoinLemmas.{variables_rise, variables_are, next_first, get_one}
-use Rattle.snmp_walk.proofs.JoinLemmas.{get_row, after_precedes}
+use Rattle.snmp_walk.proofs.JoinLemmas.{variables_rise, variables_are, next_first, get_one, get_row, after_precedes}
 use Rattle.snmp_walk.proofs.TableLemmas.{part_is, whole_is}
 use Rattle.snmp_walk.proofs.ViewLemmas.{only_one}
 use Rattle.snmp_walk.proofs.SwiftLemmas.{left_end, swift_end, few_in, trail_in_rest, HasFew}
@@ -21,8 +19,7 @@ use Rattle.snmp_walk.proofs.TrailLemmas.{last_name-append}
 use Rattle.std.proofs.lemmas.List.{nil_from_length}
 use Rattle.snmp_walk.specs.Trail.{last_name}
 use Rattle.snmp_walk.specs.Tables.{HoldsNames}
-use Rattle.snmp_walk.proofs.TablesLemmas.{once, rises, part_from, common_in, common_in_whole}
-use Rattle.snmp_walk.proofs.TablesLemmas.{few_rows, whole_some}
+use Rattle.snmp_walk.proofs.TablesLemmas.{once, rises, part_from, common_in, common_in_whole, few_rows, whole_some}
 use Rattle.snmp_walk.proofs.PartLemmas.{part_front}
 use Rattle.snmp_walk.proofs.FullLemmas.{AreRoomy, IsFast, fast_few}
 use Rattle.snmp_walk.specs.Walk.{rest_of}

@@ -1,8 +1,6 @@
 -- How a Get ends, and what its bindings and its end are to the names that it asked for.
-use Rattle.std.proofs.Common.{◌≡◌, ◌≢◌, ◌⊎◌, inl, inr, ◌++◌, ◌<◌, ℕ, pos, Bool, true, false, cond}
-use Rattle.std.proofs.Common.{List, [], ◌∷◌, length, map}
-use Rattle.std.proofs.Common.{Result, Ok, Err, refl, sym, ◌∙◌, ap, subst, append_assoc, append-nil}
-use Rattle.std.proofs.Common.{length-append, arith}
+use Rattle.std.proofs.Common.{◌≡◌, ◌≢◌, ◌⊎◌, inl, inr, ◌++◌, ◌<◌, ℕ, pos, Bool, true, false, cond, List, [], ◌∷◌, length, map, Result, Ok, Err, refl}
+use Rattle.std.proofs.Common.{sym, ◌∙◌, ap, subst, append_assoc, append-nil, length-append, arith}
 use Rattle.std.proofs.lemmas.Bool.{eqb-true, false≢true}
 use Rattle.std.proofs.lemmas.Bool.Decides.{Decides-and, Decides-not, Decides-like, Decides-int_eq}
 use Rattle.std.specs.Prelude.{not, ◌&&◌, ◌==◌}
@@ -14,8 +12,7 @@ use Rattle.snmp_oid.specs.Identifier.{wire}
 use Rattle.snmp_wire.specs.Canon.{canon}
 use Rattle.snmp_wire.specs.Message.{Message, VarBind, end_of_mib_view}
 use Rattle.snmp_walk.specs.Facts.{IsDone}
-use Rattle.snmp_walk.specs.Get.{AreFor, AreForNames, IsEndOfGet, IsReasonOfGet, MeansToGet}
-use Rattle.snmp_walk.specs.Get.{answers_of, are_for, step_of}
+use Rattle.snmp_walk.specs.Get.{AreFor, AreForNames, IsEndOfGet, IsReasonOfGet, MeansToGet, answers_of, are_for, step_of}
 use Rattle.snmp_walk.specs.Course.{Heard}
 use Rattle.snmp_walk.specs.Course as heard
 use Rattle.snmp_walk.specs.Link.{Outcome}

@@ -12,21 +12,19 @@ use Rattle.snmp_wire.specs.Range.{IsMessageInRange}
 use Rattle.snmp_agent.specs.Event.{Event}
 use Rattle.snmp_walk.specs.Codec.{Codec}
 use Rattle.snmp_agent.specs.table.Table.{MibView, IsMibView}
-use Rattle.snmp_agent.specs.Reply.{response, got, got_next, unwritten, Fits, IsWhole}
-use Rattle.snmp_agent.specs.Reply.{IsResponse, whole, shortened, bulk}
+use Rattle.snmp_agent.specs.Reply.{response, got, got_next, unwritten, Fits, IsWhole, IsResponse, whole, shortened, bulk}
 use Rattle.snmp_walk.specs.declared.end.SinkFault.{SinkFault}
 use Rattle.snmp_walk.specs.declared.end.WalkEnd.{WalkEnd}
 use Rattle.snmp_walk.specs.declared.end.WalkEnd.TheVariants as ending
 use Rattle.snmp_walk.specs.declared.tries.Course.{Course}
 use Rattle.snmp_walk.specs.declared.tries.Course.TheVariants as course
-use Rattle.snmp_walk.specs.Link.{Agents, OneOf, AreLawful, IsReplyFrom, agent_in}
+use Rattle.snmp_walk.specs.Link.{Agents, OneOf, AreLawful, IsReplyFrom, agent_in, Outcome}
 use Rattle.snmp_walk.specs.Traffic.{Traffic, Lost}
 use Rattle.snmp_walk.specs.Facts.{IsDone, IsDoneOrCutOff, IsDoneOrStopped}
 use Rattle.snmp_walk.specs.Course.{Heard, heard_of}
 use Rattle.snmp_walk.specs.Course as heard
 use Rattle.snmp_walk.specs.Read.{IsReadAs, Tells}
-use Rattle.snmp_walk.specs.Get.{get_request, got_step, AreFor, AreGot, MeansToGet}
-use Rattle.snmp_walk.specs.Get.{IsBrought, IsReasonOfGet, HasRoomForGet, IsEndOfGet, IsLostGet}
+use Rattle.snmp_walk.specs.Get.{get_request, got_step, AreFor, AreGot, MeansToGet, IsBrought, IsReasonOfGet, HasRoomForGet, IsEndOfGet, IsLostGet}
 use Rattle.snmp_walk.specs.Get.{IsTooBig, GetFacts, GotFacts}
 use Rattle.snmp_walk.proofs.TestLemmas.{no_end}
 use Rattle.snmp_walk.proofs.ViewLemmas.{view_of, only_one, get_name, get_value}
@@ -36,11 +34,9 @@ use Rattle.snmp_walk.proofs.GotLemmas.{brought, lost_get, no_set, response_of}
 use Rattle.snmp_walk.proofs.TurnLemmas.{Suits, agrees}
 use Rattle.snmp_walk.proofs.TriedMoves.{moved_of, sent_of, tries_as}
 use Rattle.snmp_walk.proofs.HonestLemmas.{no_drop, own as spelt_own}
-use Rattle.snmp_walk.proofs.GetEndLemmas.{IsByReply, IsFrontOfReply, IsGot, MayEnd, by_reply}
-use Rattle.snmp_walk.proofs.GetEndLemmas.{for_more, for_names, for_none, for_nothing}
+use Rattle.snmp_walk.proofs.GetEndLemmas.{IsByReply, IsFrontOfReply, IsGot, MayEnd, by_reply, for_more, for_names, for_none, for_nothing}
 use Rattle.snmp_walk.proofs.GetEndLemmas.{front_of_reply}
 use Rattle.snmp_walk.proofs.MoveLemmas.{moves_as, moves_none, nil_front}
-use Rattle.snmp_walk.specs.Link.{Outcome}
 use Rattle.snmp_walk.specs.Link as outcome
 use Rattle.snmp_walk.specs.Moved.{IsMoved}
 use Rattle.snmp_walk.specs.Judged.{IsResponseTo}

@@ -1,6 +1,5 @@
 -- What a walk gives where all that comes are replies of its agents.
-use Rattle.std.proofs.Common.{◌≡◌, ◌≢◌, false, inl, inr, ℕ, ◌<◌, List, [], ◌∷◌, ◌++◌}
-use Rattle.std.proofs.Common.{refl, sym, ◌∙◌, ap, subst, arith, append_assoc, append-nil}
+use Rattle.std.proofs.Common.{◌≡◌, ◌≢◌, false, inl, inr, ℕ, ◌<◌, List, [], ◌∷◌, ◌++◌, refl, sym, ◌∙◌, ap, subst, arith, append_assoc, append-nil}
 use Rattle.std.proofs.lemmas.Bool.{and_from}
 use Rattle.std.specs.Prelude.{not, Result}
 use Rattle.snmp_agent.specs.Event.{Event, came}
@@ -8,12 +7,10 @@ use Rattle.snmp_wire.specs.Canon.{canon}
 use Rattle.snmp_wire.specs.Message.{VarBind, Message}
 use Rattle.snmp_wire.specs.Spelling.{Spells}
 use Rattle.snmp_walk.specs.Codec.{Codec}
-use Rattle.snmp_walk.specs.Facts.{IsFresh, IsLawfulEnd, GivenFacts, Reading, rows_read, AreRead}
-use Rattle.snmp_walk.specs.Facts.{IsAskedLast, IsReadSo, IsEndOfRun}
+use Rattle.snmp_walk.specs.Facts.{IsFresh, IsLawfulEnd, GivenFacts, Reading, rows_read, AreRead, IsAskedLast, IsReadSo, IsEndOfRun}
 use Rattle.snmp_walk.specs.Heard.{IsEarlier}
 use Rattle.snmp_walk.specs.Judged.{IsResponseTo, MeansBy}
-use Rattle.snmp_walk.specs.Link.{Agents, AreLawful, OneOf, IsReplyFrom, IsNextFrom, IsGotFrom}
-use Rattle.snmp_walk.specs.Link.{IsTooLarge, Outcome}
+use Rattle.snmp_walk.specs.Link.{Agents, AreLawful, OneOf, IsReplyFrom, IsNextFrom, IsGotFrom, IsTooLarge, Outcome}
 use Rattle.snmp_walk.specs.Link as outcome
 use Rattle.snmp_walk.specs.Network.{AreReplies, tried}
 use Rattle.snmp_walk.specs.Ran.{HasHappened}

@@ -1,29 +1,24 @@
 -- An agent's reply to the waiting request is an honest one.
-use Rattle.std.proofs.Common.{◌≡◌, ◌≢◌, ◌≤ℤ◌, ◌⊎◌, inl, inr, ℕ, ◌^◌, ◌<◌, ◌≤◌, List, [], ◌∷◌}
-use Rattle.std.proofs.Common.{◌++◌, length, refl, sym, ◌∙◌, ap, subst, arith, ℤ, pos, length-append}
-use Rattle.std.proofs.Common.{append-nil, true, false}
+use Rattle.std.proofs.Common.{◌≡◌, ◌≢◌, ◌≤ℤ◌, ◌⊎◌, inl, inr, ℕ, ◌^◌, ◌<◌, ◌≤◌, List, [], ◌∷◌, ◌++◌, length, refl, sym, ◌∙◌, ap, subst, arith, ℤ, pos}
+use Rattle.std.proofs.Common.{length-append, append-nil, true, false}
 use Rattle.std.proofs.lemmas.List.{nil_from_length}
 use Rattle.std.specs.Prelude.{FitsSigned, unsigned_abs}
 use Rattle.std.specs.Int.{w32}
 use Rattle.std.specs.List.{AllByRecursion, list_any}
 use Rattle.snmp_oid.specs.Identifier.{IsIdentifier, IsWire}
 use Rattle.snmp_wire.specs.declared.kind.Kind.TheVariants as kind
-use Rattle.snmp_wire.specs.Message.{Datum, VarBind, Message, octet_string, null_value, ip_address}
-use Rattle.snmp_wire.specs.Message.{opaque_octets, no_such_object, no_such_instance}
+use Rattle.snmp_wire.specs.Message.{Datum, VarBind, Message, octet_string, null_value, ip_address, opaque_octets, no_such_object, no_such_instance}
 use Rattle.snmp_wire.specs.Message.{end_of_mib_view}
 use Rattle.snmp_wire.specs.Spelling.{Spells}
 use Rattle.snmp_wire.specs.Canon.{canon, canon_bindings, canon_head}
 use Rattle.snmp_wire.specs.Range.{IsInRange, IsBindingInRange, IsMessageInRange}
 use Rattle.snmp_walk.specs.Codec.{Codec}
-use Rattle.snmp_agent.specs.table.Table.{MibView, IsInstanceValue, IsMibView, IsGet, variable}
-use Rattle.snmp_agent.specs.table.Table.{unknown_object, unknown_instance, IsNext, successor}
+use Rattle.snmp_agent.specs.table.Table.{MibView, IsInstanceValue, IsMibView, IsGet, variable, unknown_object, unknown_instance, IsNext, successor}
 use Rattle.snmp_agent.specs.table.Table.{end_of_view}
 use Rattle.snmp_agent.specs.declared.config.Why.{Why}
 use Rattle.snmp_agent.specs.declared.config.Why.TheVariants as why
-use Rattle.snmp_agent.specs.Reply.{Agent, IsDropped, IsServed}
-use Rattle.snmp_agent.specs.Reply.{response, AreAnswers, got, got_next, unwritten, Fits}
-use Rattle.snmp_agent.specs.Reply.{IsBulk, IsLongestFront, IsResponse, whole, shortened, bulk}
-use Rattle.snmp_agent.specs.Reply.{no_error}
+use Rattle.snmp_agent.specs.Reply.{Agent, IsDropped, IsServed, response, AreAnswers, got, got_next, unwritten, Fits, IsBulk, IsLongestFront}
+use Rattle.snmp_agent.specs.Reply.{IsResponse, whole, shortened, bulk, no_error}
 use Rattle.snmp_walk.specs.declared.mode.Method.{Method}
 use Rattle.snmp_walk.specs.declared.mode.Method.TheVariants as method
 use Rattle.snmp_walk.specs.declared.phase.Phase.{Phase}
@@ -33,8 +28,7 @@ use Rattle.snmp_walk.specs.Request.{request_of, request_kind, request_repetition
 use Rattle.snmp_walk.specs.Taken.{is_over}
 use Rattle.snmp_walk.specs.Judged.{IsResponseTo}
 use Rattle.snmp_walk.specs.Standing.{IsChain, IsGetContent, IsLarge, IsReplyContent, IsReplyTo}
-use Rattle.snmp_walk.specs.Link.{Agents, OneOf, AreLawful, IsNextFrom, IsGotFrom, IsTooLarge}
-use Rattle.snmp_walk.specs.Link.{IsReplyFrom}
+use Rattle.snmp_walk.specs.Link.{Agents, OneOf, AreLawful, IsNextFrom, IsGotFrom, IsTooLarge, IsReplyFrom}
 use Rattle.snmp_walk.proofs.RequestLemmas.{name_short}
 use Rattle.snmp_walk.proofs.ViewLemmas.{view_of}
 use Rattle.snmp_walk.proofs.RoomLemmas.{longer_full}

@@ -1,14 +1,11 @@
 -- A view's variables are a list by rising names, and what the view answers is read off it.
-use Rattle.std.proofs.Common.{◌≡◌, inl, inr, ℕ, T, Bool, true, false, List, [], ◌∷◌}
-use Rattle.std.proofs.Common.{map, refl, sym, ◌∙◌, ap, subst, Some, None}
-use Rattle.std.proofs.lemmas.Bool.{false≢true, and_parts, false_from_ne_true, cond-true}
-use Rattle.std.proofs.lemmas.Bool.{cond-false, cond_both}
+use Rattle.std.proofs.Common.{◌≡◌, inl, inr, ℕ, T, Bool, true, false, List, [], ◌∷◌, map, refl, sym, ◌∙◌, ap, subst, Some, None}
+use Rattle.std.proofs.lemmas.Bool.{false≢true, and_parts, false_from_ne_true, cond-true, cond-false, cond_both}
 use Rattle.std.specs.Prelude.{filter}
 use Rattle.std.specs.Bool.{nat_eq}
 use Rattle.std.specs.Ordering.{nat_cmp, is_lt, is_eq, eq_by_cmp}
 use Rattle.std.specs.Cmp.{tied_itself}
-use Rattle.std.specs.Cmp.Lexicographic.{slice_cmp, nat_list_cmp_total, pointwise, same_text}
-use Rattle.std.specs.Cmp.Lexicographic.{texts_ties, nat_list_eq_equiv}
+use Rattle.std.specs.Cmp.Lexicographic.{slice_cmp, nat_list_cmp_total, pointwise, same_text, texts_ties, nat_list_eq_equiv}
 use Rattle.std.specs.FinMap.{get, entries, find, is_sorted, get-entries, entries_sorted}
 use Rattle.std.specs.FinMap.Entries.{below_all}
 use Rattle.snmp_oid.specs.Identifier.{Precedes}

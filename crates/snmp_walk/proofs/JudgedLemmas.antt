@@ -1,11 +1,8 @@
 -- What the rules say of a message, one by one, is what `take_of` computes.
-use Rattle.std.proofs.Common.{◌≡◌, ◌⊎◌, inl, inr, ℕ, ◌+◌, ◌<◌, Bool, true, false, cond, List, []}
-use Rattle.std.proofs.Common.{◌∷◌, ◌++◌, length}
-use Rattle.std.proofs.Common.{refl, sym, ◌∙◌, ap, subst, arith, append-nil, length-append, pos}
-use Rattle.std.proofs.Common.{Option, Some, None, ◌↔◌}
+use Rattle.std.proofs.Common.{◌≡◌, ◌⊎◌, inl, inr, ℕ, ◌+◌, ◌<◌, Bool, true, false, cond, List, [], ◌∷◌, ◌++◌, length, refl, sym, ◌∙◌, ap, subst, arith}
+use Rattle.std.proofs.Common.{append-nil, length-append, pos, Option, Some, None, ◌↔◌}
 use Rattle.std.proofs.lemmas.Bool.{false≢true, false_from_ne_true}
-use Rattle.std.proofs.lemmas.Bool.Decides.{Decides-and, Decides-or, Decides-not, Decides-like}
-use Rattle.std.proofs.lemmas.Bool.Decides.{Decides-ltb, Decides-eqb, Decides-int_eq}
+use Rattle.std.proofs.lemmas.Bool.Decides.{Decides-and, Decides-or, Decides-not, Decides-like, Decides-ltb, Decides-eqb, Decides-int_eq}
 use Rattle.std.proofs.lemmas.List.{nil_from_length}
 use Rattle.std.proofs.lemmas.List.Sums.{take_while-cons}
 use Rattle.std.specs.Prelude.{nat_lt, ◌==◌, ◌&&◌, ◌||◌, not}
@@ -30,15 +27,10 @@ use Rattle.snmp_walk.specs.Names.{is_end, is_missing, is_inside, comes_after}
 use Rattle.snmp_walk.specs.Reading.{After, EndsAs, nothing, leaving, falling}
 use Rattle.snmp_walk.specs.Trail.{last_name}
 use Rattle.snmp_walk.specs.Walker.{Walker}
-use Rattle.snmp_walk.specs.Taken.{is_over, is_response, awaits, is_awaited, is_plain, inside_front}
-use Rattle.snmp_walk.specs.Taken.{rising_front, name_at, stops, goes_on, closes, reads}
-use Rattle.snmp_walk.specs.Taken.{reads_next, got, reads_first, reads_last, reads_for}
-use Rattle.snmp_walk.specs.Taken.{reads_reply, take_of}
-use Rattle.snmp_walk.specs.Judged.{IsResponseTo, IsAwaitedReply, EndsBy, AsksOn, GoesOn}
-use Rattle.snmp_walk.specs.Judged.{GivesNothing, Closes, AreRowsFrom, AreMisplaced, FollowsBy}
-use Rattle.snmp_walk.specs.Judged.{ReadsRows, IsStray}
-use Rattle.snmp_walk.specs.Judged.{MeansNext, IsGot, MeansGot, MeansRoot, MeansFor, MeansReply}
-use Rattle.snmp_walk.specs.Judged.{Means, MeansBy}
+use Rattle.snmp_walk.specs.Taken.{is_over, is_response, awaits, is_awaited, is_plain, inside_front, rising_front, name_at, stops, goes_on, closes}
+use Rattle.snmp_walk.specs.Taken.{reads, reads_next, got, reads_first, reads_last, reads_for, reads_reply, take_of}
+use Rattle.snmp_walk.specs.Judged.{IsResponseTo, IsAwaitedReply, EndsBy, AsksOn, GoesOn, GivesNothing, Closes, AreRowsFrom, AreMisplaced, FollowsBy}
+use Rattle.snmp_walk.specs.Judged.{ReadsRows, IsStray, MeansNext, IsGot, MeansGot, MeansRoot, MeansFor, MeansReply, Means, MeansBy}
 use Rattle.snmp_walk.proofs.OrderLemmas.{less_from_after, less_precedes}
 use Rattle.snmp_walk.proofs.FrontLemmas.{reads_as, reads_by}
 use Rattle.snmp_walk.specs.Request.{asked_for}

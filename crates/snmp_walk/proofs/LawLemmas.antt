@@ -1,6 +1,5 @@
 -- What the lists of a walk hold, and what is left of them after a name.
-use Rattle.std.proofs.Common.{◌≡◌, inl, inr, ℕ, ◌≤◌, Bool, true, false, cond, List, [], ◌∷◌}
-use Rattle.std.proofs.Common.{◌++◌, length, refl, sym, ◌∙◌, ap, subst, arith}
+use Rattle.std.proofs.Common.{◌≡◌, inl, inr, ℕ, ◌≤◌, Bool, true, false, cond, List, [], ◌∷◌, ◌++◌, length, refl, sym, ◌∙◌, ap, subst, arith}
 use Rattle.std.proofs.lemmas.Bool.{cond_both, false≢true, false_from_ne_true}
 use Rattle.std.specs.Prelude.{filter}
 use Rattle.std.specs.Ordering.{nat_cmp, is_lt}
@@ -20,8 +19,7 @@ use Rattle.snmp_walk.proofs.NameLemmas.{below_from_test, test_from_below}
 use Rattle.snmp_walk.proofs.OrderLemmas.{less_from_after, after-trans, after-irrefl, less_precedes}
 use Rattle.snmp_walk.proofs.ViewLemmas.{get_name}
 use Rattle.snmp_walk.proofs.TableLemmas.{all_after, rest_from_wire}
-use Rattle.snmp_walk.proofs.JoinLemmas.{one_after, kept, keeps, row_in, in_row, variables_rise}
-use Rattle.snmp_walk.proofs.JoinLemmas.{variables_are, get_row}
+use Rattle.snmp_walk.proofs.JoinLemmas.{one_after, kept, keeps, row_in, in_row, variables_rise, variables_are, get_row}
 use Rattle.snmp_walk.proofs.RowLemmas.{AreAfter, AreRising}
 
 -- a filtered list rises as the whole one

@@ -1,12 +1,10 @@
 -- What an honest link brings as a request is tried over it: its own reply, or others, which lose it.
-use Rattle.std.proofs.Common.{◌≡◌, ◌≢◌, ◌⊎◌, inl, inr, ℕ, zero, suc, ◌+◌, ◌<◌, List, [], ◌∷◌}
-use Rattle.std.proofs.Common.{◌++◌, length, replicate, refl, sym, ◌∙◌, ap, subst, arith, append-nil}
-use Rattle.std.proofs.Common.{Option, Some, None}
+use Rattle.std.proofs.Common.{◌≡◌, ◌≢◌, ◌⊎◌, inl, inr, ℕ, zero, suc, ◌+◌, ◌<◌, List, [], ◌∷◌, ◌++◌, length, replicate, refl, sym, ◌∙◌, ap, subst}
+use Rattle.std.proofs.Common.{arith, append-nil, Option, Some, None}
 use Rattle.std.specs.List.{slice_get}
 use Rattle.snmp_walk.specs.Link.{Agents, OneOf, IsReplyFrom, IsUnanswered}
 use Rattle.snmp_walk.specs.Link as outcome
-use Rattle.snmp_walk.specs.Traffic.{latest, datagram_at, Gives, Receives, IsOther, resent}
-use Rattle.snmp_walk.specs.Traffic.{Lost}
+use Rattle.snmp_walk.specs.Traffic.{latest, datagram_at, Gives, Receives, IsOther, resent, Lost}
 use Rattle.snmp_walk.specs.Heard.{IsAsked}
 use Rattle.snmp_walk.specs.Moved.{IsMoved}
 use Rattle.snmp_walk.specs.Tries.{InTurn, Gets, Brings, EndsTry, IsTry, AreTried}

@@ -5,8 +5,7 @@ use Rattle.std.specs.List.{flat_map}
 use Rattle.std.proofs.lemmas.List.{length-map}
 use Rattle.std.proofs.lemmas.List.Elements.{All-cons, All-nil}
 use Rattle.snmp_oid.specs.Identifier.{IsWire}
-use Rattle.snmp_wire.specs.Message.{Datum, Message, null_value, integer_value}
-use Rattle.snmp_wire.specs.Message.{octet_string, object_id, var_bind}
+use Rattle.snmp_wire.specs.Message.{Datum, Message, null_value, integer_value, octet_string, object_id, var_bind}
 use Rattle.snmp_wire.specs.Identifier.{subidentifiers}
 use Rattle.snmp_wire.specs.Spelling.{value_tag}
 use Rattle.snmp_wire.specs.Canon.{

@@ -1,8 +1,6 @@
 -- How long a single_response of one binding is: no longer with an exception in place of the value, nor with a lesser id.
-use Rattle.std.proofs.Common.{◌≡◌, ℕ, ◌^◌, ◌<◌, ◌≤◌, List, [], ◌∷◌, ◌++◌, length, arith}
-use Rattle.std.proofs.Common.{length-append, pos}
-use Rattle.snmp_wire.specs.Message.{Datum, VarBind, Message, integer_value}
-use Rattle.snmp_wire.specs.Message.{no_such_object, no_such_instance, end_of_mib_view}
+use Rattle.std.proofs.Common.{◌≡◌, ℕ, ◌^◌, ◌<◌, ◌≤◌, List, [], ◌∷◌, ◌++◌, length, arith, length-append, pos}
+use Rattle.snmp_wire.specs.Message.{Datum, VarBind, Message, integer_value, no_such_object, no_such_instance, end_of_mib_view}
 use Rattle.snmp_wire.specs.Spelling.{value_tag, kind_tag, sequence_tag}
 use Rattle.snmp_wire.specs.Canon.{number_size, canon_element, canon_content, canon_value, canon_binding, canon_bindings, canon_opening, canon_fields, canon}
 use Rattle.snmp_walk.specs.Link.{Agents, single_response, IsTooLarge}

@@ -16,9 +16,7 @@ use Rattle.snmp_walk.specs.Walker.{Walker, IsWalker}
 use Rattle.snmp_walk.specs.Request.{request_of}
 use Rattle.snmp_walk.specs.Judged.{MeansBy}
 use Rattle.snmp_walk.specs.Taken.{awaits, is_over, take_of}
-use Rattle.snmp_walk.specs.Standing.{IsPartOfWalk, Reaches, Ends}
-use Rattle.snmp_walk.specs.Standing.{Advances, Rises, Named, IsReplyEnd, CountsAll}
-use Rattle.snmp_walk.specs.Standing.{AdvancesAnyhow, IsReplyTo}
+use Rattle.snmp_walk.specs.Standing.{IsPartOfWalk, Reaches, Ends, Advances, Rises, Named, IsReplyEnd, CountsAll, AdvancesAnyhow, IsReplyTo}
 use Rattle.snmp_walk.specs.Link.{Agents, AreLawful, IsNextFrom, IsGotFrom, IsTooLarge, Outcome}
 use Rattle.snmp_walk.specs.Link as outcome
 use Rattle.snmp_walk.specs.Sink.{Given, Took}
@@ -29,9 +27,8 @@ use Rattle.snmp_walk.specs.declared.tries.Course.{Course}
 use Rattle.snmp_walk.specs.declared.tries.Course.TheVariants as course
 use Rattle.snmp_walk.specs.declared.end.LinkFault.{LinkFault}
 use Rattle.snmp_walk.specs.Course as heard
-use Rattle.snmp_walk.specs.Facts.{IsFresh, IsLastSent, IsAskedLast, Reading, AreRead, HasRead, BringsNone}
-use Rattle.snmp_walk.specs.Facts.{IsReadSo, IsEndedBy, IsLawfulEnd, HasNoReply, IsEndOfRun}
-use Rattle.snmp_walk.specs.Facts.{IsReadyForAll}
+use Rattle.snmp_walk.specs.Facts.{IsFresh, IsLastSent, IsAskedLast, Reading, AreRead, HasRead, BringsNone, IsReadSo, IsEndedBy, IsLawfulEnd}
+use Rattle.snmp_walk.specs.Facts.{HasNoReply, IsEndOfRun, IsReadyForAll}
 use Rattle.snmp_walk.specs.Heard.{IsEarlier}
 use Rattle.snmp_walk.specs.Codec.{Codec}
 use Rattle.snmp_walk.specs.declared.link.Link.{Ghosts as LinkFacts}
@@ -43,8 +40,7 @@ use Rattle.std.proofs.lemmas.Bool.{and_from, false≢true}
 use Rattle.snmp_walk.proofs.ViewLemmas.{views_answer}
 use Rattle.snmp_walk.proofs.FactLemmas.{in_table, in_names, facts as facts_of, send_facts}
 use Rattle.snmp_walk.proofs.SwiftLemmas.{few_in, gets_one, HasFew}
-use Rattle.snmp_walk.proofs.SendLemmas.{Sends, sends_more, one_left, one_right}
-use Rattle.snmp_walk.proofs.SendLemmas.{earlier_first, earlier_more}
+use Rattle.snmp_walk.proofs.SendLemmas.{Sends, sends_more, one_left, one_right, earlier_first, earlier_more}
 use Rattle.snmp_walk.proofs.MoveLemmas.{sent_all}
 use Rattle.snmp_walk.proofs.TriedMoves.{IsSent, moved_of, sent_of, tries_as}
 use Rattle.snmp_walk.proofs.LostLemmas.{lost_of}

@@ -1,7 +1,6 @@
 -- An honest reply to the waiting request takes a walk a step further, or ends it lawfully.
 use Rattle.std.proofs.Common.{◌≡◌, inl, inr, ℕ, ◌+◌, ◌≤◌, true, false, cond, List, [], ◌∷◌, ◌++◌, ◌≢◌, length, refl, sym, ◌∙◌, ap, subst, arith, append_assoc, append-nil, length-append, pos, Some}
-use Rattle.std.proofs.lemmas.Bool.{ltb-true, le-ltb, or_from, and_from, and_parts, eqb-true}
-use Rattle.std.proofs.lemmas.Bool.{ltb-false, eq-eqb, cond_both, false≢true}
+use Rattle.std.proofs.lemmas.Bool.{ltb-true, le-ltb, or_from, and_from, and_parts, eqb-true, ltb-false, eq-eqb, cond_both, false≢true}
 use Rattle.std.proofs.lemmas.List.{flat_map_more, length_push, nil_from_length}
 use Rattle.std.proofs.lemmas.List.Elements.{All-nil, All-push}
 use Rattle.std.specs.Prelude.{nat_lt, ◌==◌, ◌&&◌, ◌||◌, flat_map, not}
@@ -20,13 +19,11 @@ use Rattle.snmp_walk.specs.Names.{is_missing}
 use Rattle.snmp_walk.specs.Trail.{last_name, IsTrail, IsAtEnd}
 use Rattle.snmp_walk.specs.Walker.{Walker}
 use Rattle.std.specs.Ordering.{int_eq}
-use Rattle.snmp_walk.specs.Taken.{is_over, is_awaited, is_plain, inside_front, rising_front, stops}
-use Rattle.snmp_walk.specs.Taken.{goes_on, closes, reads_next, got, if_present, reads_first}
-use Rattle.snmp_walk.specs.Taken.{reads_last, reads_for, take_of}
+use Rattle.snmp_walk.specs.Taken.{is_over, is_awaited, is_plain, inside_front, rising_front, stops, goes_on, closes, reads_next, got, if_present}
+use Rattle.snmp_walk.specs.Taken.{reads_first, reads_last, reads_for, take_of}
 use Rattle.snmp_walk.specs.Standing.{IsChain, IsLarge, IsReplyContent, IsReplyTo, IsOpening, IsGiven, IsAlone, IsPartOfWalk, IsStage, opening_gets, IsPaced, Reaches, Advances}
 use Rattle.snmp_walk.proofs.CaseLemmas.{goes_by}
-use Rattle.snmp_walk.proofs.TrailLemmas.{last_name-append, trail-append, IsFront, chain_front}
-use Rattle.snmp_walk.proofs.TrailLemmas.{chain_has_values, few_replies}
+use Rattle.snmp_walk.proofs.TrailLemmas.{last_name-append, trail-append, IsFront, chain_front, chain_has_values, few_replies}
 use Rattle.snmp_walk.specs.Request.{asked_for}
 use Rattle.snmp_walk.proofs.RowLemmas.{AreLawfulReplies}
 use Rattle.snmp_walk.proofs.TestLemmas.{present}

@@ -1,6 +1,5 @@
 -- Where each single binding has room and ids are enough, a walk over one table ends for no other reason than its own, the link's or the sink's.
-use Rattle.std.proofs.Common.{◌≡◌, ◌≢◌, ◌⊎◌, ◌≤ℤ◌, inl, inr, ℕ, ◌+◌, ◌≤◌, false, List, []}
-use Rattle.std.proofs.Common.{◌∷◌, ◌++◌, length, refl, sym, ◌∙◌, ap, subst, arith, pos}
+use Rattle.std.proofs.Common.{◌≡◌, ◌≢◌, ◌⊎◌, ◌≤ℤ◌, inl, inr, ℕ, ◌+◌, ◌≤◌, false, List, [], ◌∷◌, ◌++◌, length, refl, sym, ◌∙◌, ap, subst, arith, pos}
 use Rattle.std.proofs.Common.{length-append}
 use Rattle.std.specs.Prelude.{flat_map}
 use Rattle.snmp_wire.specs.declared.kind.Kind.TheVariants as kind
@@ -8,8 +7,7 @@ use Rattle.snmp_wire.specs.Message.{VarBind, Message, end_of_mib_view}
 use Rattle.snmp_wire.specs.Spelling.{Spells}
 use Rattle.snmp_wire.specs.Canon.{canon}
 use Rattle.snmp_walk.specs.Codec.{Codec}
-use Rattle.snmp_agent.specs.table.Table.{MibView, IsMibView, IsGet, variable, unknown_object}
-use Rattle.snmp_agent.specs.table.Table.{unknown_instance, IsNext, successor, end_of_view}
+use Rattle.snmp_agent.specs.table.Table.{MibView, IsMibView, IsGet, variable, unknown_object, unknown_instance, IsNext, successor, end_of_view}
 use Rattle.snmp_agent.specs.table.Listing.{variables}
 use Rattle.snmp_agent.specs.declared.config.Why.{Why}
 use Rattle.snmp_agent.specs.declared.config.Why.TheVariants as why
@@ -42,14 +40,11 @@ use Rattle.snmp_walk.specs.Walker.{Walker, IsMethod, IsWalker}
 use Rattle.snmp_walk.specs.Walk.{rest_of}
 use Rattle.snmp_walk.specs.Request.{request_of, request_kind, request_repetitions}
 use Rattle.snmp_walk.specs.Taken.{is_over}
-use Rattle.snmp_walk.specs.Standing.{IsChain, IsLarge, IsStage, IsReplyTooLarge, IsPaced}
-use Rattle.snmp_walk.specs.Standing.{opening_gets, Reaches}
-use Rattle.snmp_walk.specs.Link.{Agents, OneOf, agent_in, IsNextFrom, IsGotFrom, IsTooLarge}
-use Rattle.snmp_walk.specs.Link.{AreViews}
+use Rattle.snmp_walk.specs.Standing.{IsChain, IsLarge, IsStage, IsReplyTooLarge, IsPaced, opening_gets, Reaches}
+use Rattle.snmp_walk.specs.Link.{Agents, OneOf, agent_in, IsNextFrom, IsGotFrom, IsTooLarge, AreViews}
 use Rattle.snmp_walk.specs.Room.{HasRoom, HasRoomForEach}
 use Rattle.snmp_walk.specs.Facts.{IsLawfulEnd, HasNone, IsDoneOrStopped, IsDoneOrCutOff, gets}
-use Rattle.snmp_walk.proofs.HonestLemmas.{request_in_range, one_answer, get_phase, bulk_phase}
-use Rattle.snmp_walk.proofs.HonestLemmas.{set_phase}
+use Rattle.snmp_walk.proofs.HonestLemmas.{request_in_range, one_answer, get_phase, bulk_phase, set_phase}
 use Rattle.snmp_walk.proofs.BulkLemmas.{IsOneBulk, one_bulk}
 use Rattle.snmp_walk.proofs.RoomLemmas.{room_fits, room_small, room_exception}
 use Rattle.snmp_walk.proofs.TableLemmas.{trail_rest}

@@ -30,8 +30,7 @@ use Rattle.snmp_walk.specs.Walker.{Walker}
 use Rattle.snmp_walk.specs.Run.{IsNameIn}
 use Rattle.snmp_walk.specs.Standing.{IsOpening, IsGiven, IsPartOfWalk, IsWholeWalk}
 use Rattle.snmp_walk.specs.Link.{Agents, OneOf, IsNextFrom, IsGotFrom, IsTooLarge, AreViews}
-use Rattle.snmp_walk.specs.Tables.{IsBelowRoot, IsOfWalk, IsFromTable, AreFromTables, HasName}
-use Rattle.snmp_walk.specs.Tables.{IsInEach, IsGivenOnce, HoldsNames}
+use Rattle.snmp_walk.specs.Tables.{IsBelowRoot, IsOfWalk, IsFromTable, AreFromTables, HasName, IsInEach, IsGivenOnce, HoldsNames}
 use Rattle.snmp_walk.proofs.OrderLemmas.{outside_after}
 use Rattle.snmp_walk.proofs.NameLemmas.{test_from_below}
 use Rattle.snmp_walk.proofs.ViewLemmas.{views_answer, view_of, value_no_end, value_no_miss}

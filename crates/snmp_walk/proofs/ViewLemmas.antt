@@ -1,11 +1,9 @@
 -- What tables answer rises, and is what agents answer.
-use Rattle.std.proofs.Common.{◌≡◌, inl, inr, ℕ, true, false, List, [], ◌∷◌, refl, sym, ◌∙◌, ap}
-use Rattle.std.proofs.Common.{subst}
+use Rattle.std.proofs.Common.{◌≡◌, inl, inr, ℕ, true, false, List, [], ◌∷◌, refl, sym, ◌∙◌, ap, subst}
 use Rattle.std.proofs.lemmas.Bool.{false≢true}
 use Rattle.std.specs.Ordering.{is_lt}
 use Rattle.snmp_wire.specs.Message.{Datum, VarBind, no_such_object, no_such_instance, end_of_mib_view}
-use Rattle.snmp_agent.specs.table.Table.{MibView, IsInstanceValue, IsMibView, IsGet, variable}
-use Rattle.snmp_agent.specs.table.Table.{unknown_object, unknown_instance, IsNext, successor}
+use Rattle.snmp_agent.specs.table.Table.{MibView, IsInstanceValue, IsMibView, IsGet, variable, unknown_object, unknown_instance, IsNext, successor}
 use Rattle.snmp_agent.specs.table.Table.{end_of_view}
 use Rattle.snmp_walk.specs.Names.{is_end, is_missing, comes_after}
 use Rattle.snmp_walk.specs.Link.{Agents, OneOf, IsNextFrom, IsGotFrom, AreViews}

@@ -42,8 +42,7 @@ use Rattle.snmp_walk.specs.declared.rows.Step.TheVariants as step
 use Rattle.snmp_walk.specs.declared.end.WalkEnd.TheVariants as ending
 use Rattle.snmp_walk.specs.Names.{is_end}
 use Rattle.snmp_walk.specs.Judged.{IsResponseTo}
-use Rattle.snmp_walk.specs.Link.{Agents, OneOf, IsUnanswered}
-use Rattle.snmp_walk.specs.Link.{Outcome, answered, missed, cut_off}
+use Rattle.snmp_walk.specs.Link.{Agents, OneOf, IsUnanswered, Outcome, answered, missed, cut_off}
 use Rattle.snmp_walk.specs.Traffic.{Traffic, Lost}
 use Rattle.snmp_walk.specs.Facts.{IsDone, IsDoneOrCutOff, IsDoneOrStopped}
 use Rattle.snmp_agent.specs.table.Table.{MibView, IsGet}

@@ -1,17 +1,14 @@
 -- Bindings: how long they are, and how they are written.
-use Rattle.std.proofs.Common.{◌≡◌, ℕ, ◌+◌, ◌-◌, ◌<◌, ◌≤◌, List, [], ◌∷◌, ◌++◌, length, drop, refl}
-use Rattle.std.proofs.Common.{sym, ap, subst, ◌∙◌, arith, length-append}
+use Rattle.std.proofs.Common.{◌≡◌, ℕ, ◌+◌, ◌-◌, ◌<◌, ◌≤◌, List, [], ◌∷◌, ◌++◌, length, drop, refl, sym, ap, subst, ◌∙◌, arith, length-append}
 use Rattle.std.specs.List.{flat_map}
 use Rattle.snmp_wire.specs.declared.binding.Binding.{Binding}
 use Rattle.snmp_wire.specs.Canon.{canon_binding, canon_bindings}
-use Rattle.snmp_wire.specs.ber.Canon.{canon_content, canon_element, canon_header, canon_length}
-use Rattle.snmp_wire.specs.ber.Canon.{canon_value}
+use Rattle.snmp_wire.specs.ber.Canon.{canon_content, canon_element, canon_header, canon_length, canon_value}
 use Rattle.snmp_wire.specs.Message.{VarBind, var_bind, var_binds}
 use Rattle.snmp_wire.specs.ber.Value.{object_id, null_value}
 use Rattle.snmp_wire.specs.ber.Spelling.{sequence_tag}
 use Rattle.snmp_wire.specs.ber.Writing.{Writes}
-use Rattle.snmp_wire.proofs.ElementLaws.{header_short, content_fits, element_size, header_fits}
-use Rattle.snmp_wire.proofs.ElementLaws.{sizes_value, writes_element}
+use Rattle.snmp_wire.proofs.ElementLaws.{header_short, content_fits, element_size, header_fits, sizes_value, writes_element}
 use Rattle.snmp_wire.proofs.WritingLaws.{writes_same, writes_then}
 
 pub sizes_binding : (header name value : ℕ) (binding : VarBind) → name ≡ length (canon_value (object_id binding.name))

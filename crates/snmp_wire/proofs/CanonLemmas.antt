@@ -1,8 +1,7 @@
 -- Numbers as octets: how many a number takes, by its digits and by its highest bit, and how long
 -- an encoding is.
-use Rattle.std.proofs.Common.{true, false, ◌≡◌, ℕ, ◌+◌, ◌-◌, ◌*◌, ◌^◌, ◌<◌, ◌≤◌, ℤ, pos, negsuc}
-use Rattle.std.proofs.Common.{lit<, suc, zero, ◌∷◌, length, refl, sym, ap, subst, ◌∙◌, sub-one}
-use Rattle.std.proofs.Common.{pow-add, ⊎_elim, arith, ◌/◌, ◌%◌, List, []}
+use Rattle.std.proofs.Common.{true, false, ◌≡◌, ℕ, ◌+◌, ◌-◌, ◌*◌, ◌^◌, ◌<◌, ◌≤◌, ℤ, pos, negsuc, lit<, suc, zero, ◌∷◌, length, refl, sym, ap, subst}
+use Rattle.std.proofs.Common.{◌∙◌, sub-one, pow-add, ⊎_elim, arith, ◌/◌, ◌%◌, List, []}
 use Rattle.std.proofs.Math.Nat.{mul-suc, pow-suc, pow-zero, div-one, pow-le-pow_right}
 use Rattle.std.proofs.lemmas.Bool.{cases_lt, le-ltb, lt-ltb}
 use Rattle.std.proofs.lemmas.Bool.Decides.{nat_tests}
@@ -13,8 +12,7 @@ use lib.Signed.{lt_z, le_z}
 use mir.Val.{SFits}
 use mir.Syntax.{w32}
 use lib.IntN.{nat_abs}
-use Rattle.snmp_wire.specs.ber.Canon.{canon_length, canon_number, digit_count, length_size}
-use Rattle.snmp_wire.specs.ber.Canon.{magnitude_of, number_size, octets, digits}
+use Rattle.snmp_wire.specs.ber.Canon.{canon_length, canon_number, digit_count, length_size, magnitude_of, number_size, octets, digits}
 use Rattle.snmp_wire.proofs.ElementLaws.{canon_length_short, header_short}
 use Rattle.snmp_wire.specs.ber.Writing.{Writes}
 use Rattle.snmp_wire.proofs.WritingLaws.{writes_same, writes_then}

@@ -1,10 +1,8 @@
 -- Laws of headers, elements and values as they are written, for proofs of values and messages:
 -- how long they are, and how they are written before their content.
-use Rattle.std.proofs.Common.{◌≡◌, ℕ, ℤ, ◌+◌, ◌-◌, ◌<◌, ◌≤◌, List, [], ◌∷◌, ◌++◌, length}
-use Rattle.std.proofs.Common.{refl, sym, ap, ◌∙◌, arith, length-append}
+use Rattle.std.proofs.Common.{◌≡◌, ℕ, ℤ, ◌+◌, ◌-◌, ◌<◌, ◌≤◌, List, [], ◌∷◌, ◌++◌, length, refl, sym, ap, ◌∙◌, arith, length-append}
 use Rattle.std.proofs.lemmas.Bool.{lt-ltb}
-use Rattle.snmp_wire.specs.ber.Canon.{canon_content, canon_element, canon_header, canon_length}
-use Rattle.snmp_wire.specs.ber.Canon.{canon_number, canon_value}
+use Rattle.snmp_wire.specs.ber.Canon.{canon_content, canon_element, canon_header, canon_length, canon_number, canon_value}
 use Rattle.snmp_wire.specs.ber.Value.{Datum, integer_value, octet_string}
 use Rattle.snmp_wire.specs.ber.Spelling.{value_tag}
 use Rattle.snmp_wire.specs.ber.Writing.{Writes}

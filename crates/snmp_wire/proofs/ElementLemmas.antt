@@ -1,6 +1,5 @@
 -- Headers and elements behind contents whose sizes are known.
-use Rattle.std.proofs.Common.{◌≡◌, ℕ, ℤ, ◌-◌, ◌<◌, ◌≤◌, List, [], ◌∷◌, length, sym, ap, subst}
-use Rattle.std.proofs.Common.{arith, append-nil, length-append}
+use Rattle.std.proofs.Common.{◌≡◌, ℕ, ℤ, ◌-◌, ◌<◌, ◌≤◌, List, [], ◌∷◌, length, sym, ap, subst, arith, append-nil, length-append}
 use Rattle.snmp_wire.specs.ber.Canon.{canon_element, canon_header, canon_length, canon_number}
 use Rattle.snmp_wire.proofs.ElementLaws.{header_fits, writes_element}
 use Rattle.snmp_wire.specs.ber.Writing.{Writes}

@@ -1,8 +1,7 @@
 -- What is read as a message is spelt so, and each fault that reading gives is one of the octets.
 -- Octets that spell a message have no fault.
-use Rattle.std.proofs.Common.{◌≡◌, ◌≢◌, ℕ, ℤ, zero, suc, ◌<◌, ◌≤◌, cond, eqb, None, List, [], ◌∷◌}
-use Rattle.std.proofs.Common.{◌++◌, length, Result, Ok, Err, refl, sym, ap, subst, ◌∙◌, arith, inl}
-use Rattle.std.proofs.Common.{inr, ◌+◌, Option, Some, append_assoc}
+use Rattle.std.proofs.Common.{◌≡◌, ◌≢◌, ℕ, ℤ, zero, suc, ◌<◌, ◌≤◌, cond, eqb, None, List, [], ◌∷◌, ◌++◌, length, Result, Ok, Err, refl, sym, ap}
+use Rattle.std.proofs.Common.{subst, ◌∙◌, arith, inl, inr, ◌+◌, Option, Some, append_assoc}
 use Rattle.std.proofs.lemmas.Bool.{eqb-true, eqb-false}
 use Rattle.std.proofs.lemmas.List.{append-nil}
 use Rattle.snmp_wire.specs.declared.ber.error.BerError.{BerError}
@@ -16,25 +15,18 @@ use Rattle.snmp_wire.specs.ber.Value.{Datum, object_id}
 use Rattle.snmp_wire.specs.Message.{VarBind, Message}
 use Rattle.snmp_wire.specs.ber.Spelling.{value_tag, IsContent, SpellsValue}
 use Rattle.snmp_wire.specs.Spelling.{kind_tag, Spells}
-use Rattle.snmp_wire.specs.ber.Reading.{inner_at, element_at, integer_of, integer_at, identifier_of}
-use Rattle.snmp_wire.specs.ber.Reading.{typed_value}
-use Rattle.snmp_wire.specs.Reading.{Fields, fields_of, fields_at, binding_of, binding_at}
-use Rattle.snmp_wire.specs.Reading.{bindings_within, bindings_of, kind_of, outermost_of, pdu_of}
+use Rattle.snmp_wire.specs.ber.Reading.{inner_at, element_at, integer_of, integer_at, identifier_of, typed_value}
+use Rattle.snmp_wire.specs.Reading.{Fields, fields_of, fields_at, binding_of, binding_at, bindings_within, bindings_of, kind_of, outermost_of, pdu_of}
 use Rattle.snmp_wire.specs.Reading.{message_of}
-use Rattle.snmp_wire.specs.Fault.{BeginsWith, Place, at_message, at_version, at_community, at_pdu}
-use Rattle.snmp_wire.specs.Fault.{at_id, at_a, at_b, at_list, at_binding, at_name, at_value}
-use Rattle.snmp_wire.specs.Fault.{first_inside, next_behind, AllowsTag, Expects, starts, inside}
-use Rattle.snmp_wire.specs.Fault.{behind, IsFault, EndsEarly, HasForbiddenLength, Calls}
-use Rattle.snmp_wire.proofs.ReadingLaws.{Gives, a_fault, a_value, done, failed, failing, given}
-use Rattle.snmp_wire.proofs.ReadingLaws.{gives, gives_all, gives_either, gives_fault, gives_so}
+use Rattle.snmp_wire.specs.Fault.{BeginsWith, Place, at_message, at_version, at_community, at_pdu, at_id, at_a, at_b, at_list, at_binding, at_name}
+use Rattle.snmp_wire.specs.Fault.{at_value, first_inside, next_behind, AllowsTag, Expects, starts, inside, behind, IsFault, EndsEarly}
+use Rattle.snmp_wire.specs.Fault.{HasForbiddenLength, Calls}
+use Rattle.snmp_wire.proofs.ReadingLaws.{Gives, a_fault, a_value, done, failed, failing, given, gives, gives_all, gives_either, gives_fault, gives_so}
 use Rattle.snmp_wire.proofs.ReadingLaws.{gives_then, ok_is}
-use Rattle.snmp_wire.proofs.LengthLaws.{IsBadElement, content_gives, element_gives}
-use Rattle.snmp_wire.proofs.LengthLaws.{element_shrinks, inner_gives, no_octets, some_octets}
+use Rattle.snmp_wire.proofs.LengthLaws.{IsBadElement, content_gives, element_gives, element_shrinks, inner_gives, no_octets, some_octets}
 use Rattle.snmp_wire.proofs.LengthLaws.{element_again}
-use Rattle.snmp_wire.proofs.MessageElements.{SpellsAll, no_elements, value_then}
-use Rattle.snmp_wire.proofs.MessageElements.{elements_in_message, elements_in_pdu, elements_of}
-use Rattle.snmp_wire.proofs.MessageElements.{elements_of_bindings, of_row, Elements, element_then}
-use Rattle.snmp_wire.proofs.MessageElements.{in_row}
+use Rattle.snmp_wire.proofs.MessageElements.{SpellsAll, no_elements, value_then, elements_in_message, elements_in_pdu, elements_of}
+use Rattle.snmp_wire.proofs.MessageElements.{elements_of_bindings, of_row, Elements, element_then, in_row}
 use Rattle.snmp_wire.proofs.IdentifierReading.{identifier_gives}
 use Rattle.snmp_wire.proofs.MessageLaws.{kind_again}
 use Rattle.snmp_wire.proofs.ValueLaws.{IsRead, integer_gives, known_gives, value_again, value_gives}

@@ -7,8 +7,7 @@ use Rattle.std.specs.Result.{result_unwrap_or}
 use Rattle.snmp_wire.specs.declared.ber.error.BerError.{BerError}
 use Rattle.snmp_wire.specs.Canon.{IsEncodable, IsEncodableValue, canon_binding}
 use Rattle.snmp_wire.specs.Encoded.{IsKept, binding_in}
-use Rattle.snmp_wire.specs.Message.{VarBind, Datum, octet_string, null_value, object_id}
-use Rattle.snmp_wire.specs.Message.{opaque_octets}
+use Rattle.snmp_wire.specs.Message.{VarBind, Datum, octet_string, null_value, object_id, opaque_octets}
 use Rattle.snmp_wire.specs.Range.{IsBindingInRange, IsInRange}
 use Rattle.snmp_wire.specs.Reading.{bindings_in, bindings_of}
 use Rattle.snmp_wire.specs.Spelling.{SpellsBinding}

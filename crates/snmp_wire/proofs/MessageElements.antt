@@ -1,9 +1,8 @@
 -- Elements in a row, of values or around other elements: the form of bindings, PDUs and messages.
 -- How such a row is spelt and written, and that no spelling of it is shorter, is said and proved
 -- once.
-use Rattle.std.proofs.Common.{◌≡◌, ℕ, ◌^◌, ◌<◌, List, [], ◌++◌, length, refl, sym, subst, ◌≤◌, ◌∷◌}
-use Rattle.std.proofs.Common.{ap, ◌∙◌, append_assoc, lit<, arith, length-append, ℤ, pos, negsuc}
-use Rattle.std.proofs.Common.{◌+◌, ◌-◌, ◌*◌, suc, inl, inr, ⊎_elim, take}
+use Rattle.std.proofs.Common.{◌≡◌, ℕ, ◌^◌, ◌<◌, List, [], ◌++◌, length, refl, sym, subst, ◌≤◌, ◌∷◌, ap, ◌∙◌, append_assoc, lit<, arith, length-append}
+use Rattle.std.proofs.Common.{ℤ, pos, negsuc, ◌+◌, ◌-◌, ◌*◌, suc, inl, inr, ⊎_elim, take}
 use Rattle.std.proofs.lemmas.List.{append-nil}
 use Rattle.std.proofs.Math.Nat.{mul-le-mul_right, pow-le-pow_right, pow-suc}
 use Rattle.std.proofs.lemmas.Nat.{mul-add-lt}
@@ -14,30 +13,22 @@ use mir.Syntax.{w32}
 use mir.Val.{SFits}
 use Rattle.snmp_wire.specs.ber.Canon.{canon_element, canon_value}
 use Rattle.snmp_wire.specs.ber.Length.{IsElement}
-use Rattle.snmp_wire.specs.ber.Number.{Form, IsUnsigned, lenient, strict, AreOctets, number_of}
-use Rattle.snmp_wire.specs.ber.Number.{twos_complement, unsigned}
+use Rattle.snmp_wire.specs.ber.Number.{Form, IsUnsigned, lenient, strict, AreOctets, number_of, twos_complement, unsigned}
 use Rattle.snmp_wire.specs.ber.Range.{IsInRange, IsOfType}
 use Rattle.snmp_wire.specs.ber.Spelling.{IsContent, SpellsValue, sequence_tag}
-use Rattle.snmp_wire.specs.ber.Value.{Datum, counter32, gauge32, time_ticks, counter64}
-use Rattle.snmp_wire.specs.ber.Value.{integer_value, octet_string, object_id, ip_address}
+use Rattle.snmp_wire.specs.ber.Value.{Datum, counter32, gauge32, time_ticks, counter64, integer_value, octet_string, object_id, ip_address}
 use Rattle.snmp_wire.specs.ber.Value.{opaque_octets}
 use Rattle.snmp_wire.specs.declared.kind.Kind.{Kind}
 use Rattle.snmp_wire.specs.declared.kind.Kind.TheVariants as kind
-use Rattle.snmp_wire.specs.Canon.{canon, canon_binding, canon_bindings, canon_fields, canon_opening}
-use Rattle.snmp_wire.specs.Canon.{canon_front, canon_head}
+use Rattle.snmp_wire.specs.Canon.{canon, canon_binding, canon_bindings, canon_fields, canon_opening, canon_front, canon_head}
 use Rattle.snmp_wire.specs.Message.{VarBind, Message}
-use Rattle.snmp_wire.specs.Range.{IsBindingInRange, IsBindingOfType, IsMessageInRange}
-use Rattle.snmp_wire.specs.Range.{IsMessageOfType}
-use Rattle.snmp_wire.specs.Spelling.{SpellsBinding, SpellsBindings, SpellsMessage, SpellsPdu}
-use Rattle.snmp_wire.specs.Spelling.{Spells, Strict, kind_tag}
+use Rattle.snmp_wire.specs.Range.{IsBindingInRange, IsBindingOfType, IsMessageInRange, IsMessageOfType}
+use Rattle.snmp_wire.specs.Spelling.{SpellsBinding, SpellsBindings, SpellsMessage, SpellsPdu, Spells, Strict, kind_tag}
 use Rattle.snmp_wire.specs.Laws.{OneShortestEncoding}
 use Rattle.snmp_wire.specs.Shortest.{IsShortestEncoding}
-use Rattle.snmp_wire.proofs.Digits.{Octets, back_octets, both_octets, front_octets, by_octets}
-use Rattle.snmp_wire.proofs.Digits.{octets_by, below_power}
-use Rattle.snmp_wire.proofs.Shortest.{IsNoShorter, both_texts, content_octets, element_least}
-use Rattle.snmp_wire.proofs.Shortest.{same_text, value_least, element_octets, is_element}
-use Rattle.snmp_wire.proofs.Shortest.{spells_value, value_octets, element_most, value_short}
-use Rattle.snmp_wire.proofs.Shortest.{signed_fits, minus, negative, positive}
+use Rattle.snmp_wire.proofs.Digits.{Octets, back_octets, both_octets, front_octets, by_octets, octets_by, below_power}
+use Rattle.snmp_wire.proofs.Shortest.{IsNoShorter, both_texts, content_octets, element_least, same_text, value_least, element_octets, is_element}
+use Rattle.snmp_wire.proofs.Shortest.{spells_value, value_octets, element_most, value_short, signed_fits, minus, negative, positive}
 use Rattle.snmp_wire.proofs.MessageWriting.{canon_parts}
 
 pub data Elements : Type 0 where

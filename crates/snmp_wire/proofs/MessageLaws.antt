@@ -1,24 +1,18 @@
 -- Reading bindings one after the other, and messages: what is spelt as one is read.
-use Rattle.std.proofs.Common.{◌≡◌, ℕ, zero, suc, ◌<◌, ◌≤◌, List, [], ◌∷◌, length, Result, Ok, Err}
-use Rattle.std.proofs.Common.{IsOk, refl, sym, ap, ◌∙◌, arith, ℤ, ◌++◌, append_assoc, ◌+◌, ◌-◌}
-use Rattle.std.proofs.Common.{get_or, take, drop, subst, inl}
-use Rattle.std.proofs.lemmas.List.{nil_from_length, append-nil, length-append, append_cancel_right}
-use Rattle.std.proofs.lemmas.List.{length-drop, length-take-le, take-append-drop}
+use Rattle.std.proofs.Common.{◌≡◌, ℕ, zero, suc, ◌<◌, ◌≤◌, List, [], ◌∷◌, length, Result, Ok, Err, IsOk, refl, sym, ap, ◌∙◌, arith, ℤ, ◌++◌}
+use Rattle.std.proofs.Common.{append_assoc, ◌+◌, ◌-◌, get_or, take, drop, subst, inl}
+use Rattle.std.proofs.lemmas.List.{nil_from_length, append-nil, length-append, append_cancel_right, length-drop, length-take-le, take-append-drop}
 use Rattle.std.specs.Result.{result_unwrap_or}
 use Rattle.snmp_wire.specs.declared.ber.error.BerError.{BerError}
 use Rattle.snmp_wire.specs.ber.Value.{Datum, integer_value}
 use Rattle.snmp_wire.specs.Lent.{binding_with}
 use Rattle.snmp_wire.specs.Message.{VarBind, null_value, Message}
-use Rattle.snmp_wire.specs.ber.Reading.{◌>>=◌, checked, identifier_of, typed_value, content_at}
-use Rattle.snmp_wire.specs.ber.Reading.{inner_at, element_at, integer_at}
-use Rattle.snmp_wire.specs.Reading.{Fields, fields_of, fields_at, binding_of, binding_at}
-use Rattle.snmp_wire.specs.Reading.{bindings_within, bindings_of, bindings_in, kind_of}
+use Rattle.snmp_wire.specs.ber.Reading.{◌>>=◌, checked, identifier_of, typed_value, content_at, inner_at, element_at, integer_at}
+use Rattle.snmp_wire.specs.Reading.{Fields, fields_of, fields_at, binding_of, binding_at, bindings_within, bindings_of, bindings_in, kind_of}
 use Rattle.snmp_wire.specs.Reading.{outermost_of, pdu_of, message_of}
-use Rattle.snmp_wire.proofs.ReadingLaws.{ok_is, bind_ok, bind_same, ok_value, is_ok_at}
-use Rattle.snmp_wire.proofs.ReadingLaws.{checked_err, err_checked, ok_checked, Gives, a_value}
-use Rattle.snmp_wire.proofs.ReadingLaws.{given, gives_any, gives_so, gives_then, done}
-use Rattle.snmp_wire.proofs.LengthLaws.{inner_gives, element_shrinks, content_again, inner_again}
-use Rattle.snmp_wire.proofs.LengthLaws.{element_again}
+use Rattle.snmp_wire.proofs.ReadingLaws.{ok_is, bind_ok, bind_same, ok_value, is_ok_at, checked_err, err_checked, ok_checked, Gives, a_value, given}
+use Rattle.snmp_wire.proofs.ReadingLaws.{gives_any, gives_so, gives_then, done}
+use Rattle.snmp_wire.proofs.LengthLaws.{inner_gives, element_shrinks, content_again, inner_again, element_again}
 use Rattle.snmp_wire.specs.declared.ber.error.BerError.TheVariants as error
 use Rattle.snmp_wire.specs.declared.kind.Kind.{Kind}
 use Rattle.snmp_wire.specs.declared.kind.Kind.TheVariants as kind

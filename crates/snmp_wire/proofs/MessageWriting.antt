@@ -1,9 +1,7 @@
 -- Messages: the parts before the bindings, how long they are, and how they are written.
-use Rattle.std.proofs.Common.{◌≡◌, ℕ, ℤ, ◌+◌, ◌-◌, ◌≤◌, List, ◌++◌, length, sym, ap, ◌∙◌, arith}
-use Rattle.std.proofs.Common.{append_assoc, length-append}
+use Rattle.std.proofs.Common.{◌≡◌, ℕ, ℤ, ◌+◌, ◌-◌, ◌≤◌, List, ◌++◌, length, sym, ap, ◌∙◌, arith, append_assoc, length-append}
 use Rattle.std.proofs.Math.Nat.{add_assoc}
-use Rattle.snmp_wire.specs.Canon.{canon, canon_bindings, canon_fields, canon_front, canon_head}
-use Rattle.snmp_wire.specs.Canon.{canon_opening}
+use Rattle.snmp_wire.specs.Canon.{canon, canon_bindings, canon_fields, canon_front, canon_head, canon_opening}
 use Rattle.snmp_wire.specs.ber.Canon.{canon_element, canon_header, canon_length, canon_value}
 use Rattle.snmp_wire.specs.Message.{Message}
 pub use Rattle.snmp_wire.specs.Sizes.{pdu_size}

@@ -1,7 +1,6 @@
 -- The shortest encoding: each length in the shortest form, each whole number in the fewest octets
 -- (X.690, 8.1.3, 8.3 and 8.19; RFC 3417, section 8).
-use Rattle.std.specs.Prelude.{ℕ, ◌+◌}
-use Rattle.std.specs.Prelude.{List, ◌++◌, length}
+use Rattle.std.specs.Prelude.{ℕ, ◌+◌, List, ◌++◌, length}
 use Rattle.std.specs.List.{flat_map}
 use Rattle.snmp_oid.specs.Identifier.{IsWire}
 use Rattle.snmp_wire.specs.ber.Value.{integer_value, octet_string, object_id}

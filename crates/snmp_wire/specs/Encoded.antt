@@ -1,6 +1,5 @@
 -- Bindings as they are encoded.
-use Rattle.std.specs.Prelude.{◌≡◌, ℕ, List, [], take, nat_lt}
-use Rattle.std.specs.Prelude.{if◌then◌else◌}
+use Rattle.std.specs.Prelude.{◌≡◌, ℕ, List, [], take, nat_lt, if◌then◌else◌}
 use Rattle.std.specs.Result.{result_unwrap_or}
 use Rattle.snmp_wire.specs.declared.in_place.Octets.{Octets}
 use Rattle.snmp_wire.specs.Canon.{canon_binding}

@@ -3,13 +3,10 @@
 use Rattle.std.specs.Prelude.{ℕ, ℤ, List, map}
 use Rattle.snmp_wire.specs.declared.kind.Kind.{Kind}
 use Rattle.snmp_wire.specs.declared.binding.Binding.{Binding}
-pub use Rattle.snmp_wire.specs.ber.Value.{Datum, integer_value, octet_string, null_value}
-pub use Rattle.snmp_wire.specs.ber.Value.{object_id}
-pub use Rattle.snmp_wire.specs.ber.Value.{ip_address, counter32, gauge32, time_ticks}
-pub use Rattle.snmp_wire.specs.ber.Value.{opaque_octets}
+pub use Rattle.snmp_wire.specs.ber.Value.{Datum, integer_value, octet_string, null_value, object_id}
+pub use Rattle.snmp_wire.specs.ber.Value.{ip_address, counter32, gauge32, time_ticks, opaque_octets}
 pub use Rattle.snmp_wire.specs.ber.Value.{counter64, no_such_object, no_such_instance}
-pub use Rattle.snmp_wire.specs.ber.Value.{end_of_mib_view}
-pub use Rattle.snmp_wire.specs.ber.Value.{datum}
+pub use Rattle.snmp_wire.specs.ber.Value.{end_of_mib_view, datum}
 
 -- a variable binding: the name of an instance, and its value
 pub record VarBind : Type 0 where

@@ -8,8 +8,7 @@ use Rattle.smi_text.specs.declared.trees.tree.Refinement.{Refinement}
 use Rattle.smi_text.specs.declared.trees.tree.Refinement.TheVariants.{Numbers, Values, Size}
 use Rattle.smi_text.specs.declared.trees.tree.Base.{Base}
 use Rattle.smi_text.specs.declared.trees.tree.Base.TheVariants.{Integer, OctetString}
-use Rattle.smi_text.specs.declared.trees.tree.Base.TheVariants.{ObjectIdentifier}
-use Rattle.smi_text.specs.declared.trees.tree.Base.TheVariants.{Bits, Named}
+use Rattle.smi_text.specs.declared.trees.tree.Base.TheVariants.{ObjectIdentifier, Bits, Named}
 use Rattle.smi_text.specs.declared.trees.tree.Syntax.{Syntax}
 use Rattle.smi_text.specs.declared.trees.tree.Syntax.TheVariants.{SequenceOf, Simple}
 

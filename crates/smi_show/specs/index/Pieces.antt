@@ -1,9 +1,8 @@
 -- The instance part of a name as text: pieces, each after a dot. A piece is a number, or a text in
 -- quotes: double ones stand for its length and its octets, single ones for its octets alone.
-use Rattle.std.specs.Prelude.{◌≡◌, ◌≢◌, ℕ, ◌<◌, ◌^◌, Bool, true, false}
-use Rattle.std.specs.Prelude.{not, ◌&&◌, ◌||◌, ◌==◌, nat_le, ◌⊎◌}
-use Rattle.std.specs.Prelude.{List, [], ◌∷◌, ◌++◌, length, map, decimal, codes, Option, Some, None}
-use Rattle.std.specs.Prelude.{if◌then◌else◌, IsTrue}
+use Rattle.std.specs.Prelude.{◌≡◌, ◌≢◌, ℕ, ◌<◌, ◌^◌, Bool, true, false, not, ◌&&◌, ◌||◌, ◌==◌}
+use Rattle.std.specs.Prelude.{nat_le, ◌⊎◌, List, [], ◌∷◌, ◌++◌, length, map, decimal, codes, Option}
+use Rattle.std.specs.Prelude.{Some, None, if◌then◌else◌, IsTrue}
 use Rattle.std.specs.List.{flat_map, list_all}
 use Rattle.smi_show.specs.index.Index.{ReadValues, extent_of}
 use Rattle.smi_show.specs.declared.index.part.Extent.{Extent}

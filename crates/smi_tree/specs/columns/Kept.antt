@@ -1,7 +1,6 @@
 -- What is kept: the parts of each INDEX clause, and for each node which of them identify its row.
 -- The relations here are for private clauses.
-use Rattle.std.specs.Prelude.{◌≡◌, ℕ, List, Bool, Option, Some, None, option_map, map, Vec}
-use Rattle.std.specs.Prelude.{⊤}
+use Rattle.std.specs.Prelude.{◌≡◌, ℕ, List, Bool, Option, Some, None, option_map, map, Vec, ⊤}
 use Rattle.std.specs.List.{slice_get}
 use Rattle.std.specs.Option.{option_and_then}
 use Rattle.std.specs.Global.{Global}

@@ -1,9 +1,7 @@
 -- Octets under a display hint (RFC 2579, section 3.1): count octets and pieces, and their text.
-use Rattle.std.specs.Prelude.{◌≡◌, ◌≢◌, ℕ, ◌≤◌, ◌⊎◌, false, if◌then◌else◌, is_some, List, []}
-use Rattle.std.specs.Prelude.{◌∷◌}
+use Rattle.std.specs.Prelude.{◌≡◌, ◌≢◌, ℕ, ◌≤◌, ◌⊎◌, false, if◌then◌else◌, is_some, List, [], ◌∷◌}
 use Rattle.std.specs.Prelude.{◌++◌, length, take, drop, slice_index, Option, option_to_list}
-use Rattle.std.specs.Prelude.{decimal}
-use Rattle.std.specs.Prelude.{Bool, not, ◌&&◌, ◌==◌}
+use Rattle.std.specs.Prelude.{decimal, Bool, not, ◌&&◌, ◌==◌}
 use Rattle.std.specs.Fmt.{digits}
 use Rattle.std.specs.List.{flat_map}
 use Rattle.std.specs.Int.Digits.{number_from_digits}

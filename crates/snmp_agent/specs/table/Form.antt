@@ -3,8 +3,7 @@ use Rattle.std.specs.Prelude.{◌≡◌, ◌≢◌, ◌⊎◌, List, [], ◌∷�
 use Rattle.snmp_wire.specs.Message.{Datum, VarBind}
 use Rattle.snmp_agent.specs.table.Table.{IsInstanceName}
 use Rattle.snmp_agent.specs.table.Format.{Format, EndsAtBar, IsNameIn, bar}
-use Rattle.snmp_agent.specs.table.Text.{IsBlank, IsObjectForm, IsPrefixLine, IsRowLine}
-use Rattle.snmp_agent.specs.table.Text.{IsValueText}
+use Rattle.snmp_agent.specs.table.Text.{IsBlank, IsObjectForm, IsPrefixLine, IsRowLine, IsValueText}
 
 -- what a line states: nothing, an object prefix, or an instance with its value
 pub data Statement : Type 0 where

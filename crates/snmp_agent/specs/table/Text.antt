@@ -10,10 +10,8 @@ use Rattle.hex.specs.Hex.{decode_of}
 use Rattle.snmp_oid.specs.Identifier.{IsWire}
 use Rattle.snmp_oid.specs.Numeric.{decimal_value, IsDotted}
 use Rattle.snmp_wire.specs.Message.{Datum, VarBind}
-use Rattle.snmp_wire.specs.Message.Datum.{integer_value, octet_string, object_id}
-use Rattle.snmp_wire.specs.Message.Datum.{ip_address, counter32, gauge32, time_ticks}
-use Rattle.snmp_wire.specs.Message.Datum.{opaque_octets}
-use Rattle.snmp_wire.specs.Message.Datum.{counter64}
+use Rattle.snmp_wire.specs.Message.Datum.{integer_value, octet_string, object_id, ip_address}
+use Rattle.snmp_wire.specs.Message.Datum.{counter32, gauge32, time_ticks, opaque_octets, counter64}
 use Rattle.snmp_agent.specs.table.Format.{Format, EndsAtBar, IsNameIn, bar}
 use Rattle.snmp_agent.specs.table.Table.{IsInstanceName, IsTableString}
 

@@ -2,8 +2,7 @@ use Rattle.std.proofs.Common.{◌≡◌, ℕ, List, true, false, refl, inl, inr,
 use Rattle.smi_value.specs.hint.Hint.{IsOfOctets}
 use Rattle.smi_value.proofs.Growing.{adds_from}
 use Rattle.smi_value.proofs.value.append_hinted_string.Goals as goal
-use Rattle.smi_value.proofs.value.append_hinted_string.Goals.{in_default-via-in-Some+else-not-is_number}
-use Rattle.smi_value.proofs.value.append_hinted_string.Goals.{in_default-via-in_default}
+use Rattle.smi_value.proofs.value.append_hinted_string.Goals.{in_default-via-in-Some+else-not-is_number, in_default-via-in_default}
 
 pub returns-in-Some : goal.returns-in-Some
 returns-in-Some c = (

@@ -1,6 +1,5 @@
 use Rattle.std.proofs.Common.{rules, sym, ◌∙◌}
-use Rattle.snmp_agent.proofs.Requests.{is_one, other_community, same_community, served_kinds}
-use Rattle.snmp_agent.proofs.Requests.{other_kind}
+use Rattle.snmp_agent.proofs.Requests.{is_one, other_community, same_community, served_kinds, other_kind}
 use Rattle.snmp_agent.proofs.agent.accepted.Goals as goal
 
 pub returns-in-Err-clause-refused : goal.returns-in-Err-clause-refused

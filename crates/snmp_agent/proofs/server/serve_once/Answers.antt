@@ -1,6 +1,5 @@
 use Rattle.std.proofs.Common.{◌≡◌, List, ℕ, [], ◌∷◌, take, Ok, Some, inl, inr, refl, subst, arith}
-use Rattle.snmp_agent.specs.Event.{came, receive_failed, sent, send_failed, event_of_receive}
-use Rattle.snmp_agent.specs.Event.{event_of_reply}
+use Rattle.snmp_agent.specs.Event.{came, receive_failed, sent, send_failed, event_of_receive, event_of_reply}
 use Rattle.snmp_agent.proofs.server.serve_once.Goals as goal
 
 pub returns-in-Ok-clause-turn : goal.returns-in-Ok-clause-turn

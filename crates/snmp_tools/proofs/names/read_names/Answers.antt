@@ -1,5 +1,4 @@
-use Rattle.std.proofs.Common.{◌≡◌, ◌⊎◌, ◌+◌, ◌++◌, Bool, false, List, [], ◌∷◌, Result, Ok, Err}
-use Rattle.std.proofs.Common.{inr, subst, sym, take}
+use Rattle.std.proofs.Common.{◌≡◌, ◌⊎◌, ◌+◌, ◌++◌, Bool, false, List, [], ◌∷◌, Result, Ok, Err, inr, subst, sym, take}
 use Rattle.std.specs.Prelude.{if◌then◌else◌}
 use Rattle.std.specs.Result.{is_err, is_ok}
 use Rattle.snmp_words.specs.Words.{texts_at}

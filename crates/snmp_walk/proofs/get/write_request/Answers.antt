@@ -1,8 +1,7 @@
-use Rattle.std.proofs.Common.{◌≡◌, ◌≤◌, ◌<◌, ◌↔◌, ◌∙◌, ap, arith, ℕ, ℤ, pos, List, [], take}
-use Rattle.std.proofs.Common.{Option, Some, None, IsSome, IfSome, IfNone, w32, to_z, refl}
+use Rattle.std.proofs.Common.{◌≡◌, ◌≤◌, ◌<◌, ◌↔◌, ◌∙◌, ap, arith, ℕ, ℤ, pos, List, [], take, Option, Some, None, IsSome, IfSome, IfNone, w32, to_z}
+use Rattle.std.proofs.Common.{refl, ⊎_elim}
 use Rattle.std.proofs.lemmas.Int.{to_z_pos}
 use Rattle.std.proofs.lemmas.Bool.{cases_lt}
-use Rattle.std.proofs.Common.{⊎_elim}
 use Rattle.snmp_wire.specs.Message.{Message}
 use Rattle.snmp_wire.specs.declared.kind.Kind.TheVariants as kind
 use Rattle.snmp_walk.specs.Get.{get_request}

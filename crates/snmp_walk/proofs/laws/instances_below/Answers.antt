@@ -1,5 +1,4 @@
-use Rattle.snmp_walk.proofs.LawLemmas.{is_row_below, has_row_below, is_row_left, has_row_left}
-use Rattle.snmp_walk.proofs.LawLemmas.{below_ordered, left_ordered}
+use Rattle.snmp_walk.proofs.LawLemmas.{is_row_below, has_row_below, is_row_left, has_row_left, below_ordered, left_ordered}
 use Rattle.snmp_walk.proofs.laws.instances_below.Goals as goal
 
 pub returns-clause-below : goal.returns-clause-below

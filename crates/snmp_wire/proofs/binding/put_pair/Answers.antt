@@ -1,10 +1,8 @@
 use Rattle.std.proofs.Common.{◌-◌, ◌<◌, arith, refl}
 use Rattle.snmp_wire.specs.ber.Value.{object_id}
 use Rattle.snmp_wire.specs.Message.{datum}
-use Rattle.snmp_wire.proofs.BindingWriting.{binding_header_fits, binding_name_fits}
-use Rattle.snmp_wire.proofs.BindingWriting.{binding_value_fits, writes_binding}
-use Rattle.snmp_wire.proofs.ElementLaws.{header_short, length-canon_header, value_content_fits}
-use Rattle.snmp_wire.proofs.ElementLaws.{value_header_fits, writes_value}
+use Rattle.snmp_wire.proofs.BindingWriting.{binding_header_fits, binding_name_fits, binding_value_fits, writes_binding}
+use Rattle.snmp_wire.proofs.ElementLaws.{header_short, length-canon_header, value_content_fits, value_header_fits, writes_value}
 use Rattle.snmp_wire.proofs.binding.put_pair.Goals as goal
 
 pub put_value-value-requires-clause-room : goal.put_value-value-requires-clause-room

@@ -1,7 +1,6 @@
 use Rattle.std.proofs.Common.{List, length, refl, subst, sym, ℕ, ◌≤◌}
 use Rattle.snmp_wire.specs.ber.Value.{octet_string}
-use Rattle.snmp_wire.proofs.ElementLaws.{content_text, value_content_fits, value_header_fits}
-use Rattle.snmp_wire.proofs.ElementLaws.{writes_value}
+use Rattle.snmp_wire.proofs.ElementLaws.{content_text, value_content_fits, value_header_fits, writes_value}
 use Rattle.snmp_wire.proofs.WritingLaws.{writes_same}
 use Rattle.snmp_wire.proofs.message.put_text_element.Goals as goal
 

@@ -1,11 +1,8 @@
 use Rattle.std.proofs.Common.{◌≡◌, ℕ, ◌<◌, ◌⊎◌, inl, inr, List, length, ◌∙◌, arith, Ok}
 use Rattle.snmp_wire.specs.ber.Reading.{identifier_of}
-use Rattle.snmp_wire.proofs.NameOrder.{OrderLaw, Beside, EndsBy, beside, both_go_on, ends_decide}
-use Rattle.snmp_wire.proofs.NameOrder.{octets_decide, one_ends, one_is_last}
+use Rattle.snmp_wire.proofs.NameOrder.{OrderLaw, Beside, EndsBy, beside, both_go_on, ends_decide, octets_decide, one_ends, one_is_last}
 use Rattle.snmp_wire.proofs.name.compare_contents.Goals as goal
-use Rattle.snmp_wire.proofs.name.compare_contents.Goals.{After-alike-at}
-use Rattle.snmp_wire.proofs.name.compare_contents.Goals.{then-octet-ge128+then-beside-ge128+else-end-other_end}
-use Rattle.snmp_wire.proofs.name.compare_contents.Goals.{else-octet-ge128}
+use Rattle.snmp_wire.proofs.name.compare_contents.Goals.{After-alike-at, then-octet-ge128+then-beside-ge128+else-end-other_end, else-octet-ge128}
 use Rattle.snmp_wire.proofs.name.compare_contents.Goals.{else-octet-ge128-via-then-octet-ge128+else-beside-ge128}
 use Rattle.snmp_wire.proofs.name.compare_contents.Goals.{else-octet-ge128-via-else-octet-ge128}
 

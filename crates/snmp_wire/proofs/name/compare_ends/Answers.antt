@@ -1,12 +1,9 @@
-use Rattle.std.proofs.Common.{◌≡◌, ℕ, ◌+◌, ◌<◌, ◌≤◌, ◌⊎◌, inl, inr, List, length, get_or, refl}
-use Rattle.std.proofs.Common.{subst, ◌∙◌, arith}
+use Rattle.std.proofs.Common.{◌≡◌, ℕ, ◌+◌, ◌<◌, ◌≤◌, ◌⊎◌, inl, inr, List, length, get_or, refl, subst, ◌∙◌, arith}
 use Rattle.std.proofs.lemmas.Bool.{cases_lt}
 use Rattle.snmp_wire.specs.Name.{EndsAt}
-use Rattle.snmp_wire.proofs.NameOrder.{OrderLaw, Beside, EndsBy, beside, both_go_on, octets_decide}
-use Rattle.snmp_wire.proofs.NameOrder.{one_ends, one_is_last}
+use Rattle.snmp_wire.proofs.NameOrder.{OrderLaw, Beside, EndsBy, beside, both_go_on, octets_decide, one_ends, one_is_last}
 use Rattle.snmp_wire.proofs.name.compare_ends.Goals as goal
-use Rattle.snmp_wire.proofs.name.compare_ends.Goals.{else-octet-ge128-via-else-octet-ge128}
-use Rattle.snmp_wire.proofs.name.compare_ends.Goals.{else-octet-ge128-via-then-octet-ge128+else-beside-ge128}
+use Rattle.snmp_wire.proofs.name.compare_ends.Goals.{else-octet-ge128-via-else-octet-ge128, else-octet-ge128-via-then-octet-ge128+else-beside-ge128}
 use Rattle.snmp_wire.proofs.name.compare_ends.Goals.{else-octet-ge128-via-then-octet-ge128+then-beside-ge128+else-not-both_end}
 
 -- a subidentifier goes on from a place whose octet says so

@@ -1,6 +1,4 @@
-use Rattle.std.proofs.Common.{◌≡◌, ◌-◌, ◌≤◌, ℕ, List, [], ◌∷◌, ◌++◌, length, get_or, take, codes}
-use Rattle.std.proofs.Common.{decimal}
-use Rattle.std.proofs.Common.{refl, subst, arith}
+use Rattle.std.proofs.Common.{◌≡◌, ◌-◌, ◌≤◌, ℕ, List, [], ◌∷◌, ◌++◌, length, get_or, take, codes, decimal, refl, subst, arith}
 use Rattle.snmp_io.specs.draft.Draft.{Adds}
 use Rattle.smi_show.specs.details.Value.{labelled_parts, parts_text}
 use Rattle.smi_show.specs.name.Beginnings.{last_number}

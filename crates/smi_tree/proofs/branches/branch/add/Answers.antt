@@ -1,15 +1,12 @@
 -- The numbers of the identifier are gone along from where the last one's differ, and it stands at
 -- the end, if none did.
-use Rattle.std.proofs.Common.{rules, ◌≡◌, ℕ, ◌+◌, ◌<◌, ◌≤◌, true, is_some, Option, List, [], ◌∷◌}
-use Rattle.std.proofs.Common.{◌++◌, Some, None, get_or, set, take, length, refl, sym, ap, inl, inr}
-use Rattle.std.proofs.Common.{◌∙◌, arith}
+use Rattle.std.proofs.Common.{rules, ◌≡◌, ℕ, ◌+◌, ◌<◌, ◌≤◌, true, is_some, Option, List, [], ◌∷◌, ◌++◌, Some, None, get_or, set, take, length, refl}
+use Rattle.std.proofs.Common.{sym, ap, inl, inr, ◌∙◌, arith}
 use Rattle.std.proofs.lemmas.Bool.{cases_lt}
-use Rattle.std.proofs.lemmas.List.{take_more, take_all, length-set, length-take-le, get_or_default}
-use Rattle.std.proofs.lemmas.List.{get_or-set_same, get_or-set_other, take-take}
+use Rattle.std.proofs.lemmas.List.{take_more, take_all, length-set, length-take-le, get_or_default, get_or-set_same, get_or-set_other, take-take}
 use Rattle.smi_tree.specs.branches.Branches.{AreBranches, AreBranchesOf, branch_of, IsBeginning, IsWay, GrowsBranch}
 use Rattle.smi_tree.specs.declared.branches.branch.Branch.{Branch}
-use Rattle.smi_tree.proofs.Branching.{Branches-known, Branches-grown, Branches-ended, begins_push}
-use Rattle.smi_tree.proofs.Branching.{branch_inside, branch_kept, branch-same}
+use Rattle.smi_tree.proofs.Branching.{Branches-known, Branches-grown, Branches-ended, begins_push, branch_inside, branch_kept, branch-same}
 use Rattle.smi_tree.proofs.Growing.{follower-set, standing-set, standing-set_other, standing_read}
 use Rattle.smi_names.specs.meaning.Meaning.{or_else}
 use Rattle.smi_tree.proofs.branches.branch.add.Goals as goal

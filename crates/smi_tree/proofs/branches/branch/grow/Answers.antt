@@ -1,6 +1,5 @@
 -- The branch is there, or is made.
-use Rattle.std.proofs.Common.{rules, ◌≡◌, ◌≢◌, ℕ, ◌==◌, true, false, [], ◌∷◌, ◌++◌, get_or, Some}
-use Rattle.std.proofs.Common.{None, refl, sym, ap, ◌∙◌, length, eqb-true}
+use Rattle.std.proofs.Common.{rules, ◌≡◌, ◌≢◌, ℕ, ◌==◌, true, false, [], ◌∷◌, ◌++◌, get_or, Some, None, refl, sym, ap, ◌∙◌, length, eqb-true}
 use Rattle.std.specs.Cmp.{unsigned_ties}
 use Rattle.smi_tree.specs.branches.Branches.{follower, there}
 use Rattle.smi_tree.proofs.Growing.{GrowsBranch-made}

@@ -1,12 +1,9 @@
 -- One number more, and the end of the way.
-use Rattle.std.proofs.Common.{rules, ◌≡◌, ℕ, ◌+◌, ◌<◌, inl, inr, Option, List, Some, None, get_or}
-use Rattle.std.proofs.Common.{take, length, sym, ◌∙◌, arith}
-use Rattle.smi_tree.specs.branches.Branches.{follower, branch_of, standing_at, deeper_of}
-use Rattle.smi_tree.specs.branches.Branches.{AreBranchesOf, SoFar}
+use Rattle.std.proofs.Common.{rules, ◌≡◌, ℕ, ◌+◌, ◌<◌, inl, inr, Option, List, Some, None, get_or, take, length, sym, ◌∙◌, arith}
+use Rattle.smi_tree.specs.branches.Branches.{follower, branch_of, standing_at, deeper_of, AreBranchesOf, SoFar}
 use Rattle.smi_tree.specs.declared.branches.branch.Branch.{Branch}
 use Rattle.smi_tree.specs.declared.branches.identifiers.Deepest.{Deepest}
-use Rattle.smi_tree.proofs.Branching.{SoFar-deeper, SoFar-off, SoFar-whole, branch_more}
-use Rattle.smi_tree.proofs.Branching.{none_beyond}
+use Rattle.smi_tree.proofs.Branching.{SoFar-deeper, SoFar-off, SoFar-whole, branch_more, none_beyond}
 use Rattle.smi_tree.proofs.branches.identifiers.deepest_from.Goals as goal
 
 preserved : (oids : List (List ℕ)) (bs : List Branch) → AreBranchesOf oids bs → (o : List ℕ) (i at b : ℕ) (r new : Option Deepest) → i < length o

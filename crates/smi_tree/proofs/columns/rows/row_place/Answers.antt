@@ -1,6 +1,5 @@
 -- The row that was looked up last is that of these numbers.
-use Rattle.std.proofs.Common.{rules, ◌≡◌, ℕ, ◌∷◌, [], ◌++◌, List, MatchOption, Option, Some, None}
-use Rattle.std.proofs.Common.{sym, ◌∙◌}
+use Rattle.std.proofs.Common.{rules, ◌≡◌, ℕ, ◌∷◌, [], ◌++◌, List, MatchOption, Option, Some, None, sym, ◌∙◌}
 use Rattle.std.proofs.lemmas.List.{same_from_push}
 use Rattle.smi_tree.specs.branches.Standing.{oid_at, place_of}
 use Rattle.smi_tree.proofs.columns.rows.row_place.Goals as goal

@@ -2,8 +2,7 @@
 use Rattle.std.proofs.Common.{rules, ◌<◌, length, arith}
 use Rattle.smi_tree.proofs.Bare.{deepest-some, deepest-none}
 use Rattle.smi_tree.proofs.roots.RootsNameTree.deepest.Goals as goal
-use Rattle.smi_tree.proofs.roots.RootsNameTree.deepest.Goals.{in_default-via-then-as_slice-lt1}
-use Rattle.smi_tree.proofs.roots.RootsNameTree.deepest.Goals.{in_default-via-in-len1-up+else-number-lt3}
+use Rattle.smi_tree.proofs.roots.RootsNameTree.deepest.Goals.{in_default-via-then-as_slice-lt1, in_default-via-in-len1-up+else-number-lt3}
 
 pub returns-in-len1-up : goal.returns-in-len1-up
 returns-in-len1-up c =

@@ -1,7 +1,5 @@
 use Rattle.std.proofs.Common.{◌≡◌, [], rules, arith}
-use Rattle.smi_value.proofs.Groups.{groups_begin, groups_end, groups_alone}
-use Rattle.smi_value.proofs.Groups.{group_then_next, group_then_again, group_no_longer}
-use Rattle.smi_value.proofs.Groups.{group_shorter}
+use Rattle.smi_value.proofs.Groups.{groups_begin, groups_end, groups_alone, group_then_next, group_then_again, group_no_longer, group_shorter}
 use Rattle.smi_value.proofs.Groups.{last_takes}
 use Rattle.smi_value.proofs.Growing.{none_left}
 use Rattle.smi_value.proofs.hint.octets.append_octets.Goals as goal

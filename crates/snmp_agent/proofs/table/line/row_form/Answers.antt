@@ -3,8 +3,7 @@ use Rattle.snmp_agent.specs.table.Format.{HasNoEnd}
 use Rattle.snmp_agent.specs.table.Form.{IsTag}
 use Rattle.snmp_agent.specs.table.Row.{tag_text}
 use Rattle.snmp_agent.proofs.Cuts.{HasNoBar}
-use Rattle.snmp_agent.proofs.Statements.{tag_known, no_row_without_bar, no_row_with_one_bar}
-use Rattle.snmp_agent.proofs.Statements.{same_parts, row_parts}
+use Rattle.snmp_agent.proofs.Statements.{tag_known, no_row_without_bar, no_row_with_one_bar, same_parts, row_parts}
 use Rattle.snmp_agent.proofs.table.line.row_form.Goals as goal
 
 pub returns-in_err-name : goal.returns-in_err-name

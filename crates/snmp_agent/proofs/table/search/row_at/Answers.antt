@@ -2,8 +2,7 @@ use Rattle.std.proofs.Common.{◌≡◌, ◌-◌, length, take, None, sym, ◌�
 use Rattle.std.specs.Option.{option_map}
 use Rattle.std.specs.List.{slice_get}
 use Rattle.snmp_wire.specs.Message.{VarBind}
-use Rattle.snmp_agent.proofs.Changing.{belongs_at, has_name_at, name_found, no_name, other_named}
-use Rattle.snmp_agent.proofs.Changing.{same_named}
+use Rattle.snmp_agent.proofs.Changing.{belongs_at, has_name_at, name_found, no_name, other_named, same_named}
 use Rattle.snmp_agent.proofs.Lists.{IsLast}
 use Rattle.snmp_agent.proofs.table.search.row_at.Goals as goal
 

@@ -1,5 +1,4 @@
-use Rattle.std.proofs.Common.{◌≡◌, ◌+◌, ◌-◌, ℕ, List, length, drop, take, get_or, ◌++◌, ◌∷◌}
-use Rattle.std.proofs.Common.{add-one, sym, subst, arith, eq-eqb, length-drop}
+use Rattle.std.proofs.Common.{◌≡◌, ◌+◌, ◌-◌, ℕ, List, length, drop, take, get_or, ◌++◌, ◌∷◌, add-one, sym, subst, arith, eq-eqb, length-drop}
 use Rattle.std.proofs.lemmas.Bool.{eqb-true}
 use Rattle.std.proofs.lemmas.List.{take_all}
 use Rattle.snmp_agent.proofs.Splitting.{Cut, cut, others}

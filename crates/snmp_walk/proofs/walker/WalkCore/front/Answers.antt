@@ -1,5 +1,4 @@
-use Rattle.std.proofs.Common.{◌≡◌, ◌+◌, ◌-◌, ◌<◌, ◌^◌, false, refl, sym, ◌∙◌, ap, subst, arith}
-use Rattle.std.proofs.Common.{List, ℕ, [], ◌∷◌}
+use Rattle.std.proofs.Common.{◌≡◌, ◌+◌, ◌-◌, ◌<◌, ◌^◌, false, refl, sym, ◌∙◌, ap, subst, arith, List, ℕ, [], ◌∷◌}
 use Rattle.std.proofs.lemmas.Grind.{common_steps}
 use Rattle.snmp_walk.specs.declared.walker.Ending.TheVariants.{GoesOn}
 use Rattle.snmp_walk.specs.Reading.{IsFrontOf, is_misplaced, front_from, name_or, read_front}

@@ -2,8 +2,7 @@ use Rattle.std.proofs.Common.{◌≡◌, false, sym, ◌∙◌, ap, subst, List,
 use Rattle.snmp_wire.specs.Message.{VarBind}
 use Rattle.snmp_walk.specs.Taken.{closes}
 use Rattle.snmp_walk.specs.Walker.{Walker}
-use Rattle.snmp_walk.specs.Reading.{ReadFront, IsFrontOf, is_misplaced, after_of, name_or}
-use Rattle.snmp_walk.specs.Reading.{read_front}
+use Rattle.snmp_walk.specs.Reading.{ReadFront, IsFrontOf, is_misplaced, after_of, name_or, read_front}
 use Rattle.snmp_walk.specs.declared.walker.Ending.{Ending}
 use Rattle.snmp_walk.proofs.FrontLemmas.{read_leaving}
 use Rattle.snmp_walk.proofs.walker.WalkCore.read_next.Goals as goal

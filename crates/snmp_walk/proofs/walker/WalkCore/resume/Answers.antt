@@ -4,8 +4,7 @@ use Rattle.std.proofs.Common.{ap, sym, List, ℕ, ◌++◌, ◌≡◌, ◌⊎◌
 use Rattle.snmp_oid.specs.Identifier.{IsBelow}
 use Rattle.snmp_walk.proofs.OrderLemmas.{wire_begins_at}
 use Rattle.snmp_walk.proofs.walker.WalkCore.resume.Goals as goal
-use Rattle.snmp_walk.proofs.walker.WalkCore.resume.Goals.{else-ne-via-then-ne+else-not-is_below}
-use Rattle.snmp_walk.proofs.walker.WalkCore.resume.Goals.{else-ne-via-else-ne}
+use Rattle.snmp_walk.proofs.walker.WalkCore.resume.Goals.{else-ne-via-then-ne+else-not-is_below, else-ne-via-else-ne}
 
 pub returns-clause-fresh : goal.returns-clause-fresh
 returns-clause-fresh c =

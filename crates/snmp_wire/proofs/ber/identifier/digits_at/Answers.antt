@@ -1,7 +1,6 @@
 use Rattle.std.proofs.Common.{◌+◌, sym, ◌∙◌, arith}
 use Rattle.std.proofs.lemmas.List.{take_rest}
-use Rattle.snmp_wire.proofs.IdentifierReading.{digit_is_large, digit_is_last, digit_goes_on}
-use Rattle.snmp_wire.proofs.IdentifierReading.{digits_end}
+use Rattle.snmp_wire.proofs.IdentifierReading.{digit_is_large, digit_is_last, digit_goes_on, digits_end}
 use Rattle.snmp_wire.proofs.ber.identifier.digits_at.Goals as goal
 
 pub returns-then-number-gt-LARGEST_SUBIDENTIFIER : goal.returns-then-number-gt-LARGEST_SUBIDENTIFIER

@@ -1,8 +1,7 @@
 use Rattle.std.proofs.Common.{◌-◌, length, arith}
 use Rattle.std.proofs.lemmas.List.{length_push, length-append}
 use Rattle.snmp_wire.proofs.ReadingLaws.{some_left, none_left}
-use Rattle.snmp_wire.proofs.IdentifierReading.{start, push_has_room, push_goes_on, push_ends}
-use Rattle.snmp_wire.proofs.IdentifierReading.{plain_fits, push_plain, number_ok}
+use Rattle.snmp_wire.proofs.IdentifierReading.{start, push_has_room, push_goes_on, push_ends, plain_fits, push_plain, number_ok}
 use Rattle.snmp_wire.proofs.ber.identifier.push_numbers.Goals as goal
 
 pub numbers-init : goal.numbers-init

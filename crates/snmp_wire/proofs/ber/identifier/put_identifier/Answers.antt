@@ -1,7 +1,6 @@
 use Rattle.std.proofs.Common.{ap, arith, sym, ◌∙◌}
 use Rattle.snmp_wire.specs.ber.Canon.{subidentifier_size}
-use Rattle.snmp_wire.proofs.IdentifierWriting.{content_is, length-canon_subidentifier}
-use Rattle.snmp_wire.proofs.IdentifierWriting.{length-content}
+use Rattle.snmp_wire.proofs.IdentifierWriting.{content_is, length-canon_subidentifier, length-content}
 use Rattle.snmp_wire.proofs.WritingLaws.{writes_same, writes_then}
 use Rattle.snmp_wire.proofs.ber.identifier.put_identifier.Goals as goal
 

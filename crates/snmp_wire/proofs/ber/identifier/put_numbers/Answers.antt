@@ -1,8 +1,7 @@
 use Rattle.std.proofs.Common.{◌-◌, ◌++◌, length, sym, ap, ◌∙◌, arith}
 use Rattle.snmp_wire.specs.ber.Canon.{canon_subidentifier, eight_from}
 use Rattle.snmp_wire.proofs.WritingLaws.{writes_same, writes_then}
-use Rattle.snmp_wire.proofs.IdentifierWriting.{length-canon_subidentifier, nine, nine_counted}
-use Rattle.snmp_wire.proofs.IdentifierWriting.{none_before}
+use Rattle.snmp_wire.proofs.IdentifierWriting.{length-canon_subidentifier, nine, nine_counted, none_before}
 use Rattle.snmp_wire.proofs.ber.identifier.put_numbers.Goals as goal
 
 pub put_subidentifier-last-requires-clause-room : goal.put_subidentifier-last-requires-clause-room

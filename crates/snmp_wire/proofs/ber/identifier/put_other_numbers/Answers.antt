@@ -1,8 +1,7 @@
 use Rattle.std.proofs.Common.{◌-◌, [], ◌∷◌, length, drop, sym, ap, ◌∙◌, arith, length-append}
 use Rattle.std.specs.List.{flat_map}
 use Rattle.snmp_wire.specs.ber.Canon.{canon_subidentifier}
-use Rattle.snmp_wire.proofs.WritingLaws.{flat_map_rest, piece_fits, writes_piece, writes_same}
-use Rattle.snmp_wire.proofs.WritingLaws.{writes_then}
+use Rattle.snmp_wire.proofs.WritingLaws.{flat_map_rest, piece_fits, writes_piece, writes_same, writes_then}
 use Rattle.snmp_wire.proofs.ber.identifier.put_other_numbers.Goals as goal
 
 pub put_text-start-requires-clause-room : goal.put_text-start-requires-clause-room

@@ -1,8 +1,6 @@
 use Rattle.std.proofs.Common.{◌/◌, sym, arith}
-use Rattle.snmp_wire.proofs.IdentifierWriting.{length-canon_subidentifier, one_septet}
-use Rattle.snmp_wire.proofs.IdentifierWriting.{subidentifier_short, size_some}
-use Rattle.snmp_wire.proofs.IdentifierWriting.{subidentifier_three, subidentifier_two, two_septets}
-use Rattle.snmp_wire.proofs.IdentifierWriting.{writes_subidentifier}
+use Rattle.snmp_wire.proofs.IdentifierWriting.{length-canon_subidentifier, one_septet, subidentifier_short, size_some, subidentifier_three}
+use Rattle.snmp_wire.proofs.IdentifierWriting.{subidentifier_two, two_septets, writes_subidentifier}
 use Rattle.snmp_wire.proofs.WritingLaws.{writes_same, writes_then}
 use Rattle.snmp_wire.proofs.ber.identifier.put_subidentifier.Goals as goal
 

@@ -1,7 +1,6 @@
 use Rattle.std.proofs.Common.{length, pos, ap, arith, sym, ◌∙◌}
 use Rattle.snmp_wire.specs.ber.Canon.{canon_number}
-use Rattle.snmp_wire.proofs.CanonLemmas.{length-from_zero, fifth_octet_fits, four_octets_fit}
-use Rattle.snmp_wire.proofs.CanonLemmas.{size_five, size_four, writes_five_octets}
+use Rattle.snmp_wire.proofs.CanonLemmas.{length-from_zero, fifth_octet_fits, four_octets_fit, size_five, size_four, writes_five_octets}
 use Rattle.snmp_wire.proofs.CanonLemmas.{writes_four_octets}
 use Rattle.snmp_wire.proofs.Digits.{length-digits}
 use Rattle.snmp_wire.proofs.ElementLaws.{content_fits, header_fits, writes_element}

@@ -2,8 +2,7 @@
 use Rattle.std.proofs.Common.{rules, length, get_or, IsTrue, refl}
 use Rattle.std.proofs.lemmas.Option.{slice_get_read, slice_get-get_or}
 use Rattle.smi_names.specs.declared.nodes.source.Source.TheVariants as S
-use Rattle.smi_tree.proofs.Using.{no_row_undefined, no_row_other, no_row_place, no_row_source}
-use Rattle.smi_tree.proofs.Using.{row_is}
+use Rattle.smi_tree.proofs.Using.{no_row_undefined, no_row_other, no_row_place, no_row_source, row_is}
 use Rattle.smi_tree.proofs.columns.objects.Objects.row.Goals as goal
 
 pub returns-in_err-def-clause-row : goal.returns-in_err-def-clause-row

@@ -1,5 +1,4 @@
-use Rattle.std.proofs.Common.{◌≡◌, ◌∷◌, [], ℕ, List, length, sym, ◌∙◌, subst, Bool, true, eqb, eqb-true}
-use Rattle.std.proofs.Common.{suc, arith, refl}
+use Rattle.std.proofs.Common.{◌≡◌, ◌∷◌, [], ℕ, List, length, sym, ◌∙◌, subst, Bool, true, eqb, eqb-true, suc, arith, refl}
 use Rattle.std.proofs.lemmas.Result.{err_from_is_err_and}
 use Rattle.snmp_agent.proofs.Adding.{IsReadTo, all_read, halted_at, read_more, read_nothing}
 use Rattle.snmp_agent.proofs.table.draft.Draft.read.Goals as goal

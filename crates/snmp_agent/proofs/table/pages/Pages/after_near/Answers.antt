@@ -1,5 +1,4 @@
-use Rattle.std.proofs.Common.{◌≡◌, ◌≤◌, ◌+◌, ◌++◌, [], Some, length, take, drop, ◌∙◌, ap}
-use Rattle.std.proofs.Common.{sym, refl, suc, ltb-false, add-one}
+use Rattle.std.proofs.Common.{◌≡◌, ◌≤◌, ◌+◌, ◌++◌, [], Some, length, take, drop, ◌∙◌, ap, sym, refl, suc, ltb-false, add-one}
 use Rattle.std.specs.List.{slice_get}
 use Rattle.std.proofs.lemmas.Option.{slice_get_read}
 use Rattle.snmp_agent.specs.table.Pages.{IsPageOf, entries_in, entries_of}

@@ -1,5 +1,4 @@
-use Rattle.std.proofs.Common.{◌≡◌, ◌≤◌, List, Some, Bor, length, ◌∙◌, ap, sym, refl}
-use Rattle.std.proofs.Common.{ltb-false}
+use Rattle.std.proofs.Common.{◌≡◌, ◌≤◌, List, Some, Bor, length, ◌∙◌, ap, sym, refl, ltb-false}
 use Rattle.std.specs.Option.{option_map}
 use Rattle.std.specs.List.{slice_get}
 use Rattle.std.specs.Ordering.{nat_cmp}

@@ -6,12 +6,10 @@ use Rattle.std.specs.FinMap.Entries.{put as put_entry}
 use Rattle.snmp_wire.specs.Message.{Datum}
 use Rattle.snmp_agent.specs.table.Places.{IsAfterAll}
 use Rattle.snmp_agent.specs.table.Pages.{IsPageWithRoom, IsSorted, entries_in, has_name}
-use Rattle.snmp_agent.proofs.Changing.{had_name, if_err, map_put, none_behind, put_behind}
-use Rattle.snmp_agent.proofs.Changing.{sorted_put}
+use Rattle.snmp_agent.proofs.Changing.{had_name, if_err, map_put, none_behind, put_behind, sorted_put}
 use Rattle.snmp_agent.proofs.Paging.{kept_found, named_found, put_found, rising_found, room_found}
 use Rattle.snmp_agent.proofs.table.pages.Pages.put.Goals as goal
-use Rattle.snmp_agent.proofs.table.pages.Pages.put.Goals.{In_err-replaced, In_ok-append}
-use Rattle.snmp_agent.proofs.table.pages.Pages.put.Goals.{In_ok-place, In_ok-replaced}
+use Rattle.snmp_agent.proofs.table.pages.Pages.put.Goals.{In_err-replaced, In_ok-append, In_ok-place, In_ok-replaced}
 
 -- ---- a row behind all others
 

@@ -4,12 +4,10 @@ use Rattle.std.specs.FinMap.{get}
 use Rattle.std.proofs.lemmas.Option.{slice_get_read}
 use Rattle.snmp_agent.specs.table.Places.{without_name}
 use Rattle.snmp_agent.specs.table.Pages.{BelongsAt, HasNameAt, IsPageOf, entries_in}
-use Rattle.snmp_agent.proofs.Changing.{row_removed, name_found, no_name, nothing_removed}
-use Rattle.snmp_agent.proofs.Changing.{sorted_without, map_removed}
+use Rattle.snmp_agent.proofs.Changing.{row_removed, name_found, no_name, nothing_removed, sorted_without, map_removed}
 use Rattle.snmp_agent.proofs.Paging.{page_rising, get_in_page, get_none, without_in_page}
 use Rattle.snmp_agent.proofs.table.pages.Pages.remove.Goals as goal
-use Rattle.snmp_agent.proofs.table.pages.Pages.remove.Goals.{After-page_of-place, In_default, In-Some}
-use Rattle.snmp_agent.proofs.table.pages.Pages.remove.Goals.{In-Ok, In-Err, After-remove_row}
+use Rattle.snmp_agent.proofs.table.pages.Pages.remove.Goals.{After-page_of-place, In_default, In-Some, In-Ok, In-Err, After-remove_row}
 
 here : (c : After-page_of-place) → IsPageOf c.args.name.now c.self.inside.list.items c.page_of-place.result
 here c = rw c.as_slice.ensures.value at c.page_of-place.ensures

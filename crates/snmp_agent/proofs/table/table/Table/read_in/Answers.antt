@@ -12,8 +12,7 @@ use Rattle.snmp_agent.specs.table.Table.{IsMibView}
 use Rattle.snmp_agent.proofs.Keeping.{is_view, table_of, of_entries}
 use Rattle.snmp_agent.proofs.table.table.Table.read_in.Given.{Over}
 use Rattle.snmp_agent.proofs.table.table.Table.read_in.Goals as goal
-use Rattle.snmp_agent.proofs.table.table.Table.read_in.Goals.{In-Ok, in-Err-Again, in_default}
-use Rattle.snmp_agent.proofs.table.table.Table.read_in.Goals.{in_default-2}
+use Rattle.snmp_agent.proofs.table.table.Table.read_in.Goals.{In-Ok, in-Err-Again, in_default, in_default-2}
 
 held : (g : Over) (c : In-Ok g) → HoldsTable (g.F.LineFormat.format c.args.format.now)
     (lines c.args.text.now) (entries c.in-Ok.draft.rows) (draft_objects c.in-Ok.draft)
