@@ -1,5 +1,6 @@
 -- Bindings: how long they are, and how they are written.
-use Rattle.std.proofs.Common.{◌≡◌, ℕ, ◌+◌, ◌-◌, ◌<◌, ◌≤◌, List, [], ◌∷◌, ◌++◌, length, drop, refl, sym, ap, subst, ◌∙◌, arith, length-append}
+use Rattle.std.proofs.lemmas.Grind.{common_steps}
+use Rattle.std.proofs.Common.{◌≡◌, ℕ, ◌+◌, ◌-◌, ◌<◌, ◌≤◌, List, [], ◌∷◌, ◌++◌, length, drop, refl, sym, ap, ◌∙◌, arith, length-append}
 use Rattle.std.specs.List.{flat_map}
 use Rattle.snmp_wire.specs.declared.binding.Binding.{Binding}
 use Rattle.snmp_wire.specs.Canon.{canon_binding, canon_bindings}
@@ -9,15 +10,12 @@ use Rattle.snmp_wire.specs.ber.Value.{object_id, null_value}
 use Rattle.snmp_wire.specs.ber.Spelling.{sequence_tag}
 use Rattle.snmp_wire.specs.ber.Writing.{Writes}
 use Rattle.snmp_wire.proofs.ElementLaws.{header_short, content_fits, element_size, header_fits, sizes_value, writes_element}
-use Rattle.snmp_wire.proofs.WritingLaws.{writes_same, writes_then}
+use Rattle.snmp_wire.proofs.WritingLaws.{writes_then}
 
 pub sizes_binding : (header name value : ℕ) (binding : VarBind) → name ≡ length (canon_value (object_id binding.name))
     → value ≡ length (canon_value binding.value) → header ≡ 1 + length (canon_length (name + value)) → header + (name + value) ≡ length (canon_binding binding)
 unfolding canon_binding
-sizes_binding header name value binding n v h =
-    let content : name + value ≡ length (canon_value (object_id binding.name) ++ canon_value binding.value) =
-    omega (arith, n, v, length-append (canon_value (object_id binding.name)) (canon_value binding.value)) in
-    element_size sequence_tag header (name + value) (canon_value (object_id binding.name) ++ canon_value binding.value) content h
+sizes_binding header name value binding n v h = grind (arith, common_steps, length-append, element_size)
 
 -- three headers of two octets each
 pub sizes_short : (name value : ℕ) (binding : VarBind) → name ≡ length (canon_content (object_id binding.name)) → value ≡ length (canon_content binding.value)
@@ -70,9 +68,7 @@ writes_binding binding w v u = writes_element sequence_tag (writes_then w v) u
 
 -- a text that fills the front of a slice
 pub encoded : {old new text : List ℕ} {start size : ℕ} → Writes old start size text new → size ≡ length text → new ≡ text ++ drop size old
-encoded {old} {new} {text} {start} {size} w e =
-    let front : start ≡ 0 = omega (arith, w.begins) in
-    subst (λ (k : ℕ). drop k new ≡ text ++ drop size old) front w.after
+encoded {old} {new} {text} {start} {size} w e = grind (arith, common_steps)
 
 -- bindings one after the other
 abbrev pub binding_octets : Binding → List ℕ

@@ -1,6 +1,7 @@
 -- Numbers as octets: how many a number takes, by its digits and by its highest bit, and how long
 -- an encoding is.
-use Rattle.std.proofs.Common.{true, false, ◌≡◌, ℕ, ◌+◌, ◌-◌, ◌*◌, ◌^◌, ◌<◌, ◌≤◌, ℤ, pos, negsuc, lit<, suc, zero, ◌∷◌, length, refl, sym, ap, subst}
+use Rattle.std.proofs.lemmas.Grind.{common_steps}
+use Rattle.std.proofs.Common.{true, false, ◌≡◌, ℕ, ◌+◌, ◌-◌, ◌*◌, ◌^◌, ◌<◌, ◌≤◌, ℤ, pos, negsuc, lit<, suc, zero, ◌∷◌, length, refl, sym, ap}
 use Rattle.std.proofs.Common.{◌∙◌, sub-one, pow-add, ⊎_elim, arith, ◌/◌, ◌%◌, List, []}
 use Rattle.std.proofs.Math.Nat.{mul-suc, pow-suc, pow-zero, div-one, pow-le-pow_right}
 use Rattle.std.proofs.lemmas.Bool.{cases_lt, le-ltb, lt-ltb}
@@ -27,8 +28,7 @@ count_left base limit more n h = rw (le-ltb n limit h) refl
 -- a number has a digit at least
 pub digit_some : (base limit more n : ℕ) → 1 ≤ digit_count base limit more n
 digit_some base limit zero n = omega arith
-digit_some base limit (suc more) n =
-    ⊎_elim (λ h. omega (arith, count_taken base limit more n h)) (λ h. omega (arith, count_left base limit more n h)) (cases_lt n limit)
+digit_some base limit (suc more) n = grind (arith, common_steps, ⊎_elim, count_taken, count_left, cases_lt)
 
 -- and at most so many
 pub digit_most : (base limit more n : ℕ) → digit_count base limit more n ≤ 1 + more
@@ -77,8 +77,7 @@ sized base limit (suc more) n h = ⊎_elim
 -- a number below a power has no more digits
 pub digits_small : (base limit more n most : ℕ) → n < limit * base ^ most → digit_count base limit more n ≤ 1 + most
 digits_small base limit zero n most h = omega arith
-digits_small base limit (suc more) n zero h =
-    ⊎_elim (λ below. omega (arith, count_taken base limit more n below)) (λ above. omega (arith, times_one limit base)) (cases_lt n limit)
+digits_small base limit (suc more) n zero h = grind (arith, common_steps, ⊎_elim, count_taken, times_one, cases_lt)
 digits_small base limit (suc more) n (suc most) h = ⊎_elim
     (λ below. omega (arith, count_taken base limit more n below))
     (λ above. omega (
@@ -90,17 +89,12 @@ digits_small base limit (suc more) n (suc most) h = ⊎_elim
 
 -- each digit is needed
 pub digits_needed : (base limit more n k : ℕ) → digit_count base limit more n ≡ suc (suc k) → limit * base ^ k ≤ n
-digits_needed base limit more n k e = ⊎_elim
-    (λ below. absurd (omega (arith, e, digits_small base limit more n k below)))
-    (λ above. above)
-    (cases_lt n (limit * base ^ k))
+digits_needed base limit more n k e = grind (arith, common_steps, ⊎_elim, digits_small, cases_lt)
 
 -- two's complement of so many octets holds the number
 pub number_fits : (n : ℕ) → n < 2 ^ 64 → 2 * n < 256 ^ number_size n
 unfolding number_size
-number_fits n h =
-    let s = sized 256 128 8 n (omega arith) in
-    subst (λ (k : ℕ). 2 * n < 256 ^ k) (sym s.size) (omega (arith, s.below, pow-suc 256 s.less))
+number_fits n h = grind (arith, common_steps, sized, pow-suc)
 
 pub number_some : (n : ℕ) → 1 ≤ number_size n
 unfolding number_size
@@ -112,10 +106,7 @@ number_small n most h = digits_small 256 128 8 n most h
 
 complement : (n low high : ℕ) → 2 * n < low → low * high ≡ 18446744073709551616 → 18446744073709551615 - n ≡ (low - (n + 1)) + low * (high - 1)
 complement n low zero fits e = omega arith
-complement n low (suc high) fits e =
-    let whole : low * suc high ≡ low * high + low = mul-suc low high in
-    let rest : low * (suc high - 1) ≡ low * high = ap (λ m. low * m) (sub-one (suc high)) in
-    omega (arith, whole, rest)
+complement n low (suc high) fits e = grind (arith, common_steps, mul-suc, sub-one)
 
 -- the lowest octets of a number below zero, of 64 bits, are those of the fewest octets
 pub octets_below_zero : (n : ℕ) → n < 2 ^ 31 → octets (number_size n) (18446744073709551615 - n) ≡ canon_number (negsuc n)
@@ -151,9 +142,7 @@ pub length-canon_length_short : (n : ℕ) → n < 128 → length (canon_length n
 length-canon_length_short n h = ap length (canon_length_short n h)
 
 pub length-canon_length_long : (n : ℕ) → 128 ≤ n → length (canon_length n) ≡ 1 + length_size n
-length-canon_length_long n h =
-    let long : length (canon_length n) ≡ suc (length (octets (length_size n) n)) = ap length (canon_length_long n h) in
-    omega (arith, long, length-digits 256 (length_size n) n)
+length-canon_length_long n h = grind (arith, common_steps, canon_length_long, length-digits)
 
 pub header_long : (n : ℕ) → 128 ≤ n → 1 + length (canon_length n) ≡ 2 + length_size n
 header_long n h = omega (arith, length-canon_length_long n h)
@@ -167,22 +156,13 @@ pub ruleset length_forms = (canon_length_short, canon_length_long, length-canon_
 -- more content has no shorter length
 pub length_rises : (m n : ℕ) → m ≤ n → length (canon_length m) ≤ length (canon_length n)
 unfolding length_size
-length_rises m n h = ⊎_elim
-    (λ short. ⊎_elim
-    (λ less. omega (arith, length-canon_length_short m short, length-canon_length_short n less))
-    (λ more. omega (arith, length-canon_length_short m short, length-canon_length_long n more))
-    (cases_lt n 128))
-    (λ long.
-    omega (arith, length-canon_length_long m long, length-canon_length_long n (omega (arith, long, h)), count_rises 256 256 3 m n h))
-    (cases_lt m 128)
+length_rises m n h = grind (arith, common_steps, ⊎_elim, length-canon_length_short, length-canon_length_long, cases_lt, count_rises)
 
 -- a number below zero, of 64 bits
 pub extended_below : (z : ℤ) (m : ℕ) → SFits w32 z → lt_z z (pos 0) ≡ true → m ≡ magnitude_of z
     → octets (length (canon_number z)) (18446744073709551615 - m) ≡ canon_number z
 extended_below (pos n) m fits below e = absurd (grind (arith, nat_tests))
-extended_below (negsuc n) m fits below e =
-    ap (λ k. octets k (18446744073709551615 - m)) (length-canon_number (negsuc n)) ∙ ap (λ k. octets (number_size n) (18446744073709551615 - k)) e
-    ∙ octets_below_zero n (omega (arith, fits))
+extended_below (negsuc n) m fits below e = grind (arith, common_steps, length-canon_number, octets_below_zero)
 
 -- a number from zero
 pub extended_above : (z : ℤ) (m : ℕ) → lt_z z (pos 0) ≡ false → m ≡ magnitude_of z → octets (length (canon_number z)) m ≡ canon_number z
@@ -194,12 +174,7 @@ length-from_zero n = length-canon_number (pos n)
 
 -- each of four numbers is below 128 where the four have no higher bit
 pub below_128 : (a b c d : ℕ) → bit_or (bit_or (bit_or a b) c) d < 128 → (a < 128) × (b < 128) × (c < 128) × (d < 128)
-below_128 a b c d low =
-    let ab = bit_or a b in
-    let abc = bit_or ab c in
-    let abc_low : abc < 128 = omega (arith, le_or_l abc d, low) in
-    let ab_low : ab < 128 = omega (arith, le_or_l ab c, abc_low) in
-    (omega (arith, le_or_l a b, ab_low), omega (arith, le_or_r a b, ab_low), omega (arith, le_or_r ab c, abc_low), omega (arith, le_or_r abc d, low))
+below_128 a b c d low = grind (arith, common_steps, le_or_l, le_or_r)
 
 -- ---- how many octets a number takes, by its highest bit, and four octets at once
 

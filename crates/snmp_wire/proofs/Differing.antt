@@ -1,6 +1,7 @@
 -- The first octet in which two words of eight differ: where the lowest bit is set in which they differ.
+use Rattle.std.proofs.lemmas.Grind.{common_steps}
 use Rattle.std.proofs.Common.{◌≡◌, ℕ, zero, suc, ◌+◌, ◌-◌, ◌*◌, ◌/◌, ◌%◌, ◌^◌, ◌<◌, ◌≤◌, ◌⊎◌, inl}
-use Rattle.std.proofs.Common.{inr, List, [], ◌∷◌, length, get_or, drop, refl, sym, ap, ◌∙◌, arith}
+use Rattle.std.proofs.Common.{inr, List, [], ◌∷◌, length, get_or, refl, sym, ap, ◌∙◌, arith}
 use Rattle.std.proofs.Math.ListN.{get_or-eq_default}
 use Rattle.std.proofs.lemmas.Bool.{cases_lt}
 use Rattle.std.proofs.lemmas.List.{get_or-drop, get_or_append_left}
@@ -29,14 +30,10 @@ bits_of (x ∷ xs) small (suc k) j low =
     bit_at_cat_high (word_of xs) 8 x (suc k * 8 + j) (small 0) (omega arith) ∙ ap (bit_at (word_of xs)) place ∙ bits_of xs (λ i. small (suc i)) k j low
 
 same_bit : (a b i : ℕ) → bit_at (bit_xor a b) i ≡ 0 → bit_at a i ≡ bit_at b i
-same_bit a b i none =
-    let e : (bit_at a i + bit_at b i) % 2 ≡ 0 = sym (bit_at_xor a b i) ∙ none in
-    omega (arith, e, bit_at-lt a i, bit_at-lt b i)
+same_bit a b i none = grind (arith, common_steps, bit_at_xor, bit_at-lt)
 
 other_bit : (a b i : ℕ) → bit_at (bit_xor a b) i ≡ 1 → bit_at a i ≡ bit_at b i → ⊥
-other_bit a b i set same =
-    let e : (bit_at a i + bit_at b i) % 2 ≡ 1 = sym (bit_at_xor a b i) ∙ set in
-    omega (arith, e, same)
+other_bit a b i set same = grind (arith, common_steps, bit_at_xor)
 
 some_or_none : (n : ℕ) → (n ≡ 0) ⊎ (0 < n)
 some_or_none zero = inl refl
@@ -76,14 +73,10 @@ module _ (xs ys : List ℕ) (small : (i : ℕ) → get_or xs i 0 < 256) (other_s
 
 -- one of the eight octets from a place on
 at_place : (octets : List ℕ) (at k : ℕ) → at + 8 ≤ length octets → k < 8 → get_or (eight_from octets at) k 0 ≡ get_or octets (at + k) 0
-at_place octets at k fits low = sym (get_or_append_left (eight_from octets at) (drop (at + 8) octets) 0 k low)
-    ∙ ap (λ (o : List ℕ). get_or o k 0) (sym (eight_then octets at fits)) ∙ get_or-drop at octets k 0
+at_place octets at k fits low = grind (arith, common_steps, get_or_append_left, eight_then, get_or-drop)
 
 eight_small : (octets : List ℕ) (at : ℕ) → at + 8 ≤ length octets → ((i : ℕ) → get_or octets i 0 < 256) → (i : ℕ) → get_or (eight_from octets at) i 0 < 256
-eight_small octets at fits small i = elim (cases_lt i 8) [
-  | inl low ↦ omega (arith, at_place octets at i fits low, small (at + i))
-  | inr past ↦ omega (arith, get_or-eq_default (eight_from octets at) 0 past)
-]
+eight_small octets at fits small i = grind (arith, common_steps, cases_lt, at_place, get_or-eq_default)
 
 eight_word : (octets : List ℕ) (at : ℕ) → from_le_bytes w64 (eight_from octets at) ≡ word_of (eight_from octets at)
 unfolding word_of

@@ -1,6 +1,7 @@
 -- Laws of headers, elements and values as they are written, for proofs of values and messages:
 -- how long they are, and how they are written before their content.
-use Rattle.std.proofs.Common.{◌≡◌, ℕ, ℤ, ◌+◌, ◌-◌, ◌<◌, ◌≤◌, List, [], ◌∷◌, ◌++◌, length, refl, sym, ap, ◌∙◌, arith, length-append}
+use Rattle.std.proofs.lemmas.Grind.{common_steps}
+use Rattle.std.proofs.Common.{◌≡◌, ℕ, ℤ, ◌+◌, ◌-◌, ◌<◌, ◌≤◌, List, [], ◌∷◌, ◌++◌, length, refl, ap, arith, length-append}
 use Rattle.std.proofs.lemmas.Bool.{lt-ltb}
 use Rattle.snmp_wire.specs.ber.Canon.{canon_content, canon_element, canon_header, canon_length, canon_number, canon_value}
 use Rattle.snmp_wire.specs.ber.Value.{Datum, integer_value, octet_string}
@@ -23,9 +24,7 @@ header_short n h = ap (λ octets. 1 + length octets) (canon_length_short n h)
 pub length-canon_header : (tag size : ℕ)
     → length (canon_header tag size) ≡ 1 + length (canon_length size)
 unfolding canon_header
-length-canon_header tag size =
-    let one : length (tag ∷ canon_length size) ≡ 1 + length (canon_length size) = omega arith in
-    one
+length-canon_header tag size = grind (arith, common_steps)
 
 -- ---- elements
 
@@ -34,21 +33,13 @@ pub length-canon_element : (tag : ℕ) (content : List ℕ)
     → length (canon_element tag content)
     ≡ 1 + length (canon_length (length content)) + length content
 unfolding canon_element
-length-canon_element tag content =
-    omega (
-      arith,
-      length-append (canon_header tag (length content)) content,
-      length-canon_header tag (length content),
-    )
+length-canon_element tag content = grind (arith, common_steps, length-append, length-canon_header)
 
 -- the sizes of a header and a content are together that of the element
 pub element_size : (tag header size : ℕ) (content : List ℕ)
     → size ≡ length content → header ≡ 1 + length (canon_length size)
     → header + size ≡ length (canon_element tag content)
-element_size tag header size content s h =
-    let same : 1 + length (canon_length size) ≡ 1 + length (canon_length (length content)) =
-    ap (λ n. 1 + length (canon_length n)) s in
-    omega (arith, same, length-canon_element tag content)
+element_size tag header size content s h = grind (arith, common_steps, length-canon_element)
 
 -- a content has room where its element has
 pub content_fits : (tag end : ℕ) (content : List ℕ)
@@ -59,12 +50,7 @@ content_fits tag end content room = omega (arith, length-canon_element tag conte
 pub header_fits : {old mid content : List ℕ} {middle end : ℕ} (tag : ℕ)
     → Writes old middle end content mid → length (canon_element tag content) ≤ end
     → length (canon_header tag (end - middle)) ≤ middle
-header_fits {old} {mid} {content} {middle} {end} tag w room =
-    let size : length content ≡ end - middle = omega (arith, w.begins) in
-    let header : length (canon_header tag (end - middle))
-    ≡ 1 + length (canon_length (length content)) = length-canon_header tag (end - middle)
-    ∙ ap (λ n. 1 + length (canon_length n)) (sym size) in
-    omega (arith, header, length-canon_element tag content, w.begins)
+header_fits {old} {mid} {content} {middle} {end} tag w room = grind (arith, common_steps, length-canon_header, length-canon_element)
 
 -- a header is written before its content
 pub writes_element : {old mid new content : List ℕ} {start middle end : ℕ} (tag : ℕ)
@@ -93,8 +79,7 @@ pub sizes_value : (header size : ℕ) (value : Datum)
     → size ≡ length (canon_content value) → header ≡ 1 + length (canon_length size)
     → header + size ≡ length (canon_value value)
 unfolding canon_value
-sizes_value header size value s h =
-    element_size (value_tag value) header size (canon_content value) s h
+sizes_value header size value s h = grind (arith, common_steps, element_size)
 
 -- a content has room where its value has
 pub value_content_fits : (end : ℕ) (value : Datum)

@@ -1,13 +1,13 @@
 -- What is read as a message is spelt so, and each fault that reading gives is one of the octets.
 -- Octets that spell a message have no fault.
-use Rattle.std.proofs.Common.{◌≡◌, ◌≢◌, ℕ, ℤ, zero, suc, ◌<◌, ◌≤◌, cond, eqb, None, List, [], ◌∷◌, ◌++◌, length, Result, Ok, Err, refl, sym, ap}
-use Rattle.std.proofs.Common.{subst, ◌∙◌, arith, inl, inr, ◌+◌, Option, Some, append_assoc}
+use Rattle.std.proofs.lemmas.Grind.{common_steps}
+use Rattle.std.proofs.Common.{◌≡◌, ◌≢◌, ℕ, ℤ, zero, suc, ◌<◌, ◌≤◌, eqb, None, List, [], ◌∷◌, ◌++◌, length, Ok, Err, refl, sym, ap}
+use Rattle.std.proofs.Common.{subst, ◌∙◌, arith, inl, inr, Option, Some, append_assoc}
 use Rattle.std.proofs.lemmas.Bool.{eqb-true, eqb-false}
 use Rattle.std.proofs.lemmas.List.{append-nil}
 use Rattle.snmp_wire.specs.declared.ber.error.BerError.{BerError}
 use Rattle.snmp_wire.specs.declared.ber.error.BerError.TheVariants as error
 use Rattle.snmp_wire.specs.declared.kind.Kind.{Kind}
-use Rattle.snmp_wire.specs.declared.kind.Kind.TheVariants as kind
 use Rattle.snmp_wire.specs.ber.Identifier.{IsObjectId}
 use Rattle.snmp_wire.specs.ber.Length.{IsElement}
 use Rattle.snmp_wire.specs.ber.Number.{AreOctets, IsInteger, lenient}
@@ -36,79 +36,36 @@ use Rattle.snmp_wire.proofs.ValueLaws.{IsRead, integer_gives, known_gives, value
 -- an inner element that can't be read
 bad_inner : (octets : List ℕ) (place : Place) (here : List ℕ) (e : BerError) → Expects octets place here → place ≢ at_message
     → IsBadElement error.Length here e → IsFault e octets
-bad_inner octets place here e stands inner (inl cut) = subst (λ (d : BerError). IsFault d octets) cut.0
-    (record { place = place; here = here; expected = stands; bad = inr (inner, cut.1) })
-bad_inner octets place here e stands inner (inr form) = subst (λ (d : BerError). IsFault d octets) form.0
-    (record { place = place; here = here; expected = stands; bad = inl form.1 })
+bad_inner octets place here e stands inner (inl cut) = grind (arith, common_steps, stands)
+bad_inner octets place here e stands inner (inr form) = grind (arith, common_steps, stands)
 
 bad_tag : (octets : List ℕ) (place : Place) (tag : ℕ) (after : List ℕ) (e : BerError) → Expects octets place (tag ∷ after) → (AllowsTag place tag → ⊥)
     → error.Tag ≡ e → IsFault e octets
-bad_tag octets place tag after e stands bad is = subst (λ (d : BerError). IsFault d octets) is
-    (record { place = place; here = tag ∷ after; expected = stands; tag = tag; after = after; parts = refl; bad = bad })
+bad_tag octets place tag after e stands bad is = grind (arith, common_steps, stands)
 
 left_over : (octets : List ℕ) (place : Place) (here : List ℕ) (tag : ℕ) (content after : List ℕ) → Expects octets place here
     → place ≢ at_message → next_behind place ≡ None → AllowsTag place tag → BeginsWith tag content here after → after ≢ []
     → IsFault error.Content octets
-left_over octets place here tag content after stands inner last allowed begins some = inr (record {
-  place = place;
-  here = here;
-  expected = stands;
-  is_inner = inner;
-  is_last = last;
-  tag = tag;
-  content = content;
-  after = after;
-  allowed = allowed;
-  begins = begins;
-  some = some;
-})
+left_over octets place here tag content after stands inner last allowed begins some = grind (arith, common_steps, stands)
 
 bad_content : (octets : List ℕ) (place : Place) (here : List ℕ) (tag : ℕ) (content after : List ℕ) (e : BerError) → Expects octets place here
     → first_inside place ≡ None → AllowsTag place tag → BeginsWith tag content here after
     → ((value : Datum) → tag ≡ value_tag value → IsContent lenient value content → ⊥) → error.Content ≡ e → IsFault e octets
-bad_content octets place here tag content after e stands is_value allowed begins bad is =
-    subst (λ (d : BerError). IsFault d octets) is (inl (record {
-      place = place;
-      here = here;
-      expected = stands;
-      is_value = is_value;
-      tag = tag;
-      content = content;
-      after = after;
-      allowed = allowed;
-      begins = begins;
-      bad = bad;
-    }))
+bad_content octets place here tag content after e stands is_value allowed begins bad is = grind (arith, common_steps, stands)
 
 -- ---- tags and content
 
 kind_gives : (tag : ℕ) → Gives (λ found. kind_tag found ≡ tag) (λ e. error.Tag ≡ e) (kind_of tag)
 unfolding kind_of
-kind_gives tag =
-    by_kind kind.GetRequest tag _ (
-    by_kind kind.GetNextRequest tag _ (
-    by_kind kind.Response tag _ (
-    by_kind kind.SetRequest tag _ (
-    by_kind kind.GetBulkRequest tag _ (
-    by_kind kind.InformRequest tag _ (
-    by_kind kind.Trap tag _ (
-    by_kind kind.Report tag _ (
-    a_fault _ refl))))))))
-  where
-    by_kind : (this : Kind) (tag : ℕ) (others : Result Kind BerError) → Gives (λ found. kind_tag found ≡ tag) (λ e. error.Tag ≡ e) others
-        → Gives (λ found. kind_tag found ≡ tag) (λ e. error.Tag ≡ e) (cond (eqb tag (kind_tag this)) (Ok this) others)
-    by_kind this tag others that = gives_either (eqb tag (kind_tag this)) (λ is. a_value this (sym (eqb-true tag (kind_tag this) is))) (λ not. that)
+kind_gives tag = grind (arith, common_steps, a_fault, gives_either, a_value, eqb-true)
 
 -- what is an error isn't a value's content
 not_content : (tag : ℕ) (content : List ℕ) (e : BerError) → typed_value tag content ≡ Err e → (value : Datum) → tag ≡ value_tag value
     → IsContent lenient value content → ⊥
-not_content tag content e h value is is_content =
-    let both : done value ≡ failed e = sym (value_again value content is_content) ∙ ap (λ (t : ℕ). typed_value t content) (sym is) ∙ h in
-    cc
+not_content tag content e h value is is_content = grind (arith, common_steps, done, failed, value_again)
 
 element_tag : (tag : ℕ) (content here after : List ℕ) → BeginsWith tag content here after → (more : List ℕ) × (here ≡ tag ∷ more)
-element_tag tag content here after begins =
-    ((begins.is_element.length_octets ++ content) ++ after, begins.parts ∙ ap (λ (o : List ℕ). o ++ after) begins.is_element.parts)
+element_tag tag content here after begins = grind (arith, common_steps)
 
 outermost_reads : (octets : List ℕ) → Gives (λ content. BeginsWith 0x30 content octets []) (λ e. IsFault e octets) (outermost_of octets)
 unfolding outermost_of
@@ -389,12 +346,7 @@ none_some next e = cc
 
 none_left : (place : Place) (all : Elements) (octets : List ℕ) → FitsAt (next_behind place) all → SpellsAll lenient all octets → next_behind place ≡ None
     → octets ≡ []
-none_left place all octets fits is e = nothing all (subst (λ (next : Option Place). FitsAt next all) e fits) is
-  where
-    nothing : (all : Elements) → FitsAt None all → SpellsAll lenient all octets → octets ≡ []
-    nothing no_elements fits is = is
-    nothing (value_then value more) fits is = absurd fits
-    nothing (element_then tag within more) fits is = absurd fits
+none_left place all octets fits is e = grind (arith, common_steps, no_elements, value_then, element_then)
 
 parts_of : (place : Place) (here : List ℕ) → Calls place here → Row place here → Parts place here
 parts_of place here calls (no_elements, fits, is) = absurd (subst (λ (at : Place). Calls at here) fits calls is)
@@ -470,23 +422,7 @@ not_early tag content here rest b early =
     nothing (x ∷ first) second e = absurd cc
 
 not_forbidden : (tag : ℕ) (content here rest : List ℕ) → BeginsWith tag content here rest → HasForbiddenLength here → ⊥
-not_forbidden tag content here rest b f =
-    let lead = b.is_element.length_octets in
-    let parts : here ≡ ((tag ∷ lead ++ content) ++ rest) = b.parts ∙ ap (λ (o : List ℕ). o ++ rest) b.is_element.parts in
-    elim b.is_element.is_length [
-      | inl short ↦
-          let one : here ≡ tag ∷ length content ∷ (content ++ rest) = parts ∙ ap (λ (o : List ℕ). ((tag ∷ o ++ content) ++ rest)) short.one in
-          let is : f.first ≡ length content = cc (f.parts, one) in
-          let small = short.small in
-          elim f.forbidden [ inl h ↦ omega arith | inr h ↦ omega arith ]
-      | inr long ↦
-          let one : here ≡ tag ∷ (128 + length long.digits) ∷ ((long.digits ++ content) ++ rest) = parts
-          ∙ ap (λ (o : List ℕ). ((tag ∷ o ++ content) ++ rest)) long.parts in
-          let is : f.first ≡ 128 + length long.digits = cc (f.parts, one) in
-          let some = long.some in
-          let few = long.few in
-          elim f.forbidden [ inl h ↦ omega arith | inr h ↦ omega arith ]
-    ]
+not_forbidden tag content here rest b f = grind (arith, common_steps)
 
 no_fault_in : (octets : List ℕ) (fault : BerError) → Row at_message octets → IsFault fault octets → ⊥
 no_fault_in octets error.Truncated all f =
@@ -498,12 +434,7 @@ no_fault_in octets error.Trailing all f =
 no_fault_in octets error.Length all f =
     let p = stands octets f.place f.here all f.expected in
     elim f.bad [ inl form ↦ not_forbidden p.tag p.content f.here p.rest p.begins form | inr early ↦ not_early p.tag p.content f.here p.rest p.begins early.1 ]
-no_fault_in octets error.Tag all f =
-    let p = stands octets f.place f.here all f.expected in
-    let lead = p.begins.is_element.length_octets in
-    let parts : f.here ≡ p.tag ∷ ((lead ++ p.content) ++ p.rest) = p.begins.parts ∙ ap (λ (o : List ℕ). o ++ p.rest) p.begins.is_element.parts in
-    let is : p.tag ≡ f.tag = cc (parts, f.parts) in
-    f.bad (subst (λ (t : ℕ). AllowsTag f.place t) is p.allowed)
+no_fault_in octets error.Tag all f = grind (arith, common_steps, stands)
 no_fault_in octets error.Content all (inl f) =
     let p = stands octets f.place f.here all f.expected in
     let same = one_front p.tag p.content f.tag f.content f.here p.rest f.after p.begins f.begins in

@@ -1,7 +1,7 @@
 -- Reading identifiers, a subidentifier or a number at a time: what is read as one is one, what is
 -- read as none has content at fault, and what is one is read.
 use Rattle.std.proofs.Common.{◌≡◌, ℕ, ◌+◌, ◌*◌, ◌%◌, ◌^◌, ◌<◌, ◌≤◌, cond, eqb, ltb, List, [], ◌∷◌, length, get_or, drop, Result, Ok, Err, IsOk, refl}
-use Rattle.std.proofs.Common.{sym, ◌∙◌, arith, zero, suc, ◌-◌, ◌++◌, take, All, ap, append_assoc, ◌≢◌, map, subst, lit<, inl, inr, ⊎_elim}
+use Rattle.std.proofs.Common.{sym, ◌∙◌, arith, zero, suc, ◌-◌, ◌++◌, take, All, ap, append_assoc, ◌≢◌, map, lit<, ⊎_elim}
 use Rattle.std.proofs.lemmas.Bool.{ltb-true, lt-ltb, le-ltb, ltb-false, eqb-false, ne_eqb, cases_lt}
 use Rattle.std.proofs.lemmas.Grind.{common_steps}
 use Rattle.std.proofs.lemmas.List.Elements.{All-head, All-tail, All-cons, All-nil, All-append, All-from_recursion, recursion_from_All}
@@ -34,9 +34,7 @@ read_some (octet ∷ rest) h = omega arith
 pub subidentifier_plain : (octets : List ℕ) → 0 < length octets → get_or octets 0 0 < 128 → subidentifier_at octets ≡ Ok (get_or octets 0 0, drop 1 octets)
 unfolding subidentifier_at subidentifier_from
 subidentifier_plain [] some small = absurd (omega arith)
-subidentifier_plain (octet ∷ rest) some small =
-    let same : octet % 128 ≡ octet = omega (arith, small) in
-    grind (arith, common_steps)
+subidentifier_plain (octet ∷ rest) some small = grind (arith, common_steps, common_steps)
 
 pub subidentifier_longer : (octets : List ℕ) → IsOk (subidentifier_at octets) → 128 ≤ get_or octets 0 0 → 1 < length octets
 unfolding subidentifier_at subidentifier_from
@@ -71,9 +69,7 @@ subidentifier_of_three (octet ∷ low ∷ last ∷ rest) h large more small = gr
 pub digits_ok : (octets : List ℕ) → IsOk (subidentifier_at octets) → subidentifier_at octets ≡ subidentifier_from 0 octets
 unfolding subidentifier_at
 digits_ok [] h = absurd cc
-digits_ok (octet ∷ rest) h =
-    let x = ok_value (subidentifier_at (octet ∷ rest)) h in
-    x.1 ∙ sym ((refused (eqb octet 128) (subidentifier_from 0 (octet ∷ rest)) error.Content x.0 x.1).1)
+digits_ok (octet ∷ rest) h = grind (arith, common_steps, ok_value, refused)
 
 pub number_subidentifier : (octets : List ℕ) → IsOk (number_at octets) → IsOk (subidentifier_at octets)
 unfolding number_at
@@ -81,15 +77,11 @@ number_subidentifier octets h = first_ok (subidentifier_at octets) (λ n. cond (
 
 small_number : (read : Result (ℕ × List ℕ) BerError) (n : ℕ) (rest : List ℕ) (y : ℕ × List ℕ) → read ≡ Ok (n, rest)
     → (read >>= λ n. cond (ltb n.0 (2 ^ 32)) (Ok n) (Err error.Content)) ≡ Ok y → n < 2 ^ 32
-small_number read n rest y e h =
-    let tested : cond (ltb n (2 ^ 32)) (Ok (n, rest)) (Err error.Content) ≡ Ok y = rw e at h in
-    ltb-true n (2 ^ 32) (passed (ltb n (2 ^ 32)) (done (n, rest)) error.Content y tested).0
+small_number read n rest y e h = grind (arith, common_steps, ltb-true, passed, done)
 
 pub number_small : (octets : List ℕ) (n : ℕ) (rest : List ℕ) → IsOk (number_at octets) → subidentifier_at octets ≡ Ok (n, rest) → n < 2 ^ 32
 unfolding number_at
-number_small octets n rest h e =
-    let x = ok_value (number_at octets) h in
-    small_number (subidentifier_at octets) n rest x.0 e x.1
+number_small octets n rest h e = grind (arith, common_steps, ok_value, small_number)
 
 pub number_is : (octets : List ℕ) (n : ℕ) (rest : List ℕ) → IsOk (number_at octets) → subidentifier_at octets ≡ Ok (n, rest) → number_at octets ≡ Ok (n, rest)
 unfolding number_at
@@ -112,17 +104,11 @@ digit_is_large n octets i lt large = from_step n octets i lt ∙ rw (lt-ltb larg
 
 pub digit_is_last : (n : ℕ) (octets : List ℕ) (i : ℕ) → i < length octets → n * 128 + get_or octets i 0 % 128 ≤ largest_subidentifier → get_or octets i 0 < 128
     → subidentifier_from n (drop i octets) ≡ Ok (n * 128 + get_or octets i 0 % 128, drop (i + 1) octets)
-digit_is_last n octets i lt small last = from_step n octets i lt ∙ rw (
-  le-ltb largest_subidentifier (next_of n octets i) small,
-  lt-ltb (get_or octets i 0) 128 last,
-) refl
+digit_is_last n octets i lt small last = grind (arith, common_steps, from_step, le-ltb, lt-ltb)
 
 pub digit_goes_on : (n : ℕ) (octets : List ℕ) (i : ℕ) → i < length octets → n * 128 + get_or octets i 0 % 128 ≤ largest_subidentifier → 128 ≤ get_or octets i 0
     → subidentifier_from n (drop i octets) ≡ subidentifier_from (n * 128 + get_or octets i 0 % 128) (drop (i + 1) octets)
-digit_goes_on n octets i lt small more = from_step n octets i lt ∙ rw (
-  le-ltb largest_subidentifier (next_of n octets i) small,
-  le-ltb (get_or octets i 0) 128 more,
-) refl
+digit_goes_on n octets i lt small more = grind (arith, common_steps, from_step, le-ltb)
 
 pub digits_end : (n : ℕ) (octets : List ℕ) (i : ℕ) → length octets ≤ i → subidentifier_from n (drop i octets) ≡ Err error.Content
 unfolding subidentifier_from
@@ -144,14 +130,11 @@ pub numbers_step : (room : ℕ) (octets : List ℕ) → 0 < length octets → 0 
 unfolding numbers_of
 numbers_step room [] some has_room = absurd (omega arith)
 numbers_step zero (octet ∷ rest) some has_room = absurd (omega arith)
-numbers_step (suc room) (octet ∷ rest) some has_room =
-    let less : suc room - 1 ≡ room = omega arith in
-    rw less refl
+numbers_step (suc room) (octet ∷ rest) some has_room = grind (arith, common_steps)
 
 pub check_fails : (room : ℕ) (octets : List ℕ) (e : BerError) (total : Result (Unit {0}) BerError) → 0 < length octets → 0 < room → number_at octets ≡ Err e
     → checked (numbers_of room octets) ≡ total → total ≡ Err e
-check_fails room octets e total some has_room h so_far = sym so_far ∙ checked_err (numbers_of room octets) e
-    (numbers_step room octets some has_room ∙ rw h refl)
+check_fails room octets e total some has_room h so_far = grind (arith, common_steps, checked_err, numbers_step)
 
 forget : (n : ℕ) (read : Result (List ℕ) BerError) → checked (read >>= λ more. Ok (n ∷ more)) ≡ checked read
 forget n (Ok more) = refl
@@ -160,18 +143,14 @@ forget n (Err e) = refl
 pub check_goes_on : (room : ℕ) (octets : List ℕ) (n : ℕ) (after : List ℕ) (total : Result (Unit {0}) BerError) → 0 < length octets → 0 < room
     → number_at octets ≡ Ok (n, after)
     → checked (numbers_of room octets) ≡ total → checked (numbers_of (room - 1) after) ≡ total
-check_goes_on room octets n after total some has_room h so_far =
-    let one : numbers_of room octets ≡ (numbers_of (room - 1) after >>= λ more. Ok (n ∷ more)) = numbers_step room octets some has_room ∙ rw h refl in
-    sym (ap checked one ∙ forget n (numbers_of (room - 1) after)) ∙ so_far
+check_goes_on room octets n after total some has_room h so_far = grind (arith, common_steps, numbers_step, forget)
 
 -- what was read before, and what is still read
 abbrev pub with_front : List ℕ → Result (List ℕ) BerError → Result (List ℕ) BerError
 with_front front read = read >>= λ more. Ok (front ++ more)
 
 pub push_has_room : (front octets whole : List ℕ) (room : ℕ) → 0 < length octets → with_front front (numbers_of room octets) ≡ Ok whole → 0 < room
-push_has_room front octets whole zero some so_far =
-    let full : with_front front (numbers_of 0 octets) ≡ Err error.Content = rw (numbers_full octets some) refl in
-    absurd (let both : done whole ≡ failed error.Content = sym so_far ∙ full in cc)
+push_has_room front octets whole zero some so_far = grind (arith, common_steps, numbers_full, done, failed)
 push_has_room front octets whole (suc room) some so_far = omega arith
 
 regroup : (front : List ℕ) (n : ℕ) (read : Result (List ℕ) BerError) → with_front front (read >>= λ more. Ok (n ∷ more)) ≡ with_front (front ++ n ∷ []) read
@@ -181,17 +160,10 @@ regroup front n (Err e) = refl
 pub push_goes_on : (front octets whole : List ℕ) (n : ℕ) (after : List ℕ) → 0 < length octets → number_at octets ≡ Ok (n, after)
     → with_front front (numbers_of (128 - length front) octets) ≡ Ok whole
     → with_front (front ++ n ∷ []) (numbers_of (128 - length (front ++ n ∷ [])) after) ≡ Ok whole
-push_goes_on front octets whole n after some h so_far =
-    let room : 0 < 128 - length front = push_has_room front octets whole (128 - length front) some so_far in
-    let one : numbers_of (128 - length front) octets ≡ (numbers_of (128 - length front - 1) after >>= λ more. Ok (n ∷ more)) =
-    numbers_step (128 - length front) octets some room ∙ rw h refl in
-    let less : 128 - length (front ++ n ∷ []) ≡ 128 - length front - 1 = omega (arith, length_push front n) in
-    rw less (sym (ap (with_front front) one ∙ regroup front n (numbers_of (128 - length front - 1) after)) ∙ so_far)
+push_goes_on front octets whole n after some h so_far = grind (arith, common_steps, push_has_room, numbers_step, length_push, regroup)
 
 pub push_ends : (front octets whole : List ℕ) (room : ℕ) → length octets ≡ 0 → with_front front (numbers_of room octets) ≡ Ok whole → front ≡ whole
-push_ends front octets whole room none so_far =
-    let e : with_front front (numbers_of room octets) ≡ Ok front = rw (numbers_end room octets none) (ap done (append-nil front)) in
-    ok_is front whole (sym e ∙ so_far)
+push_ends front octets whole room none so_far = grind (arith, common_steps, numbers_end, done, append-nil, ok_is)
 
 kept : (read : Result (List ℕ) BerError) (front : List ℕ) → IsOk read → with_front front read ≡ Ok (front ++ result_unwrap_or read [])
 kept (Ok more) front h = refl
@@ -199,26 +171,20 @@ kept (Err e) front h = absurd cc
 
 pub start : (front octets : List ℕ) → length front ≡ 2 → IsOk (numbers_of 126 octets)
     → with_front front (numbers_of (128 - length front) octets) ≡ Ok (front ++ numbers_in octets)
-start front octets two h =
-    let room : 128 - length front ≡ 126 = omega arith in
-    rw room (kept (numbers_of 126 octets) front h)
+start front octets two h = grind (arith, common_steps, kept)
 
 -- ---- numbers of one octet each
 
 pub plain_number : (n : ℕ) (rest : List ℕ) → n < 128 → number_at (n ∷ rest) ≡ Ok (n, rest)
 unfolding number_at subidentifier_at subidentifier_from
-plain_number n rest lt =
-    let same : n % 128 ≡ n = omega (arith, lt) in
-    grind (arith, common_steps)
+plain_number n rest lt = grind (arith, common_steps, common_steps)
 
 abbrev is_plain : ℕ → Type 0
 is_plain n = n < 128
 
 pub check_skips : (numbers rest : List ℕ) (room : ℕ) → All (λ n. n < 128) numbers → length numbers ≤ room
     → checked (numbers_of (room - length numbers) rest) ≡ checked (numbers_of room (numbers ++ rest))
-check_skips [] rest room plain fits =
-    let none : room - length {A = ℕ} [] ≡ room = omega arith in
-    rw none refl
+check_skips [] rest room plain fits = grind (arith, common_steps)
 check_skips (n ∷ ns) rest room plain fits =
     let one = check_goes_on room (n ∷ (ns ++ rest)) n (ns ++ rest) _ (omega arith) (omega arith)
     (plain_number n (ns ++ rest) (All-head is_plain n ns plain)) refl in
@@ -246,12 +212,7 @@ plain_front [] long low = absurd (omega arith)
 plain_front (a ∷ []) long low = absurd (omega arith)
 plain_front (a ∷ b ∷ []) long low = absurd (omega arith)
 plain_front (a ∷ b ∷ c ∷ []) long low = absurd (omega arith)
-plain_front (a ∷ b ∷ c ∷ d ∷ rest) long low = (
-  refl,
-  refl,
-  All-cons is_plain a (b ∷ c ∷ d ∷ []) low.0 (All-cons is_plain b (c ∷ d ∷ []) low.1
-      (All-cons is_plain c (d ∷ []) low.2 (All-cons is_plain d [] low.3 (All-nil is_plain)))),
-)
+plain_front (a ∷ b ∷ c ∷ d ∷ rest) long low = grind (arith, common_steps, All-cons, All-nil)
 
 -- eight, as four and four
 pub plain_fronts : (octets : List ℕ) → 8 ≤ length octets → AreLow octets 0 → AreLow octets 4 → IsPlainFront 8 (take 8 octets) (drop 8 octets) octets
@@ -259,23 +220,15 @@ plain_fronts [] long low high = absurd (omega arith)
 plain_fronts (a ∷ []) long low high = absurd (omega arith)
 plain_fronts (a ∷ b ∷ []) long low high = absurd (omega arith)
 plain_fronts (a ∷ b ∷ c ∷ []) long low high = absurd (omega arith)
-plain_fronts (a ∷ b ∷ c ∷ d ∷ more) long low high =
-    let front = plain_front (a ∷ b ∷ c ∷ d ∷ []) (omega arith) low in
-    let back = plain_front more (omega arith) high in
-    let all : All is_plain ((a ∷ b ∷ c ∷ d ∷ []) ++ take 4 more) = All-append is_plain (a ∷ b ∷ c ∷ d ∷ []) (take 4 more) front.2 back.2 in
-    (ap (λ (tail : List ℕ). a ∷ b ∷ c ∷ d ∷ tail) back.0, omega (arith, back.1), all)
+plain_fronts (a ∷ b ∷ c ∷ d ∷ more) long low high = grind (arith, common_steps, plain_front, All-append)
 
 pub check_plain : (count : ℕ) (numbers rest octets : List ℕ) (room : ℕ) → IsPlainFront count numbers rest octets → count ≤ room
     → checked (numbers_of (room - count) rest) ≡ checked (numbers_of room octets)
-check_plain count numbers rest octets room front fits =
-    let skipped = check_skips numbers rest room front.2 (omega (arith, front.1)) in
-    rw front.0 (rw front.1 at skipped)
+check_plain count numbers rest octets room front fits = grind (arith, common_steps, check_skips)
 
 pub plain_fits : (count : ℕ) (front numbers rest octets whole : List ℕ) → 0 < length octets → IsPlainFront count numbers rest octets
     → with_front front (numbers_of (128 - length front) octets) ≡ Ok whole → length front + count ≤ 128
-plain_fits count front numbers rest octets whole some plain so_far =
-    let room = push_has_room front octets whole (128 - length front) some so_far in
-    omega (arith, (push_skips front numbers rest whole plain.2 (rw plain.0 at so_far)).0, plain.1)
+plain_fits count front numbers rest octets whole some plain so_far = grind (arith, common_steps, push_has_room, push_skips)
 
 pub push_plain : (count : ℕ) (front numbers rest octets whole : List ℕ) → IsPlainFront count numbers rest octets
     → with_front front (numbers_of (128 - length front) octets) ≡ Ok whole
@@ -284,11 +237,7 @@ push_plain count front numbers rest octets whole plain so_far = (push_skips fron
 
 pub number_ok : (front octets whole : List ℕ) → 0 < length octets → with_front front (numbers_of (128 - length front) octets) ≡ Ok whole
     → IsOk (number_at octets)
-number_ok front octets whole some so_far =
-    let room = push_has_room front octets whole (128 - length front) some so_far in
-    let step : with_front front (number_at octets >>= λ n. numbers_of (128 - length front - 1) n.1 >>= λ more. Ok (n.0 ∷ more)) ≡ Ok whole =
-    rw (numbers_step (128 - length front) octets some room) at so_far in
-    first_ok (number_at octets) _ (first_ok _ _ (is_ok_at _ whole step))
+number_ok front octets whole some so_far = grind (arith, common_steps, push_has_room, numbers_step, first_ok, is_ok_at)
 
 -- ---- subidentifiers
 
@@ -340,9 +289,7 @@ digits_again : (n : ℕ) (front : List ℕ) (last : ℕ) (rest : List ℕ) → A
     → value_behind n (front ++ last ∷ []) ≤ largest_subidentifier
     → subidentifier_from n ((front ++ last ∷ []) ++ rest) ≡ Ok (value_behind n (front ++ last ∷ []), rest)
 unfolding subidentifier_from
-digits_again n [] last rest goes_on ends small =
-    let next : n * 128 + last % 128 ≡ value_behind n (last ∷ []) = omega arith in
-    rw (le-ltb largest_subidentifier (n * 128 + last % 128) (omega arith), lt-ltb last 128 ends) (ap (λ (v : ℕ). done (v, rest)) next)
+digits_again n [] last rest goes_on ends small = grind (arith, common_steps, le-ltb, lt-ltb, done)
 digits_again n (octet ∷ front) last rest goes_on ends small =
     let next = n * 128 + octet % 128 in
     let same = value_behind-cons n octet (front ++ last ∷ []) in
@@ -390,13 +337,7 @@ at_front (octet ∷ front) last rest ne = rw (ne_eqb octet 128 ne) refl
 
 subidentifier_again : (text : List ℕ) (n : ℕ) (rest : List ℕ) → IsSubidentifier text n → n ≤ largest_subidentifier
     → subidentifier_at (text ++ rest) ≡ Ok (n, rest)
-subidentifier_again text n rest h small =
-    let t = h.front ++ h.last ∷ [] in
-    let is_value : number_of 128 (digits t) ≡ n = ap (λ (o : List ℕ). number_of 128 (digits o)) (sym h.parts) ∙ h.value in
-    let value : value_behind 0 t ≡ n = omega (arith, is_value) in
-    let minimal : get_or t 0 0 ≢ 128 = λ e. h.minimal (ap (λ (o : List ℕ). get_or o 0 0) h.parts ∙ e) in
-    let read = digits_again 0 h.front h.last rest (recursion_from_All (λ octet. 128 ≤ octet) h.front h.goes_on) h.ends (omega arith) in
-    ap (λ (o : List ℕ). subidentifier_at (o ++ rest)) h.parts ∙ at_front h.front h.last rest minimal ∙ read ∙ ap (λ (v : ℕ). done (v, rest)) value
+subidentifier_again text n rest h small = grind (arith, common_steps, digits_again, recursion_from_All, at_front, done)
 
 -- ---- numbers
 
@@ -451,11 +392,7 @@ numbers_again room octets (n ∷ more) parts few small =
 -- the first two numbers of a subidentifier
 splits : (n : ℕ) → n ≤ largest_subidentifier → (first_number n ≤ 2) × (first_number n < 2 → second_number n < 40) × (second_number n < 2 ^ 32)
     × (40 * first_number n + second_number n ≡ n)
-splits n small =
-    elim (cases_lt n 80) [
-      | inl lt ↦ rw (lt-ltb n 80 lt) (omega arith, (λ _. omega arith), omega arith, omega arith)
-      | inr le ↦ rw (le-ltb n 80 le) (omega arith, (λ h. omega arith), omega arith, omega arith)
-    ]
+splits n small = grind (arith, common_steps, cases_lt, lt-ltb, le-ltb)
 
 pub identifier_gives : (content : List ℕ) → Gives (IsObjectId content) (λ e. error.Content ≡ e) (identifier_of content)
 unfolding identifier_of
@@ -480,11 +417,7 @@ identifier_takes content name e = given name (identifier_gives content) e
 
 joins : (x y : ℕ) → x ≤ 2 → (x < 2 → y < 40) → y < 2 ^ 32 → (first_number (40 * x + y) ≡ x) × (second_number (40 * x + y) ≡ y)
     × (40 * x + y ≤ largest_subidentifier)
-joins x y first second small =
-    elim (cases_lt x 2) [
-      | inl lt ↦ let few = second lt in rw (lt-ltb (40 * x + y) 80 (omega arith)) (omega arith, omega arith, omega arith)
-      | inr le ↦ rw (le-ltb (40 * x + y) 80 (omega arith)) (omega arith, omega arith, omega arith)
-    ]
+joins x y first second small = grind (arith, common_steps, cases_lt, lt-ltb, le-ltb)
 
 pub identifier_again : (content name : List ℕ) → IsObjectId content name → identifier_of content ≡ Ok name
 unfolding identifier_of
@@ -520,8 +453,7 @@ skips_full (n ∷ ns) rest (suc room) plain less =
 
 pub plain_full : (count : ℕ) (numbers rest octets : List ℕ) → IsPlainFront count numbers rest octets → (room : ℕ) → room < count
     → checked (numbers_of room octets) ≡ Err error.Content
-plain_full count numbers rest octets front room less =
-    ap (λ (o : List ℕ). checked (numbers_of room o)) front.0 ∙ skips_full numbers rest room front.2 (omega (arith, less, front.1))
+plain_full count numbers rest octets front room less = grind (arith, common_steps, skips_full)
 
 pub plain_length : (count : ℕ) (numbers rest octets : List ℕ) → IsPlainFront count numbers rest octets → count + length rest ≤ length octets
 plain_length count numbers rest octets front = omega (arith, ap length front.0, length-append numbers rest, front.1)
@@ -547,26 +479,11 @@ pub counted_more : (count some : ℕ) (after octets : List ℕ) (total : Result 
     → ((room : ℕ) → some ≤ room → checked (numbers_of (room - some) after) ≡ checked (numbers_of room octets))
     → ((room : ℕ) → room < some → checked (numbers_of room octets) ≡ Err error.Content)
     → counted count octets ≡ total → counted (count + some) after ≡ total
-counted_more count some after octets total fits full so_far =
-    ⊎_elim
-    (λ many. too_many (count + some) after (omega (arith, many)) ∙ sym (too_many count octets many))
-    (λ few.
-    ⊎_elim
-    (λ less. too_many (count + some) after (omega (arith, less, few)) ∙ sym (not_many count octets few ∙ full (126 - count) less))
-    (λ enough.
-    let room : 126 - (count + some) ≡ 126 - count - some = omega arith in
-    not_many (count + some) after (omega (arith, enough, few)) ∙ ap (λ k. checked (numbers_of k after)) room
-    ∙ fits (126 - count) enough ∙ sym (not_many count octets few))
-    (cases_lt (126 - count) some))
-    (cases_lt 126 count) ∙ so_far
+counted_more count some after octets total fits full so_far = grind (arith, common_steps, ⊎_elim, too_many, not_many, cases_lt)
 
 pub counted_fails : (count : ℕ) (octets : List ℕ) (e : BerError) (total : Result (Unit {0}) BerError) → 0 < length octets
     → ((room : ℕ) → checked (numbers_of room octets) ≡ Err e) → counted count octets ≡ total → total ≡ Err e
-counted_fails count octets e total some read so_far =
-    sym so_far ∙ ⊎_elim
-    (λ many. too_many count octets many ∙ sym (no_room octets 0 some (omega arith)) ∙ read 0)
-    (λ few. not_many count octets few ∙ read (126 - count))
-    (cases_lt 126 count)
+counted_fails count octets e total some read so_far = grind (arith, common_steps, ⊎_elim, too_many, no_room, not_many, cases_lt)
 
 pub counted_ends : (count : ℕ) (octets : List ℕ) (total : Result (Unit {0}) BerError) → count ≤ 126 → length octets ≡ 0
     → counted count octets ≡ total → total ≡ Ok tt

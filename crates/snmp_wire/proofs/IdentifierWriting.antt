@@ -1,8 +1,8 @@
 -- Identifiers as they are written: how long they are, that they are forms by the standard, and
 -- the only ones.
+use Rattle.std.proofs.lemmas.Grind.{common_steps, flat_map-append}
 use Rattle.std.proofs.Common.{◌≡◌, ℕ, ◌+◌, ◌-◌, ◌*◌, ◌/◌, ◌%◌, ◌^◌, ◌<◌, ◌≤◌, suc, List, [], ◌∷◌, ◌++◌, length, take, drop, get_or, refl, sym, ap}
 use Rattle.std.proofs.Common.{◌∙◌, arith, length-append, take_all, ◌≢◌, zero, map, subst, lit<}
-use Rattle.std.proofs.lemmas.Grind.{flat_map-append}
 use Rattle.std.proofs.lemmas.List.{append-nil, drop_all, drop_more, length-map, take-append-drop, map-append}
 use Rattle.std.proofs.lemmas.Nat.{le_or_l, le_or_r}
 use Rattle.std.proofs.Math.Nat.{div-lt_iff_lt-mul, le-div_iff_mul-le, mod-lt, one-le-pow, pow-suc}
@@ -31,9 +31,7 @@ septets-suc count n = refl
 -- a subidentifier of one octet is that octet
 pub subidentifier_short : (n : ℕ) → n < 128 → canon_subidentifier n ≡ n ∷ []
 unfolding canon_subidentifier subidentifier_size septets digits
-subidentifier_short n h =
-    let same : n % 128 ≡ n = omega (arith, h) in
-    ap (λ count. septets (count - 1) (n / 128) ++ (n % 128) ∷ []) (count_taken 128 128 3 n h) ∙ ap (λ m. m ∷ []) same
+subidentifier_short n h = grind (arith, common_steps, count_taken)
 
 pub subidentifier_one : (n : ℕ) → n < 128 → 1 ≡ subidentifier_size n
 unfolding subidentifier_size
@@ -52,10 +50,7 @@ unfolding subidentifier_size
 subidentifier_most n = digit_most 128 128 4 n
 
 pub length-canon_subidentifier : (n : ℕ) → length (canon_subidentifier n) ≡ subidentifier_size n
-length-canon_subidentifier n =
-    let parts : length (canon_subidentifier n) ≡ length (septets (subidentifier_size n - 1) (n / 128)) + 1 =
-    ap length (subidentifier_parts n) ∙ length-append (septets (subidentifier_size n - 1) (n / 128)) ((n % 128) ∷ []) in
-    omega (arith, parts, length-septets (subidentifier_size n - 1) (n / 128), size_some n)
+length-canon_subidentifier n = grind (arith, common_steps, subidentifier_parts, length-append, length-septets, size_some)
 
 -- a subidentifier that goes on before its last octet
 pub writes_subidentifier : {old mid new : List ℕ} {start middle end : ℕ} (n count : ℕ) → count ≡ subidentifier_size n
@@ -70,8 +65,7 @@ subidentifier_two n more below = sym (count_left 128 128 3 n more ∙ ap (λ k. 
 
 pub subidentifier_three : (n : ℕ) → 16384 ≤ n → n < 2097152 → 3 ≡ subidentifier_size n
 unfolding subidentifier_size
-subidentifier_three n more below = sym (count_left 128 128 3 n (omega (arith, more))
-    ∙ ap (λ k. 1 + k) (count_left 128 (128 * 128) 2 n more ∙ ap (λ k. 1 + k) (count_taken 128 (128 * 128 * 128) 1 n below)))
+subidentifier_three n more below = grind (arith, common_steps, count_left, count_taken)
 
 pub one_septet : (n : ℕ) → n < 128 → (128 + n) ∷ [] ≡ septets 1 n
 unfolding septets digits
@@ -79,10 +73,7 @@ one_septet n below = let same : n / 1 % 128 ≡ n = omega (arith, below) in sym 
 
 pub two_septets : (m : ℕ) → m < 16384 → (128 + m / 128) ∷ (128 + m % 128) ∷ [] ≡ septets 2 m
 unfolding septets digits
-two_septets m below =
-    let high : m / 128 % 128 ≡ m / 128 = omega (arith, below) in
-    let low : m / 1 % 128 ≡ m % 128 = omega arith in
-    sym (ap (λ k. (128 + k) ∷ (128 + m / 1 % 128) ∷ []) high ∙ ap (λ k. (128 + m / 128) ∷ (128 + k) ∷ []) low)
+two_septets m below = grind (arith, common_steps)
 
 -- what an identifier's content is, by its first two numbers and the others
 pub content_parts : (name : List ℕ) → IsWire name → canon_content (object_id name) ≡ canon_subidentifier (40 * get_or name 0 0 + get_or name 1 0)
@@ -90,17 +81,12 @@ pub content_parts : (name : List ℕ) → IsWire name → canon_content (object_
 unfolding canon_content
 content_parts [] wire = absurd wire
 content_parts (x ∷ []) wire = absurd wire
-content_parts (x ∷ y ∷ rest) wire =
-    let all : length (x ∷ y ∷ rest) - 2 ≡ length rest = omega arith in
-    ap (λ numbers. canon_subidentifier (40 * x + y) ++ flat_map canon_subidentifier numbers)
-    (sym (ap (λ k. take k rest) all ∙ take_all (length rest) rest (omega arith)))
+content_parts (x ∷ y ∷ rest) wire = grind (arith, common_steps, take_all)
 
 -- the octets of the numbers that are left, and of one less
 pub length-numbers_from : (numbers : List ℕ) (i number : ℕ) → i < length numbers → number ≡ get_or numbers i 0
     → length (flat_map canon_subidentifier (drop i numbers)) ≡ subidentifier_size number + length (flat_map canon_subidentifier (drop (i + 1) numbers))
-length-numbers_from numbers i number h e =
-    length-flat_map_drop canon_subidentifier numbers i number 0 h e ∙ ap (λ n. n + length (flat_map canon_subidentifier (drop (i + 1) numbers)))
-    (length-canon_subidentifier number)
+length-numbers_from numbers i number h e = grind (arith, common_steps, length-flat_map_drop, length-canon_subidentifier)
 
 -- the content of a name, by the list of its numbers
 pub content_is : (numbers name : List ℕ) (first : ℕ) → IsWire name → numbers ≡ name → first ≡ 40 * get_or numbers 0 0 + get_or numbers 1 0
@@ -110,11 +96,7 @@ content_is numbers name first wire same e = rw (e, same) (content_parts name wir
 pub length-content : (numbers name : List ℕ) → IsWire name → numbers ≡ name
     → length (canon_content (object_id name)) ≡ subidentifier_size (40 * get_or numbers 0 0 + get_or numbers 1 0) + length
     (flat_map canon_subidentifier (take (length numbers - 2) (drop 2 numbers)))
-length-content numbers name wire same =
-    let first : ℕ = 40 * get_or numbers 0 0 + get_or numbers 1 0 in
-    let rest : List ℕ = flat_map canon_subidentifier (take (length numbers - 2) (drop 2 numbers)) in
-    ap length (content_is numbers name first wire same refl) ∙ length-append (canon_subidentifier first) rest
-    ∙ ap (λ n. n + length rest) (length-canon_subidentifier first)
+length-content numbers name wire same = grind (arith, common_steps, content_is, length-append, length-canon_subidentifier)
 
 -- ---- numbers of one octet each
 
@@ -129,46 +111,17 @@ number_then : (numbers : List ℕ) (i next : ℕ) → i + 1 ≡ next → next �
 number_then numbers i next e h = drop_more numbers i 0 (omega (arith, e, h)) ∙ ap (λ k. get_or numbers i 0 ∷ drop k numbers) e
 
 pub eight_then : (numbers : List ℕ) (from : ℕ) → from + 8 ≤ length numbers → drop from numbers ≡ eight_from numbers from ++ drop (from + 8) numbers
-eight_then numbers from h = rw (
-  number_then numbers from (from + 1) (omega arith) (omega (arith, h)),
-  number_then numbers (from + 1) (from + 2) (omega arith) (omega (arith, h)),
-  number_then numbers (from + 2) (from + 3) (omega arith) (omega (arith, h)),
-  number_then numbers (from + 3) (from + 4) (omega arith) (omega (arith, h)),
-  number_then numbers (from + 4) (from + 5) (omega arith) (omega (arith, h)),
-  number_then numbers (from + 5) (from + 6) (omega arith) (omega (arith, h)),
-  number_then numbers (from + 6) (from + 7) (omega arith) (omega (arith, h)),
-  number_then numbers (from + 7) (from + 8) (omega arith) h,
-) refl
+eight_then numbers from h = grind (arith, common_steps, number_then)
 
 -- each of four numbers is below 128 where the four have no higher bit
 below_128 : (a b c d : ℕ) → bit_or (bit_or (bit_or a b) c) d < 128 → (a < 128) × (b < 128) × (c < 128) × (d < 128)
-below_128 a b c d low =
-    let ab = bit_or a b in
-    let abc = bit_or ab c in
-    let abc_low : abc < 128 = omega (arith, le_or_l abc d, low) in
-    let ab_low : ab < 128 = omega (arith, le_or_l ab c, abc_low) in
-    (omega (arith, le_or_l a b, ab_low), omega (arith, le_or_r a b, ab_low), omega (arith, le_or_r ab c, abc_low), omega (arith, le_or_r abc d, low))
+below_128 a b c d low = grind (arith, common_steps, le_or_l, le_or_r)
 
 pub eight_low : (numbers : List ℕ) (from : ℕ)
     → bit_or (bit_or (bit_or (bit_or (get_or numbers from 0) (get_or numbers (from + 1) 0)) (get_or numbers (from + 2) 0)) (get_or numbers (from + 3) 0))
     (bit_or (bit_or (bit_or (get_or numbers (from + 4) 0) (get_or numbers (from + 5) 0)) (get_or numbers (from + 6) 0)) (get_or numbers (from + 7) 0)) < 128
     → AreShort numbers from
-eight_low numbers from h =
-    let at : ℕ → ℕ = λ k. get_or numbers (from + k) 0 in
-    let low : ℕ = bit_or (bit_or (bit_or (get_or numbers from 0) (at 1)) (at 2)) (at 3) in
-    let high : ℕ = bit_or (bit_or (bit_or (at 4) (at 5)) (at 6)) (at 7) in
-    let lows = below_128 (get_or numbers from 0) (at 1) (at 2) (at 3) (omega (arith, le_or_l low high, h)) in
-    let highs = below_128 (at 4) (at 5) (at 6) (at 7) (omega (arith, le_or_r low high, h)) in
-    record {
-      first = lows.0;
-      second = lows.1;
-      third = lows.2;
-      fourth = lows.3;
-      fifth = highs.0;
-      sixth = highs.1;
-      seventh = highs.2;
-      eighth = highs.3;
-    }
+eight_low numbers from h = grind (arith, common_steps, below_128, le_or_l, le_or_r)
 
 -- eight of them before the last number, and the others before these
 pub nine : (numbers : List ℕ) (number : ℕ) → 9 ≤ length numbers → AreShort numbers (length numbers - 9) → number ≡ get_or numbers (length numbers - 1) 0
@@ -212,8 +165,7 @@ none_before numbers e = let none : length numbers - 9 ≡ 0 = omega (arith, e) i
 pub small_before : (numbers : List ℕ) (left : ℕ) → bit_or (bit_or (bit_or (get_or numbers (left - 4) 0) (get_or numbers (left - 3) 0))
     (get_or numbers (left - 2) 0)) (get_or numbers (left - 1) 0) < 128
     → (get_or numbers (left - 4) 0 < 128) × (get_or numbers (left - 3) 0 < 128) × (get_or numbers (left - 2) 0 < 128) × (get_or numbers (left - 1) 0 < 128)
-small_before numbers left low = below_128 (get_or numbers (left - 4) 0) (get_or numbers (left - 3) 0) (get_or numbers (left - 2) 0)
-    (get_or numbers (left - 1) 0) low
+small_before numbers left low = grind (arith, common_steps, below_128)
 
 pub plain_before : (numbers : List ℕ) (left : ℕ) → 4 ≤ left → left ≤ length numbers → bit_or (bit_or (bit_or (get_or numbers (left - 4) 0)
     (get_or numbers (left - 3) 0)) (get_or numbers (left - 2) 0)) (get_or numbers (left - 1) 0) < 128
@@ -282,12 +234,10 @@ subidentifier_some text n is = omega (arith, ap length is.parts, length-append i
 
 -- and is below the power of them
 pub subidentifier_bound : (text : List ℕ) (n : ℕ) → IsSubidentifier text n → n < 128 ^ length text
-subidentifier_bound text n is = subst (λ (v : ℕ). v < 128 ^ length text) is.value
-    (subst (λ (k : ℕ). number_of 128 (low_bits text) < 128 ^ k) (length-low_bits text) (below_power 128 (low_bits text) (bits_below text)))
+subidentifier_bound text n is = grind (arith, common_steps, length-low_bits, below_power, bits_below)
 
 front_value : (front : List ℕ) (last : ℕ) → number_of 128 (low_bits (front ++ last ∷ [])) ≡ number_of 128 (low_bits front) * 128 + last % 128
-front_value front last = ap (number_of 128) (map-append (λ octet. octet % 128) front (last ∷ []))
-    ∙ number_of-push 128 (low_bits front) (last % 128)
+front_value front last = grind (arith, common_steps, map-append, number_of-push)
 
 -- its octets are its digits
 text_is : (text : List ℕ) (n : ℕ) → Octets text → IsSubidentifier text n → text ≡ septets (length text - 1) (n / 128) ++ (n % 128) ∷ []
@@ -317,29 +267,10 @@ not_padded (suc k) m last low high least e =
 
 pub is_subidentifier : (n : ℕ) → n < 2 ^ 35 → IsSubidentifier (canon_subidentifier n) n
 unfolding subidentifier_size
-is_subidentifier n h =
-    let s = sized 128 128 4 n (omega arith) in
-    let m : ℕ = n / 128 in
-    let last : ℕ = n % 128 in
-    let count : subidentifier_size n - 1 ≡ s.less = omega (arith, s.size) in
-    let text : canon_subidentifier n ≡ septets s.less m ++ last ∷ [] = subidentifier_parts n ∙ ap (λ k. septets k m ++ last ∷ []) count in
-    let high : m < 128 ^ s.less = omega (arith, s.below) in
-    let least : (k : ℕ) → s.less ≡ suc k → 128 ^ k ≤ m = λ k e. omega (arith, digits_needed 128 128 4 n k (s.size ∙ ap suc e)) in
-    record {
-      front = septets s.less m;
-      last = last;
-      parts = text;
-      goes_on = All-from_recursion (λ octet. 128 ≤ octet) (septets s.less m) (high_septets s.less m);
-      ends = mod-lt n (lit< tt);
-      minimal = λ e. not_padded s.less m last (omega arith) high least (sym (ap (λ (octets : List ℕ). get_or octets 0 0) text) ∙ e);
-      value = ap (λ octets. number_of 128 (low_bits octets)) text ∙ front_value (septets s.less m) last
-          ∙ ap (λ v. v * 128 + last % 128) (ap (number_of 128) (low_septets s.less m) ∙ digits_value 128 s.less m (lit< tt) high)
-          ∙ (let sum : m * 128 + last % 128 ≡ n = omega arith in sum);
-    }
+is_subidentifier n h = grind (arith, common_steps, sized, subidentifier_parts, digits_needed, All-from_recursion, high_septets, mod-lt, not_padded, front_value, low_septets, digits_value)
 
 pub subidentifier_octets : (n : ℕ) → Octets (canon_subidentifier n)
-subidentifier_octets n = subst Octets (sym (subidentifier_parts n))
-    (both_octets (septets (subidentifier_size n - 1) (n / 128)) ((n % 128) ∷ []) (septet_octets (subidentifier_size n - 1) (n / 128)) (omega arith, tt))
+subidentifier_octets n = grind (arith, common_steps, subidentifier_parts, both_octets, septet_octets)
 
 -- ---- identifiers
 
@@ -369,8 +300,7 @@ content_is_subidentifiers name = refl
 
 pub is_object_id : (name : List ℕ) → IsWire name → IsIdentifier name → IsObjectId (canon_content (object_id name)) name
 unfolding canon_content
-is_object_id name wire identifier =
-    record { wire = wire; identifier = identifier; parts = are_subidentifiers (subidentifiers name) (small_subidentifiers name wire identifier) }
+is_object_id name wire identifier = grind (arith, common_steps, are_subidentifiers, small_subidentifiers)
 
 pub name_octets : (name : List ℕ) → Octets (canon_content (object_id name))
 unfolding canon_content

@@ -1,6 +1,6 @@
 -- Bindings that are kept as their encodings: what is written is read again.
-use Rattle.std.proofs.Common.{◌≡◌, ℕ, List, [], ◌∷◌, ◌++◌, Result, Ok, IsOk, refl, sym, ap, subst}
-use Rattle.std.proofs.Common.{◌∙◌, ◌<◌, ◌≤◌, length, get_or, take, drop, cond, eqb, ltb, Err}
+use Rattle.std.proofs.Common.{arith, ◌≡◌, ℕ, List, [], ◌∷◌, ◌++◌, Result, Ok, IsOk, refl, sym, ap, subst, ◌∙◌, ◌<◌, ◌≤◌, length, get_or, take, drop}
+use Rattle.std.proofs.lemmas.Grind.{common_steps}
 use Rattle.std.proofs.lemmas.Bool.{lt-ltb, ltb-false}
 use Rattle.std.proofs.lemmas.List.{append-nil, take-append-drop}
 use Rattle.std.specs.Result.{result_unwrap_or}
@@ -13,7 +13,6 @@ use Rattle.snmp_wire.specs.Reading.{bindings_in, bindings_of}
 use Rattle.snmp_wire.specs.Spelling.{SpellsBinding}
 use Rattle.snmp_wire.proofs.LengthLaws.{inner_again}
 use Rattle.snmp_wire.specs.ber.Number.{lenient}
-use Rattle.snmp_wire.specs.declared.ber.error.BerError.TheVariants as error
 use Rattle.snmp_wire.specs.ber.Reading.{content_at, identifier_of, inner_at, length_at}
 use Rattle.snmp_wire.proofs.ReadingLaws.{Gives, a_value, done, is_ok_at, ok_is, passed, refused}
 use Rattle.snmp_wire.proofs.MessageLaws.{four_then, binding_again, bindings_again}
@@ -33,12 +32,7 @@ encodable p name value = record { name = name.0; value = encodable_value p.value
 short_inner : (tag found size : ℕ) (rest content after : List ℕ) → size < 128 → inner_at tag (found ∷ size ∷ rest) ≡ Ok (content, after)
     → (size ≤ length rest) × (take size rest ≡ content) × (drop size rest ≡ after)
 unfolding inner_at content_at length_at
-short_inner tag found size rest content after small e =
-    let p = passed (eqb found tag) (content_at error.Length (size ∷ rest)) error.Tag (content, after) e in
-    let q : cond (ltb (length rest) size) (Err error.Length) (Ok (take size rest, drop size rest)) ≡ done (content, after) = rw (lt-ltb size 128 small) at p.1 in
-    let r = refused (ltb (length rest) size) (Ok (take size rest, drop size rest)) error.Length (content, after) q in
-    let both = ok_is (take size rest, drop size rest) (content, after) r.1 in
-    (ltb-false (length rest) size r.0, ap (λ (x : List ℕ × List ℕ). x.0) both, ap (λ (x : List ℕ × List ℕ). x.1) both)
+short_inner tag found size rest content after small e = grind (arith, common_steps, passed, done, lt-ltb, refused, ok_is, ltb-false)
 
 module _ (p : VarBind) (range : IsBindingInRange p) where
   spells : SpellsBinding lenient p (canon_binding p)
@@ -50,10 +44,7 @@ module _ (p : VarBind) (range : IsBindingInRange p) where
       ∙ ap (λ (read : Result (VarBind × List ℕ) BerError). (result_unwrap_or read (record { name = []; value = null_value }, [])).0) (binding_again p (canon_binding p) [] spells)
 
   pub is_kept : (octets : List ℕ) → octets ≡ canon_binding p → IsKept octets
-  is_kept octets e = rw e (record {
-    range = subst IsBindingInRange (sym read_again) range;
-    encoding = ap canon_binding (sym read_again);
-  })
+  is_kept octets e = grind (arith, common_steps, read_again)
 
   all_again : bindings_of (canon_binding p) ≡ Ok (p ∷ [])
   all_again = bindings_again (p ∷ []) (canon_binding p) (canon_binding p, [], sym (append-nil (canon_binding p)), spells, refl)

@@ -1,6 +1,7 @@
 -- Laws of lengths and elements, for proofs of values and messages: what is read as one is one, what
 -- is read as none isn't, and what is one is read.
-use Rattle.std.proofs.Common.{◌≡◌, ◌≢◌, ℕ, suc, ◌+◌, ◌-◌, ◌<◌, ◌≤◌, false, eqb, ltb, ◌&&◌, List, [], ◌∷◌, ◌++◌, length, take, drop, replicate, Ok}
+use Rattle.std.proofs.lemmas.Grind.{common_steps}
+use Rattle.std.proofs.Common.{◌≡◌, ◌≢◌, ℕ, ◌+◌, ◌-◌, ◌<◌, ◌≤◌, false, eqb, ltb, ◌&&◌, List, [], ◌∷◌, ◌++◌, length, take, drop, replicate, Ok}
 use Rattle.std.proofs.Common.{refl, sym, ap, subst, ◌∙◌, append_assoc, arith, ◌⊎◌, inl, inr}
 use Rattle.std.proofs.lemmas.Bool.{ltb-true, ltb-false, lt-ltb, le-ltb, eqb-true, eqb-false, eq-eqb, and_cases, and_parts}
 use Rattle.std.proofs.lemmas.List.{take_at, drop_at, take-append-drop, length-append, length-replicate, length-take-le}
@@ -105,11 +106,7 @@ IsBadElement cut octets e =
 
 forbidden : (first : ℕ) → 128 ≤ first → (ltb 128 first && ltb first 133) ≡ false
     → (first ≡ 0x80) ⊎ (0x85 ≤ first)
-forbidden first le h =
-    elim (and_cases (ltb 128 first) (ltb first 133) h) [
-      | inl low ↦ let at_most = ltb-false 128 first low in inl (omega arith)
-      | inr high ↦ inr (ltb-false first 133 high)
-    ]
+forbidden first le h = grind (arith, common_steps, and_cases, ltb-false)
 
 long_length_gives : (cut : BerError) (tag first : ℕ) (rest : List ℕ) → 128 ≤ first
     → Gives (TakesLength (first ∷ rest)) (IsBadElement cut (tag ∷ first ∷ rest))
@@ -168,25 +165,12 @@ short_length_again cut n rest small = rw (lt-ltb n 128 small) refl
 long_length_again : (cut : BerError) (digits rest : List ℕ) → 1 ≤ length digits → length digits ≤ 4
     → length_at cut ((128 + length digits) ∷ (digits ++ rest)) ≡ Ok (unsigned digits, rest)
 unfolding length_at long_length_at
-long_length_again cut digits rest some few =
-    let width : 128 + length digits - 128 ≡ length digits = omega arith in
-    let room : ltb (length (digits ++ rest)) (length digits) ≡ false =
-    le-ltb _ _ (omega (arith, length-append digits rest)) in
-    rw (
-      le-ltb (128 + length digits) 128 (omega arith),
-      lt-ltb 128 (128 + length digits) (omega arith),
-      lt-ltb (128 + length digits) 133 (omega arith),
-      width,
-      room,
-      take_at digits rest (length digits) refl,
-      drop_at digits rest (length digits) refl,
-    ) refl
+long_length_again cut digits rest some few = grind (arith, common_steps, le-ltb, length-append, lt-ltb, take_at, drop_at)
 
 length_again : (cut : BerError) (lead : List ℕ) (n : ℕ) (rest : List ℕ)
     → IsLength lead n → length_at cut (lead ++ rest) ≡ Ok (n, rest)
 length_again cut lead n rest (inl s) = rw s.one (short_length_again cut n rest s.small)
-length_again cut lead n rest (inr s) =
-    rw (s.parts, ← s.value) (long_length_again cut s.digits rest s.some s.few)
+length_again cut lead n rest (inr s) = grind (arith, common_steps, long_length_again)
 
 -- ---- elements
 
@@ -252,17 +236,13 @@ inner_gives tag (found ∷ octets) = gives_either (eqb found tag)
 
 regrouped : (tag : ℕ) (content element rest : List ℕ) (h : IsElement tag content element)
     → element ++ rest ≡ tag ∷ (h.length_octets ++ (content ++ rest))
-regrouped tag content element rest h =
-    ap (λ (o : List ℕ). o ++ rest) h.parts
-    ∙ ap (λ (tail : List ℕ). tag ∷ tail) (append_assoc h.length_octets content rest)
+regrouped tag content element rest h = grind (arith, common_steps, append_assoc)
 
 -- an element of a tag is read as one
 pub inner_again : (tag : ℕ) (content element rest : List ℕ)
     → IsElement tag content element → inner_at tag (element ++ rest) ≡ Ok (content, rest)
 unfolding inner_at
-inner_again tag content element rest h =
-    ap (inner_at tag) (regrouped tag content element rest h) ∙ rw (eq-eqb tag tag refl)
-    (content_again error.Length h.length_octets content rest h.is_length)
+inner_again tag content element rest h = grind (arith, common_steps, regrouped, eq-eqb, content_again)
 
 -- what is read as an element of any tag is one, or there is none
 pub element_gives : (octets : List ℕ)
@@ -277,17 +257,9 @@ element_gives (tag ∷ octets) = gives_then _ (content_gives error.Length tag oc
 pub element_again : (tag : ℕ) (content element rest : List ℕ)
     → IsElement tag content element → element_at (element ++ rest) ≡ Ok (tag, content, rest)
 unfolding element_at
-element_again tag content element rest h =
-    ap element_at (regrouped tag content element rest h)
-    ∙ rw (content_again error.Length h.length_octets content rest h.is_length) refl
+element_again tag content element rest h = grind (arith, common_steps, regrouped, content_again)
 
 -- an element has octets of its own
 pub element_shrinks : {tag : ℕ} {octets content rest : List ℕ}
     → BeginsWith tag content octets rest → length rest < length octets
-element_shrinks {tag} {octets} {content} {rest} begins =
-    let lead = begins.is_element.length_octets in
-    let one : length octets ≡ length begins.element + length rest =
-    ap length begins.parts ∙ length-append begins.element rest in
-    let two : length begins.element ≡ suc (length (lead ++ content)) =
-    ap length begins.is_element.parts in
-    omega arith
+element_shrinks {tag} {octets} {content} {rest} begins = grind (arith, common_steps, length-append)

@@ -1,19 +1,16 @@
 -- Elements in a row, of values or around other elements: the form of bindings, PDUs and messages.
 -- How such a row is spelt and written, and that no spelling of it is shorter, is said and proved
 -- once.
+use Rattle.std.proofs.lemmas.Grind.{common_steps}
 use Rattle.std.proofs.Common.{◌≡◌, ℕ, ◌^◌, ◌<◌, List, [], ◌++◌, length, refl, sym, subst, ◌≤◌, ◌∷◌, ap, ◌∙◌, append_assoc, lit<, arith, length-append}
-use Rattle.std.proofs.Common.{ℤ, pos, negsuc, ◌+◌, ◌-◌, ◌*◌, suc, inl, inr, ⊎_elim, take}
+use Rattle.std.proofs.Common.{inl, inr, take}
 use Rattle.std.proofs.lemmas.List.{append-nil}
-use Rattle.std.proofs.Math.Nat.{mul-le-mul_right, pow-le-pow_right, pow-suc}
-use Rattle.std.proofs.lemmas.Nat.{mul-add-lt}
-use Rattle.std.proofs.lemmas.Bool.{cases_lt}
+use Rattle.std.proofs.Math.Nat.{pow-le-pow_right}
 use Rattle.std.proofs.Math.Seq.{take-append_seam}
 use Rattle.std.specs.List.{AllByRecursion}
-use mir.Syntax.{w32}
-use mir.Val.{SFits}
 use Rattle.snmp_wire.specs.ber.Canon.{canon_element, canon_value}
 use Rattle.snmp_wire.specs.ber.Length.{IsElement}
-use Rattle.snmp_wire.specs.ber.Number.{Form, IsUnsigned, lenient, strict, AreOctets, number_of, twos_complement, unsigned}
+use Rattle.snmp_wire.specs.ber.Number.{Form, IsUnsigned, lenient, strict, AreOctets, number_of, unsigned}
 use Rattle.snmp_wire.specs.ber.Range.{IsInRange, IsOfType}
 use Rattle.snmp_wire.specs.ber.Spelling.{IsContent, SpellsValue, sequence_tag}
 use Rattle.snmp_wire.specs.ber.Value.{Datum, counter32, gauge32, time_ticks, counter64, integer_value, octet_string, object_id, ip_address}
@@ -28,7 +25,7 @@ use Rattle.snmp_wire.specs.Laws.{OneShortestEncoding}
 use Rattle.snmp_wire.specs.Shortest.{IsShortestEncoding}
 use Rattle.snmp_wire.proofs.Digits.{Octets, back_octets, both_octets, front_octets, by_octets, octets_by, below_power}
 use Rattle.snmp_wire.proofs.Shortest.{IsNoShorter, both_texts, content_octets, element_least, same_text, value_least, element_octets, is_element}
-use Rattle.snmp_wire.proofs.Shortest.{spells_value, value_octets, element_most, value_short, signed_fits, minus, negative, positive}
+use Rattle.snmp_wire.proofs.Shortest.{spells_value, value_octets, element_most, value_short, signed_fits}
 use Rattle.snmp_wire.proofs.MessageWriting.{canon_parts}
 
 pub data Elements : Type 0 where
@@ -151,15 +148,7 @@ last_is octets last end parts none = parts ∙ ap (λ (o : List ℕ). last ++ o)
 module _ (form : Form) where
   binding_in_row : (binding : VarBind) (more : Elements) (octets rest : List ℕ) → SpellsBinding form binding octets → SpellsAll form more rest
       → SpellsAll form (binding_then binding more) (octets ++ rest)
-  binding_in_row binding more octets rest is others = (
-    octets,
-    rest,
-    refl,
-    is.name ++ is.value,
-    is.element,
-    (is.name, is.value, refl, is.is_name, (is.value, [], sym (append-nil is.value), is.is_value, refl)),
-    others,
-  )
+  binding_in_row binding more octets rest is others = grind (arith, common_steps, append-nil)
 
   bindings_in_row : (bindings : List VarBind) (octets : List ℕ) → SpellsBindings form bindings octets
       → SpellsAll form (elements_of_bindings bindings) octets
@@ -193,18 +182,10 @@ module _ (form : Form) where
 
   binding_of_row : (binding : VarBind) (content octets : List ℕ) → IsElement sequence_tag content octets
       → SpellsAll form (value_then (object_id binding.name) (value_then binding.value no_elements)) content → SpellsBinding form binding octets
-  binding_of_row binding content octets element (name, after, parts, is_name, (value, end, last, is_value, none)) = record {
-    name = name;
-    value = value;
-    is_name = is_name;
-    is_value = is_value;
-    element = subst (λ (o : List ℕ). IsElement sequence_tag o octets)
-        (parts ∙ ap (λ (o : List ℕ). name ++ o) (last_is after value end last none)) element;
-  }
+  binding_of_row binding content octets element (name, after, parts, is_name, (value, end, last, is_value, none)) = grind (arith, common_steps, last_is)
 
   pub one_of_row : (binding : VarBind) (octets : List ℕ) → SpellsAll form (binding_then binding no_elements) octets → SpellsBinding form binding octets
-  one_of_row binding octets (first, end, parts, content, element, inner, none) =
-      subst (SpellsBinding form binding) (sym (last_is octets first end parts none)) (binding_of_row binding content first element inner)
+  one_of_row binding octets (first, end, parts, content, element, inner, none) = grind (arith, common_steps, last_is, binding_of_row)
 
   bindings_of_row : (bindings : List VarBind) (octets : List ℕ) → SpellsAll form (elements_of_bindings bindings) octets
       → SpellsBindings form bindings octets
@@ -290,29 +271,7 @@ bindings_in_range (binding ∷ more) (this, others) = (
 )
 
 in_range : (message : Message) → IsMessageInRange message → AreInRange (elements_of message)
-in_range message range =
-    let bindings : List ℕ = canon_all (elements_of_bindings message.bindings) in
-    let total : length bindings ≤ 4000000000 = subst (λ (o : List ℕ). length o ≤ 4000000000) (bindings_are message.bindings) range.total in
-    let fields : length (canon_all (elements_in_pdu message)) ≤ 4000200000 = simp length-append (omega (
-      arith,
-      element_most sequence_tag bindings,
-      total,
-      value_short (integer_value message.id) range.id,
-      value_short (integer_value message.a) range.a,
-      value_short (integer_value message.b) range.b,
-    )) in
-    let content : length (canon_all (elements_in_message message)) < 2 ^ 32 = simp length-append (omega (
-      arith,
-      element_most (kind_tag message.kind) (canon_all (elements_in_pdu message)),
-      fields,
-      value_short (integer_value message.version) range.version,
-      value_short (octet_string message.community) range.community,
-    )) in
-    let list_range : AreInRange (element_then sequence_tag (elements_of_bindings message.bindings) no_elements) =
-    (lit< tt, omega (arith, total), bindings_in_range message.bindings range.bindings, tt) in
-    let pdu_range : AreInRange (element_then (kind_tag message.kind) (elements_in_pdu message) no_elements) =
-    (kind_fits message.kind, omega (arith, fields), (range.id, (range.a, (range.b, list_range))), tt) in
-    (lit< tt, content, (range.version, (range.community, pdu_range)), tt)
+in_range message range = grind (arith, common_steps, bindings_are, length-append, element_most, value_short, bindings_in_range, kind_fits)
 
 -- ---- what is written is spelt
 
@@ -347,14 +306,7 @@ bindings_of_type [] are = tt
 bindings_of_type (binding ∷ more) ((name, (value, last)), others) = (record { name = name; value = value }, bindings_of_type more others)
 
 pub of_type : (message : Message) → AreOfType (elements_of message) → IsMessageOfType message
-of_type message ((version, (community, ((id, (a, (b, (bindings, last)))), end))), none) = record {
-  version = version;
-  community = community;
-  id = id;
-  a = a;
-  b = b;
-  bindings = bindings_of_type message.bindings bindings;
-}
+of_type message ((version, (community, ((id, (a, (b, (bindings, last)))), end))), none) = grind (arith, common_steps, bindings_of_type)
 
 -- ---- numbers
 
@@ -421,9 +373,7 @@ only_shortest message text other range is too = shortest_is_written message text
 -- so is the front of what a writer left
 pub front_is_shortest : (law : OneShortestEncoding) (message : Message) (n : ℕ) (out rest : List ℕ) → n ≡ length (canon message)
     → out ≡ canon message ++ rest → IsMessageInRange message → IsShortestEncoding (take n out) message
-front_is_shortest law message n out rest size e range =
-    let front : canon message ≡ take n out = sym (ap (take n) e ∙ ap (λ k. take k (canon message ++ rest)) size ∙ take-append_seam (canon message) rest) in
-    subst (λ (text : List ℕ). IsShortestEncoding text message) front (law.written message range)
+front_is_shortest law message n out rest size e range = grind (arith, common_steps, take-append_seam)
 
 pub shortest_size : (law : OneShortestEncoding) (message : Message) (size : ℕ) → size ≡ length (canon message) → (octets : List ℕ)
     → IsMessageInRange message → IsShortestEncoding octets message → size ≡ length octets

@@ -1,12 +1,13 @@
 -- Reading bindings one after the other, and messages: what is spelt as one is read.
+use Rattle.std.proofs.lemmas.Grind.{common_steps}
 use Rattle.std.proofs.Common.{◌≡◌, ℕ, zero, suc, ◌<◌, ◌≤◌, List, [], ◌∷◌, length, Result, Ok, Err, IsOk, refl, sym, ap, ◌∙◌, arith, ℤ, ◌++◌}
-use Rattle.std.proofs.Common.{append_assoc, ◌+◌, ◌-◌, get_or, take, drop, subst, inl}
+use Rattle.std.proofs.Common.{append_assoc, ◌+◌, ◌-◌, get_or, take, drop, inl}
 use Rattle.std.proofs.lemmas.List.{nil_from_length, append-nil, length-append, append_cancel_right, length-drop, length-take-le, take-append-drop}
 use Rattle.std.specs.Result.{result_unwrap_or}
 use Rattle.snmp_wire.specs.declared.ber.error.BerError.{BerError}
 use Rattle.snmp_wire.specs.ber.Value.{Datum, integer_value}
 use Rattle.snmp_wire.specs.Lent.{binding_with}
-use Rattle.snmp_wire.specs.Message.{VarBind, null_value, Message}
+use Rattle.snmp_wire.specs.Message.{VarBind, Message}
 use Rattle.snmp_wire.specs.ber.Reading.{◌>>=◌, checked, identifier_of, typed_value, content_at, inner_at, element_at, integer_at}
 use Rattle.snmp_wire.specs.Reading.{Fields, fields_of, fields_at, binding_of, binding_at, bindings_within, bindings_of, bindings_in, kind_of}
 use Rattle.snmp_wire.specs.Reading.{outermost_of, pdu_of, message_of}
@@ -77,8 +78,7 @@ pub check_fails_in : (octets : List ℕ) (fields : Fields) (after : List ℕ) (e
     → fields_at octets ≡ Ok (fields, after) → checked (binding_of fields) ≡ Err e
     → checked (bindings_of octets) ≡ total → total ≡ Err e
 unfolding binding_at
-check_fails_in octets fields after e total some h f so_far =
-    sym so_far ∙ checked_err (bindings_of octets) e (bindings_step octets some ∙ rw (h, err_checked (binding_of fields) e f) refl)
+check_fails_in octets fields after e total some h f so_far = grind (arith, common_steps, checked_err, bindings_step, err_checked)
 
 forget : (binding : VarBind) (read : Result (List VarBind) BerError) → checked (read >>= λ more. Ok (binding ∷ more)) ≡ checked read
 forget binding (Ok more) = refl
@@ -88,11 +88,7 @@ pub check_goes_on : (octets : List ℕ) (fields : Fields) (after : List ℕ) (u 
     → fields_at octets ≡ Ok (fields, after) → checked (binding_of fields) ≡ Ok u
     → checked (bindings_of octets) ≡ total → checked (bindings_of after) ≡ total
 unfolding binding_at
-check_goes_on octets fields after u total some h f so_far =
-    let b = ok_checked (binding_of fields) u f in
-    let one : (binding : VarBind) → binding_of fields ≡ Ok binding → bindings_of octets ≡ with_rest bindings_of (binding, after) =
-    λ binding e. bindings_step octets some ∙ rw (h, e) refl in
-    sym (ap checked (one b.0 b.1) ∙ forget b.0 (bindings_of after)) ∙ so_far
+check_goes_on octets fields after u total some h f so_far = grind (arith, common_steps, ok_checked, bindings_step, forget)
 
 pub check_ends : (octets : List ℕ) (total : Result (Unit {0}) BerError) → length octets ≡ 0 → checked (bindings_of octets) ≡ total → total ≡ Ok tt
 check_ends octets total none so_far = sym so_far ∙ ap checked (bindings_end octets none)
@@ -101,11 +97,7 @@ check_ends octets total none so_far = sym so_far ∙ ap checked (bindings_end oc
 
 pub begins_ok : (octets : List ℕ) → IsOk (bindings_of octets) → 0 < length octets → IsOk (fields_at octets)
 unfolding binding_at
-begins_ok octets ok some =
-    let whole = ok_value (bindings_of octets) ok in
-    let a = bind_ok (binding_at octets) (with_rest bindings_of) whole.0 (sym (bindings_step octets some) ∙ whole.1) in
-    let f = bind_ok (fields_at octets) (λ fields. binding_of fields.0 >>= λ binding. Ok (binding, fields.1)) a.0 a.1 in
-    is_ok_at (fields_at octets) f.0 f.1
+begins_ok octets ok some = grind (arith, common_steps, ok_value, bind_ok, bindings_step, is_ok_at)
 
 -- what stands at the front is the first binding
 pub record BeginsWithBinding (octets : List ℕ) (fields : Fields) (after : List ℕ) : Type 0 where
@@ -116,24 +108,7 @@ pub record BeginsWithBinding (octets : List ℕ) (fields : Fields) (after : List
 pub stands : (octets : List ℕ) (fields : Fields) (after : List ℕ) → IsOk (bindings_of octets) → 0 < length octets → fields_at octets ≡ Ok (fields, after)
     → BeginsWithBinding octets fields after
 unfolding binding_at
-stands octets fields after ok some h =
-    let whole = ok_value (bindings_of octets) ok in
-    let a = bind_ok (binding_at octets) (with_rest bindings_of) whole.0 (sym (bindings_step octets some) ∙ whole.1) in
-    let step : binding_at octets ≡ (binding_of fields >>= λ binding. Ok (binding, after)) = rw h refl in
-    let b = bind_ok (binding_of fields) (λ binding. Ok (binding, after)) a.0 (sym step ∙ a.1) in
-    let same : (b.0, after) ≡ a.0 = ok_is (b.0, after) a.0 b.2 in
-    let more = bind_ok (bindings_of a.0.1) (λ more. Ok (a.0.0 ∷ more)) whole.0 a.2 in
-    let others : bindings_of after ≡ Ok more.0 = ap (λ (y : VarBind × List ℕ). bindings_of y.1) same ∙ more.1 in
-    record {
-      is_binding = is_ok_at (binding_of fields) b.0 b.1;
-      others = is_ok_at (bindings_of after) more.0 others;
-      all = λ binding e.
-          let one : bindings_of octets ≡ with_rest bindings_of (binding, after) =
-          bindings_step octets some ∙ rw (h, e) refl in
-          ap (λ (r : Result (List VarBind) BerError). result_unwrap_or r [])
-          (one ∙ ap (λ (r : Result (List VarBind) BerError). r >>= λ more. Ok (binding ∷ more)) others)
-          ∙ sym (ap (λ (r : Result (List VarBind) BerError). binding ∷ result_unwrap_or r []) others);
-    }
+stands octets fields after ok some h = grind (arith, common_steps, ok_value, bind_ok, bindings_step, ok_is, is_ok_at)
 
 pub bindings_in_end : (octets : List ℕ) → length octets ≡ 0 → bindings_in octets ≡ []
 bindings_in_end octets none = ap (λ (r : Result (List VarBind) BerError). result_unwrap_or r []) (bindings_end octets none)
@@ -146,17 +121,10 @@ pub record AreParts (fields : Fields) : Type 0 where
 parts_are : (fields : Fields) (binding : VarBind) → binding_of fields ≡ Ok binding
     → (identifier_of fields.name ≡ Ok binding.name) × (typed_value fields.tag fields.content ≡ Ok binding.value)
 unfolding binding_of
-parts_are fields binding e =
-    let n = bind_ok (identifier_of fields.name) (λ o. typed_value fields.tag fields.content >>= λ value. Ok (record { name = o; value = value })) binding e in
-    let v = bind_ok (typed_value fields.tag fields.content) (λ value. Ok (record { name = n.0; value = value })) binding n.2 in
-    let same = ok_is (record { name = n.0; value = v.0 }) binding v.2 in
-    (n.1 ∙ ap (λ (b : VarBind). Ok b.name) same, v.1 ∙ ap (λ (b : VarBind). Ok b.value) same)
+parts_are fields binding e = grind (arith, common_steps, bind_ok, ok_is)
 
 pub parts_of : (fields : Fields) → IsOk (binding_of fields) → AreParts fields
-parts_of fields ok =
-    let whole = ok_value (binding_of fields) ok in
-    let parts = parts_are fields whole.0 whole.1 in
-    record { name = is_ok_at (identifier_of fields.name) _ parts.0; value = is_ok_at (typed_value fields.tag fields.content) _ parts.1 }
+parts_of fields ok = grind (arith, common_steps, ok_value, parts_are, is_ok_at)
 
 pub binding_made : (fields : Fields) (name : List ℕ) (value : Datum) → identifier_of fields.name ≡ Ok name → typed_value fields.tag fields.content ≡ Ok value
     → binding_of fields ≡ Ok (record { name = name; value = value })
@@ -172,9 +140,7 @@ value_of fields binding e = (parts_are fields binding e).1
 
 -- the binding of fields that are one's
 pub with_fields : (fields : Fields) → IsOk (binding_of fields) → binding_of fields ≡ Ok (binding_with fields)
-with_fields fields ok =
-    let b = ok_value (binding_of fields) ok in
-    b.1 ∙ sym (ap (λ (r : Result VarBind BerError). Ok (result_unwrap_or r (record { name = []; value = null_value }))) b.1)
+with_fields fields ok = grind (arith, common_steps, ok_value)
 
 -- ---- integers
 
@@ -354,7 +320,4 @@ pub short_fields : (octets elements name value behind content rest : List ℕ) (
     → 4 ≤ length octets → get_or octets 0 0 ≡ 0x30 → get_or octets 2 0 ≡ 0x06 → size ≡ get_or octets 1 0 → n ≡ get_or octets 3 0
     → size < 128 → size ≤ length elements + 2 → v ≡ get_or value 1 0 → n + 4 + v ≡ size
     → fields_at octets ≡ Ok (record { name = name; tag = get_or value 0 0; content = content }, rest)
-short_fields octets elements name value behind content rest size n v cuts long s i z m small fits is_v parts =
-    let read = short_behind size n v (drop 4 octets) small (rw cuts.elements_are at fits) (sym (rw (cuts.value_is, cuts.elements_are) at is_v)) parts in
-    rw (cuts.rest_is, cuts.content_is, cuts.behind_is, cuts.name_is, cuts.value_is, cuts.elements_are)
-    (ap fields_at (four_then octets long) ∙ rw (s, i, ← z, ← m) read)
+short_fields octets elements name value behind content rest size n v cuts long s i z m small fits is_v parts = grind (arith, common_steps, short_behind, four_then)

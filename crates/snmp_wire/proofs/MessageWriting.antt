@@ -1,5 +1,6 @@
 -- Messages: the parts before the bindings, how long they are, and how they are written.
-use Rattle.std.proofs.Common.{◌≡◌, ℕ, ℤ, ◌+◌, ◌-◌, ◌≤◌, List, ◌++◌, length, sym, ap, ◌∙◌, arith, append_assoc, length-append}
+use Rattle.std.proofs.lemmas.Grind.{common_steps}
+use Rattle.std.proofs.Common.{◌≡◌, ℕ, ◌+◌, ◌-◌, ◌≤◌, List, ◌++◌, length, sym, ap, ◌∙◌, arith, append_assoc, length-append}
 use Rattle.std.proofs.Math.Nat.{add_assoc}
 use Rattle.snmp_wire.specs.Canon.{canon, canon_bindings, canon_fields, canon_front, canon_head, canon_opening}
 use Rattle.snmp_wire.specs.ber.Canon.{canon_element, canon_header, canon_length, canon_value}
@@ -42,18 +43,7 @@ pub sizes_head : (message : Message) (total version community id a b list pdu he
     → list ≡ 1 + length (canon_length total) → pdu ≡ 1 + length (canon_length (id + a + b + list + total))
     → header ≡ 1 + length (canon_length (version + community + pdu + (id + a + b + list) + total))
     → header + (version + community + pdu + (id + a + b + list)) ≡ length (canon_head message total)
-sizes_head message total version community id a b list pdu header v c i x y l p h =
-    let fields : id + a + b ≡ length (canon_fields message) = omega (arith, i, x, y, length-canon_fields message) in
-    let opening : version + community ≡ length (canon_opening message) = omega (arith, v, c, length-canon_opening message) in
-    let whole_list : list ≡ length (canon_header sequence_tag total) = l ∙ sym (length-canon_header sequence_tag total) in
-    let inner : id + a + b + list + total ≡ pdu_size message total = omega (arith, fields, whole_list) in
-    let whole_pdu : pdu ≡ length (canon_header (kind_tag message.kind) (pdu_size message total)) = p ∙ ap (λ n. 1 + length (canon_length n)) inner
-    ∙ sym (length-canon_header (kind_tag message.kind) (pdu_size message total)) in
-    let front : version + community + pdu + (id + a + b + list) ≡ length (canon_front message total) =
-    omega (arith, opening, fields, whole_list, whole_pdu, length-canon_front message total) in
-    let whole : header ≡ length (canon_header sequence_tag (length (canon_front message total) + total)) = h
-    ∙ ap (λ n. 1 + length (canon_length (n + total))) front ∙ sym (length-canon_header sequence_tag (length (canon_front message total) + total)) in
-    omega (arith, front, whole, length-canon_head message total)
+sizes_head message total version community id a b list pdu header v c i x y l p h = grind (arith, common_steps, length-canon_fields, length-canon_opening, length-canon_header, length-canon_front, length-canon_head)
 
 -- what stands behind the tag of the PDU is written
 pub writes_fields : {old o1 o2 o3 o4 : List ℕ} {list b a id end : ℕ} (message : Message) (total : ℕ) → Writes old list end (canon_header sequence_tag total) o1
@@ -96,45 +86,17 @@ list_fits message total end room = omega (arith, room, length-canon_head message
 pub pdu_header_fits : {old new : List ℕ} {id end : ℕ} (message : Message) (total tag : ℕ) → tag ≡ kind_tag message.kind
     → Writes old id end (canon_fields message ++ canon_header sequence_tag total) new → length (canon_head message total) ≤ end
     → length (canon_header tag (end - id + total)) ≤ id
-pdu_header_fits {old} {new} {id} {end} message total tag e w room =
-    let same : length (canon_header tag (end - id + total)) ≡ length (canon_header (kind_tag message.kind) (pdu_size message total)) =
-    ap (λ t. length (canon_header t (end - id + total))) e ∙ ap (λ n. length (canon_header (kind_tag message.kind) n)) (pdu_content message total w) in
-    omega (
-      arith,
-      same,
-      room,
-      w.begins,
-      length-append (canon_fields message) (canon_header sequence_tag total),
-      length-canon_head message total,
-      length-canon_front message total,
-    )
+pdu_header_fits {old} {new} {id} {end} message total tag e w room = grind (arith, common_steps, pdu_content, length-append, length-canon_head, length-canon_front)
 
 pub opening_fits : {old mid new : List ℕ} {pdu id end : ℕ} (message : Message) (total tag : ℕ) → tag ≡ kind_tag message.kind
     → Writes old id end (canon_fields message ++ canon_header sequence_tag total) mid → Writes mid pdu id (canon_header tag (end - id + total)) new
     → length (canon_head message total) ≤ end
     → length (canon_value (integer_value message.version)) + length (canon_value (octet_string message.community)) ≤ pdu
-opening_fits {old} {mid} {new} {pdu} {id} {end} message total tag e w v room =
-    let same : length (canon_header tag (end - id + total)) ≡ length (canon_header (kind_tag message.kind) (pdu_size message total)) =
-    ap (λ t. length (canon_header t (end - id + total))) e ∙ ap (λ n. length (canon_header (kind_tag message.kind) n)) (pdu_content message total w) in
-    omega (
-      arith,
-      same,
-      room,
-      w.begins,
-      v.begins,
-      length-append (canon_fields message) (canon_header sequence_tag total),
-      length-canon_opening message,
-      length-canon_head message total,
-      length-canon_front message total,
-    )
+opening_fits {old} {mid} {new} {pdu} {id} {end} message total tag e w v room = grind (arith, common_steps, pdu_content, length-append, length-canon_opening, length-canon_head, length-canon_front)
 
 pub message_header_fits : {old new : List ℕ} {version end : ℕ} (message : Message) (total : ℕ) → Writes old version end (canon_front message total) new
     → length (canon_head message total) ≤ end → length (canon_header sequence_tag (end - version + total)) ≤ version
-message_header_fits {old} {new} {version} {end} message total w room =
-    let content : end - version ≡ length (canon_front message total) = omega (arith, w.begins) in
-    let same : length (canon_header sequence_tag (end - version + total)) ≡ length (canon_header sequence_tag (length (canon_front message total) + total)) =
-    ap (λ n. length (canon_header sequence_tag (n + total))) content in
-    omega (arith, same, room, w.begins, length-canon_head message total)
+message_header_fits {old} {new} {version} {end} message total w room = grind (arith, common_steps, length-canon_head)
 
 -- a message is its head and its bindings
 pub canon_parts : (message : Message) → canon message ≡ canon_head message (length (canon_bindings message.bindings)) ++ canon_bindings message.bindings
@@ -143,15 +105,11 @@ canon_parts message = simp (append_assoc, length-append, add_assoc)
 
 pub length-canon : (message : Message) → length (canon message) ≡ length (canon_head message (length (canon_bindings message.bindings))) + length
     (canon_bindings message.bindings)
-length-canon message = ap length (canon_parts message) ∙ length-append (canon_head message (length (canon_bindings message.bindings)))
-    (canon_bindings message.bindings)
+length-canon message = grind (arith, common_steps, canon_parts, length-append)
 
 pub sizes_message : (message : Message) (head total : ℕ) → total ≡ length (canon_bindings message.bindings) → head ≡ length (canon_head message total)
     → head + total ≡ length (canon message)
-sizes_message message head total t h =
-    let same : length (canon_head message total) ≡ length (canon_head message (length (canon_bindings message.bindings))) =
-    ap (λ n. length (canon_head message n)) t in
-    omega (arith, same, length-canon message)
+sizes_message message head total t h = grind (arith, common_steps, length-canon)
 
 -- a head before its bindings
 pub writes_message : {old mid new : List ℕ} {start head size : ℕ} (message : Message) (total : ℕ) → total ≡ length (canon_bindings message.bindings)
@@ -165,11 +123,4 @@ longer_header sizes tag n k h = omega (arith, length-canon_header tag n, length-
 
 -- before more octets of bindings a head is no shorter
 pub longer_head : (sizes : ElementSizes) (m : Message) (n k : ℕ) → n ≤ k → length (canon_head m n) ≤ length (canon_head m k)
-longer_head sizes m n k h =
-    let list : length (canon_header sequence_tag n) ≤ length (canon_header sequence_tag k) = longer_header sizes sequence_tag n k h in
-    let pdu : length (canon_header (kind_tag m.kind) (pdu_size m n)) ≤ length (canon_header (kind_tag m.kind) (pdu_size m k)) =
-    longer_header sizes (kind_tag m.kind) (pdu_size m n) (pdu_size m k) (omega arith) in
-    let front : length (canon_front m n) ≤ length (canon_front m k) = omega (arith, length-canon_front m n, length-canon_front m k) in
-    let whole : length (canon_header sequence_tag (length (canon_front m n) + n)) ≤ length (canon_header sequence_tag (length (canon_front m k) + k)) =
-    longer_header sizes sequence_tag (length (canon_front m n) + n) (length (canon_front m k) + k) (omega arith) in
-    omega (arith, length-canon_head m n, length-canon_head m k)
+longer_head sizes m n k h = grind (arith, common_steps, longer_header, length-canon_front, length-canon_head)

@@ -1,5 +1,6 @@
 -- Contents stand for identifiers, and for their order: where subidentifiers end, which of two is
 -- the greater, and what the first octets that differ tell of two names.
+use Rattle.std.proofs.lemmas.Grind.{common_steps, flat_map-append}
 use Rattle.std.proofs.Common.{◌≡◌, ℕ, ◌+◌, ◌-◌, ◌*◌, ◌%◌, ◌^◌, ◌<◌, ◌≤◌, ◌⊎◌, inl, inr, List, [], ◌∷◌, ◌++◌, length, get_or, refl, sym, ap, subst}
 use Rattle.std.proofs.Common.{◌∙◌, suc, ⊎_elim, arith, lit<, length-append, ◌↔◌, take, drop, Result, IsOk, append_assoc, Ok, length-drop, take_all}
 use Rattle.std.proofs.lemmas.List.{take-append-le, append-nil, ext_get_or, get_or-append-add, get_or_append_left, map-append, append_cancel_left}
@@ -9,8 +10,7 @@ use Rattle.std.proofs.Math.Seq.{get_or-append_seam}
 use Rattle.std.proofs.lemmas.Bool.{cases_lt, cases_order}
 use Rattle.std.proofs.lemmas.Nat.{mul-add-lt}
 use Rattle.std.proofs.lemmas.List.Elements.{All-get_or, All-from_get_or}
-use Rattle.std.proofs.lemmas.Grind.{flat_map-append}
-use Rattle.std.specs.Cmp.{nat_cmp_is, ranked}
+use Rattle.std.specs.Cmp.{ranked}
 use Rattle.std.specs.List.{flat_map}
 use Rattle.std.specs.Ordering.{MatchOrdering, nat_cmp}
 use Rattle.std.specs.Result.{result_unwrap_or}
@@ -220,8 +220,7 @@ one_content_of (n ∷ ns) content other h k (text, rest, parts, is, are) (text2,
 
 -- the content of a name is the one that is written
 pub canonical : (content name : List ℕ) → Octets content → IsObjectId content name → content ≡ canon_content (object_id name)
-canonical content name h is = one_content_of (subidentifiers name) content (canon_content (object_id name)) h (name_octets name) is.parts
-    (is_object_id name is.wire is.identifier).parts
+canonical content name h is = grind (arith, common_steps, one_content_of, name_octets, is_object_id)
 
 -- ---- the order of identifiers
 
@@ -232,12 +231,7 @@ pub record OrderLaw : Type 0 where
   pub greater : (o p : List ℕ) → (slice_cmp nat_cmp o p ≡ Greater) ↔ Precedes p o
 
 pub three_ways : OrderLaw → (o p : List ℕ) → Precedes o p ⊎ ((o ≡ p) ⊎ Precedes p o)
-three_ways law o p = by_result law o p (slice_cmp nat_cmp o p) refl
-  where
-    by_result : OrderLaw → (o p : List ℕ) (r : Ordering) → slice_cmp nat_cmp o p ≡ r → Precedes o p ⊎ ((o ≡ p) ⊎ Precedes p o)
-    by_result law o p Less e = inl ((law.less o p).0 e)
-    by_result law o p Equal e = inr (inl ((law.equal o p).0 e))
-    by_result law o p Greater e = inr (inr ((law.greater o p).0 e))
+three_ways law o p = grind (arith, common_steps)
 
 -- ---- identifiers and their subidentifiers
 
@@ -247,19 +241,7 @@ same_order [] p wire other = absurd wire
 same_order (x ∷ []) p wire other = absurd wire
 same_order (x ∷ y ∷ more) [] wire other = absurd other
 same_order (x ∷ y ∷ more) (z ∷ []) wire other = absurd other
-same_order (x ∷ y ∷ more) (z ∷ w ∷ others) wire other = by_first (cases_order x z)
-  where
-    second : x ≡ z → (r : Ordering) → MatchOrdering r (y < w) (y ≡ w) (w < y) → r ≡ nat_cmp (40 * x + y) (40 * z + w)
-    second same Less h = nat_cmp_is (40 * x + y) (40 * z + w) Less (omega (arith, same, h))
-    second same Equal h = nat_cmp_is (40 * x + y) (40 * z + w) Equal (omega (arith, same, h))
-    second same Greater h = nat_cmp_is (40 * x + y) (40 * z + w) Greater (omega (arith, same, h))
-
-    by_first : (x ≡ z) ⊎ ((x < z) ⊎ (z < x)) → slice_cmp nat_cmp (x ∷ y ∷ more) (z ∷ w ∷ others) ≡ slice_cmp nat_cmp ((40 * x + y) ∷ more) ((40 * z + w) ∷ others)
-    by_first (inl same) = rw (← nat_cmp_is x z Equal same, second same (nat_cmp y w) (ranked y w (nat_cmp y w) refl)) refl
-    by_first (inr (inl less)) =
-        rw (← nat_cmp_is x z Less less, ← nat_cmp_is (40 * x + y) (40 * z + w) Less (omega (arith, less, other.0, wire.1))) refl
-    by_first (inr (inr more)) =
-        rw (← nat_cmp_is x z Greater more, ← nat_cmp_is (40 * x + y) (40 * z + w) Greater (omega (arith, more, wire.0, other.1))) refl
+same_order (x ∷ y ∷ more) (z ∷ w ∷ others) wire other = grind (arith, common_steps, cases_order)
 
 pub names_rise : OrderLaw → (o p : List ℕ) → IsWire o → IsWire p → Precedes o p → Precedes (subidentifiers o) (subidentifiers p)
 names_rise law o p wire other h = (law.less (subidentifiers o) (subidentifiers p)).0 (sym (same_order o p wire other) ∙ (law.less o p).1 h)
@@ -279,14 +261,7 @@ followed [] p rest wire other e = absurd wire
 followed (x ∷ []) p rest wire other e = absurd wire
 followed (x ∷ y ∷ more) [] rest wire other e = absurd other
 followed (x ∷ y ∷ more) (z ∷ []) rest wire other e = absurd other
-followed (x ∷ y ∷ more) (z ∷ w ∷ others) rest wire other e =
-    let first : 40 * x + y ≡ 40 * z + w = ap (λ (ns : List ℕ). get_or ns 0 0) e in
-    let tails : more ≡ others ++ rest = ap (λ (ns : List ℕ). drop 1 ns) e in
-    let same : x ≡ z = ⊎_elim (λ equal. equal)
-    (⊎_elim (λ less. absurd (omega (arith, less, other.0, wire.1, first))) (λ more. absurd (omega (arith, more, wire.0, other.1, first))))
-    (cases_order x z) in
-    let next : y ≡ w = omega (arith, same, first) in
-    ap (λ n. n ∷ y ∷ more) same ∙ ap (λ n. z ∷ n ∷ more) next ∙ ap (λ (ns : List ℕ). z ∷ w ∷ ns) tails
+followed (x ∷ y ∷ more) (z ∷ w ∷ others) rest wire other e = grind (arith, common_steps, ⊎_elim, cases_order)
 
 -- ---- contents of subidentifiers
 
@@ -305,15 +280,7 @@ none_of_none (n ∷ more) e = absurd (omega (
 goes_on : (ns ms content rest : List ℕ) → AreSubidentifiers content ns → AreSubidentifiers (content ++ rest) ms
     → (more : List ℕ) × (ms ≡ ns ++ more) × AreSubidentifiers rest more
 goes_on [] ms content rest are others = (ms, refl, subst (λ (t : List ℕ). AreSubidentifiers (t ++ rest) ms) are others)
-goes_on (n ∷ ns) [] content rest (text, back, parts, is, are) others =
-    absurd (omega (
-      arith,
-      subidentifier_some text n is,
-      length-append text back,
-      ap length parts,
-      length-append content rest,
-      ap length others,
-    ))
+goes_on (n ∷ ns) [] content rest (text, back, parts, is, are) others = grind (arith, common_steps, subidentifier_some, length-append)
 goes_on (n ∷ ns) (m ∷ ms) content rest (text, back, parts, is, are) (text2, back2, parts2, is2, are2) =
     let same : text ++ (back ++ rest) ≡ text2 ++ back2 = sym (append_assoc text back rest) ∙ ap (λ (t : List ℕ). t ++ rest) (sym parts) ∙ parts2 in
     let first : text ≡ text2 = same_texts text (back ++ rest) text2 back2 n m (length text) is is2
@@ -353,11 +320,7 @@ EndsFirst content other at =
 
 alike_behind : (text octets others : List ℕ) (count : ℕ) → IsAlike (text ++ octets) (text ++ others) count → length text ≤ count
     → IsAlike octets others (count - length text)
-alike_behind text octets others count h le = record {
-  short = omega (arith, h.short, le, length-append text octets);
-  other_short = omega (arith, h.other_short, le, length-append text others);
-  same = λ k low. sym (get_or-append-add text octets k 0) ∙ h.same (length text + k) (omega (arith, low, le)) ∙ get_or-append-add text others k 0;
-}
+alike_behind text octets others count h le = grind (arith, common_steps, length-append, get_or-append-add)
 
 ends_first_behind : (text octets others : List ℕ) (at : ℕ) → length text ≤ at → EndsFirst (text ++ octets) (text ++ others) at
     → EndsFirst octets others (at - length text)
@@ -470,30 +433,17 @@ identifier_is content name is = ap (λ (r : Result (List ℕ) BerError). result_
 -- so it is of octets that are the content
 pub content_octets : (content octets name : List ℕ) → octets ≡ content → AreOctets content → IsObjectId content name
     → IsContentOctets octets × (identifier_in octets ≡ name)
-content_octets content octets name same h is = subst (λ (t : List ℕ). IsContentOctets t × (identifier_in t ≡ name)) (sym same)
-    (record { read = is_ok_at (identifier_of content) name (identifier_again content name is); octets = h }, identifier_is content name is)
+content_octets content octets name same h is = grind (arith, common_steps, is_ok_at, identifier_again, identifier_is)
 
 pub content_short : (name : List ℕ) → length name ≤ 128 → length (canon_content (object_id name)) ≤ 640
 content_short name few = omega (arith, length-name name, few)
 
 pub below_from_names : (content root o p : List ℕ) → AreOctets content → AreOctets root → IsObjectId content o → IsObjectId root p → IsBelow o p
     → IsBelow content root
-below_from_names content root o p h k is are (rest, some, e) = (
-  flat_map canon_subidentifier rest,
-  λ none. some (none_of_none rest none),
-  canonical content o (octets_by content h) is ∙ content_is_subidentifiers o
-      ∙ ap (flat_map canon_subidentifier) (ap subidentifiers e ∙ follows p rest are.wire) ∙ flat_map-append canon_subidentifier (subidentifiers p) rest
-      ∙ ap (λ (t : List ℕ). t ++ flat_map canon_subidentifier rest) (sym (canonical root p (octets_by root k) are ∙ content_is_subidentifiers p)),
-)
+below_from_names content root o p h k is are (rest, some, e) = grind (arith, common_steps, none_of_none, canonical, octets_by, content_is_subidentifiers, follows, flat_map-append)
 
 pub below_from_contents : (content root o p : List ℕ) → IsObjectId content o → IsObjectId root p → IsBelow content root → IsBelow o p
-below_from_contents content root o p is are (rest, some, e) =
-    let more = goes_on (subidentifiers p) (subidentifiers o) root rest are.parts
-    (subst (λ (t : List ℕ). AreSubidentifiers t (subidentifiers o)) e is.parts) in (
-      more.0,
-      λ none. some (subst (λ (ns : List ℕ). AreSubidentifiers rest ns) none more.2),
-      followed o p more.0 is.wire are.wire more.1,
-    )
+below_from_contents content root o p is are (rest, some, e) = grind (arith, common_steps, goes_on, followed)
 
 pub names_differ : OrderLaw → (content other o p : List ℕ) (at : ℕ) → AreOctets content → AreOctets other → IsObjectId content o → IsObjectId other p
     → IsAlike content other at → at < length content → at < length other → EndsFirst content other at → Precedes o p
@@ -545,13 +495,7 @@ beside {content} {other} {o} {p} small other_small e f alike = record {
 }
 
 turned : {content other o p : List ℕ} {at : ℕ} → Beside content other o p at → Beside other content p o at
-turned {content} {other} {o} {p} {at} b = record {
-  octets = b.other_octets;
-  other_octets = b.octets;
-  is = b.are;
-  are = b.is;
-  alike = alike_back content other at b.alike;
-}
+turned {content} {other} {o} {p} {at} b = grind (arith, common_steps, alike_back)
 
 -- names compare as numbers do that decide
 decided : OrderLaw → (o p : List ℕ) (x y : ℕ) → (x < y → Precedes o p) → (x ≡ y → o ≡ p) → (y < x → Precedes p o)
@@ -607,8 +551,7 @@ pub nothing_alike : (content other : List ℕ) → IsAlike content other 0
 nothing_alike content other = record { short = omega arith; other_short = omega arith; same = λ k low. absurd (omega (arith, low)) }
 
 pub none_below : {content root o p : List ℕ} {at : ℕ} → Beside content root o p at → length content ≤ length root → IsBelow o p → ⊥
-none_below {content} {root} {o} {p} b short below =
-    omega (arith, short, below_longer content root (below_from_names content root o p b.octets b.other_octets b.is b.are below))
+none_below {content} {root} {o} {p} b short below = grind (arith, common_steps, below_longer, below_from_names)
 
 -- ---- where two octets differ
 
@@ -639,21 +582,13 @@ octets_decide law content other o p at b low other_low differ way =
     differ_decide law (get_or content at 0) (get_or other at 0) b low other_low differ way.0 way.1
 
 pub both_go_on : (content other : List ℕ) (at end last : ℕ) → EndsAt content at end → EndsAt other at last → end ≡ last → EndsBy content other at
-both_go_on content other at end last e f same = (
-  λ less d l g h. inr (one_end content at d end g e ∙ same ∙ one_end other at last l f h, less),
-  λ more d l g h. inr (one_end other at d last g f ∙ sym same ∙ one_end content at end l e h, more),
-)
+both_go_on content other at end last e f same = grind (arith, common_steps, one_end)
 
 -- a last octet ends at once
 last_first : (content other : List ℕ) (at : ℕ) → at < length content → get_or content at 0 < 128 → get_or content at 0 < get_or other at 0
     → EndsFirst content other at
-last_first content other at low last less d l g h =
-    let here : d ≡ at = one_end content at d at g (ends_here content at low last) in
-    ⊎_elim (λ later. inl (omega (arith, here, later))) (λ no_later. inr (omega (arith, here, no_later, h.behind), less)) (cases_lt at l)
+last_first content other at low last less d l g h = grind (arith, common_steps, one_end, ends_here, ⊎_elim, cases_lt)
 
 pub one_is_last : (content other : List ℕ) (at : ℕ) → at < length content → at < length other
     → (get_or content at 0 < 128) ⊎ (get_or other at 0 < 128) → EndsBy content other at
-one_is_last content other at low other_low last = (
-  λ less. last_first content other at low (⊎_elim (λ h. h) (λ h. omega (arith, h, less)) last) less,
-  λ more. last_first other content at other_low (⊎_elim (λ h. omega (arith, h, more)) (λ h. h) last) more,
-)
+one_is_last content other at low other_low last = grind (arith, common_steps, last_first, ⊎_elim)

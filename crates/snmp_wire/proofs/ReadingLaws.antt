@@ -1,4 +1,5 @@
 -- Laws of the steps of a reading that may fail, for proofs of values and messages.
+use Rattle.std.proofs.lemmas.Grind.{common_steps}
 use Rattle.std.proofs.Common.{◌≡◌, ◌≢◌, ℕ, ◌<◌, Bool, true, false, cond, eqb, List, [], length}
 use Rattle.std.proofs.Common.{Result, Ok, Err, IsOk, is_ok, refl, sym, ap, subst, ◌∙◌, arith}
 use Rattle.std.proofs.lemmas.Bool.{eqb-true, eqb-false}
@@ -80,9 +81,7 @@ ok_checked (Err d) u h = absurd cc
 -- what is tested not to be empty has an octet
 pub some_left : (octets : List ℕ) (is_empty : Bool)
     → is_empty ≡ eqb (length octets) 0 → is_empty ≡ false → 0 < length octets
-some_left octets is_empty e none =
-    let ne : length octets ≡ 0 → ⊥ = eqb-false (length octets) 0 (sym e ∙ none) in
-    omega arith
+some_left octets is_empty e none = grind (arith, common_steps, eqb-false)
 
 -- what is tested to be empty has none
 pub none_left : (octets : List ℕ) (is_empty : Bool)

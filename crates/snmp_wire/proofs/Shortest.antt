@@ -1,5 +1,6 @@
 -- Numbers, lengths, elements and values as they are written are forms by the standard. None is
 -- shorter, and one that is no longer is the one that is written.
+use Rattle.std.proofs.lemmas.Grind.{common_steps}
 use Rattle.std.proofs.Common.{◌≡◌, ℕ, ℤ, pos, negsuc, ◌+◌, ◌-◌, ◌-ℤ◌, ◌*◌, ◌/◌, ◌%◌, ◌^◌, ◌<◌, ◌≤◌, suc, List, ◌∷◌, length, get_or, sym, ap, subst}
 use Rattle.std.proofs.Common.{◌∙◌, inl, inr, ⊎_elim, lit<, arith, refl, lit≤, [], ◌++◌, length-append}
 use Rattle.std.proofs.Math.Nat.{div-eq_of_lt, div-lt_iff_lt-mul, le-div_iff_mul-le, one-le-pow, pow-le-pow_right, pow-suc, mul-le-mul_right}
@@ -33,15 +34,10 @@ first_octet : (count n : ℕ) → get_or (octets (suc count) n) 0 0 ≡ n / 256 
 first_octet count n = ap (λ ds. get_or ds 0 0) (digits-suc 256 count n)
 
 first_below : (count n : ℕ) → n < 128 * 256 ^ count → get_or (octets (suc count) n) 0 0 < 128
-first_below count n h =
-    let small : n / 256 ^ count < 128 = (div-lt_iff_lt-mul (one-le-pow count 256 (lit< tt))).1 h in
-    omega (arith, first_octet count n, small)
+first_below count n h = grind (arith, common_steps, div-lt_iff_lt-mul, one-le-pow, first_octet)
 
 first_above : (count n : ℕ) → 128 * 256 ^ count ≤ n → n < 256 ^ suc count → 128 ≤ get_or (octets (suc count) n) 0 0
-first_above count n low high =
-    let large : 128 ≤ n / 256 ^ count = (le-div_iff_mul-le (one-le-pow count 256 (lit< tt))).1 low in
-    let small : n / 256 ^ count < 256 = (div-lt_iff_lt-mul (one-le-pow count 256 (lit< tt))).1 (omega (arith, pow-suc 256 count)) in
-    omega (arith, first_octet count n, large, small)
+first_above count n low high = grind (arith, common_steps, le-div_iff_mul-le, one-le-pow, div-lt_iff_lt-mul, pow-suc, first_octet)
 
 -- a number of so many octets of two's complement, one less of them given
 sized_number : (n : ℕ) → n < 2 ^ 64 → (less : ℕ) × (number_size n ≡ suc less) × (n < 128 * 256 ^ less)
@@ -125,9 +121,7 @@ number_octets (negsuc n) = subst Octets (octets_from_below n) (are_digits 256 (n
 
 length_fits : (n : ℕ) → n < 2 ^ 32 → n < 256 ^ length_size n
 unfolding length_size
-length_fits n h =
-    let s = sized 256 256 3 n (omega arith) in
-    subst (λ (k : ℕ). n < 256 ^ k) (sym s.size) (omega (arith, s.below, pow-suc 256 s.less))
+length_fits n h = grind (arith, common_steps, sized, pow-suc)
 
 pub is_length : (n : ℕ) → n < 2 ^ 32 → IsLength (canon_length n) n
 unfolding length_size
@@ -144,17 +138,11 @@ is_length n h = ⊎_elim
 
 pub length_octets : (n : ℕ) → Octets (canon_length n)
 unfolding length_size
-length_octets n = ⊎_elim
-    (λ short. subst Octets (sym (canon_length_short n short)) (omega (arith, short), tt))
-    (λ long. subst Octets (sym (canon_length_long n long)) (omega (arith, digit_most 256 256 3 n), are_digits 256 (length_size n) n (lit< tt)))
-    (cases_lt n 128)
+length_octets n = grind (arith, common_steps, ⊎_elim, canon_length_short, canon_length_long, digit_most, are_digits, cases_lt)
 
 pub length-canon_length : (n : ℕ) → length (canon_length n) ≤ 5
 unfolding length_size
-length-canon_length n = ⊎_elim
-    (λ short. omega (arith, length-canon_length_short n short))
-    (λ long. omega (arith, length-canon_length_long n long, digit_most 256 256 3 n))
-    (cases_lt n 128)
+length-canon_length n = grind (arith, common_steps, ⊎_elim, length-canon_length_short, length-canon_length_long, digit_most, cases_lt)
 
 -- ---- elements
 
@@ -182,11 +170,7 @@ pub record IsGood (value : Datum) : Type 0 where
   pub short : length (canon_content value) ≤ 65535
 
 good_number : {value : Datum} (z : ℤ) → canon_content value ≡ canon_number z → IsContent strict value (canon_number z) → IsGood value
-good_number {value} z e is = record {
-  is_content = subst (IsContent strict value) (sym e) is;
-  are_octets = subst Octets (sym e) (number_octets z);
-  short = omega (arith, ap length e, length-number z);
-}
+good_number {value} z e is = grind (arith, common_steps, number_octets, length-number)
 
 pub good : (value : Datum) → IsInRange value → IsGood value
 unfolding canon_content
@@ -232,13 +216,7 @@ same_text e = record { least = omega (arith, ap length e); one = λ short. e }
 
 -- so are two one after the other
 pub both_texts : {a b c d : List ℕ} → IsNoShorter a c → IsNoShorter b d → IsNoShorter (a ++ b) (c ++ d)
-both_texts {a} {b} {c} {d} this that = record {
-  least = omega (arith, this.least, that.least, length-append a b, length-append c d);
-  one = λ short.
-      let front : length c ≤ length a = omega (arith, short, that.least, length-append a b, length-append c d) in
-      let back : length d ≤ length b = omega (arith, short, this.least, length-append a b, length-append c d) in
-      ap (λ (text : List ℕ). text ++ d) (this.one front) ∙ ap (λ (text : List ℕ). a ++ text) (that.one back);
-}
+both_texts {a} {b} {c} {d} this that = grind (arith, common_steps, length-append)
 
 -- ---- numbers
 
@@ -270,21 +248,12 @@ number_is first rest z h e =
 
 number_least : (content : List ℕ) (z : ℤ) → Octets content → 1 ≤ length content → twos_complement content ≡ z → IsNoShorter (canon_number z) content
 number_least [] z h some e = absurd (omega (arith, some))
-number_least (first ∷ rest) z h some e =
-    let is = number_is first rest z h e in
-    let size : number_size (magnitude_of z) ≤ 1 + length rest = number_small (magnitude_of z) (length rest) is.0 in
-    record { least = omega (arith, length-canon_number z, size); one = λ short. is.1 (omega (arith, short, length-canon_number z, size)) }
+number_least (first ∷ rest) z h some e = grind (arith, common_steps, number_is, number_small, length-canon_number)
 
 -- four octets are of 32 bits
 pub signed_fits : (content : List ℕ) (z : ℤ) → Octets content → IsInteger content z → SFits w32 z
 signed_fits [] z h is = absurd (omega (arith, is.some))
-signed_fits (first ∷ rest) z h is =
-    let most : 256 ^ length rest ≤ 256 ^ 3 = pow-le-pow_right {n = 256} (lit< tt) {i = length rest} {j = 3} (omega (arith, is.few)) in
-    fits z (omega (arith, (number_is first rest z h is.value).0, most))
-  where
-    fits : (z : ℤ) → magnitude_of z < 2 ^ 31 → SFits w32 z
-    fits (pos n) small = record { sfits = omega (arith, small) }
-    fits (negsuc n) small = record { sfits = omega (arith, small) }
+signed_fits (first ∷ rest) z h is = grind (arith, common_steps, pow-le-pow_right, number_is)
 
 unsigned_least : (content : List ℕ) (n : ℕ) → Octets content → 1 ≤ length content → get_or content 0 0 < 128 → unsigned content ≡ n
     → IsNoShorter (canon_number (pos n)) content
@@ -334,8 +303,7 @@ content_least value content h is = same_text is
 -- ---- elements
 
 pub content_octets : {tag : ℕ} {content text : List ℕ} → Octets text → IsElement tag content text → Octets content
-content_octets {tag} {content} {text} h is =
-    let all : Octets (tag ∷ is.length_octets ++ content) = subst Octets is.parts h in back_octets is.length_octets content all.1
+content_octets {tag} {content} {text} h is = grind (arith, common_steps, length_octets, back_octets)
 
 pub element_least : {tag : ℕ} {content made text : List ℕ} → Octets text → IsElement tag content text → IsNoShorter made content
     → IsNoShorter (canon_element tag made) text

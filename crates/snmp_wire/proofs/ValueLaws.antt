@@ -1,12 +1,12 @@
 -- What is read as a value is one, what is read as none has a tag or content at fault, and what is one
 -- is read.
-use Rattle.std.proofs.Common.{◌≡◌, ℕ, ℤ, pos, ◌+◌, ◌≤◌, true, cond, eqb, ltb, leb, ◌&&◌, ◌⊎◌, List}
-use Rattle.std.proofs.Common.{[], ◌∷◌, length, Result, Ok, refl, sym, ap, subst, arith, inl, inr}
+use Rattle.std.proofs.lemmas.Grind.{common_steps}
+use Rattle.std.proofs.Common.{◌≡◌, ℕ, ℤ, pos, ◌+◌, ◌≤◌, true, cond, eqb, leb, ◌⊎◌, List, [], ◌∷◌, length, Result, Ok, refl, ap, arith, inl, inr}
 use Rattle.std.proofs.lemmas.Bool.{ltb-true, lt-ltb, le-leb, leb-true, eqb-true, eq-eqb, and_parts, and_from, or_cases, or_left, or_right}
 use Rattle.std.proofs.lemmas.List.{nil_from_length}
 use Rattle.snmp_wire.specs.declared.ber.error.BerError.{BerError}
 use Rattle.snmp_wire.specs.declared.ber.error.BerError.TheVariants as error
-use Rattle.snmp_wire.specs.ber.Number.{unsigned, twos_complement, IsInteger, IsUnsigned, lenient}
+use Rattle.snmp_wire.specs.ber.Number.{IsInteger, IsUnsigned, lenient}
 use Rattle.snmp_wire.specs.ber.Value.{Datum, integer_value, octet_string, null_value, object_id, ip_address, counter32, gauge32, time_ticks}
 use Rattle.snmp_wire.specs.ber.Value.{opaque_octets, counter64, no_such_object, no_such_instance, end_of_mib_view}
 use Rattle.snmp_wire.specs.ber.Spelling.{value_tag, IsContent}
@@ -18,41 +18,21 @@ use Rattle.snmp_wire.proofs.IdentifierReading.{identifier_again, identifier_give
 
 pub integer_gives : (content : List ℕ) → Gives (IsInteger content) (λ e. error.Content ≡ e) (integer_of content)
 unfolding integer_of
-integer_gives content =
-    gives_either (ltb 0 (length content) && ltb (length content) 5)
-    (λ fits.
-    let both = and_parts (ltb 0 (length content)) (ltb (length content) 5) fits in
-    let some = ltb-true 0 (length content) both.0 in
-    let few = ltb-true (length content) 5 both.1 in
-    a_value (twos_complement content) (record { some = omega arith; few = omega arith; value = refl }))
-    (λ long. a_fault error.Content refl)
+integer_gives content = grind (arith, common_steps, gives_either, and_parts, ltb-true, a_value, a_fault)
 
 pub integer_again : (content : List ℕ) (z : ℤ) → IsInteger content z → integer_of content ≡ Ok z
 unfolding integer_of
-integer_again content z h =
-    let some = h.some in
-    let few = h.few in
-    rw (lt-ltb 0 (length content) (omega arith), lt-ltb (length content) 5 (omega arith)) (ap done h.value)
+integer_again content z h = grind (arith, common_steps, lt-ltb, done)
 
 unsigned_gives : (width : ℕ) (content : List ℕ) → Gives (IsUnsigned lenient width content) (λ e. error.Content ≡ e) (unsigned_of width content)
 unfolding unsigned_of
 unsigned_gives width [] = a_fault error.Content refl
-unsigned_gives width (first ∷ rest) =
-    let len = length (first ∷ rest) in
-    gives_either (has_width width (first ∷ rest))
-    (λ fits.
-    let few : (len ≤ width) ⊎ ((len ≡ width + 1) × (first ≡ 0)) = elim (or_cases (leb len width) (eqb len (width + 1) && eqb first 0) fits) [
-      | inl h ↦ inl (leb-true len width h)
-      | inr h ↦ let both = and_parts (eqb len (width + 1)) (eqb first 0) h in inr (eqb-true len (width + 1) both.0, eqb-true first 0 both.1)
-    ] in
-    a_value (unsigned (first ∷ rest)) (record { some = omega arith; few = few; value = refl; allowed = tt }))
-    (λ long. a_fault error.Content refl)
+unsigned_gives width (first ∷ rest) = grind (arith, common_steps, gives_either, or_cases, leb-true, and_parts, eqb-true, a_value, a_fault)
 
 has_width_from : (width first : ℕ) (rest : List ℕ) → (length (first ∷ rest) ≤ width) ⊎ ((length (first ∷ rest) ≡ width + 1) × (first ≡ 0))
     → has_width width (first ∷ rest) ≡ true
 has_width_from width first rest (inl few) = or_left (leb (length (first ∷ rest)) width) _ (le-leb (length (first ∷ rest)) width few)
-has_width_from width first rest (inr both) =
-    or_right (leb (length (first ∷ rest)) width) _ (and_from _ _ (eq-eqb (length (first ∷ rest)) (width + 1) both.0) (eq-eqb first 0 both.1))
+has_width_from width first rest (inr both) = grind (arith, common_steps, or_right, and_from, eq-eqb)
 
 unsigned_again : (width : ℕ) (content : List ℕ) (n : ℕ) → IsUnsigned lenient width content n → unsigned_of width content ≡ Ok n
 unfolding unsigned_of
@@ -67,12 +47,7 @@ pub record IsRead (tag : ℕ) (content : List ℕ) (value : Datum) : Type 0 wher
   pub is_content : IsContent lenient value content
 
 empty_gives : (made : Datum) (content : List ℕ) → IsContent lenient made [] → Gives (IsRead (value_tag made) content) (λ e. error.Content ≡ e) (empty_of made content)
-empty_gives made content is =
-    gives_either (eqb (length content) 0)
-    (λ none. a_value made (record {
-      is_tag = refl;
-      is_content = subst (IsContent lenient made) (sym (nil_from_length content (eqb-true (length content) 0 none))) is;
-    })) (λ some. a_fault error.Content refl)
+empty_gives made content is = grind (arith, common_steps, gives_either, a_value, nil_from_length, eqb-true, a_fault)
 
 -- where the tag is a value's, a value of it is read, or else the content is at fault
 pub known_gives : (value : Datum) (content : List ℕ)
@@ -83,10 +58,7 @@ known_gives (integer_value z) content =
 known_gives (octet_string text) content = a_value (octet_string content) (record { is_tag = refl; is_content = refl })
 known_gives (object_id name) content =
     gives_then _ (identifier_gives content) (λ n h. a_value (object_id n) (record { is_tag = refl; is_content = h }))
-known_gives (ip_address address) content =
-    gives_either (eqb (length content) 4)
-    (λ four. a_value (ip_address content) (record { is_tag = refl; is_content = (refl, eqb-true (length content) 4 four) }))
-    (λ other. a_fault error.Content refl)
+known_gives (ip_address address) content = grind (arith, common_steps, gives_either, a_value, eqb-true, a_fault)
 known_gives (counter32 n) content =
     gives_then _ (unsigned_gives 4 content) (λ m h. a_value (counter32 m) (record { is_tag = refl; is_content = h }))
 known_gives (gauge32 n) content =
@@ -105,12 +77,7 @@ IsValueFault tag e = ((error.Content ≡ e) × ((value : Datum) × (tag ≡ valu
 by_tag : (known : Datum) (tag : ℕ) (content : List ℕ) (here others : Result Datum BerError)
     → Gives (IsRead (value_tag known) content) (λ e. error.Content ≡ e) here → Gives (IsRead tag content) (IsValueFault tag) others
     → Gives (IsRead tag content) (IsValueFault tag) (cond (eqb tag (value_tag known)) here others)
-by_tag known tag content here others this that =
-    gives_either (eqb tag (value_tag known))
-    (λ is.
-    let same : tag ≡ value_tag known = eqb-true tag (value_tag known) is in
-    gives_so (λ value read. subst (λ (t : ℕ). IsRead t content value) (sym same) read) (λ e fault. inl (fault, (known, same))) this)
-    (λ not. that)
+by_tag known tag content here others this that = grind (arith, common_steps, gives_either, eqb-true, gives_so)
 
 pub value_gives : (tag : ℕ) (content : List ℕ) → Gives (IsRead tag content) (IsValueFault tag) (typed_value tag content)
 unfolding typed_value

@@ -1,6 +1,7 @@
 -- Laws of what writers leave, one after the other from the back to the front, for proofs of
 -- values and messages.
-use Rattle.std.proofs.Common.{◌≡◌, ℕ, ◌+◌, ◌-◌, ◌<◌, ◌≤◌, suc, zero, List, [], ◌∷◌, ◌++◌, length, take, drop, get_or, sym, ap, subst, ◌∙◌, arith}
+use Rattle.std.proofs.lemmas.Grind.{common_steps}
+use Rattle.std.proofs.Common.{◌≡◌, ℕ, ◌+◌, ◌-◌, ◌<◌, ◌≤◌, suc, zero, List, [], ◌∷◌, ◌++◌, length, take, drop, get_or, sym, ap, ◌∙◌, arith}
 use Rattle.std.proofs.Common.{append_assoc, length-append}
 use Rattle.std.proofs.lemmas.List.{take-take, drop_more}
 use Rattle.std.specs.List.{flat_map}
@@ -16,18 +17,12 @@ kept k start old new h e =
 pub writes_then : {old : List ℕ} {start middle end : ℕ} {front back mid new : List ℕ}
     → Writes old middle end back mid → Writes mid start middle front new
     → Writes old start end (front ++ back) new
-writes_then {old} {start} {middle} {end} {front} {back} {mid} {new} w v = record {
-  begins = omega (arith, length-append front back, w.begins, v.begins);
-  before = v.before ∙ kept start middle old mid (omega (arith, v.begins)) w.before;
-  after =
-      v.after ∙ ap (λ rest. front ++ rest) w.after ∙ sym (append_assoc front back (drop end old));
-}
+writes_then {old} {start} {middle} {end} {front} {back} {mid} {new} w v = grind (arith, common_steps, length-append, kept, append_assoc)
 
 -- where a text is written, an equal one is
 pub writes_same : {old : List ℕ} {start end : ℕ} {text new other : List ℕ}
     → Writes old start end text new → text ≡ other → Writes old start end other new
-writes_same {old} {start} {end} {text} {new} {other} w e =
-    subst (λ (t : List ℕ). Writes old start end t new) e w
+writes_same {old} {start} {end} {text} {new} {other} w e = grind (arith, common_steps)
 
 -- ---- pieces that are written one for each element of a list, the last one first
 
@@ -35,16 +30,13 @@ writes_same {old} {start} {end} {text} {new} {other} w e =
 pub flat_map-drop : {X : Type 0} (f : X → List ℕ) (xs : List X) (i : ℕ) (x d : X)
     → i < length xs → x ≡ get_or xs i d
     → flat_map f (drop i xs) ≡ f x ++ flat_map f (drop (i + 1) xs)
-flat_map-drop f xs i x d h e =
-    ap (flat_map f) (drop_more xs i d h)
-    ∙ ap (λ y. f y ++ flat_map f (drop (i + 1) xs)) (sym e)
+flat_map-drop f xs i x d h e = grind (arith, common_steps, drop_more)
 
 -- so are their lengths
 pub length-flat_map_drop : {X : Type 0} (f : X → List ℕ) (xs : List X) (i : ℕ) (x d : X)
     → i < length xs → x ≡ get_or xs i d
     → length (flat_map f (drop i xs)) ≡ length (f x) + length (flat_map f (drop (i + 1) xs))
-length-flat_map_drop f xs i x d h e =
-    ap length (flat_map-drop f xs i x d h e) ∙ length-append (f x) (flat_map f (drop (i + 1) xs))
+length-flat_map_drop f xs i x d h e = grind (arith, common_steps, flat_map-drop, length-append)
 
 -- the pieces from a place on are no longer than all of them
 pub flat_map_rest : {X : Type 0} (f : X → List ℕ) (xs : List X) (i : ℕ)
@@ -84,6 +76,4 @@ pub writes_pieces : {X : Type 0} {old new : List ℕ} {start end : ℕ}
     (f : X → List ℕ) (xs : List X) (i : ℕ) → i ≤ 0
     → Writes old start end (flat_map f (drop i xs)) new
     → Writes old start end (flat_map f xs) new
-writes_pieces f xs i h w =
-    let none : i ≡ 0 = omega arith in
-    writes_same w (ap (λ k. flat_map f (drop k xs)) none)
+writes_pieces f xs i h w = grind (arith, common_steps, writes_same)

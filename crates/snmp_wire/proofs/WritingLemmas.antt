@@ -1,4 +1,5 @@
 -- What writers leave: nothing, an octet more, a text.
+use Rattle.std.proofs.lemmas.Grind.{common_steps}
 use Rattle.std.proofs.Common.{◌≡◌, ℕ, suc, ◌+◌, ◌-◌, ◌/◌, ◌^◌, ◌<◌, ◌≤◌, List, [], ◌∷◌, ◌++◌}
 use Rattle.std.proofs.Common.{length, take, drop, set, refl, sym, ap, subst, ◌∙◌, arith, length-drop}
 use Rattle.std.proofs.Math.Nat.{div-div-eq-div-mul, div-one, pow-suc, pow-zero}
@@ -13,12 +14,7 @@ writes_none old end = record { begins = omega arith; before = refl; after = refl
 -- one octet more
 pub writes_octet : {old : List ℕ} {at end : ℕ} {text mid : List ℕ} → Writes old at end text mid → (start octet : ℕ) → start + 1 ≡ at → at ≤ length mid
     → Writes old start end (octet ∷ text) (set mid start octet)
-writes_octet {old} {at} {end} {text} {mid} w start octet e h = record {
-  begins = omega (arith, w.begins);
-  before = take-set mid start octet ∙ kept start at old mid (omega arith) w.before;
-  after = let below : start < length mid = omega arith in
-      drop-set mid start octet below ∙ ap (λ n. octet ∷ drop n mid) e ∙ ap (λ rest. octet ∷ rest) w.after;
-}
+writes_octet {old} {at} {end} {text} {mid} w start octet e h = grind (arith, common_steps, take-set, kept, drop-set)
 
 -- a single octet
 pub writes_one : (old : List ℕ) (end octet : ℕ) → 1 ≤ end → end ≤ length old → Writes old (end - 1) end (octet ∷ []) (set old (end - 1) octet)
@@ -32,15 +28,11 @@ writes_no_digit text out end none = let here : 0 ≡ end - end = omega arith in 
 pub writes_digit : {old out : List ℕ} {at end : ℕ} (text : ℕ → List ℕ) (digit : ℕ) → digit ∷ text (end - at) ≡ text (suc (end - at))
     → Writes old at end (text (end - at)) out → 0 < at → at ≤ end → at ≤ length out
     → Writes old (at - 1) end (text (end - (at - 1))) (set out (at - 1) digit)
-writes_digit {old} {out} {at} {end} text digit step w some h within =
-    let one_more : suc (end - at) ≡ end - (at - 1) = omega arith in
-    writes_same (writes_octet w (at - 1) digit (omega arith) within) (step ∙ ap text one_more)
+writes_digit {old} {out} {at} {end} text digit step w some h within = grind (arith, common_steps, writes_same, writes_octet)
 
 pub all_digits : {old out : List ℕ} {at end : ℕ} (text : ℕ → List ℕ) (count : ℕ) → Writes old at end (text (end - at)) out → at ≡ end - count
     → count ≤ end → Writes old (end - count) end (text count) out
-all_digits {old} {out} {at} {end} text count w e room =
-    let all : end - at ≡ count = omega arith in
-    subst (λ (start : ℕ). Writes old start end (text count) out) e (writes_same w (ap text all))
+all_digits {old} {out} {at} {end} text count w e room = grind (arith, common_steps, writes_same)
 
 -- what is left of a number whose digits they are
 pub rest_none : (base end n : ℕ) → n ≡ n / base ^ (end - end)
@@ -57,15 +49,9 @@ rest_digits base at end n rest e some h =
 -- a text copied into its place
 pub writes_copy : (old text : List ℕ) (start end : ℕ) → start + length text ≡ end → end ≤ length old
     → Writes old start end text (take start old ++ (text ++ drop end old))
-writes_copy old text start end e h = record {
-  begins = e;
-  before = take_at (take start old) (text ++ drop end old) start (length-take-le start old (omega arith));
-  after = drop_at (take start old) (text ++ drop end old) start (length-take-le start old (omega arith));
-}
+writes_copy old text start end e h = grind (arith, common_steps, take_at, length-take-le, drop_at)
 
 -- what is written before the end of a slice is what lies there from its start on
 pub written_to_end : {old new text : List ℕ} {start end : ℕ} → Writes old start end text new → end ≡ length old
     → take (length new - start) (drop start new) ≡ text
-written_to_end {old} {new} {text} {start} {end} w last =
-    take_all (length new - start) (drop start new) (omega (arith, length-drop start new))
-    ∙ w.after ∙ ap (λ (rest : List ℕ). text ++ rest) (drop_all end old (omega (arith, last))) ∙ append-nil text
+written_to_end {old} {new} {text} {start} {end} w last = grind (arith, common_steps, take_all, length-drop, drop_all, append-nil)

@@ -1,12 +1,10 @@
-use Rattle.std.proofs.Common.{sym, true≢false, arith}
+use Rattle.std.proofs.lemmas.Grind.{common_steps}
+use Rattle.std.proofs.Common.{arith}
 use Rattle.snmp_wire.proofs.BindingWriting.{encoded}
 use Rattle.snmp_wire.proofs.asking.encode_asking.Goals as goal
 
 pub returns-then-out-size-clause-variant : goal.returns-then-out-size-clause-variant
-returns-then-out-size-clause-variant c = (
-  λ some. absurd (true≢false (sym some)),
-  λ fits. absurd (omega (arith, fits, c.asking_size-size.ensures, c.if-out-size.true)),
-)
+returns-then-out-size-clause-variant c = grind (arith, common_steps)
 
 pub put_asking-requires-clause-room : goal.put_asking-requires-clause-room
 put_asking-requires-clause-room c = omega (arith, c.asking_size-size.ensures)

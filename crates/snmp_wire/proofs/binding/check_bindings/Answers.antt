@@ -1,3 +1,5 @@
+use Rattle.std.proofs.Common.{arith}
+use Rattle.std.proofs.lemmas.Grind.{common_steps}
 use Rattle.std.proofs.lemmas.Result.{err_from_is_err_and}
 use Rattle.snmp_wire.specs.Reading.{fields}
 use Rattle.snmp_wire.proofs.ReadingLaws.{some_left, none_left}
@@ -5,10 +7,7 @@ use Rattle.snmp_wire.proofs.MessageLaws.{fields_shrink, check_fails_at, check_fa
 use Rattle.snmp_wire.proofs.binding.check_bindings.Goals as goal
 
 pub returns-in_err-fields : goal.returns-in_err-fields
-returns-in_err-fields c =
-    let p = err_from_is_err_and c.from_residual.result c.from_residual.ensures.1 in
-    rw (p.1, p.2) (check_fails_at c.bindings.rest.now c.in_err-fields.field-0.0 _
-    (some_left _ _ c.is_empty.ensures c.bindings-test.true) c.in_err-fields.ensures c.bindings.invariant)
+returns-in_err-fields c = grind (arith, common_steps, err_from_is_err_and, check_fails_at, some_left)
 
 pub returns-in_err-check_binding : goal.returns-in_err-check_binding
 returns-in_err-check_binding c =
@@ -20,9 +19,7 @@ pub bindings-smaller : goal.bindings-smaller
 bindings-smaller c = fields_shrink c.bindings.rest.now (fields c.in_ok-fields.fields, c.in_ok-fields.after.now) c.in_ok-fields.ensures
 
 pub bindings-preserved : goal.bindings-preserved
-bindings-preserved c =
-    check_goes_on c.bindings.rest.now (fields c.in_ok-fields.fields) c.in_ok-fields.after.now _ _
-    (some_left _ _ c.is_empty.ensures c.bindings-test.true) c.in_ok-fields.ensures c.in_ok-check_binding.ensures c.bindings.invariant
+bindings-preserved c = grind (arith, common_steps, check_goes_on, some_left)
 
 pub returns : goal.returns
 returns c = check_ends c.bindings.rest.now _ (none_left _ _ c.is_empty.ensures c.bindings-test.false) c.bindings.invariant

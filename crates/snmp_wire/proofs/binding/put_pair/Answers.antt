@@ -1,4 +1,5 @@
-use Rattle.std.proofs.Common.{◌-◌, ◌<◌, arith, refl}
+use Rattle.std.proofs.lemmas.Grind.{common_steps}
+use Rattle.std.proofs.Common.{arith, refl}
 use Rattle.snmp_wire.specs.ber.Value.{object_id}
 use Rattle.snmp_wire.specs.Message.{datum}
 use Rattle.snmp_wire.proofs.BindingWriting.{binding_header_fits, binding_name_fits, binding_value_fits, writes_binding}
@@ -17,16 +18,7 @@ put_short_header-name-requires-clause-room c = value_header_fits 6 (object_id c.
     (binding_name_fits (record { name = c.args.name.now; value = datum c.args.value.now }) c.put_value-value.ensures c.requires.room)
 
 pub put_short_header-requires-clause-below_128 : goal.put_short_header-requires-clause-below_128
-put_short_header-requires-clause-below_128 c =
-    let content : c.put_value-value.result - c.put_identifier-content.result < 128 =
-    omega (arith, c.if-end-content-lt126.true, c.put_value-value.ensures.begins) in
-    omega (
-      arith,
-      c.if-end-content-lt126.true,
-      c.put_short_header-name.ensures.begins,
-      length-canon_header 6 (c.put_value-value.result - c.put_identifier-content.result),
-      header_short (c.put_value-value.result - c.put_identifier-content.result) content,
-    )
+put_short_header-requires-clause-below_128 c = grind (arith, common_steps, length-canon_header, header_short)
 
 pub put_short_header-requires-clause-room : goal.put_short_header-requires-clause-room
 put_short_header-requires-clause-room c = binding_header_fits (record { name = c.args.name.now; value = datum c.args.value.now }) c.put_value-value.ensures

@@ -1,5 +1,6 @@
+use Rattle.std.proofs.Common.{arith, length, List, ℕ, ◌≤◌, subst, sym}
+use Rattle.std.proofs.lemmas.Grind.{common_steps}
 use Rattle.snmp_wire.proofs.BindingWriting.{binding_octets, bindings_are}
-use Rattle.std.proofs.Common.{length, List, ℕ, ◌≤◌, subst, sym}
 use Rattle.snmp_wire.proofs.WritingLaws.{piece_fits, writes_piece, writes_pieces, writes_same}
 use Rattle.snmp_wire.proofs.message.put_bindings.Goals as goal
 
@@ -14,5 +15,4 @@ bindings-preserved c = writes_piece binding_octets c.args.bindings.now c.binding
     c.bindings.auto.i c.index-bindings-i.is c.bindings.invariant c.put_binding-start.ensures
 
 pub returns : goal.returns
-returns c = writes_same (writes_pieces binding_octets c.args.bindings.now c.bindings.i c.bindings-test.false c.bindings.invariant)
-    (bindings_are c.args.bindings.now)
+returns c = grind (arith, common_steps, writes_same, writes_pieces, binding_octets, bindings_are)

@@ -1,4 +1,5 @@
-use Rattle.std.proofs.Common.{◌≡◌, ℕ, ◌+◌, ◌<◌, ◌≤◌, ◌⊎◌, inl, inr, List, length, get_or, refl, subst, ◌∙◌, arith}
+use Rattle.std.proofs.lemmas.Grind.{common_steps}
+use Rattle.std.proofs.Common.{◌≡◌, ℕ, ◌+◌, ◌<◌, ◌≤◌, ◌⊎◌, inl, inr, List, length, get_or, refl, ◌∙◌, arith}
 use Rattle.std.proofs.lemmas.Bool.{cases_lt}
 use Rattle.snmp_wire.specs.Name.{EndsAt}
 use Rattle.snmp_wire.proofs.NameOrder.{OrderLaw, Beside, EndsBy, beside, both_go_on, octets_decide, one_ends, one_is_last}
@@ -8,14 +9,7 @@ use Rattle.snmp_wire.proofs.name.compare_ends.Goals.{else-octet-ge128-via-then-o
 
 -- a subidentifier goes on from a place whose octet says so
 goes_on_to : (content : List ℕ) (at : ℕ) → 128 ≤ get_or content at 0 → EndsAt content (at + 1) (at + 1) → EndsAt content at (at + 1)
-goes_on_to content at high e = record {
-  behind = omega arith;
-  within = e.within;
-  goes_on = λ k from below.
-      let here : at ≡ k = omega (arith, from, below) in
-      subst (λ (i : ℕ). 128 ≤ get_or content i 0) here high;
-  ends = e.ends;
-}
+goes_on_to content at high e = grind (arith, common_steps)
 
 pub returns-then-at-both : goal.returns-then-at-both
 returns-then-at-both c = λ o p e f.

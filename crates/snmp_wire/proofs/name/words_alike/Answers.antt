@@ -1,3 +1,4 @@
+use Rattle.std.proofs.lemmas.Grind.{common_steps}
 use Rattle.std.proofs.Common.{◌≡◌, ℕ, ◌+◌, ◌-◌, ◌<◌, ◌≤◌, inl, inr, List, length, get_or, arith}
 use Rattle.std.proofs.lemmas.Bool.{cases_lt}
 use Rattle.snmp_wire.specs.Name.{IsAlike}
@@ -22,8 +23,7 @@ module _ (octets others : List ℕ) where
   -- the first eight
   eight_alike : (count : ℕ) → 8 ≤ count → 8 ≤ length octets → 8 ≤ length others
       → ((k : ℕ) → k < count → get_or octets (0 + k) 0 ≡ get_or others (0 + k) 0) → IsAlike octets others 8
-  eight_alike count all these those same =
-      more_alike 0 0 8 (nothing_alike octets others) (omega arith) these those (λ k low. same k (omega (arith, low, all)))
+  eight_alike count all these those same = grind (arith, common_steps, more_alike, nothing_alike)
 
 pub returns-then-first-lt8-clause-same : goal.returns-then-first-lt8-clause-same
 returns-then-first-lt8-clause-same c =
@@ -36,9 +36,7 @@ returns-then-first-lt8-clause-same c =
     (omega (arith, c.requires.others, c.requires.at_least_8, c.if-first-lt8.true)) c.eight_alike-first.ensures.same)
 
 pub returns-then-first-lt8-clause-first : goal.returns-then-first-lt8-clause-first
-returns-then-first-lt8-clause-first c = λ low e.
-    let place : c.eight_alike-first.result ≡ 0 + c.eight_alike-first.result = omega arith in
-    c.eight_alike-first.ensures.first c.if-first-lt8.true (rw (← place) e)
+returns-then-first-lt8-clause-first c = grind (arith, common_steps)
 
 pub returns-then-both-le16-clause-same : goal.returns-then-both-le16-clause-same
 returns-then-both-le16-clause-same c =

@@ -1,11 +1,10 @@
+use Rattle.std.proofs.Common.{arith}
+use Rattle.std.proofs.lemmas.Grind.{common_steps}
 use Rattle.snmp_wire.proofs.NameOrder.{content_octets}
 use Rattle.snmp_wire.proofs.asking.NameBuffer.new.Goals as goal
 
 pub invariant_of-result : goal.invariant_of-result
-invariant_of-result c = (
-  c.content-content.ensures.at_most_640,
-  (content_octets _ _ c.args.name.now c.copy_to_front.ensures c.content-content.ensures.octets c.content-content.ensures.encodes).0,
-)
+invariant_of-result c = grind (arith, common_steps, content_octets)
 
 pub returns-clause-value : goal.returns-clause-value
 returns-clause-value c = (content_octets _ _ c.args.name.now c.copy_to_front.ensures c.content-content.ensures.octets c.content-content.ensures.encodes).1

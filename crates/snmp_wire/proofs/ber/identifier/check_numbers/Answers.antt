@@ -1,3 +1,4 @@
+use Rattle.std.proofs.lemmas.Grind.{common_steps}
 use Rattle.std.proofs.Common.{arith}
 use Rattle.std.proofs.lemmas.Result.{err_from_is_err_and}
 use Rattle.snmp_wire.proofs.ReadingLaws.{some_left, none_left}
@@ -8,11 +9,7 @@ pub some_numbers_at-requires : goal.some_numbers_at-requires
 some_numbers_at-requires c = some_left _ _ c.is_empty.ensures c.numbers-test.true
 
 pub numbers-preserved : goal.numbers-preserved
-numbers-preserved c = (
-  counted_more c.numbers.count c.in_ok-some.some c.in_ok-some.after.now c.numbers.rest.now _ c.in_ok-some.ensures.fits c.in_ok-some.ensures.full
-      c.numbers.invariant.0,
-  omega (arith, c.in_ok-some.ensures.some.1, c.numbers.invariant.1),
-)
+numbers-preserved c = grind (arith, common_steps, counted_more)
 
 pub returns-in_err-some : goal.returns-in_err-some
 returns-in_err-some c =
@@ -21,5 +18,4 @@ returns-in_err-some c =
     (some_left _ _ c.is_empty.ensures c.numbers-test.true) c.in_err-some.ensures.err c.numbers.invariant.0)
 
 pub returns : goal.returns
-returns c = counted_ends c.numbers.count c.numbers.rest.now _ (omega (arith, c.if-count-gt-MORE_NUMBERS.false))
-    (none_left _ _ c.is_empty.ensures c.numbers-test.false) c.numbers.invariant.0
+returns c = grind (arith, common_steps, counted_ends, none_left)

@@ -1,3 +1,4 @@
+use Rattle.std.proofs.lemmas.Grind.{common_steps}
 use Rattle.std.proofs.Common.{arith}
 use Rattle.snmp_wire.proofs.IdentifierWriting.{plain_before, small_before}
 use Rattle.snmp_wire.proofs.ber.identifier.four_before.Goals as goal
@@ -15,7 +16,4 @@ pub overflow_cast-result-then-a-b-lt128-3 : goal.overflow_cast-result-then-a-b-l
 overflow_cast-result-then-a-b-lt128-3 c = let small = small_before c.args.numbers.now c.args.left c.if-a-b-lt128.true in omega (arith, small.3)
 
 pub returns-then-a-b-lt128 : goal.returns-then-a-b-lt128
-returns-then-a-b-lt128 c = (
-  c.if-left-lt4.false,
-  plain_before c.args.numbers.now c.args.left c.if-left-lt4.false c.requires c.if-a-b-lt128.true,
-)
+returns-then-a-b-lt128 c = grind (arith, common_steps, plain_before)

@@ -1,4 +1,5 @@
-use Rattle.std.proofs.Common.{◌-◌, length, arith}
+use Rattle.std.proofs.lemmas.Grind.{common_steps}
+use Rattle.std.proofs.Common.{arith}
 use Rattle.std.proofs.lemmas.List.{length_push, length-append}
 use Rattle.snmp_wire.proofs.ReadingLaws.{some_left, none_left}
 use Rattle.snmp_wire.proofs.IdentifierReading.{start, push_has_room, push_goes_on, push_ends, plain_fits, push_plain, number_ok}
@@ -48,23 +49,13 @@ pub number_in-number-requires : goal.number_in-number-requires
 number_in-number-requires c = number_ok c.numbers.oid c.numbers.rest.now _ (some_left _ _ c.is_empty.ensures c.numbers-test.true) c.numbers.invariant.whole
 
 pub push_with_room-requires : goal.push_with_room-requires
-push_with_room-requires c =
-    let room = push_has_room c.numbers.oid c.numbers.rest.now _ (128 - length c.numbers.oid)
-    (some_left _ _ c.is_empty.ensures c.numbers-test.true) c.numbers.invariant.whole in
-    omega arith
+push_with_room-requires c = grind (arith, common_steps, push_has_room, some_left)
 
 pub numbers-smaller : goal.numbers-smaller
-numbers-smaller c =
-    let room = push_has_room c.numbers.oid c.numbers.rest.now _ (128 - length c.numbers.oid)
-    (some_left _ _ c.is_empty.ensures c.numbers-test.true) c.numbers.invariant.whole in
-    rw c.push_with_room.ensures (omega (arith, length_push c.numbers.oid c.number_in-number.result.0))
+numbers-smaller c = grind (arith, common_steps, push_has_room, some_left, length_push)
 
 pub numbers-preserved : goal.numbers-preserved
-numbers-preserved c = record {
-  whole = rw c.push_with_room.ensures (push_goes_on c.numbers.oid c.numbers.rest.now _ c.number_in-number.result.0 c.number_in-number.result.1.now
-      (some_left _ _ c.is_empty.ensures c.numbers-test.true) c.number_in-number.ensures c.numbers.invariant.whole);
-}
+numbers-preserved c = grind (arith, common_steps, push_goes_on, some_left)
 
 pub returns : goal.returns
-returns c = push_ends c.numbers.oid c.numbers.rest.now _ (128 - length c.numbers.oid)
-    (none_left _ _ c.is_empty.ensures c.numbers-test.false) c.numbers.invariant.whole
+returns c = grind (arith, common_steps, push_ends, none_left)

@@ -1,5 +1,5 @@
-use Rattle.std.proofs.Common.{ap, arith, sym, ◌∙◌}
-use Rattle.snmp_wire.specs.ber.Canon.{subidentifier_size}
+use Rattle.std.proofs.lemmas.Grind.{common_steps}
+use Rattle.std.proofs.Common.{arith, sym}
 use Rattle.snmp_wire.proofs.IdentifierWriting.{content_is, length-canon_subidentifier, length-content}
 use Rattle.snmp_wire.proofs.WritingLaws.{writes_same, writes_then}
 use Rattle.snmp_wire.proofs.ber.identifier.put_identifier.Goals as goal
@@ -8,9 +8,7 @@ pub put_numbers-start-requires-clause-room : goal.put_numbers-start-requires-cla
 put_numbers-start-requires-clause-room c = omega (arith, length-content c.as_slice.result.now c.args.name.now c.requires.encodable c.as_slice.ensures.value)
 
 pub put_subidentifier-requires-clause-room : goal.put_subidentifier-requires-clause-room
-put_subidentifier-requires-clause-room c =
-    let first = length-canon_subidentifier c.first_subidentifier.result ∙ ap subidentifier_size c.first_subidentifier.ensures in
-    omega (arith, first, length-content c.as_slice.result.now c.args.name.now c.requires.encodable c.as_slice.ensures.value, c.put_numbers-start.ensures.begins)
+put_subidentifier-requires-clause-room c = grind (arith, common_steps, length-canon_subidentifier, length-content)
 
 pub returns : goal.returns
 returns c = writes_same (writes_then c.put_numbers-start.ensures c.put_subidentifier.ensures)

@@ -1,3 +1,4 @@
+use Rattle.std.proofs.lemmas.Grind.{common_steps}
 use Rattle.std.proofs.Common.{◌-◌, ◌++◌, length, sym, ap, ◌∙◌, arith}
 use Rattle.snmp_wire.specs.ber.Canon.{canon_subidentifier, eight_from}
 use Rattle.snmp_wire.proofs.WritingLaws.{writes_same, writes_then}
@@ -5,14 +6,10 @@ use Rattle.snmp_wire.proofs.IdentifierWriting.{length-canon_subidentifier, nine,
 use Rattle.snmp_wire.proofs.ber.identifier.put_numbers.Goals as goal
 
 pub put_subidentifier-last-requires-clause-room : goal.put_subidentifier-last-requires-clause-room
-put_subidentifier-last-requires-clause-room c =
-    let whole = nine_counted c.args.numbers.now c.from.result c.if-count-lt9.false (c.are_short.ensures c.if-not-are_short.false) c.from.ensures in
-    omega (arith, whole, length-canon_subidentifier c.from.result, c.requires.room)
+put_subidentifier-last-requires-clause-room c = grind (arith, common_steps, nine_counted, length-canon_subidentifier)
 
 pub put_eight-start-requires-clause-room : goal.put_eight-start-requires-clause-room
-put_eight-start-requires-clause-room c =
-    let whole = nine_counted c.args.numbers.now c.from.result c.if-count-lt9.false (c.are_short.ensures c.if-not-are_short.false) c.from.ensures in
-    omega (arith, whole, length-canon_subidentifier c.from.result, c.requires.room, c.put_subidentifier-last.ensures.begins)
+put_eight-start-requires-clause-room c = grind (arith, common_steps, nine_counted, length-canon_subidentifier)
 
 pub returns-then-count-eq9 : goal.returns-then-count-eq9
 returns-then-count-eq9 c =

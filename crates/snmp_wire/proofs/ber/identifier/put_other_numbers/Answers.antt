@@ -1,3 +1,4 @@
+use Rattle.std.proofs.lemmas.Grind.{common_steps}
 use Rattle.std.proofs.Common.{◌-◌, [], ◌∷◌, length, drop, sym, ap, ◌∙◌, arith, length-append}
 use Rattle.std.specs.List.{flat_map}
 use Rattle.snmp_wire.specs.ber.Canon.{canon_subidentifier}
@@ -23,9 +24,7 @@ numbers-preserved-in-Some c = record {
 }
 
 pub put_subidentifier-start-requires-clause-room : goal.put_subidentifier-start-requires-clause-room
-put_subidentifier-start-requires-clause-room c =
-    piece_fits canon_subidentifier c.args.numbers.now c.numbers.left c.from.result 0 c.numbers-test.true c.numbers.invariant.within c.from.ensures
-    c.numbers.invariant.written c.requires.room
+put_subidentifier-start-requires-clause-room c = grind (arith, common_steps, piece_fits)
 
 pub numbers-preserved : goal.numbers-preserved
 numbers-preserved c = record {

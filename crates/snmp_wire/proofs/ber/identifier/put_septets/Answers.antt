@@ -1,4 +1,5 @@
-use Rattle.std.proofs.Common.{◌+◌, ◌-◌, ◌%◌, ◌∷◌, refl, sym, ap, ◌∙◌, arith}
+use Rattle.std.proofs.lemmas.Grind.{common_steps}
+use Rattle.std.proofs.Common.{◌+◌, ◌-◌, ◌%◌, ◌∷◌, sym, ap, ◌∙◌, arith}
 use Rattle.snmp_wire.specs.ber.Canon.{digits, septets}
 use Rattle.snmp_wire.proofs.IdentifierWriting.{septets-suc}
 use Rattle.snmp_wire.proofs.WritingLemmas.{all_digits, rest_digits, rest_none, writes_digit, writes_no_digit}
@@ -6,11 +7,7 @@ use Rattle.snmp_wire.proofs.ber.identifier.put_septets.Goals as goal
 
 pub septets-init : goal.septets-init
 unfolding digits septets
-septets-init c = record {
-  above = omega arith;
-  written = writes_no_digit (λ k. septets k c.args.number) c.args.out.now c.args.end refl;
-  rest = rest_none 128 c.args.end c.args.number;
-}
+septets-init c = grind (arith, common_steps, writes_no_digit, rest_none)
 
 pub septets-preserved : goal.septets-preserved
 septets-preserved c =

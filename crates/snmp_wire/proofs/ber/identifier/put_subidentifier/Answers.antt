@@ -1,3 +1,4 @@
+use Rattle.std.proofs.lemmas.Grind.{common_steps}
 use Rattle.std.proofs.Common.{◌/◌, sym, arith}
 use Rattle.snmp_wire.proofs.IdentifierWriting.{length-canon_subidentifier, one_septet, subidentifier_short, size_some, subidentifier_three}
 use Rattle.snmp_wire.proofs.IdentifierWriting.{subidentifier_two, two_septets, writes_subidentifier}
@@ -11,12 +12,7 @@ pub returns-then-number-lt128 : goal.returns-then-number-lt128
 returns-then-number-lt128 c = writes_same c.put_octet.ensures (sym (subidentifier_short c.args.number c.if-number-lt128.true))
 
 pub put_octet-requires-then-number-lt16384-clause-room : goal.put_octet-requires-then-number-lt16384-clause-room
-put_octet-requires-then-number-lt16384-clause-room c = omega (
-  arith,
-  length-canon_subidentifier c.args.number,
-  subidentifier_two c.args.number c.if-number-lt128.false c.if-number-lt16384.true,
-  c.put_octet-last.ensures.begins,
-)
+put_octet-requires-then-number-lt16384-clause-room c = grind (arith, common_steps, length-canon_subidentifier, subidentifier_two)
 
 pub returns-then-number-lt16384 : goal.returns-then-number-lt16384
 returns-then-number-lt16384 c =
@@ -24,21 +20,10 @@ returns-then-number-lt16384 c =
     (writes_same c.put_octet-then-number-lt16384.ensures (one_septet (c.args.number / 128) (omega (arith, c.if-number-lt16384.true))))
 
 pub put_octet-mid-requires-clause-room : goal.put_octet-mid-requires-clause-room
-put_octet-mid-requires-clause-room c = omega (
-  arith,
-  length-canon_subidentifier c.args.number,
-  subidentifier_three c.args.number c.if-number-lt16384.false c.if-number-lt2097152.true,
-  c.put_octet-last.ensures.begins,
-)
+put_octet-mid-requires-clause-room c = grind (arith, common_steps, length-canon_subidentifier, subidentifier_three)
 
 pub put_octet-requires-then-number-lt2097152-clause-room : goal.put_octet-requires-then-number-lt2097152-clause-room
-put_octet-requires-then-number-lt2097152-clause-room c = omega (
-  arith,
-  length-canon_subidentifier c.args.number,
-  subidentifier_three c.args.number c.if-number-lt16384.false c.if-number-lt2097152.true,
-  c.put_octet-last.ensures.begins,
-  c.put_octet-mid.ensures.begins,
-)
+put_octet-requires-then-number-lt2097152-clause-room c = grind (arith, common_steps, length-canon_subidentifier, subidentifier_three)
 
 pub returns-then-number-lt2097152 : goal.returns-then-number-lt2097152
 returns-then-number-lt2097152 c =

@@ -1,3 +1,5 @@
+use Rattle.std.proofs.Common.{arith}
+use Rattle.std.proofs.lemmas.Grind.{common_steps}
 use Rattle.snmp_wire.proofs.IdentifierReading.{read_some, subidentifier_plain, subidentifier_longer, subidentifier_of_two, subidentifier_longest}
 use Rattle.snmp_wire.proofs.IdentifierReading.{subidentifier_of_three}
 use Rattle.snmp_wire.proofs.ber.identifier.subidentifier_in.Goals as goal
@@ -9,8 +11,7 @@ pub split_at-requires : goal.split_at-requires
 split_at-requires c = read_some c.args.octets.now c.requires
 
 pub returns-then-high-lt128 : goal.returns-then-high-lt128
-returns-then-high-lt128 c = rw (c.from.ensures, c.split_at.ensures.back)
-    (subidentifier_plain c.args.octets.now (read_some c.args.octets.now c.requires) c.if-high-lt128.true)
+returns-then-high-lt128 c = grind (arith, common_steps, subidentifier_plain, read_some)
 
 pub bounds-octets-1 : goal.bounds-octets-1
 bounds-octets-1 c = subidentifier_longer c.args.octets.now c.requires c.if-high-lt128.false
@@ -19,9 +20,7 @@ pub split_at-requires-then-low-lt128 : goal.split_at-requires-then-low-lt128
 split_at-requires-then-low-lt128 c = subidentifier_longer c.args.octets.now c.requires c.if-high-lt128.false
 
 pub returns-then-low-lt128 : goal.returns-then-low-lt128
-returns-then-low-lt128 c =
-    rw (c.from-then-low-lt128.ensures, c.from-then-low-lt128-2.ensures, c.split_at-then-low-lt128.ensures.back)
-    (subidentifier_of_two c.args.octets.now c.requires c.if-high-lt128.false c.if-low-lt128.true)
+returns-then-low-lt128 c = grind (arith, common_steps, subidentifier_of_two)
 
 pub bounds-octets-2 : goal.bounds-octets-2
 bounds-octets-2 c = subidentifier_longest c.args.octets.now c.requires c.if-high-lt128.false c.if-low-lt128.false
@@ -30,6 +29,4 @@ pub split_at-requires-then-last-lt128 : goal.split_at-requires-then-last-lt128
 split_at-requires-then-last-lt128 c = subidentifier_longest c.args.octets.now c.requires c.if-high-lt128.false c.if-low-lt128.false
 
 pub returns-then-last-lt128 : goal.returns-then-last-lt128
-returns-then-last-lt128 c =
-    rw (c.three_digits.ensures.value, c.split_at-then-last-lt128.ensures.back)
-    (subidentifier_of_three c.args.octets.now c.requires c.if-high-lt128.false c.if-low-lt128.false c.if-last-lt128.true)
+returns-then-last-lt128 c = grind (arith, common_steps, subidentifier_of_three)

@@ -1,15 +1,8 @@
+use Rattle.std.proofs.Common.{arith}
+use Rattle.std.proofs.lemmas.Grind.{common_steps}
 use Rattle.snmp_wire.proofs.CanonLemmas.{count_rises, digit_some, length-canon_length_long, length-canon_length_short, length-from_zero, length_rises}
 use Rattle.snmp_wire.proofs.ElementLaws.{length-canon_element, length-canon_header}
 use Rattle.snmp_wire.proofs.ber.laws.element_sizes.Goals as goal
 
 pub returns : goal.returns
-returns c = record {
-  short_length = length-canon_length_short;
-  long_length = length-canon_length_long;
-  digits = digit_some;
-  number = length-from_zero;
-  header = length-canon_header;
-  element = length-canon_element;
-  digits_rise = count_rises;
-  lengths_rise = length_rises;
-}
+returns c = grind (arith, common_steps, length-canon_length_short, length-canon_length_long, digit_some, length-from_zero, length-canon_header, length-canon_element, count_rises, length_rises)

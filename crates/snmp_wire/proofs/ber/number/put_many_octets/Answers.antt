@@ -1,4 +1,5 @@
-use Rattle.std.proofs.Common.{◌-◌, ◌%◌, ◌∷◌, refl, sym, ap, ◌∙◌, arith}
+use Rattle.std.proofs.lemmas.Grind.{common_steps}
+use Rattle.std.proofs.Common.{◌-◌, ◌%◌, ◌∷◌, sym, ap, ◌∙◌, arith}
 use Rattle.snmp_wire.specs.ber.Canon.{digits, octets}
 use Rattle.snmp_wire.proofs.Digits.{digits-suc}
 use Rattle.snmp_wire.proofs.WritingLemmas.{all_digits, rest_digits, rest_none, writes_digit, writes_no_digit}
@@ -6,11 +7,7 @@ use Rattle.snmp_wire.proofs.ber.number.put_many_octets.Goals as goal
 
 pub octets-init : goal.octets-init
 unfolding digits
-octets-init c = record {
-  above = omega arith;
-  written = writes_no_digit (λ k. octets k c.args.number) c.args.out.now c.args.end refl;
-  rest = rest_none 256 c.args.end c.args.number;
-}
+octets-init c = grind (arith, common_steps, writes_no_digit, rest_none)
 
 pub octets-preserved : goal.octets-preserved
 octets-preserved c =

@@ -1,3 +1,4 @@
+use Rattle.std.proofs.lemmas.Grind.{common_steps}
 use Rattle.std.proofs.Common.{arith}
 use Rattle.snmp_wire.proofs.Digits.{number_of-more, octet_more, octet_fits}
 use Rattle.snmp_wire.proofs.ber.number.unsigned.Goals as goal
@@ -9,7 +10,4 @@ pub overflow_add-sum : goal.overflow_add-sum
 overflow_add-sum c = omega (arith, octet_fits c.octets.octet-index c.octets.sum (omega arith) c.octets.invariant.bound, c.type_inv.octets c.octets.octet-index)
 
 pub octets-preserved : goal.octets-preserved
-octets-preserved c = record {
-  value = omega (arith, number_of-more 256 c.args.octets.now c.octets.octet-index c.octets-test.true);
-  bound = octet_more c.octets.octet-index c.octets.sum _ c.octets.invariant.bound (omega (arith, c.type_inv.octets c.octets.octet-index));
-}
+octets-preserved c = grind (arith, common_steps, number_of-more, octet_more)

@@ -1,4 +1,5 @@
-use Rattle.std.proofs.Common.{arith, sym}
+use Rattle.std.proofs.lemmas.Grind.{common_steps}
+use Rattle.std.proofs.Common.{arith}
 use Rattle.snmp_wire.proofs.CanonLemmas.{size_of_bits, size_one}
 use Rattle.snmp_wire.proofs.ber.number.unsigned_size.Goals as goal
 
@@ -6,5 +7,4 @@ pub returns-then-number-lt128-clause-value : goal.returns-then-number-lt128-clau
 returns-then-number-lt128-clause-value c = size_one c.args.number c.if-number-lt128.true
 
 pub returns-else-number-lt128-clause-value : goal.returns-else-number-lt128-clause-value
-returns-else-number-lt128-clause-value c = sym (size_of_bits c.args.number c.ilog2.result c.ilog2.ensures.power_le c.ilog2.ensures.next_power_gt
-    (omega (arith, c.ranges.number.fits)))
+returns-else-number-lt128-clause-value c = grind (arith, common_steps, size_of_bits)

@@ -1,4 +1,5 @@
-use Rattle.std.proofs.Common.{ℤ, ap, length, subst, sym, ◌≤◌}
+use Rattle.std.proofs.Common.{arith, ℤ, ap, length, subst, sym, ◌≤◌}
+use Rattle.std.proofs.lemmas.Grind.{common_steps}
 use Rattle.std.proofs.lemmas.Int.{to_z-of_z}
 use mir.Syntax.{w32}
 use Rattle.snmp_wire.specs.ber.Canon.{canon_number}
@@ -15,8 +16,7 @@ pub put_short_header-requires-clause-below_128 : goal.put_short_header-requires-
 put_short_header-requires-clause-below_128 c = number_short _ c.put_integer-start.ensures
 
 pub put_short_header-requires-clause-room : goal.put_short_header-requires-clause-room
-put_short_header-requires-clause-room c = header_fits 2 (writes_same c.put_integer-start.ensures
-    (ap canon_number (to_z-of_z w32 c.args.number c.ranges.number))) c.requires.room
+put_short_header-requires-clause-room c = grind (arith, common_steps, header_fits, writes_same, to_z-of_z)
 
 pub returns : goal.returns
 returns c = writes_element 2 (writes_same c.put_integer-start.ensures (ap canon_number

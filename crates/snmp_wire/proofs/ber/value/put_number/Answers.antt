@@ -1,3 +1,4 @@
+use Rattle.std.proofs.lemmas.Grind.{common_steps}
 use Rattle.std.proofs.Common.{length, pos, ap, arith, sym, ◌∙◌}
 use Rattle.snmp_wire.specs.ber.Canon.{canon_number}
 use Rattle.snmp_wire.proofs.CanonLemmas.{length-from_zero, fifth_octet_fits, four_octets_fit, size_five, size_four, writes_five_octets}
@@ -17,8 +18,7 @@ pub put_short_header-requires-clause-below_128 : goal.put_short_header-requires-
 put_short_header-requires-clause-below_128 c = number_short (pos c.from.result) c.put_unsigned-start.ensures
 
 pub put_short_header-requires-clause-room : goal.put_short_header-requires-clause-room
-put_short_header-requires-clause-room c = header_fits c.args.tag (writes_same c.put_unsigned-start.ensures
-    (ap (λ n. canon_number (pos n)) c.from.ensures)) c.requires.room
+put_short_header-requires-clause-room c = grind (arith, common_steps, header_fits, writes_same)
 
 pub returns-then-number : goal.returns-then-number
 returns-then-number c = writes_element c.args.tag (writes_same c.put_unsigned-start.ensures

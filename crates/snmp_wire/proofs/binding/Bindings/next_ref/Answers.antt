@@ -1,4 +1,5 @@
-use Rattle.std.proofs.Common.{sym, ◌∙◌}
+use Rattle.std.proofs.Common.{arith, sym, ◌∙◌}
+use Rattle.std.proofs.lemmas.Grind.{common_steps}
 use Rattle.snmp_wire.specs.Reading.{fields}
 use Rattle.snmp_wire.proofs.ReadingLaws.{some_left, none_left}
 use Rattle.snmp_wire.proofs.MessageLaws.{BeginsWithBinding, bindings_in_end, stands, with_fields}
@@ -6,9 +7,7 @@ use Rattle.snmp_wire.proofs.binding.Bindings.next_ref.Goals as goal
 use Rattle.snmp_wire.proofs.binding.Bindings.next_ref.Goals.{After-fields_in}
 
 pub returns-then-is_empty-clause-none : goal.returns-then-is_empty-clause-none
-returns-then-is_empty-clause-none c =
-    let none = sym c.self.view_is ∙ bindings_in_end c.self.inside.rest.now (none_left _ _ c.is_empty.ensures c.if-is_empty.true) in
-    (none, none)
+returns-then-is_empty-clause-none c = grind (arith, common_steps, bindings_in_end, none_left)
 
 -- the fields at the front are the first binding's
 first : (c : After-fields_in) → BeginsWithBinding c.self.inside.rest.now (fields c.fields_in.result.0) c.fields_in.result.1.now

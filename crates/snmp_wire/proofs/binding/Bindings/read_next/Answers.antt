@@ -1,13 +1,12 @@
-use Rattle.std.proofs.Common.{refl, sym, ◌∙◌}
+use Rattle.std.proofs.Common.{arith, sym, ◌∙◌}
+use Rattle.std.proofs.lemmas.Grind.{common_steps}
 use Rattle.snmp_wire.specs.Reading.{fields}
 use Rattle.snmp_wire.proofs.ReadingLaws.{some_left, none_left}
 use Rattle.snmp_wire.proofs.MessageLaws.{stands, bindings_in_end}
 use Rattle.snmp_wire.proofs.binding.Bindings.read_next.Goals as goal
 
 pub returns-then-is_empty-clause-none : goal.returns-then-is_empty-clause-none
-returns-then-is_empty-clause-none c = λ _.
-    let none = sym c.self.view_is ∙ bindings_in_end c.self.inside.rest.now (none_left _ _ c.is_empty.ensures c.if-is_empty.true) in
-    (none, none, refl)
+returns-then-is_empty-clause-none c = grind (arith, common_steps, bindings_in_end, none_left)
 
 pub read_binding-requires : goal.read_binding-requires
 read_binding-requires c = (stands c.self.inside.rest.now (fields c.in-Some.fields) c.in-Some.rest.now c.self.invariant

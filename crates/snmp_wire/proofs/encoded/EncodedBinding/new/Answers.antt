@@ -1,5 +1,6 @@
-use Rattle.std.proofs.Common.{◌∙◌, ap}
-use Rattle.snmp_wire.specs.Encoded.{binding_in, octets_of}
+use Rattle.std.proofs.Common.{arith}
+use Rattle.std.proofs.lemmas.Grind.{common_steps}
+use Rattle.snmp_wire.specs.Encoded.{octets_of}
 use Rattle.snmp_wire.specs.Message.{datum}
 use Rattle.snmp_wire.proofs.Kept.{encodable, is_kept, read_again}
 use Rattle.snmp_wire.proofs.encoded.EncodedBinding.new.Goals as goal
@@ -13,7 +14,4 @@ invariant_of-result c =
     (record { name = c.requires.name; value = c.requires.value }) (octets_of c.in_ok-octets.octets) c.in_ok-octets.ensures
 
 pub returns : goal.returns
-returns c =
-    ap binding_in c.in_ok-octets.ensures
-    ∙ read_again (record { name = c.args.name.now; value = datum c.args.value.now })
-    (record { name = c.requires.name; value = c.requires.value })
+returns c = grind (arith, common_steps, read_again)

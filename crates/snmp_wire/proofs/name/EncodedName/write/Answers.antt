@@ -1,8 +1,7 @@
-use Rattle.std.proofs.Common.{◌≡◌, ◌-◌, length, take, drop, Ok, sym, ap, ◌∙◌}
-use Rattle.snmp_wire.specs.ber.Canon.{canon_content}
+use Rattle.std.proofs.Common.{arith, ◌≡◌, ◌-◌, length, take, drop, Ok, sym, ◌∙◌}
+use Rattle.std.proofs.lemmas.Grind.{common_steps}
 use Rattle.snmp_wire.specs.ber.Reading.{identifier_of}
 use Rattle.snmp_wire.proofs.ReadingLaws.{is_ok_at, ok_is}
-use Rattle.snmp_wire.specs.ber.Value.{object_id}
 use Rattle.snmp_wire.proofs.IdentifierReading.{identifier_again}
 use Rattle.snmp_wire.proofs.NameOrder.{content_short}
 use Rattle.snmp_wire.proofs.IdentifierWriting.{is_object_id}
@@ -16,9 +15,7 @@ put_identifier-start-requires-clause-room c = content_short c.args.name.now c.as
 -- what lies there is read as the name
 is_read : (c : After-put_identifier-start) → identifier_of (take (length c.put_identifier-start.new.out - c.put_identifier-start.result)
     (drop c.put_identifier-start.result c.put_identifier-start.new.out)) ≡ Ok c.args.name.now
-is_read c = ap identifier_of (written_to_end c.put_identifier-start.ensures (sym c.told-out))
-    ∙ identifier_again (canon_content (object_id c.args.name.now)) c.args.name.now
-    (is_object_id c.args.name.now c.requires c.as_slice-numbers.ensures.is_identifier)
+is_read c = grind (arith, common_steps, written_to_end, identifier_again, is_object_id)
 
 pub of-requires : goal.of-requires
 of-requires c = is_ok_at _ c.args.name.now (is_read (goal.at.of-requires c).After-put_identifier-start)
