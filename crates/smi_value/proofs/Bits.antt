@@ -1,5 +1,6 @@
 -- The bits of a value of BITS that are set.
-use Rattle.std.proofs.Common.{◌≡◌, ℕ, zero, suc, ◌+◌, ◌-◌, ◌*◌, ◌/◌, ◌%◌, ◌^◌, ◌<◌, ◌≤◌, Bool, true, false, eqb, cond, List, [], ◌∷◌, ◌++◌, length}
+use Rattle.std.proofs.lemmas.Grind.{common_steps}
+use Rattle.std.proofs.Common.{◌≡◌, ℕ, zero, suc, ◌+◌, ◌-◌, ◌*◌, ◌/◌, ◌%◌, ◌^◌, ◌<◌, ◌≤◌, Bool, true, eqb, List, [], ◌∷◌, ◌++◌, length}
 use Rattle.std.proofs.Common.{get_or, refl, sym, ◌∙◌, ap, arith, append_assoc}
 use Rattle.std.specs.Prelude.{Contains, codes}
 use Rattle.std.specs.List.{filter, flat_map, enumerate_from, range_with_len}
@@ -120,12 +121,7 @@ module _ (letters : Letters) (names : List NamedNumber) where
   one_more : (s : ℕ → ℕ) (n count m a : ℕ) (rest : List ℕ) → n ≡ m → s n ≡ a → shown s (n + 1) count ≡ rest
       → shown s n (suc count) ≡ bit_text letters names m a ++ rest
   unfolding shown
-  one_more s n count m a rest e f g = by (eqb (s n) 1) ∙ (λ i. bit_text letters names (e i) (f i) ++ g i)
-    where
-      by : (b : Bool) → flat_map (set_bit_text letters names) (cond b (n ∷ picked s (n + 1) count) (picked s (n + 1) count))
-          ≡ cond b (set_bit_text letters names n) [] ++ flat_map (set_bit_text letters names) (picked s (n + 1) count)
-      by true = refl
-      by false = refl
+  one_more s n count m a rest e f g = grind (arith, common_steps)
 
   octet_shown : (s : ℕ → ℕ) (k n octet count : ℕ) (rest : List ℕ) → n ≡ 8 * k → ((j m : ℕ) → j < 8 → m ≡ n + j → s m ≡ digit octet j)
       → shown s (n + 1 + 1 + 1 + 1 + 1 + 1 + 1 + 1) count ≡ rest
@@ -165,6 +161,4 @@ module _ (letters : Letters) (names : List NamedNumber) where
   }
 
   pub bits_once : (octets a b : List ℕ) → IsBitsText letters names octets a → IsBitsText letters names octets b → a ≡ b
-  bits_once octets a b h k =
-      h.whole ∙ ap (λ bits. type_word letters (codes "BITS: ") ++ hexadecimal_text octets ++ flat_map (set_bit_text letters names) bits)
-      (same_bits octets h.bits k.bits h.are k.are) ∙ sym k.whole
+  bits_once octets a b h k = grind (arith, common_steps, same_bits)

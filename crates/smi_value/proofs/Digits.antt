@@ -1,10 +1,9 @@
 -- Digits read from the front of a text, and written from the last to the first.
+use Rattle.std.proofs.lemmas.Grind.{common_steps}
 use Rattle.std.proofs.Common.{◌≡◌, ℕ, suc, ◌+◌, ◌-◌, ◌*◌, ◌/◌, ◌%◌, ◌<◌, ◌≤◌, true, false, List, [], ◌∷◌, length, take, drop, get_or, refl, sym, ◌∙◌}
-use Rattle.std.proofs.Common.{ap, subst, arith, rules, tests, add-one, ◌^◌, inl, inr}
+use Rattle.std.proofs.Common.{ap, arith, rules, tests, add-one, ◌^◌, inl, inr}
 use Rattle.std.specs.Fmt.{digits, digits_onto, digit_glyph, decimal}
-use Rattle.std.specs.Char.{is_ascii_digit}
 use Rattle.std.specs.Int.{IsInRange}
-use Rattle.std.specs.List.{prefix_len}
 use Rattle.std.specs.Str.Parse.{digits_value}
 use Rattle.std.proofs.Math.ListN.{set}
 use Rattle.std.proofs.lemmas.List.{drop-set, get_or-take, take_more}
@@ -39,59 +38,33 @@ pub last_written : (at base left n : ℕ) (written : List ℕ) → AreLeft (suc 
 last_written at base left n written h e = rw e at h.same
 
 pub front_is_digits : (text : List ℕ) (k : ℕ) → k < length (front_digits text) → IsInRange 48 57 (get_or (front_digits text) k 0)
-front_is_digits text k low =
-    let n : ℕ = prefix_len is_ascii_digit text in
-    let long : length (front_digits text) ≡ n = length-prefix_len is_ascii_digit text in
-    let within : k < n = omega arith in
-    let same : get_or (front_digits text) k 0 ≡ get_or text k 0 = get_or-take n text k 0 within in
-    let passes : is_ascii_digit (get_or text k 0) ≡ true = prefix_len_passes is_ascii_digit text k 0 within in
-    let digit : IsInRange 48 57 (get_or text k 0) = search (rules, tests) in
-    let P : ℕ → Type 0 = λ c. IsInRange 48 57 c in
-    subst P (sym same) digit
+front_is_digits text k low = grind (arith, common_steps, length-prefix_len, get_or-take, prefix_len_passes)
 
 -- a digit written before those that are there
 pub written_before : (at base left n digit : ℕ) (text : List ℕ) → 0 < at → at ≤ length text → AreLeft at base left (drop at text) n
     → digit ≡ digit_glyph false (left % base)
     → (left / base == 0) ≡ false → AreLeft (at - 1) base (left / base) (drop (at - 1) (set text (at - 1) digit)) n
-written_before at base left n digit text some within h is_digit more =
-    let k : ℕ = at - 1 in
-    let e : at ≡ suc k = omega arith in
-    let P : ℕ → Type 0 = λ a. AreLeft a base left (drop a text) n in
-    let last : drop k (set text k digit) ≡ digit_glyph false (left % base) ∷ drop (suc k) text = drop-set text k digit (omega arith)
-    ∙ (rw (add-one, is_digit) refl) in
-    rw last (one_written k base left n (drop (suc k) text) (subst P e h) more)
+written_before at base left n digit text some within h is_digit more = grind (arith, common_steps, drop-set, add-one, one_written)
 
 pub written_last : (at base left n digit : ℕ) (text : List ℕ) → 0 < at → at ≤ length text → AreLeft at base left (drop at text) n
     → digit ≡ digit_glyph false (left % base)
     → (left / base == 0) ≡ true → drop (at - 1) (set text (at - 1) digit) ≡ digits base false n
-written_last at base left n digit text some within h is_digit no_more =
-    let k : ℕ = at - 1 in
-    let e : at ≡ suc k = omega arith in
-    let P : ℕ → Type 0 = λ a. AreLeft a base left (drop a text) n in
-    let last : drop k (set text k digit) ≡ digit_glyph false (left % base) ∷ drop (suc k) text = drop-set text k digit (omega arith)
-    ∙ (rw (add-one, is_digit) refl) in
-    last ∙ last_written k base left n (drop (suc k) text) (subst P e h) no_more
+written_last at base left n digit text some within h is_digit no_more = grind (arith, common_steps, drop-set, add-one, last_written)
 
 -- one digit more
 pub value_more : (digits : List ℕ) (i n d : ℕ) → i < length digits → IsInRange 48 57 (get_or digits i 0) → n ≡ digits_value 10 (take i digits)
     → d ≡ get_or digits i 0 - 48
     → n * 10 + d ≡ digits_value 10 (take (i + 1) digits)
-value_more digits i n d low digit e f =
-    let more = digits_value_more 10 digits i low in
-    let value = digit_value_digit (get_or digits i 0) digit in
-    omega (arith, more, value, digit.0)
+value_more digits i n d low digit e f = grind (arith, common_steps, digits_value_more, digit_value_digit)
 
 pub value_above : (text : List ℕ) (i n most : ℕ) → n ≡ digits_value 10 (take (i + 1) (front_digits text)) → most < n
     → (number : ℕ) (rest : List ℕ) → StartsWithNumber text number rest → most < number
-value_above text i n most e above number rest h =
-    let le = digits_value-take-le 10 (front_digits text) (i + 1) (omega arith) in
-    omega (arith, le, h.value)
+value_above text i n most e above number rest h = grind (arith, common_steps, digits_value-take-le)
 
 -- one octet more of a number
 pub number_more : (octets : List ℕ) (i : ℕ) → i < length octets → number_of_octets (take (i + 1) octets)
     ≡ number_of_octets (take i octets) * 256 + get_or octets i 0
-number_more octets i low =
-    ap number_of_octets (take_more octets i 0 low) ∙ number_after_append 256 0 (take i octets) (get_or octets i 0 ∷ [])
+number_more octets i low = grind (arith, common_steps, take_more, number_after_append)
 
 pub below_more : (n o i : ℕ) → n < 2 ^ (8 * i) → o < 256 → n * 256 + o < 2 ^ (8 * (i + 1))
 below_more n o i low small =
@@ -149,6 +122,4 @@ pub decimal_two : (n : ℕ) → 10 ≤ n → n < 100 → decimal n ≡ (48 + n /
 decimal_two n some low = rw (decimal_step n some (omega arith), decimal_digit (n / 10) (omega arith))
 
 pub decimal_three : (n : ℕ) → 100 ≤ n → n < 1000 → decimal n ≡ (48 + n / 100) ∷ (48 + n / 10 % 10) ∷ (48 + n % 10) ∷ []
-decimal_three n some low =
-    let tens : n / 10 / 10 ≡ n / 100 = omega arith in
-    rw (decimal_step n (omega arith) (omega arith), decimal_two (n / 10) (omega arith) (omega arith), tens)
+decimal_three n some low = grind (arith, common_steps, decimal_step, decimal_two)

@@ -1,4 +1,5 @@
 -- Numbers that one to three digits state.
+use Rattle.std.proofs.lemmas.Grind.{common_steps}
 use Rattle.std.proofs.Common.{◌≡◌, ℕ, pos, ◌+◌, ◌-◌, ◌*◌, ◌≤◌, true, false, [], ◌∷◌, List, Some, refl, length, get_or, arith, rules, tests}
 use Rattle.std.specs.Bool.{nat_le}
 use Rattle.std.specs.Int.{IsInRange}
@@ -22,14 +23,12 @@ one_stated _ n long h e = absurd (omega arith)
 pub two_stated : (text : List ℕ) (n : ℕ) → length text ≡ 2 → IsInRange 48 57 (get_or text 0 0) → IsInRange 48 57 (get_or text 1 0)
     → n ≡ 10 * (get_or text 0 0 - 48) + (get_or text 1 0 - 48) → stated_number text ≡ Some (pos n)
 unfolding number_value
-two_stated (b ∷ c ∷ []) n long h k e =
-    stated (b ∷ c ∷ []) n (no_sign b (c ∷ []) h) (omega (arith, value_of b h, value_of c k)) (omega (arith, h.1, k.1))
+two_stated (b ∷ c ∷ []) n long h k e = grind (arith, common_steps, stated, no_sign, value_of)
 two_stated _ n long h k e = absurd (omega arith)
 
 pub three_stated : (text : List ℕ) (n : ℕ) → length text ≡ 3 → IsInRange 48 57 (get_or text 0 0) → IsInRange 48 57 (get_or text 1 0)
     → IsInRange 48 57 (get_or text 2 0) → n ≡ 100 * (get_or text 0 0 - 48) + (10 * (get_or text 1 0 - 48) + (get_or text 2 0 - 48))
     → stated_number text ≡ Some (pos n)
 unfolding number_value
-three_stated (a ∷ b ∷ c ∷ []) n long g h k e = stated (a ∷ b ∷ c ∷ []) n (no_sign a (b ∷ c ∷ []) g)
-    (omega (arith, value_of a g, value_of b h, value_of c k)) (omega (arith, g.1, h.1, k.1))
+three_stated (a ∷ b ∷ c ∷ []) n long g h k e = grind (arith, common_steps, stated, no_sign, value_of)
 three_stated _ n long g h k e = absurd (omega arith)

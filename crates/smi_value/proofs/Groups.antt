@@ -1,8 +1,9 @@
 -- The pieces and groups that octets are still to be cut into, and those that they were cut into.
-use Rattle.std.proofs.Common.{◌≡◌, ◌≢◌, ℕ, zero, suc, ◌+◌, ◌-◌, ◌<◌, ◌≤◌, Bool, true, false, List, [], ◌∷◌, ◌++◌, length, take, drop, replicate, refl}
-use Rattle.std.proofs.Common.{sym, ◌∙◌, ap, subst, arith, rules, tests, inl, inr, ◌⊎◌, append-nil, Option, None, option_to_list, if◌then◌else◌}
-use Rattle.std.proofs.Common.{length-drop, map, append_assoc, not, min}
-use Rattle.std.specs.Bool.{◌==◌, nat_lt}
+use Rattle.std.proofs.lemmas.Grind.{common_steps}
+use Rattle.std.proofs.Common.{◌≡◌, ◌≢◌, ℕ, zero, suc, ◌+◌, ◌-◌, ◌<◌, ◌≤◌, true, false, List, [], ◌∷◌, ◌++◌, length, take, drop, replicate, refl}
+use Rattle.std.proofs.Common.{sym, ◌∙◌, ap, subst, arith, inl, inr, ◌⊎◌, append-nil, Option, None, option_to_list, if◌then◌else◌}
+use Rattle.std.proofs.Common.{length-drop, map, append_assoc, min}
+use Rattle.std.specs.Bool.{◌==◌}
 use Rattle.std.proofs.lemmas.List.{length-replicate, length-map, length-take, length-take-le, drop_all}
 use Rattle.snmp_io.specs.draft.Draft.{Written, Grows, Adds}
 use Rattle.smi_value.specs.declared.hint.spec.Spec.{Spec}
@@ -26,11 +27,7 @@ pub record PiecesAhead (spec : Spec) (times : ℕ) (octets : List ℕ) (old : Wr
   pub whole : (new : Written) (rest : List ℕ) → AppendsPieces spec ahead left now new rest → AppendsPieces spec times octets old new rest
 
 pub no_pieces : (spec : Spec) (times : ℕ) (octets : List ℕ) (now : Written) → (0 ≡ times) ⊎ (octets ≡ []) → AppendsPieces spec times octets now now octets
-no_pieces spec times octets now enough = record {
-  pieces = [];
-  cut = record { are_pieces = refl; at_most = omega arith; enough = enough };
-  grows = grows_none now;
-}
+no_pieces spec times octets now enough = grind (arith, common_steps, grows_none)
 
 one_mark : (spec : Spec) (ahead : ℕ) (rest : List ℕ) → (0 ≡ ahead) ⊎ (rest ≡ [])
     → mark_before (if ahead == 0 then last_mark spec else spec.separator) rest ≡ mark_before (last_mark spec) rest
@@ -41,8 +38,7 @@ more_mark : (spec : Spec) (ahead : ℕ) (rest : List ℕ) → 0 < ahead → rest
     → mark_before (if ahead == 0 then last_mark spec else spec.separator) rest ≡ option_to_list spec.separator
 more_mark spec zero rest some left = absurd (omega arith)
 more_mark spec (suc ahead) [] some left = absurd (left refl)
-more_mark spec (suc ahead) (octet ∷ more) some left =
-    let more_ahead : (suc ahead == 0) ≡ false = search (rules, tests) in rw more_ahead refl
+more_mark spec (suc ahead) (octet ∷ more) some left = grind (arith, common_steps)
 
 pub one_piece : (spec : Spec) (ahead : ℕ) (left : List ℕ) (old now new : Written) (rest : List ℕ) → left ≢ []
     → Grows old (piece_text spec.format (take spec.length left) ++ mark_before (if ahead == 0 then last_mark spec else spec.separator)
@@ -152,16 +148,10 @@ pieces_no_longer width (piece ∷ pieces) octets rest h =
     omega (arith, le, length-drop width octets)
 
 body_no_longer : (spec : Spec) (octets : List ℕ) → length (body_of spec octets) ≤ length octets
-body_no_longer spec octets = elim spec.is_counted as (λ b. length (if b then drop 1 octets else octets) ≤ length octets) [
-  | true ↦ omega
-      (arith, length-drop 1 octets)
-  | false ↦ omega arith
-]
+body_no_longer spec octets = grind (arith, common_steps, length-drop)
 
 pub group_no_longer : (spec : Spec) (pieces : List (List ℕ)) (octets rest : List ℕ) → IsGroup spec pieces octets rest → length rest ≤ length octets
-group_no_longer spec pieces octets rest h =
-    let le = pieces_no_longer spec.length pieces (body_of spec octets) rest h.cut.are_pieces in
-    omega (arith, le, body_no_longer spec octets)
+group_no_longer spec pieces octets rest h = grind (arith, common_steps, pieces_no_longer, body_no_longer)
 
 counted_group : (spec : Spec) (octets : List ℕ) → spec.is_counted ≡ true → octets ≢ [] → length (body_of spec octets) < length octets
 counted_group spec [] e some = absurd (some refl)
@@ -169,26 +159,13 @@ counted_group spec (octet ∷ more) e some = rw e (omega arith)
 
 single_group : (spec : Spec) (pieces : List (List ℕ)) (octets rest : List ℕ) → octets ≢ [] → 0 < spec.length → IsCut spec.length 1 pieces octets rest
     → length rest < length octets
-single_group spec [] octets rest some wide cut =
-    elim cut.enough [ inl e ↦ absurd (omega (arith, e)) | inr e ↦ absurd (some (sym cut.are_pieces ∙ e)) ]
+single_group spec [] octets rest some wide cut = grind (arith, common_steps)
 single_group spec (piece ∷ pieces) [] rest some wide cut = absurd (some refl)
-single_group spec (piece ∷ pieces) (octet ∷ more) rest some wide cut =
-    let le = pieces_no_longer spec.length pieces (drop spec.length (octet ∷ more)) rest cut.are_pieces.2 in
-    omega (arith, le, length-drop spec.length (octet ∷ more))
+single_group spec (piece ∷ pieces) (octet ∷ more) rest some wide cut = grind (arith, common_steps, pieces_no_longer, length-drop)
 
 pub group_shorter : (spec : Spec) (pieces : List (List ℕ)) (octets rest : List ℕ) → takes_octets spec ≡ true → IsGroup spec pieces octets rest
     → length rest < length octets
-group_shorter spec pieces octets rest takes h = go spec.is_counted refl
-  where
-    go : (b : Bool) → spec.is_counted ≡ b → length rest < length octets
-    go true e =
-        let le = pieces_no_longer spec.length pieces (body_of spec octets) rest h.cut.are_pieces in
-        omega (arith, le, counted_group spec octets e h.some)
-    go false e =
-        let wide : nat_lt 0 spec.length ≡ true = rw e at takes in
-        let some : 0 < spec.length = search (rules, tests) in
-        let cut : IsCut spec.length 1 pieces octets rest = rw e at h.cut in
-        single_group spec pieces octets rest h.some some cut
+group_shorter spec pieces octets rest takes h = grind (arith, common_steps, pieces_no_longer, counted_group, single_group)
 
 pub hint_begins : (hint : List ℕ) (specs : List Spec) → IsOctetHint hint specs → Begins hint specs
 hint_begins hint [] h = absurd h.ends
@@ -275,10 +252,7 @@ alone octet = (octet ∷ []) ∷ []
 
 is_alone : (spec : Spec) (octet : ℕ) (more : List ℕ) → spec.is_counted ≡ false → spec.length ≡ 1 → IsGroup spec (alone octet) (octet ∷ more) more
 unfolding alone
-is_alone spec octet more e f =
-    let some : octet ∷ more ≢ [] = λ no. absurd (cc no) in
-    let cut : IsCut 1 1 ((octet ∷ []) ∷ []) (octet ∷ more) more = record { are_pieces = (some, refl, refl); at_most = omega arith; enough = inl refl } in
-    record { some = some; cut = rw (e, f) cut }
+is_alone spec octet more e f = grind (arith, common_steps)
 
 alone_text : (format : OctetFormat) (mark : Option ℕ) (octet : ℕ) (more : List ℕ) → singles_text format mark (octet ∷ more)
     ≡ single_text format octet ++ mark_before mark more ++ singles_text format mark more
@@ -298,9 +272,7 @@ are_alone spec e f (octet ∷ more) = (
 )
 
 single_is : (spec : Spec) → is_single spec ≡ true → (spec.is_counted ≡ false) × (spec.length ≡ 1)
-single_is spec h =
-    let both = and_parts (not spec.is_counted) (spec.length == 1) h in
-    (not-true spec.is_counted both.0, eqb-true spec.length 1 both.1)
+single_is spec h = grind (arith, common_steps, and_parts, not-true, eqb-true)
 
 pub groups_alone : (hint octets : List ℕ) (old : Written) (spec : Spec) (ahead left : List ℕ) (now new : Written) → ahead ≡ [] → is_single spec ≡ true
     → Adds now (singles_text spec.format (last_mark spec) left) new → GroupsAhead hint octets old spec ahead left now

@@ -1,4 +1,5 @@
 -- Elements that are found or shown one after the other.
+use Rattle.std.proofs.lemmas.Grind.{common_steps}
 use Rattle.std.proofs.Common.{◌≡◌, ℕ, ◌+◌, ◌<◌, List, [], ◌++◌, sym, ◌∙◌, ap, take, length, get_or, arith, zero-add}
 use Rattle.std.specs.List.{flat_map, enumerate_from}
 use Rattle.std.proofs.lemmas.List.{take_more, flat_map_more}
@@ -18,5 +19,4 @@ enumerated_more f xs count low =
 
 pub enumerated_all : (f : ℕ × ℕ → List ℕ) (xs : List ℕ) (count : ℕ) → count ≡ length xs
     → flat_map f (take count (enumerate_from 0 xs)) ≡ flat_map f (enumerate_from 0 xs)
-enumerated_all f xs count e =
-    ap (λ (n : ℕ). flat_map f (take n (enumerate_from 0 xs))) (e ∙ sym (length-enumerate_from 0 xs)) ∙ ap (flat_map f) (take-length (enumerate_from 0 xs))
+enumerated_all f xs count e = grind (arith, common_steps, length-enumerate_from, take-length)

@@ -1,7 +1,8 @@
 -- Strings that stand between quotes as they are.
+use Rattle.std.proofs.lemmas.Grind.{common_steps}
 use Rattle.std.proofs.Common.{◌≡◌, ℕ, suc, ◌+◌, ◌%◌, ◌^◌, ◌≤◌, Bool, true, false, cond, ltb, eqb, List, [], ◌∷◌, length, get_or, map, replicate, w8}
-use Rattle.std.proofs.Common.{refl, sym, ap, ◌∙◌, arith, rules, tests, ◌||◌, not, inl, inr}
-use Rattle.std.specs.Bool.{◌==◌, nat_le, OnTrue}
+use Rattle.std.proofs.Common.{refl, sym, ap, ◌∙◌, arith, ◌||◌, not, inl, inr}
+use Rattle.std.specs.Bool.{◌==◌, OnTrue}
 use Rattle.std.specs.List.{flat_map, list_all}
 use Rattle.std.proofs.lemmas.Bool.{and_parts, and_from, cases_lt, not-true, eqb-true, OnTrue_from}
 use Rattle.std.proofs.lemmas.List.{length-map}
@@ -20,10 +21,7 @@ left_mask t lanes n y long few =
     ∙ mask_l-mod (map (λ x. t y x) lanes) 64 (omega (arith, length-map lanes (λ x. t y x)))
 
 plain_by_tests : (octet : ℕ) → ltb octet 32 ≡ false → ltb 126 octet ≡ false → eqb octet 34 ≡ false → eqb octet 92 ≡ false → is_plain octet ≡ true
-plain_by_tests octet low high quote backslash =
-    let from : nat_le 32 octet ≡ true = search (rules, tests) in
-    let to : nat_le octet 126 ≡ true = search (rules, tests) in
-    rw (from, to, quote, backslash) refl
+plain_by_tests octet low high quote backslash = grind (arith, common_steps)
 
 -- the masks of the octets from one place on: those below and those above another, and those equal to it
 abbrev mask_below : List ℕ → ℕ → ℕ → ℕ → ℕ

@@ -1,12 +1,12 @@
 -- Letters that are read one after the other.
-use Rattle.std.proofs.Common.{◌≡◌, ℕ, ◌+◌, ◌<◌, Bool, true, false, not, List, [], ◌∷◌, ◌++◌, Option, Some, None, refl, sym, ◌∙◌, ap, take, drop}
-use Rattle.std.proofs.Common.{length, get_or, codes, if◌then◌else◌, suc, drop-cons, take-append-drop, ◌||◌}
+use Rattle.std.proofs.Common.{arith, ◌≡◌, ℕ, ◌+◌, ◌<◌, Bool, true, false, not, List, [], ◌∷◌, ◌++◌, Option, Some, None, refl, sym, ◌∙◌, ap, take}
+use Rattle.std.proofs.Common.{drop, length, get_or, if◌then◌else◌, suc, drop-cons, take-append-drop, ◌||◌}
+use Rattle.std.proofs.lemmas.Grind.{common_steps}
 use Rattle.std.specs.Bool.{◌==◌}
 use Rattle.std.specs.List.{find}
 use Rattle.std.proofs.lemmas.List.{reverse-append, take_more}
 use Rattle.std.proofs.lemmas.List.Folds.{find-append}
-use Rattle.smi_value.specs.letters.Letters.{AreLetters, IsWith, is_one_of, last_of, has_letter, first_other, all_letters, name_form, type_form}
-use Rattle.smi_value.specs.letters.Letters.{string_form}
+use Rattle.smi_value.specs.letters.Letters.{AreLetters, IsWith, is_one_of, last_of, has_letter, first_other, all_letters}
 use Rattle.smi_value.specs.declared.letters.letters.Letters.{Letters}
 
 choice_of : {X : Type 0} (f : Option ℕ → X) (b : Bool) (x y : Option ℕ) → f (if b then x else y) ≡ (if b then f x else f y)
@@ -22,29 +22,13 @@ either_way true false y = refl
 either_way false o y = refl
 
 has_more : (letter : ℕ) (text : List ℕ) (octet : ℕ) → has_letter letter (text ++ octet ∷ []) ≡ (if octet == letter then true else has_letter letter text)
-has_more letter [] octet = alone (octet == letter)
-  where
-    alone : (b : Bool) → (b || false) ≡ (if b then true else false)
-    alone true = refl
-    alone false = refl
+has_more letter [] octet = grind (arith, common_steps)
 has_more letter (x ∷ text) octet =
     ap (λ (b : Bool). (x == letter) || b) (has_more letter text octet) ∙ either_way (x == letter) (octet == letter) (has_letter letter text)
 
 -- the letters of a text with one more
 pub letters_more : (text : List ℕ) (octet : ℕ) (old new : Letters) → AreLetters text old → IsWith old octet new → AreLetters (text ++ octet ∷ []) new
-letters_more text octet old new h k = record {
-  n_f_s_S = k.n_f_s_S ∙ (rw h.n_f_s_S (sym (choice_of name_form (is_one_of (codes "nfsS") octet) (Some octet) (last_of (codes "nfsS") text))))
-      ∙ ap name_form (sym (last_more (codes "nfsS") text octet));
-  q_Q = k.q_Q ∙ (rw h.q_Q (sym (choice_of type_form (is_one_of (codes "qQ") octet) (Some octet) (last_of (codes "qQ") text))))
-      ∙ ap type_form (sym (last_more (codes "qQ") text octet));
-  x_a = k.x_a ∙ (rw h.x_a (sym (choice_of string_form (is_one_of (codes "xa") octet) (Some octet) (last_of (codes "xa") text))))
-      ∙ ap string_form (sym (last_more (codes "xa") text octet));
-  v = k.v ∙ (rw h.v (sym (has_more 118 text octet)));
-  e = k.e ∙ (rw h.e (sym (has_more 101 text octet)));
-  t = k.t ∙ (rw h.t (sym (has_more 116 text octet)));
-  b = k.b ∙ (rw h.b (sym (has_more 98 text octet)));
-  U = k.U ∙ (rw h.U (sym (has_more 85 text octet)));
-}
+letters_more text octet old new h k = grind (arith, common_steps, choice_of, last_more, has_more)
 
 pub letters_at : (text : List ℕ) (i : ℕ) (old new : Letters) → i < length text → AreLetters (take i text) old → IsWith old (get_or text i 0) new
     → AreLetters (take (i + 1) text) new
@@ -64,9 +48,7 @@ is_other octet = not (is_one_of all_letters octet)
 
 pub no_other_more : (text : List ℕ) (i : ℕ) → i < length text → first_other (take i text) ≡ None → is_one_of all_letters (get_or text i 0) ≡ true
     → first_other (take (i + 1) text) ≡ None
-no_other_more text i low none letter =
-    ap first_other (take_more text i 0 low) ∙ find_after is_other (take i text) (get_or text i 0 ∷ []) none
-    ∙ find_nowhere is_other (get_or text i 0) (ap not letter)
+no_other_more text i low none letter = grind (arith, common_steps, take_more, find_after, find_nowhere)
 
 pub other_at : (text : List ℕ) (i : ℕ) → i < length text → first_other (take i text) ≡ None → is_one_of all_letters (get_or text i 0) ≡ false
     → first_other text ≡ Some (get_or text i 0)

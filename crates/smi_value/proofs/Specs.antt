@@ -1,12 +1,13 @@
 -- The specs of a text, read from the front.
-use Rattle.std.proofs.Common.{◌≡◌, ◌≢◌, ℕ, Bool, true, false, List, [], ◌∷◌, refl, ap, inl, inr, subst, arith, ◌<◌, ◌≤◌, Bor}
+use Rattle.std.proofs.lemmas.Grind.{common_steps}
+use Rattle.std.proofs.Common.{◌≡◌, ◌≢◌, ℕ, Bool, true, false, List, [], ◌∷◌, refl, inl, inr, subst, arith, ◌<◌, ◌≤◌, Bor}
 use Rattle.smi_value.specs.hint.Number.{StartsWithNumber, IsNumberHint}
 use Rattle.smi_value.specs.hint.Hint.{IsOfNumbers, IsOfOctets}
 use Rattle.smi_value.specs.declared.hint.number.NumberForm.{NumberForm}
 use Rattle.smi_value.specs.declared.hint.number.NumberForm.TheVariants as form
 use Rattle.smi_value.specs.declared.hint.spec.OctetFormat.{OctetFormat}
 use Rattle.smi_value.specs.declared.hint.spec.OctetFormat.TheVariants as octet_format
-use Rattle.smi_value.specs.hint.Spec.{most_octets, after_star, at_letter, IsFirstSpec, AreSpecs, IsOctetHint, LastTakesOctets, takes_octets, may_end}
+use Rattle.smi_value.specs.hint.Spec.{most_octets, after_star, at_letter, IsFirstSpec, AreSpecs, IsOctetHint, LastTakesOctets, takes_octets}
 use Rattle.smi_value.specs.declared.hint.spec.Spec.{Spec}
 use Rattle.smi_value.specs.hint.Form.{IsFormOf}
 use Rattle.smi_value.specs.declared.hint.hint.HintForm.{HintForm}
@@ -18,18 +19,10 @@ same_fields a b e f g h k = λ i. record { is_counted = e i; length = f i; forma
 
 -- a text has one first spec
 pub same_spec : (text : List ℕ) (a b : Spec) (r s : List ℕ) → IsFirstSpec text a r → IsFirstSpec text b s → a ≡ b
-same_spec text a b r s h k =
-    let counted : a.is_counted ≡ b.is_counted = cc (h.star, k.star) in
-    let separators : a.separator ≡ b.separator = cc (h.separator, k.separator) in
-    let ends : may_end a ≡ may_end b = cc (counted, separators) in
-    let lengths : a.length ≡ b.length = cc (h.length_is, k.length_is) in
-    let formats : a.format ≡ b.format = cc (h.format, k.format) in
-    let terminators : a.terminator ≡ b.terminator = cc (h.terminator, k.terminator, ends) in
-    same_fields a b counted lengths formats separators terminators
+same_spec text a b r s h k = grind (arith, common_steps, same_fields)
 
 pub same_rest : (text : List ℕ) (a b : Spec) (r s : List ℕ) → IsFirstSpec text a r → IsFirstSpec text b s → r ≡ s
-same_rest text a b r s h k =
-    let e : a ≡ b = same_spec text a b r s h k in cc (h.after, k.after, e)
+same_rest text a b r s h k = grind (arith, common_steps, same_spec)
 
 -- the last spec takes octets, or where there is none the one before did
 abbrev pub TakesAfter : Bool → List Spec → Type 0
@@ -52,10 +45,7 @@ pub record GoesOn (text rest : List ℕ) (before : Bool) : Type 0 where
   pub part : (all : List Spec) → IsOctetHint text all → (specs : List Spec) × AreSpecs rest specs × TakesAfter before specs
 
 pub goes_on_first : (text : List ℕ) → GoesOn text text false
-goes_on_first text = record {
-  whole = λ specs are ends. (specs, record { read = are; ends = takes_after_to specs ends });
-  part = λ all hint. (all, hint.read, takes_after_from all hint.ends);
-}
+goes_on_first text = grind (arith, common_steps, takes_after_to, takes_after_from)
 
 -- what a rest that isn't empty begins with
 pub record Begins (text : List ℕ) (specs : List Spec) : Type 0 where
@@ -78,8 +68,7 @@ first_some (octet ∷ more) spec rest h = λ no. absurd (cc no)
 pub after_first : (text : List ℕ) (specs : List Spec) (spec : Spec) (rest : List ℕ) → IsFirstSpec text spec rest → AreSpecs text specs
     → (more : List Spec) × AreSpecs rest more × (specs ≡ spec ∷ more)
 after_first text [] spec rest h are = absurd (first_some text spec rest h are)
-after_first text (first ∷ more) spec rest h (left, is, are) =
-    (more, rw (← same_rest text first spec left rest is h) are, ap (λ (s : Spec). s ∷ more) (same_spec text first spec left rest is h))
+after_first text (first ∷ more) spec rest h (left, is, are) = grind (arith, common_steps, same_rest, same_spec)
 
 pub goes_on_next : (text rest next : List ℕ) (before : Bool) (spec : Spec) → rest ≢ [] → IsFirstSpec rest spec next → GoesOn text rest before
     → GoesOn text next (takes_octets spec)
@@ -136,14 +125,8 @@ of_octets text form first ahead e h = let P : HintForm → Type 0 = λ f. IsForm
 
 pub number_kept : (inside text : List ℕ) (form : HintForm) (number : NumberForm) → inside ≡ text → form ≡ kept.Number number → IsFormOf inside form
     → IsOfNumbers text × (IsOfOctets text → ⊥)
-number_kept inside text form number same e h =
-    let P : List ℕ → Type 0 = λ t. IsFormOf t form in
-    let is = of_number text form number e (subst P same h) in
-    ((number, is), λ n. not_both text number n.0 is n.1)
+number_kept inside text form number same e h = grind (arith, common_steps, of_number, not_both)
 
 pub octets_kept : (inside text : List ℕ) (form : HintForm) (first : Spec) (ahead : Bor (List ℕ)) → inside ≡ text → form ≡ kept.Octets first ahead
     → IsFormOf inside form → IsOfOctets text × (IsOfNumbers text → ⊥)
-octets_kept inside text form first ahead same e h =
-    let P : List ℕ → Type 0 = λ t. IsFormOf t form in
-    let is = of_octets text form first ahead e (subst P same h) in
-    ((is.0, is.1), λ n. not_both text n.0 is.0 n.1 is.1)
+octets_kept inside text form first ahead same e h = grind (arith, common_steps, of_octets, not_both)

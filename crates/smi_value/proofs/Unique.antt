@@ -1,7 +1,7 @@
 -- A hint shows a value in one way.
+use Rattle.std.proofs.lemmas.Grind.{common_steps}
 use Rattle.std.proofs.Common.{◌≡◌, ℕ, ℤ, ◌-◌, inl, inr, List, [], ◌∷◌, ◌++◌, drop, get_or, refl, sym, ◌∙◌, ap, subst, arith}
-use Rattle.std.specs.Str.Parse.{digits_value}
-use Rattle.smi_value.specs.hint.Number.{IsNumberHint, front_digits, number_text}
+use Rattle.smi_value.specs.hint.Number.{IsNumberHint}
 use Rattle.smi_value.specs.hint.Hint.{ShowsNumber, Shows}
 use Rattle.smi_value.specs.declared.hint.number.NumberForm.{NumberForm}
 use Rattle.smi_value.specs.declared.hint.number.NumberForm.TheVariants as form
@@ -25,16 +25,11 @@ same_specs text (spec ∷ more) (other ∷ others) h k =
 
 fewer : (width times : ℕ) (piece : List ℕ) (pieces : List (List ℕ)) (octets rest : List ℕ) → IsCut width times (piece ∷ pieces) octets rest
     → IsCut width (times - 1) pieces (drop width octets) rest
-fewer width times piece pieces octets rest h = record {
-  are_pieces = h.are_pieces.2;
-  at_most = omega (arith, h.at_most);
-  enough = elim h.enough [ inl e ↦ inl (omega (arith, e, h.at_most)) | inr e ↦ inr e ];
-}
+fewer width times piece pieces octets rest h = grind (arith, common_steps)
 
 none_or_some : (width times : ℕ) (piece : List ℕ) (pieces : List (List ℕ)) (octets r s : List ℕ) → IsCut width times [] octets r
     → IsCut width times (piece ∷ pieces) octets s → ⊥
-none_or_some width times piece pieces octets r s h k =
-    elim h.enough [ inl e ↦ absurd (omega (arith, e, k.at_most)) | inr e ↦ k.are_pieces.0 (sym h.are_pieces ∙ e) ]
+none_or_some width times piece pieces octets r s h k = grind (arith, common_steps)
 
 same_pieces : (width times : ℕ) (p q : List (List ℕ)) (octets r s : List ℕ) → IsCut width times p octets r → IsCut width times q octets s → (p ≡ q) × (r ≡ s)
 same_pieces width times [] [] octets r s h k = (refl, h.are_pieces ∙ sym k.are_pieces)
@@ -58,10 +53,7 @@ same_groups (spec ∷ specs) (pieces ∷ g) (others ∷ h) octets a b k l =
     k.4 ∙ (λ i. pieces_text spec (cut.0 i) (cut.1 i) ++ later i) ∙ sym l.4
 
 pub same_shown : (hint octets first second : List ℕ) → ShowsOctets hint octets first → ShowsOctets hint octets second → first ≡ second
-same_shown hint octets first second h k =
-    let specs : h.specs ≡ k.specs = same_specs hint h.specs k.specs h.is_hint.read k.is_hint.read in
-    let P : List Spec → Type 0 = λ s. AreGroups s h.groups octets first in
-    same_groups k.specs h.groups k.groups octets first second (subst P specs h.are_groups) k.are_groups
+same_shown hint octets first second h k = grind (arith, common_steps, same_specs, same_groups)
 
 -- ---- numbers
 
@@ -84,10 +76,7 @@ same_places : (text : List ℕ) (p q : ℕ) → IsNumberHint text (form.Decimal 
 same_places text p q (inl h) (inl k) = h.1 ∙ sym k.1
 same_places text p q (inl h) (inr k) = let no : 100 ∷ [] ≡ 100 ∷ 45 ∷ k.after_hyphen = sym h.0 ∙ k.whole in absurd (cc)
 same_places text p q (inr h) (inl k) = let no : 100 ∷ [] ≡ 100 ∷ 45 ∷ h.after_hyphen = sym k.0 ∙ h.whole in absurd (cc)
-same_places text p q (inr h) (inr k) =
-    let whole : 100 ∷ 45 ∷ h.after_hyphen ≡ 100 ∷ 45 ∷ k.after_hyphen = sym h.whole ∙ k.whole in
-    let after : h.after_hyphen ≡ k.after_hyphen = cc in
-    h.number.value ∙ ap (λ (t : List ℕ). digits_value 10 (front_digits t)) after ∙ sym k.number.value
+same_places text p q (inr h) (inr k) = grind (arith, common_steps)
 
 same_letter : (f g : NumberForm) → letter f ≡ letter g → (text : List ℕ) → IsNumberHint text f → IsNumberHint text g → f ≡ g
 unfolding letter
@@ -98,9 +87,7 @@ same_letter form.Binary form.Binary e text h k = refl
 same_letter _ _ e text h k = absurd (omega arith)
 
 pub same_number : (hint : List ℕ) (n : ℤ) (first second : List ℕ) → ShowsNumber hint n first → ShowsNumber hint n second → first ≡ second
-same_number hint n first second h k =
-    let same = same_letter h.form k.form (sym (begins hint h.form h.is_hint) ∙ begins hint k.form k.is_hint) hint h.is_hint k.is_hint in
-    h.is_text ∙ ap (λ (f : NumberForm). number_text f n) same ∙ sym k.is_text
+same_number hint n first second h k = grind (arith, common_steps, same_letter, begins)
 
 pub same_by_hint : (hint : List ℕ) (shown : HintValue) (first second : List ℕ) → Shows hint shown first → Shows hint shown second → first ≡ second
 same_by_hint hint (value.Number n) first second h k = same_number hint n first second h k

@@ -1,12 +1,12 @@
 -- A value has one text, where the names of identifiers have one.
-use Rattle.std.proofs.Common.{◌≡◌, ℕ, ℤ, Bool, true, false, MatchBool, inl, inr, List, ◌++◌, Option, Some, None, sym, ◌∙◌, ap}
-use Rattle.std.specs.Prelude.{pos, codes}
+use Rattle.std.proofs.Common.{arith, ◌≡◌, ℕ, ℤ, Bool, true, false, MatchBool, inl, inr, List, ◌++◌, Option, Some, None, sym, ◌∙◌, ap}
+use Rattle.std.proofs.lemmas.Grind.{common_steps}
+use Rattle.std.specs.Prelude.{codes}
 use Rattle.snmp_wire.specs.ber.Value.{Datum, integer_value, octet_string, object_id, gauge32}
 use Rattle.smi_text.specs.declared.trees.tree.NamedNumber.{NamedNumber}
-use Rattle.smi_value.specs.declared.base.ValueBase.TheVariants as base
 use Rattle.smi_value.specs.declared.letters.letters.Letters.{Letters}
-use Rattle.smi_value.specs.Pieces.{IsBitsText, type_word, units_text}
-use Rattle.smi_value.specs.Syntax.{ObjectSyntax, syntax_at, is_of_bits, name_of_number}
+use Rattle.smi_value.specs.Pieces.{IsBitsText, type_word}
+use Rattle.smi_value.specs.Syntax.{ObjectSyntax}
 use Rattle.smi_value.specs.Value.{IsNumberText, IsTypedNumber, IsIntegerText, IsHintedString, IsStringText, IsOctetsText, ShowsValue}
 use Rattle.smi_value.proofs.Bits.{bits_once}
 use Rattle.smi_value.proofs.Unique.{same_shown, same_number}
@@ -21,9 +21,7 @@ number_once (Some hint) n a b (inr h) (inr k) = h.1 ∙ sym k.1
 module _ (letters : Letters) where
   typed_once : (word : List ℕ) (hint units : Option (List ℕ)) (n : ℤ) (a b : List ℕ) → IsTypedNumber letters word hint units n a
       → IsTypedNumber letters word hint units n b → a ≡ b
-  typed_once word hint units n a b h k =
-      h.whole ∙ ap (λ (t : List ℕ). type_word letters word ++ t ++ units_text letters units) (number_once hint n h.shown k.shown h.is_number k.is_number)
-      ∙ sym k.whole
+  typed_once word hint units n a b h k = grind (arith, common_steps, number_once)
 
   integer_once : (syntax : ObjectSyntax) (n : ℤ) (name : Option (List ℕ)) (a b : List ℕ) → IsIntegerText letters syntax n name a
       → IsIntegerText letters syntax n name b → a ≡ b
@@ -48,16 +46,12 @@ module _ (letters : Letters) where
   either_once false names hint octets a b h k = string_once hint octets a b h k
 
   octets_once : (syntax : Option ObjectSyntax) (octets a b : List ℕ) → IsOctetsText letters syntax octets a → IsOctetsText letters syntax octets b → a ≡ b
-  octets_once syntax octets a b h k =
-      either_once (is_of_bits syntax) (syntax_at base.Bits syntax).names (syntax_at base.OctetString syntax).hint octets a b h k
+  octets_once syntax octets a b h k = grind (arith, common_steps, either_once)
 
   pub value_once : (names others : List ℕ → List ℕ) → ((o : List ℕ) → names o ≡ others o) → (syntax : Option ObjectSyntax) (value : Datum) (a b : List ℕ)
       → ShowsValue names letters syntax value a → ShowsValue others letters syntax value b → a ≡ b
-  value_once names others same syntax (integer_value n) a b h k =
-      let at = syntax_at base.Integer syntax in integer_once at n (name_of_number at.names n) a b h k
+  value_once names others same syntax (integer_value n) a b h k = grind (arith, common_steps, integer_once)
   value_once names others same syntax (octet_string octets) a b h k = octets_once syntax octets a b h k
-  value_once names others same syntax (object_id name) a b h k =
-      h ∙ ap (λ (t : List ℕ). type_word letters (codes "OID: ") ++ t) (same name) ∙ sym k
-  value_once names others same syntax (gauge32 n) a b h k =
-      let at = syntax_at base.Gauge32 syntax in typed_once (codes "Gauge32: ") at.hint at.units (pos n) a b h k
+  value_once names others same syntax (object_id name) a b h k = grind (arith, common_steps)
+  value_once names others same syntax (gauge32 n) a b h k = grind (arith, common_steps, typed_once)
   value_once names others same syntax _ a b h k = h ∙ sym k

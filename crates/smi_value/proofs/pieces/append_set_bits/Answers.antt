@@ -1,3 +1,4 @@
+use Rattle.std.proofs.lemmas.Grind.{common_steps}
 use Rattle.std.proofs.Common.{arith}
 use Rattle.smi_value.specs.Pieces.{octet_bits}
 use Rattle.smi_value.proofs.Growing.{adds_from}
@@ -9,5 +10,4 @@ octets-preserved c = rw (enumerated_more (octet_bits c.args.letters.now c.args.n
     (c.append_octet_bits.ensures.goes_on _ _ c.octets.invariant)
 
 pub returns : goal.returns
-returns c = adds_from _ _ _ (rw (enumerated_all (octet_bits c.args.letters.now c.args.names.now) c.args.octets.now c.octets.place
-    (omega arith)) at c.octets.invariant)
+returns c = grind (arith, common_steps, adds_from, enumerated_all)

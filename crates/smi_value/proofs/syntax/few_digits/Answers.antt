@@ -1,3 +1,4 @@
+use Rattle.std.proofs.lemmas.Grind.{common_steps}
 use Rattle.std.proofs.Common.{arith}
 use Rattle.smi_value.proofs.FewDigits.{one_stated, two_stated, three_stated}
 use Rattle.smi_value.proofs.syntax.few_digits.Goals as goal
@@ -6,9 +7,7 @@ pub returns-in-48-to-57 : goal.returns-in-48-to-57
 returns-in-48-to-57 c = one_stated c.args.text.now c.from.result (omega arith) (omega arith, omega arith) (omega (arith, c.from.ensures))
 
 pub returns-in-48-to-57-2 : goal.returns-in-48-to-57-2
-returns-in-48-to-57-2 c = two_stated c.args.text.now _ (omega arith) (omega arith, omega arith) (omega arith, omega arith)
-    (omega (arith, c.from-in-48-to-57-2.ensures, c.from-in-48-to-57-2-2.ensures))
+returns-in-48-to-57-2 c = grind (arith, common_steps, two_stated)
 
 pub returns-in-48-to-57-3 : goal.returns-in-48-to-57-3
-returns-in-48-to-57-3 c = three_stated c.args.text.now _ (omega arith) (omega arith, omega arith) (omega arith, omega arith) (omega arith, omega arith)
-    (omega (arith, c.from-in-48-to-57-3.ensures, c.from-in-48-to-57-3-2.ensures, c.from-in-48-to-57-3-3.ensures))
+returns-in-48-to-57-3 c = grind (arith, common_steps, three_stated)

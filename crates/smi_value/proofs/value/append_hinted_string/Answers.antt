@@ -1,5 +1,5 @@
-use Rattle.std.proofs.Common.{◌≡◌, ℕ, List, true, false, refl, inl, inr, sym, subst, ◌∙◌}
-use Rattle.smi_value.specs.hint.Hint.{IsOfOctets}
+use Rattle.std.proofs.Common.{arith, refl, inl}
+use Rattle.std.proofs.lemmas.Grind.{common_steps}
 use Rattle.smi_value.proofs.Growing.{adds_from}
 use Rattle.smi_value.proofs.value.append_hinted_string.Goals as goal
 use Rattle.smi_value.proofs.value.append_hinted_string.Goals.{in_default-via-in-Some+else-not-is_number, in_default-via-in_default}
@@ -12,18 +12,4 @@ returns-in-Some c = (
 )
 
 pub returns-in_default : goal.returns-in_default
-returns-in_default c = (
-  _,
-  inr (
-    elim c.in_default.branch [
-      | in_default-via-in-Some+else-not-is_number w ↦ λ h.
-          let P : List ℕ → Type 0 = λ t. IsOfOctets t in
-          let no : w.is_number.result ≡ false = w.is_number.ensures.false_of_octets.1 (subst P (sym w.in-Some.ensures.found) h) in
-          let differ : true ≡ false = sym w.if-not-is_number.false ∙ no in
-          cc differ
-      | in_default-via-in_default w ↦ λ h. let differ : false ≡ true = w.in_default.ensures.some_of_hints.1 (inr h) in cc differ
-    ],
-    refl,
-  ),
-  c.append_string.ensures,
-)
+returns-in_default c = grind (arith, common_steps, in_default-via-in-Some+else-not-is_number, in_default-via-in_default)

@@ -1,20 +1,11 @@
-use Rattle.std.proofs.Common.{◌≡◌, ◌≢◌, ℕ, ◌+◌, ◌-◌, ◌⊎◌, [], inl, inr, subst, rules, arith}
+use Rattle.std.proofs.lemmas.Grind.{common_steps}
+use Rattle.std.proofs.Common.{◌≡◌, ◌⊎◌, [], inl, inr, arith}
 use Rattle.smi_value.proofs.Growing.{adds_from, none_left}
-use Rattle.smi_value.proofs.Groups.{AppendsPieces, one_piece, no_pieces}
+use Rattle.smi_value.proofs.Groups.{one_piece, no_pieces}
 use Rattle.smi_value.proofs.hint.octets.append_cut.Goals as goal
 
 pub pieces-preserved : goal.pieces-preserved
-pieces-preserved c =
-    let some : c.pieces.left.now ≢ [] = search rules in
-    let e : c.pieces.ahead - 1 + 1 ≡ c.pieces.ahead = omega arith in
-    let first = rw c.append_piece-left.ensures.rest at c.append_piece-left.ensures.adds.grows in
-    record {
-      whole = λ new rest h.
-          let P : ℕ → Type 0 = λ n. AppendsPieces c.args.spec.now n c.pieces.left.now c.pieces.draft new rest in
-          c.pieces.invariant.whole new rest (subst P e (one_piece c.args.spec.now
-          (c.pieces.ahead - 1) c.pieces.left.now c.pieces.draft c.append_piece-left.new.draft new rest some first
-          (rw c.append_piece-left.ensures.rest at h)));
-    }
+pieces-preserved c = grind (arith, common_steps, one_piece)
 
 pub returns-else-not-is_empty : goal.returns-else-not-is_empty
 returns-else-not-is_empty c =

@@ -1,16 +1,12 @@
-use Rattle.std.proofs.Common.{◌≡◌, ◌≢◌, ◌∙◌, List, ℕ, [], take, sym, subst, rules}
+use Rattle.std.proofs.Common.{arith, ◌≢◌, List, ℕ, [], sym, subst, rules}
+use Rattle.std.proofs.lemmas.Grind.{common_steps}
 use Rattle.smi_value.specs.hint.Pieces.{pieces_text}
 use Rattle.smi_value.proofs.Growing.{adds_from, none_left}
 use Rattle.smi_value.proofs.Groups.{AppendsPieces, cut_none, cut_singles}
 use Rattle.smi_value.proofs.hint.octets.append_cut_singles.Goals as goal
 
 pub returns-then-is_empty : goal.returns-then-is_empty
-returns-then-is_empty c =
-    let none : take c.min.result c.args.octets.now ≡ [] = sym c.split_at.ensures.front ∙ none_left _ _ c.is_empty.ensures c.if-is_empty.true in
-    let P : List ℕ → Type 0 = λ rest. AppendsPieces c.args.spec.now c.args.times c.args.octets.now c.args.draft.now c.args.draft.now rest in
-    let all = subst P (sym c.split_at.ensures.back)
-    (cut_none c.args.spec.now c.args.times c.min.result c.args.octets.now c.args.draft.now c.min.ensures none) in
-    (all.pieces, all.cut, adds_from _ _ _ all.grows)
+returns-then-is_empty c = grind (arith, common_steps, none_left, cut_none, adds_from)
 
 pub returns : goal.returns
 returns c =

@@ -1,4 +1,5 @@
-use Rattle.std.proofs.Common.{◌≡◌, [], rules, arith}
+use Rattle.std.proofs.lemmas.Grind.{common_steps}
+use Rattle.std.proofs.Common.{rules, arith}
 use Rattle.smi_value.proofs.Groups.{groups_begin, groups_end, groups_alone, group_then_next, group_then_again, group_no_longer, group_shorter}
 use Rattle.smi_value.proofs.Groups.{last_takes}
 use Rattle.smi_value.proofs.Growing.{none_left}
@@ -14,28 +15,16 @@ returns-then-is_single c =
     (search rules) adds c.groups.invariant
 
 pub groups-smaller-then-not-is_empty : goal.groups-smaller-then-not-is_empty
-groups-smaller-then-not-is_empty c =
-    let le = group_no_longer _ _ _ _ c.append_group-left.ensures.1 in
-    omega (arith, le, c.next_spec.ensures.shorter)
+groups-smaller-then-not-is_empty c = grind (arith, common_steps, group_no_longer)
 
 pub groups-preserved-then-not-is_empty : goal.groups-preserved-then-not-is_empty
-groups-preserved-then-not-is_empty c =
-    group_then_next c.args.hint.now c.args.octets.now c.args.draft.now c.groups.spec _ c.groups.ahead.now _ c.groups.left.now _ c.groups.draft _
-    c.append_group-left.ensures.0
-    c.next_spec.ensures.first c.append_group-left.ensures.1 c.append_group-left.ensures.2 c.groups.invariant
+groups-preserved-then-not-is_empty c = grind (arith, common_steps, group_then_next)
 
 pub groups-smaller : goal.groups-smaller
-groups-smaller c =
-    let none : c.groups.ahead.now ≡ [] = search rules in
-    let takes = last_takes _ _ _ _ _ _ _ none c.groups.invariant in
-    let lt = group_shorter _ _ _ _ takes c.append_group-left.ensures.1 in
-    omega (arith, lt)
+groups-smaller c = grind (arith, common_steps, last_takes, group_shorter)
 
 pub groups-preserved : goal.groups-preserved
-groups-preserved c =
-    group_then_again c.args.hint.now c.args.octets.now c.args.draft.now c.groups.spec c.groups.ahead.now c.groups.left.now _ c.groups.draft _
-    c.append_group-left.ensures.0 (search rules)
-    c.append_group-left.ensures.1 c.append_group-left.ensures.2 c.groups.invariant
+groups-preserved c = grind (arith, common_steps, group_then_again)
 
 pub returns : goal.returns
 returns c =

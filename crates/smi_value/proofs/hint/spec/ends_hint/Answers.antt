@@ -1,4 +1,5 @@
-use Rattle.std.proofs.Common.{◌≡◌, ◌≢◌, false, [], refl, rules}
+use Rattle.std.proofs.Common.{arith, ◌≡◌, false, [], refl}
+use Rattle.std.proofs.lemmas.Grind.{common_steps}
 use Rattle.smi_value.proofs.Growing.{none_left}
 use Rattle.smi_value.proofs.Specs.{goes_on_first, goes_on_next, no_hint, at_end, first_some}
 use Rattle.smi_value.proofs.hint.spec.ends_hint.Goals as goal
@@ -10,16 +11,10 @@ specs-init c =
     rw c.takes_octets-ends_well.ensures first
 
 pub returns-in_default : goal.returns-in_default
-returns-in_default c =
-    let some : c.specs.rest.now ≢ [] = search rules in
-    (λ e. absurd (cc e), λ h. absurd (no_hint c.args.text.now c.specs.rest.now c.specs.ends_well some c.in_default.ensures.none c.specs.invariant h.0 h.1))
+returns-in_default c = grind (arith, common_steps, no_hint)
 
 pub specs-preserved : goal.specs-preserved
-specs-preserved c =
-    let some : c.specs.rest.now ≢ [] = search rules in
-    let next = goes_on_next c.args.text.now c.specs.rest.now c.in-Some.more.now c.specs.ends_well c.in-Some.spec some c.in-Some.ensures.found c.specs.invariant
-    in
-    rw c.takes_octets-ends_well-in-specs.ensures next
+specs-preserved c = grind (arith, common_steps, goes_on_next)
 
 pub returns : goal.returns
 returns c =

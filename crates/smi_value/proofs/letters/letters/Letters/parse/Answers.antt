@@ -1,11 +1,10 @@
-use Rattle.std.proofs.Common.{arith, sym, ◌∙◌}
+use Rattle.std.proofs.lemmas.Grind.{common_steps}
+use Rattle.std.proofs.Common.{arith}
 use Rattle.smi_value.proofs.Reading.{letters_at, no_other_more, other_at}
 use Rattle.smi_value.proofs.letters.letters.Letters.parse.Goals as goal
 
 pub returns-in-None-clause-ok_where_all_are_letters : goal.returns-in-None-clause-ok_where_all_are_letters
-returns-in-None-clause-ok_where_all_are_letters c =
-    let other = other_at c.args.text.now c.letters.octet-index (omega arith) c.letters.invariant.none_other c.in-None.ensures.none in
-    (λ e. absurd (cc e), λ e. absurd (cc (sym other ∙ e)))
+returns-in-None-clause-ok_where_all_are_letters c = grind (arith, common_steps, other_at)
 
 pub returns-in-None-clause-first_other : goal.returns-in-None-clause-first_other
 returns-in-None-clause-first_other c = other_at c.args.text.now c.letters.octet-index (omega arith) c.letters.invariant.none_other c.in-None.ensures.none
