@@ -3,8 +3,7 @@ use Rattle.std.proofs.Common.{◌≡◌, ℕ, suc, ◌+◌, ◌*◌, ◌^◌, �
 use Rattle.std.proofs.Common.{drop, refl, sym, ◌∙◌, ap, arith, drop-cons, add-one}
 use Rattle.std.specs.Prelude.{Some, None}
 use Rattle.std.proofs.lemmas.List.{drop_all}
-use Rattle.std.proofs.Math.Nat.{le-mul_of_pos_right, one-le-pow, mul_comm, mul_assoc, mul-one}
-use Rattle.std.proofs.Math.Nat.{pow-zero, pow-succ'}
+use Rattle.std.proofs.Math.Nat.{le-mul_of_pos_right, one-le-pow, mul_comm, mul_assoc, mul-one, pow-zero, pow-succ'}
 use Rattle.std.proofs.lemmas.Bool.{lt-leb, le-leb}
 use Rattle.smi_text.specs.trees.Number.{digit_value, number_value, up_to}
 

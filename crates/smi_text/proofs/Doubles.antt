@@ -1,16 +1,13 @@
 -- Where definitions define a name again, no modules without a double name are read.
-use Rattle.std.proofs.Common.{◌≡◌, ℕ, true, false, not, List, [], ◌∷◌, ◌++◌, Some, None, refl, sym}
-use Rattle.std.proofs.Common.{◌∙◌, ap, subst, inl, inr}
-use Rattle.std.proofs.lemmas.Bool.{and_parts, or_left, or_right}
+use Rattle.std.proofs.Common.{◌≡◌, ℕ, true, false, not, List, [], ◌∷◌, ◌++◌, Some, None, refl, sym, ◌∙◌, ap, subst, inl, inr}
+use Rattle.std.proofs.lemmas.Bool.{and_parts, or_left, or_right, or_cases}
 use Rattle.std.specs.Prelude.{codes}
 use Rattle.std.specs.List.{flat_map, list_any, list_all}
-use Rattle.std.proofs.lemmas.Bool.{or_cases}
 use Rattle.std.proofs.lemmas.List.{map-append}
 use Rattle.std.proofs.lemmas.List.Folds.{list_any-append}
 use Rattle.smi_text.specs.lexer.Token.{Lexeme, Item}
 use Rattle.smi_text.specs.trees.Mark.{Mark, same_text}
-use Rattle.smi_text.specs.Format.{StandsAhead, Format, Parsed, begins, apart, with_front, before}
-use Rattle.smi_text.specs.Format.{many, pair, shaped, word, lower}
+use Rattle.smi_text.specs.Format.{StandsAhead, Format, Parsed, begins, apart, with_front, before, many, pair, shaped, word, lower}
 use Rattle.smi_text.specs.Grammar.{to_module, definition, file, head, module_text}
 use Rattle.smi_text.specs.trees.Spelling.{of_def, of_head, spelling}
 use Rattle.smi_text.specs.Text.{HasNoDoubles, HasSecond, DefinesAgain}

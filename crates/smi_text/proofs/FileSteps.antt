@@ -1,19 +1,16 @@
 -- The steps of the loops over definitions and over modules.
-use Rattle.std.proofs.Common.{◌≡◌, ℕ, ◌<◌, Bool, true, false, ◌||◌, List, [], ◌∷◌, ◌++◌, length}
-use Rattle.std.proofs.Common.{Some, None, refl, sym, ◌∙◌, ap, Bor}
+use Rattle.std.proofs.Common.{◌≡◌, ℕ, ◌<◌, Bool, true, false, ◌||◌, List, [], ◌∷◌, ◌++◌, length, Some, None, refl, sym, ◌∙◌, ap, Bor}
 use Rattle.std.specs.List.{flat_map, list_any}
 use Rattle.std.specs.BTreeSet.{BTreeSet}
 use Rattle.smi_text.specs.lexer.Token.{Item, tokens_of}
 use Rattle.smi_text.specs.trees.Mark.{same_text}
-use Rattle.smi_text.specs.Format.{StandsAhead}
+use Rattle.smi_text.specs.Format.{StandsAhead, begins, many, with_front, shaped, pair, before, lower}
 use Rattle.smi_text.specs.Names.{has}
-use Rattle.smi_text.specs.Format.{begins, many, with_front, shaped, pair, before, lower}
 use Rattle.smi_text.specs.Grammar.{definition, head, module_text, file}
 use Rattle.smi_text.specs.trees.Spelling.{of_def, of_head, of_module, spelling}
 use Rattle.smi_text.specs.Text.{HasNoDoubles, HasSecond}
 use Rattle.smi_text.specs.trees.Lookup.{labels, are_distinct}
-use Rattle.smi_text.specs.Returned.{is_memory, error_of, text_ahead, NewDefinitionFault}
-use Rattle.smi_text.specs.Returned.{ReadsDefinitions, DefinitionsFault, ReadsModule, ModuleFault}
+use Rattle.smi_text.specs.Returned.{is_memory, error_of, text_ahead, NewDefinitionFault, ReadsDefinitions, DefinitionsFault, ReadsModule, ModuleFault}
 use Rattle.smi_text.specs.Returned.{ReadsModules, ModulesFault}
 use Rattle.smi_text.specs.declared.stop.Stop.{Stop}
 use Rattle.smi_text.specs.declared.stop.Stop.TheVariants as S
@@ -23,14 +20,12 @@ use Rattle.smi_text.specs.declared.modules.Head.{Head}
 use Rattle.smi_text.specs.declared.trees.tree.Def.{Def}
 use Rattle.smi_text.specs.declared.trees.tree.Module.{Module}
 use Rattle.smi_text.proofs.Marks.{StandsAhead-append}
-use Rattle.smi_text.proofs.Many.{reading-shorter, many-fails, many-goes_on, many-done}
-use Rattle.smi_text.proofs.Many.{with_front-append, with_front-none, with_front-end}
+use Rattle.smi_text.proofs.Many.{reading-shorter, many-fails, many-goes_on, many-done, with_front-append, with_front-none, with_front-end}
 use Rattle.smi_text.proofs.Many.{with_front-nil}
 use Rattle.smi_text.proofs.Laws.{starts-with, some-inj}
 use Rattle.smi_text.proofs.ProductionLaws.{definition-law, head-law, module_text-law}
 use Rattle.smi_text.proofs.Shorter.{definition-solid, module_text-solid}
-use Rattle.smi_text.proofs.DefinitionLists.{read-label, stands-more, distinct-more, among-more}
-use Rattle.smi_text.proofs.DefinitionLists.{no-doubles-more, nothing-begins}
+use Rattle.smi_text.proofs.DefinitionLists.{read-label, stands-more, distinct-more, among-more, no-doubles-more, nothing-begins}
 use Rattle.smi_text.proofs.Tokens.{taken-stands, Stands-append}
 
 -- definitions

@@ -1,21 +1,17 @@
 -- Indexes are lawful.
-use Rattle.std.proofs.Common.{◌≡◌, ℕ, zero, suc, ◌≤◌, Bool, true, false, List, [], ◌∷◌, length}
-use Rattle.std.proofs.Common.{Some, None, Ok, Err, if◌then◌else◌, refl, sym, ◌∙◌, subst, arith}
-use Rattle.std.proofs.Common.{inl, inr}
+use Rattle.std.proofs.Common.{◌≡◌, ℕ, zero, suc, ◌≤◌, Bool, true, false, List, [], ◌∷◌, length, Some, None, Ok, Err, if◌then◌else◌, refl, sym, ◌∙◌}
+use Rattle.std.proofs.Common.{subst, arith, inl, inr}
 use Rattle.std.specs.Prelude.{codes, option_map, option_and_then}
 use Rattle.smi_text.specs.declared.lexer.token.TokenKind.TheVariants as K
 use Rattle.smi_text.specs.lexer.Token.{Item}
 use Rattle.smi_text.specs.trees.Mark.{Mark, sign, spelled}
-use Rattle.smi_text.specs.Format.{StandsAhead, pair, Parsed, a_word, a_kind, begins, behind}
-use Rattle.smi_text.specs.Format.{shaped, text, token, word, lower}
+use Rattle.smi_text.specs.Format.{StandsAhead, pair, Parsed, a_word, a_kind, begins, behind, shaped, text, token, word, lower}
 use Rattle.smi_text.specs.Grammar.{index_parts, implied_name, index_names, read_index, with_names}
 use Rattle.smi_text.specs.trees.Spelling as say
 use Rattle.smi_text.proofs.Lawful.{Lawful}
-use Rattle.smi_text.proofs.Marks.{if-inv, StandsAhead-append, StandsAhead-split, begins-none}
-use Rattle.smi_text.proofs.Marks.{apart-false, map-inv, then-inv}
+use Rattle.smi_text.proofs.Marks.{if-inv, StandsAhead-append, StandsAhead-split, begins-none, apart-false, map-inv, then-inv}
 use Rattle.smi_text.proofs.Many.{StandsAhead-length}
-use Rattle.smi_text.proofs.Laws.{some-inj, never-stands, token-law, lower-law, starts-with}
-use Rattle.smi_text.proofs.Laws.{begins-left, begins-right}
+use Rattle.smi_text.proofs.Laws.{some-inj, never-stands, token-law, lower-law, starts-with, begins-left, begins-right}
 use Rattle.smi_text.proofs.PieceLaws.{after-word}
 use Rattle.smi_text.specs.declared.trees.names.Name.{Name}
 use Rattle.smi_text.specs.declared.trees.tree.IndexParts.{IndexParts}

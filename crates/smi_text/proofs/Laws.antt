@@ -1,30 +1,24 @@
 -- Each way of making a format keeps it lawful.
-use Rattle.std.proofs.Common.{◌≡◌, ℕ, zero, suc, ◌<◌, Bool, true, false, ◌&&◌, not, List, [], ◌∷◌}
-use Rattle.std.proofs.Common.{◌++◌, length, Option, Some, None, Ok, Err, if◌then◌else◌, refl, sym}
-use Rattle.std.proofs.Common.{◌∙◌, ap, subst, arith, inl, inr, ◌⊎◌}
+use Rattle.std.proofs.Common.{◌≡◌, ℕ, zero, suc, ◌<◌, Bool, true, false, ◌&&◌, not, List, [], ◌∷◌, ◌++◌, length, Option, Some, None, Ok, Err}
+use Rattle.std.proofs.Common.{if◌then◌else◌, refl, sym, ◌∙◌, ap, subst, arith, inl, inr, ◌⊎◌}
 use Rattle.std.proofs.lemmas.Bool.{and_parts, and_from, or_left, or_right, or_parts}
 use Rattle.std.specs.Prelude.{option_map, option_and_then}
 use Rattle.std.specs.List.{list_any, flat_map}
 use Rattle.smi_text.specs.declared.lexer.token.TokenKind.{TokenKind}
 use Rattle.smi_text.specs.declared.lexer.token.TokenKind.TheVariants.{Lower, Upper}
 use Rattle.smi_text.specs.lexer.Token.{Lexeme, Item}
-use Rattle.smi_text.specs.trees.Mark.{Mark, sign, sign_text, spelled, same_kind, same_text}
-use Rattle.smi_text.specs.trees.Mark.{MarksToken}
-use Rattle.smi_text.specs.Format.{StandsAhead}
+use Rattle.smi_text.specs.trees.Mark.{Mark, sign, sign_text, spelled, same_kind, same_text, MarksToken}
+use Rattle.smi_text.specs.Format.{StandsAhead, Format, Parsed, Ahead, a_word, a_name, a_kind, exact, meets, begins, apart, one, read_one, word, token}
+use Rattle.smi_text.specs.Format.{text, text_where, name, pair, behind, before, maybe, either, read_many, many, some_of, shaped, line_ahead, lined}
+use Rattle.smi_text.specs.Format.{with_front, lower, name_where, name_of}
 use Rattle.smi_text.specs.trees.Reserved.{is_reserved}
-use Rattle.smi_text.specs.Format.{Format, Parsed, Ahead, a_word, a_name, a_kind, exact, meets}
-use Rattle.smi_text.specs.Format.{begins, apart, one, read_one, word, token, text, text_where}
-use Rattle.smi_text.specs.Format.{name, pair, behind, before, maybe, either, read_many, many}
-use Rattle.smi_text.specs.Format.{some_of, shaped, line_ahead, lined, with_front, lower}
-use Rattle.smi_text.specs.Format.{name_where, name_of}
 use Rattle.smi_text.specs.trees.Spelling.{put_line, of_option, of_some, nothing}
 use Rattle.smi_text.specs.declared.trees.names.Name.{Name}
 use Rattle.smi_text.proofs.Lawful.{Lawful}
 use Rattle.smi_text.proofs.NameLaws.{name_of-octets, name_of-is}
 pub use Rattle.smi_text.proofs.NameLaws.{some-inj}
-use Rattle.smi_text.proofs.Marks.{same_kind-eq, same_kind-same, same_text-eq, same_text-same}
-use Rattle.smi_text.proofs.Marks.{if-inv, StandsAhead-append, StandsAhead-split, map-inv, then-inv}
-use Rattle.smi_text.proofs.Marks.{begins-append, apart-false}
+use Rattle.smi_text.proofs.Marks.{same_kind-eq, same_kind-same, same_text-eq, same_text-same, if-inv, StandsAhead-append, StandsAhead-split, map-inv}
+use Rattle.smi_text.proofs.Marks.{then-inv, begins-append, apart-false}
 use Rattle.smi_text.proofs.Many.{shorter, many-goes_on, many-done}
 
 abbrev put_left : {A B : Type 0} → A × List Item → (A ⊎ B) × List Item

@@ -1,22 +1,17 @@
 -- Marks, kinds and texts: what the tests of tokens mean.
-use Rattle.std.proofs.Common.{◌≡◌, ℕ, Bool, true, false, ◌||◌, not, List, [], ◌∷◌, ◌++◌}
-use Rattle.std.proofs.Common.{Option, Some, None, Ok, Err, refl, sym, ◌∙◌, ap, subst, inl, inr}
-use Rattle.std.proofs.Common.{get_or, eq-eqb}
-use Rattle.std.proofs.lemmas.Bool.{and_parts, false_from_ne_true, eqb-true}
+use Rattle.std.proofs.Common.{◌≡◌, ℕ, Bool, true, false, ◌||◌, not, List, [], ◌∷◌, ◌++◌, Option, Some, None, Ok, Err, refl, sym, ◌∙◌, ap, subst, inl}
+use Rattle.std.proofs.Common.{inr, get_or, eq-eqb, ◌⊎◌, if◌then◌else◌}
+use Rattle.std.proofs.lemmas.Bool.{and_parts, false_from_ne_true, eqb-true, or_cases}
 use Rattle.std.specs.Prelude.{option_map, option_and_then}
 use Rattle.std.specs.List.{list_any, list_all}
-use Rattle.std.proofs.lemmas.Bool.{or_cases}
 use Rattle.std.proofs.lemmas.List.Folds.{list_any-append}
 use Rattle.std.proofs.lemmas.Slice.Eq.{bytes_eq-Decides}
-use Rattle.std.proofs.Common.{◌⊎◌, if◌then◌else◌}
 use Rattle.smi_text.specs.declared.lexer.token.TokenKind.{TokenKind}
 use Rattle.smi_text.specs.declared.lexer.token.TokenKind.TheVariants as K
 use Rattle.smi_text.specs.lexer.Token.{Lexeme, Item}
 use Rattle.smi_text.specs.trees.Mark.{Mark, kind_number, same_kind, same_text}
-use Rattle.smi_text.specs.Format.{StandsAhead}
+use Rattle.smi_text.specs.Format.{StandsAhead, Ahead, a_word, a_name, a_kind, no_word, no_kind, is_this_word, meets, begins, half_apart, apart}
 use Rattle.smi_text.specs.trees.Reserved.{is_reserved}
-use Rattle.smi_text.specs.Format.{Ahead, a_word, a_name, a_kind, no_word, no_kind, is_this_word}
-use Rattle.smi_text.specs.Format.{meets, begins, half_apart, apart}
 
 -- kinds and texts
 

@@ -1,18 +1,15 @@
 -- Pieces of productions are lawful.
-use Rattle.std.proofs.Common.{◌≡◌, ℕ, Bool, true, false, List, [], ◌∷◌, Some, refl}
-use Rattle.std.proofs.Common.{sym, ◌∙◌, ap}
+use Rattle.std.proofs.Common.{◌≡◌, ℕ, Bool, true, false, List, [], ◌∷◌, Some, refl, sym, ◌∙◌, ap}
 use Rattle.std.specs.List.{list_any}
 use Rattle.smi_text.specs.declared.lexer.token.TokenKind.{TokenKind}
 use Rattle.smi_text.specs.declared.lexer.token.TokenKind.TheVariants as K
 use Rattle.smi_text.specs.lexer.Token.{Lexeme}
 use Rattle.smi_text.specs.trees.Mark.{Mark, sign, spelled}
 use Rattle.smi_text.specs.trees.Spelling as say
-use Rattle.smi_text.specs.Format.{Format, Ahead, a_kind, meets, apart, behind, pair, separated}
-use Rattle.smi_text.specs.Format.{shaped, token, word}
+use Rattle.smi_text.specs.Format.{Format, Ahead, a_kind, meets, apart, behind, pair, separated, shaped, token, word}
 use Rattle.smi_text.specs.Grammar.{kept, kept_text, braced, clause, parenthesized}
 use Rattle.smi_text.proofs.Lawful.{Lawful}
-use Rattle.smi_text.proofs.Laws.{some-inj, one-law, word-law, token-law, text-law, behind-law}
-use Rattle.smi_text.proofs.Laws.{before-law, some_of-law}
+use Rattle.smi_text.proofs.Laws.{some-inj, one-law, word-law, token-law, text-law, behind-law, before-law, some_of-law}
 use Rattle.smi_text.specs.declared.trees.tree.TokenText.{TokenText}
 
 -- pieces and parts

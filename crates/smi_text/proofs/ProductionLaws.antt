@@ -1,29 +1,23 @@
 -- Each production is lawful: it reads what its case of the grammar spells, and nothing else.
-use Rattle.std.proofs.Common.{◌≡◌, ◌++◌, ℕ, Bool, true, false, ◌&&◌, ◌||◌, not, if◌then◌else◌}
-use Rattle.std.proofs.Common.{List, [], ◌∷◌, Option, Some, None, Ok, Err, refl, sym, ap, subst}
-use Rattle.std.proofs.Common.{inl, inr, ◌⊎◌, ◌∙◌}
-use Rattle.std.proofs.lemmas.Bool.{and_parts, or_right}
+use Rattle.std.proofs.Common.{◌≡◌, ◌++◌, ℕ, Bool, true, false, ◌&&◌, ◌||◌, not, if◌then◌else◌, List, [], ◌∷◌, Option, Some, None, Ok, Err, refl, sym}
+use Rattle.std.proofs.Common.{ap, subst, inl, inr, ◌⊎◌, ◌∙◌}
+use Rattle.std.proofs.lemmas.Bool.{and_parts, or_right, or_cases}
 use Rattle.std.specs.Prelude.{codes, map}
 use Rattle.std.specs.List.{list_any}
-use Rattle.std.proofs.lemmas.Bool.{or_cases}
 use Rattle.smi_text.specs.declared.lexer.token.TokenKind.TheVariants as K
 use Rattle.smi_text.specs.lexer.Token.{Lexeme, Item}
 use Rattle.smi_text.specs.trees.Mark.{Mark, sign, spelled, on_line, same_kind, same_text}
 use Rattle.smi_text.specs.trees.Spelling as say
 use Rattle.smi_text.specs.trees.Reserved.{is_reserved, macros}
-use Rattle.smi_text.specs.trees.Number.{is_arc, is_number, is_bound, is_symbol}
-use Rattle.smi_text.specs.trees.Number.{is_macro}
+use Rattle.smi_text.specs.trees.Number.{is_arc, is_number, is_bound, is_symbol, is_macro}
 use Rattle.smi_text.specs.Format.{StandsAhead, a_word, a_name, a_kind, meets, begins}
 use Rattle.smi_text.specs.Grammar as g
 use Rattle.smi_text.proofs.Productions.{all}
 use Rattle.smi_text.proofs.Lawful.{Lawful}
 use Rattle.smi_text.proofs.Marks.{same_kind-eq, StandsAhead-split}
-use Rattle.smi_text.proofs.Laws.{never-stands, of_either, word-law, token-law, text-law}
-use Rattle.smi_text.proofs.Laws.{text_where-law, name_where-law, lower-law, name-law, pair-law}
-use Rattle.smi_text.proofs.Laws.{behind-law, before-law, maybe-law, either-law, many-law}
-use Rattle.smi_text.proofs.Laws.{shaped-law, lined-law, some_of-law}
-use Rattle.smi_text.proofs.PieceLaws.{after-word, after-sign, clause-law, braced-law}
-use Rattle.smi_text.proofs.PieceLaws.{parenthesized-law, separated-law, kept-law}
+use Rattle.smi_text.proofs.Laws.{never-stands, of_either, word-law, token-law, text-law, text_where-law, name_where-law, lower-law, name-law}
+use Rattle.smi_text.proofs.Laws.{pair-law, behind-law, before-law, maybe-law, either-law, many-law, shaped-law, lined-law, some_of-law}
+use Rattle.smi_text.proofs.PieceLaws.{after-word, after-sign, clause-law, braced-law, parenthesized-law, separated-law, kept-law}
 use Rattle.smi_text.proofs.IndexLaws.{index_names-law}
 use Rattle.smi_text.proofs.RawLaws.{before_assign-law, before_end-law, balanced-law}
 use Rattle.smi_text.specs.declared.trees.names.Name.{Name}

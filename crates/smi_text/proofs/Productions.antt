@@ -2,20 +2,14 @@
 use Rattle.std.proofs.Common.{ℕ}
 use Rattle.smi_text.specs.trees.Number.{is_symbol}
 use Rattle.smi_text.specs.trees.Reserved.{is_reserved}
-use Rattle.smi_text.specs.Format.{begins, maybe, behind, lower, word, token, text, text_where}
-use Rattle.smi_text.specs.Format.{name, pair, before, either, shaped, some_of, separated, lined}
-use Rattle.smi_text.specs.Format.{many}
-use Rattle.smi_text.specs.Grammar.{arc, assigned, balanced, base, before_assign, before_end, bound}
-use Rattle.smi_text.specs.Grammar.{braced, choice, clause, default_value, definition, field, group}
-use Rattle.smi_text.specs.Grammar.{head, heading, identifier, import_clause, imported_symbol}
-use Rattle.smi_text.specs.Grammar.{imports, index, index_names, later_part, lower_definition}
-use Rattle.smi_text.specs.Grammar.{macro_body, macro_definition, macro_name, module_identity}
-use Rattle.smi_text.specs.Grammar.{module_text, named_number, names, notification_type}
-use Rattle.smi_text.specs.Grammar.{object_identifier, object_identifier_words, object_identity}
-use Rattle.smi_text.specs.Grammar.{object_type, objects, octet_string_words, of_row, opening}
-use Rattle.smi_text.specs.Grammar.{parenthesized, part, range, ranges, raw_definition, refinement}
-use Rattle.smi_text.specs.Grammar.{revision, sequence, simple_type, size, status, syntax_clause}
-use Rattle.smi_text.specs.Grammar.{syntax_type, tag, tagged, textual_convention, upper_definition}
+use Rattle.smi_text.specs.Format.{begins, maybe, behind, lower, word, token, text, text_where, name, pair, before, either, shaped, some_of, separated}
+use Rattle.smi_text.specs.Format.{lined, many}
+use Rattle.smi_text.specs.Grammar.{arc, assigned, balanced, base, before_assign, before_end, bound, braced, choice, clause, default_value, definition}
+use Rattle.smi_text.specs.Grammar.{field, group, head, heading, identifier, import_clause, imported_symbol, imports, index, index_names, later_part}
+use Rattle.smi_text.specs.Grammar.{lower_definition, macro_body, macro_definition, macro_name, module_identity, module_text, named_number, names}
+use Rattle.smi_text.specs.Grammar.{notification_type, object_identifier, object_identifier_words, object_identity, object_type, objects}
+use Rattle.smi_text.specs.Grammar.{octet_string_words, of_row, opening, parenthesized, part, range, ranges, raw_definition, refinement, revision}
+use Rattle.smi_text.specs.Grammar.{sequence, simple_type, size, status, syntax_clause, syntax_type, tag, tagged, textual_convention, upper_definition}
 use Rattle.smi_text.specs.Grammar.{value, file}
 
 -- one token, or none

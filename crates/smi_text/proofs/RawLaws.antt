@@ -1,16 +1,14 @@
 -- Raw runs of tokens are lawful.
 use Rattle.std.proofs.Common.{◌≡◌, ℕ, Bool, true, false, ◌&&◌, not, List, [], ◌∷◌, ◌++◌, Some}
 use Rattle.std.proofs.Common.{None, Ok, Err, if◌then◌else◌, refl, subst, inl, inr, ◌⊎◌}
-use Rattle.std.proofs.lemmas.Bool.{and_parts, and_from, or_parts}
+use Rattle.std.proofs.lemmas.Bool.{and_parts, and_from, or_parts, not-true, not-false}
 use Rattle.std.specs.Prelude.{◌==◌, codes, map}
-use Rattle.std.proofs.lemmas.Bool.{not-true, not-false}
 use Rattle.smi_text.specs.declared.lexer.token.TokenKind.TheVariants as K
 use Rattle.smi_text.specs.lexer.Token.{Item}
 use Rattle.smi_text.specs.trees.Mark.{Mark, spelled, same_kind, same_text}
 use Rattle.smi_text.specs.Format.{StandsAhead, Parsed, no_word, no_kind, begins, with_front}
 use Rattle.smi_text.specs.trees.Spelling.{of_balanced, nothing}
-use Rattle.smi_text.specs.Grammar.{kept_text, depth_after, is_outside, balanced, before_assign}
-use Rattle.smi_text.specs.Grammar.{before_end, read_balanced}
+use Rattle.smi_text.specs.Grammar.{kept_text, depth_after, is_outside, balanced, before_assign, before_end, read_balanced}
 use Rattle.smi_text.proofs.Fronts.{is_balanced, fronts-counted}
 use Rattle.smi_text.proofs.Lawful.{Lawful}
 use Rattle.smi_text.proofs.Marks.{if-inv, map-inv}

@@ -12,8 +12,7 @@ use Rattle.smi_text.proofs.Lawful.{Lawful}
 use Rattle.smi_text.proofs.Many.{reading-shorter}
 use Rattle.smi_text.proofs.Laws.{lower-law}
 use Rattle.smi_text.proofs.RawLaws.{before_assign-law, before_end-law}
-use Rattle.smi_text.proofs.ProductionLaws.{part-law, later_part-law, named_number-law, range-law}
-use Rattle.smi_text.proofs.ProductionLaws.{field-law, revision-law, imported_symbol-law}
+use Rattle.smi_text.proofs.ProductionLaws.{part-law, later_part-law, named_number-law, range-law, field-law, revision-law, imported_symbol-law}
 use Rattle.smi_text.proofs.ProductionLaws.{import_clause-law}
 
 -- a reading of the format leaves fewer tokens than there were

@@ -8,8 +8,7 @@ use Rattle.std.proofs.Common.{◌⊎◌, inl, inr, zero, suc}
 use Rattle.smi_text.specs.declared.lexer.token.TokenKind.{TokenKind}
 use Rattle.smi_text.specs.declared.lexer.token.TokenKind.TheVariants.{Lower, Upper}
 use Rattle.smi_text.specs.lexer.Token.{Lexeme, Item}
-use Rattle.smi_text.specs.trees.Mark.{Mark, sign_text, same_kind, same_text}
-use Rattle.smi_text.specs.trees.Mark.{MarksToken}
+use Rattle.smi_text.specs.trees.Mark.{Mark, sign_text, same_kind, same_text, MarksToken}
 use Rattle.smi_text.specs.trees.Word.{is_word}
 use Rattle.smi_text.specs.trees.Reserved.{is_reserved}
 use Rattle.smi_text.specs.declared.trees.names.Name.{Name}

@@ -1,7 +1,6 @@
 -- Numbers of module texts and their ranges (RFC 2578, sections 3.5 and 7.1).
 use Rattle.std.specs.Prelude.{ℕ, ℤ, pos, ◌-ℤ◌, ◌+◌, ◌-◌, ◌*◌, ◌^◌, ◌==◌, Bool, false, ◌&&◌, ◌||◌}
-use Rattle.std.specs.Prelude.{not, nat_le, List, [], ◌∷◌, Option, length, drop, take}
-use Rattle.std.specs.Prelude.{if◌then◌else◌}
+use Rattle.std.specs.Prelude.{not, nat_le, List, [], ◌∷◌, Option, length, drop, take, if◌then◌else◌}
 use Rattle.std.specs.Bool.{then_some}
 use Rattle.std.specs.List.{list_any}
 use Rattle.smi_text.specs.declared.lexer.token.TokenKind.{TokenKind}

@@ -3,13 +3,11 @@ use Rattle.std.proofs.lemmas.Bool.{ne_eqb}
 use Rattle.std.proofs.lemmas.List.{take_rest}
 use Rattle.smi_text.specs.lexer.Lexeme.{is_blank, is_hyphen}
 use Rattle.smi_text.specs.lexer.Reading.{IsLongestPassing, Skips, is_comment_rest}
-use Rattle.smi_text.proofs.Gaps.{newlines-newline, newlines-other, skips_blank, skips_comment}
-use Rattle.smi_text.proofs.Gaps.{gaps_end, gaps_stop, skips_run}
+use Rattle.smi_text.proofs.Gaps.{newlines-newline, newlines-other, skips_blank, skips_comment, gaps_end, gaps_stop, skips_run}
 use Rattle.smi_text.proofs.Scans.{begins_at, begins_past}
 use Rattle.smi_text.proofs.lexer.scan.gaps_at.Goals as goal
 use Rattle.smi_text.proofs.lexer.scan.gaps_at.Goals.{else-text-n-eq45-via-then-text-n-eq45+then-n-text+else-text-n-eq45-2}
-use Rattle.smi_text.proofs.lexer.scan.gaps_at.Goals.{else-text-n-eq45-via-then-text-n-eq45+else-n-text}
-use Rattle.smi_text.proofs.lexer.scan.gaps_at.Goals.{else-text-n-eq45-via-else-text-n-eq45}
+use Rattle.smi_text.proofs.lexer.scan.gaps_at.Goals.{else-text-n-eq45-via-then-text-n-eq45+else-n-text, else-text-n-eq45-via-else-text-n-eq45}
 
 pub gaps-preserved-then-text-n-eq32 : goal.gaps-preserved-then-text-n-eq32
 gaps-preserved-then-text-n-eq32 c =

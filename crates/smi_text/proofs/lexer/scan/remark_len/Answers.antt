@@ -4,8 +4,7 @@ use Rattle.smi_text.specs.lexer.Lexeme.{is_hyphen}
 use Rattle.smi_text.proofs.Scans.{remark_step, begins_at, begins_past}
 use Rattle.smi_text.proofs.lexer.scan.remark_len.Goals as goal
 use Rattle.smi_text.proofs.lexer.scan.remark_len.Goals.{else-octet-eq45-via-then-octet-eq45+then-n-text+else-text-n-eq45}
-use Rattle.smi_text.proofs.lexer.scan.remark_len.Goals.{else-octet-eq45-via-then-octet-eq45+else-n-text}
-use Rattle.smi_text.proofs.lexer.scan.remark_len.Goals.{else-octet-eq45-via-else-octet-eq45}
+use Rattle.smi_text.proofs.lexer.scan.remark_len.Goals.{else-octet-eq45-via-then-octet-eq45+else-n-text, else-octet-eq45-via-else-octet-eq45}
 
 pub octets-preserved : goal.octets-preserved
 octets-preserved c =

@@ -2,12 +2,10 @@ use Rattle.std.proofs.Common.{◌∙◌, sym, ap, arith, length-append, [], ◌�
 use Rattle.smi_text.specs.Format.{with_front}
 use Rattle.smi_text.specs.Grammar.{balanced, kept_text, read_balanced}
 use Rattle.smi_text.specs.lexer.Token.{lexeme_of}
-use Rattle.smi_text.proofs.Loops.{depth_after-le, balanced-next, balanced-open, balanced-outside}
-use Rattle.smi_text.proofs.Loops.{balanced-closed}
+use Rattle.smi_text.proofs.Loops.{depth_after-le, balanced-next, balanced-open, balanced-outside, balanced-closed}
 use Rattle.smi_text.proofs.Many.{with_front-nil}
 use Rattle.smi_text.proofs.parser.Parser.balanced.Goals as goal
-use Rattle.smi_text.proofs.parser.Parser.balanced.Goals.{in_default-via-in-Some+else-not-is_outside}
-use Rattle.smi_text.proofs.parser.Parser.balanced.Goals.{in_default-via-in-None+else-depth-gt0}
+use Rattle.smi_text.proofs.parser.Parser.balanced.Goals.{in_default-via-in-Some+else-not-is_outside, in_default-via-in-None+else-depth-gt0}
 
 pub each-init : goal.each-init
 each-init c = rw (c.list-tokens.ensures) (omega arith, with_front-nil _)

@@ -1,11 +1,9 @@
-use Rattle.std.proofs.Common.{◌≡◌, ◌<◌, ◌+◌, ◌∙◌, sym, ap, List, [], ◌∷◌, Err, Ok, length}
-use Rattle.std.proofs.Common.{subst, arith, take, eq-eqb}
+use Rattle.std.proofs.Common.{◌≡◌, ◌<◌, ◌+◌, ◌∙◌, sym, ap, List, [], ◌∷◌, Err, Ok, length, subst, arith, take, eq-eqb}
 use Rattle.std.proofs.lemmas.Bool.{eqb-true, false≢true}
 use Rattle.smi_text.specs.lexer.Token.{Item}
 use Rattle.smi_text.specs.lexer.Lexeme.{IsLexeme, lexeme}
 use Rattle.smi_text.specs.lexer.Reading.{items_at}
-use Rattle.smi_text.proofs.ItemsLemmas.{items-empty, items-nothing, next_ends, next_faults}
-use Rattle.smi_text.proofs.ItemsLemmas.{next_gives_token}
+use Rattle.smi_text.proofs.ItemsLemmas.{items-empty, items-nothing, next_ends, next_faults, next_gives_token}
 use Rattle.smi_text.proofs.PartLaws.{part_is}
 use Rattle.smi_text.proofs.lexer.lexer.LexerIterator.next.Goals as goal
 use Rattle.smi_text.proofs.lexer.lexer.LexerIterator.next.Goals.{After-fault_at, After-lines_in}
