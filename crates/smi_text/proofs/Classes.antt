@@ -1,12 +1,13 @@
 -- What the class of an octet says of it.
-use Rattle.std.proofs.Common.{◌≡◌, ℕ, Bool, true, false, cond, List, [], ◌∷◌, refl, sym, subst, eqb}
+use Rattle.std.proofs.Common.{arith, ◌≡◌, ℕ, Bool, true, false, cond, List, [], ◌∷◌, refl, sym, subst, eqb}
+use Rattle.std.proofs.lemmas.Grind.{common_steps}
 use Rattle.std.specs.Char.{is_ascii_lowercase, is_ascii_uppercase, is_ascii_digit}
 use Rattle.std.proofs.lemmas.Bool.{eqb-true}
 use Rattle.smi_text.specs.declared.lexer.class.Class.{Class}
 use Rattle.smi_text.specs.declared.lexer.class.Class.TheVariants as C
 use Rattle.smi_text.specs.declared.lexer.token.TokenKind.{TokenKind}
 use Rattle.smi_text.specs.lexer.Lexeme.{IsLexeme, is_blank}
-use Rattle.smi_text.specs.lexer.Reading.{class_of, symbol_among, symbols}
+use Rattle.smi_text.specs.lexer.Reading.{class_of, symbol_among}
 
 -- what an octet of the class is
 abbrev pub HasClass : Class → ℕ → Type 0
@@ -36,18 +37,7 @@ among (symbol ∷ others) c all =
     (λ same. subst (λ d. IsLexeme symbol.1 (d ∷ [])) (sym (eqb-true c symbol.0 same)) all.0) (among others c all.1)
 
 pub has_class : (c : ℕ) → HasClass (class_of c) c
-has_class c =
-    either c (is_blank c) C.Blank _ (λ h. h)
-    (either c (is_ascii_lowercase c) C.Lowercase _ (λ h. h)
-    (either c (is_ascii_uppercase c) C.Uppercase _ (λ h. h)
-    (either c (is_ascii_digit c) C.Digit _ (λ h. h)
-    (either c (eqb c 45) C.Hyphen _ (eqb-true c 45)
-    (either c (eqb c 34) C.Quote _ (eqb-true c 34)
-    (either c (eqb c 39) C.Apostrophe _ (eqb-true c 39)
-    (among symbols c symbol_texts)))))))
-  where
-    symbol_texts : AreLexemes symbols
-    symbol_texts = (refl, (refl, (refl, (refl, (refl, (refl, (refl, (refl, (refl, (refl, (refl, (refl, (refl, (refl, tt))))))))))))))
+has_class c = grind (arith, common_steps, either, eqb-true, among)
 
 pub class_is : (c : ℕ) (class : Class) → class_of c ≡ class → HasClass class c
 class_is c class e = subst (λ x. HasClass x c) e (has_class c)

@@ -1,10 +1,10 @@
 -- Definitions one after the other, with the names that they define.
-use Rattle.std.proofs.Common.{◌≡◌, ℕ, Bool, true, false, ◌||◌, not, List, [], ◌∷◌, ◌++◌, Some, Ok, Err, refl, sym, ◌∙◌, ap, append-nil, ◌&&◌}
+use Rattle.std.proofs.Common.{arith, ◌≡◌, ℕ, true, false, ◌||◌, not, List, [], ◌∷◌, ◌++◌, Some, Ok, Err, refl, sym, ◌∙◌, ap, append-nil}
+use Rattle.std.proofs.lemmas.Grind.{common_steps, flat_map-append}
 use Rattle.std.proofs.lemmas.Bool.{and_parts, and_from, or_parts}
-use Rattle.std.specs.List.{flat_map, list_any, list_all}
+use Rattle.std.specs.List.{flat_map, list_any}
 use Rattle.std.proofs.Math.Bool.{or-false, or_comm}
 use Rattle.std.proofs.lemmas.Bool.Decides.{same_from_decides}
-use Rattle.std.proofs.lemmas.Grind.{flat_map-append}
 use Rattle.std.proofs.lemmas.List.{map-append}
 use Rattle.std.proofs.lemmas.List.Folds.{list_any-append, list_all-append}
 use Rattle.std.proofs.lemmas.Slice.Eq.{bytes_eq-Decides}
@@ -61,14 +61,10 @@ stands-more f xs x ts mid rest h k =
     rw (flat-more f xs x) (StandsAhead-append (flat_map f xs) (f x) ts mid rest h k)
 
 any-more : (x : List ℕ) (ys : List (List ℕ)) (y : List ℕ) → list_any (same_text x) (ys ++ y ∷ []) ≡ (same_text x y || list_any (same_text x) ys)
-any-more x ys y =
-    list_any-append (same_text x) ys (y ∷ []) ∙ ap (λ (b : Bool). list_any (same_text x) ys || b) (or-false (same_text x y))
-    ∙ or_comm (list_any (same_text x) ys) (same_text x y)
+any-more x ys y = grind (arith, common_steps, list_any-append, or-false, or_comm)
 
 same-sym : (x y : List ℕ) → same_text x y ≡ same_text y x
-same-sym x y =
-    same_from_decides (same_text x y) (same_text y x) (bytes_eq-Decides x y)
-    (λ e. sym ((bytes_eq-Decides y x).0 e), λ e. (bytes_eq-Decides y x).1 (sym e))
+same-sym x y = grind (arith, common_steps, same_from_decides, bytes_eq-Decides)
 
 labels-more : (ds : List Def) (d : Def) → labels (ds ++ d ∷ []) ≡ labels ds ++ d.label.octets ∷ []
 labels-more ds d = map-append (λ (e : Def). e.label.octets) ds (d ∷ [])
@@ -88,14 +84,10 @@ distinct-more ds d h k = rw (labels-more ds d) (distinct-text (labels ds) d.labe
 
 pub among-more : (ds : List Def) (d : Def) (x : List ℕ)
     → list_any (same_text x) (labels (ds ++ d ∷ [])) ≡ (same_text d.label.octets x || list_any (same_text x) (labels ds))
-among-more ds d x =
-    ap (list_any (same_text x)) (labels-more ds d) ∙ any-more x (labels ds) d.label.octets
-    ∙ ap (λ (b : Bool). b || list_any (same_text x) (labels ds)) (same-sym x d.label.octets)
+among-more ds d x = grind (arith, common_steps, labels-more, any-more, same-sym)
 
 pub no-doubles-more : (ms : List Module) (m : Module) → HasNoDoubles ms → are_distinct (labels m.defs) ≡ true → HasNoDoubles (ms ++ m ∷ [])
-no-doubles-more ms m h k =
-    let ok : Module → Bool = λ n. are_distinct (labels n.defs) in
-    list_all-append ok ms (m ∷ []) ∙ and_from (list_all ok ms) (ok m && true) h (and_from (ok m) true k refl)
+no-doubles-more ms m h k = grind (arith, common_steps, list_all-append, and_from)
 
 pub nothing-begins : (cs : List Ahead) → begins cs [] ≡ false
 unfolding begins

@@ -1,6 +1,6 @@
 -- What digits write, read from the front.
-use Rattle.std.proofs.Common.{◌≡◌, ℕ, suc, ◌+◌, ◌*◌, ◌^◌, ◌<◌, ◌≤◌, List, [], ◌∷◌, length, get_or}
-use Rattle.std.proofs.Common.{drop, refl, sym, ◌∙◌, ap, arith, drop-cons, add-one}
+use Rattle.std.proofs.lemmas.Grind.{common_steps}
+use Rattle.std.proofs.Common.{◌≡◌, ℕ, suc, ◌+◌, ◌*◌, ◌^◌, ◌<◌, ◌≤◌, List, [], ◌∷◌, length, get_or, drop, refl, ◌∙◌, ap, arith, drop-cons, add-one}
 use Rattle.std.specs.Prelude.{Some, None}
 use Rattle.std.proofs.lemmas.List.{drop_all}
 use Rattle.std.proofs.Math.Nat.{le-mul_of_pos_right, one-le-pow, mul_comm, mul_assoc, mul-one, pow-zero, pow-succ'}
@@ -16,19 +16,11 @@ add-mul a b c = grind arith
 
 pub worth-digit : (base n c : ℕ) (cs : List ℕ) → worth base n (c ∷ cs) ≡ worth base (base * n + digit_value c) cs
 unfolding number_value
-worth-digit base n c cs =
-    let power : base ^ length (c ∷ cs) ≡ base * base ^ length cs = pow-succ' base (length cs) in
-    let first : n * (base * base ^ length cs) ≡ (base * n) * base ^ length cs = sym (mul_assoc n base (base ^ length cs))
-    ∙ ap (λ m. m * base ^ length cs) (mul_comm n base) in
-    let both = add-mul (base * n) (digit_value c) (base ^ length cs) in
-    let next : n * base ^ length (c ∷ cs) ≡ (base * n) * base ^ length cs = ap (λ m. n * m) power ∙ first in
-    omega (arith, both, next)
+worth-digit base n c cs = grind (arith, common_steps, pow-succ', mul_assoc, mul_comm, add-mul)
 
 -- more digits write no smaller number
 pub worth-grows : (base n : ℕ) (cs : List ℕ) → 0 < base → n ≤ worth base n cs
-worth-grows base n cs h =
-    let least : n ≤ n * base ^ length cs = le-mul_of_pos_right n (one-le-pow (length cs) base h) in
-    omega (arith, least)
+worth-grows base n cs h = grind (arith, common_steps, le-mul_of_pos_right, one-le-pow)
 
 -- one digit more
 pub worth-step : (base n i : ℕ) (cs : List ℕ) → i < length cs → worth base n (drop i cs) ≡ worth base (base * n + digit_value (get_or cs i 0)) (drop (i + 1) cs)
@@ -37,10 +29,7 @@ worth-step base n i cs h = rw (add-one, drop-cons cs i 0) (worth-digit base n (g
 -- where the digits so far are worth too much, all of them are
 pub worth-above : (base n i most : ℕ) (cs : List ℕ) → 0 < base → i < length cs → worth base n (drop i cs) ≡ number_value base cs
     → most < base * n + digit_value (get_or cs i 0) → None ≡ up_to most (number_value base cs)
-worth-above base n i most cs pos h e over =
-    let grown = worth-grows base (base * n + digit_value (get_or cs i 0)) (drop (i + 1) cs) pos in
-    let step = worth-step base n i cs h in
-    rw (lt-leb (number_value base cs) most (omega (arith, grown, step, e))) refl
+worth-above base n i most cs pos h e over = grind (arith, common_steps, worth-grows, worth-step, lt-leb)
 
 nothing-more : (base n : ℕ) → worth base n [] ≡ n
 unfolding number_value

@@ -1,5 +1,6 @@
 -- Where definitions define a name again, no modules without a double name are read.
-use Rattle.std.proofs.Common.{◌≡◌, ℕ, true, false, not, List, [], ◌∷◌, ◌++◌, Some, None, refl, sym, ◌∙◌, ap, subst, inl, inr}
+use Rattle.std.proofs.Common.{arith, ◌≡◌, ℕ, true, false, not, List, [], ◌∷◌, ◌++◌, Some, None, refl, sym, ◌∙◌, ap, subst, inl, inr}
+use Rattle.std.proofs.lemmas.Grind.{common_steps}
 use Rattle.std.proofs.lemmas.Bool.{and_parts, or_left, or_right, or_cases}
 use Rattle.std.specs.Prelude.{codes}
 use Rattle.std.specs.List.{flat_map, list_any, list_all}
@@ -29,9 +30,7 @@ fronts-inv : {A : Type 0} (xs : List A) (r : Parsed (List A)) (ys : List A) (res
     → (zs : List A) × (r ≡ Some (zs, rest)) × (ys ≡ xs ++ zs)
 unfolding with_front
 fronts-inv xs None ys rest h = absurd (cc)
-fronts-inv {A} xs (Some p) ys rest h =
-    let e = some-inj {A = List A × List Item} (xs ++ p.0, p.1) (ys, rest) h in
-    (p.0, ap (λ (us : List Item). Some (p.0, us)) (ap (λ (q : List A × List Item). q.1) e), sym (ap (λ (q : List A × List Item). q.0) e))
+fronts-inv {A} xs (Some p) ys rest h = grind (arith, common_steps, some-inj)
 
 -- parts that are spelled before one that begins again are read first
 module _ {A : Type 0} {s : A → List Mark} {f : Format A} (law : Lawful s f) (solid : f.empty ≡ false) (far : apart f.stop f.first ≡ true) where
@@ -65,8 +64,7 @@ module _ {A : Type 0} {s : A → List Mark} {f : Format A} (law : Lawful s f) (s
 -- names that stand twice
 
 any-middle : (x y : List ℕ) (xs ys : List (List ℕ)) → same_text x y ≡ true → list_any (same_text x) (xs ++ y ∷ ys) ≡ true
-any-middle x y xs ys h = list_any-append (same_text x) xs (y ∷ ys)
-    ∙ or_right (list_any (same_text x) xs) _ (or_left (same_text x y) (list_any (same_text x) ys) h)
+any-middle x y xs ys h = grind (arith, common_steps, list_any-append, or_right, or_left)
 
 twice : (xs ys : List (List ℕ)) (y : List ℕ) → list_any (same_text y) xs ≡ true → are_distinct (xs ++ y ∷ ys) ≡ true → ⊥
 twice [] ys y h k = cc

@@ -1,5 +1,6 @@
 -- The steps of the loops over definitions and over modules.
-use Rattle.std.proofs.Common.{◌≡◌, ℕ, ◌<◌, Bool, true, false, ◌||◌, List, [], ◌∷◌, ◌++◌, length, Some, None, refl, sym, ◌∙◌, ap, Bor}
+use Rattle.std.proofs.Common.{arith, ◌≡◌, ℕ, ◌<◌, Bool, true, false, ◌||◌, List, [], ◌∷◌, ◌++◌, length, Some, None, refl, sym, ◌∙◌, ap, Bor}
+use Rattle.std.proofs.lemmas.Grind.{common_steps}
 use Rattle.std.specs.List.{flat_map, list_any}
 use Rattle.std.specs.BTreeSet.{BTreeSet}
 use Rattle.smi_text.specs.lexer.Token.{Item, tokens_of}
@@ -37,20 +38,11 @@ pub record HasRead (names : BTreeSet (ℕ × Bor (List ℕ))) (defs : List Def) 
   pub distinct : are_distinct (labels defs) ≡ true
 
 pub has_read-start : (names : BTreeSet (ℕ × Bor (List ℕ))) (defs : List Def) (ts : List Item) → names.keys ≡ [] → defs ≡ [] → HasRead names defs ts ts
-has_read-start names defs ts e d =
-    rw d (record {
-      left = with_front-nil _;
-      stands = refl;
-      named = λ x. rw e refl;
-      distinct = refl;
-    })
+has_read-start names defs ts e d = grind (arith, common_steps, with_front-nil)
 
 module _ (names : BTreeSet (ℕ × Bor (List ℕ))) (defs : List Def) (from now : List Item) (have : HasRead names defs from now) where
   pub has_read-done : begins definition.first now ≡ false → ReadsDefinitions defs from now
-  has_read-done b = record {
-    read = sym have.left ∙ ap (with_front defs) (many-done definition now b) ∙ with_front-end defs now;
-    distinct = have.distinct;
-  }
+  has_read-done b = grind (arith, common_steps, many-done, with_front-end)
 
   pub has_read-stuck : begins definition.first now ≡ true → definition.read now ≡ None → (many definition).read from ≡ None
   has_read-stuck b e = sym have.left ∙ with_front-none defs _ (many-fails definition now b e)
@@ -130,20 +122,11 @@ pub record HasModules (ms : List Module) (from now : List Item) : Type 0 where
 
 pub has_modules-start : (ms : List Module) (ts : List Item) → ms ≡ [] → HasModules ms ts ts
 unfolding file
-has_modules-start ms ts e =
-    rw e (record {
-      left = with_front-nil _;
-      stands = refl;
-      distinct = refl;
-    })
+has_modules-start ms ts e = grind (arith, common_steps, with_front-nil)
 
 module _ (ms : List Module) (from now : List Item) (have : HasModules ms from now) where
   pub has_modules-done : now ≡ [] → ReadsModules ms from
-  has_modules-done e = record {
-    read = sym have.left ∙ ap (with_front ms) (many-done module_text now (rw e (nothing-begins module_text.first))) ∙ with_front-end ms now
-        ∙ ap (λ (us : List Item). Some (ms, us)) e;
-    distinct = have.distinct;
-  }
+  has_modules-done e = grind (arith, common_steps, many-done, nothing-begins, with_front-end)
 
   pub has_modules-shorter : (m : Module) (rest : List Item) → ReadsModule m now rest → length rest < length now
   has_modules-shorter m rest r = reading-shorter module_text-law module_text-solid m now rest r.read
@@ -159,13 +142,7 @@ module _ (ms : List Module) (from now : List Item) (have : HasModules ms from no
       }
 
   stuck : module_text.read now ≡ None → (now ≡ [] → ⊥) → (us : List Module) → file.read from ≡ Some (us, []) → ⊥
-  stuck e some us h =
-      elim (begins module_text.first now) as (λ b. begins module_text.first now ≡ b → ⊥) [
-        | true ↦ λ b. cc (h, sym have.left ∙ with_front-none ms _ (many-fails module_text now b e))
-        | false ↦ λ b.
-            let k = sym have.left ∙ ap (with_front ms) (many-done module_text now b) ∙ with_front-end ms now in
-            some (ap (λ (p : List Module × List Item). p.1) (some-inj {A = List Module × List Item} (ms, now) (us, []) (sym k ∙ h)))
-      ] refl
+  stuck e some us h = grind (arith, common_steps, with_front-none, many-fails, many-done, with_front-end, some-inj)
 
   pub has_modules-fault : (error : ParseError) → (now ≡ [] → ⊥) → ModuleFault error now → ModulesFault error from
   has_modules-fault (E.Lex fault) some f = stuck f some

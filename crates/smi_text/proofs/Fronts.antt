@@ -1,7 +1,7 @@
 -- Counting open braces finds exactly the tokens whose beginnings open as many braces as they close, or more.
-use Rattle.std.proofs.Common.{◌≡◌, ℕ, zero, suc, ◌+◌, Bool, true, false, ◌&&◌, if◌then◌else◌}
-use Rattle.std.proofs.Common.{not, List, [], ◌∷◌, nat_le, refl, sym, ◌∙◌, subst, arith}
-use Rattle.std.specs.Prelude.{◌==◌, map}
+use Rattle.std.proofs.lemmas.Grind.{common_steps}
+use Rattle.std.proofs.Common.{◌≡◌, ℕ, zero, suc, ◌+◌, Bool, true, false, ◌&&◌, if◌then◌else◌, not, List, [], ◌∷◌, nat_le, refl, ◌∙◌, arith}
+use Rattle.std.specs.Prelude.{◌==◌}
 use Rattle.std.specs.List.{list_all}
 use Rattle.std.proofs.lemmas.Bool.{and_parts, eqb-true}
 use Rattle.std.proofs.lemmas.List.Folds.{list_all-map}
@@ -52,26 +52,14 @@ shifted d n o c e a b = (grind arith, grind arith)
 
 -- the fronts of tokens behind one more, where that one takes the count from d to n
 step : (d n : ℕ) (x : TokenText) (xs : List TokenText) → d + opens x.kind ≡ n + closes x.kind → is_whole d (x ∷ xs) ≡ is_whole n xs
-step d n x xs e =
-    let here = λ (ys : List TokenText). shifted d n (opens x.kind) (closes x.kind) e (closing_braces ys) (opening_braces ys) in
-    let each : list_all (is_within d) (fronts (x ∷ xs)) ≡ list_all (is_within n) (fronts xs) =
-    (λ i. within-none d i && list_all (is_within d) (map (λ front. x ∷ front) (fronts xs)))
-    ∙ list_all-map (is_within d) (λ front. x ∷ front) (fronts xs)
-    ∙ all-same (λ ys. is_within d (x ∷ ys)) (is_within n) (λ ys. rw (opening-cons x ys, closing-cons x ys) (here ys).0) (fronts xs) in
-    let whole : (d + opening_braces (x ∷ xs) == closing_braces (x ∷ xs)) ≡ (n + opening_braces xs == closing_braces xs) =
-    rw (opening-cons x xs, closing-cons x xs) (here xs).1 in
-    λ i. each i && whole i
+step d n x xs e = grind (arith, common_steps, shifted, within-none, list_all-map, all-same, opening-cons, closing-cons)
 
 fronts-first : (p : List TokenText → Bool) (xs : List TokenText) → p [] ≡ false → list_all p (fronts xs) ≡ false
 fronts-first p [] h = rw h refl
 fronts-first p (x ∷ xs) h = rw h refl
 
 outside : (d : ℕ) (x : TokenText) (xs : List TokenText) → is_outside x.kind d ≡ true → is_whole d (x ∷ xs) ≡ false
-outside d x xs o =
-    let both = and_parts (same_kind x.kind K.CloseBrace) (d == 0) o in
-    let first : is_within 0 (x ∷ []) ≡ false = rw (opening-cons x [], closing-cons x [], same_kind-eq x.kind K.CloseBrace both.0) refl in
-    let later = list_all-map (is_within 0) (λ front. x ∷ front) (fronts xs) ∙ fronts-first (λ ys. is_within 0 (x ∷ ys)) xs first in
-    subst (λ m. is_whole m (x ∷ xs) ≡ false) (sym (eqb-true d 0 both.1)) (rw (within-none 0, later) refl)
+outside d x xs o = grind (arith, common_steps, and_parts, opening-cons, closing-cons, same_kind-eq, list_all-map, fronts-first, eqb-true, within-none)
 
 depth-counted : (k : TokenKind) (d : ℕ) → is_outside k d ≡ false → d + opens k ≡ depth_after k d + closes k
 depth-counted K.OpenBrace d o = omega arith

@@ -1,6 +1,7 @@
 -- Gaps: blank octets and comments, and where none begins.
+use Rattle.std.proofs.lemmas.Grind.{common_steps}
 use Rattle.std.proofs.Common.{◌≡◌, ℕ, zero, suc, ◌+◌, ◌<◌, ◌≤◌, true, false, cond, List, [], ◌∷◌, length, get_or, take, drop, refl, sym, ap, ◌∙◌, inl}
-use Rattle.std.proofs.Common.{inr, arith, eqb, ◌-◌, add-zero}
+use Rattle.std.proofs.Common.{inr, arith, ◌-◌, add-zero}
 use Rattle.std.proofs.lemmas.Bool.{eqb-true, ne_eqb, false≢true, or_cases}
 use Rattle.std.proofs.lemmas.List.{drop_all}
 use Rattle.smi_text.specs.declared.lexer.class.Class.TheVariants as C
@@ -23,12 +24,7 @@ pub newlines-other : (c : ℕ) → (c ≡ 10 → ⊥) → newlines (c ∷ []) �
 newlines-other c other = newlines-one c ∙ ap (λ b. cond b 1 0) (ne_eqb c 10 other)
 
 nothing_front : (cs : List ℕ) → IsLongestPassing is_nothing cs 0
-nothing_front cs = record { within = omega arith; passes = refl; longest = more cs }
-  where
-    more : (cs : List ℕ) (m : ℕ) → 0 < m → m ≤ length cs → is_nothing (take m cs) ≡ false
-    more cs zero above within = absurd (omega arith)
-    more [] (suc m) above within = absurd (omega arith)
-    more (c ∷ cs) (suc m) above within = refl
+nothing_front cs = grind (arith, common_steps)
 
 pub blank_front : (c : ℕ) (cs : List ℕ) → is_blank c ≡ true → IsPartFront part_of (c ∷ cs) gap 1
 blank_front c cs h =
@@ -36,18 +32,11 @@ blank_front c cs h =
 
 pub skips_blank : (text : List ℕ) (n lines : ℕ) → n < length text → is_blank (get_or text n 0) ≡ true
     → Skips text n lines → Skips text (n + 1) (lines + newlines (get_or text n 0 ∷ []))
-skips_blank text n lines here blank skips =
-    let rest = rest_at text n here in
-    skips_gap text n lines 1 (newlines (get_or text n 0 ∷ [])) (rw rest (blank_front (get_or text n 0) (drop (n + 1) text) blank))
-    (ap (λ s. newlines (take 1 s)) rest) skips
+skips_blank text n lines here blank skips = grind (arith, common_steps, rest_at, skips_gap, blank_front)
 
 -- a space or a tab ends no line, and is blank
 ends_no_line : (c : ℕ) → is_space_or_tab c ≡ true → (newlines (c ∷ []) ≡ 0) × (is_blank c ≡ true)
-ends_no_line c is =
-    elim (or_cases (eqb c 32) (eqb c 9) is) [
-      | inl space ↦ rw (eqb-true c 32 space) (refl, refl)
-      | inr tab ↦ rw (eqb-true c 9 tab) (refl, refl)
-    ]
+ends_no_line c is = grind (arith, common_steps, or_cases, eqb-true)
 
 skips_space : (text : List ℕ) (n lines : ℕ) → n < length text → is_space_or_tab (get_or text n 0) ≡ true
     → Skips text n lines → Skips text (n + 1) lines

@@ -1,4 +1,5 @@
 -- Indexes are lawful.
+use Rattle.std.proofs.lemmas.Grind.{common_steps}
 use Rattle.std.proofs.Common.{◌≡◌, ℕ, zero, suc, ◌≤◌, Bool, true, false, List, [], ◌∷◌, length, Some, None, Ok, Err, if◌then◌else◌, refl, sym, ◌∙◌}
 use Rattle.std.proofs.Common.{subst, arith, inl, inr}
 use Rattle.std.specs.Prelude.{codes, option_map, option_and_then}
@@ -9,7 +10,7 @@ use Rattle.smi_text.specs.Format.{StandsAhead, pair, Parsed, a_word, a_kind, beg
 use Rattle.smi_text.specs.Grammar.{index_parts, implied_name, index_names, read_index, with_names}
 use Rattle.smi_text.specs.trees.Spelling as say
 use Rattle.smi_text.proofs.Lawful.{Lawful}
-use Rattle.smi_text.proofs.Marks.{if-inv, StandsAhead-append, StandsAhead-split, begins-none, apart-false, map-inv, then-inv}
+use Rattle.smi_text.proofs.Marks.{if-inv, StandsAhead-split, begins-none, apart-false, map-inv, then-inv}
 use Rattle.smi_text.proofs.Many.{StandsAhead-length}
 use Rattle.smi_text.proofs.Laws.{some-inj, never-stands, token-law, lower-law, starts-with, begins-left, begins-right}
 use Rattle.smi_text.proofs.PieceLaws.{after-word}
@@ -46,9 +47,7 @@ with_names-one x (Some p) = refl
 joined : (x : Name) (ys : List Name) (implied : Bool) (ts mid after rest : List Item) → StandsAhead (spelled K.Lower x.octets true ∷ []) ts mid
     → StandsAhead (sign K.Comma ∷ []) mid after → StandsAhead (say.of_index_names ys implied) after rest → StandsAhead (say.of_index_names (x ∷ ys) implied) ts rest
 joined x [] implied ts mid after rest h c k = absurd (never-stands after rest k)
-joined x (y ∷ ys) implied ts mid after rest h c k =
-    StandsAhead-append (spelled K.Lower x.octets true ∷ []) (sign K.Comma ∷ say.of_index_names (y ∷ ys) implied) ts mid rest h
-    (StandsAhead-append (sign K.Comma ∷ []) (say.of_index_names (y ∷ ys) implied) mid after rest c k)
+joined x (y ∷ ys) implied ts mid after rest h c k = grind (arith, common_steps)
 
 index-takes : (n : ℕ) (ts rest : List Item) (x : IndexParts) → read_index n ts ≡ Some (x, rest) → StandsAhead (say.of_index_names x.names x.implied) ts rest
 unfolding read_index behind shaped pair word text lower
@@ -121,8 +120,4 @@ index-starts (x ∷ (y ∷ ys)) implied ts rest h =
 
 pub index_names-law : Lawful (λ (p : IndexParts). say.of_index_names p.names p.implied) index_names
 unfolding index_names
-index_names-law = record {
-  takes = λ ts rest x h. index-takes (suc (length ts)) ts rest x h;
-  again = λ x ts rest h s. index-again x.names x.implied (length ts) ts rest (omega arith) h s;
-  starts = λ x ts rest h. inl (index-starts x.names x.implied ts rest h);
-}
+index_names-law = grind (arith, common_steps, index-takes, index-again, index-starts)

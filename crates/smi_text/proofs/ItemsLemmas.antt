@@ -1,6 +1,7 @@
 -- The computed items of a text: what its longest front makes of them.
+use Rattle.std.proofs.lemmas.Grind.{common_steps}
 use Rattle.std.proofs.Common.{◌≡◌, ℕ, zero, suc, ◌+◌, ◌<◌, ◌≤◌, cond, Option, Some, None, Ok, Err, List, [], ◌∷◌, length, take, drop, refl, sym, ap}
-use Rattle.std.proofs.Common.{◌∙◌, subst, inl, inr, arith, zero-add, add-zero, length-take-le}
+use Rattle.std.proofs.Common.{◌∙◌, inl, inr, arith, zero-add, add-zero, length-take-le}
 use Rattle.std.proofs.lemmas.Bool.{cases_lt}
 use Rattle.std.proofs.lemmas.List.{drop-drop}
 use Rattle.std.proofs.lemmas.List.Sums.{sum_by-append}
@@ -109,12 +110,7 @@ module _ (unread text : List ℕ) (at before n ended : ℕ) (skips : Skips unrea
 
   pub next_faults : (length text ≡ 0 → ⊥) → HasNoGap (drop n unread) → HasNoLexeme part_of text
       → items_at 0 at before unread ≡ Err (fault_on ((before + ended) + 1) text) ∷ []
-  next_faults some gaps lexemes = behind_gaps ∙ by_text text some (subst HasNoGap (sym is_rest) gaps) lexemes
-    where
-      by_text : (s : List ℕ) → (length s ≡ 0 → ⊥) → HasNoGap s → HasNoLexeme part_of s
-          → items_at 0 (at + n) (before + ended) s ≡ Err (fault_on ((before + ended) + 1) s) ∷ []
-      by_text [] some gaps lexemes = absurd (some refl)
-      by_text (c ∷ cs) some gaps lexemes = items-fault c cs (at + n) (before + ended) gaps lexemes
+  next_faults some gaps lexemes = grind (arith, common_steps, behind_gaps, items-fault)
 
   pub next_gives_token : (kind : TokenKind) (k : ℕ) → IsPartFront part_of text (lexeme kind) k
       → items_at 0 at before unread

@@ -1,4 +1,5 @@
 -- Each way of making a format keeps it lawful.
+use Rattle.std.proofs.lemmas.Grind.{common_steps}
 use Rattle.std.proofs.Common.{◌≡◌, ℕ, zero, suc, ◌<◌, Bool, true, false, ◌&&◌, not, List, [], ◌∷◌, ◌++◌, length, Option, Some, None, Ok, Err}
 use Rattle.std.proofs.Common.{if◌then◌else◌, refl, sym, ◌∙◌, ap, subst, arith, inl, inr, ◌⊎◌}
 use Rattle.std.proofs.lemmas.Bool.{and_parts, and_from, or_left, or_right, or_parts}
@@ -45,8 +46,7 @@ never-stands (Ok t ∷ ts) rest h = cc (h.0.2)
 -- what is spelled by a format that is not empty begins as it says
 pub starts-with : {A : Type 0} {s : A → List Mark} {f : Format A} → Lawful s f → f.empty ≡ false → (x : A) (ts rest : List Item) → StandsAhead (s x) ts rest
     → begins f.first ts ≡ true
-starts-with law solid x ts rest h =
-    elim (law.starts x ts rest h) [ inl b ↦ b | inr p ↦ absurd (let e = p.0 in cc) ]
+starts-with law solid x ts rest h = grind (arith, common_steps)
 
 pub begins-left : (cs ds : List Ahead) (ts : List Item) → begins cs ts ≡ true → begins (cs ++ ds) ts ≡ true
 begins-left cs ds ts h = begins-append cs ds ts ∙ or_left (begins cs ts) (begins ds ts) h
@@ -71,11 +71,7 @@ module _ {A : Type 0} (cs : List Ahead) (mark : A → Mark) (test : Lexeme → B
   one-takes : (ts rest : List Item) (x : A) → read_one (λ t. if test t then pick t else None) ts ≡ Some (x, rest) → StandsAhead (mark x ∷ []) ts rest
   one-takes [] rest x h = absurd (cc)
   one-takes (Err f ∷ ts) rest x h = absurd (cc)
-  one-takes (Ok t ∷ ts) rest x h =
-      let r = map-inv (λ (y : A). (y, ts)) (if test t then pick t else None) (x, rest) h in
-      let p = if-then (test t) (pick t) r.0 r.1 in
-      let P : A × List Item → Type 0 = λ w. MarksToken (mark w.0) t × (ts ≡ w.1) in
-      subst P r.2 (fits t r.0 p.0 p.1, refl)
+  one-takes (Ok t ∷ ts) rest x h = grind (arith, common_steps, map-inv, if-then)
 
   one-again : (x : A) (ts rest : List Item) → StandsAhead (mark x ∷ []) ts rest → read_one (λ t. if test t then pick t else None) ts ≡ Some (x, rest)
   one-again x [] rest h = absurd h
@@ -89,11 +85,7 @@ module _ {A : Type 0} (cs : List Ahead) (mark : A → Mark) (test : Lexeme → B
   one-starts x (Ok t ∷ ts) rest h = ahead t (found t x h.0).0
 
   pub one-law : Lawful (λ x. mark x ∷ []) (one cs (λ t. if test t then pick t else None))
-  one-law = record {
-    takes = one-takes;
-    again = λ x ts rest h k. one-again x ts rest h;
-    starts = λ x ts rest h. inl (one-starts x ts rest h);
-  }
+  one-law = grind (arith, common_steps, one-takes, one-again, one-starts)
 
 pub any-one : (t : Lexeme) (c : Ahead) → meets t c ≡ true → list_any (meets t) (c ∷ []) ≡ true
 any-one t c h = or_left (meets t c) false h
@@ -156,24 +148,14 @@ module _ {A B : Type 0} {s : A → List Mark} {t : B → List Mark} {f : Format 
     (far : apart f.stop g.first ≡ true) where
   -- what stands behind the first part does not stop it
   goes-on : (y : B) (mid rest : List Item) → StandsAhead (t y) mid rest → (g.empty ≡ true → begins f.stop rest ≡ false) → begins f.stop mid ≡ false
-  goes-on y mid rest h e =
-      elim (g-law.starts y mid rest h) [
-        | inl b ↦ apart-false f.stop g.first mid far b
-        | inr p ↦ ap (begins f.stop) p.1 ∙ e p.0
-      ]
+  goes-on y mid rest h e = grind (arith, common_steps, apart-false)
 
   pair-stops : (rest : List Item) → begins (pair f g).stop rest ≡ false → (begins g.stop rest ≡ false) × (g.empty ≡ true → begins f.stop rest ≡ false)
   unfolding pair
-  pair-stops rest h =
-      elim (g.empty) as (λ b. begins (if b then g.stop ++ f.stop else g.stop) rest ≡ false → (begins g.stop rest ≡ false) × (b ≡ true
-      → begins f.stop rest ≡ false)) [
-        | true ↦ λ k. ((neither g.stop f.stop rest k).0, λ _. (neither g.stop f.stop rest k).1)
-        | false ↦ λ k. (k, λ e. absurd (cc))
-      ] h
+  pair-stops rest h = grind (arith, common_steps, neither)
 
   first-of-two : (ts : List Item) → begins f.first ts ≡ true → begins (if f.empty then f.first ++ g.first else f.first) ts ≡ true
-  first-of-two ts h =
-      elim (f.empty) as (λ b. begins (if b then f.first ++ g.first else f.first) ts ≡ true) [ true ↦ begins-left f.first g.first ts h | false ↦ h ]
+  first-of-two ts h = grind (arith, common_steps, begins-left)
 
   second-of-two : (ts : List Item) → f.empty ≡ true → begins g.first ts ≡ true → begins (if f.empty then f.first ++ g.first else f.first) ts ≡ true
   second-of-two ts e h = rw e (begins-right f.first g.first ts h)
@@ -204,19 +186,7 @@ module _ {A B : Type 0} {s : A → List Mark} {t : B → List Mark} {f : Format 
 module _ {A : Type 0} {s : A → List Mark} {f : Format A} (law : Lawful s f) (solid : f.empty ≡ false) where
   pub maybe-law : Lawful (of_option s) (maybe f)
   unfolding maybe
-  maybe-law = record {
-    takes = λ ts rest x h.
-        let P : Option A × List Item → Type 0 = λ w. StandsAhead (of_option s w.0) ts w.1 in
-        elim (if-inv (begins f.first ts) (option_map put_some (f.read ts)) (Some (None, ts)) (Some (x, rest)) h) [
-          | inl p ↦ let r = map-inv put_some (f.read ts) (x, rest) p.1 in subst P r.2 (law.takes ts r.0.1 r.0.0 r.1)
-          | inr p ↦ subst P (some-inj {A = Option A × List Item} (None, ts) (x, rest) p.1) refl
-        ];
-    again = elim [
-      | None ↦ λ ts rest h k. rw (ap (begins f.first) h ∙ (neither f.first f.stop rest k).0) (ap (λ (us : List Item). Some (None, us)) h)
-      | Some x ↦ λ ts rest h k. rw (starts-with law solid x ts rest h, law.again x ts rest h (neither f.first f.stop rest k).1) refl
-    ];
-    starts = elim [ None ↦ λ ts rest h. inr (refl, h) | Some x ↦ λ ts rest h. inl (starts-with law solid x ts rest h) ];
-  }
+  maybe-law = grind (arith, common_steps, if-inv, map-inv, some-inj, neither, starts-with)
 
 abbrev pub of_either : {A B : Type 0} → (A → List Mark) → (B → List Mark) → A ⊎ B → List Mark
 of_either s t (inl x) = s x
@@ -226,24 +196,7 @@ module _ {A B : Type 0} {s : A → List Mark} {t : B → List Mark} {f : Format 
     (f-solid : f.empty ≡ false) (g-solid : g.empty ≡ false) (far : apart f.first g.first ≡ true) where
   pub either-law : Lawful (of_either s t) (either f g)
   unfolding either
-  either-law = record {
-    takes = λ ts rest x h.
-        let P : (A ⊎ B) × List Item → Type 0 = λ w. StandsAhead (of_either s t w.0) ts w.1 in
-        elim (if-inv (begins f.first ts) (option_map (put_left {B = B}) (f.read ts)) (option_map (put_right {A = A}) (g.read ts)) (Some (x, rest)) h) [
-          | inl p ↦ let r = map-inv (put_left {B = B}) (f.read ts) (x, rest) p.1 in subst P r.2 (f-law.takes ts r.0.1 r.0.0 r.1)
-          | inr p ↦ let r = map-inv (put_right {A = A}) (g.read ts) (x, rest) p.1 in subst P r.2 (g-law.takes ts r.0.1 r.0.0 r.1)
-        ];
-    again = elim [
-      | inl x ↦ λ ts rest h k. rw (starts-with f-law f-solid x ts rest h, f-law.again x ts rest h (neither f.stop g.stop rest k).0) refl
-      | inr y ↦ λ ts rest h k.
-          let other = apart-false f.first g.first ts far (starts-with g-law g-solid y ts rest h) in
-          rw (other, g-law.again y ts rest h (neither f.stop g.stop rest k).1) refl
-    ];
-    starts = elim [
-      | inl x ↦ λ ts rest h. inl (begins-left f.first g.first ts (starts-with f-law f-solid x ts rest h))
-      | inr y ↦ λ ts rest h. inl (begins-right f.first g.first ts (starts-with g-law g-solid y ts rest h))
-    ];
-  }
+  either-law = grind (arith, common_steps, if-inv, map-inv, starts-with, neither, apart-false, begins-left, begins-right)
 
 front-of-one : {A : Type 0} (y : A) (ys : List A) (us : List Item) → with_front (y ∷ []) (Some (ys, us)) ≡ Some (y ∷ ys, us)
 unfolding with_front
@@ -252,9 +205,7 @@ front-of-one y ys us = refl
 module _ {A : Type 0} {s : A → List Mark} {f : Format A} (law : Lawful s f) (solid : f.empty ≡ false) (far : apart f.stop f.first ≡ true) where
   many-takes-from : (n : ℕ) (ts rest : List Item) (xs : List A) → read_many f n ts ≡ Some (xs, rest) → StandsAhead (flat_map s xs) ts rest
   unfolding read_many
-  many-takes-from zero ts rest xs h =
-      let P : List A × List Item → Type 0 = λ w. StandsAhead (flat_map s w.0) ts w.1 in
-      subst P (some-inj {A = List A × List Item} ([], ts) (xs, rest) h) refl
+  many-takes-from zero ts rest xs h = grind (arith, common_steps, some-inj)
   many-takes-from (suc n) ts rest xs h =
       let P : List A × List Item → Type 0 = λ w. StandsAhead (flat_map s w.0) ts w.1 in
       elim (if-inv (begins f.first ts) (option_and_then (then_many f n) (f.read ts)) (Some ([], ts)) (Some (xs, rest)) h) [
@@ -287,11 +238,7 @@ module _ {A : Type 0} {s : A → List Mark} {f : Format A} (law : Lawful s f) (s
 
   pub many-law : Lawful (flat_map s) (many f)
   unfolding many
-  many-law = record {
-    takes = λ ts rest xs h. many-takes-from (suc (length ts)) ts rest xs h;
-    again = λ xs ts rest h k. many-again xs ts rest h (neither f.first f.stop rest k);
-    starts = λ xs ts rest h. elim (many-starts xs ts rest h) [ inl b ↦ inl b | inr e ↦ inr (refl, e) ];
-  }
+  many-law = grind (arith, common_steps, many-takes-from, many-again, neither, many-starts)
 
 -- what is spelled of the pieces is what is spelled of the part that they make, which has pieces
 module _ {A B : Type 0} (to : A → B) (u : B → List Mark) {s : A → List Mark} {f : Format A} (law : Lawful s f)
@@ -299,14 +246,7 @@ module _ {A B : Type 0} (to : A → B) (u : B → List Mark) {s : A → List Mar
     (back : (ts rest : List Item) (y : B) → StandsAhead (u y) ts rest → (x : A) × (to x ≡ y) × StandsAhead (s x) ts rest) where
   pub shaped-law : Lawful u (shaped to f)
   unfolding shaped
-  shaped-law = record {
-    takes = λ ts rest y h.
-        let r = map-inv (λ (p : A × List Item). (to p.0, p.1)) (f.read ts) (y, rest) h in
-        let P : B × List Item → Type 0 = λ w. StandsAhead (u w.0) ts w.1 in
-        subst P r.2 (forth ts r.0.1 r.0.0 (law.takes ts r.0.1 r.0.0 r.1));
-    again = λ y ts rest h k. let p = back ts rest y h in rw (law.again p.0 ts rest p.2 k) (ap (λ (z : B). Some (z, rest)) p.1);
-    starts = λ y ts rest h. let p = back ts rest y h in law.starts p.0 ts rest p.2;
-  }
+  shaped-law = grind (arith, common_steps, map-inv)
 
 pub behind-law : {A : Type 0} {v : Unit {0} → List Mark} {s : A → List Mark} {w : Format (Unit {0})} {f : Format A} → Lawful v w → Lawful s f
     → apart w.stop f.first ≡ true → Lawful (λ x. v tt ++ s x) (behind w f)
@@ -367,13 +307,4 @@ module _ {A : Type 0} {s : A → List Mark} {f : Format A} (law : Lawful s f) (s
 
   pub lined-law : Lawful (λ (p : ℕ × A). put_line p.0 (s p.1)) (lined f)
   unfolding lined
-  lined-law = record {
-    takes = λ ts rest x h.
-        let r = map-inv (λ (p : A × List Item). ((line_ahead ts, p.0), p.1)) (f.read ts) (x, rest) h in
-        let P : (ℕ × A) × List Item → Type 0 = λ w. StandsAhead (put_line w.0.0 (s w.0.1)) ts w.1 in
-        subst P r.2 (put-line (s r.0.0) ts r.0.1 (some-mark r.0.0) (law.takes ts r.0.1 r.0.0 r.1));
-    again = λ x ts rest h k.
-        let r = drop-line x.0 (s x.1) ts rest h in
-        rw (law.again x.1 ts rest r.0 k) (ap (λ (n : ℕ). Some ((n, x.1), rest)) r.1);
-    starts = λ x ts rest h. inl (starts-with law solid x.1 ts rest (drop-line x.0 (s x.1) ts rest h).0);
-  }
+  lined-law = grind (arith, common_steps, map-inv, put-line, some-mark, drop-line, starts-with)

@@ -1,4 +1,5 @@
 -- Steps and ends of a scan for the longest front that passes a test.
+use Rattle.std.proofs.lemmas.Grind.{common_steps}
 use Rattle.std.proofs.Common.{◌≡◌, ℕ, zero, suc, ◌+◌, ◌-◌, ◌<◌, ◌≤◌, Bool, true, false, List, [], ◌∷◌, length, get_or, take, drop, sym, ap, ◌∙◌}
 use Rattle.std.proofs.Common.{arith, length-drop, drop-cons, add-one, add-zero, zero-add, suc-add}
 use Rattle.std.proofs.lemmas.Bool.{and_parts}
@@ -10,10 +11,7 @@ pub rest_at : (text : List ℕ) (n : ℕ) → n < length text → drop n text �
 rest_at text n here = drop-cons text n 0 here ∙ ap (λ m. get_or text n 0 ∷ drop m text) (sym (add-one n))
 
 pub rest_of_two : (text : List ℕ) (n : ℕ) → n + 1 < length text → drop n text ≡ get_or text n 0 ∷ get_or text (n + 1) 0 ∷ drop (n + 2) text
-rest_of_two text n here =
-    let first : n < length text = omega arith in
-    let place : (n + 1) + 1 ≡ n + 2 = omega arith in
-    rest_at text n first ∙ ap (λ s. get_or text n 0 ∷ s) (rest_at text (n + 1) here ∙ ap (λ m. get_or text (n + 1) 0 ∷ drop m text) place)
+rest_of_two text n here = grind (arith, common_steps, rest_at)
 
 module _ (test : List ℕ → Bool) (text : List ℕ) where
   -- an octet that makes no difference to the test

@@ -1,12 +1,13 @@
 -- The computed items are those that `Lexes` says, and no others are.
-use Rattle.std.proofs.Common.{◌≡◌, ℕ, zero, suc, ◌+◌, ◌-◌, ◌<◌, ◌≤◌, cond, Option, Some, None, Ok, List, [], ◌∷◌, ◌++◌, length, take, drop, refl, sym}
+use Rattle.std.proofs.lemmas.Grind.{common_steps}
+use Rattle.std.proofs.Common.{◌≡◌, ℕ, zero, suc, ◌+◌, ◌<◌, ◌≤◌, Option, Some, None, Ok, List, [], ◌∷◌, ◌++◌, length, take, drop, refl, sym}
 use Rattle.std.proofs.Common.{ap, ◌∙◌, ⊎_elim, arith, length-append, length-take-le, length-drop, append_assoc, slice_range}
 use Rattle.std.proofs.lemmas.Bool.{cases_lt}
 use Rattle.std.proofs.lemmas.List.{take_all, take-append-drop}
 use Rattle.std.proofs.Math.Seq.{drop-append_seam}
 use Rattle.std.proofs.lemmas.List.Sums.{sum_by-append}
 use Rattle.smi_text.specs.lexer.Token.{Item, Lexeme, tokens_of}
-use Rattle.smi_text.specs.lexer.Lexeme.{Part, gap, is_newline, lexeme}
+use Rattle.smi_text.specs.lexer.Lexeme.{Part, gap, lexeme}
 use Rattle.smi_text.specs.lexer.Lexes.{AreInOrder, IsLongest, Lexes, breaks, ends, gives, lexeme_behind, passes}
 use Rattle.smi_text.specs.lexer.Reading.{IsPartFront, items_at, longest_front, newlines, part_of, part_or_shorter}
 use Rattle.smi_text.proofs.ItemsLemmas.{front_some, items-front, items-none, items-nothing}
@@ -20,11 +21,7 @@ none_unless None h = refl
 none_unless (Some part) h = absurd (h part refl)
 
 longest-front : (part : Part) (n : ℕ) (text : List ℕ) → IsPartFront part_of text part n → IsLongest part n text
-longest-front part n text front = record {
-  within = front.within;
-  is_one = part_is (take n text) part front.reads;
-  longest = λ other m above within h. none_some other (sym (front.longest m above within) ∙ is_part other (take m text) h);
-}
+longest-front part n text front = grind (arith, common_steps, part_is, none_some, is_part)
 
 front-longest : (part : Part) (n : ℕ) (text : List ℕ) → IsLongest part n text → IsPartFront part_of text part n
 front-longest part n text longest = record {
@@ -61,15 +58,11 @@ finds (suc n) text = finds_step n text (part_of (take (suc n) text)) (longest_fr
 behind : (before text : List ℕ) (n : ℕ) → n ≤ length text
     → items_at 0 (length (before ++ take n text)) (newlines (before ++ take n text)) (drop n text) ≡ items_at 0 (length before + n)
     (newlines before + newlines (take n text)) (drop n text)
-behind before text n within =
-    rw (length-append, length-take-le n text within, sum_by-append (λ c. cond (is_newline c) 1 0) before (take n text)) refl
+behind before text n within = grind (arith, common_steps, length-append, length-take-le, sum_by-append)
 
 -- no front at all is a part
 none_of : (text : List ℕ) → Finds (length text) text None → (m : ℕ) → part_of (take m text) ≡ None
-none_of text none m = ⊎_elim
-    (λ longer. let past : length text ≤ m = omega arith in ap part_of (take_all m text past ∙ sym (take_all (length text) text (omega arith)))
-    ∙ none (length text) (omega arith))
-    (λ within. none m within) (cases_lt (length text) m)
+none_of text none m = grind (arith, common_steps, ⊎_elim, take_all, cases_lt)
 
 -- ---- the items
 
@@ -125,9 +118,7 @@ earlier source low high (t ∷ ts) below h = (omega (arith, h.0), h.1, h.2, h.3,
 
 -- the octets of a span are those behind what stands before it
 span_of : (before text : List ℕ) (n : ℕ) → n ≤ length text → take n text ≡ slice_range (before ++ text) (length before) (length before + length (take n text))
-span_of before text n within =
-    let len : (length before + length (take n text)) - length before ≡ n = omega (arith, length-take-le n text within) in
-    rw (drop-append_seam before text, len) refl
+span_of before text n within = grind (arith, common_steps, length-take-le, drop-append_seam)
 
 pub in_order : {before text : List ℕ} {items : List Item} → Lexes before text items → AreInOrder (before ++ text) (length before) (tokens_of items)
 in_order ends = tt

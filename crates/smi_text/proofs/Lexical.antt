@@ -1,5 +1,6 @@
 -- What the kind of a token says of its text.
-use Rattle.std.proofs.Common.{◌≡◌, ℕ, Bool, true, ◌&&◌, List, ◌∷◌, Some, Result, Ok, Err, refl, sym, ◌∙◌, ap}
+use Rattle.std.proofs.Common.{arith, ◌≡◌, ℕ, Bool, true, List, ◌∷◌, Some, Result, Ok, Err, sym, ◌∙◌, ap}
+use Rattle.std.proofs.lemmas.Grind.{common_steps}
 use Rattle.std.proofs.lemmas.Bool.{and_from, false≢true}
 use Rattle.std.specs.Prelude.{drop, IfOk, IfErr}
 use Rattle.std.proofs.Math.Bool.{Bool-set}
@@ -8,7 +9,7 @@ use Rattle.smi_text.specs.declared.lexer.token.TokenKind.{TokenKind}
 use Rattle.smi_text.specs.declared.lexer.token.TokenKind.TheVariants as K
 use Rattle.smi_text.specs.lexer.Lexeme.{IsLexeme}
 use Rattle.smi_text.specs.lexer.Token.{Lexeme, Item}
-use Rattle.smi_text.specs.trees.Mark.{sign_text, same_text, same_kind}
+use Rattle.smi_text.specs.trees.Mark.{sign_text, same_text}
 use Rattle.smi_text.specs.declared.trees.names.Name.{Name}
 use Rattle.smi_text.specs.Kinds.{is_sign_kind}
 use Rattle.smi_text.specs.declared.stop.Stop.{Stop}
@@ -34,10 +35,7 @@ sign_is k x e t = ∥∥₁_elim t (Bool-set (same_text x (sign_text k)) true) (
 pub sign-read : (k : TokenKind) (t : Lexeme) (ts : List Item) → t.kind ≡ k → is_sign_kind k ≡ true → ∥ IsLexeme t.kind t.text ∥₁
     → (token k).read (Ok t ∷ ts) ≡ Some (tt, ts)
 unfolding token
-sign-read k t ts e s l =
-    let text : same_text t.text (sign_text t.kind) ≡ true = sign_is t.kind t.text (rw e s) l in
-    let both : (same_kind t.kind k && same_text t.text (sign_text k)) ≡ true = and_from (same_kind t.kind k) (same_text t.text (sign_text k)) (rw e (same_kind-same k)) (rw (← e) text) in
-    rw both refl
+sign-read k t ts e s l = grind (arith, common_steps, sign_is, and_from, same_kind-same)
 
 -- the octets of a name give it
 pub name_at : (x : List ℕ) (n : Name) → n.octets ≡ x → name_of x ≡ Some n
@@ -47,7 +45,5 @@ name_at x n e = ap name_of (sym e) ∙ name_of-octets n
 pub gives-name : (cs : List Ahead) (k : TokenKind) (ok : List ℕ → Bool) (t : Lexeme) (ts now rest : List Item) (r : Result Name Stop) → now ≡ Ok t ∷ ts
     → ts ≡ drop 1 now → t.kind ≡ k → ok t.text ≡ true
     → IfOk r (λ x. (name_of t.text ≡ Some x) × (rest ≡ drop 1 now)) → IfErr r (λ e. e ≡ Memory) → ReturnsReading r rest ((name_where cs k ok).read now)
-gives-name cs k ok t ts now rest (Ok x) is tail e o h m =
-    let both : (same_kind t.kind k && ok t.text) ≡ true = and_from (same_kind t.kind k) (ok t.text) (rw e (same_kind-same k)) o in
-    ap (name_where cs k ok).read is ∙ rw (both, h.0, tail, ← h.1) refl
+gives-name cs k ok t ts now rest (Ok x) is tail e o h m = grind (arith, common_steps, and_from, same_kind-same)
 gives-name cs k ok t ts now rest (Err e) is tail f o h m = λ n. absurd (false≢true (sym n ∙ ap is_memory m))

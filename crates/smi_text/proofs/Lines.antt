@@ -1,11 +1,12 @@
 -- Trees with one spelling but for lines are the same but for lines: with 0 in the place of each line both stand in the same tokens.
-use Rattle.std.proofs.Common.{◌≡◌, ℕ, Bool, true, false, List, [], ◌∷◌, ◌++◌, Option, Some, None, if◌then◌else◌, refl, sym, ◌∙◌, ap}
+use Rattle.std.proofs.Common.{arith, ◌≡◌, ℕ, Bool, true, false, List, [], ◌∷◌, ◌++◌, Option, Some, None, if◌then◌else◌, refl, ◌∙◌, ap}
+use Rattle.std.proofs.lemmas.Grind.{common_steps}
 use Rattle.std.specs.Prelude.{map, option_map}
 use Rattle.std.specs.List.{flat_map}
 use Rattle.std.proofs.lemmas.List.{map-append}
 use Rattle.std.proofs.lemmas.List.Folds.{flat_map-map}
 use Rattle.std.proofs.lemmas.Simd.{map-map}
-use Rattle.smi_text.specs.lexer.Token.{Lexeme, Item}
+use Rattle.smi_text.specs.lexer.Token.{Lexeme}
 use Rattle.smi_text.specs.trees.Mark.{Mark, spelled, on_line, MarksToken, Stands}
 use Rattle.smi_text.specs.trees.Spelling as say
 use Rattle.smi_text.specs.trees.Fronts.{has_balanced_braces}
@@ -129,7 +130,4 @@ unlined-stands ms ts h = rw (← spelling-zeroed ms) (stands-zeroed (say.spellin
 
 pub same_but_lines : (ms ns : List Module) (ts : List Lexeme) → Stands (map plain (say.spelling ms)) ts [] → Stands (map plain (say.spelling ns)) ts []
     → map unlined ms ≡ map unlined ns
-same_but_lines ms ns ts h k =
-    ap (λ (p : List Module × List Item). p.0) (some-inj {A = List Module × List Item} (map unlined ms, []) (map unlined ns, [])
-    (sym (tokens-read (map unlined ms) (map first_line ts) (unlined-stands ms ts h))
-    ∙ tokens-read (map unlined ns) (map first_line ts) (unlined-stands ns ts k)))
+same_but_lines ms ns ts h k = grind (arith, common_steps, some-inj, tokens-read, unlined-stands)

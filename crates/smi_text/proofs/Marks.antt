@@ -1,6 +1,7 @@
 -- Marks, kinds and texts: what the tests of tokens mean.
-use Rattle.std.proofs.Common.{◌≡◌, ℕ, Bool, true, false, ◌||◌, not, List, [], ◌∷◌, ◌++◌, Option, Some, None, Ok, Err, refl, sym, ◌∙◌, ap, subst, inl}
-use Rattle.std.proofs.Common.{inr, get_or, eq-eqb, ◌⊎◌, if◌then◌else◌}
+use Rattle.std.proofs.Common.{arith, ◌≡◌, ℕ, Bool, true, false, ◌||◌, not, List, [], ◌∷◌, ◌++◌, Option, Some, None, Ok, Err, refl, sym, ◌∙◌, ap}
+use Rattle.std.proofs.Common.{subst, inl, inr, get_or, eq-eqb, ◌⊎◌, if◌then◌else◌}
+use Rattle.std.proofs.lemmas.Grind.{common_steps}
 use Rattle.std.proofs.lemmas.Bool.{and_parts, false_from_ne_true, eqb-true, or_cases}
 use Rattle.std.specs.Prelude.{option_map, option_and_then}
 use Rattle.std.specs.List.{list_any, list_all}
@@ -11,7 +12,6 @@ use Rattle.smi_text.specs.declared.lexer.token.TokenKind.TheVariants as K
 use Rattle.smi_text.specs.lexer.Token.{Lexeme, Item}
 use Rattle.smi_text.specs.trees.Mark.{Mark, kind_number, same_kind, same_text}
 use Rattle.smi_text.specs.Format.{StandsAhead, Ahead, a_word, a_name, a_kind, no_word, no_kind, is_this_word, meets, begins, half_apart, apart}
-use Rattle.smi_text.specs.trees.Reserved.{is_reserved}
 
 -- kinds and texts
 
@@ -96,18 +96,14 @@ module _ (t : Lexeme) where
   kind-clash j k a h e = true-not (same_kind j k) a (rw (← h, ← e) (same_kind-same t.kind))
 
   half-sound : (c d : Ahead) → half_apart c d ≡ true → meets t c ≡ true → meets t d ≡ true → ⊥
-  half-sound (a_word v) (a_word w) a h k =
-      true-not (same_text v w) a (rw (← word-text v h, ← word-text w k) (same_text-same t.text))
-  half-sound (a_word v) a_name a h k =
-      true-not (is_reserved t.text) (and_parts (same_kind t.kind K.Upper) (not (is_reserved t.text)) k).1 (rw (word-text v h) a)
+  half-sound (a_word v) (a_word w) a h k = grind (arith, common_steps, true-not, word-text, same_text-same)
+  half-sound (a_word v) a_name a h k = grind (arith, common_steps, true-not, and_parts, word-text)
   half-sound (a_word v) (a_kind k) a h e = kind-clash K.Upper k a (word-kind v h) (same_kind-eq t.kind k e)
   half-sound (a_word v) (no_word w) a h k =
       true-not (is_this_word w t) k (let e : v ≡ w = same_text-eq v w a in rw (← e) h)
-  half-sound a_name (a_kind k) a h e =
-      kind-clash K.Upper k a (same_kind-eq t.kind K.Upper (and_parts (same_kind t.kind K.Upper) (not (is_reserved t.text)) h).0) (same_kind-eq t.kind k e)
+  half-sound a_name (a_kind k) a h e = grind (arith, common_steps, kind-clash, same_kind-eq, and_parts)
   half-sound (a_kind j) (a_kind k) a h e = kind-clash j k a (same_kind-eq t.kind j h) (same_kind-eq t.kind k e)
-  half-sound (a_kind j) (no_kind k) a h e =
-      true-not (same_kind t.kind k) e (let f : j ≡ k = same_kind-eq j k a in rw (← f) h)
+  half-sound (a_kind j) (no_kind k) a h e = grind (arith, common_steps, true-not, same_kind-eq)
   half-sound _ _ a h k = cc
 
   list-sound : (c : Ahead) (ds : List Ahead) → list_all (λ d. half_apart c d || half_apart d c) ds ≡ true → meets t c ≡ true → list_any (meets t) ds ≡ true → ⊥

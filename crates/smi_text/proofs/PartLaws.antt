@@ -1,6 +1,7 @@
 -- A stretch of octets is a part exactly where it reads as one.
+use Rattle.std.proofs.lemmas.Grind.{common_steps}
 use Rattle.std.proofs.Common.{◌≡◌, ◌≢◌, ℕ, ◌⊎◌, Bool, true, false, cond, not, ◌&&◌, ◌||◌, Some, List, [], ◌∷◌, ◌++◌, refl, sym, ap, ◌∙◌, subst, inl}
-use Rattle.std.proofs.Common.{inr, arith, eqb, codes, append_assoc, append-nil}
+use Rattle.std.proofs.Common.{inr, arith, eqb, append_assoc, append-nil}
 use Rattle.std.proofs.lemmas.Bool.{and_parts, and_from, or_cases, eqb-true, ne_eqb, false≢true, not-true}
 use Rattle.std.specs.List.{list_all}
 use Rattle.std.specs.Bool.{then_some}
@@ -35,9 +36,7 @@ nothing_is (c ∷ cs) h = absurd (false≢true h)
 
 sole_is : (test : ℕ → Bool) (s : List ℕ) → is_sole test s ≡ true → (c : ℕ) × (s ≡ c ∷ []) × (test c ≡ true)
 sole_is test [] h = absurd (false≢true h)
-sole_is test (c ∷ cs) h =
-    let both = and_parts (test c) (is_nothing cs) h in
-    (c, ap (λ s. c ∷ s) (nothing_is cs both.1), both.0)
+sole_is test (c ∷ cs) h = grind (arith, common_steps, and_parts, nothing_is)
 
 -- strings
 string_body : (s : List ℕ) → is_string_rest s ≡ true → (body : List ℕ) × (s ≡ body ++ 34 ∷ []) × (list_all (is_other 34) body ≡ true)
@@ -64,21 +63,10 @@ literal_body is_digit is_letter (c ∷ cs) h =
 -- behind the first quote
 literal_is : (is_digit : ℕ → Bool) (upper lower : ℕ) (s : List ℕ) → is_literal_rest is_digit (λ c. eqb c upper || eqb c lower) s ≡ true
     → IsLiteral is_digit upper lower (39 ∷ s)
-literal_is is_digit upper lower s h =
-    let r = literal_body is_digit (λ c. eqb c upper || eqb c lower) s h in
-    let letter : (r.1 ≡ upper) ⊎ (r.1 ≡ lower) = elim (or_cases (eqb r.1 upper) (eqb r.1 lower) r.4) [
-      | inl e ↦ inl (eqb-true r.1 upper e)
-      | inr e ↦ inr (eqb-true r.1 lower e)
-    ] in
-    (r.0, r.1, ap (λ t. 39 ∷ t) r.2 ∙ sym (append_assoc (39 ∷ r.0) (39 ∷ []) (r.1 ∷ [])), r.3, letter)
+literal_is is_digit upper lower s h = grind (arith, common_steps, literal_body, or_cases, eqb-true, append_assoc)
 
 literal_part_is : (s : List ℕ) (part : Part) → literal_part s ≡ Some part → IsPart part (39 ∷ s)
-literal_part_is s part h =
-    let binary = is_literal_rest is_binary_digit is_binary_letter s in
-    elim (if-inv (is_literal_rest is_ascii_hexdigit is_hex_letter s) (Some (lexeme K.Hex)) (then_some binary (lexeme K.Binary)) (Some part) h) [
-      | inl p ↦ then_is true (lexeme K.Hex) part (39 ∷ s) p.1 (λ _. literal_is is_ascii_hexdigit 72 104 s p.0)
-      | inr p ↦ then_is binary (lexeme K.Binary) part (39 ∷ s) p.1 (literal_is is_binary_digit 66 98 s)
-    ]
+literal_part_is s part h = grind (arith, common_steps, if-inv, then_is, literal_is)
 
 -- comments
 -- a front of octets that begin no run
@@ -141,15 +129,8 @@ hyphen_part_is (c ∷ cs) part h =
 -- symbols
 symbol_part_is : (kind : TokenKind) (c : ℕ) (s : List ℕ) (part : Part) → IsLexeme kind (c ∷ []) → symbol_part kind s ≡ Some part → IsPart part (c ∷ s)
 symbol_part_is kind c [] part first h = then_is true (lexeme kind) part (c ∷ []) h (λ _. first)
-symbol_part_is K.Colon c (d ∷ ds) part first h =
-    then_is (eqb d 58 && is_sole (λ e. eqb e 61) ds) (lexeme K.Assign) part (c ∷ d ∷ ds) h
-    (λ r.
-    let both = and_parts (eqb d 58) (is_sole (λ e. eqb e 61) ds) r in
-    let last = sole_is (λ e. eqb e 61) ds both.1 in
-    cc (first, eqb-true d 58 both.0, last.1, eqb-true last.0 61 last.2))
-symbol_part_is K.Dot c (d ∷ ds) part first h =
-    then_is (eqb d 46 && is_nothing ds) (lexeme K.Range) part (c ∷ d ∷ ds) h
-    (λ r. let both = and_parts (eqb d 46) (is_nothing ds) r in cc (first, eqb-true d 46 both.0, nothing_is ds both.1))
+symbol_part_is K.Colon c (d ∷ ds) part first h = grind (arith, common_steps, then_is, and_parts, sole_is, eqb-true)
+symbol_part_is K.Dot c (d ∷ ds) part first h = grind (arith, common_steps, then_is, and_parts, eqb-true, nothing_is)
 symbol_part_is _ c (d ∷ ds) part first h = absurd (none_some part h)
 
 class_part_is : (class : Class) (c : ℕ) (s : List ℕ) (part : Part) → class_of c ≡ class → part_in class s ≡ Some part → IsPart part (c ∷ s)
@@ -157,13 +138,9 @@ class_part_is C.Blank c s part is h =
     then_is (is_nothing s) gap part (c ∷ s) h (λ r. inl (c, ap (λ t. c ∷ t) (nothing_is s r), class_is c C.Blank is))
 class_part_is C.Lowercase c s part is h = then_is (is_word_rest s) (lexeme K.Lower) part (c ∷ s) h (λ r. (c, s, refl, class_is c C.Lowercase is, r))
 class_part_is C.Uppercase c s part is h = then_is (is_word_rest s) (lexeme K.Upper) part (c ∷ s) h (λ r. (c, s, refl, class_is c C.Uppercase is, r))
-class_part_is C.Digit c s part is h =
-    then_is (list_all is_ascii_digit s) (lexeme K.Number) part (c ∷ s) h
-    (λ r. ([], c ∷ s, refl, inl refl, some_octets c s, and_from (is_ascii_digit c) (list_all is_ascii_digit s) (class_is c C.Digit is) r))
+class_part_is C.Digit c s part is h = grind (arith, common_steps, then_is, some_octets, and_from, class_is)
 class_part_is C.Hyphen c s part is h = rw (class_is c C.Hyphen is) (hyphen_part_is s part h)
-class_part_is C.Quote c s part is h =
-    then_is (is_string_rest s) (lexeme K.Text) part (c ∷ s) h
-    (λ r. let body = string_body s r in (body.0, rw (class_is c C.Quote is) (ap (λ t. 34 ∷ t) body.1), body.2))
+class_part_is C.Quote c s part is h = grind (arith, common_steps, then_is, string_body, class_is)
 class_part_is C.Apostrophe c s part is h = rw (class_is c C.Apostrophe is) (literal_part_is s part h)
 class_part_is (C.Symbol kind) c s part is h = symbol_part_is kind c s part (class_is c (C.Symbol kind) is) h
 class_part_is C.Other c s part is h = absurd (none_some part h)
@@ -222,17 +199,11 @@ unfolding part_of
 lexeme_of_kind K.Lower s (c, rest, is, first, others) = rw (is, lower_class c first, others) refl
 lexeme_of_kind K.Upper s (c, rest, is, first, others) = rw (is, upper_class c first, others) refl
 lexeme_of_kind K.Number s (sign, [], is, signs, some, all) = absurd (some refl)
-lexeme_of_kind K.Number s (sign, d ∷ ds, is, inl none, some, all) =
-    let both = and_parts (is_ascii_digit d) (list_all is_ascii_digit ds) all in
-    rw (is, none, digit_class d both.0, both.1) refl
-lexeme_of_kind K.Number s (sign, d ∷ ds, is, inr minus, some, all) =
-    rw (is, minus, other is_ascii_digit 45 refl d (and_parts (is_ascii_digit d) (list_all is_ascii_digit ds) all).0, all) refl
+lexeme_of_kind K.Number s (sign, d ∷ ds, is, inl none, some, all) = grind (arith, common_steps, and_parts, digit_class)
+lexeme_of_kind K.Number s (sign, d ∷ ds, is, inr minus, some, all) = grind (arith, common_steps, other, and_parts)
 lexeme_of_kind K.Text s (body, is, others) = rw (is, string_reads body others) refl
-lexeme_of_kind K.Hex s (digits, letter, is, all, case) =
-    rw (is, literal_reads_of digits letter (all_other is_ascii_hexdigit 39 refl digits all), all, hex_letter letter case) refl
-lexeme_of_kind K.Binary s (digits, letter, is, all, case) =
-    let letters = binary_letter letter case in
-    rw (is, literal_reads_of digits letter (all_other is_binary_digit 39 refl digits all), letters.0, and-false, all, letters.1) refl
+lexeme_of_kind K.Hex s (digits, letter, is, all, case) = grind (arith, common_steps, literal_reads_of, all_other, hex_letter)
+lexeme_of_kind K.Binary s (digits, letter, is, all, case) = grind (arith, common_steps, binary_letter, literal_reads_of, all_other, and-false)
 lexeme_of_kind _ s h = rw h refl
 
 -- comments: hyphens and nothing else may close a remark
@@ -244,10 +215,7 @@ all_hyphens closing (inr run) = run.1
 run_opens : (run : List ℕ) → IsRunOfHyphens run → (more : List ℕ) × (run ≡ 45 ∷ 45 ∷ more) × (list_all is_hyphen more ≡ true)
 run_opens [] h = absurd (omega (arith, h.0))
 run_opens (c ∷ []) h = absurd (omega (arith, h.0))
-run_opens (c ∷ d ∷ more) h =
-    let first = and_parts (is_hyphen c) (list_all is_hyphen (d ∷ more)) h.1 in
-    let second = and_parts (is_hyphen d) (list_all is_hyphen more) first.1 in
-    (more, rw (eqb-true c 45 first.0, eqb-true d 45 second.0) refl, second.1)
+run_opens (c ∷ d ∷ more) h = grind (arith, common_steps, and_parts, eqb-true)
 
 hyphens_read : (closing : List ℕ) → (closing ≡ []) ⊎ IsRunOfHyphens closing → is_remark_rest closing ≡ true
 hyphens_read closing (inl none) = rw none refl
@@ -288,17 +256,12 @@ comment_reads (c ∷ cs) closing remark_is closes =
 pub is_part : (part : Part) (s : List ℕ) → IsPart part s → part_of s ≡ Some part
 unfolding part_of
 is_part gap s (inl (c, is, blank)) = rw (is, blank) refl
-is_part gap s (inr (opening, remark, closing, is, run, remark_is, closes)) =
-    let r = run_opens opening run in
-    rw (is, r.1, append_assoc r.0 remark closing, hyphens_before r.0 (remark ++ closing) r.2 (comment_reads remark closing remark_is closes)) refl
+is_part gap s (inr (opening, remark, closing, is, run, remark_is, closes)) = grind (arith, common_steps, run_opens, append_assoc, hyphens_before, comment_reads)
 is_part (lexeme kind) s h = lexeme_of_kind kind s h
 
 -- a comment begins with two hyphens
 pub comment_opens : (c : ℕ) (s : List ℕ) → IsComment (c ∷ s) → (c ≡ 45) × (begins is_hyphen s ≡ true)
-comment_opens c s (opening, remark, closing, is, run, remark_is, closes) =
-    let r = run_opens opening run in
-    let front : c ∷ s ≡ 45 ∷ 45 ∷ r.0 ++ remark ++ closing = rw r.1 at is in
-    (cc front, ap (begins is_hyphen) (let e : s ≡ 45 ∷ r.0 ++ remark ++ closing = cc front in e))
+comment_opens c s (opening, remark, closing, is, run, remark_is, closes) = grind (arith, common_steps, run_opens)
 
 -- ---- lines
 
@@ -316,23 +279,17 @@ word_rest_other (c ∷ cs) h =
     rw (other (λ d. is_word_octet d || (is_hyphen d && begins is_word_octet cs)) 10 refl c both.0) (word_rest_other cs both.1)
 
 word_one_line : (is_first : ℕ → Bool) → is_first 10 ≡ false → (s : List ℕ) → IsWord is_first s → newlines s ≡ 0
-word_one_line is_first fail s (c, rest, is, first, others) =
-    rw is (others_one_line (c ∷ rest) (rw (other is_first 10 fail c first) (word_rest_other rest others)))
+word_one_line is_first fail s (c, rest, is, first, others) = grind (arith, common_steps, others_one_line, other, word_rest_other)
 
 literal_one_line : (is_digit : ℕ → Bool) (upper lower : ℕ) → is_digit 10 ≡ false → is_other 10 upper ≡ true → is_other 10 lower ≡ true
     → (s : List ℕ) → IsLiteral is_digit upper lower s → newlines s ≡ 0
-literal_one_line is_digit upper lower fail up low s (digits, letter, is, all, case) =
-    let last : is_other 10 letter ≡ true = elim case [ inl e ↦ rw e up | inr e ↦ rw e low ] in
-    rw is (others_one_line (codes "'" ++ digits ++ codes "'" ++ letter ∷ [])
-    (rw (list_all-append, list_all-append, all_other is_digit 10 fail digits all, last) refl))
+literal_one_line is_digit upper lower fail up low s (digits, letter, is, all, case) = grind (arith, common_steps, others_one_line, list_all-append, all_other)
 
 -- a line ends only in a string
 pub one_line : (kind : TokenKind) → (kind ≡ K.Text → ⊥) → (s : List ℕ) → IsLexeme kind s → newlines s ≡ 0
 one_line K.Lower other s h = word_one_line is_ascii_lowercase refl s h
 one_line K.Upper other s h = word_one_line is_ascii_uppercase refl s h
-one_line K.Number other s (sign, digits, is, signs, some, all) =
-    let signs_other : list_all (is_other 10) sign ≡ true = elim signs [ inl e ↦ rw e refl | inr e ↦ rw e refl ] in
-    rw is (others_one_line (sign ++ digits) (rw (list_all-append, signs_other, all_other is_ascii_digit 10 refl digits all) refl))
+one_line K.Number other s (sign, digits, is, signs, some, all) = grind (arith, common_steps, others_one_line, list_all-append, all_other)
 one_line K.Text other s h = absurd (other refl)
 one_line K.Hex other s h = literal_one_line is_ascii_hexdigit 72 104 refl refl refl s h
 one_line K.Binary other s h = literal_one_line is_binary_digit 66 98 refl refl refl s h
@@ -346,7 +303,4 @@ remark_other (c ∷ cs) h =
     and_from (is_other 10 c) (list_all (is_other 10) cs) here.0 (remark_other cs both.1)
 
 pub comment_one_line : (s : List ℕ) → IsComment s → newlines s ≡ 0
-comment_one_line s (opening, remark, closing, is, run, remark_is, closes) =
-    let ends = all_other is_hyphen 10 refl closing (all_hyphens closing closes) in
-    rw is (others_one_line (opening ++ remark ++ closing)
-    (rw (list_all-append, list_all-append, all_other is_hyphen 10 refl opening run.1, remark_other remark remark_is, ends) refl))
+comment_one_line s (opening, remark, closing, is, run, remark_is, closes) = grind (arith, common_steps, all_other, all_hyphens, others_one_line, list_all-append, remark_other)

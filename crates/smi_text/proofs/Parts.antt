@@ -1,4 +1,5 @@
 -- The parts that the scans find, behind their first octet.
+use Rattle.std.proofs.lemmas.Grind.{common_steps}
 use Rattle.std.proofs.Common.{◌≡◌, ℕ, zero, suc, ◌+◌, ◌-◌, ◌<◌, ◌≤◌, Bool, true, false, cond, if◌then◌else◌, ◌&&◌, ◌⊎◌, Option, Some, None, List, []}
 use Rattle.std.proofs.Common.{◌∷◌, ◌++◌, length, get_or, take, drop, refl, sym, ap, ◌∙◌, subst, inl, inr, arith, eqb, add-one, length-drop}
 use Rattle.std.proofs.lemmas.Bool.{and_parts, cases_lt, not-true}
@@ -21,11 +22,7 @@ use Rattle.smi_text.proofs.LexerFronts.{rest_at, longest_behind, goes_on_past}
 -- a front that a test decides
 pub part_front : (test : List ℕ → Bool) (reading : List ℕ → Option Part) (part : Part) (text : List ℕ) (n : ℕ)
     → ((s : List ℕ) → reading s ≡ then_some (test s) part) → IsLongestPassing test text n → IsPartFront reading text part n
-part_front test reading part text n read front = record {
-  within = front.within;
-  reads = read (take n text) ∙ ap (λ b. then_some b part) front.passes;
-  longest = λ m above within. read (take m text) ∙ ap (λ b. then_some b part) (front.longest m above within);
-}
+part_front test reading part text n read front = grind (arith, common_steps)
 
 pub none_some : (part : Part) → ◌≡◌ {A = Option Part} None (Some part) → ⊥
 none_some part h = cc
@@ -98,8 +95,7 @@ literal_behind digits s =
     else then_some (list_all is_binary_digit digits && is_sole is_binary_letter s) (lexeme Binary)
 
 pub literal_reads : (digits s : List ℕ) → list_all (is_other 39) digits ≡ true → literal_part (digits ++ 39 ∷ s) ≡ literal_behind digits s
-literal_reads digits s h =
-    rw (literal_closed is_ascii_hexdigit is_hex_letter digits s h, literal_closed is_binary_digit is_binary_letter digits s h) refl
+literal_reads digits s h = grind (arith, common_steps, literal_closed)
 
 pub literal_exact : (digits : List ℕ) (letter : ℕ) → literal_behind digits (letter ∷ []) ≡ literal_of digits letter
 literal_exact digits letter = rw (and-true (is_hex_letter letter), and-true (is_binary_letter letter)) refl
@@ -113,9 +109,7 @@ literal_unclosed s h = rw (literal_open is_ascii_hexdigit is_hex_letter s h, lit
 -- a front that ends behind the second quote
 literal_long : (k i : ℕ) (text : List ℕ) → IsFirstPlace 39 text (Some i)
     → literal_part (take (i + suc k) text) ≡ literal_behind (take i text) (take k (drop (i + 1) text))
-literal_long k i text h =
-    ap literal_part (take-add i (suc k) text ∙ ap (λ s. take i text ++ take (suc k) s) (rw h.1 at (rest_at text i h.0)))
-    ∙ literal_reads (take i text) (take k (drop (i + 1) text)) h.2
+literal_long k i text h = grind (arith, common_steps, take-add, rest_at, literal_reads)
 
 -- each front ends before the second quote or behind it
 literal_at : (text : List ℕ) (i : ℕ) → IsFirstPlace 39 text (Some i) → (m : ℕ)
@@ -134,20 +128,14 @@ literal_none text h kind m is = none_some (lexeme kind) (sym (literal_unclosed (
 
 -- no letter follows the second quote
 pub literal_ends : (text : List ℕ) (i : ℕ) → IsFirstPlace 39 text (Some i) → i + 1 ≡ length text → IsLexemeFront literal_part text None
-literal_ends text i h last kind m is =
-    elim (literal_at text i h m) [
-      | inl none ↦ none_some (lexeme kind) (sym none ∙ is)
-      | inr p ↦ none_some (lexeme kind)
-          (sym (p.2 ∙ rw (drop_all (i + 1) text (omega arith), take_all {A = ℕ} p.0 [] (omega arith)) (literal_unended (take i text))) ∙ is)
-    ]
+literal_ends text i h last kind m is = grind (arith, common_steps, literal_at, none_some, drop_all, take_all, literal_unended)
 
 -- one octet behind it is the letter, and more are no literal
 literal_letter : (digits : List ℕ) (c : ℕ) (cs : List ℕ) (k : ℕ) → (literal_behind digits (take k (c ∷ cs)) ≡ None) ⊎ (take k (c ∷ cs) ≡ c ∷ [])
 literal_letter digits c cs zero = inl (literal_unended digits)
 literal_letter digits c cs (suc zero) = inr refl
 literal_letter digits c [] (suc (suc k)) = inr refl
-literal_letter digits c (d ∷ ds) (suc (suc k)) =
-    inl (rw (and-false (is_hex_letter c), and-false (is_binary_letter c)) (literal_unended digits))
+literal_letter digits c (d ∷ ds) (suc (suc k)) = grind (arith, common_steps, and-false, literal_unended)
 
 -- the letter decides
 pub literal_front : (text : List ℕ) (i : ℕ) → IsFirstPlace 39 text (Some i) → i + 1 < length text

@@ -1,5 +1,6 @@
 -- Where an octet stands first, and how often a newline does.
-use Rattle.std.proofs.Common.{◌≡◌, ℕ, zero, suc, ◌+◌, ◌-◌, ◌<◌, ◌≤◌, Bool, true, false, cond, ◌==◌, List, [], ◌∷◌, ◌++◌, length, get_or, take, drop}
+use Rattle.std.proofs.lemmas.Grind.{common_steps}
+use Rattle.std.proofs.Common.{◌≡◌, ℕ, zero, suc, ◌+◌, ◌<◌, ◌≤◌, Bool, true, false, cond, ◌==◌, List, [], ◌∷◌, ◌++◌, length, get_or, take, drop}
 use Rattle.std.proofs.Common.{Option, Some, None, refl, sym, ap, ◌∙◌, arith, add-one}
 use Rattle.std.specs.List.{list_all}
 use Rattle.std.proofs.lemmas.Bool.{eqb-true, not_from_false, false_from_ne_true}
@@ -27,11 +28,7 @@ pub first_place : (octet : ℕ) (text : List ℕ) (r : Option ℕ)
 first_place octet text None none =
     rw (take_all (length text) text (omega arith)) at
     (others octet text (length text) (omega arith) (λ k below. none k (omega arith) below))
-first_place octet text (Some i) found = (
-  found.0.high,
-  eqb-true (get_or text i 0) octet found.1,
-  others octet text i (omega (arith, found.0.high)) (λ k below. found.0.before k (omega arith) below),
-)
+first_place octet text (Some i) found = grind (arith, common_steps, eqb-true, others)
 
 -- one place more where an octet passes the test
 placed : (b : Bool) (i : ℕ) (later : List ℕ) (m : ℕ) → length later ≡ m
@@ -52,15 +49,11 @@ newlines_placed text i (suc n) within =
     ∙ ap (λ s. newlines (take (suc n) s)) (sym (rest_at text i (omega arith)))
 
 places_of_newlines : (text : List ℕ) → length (places (is_byte 10) text) ≡ newlines text
-places_of_newlines text =
-    let all = newlines_placed text 0 (length text - 0) (omega arith) in
-    all ∙ ap newlines (take_all (length text - 0) text (omega arith))
+places_of_newlines text = grind (arith, common_steps, newlines_placed, take_all)
 
 taken : (places given left : List ℕ) → Yields TakesFirst places given left → places ≡ given ++ left
 taken places [] left none = none
 taken places (place ∷ given) left first = first.1 ∙ ap (λ more. place ∷ more) (taken first.0 given left first.2)
 
 pub each_newline : (text given : List ℕ) → Drains TakesFirst (places (is_byte 10) text) given → length given ≡ newlines text
-each_newline text given run =
-    let all = taken (places (is_byte 10) text) given run.1.0 run.1.1 ∙ ap (λ left. given ++ left) run.1.2.0 ∙ append-nil given in
-    sym (ap length all) ∙ places_of_newlines text
+each_newline text given run = grind (arith, common_steps, taken, append-nil, places_of_newlines)

@@ -1,6 +1,7 @@
 -- Each production is lawful: it reads what its case of the grammar spells, and nothing else.
-use Rattle.std.proofs.Common.{◌≡◌, ◌++◌, ℕ, Bool, true, false, ◌&&◌, ◌||◌, not, if◌then◌else◌, List, [], ◌∷◌, Option, Some, None, Ok, Err, refl, sym}
+use Rattle.std.proofs.Common.{arith, ◌≡◌, ◌++◌, ℕ, Bool, true, false, ◌||◌, not, if◌then◌else◌, List, [], ◌∷◌, Option, Some, None, Ok, Err, refl, sym}
 use Rattle.std.proofs.Common.{ap, subst, inl, inr, ◌⊎◌, ◌∙◌}
+use Rattle.std.proofs.lemmas.Grind.{common_steps}
 use Rattle.std.proofs.lemmas.Bool.{and_parts, or_right, or_cases}
 use Rattle.std.specs.Prelude.{codes, map}
 use Rattle.std.specs.List.{list_any}
@@ -70,13 +71,7 @@ value-law = after-sign K.Assign (braced-law (some_of-law part-law later_part-law
 
 bound-ahead : (t : Lexeme) → is_bound t.kind t.text ≡ true → list_any (meets t) (a_kind K.Number ∷ a_kind K.Hex ∷ a_kind K.Binary ∷ []) ≡ true
 unfolding is_bound
-bound-ahead t h = one_of_three (same_kind t.kind K.Number) (same_kind t.kind K.Hex) (same_kind t.kind K.Binary) _ _ _ h
-  where
-    one_of_three : (a b c x y z : Bool) → (a && x || b && y || c && z) ≡ true → (a || (b || (c || false))) ≡ true
-    one_of_three true b c x y z h = refl
-    one_of_three false true c x y z h = refl
-    one_of_three false false true x y z h = refl
-    one_of_three false false false x y z h = h
+bound-ahead t h = grind (arith, common_steps)
 
 pub bound-law : Lawful (λ x. say.bound x ∷ []) g.bound
 unfolding all
@@ -411,11 +406,9 @@ def-forth ts rest (inr (inl (p, D.TextualConvention d))) h = h
 def-forth ts rest (inr (inl (p, D.TypeAssignment d))) h = h
 def-forth ts rest (inr (inl (p, D.Sequence d))) h = h
 def-forth ts rest (inr (inl (p, D.Choice d))) h = h
-def-forth ts rest (inr (inl (p, D.Macro xs))) h =
-    macro-marked p.0 p.1 (not (is_reserved p.1.octets)) (say.of_kind (D.Macro xs)) ts rest (if-either (is_macro p.1.octets) (not (is_reserved p.1.octets))) h
+def-forth ts rest (inr (inl (p, D.Macro xs))) h = grind (arith, common_steps, macro-marked, if-either)
 def-forth ts rest (inr (inl (p, k))) h = absurd (never-behind (on_line p.0 (say.upper p.1) ∷ sign K.Assign ∷ []) ts rest h)
-def-forth ts rest (inr (inr (p, D.Macro xs))) h =
-    macro-marked p.0 p.1 (is_macro p.1.octets) (say.of_kind (D.Macro xs)) ts rest (λ e. rw e refl) h
+def-forth ts rest (inr (inr (p, D.Macro xs))) h = grind (arith, common_steps, macro-marked)
 def-forth ts rest (inr (inr (p, k))) h = absurd (never-behind (on_line p.0 (spelled K.Upper p.1.octets (is_macro p.1.octets)) ∷ []) ts rest h)
 
 abbrev Pieces : Def → List Item → List Item → Type 0
@@ -452,17 +445,7 @@ definition-law =
 
 symbol-ahead : (t : Lexeme) → is_symbol t.kind t.text ≡ true → list_any (meets t) (a_kind K.Lower ∷ a_name ∷ g.macro_words) ≡ true
 unfolding is_symbol
-symbol-ahead t h =
-    elim (or_cases (same_kind t.kind K.Lower) (same_kind t.kind K.Upper && (not (is_reserved t.text) || is_macro t.text)) h) [
-      | inl e ↦ rw e refl
-      | inr e ↦
-          let both = and_parts (same_kind t.kind K.Upper) (not (is_reserved t.text) || is_macro t.text) e in
-          or_right (same_kind t.kind K.Lower) (meets t a_name || list_any (meets t) g.macro_words)
-          (elim (or_cases (not (is_reserved t.text)) (is_macro t.text) both.1) [
-            | inl p ↦ rw (both.0, p) refl
-            | inr p ↦ or_right (meets t a_name) (list_any (meets t) g.macro_words) (macro-ahead t both.0 p)
-          ])
-    ]
+symbol-ahead t h = grind (arith, common_steps, or_cases, and_parts, or_right, macro-ahead)
 
 pub imported_symbol-law : Lawful (λ x. say.imported_symbol x ∷ []) g.imported_symbol
 unfolding all

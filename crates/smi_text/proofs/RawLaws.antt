@@ -1,13 +1,14 @@
 -- Raw runs of tokens are lawful.
-use Rattle.std.proofs.Common.{◌≡◌, ℕ, Bool, true, false, ◌&&◌, not, List, [], ◌∷◌, ◌++◌, Some}
-use Rattle.std.proofs.Common.{None, Ok, Err, if◌then◌else◌, refl, subst, inl, inr, ◌⊎◌}
+use Rattle.std.proofs.Common.{arith, ◌≡◌, ℕ, Bool, true, false, ◌&&◌, not, List, [], ◌∷◌, ◌++◌, Some, None, Ok, Err, if◌then◌else◌, refl, subst, inl}
+use Rattle.std.proofs.Common.{inr, ◌⊎◌}
+use Rattle.std.proofs.lemmas.Grind.{common_steps}
 use Rattle.std.proofs.lemmas.Bool.{and_parts, and_from, or_parts, not-true, not-false}
 use Rattle.std.specs.Prelude.{◌==◌, codes, map}
 use Rattle.smi_text.specs.declared.lexer.token.TokenKind.TheVariants as K
 use Rattle.smi_text.specs.lexer.Token.{Item}
 use Rattle.smi_text.specs.trees.Mark.{Mark, spelled, same_kind, same_text}
 use Rattle.smi_text.specs.Format.{StandsAhead, Parsed, no_word, no_kind, begins, with_front}
-use Rattle.smi_text.specs.trees.Spelling.{of_balanced, nothing}
+use Rattle.smi_text.specs.trees.Spelling.{of_balanced}
 use Rattle.smi_text.specs.Grammar.{kept_text, depth_after, is_outside, balanced, before_assign, before_end, read_balanced}
 use Rattle.smi_text.proofs.Fronts.{is_balanced, fronts-counted}
 use Rattle.smi_text.proofs.Lawful.{Lawful}
@@ -40,12 +41,7 @@ read_end items b = if b then Some ([], items) else None
 ended-takes : (depth : ℕ) (items rest : List Item) (xs : List TokenText) → read_end items (depth == 0) ≡ Some (xs, rest)
     → (is_balanced depth xs ≡ true) × StandsAhead (raw_marks xs) items rest
 unfolding is_balanced
-ended-takes depth items rest xs h =
-    let P : List TokenText × List Item → Type 0 = λ w. (is_balanced depth w.0 ≡ true) × StandsAhead (raw_marks w.0) items w.1 in
-    elim (if-inv (depth == 0) (Some ([], items)) None (Some (xs, rest)) h) [
-      | inl p ↦ subst P (some-inj {A = List TokenText × List Item} ([], items) (xs, rest) p.1) (p.0, refl)
-      | inr p ↦ absurd (let e = p.1 in cc)
-    ]
+ended-takes depth items rest xs h = grind (arith, common_steps, is_balanced, if-inv, some-inj)
 
 balanced-takes : (depth : ℕ) (ts rest : List Item) (xs : List TokenText) → read_balanced depth ts ≡ Some (xs, rest)
     → (is_balanced depth xs ≡ true) × StandsAhead (raw_marks xs) ts rest
@@ -75,9 +71,7 @@ balanced-end : (depth : ℕ) (rest : List Item) → depth == 0 ≡ true → begi
 unfolding read_balanced begins
 balanced-end depth [] d s = rw d refl
 balanced-end depth (Err f ∷ ts) d s = rw d refl
-balanced-end depth (Ok t ∷ ts) d s =
-    rw (and_from (same_kind t.kind K.CloseBrace) (depth == 0) (not-false (same_kind t.kind K.CloseBrace) (or_parts (not
-    (same_kind t.kind K.CloseBrace)) false s).0) d) refl
+balanced-end depth (Ok t ∷ ts) d s = grind (arith, common_steps, and_from, not-false, or_parts)
 
 balanced-again : (depth : ℕ) (xs : List TokenText) (ts rest : List Item) → is_balanced depth xs ≡ true → StandsAhead (raw_marks xs) ts rest
     → begins (no_kind K.CloseBrace ∷ []) rest ≡ false → read_balanced depth ts ≡ Some (xs, rest)
@@ -98,17 +92,11 @@ unfolding begins is_balanced
 balanced-starts [] ts rest b h = inr h
 balanced-starts (x ∷ xs) [] rest b h = absurd h
 balanced-starts (x ∷ xs) (Err f ∷ ts) rest b h = absurd h
-balanced-starts (x ∷ xs) (Ok t ∷ ts) rest b h =
-    inl (any-one t (no_kind K.CloseBrace) (rw h.0.0 (not-close (same_kind x.kind K.CloseBrace) (and_parts (not (same_kind x.kind K.CloseBrace && true))
-    (is_balanced (depth_after x.kind 0) xs) b).0)))
+balanced-starts (x ∷ xs) (Ok t ∷ ts) rest b h = grind (arith, common_steps, any-one, not-close, and_parts, is_balanced)
 
 balanced-pieces : (xs : List TokenText) (ts rest : List Item) → StandsAhead (of_balanced xs) ts rest
     → (is_balanced 0 xs ≡ true) × StandsAhead (raw_marks xs) ts rest
-balanced-pieces xs ts rest h =
-    (elim (is_balanced 0 xs) as (λ b. StandsAhead (if b then raw_marks xs else nothing) ts rest → (b ≡ true) × StandsAhead (raw_marks xs) ts rest) [
-      | true ↦ λ h. (refl, h)
-      | false ↦ λ h. absurd (never-stands ts rest h)
-    ]) (rw (← fronts-counted xs) h)
+balanced-pieces xs ts rest h = grind (arith, common_steps, is_balanced, never-stands, fronts-counted)
 
 pub balanced-law : Lawful of_balanced balanced
 unfolding balanced

@@ -1,8 +1,9 @@
 -- Steps and ends of the scans, each by its own test.
+use Rattle.std.proofs.lemmas.Grind.{common_steps}
 use Rattle.std.proofs.Common.{◌≡◌, ℕ, zero, suc, ◌+◌, ◌<◌, ◌≤◌, Bool, true, false, cond, ◌&&◌, ◌||◌, List, [], ◌∷◌, length, get_or, take, drop, refl}
-use Rattle.std.proofs.Common.{sym, ap, ◌∙◌, subst, inl, inr, arith, ◌-◌, zero-add}
+use Rattle.std.proofs.Common.{ap, ◌∙◌, subst, inl, inr, arith, ◌-◌, zero-add}
 use Rattle.std.specs.List.{list_all}
-use Rattle.std.proofs.lemmas.Bool.{eqb-true, ne_eqb, cases_lt, false≢true, false_from_ne_true}
+use Rattle.std.proofs.lemmas.Bool.{eqb-true, ne_eqb, cases_lt, false_from_ne_true}
 use Rattle.std.proofs.lemmas.List.Folds.{list_all_more}
 use Rattle.std.proofs.lemmas.List.{drop_all}
 use Rattle.smi_text.specs.lexer.Lexeme.{begins, is_hyphen, is_word_octet, is_word_rest}
@@ -42,11 +43,7 @@ passing_stop p text n here fail = scan_stop (list_all p) text n here refl (λ k.
 -- ---- a hyphen that nothing of this kind follows
 
 pub hyphen_alone : (next : ℕ → Bool) (c k : ℕ) (s : List ℕ) → (c ≡ 45 → begins next s ≡ false) → (is_hyphen c && begins next (take k s)) ≡ false
-hyphen_alone next c k s alone =
-    elim (is_hyphen c) as (λ b. is_hyphen c ≡ b → (b && begins next (take k s)) ≡ false) [
-      | true ↦ λ is. begins-take next k s (alone (eqb-true c 45 is))
-      | false ↦ λ is. refl
-    ] refl
+hyphen_alone next c k s alone = grind (arith, common_steps, begins-take, eqb-true)
 
 -- ---- words
 
@@ -123,12 +120,7 @@ remark_begins (suc k) (c ∷ cs) h = ap (λ b. cond b (is_comment_rest (take k c
 
 -- no hyphen stands behind the longest run
 pub run_closed : (text : List ℕ) (n : ℕ) → IsLongestPassing (list_all is_hyphen) text n → begins is_hyphen (drop n text) ≡ false
-run_closed text n front =
-    elim (cases_lt n (length text)) [
-      | inl here ↦ begins_at is_hyphen text n here ∙ false_from_ne_true (is_hyphen (get_or text n 0)) (λ h.
-          false≢true (sym (front.longest (n + 1) (omega arith) (omega arith)) ∙ list_all_more is_hyphen text n 0 here ∙ rw (front.passes, h) refl))
-      | inr past ↦ begins_past is_hyphen text n past
-    ]
+run_closed text n front = grind (arith, common_steps, cases_lt, begins_at, false_from_ne_true, list_all_more, begins_past)
 
 -- a comment behind its first two hyphens: the opening run, the remark, the closing run
 pub comment_front : (text remark closing : List ℕ) (o n r : ℕ) → IsLongestPassing (list_all is_hyphen) text o → remark ≡ drop o text

@@ -1,4 +1,5 @@
-use Rattle.std.proofs.Common.{◌≡◌, ℕ, List, [], Some, ◌∙◌, sym, ap}
+use Rattle.std.proofs.Common.{arith, ◌≡◌, ℕ, List, [], Some, ◌∙◌, sym, ap}
+use Rattle.std.proofs.lemmas.Grind.{common_steps}
 use Rattle.smi_text.specs.lexer.Token.{Item, tokens_of}
 use Rattle.smi_text.specs.lexer.Lexes.{Lexes}
 use Rattle.smi_text.specs.declared.error.ParseError.{ParseError}
@@ -58,9 +59,7 @@ module _ (text : List ℕ) (items : List Item) (lexed : Lexes [] text items) (so
   refused E.Memory error f e ms s n = e
 
 pub returns-in-Ok-clause-found : goal.returns-in-Ok-clause-found
-returns-in-Ok-clause-found c =
-    let start = c.new-parser in
-    found c.args.text.now start.result start.ensures.items start.ensures.only c.in-Ok.modules.items c.in-Ok.ensures.ok
+returns-in-Ok-clause-found c = grind (arith, common_steps, found, only)
 
 pub returns-in-Ok-clause-only : goal.returns-in-Ok-clause-only
 returns-in-Ok-clause-only c =
@@ -74,6 +73,4 @@ returns-in-Err-clause-only c =
     c.cause_of.ensures ms s n
 
 pub returns-in-Err-clause-cause : goal.returns-in-Err-clause-cause
-returns-in-Err-clause-cause c =
-    let start = c.new-parser in
-    cause c.args.text.now start.result start.ensures.items start.ensures.only c.in-Err.stop c.cause_of.result c.in-Err.ensures.fault c.cause_of.ensures
+returns-in-Err-clause-cause c = grind (arith, common_steps, cause, only)

@@ -1,4 +1,5 @@
-use Rattle.std.proofs.Common.{◌≡◌, ℕ, Bool, true, false, not, ◌||◌, List, Bor, cond, refl, ◌∙◌, sym, ap, rules}
+use Rattle.std.proofs.Common.{arith, ◌≡◌, ℕ, Bool, true, false, not, ◌||◌, List, Bor, cond, refl, ◌∙◌, ap, rules}
+use Rattle.std.proofs.lemmas.Grind.{common_steps}
 use Rattle.std.specs.Ordering.{is_eq, nat_cmp, ordering_then}
 use Rattle.std.specs.declared.cmp.Ordering.{Ordering}
 use Rattle.std.specs.declared.cmp.Ordering.TheVariants.{Less, Equal, Greater}
@@ -25,12 +26,7 @@ nat_cmp-same : (n : ℕ) → is_eq (nat_cmp n n) ≡ true
 nat_cmp-same n = search rules
 
 same_key : (x y : List ℕ) → is_eq (ordering_then (nat_cmp (last_eight x) (last_eight y)) (slice_cmp nat_cmp x y)) ≡ same_text x y
-same_key x y =
-    same_then (nat_cmp (last_eight x) (last_eight y)) (slice_cmp nat_cmp x y)
-    (λ same.
-    let equal : x ≡ y = (bytes_eq-Decides x y).0 (sym (is_eq-slice_cmp x y) ∙ same) in
-    ap (λ z. is_eq (nat_cmp (last_eight x) (last_eight z))) (sym equal) ∙ nat_cmp-same (last_eight x))
-    ∙ is_eq-slice_cmp x y
+same_key x y = grind (arith, common_steps, same_then, bytes_eq-Decides, is_eq-slice_cmp, nat_cmp-same)
 
 pub returns-in-Ok : goal.returns-in-Ok
 returns-in-Ok c =

@@ -1,4 +1,5 @@
-use Rattle.std.proofs.Common.{sym, ◌∙◌}
+use Rattle.std.proofs.Common.{arith, sym, ◌∙◌}
+use Rattle.std.proofs.lemmas.Grind.{common_steps}
 use Rattle.std.specs.Char.{is_ascii_digit}
 use Rattle.smi_text.proofs.Scans.{passing_step, passing_stop}
 use Rattle.smi_text.proofs.lexer.scan.digits_len.Goals as goal
@@ -8,5 +9,4 @@ octets-preserved c = passing_step is_ascii_digit c.args.text.now c.octets.n c.oc
     ∙ c.if-is_ascii_digit.true) c.octets.invariant
 
 pub returns-else-is_ascii_digit : goal.returns-else-is_ascii_digit
-returns-else-is_ascii_digit c = passing_stop is_ascii_digit c.args.text.now c.octets.n c.octets-test.true (sym c.is_ascii_digit.ensures.value
-    ∙ c.if-is_ascii_digit.false) c.octets.invariant
+returns-else-is_ascii_digit c = grind (arith, common_steps, passing_stop)

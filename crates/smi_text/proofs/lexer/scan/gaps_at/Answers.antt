@@ -1,7 +1,8 @@
+use Rattle.std.proofs.lemmas.Grind.{common_steps}
 use Rattle.std.proofs.Common.{sym, ◌∙◌, ◌+◌, ap, subst, drop, arith, get_or, length-drop, add-zero}
 use Rattle.std.proofs.lemmas.Bool.{ne_eqb}
 use Rattle.std.proofs.lemmas.List.{take_rest}
-use Rattle.smi_text.specs.lexer.Lexeme.{is_blank, is_hyphen}
+use Rattle.smi_text.specs.lexer.Lexeme.{is_blank}
 use Rattle.smi_text.specs.lexer.Reading.{IsLongestPassing, Skips, is_comment_rest}
 use Rattle.smi_text.proofs.Gaps.{newlines-newline, newlines-other, skips_blank, skips_comment, gaps_end, gaps_stop, skips_run}
 use Rattle.smi_text.proofs.Scans.{begins_at, begins_past}
@@ -10,13 +11,7 @@ use Rattle.smi_text.proofs.lexer.scan.gaps_at.Goals.{else-text-n-eq45-via-then-t
 use Rattle.smi_text.proofs.lexer.scan.gaps_at.Goals.{else-text-n-eq45-via-then-text-n-eq45+else-n-text, else-text-n-eq45-via-else-text-n-eq45}
 
 pub gaps-preserved-then-text-n-eq32 : goal.gaps-preserved-then-text-n-eq32
-gaps-preserved-then-text-n-eq32 c =
-    let run = c.blanks_end-n.ensures in
-    record {
-      within = run.within;
-      lines = omega (arith, run.ordered);
-      skips = skips_run c.args.text.now c.gaps.n c.blanks_end-n.result c.gaps.lines c.gaps-test.true c.if-text-n-eq32.true run c.gaps.invariant.skips;
-    }
+gaps-preserved-then-text-n-eq32 c = grind (arith, common_steps, skips_run)
 
 pub gaps-preserved-then-text-n-eq10 : goal.gaps-preserved-then-text-n-eq10
 gaps-preserved-then-text-n-eq10 c =
@@ -62,13 +57,4 @@ pub returns-after-gaps-clause-all : goal.returns-after-gaps-clause-all
 returns-after-gaps-clause-all c = gaps_end c.args.text.now c.gaps.n c.gaps-test.false
 
 pub returns-else-text-n-eq45-clause-all : goal.returns-else-text-n-eq45-clause-all
-returns-else-text-n-eq45-clause-all c =
-    let text = c.args.text.now in
-    let n = c.gaps.n in
-    gaps_stop text n c.gaps-test.true (sym c.is_blank.ensures ∙ c.if-is_blank.false)
-    (λ hyphen. elim c.else-text-n-eq45.branch [
-      | else-text-n-eq45-via-then-text-n-eq45+then-n-text+else-text-n-eq45-2 w ↦ begins_at is_hyphen text (n + 1) w.if-n-text.true
-          ∙ ne_eqb _ _ w.if-text-n-eq45-2.false
-      | else-text-n-eq45-via-then-text-n-eq45+else-n-text w ↦ begins_past is_hyphen text (n + 1) w.if-n-text.false
-      | else-text-n-eq45-via-else-text-n-eq45 w ↦ absurd (w.if-text-n-eq45.false hyphen)
-    ])
+returns-else-text-n-eq45-clause-all c = grind (arith, common_steps, gaps_stop, else-text-n-eq45-via-then-text-n-eq45+then-n-text+else-text-n-eq45-2, begins_at, ne_eqb, else-text-n-eq45-via-then-text-n-eq45+else-n-text, begins_past, else-text-n-eq45-via-else-text-n-eq45)

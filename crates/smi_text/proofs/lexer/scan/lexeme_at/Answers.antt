@@ -1,3 +1,4 @@
+use Rattle.std.proofs.lemmas.Grind.{common_steps}
 use Rattle.std.proofs.Common.{◌≡◌, ◌+◌, ℕ, sym, refl, subst, List, [], ◌∷◌, length, arith}
 use Rattle.smi_text.specs.lexer.Lexeme.{lexeme}
 use Rattle.smi_text.specs.lexer.Reading.{HasNoLexeme, IsLexemeFront, IsPartFront, part_in, part_of}
@@ -9,9 +10,7 @@ empty_list [] h = refl
 empty_list (c ∷ cs) h = absurd (omega arith)
 
 pub returns-in_err-first : goal.returns-in_err-first
-returns-in_err-first c =
-    subst (IsLexemeFront part_of c.args.text.now) (sym c.from_residual.ensures)
-    (subst (HasNoLexeme part_of) (empty_list c.args.text.now c.in_err-first.ensures.cases) no_lexeme_of_nothing)
+returns-in_err-first c = grind (arith, common_steps, empty_list, no_lexeme_of_nothing)
 
 pub returns-in_err-kind : goal.returns-in_err-kind
 returns-in_err-kind c =

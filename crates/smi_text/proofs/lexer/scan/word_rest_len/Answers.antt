@@ -1,3 +1,4 @@
+use Rattle.std.proofs.lemmas.Grind.{common_steps}
 use Rattle.std.proofs.Common.{◌≡◌, ℕ, ◌+◌, ◌<◌, ◌≤◌, subst, length, List, get_or, false, arith}
 use Rattle.smi_text.specs.lexer.Lexeme.{is_word_octet, is_word_rest}
 use Rattle.smi_text.specs.lexer.Reading.{GoesOn, IsRunBetween}
@@ -39,5 +40,4 @@ returns-else-text-n-eq45 c =
     word_ends c.args.text.now c.parts.n c.parts.invariant.stops (λ more hyphen. absurd (c.if-text-n-eq45.false hyphen)) c.parts.invariant.goes
 
 pub returns-after-parts : goal.returns-after-parts
-returns-after-parts c =
-    word_ends c.args.text.now c.parts.n c.parts.invariant.stops (λ more hyphen. absurd (omega arith)) c.parts.invariant.goes
+returns-after-parts c = grind (arith, common_steps, word_ends)

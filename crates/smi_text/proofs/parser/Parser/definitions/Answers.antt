@@ -1,3 +1,5 @@
+use Rattle.std.proofs.Common.{arith}
+use Rattle.std.proofs.lemmas.Grind.{common_steps}
 use Rattle.std.proofs.lemmas.Result.{err_from_is_err_and}
 use Rattle.smi_text.proofs.FileSteps.{has_read-start, has_read-done, has_read-shorter, has_read-next, definitions-fault}
 use Rattle.smi_text.proofs.parser.Parser.definitions.Goals as goal
@@ -20,7 +22,4 @@ pub returns-clause-ok : goal.returns-clause-ok
 returns-clause-ok c = rw (c.new.ensures) (has_read-done _ _ _ c.each.self c.each.invariant c.in_default.ensures)
 
 pub returns-in_err-new_definition-clause-fault : goal.returns-in_err-new_definition-clause-fault
-returns-in_err-new_definition-clause-fault c =
-    let p = err_from_is_err_and c.from_residual.result c.from_residual.ensures.1 in
-    rw (p.1, p.2) (definitions-fault _ _ _ c.each.self c.each.invariant c.in-Some.label.now c.in-Some.ensures.0 c.in-Some.ensures.1 _
-    c.in_err-new_definition.ensures.fault)
+returns-in_err-new_definition-clause-fault c = grind (arith, common_steps, err_from_is_err_and, definitions-fault)

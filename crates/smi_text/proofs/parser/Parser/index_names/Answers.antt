@@ -1,4 +1,5 @@
-use Rattle.std.proofs.Common.{◌∙◌, sym, length, arith, refl}
+use Rattle.std.proofs.lemmas.Grind.{common_steps}
+use Rattle.std.proofs.Common.{◌∙◌, sym, length, arith}
 use Rattle.std.proofs.lemmas.Result.{err_from_is_err_and}
 use Rattle.smi_text.specs.Format.{behind, shaped, pair}
 use Rattle.smi_text.specs.Grammar.{index_names, read_index, with_names}
@@ -11,34 +12,23 @@ each-init c = (length c.args.self.now, omega arith, rw (c.list-names.ensures) (w
 
 pub returns-in_err-name : goal.returns-in_err-name
 unfolding read_index behind shaped pair with_names
-returns-in_err-name c =
-    let p = err_from_is_err_and c.from_residual-in_err-name.result c.from_residual-in_err-name.ensures.1 in
-    rw (p.1, p.2) (λ h. rw (← c.each.invariant.2, sym c.at_word.ensures ∙ c.if-at_word.true, c.in_ok-word.ensures, c.in_err-name.ensures h) refl)
+returns-in_err-name c = grind (arith, common_steps, err_from_is_err_and)
 
 pub returns-then-at_word : goal.returns-then-at_word
 unfolding read_index behind shaped pair with_names
-returns-then-at_word c =
-    rw (c.new.ensures, c.in_ok-keep.ensures.ok)
-    (rw (← c.each.invariant.2, sym c.at_word.ensures ∙ c.if-at_word.true, c.in_ok-word.ensures, c.in_ok-name.ensures) refl)
+returns-then-at_word c = grind (arith, common_steps)
 
 pub returns-in_err-name-2 : goal.returns-in_err-name-2
 unfolding read_index with_names
-returns-in_err-name-2 c =
-    let p = err_from_is_err_and c.from_residual-in_err-name-2.result c.from_residual-in_err-name-2.ensures.1 in
-    rw (p.1, p.2) (λ h. rw (← c.each.invariant.2, sym c.at_word.ensures ∙ c.if-at_word.false, c.in_err-name-2.ensures h) refl)
+returns-in_err-name-2 c = grind (arith, common_steps, err_from_is_err_and)
 
 pub returns-then-not-at_kind : goal.returns-then-not-at_kind
 unfolding read_index with_names
-returns-then-not-at_kind c =
-    rw (c.new-then-not-at_kind.ensures, c.in_ok-keep-2.ensures.ok)
-    (rw (← c.each.invariant.2, sym c.at_word.ensures ∙ c.if-at_word.false, c.in_ok-name-2.ensures, sym c.at_kind.ensures ∙ c.if-not-at_kind.true) refl)
+returns-then-not-at_kind c = grind (arith, common_steps)
 
 pub returns-in_err-sign : goal.returns-in_err-sign
 unfolding read_index with_names
-returns-in_err-sign c =
-    let comma = sym c.at_kind.ensures ∙ c.if-not-at_kind.false in
-    let p = err_from_is_err_and c.from_residual-in_err-sign.result c.from_residual-in_err-sign.ensures.1 in
-    rw (p.1, p.2) (λ h. rw (← c.each.invariant.2, sym c.at_word.ensures ∙ c.if-at_word.false, c.in_ok-name-2.ensures, comma, c.in_err-sign.ensures.gives h) refl)
+returns-in_err-sign c = grind (arith, common_steps, err_from_is_err_and)
 
 pub each-preserved : goal.each-preserved
 each-preserved c =

@@ -1,3 +1,4 @@
+use Rattle.std.proofs.lemmas.Grind.{common_steps}
 use Rattle.std.proofs.Common.{sym, ◌∙◌, ap, arith, length, refl}
 use Rattle.std.proofs.lemmas.Result.{err_from_is_err_and}
 use Rattle.smi_text.specs.Format.{many, read_many, with_front}
@@ -23,6 +24,4 @@ returns g c = rw (← c.each.invariant.2, sym c.is_ahead.ensures ∙ c.each-test
 
 pub returns-in_err-item : goal.returns-in_err-item
 unfolding read_many
-returns-in_err-item g c =
-    let p = err_from_is_err_and c.from_residual.result c.from_residual.ensures.1 in
-    rw (p.1, p.2) (λ h. rw (← c.each.invariant.2) (with_front-none _ _ (rw (sym c.is_ahead.ensures ∙ c.each-test.true, c.in_err-item.ensures.gives h) refl)))
+returns-in_err-item g c = grind (arith, common_steps, err_from_is_err_and, with_front-none)

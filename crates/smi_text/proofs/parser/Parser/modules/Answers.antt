@@ -1,3 +1,5 @@
+use Rattle.std.proofs.Common.{arith}
+use Rattle.std.proofs.lemmas.Grind.{common_steps}
 use Rattle.std.proofs.lemmas.Result.{err_from_is_err_and}
 use Rattle.smi_text.proofs.FileSteps.{has_modules-start, has_modules-done, has_modules-shorter, has_modules-next, has_modules-fault}
 use Rattle.smi_text.proofs.parser.Parser.modules.Goals as goal
@@ -15,6 +17,4 @@ pub returns-clause-ok : goal.returns-clause-ok
 returns-clause-ok c = has_modules-done _ _ _ c.each.invariant c.each-test.ensures
 
 pub returns-in_err-module-clause-fault : goal.returns-in_err-module-clause-fault
-returns-in_err-module-clause-fault c =
-    let p = err_from_is_err_and c.from_residual.result c.from_residual.ensures.1 in
-    rw (p.1, p.2) (has_modules-fault _ _ _ c.each.invariant _ c.each-test.ensures c.in_err-module.ensures.fault)
+returns-in_err-module-clause-fault c = grind (arith, common_steps, err_from_is_err_and, has_modules-fault)

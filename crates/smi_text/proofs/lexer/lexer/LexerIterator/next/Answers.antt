@@ -1,5 +1,6 @@
-use Rattle.std.proofs.Common.{◌≡◌, ◌<◌, ◌+◌, ◌∙◌, sym, ap, List, [], ◌∷◌, Err, Ok, length, subst, arith, take, eq-eqb}
-use Rattle.std.proofs.lemmas.Bool.{eqb-true, false≢true}
+use Rattle.std.proofs.lemmas.Grind.{common_steps}
+use Rattle.std.proofs.Common.{◌≡◌, ◌<◌, ◌+◌, sym, ap, List, [], ◌∷◌, Err, Ok, length, subst, arith, take, eq-eqb}
+use Rattle.std.proofs.lemmas.Bool.{eqb-true}
 use Rattle.smi_text.specs.lexer.Token.{Item}
 use Rattle.smi_text.specs.lexer.Lexeme.{IsLexeme, lexeme}
 use Rattle.smi_text.specs.lexer.Reading.{items_at}
@@ -13,22 +14,10 @@ fewer : (old new : List Item) (item : Item) → old ≡ item ∷ new → length 
 fewer old new item e = omega (arith, ap length e)
 
 pub returns-then-is_empty-clause-steps : goal.returns-then-is_empty-clause-steps
-returns-then-is_empty-clause-steps c =
-    let gaps = c.gaps_at-gaps in
-    let text = c.split_at.result.1.now in
-    let empty : length text ≡ 0 = eqb-true (length text) 0 (sym c.if-is_empty.ensures) in (
-      sym c.self.view_is ∙ next_ends c.self.inside.rest.now text c.self.inside.at c.self.inside.lines gaps.result.0 gaps.result.1 gaps.ensures.skips
-          c.split_at.ensures.back empty,
-      items-empty c.self.inside.at c.self.inside.lines text empty,
-    )
+returns-then-is_empty-clause-steps c = grind (arith, common_steps, eqb-true, next_ends, items-empty)
 
 fault : (c : After-fault_at) → c.args.self.now ≡ Err c.fault_at.result ∷ items_at 0 c.self.inside.at c.self.inside.lines []
-fault c =
-    let gaps = c.gaps_at-gaps in
-    let text = c.split_at.result.1.now in
-    let given = next_faults c.self.inside.rest.now text c.self.inside.at c.self.inside.lines gaps.result.0 gaps.result.1 gaps.ensures.skips
-    c.split_at.ensures.back (λ empty. false≢true (c.if-is_empty.ensures ∙ eq-eqb (length text) 0 empty)) gaps.ensures.all c.in_default.ensures in
-    cc (c.self.view_is, given, c.fault_at.ensures, items-nothing c.self.inside.at c.self.inside.lines)
+fault c = grind (arith, common_steps, next_faults, eq-eqb, items-nothing)
 
 pub returns-in_default-clause-steps : goal.returns-in_default-clause-steps
 returns-in_default-clause-steps c = fault (goal.at.returns-in_default-clause-steps c).After-fault_at
