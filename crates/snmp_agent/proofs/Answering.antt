@@ -1,5 +1,6 @@
 -- What the view of an agent answers: names that have an encoding, and values that an answer may give.
-use Rattle.std.proofs.Common.{◌≡◌, ℕ, zero, suc, List, sym, subst}
+use Rattle.std.proofs.Common.{arith, ◌≡◌, ℕ, zero, suc, List, sym, subst}
+use Rattle.std.proofs.lemmas.Grind.{common_steps}
 use Rattle.snmp_oid.specs.Identifier.{IsWire}
 use Rattle.snmp_wire.specs.Message.{Datum, VarBind}
 use Rattle.snmp_wire.specs.Message.Datum.{no_such_object, no_such_instance, end_of_mib_view}
@@ -18,10 +19,8 @@ at_binding Q p q same h = subst Q (sym same) h
 
 pub get_value : (view : MibView) (o : List ℕ) (p : VarBind) → IsMibView view → IsGet view o p → IsAnswerValue p.value
 get_value view o p h (variable name row) = instance_answer p.value (h.values p row)
-get_value view o p h (unknown_object none never same) = at_binding (λ (q : VarBind). IsAnswerValue q.value) p
-    (record { name = o; value = no_such_object }) same tt
-get_value view o p h (unknown_instance none some same) = at_binding (λ (q : VarBind). IsAnswerValue q.value) p
-    (record { name = o; value = no_such_instance }) same tt
+get_value view o p h (unknown_object none never same) = grind (arith, common_steps, at_binding)
+get_value view o p h (unknown_instance none some same) = grind (arith, common_steps, at_binding)
 
 pub next_value : (view : MibView) (o : List ℕ) (p : VarBind) → IsMibView view → IsNext view o p → IsAnswerValue p.value
 next_value view o p h (successor is) = instance_answer p.value (h.values p is.row)

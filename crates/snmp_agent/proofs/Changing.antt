@@ -1,4 +1,5 @@
 -- One row put among others, or removed.
+use Rattle.std.proofs.lemmas.Grind.{common_steps}
 use Rattle.std.proofs.Common.{◌≡◌, ℕ, suc, ◌-◌, Bool, true, false, not, cond, is_some, List, [], ◌∷◌, ◌++◌, length, take, drop, Some, slice_index_or}
 use Rattle.std.proofs.Common.{None, slice_set, refl, sym, ◌∙◌, ap, subst, arith, Ordering, Less, Equal, Greater, Result, Ok, Err, IfOk, IfErr, Option}
 use Rattle.std.specs.declared.alloc.AllocError.{AllocError}
@@ -131,12 +132,7 @@ has_name_at rows place o row rising h last name =
     }
 
 neither : (o p : List ℕ) → (cmp o p ≡ Less → ⊥) → (p ≡ o → ⊥) → cmp p o ≡ Less
-neither o p before same =
-    elim (cmp o p) as (λ r. cmp o p ≡ r → cmp p o ≡ Less) [
-      | Less ↦ λ is. absurd (before is)
-      | Equal ↦ λ is. absurd (same (sym (same_name o p is)))
-      | Greater ↦ λ is. turned o p Greater is
-    ] refl
+neither o p before same = grind (arith, common_steps, same_name, turned)
 
 -- a name that comes before none of them, and isn't that of the last one, comes after all
 after_front : (o : List ℕ) (rows : List VarBind) → IsRising rows → IsBeforeNone o (entries_of rows) → ((row : VarBind) → IsLast rows row → row.name ≡ o → ⊥)
@@ -235,12 +231,7 @@ module _ (o : List ℕ) (es fs : Entries) (rising : IsSorted es) where
   had_name = ap is_some (sym (get-from_sorted cmp es o rising))
 
 pub tied : (o p : List ℕ) (b : Bool) → eq_by_cmp cmp o p ≡ b → b ≡ true → o ≡ p
-tied o p b is yes_it = by_cases (cmp o p) refl (is ∙ yes_it)
-  where
-    by_cases : (r : Ordering) → cmp o p ≡ r → is_eq (cmp o p) ≡ true → o ≡ p
-    by_cases Less e h = let no : is_eq (cmp o p) ≡ false = ap is_eq e in absurd (cc)
-    by_cases Equal e h = same_name o p e
-    by_cases Greater e h = let no : is_eq (cmp o p) ≡ false = ap is_eq e in absurd (cc)
+tied o p b is yes_it = grind (arith, common_steps, same_name)
 
 -- what the test of a row's name says
 module _ (o : List ℕ) {row name : List ℕ} {r : Ordering} {b : Bool} (is : name ≡ row) (compared : r ≡ cmp name o) (test : b ≡ is_eq r) where

@@ -1,10 +1,11 @@
 -- Facts about reading decimal digits.
-use Rattle.std.proofs.Common.{◌≡◌, ◌≢◌, ℕ, ◌+◌, ◌-◌, ◌*◌, ◌^◌, ◌≤◌, ◌<◌, true, false, ◌&&◌, List, [], ◌∷◌, ◌++◌, length, drop, get_or, refl, sym, ◌∙◌}
-use Rattle.std.proofs.Common.{ap, subst, arith, drop-cons, add-one, lit<}
+use Rattle.std.proofs.lemmas.Grind.{common_steps}
+use Rattle.std.proofs.Common.{◌≡◌, ◌≢◌, ℕ, ◌+◌, ◌-◌, ◌*◌, ◌^◌, ◌≤◌, ◌<◌, true, false, List, [], ◌∷◌, ◌++◌, length, drop, get_or, refl, sym, ◌∙◌}
+use Rattle.std.proofs.Common.{subst, arith, drop-cons, add-one}
 use Rattle.std.proofs.Math.Nat.{pow-suc, one-le-pow, le-mul_of_pos_right}
 use Rattle.std.specs.Char.{is_ascii_digit}
 use Rattle.std.specs.Str.{all_ascii_digits}
-use Rattle.snmp_oid.specs.Numeric.{decimal_value, dot, IsNumeral, IsDotted}
+use Rattle.snmp_oid.specs.Numeric.{decimal_value, IsNumeral, IsDotted}
 use Rattle.snmp_agent.specs.table.Text.{IsDecimal}
 
 -- the digits of a text are read but for those left
@@ -33,13 +34,7 @@ at_front text count number low h = let P : List ℕ → Type 0 = λ left. IsRead
 -- one more digit
 pub read_more : (text : List ℕ) (count number : ℕ) → count < length text → is_ascii_digit (get_or text count 0) ≡ true → IsReadTo text (drop count text) number
     → IsReadTo text (drop (count + 1) text) (number * 10 + (get_or text count 0 - 48))
-read_more text count number low is_digit h =
-    let here = at_front text count number low h in
-    record {
-      value = value_more text (drop (count + 1) text) (get_or text count 0) number here;
-      digits = let e : all_ascii_digits (get_or text count 0 ∷ drop (count + 1) text) ≡ all_ascii_digits (drop (count + 1) text) = ap
-          (λ b. b && all_ascii_digits (drop (count + 1) text)) is_digit in sym e ∙ here.digits;
-    }
+read_more text count number low is_digit h = grind (arith, common_steps, at_front, value_more)
 
 -- all digits
 pub read_all : (text : List ℕ) (number : ℕ) → text ≢ [] → IsReadTo text [] number → IsDecimal text number
@@ -48,21 +43,12 @@ read_all text number some h = record { some = some; digits = sym h.digits; value
 -- an octet that is no digit
 pub read_other : (text : List ℕ) (count number : ℕ) → count < length text → is_ascii_digit (get_or text count 0) ≡ false
     → IsReadTo text (drop count text) number → (n : ℕ) → IsDecimal text n → ⊥
-read_other text count number low other h n decimal =
-    let here = at_front text count number low h in
-    let e : all_ascii_digits (get_or text count 0 ∷ drop (count + 1) text) ≡ false = ap (λ b. b && all_ascii_digits (drop (count + 1) text)) other in
-    let digits : all_ascii_digits (get_or text count 0 ∷ drop (count + 1) text) ≡ true = here.digits ∙ decimal.digits in cc
+read_other text count number low other h n decimal = grind (arith, common_steps, at_front)
 
 -- more than 64 bits
 pub read_large : (text : List ℕ) (count number : ℕ) → count < length text → 2 ^ 64 ≤ number * 10 + (get_or text count 0 - 48)
     → IsReadTo text (drop count text) number → (n : ℕ) → IsDecimal text n → n < 2 ^ 64 → ⊥
-read_large text count number low large h n decimal small =
-    let here = at_front text count number low h in
-    let rest = drop (count + 1) text in
-    let digit = get_or text count 0 in
-    let more : number * 10 + (digit - 48) ≤ (number * 10 + (digit - 48)) * 10 ^ length rest = le-mul_of_pos_right (number * 10 + (digit - 48)) (one-le-pow
-    (length rest) 10 (lit< tt)) in
-    omega (arith, value_more text rest digit number here, decimal.value)
+read_large text count number low large h n decimal small = grind (arith, common_steps, at_front, le-mul_of_pos_right, one-le-pow, value_more)
 
 -- one number at most
 pub same_decimal : (text : List ℕ) (n m : ℕ) → IsDecimal text n → IsDecimal text m → m ≡ n
@@ -72,10 +58,7 @@ same_decimal text n m one other = sym other.value ∙ one.value
 
 digit_first : (text : List ℕ) (n : ℕ) → IsNumeral text n → get_or text 0 0 ≡ 46 → ⊥
 digit_first [] n h first = h.some refl
-digit_first (octet ∷ text) n h first =
-    let digits : (is_ascii_digit octet && all_ascii_digits text) ≡ true = h.digits in
-    let e : octet ≡ 46 = first in
-    let no_digit : (is_ascii_digit octet && all_ascii_digits text) ≡ false = ap (λ o. is_ascii_digit o && all_ascii_digits text) e in cc
+digit_first (octet ∷ text) n h first = grind (arith, common_steps)
 
 front_first : (front rest : List ℕ) → front ≢ [] → get_or (front ++ rest) 0 0 ≡ get_or front 0 0
 front_first [] rest some = absurd (some refl)
@@ -85,6 +68,4 @@ front_first (octet ∷ front) rest some = refl
 pub no_dot_first : (text o : List ℕ) → IsDotted text o → get_or text 0 0 ≡ 46 → ⊥
 no_dot_first text [] h first = h
 no_dot_first text (n ∷ []) h first = digit_first text n h first
-no_dot_first text (n ∷ m ∷ o) h first =
-    let whole : get_or (h.0 ++ dot ∷ h.1) 0 0 ≡ 46 = rw h.2 at first in
-    digit_first h.0 n h.3 (sym (front_first h.0 (dot ∷ h.1) h.3.some) ∙ whole)
+no_dot_first text (n ∷ m ∷ o) h first = grind (arith, common_steps, digit_first, front_first)

@@ -1,4 +1,5 @@
 -- Each name has just one answer to a Get, and one to a GetNext.
+use Rattle.std.proofs.lemmas.Grind.{common_steps}
 use Rattle.std.proofs.Common.{◌≡◌, ℕ, zero, suc, ◌+◌, inl, inr, Bool, true, false, List, [], map, length, take, drop, Option, Some, None, Less, Equal}
 use Rattle.std.proofs.Common.{Greater, Ordering, refl, sym, ap, subst, ◌∙◌, ⊎_elim, ◌≤◌, arith, cond, length-append, unwrap_or}
 use Rattle.std.specs.Ordering.{nat_cmp}
@@ -72,8 +73,7 @@ module _ (view : MibView) (o : List ℕ) where
   no_row p name row none = some_none p.value (sym (row_at p name row) ∙ none)
 
   pub same_get : (p q : VarBind) → IsGet view o p → IsGet view o q → p ≡ q
-  same_get p q (variable name row) (variable other at) =
-      same_binding p q (name ∙ sym other) (some_once p.value q.value (sym (row_at p name row) ∙ row_at q other at))
+  same_get p q (variable name row) (variable other at) = grind (arith, common_steps, same_binding, some_once, row_at)
   same_get p q (variable name row) (unknown_object none never is) = absurd (no_row p name row none)
   same_get p q (variable name row) (unknown_instance none some is) = absurd (no_row p name row none)
   same_get p q (unknown_object none never is) (variable name row) = absurd (no_row q name row none)

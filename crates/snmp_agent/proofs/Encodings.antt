@@ -1,9 +1,10 @@
 -- Which bindings have an encoding, and how long it is.
-use Rattle.std.proofs.Common.{ℕ, ◌<◌, List, [], ◌∷◌, ◌++◌, length, ⊎_elim, arith, length-append}
+use Rattle.std.proofs.lemmas.Grind.{common_steps}
+use Rattle.std.proofs.Common.{ℕ, ◌<◌, List, [], ◌∷◌, length, ⊎_elim, arith, length-append}
 use Rattle.std.proofs.lemmas.Bool.{cases_lt}
 use Rattle.snmp_wire.specs.Message.{Datum, object_id, octet_string, opaque_octets, VarBind, Message}
 use Rattle.snmp_wire.specs.Number.{lenient}
-use Rattle.snmp_wire.specs.Spelling.{IsContent, SpellsBindings, Spells, sequence_tag, value_tag}
+use Rattle.snmp_wire.specs.Spelling.{IsContent, SpellsBindings, Spells, value_tag}
 use Rattle.snmp_wire.specs.Canon.{IsEncodable, IsEncodableValue, canon_binding, canon_content, canon_element, canon_value}
 use Rattle.snmp_wire.specs.ber.Sizes.{ElementSizes}
 use Rattle.snmp_agent.specs.table.Table.{IsAnswerValue}
@@ -52,13 +53,7 @@ longer_value sizes value = longer_element sizes (value_tag value) (canon_content
 
 pub longer_binding : ElementSizes → (binding : VarBind) → length (canon_value binding.value) < length (canon_binding binding)
 unfolding canon_binding
-longer_binding sizes binding =
-    omega (
-      arith,
-      longer_element sizes sequence_tag (canon_value (object_id binding.name) ++ canon_value binding.value),
-      length-append (canon_value
-          (object_id binding.name)) (canon_value binding.value),
-    )
+longer_binding sizes binding = grind (arith, common_steps, longer_element, length-append)
 
 long_content : (value : Datum) → (IsShortValue value → ⊥) → 65535 < length (canon_content value)
 unfolding canon_content

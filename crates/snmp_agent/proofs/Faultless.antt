@@ -1,4 +1,5 @@
 -- Lines that state a table have no fault.
+use Rattle.std.proofs.lemmas.Grind.{common_steps}
 use Rattle.std.proofs.Common.{◌≡◌, inl, inr, ℕ, List, ◌∷◌, ◌++◌, length, length-append, get_or, ◌<◌, refl, ◌∙◌, subst, arith}
 use Rattle.std.specs.List.{All, AllPairs, Contains}
 use Rattle.std.proofs.Math.ListN.{get_or-append}
@@ -66,6 +67,4 @@ no_fault_in format lines error.Memory good h = refl
 
 pub no_fault : (names : Names) (lines : List (List ℕ)) (view : MibView) (fault : TableError) → IsTableOf names lines view → IsFirstFault names lines fault
     → fault ≡ error.Memory
-no_fault names lines view fault table first =
-    let P : Format → Type 0 = λ f. IsFirstFaultIn f lines fault in
-    no_fault_in table.0 lines fault table.2.good (subst P (one_format names lines table.0 first.0 table.1 first.1) first.2)
+no_fault names lines view fault table first = grind (arith, common_steps, no_fault_in, one_format)

@@ -1,4 +1,5 @@
 -- What comes next in a list of entries whose names rise.
+use Rattle.std.proofs.lemmas.Grind.{common_steps}
 use Rattle.std.proofs.Common.{◌≡◌, ◌↔◌, ℕ, zero, suc, inl, inr, T, List, [], ◌∷◌, ◌++◌, map, Some, true, false, cond, refl, sym, ◌∙◌, ap, subst}
 use Rattle.std.proofs.Common.{append_assoc, Less, ◌+◌, ◌≤◌, length, take, drop, arith, ◌-◌}
 use Rattle.std.specs.Ordering.{is_le, nat_cmp}
@@ -118,11 +119,7 @@ behind_name view o =
 
 after_both : (o : List ℕ) (front back : Entries) → IsBeforeNone o front → IsBeforeAll o back → entries_after o (front ++ back) ≡ back
 after_both o [] [] passed ahead = refl
-after_both o [] (e ∷ back) passed ahead =
-    elim (is_le (slice_cmp nat_cmp e.0 o)) as (λ b. is_le (slice_cmp nat_cmp e.0 o) ≡ b → cond b (entries_after o back) (e ∷ back) ≡ e ∷ back) [
-      | true ↦ λ up_to. absurd (not_behind o e.0 up_to ahead.0)
-      | false ↦ λ begins. refl
-    ] refl
+after_both o [] (e ∷ back) passed ahead = grind (arith, common_steps, not_behind)
 after_both o (e ∷ front) back passed ahead =
     elim (is_le (slice_cmp nat_cmp e.0 o)) as (λ b. is_le (slice_cmp nat_cmp e.0 o) ≡ b
     → cond b (entries_after o (front ++ back)) (e ∷ (front ++ back)) ≡ back) [

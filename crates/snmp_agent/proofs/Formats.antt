@@ -1,18 +1,16 @@
 -- Names in the two formats.
-use Rattle.std.proofs.Common.{◌≡◌, ◌↔◌, inl, inr, ℕ, List, [], ◌∷◌, Option, Some, None, MatchOption, sym, ◌∙◌, ap, subst, codes}
+use Rattle.std.proofs.Common.{arith, ◌≡◌, ◌↔◌, ℕ, List, [], ◌∷◌, Option, Some, None, MatchOption, codes}
+use Rattle.std.proofs.lemmas.Grind.{common_steps}
 use Rattle.snmp_io.specs.Quotes.{HasNoneOutside}
 use Rattle.snmp_agent.specs.table.Exact.{IsOnly}
-use Rattle.snmp_agent.specs.table.Format.{HasNoEnd, IsFrontRead, IsMarked, IsNameIn, Means, Names, bar, first_format, second_format}
+use Rattle.snmp_agent.specs.table.Format.{HasNoEnd, IsFrontRead, IsMarked, IsNameIn, Names, bar, first_format, second_format}
 use Rattle.snmp_agent.proofs.Cuts.{HasNoBar, no_cut}
 
 -- ---- names of a reader
 
 -- what is no name, or that of a part of the text
 pub no_name : (names : Names) (text : List ℕ) → IsFrontRead names text None → IsOnly (IsNameIn (second_format names) text) None
-no_name names text h = λ p k. elim h.place [
-  | inl none ↦ h.named p (let Q : List ℕ → Type 0 = λ t. Means names t p in subst Q (sym none.1) k.1)
-  | inr cut ↦ k.0 h.front cut.0 cut.1.parts cut.1.outside
-]
+no_name names text h = grind (arith, common_steps)
 
 -- ---- where a name ends
 
@@ -30,10 +28,7 @@ first_line (line ∷ more) = line
 
 pub marked_by_first : (all : List (List ℕ)) (line : List ℕ) (more : List (List ℕ)) → all ≡ line ∷ more
     → (line ≡ codes "#snmptab 2" ↔ IsMarked all)
-marked_by_first all line more e = (
-  λ same. (more, e ∙ ap (λ (l : List ℕ). l ∷ more) same),
-  λ marked. ap first_line (sym e ∙ marked.1),
-)
+marked_by_first all line more e = grind (arith, common_steps)
 
 -- ---- what is found
 

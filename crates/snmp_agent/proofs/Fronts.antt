@@ -1,5 +1,6 @@
 -- What the bindings of a reply hold.
-use Rattle.std.proofs.Common.{◌≡◌, ◌≢◌, ℕ, ◌+◌, ◌-◌, ◌≤◌, ◌<◌, List, [], ◌∷◌, ◌++◌, length, take, refl}
+use Rattle.std.proofs.lemmas.Grind.{common_steps}
+use Rattle.std.proofs.Common.{◌≡◌, ◌≢◌, ℕ, ◌+◌, ◌-◌, ◌≤◌, ◌<◌, List, [], ◌∷◌, ◌++◌, length, refl}
 use Rattle.std.proofs.Common.{⊎_elim, sym, ap, subst, ◌∙◌, arith, length-append, append_assoc}
 use Rattle.std.proofs.lemmas.List.{append-nil}
 use Rattle.std.proofs.lemmas.Bool.Decides.{nat_tests}
@@ -28,9 +29,7 @@ refused h p large = grind (arith, nat_tests)
 -- what is held with one more binding
 pub held_more : (h : Held) (p : VarBind) (octets : List ℕ) (left : ℕ) → octets ≡ h.octets ++ canon_binding p → left + length (canon_binding p) ≡ h.left
     → record { octets = octets; left = left } ≡ add h p
-held_more h p octets left more size =
-    let rest : left ≡ h.left - length (canon_binding p) = omega (arith, size) in
-    (λ i. record { octets = more i; left = rest i }) ∙ sym (added h p (omega (arith, size)))
+held_more h p octets left more size = grind (arith, common_steps, added)
 
 pub held_full : (h : Held) (p : VarBind) (octets : List ℕ) (left : ℕ) → octets ≡ h.octets → left ≡ 0 → h.left < length (canon_binding p)
     → record { octets = octets; left = left } ≡ add h p
@@ -75,16 +74,7 @@ unfolding canon_bindings
 no_bindings = refl
 
 front_of : (room : ℕ) (h : Held) (all : List VarBind) → length h.octets + h.left ≡ room → HoldsFront room h.octets all (fill h all)
-front_of room h [] is = record {
-  added = [];
-  more = [];
-  front = refl;
-  octets = sym (append-nil h.octets) ∙ ap (λ octets. h.octets ++ octets) (sym no_bindings);
-  fits = omega arith;
-  no_room = tt;
-  whole = λ e. is;
-  full = λ e. absurd (e refl);
-}
+front_of room h [] is = grind (arith, common_steps, added, append-nil, no_bindings)
 front_of room h (p ∷ more) is = ⊎_elim
     (λ large.
     let same : fill h (p ∷ more) ≡ record { octets = h.octets; left = 0 } = ap (λ (g : Held). fill g more) (refused h p large)
@@ -118,7 +108,4 @@ front_of room h (p ∷ more) is = ⊎_elim
 -- of all that was added to no bindings, a front is held
 pub all_front : (room : ℕ) (all : List VarBind) (fresh reply : ReplyBindings) (out new : List ℕ) → fresh.total ≡ 0 → fresh.left ≡ room
     → held reply new ≡ fill (held fresh out) all → HoldsFront room [] all (held reply new)
-all_front room all fresh reply out new empty left same =
-    let none : Held = record { octets = []; left = room } in
-    let begun : held fresh out ≡ none = λ i. record { octets = take (empty i) out; left = left i } in
-    subst (λ (h : Held). HoldsFront room [] all h) (sym (same ∙ ap (λ (h : Held). fill h all) begun)) (front_of room none all (omega arith))
+all_front room all fresh reply out new empty left same = grind (arith, common_steps, front_of)

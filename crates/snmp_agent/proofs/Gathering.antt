@@ -1,5 +1,6 @@
 -- Rows that are put in their places together are those that were there and those that came.
-use Rattle.std.proofs.Common.{◌≡◌, ℕ, Bool, true, false, List, [], ◌∷◌, ◌++◌, sym, ◌∙◌, ap, append_assoc, append-nil, is_some}
+use Rattle.std.proofs.Common.{arith, ◌≡◌, ℕ, Bool, true, false, List, [], ◌∷◌, ◌++◌, sym, ◌∙◌, ap, append_assoc, append-nil, is_some}
+use Rattle.std.proofs.lemmas.Grind.{common_steps}
 use Rattle.std.specs.List.Sorted.{IsPermutation}
 use Rattle.std.proofs.lemmas.List.Sorted.{IsPermutation-trans, IsPermutation-append_left, IsPermutation-append_right, IsPermutation-middle}
 use Rattle.std.proofs.lemmas.List.Sorted.{IsPermutation-append_comm, IsPermutation-to_front, Contains-permutation, IsPermutation-map}
@@ -33,8 +34,7 @@ entries_are es m rising is = ap entries (sym is) ∙ entries-from_sorted (slice_
 
 -- one of the last goes to the end of the first
 to_first : (xs ys zs : Entries) (e : List ℕ × Datum) → IsPermutation (xs ++ (ys ++ e ∷ zs)) ((xs ++ e ∷ []) ++ (ys ++ zs))
-to_first xs ys zs e =
-    rw (append_assoc xs (e ∷ []) (ys ++ zs)) (IsPermutation-append_right xs (ys ++ e ∷ zs) (e ∷ (ys ++ zs)) (IsPermutation-middle ys e zs))
+to_first xs ys zs e = grind (arith, common_steps, append_assoc, IsPermutation-append_right, IsPermutation-middle)
 
 -- what is moved in front may be moved on
 regathered : (total a b c d zs : Entries) → IsPermutation total (a ++ (b ++ zs)) → IsPermutation (a ++ b) (c ++ d) → IsPermutation total (c ++ (d ++ zs))
@@ -87,10 +87,7 @@ pub page_moves : (total : Entries) (l m : Rows) (others left : List VarBind) (pa
     → IsPermutation (entries l ++ (entries_of others ++ entries_of page.rows.items))
     (entries m ++ entries_of left)
     → IsPermutation total (entries m ++ (entries_of left ++ entries_in pages))
-page_moves total l m others left page pages h merged =
-    let rows = entries_of page.rows.items in
-    regathered total (entries l) (entries_of others ++ rows) (entries m) (entries_of left) (entries_in pages)
-    (rw (append_assoc (entries_of others) rows (entries_in pages)) h) merged
+page_moves total l m others left page pages h merged = grind (arith, common_steps, regathered, append_assoc)
 
 -- ---- all pages
 
@@ -102,8 +99,7 @@ merge_begins m n others pages none all = rw (none, all) (IsPermutation-append_co
 pub merge_ends : (total new : Entries) (m : Rows) (others : List VarBind) (pages : List Page)
     → IsPermutation total (entries m ++ (entries_of others ++ entries_in pages)) → pages ≡ []
     → IsPermutation (entries m ++ entries_of others) new → IsPermutation total new
-merge_ends total new m others pages h none put =
-    IsPermutation-trans total (entries m ++ entries_of others) new (rw (none, append-nil (entries_of others)) at h) put
+merge_ends total new m others pages h none put = grind (arith, common_steps, IsPermutation-trans, append-nil)
 
 -- rows that were gathered, put in any order
 pub sorted_moves : (m : Rows) (new : Entries) (late put : List VarBind) → IsPermutation late put

@@ -1,5 +1,6 @@
 -- A search by halves.
-use Rattle.std.proofs.Common.{◌≡◌, ℕ, ◌+◌, ◌≤◌, ◌<◌, Bool, true, false, List, length, slice_index_or, refl, sym, ap, subst, ◌∙◌, arith}
+use Rattle.std.proofs.lemmas.Grind.{common_steps}
+use Rattle.std.proofs.Common.{◌≡◌, ℕ, ◌+◌, ◌≤◌, ◌<◌, Bool, true, false, List, length, slice_index_or, refl, sym, ap, ◌∙◌, arith}
 use Rattle.std.specs.List.Sorted.{IsPartitionedBy}
 use Rattle.std.proofs.lemmas.List.{get_or_default}
 use Rattle.snmp_agent.specs.table.Halving.{IsHalvedTo}
@@ -36,5 +37,4 @@ fails {X} p xs passed end at x parted h low behind here found = record {
 
 -- nothing is left between the places
 pub met : {X : Type 0} (p : X → Bool) (xs : List X) (passed end : ℕ) → IsHalvedTo p xs passed end → end ≤ passed → IsHalvedTo p xs passed passed
-met p xs passed end h none =
-    let same : end ≡ passed = omega (arith, h.order, none) in subst (λ (n : ℕ). IsHalvedTo p xs passed n) same h
+met p xs passed end h none = grind (arith, common_steps)

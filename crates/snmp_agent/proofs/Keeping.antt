@@ -1,5 +1,6 @@
 -- What lines state is what a table may keep.
-use Rattle.std.proofs.Common.{◌≡◌, ℕ, true, List, sym, ◌∙◌}
+use Rattle.std.proofs.Common.{arith, ◌≡◌, ℕ, true, List, sym, ◌∙◌}
+use Rattle.std.proofs.lemmas.Grind.{common_steps}
 use Rattle.std.specs.Ordering.{nat_cmp}
 use Rattle.std.specs.Cmp.Lexicographic.{slice_cmp, nat_list_cmp_total}
 use Rattle.std.specs.FinMap.{FinMap, entries, entries_sorted, entries-from_sorted, from_sorted, same_entries_map, get, get-from_sorted, find}
@@ -11,7 +12,7 @@ use Rattle.snmp_wire.specs.Message.Datum.{octet_string, null_value, object_id, i
 use Rattle.snmp_wire.specs.Message.Datum.{end_of_mib_view}
 use Rattle.snmp_agent.specs.table.Table.{IsRow, IsInstanceName, IsInstanceValue, IsMibView, MibView}
 use Rattle.snmp_agent.specs.table.Places.{view_of}
-use Rattle.snmp_agent.specs.table.Format.{Format, IsName, IsNameIn, Means, Names, first_format, names_by, numeric_names, second_format}
+use Rattle.snmp_agent.specs.table.Format.{Format, IsName, IsNameIn, first_format, second_format}
 use Rattle.snmp_agent.specs.table.Text.{HasPrefix, HasRow, IsValueText}
 use Rattle.snmp_agent.specs.table.Stated.{IsTableIn}
 use Rattle.snmp_agent.specs.table.Draft.{HoldsTable}
@@ -23,10 +24,7 @@ identifier text o h = record { short = h.short; numbers = name_numbers text o h.
 -- a name is one of an identifier
 is_identifier : (format : Format) (text o : List ℕ) → IsNameIn format text o → IsIdentifier o
 is_identifier first_format text o h = identifier text o h
-is_identifier (second_format names) text o h = meant names h.1 where
-  meant : (names : Names) → Means names text o → IsIdentifier o
-  meant numeric_names k = identifier text o k
-  meant (names_by meaning) k = k.1
+is_identifier (second_format names) text o h = grind (arith, common_steps, identifier)
 
 pub instance_value : (format : Format) (tag text : List ℕ) (v : Datum) → IsValueText format tag text v → IsInstanceValue v
 instance_value format tag text (object_id o) h = (h.2, is_identifier format text o h.1)
@@ -67,18 +65,10 @@ module _ (format : Format) (lines : List (List ℕ)) (entries : List (List ℕ �
   stated_has o stated = contains-from_list nat_list_cmp_total objects o ∙ (h.prefixes o).1 stated
 
   pub is_view : IsMibView (view_from entries objects)
-  is_view = record {
-    names = λ p row. (row_stated p row).2.instance_name;
-    values = λ p row. let stated = (row_stated p row).2 in instance_value format stated.tag stated.text p.value stated.valued;
-    objects = λ o has. let stated = (object_stated o has).2 in (stated.3, is_identifier format stated.0 o stated.2);
-  }
+  is_view = grind (arith, common_steps, row_stated, instance_value, object_stated, is_identifier)
 
   pub table_of : IsTableIn format lines (view_from entries objects)
-  table_of = record {
-    good = h.good;
-    rows = λ p. (row_stated p, stated_row p);
-    objects = λ o. (object_stated o, stated_has o);
-  }
+  table_of = grind (arith, common_steps, row_stated, stated_row, object_stated, stated_has)
 
 -- the map of the entries of a map
 pub of_entries : (m : FinMap (slice_cmp nat_cmp) Datum) → from_sorted {R = slice_cmp nat_cmp} (entries m) ≡ m

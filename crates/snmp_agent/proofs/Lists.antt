@@ -1,6 +1,6 @@
 -- Facts about lists.
-use Rattle.std.proofs.Common.{◌≡◌, ℕ, zero, suc, ◌-◌, ◌≤◌, ◌<◌, List, [], ◌∷◌, ◌++◌, length, take}
-use Rattle.std.proofs.Common.{drop, get_or, map, Some, arith, refl, sym, ap, subst, ◌∙◌, ◌+◌}
+use Rattle.std.proofs.lemmas.Grind.{common_steps}
+use Rattle.std.proofs.Common.{◌≡◌, ℕ, zero, suc, ◌-◌, ◌≤◌, ◌<◌, List, [], ◌∷◌, ◌++◌, length, take, drop, get_or, map, Some, arith, refl, ap, ◌∙◌, ◌+◌}
 use Rattle.std.specs.List.{AllByRecursion, slice_get}
 use Rattle.std.proofs.lemmas.List.{drop_all, drop_more, get_or_at, length-map, length-take-le}
 
@@ -42,8 +42,7 @@ module _ {X : Type 0} where
 
   -- the last one of the front
   pub last_in_front : (xs : List X) (n : ℕ) (x : X) → n ≤ length xs → IsLast (take n xs) x → slice_get xs (n - 1) ≡ Some x
-  last_in_front xs n x within last =
-      in_front xs n (n - 1) x (subst (λ (m : ℕ). slice_get (take n xs) (m - 1) ≡ Some x) (length-take-le n xs within) last)
+  last_in_front xs n x within last = grind (arith, common_steps, in_front, length-take-le)
 
   pub nothing_left : (xs : List X) → length xs ≡ 0 → xs ≡ []
   nothing_left [] h = refl
@@ -52,9 +51,4 @@ module _ {X : Type 0} where
   -- where the elements before a place were changed, the one at the place still stands there
   pub still_there : (f : X → X) (xs ys : List X) (i : ℕ) (x : X) → i < length xs → ys ≡ map f (take i xs) ++ drop i xs → x ≡ get_or ys i x
       → drop i xs ≡ x ∷ drop (i + 1) xs
-  still_there f xs ys i x low changed at =
-      let here = drop_more xs i x low in
-      let front : length (map f (take i xs)) ≡ i = length-map (take i xs) f ∙ length-take-le i xs (omega (arith, low)) in
-      let same : x ≡ get_or xs i x = at ∙ ap (λ zs. get_or zs i x) (changed ∙ ap (λ zs. map f (take i xs) ++ zs) here)
-      ∙ get_or_at (map f (take i xs)) (get_or xs i x) (drop (i + 1) xs) x i front in
-      here ∙ ap (λ z. z ∷ drop (i + 1) xs) (sym same)
+  still_there f xs ys i x low changed at = grind (arith, common_steps, drop_more, length-map, length-take-le, get_or_at)

@@ -1,5 +1,6 @@
 -- Lines have one first fault at most.
-use Rattle.std.proofs.Common.{◌≡◌, ◌≢◌, ◌⊎◌, inl, inr, ℕ, List, [], ◌∷◌, ◌++◌, refl, sym, ◌∙◌, ap, subst, length, ◌+◌}
+use Rattle.std.proofs.Common.{arith, ◌≡◌, ◌≢◌, ◌⊎◌, inl, inr, ℕ, List, [], ◌∷◌, ◌++◌, refl, sym, ◌∙◌, ap, subst, length, ◌+◌}
+use Rattle.std.proofs.lemmas.Grind.{common_steps}
 use Rattle.snmp_agent.specs.declared.table.error.TableError.{TableError}
 use Rattle.snmp_agent.specs.declared.table.error.TableError.TheVariants as error
 use Rattle.snmp_agent.specs.table.Form.{IsBadLine, IsBadName, IsBadValue, IsInstanceText}
@@ -75,10 +76,8 @@ AreOrdered front line other later =
 ordered : (front : List (List ℕ)) (line : List ℕ) (back other : List (List ℕ)) (later : List ℕ) (rest : List (List ℕ))
     → front ++ line ∷ back ≡ other ++ later ∷ rest → AreOrdered front line other later
 ordered [] line back [] later rest e = inl (refl, cc)
-ordered [] line back (o ∷ other) later rest e =
-    let same : o ≡ line = cc in inr (inl (other, ap (λ l. l ∷ other) same))
-ordered (f ∷ front) line back [] later rest e =
-    let same : f ≡ later = cc in inr (inr (front, ap (λ l. l ∷ front) same))
+ordered [] line back (o ∷ other) later rest e = grind (arith, common_steps)
+ordered (f ∷ front) line back [] later rest e = grind (arith, common_steps)
 ordered (f ∷ front) line back (o ∷ other) later rest e =
     let same : f ≡ o = cc in
     let behind : front ++ line ∷ back ≡ other ++ later ∷ rest = cc in

@@ -1,4 +1,5 @@
 -- A line states one thing at most.
+use Rattle.std.proofs.lemmas.Grind.{common_steps}
 use Rattle.std.proofs.Common.{◌≡◌, ℕ, ℤ, pos, neg_ℤ, ◌+◌, ◌-◌, ◌*◌, ◌⊎◌, inl, inr, true, false, cond, eqb, List, [], ◌∷◌, ◌++◌, length, Ok, refl, sym}
 use Rattle.std.proofs.Common.{◌∙◌, ap, subst, arith, codes, Some}
 use Rattle.std.specs.Str.{all_ascii_digits}
@@ -42,10 +43,7 @@ same_signed : (text : List ℕ) (z y : ℤ) → IsSignedDecimal text z → IsSig
 same_signed text z y (inl a) (inl b) = b.2 ∙ ap pos (same_decimal text a.0 b.0 a.1 b.1) ∙ sym a.2
 same_signed text z y (inl a) (inr b) = absurd (no_minus text b.0 a.0 a.1 b.2)
 same_signed text z y (inr a) (inl b) = absurd (no_minus text a.0 b.0 b.1 a.2)
-same_signed text z y (inr a) (inr b) =
-    let digits : b.0 ≡ a.0 = append_cancel_left (codes "-") b.0 a.0 (sym b.2 ∙ a.2) in
-    let other : IsDecimal a.0 b.1 = subst (λ (t : List ℕ). IsDecimal t b.1) digits b.3 in
-    b.4 ∙ ap (λ n. neg_ℤ (pos n)) (same_decimal a.0 a.1 b.1 a.3 other) ∙ sym a.4
+same_signed text z y (inr a) (inr b) = grind (arith, common_steps, append_cancel_left, neg_ℤ, same_decimal)
 
 plain_or_hexadecimal : codes "4" ≡ codes "4x" → ⊥
 plain_or_hexadecimal e = let wrong : 1 ≡ 2 = ap length e in omega (arith, wrong)
@@ -93,9 +91,7 @@ module _ (one_name : (text o p : List ℕ) → IsNumericName text o → IsNumeri
   one_statement format line nothing (object_prefix o) h k = absurd (blank_no_object line k.0 h k.1)
   one_statement format line nothing (instance p) h k = absurd ((row_form format line p k).not_blank h)
   one_statement format line (object_prefix o) nothing h k = absurd (blank_no_object line h.0 k h.1)
-  one_statement format line (object_prefix o) (object_prefix p) h k =
-      let P : List ℕ → Type 0 = λ t. IsNameIn format t p in
-      ap object_prefix (name_once format h.0 p o (subst P (same_object line k.0 h.0 k.1 h.1) k.2) h.2)
+  one_statement format line (object_prefix o) (object_prefix p) h k = grind (arith, common_steps, name_once, same_object)
   one_statement format line (object_prefix o) (instance p) h k = absurd ((row_form format line p k).no_object h.0 h.1)
   one_statement format line (instance p) nothing h k = absurd ((row_form format line p h).not_blank k)
   one_statement format line (instance p) (object_prefix o) h k = absurd ((row_form format line p h).no_object k.0 k.1)

@@ -1,4 +1,5 @@
 -- Pages of rows: what a change of one of them does to all rows, and where it is divided.
+use Rattle.std.proofs.lemmas.Grind.{common_steps}
 use Rattle.std.proofs.Common.{◌≡◌, ℕ, suc, ◌+◌, ◌-◌, ◌≤◌, ◌<◌, false, List, [], ◌∷◌, ◌++◌, length, take, drop, None, Some, slice_set, slice_index_or}
 use Rattle.std.proofs.Common.{refl, sym, ◌∙◌, ap, subst, inl, inr, arith, append_assoc, length-append, add-one, true, is_some, Less}
 use Rattle.std.specs.Ordering.{nat_cmp, is_le}
@@ -41,8 +42,7 @@ module _ (pages : List Page) (place : ℕ) where
   -- a page with the same rows
   pub same_rows : (found new : Page) → place < length pages → found ≡ slice_index_or pages place found → new.rows.items ≡ found.rows.items
       → entries_in (slice_set pages place new) ≡ entries_in pages
-  same_rows found new low read same =
-      spliced new _ low (ap entries_of same) ∙ sym (parts pages place found (slice_get_read pages (length pages) place found refl low read))
+  same_rows found new low read same = grind (arith, common_steps, spliced, parts, slice_get_read)
 
   -- without a row of the page
   pub without_row_of : (page found new : Page) (row : ℕ) → slice_get pages place ≡ Some page → found ≡ slice_index_or pages place found
@@ -72,12 +72,7 @@ get_in o pages rising = get-from_sorted (slice_cmp nat_cmp) (entries_in pages) o
 -- the rows stand apart at a name
 pub stands_apart : (o : List ℕ) (pages : List Page) (early late : List (List ℕ × Datum)) → ArePages pages → entries_in pages ≡ early ++ late
     → IsBeforeNone o early → IsBeforeAll o late → StandsApart (from_sorted (entries_in pages)) o early late
-stands_apart o pages early late rising whole passed ahead = record {
-  found = λ q. get_in q pages rising ∙ ap (find (slice_cmp nat_cmp) q) whole;
-  rising = subst IsSorted whole rising;
-  passed = passed;
-  ahead = ahead;
-}
+stands_apart o pages early late rising whole passed ahead = grind (arith, common_steps, get_in)
 
 module _ (pages : List Page) (place : ℕ) (o : List ℕ) (h : IsPageOf o pages place) (page : Page) (at : slice_get pages place ≡ Some page) where
   pub put_in_page : (v : Datum) → front pages place ++ (put (slice_cmp nat_cmp) o v (entries_of page.rows.items) ++ back pages place)
@@ -222,8 +217,7 @@ appended pages place found new row long read same =
 -- a page of one row appended
 pub appended_page : (old new : List Page) (page : Page) (row : VarBind) → new ≡ old ++ page ∷ [] → page.rows.items ≡ row ∷ []
     → entries_in new ≡ entries_in old ++ entry_of row ∷ []
-appended_page old new page row pushed rows =
-    ap entries_in pushed ∙ pages-append old (page ∷ []) ∙ ap (λ (rs : List VarBind). entries_in old ++ (entries_of rs ++ [])) rows
+appended_page old new page row pushed rows = grind (arith, common_steps, pages-append)
 
 -- ---- the rows behind one
 
@@ -289,14 +283,10 @@ module _ (o : List ℕ) (pages : List Page) (place : ℕ) (w : IsPageWithRoom o 
 
   pub put_found : (v : Datum) (new : Page) → entries_of new.rows.items ≡ put (slice_cmp nat_cmp) o v (entries_of found.rows.items)
       → entries_in (slice_set pages place new) ≡ put (slice_cmp nat_cmp) o v (entries_in pages)
-  put_found v new same =
-      spliced pages place new _ (slice_get_within pages place w.page w.at)
-      (same ∙ ap (λ (p : Page). put (slice_cmp nat_cmp) o v (entries_of p.rows.items)) is_page)
-      ∙ put_in_page pages place o w.page_of w.page w.at v
+  put_found v new same = grind (arith, common_steps, spliced, slice_get_within, is_page, put_in_page)
 
   pub kept_found : (new : Page) → new.rows.items ≡ found.rows.items → entries_in (slice_set pages place new) ≡ entries_in pages
   kept_found new same = same_rows pages place found new (slice_get_within pages place w.page w.at) read same
 
   pub named_found : has_name o (entries_of found.rows.items) ≡ has_name o (entries_in pages)
-  named_found =
-      ap (λ (p : Page). has_name o (entries_of p.rows.items)) is_page ∙ ap is_some (sym (find_in_page pages place o w.page_of w.page w.at))
+  named_found = grind (arith, common_steps, is_page, is_some, find_in_page)

@@ -1,4 +1,5 @@
 -- Requests and their Responses.
+use Rattle.std.proofs.lemmas.Grind.{common_steps}
 use Rattle.std.specs.Cmp.Lexicographic.{pointwise, same_text, other_text}
 use mir.Syntax.{w32}
 use mir.Val.{of_z, to_z, SFits}
@@ -76,13 +77,7 @@ module _ (sizes : MessageSizes) (pieces : HasPieces) (limit total : ℕ) (m r : 
   pub is_written : (result : Option ℕ) → IsSome result ↔ (whole_size m total ≤ limit)
       → IfSome result (λ n. (n ≡ whole_size m total) × (take n part ≡ canon_head m total ++ take total out)) → IsWritten limit r result (part ++ rest)
   is_written None fits h = ⊎_elim (λ large. omega (arith, large, size)) (λ low. let is = fits.1 low in absurd (cc)) (cases_lt limit (whole_size m total))
-  is_written (Some n) fits h =
-      let low : whole_size m total ≤ limit = fits.0 refl in
-      let both : canon_head m total ++ take total out ≡ canon_head r (length (canon_bindings r.bindings)) ++ canon_bindings r.bindings = cc (head, octets) in (
-        omega (arith, low, size),
-        take-append-le n part rest (omega (arith, h.0, low, room)) ∙ h.1 ∙ both ∙ sym (pieces r),
-        h.0 ∙ size,
-      )
+  is_written (Some n) fits h = grind (arith, common_steps, head, size, take-append-le)
 
 -- ---- what a request is tested for
 
@@ -109,11 +104,4 @@ served_kinds {found} {theirs} e (inr (inr (inr is))) = subst (λ (k : Kind). IsS
 
 pub other_kind : {found theirs : Kind} → found ≡ theirs → (found ≡ kind.GetRequest → ⊥) → (found ≡ kind.GetNextRequest → ⊥) → (found ≡ kind.GetBulkRequest
     → ⊥) → (found ≡ kind.SetRequest → ⊥) → IsServed theirs → ⊥
-other_kind {found} {theirs} e get next bulk set served = by_cases theirs e served
-  where
-    by_cases : (k : Kind) → found ≡ k → IsServed k → ⊥
-    by_cases kind.GetRequest is h = get is
-    by_cases kind.GetNextRequest is h = next is
-    by_cases kind.SetRequest is h = set is
-    by_cases kind.GetBulkRequest is h = bulk is
-    by_cases _ is h = h
+other_kind {found} {theirs} e get next bulk set served = grind (arith, common_steps)

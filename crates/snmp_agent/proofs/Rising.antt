@@ -1,6 +1,7 @@
 -- Facts about lists of entries whose names rise.
-use Rattle.std.proofs.Common.{◌≡◌, ℕ, ◌⊎◌, inl, inr, Bool, true, false, cond, ◌&&◌, T, List, [], ◌∷◌, ◌++◌, Some, refl, sym, ◌∙◌, ap, subst, Ordering}
-use Rattle.std.proofs.Common.{Less, Equal, Greater}
+use Rattle.std.proofs.Common.{arith, ◌≡◌, ℕ, ◌⊎◌, inl, inr, Bool, true, false, cond, ◌&&◌, T, List, [], ◌∷◌, ◌++◌, Some, refl, sym, ◌∙◌, ap, subst}
+use Rattle.std.proofs.Common.{Ordering, Less, Equal, Greater}
+use Rattle.std.proofs.lemmas.Grind.{common_steps}
 use Rattle.std.specs.Ordering.{nat_cmp, is_eq, is_le, is_lt, ordering_reverse}
 use Rattle.std.specs.Cmp.{tied_itself}
 use Rattle.std.specs.Cmp.Lexicographic.{slice_cmp, nat_list_cmp_total}
@@ -38,12 +39,7 @@ before_up_to q p o less h =
     ] refl h
 
 pub is_behind : (o p : List ℕ) → is_le (slice_cmp nat_cmp p o) ≡ false → slice_cmp nat_cmp o p ≡ Less
-is_behind o p h =
-    elim (slice_cmp nat_cmp p o) as (λ r. slice_cmp nat_cmp p o ≡ r → is_le r ≡ false → slice_cmp nat_cmp o p ≡ Less) [
-      | Less ↦ λ _ no. absurd (cc)
-      | Equal ↦ λ _ no. absurd (cc)
-      | Greater ↦ λ is _. turned p o Greater is
-    ] refl h
+is_behind o p h = grind (arith, common_steps, turned)
 
 pub not_behind : (o p : List ℕ) → is_le (slice_cmp nat_cmp p o) ≡ true → slice_cmp nat_cmp o p ≡ Less → ⊥
 not_behind o p h less = let turn : slice_cmp nat_cmp p o ≡ Greater = turned o p Less less in cc
@@ -120,8 +116,7 @@ rising_first (e ∷ es) fs h = both _ _ (below_first e.0 es fs (first_of_both _ 
 -- a name comes before all of these where it comes before the first
 pub before_from : (o : List ℕ) (e : List ℕ × Datum) (es : List (List ℕ × Datum)) → T (is_sorted (slice_cmp nat_cmp) (e ∷ es))
     → is_le (slice_cmp nat_cmp e.0 o) ≡ false → IsBeforeAll o (e ∷ es)
-before_from o e es h begins =
-    let less = is_behind o e.0 begins in (less, before_more o e.0 es less (before_all e.0 es (first_of_both _ _ h)))
+before_from o e es h begins = grind (arith, common_steps, is_behind, before_more, before_all, first_of_both)
 
 -- it comes after those in front of an entry that has it or a name before it
 pub after_up_to : (o : List ℕ) (es fs : List (List ℕ × Datum)) (e : List ℕ × Datum) → T (is_sorted (slice_cmp nat_cmp) (es ++ e ∷ fs))

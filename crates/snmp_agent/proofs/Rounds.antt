@@ -1,4 +1,5 @@
 -- The rounds of a GetBulk.
+use Rattle.std.proofs.lemmas.Grind.{common_steps}
 use Rattle.std.proofs.Common.{◌≡◌, ◌⊎◌, inl, inr, ℕ, zero, suc, ◌+◌, ◌-◌, ◌≤◌, ◌<◌, true, false, cond}
 use Rattle.std.proofs.Common.{List, [], ◌∷◌, ◌++◌, length, take, drop, refl, sym, ap, subst, ◌∙◌, arith}
 use Rattle.std.proofs.lemmas.List.{append-nil}
@@ -41,9 +42,7 @@ AreLeft view names repetitions old round now = (left : ℕ) → round + left ≡
 
 module _ (view : MibView) (names : List VarBind) (repetitions : ℕ) (old : Held) where
   pub rounds_first : AreLeft view names repetitions old 0 old
-  rounds_first left e =
-      let same : repetitions ≡ left = omega (arith, e) in
-      ap (λ (k : ℕ). fill old (joined (rounds_from view names 0 k))) same
+  rounds_first left e = grind (arith, common_steps)
 
   module _ (round : ℕ) (now new : Held) (are_left : AreLeft view names repetitions old round now) where
     pub rounds_done : round + 0 ≡ repetitions → now ≡ fill old (joined (rounds_from view names 0 repetitions))

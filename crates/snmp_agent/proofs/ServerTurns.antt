@@ -1,5 +1,6 @@
 -- Facts about the turns of a server.
-use Rattle.std.proofs.Common.{◌≡◌, ℕ, zero, suc, ◌+◌, List, [], ◌∷◌, ◌++◌, refl, sym, ap, ◌∙◌, subst, arith}
+use Rattle.std.proofs.lemmas.Grind.{common_steps}
+use Rattle.std.proofs.Common.{◌≡◌, ℕ, zero, suc, ◌+◌, List, [], ◌∷◌, ◌++◌, refl, ap, ◌∙◌, subst, arith}
 use Rattle.std.specs.Prelude.{cond, count_by}
 use Rattle.std.proofs.lemmas.List.{flat_map_more, length_push}
 use Rattle.std.proofs.lemmas.List.Elements.{All-nil, All-push}
@@ -45,13 +46,11 @@ module _ {Peer : Type 0} where
   count_push done d kind = sum_by_push (λ u. cond (same_turn kind u.turn) 1 0) done d
 
   one_more_counts : (done : List (TurnDone Peer)) (d : TurnDone Peer) → one_more d.turn (tally done) ≡ tally (done ++ d ∷ [])
-  one_more_counts done d = one_more_of (λ kind. count_by (λ u. same_turn kind u.turn) done) d.turn (count_push done d turn.Replied)
-      (count_push done d turn.Dropped) (count_push done d turn.Idle) (count_push done d turn.Failed)
+  one_more_counts done d = grind (arith, common_steps, one_more_of, count_push)
 
   -- before the first turn
   pub no_turns : (agent : Agent) (s : Served) → s ≡ record { replies = 0; dropped = 0; idle = 0; faults = 0 } → AreTurns {Peer = Peer} agent 0 s []
-  no_turns agent s none =
-      record { done = []; each = All-nil (λ (u : TurnDone Peer). IsTurn agent u.turn u.events); count = refl; by_kind = none; in_order = refl }
+  no_turns agent s none = grind (arith, common_steps, All-nil)
 
   -- one turn more
   pub more_turns : (agent : Agent) (n : ℕ) (s more : Served) (events : List (Event Peer)) (t : Turn) (now : List (Event Peer)) → more ≡ one_more t s
@@ -74,12 +73,9 @@ one_more_turn _ s = omega arith
 
 risen_more : (n m a b c : ℕ) → HasRisenBy n a b → HasRisenBy m b c → HasRisenBy (n + m) a c
 risen_more zero zero a b c h k = (λ z. k.0 refl ∙ h.0 refl, λ some. absurd (omega (arith, some)))
-risen_more zero (suc m) a b c h k = let same = h.0 refl in let more = k.1 (omega arith) in
-    (λ z. absurd (omega (arith, z)), λ some. omega (arith, same, more))
-risen_more (suc n) zero a b c h k = let first = h.1 (omega arith) in let same = k.0 refl in
-    (λ z. absurd (omega (arith, z)), λ some. omega (arith, first, same))
-risen_more (suc n) (suc m) a b c h k = let first = h.1 (omega arith) in let more = k.1 (omega arith) in
-    (λ z. absurd (omega (arith, z)), λ some. omega (arith, first, more))
+risen_more zero (suc m) a b c h k = grind (arith, common_steps)
+risen_more (suc n) zero a b c h k = grind (arith, common_steps)
+risen_more (suc n) (suc m) a b c h k = grind (arith, common_steps)
 
 faults_with : (t : Turn) (s : Served) → s.faults + cond (same_turn turn.Failed t) 1 0 ≡ (one_more t s).faults
 faults_with turn.Replied s = omega arith
@@ -88,6 +84,4 @@ faults_with _ s = omega arith
 -- with one more turn
 pub risen_in_turn : (t : Turn) (s more : Served) (a b c : ℕ) → more ≡ one_more t s → HasRisenBy s.faults a b
     → HasRisenBy (cond (same_turn turn.Failed t) 1 0) b c → HasRisenBy more.faults a c
-risen_in_turn t s more a b c is h k =
-    subst (λ (n : ℕ). HasRisenBy n a c) (faults_with t s ∙ sym (ap (λ (m : Served). m.faults) is))
-    (risen_more s.faults (cond (same_turn turn.Failed t) 1 0) a b c h k)
+risen_in_turn t s more a b c is h k = grind (arith, common_steps, faults_with, risen_more)

@@ -1,4 +1,5 @@
 -- A reply is the shortest encoding of its Response: all parts of this are within their ranges.
+use Rattle.std.proofs.lemmas.Grind.{common_steps}
 use Rattle.std.proofs.Common.{◌≡◌, ℕ, ℤ, pos, zero, suc, ◌+◌, ◌≤◌, List, [], ◌∷◌, ◌++◌, length, take}
 use Rattle.std.proofs.Common.{drop, refl, sym, subst, ◌∙◌, arith, length-append, append_assoc}
 use Rattle.std.proofs.lemmas.List.{take-append-drop}
@@ -61,8 +62,7 @@ answers_in_range IsAnswer one _ _ h answers = absurd answers
 
 module _ (view : MibView) (is_view : IsMibView view) where
   row_in_range : (p : VarBind) → IsRow view p → IsBindingInRange p
-  row_in_range p row =
-      record { name = name_in_range p.name (is_view.names p row); value = value_in_range p.value (is_view.values p row) }
+  row_in_range p row = grind (arith, common_steps, name_in_range, value_in_range)
 
   get_in_range : (o : List ℕ) (p : VarBind) → IsInRange (object_id o) → IsGet view o p → IsBindingInRange p
   get_in_range o p h (variable name row) = row_in_range p row

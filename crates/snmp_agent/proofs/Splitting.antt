@@ -1,13 +1,10 @@
 -- A text that is cut at an octet.
+use Rattle.std.proofs.lemmas.Grind.{common_steps}
 use Rattle.std.proofs.Common.{◌≡◌, ◌≢◌, ℕ, zero, suc, ◌<◌, List, [], ◌∷◌, ◌++◌, length, get_or, take, drop, ap, arith}
 use Rattle.std.specs.List.{All}
 
 all_of : (octet o : ℕ) (text : List ℕ) → (o ≡ octet → ⊥) → All (λ x. x ≢ octet) text → All (λ x. x ≢ octet) (o ∷ text)
-all_of octet o text first rest = by_place
-  where
-    by_place : (k d : ℕ) → k < length (o ∷ text) → get_or (o ∷ text) k d ≢ octet
-    by_place zero d low = first
-    by_place (suc k) d low = rest k d (omega (arith, low))
+all_of octet o text first rest = grind (arith, common_steps)
 
 -- no octet is this one where none is read so
 pub others : (octet : ℕ) (text : List ℕ) → ((k : ℕ) → k < length text → get_or text k 0 ≡ octet → ⊥) → All (λ o. o ≢ octet) text

@@ -1,5 +1,6 @@
 -- Places among the variables of a view, and what names are given there.
-use Rattle.std.proofs.Common.{◌≡◌, ◌↔◌, ℕ, zero, suc, ◌+◌, true, List, [], ◌∷◌, map, take, drop, refl, ap, subst, ◌∙◌, add-one}
+use Rattle.std.proofs.Common.{arith, ◌≡◌, ◌↔◌, ℕ, zero, suc, ◌+◌, true, List, [], ◌∷◌, map, take, drop, refl, ap, subst, ◌∙◌, add-one}
+use Rattle.std.proofs.lemmas.Grind.{common_steps}
 use Rattle.std.proofs.lemmas.Bool.{and_from, and_parts, false≢true}
 use Rattle.std.specs.FinMap.{entries}
 use Rattle.std.specs.List.{list_all}
@@ -70,10 +71,7 @@ module _ (view : MibView) (mib : IsMibView view) where
   -- a round is endOfMibView throughout where no variable was left
   ends_here : (round : ℕ) (o : List ℕ) → (is_over (place_of view round o) ≡ true) ↔ ((next_at (place_of view round o)).value ≡ end_of_mib_view)
   unfolding place_of
-  ends_here round o =
-      let back = entries_after o (entries view.rows) in
-      let name = last_name o (take round back) in
-      (has_end name (drop round back), at_end name (drop round back) (behind_past view round o back (behind_name view o)))
+  ends_here round o = grind (arith, common_steps, has_end, at_end, behind_past, behind_name)
 
   pub all_end : (round : ℕ) (names : List VarBind) → (list_all is_over (places_of view round names) ≡ true) ↔ AreEnds (given_in view round names)
   all_end round [] = (λ over. tt, λ ends. refl)

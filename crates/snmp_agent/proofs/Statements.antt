@@ -1,4 +1,5 @@
 -- Facts about what lines state.
+use Rattle.std.proofs.lemmas.Grind.{common_steps}
 use Rattle.std.proofs.Common.{◌≡◌, ℕ, ◌^◌, ◌<◌, inl, inr, List, [], ◌∷◌, ◌++◌, Result, Ok, Err, IfErr, IfOk, refl, sym, ◌∙◌, ap, subst, append_assoc}
 use Rattle.std.proofs.Common.{arith, codes}
 use Rattle.std.specs.List.{All}
@@ -75,14 +76,7 @@ tag_stated format t text end_of_mib_view h = absurd h
 
 -- a row's line has the form of one
 pub row_form : (format : Format) (l : List ℕ) (p : VarBind) (h : IsRowLine format l p) → IsRowForm format l h.name h.tag h.text
-row_form format l p h = record {
-  not_blank = h.not_blank;
-  no_object = h.no_object;
-  parts = h.parts;
-  name_ends = h.name_ends;
-  tag_ends = h.tag_ends;
-  known = tag_stated format h.tag h.text p.value h.valued;
-}
+row_form format l p h = grind (arith, common_steps, tag_stated)
 
 -- the first cut of a row's line
 first_cut : (format : Format) (l name tag text : List ℕ) → IsRowForm format l name tag text → l ≡ name ++ bar ∷ (tag ++ bar ∷ text)
@@ -94,8 +88,7 @@ no_row_without_bar format l name tag text none h = none name (tag ++ bar ∷ tex
 -- what stands behind the bar that ends the name
 behind_first : (format : Format) (l front behind name tag text : List ℕ) → l ≡ front ++ bar ∷ behind → EndsAtBar format front → IsRowForm format l name tag text
     → (name ≡ front) × (tag ++ bar ∷ text ≡ behind)
-behind_first format l front behind name tag text e ends h =
-    same_end format name (tag ++ bar ∷ text) front behind h.name_ends ends (sym (first_cut format l name tag text h) ∙ e)
+behind_first format l front behind name tag text e ends h = grind (arith, common_steps, same_end, first_cut)
 
 pub no_row_with_one_bar : (format : Format) (l front behind name tag text : List ℕ) → l ≡ front ++ bar ∷ behind → EndsAtBar format front → HasNoBar behind
     → IsRowForm format l name tag text → ⊥
@@ -119,8 +112,7 @@ same_rows format l name tag text name2 tag2 text2 h k = same_parts format l name
 -- the cuts of a line, put together
 pub row_parts : (l front behind middle back tag : List ℕ) → l ≡ front ++ bar ∷ behind → behind ≡ middle ++ bar ∷ back → middle ≡ tag
     → l ≡ (front ++ bar ∷ tag) ++ bar ∷ back
-row_parts l front behind middle back tag e f g =
-    e ∙ ap (λ (rest : List ℕ). front ++ bar ∷ rest) (f ∙ ap (λ (t : List ℕ). t ++ bar ∷ back) g) ∙ sym (append_assoc front (bar ∷ tag) (bar ∷ back))
+row_parts l front behind middle back tag e f g = grind (arith, common_steps, append_assoc)
 
 -- ---- what a line states
 
@@ -133,19 +125,7 @@ object_states format l text e (Err why) h = tt
 
 pub row_states : (format : Format) (l name tag text : List ℕ) → IsRowForm format l name tag text → (r : Result Line LineFault) → IsInstanceRead format name tag text r
     → IfOk r (λ stated. States format l (statement_of stated))
-row_states format l name tag text e (Ok (line.Instance row)) h = record {
-  not_blank = e.not_blank;
-  no_object = e.no_object;
-  name = name;
-  tag = tag;
-  text = text;
-  parts = e.parts;
-  name_ends = e.name_ends;
-  tag_ends = e.tag_ends;
-  named = h.0.0;
-  instance_name = h.0.1;
-  valued = h.1;
-}
+row_states format l name tag text e (Ok (line.Instance row)) h = grind (arith, common_steps)
 row_states format l name tag text e (Ok line.Nothing) h = absurd h
 row_states format l name tag text e (Ok (line.Object numbers)) h = absurd h
 row_states format l name tag text e (Err why) h = tt

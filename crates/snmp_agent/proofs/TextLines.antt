@@ -1,15 +1,12 @@
 -- Facts about the lines of a text.
-use Rattle.std.proofs.Common.{◌≡◌, ◌≢◌, ℕ, suc, ◌<◌, eqb-true, true, false, cond, eqb, List, [], ◌∷◌, ◌++◌, length, refl, sym, ◌∙◌, ap, subst, arith}
+use Rattle.std.proofs.lemmas.Grind.{common_steps}
+use Rattle.std.proofs.Common.{◌≡◌, ◌≢◌, ℕ, suc, ◌<◌, eqb-true, true, false, eqb, List, [], ◌∷◌, ◌++◌, length, refl, sym, ◌∙◌, ap, subst, arith}
 use Rattle.std.specs.List.{All, slice_split, onto_first}
 use Rattle.std.specs.Str.Lines.{lines, lines_of_parts, strip_carriage_return}
 use Rattle.std.proofs.lemmas.List.Splits.{slice_split_at, slice_split_none, slice_split-cons_yes, slice_split-cons_no}
 
 is_other : (octet : ℕ) → octet ≢ 10 → eqb octet 10 ≡ false
-is_other octet other =
-    elim (eqb octet 10) as (λ b. eqb octet 10 ≡ b → b ≡ false) [
-      | true ↦ λ yes_same. absurd (other (eqb-true octet 10 yes_same))
-      | false ↦ λ _. refl
-    ] refl
+is_other octet other = grind (arith, common_steps, eqb-true)
 
 -- the parts are at least one
 some_part : (text : List ℕ) → (first : List ℕ) × (more : List (List ℕ)) × (slice_split (λ b. eqb b 10) text ≡ first ∷ more)
@@ -32,18 +29,7 @@ lines_first line rest none =
     ap lines_of_parts parts ∙ behind
 
 refl_false : (n : ℕ) → eqb (suc n) 0 ≡ false
-refl_false n =
-    elim (eqb (suc n) 0) as (λ b. eqb (suc n) 0 ≡ b → b ≡ false) [
-      | true ↦ λ same. let none : suc n ≡ 0 = eqb-true (suc n) 0 same in absurd (omega (arith, none))
-      | false ↦ λ _. refl
-    ] refl
+refl_false n = grind (arith, common_steps, eqb-true)
 
 pub lines_last : (text : List ℕ) → All (λ octet. octet ≢ 10) text → 0 < length text → lines text ≡ text ∷ []
-lines_last text none some =
-    let parts : slice_split (λ b. eqb b 10) text ≡ text ∷ [] = slice_split_none (λ b. eqb b 10) text (λ k d low. is_other _ (none k d low)) in
-    ap lines_of_parts parts ∙ whole text some where
-      whole : (text : List ℕ) → 0 < length text → lines_of_parts (text ∷ []) ≡ text ∷ []
-      whole [] some = absurd (omega (arith, some))
-      whole (octet ∷ text) some =
-          let long : eqb (length (octet ∷ text)) 0 ≡ false = refl_false (length text) in
-          ap (λ b. cond b [] ((octet ∷ text) ∷ [])) long
+lines_last text none some = grind (arith, common_steps, slice_split_none, is_other, refl_false)

@@ -1,5 +1,6 @@
 -- Lines state one table at most.
-use Rattle.std.proofs.Common.{◌≡◌, ◌↔◌, ℕ, Bool, true, false, List, subst, refl, sym, ◌∙◌, ap, Option, Some, None}
+use Rattle.std.proofs.Common.{arith, ◌≡◌, ◌↔◌, ℕ, Bool, true, false, List, subst, refl, sym, ◌∙◌, ap, Option, Some, None}
+use Rattle.std.proofs.lemmas.Grind.{common_steps}
 use Rattle.std.specs.Ordering.{nat_cmp}
 use Rattle.std.specs.Cmp.Lexicographic.{slice_cmp, nat_list_cmp_total}
 use Rattle.std.specs.FinMap.{FinMap, get, same_map, nat_cmp-IsAntisymmetric, slice_cmp-IsAntisymmetric}
@@ -48,5 +49,4 @@ one_view names lines v w h k =
 -- lines without the mark are of the first format
 pub without_mark : (names : Names) (lines : List (List ℕ)) (P : Format → Type 0)
     → (IsMarked lines → ⊥) → ((format : Format) × IsFormat names lines format × P format) ↔ P first_format
-without_mark names lines P unmarked =
-    (λ h. subst P (one_format names lines first_format h.0 unmarked h.1) h.2, λ h. (first_format, unmarked, h))
+without_mark names lines P unmarked = grind (arith, common_steps, one_format)

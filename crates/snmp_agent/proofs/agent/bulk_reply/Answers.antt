@@ -1,3 +1,4 @@
+use Rattle.std.proofs.lemmas.Grind.{common_steps}
 use Rattle.std.proofs.Common.{[], pos, arith}
 use Rattle.std.proofs.lemmas.List.{length-take-le}
 use Rattle.snmp_wire.specs.Parts.{parts_message}
@@ -14,9 +15,7 @@ use Rattle.snmp_agent.proofs.agent.bulk_reply.Goals.{After-append_bulk-bindings}
 -- what is held, of all that is asked for
 front : (c : After-append_bulk-bindings) → HoldsFront c.room_for_bindings-room.result [] (bulk_of c.args.table.now c.args.request.now)
     (held c.append_bulk-bindings.result c.append_bulk-bindings.new.out)
-front c =
-    all_front c.room_for_bindings-room.result (bulk_of c.args.table.now c.args.request.now) c.new.result c.append_bulk-bindings.result c.args.out.now
-    c.append_bulk-bindings.new.out c.new.ensures.empty c.new.ensures.room c.append_bulk-bindings.ensures
+front c = grind (arith, common_steps, all_front)
 
 is_response : (c : After-append_bulk-bindings) → IsResponse c.args.table.now c.args.config.now.max_size c.args.request.now
     (response c.args.request.now no_error (pos 0) (front c).added)

@@ -1,8 +1,8 @@
+use Rattle.std.proofs.lemmas.Grind.{common_steps}
 use Rattle.std.proofs.Common.{◌≡◌, ◌⊎◌, inl, inr, ◌<◌, ◌-◌, pos, [], is_some, length, take, refl, sym, ap, arith}
 use Rattle.std.proofs.lemmas.List.{length-take-le}
 use Rattle.snmp_wire.specs.Canon.{canon_bindings}
 use Rattle.snmp_wire.specs.Message.{Message}
-use Rattle.snmp_agent.specs.declared.room.ReplyBindings.{ReplyBindings}
 use Rattle.snmp_agent.specs.Reply.{Fits, response, shortened, too_big, whole}
 use Rattle.snmp_agent.specs.Answering.{answers_to, held, whole_index, whole_status}
 use Rattle.snmp_agent.specs.table.Table.{MibView}
@@ -15,20 +15,14 @@ use Rattle.snmp_agent.proofs.agent.paired_reply.Goals.{After-append_answers-bind
 front : (c : After-append_answers-bindings)
     → HoldsFront c.args.config.now.max_size [] (answers_to c.args.table.now c.args.request.now.kind c.args.request.now.bindings)
     (held c.append_answers-bindings.result c.append_answers-bindings.new.out)
-front c =
-    all_front c.args.config.now.max_size (answers_to c.args.table.now c.args.request.now.kind c.args.request.now.bindings) c.new.result
-    c.append_answers-bindings.result c.args.out.now c.append_answers-bindings.new.out c.new.ensures.empty c.new.ensures.room
-    (rw (c.kind.ensures, c.bindings.ensures) at c.append_answers-bindings.ensures)
+front c = grind (arith, common_steps, all_front)
 
 held_all : (c : After-append_answers-bindings)
     → (take (c.args.config.now.max_size - c.append_answers-bindings.result.left) c.append_answers-bindings.new.out
     ≡ canon_bindings (answers_to c.args.table.now c.args.request.now.kind c.args.request.now.bindings))
     ⊎ ((c.append_answers-bindings.result.left ≡ 0)
     × (c.args.config.now.max_size < length (canon_bindings (answers_to c.args.table.now c.args.request.now.kind c.args.request.now.bindings))))
-held_all c =
-    let reply : ReplyBindings = c.append_answers-bindings.result in
-    all_or_full c.args.config.now.max_size reply c.append_answers-bindings.new.out (answers_to c.args.table.now c.args.request.now.kind c.args.request.now.bindings)
-    (length-take-le reply.total c.append_answers-bindings.new.out (omega arith)) (front c)
+held_all c = grind (arith, common_steps, all_or_full, length-take-le, front)
 
 -- the whole Response
 abbrev large : MibView → Message → Message

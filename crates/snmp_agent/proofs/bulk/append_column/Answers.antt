@@ -1,19 +1,17 @@
+use Rattle.std.proofs.lemmas.Grind.{common_steps}
 use mathlib.Core.Bool.{and-true}
 use Rattle.std.proofs.Common.{◌∙◌, ◌≡◌, ◌⊎◌, inl, inr, true, [], ◌∷◌, ap, sym, arith}
 use Rattle.std.specs.List.{list_all}
 use Rattle.snmp_agent.specs.Reply.{joined}
 use Rattle.snmp_agent.specs.Answering.{add, fill, held, rounds_from}
-use Rattle.snmp_agent.specs.Standing.{Standing, given_in, is_over, next_at, passed, place_of, places_of}
+use Rattle.snmp_agent.specs.Standing.{Standing, given_in, is_over, next_at, passed, places_of}
 use Rattle.snmp_agent.proofs.Rounds.{rounds_done, rounds_first, rounds_next, rounds_over}
 use Rattle.snmp_agent.proofs.Standing.{place_passed}
 use Rattle.snmp_agent.proofs.bulk.append_column.Goals as goal
 use Rattle.snmp_agent.proofs.bulk.append_column.Goals.{After-append_next-reply}
 
 pub rounds-init : goal.rounds-init
-rounds-init c = record {
-  rounds = rounds_first c.args.table.now (c.args.asked ∷ []) c.args.repetitions (held c.args.reply c.args.out.now);
-  place = c.of_walk-place.ensures ∙ ap (place_of c.args.table.now 0) c.name.ensures;
-}
+rounds-init c = grind (arith, common_steps, rounds_first)
 
 -- what the round adds
 added : (c : After-append_next-reply) → held c.append_next-reply.result c.append_next-reply.new.out

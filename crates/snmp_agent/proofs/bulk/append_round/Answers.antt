@@ -1,11 +1,12 @@
+use Rattle.std.proofs.lemmas.Grind.{common_steps}
 use mathlib.Core.Bool.{and-true, and_assoc}
-use Rattle.std.proofs.Common.{◌≡◌, ◌<◌, ◌≤◌, ◌+◌, inl, inr, ◌&&◌, List, ◌++◌, map, length, take, drop, slice_set, refl, sym, ap, ◌∙◌, arith}
+use Rattle.std.proofs.Common.{◌≡◌, ◌<◌, ◌≤◌, ◌+◌, inl, inr, ◌&&◌, List, ◌++◌, map, length, drop, slice_set, refl, sym, ap, ◌∙◌, arith}
 use Rattle.std.specs.List.{list_all}
 use Rattle.std.proofs.lemmas.List.{append-nil, drop_all, map-append, take_all}
 use Rattle.std.proofs.lemmas.List.Edits.{map_over_more}
 use Rattle.std.proofs.lemmas.List.Folds.{list_all-append}
 use Rattle.snmp_wire.specs.Message.{VarBind}
-use Rattle.snmp_agent.specs.Answering.{Held, add, fill, held}
+use Rattle.snmp_agent.specs.Answering.{Held, fill, held}
 use Rattle.snmp_agent.specs.Standing.{Standing, given_in, is_over, next_at, passed, place_of, places_of}
 use Rattle.snmp_agent.proofs.Fronts.{fill_both, fill_full}
 use Rattle.snmp_agent.proofs.Lists.{still_there}
@@ -21,14 +22,7 @@ places-init c = record { moved = refl; rest = refl }
 -- what is added with one more place
 next : (c : After-append_next-reply) → fill (held c.args.reply c.args.out.now) (map next_at c.args.places.now)
     ≡ fill (held c.append_next-reply.result c.append_next-reply.new.out) (map next_at (drop (c.places.place-index + 1) c.args.places.now))
-next c =
-    let low : c.places.place-index < length c.args.places.now = omega (arith, c.places-test.true, c.places.auto.places) in
-    let here = still_there passed c.args.places.now c.places.places c.places.place-index c.place-item.result low c.places.invariant.moved c.place-item.is in
-    let rest = map next_at (drop (c.places.place-index + 1) c.args.places.now) in
-    let new : held c.append_next-reply.result c.append_next-reply.new.out ≡ add (held c.places.reply c.places.out) (next_at c.place-item.result) =
-    c.append_next-reply.ensures.added ∙ ap (λ (x : Standing). add (held c.places.reply c.places.out) (next_at x)) (sym c.place-item.is) in
-    c.places.invariant.rest ∙ ap (λ (ps : List Standing). fill (held c.places.reply c.places.out) (map next_at ps)) here
-    ∙ ap (λ (h : Held). fill h rest) (sym new)
+next c = grind (arith, common_steps, still_there)
 
 pub places-preserved : goal.places-preserved
 places-preserved c =
@@ -73,12 +67,7 @@ others-init c =
 more : (c : After-append_next-reply-in-Some) → fill (held c.args.reply c.args.out.now)
     (map next_at (c.args.places.now ++ places_of c.args.table.now c.args.round c.args.others))
     ≡ fill (held c.append_next-reply-in-Some.result c.append_next-reply-in-Some.new.out) (given_in c.args.table.now c.args.round c.next_ref.new.self)
-more c =
-    let at = c.after_rounds-place.ensures ∙ ap (place_of c.args.table.now c.args.round) c.name.ensures in
-    c.others.invariant.rest
-    ∙ ap (λ (bs : List VarBind). fill (held c.others.reply c.others.out) (given_in c.args.table.now c.args.round bs)) c.in-Some.ensures.some
-    ∙ ap (λ (h : Held). fill h (given_in c.args.table.now c.args.round c.next_ref.new.self))
-    (sym (c.append_next-reply-in-Some.ensures.added ∙ ap (λ (place : Standing). add (held c.others.reply c.others.out) (next_at place)) at))
+more c = grind (arith, common_steps)
 
 pub others-preserved : goal.others-preserved
 others-preserved c =
@@ -107,9 +96,7 @@ returns-then-is_full-2-clause-last c = λ _. inl (c.is_full-in-Some.ensures.0 c.
 -- ---- the end
 
 pub returns-clause-filled : goal.returns-clause-filled
-returns-clause-filled c =
-    sym (c.others.invariant.rest
-    ∙ ap (λ (bs : List VarBind). fill (held c.others.reply c.others.out) (given_in c.args.table.now c.args.round bs)) c.in_default.ensures.none.0)
+returns-clause-filled c = grind (arith, common_steps)
 
 over : (c : In_default) → list_all is_over (c.args.places.now ++ places_of c.args.table.now c.args.round c.args.others) ≡ c.others.are_over
 over c =
@@ -124,9 +111,4 @@ pub returns-clause-goes : goal.returns-clause-goes
 returns-clause-goes c = λ is. over (goal.at.returns-clause-goes c).In_default ∙ is
 
 pub returns-clause-moved : goal.returns-clause-moved
-returns-clause-moved c = λ _.
-    let places = c.args.places.now in
-    let i = c.places.place-index in
-    let all : length places ≤ i = omega (arith, c.places-test.false, c.places.auto.places) in
-    c.places.invariant.moved ∙ ap (λ (ps : List Standing). map passed (take i places) ++ ps) (drop_all i places all) ∙ append-nil (map passed (take i places))
-    ∙ ap (map passed) (take_all i places all)
+returns-clause-moved c = grind (arith, common_steps, drop_all, append-nil, take_all)

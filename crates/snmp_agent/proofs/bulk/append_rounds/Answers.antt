@@ -1,3 +1,4 @@
+use Rattle.std.proofs.lemmas.Grind.{common_steps}
 use Rattle.std.proofs.Common.{◌≡◌, ◌⊎◌, inl, inr, ◌+◌, true, List, ◌++◌, map, sym, ap, ◌∙◌, arith}
 use Rattle.std.specs.List.{list_all}
 use Rattle.std.proofs.lemmas.List.{map-append}
@@ -10,10 +11,7 @@ use Rattle.snmp_agent.proofs.bulk.append_rounds.Goals as goal
 use Rattle.snmp_agent.proofs.bulk.append_rounds.Goals.{After-append_round-is_over}
 
 pub rounds-init : goal.rounds-init
-rounds-init c = record {
-  rounds = rounds_first c.args.table.now c.args.bindings.now c.args.repetitions (held c.args.reply c.args.out.now);
-  places = c.requires;
-}
+rounds-init c = grind (arith, common_steps, rounds_first)
 
 -- where all names stand
 all : (c : After-append_round-is_over) → c.rounds.places ++ places_of c.args.table.now c.rounds.round c.left.result

@@ -1,3 +1,4 @@
+use Rattle.std.proofs.lemmas.Grind.{common_steps}
 use Rattle.std.proofs.Common.{◌≡◌, ℕ, suc, ◌+◌, ◌-◌, List, [], ◌∷◌, take, drop, sym, ap, ◌∙◌, arith}
 use Rattle.std.proofs.Math.Seq.{drop-nil, take-nil}
 use Rattle.snmp_wire.specs.Message.{VarBind}
@@ -8,12 +9,7 @@ use Rattle.snmp_agent.proofs.bulk.append_singles.Goals as goal
 use Rattle.snmp_agent.proofs.bulk.append_singles.Goals.{After-append_next-reply}
 
 pub singles-init : goal.singles-init
-singles-init c = record {
-  others = λ left e.
-      let same : c.args.count ≡ left = omega (arith, e) in
-      ap (λ (k : ℕ). fill (held c.args.reply c.args.out.now) (given_in c.args.table.now 0 (take k c.args.bindings.now))) same;
-  left = λ left e. let same : left ≡ c.args.count = omega (arith, e) in ap (λ k. drop k c.args.bindings.now) same;
-}
+singles-init c = grind (arith, common_steps)
 
 pub returns-in_default-clause-filled : goal.returns-in_default-clause-filled
 returns-in_default-clause-filled c =

@@ -1,8 +1,9 @@
-use Rattle.std.proofs.Common.{◌≡◌, ap, refl, ◌∙◌}
+use Rattle.std.proofs.Common.{arith, ◌≡◌, refl}
+use Rattle.std.proofs.lemmas.Grind.{common_steps}
 use Rattle.snmp_wire.specs.declared.kind.Kind.{Kind}
 use Rattle.snmp_wire.specs.declared.kind.Kind.TheVariants as kind
 use Rattle.snmp_wire.specs.Message.{VarBind}
-use Rattle.snmp_agent.specs.Answering.{add, answer_to, held}
+use Rattle.snmp_agent.specs.Answering.{answer_to}
 use Rattle.snmp_agent.specs.table.Table.{MibView}
 use Rattle.snmp_agent.proofs.draft.append_answer.Goals as goal
 
@@ -13,6 +14,4 @@ same view kind.GetNextRequest asked get next = absurd (next refl)
 same view _ asked get next = refl
 
 pub returns-in_default : goal.returns-in_default
-returns-in_default c =
-    c.append_same.ensures ∙ ap (add (held c.args.reply c.args.out.now))
-    (same c.args.table.now c.args.kind c.args.asked.now c.in_default.not-GetRequest c.in_default.not-GetNextRequest)
+returns-in_default c = grind (arith, common_steps, same)

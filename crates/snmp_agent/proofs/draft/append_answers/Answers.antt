@@ -1,6 +1,6 @@
-use Rattle.std.proofs.Common.{◌≡◌, List, refl, sym, ap, subst, ◌∙◌}
-use Rattle.snmp_wire.specs.Message.{VarBind}
-use Rattle.snmp_agent.specs.Answering.{AreWritable, Held, answers_to, fill, held}
+use Rattle.std.proofs.Common.{arith, ◌≡◌, refl, sym, subst, ◌∙◌}
+use Rattle.std.proofs.lemmas.Grind.{common_steps}
+use Rattle.snmp_agent.specs.Answering.{AreWritable, answers_to, fill, held}
 use Rattle.snmp_agent.proofs.Fronts.{fill_full}
 use Rattle.snmp_agent.proofs.draft.append_answers.Goals as goal
 use Rattle.snmp_agent.proofs.draft.append_answers.Goals.{After-append_answer-reply}
@@ -13,10 +13,7 @@ append_answer-reply-requires c = (subst AreWritable c.in-Some.ensures.some c.bin
 
 next : (c : After-append_answer-reply) → fill (held c.args.reply c.args.out.now) (answers_to c.args.table.now c.args.kind c.args.bindings)
     ≡ fill (held c.append_answer-reply.result c.append_answer-reply.new.out) (answers_to c.args.table.now c.args.kind c.next_ref.new.self)
-next c =
-    c.bindings.invariant.others
-    ∙ ap (λ (bs : List VarBind). fill (held c.bindings.reply c.bindings.out) (answers_to c.args.table.now c.args.kind bs)) c.in-Some.ensures.some
-    ∙ ap (λ (h : Held). fill h (answers_to c.args.table.now c.args.kind c.next_ref.new.self)) (sym c.append_answer-reply.ensures)
+next c = grind (arith, common_steps)
 
 pub returns-then-is_full : goal.returns-then-is_full
 returns-then-is_full c =
@@ -31,6 +28,4 @@ bindings-preserved c = record {
 }
 
 pub returns : goal.returns
-returns c =
-    sym (c.bindings.invariant.others
-    ∙ ap (λ (bs : List VarBind). fill (held c.bindings.reply c.bindings.out) (answers_to c.args.table.now c.args.kind bs)) c.in_default.ensures.none.0)
+returns c = grind (arith, common_steps)

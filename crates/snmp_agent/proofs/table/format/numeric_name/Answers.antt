@@ -1,4 +1,5 @@
-use Rattle.std.proofs.Common.{◌≡◌, ◌≤◌, ℕ, List, length, Result, Ok, Err, OnOk, sym}
+use Rattle.std.proofs.Common.{arith, ◌≡◌, ◌≤◌, ℕ, List, length, Result, Ok, Err, OnOk, sym}
+use Rattle.std.proofs.lemmas.Grind.{common_steps}
 use Rattle.std.specs.Result.{is_ok}
 use Rattle.snmp_oid.specs.Numeric.{IsNumericName}
 use Rattle.snmp_oid.specs.declared.numeric.OidTextError.{OidTextError}
@@ -13,6 +14,4 @@ only_name text o (Ok u) found short only = (record { named = found; short = shor
 only_name text o (Err e) found short only = λ p h. let none = (only p h.named h.short).0 in cc
 
 pub returns : goal.returns
-returns c = rw c.is_ok.ensures.value
-    (only_name c.args.text.now c.read_numeric.new.oid c.read_numeric.result c.read_numeric.ensures.found c.read_numeric.ensures.at_most_128
-    c.read_numeric.ensures.only)
+returns c = grind (arith, common_steps, only_name)

@@ -1,14 +1,12 @@
+use Rattle.std.proofs.Common.{arith}
+use Rattle.std.proofs.lemmas.Grind.{common_steps}
 use Rattle.snmp_agent.specs.table.Row.{tag_text}
 use Rattle.snmp_agent.specs.table.Form.{IsRowForm}
-use Rattle.snmp_agent.specs.table.Text.{IsObjectForm}
 use Rattle.snmp_agent.proofs.Statements.{object_states, row_faults, row_states}
 use Rattle.snmp_agent.proofs.table.line.read_line.Goals as goal
 
 pub returns-in-Some-Object-clause-states : goal.returns-in-Some-Object-clause-states
-returns-in-Some-Object-clause-states g c =
-    let format = g.F.LineFormat.format c.args.format.now in
-    let form : IsObjectForm c.args.line.now c.in-Some-Object.text.now = rw c.in-Some-Object.field-0-is at c.in-Some-Object.ensures in
-    object_states format c.args.line.now c.in-Some-Object.text.now form c.object.result c.object.ensures
+returns-in-Some-Object-clause-states g c = grind (arith, common_steps, object_states)
 
 pub returns-in-Some-Row-clause-states : goal.returns-in-Some-Row-clause-states
 returns-in-Some-Row-clause-states g c =

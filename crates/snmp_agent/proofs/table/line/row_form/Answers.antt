@@ -1,5 +1,5 @@
-use Rattle.std.proofs.Common.{◌≡◌, subst}
-use Rattle.snmp_agent.specs.table.Format.{HasNoEnd}
+use Rattle.std.proofs.Common.{arith, ◌≡◌, subst}
+use Rattle.std.proofs.lemmas.Grind.{common_steps}
 use Rattle.snmp_agent.specs.table.Form.{IsTag}
 use Rattle.snmp_agent.specs.table.Row.{tag_text}
 use Rattle.snmp_agent.proofs.Cuts.{HasNoBar}
@@ -7,15 +7,7 @@ use Rattle.snmp_agent.proofs.Statements.{tag_known, no_row_without_bar, no_row_w
 use Rattle.snmp_agent.proofs.table.line.row_form.Goals as goal
 
 pub returns-in_err-name : goal.returns-in_err-name
-returns-in_err-name g c =
-    let format = g.F.LineFormat.format c.args.format.now in
-    let none : HasNoEnd format c.args.line.now = c.in_err-name.ensures in
-    rw c.from_residual.ensures record {
-      not_blank = c.requires.not_blank;
-      no_object = c.requires.no_object;
-      no_row = λ name tag text row. no_row_without_bar format
-          c.args.line.now name tag text none row;
-    }
+returns-in_err-name g c = grind (arith, common_steps, no_row_without_bar)
 
 pub returns-in_err-tag : goal.returns-in_err-tag
 returns-in_err-tag g c =

@@ -1,12 +1,12 @@
-use Rattle.std.proofs.Common.{◌≡◌, ◌<◌, ◌≤◌, length, Some, ◌∙◌, ap, sym, subst, rules}
+use Rattle.std.proofs.Common.{arith, ◌≡◌, ◌<◌, ◌≤◌, length, Some, ◌∙◌, ap, sym, subst, rules}
+use Rattle.std.proofs.lemmas.Grind.{common_steps}
 use Rattle.snmp_agent.specs.declared.table.page.Page.{Page}
 use Rattle.snmp_agent.specs.table.Pages.{entries_in}
 use Rattle.snmp_agent.proofs.Paging.{page_read, without_row_of, without_page}
 use Rattle.snmp_agent.proofs.table.pages.remove_row.Goals as goal
 
 pub returns-then-len-gt1 : goal.returns-then-len-gt1
-returns-then-len-gt1 c = λ page at.
-    without_row_of c.args.pages.now.items c.args.place page c.index_mut.result.now c.remove.new.self c.args.row at c.index_mut.ensures.value c.remove.ensures
+returns-then-len-gt1 c = grind (arith, common_steps, without_row_of)
 
 pub returns-else-len-gt1 : goal.returns-else-len-gt1
 returns-else-len-gt1 c = λ page at.

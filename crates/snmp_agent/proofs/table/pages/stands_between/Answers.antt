@@ -1,5 +1,5 @@
-use Rattle.std.proofs.Common.{◌≡◌, ◌-◌, [], ◌∷◌, List, ℕ, true, false, Some, length, take, ◌∙◌, ap}
-use Rattle.std.proofs.Common.{sym, refl, inl, inr, Ordering, Less, Equal, Greater}
+use Rattle.std.proofs.Common.{arith, ◌≡◌, [], ◌∷◌, List, ℕ, true, false, Some, ◌∙◌, ap, sym, refl, Ordering, Less, Equal, Greater}
+use Rattle.std.proofs.lemmas.Grind.{common_steps}
 use Rattle.std.specs.List.{slice_get}
 use Rattle.std.specs.Ordering.{is_gt, is_le, nat_cmp}
 use Rattle.std.specs.Cmp.Lexicographic.{slice_cmp}
@@ -24,30 +24,7 @@ begins o [] next at behind = cc
 begins o (row ∷ rows) next at behind = let same : row ≡ next = cc in ap (λ (r : VarBind). is_le (slice_cmp nat_cmp r.name o)) same ∙ behind
 
 pub returns-in-Equal : goal.returns-in-Equal
-returns-in-Equal c = λ _.
-    let row : VarBind = c.in-Some.row.now in
-    let ties : slice_cmp nat_cmp row.name c.args.name.now ≡ Equal = order c.args.name.now c.name.ensures c.compare.ensures c.in-Equal.is in
-    record {
-      init = take (length c.args.front.now - 1) c.args.front.now;
-      row = row;
-      last = last_of c.args.front.now row c.in-Some.ensures.item.3.0 (sym c.in-Some.ensures.value);
-      up_to = ap is_le ties;
-      next = inl (same_name row.name c.args.name.now ties);
-    }
+returns-in-Equal c = grind (arith, common_steps, order, last_of, same_name)
 
 pub returns-in-Some-first : goal.returns-in-Some-first
-returns-in-Some-first c = λ yes_behind.
-    let row : VarBind = c.in-Some.row.now in
-    let o = c.args.name.now in
-    let next : VarBind = c.in-Some-first.next.now in
-    let before : slice_cmp nat_cmp row.name o ≡ Less = order c.args.name.now c.name.ensures c.compare.ensures c.in-Less.is in
-    let behind : is_le (slice_cmp nat_cmp next.name o) ≡ false =
-    ap is_le (order c.args.name.now c.name-in-Some-first.ensures c.compare-in-Some-first.ensures refl)
-    ∙ greater c.compare-in-Some-first.result (sym c.is_gt.ensures ∙ yes_behind) in
-    record {
-      init = take (length c.args.front.now - 1) c.args.front.now;
-      row = row;
-      last = last_of c.args.front.now row c.in-Some.ensures.item.3.0 (sym c.in-Some.ensures.value);
-      up_to = ap is_le before;
-      next = inr (begins o c.args.rows.now next (sym c.in-Some-first.ensures.value) behind);
-    }
+returns-in-Some-first c = grind (arith, common_steps, order, greater, last_of, begins)

@@ -1,3 +1,4 @@
+use Rattle.std.proofs.lemmas.Grind.{common_steps}
 use Rattle.std.proofs.Common.{ℕ, ◌+◌, ◌-◌, ◌/◌, arith, sym, ◌∙◌}
 use Rattle.snmp_agent.proofs.Halving.{fails, met, passes}
 use Rattle.snmp_agent.proofs.table.search.count_between.Goals as goal
@@ -15,5 +16,4 @@ halves-preserved g c =
     c.halves.invariant (omega (arith, c.halves-test.true)) (omega arith) c.index-items-middle.is (sym c.is_up_to.ensures ∙ c.if-is_up_to.false)
 
 pub returns : goal.returns
-returns g c =
-    met (g.T.Placed.up_to c.args.name.now) c.args.items.now c.halves.begun c.halves.end c.halves.invariant (omega (arith, c.halves-test.false))
+returns g c = grind (arith, common_steps, met)

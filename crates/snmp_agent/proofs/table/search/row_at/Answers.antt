@@ -1,19 +1,12 @@
-use Rattle.std.proofs.Common.{◌≡◌, ◌-◌, length, take, None, sym, ◌∙◌, ap, Bor}
-use Rattle.std.specs.Option.{option_map}
-use Rattle.std.specs.List.{slice_get}
+use Rattle.std.proofs.Common.{arith, ◌≡◌, ◌-◌, take, sym, ◌∙◌, ap}
+use Rattle.std.proofs.lemmas.Grind.{common_steps}
 use Rattle.snmp_wire.specs.Message.{VarBind}
 use Rattle.snmp_agent.proofs.Changing.{belongs_at, has_name_at, name_found, no_name, other_named, same_named}
 use Rattle.snmp_agent.proofs.Lists.{IsLast}
 use Rattle.snmp_agent.proofs.table.search.row_at.Goals as goal
 
 pub returns-in_err-row-clause-value : goal.returns-in_err-row-clause-value
-returns-in_err-row-clause-value c =
-    let rows = c.args.rows.now in
-    let place = c.args.place in
-    let nothing : None ≡ slice_get (take place rows) (length (take place rows) - 1) = rw c.split_at.ensures.front at c.in_err-row.ensures.value in
-    ap (option_map (λ (row : Bor VarBind). row.now.value)) c.from_residual.ensures
-    ∙ sym (no_name c.args.name.now rows place (belongs_at rows place c.args.name.now c.requires.rising c.requires.place
-    (λ row (last : IsLast (take place rows) row) name. absurd (cc))))
+returns-in_err-row-clause-value c = grind (arith, common_steps, no_name, belongs_at)
 
 pub returns-then-is_eq-clause-value : goal.returns-then-is_eq-clause-value
 returns-then-is_eq-clause-value c =

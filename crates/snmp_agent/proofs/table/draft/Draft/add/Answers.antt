@@ -1,4 +1,5 @@
-use Rattle.std.proofs.Common.{map, ap, ◌∙◌, refl, rules}
+use Rattle.std.proofs.Common.{arith, map, ap, ◌∙◌}
+use Rattle.std.proofs.lemmas.Grind.{common_steps}
 use Rattle.std.specs.List.{list_any}
 use Rattle.std.specs.Ordering.{nat_cmp, eq_by_cmp}
 use Rattle.std.specs.Cmp.Lexicographic.{slice_cmp}
@@ -50,20 +51,13 @@ returns-in-Ok-Instance-clause-draft g c = λ before h.
     (λ e k. row_halted format before line c.args.number old h row states e k)
 
 pub returns-in-Err-Line-clause-draft : goal.returns-in-Err-Line-clause-draft
-returns-in-Err-Line-clause-draft g c = λ before h.
-    stopped (g.F.LineFormat.format c.args.format.now) before c.args.line.now c.args.number
-    c.args.self.now h _ (refl, search rules) c.stop.result c.stop.ensures.halt
+returns-in-Err-Line-clause-draft g c = grind (arith, common_steps, stopped)
 
 pub returns-in-Err-Name-clause-draft : goal.returns-in-Err-Name-clause-draft
-returns-in-Err-Name-clause-draft g c = λ before h.
-    stopped (g.F.LineFormat.format c.args.format.now) before c.args.line.now c.args.number
-    c.args.self.now h _ (refl, search rules) c.stop-in-Err-Name.result c.stop-in-Err-Name.ensures.halt
+returns-in-Err-Name-clause-draft g c = grind (arith, common_steps, stopped)
 
 pub returns-in-Err-Value-clause-draft : goal.returns-in-Err-Value-clause-draft
-returns-in-Err-Value-clause-draft g c = λ before h.
-    stopped (g.F.LineFormat.format c.args.format.now) before c.args.line.now c.args.number
-    c.args.self.now h _ (refl, search rules) c.stop-in-Err-Value.result c.stop-in-Err-Value.ensures.halt
+returns-in-Err-Value-clause-draft g c = grind (arith, common_steps, stopped)
 
 pub returns-in-Err-Memory-clause-draft : goal.returns-in-Err-Memory-clause-draft
-returns-in-Err-Memory-clause-draft g c = λ before h.
-    full _ c.args.self.now.exact c.full-in-Err-Memory.result c.full-in-Err-Memory.ensures
+returns-in-Err-Memory-clause-draft g c = grind (arith, common_steps, full)

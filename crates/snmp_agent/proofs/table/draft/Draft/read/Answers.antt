@@ -1,14 +1,11 @@
-use Rattle.std.proofs.Common.{◌≡◌, ◌∷◌, [], ℕ, List, length, sym, ◌∙◌, subst, Bool, true, eqb, eqb-true, suc, arith, refl}
+use Rattle.std.proofs.lemmas.Grind.{common_steps}
+use Rattle.std.proofs.Common.{◌≡◌, ◌∷◌, [], ℕ, List, length, ◌∙◌, subst, Bool, true, eqb, eqb-true, arith, refl}
 use Rattle.std.proofs.lemmas.Result.{err_from_is_err_and}
 use Rattle.snmp_agent.proofs.Adding.{IsReadTo, all_read, halted_at, read_more, read_nothing}
 use Rattle.snmp_agent.proofs.table.draft.Draft.read.Goals as goal
 
 pub lines-init : goal.lines-init
-lines-init g c =
-    let format = g.F.LineFormat.format c.args.format.now in (
-      read_nothing format c.args.text.now c.new-draft.result (c.new-draft.ensures.draft format),
-      c.new-draft.ensures.exact,
-    )
+lines-init g c = grind (arith, common_steps, read_nothing)
 
 pub lines-preserved : goal.lines-preserved
 lines-preserved g c =
@@ -35,9 +32,7 @@ returns-in_err-add-clause-halt g c =
 
 nothing_left : (rest : List ℕ) (b : Bool) → b ≡ eqb (length rest) 0 → b ≡ true → rest ≡ []
 nothing_left [] b is h = refl
-nothing_left (octet ∷ rest) b is h =
-    let none : suc (length rest) ≡ 0 = eqb-true (suc (length rest)) 0 (sym is ∙ h) in
-    absurd (omega (arith, none))
+nothing_left (octet ∷ rest) b is h = grind (arith, common_steps, eqb-true)
 
 pub returns-then-settle-clause-draft : goal.returns-then-settle-clause-draft
 returns-then-settle-clause-draft g c =

@@ -1,4 +1,5 @@
-use Rattle.std.proofs.Common.{◌≡◌, ◌≤◌, List, Some, Bor, length, ◌∙◌, ap, sym, refl, ltb-false}
+use Rattle.std.proofs.Common.{arith, ◌≡◌, ◌≤◌, List, Some, Bor, length, ◌∙◌, ap, sym, refl, ltb-false}
+use Rattle.std.proofs.lemmas.Grind.{common_steps}
 use Rattle.std.specs.Option.{option_map}
 use Rattle.std.specs.List.{slice_get}
 use Rattle.std.specs.Ordering.{nat_cmp}
@@ -43,6 +44,4 @@ returns-clause-value c =
     (here (goal.at.returns-clause-value c).After-page_near-at) c.in_ok-page.page.now (at (goal.at.returns-clause-value c).In_ok-page) c.self.invariant))
 
 pub returns-in-Some-clause-value : goal.returns-in-Some-clause-value
-returns-in-Some-clause-value c =
-    rw (← c.self.view_is, get_in c.args.name.now c.self.inside.list.items c.self.invariant)
-    (sym (rw c.as_slice-pages.ensures.value at c.in-Some.ensures.value))
+returns-in-Some-clause-value c = grind (arith, common_steps, get_in, at)

@@ -1,4 +1,5 @@
-use Rattle.std.proofs.Common.{◌≡◌, ◌++◌, ◌∷◌, [], subst, sym, refl, ap, ◌∙◌, arith, length, rules}
+use Rattle.std.proofs.lemmas.Grind.{common_steps}
+use Rattle.std.proofs.Common.{◌≡◌, ◌++◌, [], subst, sym, refl, ap, ◌∙◌, arith, rules}
 use Rattle.std.specs.FinMap.{entries}
 use Rattle.std.specs.Vec.Iter.{into_iter_items}
 use Rattle.std.proofs.lemmas.Result.{IfOk-weaker}
@@ -23,20 +24,7 @@ loop-page-init c =
     )
 
 pub loop-page-preserved : goal.loop-page-preserved
-loop-page-preserved c =
-    let total = entries c.args.self.now ++ entries_of c.args.rows.now.items in
-    let at = c.loop-page in
-    let page = c.in-Some.page in
-    let steps : into_iter_items at.page-iterator ≡ page ∷ into_iter_items c.next.new.self =
-    c.in-Some.ensures.steps.0 in
-    let before = rw steps at at.invariant.0 in (
-      page_moves total at.self c.merge_page.new.self at.rows.items c.merge_page.new.others.items page
-          (into_iter_items c.next.new.self) before (c.in_ok-merge_page.ensures c.if-not-branch.false),
-      let was = at.invariant.1 in
-          let gone = c.in-Some.ensures.steps.1 in
-          let short = ap length steps in
-          omega arith,
-    )
+loop-page-preserved c = grind (arith, common_steps, page_moves)
 
 pub returns : goal.returns
 returns c =

@@ -1,4 +1,5 @@
-use Rattle.std.proofs.Common.{◌≡◌, List, ℕ, slice_set, ◌∙◌, ap, subst, sym}
+use Rattle.std.proofs.Common.{arith, ◌≡◌, List, ℕ, slice_set, ◌∙◌, ap, subst, sym}
+use Rattle.std.proofs.lemmas.Grind.{common_steps}
 use Rattle.std.specs.Ordering.{nat_cmp}
 use Rattle.std.specs.Cmp.Lexicographic.{slice_cmp}
 use Rattle.std.specs.FinMap.{from_sorted}
@@ -53,10 +54,7 @@ put-requires-clause-room c =
 
 unchanged : (c : In_err-replaced)
     → entries_in (slice_set c.page_with_room.new.pages.items c.in_ok-place.place c.put.new.self) ≡ entries_in c.self.inside.list.items
-unchanged c =
-    kept_found c.name-name.result c.page_with_room.new.pages.items c.in_ok-place.place c.in_ok-place.ensures.place c.index_mut.result.now
-    c.index_mut.ensures.value c.put.new.self c.in_err-replaced.ensures.unchanged_on_error
-    ∙ c.in_ok-place.ensures.rows
+unchanged c = grind (arith, common_steps, kept_found)
 
 pub invariant_of-self-in_err-replaced : goal.invariant_of-self-in_err-replaced
 invariant_of-self-in_err-replaced c =
@@ -71,10 +69,7 @@ returns-in_err-replaced-clause-unchanged_on_error c =
 changed : (c : In_ok-replaced) → IsPageWithRoom c.args.row.name c.page_with_room.new.pages.items c.in_ok-place.place
     → entries_in (slice_set c.page_with_room.new.pages.items c.in_ok-place.place c.put.new.self)
     ≡ put_entry (slice_cmp nat_cmp) c.args.row.name c.args.row.value (entries_in c.self.inside.list.items)
-changed c room =
-    put_found c.args.row.name c.page_with_room.new.pages.items c.in_ok-place.place room
-    c.index_mut.result.now c.index_mut.ensures.value c.args.row.value c.put.new.self (c.in_ok-replaced.ensures.put)
-    ∙ ap (put_entry (slice_cmp nat_cmp) c.args.row.name c.args.row.value) c.in_ok-place.ensures.rows
+changed c room = grind (arith, common_steps, put_found, room)
 
 pub invariant_of-self-2 : goal.invariant_of-self-2
 invariant_of-self-2 c =

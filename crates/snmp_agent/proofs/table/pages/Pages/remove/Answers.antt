@@ -1,4 +1,5 @@
-use Rattle.std.proofs.Common.{◌≡◌, ◌≤◌, None, Some, length, ◌∙◌, ap, sym, refl, ltb-false, is_some}
+use Rattle.std.proofs.Common.{arith, ◌≡◌, ◌≤◌, None, Some, length, ◌∙◌, ap, sym, refl, ltb-false, is_some}
+use Rattle.std.proofs.lemmas.Grind.{common_steps}
 use Rattle.std.specs.List.{slice_get}
 use Rattle.std.specs.FinMap.{get}
 use Rattle.std.proofs.lemmas.Option.{slice_get_read}
@@ -57,13 +58,10 @@ same c =
     (row_removed c.args.name.now page.rows.items c.in-Ok.row (found before.In-Ok))
 
 pub invariant_of-self : goal.invariant_of-self
-invariant_of-self c =
-    sorted_without c.args.name.now (entries_in c.self.inside.list.items) (entries_in c.remove_row.new.pages.items) c.self.invariant (same c)
+invariant_of-self c = grind (arith, common_steps, sorted_without, same)
 
 pub returns-in-Ok-clause-removed : goal.returns-in-Ok-clause-removed
-returns-in-Ok-clause-removed c =
-    rw (← c.self.view_is)
-    (map_removed c.args.name.now (entries_in c.self.inside.list.items) (entries_in c.remove_row.new.pages.items) c.self.invariant (same c))
+returns-in-Ok-clause-removed c = grind (arith, common_steps, map_removed, same)
 
 pub returns-in-Ok-clause-found : goal.returns-in-Ok-clause-found
 returns-in-Ok-clause-found c =

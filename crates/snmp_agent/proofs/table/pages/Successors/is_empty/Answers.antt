@@ -1,5 +1,6 @@
-use Rattle.std.proofs.Common.{◌≡◌, ◌≤◌, ◌++◌, ◌∷◌, [], List, ℕ, length, refl, sym, ◌∙◌, arith, eq-eqb}
-use Rattle.std.proofs.lemmas.Bool.{eqb-true, false≢true}
+use Rattle.std.proofs.lemmas.Grind.{common_steps}
+use Rattle.std.proofs.Common.{◌≡◌, ◌≤◌, ◌++◌, ◌∷◌, [], List, ℕ, length, refl, arith, eq-eqb}
+use Rattle.std.proofs.lemmas.Bool.{eqb-true}
 use Rattle.snmp_wire.specs.Message.{Datum, VarBind}
 use Rattle.snmp_agent.specs.declared.table.page.Page.{Page}
 use Rattle.snmp_agent.specs.table.Pages.{entries_in, entries_of}
@@ -20,18 +21,7 @@ none_left [] (page ∷ pages) e = absurd (page_left page.rows.items (entries_in 
 none_left (row ∷ rows) pages e = let never : ⊥ = cc in absurd never
 
 pub returns-then-is_empty : goal.returns-then-is_empty
-returns-then-is_empty c =
-    let rows = c.self.inside.rows.now in
-    let pages = c.self.inside.pages.now in
-    let no_rows : length rows ≡ 0 = eqb-true (length rows) 0 (sym c.if-is_empty.ensures) in (
-      λ is. sym c.self.view_is ∙ none rows pages no_rows (eqb-true (length pages) 0 (sym c.is_empty-then-is_empty.ensures ∙ is)),
-      λ e. c.is_empty-then-is_empty.ensures ∙ eq-eqb (length pages) 0 (none_left rows pages (c.self.view_is ∙ e)).1,
-    )
+returns-then-is_empty c = grind (arith, common_steps, eqb-true, none, eq-eqb, none_left)
 
 pub returns-else-is_empty : goal.returns-else-is_empty
-returns-else-is_empty c =
-    let rows = c.self.inside.rows.now in
-    let pages = c.self.inside.pages.now in (
-      λ is. absurd (false≢true (sym c.if-is_empty.false ∙ is)),
-      λ e. absurd (false≢true (c.if-is_empty.ensures ∙ eq-eqb (length rows) 0 (none_left rows pages (c.self.view_is ∙ e)).0)),
-    )
+returns-else-is_empty c = grind (arith, common_steps, eq-eqb, none_left)

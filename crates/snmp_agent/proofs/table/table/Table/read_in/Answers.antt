@@ -1,10 +1,10 @@
-use Rattle.std.proofs.Common.{subst, IfOk}
+use Rattle.std.proofs.Common.{arith, subst}
+use Rattle.std.proofs.lemmas.Grind.{common_steps}
 use Rattle.std.specs.Ordering.{nat_cmp}
 use Rattle.std.specs.Cmp.Lexicographic.{slice_cmp}
 use Rattle.std.specs.FinMap.{FinMap, entries}
 use Rattle.std.specs.Str.Lines.{lines}
 use Rattle.snmp_wire.specs.Message.{Datum}
-use Rattle.snmp_agent.specs.declared.table.draft.Draft.{Draft}
 use Rattle.snmp_agent.specs.table.Draft.{HoldsTable, draft_objects}
 use Rattle.snmp_agent.specs.table.Places.{view_of}
 use Rattle.snmp_agent.specs.table.Stated.{IsTableIn}
@@ -16,15 +16,7 @@ use Rattle.snmp_agent.proofs.table.table.Table.read_in.Goals.{In-Ok, in-Err-Agai
 
 held : (g : Over) (c : In-Ok g) → HoldsTable (g.F.LineFormat.format c.args.format.now)
     (lines c.args.text.now) (entries c.in-Ok.draft.rows) (draft_objects c.in-Ok.draft)
-held g c =
-    let read : IfOk c.match-read.read (λ (draft : Draft). HoldsTable
-    (g.F.LineFormat.format c.args.format.now) (lines c.args.text.now) (entries draft.rows)
-    (draft_objects draft)) = elim c.match-read.branch [
-      | in-Err-Again w ↦ rw w.read-is w.read-read.ensures.draft
-      | in_default w ↦ rw w.read-is tt
-      | in_default-2 w ↦ rw w.read-is c.read.ensures.draft
-    ] in
-    rw c.in-Ok.is at read
+held g c = grind (arith, common_steps, in-Err-Again, in_default, in_default-2)
 
 good : (g : Over) (c : In-Ok g) → IsMibView (view_of c.in-Ok.draft.rows (draft_objects c.in-Ok.draft))
 good g c =

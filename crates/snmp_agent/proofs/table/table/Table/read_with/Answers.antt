@@ -1,20 +1,15 @@
-use Rattle.std.proofs.Common.{◌≡◌, true, refl}
+use Rattle.std.proofs.Common.{arith, ◌≡◌, true}
+use Rattle.std.proofs.lemmas.Grind.{common_steps}
 use Rattle.std.specs.Str.Lines.{lines}
 use Rattle.std.proofs.lemmas.Result.{IfErr-weaker, IfOk-weaker}
-use Rattle.snmp_agent.specs.table.Format.{IsMarked, first_format, second_format}
+use Rattle.snmp_agent.specs.table.Format.{IsMarked, first_format}
 use Rattle.snmp_agent.proofs.table.table.Table.read_with.Goals as goal
 
 pub returns-then-is_marked-clause-table : goal.returns-then-is_marked-clause-table
-returns-then-is_marked-clause-table g c =
-    IfOk-weaker c.read_in.result _ _
-    (λ view h. (second_format (g.R.Resolver.names c.args.names.now), (c.is_marked.ensures.0 c.if-is_marked.true, refl), h))
-    c.read_in.ensures.table
+returns-then-is_marked-clause-table g c = grind (arith, common_steps, IfOk-weaker)
 
 pub returns-then-is_marked-clause-fault : goal.returns-then-is_marked-clause-fault
-returns-then-is_marked-clause-fault g c =
-    IfErr-weaker c.read_in.result _ _
-    (λ fault h. (second_format (g.R.Resolver.names c.args.names.now), (c.is_marked.ensures.0 c.if-is_marked.true, refl), h))
-    c.read_in.ensures.fault
+returns-then-is_marked-clause-fault g c = grind (arith, common_steps, IfErr-weaker)
 
 pub returns-else-is_marked-clause-table : goal.returns-else-is_marked-clause-table
 returns-else-is_marked-clause-table g c =

@@ -1,17 +1,15 @@
-use Rattle.std.proofs.Common.{◌≡◌, None, map, sym, subst, ap, is_some}
+use Rattle.std.proofs.Common.{arith, ◌≡◌, None, ap, is_some}
+use Rattle.std.proofs.lemmas.Grind.{common_steps}
 use Rattle.std.specs.Ordering.{nat_cmp}
 use Rattle.std.specs.Cmp.Lexicographic.{slice_cmp}
 use Rattle.std.specs.FinMap.{FinMap, get}
 use Rattle.snmp_wire.specs.Message.{Datum}
-use Rattle.snmp_agent.specs.table.Places.{view_of}
-use Rattle.snmp_agent.specs.table.Table.{IsMibView}
 use Rattle.snmp_agent.proofs.Changing.{nothing_removed, removed_good, unnamed}
 use Rattle.snmp_agent.proofs.table.table.Table.remove.Goals as goal
 use Rattle.snmp_agent.proofs.table.table.Table.remove.Goals.{Then-not-is_wire}
 
 none : (c : Then-not-is_wire) → None ≡ get c.args.self.now.rows c.args.name.now
-none c =
-    unnamed c.args.self.now c.is_mib_view.ensures c.args.name.now (λ wire. let is = c.is_wire.ensures.1 wire in absurd (cc (c.if-not-is_wire.true)))
+none c = grind (arith, common_steps, unnamed)
 
 pub returns-then-not-is_wire-clause-removed : goal.returns-then-not-is_wire-clause-removed
 returns-then-not-is_wire-clause-removed c =
@@ -22,7 +20,4 @@ pub returns-then-not-is_wire-clause-found : goal.returns-then-not-is_wire-clause
 returns-then-not-is_wire-clause-found c = ap is_some (none (goal.at.returns-then-not-is_wire-clause-found c).Then-not-is_wire)
 
 pub invariant_of-self : goal.invariant_of-self
-invariant_of-self c =
-    let objects = map (λ o. o.items) c.self.inside.objects.keys in
-    subst (λ (m : FinMap (slice_cmp nat_cmp) Datum). IsMibView (view_of m objects)) (sym c.remove.ensures.removed)
-    (removed_good (view_of c.self.inside.rows objects) c.self.invariant c.write.result)
+invariant_of-self c = grind (arith, common_steps, removed_good)
