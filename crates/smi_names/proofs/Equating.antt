@@ -14,13 +14,12 @@ use Rattle.smi_names.specs.declared.chains.link.Link.{Link}
 use Rattle.smi_names.specs.declared.chains.resolution.Resolution.{Resolution}
 use Rattle.smi_text.specs.trees.Mark.{same_text}
 use Rattle.smi_text.specs.declared.trees.tree.Module.{Module}
-use Rattle.smi_text.specs.declared.trees.tree.Def.{Def}
 use Rattle.smi_text.specs.declared.trees.tree.Import.{Import}
-use Rattle.smi_names.specs.meaning.Meaning.{QualifiedName, Decision, decision, defined, imported, root, origin, origin_by, origin_in, module_named}
-use Rattle.smi_names.specs.meaning.Scopes.{NamePlaces, Content, content_of, decision_of, place_in, known, decided_as, IsDecided}
+use Rattle.smi_names.specs.meaning.Meaning.{QualifiedName, Decision, decision, imported, origin, origin_by, origin_in, module_named}
+use Rattle.smi_names.specs.meaning.Scopes.{NamePlaces, Content, content_of, place_in, known, decided_as, IsDecided}
 use Rattle.smi_names.specs.meaning.Names.{map_origin, IsSourced}
 use Rattle.smi_names.specs.meaning.Directory.{place_by, place_of_entry, is_entry_of, AreLinks}
-use Rattle.smi_names.specs.meaning.Known.{IsNextOf}
+use Rattle.smi_names.specs.meaning.Known.{content_named}
 use Rattle.smi_names.specs.meaning.Resolved.{IsDirectory, AreResolutions}
 use Rattle.smi_names.specs.declared.meaning.entry.Entry.{Entry}
 use Rattle.smi_names.specs.declared.meaning.directory.Directory.{Directory}
@@ -54,6 +53,36 @@ find_true t (x ∷ ms) m e = by (t x) refl e (λ h. find_true t ms m h)
     by : (b : Bool) → t x ≡ b → cond b (Some x) (find t ms) ≡ Some m → (find t ms ≡ Some m → t m ≡ true) → t m ≡ true
     by true h e ih = let is : x ≡ m = cc in rw (sym is) h
     by false h e ih = ih e
+
+-- what decides a name, by what its place has
+pub record IsDecidedBy (ms : List Module) (a : QualifiedName) (c : Content) : Type 0 where
+  pub named : module_named ms a.home ≡ Some c.home
+  pub by : decision c.home a.name ≡ Some c.decided
+  pub name : c.name ≡ a.name
+  pub home : c.home.name.octets ≡ a.home
+
+pub is_decided : (ms : List Module) (a : QualifiedName) (c : Content) → content_named ms a ≡ Some c → IsDecidedBy ms a c
+is_decided ms a c e = of_module (module_named ms a.home) refl e
+  where
+    content : Module → Decision → Content
+    content m d = record { home = m; name = a.name; decided = d }
+
+    of_decision : (m : Module) → module_named ms a.home ≡ Some m → (d : Option Decision) → decision m a.name ≡ d → decided_as m a.name d ≡ Some c
+        → IsDecidedBy ms a c
+    of_decision m named None by e = absurd (cc)
+    of_decision m named (Some d) by e =
+        let is : record { home = m; name = a.name; decided = d } ≡ c = cc in
+        rw (← is) (record {
+          named = named;
+          by = by;
+          name = refl;
+          home = same m.name.octets a.home (find_true (λ n. same_text n.name.octets a.home) ms m named);
+        })
+
+    of_module : (r : Option Module) → module_named ms a.home ≡ r → option_and_then (λ m. decided_as m a.name (decision m a.name)) r ≡ Some c
+        → IsDecidedBy ms a c
+    of_module None named e = absurd (cc)
+    of_module (Some m) named e = of_decision m named (decision m a.name) refl e
 
 -- what the place of a name has
 pub entry_at : (ms : List Module) (d : Directory) → IsDirectory ms d → (a : QualifiedName)
@@ -89,22 +118,23 @@ entry_at ms d dir a = by (place_in d.homes a.home) refl
         rw (s.1, found.2) (inner m s.0 (dir.named.each i m s.0 at s.1 a.name) (place_in s.0 a.name) refl)
 
 -- where the name at a place leads as an import
-pub next_import : (ms : List Module) (d : Directory) → IsDirectory ms d → (bs : List Link) → AreLinks d d.entries.items bs → (p : ℕ) (c : Content)
+pub import_link : (ms : List Module) (d : Directory) → IsDirectory ms d → (bs : List Link) → AreLinks d d.entries.items bs → (p : ℕ) (c : Content)
     → slice_get (map content_of d.entries.items) p ≡ Some c → (i : Import) → c.decided ≡ imported i
-    → (l : Link) × (slice_get bs p ≡ Some l) × IsNextOf ms (map content_of d.entries.items) c.name c.decided (next_of (origin_of l))
-next_import ms d dir bs are p c there i is = by (slice_get d.entries.items p) refl
+    → (l : Link) × (slice_get bs p ≡ Some l) × (q : ℕ) × (next_of (origin_of l) ≡ Some q)
+    × (slice_get (map content_of d.entries.items) q ≡ content_named ms (record { home = i.source.octets; name = c.name }))
+import_link ms d dir bs are p c there i is = by (slice_get d.entries.items p) refl (sym (slice_get-map content_of d.entries.items p) ∙ there)
   where
-    by : (r : Option Entry) → slice_get d.entries.items p ≡ r
-        → (l : Link) × (slice_get bs p ≡ Some l) × IsNextOf ms (map content_of d.entries.items) c.name c.decided (next_of (origin_of l))
-    by None at = let none = rw at at (slice_get-map content_of d.entries.items p) in absurd (cc)
-    by (Some e) at =
-        let read = rw at at (slice_get-map content_of d.entries.items p) in
+    by : (r : Option Entry) → slice_get d.entries.items p ≡ r → option_map content_of r ≡ Some c
+        → (l : Link) × (slice_get bs p ≡ Some l) × (q : ℕ) × (next_of (origin_of l) ≡ Some q)
+        × (slice_get (map content_of d.entries.items) q ≡ content_named ms (record { home = i.source.octets; name = c.name }))
+    by None at read = absurd (cc)
+    by (Some e) at read =
         let same : content_of e ≡ c = cc in
         let b = get_within bs p (omega (arith, slice_get_within d.entries.items p e at, are.long)) in
         let a : QualifiedName = record { home = i.source.octets; name = e.name.now } in
         let decided : (content_of e).decided ≡ imported i = ap (λ x. x.decided) same ∙ is in
         let leads : origin_of b.0 ≡ after (place_by d a) [] = are.each p e b.0 at b.1 ∙ rw decided refl in
-        (b.0, b.1, rw (sym same, decided, leads) (place_by d a, refl, slice_get-map content_of d.entries.items (place_by d a) ∙ entry_at ms d dir a))
+        rw (sym same) (b.0, b.1, place_by d a, ap next_of leads, slice_get-map content_of d.entries.items (place_by d a) ∙ entry_at ms d dir a)
 
 origin_there : (xs : List Link) (p : ℕ) (b : Link) → slice_get xs p ≡ Some b → origin_at xs p ≡ origin_of b
 origin_there [] p b e = absurd (cc)
@@ -127,20 +157,8 @@ origins ms d dir bs are a = by (slice_get d.entries.items (place_by d a)) refl
         step None e = refl
         step (Some v) e = absurd (cc)
 
-    decides : (e : Entry) (r : Option Module) → ((m : Module) → r ≡ Some m → m.name.octets ≡ a.home)
-        → Some (content_of e) ≡ option_and_then (λ m. decided_as m a.name (decision m a.name)) r
-        → origin_by (place_of_entry e) (Some (content_of e).decided) ≡ origin_in a r
-    decides e None named h = absurd (cc)
-    decides e (Some m) named h = step (decision m a.name) h
-      where
-        step : (v : Option Decision) → Some (content_of e) ≡ decided_as m a.name v → origin_by (place_of_entry e) (Some (content_of e).decided) ≡ origin_by a v
-        step None h = absurd (cc)
-        step (Some v) h =
-            let is : content_of e ≡ record { home = m; name = a.name; decided = v } = cc in
-            let home : e.«module».now.name.octets ≡ a.home = ap (λ x. x.home.name.octets) is ∙ named m refl in
-            let name : e.name.now ≡ a.name = ap (λ x. x.name) is in
-            let decided : (content_of e).decided ≡ v = ap (λ x. x.decided) is in
-            rw (home, name, decided) refl
+    decides : (e : Entry) → Some (content_of e) ≡ content_named ms a → origin_by (place_of_entry e) (Some (content_of e).decided) ≡ origin ms a
+    decides e h = let o = is_decided ms a (content_of e) (sym h) in rw (o.named, o.by, o.home, o.name) refl
 
     by : (r : Option Entry) → slice_get d.entries.items (place_by d a) ≡ r → origin_at bs (place_by d a) ≡ map_origin (place_by d) (origin ms a)
     by None e =
@@ -148,8 +166,7 @@ origins ms d dir bs are a = by (slice_get d.entries.items (place_by d a)) refl
         rw (origin_past (place_by d a) (omega (arith, past_get d.entries.items (place_by d a) e, are.long)), none) refl
     by (Some x) e =
         let b = get_within bs (place_by d a) (omega (arith, slice_get_within d.entries.items (place_by d a) x e, are.long)) in
-        let says = decides x (module_named ms a.home) (λ m h. same m.name.octets a.home (find_true (λ n. same_text n.name.octets a.home) ms m h))
-        (rw e at (entry_at ms d dir a)) in
+        let says = decides x (rw e at (entry_at ms d dir a)) in
         origin_there bs (place_by d a) b.0 b.1 ∙ are.each (place_by d a) x b.0 e b.1 ∙ ap (map_origin (place_by d)) says
 
 -- the origin of an entry's place is that of the entry's name, where its module is the first of its name

@@ -5,48 +5,15 @@ use Rattle.std.proofs.lemmas.Bool.{cases_lt}
 use Rattle.std.proofs.lemmas.Option.{slice_get_past}
 use Rattle.std.specs.List.{slice_get}
 use Rattle.std.specs.Option.{option_and_then, option_map}
-use Rattle.smi_text.specs.trees.Mark.{same_text}
-use Rattle.smi_text.specs.declared.trees.tree.Module.{Module}
 use Rattle.smi_text.specs.declared.trees.tree.Def.{Def}
 use Rattle.smi_text.specs.declared.trees.tree.Import.{Import}
 use Rattle.smi_names.specs.chains.Chain.{HasEnd, ends, leads_on}
 use Rattle.smi_names.specs.chains.Order.{next_at, at_place}
-use Rattle.smi_names.specs.meaning.Meaning.{QualifiedName, Decision, defined, imported, root, decision, module_named}
-use Rattle.smi_names.specs.meaning.Scopes.{Content, decided_as}
-use Rattle.smi_names.specs.meaning.Known.{KnownNames, content_named, IsNextOf}
+use Rattle.smi_names.specs.meaning.Meaning.{QualifiedName, Decision, defined, imported, root, module_named}
+use Rattle.smi_names.specs.meaning.Scopes.{Content}
+use Rattle.smi_names.specs.meaning.Known.{KnownNames, content_named}
 use Rattle.smi_names.specs.meaning.Along.{next_by, decided, next_name, IsOwn, Comes, unknown, of_root, through, at_end, after, IsNext, MeansAt, AreMeant}
-use Rattle.smi_names.proofs.Knowing.{same}
-use Rattle.smi_names.proofs.Equating.{decided_at, find_true}
-
--- what decides a name, by what its place has
-record IsDecided (ms : List Module) (a : QualifiedName) (c : Content) : Type 0 where
-  named : module_named ms a.home ≡ Some c.home
-  by : decision c.home a.name ≡ Some c.decided
-  name : c.name ≡ a.name
-  home : c.home.name.octets ≡ a.home
-
-is_decided : (ms : List Module) (a : QualifiedName) (c : Content) → content_named ms a ≡ Some c → IsDecided ms a c
-is_decided ms a c e = of_module (module_named ms a.home) refl e
-  where
-    content : Module → Decision → Content
-    content m d = record { home = m; name = a.name; decided = d }
-
-    of_decision : (m : Module) → module_named ms a.home ≡ Some m → (d : Option Decision) → decision m a.name ≡ d → decided_as m a.name d ≡ Some c
-        → IsDecided ms a c
-    of_decision m named None by e = absurd (cc)
-    of_decision m named (Some d) by e =
-        let is : record { home = m; name = a.name; decided = d } ≡ c = cc in
-        rw (← is) (record {
-          named = named;
-          by = by;
-          name = refl;
-          home = same m.name.octets a.home (find_true (λ n. same_text n.name.octets a.home) ms m named);
-        })
-
-    of_module : (r : Option Module) → module_named ms a.home ≡ r → option_and_then (λ m. decided_as m a.name (decision m a.name)) r ≡ Some c
-        → IsDecided ms a c
-    of_module None named e = absurd (cc)
-    of_module (Some m) named e = of_decision m named (decision m a.name) refl e
+use Rattle.smi_names.proofs.Equating.{decided_at, is_decided}
 
 module _ (k : KnownNames) (leads : Def → Option (List ℕ)) where
   abbrev Leads : QualifiedName → Option ℕ → Type 0
@@ -86,14 +53,13 @@ module _ (k : KnownNames) (leads : Def → Option (List ℕ)) where
       pub next_root : (n : ℕ) → c.decided ≡ root n → IsNext k leads p None
       next_root n is = λ a named. by_content (root n) is a named
 
-      pub next_import : (i : Import) → c.decided ≡ imported i → (to : Option ℕ) → IsNextOf k.modules k.names c.name c.decided to → IsNext k leads p to
-      next_import i is to next = λ a named.
-          let n = rw is at next in
-          rw n.1 (
-            record { home = i.source.octets; name = a.name },
-            by_content (imported i) is a named,
-            n.2 ∙ ap (λ x. content_named k.modules (record { home = i.source.octets; name = x })) ((is_decided k.modules a c (sym named ∙ there)).name),
-          )
+      pub next_import : (i : Import) → c.decided ≡ imported i → (q : ℕ)
+          → slice_get k.names q ≡ content_named k.modules (record { home = i.source.octets; name = c.name }) → IsNext k leads p (Some q)
+      next_import i is q at = λ a named. (
+        record { home = i.source.octets; name = a.name },
+        by_content (imported i) is a named,
+        at ∙ ap (λ x. content_named k.modules (record { home = i.source.octets; name = x })) ((is_decided k.modules a c (sym named ∙ there)).name),
+      )
 
       pub next_last : (d : Def) → c.decided ≡ defined d → None ≡ leads d → IsNext k leads p None
       next_last d is none = λ a named. by_content (defined d) is a named ∙ rw (← none) refl

@@ -6,9 +6,8 @@ use Rattle.std.specs.List.{slice_get}
 use Rattle.std.specs.Option.{option_and_then}
 use Rattle.smi_names.specs.chains.Link.{origin_of}
 use Rattle.smi_names.specs.declared.chains.link.Link.{Link}
-use Rattle.smi_text.specs.declared.trees.tree.Import.{Import}
-use Rattle.smi_names.specs.meaning.Meaning.{QualifiedName, imported, origin_by}
-use Rattle.smi_names.specs.meaning.Scopes.{content_of, decision_of, place_in}
+use Rattle.smi_names.specs.meaning.Meaning.{QualifiedName, origin_by}
+use Rattle.smi_names.specs.meaning.Scopes.{content_of, place_in}
 use Rattle.smi_names.specs.meaning.Names.{place_of_name, map_origin}
 use Rattle.smi_names.specs.declared.meaning.entry.Entry.{Entry}
 use Rattle.smi_names.specs.declared.meaning.directory.Directory.{Directory}

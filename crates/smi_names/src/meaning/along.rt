@@ -110,7 +110,7 @@ impl<'s, 'a> Entries<'s, 'a> {
                 Some(name) => Some(self.place(entry.module.name.as_bytes(), name.as_bytes())),
                 None => None,
             },
-            Decider::Import(_) => self.import(place),
+            Decider::Import(_) => self.links.get(place)?.next(),
             Decider::Root(_) => None,
         }
     }

@@ -1,14 +1,14 @@
 //! The names of modules by their places.
 ghost use Rattle.std.specs.Prelude.{◌≡◌, Some, length, option_map};
 ghost use Rattle.std.specs.List.{slice_get};
-ghost use Rattle.smi_names.specs.meaning.Scopes.{Content, content_of};
+ghost use Rattle.smi_names.specs.meaning.Scopes.{content_of};
 ghost use Rattle.smi_names.specs.meaning.Names.{IsSourced};
-ghost use Rattle.smi_names.specs.meaning.Known.{content_named, IsNextOf};
+ghost use Rattle.smi_names.specs.meaning.Known.{content_named};
 ghost use Rattle.smi_names.specs.declared.meaning.entry.Entry.{Entry};
 
 use crate::chains::Link;
 use crate::meaning::directory::Directory;
-use crate::meaning::entry::{Decider, Entry};
+use crate::meaning::entry::Entry;
 use smi_text::Module;
 use std::marker::Model;
 
@@ -56,20 +56,6 @@ impl<'s, 'a> Entries<'s, 'a> {
             ≡ content_named self.now.modules (record { home = home.now; name = name.now }) }
     {
         self.directory.place(home, name)
-    }
-
-    /// The place to which the import at a place leads: that of the same name in the module after
-    /// FROM, the one past the last if it has no meaning there. None if the name at the place is no
-    /// import.
-    pub fn import(&self, place: usize) -> Option<usize>
-        ensures { (c : Content) → slice_get self.now.names place ≡ Some c
-            → IsNextOf self.now.modules self.now.names c.name c.decided result }
-    {
-        let entry = self.get(place)?;
-        match entry.decider {
-            Decider::Import(_) => self.links.get(place)?.next(),
-            Decider::Definition(_) | Decider::Root(_) => None,
-        }
     }
 
     /// The name at a place.
