@@ -1,5 +1,6 @@
 -- Datagrams in one piece of memory.
-use Rattle.std.proofs.Common.{◌≡◌, ℕ, zero, suc, ◌+◌, ◌-◌, ◌≤◌, List, [], ◌∷◌, ◌++◌, length, take, drop, refl, ◌∙◌, ap, arith, Some, length-drop}
+use Rattle.std.proofs.lemmas.Grind.{common_steps}
+use Rattle.std.proofs.Common.{◌≡◌, ℕ, zero, suc, ◌+◌, ◌-◌, ◌≤◌, List, [], ◌∷◌, ◌++◌, length, refl, ◌∙◌, ap, arith, Some, length-drop}
 use Rattle.std.proofs.lemmas.List.{take-append-le, drop-append-le, take_all, map-append}
 use Rattle.std.proofs.Math.Seq.{drop-append_seam}
 use Rattle.std.proofs.lemmas.List.Elements.{All-head, All-tail}
@@ -14,10 +15,7 @@ abbrev Within : List ℕ → Span → Type 0
 Within octets s = s.start + s.len ≤ length octets
 
 cut_at-append : (octets more : List ℕ) (s : Span) → Within octets s → cut_at (octets ++ more) s ≡ cut_at octets s
-cut_at-append octets more s h =
-    let front : drop s.start (octets ++ more) ≡ drop s.start octets ++ more = drop-append-le s.start octets more (omega (arith, h)) in
-    let long : s.len ≤ length (drop s.start octets) = omega (arith, h, length-drop s.start octets) in
-    ap (take s.len) front ∙ take-append-le s.len (drop s.start octets) more long
+cut_at-append octets more s h = grind (arith, common_steps, drop-append-le, length-drop, take-append-le)
 
 cut-append : (octets more : List ℕ) (spans : List Span) → All (Within octets) spans → cut (octets ++ more) spans ≡ cut octets spans
 cut-append octets more [] h = refl
@@ -28,12 +26,7 @@ cut-append octets more (s ∷ spans) h =
 
 pub cut-push : (octets more : List ℕ) (spans : List Span) (s : Span) → All (Within octets) spans → s.start ≡ length octets → s.len ≡ length more
     → cut (octets ++ more) (spans ++ s ∷ []) ≡ cut octets spans ++ more ∷ []
-cut-push octets more spans s h start len =
-    let last : cut_at (octets ++ more) s ≡ more =
-    ap (λ (n : ℕ). take s.len (drop n (octets ++ more))) start ∙ ap (take s.len) (drop-append_seam octets more) ∙ ap (λ (n : ℕ). take n more) len
-    ∙ take_all (length more) more (omega arith) in
-    map-append (cut_at (octets ++ more)) spans (s ∷ []) ∙ ap (λ (r : List (List ℕ)). r ++ cut_at (octets ++ more) s ∷ []) (cut-append octets more spans h)
-    ∙ ap (λ (d : List ℕ). cut octets spans ++ d ∷ []) last
+cut-push octets more spans s h start len = grind (arith, common_steps, drop-append_seam, take_all, map-append, cut-append)
 
 pub numbered : (sent : List (List ℕ)) (number : ℕ) → 1 ≤ number → datagram_at sent number ≡ slice_get sent (number - 1)
 numbered sent zero h = let no : 1 ≤ 0 = h in absurd (omega (arith, no))

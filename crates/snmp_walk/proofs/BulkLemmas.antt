@@ -1,4 +1,5 @@
 -- What a GetBulk of one name is given: each binding is the answer to a GetNext of the name before it.
+use Rattle.std.proofs.lemmas.Grind.{common_steps}
 use Rattle.std.proofs.Common.{◌≡◌, ◌≢◌, ◌⊎◌, inl, inr, true, false, ℕ, zero, suc, ◌<◌, ◌≤◌, ℤ, pos, negsuc, ◌≤ℤ◌, List, [], ◌∷◌, ◌++◌, length, take}
 use Rattle.std.proofs.Common.{drop, refl, sym, ◌∙◌, ap, subst, arith, length-append, append_assoc}
 use Rattle.std.specs.Prelude.{unsigned_abs, ◌||◌}
@@ -75,9 +76,7 @@ module _ (codec : Codec) (view : MibView) (good : IsMibView view) where
 
   next_behind : (asked : List ℕ) (i : ℕ) (o : List ℕ) (p : VarBind) → IsBehind asked i o → IsNextAfter view i asked p → IsNext view o p
   next_behind asked zero o p at h = subst (λ (n : List ℕ). IsNext view n p) (sym at) h
-  next_behind asked (suc i) o p at h =
-      let same : h.0 ≡ at.0 = one_after i asked h.0 at.0 h.1 at.1 in
-      subst (λ (n : List ℕ). IsNext view n p) (ap (λ (r : VarBind). r.name) same ∙ at.2) h.2
+  next_behind asked (suc i) o p at h = grind (arith, common_steps, one_after)
 
   -- rounds of one name are a chain
   chained : (asked : List ℕ) (repetitions : ℕ) (rounds : List (List VarBind)) → AreRounds view repetitions (asked_of asked) rounds

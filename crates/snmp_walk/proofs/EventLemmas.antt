@@ -1,5 +1,6 @@
 -- What happens at a link as a request is tried over it.
-use Rattle.std.proofs.Common.{◌≡◌, inl, inr, ℕ, List, [], ◌∷◌, ◌++◌, length, refl, sym, subst}
+use Rattle.std.proofs.Common.{arith, ◌≡◌, inl, inr, ℕ, List, [], ◌∷◌, ◌++◌, length, refl, sym, subst}
+use Rattle.std.proofs.lemmas.Grind.{common_steps}
 use Rattle.snmp_agent.specs.Event.{Event, came, silence, receive_failed, sent, send_failed}
 use Rattle.snmp_walk.specs.Link.{OneOf, Outcome}
 use Rattle.snmp_walk.specs.Link as outcome
@@ -23,14 +24,7 @@ module _ {L : Type 0} (facts : LinkFacts L) (q : List ℕ) where
   grows_none old = ([], refl, λ d one. absurd one)
 
   pub grows_on : (old between new : L) → Grows old between → Grows between new → Grows old new
-  grows_on old between new a b = (
-    a.0 ++ b.0,
-    in_turn-append (Happens facts) a.0 b.0 old between new a.1 b.1,
-    λ d one. elim (one_append (tried a.0) (tried b.0) d (subst (λ (ds : List (List ℕ)). OneOf ds d) (tried-append a.0 b.0) one)) [
-      | inl o ↦ a.2 d o
-      | inr o ↦ b.2 d o
-    ],
-  )
+  grows_on old between new a b = grind (arith, common_steps, in_turn-append, one_append, tried-append)
 
   brought : (old new : L) (d : List ℕ) → Brings facts old d new → Grows old new
   brought old new d h = (came tt d ∷ [], (new, h.0, refl), λ e one. absurd one)

@@ -1,4 +1,5 @@
 -- The front of a reply that a walk gives, read binding by binding, is the one that the rules name.
+use Rattle.std.proofs.lemmas.Grind.{common_steps}
 use Rattle.std.proofs.Common.{◌≡◌, ℕ, suc, ◌+◌, Bool, true, false, cond, List, [], ◌∷◌, length, take, refl, sym, ◌∙◌, ap, subst, arith}
 use Rattle.snmp_walk.proofs.TrailLemmas.{fronts_by}
 use Rattle.std.proofs.lemmas.Bool.{le-ltb, lt-ltb}
@@ -26,12 +27,7 @@ longer (falling name) b rows inside more h = (omega (arith, h.0), h.1)
 -- one more row in front of what was read
 more_rows : (last : List ℕ) (before : ℕ) (b : VarBind) (more inside rows : List VarBind) (front : ReadFront)
     → IsReadAs b.name (before + 1) more inside rows front → IsReadAs last before (b ∷ more) (b ∷ inside) (b ∷ rows) front
-more_rows last before b more inside rows front h = record {
-  count = omega (arith, h.count);
-  taken = ap (λ (s : List VarBind). b ∷ s) h.taken;
-  name = h.name;
-  ends = longer front.after b rows inside more h.ends;
-}
+more_rows last before b more inside rows front h = grind (arith, common_steps, longer)
 
 pub front_read : (root last : List ℕ) (before : ℕ) (bindings : List VarBind) → IsFrontOf root last before bindings (front_from root last before bindings)
 front_read root last before bindings =
@@ -51,11 +47,7 @@ pub reads_by : (w : Walker) (bindings inside rows : List VarBind) (e : After) �
     → (cond (nat_lt (length rows) (length inside)) (stops w rows (walk_end.NotIncreasing (last_name w.asked rows) (name_at inside (length rows))))
     (cond (nat_lt (length rows) (length bindings)) (closes w rows) (goes_on w phase.Rows rows)))
     ≡ reads_as e w rows
-reads_by w bindings inside rows nothing h = rw (
-  le-ltb (length rows) (length inside) (omega (arith, h.0)),
-  le-ltb (length rows) (length bindings) (omega
-      (arith, h.1)),
-)
+reads_by w bindings inside rows nothing h = grind (arith, common_steps, le-ltb)
 reads_by w bindings inside rows leaving h = rw (le-ltb (length rows) (length inside) (omega (arith, h.0)), lt-ltb (length rows) (length bindings) h.1)
 reads_by w bindings inside rows (falling name) h = rw (lt-ltb (length rows) (length inside) h.0, h.1)
 
@@ -77,15 +69,7 @@ reads_next_by w (b ∷ more) front some fine h =
 -- of no bindings nothing is read
 none_read : (root asked : List ℕ) (bindings : List VarBind) (front : ReadFront) → bindings ≡ [] → IsFrontOf root asked 0 bindings front
     → (front.rows ≡ 0) × (front.after ≡ nothing)
-none_read root asked bindings front none h = of_none (subst (λ (bs : List VarBind). IsFrontOf root asked 0 bs front) none h)
-  where
-    by_end : (e : After) → EndsAs e [] [] [] → e ≡ nothing
-    by_end nothing h = refl
-    by_end leaving h = absurd (omega (arith, h.1))
-    by_end (falling name) h = absurd (omega (arith, h.0))
-
-    of_none : IsFrontOf root asked 0 [] front → (front.rows ≡ 0) × (front.after ≡ nothing)
-    of_none h = (omega (arith, h.count), by_end front.after h.ends)
+none_read root asked bindings front none h = grind (arith, common_steps)
 
 pub front_is : (root last : List ℕ) (before : ℕ) (bindings : List VarBind) (front : ReadFront) → front_from root last before bindings ≡ front
     → IsFrontOf root last before bindings front
@@ -123,9 +107,7 @@ module _ (root asked last : List ℕ) (rows : ℕ) (b : VarBind) (all left more 
       front_is root asked 0 all (read_front front last b.name) (read ∙ ap (λ (f : Front). read_front f last b.name) (sym same))
 
   pub front_goes : (now : List ℕ) → now ≡ b.name → e ≡ ending.GoesOn → front_from root asked 0 all ≡ front_from root now (rows + 1) more
-  front_goes now at on =
-      so_far ∙ ap (front_from root last rows) is ∙ goes_by root last rows b more (is_inside root b) (comes_after last b.name) e end_is on
-      ∙ ap (λ (o : List ℕ). front_from root o (rows + 1) more) (sym at)
+  front_goes now at on = grind (arith, common_steps, goes_by)
 
 -- nothing is left
 pub front_done : (root asked last name : List ℕ) (rows : ℕ) (all left : List VarBind) → front_from root asked 0 all ≡ front_from root last rows left
@@ -137,39 +119,18 @@ front_done root asked last name rows all left so_far none =
 module _ (w : Walker) (bindings : List VarBind) (front : ReadFront) (fine : is_misplaced (asked_for w.method) bindings ≡ false)
     (h : IsFrontOf w.root w.asked 0 bindings front) where
   pub read_leaving : front.after ≡ leaving → reads_next w bindings ≡ closes w (take front.rows bindings)
-  read_leaving e =
-      reads_next_by w bindings front (λ none. let no : ⊥ = cc (sym e ∙ (none_read w.root w.asked bindings front none h).1) in no) fine h
-      ∙ ap (λ (a : After). reads_as a w (take front.rows bindings)) e
+  read_leaving e = grind (arith, common_steps, reads_next_by, none_read)
 
   pub read_going : front.after ≡ nothing → (front.rows ≡ 0 → ⊥) → reads_next w bindings ≡ goes_on w phase.Rows (take front.rows bindings)
-  read_going e some =
-      reads_next_by w bindings front (λ none. some (none_read w.root w.asked bindings front none h).0) fine h
-      ∙ ap (λ (a : After). reads_as a w (take front.rows bindings)) e
+  read_going e some = grind (arith, common_steps, reads_next_by, none_read)
 
   pub read_falling : (name last : List ℕ) → front.after ≡ falling name → last ≡ front.last
       → reads_next w bindings ≡ stops w (take front.rows bindings) (walk_end.NotIncreasing last name)
-  read_falling name last e at =
-      reads_next_by w bindings front (λ none. let no : ⊥ = cc (sym e ∙ (none_read w.root w.asked bindings front none h).1) in no) fine h
-      ∙ ap (λ (a : After). reads_as a w (take front.rows bindings)) e
-      ∙ ap (λ (n : List ℕ). stops w (take front.rows bindings) (walk_end.NotIncreasing n name))
-      (ap (last_name w.asked) (front_taken w.asked bindings _ _ front h) ∙ sym (at ∙ h.name))
+  read_falling name last e at = grind (arith, common_steps, reads_next_by, none_read, front_taken)
 
   pub read_empty : (last : List ℕ) → front.after ≡ nothing → front.rows ≡ 0 → last ≡ front.last
       → reads_next w bindings ≡ stops w (take front.rows bindings) (walk_end.NoProgress last)
-  read_empty last e none at = by_bindings bindings h
-    where
-      by_end : (bs : List VarBind) (rows : List VarBind) (e : After) → e ≡ nothing → EndsAs e rows (inside_front w.root bs) bs → length rows ≡ length bs
-      by_end bs rows nothing same k = k.1
-      by_end bs rows _ same k = absurd cc
-
-      by_bindings : (bs : List VarBind) → IsFrontOf w.root w.asked 0 bs front → reads_next w bs ≡ stops w (take front.rows bs) (walk_end.NoProgress last)
-      by_bindings [] k =
-          let name : w.asked ≡ last = sym (at ∙ k.name) in
-          ap (λ (n : List ℕ). stops w [] (walk_end.NoProgress n)) name
-          ∙ ap (λ (s : List VarBind). stops w s (walk_end.NoProgress last)) (ap (λ (n : ℕ). take n []) (sym none))
-      by_bindings (b ∷ more) k =
-          let long = by_end (b ∷ more) (rising_front w.asked (inside_front w.root (b ∷ more))) front.after e k.ends in
-          absurd (omega (arith, long, k.count, none))
+  read_empty last e none at = grind (arith, common_steps)
 
 -- a reply with bindings out of place
 pub none_misplaced : (room : ℕ) → is_misplaced room [] ≡ false

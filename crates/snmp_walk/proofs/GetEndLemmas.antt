@@ -1,11 +1,11 @@
 -- How a Get ends, and what its bindings and its end are to the names that it asked for.
-use Rattle.std.proofs.Common.{◌≡◌, ◌≢◌, ◌⊎◌, inl, inr, ◌++◌, ◌<◌, ℕ, pos, Bool, true, false, cond, List, [], ◌∷◌, length, map, Result, Ok, Err, refl}
+use Rattle.std.proofs.lemmas.Grind.{common_steps}
+use Rattle.std.proofs.Common.{◌≡◌, ◌≢◌, ◌⊎◌, inl, inr, ◌++◌, ◌<◌, ℕ, Bool, true, false, List, [], ◌∷◌, length, map, Result, Ok, Err, refl}
 use Rattle.std.proofs.Common.{sym, ◌∙◌, ap, subst, append_assoc, append-nil, length-append, arith}
 use Rattle.std.proofs.lemmas.Bool.{eqb-true, false≢true}
 use Rattle.std.proofs.lemmas.Bool.Decides.{Decides-and, Decides-not, Decides-like, Decides-int_eq}
 use Rattle.std.specs.Prelude.{not, ◌&&◌, ◌==◌}
 use Rattle.std.specs.Bool.{nat_eq, Decides}
-use Rattle.std.specs.Ordering.{int_eq}
 use Rattle.std.proofs.lemmas.List.{map-append, nil_from_length}
 use Rattle.std.specs.Cmp.Lexicographic.{pointwise, bytes_decides}
 use Rattle.snmp_oid.specs.Identifier.{wire}
@@ -28,10 +28,7 @@ use Rattle.snmp_walk.proofs.TestLemmas.{end_decided}
 -- whether bindings are for names
 pub for_more : (o : List ℕ) (names : List (List ℕ)) (p : VarBind) (more : List VarBind)
     → ((p.name ≡ wire o) × (p.value ≡ end_of_mib_view → ⊥)) × AreFor names more → AreFor (o ∷ names) (p ∷ more)
-for_more o names p more h = record {
-  named = ap (λ (n : List ℕ). n ∷ map wire names) (sym h.0.0) ∙ ap (λ (ns : List (List ℕ)). p.name ∷ ns) h.1.named;
-  values = λ q one end. elim one [ inl same ↦ h.0.1 (ap (λ (x : VarBind). x.value) (sym same) ∙ end) | inr later ↦ h.1.values q later end ];
-}
+for_more o names p more h = grind (arith, common_steps)
 
 for_fewer : (o : List ℕ) (names : List (List ℕ)) (p : VarBind) (more : List VarBind) → AreFor (o ∷ names) (p ∷ more)
     → ((p.name ≡ wire o) × (p.value ≡ end_of_mib_view → ⊥)) × AreFor names more
@@ -55,13 +52,7 @@ for_decided names bindings = ((λ e. absurd (false≢true e)), (λ h. let named 
 
 -- what a reply brings is what it means
 pub means_to_get : (names : List (List ℕ)) (m : Message) → MeansToGet names m (answers_of names m)
-means_to_get names m = by_cases (int_eq m.a (pos 0)) (are_for names m.bindings) (Decides-int_eq m.a (pos 0)) (for_decided names m.bindings)
-  where
-    by_cases : (b c : Bool) → Decides b (m.a ≡ pos 0) → Decides c (AreFor names m.bindings)
-        → MeansToGet names m (cond b (cond c (Ok m.bindings) (Err ending.BadReply)) (Err (ending.Fault m.a m.b)))
-    by_cases true true status are = (status.0 refl, are.0 refl, refl)
-    by_cases true false status are = inr (status.0 refl, (λ h. false≢true (are.1 h)), refl)
-    by_cases false c status are = inl ((λ h. false≢true (status.1 h)), refl)
+means_to_get names m = grind (arith, common_steps, Decides-int_eq, for_decided)
 
 -- how a Get may end over any link
 abbrev pub MayEnd : Message → List (List ℕ) → WalkEnd → Type 0

@@ -1,4 +1,5 @@
 -- What a Get gives over an honest link, and when it is done.
+use Rattle.std.proofs.lemmas.Grind.{common_steps}
 use Rattle.std.proofs.Common.{◌≡◌, ◌≢◌, ◌⊎◌, inl, inr, ℕ, ◌<◌, ◌≤◌, List, [], ◌∷◌, ◌++◌, length}
 use Rattle.std.proofs.Common.{take, refl, sym, ◌∙◌, ap, subst, arith, pos, append-nil, Option}
 use Rattle.std.proofs.lemmas.List.{length-take}
@@ -87,30 +88,16 @@ module _ (agents : Agents) (lawful : AreLawful agents) (community : List ℕ) (i
   from_response : (view : MibView) (m : Message) → IsResponse view agents.max_size Request m
       → (GivesAll view m × Fits agents.max_size m) ⊎ IsBigReply view m
   from_response view m (whole is fits) = inl (from_whole view m is, fits)
-  from_response view m (shortened large is no_fit e) =
-      let all = from_whole view large is in
-      inr (e, (all.0, all.1, λ fits. no_fit (subst (Fits agents.max_size) (sym all.2) fits)))
+  from_response view m (shortened large is no_fit e) = grind (arith, common_steps, from_whole)
   from_response view m (bulk all bindings k asked longest e) = let no : ⊥ = cc in absurd no
 
   -- a reply without an error brings what Gets of the names give, and one with an error is tooBig
   brought_all : (view : MibView) (m : Message) → IsResponse view agents.max_size Request m → m.a ≡ pos 0 → AreGot view names m.bindings
-  brought_all view m is status = elim (from_response view m is) [
-    | inl h ↦ subst (AreGot view names) (sym (ap (λ (x : Message). x.bindings) h.0.2)) h.0.1
-    | inr h ↦ let one : pos 1 ≡ pos 0 = sym (ap (λ (x : Message). x.a) h.0) ∙ status in let no : ⊥ = cc in absurd no
-  ]
+  brought_all view m is status = grind (arith, common_steps, from_response)
 
   brought_end : (view : MibView) → OneOf agents.tables view → (m : Message) → IsResponse view agents.max_size Request m → (end : WalkEnd)
       → MeansToGet names m (Err end) → (end ≡ ending.Fault (pos 1) (pos 0)) × IsBigReply view m
-  brought_end view one m is end means = elim (from_response view m is) [
-    | inl h ↦ absurd (elim means [
-      | inl failed ↦ failed.0 (ap (λ (x : Message). x.a) h.0.2)
-      | inr other ↦ other.1 (subst (AreFor names) (sym (ap (λ (x : Message). x.bindings) h.0.2)) (for_got view (good_view view one) names h.0.0 h.0.1))
-    ])
-    | inr h ↦ elim means [
-      | inl failed ↦ (failed.1 ∙ ap (λ (x : Message). ending.Fault x.a x.b) h.0, h)
-      | inr other ↦ let one : pos 1 ≡ pos 0 = sym (ap (λ (x : Message). x.a) h.0) ∙ other.0 in let no : ⊥ = cc in absurd no
-    ]
-  ]
+  brought_end view one m is end means = grind (arith, common_steps, from_response, for_got, good_view)
 
   response_fits : HasRoomForGet agents Request names → (view : MibView) → OneOf agents.tables view → (m : Message)
       → IsResponse view agents.max_size Request m → Fits agents.max_size m
@@ -283,8 +270,7 @@ module _ {W S : Type 0} (facts : LinkFacts W) (link : W) (tries : ℕ) (communit
 
   -- nothing was sent
   sent_none : (end : WalkEnd) → (end ≡ ending.NoResponse → ⊥) → (names ≢ [] → end ≢ ending.RequestTooLong → ⊥) → Sent link end
-  sent_none end heard unsent keeps =
-      (0, omega arith, sym (append-nil (facts.traffic link).sent), λ silent. absurd (heard silent), λ named fits fine. absurd (unsent named fits))
+  sent_none end heard unsent keeps = grind (arith, common_steps, append-nil)
 
   moved_none : (end : WalkEnd) → (end ≡ ending.Link → ⊥) → (names ≢ [] → end ≢ ending.RequestTooLong → ⊥) → HasMoved link end
   moved_none end fine unsent =
@@ -292,12 +278,7 @@ module _ {W S : Type 0} (facts : LinkFacts W) (link : W) (tries : ℕ) (communit
 
   -- without names
   nothing_got : (agents : Agents) → names ≡ [] → GotFacts agents Asked names [] [] (ending.Done 0)
-  nothing_got agents none = record {
-    beginning = λ view all one are. ([], none_got view names all none are);
-    all_at_done = λ view all one are done. sym (none_got view names all none are);
-    ends = sym (ap length none);
-    done_unless_lost = λ room. tt;
-  }
+  nothing_got agents none = grind (arith, common_steps, none_got)
 
   pub got_none : names ≡ [] → IsOver link before (ending.Done 0)
   got_none none = record {

@@ -1,10 +1,10 @@
 -- What a Get asks, name by name, and what its reply is for.
-use Rattle.std.proofs.Common.{◌≡◌, cond, ℕ, ◌+◌, ◌<◌, ◌≤◌, Bool, true, false, List, [], ◌∷◌, ◌++◌, length, take, drop, get_or, refl, sym, ◌∙◌, ap}
+use Rattle.std.proofs.lemmas.Grind.{common_steps, flat_map-append}
+use Rattle.std.proofs.Common.{◌≡◌, ℕ, ◌+◌, ◌<◌, ◌≤◌, Bool, true, false, List, [], ◌∷◌, ◌++◌, length, take, drop, get_or, refl, sym, ◌∙◌, ap}
 use Rattle.std.proofs.Common.{arith, length-append, append-nil, add-one, drop-cons}
 use Rattle.std.proofs.lemmas.Bool.{and_parts}
-use Rattle.std.proofs.lemmas.Grind.{flat_map-append}
 use Rattle.std.proofs.lemmas.List.{take_all, take-append-drop, take_more, map-append}
-use Rattle.std.specs.Prelude.{◌&&◌, not, pos, Ok, Err}
+use Rattle.std.specs.Prelude.{◌&&◌, not, pos, Ok}
 use Rattle.std.specs.Bool.{nat_eq}
 use Rattle.std.specs.Cmp.Lexicographic.{pointwise}
 use Rattle.snmp_oid.specs.Identifier.{wire}
@@ -16,7 +16,6 @@ use Rattle.std.specs.List.{AllByRecursion}
 use Rattle.snmp_wire.specs.Canon.{canon, canon_binding, canon_bindings, canon_fields, canon_front, canon_head, canon_opening}
 use Rattle.snmp_walk.specs.Names.{is_end}
 use Rattle.snmp_walk.specs.Get.{asked_names, are_for, answers_of}
-use Rattle.snmp_walk.specs.declared.end.WalkEnd.TheVariants as ending
 use Rattle.std.specs.Ordering.{int_eq}
 
 -- the test of one binding
@@ -61,10 +60,7 @@ head_of m total = refl
 module _ (law : HasPieces) (m bare : Message) (same : bare ≡ record m { bindings = [] }) where
   pub pieces_of : (total : ℕ) (text : List ℕ) → total ≡ length (canon_bindings m.bindings) → text ≡ canon_bindings m.bindings
       → canon_head bare total ++ text ≡ canon m
-  pieces_of total text long is =
-      let head : canon_head bare total ≡ canon_head m (length (canon_bindings m.bindings)) =
-      ap (λ (x : Message). canon_head x total) same ∙ head_of m total ∙ ap (canon_head m) long in
-      ap (λ (h : List ℕ). h ++ text) head ∙ ap (λ (t : List ℕ). canon_head m (length (canon_bindings m.bindings)) ++ t) is ∙ sym (law m)
+  pieces_of total text long is = grind (arith, common_steps, head_of)
 
   pub size_of : (total : ℕ) → total ≡ length (canon_bindings m.bindings) → length (canon_head bare total) + total ≡ length (canon m)
   size_of total long =
@@ -100,7 +96,4 @@ range_more names i o h e here front = rw (take_more names i o h, ← e, map-appe
 pub answered_all : (names : List (List ℕ)) (m : Message) (rows : List VarBind) → int_eq m.a (pos 0) ≡ true → are_for names m.bindings ≡ true
     → rows ≡ take (length names) m.bindings
     → Ok rows ≡ answers_of names m
-answered_all names m rows status are is =
-    let whole : rows ≡ m.bindings = is ∙ taken_whole names m.bindings are in
-    sym (ap (λ (b : Bool). cond b (cond (are_for names m.bindings) (Ok m.bindings) (Err ending.BadReply)) (Err (ending.Fault m.a m.b))) status
-    ∙ ap (λ (b : Bool). cond b (Ok m.bindings) (Err ending.BadReply)) are ∙ ap Ok (sym whole))
+answered_all names m rows status are is = grind (arith, common_steps, taken_whole)

@@ -1,5 +1,6 @@
 -- An agent's reply to a Get is awaited, and is its Response.
-use Rattle.std.proofs.Common.{◌≡◌, inl, inr, ℕ, true, List, [], ◌++◌, replicate, refl, sym, subst}
+use Rattle.std.proofs.Common.{arith, ◌≡◌, inl, inr, ℕ, true, List, [], ◌++◌, replicate, refl, sym, subst}
+use Rattle.std.proofs.lemmas.Grind.{common_steps}
 use Rattle.snmp_wire.specs.declared.kind.Kind.TheVariants as kind
 use Rattle.snmp_wire.specs.Message.{Message}
 use Rattle.snmp_wire.specs.Canon.{canon}
@@ -30,8 +31,7 @@ module _ (codec : Codec) (community : List ℕ) (id : ℕ) (names : List (List �
 
   answered : (agents : Agents) → AreLawful agents → (octets : List ℕ) → IsReplyFrom agents (canon Asked) octets
       → IsAnsweredBy codec Asked ranged no_set agents octets
-  answered agents lawful octets h =
-      answered_by codec Asked ranged no_set agents lawful (λ view good all bindings k. let no : ⊥ = cc in absurd no) octets h
+  answered agents lawful octets h = grind (arith, common_steps, answered_by, no_set)
 
   -- a message that it spells is the Response of one of the agents
   pub response_of : (agents : Agents) → AreLawful agents → (m : Message) (d : List ℕ) → Spells m d → IsReplyFrom agents (canon Asked) d

@@ -1,16 +1,16 @@
 -- An agent's reply to the waiting request is an honest one.
+use Rattle.std.proofs.lemmas.Grind.{common_steps}
 use Rattle.std.proofs.Common.{◌≡◌, ◌≢◌, ◌≤ℤ◌, ◌⊎◌, inl, inr, ℕ, ◌^◌, ◌<◌, ◌≤◌, List, [], ◌∷◌, ◌++◌, length, refl, sym, ◌∙◌, ap, subst, arith, ℤ, pos}
 use Rattle.std.proofs.Common.{length-append, append-nil, true, false}
 use Rattle.std.proofs.lemmas.List.{nil_from_length}
 use Rattle.std.specs.Prelude.{FitsSigned, unsigned_abs}
 use Rattle.std.specs.Int.{w32}
 use Rattle.std.specs.List.{AllByRecursion, list_any}
-use Rattle.snmp_oid.specs.Identifier.{IsIdentifier, IsWire}
 use Rattle.snmp_wire.specs.declared.kind.Kind.TheVariants as kind
 use Rattle.snmp_wire.specs.Message.{Datum, VarBind, Message, octet_string, null_value, ip_address, opaque_octets, no_such_object, no_such_instance}
 use Rattle.snmp_wire.specs.Message.{end_of_mib_view}
 use Rattle.snmp_wire.specs.Spelling.{Spells}
-use Rattle.snmp_wire.specs.Canon.{canon, canon_bindings, canon_head}
+use Rattle.snmp_wire.specs.Canon.{canon, canon_bindings}
 use Rattle.snmp_wire.specs.Range.{IsInRange, IsBindingInRange, IsMessageInRange}
 use Rattle.snmp_walk.specs.Codec.{Codec}
 use Rattle.snmp_agent.specs.table.Table.{MibView, IsInstanceValue, IsMibView, IsGet, variable, unknown_object, unknown_instance, IsNext, successor}
@@ -46,15 +46,7 @@ repetitions_fit phase.Rows (method.Bulk r) h = h
 repetitions_fit p m h = fits_from 0 (omega arith)
 
 pub request_in_range : (w : Walker) → IsWalker w → IsMessageInRange (request_of w)
-request_in_range w good = record {
-  version = fits_from 1 (omega arith);
-  community = (good.octets, omega (arith, good.community));
-  id = fits_from w.id good.id;
-  a = fits_from 0 (omega arith);
-  b = repetitions_fit w.phase w.method good.repetitions;
-  bindings = (record { name = (good.asked, good.identifier); value = tt }, tt);
-  total = omega (arith, name_short w.asked good.identifier.short);
-}
+request_in_range w good = grind (arith, common_steps, fits_from, repetitions_fit, name_short)
 
 value_in_range : (v : Datum) → IsInstanceValue v → IsInRange v
 value_in_range (octet_string s) h = (h.1, h.0)
@@ -67,16 +59,12 @@ value_in_range end_of_mib_view h = tt
 value_in_range v h = h
 
 get_in_range : (view : MibView) → IsMibView view → (asked p : VarBind) → IsBindingInRange asked → IsGet view asked.name p → IsBindingInRange p
-get_in_range view good asked p h (variable e row) = record {
-  name = subst (λ (n : List ℕ). IsWire n × IsIdentifier n) (sym e) h.name;
-  value = value_in_range p.value (good.values p row);
-}
+get_in_range view good asked p h (variable e row) = grind (arith, common_steps, value_in_range)
 get_in_range view good asked p h (unknown_object none unknown is) = subst IsBindingInRange (sym is) (record { name = h.name; value = tt })
 get_in_range view good asked p h (unknown_instance none has is) = subst IsBindingInRange (sym is) (record { name = h.name; value = tt })
 
 next_in_range : (view : MibView) → IsMibView view → (asked p : VarBind) → IsBindingInRange asked → IsNext view asked.name p → IsBindingInRange p
-next_in_range view good asked p h (successor s) =
-    let name = good.names p s.row in record { name = (name.wire, name.identifier); value = value_in_range p.value (good.values p s.row) }
+next_in_range view good asked p h (successor s) = grind (arith, common_steps, value_in_range)
 next_in_range view good asked p h (end_of_view none is) = subst IsBindingInRange (sym is) (record { name = h.name; value = tt })
 
 -- each of a chain of answers
@@ -95,8 +83,7 @@ answers_in_range R each asked bindings h are = absurd are
 
 -- a message of at most so many octets has no more of bindings
 bindings_within : Codec → (m : Message) (n : ℕ) → length (canon m) ≤ n → length (canon_bindings m.bindings) ≤ n
-bindings_within codec m n h =
-    omega (arith, h, ap length (codec.pieces m), length-append (canon_head m (length (canon_bindings m.bindings))) (canon_bindings m.bindings))
+bindings_within codec m n h = grind (arith, common_steps, length-append)
 
 -- a request that isn't a Set, and the Responses to it
 module _ (codec : Codec) (q : Message) (ranged : IsMessageInRange q) (no_set : q.kind ≡ kind.SetRequest → ⊥) where

@@ -1,5 +1,6 @@
 -- A view's variables are a list by rising names, and what the view answers is read off it.
-use Rattle.std.proofs.Common.{◌≡◌, inl, inr, ℕ, T, Bool, true, false, List, [], ◌∷◌, map, refl, sym, ◌∙◌, ap, subst, Some, None}
+use Rattle.std.proofs.Common.{arith, ◌≡◌, inl, inr, ℕ, T, Bool, true, false, List, [], ◌∷◌, map, refl, sym, ◌∙◌, ap, subst, Some, None}
+use Rattle.std.proofs.lemmas.Grind.{common_steps}
 use Rattle.std.proofs.lemmas.Bool.{false≢true, and_parts, false_from_ne_true, cond-true, cond-false, cond_both}
 use Rattle.std.specs.Prelude.{filter}
 use Rattle.std.specs.Bool.{nat_eq}
@@ -71,8 +72,7 @@ kept test p (q ∷ rows) i =
 
 pub keeps : (test : VarBind → Bool) (p : VarBind) (rows : List VarBind) → test p ≡ true → OneOf rows p → OneOf (filter test rows) p
 keeps test p [] h i = absurd i
-keeps test p (q ∷ rows) h (inl same) =
-    cond_both (test q) _ _ (λ s. OneOf s p) (λ _. inl same) (λ f. absurd (false≢true (sym f ∙ ap test (sym same) ∙ h)))
+keeps test p (q ∷ rows) h (inl same) = grind (arith, common_steps, cond_both)
 keeps test p (q ∷ rows) h (inr i) = let later = keeps test p rows h i in cond_both (test q) _ _ (λ s. OneOf s p) (λ _. inr later) (λ _. later)
 
 -- by the test, one name precedes the other
@@ -102,9 +102,7 @@ no_tie q x after = false_from_ne_true (eq_by_cmp (slice_cmp nat_cmp) q x) (λ ti
 in_found : (p : VarBind) (es : List (List ℕ × Datum)) → is_sorted (slice_cmp nat_cmp) es ≡ true → OneOf (map binding_of es) p
     → find (slice_cmp nat_cmp) p.name es ≡ Some p.value
 in_found p [] h i = absurd i
-in_found p (e ∷ es) h (inl same) =
-    let tie : eq_by_cmp (slice_cmp nat_cmp) p.name e.0 ≡ true = ap (λ (b : VarBind). eq_by_cmp (slice_cmp nat_cmp) b.name e.0) same ∙ tie_self e.0 in
-    cond-true _ (Some e.1) (find (slice_cmp nat_cmp) p.name es) tie ∙ ap (λ (b : VarBind). Some b.value) (sym same)
+in_found p (e ∷ es) h (inl same) = grind (arith, common_steps, tie_self, cond-true)
 in_found p (e ∷ es) h (inr i) =
     let parts = and_parts (below_all (slice_cmp nat_cmp) e.0 es) (is_sorted (slice_cmp nat_cmp) es) h in
     let after = one_after e.0 (map binding_of es) p (after_entries e.0 es parts.0) i in
@@ -156,8 +154,7 @@ module _ (view : MibView) (good : IsMibView view) where
 
   -- a row that comes after a name is among those that do, and each of these is one
   behind_row : Codec → (o : List ℕ) (q : VarBind) → OneOf (rows_after o (variables view)) q → IsRow view q × Precedes o q.name
-  behind_row codec o q i =
-      let h = kept (λ row. comes_after o row.name) q (variables view) i in (in_row q h.0, codec.less o q.name (less_from_after o q.name h.1))
+  behind_row codec o q i = grind (arith, common_steps, kept, in_row, less_from_after)
 
   row_behind : (o : List ℕ) (p : VarBind) → IsSuccessor view o p → OneOf (rows_after o (variables view)) p
   row_behind o p s = keeps (λ row. comes_after o row.name) p (variables view) (ap is_lt (less_precedes o p.name s.behind)) (row_in p s.row)
@@ -186,11 +183,7 @@ module _ (view : MibView) (good : IsMibView view) where
 
   -- a Get has one answer
   pub get_one : (o : List ℕ) (p q : VarBind) → IsGet view o p → IsGet view o q → p ≡ q
-  get_one o p q (variable e row) (variable f row_q) =
-      let same : p.name ≡ q.name = e ∙ sym f in
-      let value : Some p.value ≡ Some q.value = sym row ∙ ap (get view.rows) same ∙ row_q in
-      let v : p.value ≡ q.value = cc in
-      ap (λ (n : List ℕ). binding_of (n, p.value)) same ∙ ap (λ (d : Datum). binding_of (q.name, d)) v
+  get_one o p q (variable e row) (variable f row_q) = grind (arith, common_steps)
   get_one o p q (variable e row) (unknown_object none unknown is) = absurd (row_none o p e row none)
   get_one o p q (variable e row) (unknown_instance none has is) = absurd (row_none o p e row none)
   get_one o p q (unknown_object none unknown is) (variable f row) = absurd (row_none o q f row none)
@@ -204,8 +197,6 @@ module _ (view : MibView) (good : IsMibView view) where
   absent_row o none = none_named o (variables view) (λ p i e. row_none o p e (in_row p i) none)
 
   pub get_row : (o : List ℕ) (p : VarBind) → IsGet view o p → if_present p ≡ rows_named o (variables view)
-  get_row o p (variable e row) =
-      cond-false _ [] (p ∷ []) (value_no_miss p.value (good.values p row)) ∙ sym (one_named p (variables view) variables_rise (row_in p row))
-      ∙ ap (λ (n : List ℕ). rows_named n (variables view)) e
+  get_row o p (variable e row) = grind (arith, common_steps, cond-false, value_no_miss, one_named, variables_rise, row_in)
   get_row o p (unknown_object none unknown is) = ap if_present is ∙ sym (absent_row o none)
   get_row o p (unknown_instance none has is) = ap if_present is ∙ sym (absent_row o none)

@@ -1,4 +1,5 @@
 -- What the rules say of a message, one by one, is what `take_of` computes.
+use Rattle.std.proofs.lemmas.Grind.{common_steps}
 use Rattle.std.proofs.Common.{◌≡◌, ◌⊎◌, inl, inr, ℕ, ◌+◌, ◌<◌, Bool, true, false, cond, List, [], ◌∷◌, ◌++◌, length, refl, sym, ◌∙◌, ap, subst, arith}
 use Rattle.std.proofs.Common.{append-nil, length-append, pos, Option, Some, None, ◌↔◌}
 use Rattle.std.proofs.lemmas.Bool.{false≢true, false_from_ne_true}
@@ -66,9 +67,7 @@ pub not_response : (community : List ℕ) (id : ℕ) (m : Message) → awaits co
 not_response community id m e is = false≢true (sym e ∙ (response_to_decided community id m).1 is)
 
 awaited_decided : (w : Walker) (m : Message) → Decides (is_awaited w m) (IsAwaitedReply w m)
-awaited_decided w m =
-    let parts = Decides-and (not (is_over w.phase)) (awaits w.community w.id m) (waits_decided w.phase) (response_to_decided w.community w.id m) in
-    ((λ e. let h = parts.0 e in record { waits = h.0; response = h.1 }), (λ h. parts.1 (h.waits, h.response)))
+awaited_decided w m = grind (arith, common_steps, Decides-and, waits_decided, response_to_decided)
 
 any_decided : (bindings : List VarBind)
     → Decides (list_any (λ p. is_missing p.value) bindings) ((b : VarBind) × OneOf bindings b × IsMissing b)
@@ -80,20 +79,10 @@ any_decided (b ∷ more) =
 
 misplaced_decided : (w : Walker) (bindings : List VarBind)
     → Decides (nat_lt (asked_for w.method) (length bindings) || list_any (λ p. is_missing p.value) bindings) (AreMisplaced w bindings)
-misplaced_decided w bindings =
-    Decides-or (nat_lt (asked_for w.method) (length bindings)) _ (Decides-ltb (asked_for w.method) (length bindings)) (any_decided bindings)
+misplaced_decided w bindings = grind (arith, common_steps, Decides-or, Decides-ltb, any_decided)
 
 nothing_decided : (w : Walker) (rows : List VarBind) → Decides (is_plain w.mode && (w.count + length rows == 0)) (GivesNothing w rows)
-nothing_decided w rows =
-    let parts = Decides-and (is_plain w.mode) (w.count + length rows == 0) (plain_decided w.mode) (Decides-eqb (w.count + length rows) 0) in (
-      (λ e. let h = parts.0 e in let sum : w.count + length rows ≡ 0 = h.1 in record {
-        plain = h.0;
-        before = omega (arith, sum);
-        now = nil_from_length rows (omega (arith, sum));
-      }),
-      (λ h. let before : w.count ≡ 0 = h.before in let none : length rows ≡ 0 = ap length h.now in
-          parts.1 (h.plain, omega (arith, before, none))),
-    )
+nothing_decided w rows = grind (arith, common_steps, Decides-and, plain_decided, Decides-eqb, nil_from_length)
 
 -- the reply to a Get
 got_parts : (asked : List ℕ) (b : VarBind) → Decides (pointwise nat_eq b.name asked && not (is_end b.value)) (IsGot asked (b ∷ []) b)
@@ -107,13 +96,7 @@ got_decides : (asked : List ℕ) (bindings : List VarBind)
     → ((b : VarBind) × (got asked bindings ≡ Some b) × IsGot asked bindings b)
     ⊎ ((got asked bindings ≡ None) × ((b : VarBind) → IsGot asked bindings b → ⊥))
 got_decides asked [] = inr (refl, λ c h. let alone = h.alone in cc)
-got_decides asked (b ∷ []) = by_test _ (got_parts asked b)
-  where
-    by_test : (t : Bool) → Decides t (IsGot asked (b ∷ []) b)
-        → ((c : VarBind) × (cond t (Some b) None ≡ Some c) × IsGot asked (b ∷ []) c)
-        ⊎ ((cond t (Some b) None ≡ None) × ((c : VarBind) → IsGot asked (b ∷ []) c → ⊥))
-    by_test true d = inl (b, refl, d.0 refl)
-    by_test false d = inr (refl, λ c h. let alone = h.alone in let same : c ≡ b = cc in false≢true (d.1 (subst (IsGot asked (b ∷ [])) same h)))
+got_decides asked (b ∷ []) = grind (arith, common_steps, got_parts)
 got_decides asked (b ∷ d ∷ more) = inr (refl, λ c h. let alone = h.alone in cc)
 
 -- what stands after the rows of a reply: nothing, or a binding that ends them
@@ -132,8 +115,7 @@ name_there (c ∷ rows) more b = name_there rows more b
 
 inside_next : (root : List ℕ) (b : VarBind) (more : List VarBind) (t : Bool) → is_inside root b ≡ t
     → inside_front root (b ∷ more) ≡ cond t (b ∷ inside_front root more) []
-inside_next root b more t e =
-    take_while-cons (is_inside root) b more ∙ ap (λ (x : Bool). cond x (b ∷ inside_front root more) []) e
+inside_next root b more t e = grind (arith, common_steps, take_while-cons)
 
 -- the order of names, as the standard has it
 module _ (precedes : (o p : List ℕ) → slice_cmp nat_cmp o p ≡ Less → Precedes o p) where
@@ -155,10 +137,7 @@ module _ (precedes : (o p : List ℕ) → slice_cmp nat_cmp o p ≡ Less → Pre
   -- how a reply is read whose bindings are rows and others
   read_by : (w : Walker) (rows rest inside : List VarBind) (e : After) → AreRowsFrom w.root w.asked rows → inside_front w.root rest ≡ inside
       → rising_front (last_name w.asked rows) inside ≡ [] → EndsAs e rows (rows ++ inside) (rows ++ rest) → reads w (rows ++ rest) ≡ reads_as e w rows
-  read_by w rows rest inside e h is none ends =
-      let all : inside_front w.root (rows ++ rest) ≡ rows ++ inside = rw (inside_rows w.root w.asked rows rest h, is) in
-      let rise : rising_front w.asked (rows ++ inside) ≡ rows = rw (rising_rows w.root w.asked rows inside h, none, append-nil) in
-      rw (all, rise) (reads_by w (rows ++ rest) (rows ++ inside) rows e ends)
+  read_by w rows rest inside e h is none ends = grind (arith, common_steps, inside_rows, rising_rows, append-nil, reads_by)
 
   read_cut : (w : Walker) (rows rest : List VarBind) → AreRowsFrom w.root w.asked rows → (c : IsCut w.root (last_name w.asked rows) rest)
       → reads w (rows ++ rest) ≡ reads_as (after_cut w.root (last_name w.asked rows) rest c) w rows

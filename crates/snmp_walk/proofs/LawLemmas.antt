@@ -1,4 +1,5 @@
 -- What the lists of a walk hold, and what is left of them after a name.
+use Rattle.std.proofs.lemmas.Grind.{common_steps}
 use Rattle.std.proofs.Common.{◌≡◌, inl, inr, ℕ, ◌≤◌, Bool, true, false, cond, List, [], ◌∷◌, ◌++◌, length, refl, sym, ◌∙◌, ap, subst, arith}
 use Rattle.std.proofs.lemmas.Bool.{cond_both, false≢true, false_from_ne_true}
 use Rattle.std.specs.Prelude.{filter}
@@ -53,8 +54,7 @@ left_after p [] more h = rw (after-irrefl p.name) (all_after p.name more h.0)
 left_after p (q ∷ front) more h = rw (not_before q.name p.name (one_after q.name (front ++ p ∷ more) p h.0 (one_there p front more))) (left_after p front more h.1)
 
 left_of : (rows : List VarBind) (p : VarBind) (front more : List VarBind) → AreRising rows → rows ≡ front ++ p ∷ more → more ≡ rows_after p.name rows
-left_of rows p front more h e =
-    sym (ap (rows_after p.name) e ∙ left_after p front more (subst AreRising e h))
+left_of rows p front more h e = grind (arith, common_steps, left_after)
 
 -- rows after a name, of those after an earlier one
 later_rows : (o p : List ℕ) (rows : List VarBind) → comes_after o p ≡ true → rows_after p (rows_after o rows) ≡ rows_after p rows
@@ -91,13 +91,10 @@ module _ (view : MibView) (good : IsMibView view) (root : List ℕ) where
   rest_rise o = rising_kept (λ row. comes_after o row.name) Below below_rise
 
   pub is_row_below : (p : VarBind) → OneOf Below p → IsRow view p × IsBelow p.name root
-  is_row_below p i =
-      let h = kept (λ row. is_below row.name root) p (variables view) i in
-      (in_row view good p h.0, below_from_test root p.name h.1)
+  is_row_below p i = grind (arith, common_steps, kept, in_row, below_from_test)
 
   pub has_row_below : (p : VarBind) → IsRow view p × IsBelow p.name root → OneOf Below p
-  has_row_below p h =
-      keeps (λ row. is_below row.name root) p (variables view) (test_from_below root p.name h.1) (row_in view good p h.0)
+  has_row_below p h = grind (arith, common_steps, keeps, test_from_below, row_in)
 
   module _ (precedes : (o p : List ℕ) → slice_cmp nat_cmp o p ≡ Less → Precedes o p) where
     precedes_after : (o p : List ℕ) → comes_after o p ≡ true → Precedes o p
@@ -140,11 +137,7 @@ module _ (view : MibView) (good : IsMibView view) (root : List ℕ) where
   rest_named : (got p : VarBind) (front more : List VarBind) (b : Bool) → got.name ≡ wire root → cond b [] (got ∷ []) ++ Below ≡ front ++ p ∷ more
       → more ≡ rest_of root p.name (variables view)
   rest_named got p front more true name e = rest_below p front more e
-  rest_named got p [] more false name e =
-      let first : got ≡ p = cc in
-      let rest : Below ≡ more = cc in
-      let at : wire root ≡ p.name = sym name ∙ ap (λ (b : VarBind). b.name) first in
-      sym rest ∙ sym (rest_from_wire root (variables view) (variables_are view good)) ∙ ap (λ (o : List ℕ). rest_of root o (variables view)) at
+  rest_named got p [] more false name e = grind (arith, common_steps, rest_from_wire, variables_are)
   rest_named got p (q ∷ front) more false name e = let rest : Below ≡ front ++ p ∷ more = cc in rest_below p front more rest
 
   module _ (got : VarBind) (is_got : IsGet view (wire root) got) where

@@ -1,4 +1,5 @@
 -- What an honest link brings as a request is tried over it: its own reply, or others, which lose it.
+use Rattle.std.proofs.lemmas.Grind.{common_steps}
 use Rattle.std.proofs.Common.{◌≡◌, ◌≢◌, ◌⊎◌, inl, inr, ℕ, zero, suc, ◌+◌, ◌<◌, List, [], ◌∷◌, ◌++◌, length, replicate, refl, sym, ◌∙◌, ap, subst}
 use Rattle.std.proofs.Common.{arith, append-nil, Option, Some, None}
 use Rattle.std.specs.List.{slice_get}
@@ -43,10 +44,7 @@ latest_is (d ∷ e ∷ sent) q = latest_is (e ∷ sent) q
 module _ (agents : Agents) (Other : List ℕ → Type 0) (q : List ℕ) where
   -- a request that is sent again is no other
   asked_on : (n : ℕ) (sent : List (List ℕ)) → IsAsked agents Other q sent → IsAsked agents Other q (sent ++ replicate n q)
-  asked_on n sent a = record {
-    own = a.own;
-    others = λ d one. elim (one_append sent (replicate n q) d one) [ inl h ↦ a.others d h | inr same ↦ inl (one_same n q d same) ];
-  }
+  asked_on n sent a = grind (arith, common_steps, one_append, one_same)
 
   -- how the deliveries lose so many tries of the request, the first of which has received `count` others
   abbrev Loses : List (List ℕ) → List (Option ℕ) → (tries count : ℕ) → List (Option ℕ) → Type 0
@@ -122,11 +120,7 @@ module _ {L : Type 0} (facts : LinkFacts L) (keeping : (link : L) → facts.hone
     pub sent_is : (facts.traffic link).sent ≡ sent
 
   serves_on : {sent more : List (List ℕ)} {n : ℕ} (old new : L) → Serves sent old → IsMoved facts old more n ⊥ new → Serves (sent ++ more) new
-  serves_on {sent} {more} old new s m = record {
-    honest = m.honest s.honest;
-    agents_are = m.agents ∙ s.agents_are;
-    sent_is = sent_all (λ f. f) (m.sent (keeping old s.honest)) ∙ ap (λ (x : List (List ℕ)). x ++ more) s.sent_is;
-  }
+  serves_on {sent} {more} old new s m = grind (arith, common_steps, sent_all)
 
   module _ (sent : List (List ℕ)) (last : latest sent ≡ Some q) (asked : IsAsked agents Other q sent) where
     still_serves : {n : ℕ} (old new : L) → Serves sent old → IsMoved facts old [] n ⊥ new → Serves sent new

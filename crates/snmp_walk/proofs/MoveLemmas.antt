@@ -1,5 +1,6 @@
 -- Moves of a link, one after another.
-use Rattle.std.proofs.Common.{◌≡◌, ℕ, zero, suc, ◌+◌, ◌*◌, ◌≤◌, List, [], ◌∷◌, ◌++◌, length, replicate, refl, sym, ◌∙◌, ap, subst, arith, Option}
+use Rattle.std.proofs.lemmas.Grind.{common_steps}
+use Rattle.std.proofs.Common.{◌≡◌, ℕ, zero, suc, ◌+◌, ◌*◌, ◌≤◌, List, [], ◌∷◌, ◌++◌, length, replicate, sym, ◌∙◌, ap, subst, arith, Option}
 use Rattle.std.proofs.Common.{append-nil, append_assoc, length-append}
 use Rattle.std.proofs.lemmas.List.{nil_from_length}
 use Rattle.std.specs.Prelude.{false, true}
@@ -22,26 +23,17 @@ pub nil_front : {X : Type 0} (front left : List X) → [] ≡ front ++ left → 
 nil_front front left e = nil_from_length front (omega (arith, ap length e, length-append front left))
 
 pub sent_nothing : (failed : Type 0) {before after : List (List ℕ)} → after ≡ before → AreSent [] failed before after
-sent_nothing failed {before} e =
-    record { front = []; left = []; parts = refl; sent = e ∙ sym (append-nil before); all = λ fine. refl; but_one = omega arith }
+sent_nothing failed {before} e = grind (arith, common_steps, append-nil)
 
 pub sent_all : {tried before after : List (List ℕ)} {failed : Type 0} → (failed → ⊥) → AreSent tried failed before after → after ≡ before ++ tried
-sent_all {tried} {before} fine h =
-    h.sent ∙ ap (λ (s : List (List ℕ)). before ++ s) (sym (h.parts ∙ ap (λ (s : List (List ℕ)). h.front ++ s) (h.all fine) ∙ append-nil h.front))
+sent_all {tried} {before} fine h = grind (arith, common_steps, append-nil)
 
 pub sent_none : {before after : List (List ℕ)} {failed : Type 0} → AreSent [] failed before after → after ≡ before
 sent_none {before} h = h.sent ∙ ap (λ (s : List (List ℕ)). before ++ s) (nil_front h.front h.left h.parts) ∙ append-nil before
 
 sent_more : (tried more before between after : List (List ℕ)) (failed : Type 0) → between ≡ before ++ tried → AreSent more failed between after
     → AreSent (tried ++ more) failed before after
-sent_more tried more before between after failed e h = record {
-  front = tried ++ h.front;
-  left = h.left;
-  parts = ap (λ (s : List (List ℕ)). tried ++ s) h.parts ∙ sym (append_assoc tried h.front h.left);
-  sent = h.sent ∙ ap (λ (s : List (List ℕ)). s ++ h.front) e ∙ append_assoc before tried h.front;
-  all = h.all;
-  but_one = h.but_one;
-}
+sent_more tried more before between after failed e h = grind (arith, common_steps, append_assoc)
 
 pub ok_fine : false ≡ true → ⊥
 ok_fine e = cc
@@ -66,16 +58,7 @@ by_equal R s t o p e f h = subst (λ (x : ℕ). R x p) e (subst (R s) f h)
 module _ {W : Type 0} (facts : LinkFacts W) where
   -- a link that stays as it is
   pub moves_none : (link : W) → IsMoved facts link [] 0 ⊥ link
-  moves_none link = record {
-    keeps = λ k. k;
-    honest = λ h. h;
-    agents = refl;
-    sent = λ k. sent_nothing ⊥ refl;
-    used = λ h. ([], refl, omega arith);
-    count = λ fine. refl;
-    fault = λ f. absurd f;
-    ready = λ s o r. (λ f. f, by_equal (facts.ready link) (s + 0) s (o + 0) o (omega arith) (omega arith) r);
-  }
+  moves_none link = grind (arith, common_steps, sent_nothing, by_equal)
 
   -- one that moved twice, the first time without a fault
   pub moves_on : {old between new : W} {tried more : List (List ℕ)} {k l : ℕ} {failed : Type 0} → IsMoved facts old tried k ⊥ between
@@ -97,18 +80,7 @@ module _ {W : Type 0} (facts : LinkFacts W) where
   -- the same, with more receives, where its failure is said in other words
   pub moves_as : {old new : W} {tried : List (List ℕ)} {m n : ℕ} {failed other : Type 0} → m ≤ n → (failed → other) → (other → failed)
       → IsMoved facts old tried m failed new → IsMoved facts old tried n other new
-  moves_as few there back m = record {
-    keeps = m.keeps;
-    honest = m.honest;
-    agents = m.agents;
-    sent = λ k.
-        let s = m.sent k in
-        record { front = s.front; left = s.left; parts = s.parts; sent = s.sent; all = λ fine. s.all (λ f. fine (there f)); but_one = s.but_one };
-    used = λ h. let u = m.used h in (u.0, u.1, omega (arith, u.2, few));
-    count = λ fine. m.count (λ f. fine (there f));
-    fault = λ f. m.fault (back f);
-    ready = λ s o r. let left = m.ready s o r in (λ f. left.0 (back f), left.1);
-  }
+  moves_as few there back m = grind (arith, common_steps)
 
   pub went : {old new : W} {tried : List (List ℕ)} {m n : ℕ} {failed : Type 0} → m ≤ n → (failed → ⊥) → IsMoved facts old tried m failed new
       → IsMoved facts old tried n ⊥ new
@@ -118,13 +90,4 @@ module _ {W : Type 0} (facts : LinkFacts W) where
   pub received : {old new : W} {n : ℕ} {failed : Type 0} → 65507 ≤ n
       → Moves facts.keeps facts.honest facts.agents facts.traffic facts.fault_count (λ link s o. (65507 ≤ n) × facts.ready link s o) old [] 1 failed new
       → IsMoved facts old [] 1 failed new
-  received long m = record {
-    keeps = m.keeps;
-    honest = m.honest;
-    agents = m.agents;
-    sent = m.sent;
-    used = m.used;
-    count = m.count;
-    fault = m.fault;
-    ready = λ s o r. let left = m.ready s o (long, r) in (left.0, left.1.1);
-  }
+  received long m = grind (arith, common_steps)

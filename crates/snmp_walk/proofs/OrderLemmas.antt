@@ -1,4 +1,5 @@
 -- The order of names, and that those below a root lie together in it.
+use Rattle.std.proofs.lemmas.Grind.{common_steps}
 use Rattle.std.proofs.Common.{
   append-nil,
   append_assoc,
@@ -27,7 +28,7 @@ use Rattle.std.proofs.Common.{
 }
 use Rattle.std.proofs.lemmas.Bool.{false≢true, false_from_ne_true}
 use Rattle.std.specs.Ordering.{nat_cmp, is_lt, ordering_then}
-use Rattle.std.specs.Cmp.{ranked, nat_cmp_is, tied_itself}
+use Rattle.std.specs.Cmp.{tied_itself}
 use Rattle.std.specs.Cmp.Lexicographic.{slice_cmp, nat_list_cmp_total}
 use Rattle.std.specs.declared.cmp.Ordering.{Ordering}
 use Rattle.std.specs.declared.cmp.Ordering.TheVariants.{Less, Equal, Greater}
@@ -54,9 +55,7 @@ not_after o p r a b = false_from_ne_true (comes_after p r) (λ c. let both : com
 
 -- equal first numbers
 pub same_first : (x : ℕ) (o p : List ℕ) → slice_cmp nat_cmp (x ∷ o) (x ∷ p) ≡ slice_cmp nat_cmp o p
-same_first x o p =
-    let same : Equal ≡ nat_cmp x x = nat_cmp_is x x Equal refl in
-    ap (λ (r : Ordering). ordering_then r (slice_cmp nat_cmp o p)) (sym same)
+same_first x o p = grind (arith, common_steps)
 
 pub less_longer : (o rest : List ℕ) → (rest ≡ [] → ⊥) → slice_cmp nat_cmp o (o ++ rest) ≡ Less
 less_longer [] [] some = absurd (some refl)
@@ -64,17 +63,12 @@ less_longer [] (m ∷ rest) some = refl
 less_longer (n ∷ o) rest some = same_first n o (o ++ rest) ∙ less_longer o rest some
 
 less_parts : (front : List ℕ) (n m : ℕ) (after behind : List ℕ) → n < m → slice_cmp nat_cmp (front ++ n ∷ after) (front ++ m ∷ behind) ≡ Less
-less_parts [] n m after behind h =
-    let first : Less ≡ nat_cmp n m = nat_cmp_is n m Less h in
-    ap (λ (r : Ordering). ordering_then r (slice_cmp nat_cmp after behind)) (sym first)
+less_parts [] n m after behind h = grind (arith, common_steps)
 less_parts (k ∷ front) n m after behind h = same_first k (front ++ n ∷ after) (front ++ m ∷ behind) ∙ less_parts front n m after behind h
 
 pub less_precedes : (o p : List ℕ) → Precedes o p → slice_cmp nat_cmp o p ≡ Less
 less_precedes o p (inl h) = subst (λ (q : List ℕ). slice_cmp nat_cmp o q ≡ Less) (sym h.2) (less_longer o h.0 h.1)
-less_precedes o p (inr h) =
-    subst (λ (q : List ℕ). slice_cmp nat_cmp q p ≡ Less) (sym h.this)
-    (subst (λ (q : List ℕ). slice_cmp nat_cmp (h.front ++ h.smaller ∷ h.after) q ≡ Less) (sym h.that)
-    (less_parts h.front h.smaller h.larger h.after h.behind h.is_smaller))
+less_precedes o p (inr h) = grind (arith, common_steps, less_parts)
 
 not_less_none : (o : List ℕ) → slice_cmp nat_cmp o [] ≡ Less → ⊥
 not_less_none [] e = cc
@@ -86,12 +80,8 @@ below_first x o root h = (h.0, h.1, ap (λ (s : List ℕ). x ∷ s) h.2)
 -- numbers that differ decide
 gap_first : (x y : ℕ) (a c : Ordering) (r : Ordering) → r ≡ nat_cmp x y → ordering_then r a ≡ Less → ordering_then (nat_cmp y x) c ≡ Less
     → (x ≡ y) × (a ≡ Less) × (c ≡ Less)
-gap_first x y a c Less e h k =
-    let greater : Greater ≡ nat_cmp y x = nat_cmp_is y x Greater (ranked x y Less e) in
-    absurd cc
-gap_first x y a c Equal e h k =
-    let same : Equal ≡ nat_cmp y x = nat_cmp_is y x Equal (sym (ranked x y Equal e)) in
-    (ranked x y Equal e, h, ap (λ (r : Ordering). ordering_then r c) same ∙ k)
+gap_first x y a c Less e h k = grind (arith, common_steps)
+gap_first x y a c Equal e h k = grind (arith, common_steps)
 gap_first x y a c Greater e h k = absurd cc
 
 -- A name below the root stands behind no name that stands behind one of the subtree and isn't below the root.
@@ -105,27 +95,17 @@ behind_gap (x ∷ root) s (y ∷ p) rest h out k =
 
 -- the same of the tests, o being the root or below it
 pub outside_after : (root s p q : List ℕ) → comes_after (root ++ s) p ≡ true → is_below p root ≡ false → comes_after p q ≡ true → is_below q root ≡ false
-outside_after root s p q a out b =
-    false_from_ne_true (is_below q root) (λ below.
-    let h = below_from_test root q below in
-    let not_below : IsBelow p root → ⊥ = λ k. let t : is_below p root ≡ true = test_from_below root p k in cc in
-    behind_gap root s p h.0 (less_from_after (root ++ s) p a) not_below (subst (λ (n : List ℕ). slice_cmp nat_cmp p n ≡ Less) h.2 (less_from_after p q b)))
+outside_after root s p q a out b = grind (arith, common_steps, false_from_ne_true, below_from_test, test_from_below, behind_gap, less_from_after)
 
 zero_first : (x : ℕ) (o p : List ℕ) → slice_cmp nat_cmp o p ≡ Less → slice_cmp nat_cmp (0 ∷ o) (x ∷ p) ≡ Less
 zero_first zero o p h = same_first 0 o p ∙ h
-zero_first (suc x) o p h =
-    let smaller : Less ≡ nat_cmp 0 (suc x) = nat_cmp_is 0 (suc x) Less (omega arith) in
-    ap (λ (r : Ordering). ordering_then r (slice_cmp nat_cmp o p)) (sym smaller)
+zero_first (suc x) o p h = grind (arith, common_steps)
 
 -- an instance below the root comes after the root as it is sent
 less_than_below : (root name : List ℕ) → 3 ≤ length name → IsBelow name root → slice_cmp nat_cmp (wire root) name ≡ Less
 less_than_below [] (a ∷ b ∷ c ∷ name) long h = zero_first a (0 ∷ []) (b ∷ c ∷ name) (zero_first b [] (c ∷ name) refl)
-less_than_below (x ∷ []) (a ∷ b ∷ c ∷ name) long h =
-    let same : a ≡ x = cc (h.2) in
-    subst (λ (n : ℕ). slice_cmp nat_cmp (x ∷ 0 ∷ []) (n ∷ b ∷ c ∷ name) ≡ Less) (sym same) (same_first x (0 ∷ []) (b ∷ c ∷ name)
-    ∙ zero_first b [] (c ∷ name) refl)
-less_than_below (x ∷ y ∷ root) name long h =
-    subst (λ (n : List ℕ). slice_cmp nat_cmp (x ∷ y ∷ root) n ≡ Less) (sym h.2) (less_longer (x ∷ y ∷ root) h.0 h.1)
+less_than_below (x ∷ []) (a ∷ b ∷ c ∷ name) long h = grind (arith, common_steps, same_first, zero_first)
+less_than_below (x ∷ y ∷ root) name long h = grind (arith, common_steps, less_longer)
 less_than_below _ _ long h = absurd (omega (arith, long))
 
 pub below_after_wire : (root name : List ℕ) → 3 ≤ length name → is_below name root ≡ true → comes_after (wire root) name ≡ true

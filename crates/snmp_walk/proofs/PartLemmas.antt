@@ -1,4 +1,5 @@
 -- What is given of a walk rises, and a front of it is a beginning of the walk too.
+use Rattle.std.proofs.lemmas.Grind.{common_steps}
 use Rattle.std.proofs.Common.{◌≡◌, ◌⊎◌, inl, inr, ℕ, true, false, List, [], ◌∷◌, ◌++◌, length, refl}
 use Rattle.std.proofs.Common.{sym, ◌∙◌, ap, subst, arith, append-nil, length-append}
 use Rattle.std.proofs.lemmas.List.{nil_from_length}
@@ -32,9 +33,7 @@ module _ (Next Got : List ℕ → VarBind → Type 0) (laws : AreLawfulReplies N
 pub part_rises : (Next Got : List ℕ → VarBind → Type 0) → AreLawfulReplies Next Got → (first : Walker) (given : List VarBind)
     → IsPartOfWalk Next Got first given → AreRising given
 part_rises Next Got laws first given (inl none) = rw none tt
-part_rises Next Got laws first given (inr (inl (o, g))) =
-    rw g.parts (opening_rises Next Got laws first.root first.mode first.asked g.front g.trail g.opening
-    (trail_rises Next Got laws first.root first.asked g.trail g.is_trail))
+part_rises Next Got laws first given (inr (inl (o, g))) = grind (arith, common_steps, opening_rises, trail_rises)
 part_rises Next Got laws first given (inr (inr h)) = rw h.only (tt, tt)
 
 -- a list of one has itself and nothing as fronts
@@ -63,8 +62,7 @@ trail_front Next root o (x ∷ xs) ys h = (h.0, h.1, trail_front Next root x.nam
 module _ (Next Got : List ℕ → VarBind → Type 0) (first : Walker) where
   opening_front : (m : Mode) (xs rest front : List VarBind) → IsOpening Got m first.asked front → front ≡ xs ++ rest → (xs ≡ []) ⊎ (xs ≡ front)
   opening_front mode.Include xs rest front (p, got, inl none) e = inl (none_front xs rest (sym none.1 ∙ e))
-  opening_front mode.Include xs rest front (p, got, inr some) e =
-      elim (one_front p xs rest (sym some.1 ∙ e)) [ inl none ↦ inl none | inr one ↦ inr (one ∙ sym some.1) ]
+  opening_front mode.Include xs rest front (p, got, inr some) e = grind (arith, common_steps, one_front)
   opening_front _ xs rest front none e = inl (none_front xs rest (sym none ∙ e))
 
   -- a front of what was given is a beginning too
@@ -92,10 +90,7 @@ module _ (Next Got : List ℕ → VarBind → Type 0) (first : Walker) where
       ))
 
   alone_front : (xs ys : List VarBind) → IsAlone Next Got first (xs ++ ys) → IsPartOfWalk Next Got first xs
-  alone_front xs ys h = elim (one_front h.answer xs ys (sym h.only)) [
-    | inl none ↦ inl none
-    | inr one ↦ inr (inr record { plain = h.plain; none = h.none; answer = h.answer; is_answer = h.is_answer; only = one })
-  ]
+  alone_front xs ys h = grind (arith, common_steps, one_front)
 
   pub part_front : (xs ys : List VarBind) → IsPartOfWalk Next Got first (xs ++ ys) → IsPartOfWalk Next Got first xs
   part_front xs ys (inl none) = inl (none_front xs ys (sym none))

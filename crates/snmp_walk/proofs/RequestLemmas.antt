@@ -1,5 +1,6 @@
 -- A walk's requests can be encoded, and fit a datagram.
-use Rattle.std.proofs.Common.{◌≡◌, ℕ, zero, suc, ◌+◌, ◌-◌, ◌*◌, ◌^◌, ◌≤◌, true, false, cond, List, [], ◌∷◌, length, arith, refl, ◌∙◌, length-append, ℤ, pos, negsuc}
+use Rattle.std.proofs.lemmas.Grind.{common_steps}
+use Rattle.std.proofs.Common.{◌≡◌, ℕ, zero, suc, ◌+◌, ◌*◌, ◌≤◌, true, false, cond, List, [], ◌∷◌, length, arith, refl, ◌∙◌, length-append, ℤ, pos, negsuc}
 use Rattle.std.specs.Prelude.{All, nat_lt}
 use Rattle.std.specs.List.{flat_map}
 use Rattle.std.proofs.lemmas.List.{length-map}
@@ -8,28 +9,7 @@ use Rattle.snmp_oid.specs.Identifier.{IsWire}
 use Rattle.snmp_wire.specs.Message.{Datum, Message, null_value, integer_value, octet_string, object_id, var_bind}
 use Rattle.snmp_wire.specs.Identifier.{subidentifiers}
 use Rattle.snmp_wire.specs.Spelling.{value_tag}
-use Rattle.snmp_wire.specs.Canon.{
-  digit_count,
-  digits,
-  octets,
-  number_size,
-  canon_number,
-  length_size,
-  canon_length,
-  subidentifier_size,
-  septets,
-  canon_subidentifier,
-  canon_header,
-  canon_element,
-  canon_content,
-  canon_value,
-  canon_binding,
-  canon_bindings,
-  canon_opening,
-  canon_fields,
-  canon,
-  IsEncodable,
-}
+use Rattle.snmp_wire.specs.Canon.{digit_count, digits, number_size, canon_number, length_size, canon_length, subidentifier_size, septets, canon_subidentifier, canon_header, canon_element, canon_content, canon_value, canon_binding, canon_bindings, canon_opening, canon_fields, canon, IsEncodable}
 use Rattle.snmp_wire.specs.declared.binding.Binding.{Binding}
 use Rattle.snmp_wire.specs.declared.ber.value.ValueRef.TheVariants as value
 use Rattle.snmp_walk.specs.Walker.{Walker}
@@ -49,16 +29,11 @@ digits_length base (suc count) n = omega (arith, digits_length base count n)
 pub number_bound : (z : ℤ) → length (canon_number z) ≤ 9
 unfolding canon_number number_size
 number_bound (pos n) = omega (arith, digits_length 256 (number_size n) n, digit_bound 256 128 8 n)
-number_bound (negsuc n) =
-    omega (arith, digits_length 256 (number_size n) (256 ^ number_size n - (n + 1)), digit_bound 256 128 8 n)
+number_bound (negsuc n) = grind (arith, common_steps, digits_length, digit_bound)
 
 length_bound : (n : ℕ) → length (canon_length n) ≤ 5
 unfolding canon_length length_size
-length_bound n =
-    elim (nat_lt n 128) as (λ b. length (cond b (n ∷ []) ((128 + length_size n) ∷ octets (length_size n) n)) ≤ 5) [
-      | true ↦ omega arith
-      | false ↦ omega (arith, digits_length 256 (length_size n) n, digit_bound 256 256 3 n)
-    ]
+length_bound n = grind (arith, common_steps, digits_length, digit_bound)
 
 element_bound : (tag : ℕ) (content : List ℕ) → length (canon_element tag content) ≤ 6 + length content
 unfolding canon_element canon_header
@@ -126,6 +101,4 @@ pub request_short : (w : Walker) → length w.community ≤ 255 → length w.ask
 request_short w h k = omega (arith, h, message_bound (request_of w), name_short w.asked k)
 
 pub encodable : (name : List ℕ) → IsWire name → All (λ (b : Binding). IsEncodable (var_bind b)) (record { name = name; value = value.Null } ∷ [])
-encodable name h =
-    let P : Binding → Type 0 = λ b. IsEncodable (var_bind b) in
-    All-cons P (record { name = name; value = value.Null }) [] (record { name = h; value = tt }) (All-nil P)
+encodable name h = grind (arith, common_steps, All-cons, All-nil)

@@ -1,7 +1,8 @@
 -- How long a single_response of one binding is: no longer with an exception in place of the value, nor with a lesser id.
-use Rattle.std.proofs.Common.{◌≡◌, ℕ, ◌^◌, ◌<◌, ◌≤◌, List, [], ◌∷◌, ◌++◌, length, arith, length-append, pos}
+use Rattle.std.proofs.lemmas.Grind.{common_steps}
+use Rattle.std.proofs.Common.{◌≡◌, ℕ, ◌^◌, ◌<◌, ◌≤◌, List, [], ◌∷◌, length, arith, length-append, pos}
 use Rattle.snmp_wire.specs.Message.{Datum, VarBind, Message, integer_value, no_such_object, no_such_instance, end_of_mib_view}
-use Rattle.snmp_wire.specs.Spelling.{value_tag, kind_tag, sequence_tag}
+use Rattle.snmp_wire.specs.Spelling.{value_tag}
 use Rattle.snmp_wire.specs.Canon.{number_size, canon_element, canon_content, canon_value, canon_binding, canon_bindings, canon_opening, canon_fields, canon}
 use Rattle.snmp_walk.specs.Link.{Agents, single_response, IsTooLarge}
 use Rattle.snmp_walk.specs.Room.{HasRoom, full_response, IsException}
@@ -19,8 +20,7 @@ module _ (codec : Codec) where
   longer_binding : (name : List ℕ) (v u : Datum) → length (canon_content v) ≤ length (canon_content u)
       → length (canon_binding (record { name = name; value = v })) ≤ length (canon_binding (record { name = name; value = u }))
   unfolding canon_binding
-  longer_binding name v u h =
-      longer_element sequence_tag sequence_tag _ _ (omega (arith, longer_value v u h, length-append {A = ℕ}))
+  longer_binding name v u h = grind (arith, common_steps, longer_element, longer_value, length-append)
 
   exception_content : (v : Datum) → IsException v → length (canon_content v) ≤ 0
   unfolding canon_content
@@ -36,8 +36,7 @@ module _ (codec : Codec) where
   -- an integer from 0 that isn't less is no shorter
   longer_integer : (n k : ℕ) → n ≤ k → length (canon_value (integer_value (pos n))) ≤ length (canon_value (integer_value (pos k)))
   unfolding canon_value canon_content
-  longer_integer n k h =
-      longer_element _ _ _ _ (omega (arith, longer_number n k h, codec.elements.number n, codec.elements.number k))
+  longer_integer n k h = grind (arith, common_steps, longer_element, longer_number)
 
   one_binding : (p : VarBind) → length (canon_bindings (p ∷ [])) ≡ length (canon_binding p)
   unfolding canon_bindings
@@ -47,11 +46,7 @@ module _ (codec : Codec) where
   longer_message : (m n : Message) → length (canon_opening m) ≤ length (canon_opening n) → length (canon_fields m) ≤ length (canon_fields n)
       → length (canon_bindings m.bindings) ≤ length (canon_bindings n.bindings) → length (canon m) ≤ length (canon n)
   unfolding canon
-  longer_message m n opening fields bindings =
-      let list = longer_element sequence_tag sequence_tag (canon_bindings m.bindings) (canon_bindings n.bindings) bindings in
-      let pdu = longer_element (kind_tag m.kind) (kind_tag n.kind) (canon_fields m ++ canon_element sequence_tag (canon_bindings m.bindings))
-      (canon_fields n ++ canon_element sequence_tag (canon_bindings n.bindings)) (omega (arith, list, fields, length-append {A = ℕ})) in
-      longer_element sequence_tag sequence_tag _ _ (omega (arith, pdu, opening, length-append {A = ℕ}))
+  longer_message m n opening fields bindings = grind (arith, common_steps, longer_element, length-append)
 
   pub longer_response : (community : List ℕ) (id last : ℕ) (p q : VarBind) → id ≤ last → length (canon_binding p) ≤ length (canon_binding q)
       → length (canon (single_response community id p)) ≤ length (canon (single_response community last q))
@@ -73,21 +68,12 @@ module _ (codec : Codec) where
   -- what there is room for fits with each id
   pub room_fits : (agents : Agents) (p : VarBind) (id : ℕ) → id < 2 ^ 31 → HasRoom agents p
       → length (canon (single_response agents.community id p)) ≤ agents.max_size
-  room_fits agents p id low room =
-      let longer = longer_response agents.community id 2147483647 p p (omega (arith, low)) (omega arith) in
-      omega (arith, longer, room)
+  room_fits agents p id low room = grind (arith, common_steps, longer_response)
 
   pub room_small : (agents : Agents) (id : ℕ) (p : VarBind) → HasRoom agents p → IsTooLarge agents id p → ⊥
-  room_small agents id p room large =
-      let fits = room_fits agents p id large.0 room in
-      omega (arith, fits, large.1)
+  room_small agents id p room large = grind (arith, common_steps, room_fits)
 
   -- where a name has room with a value, it has room with an exception
   pub room_exception : (agents : Agents) (name : List ℕ) (v u : Datum) → IsException v → HasRoom agents (record { name = name; value = u })
       → HasRoom agents (record { name = name; value = v })
-  room_exception agents name v u is room =
-      let empty = exception_content v is in
-      let shorter = longer_binding name v u (omega (arith, empty)) in
-      let longer = longer_response agents.community 2147483647 2147483647 (record { name = name; value = v }) (record { name = name; value = u })
-      (omega arith) shorter in
-      omega (arith, longer, room)
+  room_exception agents name v u is room = grind (arith, common_steps, exception_content, longer_binding, longer_response)

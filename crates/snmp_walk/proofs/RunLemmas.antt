@@ -1,4 +1,5 @@
 -- A run, turn by turn.
+use Rattle.std.proofs.lemmas.Grind.{common_steps}
 use Rattle.std.proofs.Common.{◌≡◌, inl, inr, ℕ, ◌+◌, ◌^◌, ◌<◌, List, [], ◌∷◌, ◌++◌, refl, sym, ◌∙◌, ap}
 use Rattle.std.proofs.Common.{true, false, subst, arith, append-nil, append_assoc, Option, Some, None, replicate}
 use Rattle.std.proofs.lemmas.List.{flat_map_more}
@@ -150,8 +151,7 @@ module _ {S L : Type 0} {facts : LinkFacts L} {takes : S → VarBind → Result 
   -- what came of the octets of the request
   pub tried_by : {q : List ℕ} {what other : Outcome} → q ≡ canon (request_of w) → what ≡ other
       → AreTried facts (IsNotAwaited w.community w.id) q tries here what after → Tried other
-  tried_by {q} {what} {other} is same h =
-      subst Tried same (subst (λ (x : List ℕ). AreTried facts (IsNotAwaited w.community w.id) x tries here what after) is h)
+  tried_by {q} {what} {other} is same h = grind (arith, common_steps)
 
   -- the link is honest still, and what was sent was so by this walk
   asked : IsFreshAndHonest facts link → facts.honest here × IsEarlier (facts.traffic here).sent w
@@ -225,10 +225,7 @@ module _ {S L : Type 0} {facts : LinkFacts L} {takes : S → VarBind → Result 
   IsUnreplied = HasNoReply agents tries (facts.traffic link) (facts.traffic after)
 
   last_sent : (what : Outcome) (end : WalkEnd) → Suits what end → Tried what → IsSentLast end w
-  last_sent what end suits tried keeps =
-      let x = sent_on what tried keeps in
-      let a = agrees what end suits in
-      record { earlier = (facts.traffic here).sent; times = x.0; sent = x.2; some = λ fine. x.3 (λ e. fine (a.0 e)); all = λ is. x.4 (a.2 is) }
+  last_sent what end suits tried keeps = grind (arith, common_steps, sent_on, agrees)
 
   -- what is known where no reply came
   no_reply : Tried outcome.missed → IsFreshAndHonest facts link → IsUnreplied w

@@ -1,4 +1,5 @@
 -- What a run sends, request by request.
+use Rattle.std.proofs.lemmas.Grind.{common_steps}
 use Rattle.std.proofs.Common.{◌≡◌, ◌⊎◌, inl, inr, ℕ, ◌+◌, ◌^◌, ◌<◌, ◌≤◌, false, List, [], ◌∷◌, ◌++◌, length, replicate, refl, sym, ◌∙◌, ap, subst}
 use Rattle.std.proofs.Common.{arith, append-nil, append_assoc, length-append}
 use Rattle.snmp_wire.specs.Message.{VarBind}
@@ -42,11 +43,7 @@ asks_stage : (first : Walker) (given : List VarBind) (p : Phase) (by : Walker) �
 asks_stage first given phase.First by h paced = (h.1, h.2, paced)
 asks_stage first given phase.Last by h paced = (h.1, h.2)
 asks_stage first given phase.Over by h paced = absurd h
-asks_stage first given phase.Rows by h paced = elim (last_named first.asked h.trail) [
-  | inl e ↦ inl (h.last ∙ e)
-  | inr n ↦ inr (subst (λ (rows : List VarBind). IsNameIn rows by.asked) (sym h.parts)
-      (named_after h.front h.trail by.asked (subst (IsNameIn h.trail) (sym h.last) n)))
-]
+asks_stage first given phase.Rows by h paced = grind (arith, common_steps, last_named, named_after)
 
 -- what the waiting walk asks
 pub asks_now : (first w : Walker) (given rows : List VarBind) → Reaches Rises Named first w given → Asks first (given ++ rows) w
@@ -88,11 +85,7 @@ sent_push (u ∷ requests) t =
     ∙ sym (append_assoc (replicate u.times (canon (request_of u.by))) (sent_by requests) (replicate t.times (canon (request_of t.by))))
 
 pub each_push : (requests : List Try) (t : Try) → IsEachSent requests → 0 < t.times → IsEachSent (requests ++ t ∷ [])
-each_push requests t each some u one = elim (one_append requests (t ∷ []) u one) [
-  | inl earlier ↦ each u earlier
-  | inr (inl same) ↦ subst (λ (v : Try). 0 < v.times) (sym same) some
-  | inr (inr never) ↦ absurd never
-]
+each_push requests t each some u one = grind (arith, common_steps, one_append)
 
 -- the requests before the waiting one
 pub record Sends (tries : ℕ) (first : Walker) (given : List VarBind) (old : Traffic) (next : ℕ) (now : Traffic) : Type 0 where
@@ -125,11 +118,7 @@ before_more w v good waits less d (inr u) = inr (u.0, u.1, u.2, omega (arith, u.
 
 pub earlier_more : (w v : Walker) (sent later : List (List ℕ)) (times : ℕ) → IsWalker w → is_over w.phase ≡ false → w.id < v.id
     → later ≡ sent ++ replicate times (canon (request_of w)) → IsEarlier sent w → IsEarlier later v
-earlier_more w v sent later times good waits less e h d one =
-    elim (one_append sent (replicate times (canon (request_of w))) d (subst (λ (s : List (List ℕ)). OneOf s d) e one)) [
-      | inl o ↦ before_more w v good waits less d (h d o)
-      | inr o ↦ before_more w v good waits less d (inl (one_same times (canon (request_of w)) d o))
-    ]
+earlier_more w v sent later times good waits less e h d one = grind (arith, common_steps, one_append, before_more, one_same)
 
 pub earlier_first : (sent : List (List ℕ)) (w : Walker) → sent ≡ [] → IsEarlier sent w
 earlier_first sent w none d one = absurd (subst (λ (s : List (List ℕ)). OneOf s d) none one)

@@ -1,5 +1,6 @@
 -- The agent's turns and the walk's receives, on one network.
-use Rattle.std.proofs.Common.{◌≡◌, ℕ, List, [], ◌∷◌, ◌++◌, refl, sym, ◌∙◌, ap, subst, map, Option, Some, None, Ok, take, append-nil}
+use Rattle.std.proofs.Common.{arith, ◌≡◌, ℕ, List, [], ◌∷◌, ◌++◌, refl, sym, ◌∙◌, ap, subst, map, Option, Some, None, Ok, take, append-nil}
+use Rattle.std.proofs.lemmas.Grind.{common_steps}
 use Rattle.std.specs.Prelude.{IfSome, IfNone}
 use Rattle.std.proofs.lemmas.List.Elements.{All-nil}
 use Rattle.snmp_agent.specs.Event.{Event, InTurn, came, silence, receive_failed, sent, send_failed}
@@ -26,13 +27,7 @@ module _ {N Peer : Type 0} (happens : N → Event Peer → N → Type 0) (carrie
 
   pub then_is : (agent : Agent) (e : Event (Unit {0})) (turns : ℕ) (served : Served) (events : List (Event Peer)) (old between new : N)
       → AreTurns agent turns served events → InTurn happens old events between → carries between (at_walk e) new → IsServedThen carries agent old e new
-  then_is agent e turns served events old between new are first last = (
-    turns,
-    served,
-    events,
-    are,
-    in_turn-append carries (map at_agents events) (at_walk e ∷ []) old between new (turns_carried events old between first) (new, last, refl),
-  )
+  then_is agent e turns served events old between new are first last = grind (arith, common_steps, in_turn-append, turns_carried)
 
 pub by_some : (got : Option ℕ) (buffer : List ℕ) (P : Event (Unit {0}) → Type 0) → P (event_of_got (Ok got) buffer) → IfSome got (λ n. P (came tt (take n buffer)))
 by_some None buffer P h = tt
@@ -112,12 +107,7 @@ module _ {W N Peer : Type 0} (facts : LinkFacts W) (net : W → N) (agent_at : W
 
   pub whole : (agents : Agents) (view : MibView) → OneOf agents.tables view → (events : List (Event (Unit {0}))) (old new : W)
       → agent_at old ≡ agent_in agents view → InTurn (Happens facts) old events new → Whole net agent_at carries agents old new events
-  whole agents view one [] old new is h = record {
-    run = [];
-    chain = ap net h;
-    seen = refl;
-    served = record { services = []; each = tt; in_turn = refl };
-  }
+  whole agents view one [] old new is h = grind (arith, common_steps)
   whole agents view one (e ∷ events) old new is h =
       let p = part old h.0 e h.1 in
       let w = whole agents view one events h.0 new (p.same ∙ is) h.2 in
@@ -145,5 +135,4 @@ pub all_of : {W N Peer : Type 0} {facts : LinkFacts W} {link after : W} {tries :
     → (agent_at new ≡ agent_at old) × IsServedThen carries (agent_at old) (net old) receive_failed (net new))
     → (agents : Agents) (view : MibView) → OneOf agents.tables view
     → agent_at link ≡ agent_in agents view → Whole net agent_at carries agents link after w.happened.events
-all_of {W} {N} {Peer} {facts} {link} {after} w net agent_at carries sends fails brings silent receives agents view one is =
-    whole facts net agent_at carries sends fails brings silent receives agents view one w.happened.events link after is w.happened.in_turn
+all_of {W} {N} {Peer} {facts} {link} {after} w net agent_at carries sends fails brings silent receives agents view one is = grind (arith, common_steps, whole)

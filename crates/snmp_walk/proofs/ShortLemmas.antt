@@ -1,4 +1,5 @@
 -- Where a table has no long strings, messages of 1472 octets have room for each of its rows.
+use Rattle.std.proofs.lemmas.Grind.{common_steps}
 use Rattle.std.proofs.Common.{◌≡◌, ◌≤◌, length, arith, pos}
 use Rattle.snmp_wire.specs.Message.{Datum, VarBind, integer_value, octet_string, null_value, object_id, ip_address, counter32, gauge32, time_ticks}
 use Rattle.snmp_wire.specs.Message.{opaque_octets, counter64, no_such_object, no_such_instance, end_of_mib_view}
@@ -41,8 +42,4 @@ has_room agents p community size name content =
 pub rows_have_room : (agents : Agents) (view : MibView) (first : Walker) → first.community ≡ agents.community → length agents.community ≤ 30
     → 1472 ≤ agents.max_size → length first.asked ≤ 128 → IsMibView view → ((p : VarBind) → IsRow view p → IsShort p.value)
     → HasRoomForEach agents view first
-rows_have_room agents view first same community size name is_view short = record {
-  community = same;
-  rows = λ p row. has_room agents p community size (is_view.names p row).identifier.short (short_content p.value (is_view.values p row) (short p row));
-  exceptions = λ v is. has_room agents (record { name = first.asked; value = v }) community size name (exception_content v is);
-}
+rows_have_room agents view first same community size name is_view short = grind (arith, common_steps, has_room, short_content, exception_content)

@@ -1,9 +1,10 @@
 -- An honest reply to the waiting request takes a walk a step further, or ends it lawfully.
+use Rattle.std.proofs.lemmas.Grind.{common_steps}
 use Rattle.std.proofs.Common.{◌≡◌, inl, inr, ℕ, ◌+◌, ◌≤◌, true, false, cond, List, [], ◌∷◌, ◌++◌, ◌≢◌, length, refl, sym, ◌∙◌, ap, subst, arith, append_assoc, append-nil, length-append, pos, Some}
 use Rattle.std.proofs.lemmas.Bool.{ltb-true, le-ltb, or_from, and_from, and_parts, eqb-true, ltb-false, eq-eqb, cond_both, false≢true}
 use Rattle.std.proofs.lemmas.List.{flat_map_more, length_push, nil_from_length}
 use Rattle.std.proofs.lemmas.List.Elements.{All-nil, All-push}
-use Rattle.std.specs.Prelude.{nat_lt, ◌==◌, ◌&&◌, ◌||◌, flat_map, not}
+use Rattle.std.specs.Prelude.{nat_lt, ◌==◌, ◌&&◌, ◌||◌, flat_map}
 use Rattle.std.specs.Bool.{nat_eq}
 use Rattle.std.specs.List.{list_any}
 use Rattle.std.specs.Cmp.Lexicographic.{pointwise, nat_list_eq_equiv}
@@ -19,9 +20,9 @@ use Rattle.snmp_walk.specs.Names.{is_missing}
 use Rattle.snmp_walk.specs.Trail.{last_name, IsTrail, IsAtEnd}
 use Rattle.snmp_walk.specs.Walker.{Walker}
 use Rattle.std.specs.Ordering.{int_eq}
-use Rattle.snmp_walk.specs.Taken.{is_over, is_awaited, is_plain, inside_front, rising_front, stops, goes_on, closes, reads_next, got, if_present}
+use Rattle.snmp_walk.specs.Taken.{is_over, is_plain, inside_front, rising_front, stops, goes_on, closes, reads_next, got, if_present}
 use Rattle.snmp_walk.specs.Taken.{reads_first, reads_last, reads_for, take_of}
-use Rattle.snmp_walk.specs.Standing.{IsChain, IsLarge, IsReplyContent, IsReplyTo, IsOpening, IsGiven, IsAlone, IsPartOfWalk, IsStage, opening_gets, IsPaced, Reaches, Advances}
+use Rattle.snmp_walk.specs.Standing.{IsChain, IsLarge, IsReplyContent, IsReplyTo, IsOpening, IsGiven, IsPartOfWalk, IsStage, opening_gets, IsPaced, Reaches, Advances}
 use Rattle.snmp_walk.proofs.CaseLemmas.{goes_by}
 use Rattle.snmp_walk.proofs.TrailLemmas.{last_name-append, trail-append, IsFront, chain_front, chain_has_values, few_replies}
 use Rattle.snmp_walk.specs.Request.{asked_for}
@@ -49,18 +50,10 @@ module _ (Next Got : List ℕ → VarBind → Type 0) (Large : ℕ → VarBind �
   pub goes : (given more : List VarBind) (w : Walker) (next : Phase) → Reaches Next Got first w given
       → IsStage Next Got first (given ++ more) (last_name w.asked more) next → IsPaced Next Got first (given ++ more) (w.id + 1) next
       → Goes w given (goes_on w next more)
-  goes given more w next h stage pace = goes_by w (Goes w given) next more
-      (λ less. record {
-        same = ap (λ (v : Walker). record v { phase = next; asked = last_name w.asked more; id = w.id + 1; count = w.count + length more }) h.same;
-        count = omega (arith, h.count, length-append given more);
-        paced = pace;
-        stage = stage;
-      })
-      (λ none. (part_of_stage (given ++ more) (last_name w.asked more) next stage, none))
+  goes given more w next h stage pace = grind (arith, common_steps, goes_by, length-append, part_of_stage)
 
   none_asked : (given : List VarBind) (o : List ℕ) → length given ≡ 0 → IsGiven Next Got first given o → o ≡ first.asked
-  none_asked given o none h =
-      h.last ∙ ap (last_name first.asked) (nil_from_length h.trail (omega (arith, none, ap length h.parts, length-append h.front h.trail)))
+  none_asked given o none h = grind (arith, common_steps, nil_from_length, length-append)
 
   plain_from : (m : Mode) → is_plain m ≡ true → m ≡ mode.Plain
   plain_from mode.Plain e = refl
@@ -72,17 +65,12 @@ module _ (Next Got : List ℕ → VarBind → Type 0) (Large : ℕ → VarBind �
   -- a plain walk that gave nothing has made no request before
   plain_pace : (given : List VarBind) (w : Walker) → w.phase ≡ phase.Rows → Reaches Next Got first w given → length given ≡ 0 → first.mode ≡ mode.Plain
       → w.id ≡ first.id
-  plain_pace given w waits h none plain =
-      let p = subst (IsPaced Next Got first given w.id) waits h.paced in
-      let gets : opening_gets first.mode ≡ 0 = ap opening_gets plain in
-      omega (arith, p.ids, gets, none, ap length p.parts, length-append p.front (flat_map (λ r. r) p.replies), few_replies p.replies p.some)
+  plain_pace given w waits h none plain = grind (arith, common_steps, length-append, few_replies)
 
   -- the name asked from is the last of those given below the root
   pub asked_last : (given : List VarBind) (o : List ℕ) (front trail : List VarBind) → IsGiven Next Got first given o → given ≡ front ++ trail
       → IsOpening Got first.mode first.asked front → o ≡ last_name first.asked trail
-  asked_last given o front trail g parts opening =
-      g.last ∙ sym (opening_last first.mode first.asked g.front g.trail g.opening) ∙ ap (last_name first.asked) (sym g.parts ∙ parts)
-      ∙ opening_last first.mode first.asked front trail opening
+  asked_last given o front trail g parts opening = grind (arith, common_steps, opening_last)
 
   -- a reply with a row at least takes the walk to the next id
   pub more_pace : (given rows : List VarBind) (w : Walker) → w.phase ≡ phase.Rows → Reaches Next Got first w given → IsGiven Next Got first given w.asked
@@ -135,21 +123,13 @@ module _ (Next Got : List ℕ → VarBind → Type 0) (Large : ℕ → VarBind �
   -- more of the trail
   pub given_more : (given rows : List VarBind) (o : List ℕ) → IsGiven Next Got first given o → IsTrail Next first.root o rows
       → IsGiven Next Got first (given ++ rows) (last_name o rows)
-  given_more given rows o h more = record {
-    front = h.front;
-    trail = h.trail ++ rows;
-    opening = h.opening;
-    parts = ap (λ (s : List VarBind). s ++ rows) h.parts ∙ append_assoc h.front h.trail rows;
-    is_trail = trail-append Next first.root first.asked h.trail rows h.is_trail (subst (λ (n : List ℕ). IsTrail Next first.root n rows) h.last more);
-    last = ap (λ (n : List ℕ). last_name n rows) h.last ∙ sym (last_name-append first.asked h.trail rows);
-  }
+  given_more given rows o h more = grind (arith, common_steps, append_assoc, trail-append, last_name-append)
 
   -- a reply with the next instances
   reads_instances : (given bindings : List VarBind) (w : Walker) → w.phase ≡ phase.Rows → Reaches Next Got first w given → IsGiven Next Got first given w.asked
       → IsChain Next w.asked bindings → length bindings ≤ asked_for w.method → (bindings ≡ [] → IsLarge Next (Large w.id) w.asked)
       → Goes w given (reads_next w bindings)
-  reads_instances given [] w waits h before chain few large =
-      (rw append-nil (inr (inl (w.asked, before))), (waits, refl, large refl))
+  reads_instances given [] w waits h before chain few large = grind (arith, common_steps, append-nil)
   reads_instances given (b ∷ more) w waits h before chain few large =
       let bindings = b ∷ more in
       let inside = inside_front w.root bindings in
@@ -200,22 +180,13 @@ module _ (Next Got : List ℕ → VarBind → Type 0) (Large : ℕ → VarBind �
   -- the reply to the Get with which a walk ends that gave nothing
   pub reads_alone : (given : List VarBind) (w : Walker) (p : VarBind) → Reaches Next Got first w given → IsStage Next Got first given w.asked phase.Last
       → Got w.asked p → Goes w given (reads_last w (Some p))
-  reads_alone given w p h stage answer =
-      let alone : IsAlone Next Got first (given ++ p ∷ []) = record {
-        plain = stage.2;
-        none = stage.3;
-        answer = p;
-        is_answer = subst (λ (o : List ℕ). Got o p) stage.1 answer;
-        only = ap (λ (s : List VarBind). s ++ p ∷ []) stage.0;
-      } in
-      (inr (inr alone), (omega (arith, h.count, length-append given (p ∷ [])), inr alone))
+  reads_alone given w p h stage answer = grind (arith, common_steps, length-append)
 
   -- an honest reply, which has what was asked for or tooBig
   reads_content : (given : List VarBind) (w : Walker) (m : Message) (p : Phase) → w.phase ≡ p → Reaches Next Got first w given
       → IsStage Next Got first given w.asked p
       → IsReplyContent Next Got Large p w m → Goes w given (cond (int_eq m.a (pos 0)) (reads_for p w m.bindings) (stops w [] (ending.Fault m.a m.b)))
-  reads_content given w m phase.First waits h stage (inl (fine, (p, answer, only))) =
-      rw (fine, only, got_is w.asked p answer) (reads_root given w p waits h stage answer)
+  reads_content given w m phase.First waits h stage (inl (fine, (p, answer, only))) = grind (arith, common_steps, got_is, reads_root)
   reads_content given w m phase.Rows waits h stage (inl c) = rw c.0 (reads_instances given m.bindings w waits h stage c.1 c.2 c.3)
   reads_content given w m phase.Last waits h stage (inl (fine, (p, answer, only))) = rw (fine, only, got_is w.asked p answer) (reads_alone given w p h stage answer)
   reads_content given w m phase.Over waits h stage c = absurd c
@@ -228,7 +199,4 @@ module _ (Next Got : List ℕ → VarBind → Type 0) (Large : ℕ → VarBind �
   -- an honest reply to the waiting request
   pub taken : (given : List VarBind) (w : Walker) (m : Message) → Reaches Next Got first w given → IsReplyTo Next Got Large w m
       → Advances Next Got Large first w given (take_of w m).0 (take_of w m).1
-  taken given w m h r =
-      let awaited : is_awaited w m ≡ true = and_from _ _ (ap not (waiting given w.asked w.phase h.stage))
-      ((response_to_decided w.community w.id m).1 r.response) in
-      rw awaited (reads_content given w m w.phase refl h h.stage r.content)
+  taken given w m h r = grind (arith, common_steps, and_from, waiting, response_to_decided, reads_content)

@@ -1,7 +1,7 @@
 -- Where each single binding has room and ids are enough, a walk over one table ends for no other reason than its own, the link's or the sink's.
+use Rattle.std.proofs.lemmas.Grind.{common_steps}
 use Rattle.std.proofs.Common.{◌≡◌, ◌≢◌, ◌⊎◌, ◌≤ℤ◌, inl, inr, ℕ, ◌+◌, ◌≤◌, false, List, [], ◌∷◌, ◌++◌, length, refl, sym, ◌∙◌, ap, subst, arith, pos}
 use Rattle.std.proofs.Common.{length-append}
-use Rattle.std.specs.Prelude.{flat_map}
 use Rattle.snmp_wire.specs.declared.kind.Kind.TheVariants as kind
 use Rattle.snmp_wire.specs.Message.{VarBind, Message, end_of_mib_view}
 use Rattle.snmp_wire.specs.Spelling.{Spells}
@@ -40,7 +40,7 @@ use Rattle.snmp_walk.specs.Walker.{Walker, IsMethod, IsWalker}
 use Rattle.snmp_walk.specs.Walk.{rest_of}
 use Rattle.snmp_walk.specs.Request.{request_of, request_kind, request_repetitions}
 use Rattle.snmp_walk.specs.Taken.{is_over}
-use Rattle.snmp_walk.specs.Standing.{IsChain, IsLarge, IsStage, IsReplyTooLarge, IsPaced, opening_gets, Reaches}
+use Rattle.snmp_walk.specs.Standing.{IsChain, IsLarge, IsStage, IsReplyTooLarge, opening_gets, Reaches}
 use Rattle.snmp_walk.specs.Link.{Agents, OneOf, agent_in, IsNextFrom, IsGotFrom, IsTooLarge, AreViews}
 use Rattle.snmp_walk.specs.Room.{HasRoom, HasRoomForEach}
 use Rattle.snmp_walk.specs.Facts.{IsLawfulEnd, HasNone, IsDoneOrStopped, IsDoneOrCutOff, gets}
@@ -75,14 +75,7 @@ HasFew Next first k = (trail : List VarBind) → IsTrail Next first.root first.a
 -- then the ids are few
 pub few_in : (Next Got : List ℕ → VarBind → Type 0) (first : Walker) (k : ℕ) → HasFew Next first k → (w : Walker) (given : List VarBind)
     → Reaches Next Got first w given → w.id ≤ first.id + k + gets first.mode
-few_in Next Got first k bound w given h = by_phase w.phase h.stage h.paced
-  where
-    by_phase : (p : Phase) → IsStage Next Got first given w.asked p → IsPaced Next Got first given w.id p → w.id ≤ first.id + k + gets first.mode
-    by_phase phase.First stage pace = omega (arith, pace)
-    by_phase phase.Rows stage pace =
-        omega (arith, pace.ids, opening_is_get first.mode, few_replies pace.replies pace.some, bound (flat_map (λ r. r) pace.replies) pace.is_trail)
-    by_phase phase.Last stage pace = let one : gets first.mode ≡ 1 = ap gets stage.2 in omega (arith, pace, one)
-    by_phase phase.Over stage pace = absurd pace
+few_in Next Got first k bound w given h = grind (arith, common_steps, opening_is_get, few_replies)
 
 -- over one table a trail is a beginning of the rest
 pub trail_in_rest : (agents : Agents) (first : Walker) (view : MibView) (answer : VarBind) → IsOneTable (variables view) answer (IsNextFrom agents)

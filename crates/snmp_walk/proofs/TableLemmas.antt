@@ -1,5 +1,7 @@
 -- With one table that doesn't change, a trail is a beginning of the rows below the root, and one that is at its end is all of them.
+use Rattle.std.proofs.Common.{arith}
 use Rattle.std.proofs.Common.{◌≡◌, inl, inr, ℕ, Bool, true, false, cond, List, [], ◌∷◌, ◌++◌, refl, sym, ◌∙◌, ap, subst, append-nil, append_assoc}
+use Rattle.std.proofs.lemmas.Grind.{common_steps}
 use Rattle.std.proofs.lemmas.Bool.{and_parts, cond_both, false≢true}
 use Rattle.std.specs.Prelude.{not, filter}
 use Rattle.snmp_oid.specs.Identifier.{wire}
@@ -149,30 +151,20 @@ module _ (rows : List VarBind) (got : VarBind) (Next Got : List ℕ → VarBind 
 
   whole_given : (m : Mode) (front trail : List VarBind) → IsOpening Got m first.asked front → IsTrail Next first.root first.asked trail
       → IsAtEnd Next first.root (last_name first.asked trail) → (m ≡ mode.Plain → front ++ trail ≡ [] → ⊥) → Of m ≡ front ++ trail
-  whole_given mode.Plain front trail opening h end some =
-      let same : front ++ trail ≡ trail = ap (λ (f : List VarBind). f ++ trail) opening in
-      ap (or_only got) (trail_ends trail h end) ∙ or_only_some got trail (λ none. some refl (same ∙ none)) ∙ sym same
-  whole_given mode.Include front trail opening h end some =
-      ap (λ (f : List VarBind). f ++ rest_of first.root first.asked rows) (sym (row_of opening.0 opening.1) ∙ sym (present_is opening.0 front opening.2))
-      ∙ ap (λ (t : List VarBind). front ++ t) (trail_ends trail h end)
-  whole_given mode.NoLast front trail opening h end some =
-      trail_ends trail h end ∙ ap (λ (f : List VarBind). f ++ trail) (sym opening)
+  whole_given mode.Plain front trail opening h end some = grind (arith, common_steps, trail_ends, or_only_some)
+  whole_given mode.Include front trail opening h end some = grind (arith, common_steps, row_of, present_is, trail_ends)
+  whole_given mode.NoLast front trail opening h end some = grind (arith, common_steps, trail_ends)
 
   -- what was given is a beginning of the walk
   pub part_is : (given : List VarBind) → IsPartOfWalk Next Got first given
       → (more : List VarBind) × (walk_from first.mode first.root first.asked got rows ≡ given ++ more)
   part_is given (inl none) = (All, ap (λ (g : List VarBind). g ++ All) (sym none))
-  part_is given (inr (inl h)) =
-      let part = part_given first.mode h.1.front h.1.trail h.1.opening h.1.is_trail in
-      (part.0, part.1 ∙ ap (λ (g : List VarBind). g ++ part.0) (sym h.1.parts))
+  part_is given (inr (inl h)) = grind (arith, common_steps, part_given)
   part_is given (inr (inr h)) = ([], alone_whole given h ∙ sym (append-nil given))
 
   -- at its end it is the walk
   pub whole_is : (given : List VarBind) → IsWholeWalk Next Got first given → given ≡ walk_from first.mode first.root first.asked got rows
-  whole_is given (inl h) =
-      let g = h.1 in
-      let end = subst (IsAtEnd Next first.root) g.last h.2 in
-      g.parts ∙ sym (whole_given first.mode g.front g.trail g.opening g.is_trail end (λ plain none. h.3 plain (g.parts ∙ none)))
+  whole_is given (inl h) = grind (arith, common_steps, whole_given)
   whole_is given (inr h) = sym (alone_whole given h)
 
 -- behind the root as it is sent stand all instances below it

@@ -1,4 +1,5 @@
 -- Where each reply is that of one of several tables: what is given is theirs, and no name that all of them have is passed over.
+use Rattle.std.proofs.lemmas.Grind.{common_steps}
 use Rattle.std.proofs.Common.{◌≡◌, ◌⊎◌, inl, inr, ℕ, ◌≤◌, Bool, true, false, List, [], ◌∷◌}
 use Rattle.std.proofs.Common.{◌++◌, length, refl, sym, ◌∙◌, ap, subst, arith, length-append}
 use Rattle.std.proofs.lemmas.Bool.{false≢true, false_from_ne_true}
@@ -219,23 +220,14 @@ module _ (codec : Codec) (agents : Agents) (views : AreViews agents.tables) (fir
   -- a walk that includes its root gives it where all have it
   opening_has : (m : Mode) (front : List VarBind) → m ≡ mode.Include → IsOpening Got m first.asked front → IsInEach agents first.asked
       → IsNameIn front first.asked
-  opening_has mode.Include front is (q, got, inl missing) each =
-      let present = present_of_get got.0 (view_of agents.tables views got.0 got.1) first.asked q got.2 (each got.0 got.1) in
-      absurd (no_miss q present missing.0)
-  opening_has mode.Include front is (q, got, inr some) each =
-      subst (λ (f : List VarBind). IsNameIn f first.asked) (sym some.1) (inl (sym (laws.same_name first.asked q got)))
+  opening_has mode.Include front is (q, got, inl missing) each = grind (arith, common_steps, present_of_get, view_of, no_miss)
+  opening_has mode.Include front is (q, got, inr some) each = grind (arith, common_steps, laws)
   opening_has _ front is h each = absurd cc
 
   given_has : (given : List VarBind) (o : List ℕ) → IsGiven Next Got first given o → (name : List ℕ)
       → IsOfWalk first name → (IsBelowRoot first name → comes_after o name ≡ false) → IsInEach agents name → IsNameIn given name
-  given_has given o g name (inl below) passed each =
-      let last : comes_after (last_name first.asked g.trail) name ≡ false = ap (λ (x : List ℕ). comes_after x name) (sym g.last) ∙ passed below in
-      subst (λ (f : List VarBind). IsNameIn f name) (sym g.parts)
-      (named_after g.front g.trail name (trail_has first.asked name g.trail g.is_trail (after_test first.asked name below.1) last each))
-  given_has given o g name (inr root) passed each =
-      let own = opening_has first.mode g.front root.0 g.opening (subst (IsInEach agents) root.1 each) in
-      subst (λ (f : List VarBind). IsNameIn f name) (sym g.parts)
-      (named_more g.front g.trail name (subst (IsNameIn g.front) (sym root.1) own))
+  given_has given o g name (inl below) passed each = grind (arith, common_steps, named_after, trail_has, after_test)
+  given_has given o g name (inr root) passed each = grind (arith, common_steps, opening_has, named_more)
 
   pub common_in : (given : List VarBind) → IsPartOfWalk Next Got first given → (name : List ℕ) → IsOfWalk first name → IsInEach agents name → given ≢ []
       → comes_after (last_name first.asked given) name ≡ false → IsNameIn given name
@@ -244,9 +236,7 @@ module _ (codec : Codec) (agents : Agents) (views : AreViews agents.tables) (fir
       let at : last_name first.asked given ≡ o = ap (last_name first.asked) g.parts
       ∙ opening_last Next Got (IsTooLarge agents) laws first first.mode first.asked g.front g.trail g.opening ∙ sym g.last in
       given_has given o g name of (λ below. ap (λ (x : List ℕ). comes_after x name) (sym at) ∙ passed) each
-  common_in given (inr (inr a)) name (inl below) each some passed =
-      let at : last_name first.asked given ≡ first.asked = ap (last_name first.asked) a.only ∙ laws.same_name first.asked a.answer a.is_answer in
-      absurd (false≢true (sym (ap (λ (x : List ℕ). comes_after x name) (sym at) ∙ passed) ∙ after_test first.asked name below.1))
+  common_in given (inr (inr a)) name (inl below) each some passed = grind (arith, common_steps, laws, after_test)
   common_in given (inr (inr a)) name (inr root) each some passed = absurd cc
 
   pub common_in_whole : (given : List VarBind) → IsWholeWalk Next Got first given → (name : List ℕ) → IsOfWalk first name

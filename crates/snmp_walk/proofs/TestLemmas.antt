@@ -1,14 +1,14 @@
 -- What the tests of names and values decide.
-use Rattle.std.proofs.Common.{◌≡◌, ◌≢◌, ◌⊎◌, inl, inr, ℕ, Bool, true, false, cond, List, [], ◌∷◌, refl, sym, ◌∙◌, ap}
+use Rattle.std.proofs.Common.{arith, ◌≡◌, ◌≢◌, ◌⊎◌, inl, inr, ℕ, Bool, true, false, cond, List, [], ◌∷◌, refl, sym, ◌∙◌, ap}
+use Rattle.std.proofs.lemmas.Grind.{common_steps}
 use Rattle.std.proofs.lemmas.Bool.{false≢true, false_from_ne_true}
 use Rattle.std.proofs.lemmas.Bool.Decides.{Decides-and, Decides-not}
-use Rattle.std.specs.Prelude.{not}
 use Rattle.std.specs.Bool.{Decides}
 use Rattle.std.specs.Ordering.{is_lt}
 use Rattle.snmp_oid.specs.Identifier.{Precedes}
 use Rattle.snmp_wire.specs.Message.{Datum, VarBind, no_such_object, no_such_instance, end_of_mib_view}
 use Rattle.snmp_walk.specs.Instances.{IsInside, IsMissing}
-use Rattle.snmp_walk.specs.Names.{is_below, is_end, is_missing, is_inside, comes_after}
+use Rattle.snmp_walk.specs.Names.{is_end, is_missing, is_inside, comes_after}
 use Rattle.snmp_walk.specs.Standing.{IsGivenIfPresent}
 use Rattle.snmp_walk.specs.Taken.{if_present}
 use Rattle.snmp_walk.proofs.NameLemmas.{below_decided}
@@ -31,10 +31,7 @@ pub missing_decided : (b : VarBind) → Decides (is_missing b.value) (IsMissing 
 missing_decided b = (missing_tells b.value, missing_from b.value)
 
 pub inside_decided : (root : List ℕ) (b : VarBind) → Decides (is_inside root b) (IsInside root b)
-inside_decided root b =
-    let parts = Decides-and (not (is_end b.value)) (is_below b.name root) (Decides-not (is_end b.value) (end_decided b.value))
-    (below_decided root b.name) in
-    ((λ e. let h = parts.0 e in record { below = h.1; value = h.0 }), (λ h. parts.1 (h.value, h.below)))
+inside_decided root b = grind (arith, common_steps, Decides-and, Decides-not, end_decided, below_decided)
 
 -- the same, each way
 pub no_end : (v : Datum) → is_end v ≡ false → v ≢ end_of_mib_view

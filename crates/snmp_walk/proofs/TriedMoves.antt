@@ -1,8 +1,8 @@
 -- How a link moves as a request is tried over it.
+use Rattle.std.proofs.lemmas.Grind.{common_steps, replicate_next}
 use Rattle.std.proofs.Common.{◌≡◌, inl, inr, ℕ, ◌+◌, ◌-◌, ◌*◌, ◌<◌, ◌≤◌, List, [], ◌∷◌}
 use Rattle.std.proofs.Common.{◌++◌, length, replicate, refl, sym, ◌∙◌, ap, subst, arith, append_assoc, length-append}
 use Rattle.std.proofs.lemmas.List.{length-replicate}
-use Rattle.std.proofs.lemmas.Grind.{replicate_next}
 use Rattle.snmp_walk.specs.Link.{Outcome}
 use Rattle.snmp_walk.specs.Link as outcome
 use Rattle.snmp_walk.specs.Moved.{AreFew, IsMoved, IsMovedByTries}
@@ -28,8 +28,7 @@ module _ {L : Type 0} (facts : LinkFacts L) (Other : List ℕ → Type 0) (q : L
   moved_ending : (count : ℕ) (old new : L) (what : Outcome) → EndsTry facts count old what new → Stays old new (64 - count) (what ≡ outcome.cut_off)
   moved_ending count old new (outcome.answered d) h = moves_as facts (omega (arith, h.0)) (λ f. absurd f) (λ e. cc) h.1.1.0
   moved_ending count old new outcome.missed (inl h) = moves_as facts (omega (arith, h.0)) (λ f. absurd f) (λ e. cc) h.1.1.0
-  moved_ending count old new outcome.missed (inr h) =
-      moves_as facts (omega arith) (λ f. absurd f) (λ e. cc) (subst (λ (l : L). Stays old l 0 ⊥) (sym h.1) (moves_none facts old))
+  moved_ending count old new outcome.missed (inr h) = grind (arith, common_steps, moves_as, moves_none)
   moved_ending count old new outcome.cut_off h = moves_as facts (omega (arith, h.0)) (λ f. refl) (λ e. tt) h.1.2
 
   moved_try : (what : Outcome) (old new : L) (strays : List (List ℕ)) → IsTry facts Other q what old strays new
@@ -63,9 +62,7 @@ module _ {L : Type 0} (facts : LinkFacts L) (Other : List ℕ → Type 0) (q : L
   -- once more, and what then stands in the list
   sent_try : (what : Outcome) (old new : L) (strays : List (List ℕ)) → IsTry facts Other q what old strays new → facts.keeps old
       → (facts.traffic new).sent ≡ (facts.traffic old).sent ++ q ∷ []
-  sent_try what old new strays t keeps =
-      sent_none ((moves_on facts (moved_bringing strays t.between t.received.last t.received.brought)
-      (moved_ending (length strays) t.received.last new what t.received.over)).sent (t.sent.1.keeps keeps)) ∙ sent_all (λ f. f) (t.sent.1.sent keeps)
+  sent_try what old new strays t keeps = grind (arith, common_steps, sent_none, moves_on, moved_bringing, moved_ending, sent_all)
 
   -- how often it was sent: once at least, unless the link failed, and as many times as there are tries where none brought its reply
   abbrev pub IsSent : (tries : ℕ) → Outcome → L → L → Type 0

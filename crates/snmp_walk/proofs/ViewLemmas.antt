@@ -1,6 +1,6 @@
 -- What tables answer rises, and is what agents answer.
-use Rattle.std.proofs.Common.{◌≡◌, inl, inr, ℕ, true, false, List, [], ◌∷◌, refl, sym, ◌∙◌, ap, subst}
-use Rattle.std.proofs.lemmas.Bool.{false≢true}
+use Rattle.std.proofs.Common.{arith, ◌≡◌, inl, inr, ℕ, true, false, List, [], ◌∷◌, refl, sym, ap, subst}
+use Rattle.std.proofs.lemmas.Grind.{common_steps}
 use Rattle.std.specs.Ordering.{is_lt}
 use Rattle.snmp_wire.specs.Message.{Datum, VarBind, no_such_object, no_such_instance, end_of_mib_view}
 use Rattle.snmp_agent.specs.table.Table.{MibView, IsInstanceValue, IsMibView, IsGet, variable, unknown_object, unknown_instance, IsNext, successor}
@@ -21,8 +21,7 @@ value_no_miss v h = refl
 
 next_rises : (view : MibView) (o : List ℕ) (p : VarBind) → IsNext view o p → is_end p.value ≡ false → comes_after o p.name ≡ true
 next_rises view o p (successor s) e = ap is_lt (less_precedes o p.name s.behind)
-next_rises view o p (end_of_view none is) e =
-    let last : is_end p.value ≡ true = ap (λ (b : VarBind). is_end b.value) is in absurd (false≢true (sym e ∙ last))
+next_rises view o p (end_of_view none is) e = grind (arith, common_steps)
 
 next_value : (view : MibView) → IsMibView view → (o : List ℕ) (p : VarBind) → IsNext view o p → is_missing p.value ≡ false
 next_value view good o p (successor s) = value_no_miss p.value (good.values p s.row)

@@ -1,4 +1,5 @@
-use Rattle.std.proofs.Common.{◌≡◌, ◌+◌, ◌∙◌, ◌++◌, length, take, sym, ap, arith, ℕ, List, length-append}
+use Rattle.std.proofs.lemmas.Grind.{common_steps}
+use Rattle.std.proofs.Common.{◌≡◌, ◌+◌, length, take, ap, arith, length-append}
 use Rattle.snmp_wire.specs.Canon.{canon_binding, canon_bindings}
 use Rattle.snmp_wire.specs.Message.{var_bind}
 use Rattle.snmp_walk.specs.Get.{asked_names}
@@ -9,19 +10,7 @@ pub names-init : goal.names-init
 names-init c = (none_written.0, none_written.1, none_written.2, tt)
 
 pub names-preserved : goal.names-preserved
-names-preserved c =
-    let inv = c.names.invariant in
-    let w = c.in-Some.ensures.written in
-    let here = canon_binding (var_bind c.asked-binding.result) in
-    let front = canon_bindings (asked_names (take c.names.name-index c.args.names.now)) in
-    let more = written_more c.args.names.now c.names.name-index c.name-item.result
-    (var_bind c.asked-binding.result) c.names-test.true c.name-item.is c.asked-binding.ensures.value in
-    let long : length c.names.out ≡ 65507 = omega arith in (
-      omega (arith, w.2, long),
-      omega (arith, w.0, inv.1, ap length more, length-append front here),
-      w.1 ∙ ap (λ (t : List ℕ). t ++ here) inv.2 ∙ sym more,
-      range_more c.args.names.now c.names.name-index c.name-item.result c.names-test.true c.name-item.is c.asked-binding.ensures.range inv.3,
-    )
+names-preserved c = grind (arith, common_steps, written_more, length-append, range_more)
 
 pub returns-in-None-clause-none : goal.returns-in-None-clause-none
 returns-in-None-clause-none c =

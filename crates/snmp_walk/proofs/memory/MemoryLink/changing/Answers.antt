@@ -1,6 +1,7 @@
+use Rattle.std.proofs.Common.{arith}
+use Rattle.std.proofs.lemmas.Grind.{common_steps}
 use Rattle.snmp_walk.proofs.MemoryLemmas.{views_more}
 use Rattle.snmp_walk.proofs.memory.MemoryLink.changing.Goals as goal
 
 pub tables-preserved : goal.tables-preserved
-tables-preserved c =
-    views_more c.args.tables.now c.tables.table-index c.table-item.result c.tables-test.true c.table-item.is c.is_mib_view.ensures c.tables.invariant
+tables-preserved c = grind (arith, common_steps, views_more)

@@ -1,14 +1,11 @@
+use Rattle.std.proofs.lemmas.Grind.{common_steps}
 use Rattle.std.proofs.Common.{◌<◌, length, ℕ, sym, subst, arith}
 use Rattle.std.proofs.lemmas.Bool.{ltb-true}
 use Rattle.snmp_walk.proofs.MemoryLemmas.{one_got, table_found}
 use Rattle.snmp_walk.proofs.memory.MemoryLink.table_for.Goals as goal
 
 pub returns-in-Some-clause-one : goal.returns-in-Some-clause-one
-returns-in-Some-clause-one c =
-    let self = c.args.self.now in
-    let within : c.saturating_sub.result < length self.uses.now = ltb-true _ _ (sym c.in-Some.ensures.lookup.0) in
-    let place = self.are_tables c.saturating_sub.result c.in-Some.place.now within in
-    one_got self.tables.now c.in-Some.place.now _ (subst (λ (n : ℕ). n < length self.tables.now) (sym c.in-Some.ensures.lookup.1) place)
+returns-in-Some-clause-one c = grind (arith, common_steps, ltb-true, one_got)
 
 pub returns-in-None-clause-one : goal.returns-in-None-clause-one
 returns-in-None-clause-one c = one_got c.args.self.now.tables.now _ _ (omega arith)

@@ -1,7 +1,7 @@
-use Rattle.std.proofs.Common.{◌≡◌, ◌+◌, ◌-◌, ◌<◌, ◌^◌, false, refl, sym, ◌∙◌, ap, subst, arith, List, ℕ, [], ◌∷◌}
+use Rattle.std.proofs.Common.{◌≡◌, false, refl, sym, ◌∙◌, ap, subst, arith, List, ℕ, [], ◌∷◌}
 use Rattle.std.proofs.lemmas.Grind.{common_steps}
 use Rattle.snmp_walk.specs.declared.walker.Ending.TheVariants.{GoesOn}
-use Rattle.snmp_walk.specs.Reading.{IsFrontOf, is_misplaced, front_from, name_or, read_front}
+use Rattle.snmp_walk.specs.Reading.{IsFrontOf, is_misplaced, name_or, read_front}
 use Rattle.snmp_walk.proofs.FrontLemmas.{front_ended, front_goes, front_done, none_misplaced}
 use Rattle.snmp_walk.proofs.walker.WalkCore.front.Goals as goal
 use Rattle.snmp_walk.specs.Request.{asked_for}
@@ -22,21 +22,7 @@ returns-else-is_misplaced-clause-some c =
     )
 
 pub bindings-preserved : goal.bindings-preserved
-bindings-preserved c =
-    let inv = c.bindings.invariant in
-    let w = c.args.self.now in
-    let last : List ℕ = name_or w.asked c.bindings.last in
-    let next : c.bindings.bindings ≡ c.in-Some.binding ∷ c.next_ref.new.self = c.in-Some.ensures.some in
-    let fine : is_misplaced (asked_for w.method) c.args.bindings ≡ is_misplaced (c.bindings.room - 1) c.next_ref.new.self =
-    grind (arith, common_steps) in
-    let on : c.ending_at-ending.result ≡ GoesOn = grind (arith, common_steps) in
-    let low : c.bindings.rows + 1 + (c.bindings.room - 1) < 2 ^ 32 = grind (arith, common_steps) in (
-      front_goes w.root w.asked last c.bindings.rows c.in-Some.binding c.args.bindings
-          c.bindings.bindings c.next_ref.new.self inv.0 next c.ending_at-ending.result c.ending_at-ending.ensures c.name-in-Some.result
-          c.name-in-Some.ensures on,
-      fine,
-      low,
-    )
+bindings-preserved c = grind (arith, common_steps, common_steps, front_goes)
 
 pub returns-clause-some : goal.returns-clause-some
 returns-clause-some c =
@@ -50,8 +36,4 @@ returns-clause-some c =
     )
 
 pub bindings-init : goal.bindings-init
-bindings-init c = (
-  ap (λ (o : List ℕ). front_from c.args.self.now.root o 0 c.args.bindings) (sym (ap (name_or c.args.self.now.asked) c.requires.none)),
-  grind (arith, common_steps),
-  grind (arith, common_steps),
-)
+bindings-init c = grind (arith, common_steps, common_steps)

@@ -1,4 +1,5 @@
-use Rattle.std.proofs.Common.{rules, ◌≡◌, ◌≤◌, ◌+◌, [], length, arith, w32, to_z, of_z, pos, refl, ap, subst, ◌∙◌}
+use Rattle.std.proofs.lemmas.Grind.{common_steps}
+use Rattle.std.proofs.Common.{rules, ◌≡◌, ◌≤◌, ◌+◌, [], length, arith, w32, to_z, of_z, pos, ap, ◌∙◌}
 use Rattle.std.proofs.lemmas.Bool.{false≢true}
 use Rattle.std.proofs.lemmas.Int.{to_z_pos, to_z-of_z}
 use Rattle.snmp_wire.specs.Canon.{canon, canon_head}
@@ -23,10 +24,7 @@ bare c = record {
 }
 
 is_request : (c : After-repetitions) → bare c ≡ record (request_of c.args.self.now) { bindings = [] }
-is_request c =
-    let id : to_z w32 c.self.inside.id ≡ pos c.self.inside.id = to_z_pos w32 c.self.inside.id c.self.invariant.id in
-    let same : to_z w32 (of_z w32 c.repetitions.result) ≡ c.repetitions.result = to_z-of_z w32 c.repetitions.result (omega arith) in
-    rw (c.as_slice.ensures.value, c.kind.ensures, id, same, c.repetitions.ensures, ← c.self.view_is) refl
+is_request c = grind (arith, common_steps, to_z, to_z_pos, of_z, to_z-of_z)
 
 named : (c : After-repetitions) → c.name-name.result ≡ c.args.self.now.asked
 named c = c.name-name.ensures ∙ ap (λ (w : Walker). w.asked) c.self.view_is
@@ -35,27 +33,10 @@ whole : (c : After-repetitions) → length (canon_head (bare c) c.asking_size-to
 whole c = request_size c.pieces.ensures c.args.self.now (bare c) (is_request c) c.name-name.result (named c) c.asking_size-total.result c.asking_size-total.ensures
 
 fits : (c : After-repetitions) → length (canon (request_of c.args.self.now)) ≤ 1000
-fits c =
-    let inside : Walker = record {
-      root = c.self.inside.root;
-      mode = c.self.inside.mode;
-      method = c.self.inside.method;
-      community = c.self.inside.community.items;
-      phase = c.self.inside.phase;
-      asked = c.self.inside.asked;
-      id = c.self.inside.id;
-      count = c.self.inside.count;
-    } in
-    subst (λ (w : Walker). length (canon (request_of w)) ≤ 1000) c.self.view_is
-    (request_short inside c.self.invariant.community c.self.invariant.identifier.short)
+fits c = grind (arith, common_steps, request_short)
 
 pub encode_head-requires : goal.encode_head-requires
-encode_head-requires c =
-    let short = asking_short c.self.inside.asked c.name-name.result c.name-name.ensures c.self.invariant.identifier.short in
-    record {
-      community = rw c.as_slice.ensures.value (omega (arith, c.self.invariant.community));
-      total = omega (arith, short, c.asking_size-total.ensures);
-    }
+encode_head-requires c = grind (arith, common_steps, asking_short)
 
 pub unreachable-requires : goal.unreachable-requires
 unreachable-requires c =

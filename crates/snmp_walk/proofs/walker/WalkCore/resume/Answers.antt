@@ -1,6 +1,5 @@
-use Rattle.snmp_agent.specs.table.Listing.{variables}
-use Rattle.snmp_walk.specs.Walk.{rest_of}
-use Rattle.std.proofs.Common.{ap, sym, List, ℕ, ◌++◌, ◌≡◌, ◌⊎◌, ◌∙◌, refl, rules}
+use Rattle.std.proofs.Common.{arith, ap, sym, List, ℕ, ◌++◌, ◌≡◌, ◌⊎◌, ◌∙◌, refl, rules}
+use Rattle.std.proofs.lemmas.Grind.{common_steps}
 use Rattle.snmp_oid.specs.Identifier.{IsBelow}
 use Rattle.snmp_walk.proofs.OrderLemmas.{wire_begins_at}
 use Rattle.snmp_walk.proofs.walker.WalkCore.resume.Goals as goal
@@ -14,6 +13,4 @@ returns-clause-fresh c =
     record { phase = refl; count = refl; begins = (h.0, c.in-Ok-sendable.ensures.ok ∙ h.1 ∙ ap (λ (r : List ℕ). r ++ h.0) (sym c.new.ensures)) }
 
 pub returns-clause-walk : goal.returns-clause-walk
-returns-clause-walk c = λ view got.
-    ap (λ (r : List ℕ). rest_of r c.in-Ok-sendable.asked (variables view)) c.new.ensures
-    ∙ ap (λ (o : List ℕ). rest_of c.args.root o (variables view)) c.in-Ok-sendable.ensures.ok
+returns-clause-walk c = grind (arith, common_steps)
