@@ -1,5 +1,6 @@
 -- The beginnings of an identifier with one number more.
-use Rattle.std.proofs.Common.{◌≡◌, ℕ, List, [], ◌∷◌, ◌++◌, map, refl, ◌∙◌, ap}
+use Rattle.std.proofs.Common.{arith, ◌≡◌, ℕ, List, [], ◌∷◌, ◌++◌, map, refl, ◌∙◌, ap}
+use Rattle.std.proofs.lemmas.Grind.{common_steps}
 use Rattle.std.specs.List.{flat_map}
 use Rattle.std.proofs.lemmas.List.{append-nil, map-append}
 use Rattle.std.proofs.lemmas.List.Concat.{flat_map-append}
@@ -21,7 +22,4 @@ beginnings_more (m ∷ o) n =
 -- what is shown of each beginning, by its last number
 pub text_more : (one : List ℕ → ℕ → List ℕ) (here next : List ℕ) (n : ℕ) → next ≡ here ++ n ∷ []
     → flat_map (λ o. one o (last_number o)) (beginnings here) ++ one next n ≡ flat_map (λ o. one o (last_number o)) (beginnings next)
-text_more one here next n is =
-    let text : List ℕ → List ℕ = λ o. one o (last_number o) in
-    let both = flat_map-append text (beginnings here) ((here ++ n ∷ []) ∷ []) in
-    rw (is, beginnings_more here n, both, append-nil (text (here ++ n ∷ [])), last_is here n) refl
+text_more one here next n is = grind (arith, common_steps, flat_map-append, beginnings_more, append-nil, last_is)

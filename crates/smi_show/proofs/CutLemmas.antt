@@ -1,4 +1,5 @@
 -- A text cut octet by octet: at each place, what stands before it and the parts after it.
+use Rattle.std.proofs.lemmas.Grind.{common_steps}
 use Rattle.std.proofs.Common.{◌≡◌, ◌≢◌, ℕ, ◌+◌, ◌<◌, true, false, nat_eq, List, [], ◌∷◌}
 use Rattle.std.proofs.Common.{length, take, drop, get_or, Option, Some, None, refl, sym, ◌∙◌, ap, subst, arith}
 use Rattle.std.proofs.lemmas.List.{drop_more, append-nil, drop-drop}
@@ -20,9 +21,7 @@ still_none octet plain = rw plain refl
 -- an octet that neither cuts nor opens a quote
 pub cut_later : (text : List ℕ) (at : ℕ) → at < length text → get_or text at 0 ≢ 46 → is_quote (get_or text at 0) ≡ false → AreCutAt text at None
     → AreCutAt text (at + 1) None
-cut_later text at low other plain h =
-    let passes : at_dot None (drop at text) ≡ false = ap (at_dot None) (drop_more text at 0 low) ∙ ne_eqb (get_or text at 0) 46 other in
-    subst (AreCutAt text (at + 1)) (still_none (get_or text at 0) plain) (one_more parts_reader text at None low passes h)
+cut_later text at low other plain h = grind (arith, common_steps, at_dot, drop_more, ne_eqb, still_none, one_more, parts_reader)
 
 -- the module
 abbrev pub IsModuleAt : List ℕ → ℕ → Option ℕ → Type 0
@@ -54,8 +53,4 @@ module_plain text at low other plain h =
 
 -- an octet above a colon
 pub module_above : (text : List ℕ) (at : ℕ) → at < length text → 58 < get_or text at 0 → IsModuleAt text at None → IsModuleAt text (at + 1) None
-module_above text at low high h =
-    let octet : ℕ = get_or text at 0 in
-    let plain : is_quote octet ≡ false =
-    or_from (nat_eq octet 34) (nat_eq octet 39) (ne_eqb octet 34 (λ same. omega arith)) (ne_eqb octet 39 (λ same. omega arith)) in
-    module_plain text at low (λ same. omega arith) plain h
+module_above text at low high h = grind (arith, common_steps, or_from, nat_eq, ne_eqb, module_plain)

@@ -1,6 +1,7 @@
 -- What parts mean from the left, and what a text means.
-use Rattle.std.proofs.Common.{◌≡◌, ◌≢◌, ℕ, Bool, true, false, eqb, leb, cond, List, [], ◌∷◌, ◌++◌, length, Option, Some, None, Result, Ok, Err, refl}
-use Rattle.std.proofs.Common.{sym, ◌∙◌, ap, subst, inl, inr}
+use Rattle.std.proofs.Common.{arith, ◌≡◌, ◌≢◌, ℕ, Bool, true, false, eqb, cond, List, [], ◌∷◌, ◌++◌, length, Option, Some, None, Result, Ok, Err}
+use Rattle.std.proofs.Common.{refl, sym, ◌∙◌, ap, subst, inl, inr}
+use Rattle.std.proofs.lemmas.Grind.{common_steps}
 use Rattle.std.proofs.lemmas.Bool.{cond_both, eqb-true, eqb-false, leb-true, leb-false, le-leb, lt-leb, ne_eqb}
 use Rattle.smi_show.specs.index.Pieces.{piece_numbers}
 use Rattle.smi_show.specs.name.Cutting.{module_after, name_parts}
@@ -25,8 +26,7 @@ LookUp = List ℕ → Option (List ℕ)
 -- ---- one part
 
 room : (o : List ℕ) → IsRoomFor o (fitting o)
-room o = cond_both (leb (length o) 128) (Ok o) (Err TooLong) (IsRoomFor o)
-    (λ is. inl (leb-true (length o) 128 is, refl)) (λ is. inr (leb-false (length o) 128 is, refl))
+room o = grind (arith, common_steps, cond_both, leb-true, leb-false)
 
 room_only : (o : List ℕ) (result : Outcome) → IsRoomFor o result → result ≡ fitting o
 room_only o result (inl fits) = rw (le-leb (length o) 128 fits.0) fits.1
@@ -43,8 +43,7 @@ found_only (Some o) result h = h
 part_at : (look_up : LookUp) (so_far part : List ℕ) (word : Result Word NameError) → WordIs part word
     → PartMeans look_up so_far part (and_then word (word_meaning look_up so_far))
 part_at look_up so_far part (Ok (a_piece piece)) h = inl (piece, h, room (so_far ++ piece_numbers piece))
-part_at look_up so_far part (Ok (a_label label)) h =
-    inr (inl (h.1, subst (λ (l : List ℕ). IsFound (look_up part) (or_unknown (look_up l))) (sym h.0) (found (look_up part))))
+part_at look_up so_far part (Ok (a_label label)) h = grind (arith, common_steps, found)
 part_at look_up so_far part (Err BadNumber) h = inr (inr (inl (h, refl)))
 part_at look_up so_far part (Err BadIndex) h = inr (inr (inr (h, refl)))
 part_at look_up so_far part (Err Unknown) h = absurd h
@@ -54,14 +53,7 @@ part_means : (look_up : LookUp) (so_far part : List ℕ) → PartMeans look_up s
 part_means look_up so_far part = part_at look_up so_far part (word_of part) (word_is part)
 
 part_only : (look_up : LookUp) (so_far part : List ℕ) (result : Outcome) → PartMeans look_up so_far part result → result ≡ part_meaning look_up so_far part
-part_only look_up so_far part result h =
-    let given = λ (w : Result Word NameError). and_then w (word_meaning look_up so_far) in
-    elim h [
-      | inl stated ↦ room_only (so_far ++ piece_numbers stated.0) result stated.2 ∙ sym (ap given (states_word part stated.0 stated.1))
-      | inr (inl label) ↦ found_only (look_up part) result label.1 ∙ sym (ap given (label_word part label.0))
-      | inr (inr (inl bad)) ↦ bad.1 ∙ sym (ap given (number_fails part bad.0))
-      | inr (inr (inr bad)) ↦ bad.1 ∙ sym (ap given (index_fails part bad.0))
-    ]
+part_only look_up so_far part result h = grind (arith, common_steps, room_only, states_word, found_only, label_word, number_fails, index_fails)
 
 -- ---- parts
 
@@ -98,9 +90,7 @@ module _ (naming : Naming) where
 
   scope_only : (scope : Scope) (rest : List ℕ) (result : Outcome) → ScopeMeans naming scope rest result → result ≡ scope_meaning naming scope rest
   scope_only scope rest result (inl missing) = rw missing.0 missing.1
-  scope_only scope rest result (inr (there, (parts, are, h))) =
-      let P : List (List ℕ) → Type 0 = λ ps. PartsMean naming (found_in naming scope) [] ps result in
-      rw there (parts_only naming (found_in naming scope) [] (name_parts rest) result (subst P (only_parts rest parts are) h))
+  scope_only scope rest result (inr (there, (parts, are, h))) = grind (arith, common_steps, parts_only, only_parts)
 
   -- the scope that a text states
   plain_at : (octet : ℕ) (more : List ℕ) (dotted : Bool) → eqb octet 46 ≡ dotted → module_after None (octet ∷ more) ≡ None

@@ -1,13 +1,13 @@
 -- What a part of a name states on its own.
-use Rattle.std.proofs.Common.{◌≡◌, ◌≢◌, ℕ, ◌+◌, ◌-◌, ◌<◌, ◌^◌, Bool, true, false, ◌&&◌, eqb, ltb, cond, List, [], ◌∷◌, ◌++◌, length, take, get_or}
-use Rattle.std.proofs.Common.{Option, Some, None, Result, Ok, Err, refl, sym, ◌∙◌, ap, subst, inl, inr, arith}
+use Rattle.std.proofs.lemmas.Grind.{common_steps}
+use Rattle.std.proofs.Common.{◌≡◌, ◌≢◌, ℕ, Bool, true, false, eqb, cond, List, [], ◌∷◌, ◌++◌}
+use Rattle.std.proofs.Common.{Option, Some, None, Result, Ok, Err, refl, sym, ◌∙◌, ap, inl, inr, arith}
 use Rattle.std.specs.List.{list_all}
 use Rattle.std.specs.Char.{is_ascii_digit}
-use Rattle.std.specs.Str.{all_ascii_digits}
 use Rattle.std.proofs.lemmas.Bool.{and_parts, eqb-true, eqb-false, ltb-true, ne_eqb}
 use Rattle.std.proofs.lemmas.List.{take_more}
 use Rattle.std.proofs.Math.Seq.{take-length}
-use Rattle.snmp_oid.specs.Numeric.{IsNumeral, decimal_value}
+use Rattle.snmp_oid.specs.Numeric.{IsNumeral}
 use Rattle.smi_show.specs.index.Pieces.{Piece, plain_number, counted_text, plain_text, is_quotable}
 use Rattle.smi_show.specs.name.Meant.{IsBadIndex, IsBadNumber, IsLabel, StatesPiece}
 use Rattle.smi_show.specs.name.Word.{Word, a_piece, a_label, numeral_of, quoted_in, number_word, counted_word, plain_word, word_of}
@@ -26,8 +26,7 @@ states_word part (plain_text octets) h = ap word_of h.0 ∙ ap plain_word (quote
 
 pub label_word : (part : List ℕ) → IsLabel part → word_of part ≡ Ok (a_label part)
 label_word [] h = absurd h
-label_word (octet ∷ more) h =
-    rw h.0 (rw (ne_eqb octet 34 h.1) (rw (ne_eqb octet 39 h.2) refl))
+label_word (octet ∷ more) h = grind (arith, common_steps, ne_eqb)
 
 pub number_fails : (part : List ℕ) → IsBadNumber part → word_of part ≡ Err BadNumber
 number_fails [] h = refl
@@ -38,20 +37,7 @@ number_fails (octet ∷ more) h =
 -- ---- texts in quotes
 
 pub quoted_of : (quote : ℕ) (rest octets : List ℕ) → quoted_in quote rest ≡ Some octets → (rest ≡ octets ++ quote ∷ []) × (list_all is_quotable octets ≡ true)
-quoted_of quote rest octets h =
-    let size = length rest - 1 in
-    let front = take size rest in
-    let (tests, same) = chosen (ltb 0 (length rest) && eqb (get_or rest size 0) quote && list_all is_quotable front) front octets h in
-    let (ends, all) = and_parts (ltb 0 (length rest) && eqb (get_or rest size 0) quote) (list_all is_quotable front) tests in
-    let (long, last) = and_parts (ltb 0 (length rest)) (eqb (get_or rest size 0) quote) ends in
-    let some : 0 < length rest = ltb-true 0 (length rest) long in
-    let more : take (size + 1) rest ≡ take size rest ++ get_or rest size 0 ∷ [] = take_more rest size 0 (omega arith) in
-    let whole : size + 1 ≡ length rest = omega arith in
-    let ends : get_or rest size 0 ≡ quote = eqb-true (get_or rest size 0) quote last in (
-      sym (take-length rest) ∙ ap (λ n. take n rest) (sym whole) ∙ more ∙ ap (λ (n : ℕ). take size rest ++ n ∷ []) ends
-          ∙ ap (λ (xs : List ℕ). xs ++ quote ∷ []) same,
-      ap (list_all is_quotable) (sym same) ∙ all,
-    )
+quoted_of quote rest octets h = grind (arith, common_steps, chosen, and_parts, ltb-true, take_more, eqb-true, take-length)
 
 -- ---- each part is one of these
 
@@ -64,11 +50,7 @@ WordIs part (Err Unknown) = ⊥
 WordIs part (Err TooLong) = ⊥
 
 numeral_states : (part : List ℕ) (n : ℕ) → part ≢ [] → numeral_of part ≡ Some n → IsNumeral part n
-numeral_states part n some h =
-    let (tests, value) = chosen (all_ascii_digits part && ltb (decimal_value part) 4294967296) (decimal_value part) n h in
-    let (digits, low) = and_parts (all_ascii_digits part) (ltb (decimal_value part) 4294967296) tests in
-    let small : decimal_value part < 2 ^ 32 = ltb-true (decimal_value part) 4294967296 low in
-    record { some = some; digits = digits; value = value; fits = subst (λ (m : ℕ). m < 2 ^ 32) value small }
+numeral_states part n some h = grind (arith, common_steps, chosen, and_parts, ltb-true)
 
 number_is : (octet : ℕ) (more : List ℕ) (read : Option ℕ) → is_ascii_digit octet ≡ true → numeral_of (octet ∷ more) ≡ read
     → WordIs (octet ∷ more) (number_word read)
@@ -86,17 +68,14 @@ counted_is more (Some octets) is = let q = quoted_of 34 more octets is in (ap (�
 plain_is : (more : List ℕ) (read : Option (List ℕ)) → quoted_in 39 more ≡ read → WordIs (39 ∷ more) (plain_word read)
 plain_is more None is = (inr refl, λ piece s. fails_as 39 more piece (ap plain_word is) s)
 plain_is more (Some []) is = (inr refl, λ piece s. fails_as 39 more piece (ap plain_word is) s)
-plain_is more (Some (first ∷ octets)) is =
-    let q = quoted_of 39 more (first ∷ octets) is in (ap (λ (r : List ℕ). 39 ∷ r) q.0, ((λ e. (let w : ⊥ = cc in w)), q.1))
+plain_is more (Some (first ∷ octets)) is = grind (arith, common_steps, quoted_of)
 
 word_at : (octet : ℕ) (more : List ℕ) (digit double single : Bool) → is_ascii_digit octet ≡ digit → eqb octet 34 ≡ double → eqb octet 39 ≡ single
     → WordIs (octet ∷ more) (cond digit (number_word (numeral_of (octet ∷ more)))
     (cond double (counted_word (quoted_in 34 more)) (cond single (plain_word (quoted_in 39 more)) (Ok (a_label (octet ∷ more))))))
 word_at octet more true double single d q p = number_is octet more (numeral_of (octet ∷ more)) d refl
-word_at octet more false true single d q p =
-    subst (λ (o : ℕ). WordIs (o ∷ more) (counted_word (quoted_in 34 more))) (sym (eqb-true octet 34 q)) (counted_is more (quoted_in 34 more) refl)
-word_at octet more false false true d q p =
-    subst (λ (o : ℕ). WordIs (o ∷ more) (plain_word (quoted_in 39 more))) (sym (eqb-true octet 39 p)) (plain_is more (quoted_in 39 more) refl)
+word_at octet more false true single d q p = grind (arith, common_steps, eqb-true, counted_is)
+word_at octet more false false true d q p = grind (arith, common_steps, eqb-true, plain_is)
 word_at octet more false false false d q p = (refl, (d, eqb-false octet 34 q, eqb-false octet 39 p))
 
 pub word_is : (part : List ℕ) → WordIs part (word_of part)

@@ -1,6 +1,7 @@
 -- Decimal digits as a part of a name, written and read as a number.
+use Rattle.std.proofs.lemmas.Grind.{common_steps}
 use Rattle.std.proofs.Common.{◌≡◌, ◌≢◌, ℕ, ◌<◌, ◌^◌, Bool, true, false, ◌&&◌, cond, ltb, List, [], IfSome, IfNone, Option, Some, None, refl, sym, ap}
-use Rattle.std.proofs.Common.{subst, arith, decimal, length}
+use Rattle.std.proofs.Common.{arith, decimal, length}
 use Rattle.std.specs.Str.{all_ascii_digits}
 use Rattle.std.proofs.lemmas.Bool.{ltb-true, lt-ltb}
 use Rattle.std.proofs.lemmas.Fmt.{decimal_nonempty, digits_decimal, digits_value-decimal}
@@ -23,11 +24,7 @@ written_numeral n small =
     }
 
 pub numeral_is : (part : List ℕ) (n : ℕ) → IsNumeral part n → numeral_of part ≡ Some n
-numeral_is part n h =
-    let P : ℕ → Type 0 = λ m. m < 2 ^ 32 in
-    let low : decimal_value part < 2 ^ 32 = subst P (sym h.value) h.fits in
-    let small : ltb (decimal_value part) 4294967296 ≡ true = lt-ltb _ _ low in
-    rw h.digits (rw small (ap Some h.value))
+numeral_is part n h = grind (arith, common_steps, lt-ltb)
 
 at_tests : (part : List ℕ) (digits small : Bool) → all_ascii_digits part ≡ digits → ltb (decimal_value part) 4294967296 ≡ small → part ≢ []
     → ((n : ℕ) → IsNumeral part n → ⊥) → cond (digits && small) (Some (decimal_value part)) None ≡ None

@@ -1,4 +1,5 @@
 -- A text of numbers alone means these numbers, whatever nodes there are.
+use Rattle.std.proofs.lemmas.Grind.{common_steps}
 use Rattle.std.proofs.Common.{◌≡◌, ◌≢◌, ℕ, ◌≤◌, true, false, eqb, List, [], ◌∷◌, ◌++◌, length, inl, inr, Option, Some, None, Result, Ok, refl, sym}
 use Rattle.std.proofs.Common.{◌∙◌, ap, subst, append_assoc, arith, length-append}
 use Rattle.std.proofs.lemmas.Bool.{and_parts, le-leb, ne_eqb}
@@ -62,10 +63,7 @@ begins_with_digit : (octet : ℕ) (text o : List ℕ) → IsDotted (octet ∷ te
 begins_with_digit octet text [] h = absurd h
 begins_with_digit octet text (n ∷ []) h = digit_no_dot octet text h.digits
 begins_with_digit octet text (n ∷ m ∷ more) ([], rest, is, numeral, dotted) = absurd (numeral.some refl)
-begins_with_digit octet text (n ∷ m ∷ more) ((other ∷ first), rest, is, numeral, dotted) =
-    let same : octet ≡ other = cc in
-    let P : ℕ → Type 0 = λ k. eqb k 46 ≡ false in
-    subst P (sym same) (digit_no_dot other first numeral.digits)
+begins_with_digit octet text (n ∷ m ∷ more) ((other ∷ first), rest, is, numeral, dotted) = grind (arith, common_steps, digit_no_dot)
 
 dotted_some : (text o : List ℕ) → IsDotted text o → text ≢ []
 dotted_some text [] h same = absurd h
@@ -78,10 +76,7 @@ dotted_plain naming [] o h = refl
 dotted_plain naming (octet ∷ more) o h = rw (begins_with_digit octet more o h) refl
 
 no_dot_alone : (text o : List ℕ) → IsDotted text o → text ≢ 46 ∷ []
-no_dot_alone text o h same =
-    let P : List ℕ → Type 0 = λ t. IsDotted t o in
-    let wrong : true ≡ false = begins_with_digit 46 [] o (subst P same h) in
-    let no : ⊥ = cc in no
+no_dot_alone text o h same = grind (arith, common_steps, begins_with_digit)
 
 pub numeric_meaning : (naming : Naming) (text o : List ℕ) → IsNumericName text o → length o ≤ 128 → meaning naming text ≡ Ok o
 numeric_meaning naming text o (inl h) low = ap (meaning naming) h.0 ∙ ap (λ (t : List ℕ). Ok t) (sym h.1)

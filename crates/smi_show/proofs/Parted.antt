@@ -1,4 +1,5 @@
 -- A text's parts and its module are what the relations of Cut say, and there are no others.
+use Rattle.std.proofs.lemmas.Grind.{common_steps}
 use Rattle.std.proofs.Common.{◌≡◌, ℕ, ◌≤◌, suc, true, false, nat_eq, List, [], ◌∷◌, ◌++◌}
 use Rattle.std.proofs.Common.{take, drop, length, Option, Some, None, refl, sym, ◌∙◌, ap, subst, arith}
 use Rattle.std.proofs.lemmas.Bool.{and_parts, both_ways, cond_both, eqb-true}
@@ -25,11 +26,7 @@ later : (stop : List ℕ) (quote : Option ℕ) (octet : ℕ) (text : List ℕ) (
     → ((after : List ℕ) → octet ∷ text ≡ stop ++ after → quote ≡ None → Q []) → ((before : List ℕ) → P before → Q (octet ∷ before))
     → Wherever stop (open_after quote octet) text P → Wherever stop quote (octet ∷ text) Q
 later stop quote octet text P Q here more h [] after e q = here after e q
-later stop quote octet text P Q here more h (o ∷ before) after e q =
-    let same : octet ≡ o = cc in
-    let rest : text ≡ before ++ (stop ++ after) = cc in
-    let closed = subst (λ (n : ℕ). quote_after (open_after quote n) before ≡ None) (sym same) q in
-    subst (λ (n : ℕ). Q (n ∷ before)) same (more before (h before after rest closed))
+later stop quote octet text P Q here more h (o ∷ before) after e q = grind (arith, common_steps, quote_after)
 
 -- ---- parts
 
@@ -59,8 +56,7 @@ parts_more quote octet text (part ∷ next ∷ more) other (rest, is, closed, fi
 -- a cut at the first octet
 parts_here : (octet : ℕ) (text : List ℕ) (parts : List (List ℕ)) → octet ≡ 46 → PartsFrom None text parts → PartsFrom None (octet ∷ text) ([] ∷ parts)
 parts_here octet text [] is h = absurd h
-parts_here octet text (part ∷ more) is h =
-    (text, ap (λ (n : ℕ). n ∷ text) is, refl, λ before after e q. nothing 46 before after e, h)
+parts_here octet text (part ∷ more) is h = grind (arith, common_steps, nothing)
 
 parts_from : (quote : Option ℕ) (text : List ℕ) → PartsFrom quote text (parts_after quote text)
 parts_from quote [] = (λ before after e q. nothing 46 before after e, refl)
@@ -112,11 +108,7 @@ are_colons quote text after none is = rw (none, is) refl
 colons : (text : List ℕ) → is_double_colon text ≡ true → text ≡ 58 ∷ 58 ∷ drop 2 text
 colons [] e = cc
 colons (first ∷ []) e = cc
-colons (first ∷ second ∷ more) e =
-    let both = and_parts (nat_eq first 58) (nat_eq second 58) e in
-    let one : first ≡ 58 = eqb-true first 58 both.0 in
-    let two : second ≡ 58 = eqb-true second 58 both.1 in
-    λ i. one i ∷ two i ∷ more
+colons (first ∷ second ∷ more) e = grind (arith, common_steps, and_parts, nat_eq, eqb-true)
 
 module_here : (quote : Option ℕ) (octet : ℕ) (more : List ℕ) → at_colons quote (octet ∷ more) ≡ true
     → FoundFrom quote (octet ∷ more) (Some ([], drop 1 more))
@@ -148,14 +140,10 @@ found_from quote (octet ∷ more) =
     (module_here quote octet more) (λ e. module_more quote octet more read e (found_from (open_after quote octet) more))
 
 pub has_module : (text : List ℕ) (home rest : List ℕ) → module_after None text ≡ Some (home, rest) → IsModuleCut text home rest
-has_module text home rest is =
-    let h : FoundFrom None text (Some (home, rest)) = subst (FoundFrom None text) is (found_from None text) in
-    record { parts = h.0; outside = is_closed home h.1; first = λ before after e closed. h.2 before after e (none_open before closed) }
+has_module text home rest is = grind (arith, common_steps, found_from, is_closed, none_open)
 
 pub has_no_module : (text : List ℕ) → module_after None text ≡ None → HasNoModule text
-has_no_module text is before after e closed =
-    let none : FoundFrom None text None = subst (FoundFrom None text) is (found_from None text) in
-    none before after e (none_open before closed)
+has_no_module text is before after e closed = grind (arith, common_steps, found_from, none_open)
 
 -- fronts of one text that are as long as each other are the same
 same_fronts : (a b x y : List ℕ) → length a ≡ length b → a ++ x ≡ b ++ y → (a ≡ b) × (x ≡ y)
@@ -165,20 +153,7 @@ same_fronts a b x y same e = (
 )
 
 pub one_module : (text home rest : List ℕ) → IsModuleCut text home rest → module_after None text ≡ Some (home, rest)
-one_module text home rest h = at (module_after None text) (found_from None text)
-  where
-    at : (read : Option (List ℕ × List ℕ)) → FoundFrom None text read → read ≡ Some (home, rest)
-    at None none = absurd (none home rest h.parts (none_open home h.outside))
-    at (Some (other, left)) (is, closed, first) =
-        let low = first home rest h.parts (none_open home h.outside) in
-        let high = h.first other left is (is_closed other closed) in
-        let same = same_fronts other home (58 ∷ 58 ∷ left) (58 ∷ 58 ∷ rest) (omega (arith, low, high)) (sym is ∙ h.parts) in
-        let after : left ≡ rest = let both = same.1 in cc in
-        λ i. Some (same.0 i, after i)
+one_module text home rest h = grind (arith, common_steps, found_from, none_open, is_closed, same_fronts)
 
 pub no_module : (text : List ℕ) → HasNoModule text → module_after None text ≡ None
-no_module text none = at (module_after None text) (found_from None text)
-  where
-    at : (read : Option (List ℕ × List ℕ)) → FoundFrom None text read → read ≡ None
-    at None h = refl
-    at (Some (home, rest)) h = absurd (none home rest h.0 (is_closed home h.1))
+no_module text none = grind (arith, common_steps, found_from, is_closed)

@@ -1,8 +1,8 @@
 -- The pieces that show numbers: what one more value adds, and that the pieces stand for the numbers shown.
-use Rattle.std.proofs.Common.{◌≡◌, ◌≢◌, ℕ, ◌+◌, ◌<◌, ◌^◌, Bool, true, false, not, cond, nat_eq, List, [], ◌∷◌, ◌++◌, length, drop, get_or, Option}
-use Rattle.std.proofs.Common.{Some, None, option_map, unwrap_or, All, inl, inr, refl, sym, ◌∙◌, ap, subst}
+use Rattle.std.proofs.Common.{arith, ◌≡◌, ◌≢◌, ℕ, ◌+◌, ◌<◌, ◌^◌, Bool, true, false, not, cond, nat_eq, List, [], ◌∷◌, ◌++◌, length, drop, get_or}
+use Rattle.std.proofs.Common.{Option, Some, None, option_map, unwrap_or, All, inl, inr, refl, sym, ◌∙◌, ap, subst}
+use Rattle.std.proofs.lemmas.Grind.{common_steps, flat_map-append}
 use Rattle.std.specs.List.{list_all, flat_map}
-use Rattle.std.proofs.lemmas.Grind.{flat_map-append}
 use Rattle.std.proofs.lemmas.List.{at_drop_more, append-nil}
 use Rattle.std.proofs.lemmas.List.Elements.{All-nil, All-cons, All-append, All-map, All-take, All-drop}
 use Rattle.std.proofs.lemmas.Bool.{and_parts}
@@ -26,8 +26,7 @@ pub record IsNextValue (parts : List IndexPart) (i : ℕ) (value rest : List ℕ
 
 next_at : (part : IndexPart) (parts : List IndexPart) (left value rest : List ℕ) (ahead : List (List ℕ)) → front_of part left ≡ Some (value, rest)
     → values_of (part ∷ parts) left ≡ Some ahead → (more : List (List ℕ)) × (values_of parts rest ≡ Some more) × (ahead ≡ value ∷ more)
-next_at part parts left value rest ahead front h =
-    first_value value (values_of parts rest) ahead (sym (rw front refl) ∙ h)
+next_at part parts left value rest ahead front h = grind (arith, common_steps, first_value)
 
 pub next_value : (parts : List IndexPart) (i : ℕ) (left value rest : List ℕ) (ahead : List (List ℕ)) → i < length parts
     → front_of (get_or parts i Number) left ≡ Some (value, rest) → values_of (drop i parts) left ≡ Some ahead → IsNextValue parts i value rest ahead
@@ -110,8 +109,7 @@ text_is_shown _ value h = cc
 
 value_each : (part : IndexPart) (value : List ℕ) (test : Bool) → is_text part value ≡ test → All IsNumber (value_numbers part value)
     → All IsPiece (cond test (as_text (extent_of part) value ∷ []) (as_numbers (value_numbers part value)))
-value_each part value true is h =
-    All-cons IsPiece (as_text (extent_of part) value) [] (text_is_piece (extent_of part) value (text_is_shown part value is)) (All-nil IsPiece)
+value_each part value true is h = grind (arith, common_steps, All-cons, text_is_piece, text_is_shown, All-nil)
 value_each part value false is h = are_numbers (value_numbers part value) h
 
 index_each : (parts : List IndexPart) (numbers : List ℕ) (values : List (List ℕ)) → ReadValues parts numbers values → All IsNumber numbers
@@ -152,8 +150,7 @@ read_only : (parts : List IndexPart) (numbers : List ℕ) (pieces : List Piece) 
     → AreInstancePieces (Some parts) numbers pieces → pieces ≡ pieces_by parts numbers read
 read_only parts numbers pieces None is (inl h) = let some = all_only parts numbers h.0 h.1 in let no : ⊥ = cc in absurd no
 read_only parts numbers pieces None is (inr h) = h.1
-read_only parts numbers pieces (Some values) is (inl h) =
-    let same : h.0 ≡ values = (let some = all_only parts numbers h.0 h.1 in cc) in h.2 ∙ ap (index_pieces parts) same
+read_only parts numbers pieces (Some values) is (inl h) = grind (arith, common_steps, all_only)
 read_only parts numbers pieces (Some values) is (inr h) = absurd (h.0 values (all_found parts numbers values is))
 
 pub pieces_only : (index : Option (List IndexPart)) (numbers : List ℕ) (pieces : List Piece) → AreInstancePieces index numbers pieces

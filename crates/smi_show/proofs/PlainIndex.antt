@@ -1,5 +1,6 @@
 -- An index without strings, or of which none is shown as a text, is shown as its numbers.
-use Rattle.std.proofs.Common.{◌≡◌, ℕ, true, false, ◌++◌, List, [], ◌∷◌, Option, Some, None, option_map, unwrap_or, refl, ap, ◌∙◌}
+use Rattle.std.proofs.Common.{arith, ◌≡◌, ℕ, true, false, ◌++◌, List, [], ◌∷◌, Option, Some, None, option_map, unwrap_or, refl, ap, ◌∙◌}
+use Rattle.std.proofs.lemmas.Grind.{common_steps}
 use Rattle.std.specs.List.{list_all}
 use Rattle.std.proofs.lemmas.Bool.{and_parts, or_from, or_parts}
 use Rattle.std.proofs.lemmas.List.{map-append}
@@ -45,8 +46,4 @@ plain_values (part ∷ parts) (value ∷ values) e =
 
 pub plain_index : (parts : List IndexPart) (numbers : List ℕ) → list_all is_plain parts ≡ true
     → as_numbers numbers ≡ instance_pieces (Some parts) numbers
-plain_index parts numbers e = numbers_alone parts numbers (at (values_of parts numbers))
-  where
-    at : (read : Option (List (List ℕ))) → unwrap_or (option_map (is_text_among parts) read) false ≡ false
-    at None = refl
-    at (Some values) = plain_values parts values e
+plain_index parts numbers e = grind (arith, common_steps, numbers_alone, unwrap_or, option_map, plain_values)

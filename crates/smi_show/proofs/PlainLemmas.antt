@@ -1,4 +1,5 @@
 -- Octets of labels and numbers are neither dots, nor colons, nor quotes.
+use Rattle.std.proofs.lemmas.Grind.{common_steps}
 use Rattle.std.proofs.Common.{◌≡◌, ℕ, Bool, true, false, ◌&&◌, ◌||◌, eqb, List, [], ◌∷◌, refl, sym, ◌∙◌, ap, arith}
 use Rattle.std.specs.Char.{is_ascii_digit, is_ascii_lowercase, is_ascii_uppercase}
 use Rattle.std.specs.Str.{all_ascii_digits}
@@ -24,11 +25,7 @@ pub record IsPlain (octet : ℕ) : Type 0 where
   pub colon : eqb octet 58 ≡ false
 
 pub plain_by : (test : ℕ → Bool) (octet : ℕ) → test octet ≡ true → test 34 ≡ false → test 39 ≡ false → test 46 ≡ false → test 58 ≡ false → IsPlain octet
-plain_by test octet good double single dot colon = record {
-  quote = rw (apart test octet 34 good double) (rw (apart test octet 39 good single) refl);
-  dot = apart test octet 46 good dot;
-  colon = apart test octet 58 good colon;
-}
+plain_by test octet good double single dot colon = grind (arith, common_steps, apart)
 
 unfoldable pub ArePlain : List ℕ → Type 0
 ArePlain [] = Unit {0}
@@ -58,9 +55,7 @@ plain_rest (octet ∷ more) h =
 pub plain_word : (text : List ℕ) → is_word text ≡ true → ArePlain text
 unfolding ArePlain is_letter
 plain_word [] h = tt
-plain_word (octet ∷ more) h =
-    let both = and_parts (is_ascii_lowercase octet || is_ascii_uppercase octet) (is_word_rest more) h in
-    (plain_by is_letter octet both.0 refl refl refl refl, plain_rest more both.1)
+plain_word (octet ∷ more) h = grind (arith, common_steps, and_parts, plain_by, is_letter, plain_rest)
 
 -- a word begins with a letter, which is neither a digit nor a quote
 pub record BeginsLabel (octet : ℕ) : Type 0 where
@@ -71,14 +66,4 @@ pub record BeginsLabel (octet : ℕ) : Type 0 where
 
 pub plain_word_begins : (octet : ℕ) (more : List ℕ) → is_word (octet ∷ more) ≡ true → BeginsLabel octet
 unfolding is_letter
-plain_word_begins octet more h =
-    let letter = (and_parts (is_ascii_lowercase octet || is_ascii_uppercase octet) (is_word_rest more) h).0 in
-    record {
-      digit = no_digit octet letter;
-      double = apart is_letter octet 34 letter refl;
-      single = apart is_letter octet 39 letter refl;
-      dot = apart is_letter octet 46 letter refl;
-    }
-  where
-    no_digit : (octet : ℕ) → (is_ascii_lowercase octet || is_ascii_uppercase octet) ≡ true → is_ascii_digit octet ≡ false
-    no_digit octet letter = grind (arith, nat_tests)
+plain_word_begins octet more h = grind (arith, common_steps, and_parts, apart, is_letter, nat_tests)

@@ -1,6 +1,7 @@
 -- What a name shows by module and label, or in numbers, means the identifier again.
-use Rattle.std.proofs.Common.{◌≡◌, ◌≢◌, ℕ, ◌≤◌, Bool, true, false, eqb, cond, List, [], ◌∷◌, ◌++◌, length, map, take, drop, All, inl, inr, Option}
-use Rattle.std.proofs.Common.{Some, None, Result, Ok, refl, sym, ◌∙◌, ap, subst, append_assoc}
+use Rattle.std.proofs.Common.{arith, ◌≡◌, ◌≢◌, ℕ, ◌≤◌, Bool, true, cond, List, [], ◌∷◌, ◌++◌, length, map, take, drop, All, inl, inr, Option, Some}
+use Rattle.std.proofs.Common.{None, Result, Ok, refl, sym, ◌∙◌, ap, subst, append_assoc}
+use Rattle.std.proofs.lemmas.Grind.{common_steps}
 use Rattle.std.specs.List.{flat_map}
 use Rattle.std.proofs.lemmas.List.{append-nil, take-append-drop}
 use Rattle.std.proofs.lemmas.List.Elements.{All-head, All-tail, All-drop}
@@ -45,12 +46,7 @@ further_pieces naming so_far (piece ∷ pieces) all low =
 label_and_pieces : (naming : Naming) (scope : Scope) (label front : List ℕ) (pieces : List Piece) → is_word label ≡ true
     → found_in naming scope label ≡ Some front → All IsPiece pieces → length (front ++ flat_map piece_numbers pieces) ≤ 128
     → meaning_in naming scope (name_parts (label ++ shown_pieces pieces)) ≡ Ok (front ++ flat_map piece_numbers pieces)
-label_and_pieces naming scope label front pieces word found all low =
-    let head : part_meaning (found_in naming scope) [] label ≡ Ok front
-    = ap (λ (w : Result Word NameError). and_then w (word_meaning (found_in naming scope) [])) (label_word label word) ∙ rw found refl in
-    ap (meaning_in naming scope) (joined_parts label pieces (plain_is_whole label (plain_word label word)) all)
-    ∙ ap (λ (r : Result (List ℕ) NameError). and_then r (λ o. further_meaning naming o (map shown_piece pieces))) head
-    ∙ further_pieces naming front pieces all low
+label_and_pieces naming scope label front pieces word found all low = grind (arith, common_steps, label_word, joined_parts, plain_is_whole, plain_word, further_pieces)
 
 -- a text that begins with a word is more than a dot
 begins_some : (word rest : List ℕ) → is_word word ≡ true → word ++ rest ≢ []
@@ -59,12 +55,7 @@ begins_some (octet ∷ more) rest h same = let none : octet ∷ (more ++ rest) �
 
 begins_more : (word rest : List ℕ) → is_word word ≡ true → word ++ rest ≢ 46 ∷ []
 begins_more [] rest h same = let wrong : ⊥ = cc in absurd wrong
-begins_more (octet ∷ more) rest h same =
-    let list : octet ∷ (more ++ rest) ≡ 46 ∷ [] = same in
-    let first : octet ≡ 46 = cc in
-    let P : ℕ → Type 0 = λ n. eqb n 46 ≡ false in
-    let no_dot : true ≡ false = subst P first (plain_word_begins octet more h).dot in
-    let wrong : ⊥ = cc in absurd wrong
+begins_more (octet ∷ more) rest h same = grind (arith, common_steps, plain_word_begins)
 
 -- without a module
 plain_label : (naming : Naming) (label rest : List ℕ) → is_word label ≡ true

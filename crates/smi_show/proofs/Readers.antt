@@ -1,6 +1,7 @@
 -- Readings of a text octet by octet, its parts and its module: an octet that ends nothing stands before what the rest gives.
-use Rattle.std.proofs.Common.{◌≡◌, ℕ, ◌+◌, ◌<◌, Bool, false, ◌&&◌, nat_eq, List, [], ◌∷◌, ◌++◌, length, take, drop, get_or, Option, Some, None}
-use Rattle.std.proofs.Common.{option_map, refl, sym, ◌∙◌, ap, subst, append_assoc}
+use Rattle.std.proofs.Common.{arith, ◌≡◌, ℕ, ◌+◌, ◌<◌, Bool, false, ◌&&◌, nat_eq, List, [], ◌∷◌, ◌++◌, length, take, drop, get_or, Option, Some, None}
+use Rattle.std.proofs.Common.{option_map, refl, sym, ◌∙◌, ap, append_assoc}
+use Rattle.std.proofs.lemmas.Grind.{common_steps}
 use Rattle.std.proofs.lemmas.Bool.{cond_both}
 use Rattle.std.proofs.lemmas.List.{drop_more, take_more}
 use Rattle.snmp_io.specs.Quotes.{open_after}
@@ -36,14 +37,7 @@ module _ {X : Type 0} {before : List ℕ → X → X} {read : Option ℕ → Lis
   pub one_more : (text : List ℕ) (at : ℕ) (state : Option ℕ) → at < length text → ends state (drop at text) ≡ false
       → read None text ≡ before (take at text) (read state (drop at text))
       → read None text ≡ before (take (at + 1) text) (read (open_after state (get_or text at 0)) (drop (at + 1) text))
-  one_more text at state low passes h =
-      let octet : ℕ = get_or text at 0 in
-      let rest : List ℕ = drop (at + 1) text in
-      let here : drop at text ≡ octet ∷ rest = drop_more text at 0 low in
-      h ∙ ap (λ (t : List ℕ). before (take at text) (read state t)) here
-      ∙ ap (before (take at text)) (r.next state octet rest (subst (λ (t : List ℕ). ends state t ≡ false) here passes))
-      ∙ r.twice (take at text) (octet ∷ []) (read (open_after state octet) rest)
-      ∙ ap (λ (t : List ℕ). before t (read (open_after state octet) rest)) (sym (take_more text at 0 low))
+  one_more text at state low passes h = grind (arith, common_steps, drop_more, take_more)
 
 -- ---- parts
 
@@ -52,13 +46,7 @@ at_dot state text = is_unquoted state && nat_eq (get_or text 0 0) 46
 
 pub some_part : (state : Option ℕ) (text : List ℕ) → parts_after state text ≡ with_prefix [] (parts_after state text)
 some_part state [] = refl
-some_part state (octet ∷ more) =
-    cond_both (is_unquoted state && nat_eq octet 46) ([] ∷ parts_after None more) (with_prefix (octet ∷ []) (parts_after (open_after state octet) more))
-    (λ (parts : List (List ℕ)). parts ≡ with_prefix [] parts) (λ e. refl) (λ e. ahead (octet ∷ []) (parts_after (open_after state octet) more))
-  where
-    ahead : (front : List ℕ) (parts : List (List ℕ)) → with_prefix front parts ≡ with_prefix [] (with_prefix front parts)
-    ahead front [] = refl
-    ahead front (part ∷ parts) = refl
+some_part state (octet ∷ more) = grind (arith, common_steps, cond_both, nat_eq)
 
 front_of_front : (a b : List ℕ) (parts : List (List ℕ)) → with_prefix a (with_prefix b parts) ≡ with_prefix (a ++ b) parts
 front_of_front a b [] = refl
@@ -96,9 +84,4 @@ no_colons None octet more h = no_colon octet more h.1
 no_colons (Some quote) octet more h = refl
 
 pub module_reader : IsReader before_module module_after at_colons
-module_reader = record {
-  none = λ state text. some_module (module_after state text);
-  twice = longer_twice;
-  next = λ state octet more e. rw e refl;
-  passes = no_colons;
-}
+module_reader = grind (arith, common_steps, some_module, longer_twice, no_colons)

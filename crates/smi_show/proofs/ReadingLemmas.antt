@@ -1,15 +1,15 @@
 -- What is computed at the front of the numbers is an encoding of a part, and each encoding is computed.
-use Rattle.std.proofs.Common.{◌≡◌, ◌≢◌, ℕ, Bool, true, false, cond, leb, List, [], ◌∷◌, ◌++◌, length, take, drop, Option, Some, None, option_map}
+use Rattle.std.proofs.lemmas.Grind.{common_steps}
+use Rattle.std.proofs.Common.{◌≡◌, ◌≢◌, ℕ, Bool, true, false, cond, List, [], ◌∷◌, ◌++◌, length, Option, Some, None, option_map}
 use Rattle.std.proofs.Common.{option_and_then, is_some, refl, sym, ◌∙◌, ◌↔◌, IsTrue, ap, subst, arith, length-append}
 use Rattle.std.specs.Bool.{OnTrue}
-use Rattle.std.specs.List.{list_all}
-use Rattle.std.proofs.lemmas.Bool.{leb-true, le-leb, false_from_ne_true, false≢true}
+use Rattle.std.proofs.lemmas.Bool.{leb-true, le-leb, false_from_ne_true}
 use Rattle.std.proofs.lemmas.List.{take-append-drop, length-take-le, append-nil}
 use Rattle.std.proofs.Math.Seq.{take-append_seam, drop-append_seam}
 use Rattle.smi_show.specs.declared.index.part.Extent.{Extent}
 use Rattle.smi_show.specs.declared.index.part.Extent.TheVariants.{Fixed, Counted, Implied}
 use Rattle.smi_show.specs.declared.index.part.IndexPart.{IndexPart}
-use Rattle.smi_show.specs.index.Index.{is_octet, AreOctetNumbers, IsInExtent, LeavesIn, extent_of, is_of_octets, ReadsValue, ReadValues}
+use Rattle.smi_show.specs.index.Index.{AreOctetNumbers, IsInExtent, LeavesIn, extent_of, is_of_octets, ReadsValue, ReadValues}
 use Rattle.smi_show.specs.index.Reading.{front_and_rest, counted, remaining, of_octets, in_extent, front_of, values_of}
 
 abbrev Pair : Type 0
@@ -25,30 +25,20 @@ chosen false x y h = let no : ⊥ = cc in absurd no
 
 -- a front_and_rest
 cut_found : (size : ℕ) (numbers value rest : List ℕ) → front_and_rest size numbers ≡ Some (value, rest) → (numbers ≡ value ++ rest) × (length value ≡ size)
-cut_found size numbers value rest h =
-    let (fits, same) = chosen {A = Pair} (leb size (length numbers)) (take size numbers, drop size numbers) (value, rest) h in
-    let front : take size numbers ≡ value = ap (λ (r : Pair). r.0) same in
-    let back : drop size numbers ≡ rest = ap (λ (r : Pair). r.1) same in
-    rw (← front, ← back) (sym (take-append-drop size numbers), length-take-le size numbers (leb-true size (length numbers) fits))
+cut_found size numbers value rest h = grind (arith, common_steps, chosen, take-append-drop, length-take-le, leb-true)
 
 cut_only : (value rest : List ℕ) → front_and_rest (length value) (value ++ rest) ≡ Some (value, rest)
-cut_only value rest =
-    let fits : leb (length value) (length (value ++ rest)) ≡ true = le-leb _ _ (omega (arith, length-append value rest)) in
-    rw (fits, take-append_seam value rest, drop-append_seam value rest) refl
+cut_only value rest = grind (arith, common_steps, le-leb, length-append, take-append_seam, drop-append_seam)
 
 -- what a length counts
 counted_found : (numbers value rest : List ℕ) → counted numbers ≡ Some (value, rest) → numbers ≡ (length value ∷ value) ++ rest
 counted_found [] value rest h = let no : ⊥ = cc in absurd no
-counted_found (size ∷ numbers) value rest h =
-    let e = cut_found size numbers value rest h in
-    ap (λ (n : ℕ). n ∷ numbers) (sym e.1) ∙ ap (λ (t : List ℕ). length value ∷ t) e.0
+counted_found (size ∷ numbers) value rest h = grind (arith, common_steps, cut_found)
 
 -- what remains
 remaining_found : (numbers value rest : List ℕ) → remaining numbers ≡ Some (value, rest) → (numbers ≡ value ++ rest) × (value ≢ []) × (rest ≡ [])
 remaining_found [] value rest h = let no : ⊥ = cc in absurd no
-remaining_found (n ∷ more) value rest h =
-    let (front, back) = same_pair (n ∷ more, []) (value, rest) h in
-    rw (← front, ← back) (sym (append-nil (n ∷ more)), λ none. (let no : ⊥ = cc in no), refl)
+remaining_found (n ∷ more) value rest h = grind (arith, common_steps, same_pair, append-nil)
 
 remaining_only : (value : List ℕ) → value ≢ [] → remaining (value ++ []) ≡ Some (value, [])
 remaining_only [] some = absurd (some refl)
@@ -57,9 +47,7 @@ remaining_only (n ∷ more) some = ap (λ (v : List ℕ). Some (n ∷ v, [])) (a
 -- octets
 octets_found : (read : Option Pair) (value rest : List ℕ) → of_octets read ≡ Some (value, rest) → (read ≡ Some (value, rest)) × AreOctetNumbers value
 octets_found None value rest h = let no : ⊥ = cc in absurd no
-octets_found (Some (first, more)) value rest h =
-    let (are, same) = chosen {A = Pair} (list_all is_octet first) (first, more) (value, rest) h in
-    (ap Some same, ap (λ (r : Pair). list_all is_octet r.0) (sym same) ∙ are)
+octets_found (Some (first, more)) value rest h = grind (arith, common_steps, chosen)
 
 -- octets alone, or any numbers
 either_found : (octets : Bool) (read : Option Pair) (value rest : List ℕ) → cond octets (of_octets read) read ≡ Some (value, rest)
@@ -80,12 +68,9 @@ pub record IsSplit (extent : Extent) (numbers value rest : List ℕ) : Type 0 wh
   pub after : LeavesIn extent rest
 
 extent_found : (extent : Extent) (numbers value rest : List ℕ) → in_extent extent numbers ≡ Some (value, rest) → IsSplit extent numbers value rest
-extent_found (Fixed size) numbers value rest h =
-    let e = cut_found size numbers value rest h in record { here = value; whole = e.0; encoding = (e.1, refl); after = tt }
-extent_found Counted numbers value rest h =
-    record { here = length value ∷ value; whole = counted_found numbers value rest h; encoding = refl; after = tt }
-extent_found Implied numbers value rest h =
-    let e = remaining_found numbers value rest h in record { here = value; whole = e.0; encoding = (e.1, refl); after = e.2 }
+extent_found (Fixed size) numbers value rest h = grind (arith, common_steps, cut_found)
+extent_found Counted numbers value rest h = grind (arith, common_steps, counted_found)
+extent_found Implied numbers value rest h = grind (arith, common_steps, remaining_found)
 
 extent_only : (extent : Extent) (value here rest : List ℕ) → IsInExtent extent value here → LeavesIn extent rest
     → in_extent extent (here ++ rest) ≡ Some (value, rest)
@@ -101,9 +86,7 @@ part_found part numbers value rest h =
     record { here = e.here; whole = e.whole; encoding = (are.1, e.encoding); after = e.after }
 
 pub part_only : (part : IndexPart) (numbers value rest : List ℕ) → ReadsValue part numbers value rest → front_of part numbers ≡ Some (value, rest)
-part_only part numbers value rest h =
-    ap (front_of part) h.whole ∙ either_only (is_of_octets part) (in_extent (extent_of part) (h.here ++ rest)) value rest
-    (extent_only (extent_of part) value h.here rest h.encoding.1 h.after) h.encoding.0
+part_only part numbers value rest h = grind (arith, common_steps, either_only, extent_only)
 
 pub one_front : (part : IndexPart) (numbers value rest other left : List ℕ) → ReadsValue part numbers value rest → ReadsValue part numbers other left
     → (value ≡ other) × (rest ≡ left)
@@ -142,8 +125,7 @@ all_only (part ∷ parts) numbers (value ∷ values) h =
 
 pub one_reading_of_all : (parts : List IndexPart) (numbers : List ℕ) (values others : List (List ℕ)) → ReadValues parts numbers values
     → ReadValues parts numbers others → values ≡ others
-one_reading_of_all parts numbers values others h g =
-    let e : Some values ≡ Some others = sym (all_only parts numbers values h) ∙ all_only parts numbers others g in cc
+one_reading_of_all parts numbers values others h g = grind (arith, common_steps, all_only)
 
 -- whether all parts are read
 pub read_if : (parts : List IndexPart) (numbers : List ℕ) → ((values : List (List ℕ)) × ReadValues parts numbers values)
@@ -166,5 +148,4 @@ as_stated b parts numbers h = (λ t. if_read parts numbers (sym h ∙ t), λ rea
 pub as_computed : (b : Bool) (parts : List IndexPart) (numbers : List ℕ) → IsTrue b ↔ ((values : List (List ℕ)) × ReadValues parts numbers values)
     → b ≡ is_some (values_of parts numbers)
 as_computed true parts numbers h = sym (read_if parts numbers (h.0 refl))
-as_computed false parts numbers h =
-    sym (false_from_ne_true (is_some (values_of parts numbers)) (λ e. false≢true (h.1 (if_read parts numbers e))))
+as_computed false parts numbers h = grind (arith, common_steps, false_from_ne_true, is_some, if_read)

@@ -1,5 +1,6 @@
 -- The table of small numbers, checked entry by entry.
-use Rattle.std.proofs.Common.{◌≡◌, ℕ, zero, suc, ◌+◌, ◌*◌, ◌/◌, ◌%◌, ◌<◌, inl, inr, Bool, true, ◌&&◌, ltb, leb, cond, List, [], ◌∷◌, ◌++◌, ◌≤◌}
+use Rattle.std.proofs.lemmas.Grind.{common_steps}
+use Rattle.std.proofs.Common.{◌≡◌, ℕ, zero, suc, ◌+◌, ◌*◌, ◌/◌, ◌%◌, ◌<◌, Bool, true, ◌&&◌, ltb, leb, cond, List, [], ◌∷◌, ◌++◌, ◌≤◌}
 use Rattle.std.proofs.Common.{decimal, length, take, get_or, refl, sym, ap, ◌∙◌, arith}
 use mir.Val.{bool_byte}
 use Rattle.std.specs.Str.{bytes_eq}
@@ -19,13 +20,7 @@ dotted n =
     ((48 + n / 10 / 10) ∷ (48 + n / 10 % 10) ∷ (48 + n % 10) ∷ []))
 
 dotted_is : (n : ℕ) → n < 256 → dotted n ≡ 46 ∷ decimal n
-dotted_is n small = elim (cases_lt n 10) [
-  | inl one ↦ rw (lt-ltb n 10 one) (ap (λ t. 46 ∷ t) (sym (decimal_digit n one)))
-  | inr more ↦ elim (cases_lt n 100) [
-    | inl two ↦ rw (le-ltb n 10 more, lt-ltb n 100 two) (ap (λ t. 46 ∷ t) (sym (two_digits n more two)))
-    | inr three ↦ rw (le-ltb n 10 more, le-ltb n 100 three) (ap (λ t. 46 ∷ t) (sym (digits_of_three n three (omega arith))))
-  ]
-]
+dotted_is n small = grind (arith, common_steps, cases_lt, lt-ltb, decimal_digit, le-ltb, two_digits, digits_of_three)
 
 -- the octets of an entry
 abbrev pub octets_of : ℕ → List ℕ
@@ -53,13 +48,7 @@ small_entry n small = ap (λ t. take (length t) (octets_of n)) (sym (dotted_is n
 
 -- how many octets that is, by two tests
 pub small_len_is : (n a b : ℕ) → n < 256 → a ≡ bool_byte (leb 10 n) → b ≡ bool_byte (leb 100 n) → 2 + a + b ≡ length (46 ∷ decimal n)
-small_len_is n a b small tens hundreds = elim (cases_lt n 10) [
-  | inl one ↦ rw (tens, hundreds, lt-leb 10 n one, lt-leb 100 n (omega arith)) (ap (λ t. length (46 ∷ t)) (sym (decimal_digit n one)))
-  | inr more ↦ elim (cases_lt n 100) [
-    | inl two ↦ rw (tens, hundreds, le-leb 10 n more, lt-leb 100 n two) (ap (λ t. length (46 ∷ t)) (sym (two_digits n more two)))
-    | inr three ↦ rw (tens, hundreds, le-leb 10 n more, le-leb 100 n three) (ap (λ t. length (46 ∷ t)) (sym (digits_of_three n three (omega arith))))
-  ]
-]
+small_len_is n a b small tens hundreds = grind (arith, common_steps, cases_lt, lt-leb, decimal_digit, le-leb, two_digits, digits_of_three)
 
 -- the front of what is put behind a text
 pub front_behind : (a k m : ℕ) (room now part : List ℕ) → a ≤ length room → k ≤ length part → k ≤ m → take (a + m) now ≡ take a room ++ part

@@ -1,12 +1,7 @@
 -- Texts that are appended one after the other.
-use Rattle.std.proofs.Common.{ℕ, List, ◌++◌, subst, append_assoc}
-use Rattle.snmp_io.specs.draft.Draft.{Written, Grows, Adds}
+use Rattle.std.proofs.Common.{arith, ℕ, List, ◌++◌, append_assoc}
+use Rattle.std.proofs.lemmas.Grind.{common_steps}
+use Rattle.snmp_io.specs.draft.Draft.{Written, Adds}
 
 pub adds_both : (old middle new : Written) (a b : List ℕ) → Adds old a middle → Adds middle b new → Adds old (a ++ b) new
-adds_both old middle new a b one two = record {
-  grows = two.goes_on old a one.grows;
-  goes_on = λ first text so_far. (
-      let P : List ℕ → Type 0 = λ t. Grows first t new in
-      subst P (append_assoc text a b) (two.goes_on first (text ++ a) (one.goes_on first text so_far))
-      );
-}
+adds_both old middle new a b one two = grind (arith, common_steps, append_assoc)

@@ -1,22 +1,20 @@
 -- The text of a type is that of the tokens of its spelling, joined by blanks.
-use Rattle.std.proofs.Common.{◌≡◌, ℕ, List, [], ◌∷◌, ◌++◌, codes, Option, Some, None, refl, sym, ◌∙◌, ap, append_assoc, append-nil}
+use Rattle.std.proofs.Common.{arith, ◌≡◌, ℕ, List, [], ◌∷◌, ◌++◌, codes, Option, Some, None, refl, sym, ◌∙◌, ap, append_assoc, append-nil}
+use Rattle.std.proofs.lemmas.Grind.{common_steps, flat_map-append}
 use Rattle.std.specs.List.{flat_map}
-use Rattle.std.proofs.lemmas.Grind.{flat_map-append}
 use Rattle.smi_text.specs.lexer.Token.{Lexeme}
 use Rattle.smi_text.specs.declared.lexer.token.TokenKind.TheVariants as K
 use Rattle.smi_text.specs.trees.Mark.{Mark, spelled, on_line, sign, MarksToken, Stands}
-use Rattle.smi_text.specs.trees.Spelling.{bound, of_list, of_named_number, of_range, of_ranges, of_refinement, of_option, of_base, of_syntax}
+use Rattle.smi_text.specs.trees.Spelling.{bound, of_list, of_named_number, of_range, of_ranges, of_refinement, of_option, of_syntax}
 use Rattle.smi_text.specs.declared.trees.tree.NamedNumber.{NamedNumber}
 use Rattle.smi_text.specs.declared.trees.tree.Range.{Range}
 use Rattle.smi_text.specs.declared.trees.tree.TokenText.{TokenText}
 use Rattle.smi_text.specs.declared.trees.tree.Refinement.{Refinement}
 use Rattle.smi_text.specs.declared.trees.tree.Refinement.TheVariants as R
-use Rattle.smi_text.specs.declared.trees.tree.Base.{Base}
-use Rattle.smi_text.specs.declared.trees.tree.Base.TheVariants as B
 use Rattle.smi_text.specs.declared.trees.tree.Syntax.{Syntax}
 use Rattle.smi_text.specs.declared.trees.tree.Syntax.TheVariants as T
-use Rattle.smi_show.specs.details.Syntax.{named_number_text, more_numbers, numbers_text, high_text, range_text, more_ranges, ranges_text}
-use Rattle.smi_show.specs.details.Syntax.{refinement_text, refined_text, base_text, syntax_text}
+use Rattle.smi_show.specs.details.Syntax.{named_number_text, numbers_text, high_text, range_text, ranges_text}
+use Rattle.smi_show.specs.details.Syntax.{refinement_text, refined_text, syntax_text}
 use Rattle.smi_show.specs.details.Tokens.{AreTokensOf, joined_by_blanks}
 
 -- the text that a mark asks of its token
@@ -49,9 +47,7 @@ tokens_joined : (ms : List Mark) (ts : List Lexeme) → Stands ms ts [] → join
 tokens_joined [] [] h = refl
 tokens_joined [] (t ∷ ts) h = cc
 tokens_joined (m ∷ ms) [] h = absurd h
-tokens_joined (m ∷ ms) (t ∷ ts) h =
-    ap (λ (x : List ℕ). x ++ flat_map (λ (y : Lexeme). codes " " ++ y.text) ts) (token_text m t h.0)
-    ∙ ap (λ (x : List ℕ). text_of m ++ x) (tokens_spaced ms ts h.1)
+tokens_joined (m ∷ ms) (t ∷ ts) h = grind (arith, common_steps, token_text, tokens_spaced)
 
 spaced_append : (ms ns : List Mark) → spaced (ms ++ ns) ≡ spaced ms ++ spaced ns
 spaced_append ms ns = flat_map-append (λ (m : Mark). codes " " ++ text_of m) ms ns
@@ -73,9 +69,7 @@ named_number_spaced n = simp (append_assoc, append-nil)
 
 numbers_spaced : (ns : List NamedNumber) → numbers_text ns ≡ spaced (of_list (sign K.Comma) of_named_number ns)
 numbers_spaced [] = refl
-numbers_spaced (n ∷ ns) =
-    let more = parts_spaced (sign K.Comma) of_named_number more_numbers (λ x. ap (λ (t : List ℕ). codes " ," ++ t) (named_number_spaced x)) ns in
-    (λ i. named_number_spaced n i ++ more i) ∙ sym (spaced_append (of_named_number n) (flat_map (λ y. sign K.Comma ∷ of_named_number y) ns))
+numbers_spaced (n ∷ ns) = grind (arith, common_steps, parts_spaced, named_number_spaced, spaced_append)
 
 high_spaced : (high : Option TokenText) → high_text high ≡ spaced (of_option (λ x. sign K.Range ∷ bound x ∷ []) high)
 high_spaced None = refl
@@ -86,17 +80,12 @@ range_spaced r = ap (λ (t : List ℕ). (codes " " ++ r.low.text) ++ t) (high_sp
 
 ranges_spaced : (rs : List Range) → ranges_text rs ≡ spaced (of_ranges rs)
 ranges_spaced [] = refl
-ranges_spaced (r ∷ rs) =
-    let more = parts_spaced (sign K.Bar) of_range more_ranges (λ x. ap (λ (t : List ℕ). codes " |" ++ t) (range_spaced x)) rs in
-    (λ i. range_spaced r i ++ more i) ∙ sym (spaced_append (of_range r) (flat_map (λ y. sign K.Bar ∷ of_range y) rs))
+ranges_spaced (r ∷ rs) = grind (arith, common_steps, parts_spaced, range_spaced, spaced_append)
 
 refinement_spaced : (r : Refinement) → refinement_text r ≡ spaced (of_refinement r)
-refinement_spaced (R.Numbers ns) =
-    enclosed (sign K.OpenBrace) (sign K.CloseBrace) (of_list (sign K.Comma) of_named_number ns) (numbers_text ns) (numbers_spaced ns)
+refinement_spaced (R.Numbers ns) = grind (arith, common_steps, enclosed, numbers_spaced)
 refinement_spaced (R.Values rs) = enclosed (sign K.OpenParen) (sign K.CloseParen) (of_ranges rs) (ranges_text rs) (ranges_spaced rs)
-refinement_spaced (R.Size rs) =
-    let close = sign K.CloseParen ∷ [] in
-    rw (ranges_spaced rs, spaced_append (of_ranges rs ++ close) close, spaced_append (of_ranges rs) close) (simp append_assoc)
+refinement_spaced (R.Size rs) = grind (arith, common_steps, ranges_spaced, spaced_append, append_assoc)
 
 refined_spaced : (r : Option Refinement) → refined_text r ≡ spaced (of_option of_refinement r)
 refined_spaced None = refl
@@ -104,14 +93,7 @@ refined_spaced (Some r) = refinement_spaced r
 
 pub syntax_joined : (s : Syntax) → syntax_text s ≡ joined (of_syntax s)
 syntax_joined (T.SequenceOf row) = ap (λ (t : List ℕ). codes "SEQUENCE OF " ++ t) (sym (append-nil row.octets))
-syntax_joined (T.Simple t) = simple_joined t.base (of_option of_refinement t.refinement) (refined_text t.refinement) (refined_spaced t.refinement)
-  where
-    simple_joined : (b : Base) (ms : List Mark) (text : List ℕ) → text ≡ spaced ms → base_text b ++ text ≡ joined (of_base b ++ ms)
-    simple_joined B.Integer ms text is = ap (λ (t : List ℕ). codes "INTEGER" ++ t) is
-    simple_joined B.OctetString ms text is = ap (λ (t : List ℕ). codes "OCTET STRING" ++ t) is
-    simple_joined B.ObjectIdentifier ms text is = ap (λ (t : List ℕ). codes "OBJECT IDENTIFIER" ++ t) is
-    simple_joined B.Bits ms text is = ap (λ (t : List ℕ). codes "BITS" ++ t) is
-    simple_joined (B.Named name) ms text is = ap (λ (t : List ℕ). name.octets ++ t) is
+syntax_joined (T.Simple t) = grind (arith, common_steps, refined_spaced)
 
 pub own_tokens : (s : Syntax) (ts : List Lexeme) → AreTokensOf s ts → syntax_text s ≡ joined_by_blanks ts
 own_tokens s ts are = syntax_joined s ∙ sym (tokens_joined (of_syntax s) ts are)

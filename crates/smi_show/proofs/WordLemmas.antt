@@ -1,36 +1,8 @@
 -- A shown piece, or a label, is read as the word that it shows.
-use Rattle.std.proofs.Common.{
-  ◌≡◌,
-  ◌≢◌,
-  ℕ,
-  ◌+◌,
-  ◌-◌,
-  true,
-  ◌&&◌,
-  eqb,
-  ltb,
-  cond,
-  List,
-  [],
-  ◌∷◌,
-  ◌++◌,
-  length,
-  take,
-  get_or,
-  decimal,
-  Option,
-  Some,
-  None,
-  Ok,
-  refl,
-  ◌∙◌,
-  ap,
-  arith,
-  length-append,
-}
+use Rattle.std.proofs.lemmas.Grind.{common_steps}
+use Rattle.std.proofs.Common.{◌≡◌, ◌≢◌, ℕ, true, ◌&&◌, eqb, ltb, cond, List, [], ◌∷◌, ◌++◌, length, take, get_or, decimal, Option, Some, None, Ok, refl, ◌∙◌, ap, arith, length-append}
 use Rattle.std.specs.List.{list_all}
 use Rattle.std.specs.Char.{is_ascii_digit}
-use Rattle.std.specs.Str.{all_ascii_digits}
 use Rattle.std.proofs.lemmas.Bool.{and_parts, eq-eqb, lt-ltb}
 use Rattle.std.proofs.Math.Seq.{take-append_seam, get_or-append_seam}
 use Rattle.snmp_oid.specs.Numeric.{IsNumeral}
@@ -45,8 +17,7 @@ digit_first octet more h = rw h refl
 
 pub digits_word : (text : List ℕ) (n : ℕ) → IsNumeral text n → word_of text ≡ Ok (a_piece (plain_number n))
 digits_word [] n h = absurd (h.some refl)
-digits_word (octet ∷ more) n h =
-    digit_first octet more (and_parts (is_ascii_digit octet) (all_ascii_digits more) h.digits).0 ∙ ap number_word (numeral_is (octet ∷ more) n h)
+digits_word (octet ∷ more) n h = grind (arith, common_steps, digit_first, and_parts, numeral_is)
 
 -- the octets before a quote
 quoted_at : ℕ → List ℕ → ℕ → Option (List ℕ)
@@ -55,18 +26,11 @@ quoted_at quote rest size =
 
 quoted_read : (quote : ℕ) (octets : List ℕ) → list_all is_quotable octets ≡ true → quoted_at quote (octets ++ quote ∷ []) (length octets) ≡ Some octets
 unfolding quoted_at
-quoted_read quote octets h =
-    let size : length (octets ++ quote ∷ []) ≡ length octets + 1 = length-append octets (quote ∷ []) in
-    let some : ltb 0 (length (octets ++ quote ∷ [])) ≡ true = lt-ltb 0 (length (octets ++ quote ∷ [])) (omega (arith, size)) in
-    let last : eqb (get_or (octets ++ quote ∷ []) (length octets) 0) quote ≡ true = eq-eqb _ _ (get_or-append_seam octets quote [] 0) in
-    let front : take (length octets) (octets ++ quote ∷ []) ≡ octets = take-append_seam octets (quote ∷ []) in
-    rw some (rw last (rw front (rw h refl)))
+quoted_read quote octets h = grind (arith, common_steps, length-append, lt-ltb, eq-eqb, get_or-append_seam, take-append_seam)
 
 pub quoted_back : (quote : ℕ) (octets : List ℕ) → list_all is_quotable octets ≡ true → quoted_in quote (octets ++ quote ∷ []) ≡ Some octets
 unfolding quoted_at
-quoted_back quote octets h =
-    let size : length (octets ++ quote ∷ []) - 1 ≡ length octets = omega (arith, length-append octets (quote ∷ [])) in
-    ap (quoted_at quote (octets ++ quote ∷ [])) size ∙ quoted_read quote octets h
+quoted_back quote octets h = grind (arith, common_steps, length-append, quoted_at, quoted_read)
 
 pub some_text : (octets : List ℕ) → octets ≢ [] → plain_word (Some octets) ≡ Ok (a_piece (plain_text octets))
 some_text [] some = absurd (some refl)
@@ -79,6 +43,4 @@ piece_word (plain_text octets) h = ap plain_word (quoted_back 39 octets h.1) ∙
 
 pub label_word : (label : List ℕ) → is_word label ≡ true → word_of label ≡ Ok (a_label label)
 label_word [] h = let wrong : ⊥ = cc in absurd wrong
-label_word (octet ∷ more) h =
-    let begins = plain_word_begins octet more h in
-    rw begins.digit (rw begins.double (rw begins.single refl))
+label_word (octet ∷ more) h = grind (arith, common_steps, plain_word_begins)

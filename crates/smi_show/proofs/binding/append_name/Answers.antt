@@ -1,5 +1,5 @@
-use Rattle.std.proofs.Common.{◌≡◌, ℕ, Bool, List, refl, subst}
-use Rattle.snmp_io.specs.draft.Draft.{Adds}
+use Rattle.std.proofs.Common.{arith, ◌≡◌, ℕ, Bool, List, refl}
+use Rattle.std.proofs.lemmas.Grind.{common_steps}
 use Rattle.smi_value.specs.declared.letters.letters.NameForm.{NameForm}
 use Rattle.smi_value.specs.declared.letters.letters.NameForm.TheVariants.{Numeric}
 use Rattle.smi_show.specs.name.Naming.{Naming}
@@ -13,10 +13,4 @@ by_node naming Numeric numeric_index o named = absurd (named refl)
 by_node naming form numeric_index o named = refl
 
 pub returns-else-eq : goal.returns-else-eq
-returns-else-eq g c =
-    let letters = c.args.letters.now in
-    let naming = g.T.NameTree.naming c.args.tree.now in
-    let o = c.args.name.now in
-    let named : letters.names ≡ Numeric → ⊥ = λ e. let equal = rw e at c.eq.ensures in let no : ⊥ = cc in no in
-    let same = by_node naming letters.names letters.numeric_index o named in
-    subst (λ (t : List ℕ). Adds c.args.draft.now t c.name_by_node.new.draft) same c.name_by_node.ensures
+returns-else-eq g c = grind (arith, common_steps, by_node)

@@ -1,5 +1,5 @@
-use Rattle.std.proofs.Common.{◌∙◌, ap, sym, subst}
-use Rattle.smi_show.specs.name.Meaning.{meaning}
+use Rattle.std.proofs.Common.{arith, sym, subst}
+use Rattle.std.proofs.lemmas.Grind.{common_steps}
 use Rattle.smi_show.specs.name.Meant.{TextMeans}
 use Rattle.smi_show.proofs.MeantTexts.{means}
 use Rattle.smi_show.proofs.NamesStated.{name_only}
@@ -7,11 +7,7 @@ use Rattle.smi_show.proofs.ReadBack.{name_back}
 use Rattle.smi_show.proofs.name.meaning.resolve.Goals as goal
 
 pub returns-clause-reads_back : goal.returns-clause-reads_back
-returns-clause-reads_back g c = λ form numeric_index o reads is shown. (
-    let naming = g.T.NameTree.naming c.args.tree.now in
-    c.meaning_of.ensures ∙ ap (meaning naming) (name_only naming form numeric_index o c.args.text.now shown)
-    ∙ name_back c.names.ensures.written_is_named naming numeric_index o form c.sound.ensures reads is
-    )
+returns-clause-reads_back g c = grind (arith, common_steps, name_only, name_back)
 
 pub returns-clause-stated : goal.returns-clause-stated
 returns-clause-stated g c =
