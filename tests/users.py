@@ -253,7 +253,7 @@ job = os.fork()
 if job == 0:
     os.setpgid(0, 0)
     os.tcsetpgrp(0, os.getpid())
-    for number in signal.SIGTTOU, signal.SIGPIPE:
+    for number in signal.SIGINT, signal.SIGTSTP, signal.SIGTTOU, signal.SIGPIPE:
         signal.signal(number, signal.SIG_DFL)
     os.execv(sys.argv[2], sys.argv[2:])
 while True:
