@@ -24,5 +24,5 @@ for repetitions in 0 1 10 50; do
     fi
     echo
 done
-inside=$(within snmp_agent::agent::answer_near 0 "$rows" 1)
+inside=$(within snmp_agent::agent::answer_by 0 "$rows" 1)
 echo "GetNext: $((inside / (rows + 1))) instructions a request are the agent's"
