@@ -36,6 +36,7 @@ number_fails (octet ∷ more) h =
 
 -- ---- texts in quotes
 
+-- the last octet is the quote, and those before it may stand in quotes
 pub quoted_of : (quote : ℕ) (rest octets : List ℕ) → quoted_in quote rest ≡ Some octets → (rest ≡ octets ++ quote ∷ []) × (list_all is_quotable octets ≡ true)
 quoted_of quote rest octets h = grind (arith, common_steps, chosen, and_parts, ltb-true, take_more, eqb-true, take-length)
 

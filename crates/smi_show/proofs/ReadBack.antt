@@ -46,7 +46,8 @@ further_pieces naming so_far (piece ∷ pieces) all low =
 label_and_pieces : (naming : Naming) (scope : Scope) (label front : List ℕ) (pieces : List Piece) → is_word label ≡ true
     → found_in naming scope label ≡ Some front → All IsPiece pieces → length (front ++ flat_map piece_numbers pieces) ≤ 128
     → meaning_in naming scope (name_parts (label ++ shown_pieces pieces)) ≡ Ok (front ++ flat_map piece_numbers pieces)
-label_and_pieces naming scope label front pieces word found all low = grind (arith, common_steps, label_word, joined_parts, plain_is_whole, plain_word, further_pieces)
+label_and_pieces naming scope label front pieces word found all low =
+    grind (arith, common_steps, label_word, joined_parts, plain_is_whole, plain_word, further_pieces)
 
 -- a text that begins with a word is more than a dot
 begins_some : (word rest : List ℕ) → is_word word ≡ true → word ++ rest ≢ []

@@ -184,6 +184,7 @@ module _ {A B : Type 0} {s : A → List Mark} {t : B → List Mark} {f : Format 
   }
 
 module _ {A : Type 0} {s : A → List Mark} {f : Format A} (law : Lawful s f) (solid : f.empty ≡ false) where
+  -- read where a first token stands, else nothing: a spelling begins with one, and what follows nothing doesn't
   pub maybe-law : Lawful (of_option s) (maybe f)
   unfolding maybe
   maybe-law = grind (arith, common_steps, if-inv, map-inv, some-inj, neither, starts-with)
@@ -194,6 +195,7 @@ of_either s t (inr y) = t y
 
 module _ {A B : Type 0} {s : A → List Mark} {t : B → List Mark} {f : Format A} {g : Format B} (f-law : Lawful s f) (g-law : Lawful t g)
     (f-solid : f.empty ≡ false) (g-solid : g.empty ≡ false) (far : apart f.first g.first ≡ true) where
+  -- no token begins both: what is read is of the side that its first token begins, and no spelling of one side is read by the other
   pub either-law : Lawful (of_either s t) (either f g)
   unfolding either
   either-law = grind (arith, common_steps, if-inv, map-inv, starts-with, neither, apart-false, begins-left, begins-right)

@@ -256,7 +256,8 @@ comment_reads (c ∷ cs) closing remark_is closes =
 pub is_part : (part : Part) (s : List ℕ) → IsPart part s → part_of s ≡ Some part
 unfolding part_of
 is_part gap s (inl (c, is, blank)) = rw (is, blank) refl
-is_part gap s (inr (opening, remark, closing, is, run, remark_is, closes)) = grind (arith, common_steps, run_opens, append_assoc, hyphens_before, comment_reads)
+is_part gap s (inr (opening, remark, closing, is, run, remark_is, closes)) =
+    grind (arith, common_steps, run_opens, append_assoc, hyphens_before, comment_reads)
 is_part (lexeme kind) s h = lexeme_of_kind kind s h
 
 -- a comment begins with two hyphens
@@ -283,7 +284,8 @@ word_one_line is_first fail s (c, rest, is, first, others) = grind (arith, commo
 
 literal_one_line : (is_digit : ℕ → Bool) (upper lower : ℕ) → is_digit 10 ≡ false → is_other 10 upper ≡ true → is_other 10 lower ≡ true
     → (s : List ℕ) → IsLiteral is_digit upper lower s → newlines s ≡ 0
-literal_one_line is_digit upper lower fail up low s (digits, letter, is, all, case) = grind (arith, common_steps, others_one_line, list_all-append, all_other)
+literal_one_line is_digit upper lower fail up low s (digits, letter, is, all, case) =
+    grind (arith, common_steps, others_one_line, list_all-append, all_other)
 
 -- a line ends only in a string
 pub one_line : (kind : TokenKind) → (kind ≡ K.Text → ⊥) → (s : List ℕ) → IsLexeme kind s → newlines s ≡ 0
@@ -303,4 +305,5 @@ remark_other (c ∷ cs) h =
     and_from (is_other 10 c) (list_all (is_other 10) cs) here.0 (remark_other cs both.1)
 
 pub comment_one_line : (s : List ℕ) → IsComment s → newlines s ≡ 0
-comment_one_line s (opening, remark, closing, is, run, remark_is, closes) = grind (arith, common_steps, all_other, all_hyphens, others_one_line, list_all-append, remark_other)
+comment_one_line s (opening, remark, closing, is, run, remark_is, closes) =
+    grind (arith, common_steps, all_other, all_hyphens, others_one_line, list_all-append, remark_other)

@@ -443,6 +443,7 @@ definition-law =
 
 -- imports and modules
 
+-- a symbol is a word in lower case, a name, or the name of a macro
 symbol-ahead : (t : Lexeme) → is_symbol t.kind t.text ≡ true → list_any (meets t) (a_kind K.Lower ∷ a_name ∷ g.macro_words) ≡ true
 unfolding is_symbol
 symbol-ahead t h = grind (arith, common_steps, or_cases, and_parts, or_right, macro-ahead)

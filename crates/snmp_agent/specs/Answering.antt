@@ -15,7 +15,7 @@ use Rattle.snmp_agent.specs.Reply.{AreAnswers, IsResponse, not_writable, no_erro
 use Rattle.snmp_agent.specs.Reply.{failed_place, joined, or_zero}
 use Rattle.snmp_agent.specs.Standing.{given_in, is_over, next_at, place_of, places_of}
 
--- what the reply to a request of the kind has for one of its bindings, and for each
+-- what the reply to a Get, a GetNext or a Set has for one of its bindings, and for each
 abbrev pub answer_to : MibView → Kind → VarBind → VarBind
 answer_to view kind.GetRequest asked = got_at view asked.name
 answer_to view kind.GetNextRequest asked = next_at (place_of view 0 asked.name)
@@ -64,7 +64,7 @@ IsWritten limit r None out = limit < length (canon r)
 IsWritten limit r (Some n) out =
     (length (canon r) ≤ limit) × (take n out ≡ canon r) × (n ≡ length (canon r))
 
--- so was the Response to a request
+-- the Response to a request was written so, or is longer than the limit
 abbrev pub IsAnswered : MibView → ℕ → Message → Option ℕ → List ℕ → Type 0
 IsAnswered view limit q result out =
     (r : Message) × IsResponse view limit q r × IsWritten limit r result out
@@ -103,7 +103,7 @@ fill h (p ∷ more) = fill (add h p) more
 
 -- ---- GetBulk
 
--- what a GetBulk returns for the names in the round after `round` others
+-- the same as given_in, in the standard's words, with which proofs compare it
 abbrev pub AreGiven : MibView → ℕ → List VarBind → List VarBind → Type 0
 AreGiven view round = AreAnswers (λ asked given. IsNextAfter view round asked.name given)
 

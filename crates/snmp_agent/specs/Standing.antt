@@ -1,5 +1,5 @@
--- Where the names that repeat in a GetBulk stand among the variables of a view, and what they are
--- given there. Only contracts of functions that the crate doesn't export cite these definitions.
+-- Where names stand among the variables of a view, after so many rounds of a GetBulk, and what they
+-- are given there. Only contracts of functions that the crate doesn't export cite these definitions.
 use Rattle.std.specs.Prelude.{ℕ, Bool, true, false, List, [], ◌∷◌, drop, map, take}
 use Rattle.std.specs.FinMap.{entries}
 use Rattle.snmp_wire.specs.Message.{Datum, VarBind}
@@ -34,6 +34,7 @@ next_at place = first_or_end place.name (map var_of place.rows)
 abbrev pub passed : Standing → Standing
 passed place = behind_first place.name place.rows
 
+-- whether there are no entries
 abbrev pub has_none : List (List ℕ × Datum) → Bool
 has_none [] = true
 has_none (e ∷ es) = false
@@ -42,7 +43,8 @@ has_none (e ∷ es) = false
 abbrev pub is_over : Standing → Bool
 is_over place = has_none place.rows
 
--- where a name stands after `round` rounds
+-- where a name stands after `round` rounds, each of which passes a variable: at the last that was
+-- passed, before those that are left
 unfoldable pub place_of : MibView → ℕ → List ℕ → Standing
 place_of view round o =
     let back = entries_after o (entries view.rows) in

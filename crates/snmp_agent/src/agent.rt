@@ -188,8 +188,8 @@ fn paired_reply(
         out,
         hint,
     );
-    // Where a binding had no room, none is left for the head either. Then the error tooBig comes
-    // (RFC 3416, section 4.2.1).
+    // Where a binding had no room, `left` is 0: so the bindings count as `max_size` octets, and no
+    // head fits. Then the error tooBig comes (RFC 3416, section 4.2.1).
     let total = room - bindings.left;
     match sealed(&parts, total, config, out) {
         Some(size) => Some(size),
@@ -233,8 +233,8 @@ fn response<'a>(request: &MessageRef<'a>, status: i32, index: i32) -> Parts<'a>
     }
 }
 
-/// Makes the message of these parts with the bindings that are the first `total` octets of the
-/// output, in their place. None where it has more than `max_size` octets.
+/// Puts the head of the message of these parts before its bindings, which are the first `total`
+/// octets of the output, and returns the message's length. None where that is above `max_size`.
 fn sealed(
     parts: &Parts<'_>,
     total: usize,

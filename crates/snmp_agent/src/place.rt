@@ -13,7 +13,8 @@ use std::marker::Model;
 /// What a repeating name of a GetBulk was given in the round before.
 #[derive(Drop)]
 pub enum Given<'a> {
-    /// Nothing, and the name is 0.0: the default, for an array of places.
+    /// No name was asked for: the default, for an array of places. Each place's name has an
+    /// encoding, so this one's is 0.0.
     Nothing,
     /// Nothing yet: this is the name in the request.
     Asked(EncodedName<'a>),
@@ -22,7 +23,7 @@ pub enum Given<'a> {
 }
 
 impl Given<'_> {
-    /// Reads the name into an existing one. It has an encoding, as its content says.
+    /// Reads the name into an identifier. That it has an encoding is promised by `content`.
     fn read_name(&self, into: &mut Oid)
         ensures name { into.new ≡ name_of self.now }
         ensures wire { IsWire into.new }

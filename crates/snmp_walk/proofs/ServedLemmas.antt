@@ -135,4 +135,5 @@ pub all_of : {W N Peer : Type 0} {facts : LinkFacts W} {link after : W} {tries :
     → (agent_at new ≡ agent_at old) × IsServedThen carries (agent_at old) (net old) receive_failed (net new))
     → (agents : Agents) (view : MibView) → OneOf agents.tables view
     → agent_at link ≡ agent_in agents view → Whole net agent_at carries agents link after w.happened.events
-all_of {W} {N} {Peer} {facts} {link} {after} w net agent_at carries sends fails brings silent receives agents view one is = grind (arith, common_steps, whole)
+all_of {W} {N} {Peer} {facts} {link} {after} w net agent_at carries sends fails brings silent receives agents view one is =
+    grind (arith, common_steps, whole)

@@ -1,4 +1,4 @@
--- Laws of headers, elements and values as they are written, for proofs of values and messages:
+-- Lemmas on headers, elements and values as they are written, for proofs of values and messages:
 -- how long they are, and how they are written before their content.
 use Rattle.std.proofs.lemmas.Grind.{common_steps}
 use Rattle.std.proofs.Common.{◌≡◌, ℕ, ℤ, ◌+◌, ◌-◌, ◌<◌, ◌≤◌, List, [], ◌∷◌, ◌++◌, length, refl, ap, arith, length-append}

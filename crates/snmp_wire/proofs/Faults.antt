@@ -421,6 +421,7 @@ not_early tag content here rest b early =
     nothing [] second e = e
     nothing (x ∷ first) second e = absurd cc
 
+-- a length begins with an octet below 128, or with 129 to 132 for one to four digits: never with 128, nor with 133 or more
 not_forbidden : (tag : ℕ) (content here rest : List ℕ) → BeginsWith tag content here rest → HasForbiddenLength here → ⊥
 not_forbidden tag content here rest b f = grind (arith, common_steps)
 

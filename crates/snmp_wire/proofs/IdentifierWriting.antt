@@ -117,6 +117,7 @@ eight_then numbers from h = grind (arith, common_steps, number_then)
 below_128 : (a b c d : ℕ) → bit_or (bit_or (bit_or a b) c) d < 128 → (a < 128) × (b < 128) × (c < 128) × (d < 128)
 below_128 a b c d low = grind (arith, common_steps, le_or_l, le_or_r)
 
+-- or-ed together, numbers are no smaller than each of them: where all eight have no higher bit, none has
 pub eight_low : (numbers : List ℕ) (from : ℕ)
     → bit_or (bit_or (bit_or (bit_or (get_or numbers from 0) (get_or numbers (from + 1) 0)) (get_or numbers (from + 2) 0)) (get_or numbers (from + 3) 0))
     (bit_or (bit_or (bit_or (get_or numbers (from + 4) 0) (get_or numbers (from + 5) 0)) (get_or numbers (from + 6) 0)) (get_or numbers (from + 7) 0)) < 128
@@ -265,6 +266,7 @@ not_padded (suc k) m last low high least e =
     let small : m / 128 ^ k < 128 = (div-lt_iff_lt-mul (one-le-pow k 128 (lit< tt))).1 (omega (arith, high, pow-suc 128 k)) in
     omega (arith, e, some, small)
 
+-- the last octet has the lowest seven bits, those before it the others with the high bit; the first isn't 128, as there are no more than needed
 pub is_subidentifier : (n : ℕ) → n < 2 ^ 35 → IsSubidentifier (canon_subidentifier n) n
 unfolding subidentifier_size
 is_subidentifier n h = grind (arith, common_steps, sized, subidentifier_parts, digits_needed, All-from_recursion, high_septets, mod-lt, not_padded, front_value, low_septets, digits_value)

@@ -1,4 +1,4 @@
--- Laws of lengths and elements, for proofs of values and messages: what is read as one is one, what
+-- Lemmas on lengths and elements, for proofs of values and messages: what is read as one is one, what
 -- is read as none isn't, and what is one is read.
 use Rattle.std.proofs.lemmas.Grind.{common_steps}
 use Rattle.std.proofs.Common.{◌≡◌, ◌≢◌, ℕ, ◌+◌, ◌-◌, ◌<◌, ◌≤◌, false, eqb, ltb, ◌&&◌, List, [], ◌∷◌, ◌++◌, length, take, drop, replicate, Ok}

@@ -182,7 +182,8 @@ module _ (form : Form) where
 
   binding_of_row : (binding : VarBind) (content octets : List ℕ) → IsElement sequence_tag content octets
       → SpellsAll form (value_then (object_id binding.name) (value_then binding.value no_elements)) content → SpellsBinding form binding octets
-  binding_of_row binding content octets element (name, after, parts, is_name, (value, end, last, is_value, none)) = grind (arith, common_steps, last_is)
+  binding_of_row binding content octets element (name, after, parts, is_name, (value, end, last, is_value, none)) =
+      grind (arith, common_steps, last_is)
 
   pub one_of_row : (binding : VarBind) (octets : List ℕ) → SpellsAll form (binding_then binding no_elements) octets → SpellsBinding form binding octets
   one_of_row binding octets (first, end, parts, content, element, inner, none) = grind (arith, common_steps, last_is, binding_of_row)
@@ -270,6 +271,7 @@ bindings_in_range (binding ∷ more) (this, others) = (
   bindings_in_range more others,
 )
 
+-- the bindings have at most 4,000,000,000 octets and each other field few, so each content is shorter than 2 ^ 32
 in_range : (message : Message) → IsMessageInRange message → AreInRange (elements_of message)
 in_range message range = grind (arith, common_steps, bindings_are, length-append, element_most, value_short, bindings_in_range, kind_fits)
 

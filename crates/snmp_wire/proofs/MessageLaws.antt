@@ -105,6 +105,7 @@ pub record BeginsWithBinding (octets : List ℕ) (fields : Fields) (after : List
   pub others : IsOk (bindings_of after)
   pub all : (binding : VarBind) → binding_of fields ≡ Ok binding → bindings_in octets ≡ binding ∷ bindings_in after
 
+-- one step of the reading: where the whole list is read, so are its first binding and the others
 pub stands : (octets : List ℕ) (fields : Fields) (after : List ℕ) → IsOk (bindings_of octets) → 0 < length octets → fields_at octets ≡ Ok (fields, after)
     → BeginsWithBinding octets fields after
 unfolding binding_at
@@ -320,4 +321,5 @@ pub short_fields : (octets elements name value behind content rest : List ℕ) (
     → 4 ≤ length octets → get_or octets 0 0 ≡ 0x30 → get_or octets 2 0 ≡ 0x06 → size ≡ get_or octets 1 0 → n ≡ get_or octets 3 0
     → size < 128 → size ≤ length elements + 2 → v ≡ get_or value 1 0 → n + 4 + v ≡ size
     → fields_at octets ≡ Ok (record { name = name; tag = get_or value 0 0; content = content }, rest)
-short_fields octets elements name value behind content rest size n v cuts long s i z m small fits is_v parts = grind (arith, common_steps, short_behind, four_then)
+short_fields octets elements name value behind content rest size n v cuts long s i z m small fits is_v parts =
+    grind (arith, common_steps, short_behind, four_then)

@@ -43,7 +43,8 @@ pub sizes_head : (message : Message) (total version community id a b list pdu he
     → list ≡ 1 + length (canon_length total) → pdu ≡ 1 + length (canon_length (id + a + b + list + total))
     → header ≡ 1 + length (canon_length (version + community + pdu + (id + a + b + list) + total))
     → header + (version + community + pdu + (id + a + b + list)) ≡ length (canon_head message total)
-sizes_head message total version community id a b list pdu header v c i x y l p h = grind (arith, common_steps, length-canon_fields, length-canon_opening, length-canon_header, length-canon_front, length-canon_head)
+sizes_head message total version community id a b list pdu header v c i x y l p h =
+    grind (arith, common_steps, length-canon_fields, length-canon_opening, length-canon_header, length-canon_front, length-canon_head)
 
 -- what stands behind the tag of the PDU is written
 pub writes_fields : {old o1 o2 o3 o4 : List ℕ} {list b a id end : ℕ} (message : Message) (total : ℕ) → Writes old list end (canon_header sequence_tag total) o1
@@ -86,13 +87,15 @@ list_fits message total end room = omega (arith, room, length-canon_head message
 pub pdu_header_fits : {old new : List ℕ} {id end : ℕ} (message : Message) (total tag : ℕ) → tag ≡ kind_tag message.kind
     → Writes old id end (canon_fields message ++ canon_header sequence_tag total) new → length (canon_head message total) ≤ end
     → length (canon_header tag (end - id + total)) ≤ id
-pdu_header_fits {old} {new} {id} {end} message total tag e w room = grind (arith, common_steps, pdu_content, length-append, length-canon_head, length-canon_front)
+pdu_header_fits {old} {new} {id} {end} message total tag e w room =
+    grind (arith, common_steps, pdu_content, length-append, length-canon_head, length-canon_front)
 
 pub opening_fits : {old mid new : List ℕ} {pdu id end : ℕ} (message : Message) (total tag : ℕ) → tag ≡ kind_tag message.kind
     → Writes old id end (canon_fields message ++ canon_header sequence_tag total) mid → Writes mid pdu id (canon_header tag (end - id + total)) new
     → length (canon_head message total) ≤ end
     → length (canon_value (integer_value message.version)) + length (canon_value (octet_string message.community)) ≤ pdu
-opening_fits {old} {mid} {new} {pdu} {id} {end} message total tag e w v room = grind (arith, common_steps, pdu_content, length-append, length-canon_opening, length-canon_head, length-canon_front)
+opening_fits {old} {mid} {new} {pdu} {id} {end} message total tag e w v room =
+    grind (arith, common_steps, pdu_content, length-append, length-canon_opening, length-canon_head, length-canon_front)
 
 pub message_header_fits : {old new : List ℕ} {version end : ℕ} (message : Message) (total : ℕ) → Writes old version end (canon_front message total) new
     → length (canon_head message total) ≤ end → length (canon_header sequence_tag (end - version + total)) ≤ version

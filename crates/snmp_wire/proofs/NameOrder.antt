@@ -438,9 +438,11 @@ content_octets content octets name same h is = grind (arith, common_steps, is_ok
 pub content_short : (name : List ℕ) → length name ≤ 128 → length (canon_content (object_id name)) ≤ 640
 content_short name few = omega (arith, length-name name, few)
 
+-- the content is the root's, and then the subidentifiers of the numbers behind it, of which there are some
 pub below_from_names : (content root o p : List ℕ) → AreOctets content → AreOctets root → IsObjectId content o → IsObjectId root p → IsBelow o p
     → IsBelow content root
-below_from_names content root o p h k is are (rest, some, e) = grind (arith, common_steps, none_of_none, canonical, octets_by, content_is_subidentifiers, follows, flat_map-append)
+below_from_names content root o p h k is are (rest, some, e) =
+    grind (arith, common_steps, none_of_none, canonical, octets_by, content_is_subidentifiers, follows, flat_map-append)
 
 pub below_from_contents : (content root o p : List ℕ) → IsObjectId content o → IsObjectId root p → IsBelow content root → IsBelow o p
 below_from_contents content root o p is are (rest, some, e) = grind (arith, common_steps, goes_on, followed)

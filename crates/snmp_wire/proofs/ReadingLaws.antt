@@ -1,4 +1,4 @@
--- Laws of the steps of a reading that may fail, for proofs of values and messages.
+-- Lemmas on the steps of a reading that may fail, for proofs of values and messages.
 use Rattle.std.proofs.lemmas.Grind.{common_steps}
 use Rattle.std.proofs.Common.{◌≡◌, ◌≢◌, ℕ, ◌<◌, Bool, true, false, cond, eqb, List, [], length}
 use Rattle.std.proofs.Common.{Result, Ok, Err, IsOk, is_ok, refl, sym, ap, subst, ◌∙◌, arith}

@@ -1,4 +1,4 @@
--- Laws of what writers leave, one after the other from the back to the front, for proofs of
+-- Lemmas on what writers leave, one after the other from the back to the front, for proofs of
 -- values and messages.
 use Rattle.std.proofs.lemmas.Grind.{common_steps}
 use Rattle.std.proofs.Common.{◌≡◌, ℕ, ◌+◌, ◌-◌, ◌<◌, ◌≤◌, suc, zero, List, [], ◌∷◌, ◌++◌, length, take, drop, get_or, sym, ap, ◌∙◌, arith}

@@ -1,5 +1,5 @@
 -- What names mean along chains: an import leads to the same name in the module after FROM, and a
--- definition may lead to a name of its module.
+-- definition may lead to a name of its module (RFC 2578, sections 3.1 and 3.2).
 use Rattle.std.specs.Prelude.{◌≡◌, ◌⊎◌, ℕ, List, MatchOption, Option, Some, None, option_map}
 use Rattle.std.specs.List.{slice_get}
 use Rattle.std.specs.Option.{option_and_then}
@@ -27,7 +27,7 @@ decided ms a = option_and_then (λ m. decision m a.name) (module_named ms a.home
 abbrev pub next_name : List Module → (Def → Option (List ℕ)) → QualifiedName → Option QualifiedName
 next_name ms leads a = next_by leads a (decided ms a)
 
--- this definition decides the name, by the places of its module and of itself in that
+-- this definition decides the name, and stands at place k of the module at place i
 pub record IsOwn (ms : List Module) (a : QualifiedName) (i k : ℕ) (d : Def) : Type 0 where
   pub home : Module
   pub named : module_named ms a.home ≡ Some home
@@ -39,21 +39,26 @@ pub record IsOwn (ms : List Module) (a : QualifiedName) (i k : ℕ) (d : Def) : 
 -- lead: the least relation of which these five hold
 pub data Comes {X : Type 0} (ms : List Module) (leads : Def → Option (List ℕ))
     (means : ℕ × ℕ → Def → Option X → Option X) : QualifiedName → Option X → Type 0 where
+  -- a name that nothing decides, or of a module that isn't loaded, means nothing
   unknown : {a : QualifiedName} → decided ms a ≡ None → Comes ms leads means a None
+  -- nor does a root
   of_root : {a : QualifiedName} {n : ℕ} → decided ms a ≡ Some (root n)
       → Comes ms leads means a None
+  -- an import means what the same name means in the module after FROM
   through : {a : QualifiedName} {m : Module} {i : Import} {x : Option X}
       → module_named ms a.home ≡ Some m → decision m a.name ≡ Some (imported i)
       → Comes ms leads means (record { home = i.source.octets; name = a.name }) x
       → Comes ms leads means a x
+  -- a definition that leads to no name
   at_end : {a : QualifiedName} {i k : ℕ} {d : Def} {x : Option X} → IsOwn ms a i k d
       → leads d ≡ None → x ≡ means (i, k) d None → Comes ms leads means a x
+  -- a definition that leads to a name of its own module, which may be imported there
   after : {a : QualifiedName} {i k : ℕ} {d : Def} {y : List ℕ} {far x : Option X}
       → IsOwn ms a i k d → leads d ≡ Some y
       → Comes ms leads means (record { home = a.home; name = y }) far
       → x ≡ means (i, k) d far → Comes ms leads means a x
 
--- what a name means, or nothing if its chain has no end
+-- what a name means; nothing where its chain has no end, as in a ring
 abbrev pub IsMeant : {X : Type 0} → List Module → (Def → Option (List ℕ))
     → (ℕ × ℕ → Def → Option X → Option X) → QualifiedName → Option X → Type 0
 IsMeant ms leads means a x =
@@ -66,7 +71,7 @@ AreMeant k leads means found =
     (p : ℕ) (a : QualifiedName) → slice_get k.names p ≡ content_named k.modules a
     → IsMeant k.modules leads means a (at_place found p)
 
--- where the definition stands to which the imports of a name lead
+-- the place of a definition as a meaning: it leads no further
 abbrev pub leads_nowhere : Def → Option (List ℕ)
 leads_nowhere d = None
 

@@ -1,5 +1,5 @@
-//! What names mean along chains: an import leads to the name that it imports, and a definition may
-//! lead to a name of its module.
+//! What names mean along chains: an import leads to the same name in the module after FROM, and a
+//! definition may lead to a name of its module.
 ghost use Rattle.std.specs.Prelude.{◌≡◌, ◌<◌, ℕ, List, length, IfOk, MatchOption, Option};
 ghost use Rattle.std.specs.Prelude.{None, Some, option_map};
 ghost use Rattle.std.specs.Option.{option_and_then};
@@ -13,13 +13,14 @@ use crate::meaning::entry::Decider;
 use smi_text::{Def, Name};
 use std::alloc::{AllocError, Global};
 
-/// What a name may mean: that of the definition to which its imports lead, by what the name means
-/// to which that definition leads.
+/// A meaning that definitions give to names. An imported name means what the same name means in the
+/// module after FROM (RFC 2578, section 3.2); another what its definition means, which may depend on
+/// what a name means to which that definition leads.
 pub trait Meaning: Copy {
     /// The name of its own module to which a definition leads.
     ghost leads: { Def → Option (List ℕ) };
 
-    /// What the definition at a place means, given what that name means.
+    /// What the definition at a place means, given what the name means to which it leads.
     ghost means: { ℕ × ℕ → Def → Option Self → Option Self };
 
     /// The name of its own module to which a definition leads, if it leads to one.
@@ -32,8 +33,8 @@ pub trait Meaning: Copy {
         ensures { result ≡ means at def.now far };
 }
 
-/// The definition to which the imports of a name lead, by the place of its module and its own in
-/// that.
+/// The place of a definition as a meaning: that of its module, and its own in that. Imports lead to
+/// it, and it leads no further.
 impl Meaning for (usize, usize) {
     ghost use Rattle.smi_names.specs.meaning.Along.{leads_nowhere, stands_at};
 
@@ -70,8 +71,9 @@ fn led<T: Copy>(found: &[Option<T>], to: Option<usize>) -> Option<T>
 }
 
 impl<'s, 'a> Entries<'s, 'a> {
-    /// What the name at each place means, None where its chain has no end. Each place is visited
-    /// once, without recursion.
+    /// What the name at each place means. None for a root, where its definition means nothing, and
+    /// where its chain has no end, as in a ring of imports. Each place is visited once, without
+    /// recursion. An error says that memory ran out.
     pub fn along<M: Meaning>(&self, alloc: Global) -> Result<Vec<Option<M>>, AllocError>
         ensures { IfOk result (λ found. AreMeant self.now M.leads M.means found.items) }
     {

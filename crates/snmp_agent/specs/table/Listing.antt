@@ -1,4 +1,5 @@
--- The list of a view's variables, by rising names, with which proofs calculate.
+-- The list of a view's variables, by rising names, and what a Get gives: with these private clauses
+-- and proofs calculate.
 use Rattle.std.specs.Prelude.{ℕ, zero, suc, Bool, ◌||◌, cond, List, [], ◌∷◌, length, map, take}
 use Rattle.std.specs.Prelude.{unwrap_or}
 use Rattle.std.specs.FinMap.{entries, get}

@@ -18,4 +18,5 @@ returns-in-None c = λ h. sym c.each.invariant.1 ∙ balanced-open _ _ _ c.if-de
 
 pub returns-in_default : goal.returns-in_default
 unfolding balanced
-returns-in_default c = grind (arith, common_steps, in_default-via-in-Some+else-not-is_outside, balanced-outside, in_default-via-in-None+else-depth-gt0, balanced-closed)
+returns-in_default c =
+    grind (arith, common_steps, in_default-via-in-Some+else-not-is_outside, balanced-outside, in_default-via-in-None+else-depth-gt0, balanced-closed)

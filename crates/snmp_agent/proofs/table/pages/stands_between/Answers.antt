@@ -23,8 +23,10 @@ begins : (o : List ℕ) (rows : List VarBind) (next : VarBind) → slice_get row
 begins o [] next at behind = cc
 begins o (row ∷ rows) next at behind = let same : row ≡ next = cc in ap (λ (r : VarBind). is_le (slice_cmp nat_cmp r.name o)) same ∙ behind
 
+-- the last row in front has the name
 pub returns-in-Equal : goal.returns-in-Equal
 returns-in-Equal c = grind (arith, common_steps, order, last_of, same_name)
 
+-- the last row in front comes before the name, and the first one behind comes after it
 pub returns-in-Some-first : goal.returns-in-Some-first
 returns-in-Some-first c = grind (arith, common_steps, order, greater, last_of, begins)

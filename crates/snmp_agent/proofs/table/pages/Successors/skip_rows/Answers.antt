@@ -3,5 +3,6 @@ use Rattle.std.proofs.Common.{arith}
 use Rattle.snmp_agent.proofs.Following.{drop_rows, take_rows}
 use Rattle.snmp_agent.proofs.table.pages.Successors.skip_rows.Goals as goal
 
+-- a page with fewer rows than are still to be skipped is passed whole; its last row is the last one skipped
 pub pages-preserved-in-Some : goal.pages-preserved-in-Some
 pages-preserved-in-Some c = grind (arith, common_steps, drop_rows, take_rows)
