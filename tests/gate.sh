@@ -56,7 +56,7 @@ build() {
     mv "$1/out/new" "$1/out/$2"
 }
 case $1 in
-    run) build . "$here" ;;
+    run) echo "rt: chose --jobs 2 for low" && build . "$here" ;;
     lib) mkdir -p out && cat src/*.rt >"out/lib$here.a" ;;
     try)
         shift 4
@@ -181,32 +181,24 @@ export RT_DOES=''
 built
 same 'what a build says' "snmp: proving and building the program: half an hour to an hour on two processors at \
 first, less after an edit
-snmp: low is proved, 1 of 2 libraries
-snmp: mid is proved, 2 of 2 libraries
+snmp: proving low
 snmp: built; ./snmp runs the proved program now" "$(cat "$got/out")"
 same 'a built program runs' 'snmp ran: a b' "$(in_tree ./snmp a b)"
-same 'what a build proves, in order' 'check low,lib low,check mid,lib mid,run snmp' \
-    "$(sed -n 's/ begins$//p' "$CALLS" | paste -sd ,)"
+same 'what a build runs' 'run snmp' "$(sed -n 's/ begins$//p' "$CALLS" | paste -sd ,)"
 echo 'another' >>"$tree/crates/mid/src/lib.rt"
 same 'after an edit the sources are run' 'snmp: unproved run from the sources' \
     "$(in_tree ./snmp a 2>&1 | cut -d , -f 1 | head -n 1)"
 built
-RT_DOES='[ "$1 $here" != "check low" ] || echo edited >>src/lib.rt' in_tree ./snmp --build >"$got/out"
+RT_DOES='[ "$1" != run ] || echo edited >>../low/src/lib.rt' in_tree ./snmp --build >"$got/out"
 same 'a source that is edited during the build' \
     "1 tests/is-current: $tree/$program: its sources were changed while it was built" "$? $(tail -n 1 "$got/out")"
 current 'a program whose source was edited during its build' 1 "$stale"
 tree
-RT_DOES='[ "$1 $here" != "check low" ] || { seq 30; exit 1; }' in_tree ./snmp --build >"$got/out"
-same 'a library that is not proved ends the build' 1 $?
+RT_DOES='[ "$1" != run ] || { seq 30; exit 1; }' in_tree ./snmp --build >"$got/out"
+same 'a program that is not proved ends the build' 1 $?
 same 'the last lines of its log are shown' \
-    "snmp: low is not proved: its last lines follow, and the rest is in $tree/crates/snmp/out/logs/low.log
+    "snmp: the build failed: its last lines follow, and the rest is in $tree/crates/snmp/out/build.log
 $(seq 11 30)" "$(tail -n 21 "$got/out")"
-same 'nothing is proved above it' 'check low' "$(sed -n 's/ begins$//p' "$CALLS" | paste -sd ,)"
-tree
-RT_DOES='[ "$1" != run ] || { echo wrong; exit 1; }' in_tree ./snmp --build >"$got/out"
-same 'a program that is not proved ends the build' \
-    "1 snmp: the build failed: its last lines follow, and the rest is in $tree/crates/snmp/out/build.log wrong" \
-    "$? $(tail -n 2 "$got/out" | paste -sd ' ')"
 
 # A trial: the sources are run as they stand, by words that name files as the caller does.
 tree
@@ -229,44 +221,11 @@ mkdir "$tree/crates/snmp_bare"
 in_tree ./snmp snmpget table:f.txt >"$got/out"
 same 'an unproved run: without --mib' 'try snmp_bare' "$(sed -n 's/ begins$//p' "$CALLS" | tail -n 1)"
 
-# wide LANES SECONDS: seven libraries, of which five stand on the first, and of these one is below another and has most
-# files; the proof of each takes so long.
-wide() {
-    tree
-    local crate
-    printf '%s\n' 'a:' 'b: a' 'c: a' 'd: a' 'e: a' 'f: a' 'g: f' 'snmp: b c d e g' 'away: a' >"$tree/crates.txt"
-    for crate in a b c d e f g away; do
-        mkdir -p "$tree/crates/$crate/src"
-        echo "$crate" >"$tree/crates/$crate/src/lib.rt"
-    done
-    seq 1000 >"$tree/crates/f/src/lib.rt"
-    seq 200 >"$tree/crates/c/src/lib.rt"
-    export LANES=$1
-    RT_DOES="[ \"\$1\" != check ] || sleep $2" in_tree ./snmp --build >"$got/out"
-    unset LANES
-}
-# The most that ran at once.
-most() { awk '/ begins$/ { n++; if (n > most) most = n } / ends$/ { n-- } END { print most }' "$CALLS"; }
-wide 1 0
-same 'one crate at a time, the longest chain first' 'a f c b d e g' \
-    "$(sed -n 's/^check \(.\) begins$/\1/p' "$CALLS" | paste -sd ' ')"
-same 'one crate at a time' 1 "$(most)"
-wide 3 1.5
-same 'three crates side by side' 3 "$(most)"
-same 'each library is proved once, and no other crate' 'a b c d e f g' \
-    "$(sed -n 's/^check \(.*\) begins$/\1/p' "$CALLS" | sort | paste -sd ' ')"
-same 'a library is built before what stands on it is proved' '' "$(awk '
-    /^lib .* ends/ { built[$2] = 1 }
-    /^check .* begins/ && ($2 != "a" && !built["a"] || $2 == "g" && !built["f"]) { print }' "$CALLS")"
+# -- the gate
+
 least 'side by side by the processors of this machine' 1 "$(in_tree tools/lanes)"
 count 'side by side by the processors of this machine, at most four' \
     "$([ "$(in_tree tools/lanes)" -le 4 ] || echo 'they are more')"
-tree
-printf '%s\n' 'low: mid' 'mid: low' 'snmp: mid' >"$tree/crates.txt"
-same 'crates that stand on each other' "1 tools/prove-below: the crates stand on each other in a ring" \
-    "$(in_tree ./snmp --build >"$got/out"; echo "$?") $(tail -n 1 "$got/out")"
-
-# -- the gate
 
 # gate: what the gate of the tree prints last, with its status.
 gate() { in_tree ./.ci/run >"$got/out"; echo "$? $(tail -n "${lines:-1}" "$got/out" | paste -sd ' ')"; }
