@@ -5,7 +5,6 @@ pub mod Marks
 pub mod NameLaws
 pub mod Lexical
 pub mod Laws
-pub mod PieceLaws
 pub mod IndexLaws
 pub mod RawLaws
 pub mod ProductionLaws

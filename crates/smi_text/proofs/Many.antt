@@ -1,6 +1,7 @@
 -- Readings of any number of one part.
+use Rattle.std.proofs.lemmas.Grind.{common_steps}
 use Rattle.std.proofs.Common.{◌≡◌, ℕ, zero, suc, ◌+◌, ◌<◌, ◌≤◌, true, false, List, [], ◌∷◌, ◌++◌, length, Some, None, Ok, Err, if◌then◌else◌}
-use Rattle.std.proofs.Common.{option_map, option_and_then, refl, sym, ◌∙◌, ap, subst, arith, inl, inr, append_assoc, append-nil}
+use Rattle.std.proofs.Common.{option_map, option_and_then, refl, ◌∙◌, ap, arith, append_assoc, append-nil}
 use Rattle.smi_text.specs.lexer.Token.{Item}
 use Rattle.smi_text.specs.trees.Mark.{Mark}
 use Rattle.smi_text.specs.Format.{StandsAhead, Format, Parsed, begins, read_many, many, with_front}
@@ -13,20 +14,10 @@ StandsAhead-length (m ∷ ms) [] rest h = absurd h
 StandsAhead-length (m ∷ ms) (Err f ∷ ts) rest h = absurd h
 StandsAhead-length (m ∷ ms) (Ok t ∷ ts) rest h = omega (arith, StandsAhead-length ms ts rest h.1)
 
-begins-nil : {A : Type 0} (f : Format A) → begins f.first [] ≡ false
-unfolding begins
-begins-nil f = refl
-
 pub shorter : {A : Type 0} {s : A → List Mark} {f : Format A} → Lawful s f → f.empty ≡ false → (x : A) (ts rest : List Item) → StandsAhead (s x) ts rest
     → length rest < length ts
-shorter {A} {s} {f} law solid x ts rest h =
-    elim (s x) as (λ ms. s x ≡ ms → length rest < length ts) [
-      | [] ↦ λ e. elim (law.starts x [] [] (let P : List Mark → Type 0 = λ ms. StandsAhead ms [] [] in subst P (sym e) refl)) [
-        | inl b ↦ absurd (cc (begins-nil f))
-        | inr b ↦ absurd (cc (b.0))
-      ]
-      | (m ∷ ms) ↦ λ e. omega (arith, StandsAhead-length (s x) ts rest h, ap length e)
-    ] refl
+unfolding begins
+shorter {s = s} law solid x ts rest h = grind (arith, common_steps, StandsAhead-length (s x) ts rest h, law.starts x [] [])
 
 pub reading-shorter : {A : Type 0} {s : A → List Mark} {f : Format A} → Lawful s f → f.empty ≡ false → (x : A) (ts rest : List Item)
     → f.read ts ≡ Some (x, rest) → length rest < length ts

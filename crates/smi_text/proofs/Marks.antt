@@ -108,23 +108,11 @@ module _ (t : Lexeme) where
 
   list-sound : (c : Ahead) (ds : List Ahead) → list_all (λ d. half_apart c d || half_apart d c) ds ≡ true → meets t c ≡ true → list_any (meets t) ds ≡ true → ⊥
   list-sound c [] a h k = cc
-  list-sound c (d ∷ ds) a h k =
-      elim (or_cases (meets t d) (list_any (meets t) ds) k) [
-        | inl e ↦ elim (or_cases (half_apart c d) (half_apart d c) (and_parts (half_apart c d || half_apart d c) (list_all
-            (λ x. half_apart c x || half_apart x c) ds) a).0) [
-              | inl p ↦ half-sound c d p h e
-              | inr p ↦ half-sound d c p e h
-            ]
-        | inr e ↦ list-sound c ds (and_parts (half_apart c d || half_apart d c) (list_all (λ x. half_apart c x || half_apart x c) ds) a).1 h e
-      ]
+  list-sound c (d ∷ ds) a h k = grind (arith, common_steps, or_cases, and_parts, half-sound, list-sound c ds)
 
   lists-sound : (cs ds : List Ahead) → apart cs ds ≡ true → list_any (meets t) cs ≡ true → list_any (meets t) ds ≡ true → ⊥
   lists-sound [] ds a h k = cc
-  lists-sound (c ∷ cs) ds a h k =
-      elim (or_cases (meets t c) (list_any (meets t) cs) h) [
-        | inl e ↦ list-sound c ds (and_parts (list_all (λ x. half_apart c x || half_apart x c) ds) (apart cs ds) a).0 e k
-        | inr e ↦ lists-sound cs ds (and_parts (list_all (λ x. half_apart c x || half_apart x c) ds) (apart cs ds) a).1 e k
-      ]
+  lists-sound (c ∷ cs) ds a h k = grind (arith, common_steps, or_cases, and_parts, list-sound, lists-sound cs ds)
 
 -- a token that begins one of these begins none of those
 pub apart-sound : (cs ds : List Ahead) (ts : List Item) → apart cs ds ≡ true → begins cs ts ≡ true → begins ds ts ≡ true → ⊥

@@ -14,7 +14,7 @@ use Rattle.smi_text.specs.declared.lexer.class.Class.TheVariants as C
 use Rattle.smi_text.specs.declared.lexer.token.TokenKind.{TokenKind}
 use Rattle.smi_text.specs.declared.lexer.token.TokenKind.TheVariants as K
 use Rattle.smi_text.specs.lexer.Lexeme.{IsComment, IsLexeme, IsLiteral, IsPart, IsRunOfHyphens, IsWord, Part, begins, gap, is_binary_digit, is_blank}
-use Rattle.smi_text.specs.lexer.Lexeme.{is_hyphen, is_newline, is_remark, is_word_rest, lexeme, is_word_octet}
+use Rattle.smi_text.specs.lexer.Lexeme.{is_hyphen, is_newline, is_remark, is_word_rest, lexeme}
 use Rattle.smi_text.specs.lexer.Reading.{class_of, hyphen_part, is_binary_letter, is_comment_rest, is_hex_letter, is_literal_rest, is_nothing}
 use Rattle.smi_text.specs.lexer.Reading.{is_other, is_remark_rest, is_sole, is_string_rest, literal_part, part_in, part_of, symbol_part, newlines}
 use Rattle.smi_text.specs.lexer.Reading.{literal_of}
@@ -170,16 +170,12 @@ other p octet fail c pass = ne_eqb c octet (λ e. false≢true (sym fail ∙ ap 
 
 all_other : (p : ℕ → Bool) (octet : ℕ) → p octet ≡ false → (s : List ℕ) → list_all p s ≡ true → list_all (is_other octet) s ≡ true
 all_other p octet fail [] h = refl
-all_other p octet fail (c ∷ cs) h =
-    let both = and_parts (p c) (list_all p cs) h in
-    rw (other p octet fail c both.0) (all_other p octet fail cs both.1)
+all_other p octet fail (c ∷ cs) h = grind (arith, common_steps, and_parts, other, all_other p octet fail cs)
 
 -- strings
 string_reads : (body : List ℕ) → list_all (is_other 34) body ≡ true → is_string_rest (body ++ 34 ∷ []) ≡ true
 string_reads [] h = refl
-string_reads (c ∷ cs) h =
-    let both = and_parts (is_other 34 c) (list_all (is_other 34) cs) h in
-    string_step c (cs ++ 34 ∷ []) both.0 ∙ string_reads cs both.1
+string_reads (c ∷ cs) h = grind (arith, common_steps, and_parts, string_step, string_reads cs)
 
 -- literals
 hex_letter : (c : ℕ) → (c ≡ 72) ⊎ (c ≡ 104) → is_hex_letter c ≡ true
@@ -232,26 +228,15 @@ remark_octet_reads c (d ∷ ds) closing true is alone run rest = absurd (false�
 remark_reads : (remark closing : List ℕ) → is_remark remark ≡ true → (closing ≡ []) ⊎ IsRunOfHyphens closing → is_remark_rest (remark ++ closing) ≡ true
 remark_reads [] closing remark_is closes = hyphens_read closing closes
 remark_reads (c ∷ cs) closing remark_is closes =
-    let both = and_parts (not (is_newline c) && not (is_hyphen c && begins is_hyphen cs)) (is_remark cs) remark_is in
-    let here = and_parts (not (is_newline c)) (not (is_hyphen c && begins is_hyphen cs)) both.0 in
-    rw (not-true (is_newline c) here.0)
-    (remark_octet_reads c cs closing (is_hyphen c && begins is_hyphen (cs ++ closing)) refl here.1 (all_hyphens closing closes)
-    (remark_reads cs closing both.1 closes))
+    grind (arith, common_steps, and_parts, not-true, remark_octet_reads, all_hyphens, remark_reads cs closing)
 
 hyphens_before : (front rest : List ℕ) → list_all is_hyphen front ≡ true → is_comment_rest rest ≡ true → is_comment_rest (front ++ rest) ≡ true
 hyphens_before [] rest all h = h
-hyphens_before (c ∷ cs) rest all h =
-    let both = and_parts (is_hyphen c) (list_all is_hyphen cs) all in
-    rw both.0 (hyphens_before cs rest both.1 h)
+hyphens_before (c ∷ cs) rest all h = grind (arith, common_steps, and_parts, hyphens_before cs rest)
 
 comment_reads : (remark closing : List ℕ) → is_remark remark ≡ true → (closing ≡ []) ⊎ IsRunOfHyphens closing → is_comment_rest (remark ++ closing) ≡ true
 comment_reads [] closing remark_is closes = rw append-nil at (hyphens_before closing [] (all_hyphens closing closes) refl)
-comment_reads (c ∷ cs) closing remark_is closes =
-    let both = and_parts (not (is_newline c) && not (is_hyphen c && begins is_hyphen cs)) (is_remark cs) remark_is in
-    elim (is_hyphen c) as (λ b. cond b (is_comment_rest (cs ++ closing)) (is_remark_rest (c ∷ cs ++ closing)) ≡ true) [
-      | true ↦ comment_reads cs closing both.1 closes
-      | false ↦ remark_reads (c ∷ cs) closing remark_is closes
-    ]
+comment_reads (c ∷ cs) closing remark_is closes = grind (arith, common_steps, and_parts, remark_reads, comment_reads cs closing)
 
 pub is_part : (part : Part) (s : List ℕ) → IsPart part s → part_of s ≡ Some part
 unfolding part_of
@@ -269,15 +254,11 @@ comment_opens c s (opening, remark, closing, is, run, remark_is, closes) = grind
 -- no line ends in octets that are other than a newline
 others_one_line : (s : List ℕ) → list_all (is_other 10) s ≡ true → newlines s ≡ 0
 others_one_line [] h = refl
-others_one_line (c ∷ cs) h =
-    let both = and_parts (is_other 10 c) (list_all (is_other 10) cs) h in
-    rw (newlines-cons c cs, newlines-one c, not-true (is_newline c) both.0, others_one_line cs both.1) refl
+others_one_line (c ∷ cs) h = grind (arith, common_steps, and_parts, newlines-cons, newlines-one, not-true, others_one_line cs)
 
 word_rest_other : (s : List ℕ) → is_word_rest s ≡ true → list_all (is_other 10) s ≡ true
 word_rest_other [] h = refl
-word_rest_other (c ∷ cs) h =
-    let both = and_parts (is_word_octet c || (is_hyphen c && begins is_word_octet cs)) (is_word_rest cs) h in
-    rw (other (λ d. is_word_octet d || (is_hyphen d && begins is_word_octet cs)) 10 refl c both.0) (word_rest_other cs both.1)
+word_rest_other (c ∷ cs) h = grind (arith, common_steps, and_parts, word_rest_other cs)
 
 word_one_line : (is_first : ℕ → Bool) → is_first 10 ≡ false → (s : List ℕ) → IsWord is_first s → newlines s ≡ 0
 word_one_line is_first fail s (c, rest, is, first, others) = grind (arith, common_steps, others_one_line, other, word_rest_other)
@@ -299,10 +280,7 @@ one_line _ other s h = rw h refl
 
 remark_other : (s : List ℕ) → is_remark s ≡ true → list_all (is_other 10) s ≡ true
 remark_other [] h = refl
-remark_other (c ∷ cs) h =
-    let both = and_parts (not (is_newline c) && not (is_hyphen c && begins is_hyphen cs)) (is_remark cs) h in
-    let here = and_parts (not (is_newline c)) (not (is_hyphen c && begins is_hyphen cs)) both.0 in
-    and_from (is_other 10 c) (list_all (is_other 10) cs) here.0 (remark_other cs both.1)
+remark_other (c ∷ cs) h = grind (arith, common_steps, and_parts, and_from, remark_other cs)
 
 pub comment_one_line : (s : List ℕ) → IsComment s → newlines s ≡ 0
 comment_one_line s (opening, remark, closing, is, run, remark_is, closes) =

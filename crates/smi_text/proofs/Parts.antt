@@ -48,9 +48,7 @@ string_step c s h = ap (λ b. cond b (is_nothing s) (is_string_rest s)) (other_n
 
 pub string_open : (s : List ℕ) → list_all (is_other 34) s ≡ true → is_string_rest s ≡ false
 string_open [] h = refl
-string_open (c ∷ cs) h =
-    let both = and_parts (is_other 34 c) (list_all (is_other 34) cs) h in
-    string_step c cs both.0 ∙ string_open cs both.1
+string_open (c ∷ cs) h = grind (arith, common_steps, and_parts, string_step, string_open cs)
 
 pub string_none : (text : List ℕ) → IsFirstPlace 34 text None → IsLexemeFront string_part text None
 string_none text h = no_front is_string_rest string_part (lexeme Text) text (λ s. refl) (λ m. string_open (take m text) (list_all-take (is_other 34) m text h))
@@ -76,17 +74,13 @@ string_some text i h =
 -- up to the first quote nothing ends a literal
 pub literal_open : (is_digit is_letter : ℕ → Bool) (s : List ℕ) → list_all (is_other 39) s ≡ true → is_literal_rest is_digit is_letter s ≡ false
 literal_open is_digit is_letter [] h = refl
-literal_open is_digit is_letter (c ∷ cs) h =
-    let both = and_parts (is_other 39 c) (list_all (is_other 39) cs) h in
-    rw (other_not 39 c both.0, literal_open is_digit is_letter cs both.1) (and-false (is_digit c))
+literal_open is_digit is_letter (c ∷ cs) h = grind (arith, common_steps, and_parts, other_not, and-false, literal_open is_digit is_letter cs)
 
 -- behind the second quote the letter decides
 pub literal_closed : (is_digit is_letter : ℕ → Bool) (digits s : List ℕ) → list_all (is_other 39) digits ≡ true
     → is_literal_rest is_digit is_letter (digits ++ 39 ∷ s) ≡ (list_all is_digit digits && is_sole is_letter s)
 literal_closed is_digit is_letter [] s h = refl
-literal_closed is_digit is_letter (c ∷ cs) s h =
-    let both = and_parts (is_other 39 c) (list_all (is_other 39) cs) h in
-    rw (other_not 39 c both.0, literal_closed is_digit is_letter cs s both.1) (sym (and_assoc (is_digit c) (list_all is_digit cs) (is_sole is_letter s)))
+literal_closed is_digit is_letter (c ∷ cs) s h = grind (arith, common_steps, and_parts, other_not, and_assoc, literal_closed is_digit is_letter cs s)
 
 -- what stands behind a literal's digits decides
 abbrev pub literal_behind : List ℕ → List ℕ → Option Part

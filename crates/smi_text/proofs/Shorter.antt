@@ -24,53 +24,40 @@ gives-shorter law solid (Ok x) ts rest h = reading-shorter law solid x ts rest h
 gives-shorter law solid (Err e) ts rest h = tt
 
 pub part_shorter : TakesSome g.part
-unfolding all
-part_shorter = gives-shorter part-law refl
+part_shorter = unfold all in gives-shorter part-law refl
 
 pub later_part_shorter : TakesSome g.later_part
-unfolding all
-later_part_shorter = gives-shorter later_part-law refl
+later_part_shorter = unfold all in gives-shorter later_part-law refl
 
 pub named_number_shorter : TakesSome g.named_number
-unfolding all
-named_number_shorter = gives-shorter named_number-law refl
+named_number_shorter = unfold all in gives-shorter named_number-law refl
 
 pub range_shorter : TakesSome g.range
-unfolding all
-range_shorter = gives-shorter range-law refl
+range_shorter = unfold all in gives-shorter range-law refl
 
 pub field_shorter : TakesSome g.field
-unfolding all
-field_shorter = gives-shorter field-law refl
+field_shorter = unfold all in gives-shorter field-law refl
 
 pub name_shorter : TakesSome lower
-unfolding all
-name_shorter = gives-shorter lower-law refl
+name_shorter = unfold all in gives-shorter lower-law refl
 
 pub revision_shorter : TakesSome g.revision
-unfolding all
-revision_shorter = gives-shorter revision-law refl
+revision_shorter = unfold all in gives-shorter revision-law refl
 
 pub before_assign_shorter : TakesSome g.before_assign
-unfolding all
-before_assign_shorter = gives-shorter before_assign-law refl
+before_assign_shorter = unfold all in gives-shorter before_assign-law refl
 
 pub before_end_shorter : TakesSome g.before_end
-unfolding all
-before_end_shorter = gives-shorter before_end-law refl
+before_end_shorter = unfold all in gives-shorter before_end-law refl
 
 pub symbol_shorter : TakesSome g.imported_symbol
-unfolding all
-symbol_shorter = gives-shorter imported_symbol-law refl
+symbol_shorter = unfold all in gives-shorter imported_symbol-law refl
 
 pub import_clause_shorter : TakesSome g.import_clause
-unfolding all
-import_clause_shorter = gives-shorter import_clause-law refl
+import_clause_shorter = unfold all in gives-shorter import_clause-law refl
 
 pub definition-solid : g.definition.empty ≡ false
-unfolding all
-definition-solid = refl
+definition-solid = unfold all in refl
 
 pub module_text-solid : g.module_text.empty ≡ false
-unfolding all
-module_text-solid = refl
+module_text-solid = unfold all in refl
