@@ -1,5 +1,6 @@
 -- Where names stand among the variables of a view, after so many rounds of a GetBulk, and what they
--- are given there. Only contracts of functions that the crate doesn't export cite these definitions.
+-- are given there. Only contracts of functions that the crate doesn't export cite these
+-- definitions.
 use Rattle.std.specs.Prelude.{ℕ, Bool, true, false, List, [], ◌∷◌, drop, map, take}
 use Rattle.std.specs.FinMap.{entries}
 use Rattle.snmp_wire.specs.Message.{Datum, VarBind}

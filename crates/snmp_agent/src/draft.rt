@@ -137,8 +137,8 @@ fn append_same(
     reply.append(out, &binding)
 }
 
-/// For a GetBulk: the most octets that the bindings of a message of these parts may take if it is to
-/// have at most `max_size`, or 0 where it has more even without bindings.
+/// For a GetBulk: the most octets that the bindings of a message of these parts may take if it is
+/// to have at most `max_size`, or 0 where it has more even without bindings.
 pub fn room_for_bindings(parts: &Parts<'_>, max_size: usize) -> usize
     requires community { length parts.now.community.now ≤ 255 }
     requires datagram { max_size ≤ 65507 }

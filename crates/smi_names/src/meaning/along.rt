@@ -14,8 +14,8 @@ use smi_text::{Def, Name};
 use std::alloc::{AllocError, Global};
 
 /// A meaning that definitions give to names. An imported name means what the same name means in the
-/// module after FROM (RFC 2578, section 3.2); another what its definition means, which may depend on
-/// what a name means to which that definition leads.
+/// module after FROM (RFC 2578, section 3.2); another what its definition means, which may depend
+/// on what a name means to which that definition leads.
 pub trait Meaning: Copy {
     /// The name of its own module to which a definition leads.
     ghost leads: { Def → Option (List ℕ) };
