@@ -1,19 +1,24 @@
 -- Where the name at a place leads, and what it means, by what decides it.
-use Rattle.std.proofs.Common.{◌≡◌, ℕ, ◌+◌, ◌<◌, ◌≤◌, ◌⊎◌, inl, inr, List, [], ◌∷◌, ◌++◌, length, MatchOption, Option, Some, None, refl, sym, ap, ◌∙◌, arith}
-use Rattle.std.proofs.lemmas.List.{get_or_past, get_or_append_left, get_or_push}
-use Rattle.std.proofs.lemmas.Bool.{cases_lt}
-use Rattle.std.proofs.lemmas.Option.{slice_get_past}
+use Rattle.std.proofs.Common.{◌≡◌, ℕ, ◌≤◌, ◌⊎◌, inl, inr, List, length, map, MatchOption, Option, Some, None, refl, sym, ap, ◌∙◌, arith}
+use Rattle.std.proofs.lemmas.List.{get_or_past, length-map}
+use Rattle.std.proofs.lemmas.Option.{slice_get_past, slice_get-map, get_or_from_slice_get}
 use Rattle.std.specs.List.{slice_get}
 use Rattle.std.specs.Option.{option_and_then, option_map}
+use Rattle.smi_text.specs.declared.trees.tree.Module.{Module}
 use Rattle.smi_text.specs.declared.trees.tree.Def.{Def}
 use Rattle.smi_text.specs.declared.trees.tree.Import.{Import}
 use Rattle.smi_names.specs.chains.Chain.{HasEnd, ends, leads_on}
 use Rattle.smi_names.specs.chains.Order.{next_at, at_place}
 use Rattle.smi_names.specs.meaning.Meaning.{QualifiedName, Decision, defined, imported, root, module_named}
-use Rattle.smi_names.specs.meaning.Scopes.{Content}
+use Rattle.smi_names.specs.meaning.Scopes.{Content, content_of}
+use Rattle.smi_names.specs.meaning.Directory.{place_by, next_place, KeepsImports}
+use Rattle.smi_names.specs.meaning.Parents.{parent_of}
+use Rattle.smi_names.specs.meaning.Resolved.{IsDirectory, known_names}
+use Rattle.smi_names.specs.declared.meaning.entry.Entry.{Entry}
+use Rattle.smi_names.specs.declared.meaning.directory.Directory.{Directory}
 use Rattle.smi_names.specs.meaning.Known.{KnownNames, content_named}
-use Rattle.smi_names.specs.meaning.Along.{next_by, decided, next_name, IsOwn, Comes, unknown, of_root, through, at_end, after, IsNext, MeansAt, AreMeant}
-use Rattle.smi_names.proofs.Equating.{decided_at, is_decided}
+use Rattle.smi_names.specs.meaning.Along.{next_by, decided, next_name, IsOwn, Comes, unknown, of_root, through, at_end, after, IsNext, AreNext, MeansAt, AreMeant}
+use Rattle.smi_names.proofs.Equating.{decided_at, is_decided, entry_at, past_get}
 
 module _ (k : KnownNames) (leads : Def → Option (List ℕ)) where
   abbrev Leads : QualifiedName → Option ℕ → Type 0
@@ -24,7 +29,7 @@ module _ (k : KnownNames) (leads : Def → Option (List ℕ)) where
   leads_nowhere a None l e = refl
   leads_nowhere a (Some q) l e = let other = l.1 in cc
 
-  leads_to : (a b : QualifiedName) (to : Option ℕ) → Leads a to → next_name k.modules leads a ≡ Some b
+  pub leads_to : (a b : QualifiedName) (to : Option ℕ) → Leads a to → next_name k.modules leads a ≡ Some b
       → (q : ℕ) × (to ≡ Some q) × (slice_get k.names q ≡ content_named k.modules b)
   leads_to a b None l e = absurd (cc)
   leads_to a b (Some q) l e = let other = l.1 in let is : l.0 ≡ b = cc in (q, refl, rw is at l.2)
@@ -42,35 +47,10 @@ module _ (k : KnownNames) (leads : Def → Option (List ℕ)) where
         → decided k.modules a ≡ option_map (λ c. c.decided) s
     by_place s there a named = sym (decided_at a.name s (module_named k.modules a.home) (sym there ∙ named))
 
-    pub next_none : slice_get k.names p ≡ None → IsNext k leads p None
-    next_none there = λ a named. ap (next_by leads a) (by_place None there a named)
-
     module _ (c : Content) (there : slice_get k.names p ≡ Some c) where
       by_content : (d : Decision) → c.decided ≡ d → (a : QualifiedName) → slice_get k.names p ≡ content_named k.modules a
           → next_name k.modules leads a ≡ next_by leads a (Some d)
       by_content d is a named = ap (next_by leads a) (by_place (Some c) there a named ∙ ap (λ x. Some x) is)
-
-      pub next_root : (n : ℕ) → c.decided ≡ root n → IsNext k leads p None
-      next_root n is = λ a named. by_content (root n) is a named
-
-      pub next_import : (i : Import) → c.decided ≡ imported i → (q : ℕ)
-          → slice_get k.names q ≡ content_named k.modules (record { home = i.source.octets; name = c.name }) → IsNext k leads p (Some q)
-      next_import i is q at = λ a named. (
-        record { home = i.source.octets; name = a.name },
-        by_content (imported i) is a named,
-        at ∙ ap (λ x. content_named k.modules (record { home = i.source.octets; name = x })) ((is_decided k.modules a c (sym named ∙ there)).name),
-      )
-
-      pub next_last : (d : Def) → c.decided ≡ defined d → None ≡ leads d → IsNext k leads p None
-      next_last d is none = λ a named. by_content (defined d) is a named ∙ rw (← none) refl
-
-      pub next_defined : (d : Def) → c.decided ≡ defined d → (x : List ℕ) → Some x ≡ leads d → (q : ℕ)
-          → slice_get k.names q ≡ content_named k.modules (record { home = c.home.name.octets; name = x }) → IsNext k leads p (Some q)
-      next_defined d is x on q at = λ a named. (
-        record { home = a.home; name = x },
-        by_content (defined d) is a named ∙ rw (← on) refl,
-        at ∙ rw ((is_decided k.modules a c (sym named ∙ there)).home) refl,
-      )
 
     module _ {X : Type 0} (means : ℕ × ℕ → Def → Option X → Option X) where
       pub means_none : slice_get k.names p ≡ None → MeansAt k leads means p None
@@ -104,14 +84,43 @@ module _ (k : KnownNames) (leads : Def → Option (List ℕ)) where
                   let on = leads_to a b to l (by_def ∙ rw e refl) in
                   after own e ((rw on.1 at led) b on.2) refl
 
-pub next_push : (R : ℕ → Option ℕ → Type 0) (xs : List (Option ℕ)) (x : Option ℕ) (n : ℕ) → length xs ≡ n → ((p : ℕ) → p < n → R p (next_at xs p)) → R n x
-    → (p : ℕ) → p < n + 1 → R p (next_at (xs ++ x ∷ []) p)
-next_push R xs x n long all new p l = elim (cases_lt p n) [
-  | inl before ↦ rw (get_or_append_left xs (x ∷ []) None p (omega (arith, before, long))) (all p before)
-  | inr past ↦
-      let is : p ≡ n = omega (arith, past, l) in
-      rw (get_or_push xs x None p (long ∙ sym is), is) new
-]
+-- in every meaning an import leads where it does for the parents
+pub keeps_imports : (d : Directory) → d.parents.items ≡ map (next_place d parent_of) d.entries.items → KeepsImports d
+keeps_imports d is p e i to at by got =
+    let here : slice_get (map (next_place d parent_of) d.entries.items) p ≡ Some (next_place d parent_of e) =
+    rw at at (slice_get-map (next_place d parent_of) d.entries.items p) in
+    let same : to ≡ next_place d parent_of e = let there = rw is at got in cc in
+    same ∙ rw by refl
+
+-- where the names at places lead is where their entries do
+module _ (ms : List Module) (d : Directory) (dir : IsDirectory ms d) (leads : Def → Option (List ℕ)) where
+  next_is : (p : ℕ) (a : QualifiedName) → slice_get (known_names ms d).names p ≡ content_named ms a
+      → next_at (map (next_place d leads) d.entries.items) p ≡ option_map (place_by d) (next_name ms leads a)
+  next_is p a named = by (slice_get d.entries.items p) refl (sym (slice_get-map content_of d.entries.items p) ∙ named)
+    where
+      es : List Entry
+      es = d.entries.items
+
+      by : (s : Option Entry) → slice_get d.entries.items p ≡ s → option_map content_of s ≡ content_named ms a
+          → next_at (map (next_place d leads) d.entries.items) p ≡ option_map (place_by d) (next_name ms leads a)
+      by None at is =
+          let none : decided ms a ≡ None = sym (decided_at a.name None (module_named ms a.home) is) in
+          rw none (get_or_past (map (next_place d leads) es) p None (omega (arith, past_get es p at, length-map es (next_place d leads))))
+      by (Some e) at is =
+          let o = is_decided ms a (content_of e) (sym is) in
+          let here : slice_get (map (next_place d leads) es) p ≡ Some (next_place d leads e) = rw at at (slice_get-map (next_place d leads) es p) in
+          get_or_from_slice_get (map (next_place d leads) es) p (next_place d leads e) None here ∙ rw (o.named, o.by, o.home, o.name) refl
+
+  each_next : (p : ℕ) → IsNext (known_names ms d) leads p (next_at (map (next_place d leads) d.entries.items) p)
+  each_next p = λ a named. rw (next_is p a named) (by a (next_name ms leads a) refl)
+    where
+      by : (a : QualifiedName) (r : Option QualifiedName) → next_name ms leads a ≡ r → MatchOption (option_map (place_by d) r) (next_name ms leads a ≡ None)
+          (λ q. (b : QualifiedName) × (next_name ms leads a ≡ Some b) × (slice_get (known_names ms d).names q ≡ content_named ms b))
+      by a None e = e
+      by a (Some b) e = (b, e, slice_get-map content_of d.entries.items (place_by d b) ∙ entry_at ms d dir b)
+
+  pub are_next : AreNext (known_names ms d) leads (map (next_place d leads) d.entries.items)
+  are_next = record { long = length-map d.entries.items (next_place d leads) ∙ sym (length-map d.entries.items content_of); each = each_next }
 
 -- what a list has at the place to which a place leads
 pub far_of : {X : Type 0} (Right : ℕ → Option X → Type 0) (found : List (Option X)) (to : Option ℕ) → ((q : ℕ) → to ≡ Some q → Right q (at_place found q))
@@ -120,19 +129,13 @@ far_of Right found None f = refl
 far_of Right found (Some q) f = f q refl
 
 module _ {X : Type 0} (k : KnownNames) (leads : Def → Option (List ℕ)) (means : ℕ × ℕ → Def → Option X → Option X) (next : List (Option ℕ))
-    (long : length next ≡ length k.names) (within : (p : ℕ) → p < length next → IsNext k leads p (next_at next p)) where
-  pub each_next : (p : ℕ) → IsNext k leads p (next_at next p)
-  each_next p = elim (cases_lt p (length next)) [
-    | inl there ↦ within p there
-    | inr past ↦ rw (get_or_past next p None past) (next_none k leads p (slice_get_past k.names p (omega (arith, past, long))))
-  ]
-
+    (are : AreNext k leads next) where
   pub none_past : (p : ℕ) → length next ≤ p → MeansAt k leads means p None
-  none_past p past = means_none k leads p means (slice_get_past k.names p (omega (arith, past, long)))
+  none_past p past = means_none k leads p means (slice_get_past k.names p (omega (arith, past, are.long)))
 
   pub are_meant : (found : List (Option X))
       → ((p : ℕ) → MeansAt k leads means p (at_place found p) ⊎ ((HasEnd (next_at next) p → ⊥) × (at_place found p ≡ None))) → AreMeant k leads means found
   are_meant found each = λ p a named. elim (each p) [
     | inl right ↦ inl (right a named)
-    | inr none ↦ inr (λ h. none.0 (has_end k leads next each_next h p named), none.1)
+    | inr none ↦ inr (λ h. none.0 (has_end k leads next are.each h p named), none.1)
   ]

@@ -2,7 +2,7 @@ pub mod Climbing
 pub mod Filling
 pub mod Leading
 pub mod Sharing
-pub mod Bridging
+pub mod Resolving
 pub mod Equating
 pub mod Knowing
 pub mod Deciding

@@ -1,10 +1,10 @@
 -- Places of names and of modules in lists that grow, and the numbers of parts.
-use Rattle.std.proofs.Common.{◌≡◌, ◌≢◌, ℕ, zero, suc, ◌+◌, ◌-◌, ◌<◌, ◌≤◌, Bool, true, false, cond, List, [], ◌∷◌, ◌++◌, length, take, get_or, Option, Some}
-use Rattle.std.proofs.Common.{None, All, refl, sym, ap, ◌∙◌, arith, length-append, inl, inr}
+use Rattle.std.proofs.Common.{◌≡◌, ◌≢◌, ℕ, zero, suc, ◌+◌, ◌-◌, ◌<◌, ◌≤◌, ◌&&◌, Bool, true, false, cond, List, [], ◌∷◌, ◌++◌, length, take, get_or, Option, Some}
+use Rattle.std.proofs.Common.{None, All, is_some, refl, sym, ap, ◌∙◌, arith, length-append, inl, inr}
 use Rattle.std.proofs.lemmas.List.{take_more, length_push, length-take-le}
 use Rattle.std.proofs.lemmas.List.Elements.{All-append}
 use Rattle.std.proofs.lemmas.Bool.{cases_eq}
-use Rattle.std.specs.List.{slice_get, find, position_from}
+use Rattle.std.specs.List.{slice_get, find, list_all, position_from}
 use Rattle.smi_text.specs.trees.Mark.{same_text}
 use Rattle.smi_text.specs.trees.Lookup.{part_number}
 use Rattle.smi_text.specs.declared.trees.tree.Module.{Module}
@@ -108,6 +108,17 @@ arcs-push (q ∷ qs) p ns n e f = by (part_number q) (arcs qs) refl e (λ ms h. 
     by None b h e ih = absurd (cc)
     by (Some a) None h e ih = absurd (cc)
     by (Some a) (Some ms) h e ih = let is : a ∷ ms ≡ ns = cc in rw (ih ms h, sym is) refl
+
+-- parts have numbers together where each has one
+pub numbered : (ps : List Part) → list_all (λ p. is_some (part_number p)) ps ≡ is_some (arcs ps)
+numbered [] = refl
+numbered (p ∷ ps) = by (part_number p) (arcs ps) (numbered ps)
+  where
+    by : (a : Option ℕ) (b : Option (List ℕ)) → list_all (λ q. is_some (part_number q)) ps ≡ is_some b
+        → (is_some a && list_all (λ q. is_some (part_number q)) ps) ≡ is_some (both a b)
+    by None b h = refl
+    by (Some n) None h = h
+    by (Some n) (Some ns) h = h
 
 pub arcs-none : (ps : List Part) (k : ℕ) (p : Part) → k < length ps → p ≡ get_or ps k p → part_number p ≡ None → arcs ps ≡ None
 arcs-none [] k p l e f = absurd (omega arith)

@@ -4,7 +4,17 @@ use Rattle.smi_names.specs.chains.Chain.{Origin, next_of, HasEnd, ends, leads_on
 use Rattle.smi_names.specs.chains.Resolution.{ComesTo}
 use Rattle.smi_names.specs.declared.chains.resolution.Resolution.{Resolution}
 use Rattle.smi_names.specs.declared.chains.resolution.Resolution.TheVariants as R
-use Rattle.smi_names.proofs.Bridging.{Means-one}
+
+-- a thing has one identifier at most
+pub Means-one : {A : Type 0} (origin : A → Origin A) {a : A} {o : List ℕ} → HasIdentifier origin a o → (p : List ℕ) → HasIdentifier origin a p → o ≡ p
+Means-one origin {a} {o} (by_itself e) p (by_itself f) = cc
+Means-one origin {a} {o} (by_itself e) p (after_another f n) = absurd (cc)
+Means-one origin {a} {o} (after_another e m) p (by_itself f) = absurd (cc)
+Means-one origin {a} {o} (after_another {b = b} {ns = ns} {o = o'} e m) p (after_another {b = c} {ns = ms} {o = p'} f n) =
+    let is : b ≡ c = cc in
+    let same : ns ≡ ms = cc in
+    let front = Means-one origin m p' (subst (λ x. HasIdentifier origin x p') (sym is) n) in
+    rw (front, same) refl
 
 module _ {A : Type 0} (origin : A → Origin A) where
   has_end : {a : A} {o : List ℕ} → HasIdentifier origin a o → HasEnd (λ b. next_of (origin b)) a

@@ -3,5 +3,4 @@ pub mod Resolution
 pub mod Order
 pub mod Search
 pub mod Resolving
-pub mod Link
 pub mod Shared

@@ -6,3 +6,4 @@ pub mod Directory
 pub mod Resolved
 pub mod Known
 pub mod Along
+pub mod Parents

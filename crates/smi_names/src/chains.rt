@@ -4,12 +4,10 @@
 //! Depends on object identifiers alone. Meanings follow definitions and imports with it: each name
 //! has a place, a number.
 
-mod link;
 mod order;
 mod resolution;
 mod shared;
 
-pub(crate) use link::Link;
 pub use order::ordered;
 pub use resolution::Resolution;
-pub(crate) use shared::{Shared, shared_resolutions};
+pub(crate) use shared::{CYCLE, Shared, UNRESOLVED, appended, led, reasons};

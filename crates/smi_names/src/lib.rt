@@ -25,8 +25,8 @@ mod nodes;
 pub use chains::{Resolution, ordered};
 pub use hash::{KeySource, NameHash};
 pub use meaning::{
-    Decider, Entries, Entry, Meaning, Names, TypeBase, one_identifier, one_resolution, root_arc,
-    root_label,
+    Decider, Entries, Entry, Leads, Meaning, Names, TypeBase, one_identifier, one_resolution,
+    root_arc, root_label,
 };
 pub use name::{NameBuf, NameRef};
 pub use nodes::{Gathered, Source, Warning, gather_nodes, one_loading};

@@ -10,9 +10,10 @@ mod entries;
 mod entry;
 mod laws;
 mod names;
+mod parents;
 mod scope;
 
-pub use along::Meaning;
+pub use along::{Leads, Meaning};
 pub use base::TypeBase;
 pub use entries::Entries;
 pub use entry::{Decider, Entry};

@@ -1,5 +1,5 @@
 -- What names resolve to.
-use Rattle.std.specs.Prelude.{ℕ, ◌<◌, ◌≤◌, List, length, slice_index_or}
+use Rattle.std.specs.Prelude.{ℕ, ◌<◌, ◌≤◌, List, length}
 use Rattle.smi_names.specs.chains.Chain.{Origin, next_of, HasEnd, HasIdentifier, EndsNowhere}
 use Rattle.smi_names.specs.declared.chains.resolution.Resolution.{Resolution}
 use Rattle.smi_names.specs.declared.chains.resolution.Resolution.TheVariants as R
@@ -11,9 +11,3 @@ ComesTo origin a (R.Numbers o) = HasIdentifier origin a o × (length o ≤ 128)
 ComesTo origin a R.Cycle = HasEnd (λ b. next_of (origin b)) a → ⊥
 ComesTo origin a R.Unresolved = EndsNowhere origin a
 ComesTo origin a R.TooLong = (o : List ℕ) × HasIdentifier origin a o × (128 < length o)
-
--- the list has, for each place, what the place resolves to
-abbrev pub EachComesTo : (ℕ → Origin ℕ) → List Resolution → Type 0
-EachComesTo origin resolutions =
-    (p : ℕ) (d : Resolution) → p < length resolutions
-    → ComesTo origin p (slice_index_or resolutions p d)

@@ -1,5 +1,6 @@
 -- What one step of a chain resolves to.
-use Rattle.std.specs.Prelude.{ℕ, nat_le, List, [], ◌++◌, ◌+◌, length, slice_index_or, if◌then◌else◌}
+use Rattle.std.specs.Prelude.{ℕ, nat_le, List, [], ◌++◌, ◌+◌, length, slice_index_or}
+use Rattle.std.specs.Prelude.{if◌then◌else◌, Option, Some, None}
 use Rattle.smi_names.specs.chains.Chain.{Origin, numbers, after, nowhere}
 use Rattle.smi_names.specs.declared.chains.resolution.Resolution.{Resolution}
 use Rattle.smi_names.specs.declared.chains.resolution.Resolution.TheVariants as R
@@ -17,8 +18,13 @@ followed_by R.TooLong ns = R.TooLong
 abbrev pub resolution_at : List Resolution → ℕ → Resolution
 resolution_at rs p = slice_index_or rs p R.Unresolved
 
--- by where the name's numbers come from
-abbrev pub resolution_by : Origin ℕ → List Resolution → Resolution
-resolution_by (numbers ns) rs = lengthened [] ns
-resolution_by (after p ns) rs = followed_by (resolution_at rs p) ns
-resolution_by nowhere rs = R.Unresolved
+-- what the name resolves to at the place to which a place leads
+abbrev pub far_at : List Resolution → Option ℕ → Resolution
+far_at rs None = R.Unresolved
+far_at rs (Some q) = resolution_at rs q
+
+-- by where a name's numbers come from, and what the name resolves to to which it leads
+abbrev pub resolution_by : {A : Type 0} → Origin A → Resolution → Resolution
+resolution_by (numbers ns) far = lengthened [] ns
+resolution_by (after b ns) far = followed_by far ns
+resolution_by nowhere far = R.Unresolved

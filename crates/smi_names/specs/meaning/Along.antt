@@ -1,13 +1,13 @@
 -- What names mean along chains: an import leads to the same name in the module after FROM, and a
 -- definition may lead to a name of its module (RFC 2578, sections 3.1 and 3.2).
-use Rattle.std.specs.Prelude.{◌≡◌, ◌⊎◌, ℕ, List, MatchOption, Option, Some, None, option_map}
+use Rattle.std.specs.Prelude.{◌≡◌, ◌⊎◌, ℕ, List, length, MatchOption, Option, Some, None, option_map}
 use Rattle.std.specs.List.{slice_get}
 use Rattle.std.specs.Option.{option_and_then}
 use Rattle.smi_text.specs.declared.trees.tree.Module.{Module}
 use Rattle.smi_text.specs.declared.trees.tree.Def.{Def}
 use Rattle.smi_text.specs.declared.trees.tree.Import.{Import}
 use Rattle.smi_names.specs.chains.Chain.{HasEnd}
-use Rattle.smi_names.specs.chains.Order.{at_place}
+use Rattle.smi_names.specs.chains.Order.{next_at, at_place}
 use Rattle.smi_names.specs.meaning.Meaning.{QualifiedName, Decision, defined, imported, root}
 use Rattle.smi_names.specs.meaning.Meaning.{decision, module_named}
 use Rattle.smi_names.specs.meaning.Known.{KnownNames, content_named}
@@ -87,6 +87,12 @@ IsNext k leads p to =
     → MatchOption to (next_name k.modules leads a ≡ None)
     (λ q. (b : QualifiedName) × (next_name k.modules leads a ≡ Some b)
     × (slice_get k.names q ≡ content_named k.modules b))
+
+-- a list has where the name at each place leads
+pub record AreNext (k : KnownNames) (leads : Def → Option (List ℕ))
+    (next : List (Option ℕ)) : Type 0 where
+  pub long : length next ≡ length k.names
+  pub each : (p : ℕ) → IsNext k leads p (next_at next p)
 
 -- the names at a place mean this
 abbrev pub MeansAt : {X : Type 0} → KnownNames → (Def → Option (List ℕ))

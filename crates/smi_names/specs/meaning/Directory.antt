@@ -1,14 +1,15 @@
--- What the numbers of each entry's name are based on.
+-- The places of names, and the place to which each name leads.
 use Rattle.std.specs.Prelude.{◌≡◌, ℕ, ◌==◌, ◌&&◌, Bool, false, List, length, ⊤}
-use Rattle.std.specs.Prelude.{Option, Some, None, unwrap_or}
+use Rattle.std.specs.Prelude.{Option, Some, None, option_map, unwrap_or}
 use Rattle.smi_text.specs.trees.Mark.{same_text}
 use Rattle.std.specs.List.{slice_get}
 use Rattle.std.specs.Option.{option_and_then}
-use Rattle.smi_names.specs.chains.Link.{origin_of}
-use Rattle.smi_names.specs.declared.chains.link.Link.{Link}
-use Rattle.smi_names.specs.meaning.Meaning.{QualifiedName, origin_by}
-use Rattle.smi_names.specs.meaning.Scopes.{content_of, place_in}
-use Rattle.smi_names.specs.meaning.Names.{place_of_name, map_origin}
+use Rattle.smi_text.specs.declared.trees.tree.Def.{Def}
+use Rattle.smi_text.specs.declared.trees.tree.Import.{Import}
+use Rattle.smi_names.specs.meaning.Along.{next_by}
+use Rattle.smi_names.specs.meaning.Meaning.{QualifiedName, imported}
+use Rattle.smi_names.specs.meaning.Scopes.{content_of, qualified, decision_of, place_in}
+use Rattle.smi_names.specs.meaning.Names.{place_of_name}
 use Rattle.smi_names.specs.declared.meaning.entry.Entry.{Entry}
 use Rattle.smi_names.specs.declared.meaning.directory.Directory.{Directory}
 use Rattle.smi_names.specs.declared.meaning.directory.Found.{Found}
@@ -16,9 +17,18 @@ use Rattle.smi_names.specs.declared.meaning.directory.Found.{Found}
 abbrev pub place_by : Directory → QualifiedName → ℕ
 place_by d p = place_of_name d.homes d.scopes.items (length d.entries.items) p
 
--- the name of an entry, in its module
-abbrev pub place_of_entry : Entry → QualifiedName
-place_of_entry e = record { home = e.«module».now.name.octets; name = e.name.now }
+-- the place to which the name of an entry leads, if it leads to one, for private clauses
+abbrev pub next_place : Directory → (Def → Option (List ℕ)) → Entry → Option ℕ
+next_place d leads e = option_map (place_by d)
+    (next_by leads (qualified (content_of e)) (Some (content_of e).decided))
+
+-- where parents are kept, an import has the place of the same name in the module after FROM, for
+-- private clauses
+abbrev pub KeepsImports : Directory → Type 0
+KeepsImports d =
+    (p : ℕ) (e : Entry) (i : Import) (to : Option ℕ) → slice_get d.entries.items p ≡ Some e
+    → decision_of e.decider ≡ imported i → slice_get d.parents.items p ≡ Some to
+    → to ≡ Some (place_by d (record { home = i.source.octets; name = e.name.now }))
 
 -- the place of a name in the module at `at`, or the one past the last if there is none, for private
 -- clauses
@@ -38,11 +48,3 @@ IsFound d (Some f) = (f.at ≡ place_in d.homes f.home.now)
 abbrev pub is_entry_of : Option Entry → ℕ → List ℕ → Bool
 is_entry_of None i x = false
 is_entry_of (Some e) i x = (e.source.0 == i) && same_text e.name.now x
-
--- the link of each entry is the origin of its name, with places for names
-pub record AreLinks (d : Directory) (entries : List Entry) (links : List Link) : Type 0 where
-  pub long : length links ≡ length entries
-  pub each : (p : ℕ) (e : Entry) (l : Link) → slice_get entries p ≡ Some e
-      → slice_get links p ≡ Some l
-      → origin_of l ≡ map_origin (place_by d) (origin_by (place_of_entry e) (Some
-      (content_of e).decided))

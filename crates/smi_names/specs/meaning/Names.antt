@@ -2,7 +2,6 @@
 use Rattle.std.specs.Prelude.{◌≡◌, ℕ, List, length, Option, Some, unwrap_or, All}
 use Rattle.std.specs.List.{slice_get, position_from}
 use Rattle.std.specs.Option.{option_and_then}
-use Rattle.smi_names.specs.chains.Chain.{Origin, numbers, after, nowhere}
 use Rattle.smi_text.specs.trees.Mark.{same_text}
 use Rattle.smi_text.specs.declared.trees.tree.Module.{Module}
 use Rattle.smi_names.specs.meaning.Meaning.{QualifiedName, decision}
@@ -16,11 +15,6 @@ place_of_name homes scopes beyond p =
     unwrap_or (option_and_then (λ i. option_and_then (λ scope. place_in scope p.name)
     (slice_get scopes i))
     (place_in homes p.home)) beyond
-
-abbrev pub map_origin : {A B : Type 0} → (A → B) → Origin A → Origin B
-map_origin f (numbers ns) = numbers ns
-map_origin f (after a ns) = after (f a) ns
-map_origin f nowhere = nowhere
 
 -- the place of the first module of a name
 abbrev pub module_place : List Module → List ℕ → Option ℕ

@@ -7,7 +7,7 @@ use Rattle.indexmap.specs.IndexMap.{IndexMap, get}
 use Rattle.smi_text.specs.declared.trees.tree.Module.{Module}
 use Rattle.smi_text.specs.declared.trees.tree.Def.{Def}
 use Rattle.smi_names.specs.declared.hash.NameHash.{NameHash}
-use Rattle.smi_names.specs.meaning.Meaning.{Decision, defined, imported, root, or_else, decision}
+use Rattle.smi_names.specs.meaning.Meaning.{QualifiedName, Decision, defined, imported, root, or_else, decision}
 use Rattle.smi_names.specs.declared.meaning.entry.Decider.{Decider}
 use Rattle.smi_names.specs.declared.meaning.entry.Decider.TheVariants as D
 use Rattle.smi_names.specs.declared.meaning.entry.Entry.{Entry}
@@ -35,6 +35,10 @@ pub record Content : Type 0 where
 -- what an entry of the code says
 abbrev pub content_of : Entry → Content
 content_of e = record { home = e.«module».now; name = e.name.now; decided = decision_of e.decider }
+
+-- the name of which content speaks
+abbrev pub qualified : Content → QualifiedName
+qualified c = record { home = c.home.name.octets; name = c.name }
 
 -- what a scope knows of a name
 abbrev pub known : List Entry → NamePlaces → List ℕ → Option Content

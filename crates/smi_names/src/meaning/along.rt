@@ -1,11 +1,11 @@
 //! What names mean along chains: an import leads to the same name in the module after FROM, and a
 //! definition may lead to a name of its module.
-ghost use Rattle.std.specs.Prelude.{◌≡◌, ◌<◌, ℕ, List, length, IfOk, MatchOption, Option};
+ghost use Rattle.std.specs.Prelude.{◌≡◌, ℕ, List, IfOk, MatchOption, Option};
 ghost use Rattle.std.specs.Prelude.{None, Some, option_map};
 ghost use Rattle.std.specs.Option.{option_and_then};
 ghost use Rattle.smi_text.specs.declared.trees.tree.Def.{Def};
-ghost use Rattle.smi_names.specs.chains.Order.{next_at, at_place};
-ghost use Rattle.smi_names.specs.meaning.Along.{AreMeant, IsNext, MeansAt};
+ghost use Rattle.smi_names.specs.chains.Order.{at_place};
+ghost use Rattle.smi_names.specs.meaning.Along.{AreMeant, AreNext, IsNext, MeansAt};
 
 use crate::chains::ordered;
 use crate::meaning::entries::Entries;
@@ -13,19 +13,24 @@ use crate::meaning::entry::Decider;
 use smi_text::{Def, Name};
 use std::alloc::{AllocError, Global};
 
-/// A meaning that definitions give to names. An imported name means what the same name means in the
-/// module after FROM (RFC 2578, section 3.2); another what its definition means, which may depend
-/// on what a name means to which that definition leads.
-pub trait Meaning: Copy {
+/// Where definitions lead. What a definition means may depend on what another name of its module
+/// means, as a type depends on the type that it refines. Imports lead to the same name in the module
+/// after FROM, whatever the meaning (RFC 2578, section 3.2).
+pub trait Leads {
     /// The name of its own module to which a definition leads.
     ghost leads: { Def → Option (List ℕ) };
-
-    /// What the definition at a place means, given what the name means to which it leads.
-    ghost means: { ℕ × ℕ → Def → Option Self → Option Self };
 
     /// The name of its own module to which a definition leads, if it leads to one.
     fn lead(def: &Def) -> Option<&Name>
         ensures { option_map (λ name. name.now.octets) result ≡ leads def.now };
+}
+
+/// A meaning that definitions give to names. An imported name means what the same name means in the
+/// module after FROM (RFC 2578, section 3.2); another what its definition means, which may depend on
+/// what a name means to which that definition leads.
+pub trait Meaning: Copy + Leads {
+    /// What the definition at a place means, given what the name means to which it leads.
+    ghost means: { ℕ × ℕ → Def → Option Self → Option Self };
 
     /// What a definition means, by where it stands (its module's place and its own in that), given
     /// what the name means to which it leads.
@@ -33,18 +38,22 @@ pub trait Meaning: Copy {
         ensures { result ≡ means at def.now far };
 }
 
-/// The place of a definition as a meaning: that of its module, and its own in that. Imports lead to
-/// it, and it leads no further.
-impl Meaning for (usize, usize) {
-    ghost use Rattle.smi_names.specs.meaning.Along.{leads_nowhere, stands_at};
+impl Leads for (usize, usize) {
+    ghost use Rattle.smi_names.specs.meaning.Along.{leads_nowhere};
 
     ghost leads = { leads_nowhere };
-
-    ghost means = { stands_at };
 
     fn lead(_def: &Def) -> Option<&Name> {
         None
     }
+}
+
+/// The place of a definition as a meaning: that of its module, and its own in that. Imports lead to
+/// it, and it leads no further.
+impl Meaning for (usize, usize) {
+    ghost use Rattle.smi_names.specs.meaning.Along.{stands_at};
+
+    ghost means = { stands_at };
 
     fn meaning(
         at: (usize, usize),
@@ -88,33 +97,10 @@ impl<'s, 'a> Entries<'s, 'a> {
     }
 
     /// The place to which the name at each place leads.
-    fn next_places<M: Meaning>(&self, alloc: Global) -> Result<Vec<Option<usize>>, AllocError>
-        ensures long { IfOk result (λ next. length next.items ≡ length self.now.names) }
-        ensures each { IfOk result (λ next. (p : ℕ) → p < length next.items
-            → IsNext self.now M.leads p (next_at next.items p)) }
+    fn next_places<M: Leads>(&self, alloc: Global) -> Result<Vec<Option<usize>>, AllocError>
+        ensures { IfOk result (λ next. AreNext self.now M.leads next.items) }
     {
-        let mut next = Vec::with_capacity(alloc, self.len())?;
-        'places: for place in 0..self.len() {
-            next.push(self.next::<M>(place))?;
-        }
-        Ok(next)
-    }
-
-    /// The place to which the name at a place leads.
-    fn next<M: Meaning>(&self, place: usize) -> Option<usize>
-        ensures { IsNext self.now M.leads place result }
-    {
-        let Some(entry) = self.get(place) else {
-            return None;
-        };
-        match entry.decider {
-            Decider::Definition(def) => match M::lead(def) {
-                Some(name) => Some(self.place(entry.module.name.as_bytes(), name.as_bytes())),
-                None => None,
-            },
-            Decider::Import(_) => self.links.get(place)?.next(),
-            Decider::Root(_) => None,
-        }
+        self.directory.next_places::<M>(alloc)
     }
 
     /// What the name at a place means, given what the name means to which it leads.

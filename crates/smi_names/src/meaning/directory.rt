@@ -1,20 +1,18 @@
-//! The places of names: which entry a name of a module has, and what its numbers are based on.
-ghost use Rattle.std.specs.Prelude.{◌≡◌, ◌∷◌, ℕ, List, [], length, option_map, IfOk, Some};
-ghost use Rattle.smi_names.specs.chains.Link.{origin_of};
-ghost use Rattle.smi_names.specs.meaning.Meaning.{arcs as arcs_of, origin_by, origin_of_parts};
-ghost use Rattle.smi_names.specs.meaning.Scopes.{place_in, content_of};
-ghost use Rattle.smi_names.specs.meaning.Names.{AreEach, module_place, map_origin};
-ghost use Rattle.smi_names.specs.meaning.Directory.{place_by, place_of_entry, AreLinks};
-ghost use Rattle.smi_names.specs.meaning.Directory.{IsFound, is_entry_of, place_of_scope};
+//! The places of names: which entry a name of a module has, and to which its own leads.
+ghost use Rattle.std.specs.Prelude.{◌≡◌, ℕ, List, [], map, IfOk, Some};
+ghost use Rattle.smi_names.specs.meaning.Scopes.{place_in};
+ghost use Rattle.smi_names.specs.meaning.Names.{AreEach, module_place};
+ghost use Rattle.smi_names.specs.meaning.Directory.{place_by, place_of_scope, next_place};
+ghost use Rattle.smi_names.specs.meaning.Directory.{IsFound, KeepsImports, is_entry_of};
 ghost use Rattle.std.specs.List.{slice_get};
 
-use crate::chains::Link;
 use crate::hash::NameHash;
+use crate::meaning::along::Leads;
 use crate::meaning::entry::{Decider, Entry};
 use crate::meaning::scope::{NamePlaces, put_first, scope};
 use crate::name::NameRef;
 use indexmap::IndexMap;
-use smi_text::{Module, Part};
+use smi_text::Module;
 use std::alloc::{AllocError, Global};
 
 /// The modules and their names, each with its place.
@@ -26,6 +24,9 @@ pub(crate) struct Directory<'a> {
     pub(crate) scopes: Vec<NamePlaces<'a>>,
     /// What decides each name of each module.
     pub(crate) entries: Vec<Entry<'a>>,
+    /// The place to which each name leads towards its identifier. An import leads there in every
+    /// meaning.
+    pub(crate) parents: Vec<Option<usize>>,
 }
 
 /// A name of a module that was looked up, with its place.
@@ -79,20 +80,6 @@ pub(crate) fn scopes<'a>(
         scopes.push(scope)?;
     }
     Ok(scopes)
-}
-
-/// The numbers of parts, if each has one.
-fn arcs(alloc: Global, parts: &[Part]) -> Result<Option<Vec<u32>>, AllocError>
-    ensures { IfOk result (λ numbers. option_map (λ v. v.items) numbers ≡ arcs_of parts.now) }
-{
-    let mut numbers = Vec::new(alloc);
-    'parts: for part in parts {
-        match part.number() {
-            Some(number) => numbers.push(number)?,
-            None => return Ok(None),
-        }
-    }
-    Ok(Some(numbers))
 }
 
 impl<'a> Directory<'a> {
@@ -156,81 +143,50 @@ impl<'a> Directory<'a> {
         place
     }
 
-    /// What the numbers of an identifier value are based on. No list is made for one number after a
-    /// name, as most have.
-    fn link_of_parts(
+    /// The place to which the name of the entry at `place` leads. `last` is the name that was looked
+    /// up last.
+    fn next<M: Leads>(
         &self,
-        alloc: Global,
-        home: &'a [u8],
-        parts: &'a [Part],
-        last: &mut Option<Found<'a>>,
-    ) -> Result<Link, AllocError>
-        requires { IsFound self.now last.old }
-        ensures link { IfOk result (λ link.
-            origin_of link
-            ≡ map_origin (place_by self.now) (origin_of_parts home.now parts.now)) }
-        ensures last { IfOk result (λ _. IsFound self.now last.new) }
-    {
-        match parts {
-            [] => Ok(Link::Nowhere),
-            [Part::Name(name), part] => match part.number() {
-                Some(number) => {
-                    let place = self.place_again(home, name.as_bytes(), last);
-                    Ok(Link::Child(place, number))
-                }
-                None => Ok(Link::Nowhere),
-            },
-            [Part::Name(name), rest @ ..] => match arcs(alloc, rest)? {
-                Some(numbers) => {
-                    let place = self.place_again(home, name.as_bytes(), last);
-                    Ok(Link::After(place, numbers))
-                }
-                None => Ok(Link::Nowhere),
-            },
-            _ => match arcs(alloc, parts)? {
-                Some(numbers) => Ok(Link::Numbers(numbers)),
-                None => Ok(Link::Nowhere),
-            },
-        }
-    }
-
-    /// What the numbers of an entry's name are based on.
-    fn link(
-        &self,
-        alloc: Global,
+        place: usize,
         entry: &Entry<'a>,
         last: &mut Option<Found<'a>>,
-    ) -> Result<Link, AllocError>
-        requires { IsFound self.now last.old }
-        ensures link { IfOk result (λ link. origin_of link
-            ≡ map_origin (place_by self.now)
-            (origin_by (place_of_entry entry.now) (Some (content_of entry.now).decided))) }
-        ensures last { IfOk result (λ _. IsFound self.now last.new) }
+    ) -> Option<usize>
+        requires there { slice_get self.now.entries.items place ≡ Some entry.now }
+        requires imports { KeepsImports self.now }
+        requires last { IsFound self.now last.old }
+        ensures to { result ≡ next_place self.now M.leads entry.now }
+        ensures last { IsFound self.now last.new }
     {
-        let module = entry.module;
-        let home = module.name.as_bytes();
+        let home = entry.module.name.as_bytes();
         match entry.decider {
-            Decider::Definition(def) => match def.identifier() {
-                Some(parts) => self.link_of_parts(alloc, home, parts.as_slice(), last),
-                None => Ok(Link::Nowhere),
+            Decider::Definition(def) => match M::lead(def) {
+                Some(name) => Some(self.place_again(home, name.as_bytes(), last)),
+                None => None,
             },
-            Decider::Import(import) => {
-                let place = self.place_again(import.source.as_bytes(), entry.name, last);
-                Ok(Link::Same(place))
-            }
-            Decider::Root(number) => Ok(Link::Number(number)),
+            // Imports lead alike in every meaning, and are looked up for the parents alone.
+            Decider::Import(import) => match self.parents.get(place) {
+                Some(to) => *to,
+                None => Some(self.place_again(import.source.as_bytes(), entry.name, last)),
+            },
+            Decider::Root(_) => None,
         }
     }
 
-    /// What the numbers of each entry's name are based on.
-    pub(crate) fn links(&self, alloc: Global) -> Result<Vec<Link>, AllocError>
-        ensures { IfOk result (λ links. AreLinks self.now self.now.entries.items links.items) }
+    /// The place to which the name of each entry leads. Parents are found first, in a directory that
+    /// has none.
+    pub(crate) fn next_places<M: Leads>(
+        &self,
+        alloc: Global,
+    ) -> Result<Vec<Option<usize>>, AllocError>
+        requires { KeepsImports self.now }
+        ensures { IfOk result (λ next.
+            next.items ≡ map (next_place self.now M.leads) self.now.entries.items) }
     {
-        let mut links = Vec::with_capacity(alloc, self.entries.len())?;
+        let mut next = Vec::with_capacity(alloc, self.entries.len())?;
         let mut last = None;
-        'entries: for entry in &self.entries {
-            links.push(self.link(alloc, entry, &mut last)?)?;
+        'entries: for (place, entry) in self.entries.iter().enumerate() {
+            next.push(self.next::<M>(place, entry, &mut last))?;
         }
-        Ok(links)
+        Ok(next)
     }
 }

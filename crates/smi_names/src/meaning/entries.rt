@@ -6,7 +6,6 @@ ghost use Rattle.smi_names.specs.meaning.Names.{IsSourced};
 ghost use Rattle.smi_names.specs.meaning.Known.{content_named};
 ghost use Rattle.smi_names.specs.declared.meaning.entry.Entry.{Entry};
 
-use crate::chains::Link;
 use crate::meaning::directory::Directory;
 use crate::meaning::entry::Entry;
 use smi_text::Module;
@@ -19,26 +18,17 @@ use std::marker::Model;
 pub struct Entries<'s, 'a> {
     pub(crate) modules: &'a [Module],
     pub(crate) directory: &'s Directory<'a>,
-    /// What the numbers of each name are based on.
-    pub(crate) links: &'s [Link],
 }
 
 impl<'s, 'a> Model for Entries<'s, 'a> {
-    ghost use Rattle.std.specs.Prelude.{map};
-    ghost use Rattle.smi_names.specs.meaning.Scopes.{content_of};
     ghost use Rattle.smi_names.specs.meaning.Known.{KnownNames};
-    ghost use Rattle.smi_names.specs.meaning.Directory.{AreLinks};
-    ghost use Rattle.smi_names.specs.meaning.Resolved.{IsDirectory};
+    ghost use Rattle.smi_names.specs.meaning.Resolved.{IsDirectory, known_names};
 
     ghost Value = { KnownNames };
 
-    ghost view = { λ s. record {
-      modules = s.modules.now;
-      names = map content_of s.directory.now.entries.items;
-    } };
+    ghost view = { λ s. known_names s.modules.now s.directory.now };
 
-    ghost invariant = { λ s. IsDirectory s.modules.now s.directory.now
-        × AreLinks s.directory.now s.directory.now.entries.items s.links.now };
+    ghost invariant = { λ s. IsDirectory s.modules.now s.directory.now };
 }
 
 impl<'s, 'a> Entries<'s, 'a> {

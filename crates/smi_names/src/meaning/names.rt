@@ -8,11 +8,12 @@ ghost use Rattle.smi_names.specs.meaning.Meaning.{origin, module_named, decision
 ghost use Rattle.smi_names.specs.meaning.Scopes.{decision_of};
 ghost use Rattle.smi_names.specs.meaning.Names.{module_place};
 
-use crate::chains::{Link, Resolution, Shared, shared_resolutions};
+use crate::chains::{Resolution, Shared};
 use crate::hash::NameHash;
 use crate::meaning::directory::{Directory, find, homes, scopes};
 use crate::meaning::entries::Entries;
 use crate::meaning::entry::Decider;
+use crate::meaning::parents::Parents;
 use smi_text::Module;
 use std::alloc::{AllocError, Global};
 use std::marker::Model;
@@ -24,8 +25,6 @@ use std::marker::Model;
 pub struct Names<'a> {
     modules: &'a [Module],
     directory: Directory<'a>,
-    /// What the numbers of each entry's name are based on.
-    links: Vec<Link>,
     resolutions: Shared,
 }
 
@@ -33,17 +32,17 @@ impl<'a> Model for Names<'a> {
     ghost use Rattle.std.specs.Prelude.{List};
     ghost use Rattle.smi_text.specs.declared.trees.tree.Module.{Module};
     ghost use Rattle.smi_names.specs.chains.Shared.{shared, AreWithin};
-    ghost use Rattle.smi_names.specs.meaning.Directory.{AreLinks};
-    ghost use Rattle.smi_names.specs.meaning.Resolved.{AreResolutions};
+    ghost use Rattle.smi_names.specs.meaning.Resolved.{IsDirectory, known_names};
+    ghost use Rattle.smi_names.specs.meaning.Parents.{AreResolved};
 
     ghost Value = { List Module };
 
     ghost view = { λ s. s.modules.now };
 
     ghost invariant = { λ s. AreWithin s.resolutions.list.items s.resolutions.places.items
-        × AreResolutions s.modules.now s.directory
-        (shared s.resolutions.list.items s.resolutions.places.items)
-        × AreLinks s.directory s.directory.entries.items s.links.items };
+        × IsDirectory s.modules.now s.directory
+        × AreResolved (known_names s.modules.now s.directory)
+        (shared s.resolutions.list.items s.resolutions.places.items) };
 }
 
 impl<'a> Names<'a> {
@@ -57,17 +56,21 @@ impl<'a> Names<'a> {
     {
         let mut entries = Vec::new(alloc);
         let scopes = scopes(alloc, hash, &mut entries, modules)?;
-        let directory = Directory {
+        let mut directory = Directory {
             homes: homes(alloc, hash, modules)?,
             scopes,
             entries,
+            parents: Vec::new(alloc),
         };
-        let links = directory.links(alloc)?;
-        let resolutions = shared_resolutions(alloc, &links)?;
+        directory.parents = directory.next_places::<Parents>(alloc)?;
+        let entries = Entries {
+            modules,
+            directory: &directory,
+        };
+        let resolutions = entries.resolutions(alloc)?;
         Ok(Names {
             modules,
             directory,
-            links,
             resolutions,
         })
     }
@@ -135,7 +138,6 @@ impl<'a> Names<'a> {
         Entries {
             modules: self.modules,
             directory: &self.directory,
-            links: self.links.as_slice(),
         }
     }
 

@@ -14,7 +14,7 @@ use crate::types::syntax::{
     TypeSyntax, base_of, hint_of, name_of, names_in_definition, names_of, object_type_of,
     sizes_in_definition, sizes_of, type_of,
 };
-use smi_names::{Entries, Meaning, Names, TypeBase};
+use smi_names::{Entries, Leads, Meaning, Names, TypeBase};
 use smi_text::{Def, Module, Name, SimpleType};
 use std::alloc::{AllocError, Global};
 
@@ -39,12 +39,10 @@ pub struct Types {
     objects: Vec<Vec<Option<KeptSyntax>>>,
 }
 
-impl Meaning for KeptSyntax {
-    ghost use Rattle.smi_tree.specs.types.Kept.{refines, type_at};
+impl Leads for KeptSyntax {
+    ghost use Rattle.smi_tree.specs.types.Kept.{refines};
 
     ghost leads = { refines };
-
-    ghost means = { type_at };
 
     fn lead(def: &Def) -> Option<&Name> {
         match type_of(&def.kind) {
@@ -52,6 +50,12 @@ impl Meaning for KeptSyntax {
             None => None,
         }
     }
+}
+
+impl Meaning for KeptSyntax {
+    ghost use Rattle.smi_tree.specs.types.Kept.{type_at};
+
+    ghost means = { type_at };
 
     fn meaning(at: (usize, usize), def: &Def, far: Option<KeptSyntax>) -> Option<KeptSyntax>
         ensures { result ≡ type_at at def.now far }

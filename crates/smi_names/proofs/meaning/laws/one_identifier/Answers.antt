@@ -1,6 +1,6 @@
 -- By the chain of the name.
 use Rattle.smi_names.specs.meaning.Meaning.{origin}
-use Rattle.smi_names.proofs.Bridging.{Means-one}
+use Rattle.smi_names.proofs.Single.{Means-one}
 use Rattle.smi_names.proofs.meaning.laws.one_identifier.Goals as goal
 
 pub returns : goal.returns

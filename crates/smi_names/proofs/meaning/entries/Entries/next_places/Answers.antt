@@ -1,14 +1,19 @@
--- One place more.
-use Rattle.std.proofs.Common.{rules, ◌≡◌, ◌+◌, ◌∷◌, [], ◌++◌, length}
-use Rattle.smi_names.specs.meaning.Along.{IsNext}
-use Rattle.smi_names.proofs.Leading.{next_push}
+-- The entries' next places, by names.
+use Rattle.std.proofs.Common.{◌≡◌, map, sym}
+use Rattle.std.proofs.lemmas.Result.{IfOk-weaker}
+use Rattle.smi_names.specs.meaning.Along.{AreNext}
+use Rattle.smi_names.specs.meaning.Directory.{next_place}
+use Rattle.smi_names.specs.meaning.Resolved.{known_names}
+use Rattle.smi_names.proofs.Leading.{are_next, keeps_imports}
 use Rattle.smi_names.proofs.meaning.entries.Entries.next_places.Goals as goal
 
-pub places-preserved : goal.places-preserved
-places-preserved g c =
-    let pushed : c.push.new.self.items ≡ c.places.next.items ++ c.next.result ∷ [] = search rules in
-    let long : length c.push.new.self.items ≡ c.places.place + 1 = search rules in (
-      long,
-      rw pushed (next_push (IsNext c.args.self.now g.M.Meaning.leads) c.places.next.items c.next.result c.places.place c.places.invariant.0
-          c.places.invariant.1 c.next.ensures),
-    )
+pub next_places-requires : goal.next_places-requires
+next_places-requires g c = keeps_imports c.self.inside.directory.now c.self.invariant.parents
+
+pub returns : goal.returns
+returns g c =
+    let ms = c.self.inside.modules.now in
+    let d = c.self.inside.directory.now in
+    let leads = g.M.Leads.leads in
+    rw (sym c.self.view_is) (IfOk-weaker c.next_places.result (λ next. next.items ≡ map (next_place d leads) d.entries.items)
+    (λ next. AreNext (known_names ms d) leads next.items) (λ next is. rw is (are_next ms d c.self.invariant leads)) c.next_places.ensures)

@@ -12,4 +12,4 @@ returns c =
     let a : QualifiedName = record { home = c.args.home.now; name = c.args.name.now } in
     let d = c.self.inside.directory.now in
     let at : c.place.result ≡ place_by d a = c.place.ensures in
-    rw (sym c.self.view_is, at) (slice_get-map content_of d.entries.items (place_by d a) ∙ entry_at c.self.inside.modules.now d c.self.invariant.0 a)
+    rw (sym c.self.view_is, at) (slice_get-map content_of d.entries.items (place_by d a) ∙ entry_at c.self.inside.modules.now d c.self.invariant a)

@@ -8,5 +8,5 @@ use Rattle.smi_names.proofs.meaning.names.Names.is_loaded.Goals as goal
 pub returns : goal.returns
 returns c =
     let here : c.is_some.result ≡ is_some (place_in c.self.inside.directory.homes c.args.name.now) = search rules in
-    here ∙ ap (λ o. is_some o) (c.self.invariant.1.directory.placed c.args.name.now)
+    here ∙ ap (λ o. is_some o) (c.self.invariant.1.placed c.args.name.now)
     ∙ rw (sym c.self.view_is) (loaded (λ m. same_text m.name.octets c.args.name.now) 0 c.self.inside.modules.now)

@@ -13,4 +13,4 @@ returns c =
     let rs = shared c.self.inside.resolutions.list.items c.self.inside.resolutions.places.items in
     let place : c.place-place.result ≡ place_by d a = c.place-place.ensures in
     let got = rw place at c.get.ensures in
-    rw (sym c.self.view_is) (resolved c.self.inside.modules.now d rs c.self.invariant.1 a c.get.result got)
+    rw (sym c.self.view_is) (resolved c.self.inside.modules.now d rs c.self.invariant.1 c.self.invariant.2 a c.get.result got)

@@ -15,8 +15,8 @@ returns-then-is_entry c =
     let entry : is_entry_of (slice_get d.entries.items c.saturating_add-guess.result) c.args.source.0 c.args.name.now ≡ true = search rules in
     let there = rw (sym c.self.view_is) at c.requires.there in
     let first = rw (sym c.self.view_is) at c.requires.first in
-    rw (sym c.self.view_is) (resolved_entry c.self.inside.modules.now d rs c.self.invariant.1 c.saturating_add-guess.result c.args.source.0 m c.args.name.now
-    c.get.result there first entry c.get.ensures)
+    rw (sym c.self.view_is) (resolved_entry c.self.inside.modules.now d rs c.self.invariant.1 c.self.invariant.2 c.saturating_add-guess.result
+    c.args.source.0 m c.args.name.now c.get.result there first entry c.get.ensures)
 
 pub returns : goal.returns
 returns c =
@@ -25,4 +25,4 @@ returns c =
     let rs = shared c.self.inside.resolutions.list.items c.self.inside.resolutions.places.items in
     let place : c.place-place.result ≡ place_by d a = rw (sym c.as_bytes.ensures.octets) c.place-place.ensures in
     let got = rw place at c.get-2.ensures in
-    rw (sym c.self.view_is) (resolved c.self.inside.modules.now d rs c.self.invariant.1 a c.get-2.result got)
+    rw (sym c.self.view_is) (resolved c.self.inside.modules.now d rs c.self.invariant.1 c.self.invariant.2 a c.get-2.result got)

@@ -3,7 +3,7 @@ use Rattle.std.proofs.Common.{rules, ◌≡◌, ◌+◌, [], ◌∷◌, ◌++◌
 use Rattle.std.proofs.lemmas.List.{take_more}
 use Rattle.smi_text.specs.trees.Lookup.{part_number}
 use Rattle.smi_names.proofs.Placing.{arcs-push, arcs-none}
-use Rattle.smi_names.proofs.meaning.directory.arcs.Goals as goal
+use Rattle.smi_names.proofs.meaning.parents.arcs.Goals as goal
 
 pub returns-in-None : goal.returns-in-None
 returns-in-None c =

@@ -1,0 +1,123 @@
+-- What the name at a place resolves to, by where its numbers come from and what the name resolves to to which it leads.
+use Rattle.std.proofs.Common.{◌≡◌, ℕ, ◌+◌, ◌≤◌, ◌⊎◌, inl, inr, Bool, true, false, cond, nat_le, List, [], ◌∷◌, ◌++◌, length, Option, Some, None}
+use Rattle.std.proofs.Common.{refl, sym, ap, ◌∙◌, subst, arith, length-append}
+use Rattle.std.proofs.lemmas.Option.{slice_get_past}
+use Rattle.std.specs.List.{slice_get}
+use Rattle.std.specs.Option.{option_and_then, option_map}
+use borrow.Author.Tests.{leb-true, leb-false}
+use Rattle.smi_text.specs.declared.trees.tree.Module.{Module}
+use Rattle.smi_text.specs.declared.trees.tree.Part.{Part}
+use Rattle.smi_text.specs.declared.trees.tree.Part.TheVariants as P
+use Rattle.smi_text.specs.trees.Lookup.{identifier_value_of}
+use Rattle.smi_names.specs.chains.Chain.{Origin, numbers, after, nowhere, next_of, HasEnd, ends, leads_on, HasIdentifier, by_itself, after_another}
+use Rattle.smi_names.specs.chains.Chain.{here, further}
+use Rattle.smi_names.specs.chains.Order.{next_at}
+use Rattle.smi_names.specs.chains.Resolution.{ComesTo}
+use Rattle.smi_names.specs.chains.Resolving.{lengthened, followed_by, resolution_at, far_at, resolution_by}
+use Rattle.smi_names.specs.declared.chains.resolution.Resolution.{Resolution}
+use Rattle.smi_names.specs.declared.chains.resolution.Resolution.TheVariants as R
+use Rattle.smi_names.specs.meaning.Meaning.{QualifiedName, Decision, decision, defined, imported, root, arcs, by_itself as numbers_of, after_name, origin, origin_by}
+use Rattle.smi_names.specs.meaning.Meaning.{origin_in, origin_of_value, module_named}
+use Rattle.smi_names.specs.meaning.Scopes.{Content, qualified}
+use Rattle.smi_names.specs.meaning.Known.{KnownNames, content_named}
+use Rattle.smi_names.specs.meaning.Along.{next_by, next_name, AreNext}
+use Rattle.smi_names.specs.meaning.Parents.{parent_of, origin_here, AreResolved}
+use Rattle.smi_names.proofs.Equating.{is_decided, undecided}
+use Rattle.smi_names.proofs.Leading.{leads_to, has_end}
+
+HasEnd-same : {A : Type 0} (f g : A → Option A) → ((a : A) → f a ≡ g a) → {a : A} → HasEnd f a → HasEnd g a
+HasEnd-same f g same {a} (ends e) = ends (sym (same a) ∙ e)
+HasEnd-same f g same {a} (leads_on e h) = leads_on (sym (same a) ∙ e) (HasEnd-same f g same h)
+
+module _ {A : Type 0} (origin : A → Origin A) where
+  below : {a b : A} → HasEnd (λ c. next_of (origin c)) a → next_of (origin a) ≡ Some b → HasEnd (λ c. next_of (origin c)) b
+  below (ends e) h = cc
+  below {a} {b} (leads_on {b = c} e r) h = let same : c ≡ b = cc in subst (λ x. HasEnd (λ y. next_of (origin y)) x) same r
+
+  lengthened_comes : (a : A) (o ns : List ℕ) → HasIdentifier origin a (o ++ ns) → ComesTo origin a (lengthened o ns)
+  lengthened_comes a o ns m = by (nat_le (length o + length ns) 128) refl
+    where
+      by : (b : Bool) → nat_le (length o + length ns) 128 ≡ b → ComesTo origin a (cond b (R.Numbers (o ++ ns)) R.TooLong)
+      by true e = (m, omega (arith, leb-true _ _ e, length-append o ns))
+      by false e = (o ++ ns, m, omega (arith, leb-false _ _ e, length-append o ns))
+
+  followed_comes : (a b : A) (ns : List ℕ) (r : Resolution) → origin a ≡ after b ns → ComesTo origin b r → ComesTo origin a (followed_by r ns)
+  followed_comes a b ns (R.Numbers o) e c = lengthened_comes a o ns (after_another e c.0)
+  followed_comes a b ns R.Cycle e c = λ h. c (below h (ap next_of e))
+  followed_comes a b ns R.Unresolved e c = further e c
+  followed_comes a b ns R.TooLong e c = (c.0 ++ ns, after_another e c.1, omega (arith, length-append c.0 ns, c.2))
+
+  step_comes : (a : A) (o : Origin A) (far : Resolution) → origin a ≡ o → ((b : A) → next_of o ≡ Some b → ComesTo origin b far)
+      → ComesTo origin a (resolution_by o far)
+  step_comes a (numbers ns) far e f = lengthened_comes a [] ns (by_itself e)
+  step_comes a (after b ns) far e f = followed_comes a b ns far e (f b refl)
+  step_comes a nowhere far e f = here e
+
+-- a name's chain of parents is that of its origins
+parents : (ms : List Module) (a : QualifiedName) → next_of (origin ms a) ≡ next_name ms parent_of a
+parents ms a = of_module (module_named ms a.home)
+  where
+    renamed : Option QualifiedName → Option QualifiedName
+    renamed b = option_map (λ x. record { home = a.home; name = x }) (option_map (λ y. y.name) b)
+
+    numbered : (r : Option (List ℕ)) → next_of (numbers_of r) ≡ renamed (next_of (numbers_of r))
+    numbered None = refl
+    numbered (Some ns) = refl
+
+    named : (x : List ℕ) (r : Option (List ℕ)) → next_of (after_name (record { home = a.home; name = x }) r)
+        ≡ renamed (next_of (after_name (record { home = []; name = x }) r))
+    named x None = refl
+    named x (Some ns) = refl
+
+    of_value : (v : Option (List Part)) → next_of (origin_of_value a.home v) ≡ renamed (next_of (origin_of_value [] v))
+    of_value None = refl
+    of_value (Some []) = refl
+    of_value (Some (P.Name x ∷ rest)) = named x.octets (arcs rest)
+    of_value (Some (P.Number n ∷ rest)) = numbered (arcs (P.Number n ∷ rest))
+    of_value (Some (P.NamedNumber n ∷ rest)) = numbered (arcs (P.NamedNumber n ∷ rest))
+
+    of_decision : (v : Option Decision) → next_of (origin_by a v) ≡ next_by parent_of a v
+    of_decision None = refl
+    of_decision (Some (defined d)) = of_value (identifier_value_of d.kind)
+    of_decision (Some (imported i)) = refl
+    of_decision (Some (root n)) = refl
+
+    of_module : (r : Option Module) → next_of (origin_in a r) ≡ next_by parent_of a (option_and_then (λ m. decision m a.name) r)
+    of_module None = refl
+    of_module (Some m) = of_decision (decision m a.name)
+
+-- the names at a place resolve to this
+abbrev pub ResolvesAt : KnownNames → ℕ → Resolution → Type 0
+ResolvesAt k p r = (a : QualifiedName) → slice_get k.names p ≡ content_named k.modules a → ComesTo (origin k.modules) a r
+
+module _ (k : KnownNames) where
+  origin_is : (s : Option Content) (a : QualifiedName) → s ≡ content_named k.modules a → origin k.modules a ≡ origin_here s
+  origin_is None a e = undecided a (module_named k.modules a.home) e
+  origin_is (Some c) a e =
+      let o = is_decided k.modules a c (sym e) in
+      let same : qualified c ≡ a = rw (o.home, o.name) refl in
+      rw (o.named, o.by) (ap (λ x. origin_by x (Some c.decided)) (sym same))
+
+  module _ (next : List (Option ℕ)) (are : AreNext k parent_of next) where
+    -- beyond the last place there is no meaning
+    pub beyond_comes : (p : ℕ) → length next ≤ p → ResolvesAt k p R.Unresolved
+    beyond_comes p past = λ a named. here (origin_is None a (sym (slice_get_past k.names p (omega (arith, past, are.long))) ∙ named))
+
+    pub resolves_step : (p : ℕ) (rs : List Resolution) → ((q : ℕ) → next_at next p ≡ Some q → ResolvesAt k q (resolution_at rs q))
+        → ResolvesAt k p (resolution_by (origin_here (slice_get k.names p)) (far_at rs (next_at next p)))
+    resolves_step p rs right = λ a named.
+        let is = origin_is (slice_get k.names p) a named in
+        step_comes (origin k.modules) a (origin_here (slice_get k.names p)) (far_at rs (next_at next p)) is (λ b e.
+        let on = leads_to k parent_of a b (next_at next p) (are.each p a named) (sym (parents k.modules a) ∙ ap next_of is ∙ e) in
+        rw on.1 (right on.0 on.1 b on.2))
+
+    pub are_resolved : (rs : List Resolution) → length rs ≡ length next
+        → ((p : ℕ) → ResolvesAt k p (resolution_at rs p) ⊎ ((HasEnd (next_at next) p → ⊥) × (resolution_at rs p ≡ R.Cycle))) → AreResolved k rs
+    are_resolved rs long all = record {
+      long = long ∙ are.long;
+      each = λ p a named. elim (all p) [
+        | inl right ↦ right a named
+        | inr none ↦ rw none.1 (λ h. none.0 (has_end k parent_of next are.each
+            (HasEnd-same (λ b. next_of (origin k.modules b)) (next_name k.modules parent_of) (parents k.modules) h) p named))
+      ];
+    }

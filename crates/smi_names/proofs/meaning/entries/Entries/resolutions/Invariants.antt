@@ -1,0 +1,11 @@
+use Rattle.std.proofs.Common.{◌≡◌, length, take}
+use Rattle.smi_names.specs.chains.Shared.{shared, AreWithin, HasReasons}
+use Rattle.smi_names.specs.declared.chains.resolution.Resolution.TheVariants as R
+use Rattle.smi_names.proofs.Filling.{Fills}
+use Rattle.smi_names.proofs.Resolving.{ResolvesAt}
+use Rattle.smi_names.proofs.meaning.entries.Entries.resolutions.Given as goal
+
+abbrev pub invariant-places : goal.invariant-places
+invariant-places l =
+    (length l.places.items ≡ length l.next) × HasReasons l.list.items × AreWithin l.list.items l.places.items
+    × Fills (ResolvesAt l.self) R.Cycle R.Unresolved (take l.place-index l.place-items) (shared l.list.items l.places.items)

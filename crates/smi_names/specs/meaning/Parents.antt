@@ -1,0 +1,27 @@
+-- What names resolve to, by their places.
+use Rattle.std.specs.Prelude.{◌≡◌, ℕ, List, [], length, Option, Some, None, option_map}
+use Rattle.std.specs.List.{slice_get}
+use Rattle.smi_text.specs.declared.trees.tree.Def.{Def}
+use Rattle.smi_text.specs.trees.Lookup.{identifier_value_of}
+use Rattle.smi_names.specs.chains.Chain.{Origin, next_of, nowhere}
+use Rattle.smi_names.specs.chains.Resolution.{ComesTo}
+use Rattle.smi_names.specs.chains.Resolving.{resolution_at}
+use Rattle.smi_names.specs.declared.chains.resolution.Resolution.{Resolution}
+use Rattle.smi_names.specs.meaning.Meaning.{QualifiedName, origin, origin_by, origin_of_value}
+use Rattle.smi_names.specs.meaning.Scopes.{Content, qualified}
+use Rattle.smi_names.specs.meaning.Known.{KnownNames, content_named}
+
+-- the name of its own module to which a definition's identifier value leads
+abbrev pub parent_of : Def → Option (List ℕ)
+parent_of d = option_map (λ a. a.name) (next_of (origin_of_value [] (identifier_value_of d.kind)))
+
+-- where the numbers of the name at a place come from
+abbrev pub origin_here : Option Content → Origin QualifiedName
+origin_here None = nowhere
+origin_here (Some c) = origin_by (qualified c) (Some c.decided)
+
+-- a list has at the place of each name what the name resolves to
+pub record AreResolved (k : KnownNames) (rs : List Resolution) : Type 0 where
+  pub long : length rs ≡ length k.names
+  pub each : (p : ℕ) (a : QualifiedName) → slice_get k.names p ≡ content_named k.modules a
+      → ComesTo (origin k.modules) a (resolution_at rs p)
