@@ -1,4 +1,5 @@
 -- The steps of the search: a place is met, a path is settled, and a path that leads back has no end.
+use Rattle.std.proofs.lemmas.Grind.{common_steps}
 use Rattle.std.proofs.Common.{◌≡◌, ◌≢◌, ℕ, zero, suc, ◌+◌, ◌<◌, ◌⊎◌, inl, inr, Bool, true, false, cond, List, [], ◌∷◌, ◌++◌, length, set, take, Option}
 use Rattle.std.proofs.Common.{Some, None, Contains, refl, sym, ap, ◌∙◌, subst, arith}
 use Rattle.std.proofs.lemmas.List.{get_or-set_same, get_or-set_other, length-set, get_or_append_left, get_or_push, length_push, take_all, take-append-le}
@@ -49,8 +50,7 @@ module _ (next : List (Option ℕ)) where
   led_from : (path : List ℕ) (from : Option ℕ) (at p : ℕ) → Leads next path from (Some at) → Contains path p → HasEnd (next_at next) p → HasEnd
       (next_at next) at
   led_from [] from at p l m h = absurd (omega (arith, m.1))
-  led_from (x ∷ xs) from at p l (zero, k, e) h = let same : x ≡ p = e in led xs (next_at next x) at l.1 (λ q f. below (subst (λ y. HasEnd
-      (next_at next) y) (sym same) h) f)
+  led_from (x ∷ xs) from at p l (zero, k, e) h = grind (arith, common_steps, led, below)
   led_from (x ∷ xs) from at p l (suc i, k, e) h = led_from xs (next_at next x) at p l.1 (i, omega arith, e) h
 
   Contains-later : (x : ℕ) (xs : List ℕ) (p : ℕ) → Contains xs p → Contains (x ∷ xs) p

@@ -1,5 +1,6 @@
 -- Entries say what decides their names.
-use Rattle.std.proofs.Common.{◌≡◌, ℕ, List, get_or, All, Option, Some, None, refl, sym, ap, ◌∙◌}
+use Rattle.std.proofs.Common.{arith, ◌≡◌, ℕ, List, get_or, All, Option, Some, None, refl, sym, ◌∙◌}
+use Rattle.std.proofs.lemmas.Grind.{common_steps}
 use Rattle.smi_text.specs.declared.trees.tree.Module.{Module}
 use Rattle.smi_names.specs.meaning.Meaning.{Decision, decision}
 use Rattle.smi_names.specs.meaning.Scopes.{NamePlaces, content_of, decision_of, place_in, known, decided_as, IsDecided, KnowsMore}
@@ -9,8 +10,7 @@ use Rattle.smi_names.specs.declared.meaning.entry.Entry.{Entry}
 decided_by : (m : Module) (e : Entry) (r : Option Decision) → e.module.now ≡ m → decided_as m e.name.now r ≡ Some (content_of e)
     → r ≡ Some (decision_of e.decider)
 decided_by m e None home says = cc
-decided_by m e (Some v) home says =
-    let is : record { home = m; name = e.name.now; decided = v } ≡ content_of e = cc in ap (λ c. Some c.decided) is
+decided_by m e (Some v) home says = grind (arith, common_steps)
 
 -- entries that are added to none
 pub decided_all : (e0 e1 : List Entry) (s0 s1 : NamePlaces) (m : Module) (i : ℕ) (f : List ℕ → Option Decision) → (a : KnowsMore e0 s0 e1 s1 m i f)

@@ -1,8 +1,8 @@
 -- A list is filled in along the order of places.
+use Rattle.std.proofs.lemmas.Grind.{common_steps}
 use Rattle.std.proofs.Common.{◌≡◌, ℕ, ◌+◌, ◌<◌, ◌≤◌, ◌⊎◌, inl, inr, List, [], ◌∷◌, ◌++◌, length, set}
-use Rattle.std.proofs.Common.{get_or, take, replicate, Option, Some, Contains, sym, arith}
-use Rattle.std.proofs.lemmas.List.{get_or-set_same, get_or-set_other, get_or_past, take_more}
-use Rattle.std.proofs.lemmas.List.{length-replicate, get_or-replicate}
+use Rattle.std.proofs.Common.{get_or, take, replicate, Option, Some, Contains, arith}
+use Rattle.std.proofs.lemmas.List.{get_or-set_same, get_or-set_other, get_or_past, take_more, length-replicate, get_or-replicate}
 use Rattle.std.proofs.lemmas.List.Elements.{Contains-push_cases}
 use Rattle.std.proofs.lemmas.Bool.{cases_lt, cases_eq}
 use Rattle.smi_names.specs.chains.Chain.{HasEnd}
@@ -15,13 +15,7 @@ module _ {X : Type 0} (Right : ℕ → X → Type 0) (start past : X) where
   Fills front xs = (p : ℕ) → Right p (get_or xs p past) ⊎ ((get_or xs p past ≡ start) × (Contains front p → ⊥))
 
   Fills-more : (front : List ℕ) (xs : List X) (p : ℕ) (x : X) → Fills front xs → p < length xs → Right p x → Fills (front ++ p ∷ []) (set xs p x)
-  Fills-more front xs p x fills inside right = λ q. elim (cases_eq q p) [
-    | inl same ↦ inl (rw (same, get_or-set_same xs p x past inside) right)
-    | inr apart ↦ rw (get_or-set_other xs p q x past apart) (elim (fills q) [
-      | inl old ↦ inl old
-      | inr out ↦ inr (out.0, λ m. elim (Contains-push_cases front p q m) [ inl old ↦ out.1 old | inr same ↦ apart (sym same) ])
-    ])
-  ]
+  Fills-more front xs p x fills inside right = grind (arith, common_steps, cases_eq, get_or-set_same, get_or-set_other, Contains-push_cases)
 
   module _ (n : ℕ) (beyond : (p : ℕ) → n ≤ p → Right p past) where
     pub Fills-start : Fills [] (replicate n start)

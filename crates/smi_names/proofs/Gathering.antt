@@ -1,11 +1,11 @@
 -- Nodes and warnings are added at the end.
+use Rattle.std.proofs.lemmas.Grind.{common_steps}
 use Rattle.std.proofs.Common.{◌≡◌, ℕ, zero, suc, Bool, true, false, cond, is_some, List, [], ◌∷◌, ◌++◌}
 use Rattle.std.proofs.Common.{length, take, Some, None, refl, sym, ap, ◌∙◌, arith, append_assoc}
 use Rattle.std.proofs.lemmas.List.{append-nil, length_push}
 use Rattle.std.specs.List.{slice_get}
 use Rattle.smi_names.specs.chains.Resolution.{ComesTo}
 use Rattle.smi_names.specs.declared.chains.resolution.Resolution.{Resolution}
-use Rattle.smi_names.specs.declared.chains.resolution.Resolution.TheVariants as R
 use Rattle.smi_text.specs.declared.trees.tree.Module.{Module}
 use Rattle.smi_text.specs.declared.trees.tree.Def.{Def}
 use Rattle.smi_text.specs.declared.trees.tree.Part.{Part}
@@ -15,7 +15,7 @@ use Rattle.smi_names.specs.meaning.Meaning.{origin, module_named}
 use Rattle.smi_names.proofs.Knowing.{same_itself}
 use Rattle.smi_names.specs.nodes.Imports.{import_warnings}
 use Rattle.smi_names.specs.nodes.Nodes.{Node, nodes_by, warnings_by, roots, none, more, is_loaded, left_out, loaded, none_yet, then_module}
-use Rattle.smi_names.specs.nodes.Gathered.{node_from, nodes_of, sources_by, oids_by, IsSourceOf}
+use Rattle.smi_names.specs.nodes.Gathered.{node_from, nodes_of, IsSourceOf}
 use Rattle.smi_names.specs.nodes.Gathered.{GrowsByDefinition, AddsNodes, AddsDefinition, AddsDefinitions, AddsModule, AreGathered}
 use Rattle.smi_names.specs.declared.nodes.source.Source.{Source}
 use Rattle.smi_names.specs.declared.nodes.source.Source.TheVariants as S
@@ -33,27 +33,7 @@ nodes_of-push ms (x ∷ ss) (y ∷ os) s o e = ap (λ ns. node_from ms x y ∷ n
 pub AddsNodes-extended : (ms : List Module) (old new : Gathered) (s : Source) (m : Module) (d : Def) (r : Resolution)
     → length old.sources.items ≡ length old.oids.items
     → IsSourceOf ms s m d → GrowsByDefinition old new s m d r → AddsNodes ms old new (nodes_by m d r) (warnings_by m d r)
-AddsNodes-extended ms old new s m d r long is e = record {
-  long = rw (e.sources, e.oids) (long_by r);
-  nodes = rw (e.sources, e.oids) (nodes r);
-  warnings = e.warnings;
-}
-  where
-    long_by : (r : Resolution) → length (old.sources.items ++ sources_by s r) ≡ length (old.oids.items ++ oids_by r)
-    long_by (R.Numbers o) = length_push old.sources.items s ∙ rw long (sym (length_push old.oids.items o))
-    long_by R.Cycle = rw (append-nil old.sources.items, append-nil old.oids.items) long
-    long_by R.Unresolved = rw (append-nil old.sources.items, append-nil old.oids.items) long
-    long_by R.TooLong = rw (append-nil old.sources.items, append-nil old.oids.items) long
-
-    same : nodes_of ms (old.sources.items ++ []) (old.oids.items ++ []) ≡ nodes_of ms old.sources.items old.oids.items ++ []
-    same = rw (append-nil old.sources.items, append-nil old.oids.items) (sym (append-nil (nodes_of ms old.sources.items old.oids.items)))
-
-    nodes : (r : Resolution) → nodes_of ms (old.sources.items ++ sources_by s r) (old.oids.items ++ oids_by r)
-        ≡ nodes_of ms old.sources.items old.oids.items ++ nodes_by m d r
-    nodes (R.Numbers o) = nodes_of-push ms old.sources.items old.oids.items s o long ∙ rw (is o) refl
-    nodes R.Cycle = same
-    nodes R.Unresolved = same
-    nodes R.TooLong = same
+AddsNodes-extended ms old new s m d r long is e = grind (arith, common_steps, length_push, append-nil, nodes_of-push)
 
 pub AddsDefinition-by : (ms : List Module) (old new : Gathered) (s : Source) (m : Module) (d : Def) (r : Resolution) (v : List Part)
     → length old.sources.items ≡ length old.oids.items → IsSourceOf ms s m d → identifier_value_of d.kind ≡ Some v
@@ -76,11 +56,7 @@ AddsDefinition-none ms g m d long value = record {
 
 pub AddsNodes-then : (ms : List Module) (a b c : Gathered) (ns ms' : List Node) (ws vs : List Warning) → AddsNodes ms a b ns ws → AddsNodes ms b c ms' vs
     → AddsNodes ms a c (ns ++ ms') (ws ++ vs)
-AddsNodes-then ms a b c ns ms' ws vs f g = record {
-  long = g.long;
-  nodes = g.nodes ∙ rw f.nodes (append_assoc (nodes_of ms a.sources.items a.oids.items) ns ms');
-  warnings = g.warnings ∙ rw f.warnings (append_assoc a.warnings.items ws vs);
-}
+AddsNodes-then ms a b c ns ms' ws vs f g = grind (arith, common_steps, append_assoc)
 
 pub AddsDefinitions-none : (ms : List Module) (g : Gathered) (m : Module) → length g.sources.items ≡ length g.oids.items → AddsDefinitions ms g g m []
 AddsDefinitions-none ms g m long = record {
@@ -113,11 +89,7 @@ AreGathered-more ms a b before m f g = record {
 pub AddsNodes-warnings : (ms : List Module) (old new : Gathered) (ws : List Warning) → length old.sources.items ≡ length old.oids.items
     → new.sources.items ≡ old.sources.items → new.oids.items ≡ old.oids.items → new.warnings.items ≡ old.warnings.items ++ ws
     → AddsNodes ms old new [] ws
-AddsNodes-warnings ms old new ws long s o w = record {
-  long = rw (s, o) long;
-  nodes = rw (s, o) (sym (append-nil (nodes_of ms old.sources.items old.oids.items)));
-  warnings = w;
-}
+AddsNodes-warnings ms old new ws long s o w = grind (arith, common_steps, append-nil)
 
 pub AddsModule-left_out : (ms : List Module) (old new : Gathered) (before : List Module) (m : Module) → length old.sources.items ≡ length old.oids.items
     → is_loaded before m.name.octets ≡ true
@@ -155,13 +127,7 @@ AreGathered-roots ms g s o w = record { ns = []; long = rw (s, o) refl; nodes = 
 pub named_first : (ms : List Module) (i : ℕ) (m : Module) → slice_get ms i ≡ Some m → is_loaded (take i ms) m.name.octets ≡ false
     → module_named ms m.name.octets ≡ Some m
 named_first [] i m at absent = absurd (cc)
-named_first (x ∷ ms) zero m at absent =
-    let is : x ≡ m = cc in
-    let passes : same_text x.name.octets m.name.octets ≡ true = rw is (same_itself m.name.octets) in
-    rw passes at_first
-  where
-    at_first : Some x ≡ Some m
-    at_first = at
+named_first (x ∷ ms) zero m at absent = grind (arith, common_steps, same_itself)
 named_first (x ∷ ms) (suc i) m at absent = by (same_text x.name.octets m.name.octets) absent (λ e. named_first ms i m at e)
   where
     by : (b : Bool) → is_some (cond b (Some x) (module_named (take i ms) m.name.octets)) ≡ false

@@ -1,11 +1,11 @@
 -- What scopes know, as names are entered.
+use Rattle.std.proofs.lemmas.Grind.{common_steps}
 use Rattle.std.proofs.Common.{◌≡◌, ℕ, zero, suc, ◌<◌, ◌≤◌, ◌||◌, Bool, true, false, cond, List, [], ◌∷◌, ◌++◌, length, Option, Some, None, unwrap_or, refl}
 use Rattle.std.proofs.Common.{sym, ap, ◌∙◌, arith, append_assoc, get_or}
 use Rattle.std.proofs.lemmas.List.{append-nil, length_push}
 use Rattle.std.proofs.lemmas.List.Elements.{All-nil, All-push, All-append}
 use Rattle.std.proofs.lemmas.Slice.Eq.{bytes_eq-Decides}
 use Rattle.std.specs.List.{slice_get, find, list_any}
-use Rattle.std.specs.Option.{option_and_then, option_map}
 use Rattle.smi_text.specs.trees.Mark.{same_text}
 use Rattle.smi_text.specs.declared.trees.tree.Module.{Module}
 use Rattle.smi_names.specs.meaning.Meaning.{Decision, or_else}
@@ -28,11 +28,7 @@ find-append p (x ∷ xs) ys = by (p x) (find-append p xs ys)
     by false h = h
 
 pub list_any-push : {A : Type 0} (p : A → Bool) (xs : List A) (y : A) → list_any p (xs ++ y ∷ []) ≡ (list_any p xs || p y)
-list_any-push p [] y = by (p y)
-  where
-    by : (b : Bool) → (b || false) ≡ b
-    by true = refl
-    by false = refl
+list_any-push p [] y = grind (arith, common_steps)
 list_any-push p (x ∷ xs) y = by (p x) (list_any-push p xs y)
   where
     by : (b : Bool) → list_any p (xs ++ y ∷ []) ≡ (list_any p xs || p y) → (b || list_any p (xs ++ y ∷ [])) ≡ ((b || list_any p xs) || p y)
@@ -54,12 +50,7 @@ get_within (x ∷ xs) zero l = (x, refl)
 get_within (x ∷ xs) (suc i) l = get_within xs i (omega arith)
 
 pub known-append : (old added : List Entry) (scope : NamePlaces) (x : List ℕ) → IsWithin old scope → known (old ++ added) scope x ≡ known old scope x
-known-append old added scope x within = by (place_in scope x) refl
-  where
-    by : (r : Option ℕ) → place_in scope x ≡ r
-        → option_and_then (λ p. option_map content_of (slice_get (old ++ added) p)) r ≡ option_and_then (λ p. option_map content_of (slice_get old p)) r
-    by None e = refl
-    by (Some p) e = rw (get-append old added p (within x p e)) refl
+known-append old added scope x within = grind (arith, common_steps, get-append)
 
 or_else_none : {A : Type 0} (o : Option A) → or_else o None ≡ o
 or_else_none None = refl
@@ -172,11 +163,4 @@ KnowsMore-then e0 e1 e2 s0 s1 s2 m i f g a b = record {
 
 pub KnowsMore-same : (e0 e1 : List Entry) (s0 s1 : NamePlaces) (m : Module) (i : ℕ) (f g : List ℕ → Option Decision)
     → KnowsMore e0 s0 e1 s1 m i f → ((x : List ℕ) → f x ≡ g x) → KnowsMore e0 s0 e1 s1 m i g
-KnowsMore-same e0 e1 s0 s1 m i f g a h = record {
-  knows = λ x. a.knows x ∙ rw (h x) refl;
-  added = a.added;
-  grown = a.grown;
-  of = a.of;
-  there = a.there;
-  within = a.within;
-}
+KnowsMore-same e0 e1 s0 s1 m i f g a h = grind (arith, common_steps)

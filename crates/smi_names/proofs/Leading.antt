@@ -1,5 +1,6 @@
 -- Where the name at a place leads, and what it means, by what decides it.
-use Rattle.std.proofs.Common.{◌≡◌, ℕ, ◌≤◌, ◌⊎◌, inl, inr, List, length, map, MatchOption, Option, Some, None, refl, sym, ap, ◌∙◌, arith}
+use Rattle.std.proofs.lemmas.Grind.{common_steps}
+use Rattle.std.proofs.Common.{◌≡◌, ℕ, ◌≤◌, ◌⊎◌, List, length, map, MatchOption, Option, Some, None, refl, sym, ap, ◌∙◌, arith}
 use Rattle.std.proofs.lemmas.List.{get_or_past, length-map}
 use Rattle.std.proofs.lemmas.Option.{slice_get_past, slice_get-map, get_or_from_slice_get}
 use Rattle.std.specs.List.{slice_get}
@@ -86,11 +87,7 @@ module _ (k : KnownNames) (leads : Def → Option (List ℕ)) where
 
 -- in every meaning an import leads where it does for the parents
 pub keeps_imports : (d : Directory) → d.parents.items ≡ map (next_place d parent_of) d.entries.items → KeepsImports d
-keeps_imports d is p e i to at by got =
-    let here : slice_get (map (next_place d parent_of) d.entries.items) p ≡ Some (next_place d parent_of e) =
-    rw at at (slice_get-map (next_place d parent_of) d.entries.items p) in
-    let same : to ≡ next_place d parent_of e = let there = rw is at got in cc in
-    same ∙ rw by refl
+keeps_imports d is p e i to at by got = grind (arith, common_steps, slice_get-map)
 
 -- where the names at places lead is where their entries do
 module _ (ms : List Module) (d : Directory) (dir : IsDirectory ms d) (leads : Def → Option (List ℕ)) where
@@ -135,7 +132,4 @@ module _ {X : Type 0} (k : KnownNames) (leads : Def → Option (List ℕ)) (mean
 
   pub are_meant : (found : List (Option X))
       → ((p : ℕ) → MeansAt k leads means p (at_place found p) ⊎ ((HasEnd (next_at next) p → ⊥) × (at_place found p ≡ None))) → AreMeant k leads means found
-  are_meant found each = λ p a named. elim (each p) [
-    | inl right ↦ inl (right a named)
-    | inr none ↦ inr (λ h. none.0 (has_end k leads next are.each h p named), none.1)
-  ]
+  are_meant found each = grind (arith, common_steps, has_end)

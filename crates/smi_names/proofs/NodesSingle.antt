@@ -1,5 +1,6 @@
 -- Modules bring one list of nodes and one of warnings.
-use Rattle.std.proofs.Common.{◌≡◌, List, [], ◌∷◌, ◌++◌, Option, Some, None, refl, sym, ap, ◌∙◌}
+use Rattle.std.proofs.Common.{arith, ◌≡◌, List, [], ◌∷◌, ◌++◌, Option, Some, None, refl, sym, ap, ◌∙◌}
+use Rattle.std.proofs.lemmas.Grind.{common_steps}
 use Rattle.std.proofs.lemmas.List.{same_from_push}
 use Rattle.smi_names.specs.chains.Resolution.{ComesTo}
 use Rattle.smi_names.specs.declared.chains.resolution.Resolution.{Resolution}
@@ -9,7 +10,7 @@ use Rattle.smi_text.specs.declared.trees.tree.Part.{Part}
 use Rattle.smi_text.specs.trees.Lookup.{identifier_value_of}
 use Rattle.smi_names.specs.meaning.Meaning.{QualifiedName, origin}
 use Rattle.smi_names.specs.nodes.Imports.{import_warnings}
-use Rattle.smi_names.specs.nodes.Nodes.{Node, nodes_by, warnings_by, GivesNodesBy, Gathers, none, more, Brings, left_out, loaded, Loads, none_yet, then_module}
+use Rattle.smi_names.specs.nodes.Nodes.{Node, GivesNodesBy, Gathers, none, more, Brings, left_out, loaded, Loads, none_yet, then_module}
 use Rattle.smi_names.specs.declared.nodes.warning.Warning.{Warning}
 
 none_pushed : {X : Type 0} (xs : List X) (x : X) → [] ≡ xs ++ x ∷ [] → ⊥
@@ -20,9 +21,7 @@ module _ (ms : List Module) (one : (a : QualifiedName) (r s : Resolution) → Co
   given_by : (m : Module) (d : Def) (value : Option (List Part)) (ns es : List Node) (ws vs : List Warning) → GivesNodesBy ms m d value ns ws
       → GivesNodesBy ms m d value es vs → (ns ≡ es) × (ws ≡ vs)
   given_by m d None ns es ws vs a b = (a.0 ∙ sym b.0, a.1 ∙ sym b.1)
-  given_by m d (Some value) ns es ws vs a b =
-      let same : a.0 ≡ b.0 = one (record { home = m.name.octets; name = d.label.octets }) a.0 b.0 a.1 b.1 in
-      (a.2 ∙ ap (λ r. nodes_by m d r) same ∙ sym b.2, a.3 ∙ ap (λ r. warnings_by m d r) same ∙ sym b.3)
+  given_by m d (Some value) ns es ws vs a b = grind (arith, common_steps)
 
   gathered : {m : Module} {ds : List Def} {ns : List Node} {ws : List Warning} → Gathers ms m ds ns ws
       → {es : List Def} {ks : List Node} {vs : List Warning} → Gathers ms m es ks vs → ds ≡ es → (ns ≡ ks) × (ws ≡ vs)

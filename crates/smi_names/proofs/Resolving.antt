@@ -1,10 +1,10 @@
 -- What the name at a place resolves to, by where its numbers come from and what the name resolves to to which it leads.
-use Rattle.std.proofs.Common.{◌≡◌, ℕ, ◌+◌, ◌≤◌, ◌⊎◌, inl, inr, Bool, true, false, cond, nat_le, List, [], ◌∷◌, ◌++◌, length, Option, Some, None}
+use Rattle.std.proofs.lemmas.Grind.{common_steps}
+use Rattle.std.proofs.Common.{◌≡◌, ℕ, ◌≤◌, ◌⊎◌, inl, inr, nat_le, List, [], ◌∷◌, ◌++◌, length, Option, Some, None}
 use Rattle.std.proofs.Common.{refl, sym, ap, ◌∙◌, subst, arith, length-append}
 use Rattle.std.proofs.lemmas.Option.{slice_get_past}
 use Rattle.std.specs.List.{slice_get}
 use Rattle.std.specs.Option.{option_and_then, option_map}
-use borrow.Author.Tests.{leb-true, leb-false}
 use Rattle.smi_text.specs.declared.trees.tree.Module.{Module}
 use Rattle.smi_text.specs.declared.trees.tree.Part.{Part}
 use Rattle.smi_text.specs.declared.trees.tree.Part.TheVariants as P
@@ -35,11 +35,7 @@ module _ {A : Type 0} (origin : A → Origin A) where
   below {a} {b} (leads_on {b = c} e r) h = let same : c ≡ b = cc in subst (λ x. HasEnd (λ y. next_of (origin y)) x) same r
 
   lengthened_comes : (a : A) (o ns : List ℕ) → HasIdentifier origin a (o ++ ns) → ComesTo origin a (lengthened o ns)
-  lengthened_comes a o ns m = by (nat_le (length o + length ns) 128) refl
-    where
-      by : (b : Bool) → nat_le (length o + length ns) 128 ≡ b → ComesTo origin a (cond b (R.Numbers (o ++ ns)) R.TooLong)
-      by true e = (m, omega (arith, leb-true _ _ e, length-append o ns))
-      by false e = (o ++ ns, m, omega (arith, leb-false _ _ e, length-append o ns))
+  lengthened_comes a o ns m = grind (arith, common_steps, nat_le, length-append)
 
   followed_comes : (a b : A) (ns : List ℕ) (r : Resolution) → origin a ≡ after b ns → ComesTo origin b r → ComesTo origin a (followed_by r ns)
   followed_comes a b ns (R.Numbers o) e c = lengthened_comes a o ns (after_another e c.0)

@@ -1,9 +1,8 @@
 -- Resolutions that are kept once: the list grows, and what is there stays.
-use Rattle.std.proofs.Common.{◌≡◌, ℕ, zero, suc, ◌+◌, ◌<◌, ◌≤◌, Bool, true, false, cond, nat_le, List, [], ◌∷◌, ◌++◌, length, set}
-use Rattle.std.proofs.Common.{replicate, refl, ap, ◌∙◌, arith, length-append}
+use Rattle.std.proofs.lemmas.Grind.{common_steps}
+use Rattle.std.proofs.Common.{◌≡◌, ℕ, zero, suc, ◌<◌, ◌≤◌, nat_le, List, [], ◌∷◌, ◌++◌, length, set, replicate, refl, arith, length-append}
 use Rattle.std.proofs.lemmas.List.{append-nil, get_or_append_left, map-set}
 use Rattle.std.proofs.lemmas.List.Elements.{All-head, All-tail, All-set, All-weaker}
-use borrow.Author.Tests.{leb-false}
 use Rattle.smi_names.specs.chains.Resolving.{followed_by, resolution_at}
 use Rattle.smi_names.specs.chains.Shared.{shared, AreWithin, HasReasons, GrowsTo}
 use Rattle.smi_names.specs.declared.chains.resolution.Resolution.{Resolution}
@@ -11,11 +10,7 @@ use Rattle.smi_names.specs.declared.chains.resolution.Resolution.TheVariants as 
 
 -- with no numbers after it an identifier is the same
 pub followed_by_none : (o : List ℕ) → length o ≤ 128 → followed_by (R.Numbers o) [] ≡ R.Numbers o
-followed_by_none o short = by (nat_le (length o + 0) 128) refl
-  where
-    by : (b : Bool) → nat_le (length o + 0) 128 ≡ b → cond b (R.Numbers (o ++ [])) R.TooLong ≡ R.Numbers o
-    by true e = ap (λ x. R.Numbers x) (append-nil o)
-    by false e = absurd (omega (arith, leb-false _ _ e))
+followed_by_none o short = grind (arith, common_steps, nat_le, append-nil)
 
 -- what stands in the list stays where it is
 shared-append : (list added : List Resolution) (places : List ℕ) → AreWithin list places → shared (list ++ added) places ≡ shared list places
@@ -28,15 +23,11 @@ shared-append list added (k ∷ places) within =
 
 pub shared-grown : (old new : List Resolution) (places : List ℕ) (p at : ℕ) (r : Resolution) → AreWithin old places → GrowsTo old new at r
     → shared new (set places p at) ≡ set (shared old places) p r
-shared-grown old new places p at r within g =
-    map-set (λ k. resolution_at new k) places p at
-    ∙ rw (g.there, g.grown) (ap (λ rs. set rs p r) (shared-append old g.added places within))
+shared-grown old new places p at r within g = grind (arith, common_steps, map-set, shared-append)
 
 pub AreWithin-grown : (old new : List Resolution) (places : List ℕ) (p at : ℕ) (r : Resolution) → AreWithin old places → GrowsTo old new at r
     → AreWithin new (set places p at)
-AreWithin-grown old new places p at r within g =
-    All-set (λ k. k < length new) places p at g.inside
-    (All-weaker (λ k. k < length old) (λ k. k < length new) (λ k l. omega (arith, l, ap length g.grown, length-append old g.added)) places within)
+AreWithin-grown old new places p at r within g = grind (arith, common_steps, All-set, All-weaker, length-append)
 
 pub HasReasons-grown : (old new : List Resolution) (at : ℕ) (r : Resolution) → HasReasons old → GrowsTo old new at r → HasReasons new
 HasReasons-grown old new at r has g = (has.0 ++ g.added, rw (g.grown, has.1) refl)

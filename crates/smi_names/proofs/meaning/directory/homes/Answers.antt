@@ -1,11 +1,8 @@
 -- One module more.
-use Rattle.std.proofs.Common.{rules, ◌≡◌, ◌<◌, length, ◌∙◌}
+use Rattle.std.proofs.Common.{arith}
+use Rattle.std.proofs.lemmas.Grind.{common_steps}
 use Rattle.smi_names.proofs.Placing.{module_place-more}
 use Rattle.smi_names.proofs.meaning.directory.homes.Goals as goal
 
 pub modules-preserved : goal.modules-preserved
-modules-preserved c = λ x.
-    let name : c.as_bytes.result.now ≡ c.index-modules-i.result.name.octets = c.as_bytes.ensures.octets in
-    let put = rw name at c.in_ok-put_first.ensures.put in
-    let inside : c.modules.i < length c.args.modules.now = search rules in
-    put x ∙ rw (c.modules.invariant x) (module_place-more c.args.modules.now c.modules.i c.index-modules-i.result x inside c.index-modules-i.is)
+modules-preserved c = grind (arith, common_steps, module_place-more)

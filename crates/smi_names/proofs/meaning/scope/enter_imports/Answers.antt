@@ -1,8 +1,9 @@
 -- One clause more.
-use Rattle.std.proofs.Common.{◌≡◌, ℕ, ◌+◌, ◌<◌, length, List, [], ◌∷◌, Option, Some, None, get_or, take, refl, sym, ap, ◌∙◌}
+use Rattle.std.proofs.Common.{arith, ◌≡◌, ℕ, ◌+◌, ◌<◌, length, List, [], ◌∷◌, Option, Some, None, get_or, take, refl}
+use Rattle.std.proofs.lemmas.Grind.{common_steps}
 use Rattle.std.proofs.lemmas.List.{take_more}
 use Rattle.std.specs.Option.{option_map}
-use Rattle.smi_text.specs.trees.Lookup.{first_import, is_imported_by}
+use Rattle.smi_text.specs.trees.Lookup.{first_import}
 use Rattle.smi_text.specs.declared.trees.tree.Import.{Import}
 use Rattle.smi_names.specs.meaning.Meaning.{imported, or_else}
 use Rattle.smi_names.proofs.Knowing.{KnowsMore-then, KnowsMore-same, find-append}
@@ -15,9 +16,7 @@ merged (Some i) b = refl
 more : (is : List Import) (k : ℕ) (i : Import) (x : List ℕ) → k < length is → i ≡ get_or is k i
     → or_else (option_map imported (first_import x (take k is))) (option_map imported (first_import x (i ∷ [])))
     ≡ option_map imported (first_import x (take (k + 1) is))
-more is k i x l e =
-    merged (first_import x (take k is)) (first_import x (i ∷ []))
-    ∙ ap (λ o. option_map imported o) (sym (find-append (is_imported_by x) (take k is) (i ∷ [])) ∙ rw (take_more is k i l, sym e) refl)
+more is k i x l e = grind (arith, common_steps, merged, find-append, take_more)
 
 pub imports-preserved : goal.imports-preserved
 imports-preserved c =

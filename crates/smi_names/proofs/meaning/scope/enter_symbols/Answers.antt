@@ -1,5 +1,6 @@
 -- One symbol more.
-use Rattle.std.proofs.Common.{◌≡◌, ℕ, ◌+◌, ◌<◌, ◌||◌, Bool, true, false, cond, length, List, [], ◌∷◌, Some, None, get_or, take, refl, sym, ap, ◌∙◌}
+use Rattle.std.proofs.Common.{arith, ◌≡◌, ℕ, ◌+◌, ◌<◌, ◌||◌, Bool, true, false, cond, length, List, [], ◌∷◌, Some, None, get_or, take, refl}
+use Rattle.std.proofs.lemmas.Grind.{common_steps}
 use Rattle.std.proofs.lemmas.List.{take_more, take_all}
 use Rattle.std.specs.List.{list_any}
 use Rattle.std.specs.Option.{option_map}
@@ -18,16 +19,10 @@ merged false b d = refl
 more : (ts : List TokenText) (k : ℕ) (t : TokenText) (x : List ℕ) (d : Decision) → k < length ts → t ≡ get_or ts k t
     → or_else (cond (list_any (λ s. same_text s.text x) (take k ts)) (Some d) None) (cond (same_text t.text x) (Some d) None)
     ≡ cond (list_any (λ s. same_text s.text x) (take (k + 1) ts)) (Some d) None
-more ts k t x d l e =
-    merged (list_any (λ s. same_text s.text x) (take k ts)) (same_text t.text x) d
-    ∙ ap (λ b. cond b (Some d) None) (sym (list_any-push (λ s. same_text s.text x) (take k ts) t) ∙ rw (take_more ts k t l, sym e) refl)
+more ts k t x d l e = grind (arith, common_steps, merged, list_any-push, take_more)
 
 whole : (i : Import) (x : List ℕ) → cond (is_imported_by x i) (Some (imported i)) None ≡ option_map imported (first_import x (i ∷ []))
-whole i x = by (is_imported_by x i)
-  where
-    by : (b : Bool) → cond b (Some (imported i)) None ≡ option_map imported (cond b (Some i) None)
-    by true = refl
-    by false = refl
+whole i x = grind (arith, common_steps)
 
 pub symbols-preserved : goal.symbols-preserved
 symbols-preserved c =
@@ -37,8 +32,4 @@ symbols-preserved c =
     (λ x. more c.as_slice-symbols.result.now c.symbols.symbol-index c.symbol-item.result x (imported c.args.import.now) c.symbols-test.true c.symbol-item.is)
 
 pub returns : goal.returns
-returns c =
-    let list : c.as_slice-symbols.result.now ≡ c.args.import.now.symbols = c.as_slice-symbols.ensures in
-    let all = take_all c.symbols.symbol-index c.as_slice-symbols.result.now c.symbols-test.false in
-    let known = rw (all, list) at c.symbols.invariant in
-    record { entered = KnowsMore-same _ _ _ _ _ _ _ _ known (λ x. whole c.args.import.now x) }
+returns c = grind (arith, common_steps, take_all, whole)

@@ -1,5 +1,6 @@
 -- A place is met: the path goes on by it, and fewer places are new.
-use Rattle.std.proofs.Common.{rules, ◌≡◌, ◌≢◌, ℕ, ◌<◌, inl, inr, List, [], ◌∷◌, ◌++◌, Some, set, length, arith, sym, ◌∙◌}
+use Rattle.std.proofs.lemmas.Grind.{common_steps}
+use Rattle.std.proofs.Common.{rules, ◌≡◌, ◌≢◌, ℕ, ◌<◌, inl, inr, List, [], ◌∷◌, ◌++◌, Some, set, length, arith, sym}
 use Rattle.std.proofs.lemmas.List.{get_or-set_same, get_or-set_other}
 use Rattle.std.proofs.lemmas.Bool.{cases_eq}
 use Rattle.smi_names.specs.chains.Search.{Leads, mark_at}
@@ -10,15 +11,10 @@ use Rattle.smi_names.proofs.chains.order.Search.climb.Goals as goal
 
 -- what is marked stays so, and the place is
 marked : (marks : List Mark) (at p : ℕ) → at < length marks → mark_at marks p ≢ M.New → mark_at (set marks at M.Met) p ≢ M.New
-marked marks at p inside old = λ e. elim (cases_eq p at) [
-  | inl same ↦ let here : mark_at (set marks at M.Met) p ≡ M.Met = rw same (get_or-set_same marks at M.Met M.New inside) in cc
-  | inr other ↦ old (sym (get_or-set_other marks at p M.Met M.New other) ∙ e)
-]
+marked marks at p inside old = grind (arith, common_steps, cases_eq, get_or-set_same, get_or-set_other)
 
 pub up-smaller : goal.up-smaller
-up-smaller c =
-    let new : (c.in-Some.at < length c.up.self.marks.items) × (mark_at c.up.self.marks.items c.in-Some.at ≡ M.New) = search rules in
-    news-set c.up.self.marks.items c.in-Some.at new.0 new.1
+up-smaller c = grind (arith, common_steps, news-set)
 
 pub up-preserved : goal.up-preserved
 up-preserved c =

@@ -1,5 +1,6 @@
 -- A new place is settled; one that is reached stays so.
-use Rattle.std.proofs.Common.{rules, ◌≡◌, ◌≢◌, ℕ, ◌<◌, inl, inr, List, [], ◌∷◌, ◌++◌, set, length, sym, ◌∙◌}
+use Rattle.std.proofs.Common.{arith, rules, ◌≡◌, ◌≢◌, ℕ, ◌<◌, List, [], ◌∷◌, ◌++◌, set, length}
+use Rattle.std.proofs.lemmas.Grind.{common_steps}
 use Rattle.std.proofs.lemmas.List.{get_or-set_same, get_or-set_other}
 use Rattle.std.proofs.lemmas.Bool.{cases_eq}
 use Rattle.smi_names.specs.chains.Search.{mark_at}
@@ -9,10 +10,7 @@ use Rattle.smi_names.proofs.Climbing.{Keeps-alone}
 use Rattle.smi_names.proofs.chains.order.Search.settle.Goals as goal
 
 marked : (marks : List Mark) (at p : ℕ) → at < length marks → mark_at marks p ≢ M.New → mark_at (set marks at M.Settled) p ≢ M.New
-marked marks at p inside old = λ e. elim (cases_eq p at) [
-  | inl same ↦ let here : mark_at (set marks at M.Settled) p ≡ M.Settled = rw same (get_or-set_same marks at M.Settled M.New inside) in cc
-  | inr other ↦ old (sym (get_or-set_other marks at p M.Settled M.New other) ∙ e)
-]
+marked marks at p inside old = grind (arith, common_steps, cases_eq, get_or-set_same, get_or-set_other)
 
 pub returns-in_ok-push-clause-kept : goal.returns-in_ok-push-clause-kept
 returns-in_ok-push-clause-kept c =

@@ -1,5 +1,6 @@
 -- A path is left where it leads back, and else its last place is settled, again and again.
-use Rattle.std.proofs.Common.{rules, ◌≡◌, ◌≢◌, ℕ, ◌<◌, inl, inr, List, [], ◌∷◌, ◌++◌, Some, set, length, arith, sym, ◌∙◌}
+use Rattle.std.proofs.lemmas.Grind.{common_steps}
+use Rattle.std.proofs.Common.{rules, ◌≡◌, ◌≢◌, ℕ, ◌<◌, List, [], ◌∷◌, ◌++◌, Some, set, length, arith}
 use Rattle.std.proofs.lemmas.List.{get_or-set_same, get_or-set_other}
 use Rattle.std.proofs.lemmas.List.Elements.{All-contains, Contains-push}
 use Rattle.std.proofs.lemmas.Bool.{cases_eq}
@@ -10,10 +11,7 @@ use Rattle.smi_names.proofs.Climbing.{Keeps-settled, Leads-settled, Leads-pop, K
 use Rattle.smi_names.proofs.chains.order.Search.visit.Goals as goal
 
 marked : (marks : List Mark) (at p : ℕ) → at < length marks → mark_at marks p ≢ M.New → mark_at (set marks at M.Settled) p ≢ M.New
-marked marks at p inside old = λ e. elim (cases_eq p at) [
-  | inl same ↦ let here : mark_at (set marks at M.Settled) p ≡ M.Settled = rw same (get_or-set_same marks at M.Settled M.New inside) in cc
-  | inr other ↦ old (sym (get_or-set_other marks at p M.Settled M.New other) ∙ e)
-]
+marked marks at p inside old = grind (arith, common_steps, cases_eq, get_or-set_same, get_or-set_other)
 
 pub down-preserved : goal.down-preserved
 down-preserved c =

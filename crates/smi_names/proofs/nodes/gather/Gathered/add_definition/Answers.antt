@@ -1,5 +1,6 @@
 -- By whether the definition has an identifier, and by what its name comes to.
-use Rattle.std.proofs.Common.{rules, ◌≡◌, true, false, List, length, Option, Some, None, Result, Ok, Err, OnOk, is_some, refl, sym}
+use Rattle.std.proofs.Common.{arith, rules, ◌≡◌, true, false, List, length, Option, Some, None, Result, Ok, Err, OnOk, is_some, refl, sym}
+use Rattle.std.proofs.lemmas.Grind.{common_steps}
 use Rattle.std.specs.declared.alloc.AllocError.{AllocError}
 use Rattle.smi_names.specs.chains.Chain.{here}
 use Rattle.smi_names.specs.chains.Resolution.{ComesTo}
@@ -41,18 +42,7 @@ returns-then-is_none c =
     }
 
 pub returns-in-Some : goal.returns-in-Some
-returns-in-Some c =
-    let some : is_some (identifier_value_of c.args.def.now.kind) ≡ true = search rules in
-    let v = some_of (identifier_value_of c.args.def.now.kind) some in
-    let comes : ComesTo (origin c.args.names.now)
-    (record { home = c.args.module.now.name.octets; name = c.args.def.now.label.octets }) c.in-Some.resolution.now =
-    rw (sym c.as_bytes.ensures.octets) c.in-Some.ensures in
-    let there = IsSourceOf-definition c.args.names.now c.args.at.0 c.args.at.1 c.args.module.now c.args.def.now c.requires.there c.requires.defined in
-    record {
-      added = added c.args.names.now c.args.self.now c.add.new.self (S.Definition c.args.at.0 c.args.at.1)
-          c.args.module.now c.args.def.now c.in-Some.resolution.now v.0 c.add.result
-          c.requires.long there v.1 comes c.add.ensures.added;
-    }
+returns-in-Some c = grind (arith, common_steps, is_some, some_of, added)
 
 pub returns-in-None : goal.returns-in-None
 returns-in-None c =

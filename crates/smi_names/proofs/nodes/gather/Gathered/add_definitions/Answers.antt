@@ -1,5 +1,6 @@
 -- One definition more.
-use Rattle.std.proofs.Common.{rules, ◌≡◌, ◌+◌, ◌<◌, [], ◌∷◌, ◌++◌, length, take, refl, sym, ◌∙◌}
+use Rattle.std.proofs.Common.{arith, rules, ◌≡◌, ◌+◌, ◌<◌, [], ◌∷◌, ◌++◌, length, take, refl, sym, ◌∙◌}
+use Rattle.std.proofs.lemmas.Grind.{common_steps}
 use Rattle.std.proofs.lemmas.List.{take_more}
 use Rattle.std.proofs.lemmas.Option.{slice_get_read}
 use Rattle.smi_names.proofs.Gathering.{AddsDefinitions-none, AddsDefinitions-more}
@@ -9,11 +10,7 @@ pub defs-init : goal.defs-init
 defs-init c = AddsDefinitions-none c.args.names.now c.args.self.now c.args.module.now c.requires.long
 
 pub add_definition-requires-clause-defined : goal.add_definition-requires-clause-defined
-add_definition-requires-clause-defined c =
-    let list : c.as_slice-defs.result.now ≡ c.args.module.now.defs = c.as_slice-defs.ensures in
-    let inside : c.defs.k < length c.as_slice-defs.result.now = search rules in
-    let read = slice_get_read c.as_slice-defs.result.now (length c.as_slice-defs.result.now) c.defs.k c.index-defs-k.result refl inside c.index-defs-k.is in
-    rw list at read
+add_definition-requires-clause-defined c = grind (arith, common_steps, slice_get_read)
 
 pub defs-preserved : goal.defs-preserved
 defs-preserved c =

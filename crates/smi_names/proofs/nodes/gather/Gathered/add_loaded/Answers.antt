@@ -1,5 +1,6 @@
 -- Warnings of imports alone are added, and then what the definitions give.
-use Rattle.std.proofs.Common.{refl, take}
+use Rattle.std.proofs.Common.{arith, refl, take}
+use Rattle.std.proofs.lemmas.Grind.{common_steps}
 use Rattle.smi_names.specs.declared.nodes.gather.Gathered.{Gathered}
 use Rattle.smi_names.proofs.Gathering.{AddsModule-loaded, named_first}
 use Rattle.smi_names.proofs.nodes.gather.Gathered.add_loaded.Goals as goal
@@ -15,5 +16,4 @@ returns c =
 
 -- no module before it has its name
 pub add_definitions-requires-clause-first : goal.add_definitions-requires-clause-first
-add_definitions-requires-clause-first c =
-    named_first c.args.names.now c.args.place c.args.module.now c.requires.there c.requires.first
+add_definitions-requires-clause-first c = grind (arith, common_steps, named_first)
