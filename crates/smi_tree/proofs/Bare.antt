@@ -1,21 +1,21 @@
 -- The tree of no modules: what is found among the three roots.
-use Rattle.std.proofs.Common.{◌≡◌, ◌≢◌, ℕ, zero, suc, ◌<◌, ◌≤◌, Bool, false, cond, List, [], ◌∷◌, ◌++◌, length, take, get_or, slice_index_or, Option}
-use Rattle.std.proofs.Common.{Some, None, MatchOption, IfSome, refl, sym, ap, ◌∙◌, arith, nat_eq}
+use Rattle.std.proofs.lemmas.Grind.{common_steps}
+use Rattle.std.proofs.Common.{◌≡◌, ◌≢◌, ℕ, zero, suc, ◌<◌, ◌≤◌, List, [], ◌∷◌, ◌++◌, length, take, get_or, slice_index_or, Option}
+use Rattle.std.proofs.Common.{Some, None, MatchOption, IfSome, refl, sym, ap, arith, nat_eq}
 use Rattle.snmp_oid.specs.Identifier.{IsBelow}
 use Rattle.std.proofs.lemmas.Bool.{ne_eqb}
 use Rattle.std.proofs.Math.Bool.{and-false}
 use Rattle.std.specs.List.{slice_get}
 use Rattle.std.specs.Option.{option_and_then}
-use Rattle.smi_text.specs.trees.Mark.{same_text}
 use Rattle.smi_tree.specs.branches.Standing.{place_of, IsDeepestAt, HasNoBeginning}
-use Rattle.smi_names.specs.meaning.Meaning.{or_else, root_label}
-use Rattle.smi_show.specs.name.Naming.{LabelLeadsTo, IsSound, Standing}
+use Rattle.smi_names.specs.meaning.Meaning.{root_label}
+use Rattle.smi_show.specs.name.Naming.{LabelLeadsTo, IsSound}
 use Rattle.smi_names.specs.nodes.Nodes.{Node, roots, none_yet}
 use Rattle.smi_tree.specs.types.Types.{Facts}
 use Rattle.smi_show.specs.declared.index.part.IndexPart.{IndexPart}
 use Rattle.smi_tree.specs.columns.Index.{IsIndex, IsObjectType}
 use Rattle.smi_tree.specs.Nodes.{oids_of, place_anywhere, child_of, if_labelled, nothing, of_lowest}
-use Rattle.smi_tree.specs.Standing.{Longest, longest}
+use Rattle.smi_tree.specs.Standing.{longest}
 use Rattle.smi_tree.specs.Shown.{IsSyntaxOf, shown_at}
 use Rattle.smi_tree.specs.Tree.{IsTree}
 use Rattle.smi_tree.specs.Naming.{home_name, standing_of_longest, oid_of, naming_of, nearest_definition, nearest_syntax}
@@ -38,8 +38,7 @@ no_object : IsObjectType None → ⊥
 no_object (d, o, e, k) = cc
 
 root-index : (k : ℕ) (n : Node) → slice_get roots k ≡ Some n → IsIndex [] roots n None
-root-index = root-case (λ n. IsIndex [] roots n None) (λ parts i. no_object i.of_row.object) (λ parts i. no_object i.of_row.object)
-    (λ parts i. no_object i.of_row.object)
+root-index = grind (arith, common_steps, root-case, no_object)
 
 -- no modules give the roots alone
 pub is_bare : IsTree [] bare []
@@ -63,12 +62,7 @@ longer-by x (y ∷ xs) n = longer x y (xs ++ n ∷ [])
 -- the children of the identifier of no numbers are the roots
 pub child-roots : (label : List ℕ) → oid_of roots (place_anywhere roots label) ≡ oid_of roots (child_of roots [] label)
 unfolding of_lowest
-child-roots label = by (same_text (root_label 0) label) (same_text (root_label 1) label) (same_text (root_label 2) label)
-  where
-    by : (a b d : Bool) → oid_of roots (cond a (Some 0) (cond b (Some 1) (cond d (Some 2) None)))
-        ≡ oid_of roots (or_else (or_else (or_else None (cond a (Some 0) None)) (cond b (Some 1) None)) (cond d (Some 2) None))
-    by false false false = refl
-    by _ _ _ = refl
+child-roots label = grind (arith, common_steps)
 
 -- a root has no children
 pub child-longer : (o label : List ℕ) → o ≢ [] → None ≡ oid_of roots (child_of roots o label)
@@ -115,22 +109,14 @@ root-definition (suc (suc (suc k))) = refl
 root-definition _ = refl
 
 pub no_definition : (o : List ℕ) → None ≡ nearest_definition bare o
-no_definition o = by (longest roots o)
-  where
-    by : (l : Option Longest) → None ≡ option_and_then (λ l. option_and_then (λ n. n.definition) (slice_get roots l.place)) l
-    by None = refl
-    by (Some l) = sym (root-definition l.place)
+no_definition o = grind (arith, common_steps, root-definition)
 
 root-shown : (k : ℕ) → shown_at roots bare.syntaxes k ≡ None
 root-shown (suc (suc (suc k))) = refl
 root-shown _ = refl
 
 pub none_shown : (o : List ℕ) → None ≡ nearest_syntax bare o
-none_shown o = by (longest roots o)
-  where
-    by : (l : Option Longest) → None ≡ option_and_then (λ l. shown_at roots bare.syntaxes l.place) l
-    by None = refl
-    by (Some l) = sym (root-shown l.place)
+none_shown o = grind (arith, common_steps, root-shown)
 
 -- labels of roots are words, and lead to the roots
 root-leads-to : (k : ℕ) (n : Node) → slice_get roots k ≡ Some n → LabelLeadsTo (naming_of bare) (home_name n.home) n.label n.oid
@@ -152,7 +138,4 @@ pub holds_below_root : {X : Type 0} (value : X → List ℕ) (r : Option X) (o :
     → ((p : List ℕ) → option_and_then (standing_of_longest bare) (longest roots o) ≡ option_and_then (standing_of_longest bare) (longest roots p) → Holds p)
     → MatchOption r (Unit {0}) (λ root. (p : List ℕ) → IsBelow p (value root) → Holds p)
 holds_below_root value None o is Holds holds = tt
-holds_below_root value (Some root) o (n, rest, low, is, starts) Holds holds = λ p below.
-    let Seen : List ℕ → Option Standing = λ q. option_and_then (standing_of_longest bare) (longest roots q) in
-    let begins : p ≡ n ∷ below.0 = below.2 ∙ ap (λ t. t ++ below.0) is in
-    holds p (ap Seen starts ∙ sym (first-root n rest low) ∙ first-root n below.0 low ∙ ap Seen (sym begins))
+holds_below_root value (Some root) o (n, rest, low, is, starts) Holds holds = grind (arith, common_steps, first-root)

@@ -1,4 +1,5 @@
 -- Branches stay those of a list as it grows.
+use Rattle.std.proofs.lemmas.Grind.{common_steps}
 use Rattle.std.proofs.Common.{◌≡◌, ◌≢◌, ℕ, zero, suc, ◌+◌, ◌<◌, ◌⊎◌, inl, inr, List, [], ◌∷◌, ◌++◌, length, take, drop, get_or, MatchOption, Option}
 use Rattle.std.proofs.Common.{Some, None, refl, sym, ap, ◌∙◌, arith}
 use Rattle.std.proofs.lemmas.List.{length-append, length_push, get_or_append_left, get_or_push, take-append-drop, take_more, take-take}
@@ -123,16 +124,7 @@ branch-same bs new same o = walk-same (follower bs) (follower new) same 0 o
 
 -- more is known
 pub Branches-known : (known oids : List (List ℕ)) (p : List ℕ) (bs : List Branch) → AreBranches known oids bs → AreBranches (known ++ p ∷ []) oids bs
-Branches-known known oids p bs are = record {
-  some = are.some;
-  within = are.within;
-  apart = are.apart;
-  standing = are.standing;
-  each = are.each;
-  only = λ o b e f. let r = are.only o b e f in
-      (r.0, r.1, omega (arith, r.2, length_push known p), get_or_append_left known (p ∷ []) [] r.0 r.2 ∙ r.3);
-  reached = are.reached;
-}
+Branches-known known oids p bs are = grind (arith, common_steps, length_push, get_or_append_left)
 
 -- the new identifier's own beginnings are known
 pub begins_push : (known : List (List ℕ)) (p : List ℕ) (j : ℕ) → IsBeginning (known ++ p ∷ []) (take j p)
@@ -222,14 +214,7 @@ branch_off bs o i at l e f = by (branch_of bs o) refl
 pub SoFar-none : (oids : List (List ℕ)) (o : List ℕ) (i : ℕ) (r : Option Deepest) → SoFar oids o i r → place_of oids (take (i + 1) o) ≡ None
     → SoFar oids o (i + 1) r
 SoFar-none oids o i None f e = λ j l. elim (cases_lt i j) [ inl m ↦ let is : j ≡ i + 1 = omega arith in rw is e | inr m ↦ f j m ]
-SoFar-none oids o i (Some d) f e = (
-  omega (arith, f.0),
-  f.1,
-  λ j l m. elim (cases_lt i j) [
-    | inl n ↦ let is : j ≡ i + 1 = omega arith in rw is e
-    | inr n ↦ f.2 j l n
-  ],
-)
+SoFar-none oids o i (Some d) f e = grind (arith, common_steps, cases_lt)
 
 pub SoFar-some : (oids : List (List ℕ)) (o : List ℕ) (i k b : ℕ) → place_of oids (take i o) ≡ Some k
     → SoFar oids o i (Some (record { place = k; depth = i; branch = b }))
@@ -238,10 +223,7 @@ SoFar-some oids o i k b e = (omega arith, e, λ j l m. absurd (omega arith))
 pub SoFar-off : (oids : List (List ℕ)) (o : List ℕ) (i n : ℕ) (r : Option Deepest) → SoFar oids o i r
     → ((j : ℕ) → i < j → place_of oids (take j o) ≡ None) → SoFar oids o n r ⊎ (n < i)
 SoFar-off oids o i n None f g = elim (cases_lt n i) [ inl l ↦ inr l | inr l ↦ inl (λ j m. elim (cases_lt i j) [ inl k ↦ g j k | inr k ↦ f j k ]) ]
-SoFar-off oids o i n (Some d) f g = elim (cases_lt n i) [
-  | inl l ↦ inr l
-  | inr l ↦ inl (omega (arith, f.0), f.1, λ j m k. elim (cases_lt i j) [ inl p ↦ g j p | inr p ↦ f.2 j m p ])
-]
+SoFar-off oids o i n (Some d) f g = grind (arith, common_steps, cases_lt)
 
 pub SoFar-whole : (oids : List (List ℕ)) (o : List ℕ) (r : Option Deepest) → SoFar oids o (length o) r
     → MatchOption r (HasNoBeginning oids o) (λ d. IsDeepestAt oids o d.place d.depth)

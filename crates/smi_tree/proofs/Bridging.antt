@@ -1,10 +1,10 @@
 -- Nodes and their sources, one for each.
-use Rattle.std.proofs.Common.{◌≡◌, ℕ, zero, suc, ◌+◌, Bool, true, false, cond, List, [], ◌∷◌, length, Option, Some, None, is_some, refl, ap, arith}
+use Rattle.std.proofs.lemmas.Grind.{common_steps}
+use Rattle.std.proofs.Common.{◌≡◌, ℕ, zero, suc, ◌+◌, Bool, true, false, cond, List, [], ◌∷◌, length, Some, is_some, refl, ap, arith}
 use Rattle.std.specs.List.{slice_get, position_from, find}
 use Rattle.smi_text.specs.declared.trees.tree.Module.{Module}
-use Rattle.smi_text.specs.declared.trees.tree.Def.{Def}
 use Rattle.smi_names.specs.nodes.Nodes.{Node}
-use Rattle.smi_names.specs.nodes.Gathered.{node_from, node_from_def, def_of_module, nodes_of}
+use Rattle.smi_names.specs.nodes.Gathered.{node_from, nodes_of}
 use Rattle.smi_names.specs.declared.nodes.source.Source.{Source}
 use Rattle.smi_names.specs.declared.nodes.source.Source.TheVariants as S
 use Rattle.smi_tree.specs.Nodes.{has_label, is_of, place_anywhere, place_in_module, oids_of}
@@ -15,17 +15,7 @@ use Rattle.smi_tree.specs.Places as places
 pub parts : (ms : List Module) (s : Source) (o : List ℕ)
     → node_from ms s o ≡ record { home = home_from ms s; label = label_from ms s; oid = o; definition = definition_from ms s }
 parts ms (S.Root n) o = refl
-parts ms (S.Definition i k) o = by (slice_get ms i)
-  where
-    of_definition : (m : Module) (d : Option Def)
-        → node_from_def (Some m) d o ≡ record { home = Some m; label = label_in d; oid = o; definition = d }
-    of_definition m (Some d) = refl
-    of_definition m None = refl
-
-    by : (m : Option Module) → node_from_def m (def_of_module m k) o
-        ≡ record { home = m; label = label_in (def_of_module m k); oid = o; definition = def_of_module m k }
-    by (Some m) = of_definition m (slice_get m.defs k)
-    by None = refl
+parts ms (S.Definition i k) o = grind (arith, common_steps)
 
 pub length-nodes : (ms : List Module) (ss : List Source) (os : List (List ℕ)) → length ss ≡ length os → length (nodes_of ms ss os) ≡ length ss
 length-nodes ms [] os e = refl

@@ -1,4 +1,5 @@
 -- A column has one index.
+use Rattle.std.proofs.lemmas.Grind.{common_steps}
 use Rattle.std.proofs.Common.{◌≡◌, ℕ, Bool, List, Option, Some, None, refl, sym, ap, ◌∙◌, arith}
 use Rattle.std.proofs.lemmas.List.{ext_get_or}
 use Rattle.std.proofs.lemmas.Option.{slice_get_within}
@@ -24,16 +25,7 @@ use Rattle.smi_tree.proofs.Indexing.{index_once}
 
 fixed_once : (sizes : Option (List Range)) (n m : ℕ) (a : (bound : TokenText) × IsFixedBy sizes bound × StatesBound bound n)
     (b : (bound : TokenText) × IsFixedBy sizes bound × StatesBound bound m) → n ≡ m
-fixed_once sizes n m a b =
-    let one = a.1.only in
-    let other = b.1.only in
-    let same : a.1.range ≡ b.1.range = cc in
-    let here = rw same at a.1.here in
-    let there = b.1.here in
-    let bound : a.0 ≡ b.0 = cc in
-    let states = rw bound at a.2 in
-    let also = b.2 in
-    cc
+fixed_once sizes n m a b = grind (arith, common_steps)
 
 extent_once : (sizes : Option (List Range)) (implied : Bool) (e f : Extent) → HasExtent sizes implied e → HasExtent sizes implied f → e ≡ f
 extent_once sizes implied (Fixed n) (Fixed m) a b = ap (λ k. Fixed k) (fixed_once sizes n m a b)

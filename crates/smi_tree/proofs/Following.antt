@@ -1,4 +1,5 @@
 -- Chains of types are chains of names.
+use Rattle.std.proofs.lemmas.Grind.{common_steps}
 use Rattle.std.proofs.Common.{◌≡◌, ℕ, zero, suc, ◌≤◌, List, [], ◌∷◌, length, Option, Some, None, refl, sym, ap, ◌∙◌, arith}
 use Rattle.std.specs.List.{slice_get}
 use Rattle.std.specs.Option.{option_and_then, option_map}
@@ -7,12 +8,12 @@ use Rattle.smi_text.specs.declared.trees.tree.Module.{Module}
 use Rattle.smi_text.specs.declared.trees.tree.SimpleType.{SimpleType}
 use Rattle.smi_text.specs.declared.trees.tree.Base.{Base}
 use Rattle.smi_text.specs.declared.trees.tree.Base.TheVariants as B
-use Rattle.smi_names.specs.meaning.Meaning.{QualifiedName, Decision, defined, imported, root, decision, module_named}
+use Rattle.smi_names.specs.meaning.Meaning.{QualifiedName, Decision, defined, imported, root}
 use Rattle.smi_names.specs.meaning.Along.{next_by, decided, next_name}
 use Rattle.smi_names.specs.declared.meaning.base.TypeBase.{TypeBase}
 use Rattle.smi_tree.specs.types.Chain.{Layer, TypeOrigin, at_base, on_name, no_type, TypeChain, at_end, on_type}
 use Rattle.smi_tree.specs.types.Types.{base_in, name_in, name_in_base, layer, simple_in, type_syntax, type_hint, origin_of_base, origin_of_simple}
-use Rattle.smi_tree.specs.types.Types.{type_origin, type_origin_in, type_origin_by, HasNoSyntax}
+use Rattle.smi_tree.specs.types.Types.{type_origin, type_origin_by, HasNoSyntax}
 use Rattle.smi_tree.specs.types.Kept.{refines}
 
 pub past_get : {X : Type 0} (xs : List X) (i : ℕ) → slice_get xs i ≡ None → length xs ≤ i
@@ -22,10 +23,7 @@ past_get (x ∷ xs) (suc i) e = omega (arith, past_get xs i e)
 
 -- what no chain begins with has no syntax
 pub no_syntax : (ms : List Module) (o : TypeOrigin QualifiedName) → o ≡ no_type → HasNoSyntax ms o
-no_syntax ms o e f h = none (rw e at h.chain)
-  where
-    none : {layers : List Layer} {b : TypeBase} → TypeChain (type_origin ms) no_type layers b → ⊥
-    none c = elim c [ ]
+no_syntax ms o e f h = grind (arith, common_steps)
 
 -- the name that a type refines
 abbrev refined_name : TypeOrigin QualifiedName → Option QualifiedName
@@ -48,11 +46,7 @@ module _ (home : List ℕ) where
 
 module _ (ms : List Module) where
   pub by_decision : (a : QualifiedName) → type_origin ms a ≡ type_origin_by a (decided ms a)
-  by_decision a = by (module_named ms a.home)
-    where
-      by : (r : Option Module) → type_origin_in a r ≡ type_origin_by a (option_and_then (λ m. decision m a.name) r)
-      by None = refl
-      by (Some m) = refl
+  by_decision a = grind (arith, common_steps)
 
   next_is : (a : QualifiedName) → next_name ms refines a ≡ refined_name (type_origin ms a)
   next_is a = by (decided ms a) ∙ ap refined_name (sym (by_decision a))

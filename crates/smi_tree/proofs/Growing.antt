@@ -1,10 +1,10 @@
 -- A branch is made.
+use Rattle.std.proofs.lemmas.Grind.{common_steps}
 use Rattle.std.proofs.Common.{◌≡◌, ◌≢◌, ℕ, zero, suc, ◌<◌, ◌≤◌, inl, inr, List, [], ◌∷◌, ◌++◌}
-use Rattle.std.proofs.Common.{length, set, get_or, Option, Some, None, refl, sym, ap, ◌∙◌, arith}
+use Rattle.std.proofs.Common.{length, set, get_or, Some, None, refl, sym, ap, ◌∙◌, arith}
 use Rattle.std.proofs.lemmas.List.{length_push, length-set, get_or_append_left, get_or-set_same}
 use Rattle.std.proofs.lemmas.Bool.{cases_eq}
 use Rattle.std.proofs.lemmas.Option.{slice_get_past, slice_get_read, slice_get_within}
-use Rattle.std.specs.Option.{option_and_then}
 use Rattle.std.specs.List.{slice_get}
 use Rattle.std.specs.Ordering.{nat_cmp}
 use Rattle.std.specs.BTreeMap.{get}
@@ -60,10 +60,7 @@ GrowsBranch-made old e a b at n inside read stands empty standing found others n
 -- what stands at a branch is changed: where numbers lead stays as it was
 pub follower-set : (bs : List Branch) (at : ℕ) (a b : Branch) → at < length bs → a ≡ get_or bs at a → b.after ≡ a.after
     → (c m : ℕ) → follower (set bs at b) c m ≡ follower bs c m
-follower-set bs at a b inside read same c m = elim (cases_eq c at) [
-  | inl s ↦ rw (s, get-set_same bs at b inside, slice_get_read bs (length bs) at a refl inside read, same) refl
-  | inr s ↦ rw (get-set_other bs at c b s) refl
-]
+follower-set bs at a b inside read same c m = grind (arith, common_steps, cases_eq, get-set_same, slice_get_read, get-set_other)
 
 pub standing-set : (bs : List Branch) (at : ℕ) (b : Branch) → at < length bs → standing_at (set bs at b) at ≡ b.standing
 standing-set bs at b inside = rw (get-set_same bs at b inside) refl
@@ -76,8 +73,4 @@ standing_read bs at a inside read = rw (slice_get_read bs (length bs) at a refl 
 
 -- a place stands at a branch that is there
 pub standing_inside : (bs : List Branch) (at place : ℕ) → standing_at bs at ≡ Some place → at < length bs
-standing_inside bs at place e = by (slice_get bs at) refl e
-  where
-    by : (r : Option Branch) → slice_get bs at ≡ r → option_and_then (λ b. b.standing) r ≡ Some place → at < length bs
-    by None h f = absurd (cc)
-    by (Some b) h f = slice_get_within bs at b h
+standing_inside bs at place e = grind (arith, common_steps, slice_get_within)

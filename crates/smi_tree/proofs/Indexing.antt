@@ -1,4 +1,5 @@
 -- The index of each node, by its row and by the parts of the INDEX clause that the row uses.
+use Rattle.std.proofs.lemmas.Grind.{common_steps}
 use Rattle.std.proofs.Common.{◌≡◌, ℕ, zero, suc, List, [], ◌∷◌, length, Option, Some, None, refl, sym, ap, ◌∙◌, arith}
 use Rattle.std.proofs.lemmas.List.{same_from_push}
 use Rattle.std.specs.List.{slice_get}
@@ -17,18 +18,10 @@ use Rattle.smi_tree.proofs.Parting.{Same, same_own, defined_once}
 -- ---- a column has one row, and a row uses one clause
 
 stands_once : (nodes : List Node) (o : List ℕ) (a b : Node) → StandsAt nodes o a → StandsAt nodes o b → a ≡ b
-stands_once nodes o a b s t =
-    let first = s.first in
-    let other = t.first in
-    let same : s.place ≡ t.place = cc in
-    let there = rw same at s.there in
-    let also = t.there in
-    cc
+stands_once nodes o a b s t = grind (arith, common_steps)
 
 pub column_once : (nodes : List Node) (column a b : Node) → IsColumnOf nodes column a → IsColumnOf nodes column b → a ≡ b
-column_once nodes column a b c d =
-    let same = (same_from_push c.front d.front c.last d.last (sym c.below ∙ d.below)).0 in
-    stands_once nodes d.front a b (rw same at c.stands) d.stands
+column_once nodes column a b c d = grind (arith, common_steps, same_from_push, stands_once)
 
 pub uses_once : (ms : List Module) (m : Module) (d : Def) (clause : Option Index) (n k : Module) (e f : Def)
     → UsesIndexOf ms m d clause n e → UsesIndexOf ms m d clause k f → Same n k e f
@@ -40,15 +33,7 @@ uses_once ms m d (Some (Augments name)) n k e f a b = defined_once a b
 pub index_once : (ms : List Module) (nodes : List Node) (column : Node) (row : Node) (m : Module) (d : Def) (n : Module) (e : Def) (parts : List IndexPart)
     → IsColumnOf nodes column row → row.home ≡ Some m → row.definition ≡ Some d → UsesIndexOf ms m d (clause_of d.kind) n e
     → IsIndexOf ms nodes column parts → IsIndexed ms n e parts
-index_once ms nodes column row m d n e parts of_row home defined uses is =
-    let same = column_once nodes column is.row row is.of_row of_row in
-    let here : is.row.home ≡ row.home = ap (λ (x : Node). x.home) same in
-    let there : is.row.definition ≡ row.definition = ap (λ (x : Node). x.definition) same in
-    let one : is.row_module ≡ m = let h = is.home in cc in
-    let def : is.row_definition ≡ d = let h = is.defined in cc in
-    let other = rw (one, def) at is.uses in
-    let both = uses_once ms m d (clause_of d.kind) is.index_module n is.index_definition e other uses in
-    rw (both.home, both.definition) at is.indexed
+index_once ms nodes column row m d n e parts of_row home defined uses is = grind (arith, common_steps, column_once, uses_once)
 
 -- ---- what is kept
 

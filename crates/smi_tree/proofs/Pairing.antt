@@ -1,5 +1,6 @@
 -- A list is made item by item, each for one of another list.
-use Rattle.std.proofs.Common.{◌≡◌, ℕ, ◌+◌, ◌<◌, inl, inr, List, [], ◌∷◌, ◌++◌, length, get_or, Some, refl, ap, ◌∙◌, arith}
+use Rattle.std.proofs.lemmas.Grind.{common_steps}
+use Rattle.std.proofs.Common.{◌≡◌, ℕ, ◌+◌, ◌<◌, List, [], ◌∷◌, ◌++◌, length, get_or, Some, refl, ◌∙◌, arith}
 use Rattle.std.proofs.lemmas.List.{length_push}
 use Rattle.std.proofs.lemmas.Option.{slice_get_within, slice_get_read}
 use Rattle.std.specs.List.{slice_get}
@@ -16,16 +17,7 @@ first_none R ts = record { long = refl; each = λ p t x e f. absurd (cc) }
 
 pub first_more : {A X : Type 0} (R : ℕ → A → X → Type 0) (ts : List A) (i : ℕ) (xs ys : List X) (t : A) (x : X) → AreFirst R ts i xs
     → ys ≡ xs ++ x ∷ [] → slice_get ts i ≡ Some t → R i t x → AreFirst R ts (i + 1) ys
-first_more R ts i xs ys t x first pushed at new = record {
-  long = ap (λ zs. length zs) pushed ∙ length_push xs x ∙ ap (λ n. n + 1) first.long;
-  each = λ p u y e f. elim (get_push xs x p y (rw pushed at f)) [
-    | inl h ↦ first.each p u y e h.1
-    | inr h ↦
-        let here : p ≡ i = h.0 ∙ first.long in
-        let same : t ≡ u = let there = rw here at e in cc in
-        rw (here, ← same, ← h.1) new
-  ];
-}
+first_more R ts i xs ys t x first pushed at new = grind (arith, common_steps, length_push, get_push)
 
 -- the same, for what is read there
 pub first_next : {A X : Type 0} (R : ℕ → A → X → Type 0) (ts : List A) (i : ℕ) (xs ys : List X) (t : A) (x : X) → AreFirst R ts i xs

@@ -1,5 +1,6 @@
 -- The part of an object, by where its definition is found.
-use Rattle.std.proofs.Common.{◌≡◌, ℕ, Bool, List, MatchOption, Option, Some, None, refl}
+use Rattle.std.proofs.Common.{arith, ◌≡◌, ℕ, Bool, List, MatchOption, Option, Some, None, refl}
+use Rattle.std.proofs.lemmas.Grind.{common_steps}
 use Rattle.smi_names.specs.chains.Resolution.{ComesTo}
 use Rattle.smi_names.specs.declared.chains.resolution.Resolution.TheVariants as R
 use Rattle.smi_show.specs.declared.index.part.IndexPart.{IndexPart}
@@ -50,9 +51,7 @@ module _ (ms : List Module) (m : Module) (x : List ℕ) (i k : ℕ) (found : IsF
 
   -- the syntax of the object that the name leads to
   syntax_here : (implied : Bool) (part : IndexPart) (p : IsIndexPart ms m x implied part) → HasSyntax ms (object_origin ms i k) p.facts
-  syntax_here implied part p =
-      let same = defined_once found.named p.named in
-      rw (at_object, same.home, same.definition) p.syntax
+  syntax_here implied part p = grind (arith, common_steps, defined_once, at_object)
 
   pub part_untyped : (implied : Bool) → HasNoSyntax ms (object_origin ms i k) → HasNoPart ms m x implied
   part_untyped implied none = λ part p. none p.facts (syntax_here implied part p)

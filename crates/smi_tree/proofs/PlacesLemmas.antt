@@ -1,5 +1,6 @@
 -- The first place of an identifier in a list that grows.
-use Rattle.std.proofs.Common.{◌≡◌, ◌≢◌, ℕ, ◌+◌, ◌<◌, Bool, true, false, cond, List, [], ◌∷◌, ◌++◌, length, Some, None, refl, ◌∙◌, arith, nat_eq}
+use Rattle.std.proofs.lemmas.Grind.{common_steps}
+use Rattle.std.proofs.Common.{◌≡◌, ◌≢◌, ℕ, ◌<◌, Bool, true, false, cond, List, [], ◌∷◌, ◌++◌, length, Some, None, refl, ◌∙◌, arith, nat_eq}
 use Rattle.std.proofs.lemmas.Option.{slice_get_within, get_or_from_slice_get}
 use Rattle.std.specs.Cmp.Lexicographic.{pointwise, bytes_decides}
 use Rattle.smi_names.specs.meaning.Meaning.{or_else}
@@ -13,8 +14,7 @@ place_found oids o k e =
 
 place_push : (oids : List (List ℕ)) (p o : List ℕ)
     → place_of (oids ++ p ∷ []) o ≡ or_else (place_of oids o) (cond (pointwise nat_eq p o) (Some (length oids)) None)
-place_push oids p o =
-    let all : 0 + length oids ≡ length oids = omega arith in rw all at (append-from (λ x. pointwise nat_eq x o) 0 oids (p ∷ []))
+place_push oids p o = grind (arith, common_steps, append-from, nat_eq)
 
 pub place_push_itself : (oids : List (List ℕ)) (p : List ℕ) → place_of (oids ++ p ∷ []) p ≡ or_else (place_of oids p) (Some (length oids))
 place_push_itself oids p = place_push oids p p ∙ rw ((bytes_decides p p).1 refl) refl

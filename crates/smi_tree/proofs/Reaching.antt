@@ -1,4 +1,5 @@
 -- The longest beginning of an identifier for which a node stands.
+use Rattle.std.proofs.lemmas.Grind.{common_steps}
 use Rattle.std.proofs.Common.{◌≡◌, ◌≢◌, ℕ, zero, suc, ◌≤◌, ◌⊎◌, inl, inr, List, length, take, Option, Some, None, refl, sym, arith}
 use Rattle.std.specs.Prelude.{MatchOption, ◌<◌, option_map}
 use Rattle.std.proofs.lemmas.Bool.{cases_eq}
@@ -9,10 +10,7 @@ use Rattle.smi_tree.specs.Standing.{Longest, at_depth, longest_up_to}
 up_to-some : (oids : List (List ℕ)) (o : List ℕ) (p d j : ℕ) → IsDeepestAt oids o p d → d ≤ j → j ≤ length o
     → longest_up_to oids o j ≡ Some (record { place = p; depth = d })
 unfolding longest_up_to
-up_to-some oids o p d zero at below within =
-    let none : d ≡ 0 = omega arith in
-    let here = rw none at at.here in
-    rw (here, none) refl
+up_to-some oids o p d zero at below within = grind (arith, common_steps)
 up_to-some oids o p d (suc j) at below within = by (cases_eq d (suc j)) (λ l. up_to-some oids o p d j at l (omega arith))
   where
     by : (d ≡ suc j) ⊎ (d ≢ suc j) → (d ≤ j → longest_up_to oids o j ≡ Some (record { place = p; depth = d }))
@@ -36,12 +34,7 @@ longest-none oids o h = up_to-none oids o (length o) h (omega arith)
 up_to : (oids : List (List ℕ)) (o : List ℕ) (j : ℕ) → j ≤ length o → ((k : ℕ) → j < k → k ≤ length o → place_of oids (take k o) ≡ None)
     → MatchOption (longest_up_to oids o j) (HasNoBeginning oids o) (λ at. IsDeepestAt oids o at.place at.depth)
 unfolding longest_up_to
-up_to oids o zero within above = by (place_of oids (take 0 o)) refl
-  where
-    by : (r : Option ℕ) → place_of oids (take 0 o) ≡ r
-        → MatchOption (at_depth 0 r) (HasNoBeginning oids o) (λ at. IsDeepestAt oids o at.place at.depth)
-    by None e = λ k l. elim (cases_eq k 0) [ inl same ↦ rw same e | inr other ↦ above k (omega arith) l ]
-    by (Some place) e = record { within = within; here = e; none_longer = above }
+up_to oids o zero within above = grind (arith, common_steps, cases_eq)
 up_to oids o (suc j) within above = by (place_of oids (take (suc j) o)) refl (up_to oids o j (omega arith))
   where
     Is : Option Longest → Type 0

@@ -1,4 +1,5 @@
 -- Names of nodes are sound: labels are words, and lead to the nodes that they are shown for.
+use Rattle.std.proofs.lemmas.Grind.{common_steps}
 use Rattle.std.proofs.Common.{◌≡◌, ℕ, zero, suc, ◌≤◌, ◌⊎◌, inl, inr, Bool, true, false, ◌&&◌, List, [], ◌++◌, length, take, Option, Some, None, refl}
 use Rattle.std.proofs.Common.{sym, ap, subst, ◌∙◌, arith}
 use Rattle.std.specs.Prelude.{slice_index_or}
@@ -14,11 +15,11 @@ use Rattle.smi_tree.specs.branches.Standing.{place_of}
 use Rattle.smi_show.specs.name.Naming.{Naming, Standing, LabelLeadsTo, IsSound}
 use Rattle.smi_names.specs.nodes.Nodes.{Node, node_of_root, roots, Loads}
 use Rattle.smi_names.specs.declared.nodes.warning.Warning.{Warning}
-use Rattle.smi_tree.specs.Nodes.{oids_of, has_label, is_of, place_in_module, place_anywhere}
+use Rattle.smi_tree.specs.Nodes.{oids_of, is_of, place_in_module, place_anywhere}
 use Rattle.smi_tree.specs.Standing.{Longest, at_depth, longest_up_to, longest}
 use Rattle.smi_tree.specs.Tree.{Contents}
 use Rattle.smi_tree.specs.Naming.{home_name, standing_from, standing_of_longest, oid_of, naming_of}
-use Rattle.smi_tree.proofs.First.{IsFirst, first, passing}
+use Rattle.smi_tree.proofs.First.{first, passing}
 use Rattle.smi_tree.proofs.Listing.{same, same_itself}
 use Rattle.smi_tree.proofs.Lists.{get_within}
 use Rattle.smi_tree.proofs.PlacesLemmas.{place_found}
@@ -30,15 +31,7 @@ Reaches oids o j l = (l.depth ≤ j) × (place_of oids (take l.depth o) ≡ Some
 
 reached : (oids : List (List ℕ)) (o : List ℕ) (j : ℕ) (l : Longest) → longest_up_to oids o j ≡ Some l → Reaches oids o j l
 unfolding longest_up_to
-reached oids o zero l e = by (place_of oids []) refl e
-  where
-    by : (r : Option ℕ) → place_of oids [] ≡ r → at_depth 0 r ≡ Some l → Reaches oids o zero l
-    by None f e = cc
-    by (Some p) f e =
-        let here : Longest = record { place = p; depth = 0 } in
-        let is : here ≡ l = cc in
-        let low : 0 ≤ 0 = omega arith in
-        subst (λ l. Reaches oids o zero l) is (low, f)
+reached oids o zero l e = grind (arith, common_steps)
 reached oids o (suc j) l e = by (place_of oids (take (suc j) o)) refl e (reached oids o j l)
   where
     by : (r : Option ℕ) → place_of oids (take (suc j) o) ≡ r → or_else (at_depth (suc j) r) (longest_up_to oids o j) ≡ Some l
@@ -99,10 +92,7 @@ root-home = root-case (λ n. n.home ≡ None) refl refl refl
 -- a root by its place
 pub among-roots : (ns : List Node) (x : List ℕ) (k : ℕ) → Some k ≡ place_anywhere roots x
     → oid_of (roots ++ ns) (Some k) ≡ oid_of roots (place_anywhere roots x)
-among-roots ns x (suc (suc (suc k))) e =
-    let f : IsFirst (has_label x) roots (suc (suc (suc k))) = rw (← e) at (first (has_label x) roots) in
-    let none = f.at in
-    absurd (cc)
+among-roots ns x (suc (suc (suc k))) e = grind (arith, common_steps, first)
 among-roots ns x _ e = rw (← e) refl
 
 -- a node's module and label lead to its identifier
@@ -139,11 +129,7 @@ leads-by : (t : Contents) (ns : List Node) (ws : List Warning) → OneMeaning �
     → slice_get (roots ++ ns) k ≡ Some n → ((j : ℕ) × (slice_get roots j ≡ Some n)) ⊎ IsOfModule t.modules n
     → LabelLeadsTo (naming_of t) (home_name n.home) n.label n.oid
 leads-by t ns ws law nodes l k n there (inl r) = rw (root-home r.0 n r.1, nodes) (root-leads ns r.0 n r.1)
-leads-by t ns ws law nodes l k n there (inr f) =
-    let home : home_name n.home ≡ Some f.home.name.octets = rw f.is refl in
-    let label : n.label ≡ f.definition.label.octets = rw f.is refl in
-    let found = in-its-module t.modules ns ws law l k n there f in
-    rw (home, label, nodes) (f.home.name.lexical, f.loaded, found)
+leads-by t ns ws law nodes l k n there (inr f) = grind (arith, common_steps, in-its-module)
 
 pub leads-alike : (naming : Naming) (h i : Option (List ℕ)) (x y o p : List ℕ) → h ≡ i → x ≡ y → o ≡ p → LabelLeadsTo naming h x o → LabelLeadsTo naming i y p
 leads-alike naming h i x y o p e f g leads = rw (sym e, sym f, sym g) leads

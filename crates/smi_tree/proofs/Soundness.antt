@@ -1,6 +1,7 @@
 -- Nodes of modules have words as labels, which lead to them.
-use Rattle.std.proofs.Common.{◌≡◌, ℕ, zero, suc, ◌⊎◌, inl, inr, Bool, true, false, cond, List, [], ◌∷◌, ◌++◌, Option, Some, None, is_some, refl}
-use Rattle.std.proofs.Common.{subst}
+use Rattle.std.proofs.Common.{arith, ◌≡◌, ℕ, zero, suc, ◌⊎◌, inl, inr, Bool, true, false, cond, List, [], ◌∷◌, ◌++◌, Option, Some, None, is_some}
+use Rattle.std.proofs.Common.{refl, subst}
+use Rattle.std.proofs.lemmas.Grind.{common_steps}
 use Rattle.std.specs.List.{slice_get}
 use Rattle.smi_names.specs.declared.chains.resolution.Resolution.TheVariants as R
 use Rattle.smi_text.specs.trees.Mark.{same_text}
@@ -87,8 +88,4 @@ each-loaded ms _ _ _ k n h (then_module before m ns more_nodes ws more_warnings 
 -- a node of a tree is a root, or of a module
 pub root-or-module : (ms : List Module) (ns : List Node) (ws : List Warning) (k : ℕ) (n : Node) → Loads ms ms ns ws
     → slice_get (roots ++ ns) k ≡ Some n → ((j : ℕ) × (slice_get roots j ≡ Some n)) ⊎ IsOfModule ms n
-root-or-module ms ns ws k n l e = by (in-either roots ns k n e)
-  where
-    by : (slice_get roots k ≡ Some n) ⊎ ((j : ℕ) × (slice_get ns j ≡ Some n)) → ((j : ℕ) × (slice_get roots j ≡ Some n)) ⊎ IsOfModule ms n
-    by (inl f) = inl (k, f)
-    by (inr f) = inr (each-loaded ms ms ns ws f.0 n (λ x h. h) l f.1)
+root-or-module ms ns ws k n l e = grind (arith, common_steps, in-either, each-loaded)

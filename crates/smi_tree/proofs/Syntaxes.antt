@@ -1,7 +1,7 @@
 -- What is kept for the sources of nodes is their syntax.
+use Rattle.std.proofs.lemmas.Grind.{common_steps}
 use Rattle.std.proofs.Common.{◌≡◌, ℕ, zero, suc, List, [], ◌∷◌, Option, Some, None, slice_index_or, length, refl, sym, ap, arith}
 use Rattle.std.specs.List.{slice_get}
-use Rattle.std.specs.Option.{option_and_then}
 use Rattle.smi_text.specs.declared.trees.tree.Module.{Module}
 use Rattle.smi_names.specs.nodes.Nodes.{Node}
 use Rattle.smi_names.specs.nodes.Gathered.{node_from, nodes_of, AreGathered}
@@ -22,11 +22,7 @@ use Rattle.smi_tree.proofs.Bridging.{parts}
 use Rattle.smi_tree.proofs.Following.{no_syntax}
 
 same_object : (ms : List Module) (i k : ℕ) → object_in (slice_get ms i) (gathered.def_of_module (slice_get ms i) k) ≡ object_origin ms i k
-same_object ms i k = by (slice_get ms i)
-  where
-    by : (m : Option Module) → object_in m (gathered.def_of_module m k) ≡ object_in m (option_and_then (λ n. slice_get n.defs k) m)
-    by None = refl
-    by (Some m) = refl
+same_object ms i k = grind (arith, common_steps)
 
 module _ (ms : List Module) (t : Types) (right : AreTypesOf ms t) where
   of_source : (s : Source) (o : List ℕ) → IsSyntaxOf ms (node_from ms s o) (syntax_from ms t s)
@@ -56,11 +52,4 @@ kept-none ms t (s ∷ ss) (suc k) e = kept-none ms t ss k e
 pub is_tree : (ms : List Module) (g : Gathered) (t : Types) (os : List (List ℕ)) (indexes : List (Option (List IndexPart))) → AreGathered ms g ms
     → os ≡ g.oids.items → AreSyntaxesOf ms (nodes_of ms g.sources.items os) (syntaxes_from ms t g.sources.items)
     → AreIndexesOf ms (nodes_of ms g.sources.items os) indexes → IsTree ms (contents ms g.sources.items os t indexes) g.warnings.items
-is_tree ms g t os indexes found same syntaxes indexed = record {
-  passed = refl;
-  ns = found.ns;
-  nodes = rw same found.nodes;
-  loads = found.loads;
-  syntaxes = syntaxes;
-  indexes = indexed;
-}
+is_tree ms g t os indexes found same syntaxes indexed = grind (arith, common_steps)

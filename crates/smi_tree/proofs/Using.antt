@@ -1,4 +1,5 @@
 -- The rows of columns, and the INDEX clauses that they use.
+use Rattle.std.proofs.lemmas.Grind.{common_steps}
 use Rattle.std.proofs.Common.{◌≡◌, ℕ, ◌≤◌, List, [], ◌∷◌, ◌++◌, length, MatchOption, Option, Some, None, refl, sym, ap, ◌∙◌, arith}
 use Rattle.std.proofs.lemmas.List.{same_from_push}
 use Rattle.std.proofs.lemmas.Option.{slice_get_within, get_or_from_slice_get}
@@ -43,11 +44,7 @@ module _ (ms : List Module) (i k : ℕ) (m : Module) (d : Def) (at : slice_get m
       → MatchOption r (IsUndefined ms (qualified_name m name.octets)) (λ p. IsFoundAt ms (qualified_name m name.octets) p.0 p.1)
       → MatchOption r ((o : List ℕ) → UsesNone ms (node_from ms (S.Definition i k) o))
       (λ p. (o : List ℕ) → UsesAt ms (node_from ms (S.Definition i k) o) p.0 p.1)
-  uses_named name None is none = λ o. rw (node_here o) (λ m' d' n e home defined uses.
-      let same : m ≡ m' = cc in
-      let one : d ≡ d' = cc in
-      let by = rw (← one, ← same, is) at uses in
-      none n e by)
+  uses_named name None is none = grind (arith, common_steps, node_here)
   uses_named name (Some p) is found = λ o. rw (node_here o) (record {
     row_module = m;
     home = refl;

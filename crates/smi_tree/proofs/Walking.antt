@@ -1,4 +1,5 @@
 -- Walks along branches: one number more at the end, and a branch that is made.
+use Rattle.std.proofs.lemmas.Grind.{common_steps}
 use Rattle.std.proofs.Common.{◌≡◌, ◌≢◌, ℕ, ◌<◌, ◌⊎◌, inl, inr, List, [], ◌∷◌, ◌++◌, length, Option}
 use Rattle.std.proofs.Common.{Some, None, refl, sym, ap, ◌∙◌, arith, append_assoc}
 use Rattle.std.proofs.lemmas.List.{same_from_push, append-nil, length_push}
@@ -35,23 +36,11 @@ module _ (next : ℕ → ℕ → Option ℕ) where
       by (Some b) h = h b
 
   pub walk-push : (at : ℕ) (xs : List ℕ) (n : ℕ) → walk next at (xs ++ n ∷ []) ≡ option_and_then (λ b. next b n) (walk next at xs)
-  walk-push at xs n = walk-append at xs (n ∷ []) ∙ by (walk next at xs)
-    where
-      last : (o : Option ℕ) → option_and_then (λ b. Some b) o ≡ o
-      last None = refl
-      last (Some b) = refl
-
-      by : (o : Option ℕ) → option_and_then (λ b. walk next b (n ∷ [])) o ≡ option_and_then (λ b. next b n) o
-      by None = refl
-      by (Some b) = last (next b n)
+  walk-push at xs n = grind (arith, common_steps, walk-append)
 
   -- a walk that goes on to the end has come to each place before
   pub walk_front : (at : ℕ) (xs ys : List ℕ) (c : ℕ) → walk next at (xs ++ ys) ≡ Some c → (b : ℕ) × (walk next at xs ≡ Some b)
-  walk_front at xs ys c e = by (walk next at xs) (sym (walk-append at xs ys) ∙ e)
-    where
-      by : (o : Option ℕ) → option_and_then (λ b. walk next b ys) o ≡ Some c → (b : ℕ) × (o ≡ Some b)
-      by None e = absurd (cc)
-      by (Some b) e = (b, refl)
+  walk_front at xs ys c e = grind (arith, common_steps, walk-append)
 
 -- a branch is made: a number leads to it from one branch, and none leads on from it
 module _ (f g : ℕ → ℕ → Option ℕ) (q : List ℕ) (at n count : ℕ)

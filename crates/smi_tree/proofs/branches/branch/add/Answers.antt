@@ -1,6 +1,7 @@
 -- The numbers of the identifier are gone along from where the last one's differ, and it stands at
 -- the end, if none did.
-use Rattle.std.proofs.Common.{rules, ◌≡◌, ℕ, ◌+◌, ◌<◌, ◌≤◌, true, is_some, Option, List, [], ◌∷◌, ◌++◌, Some, None, get_or, set, take, length, refl}
+use Rattle.std.proofs.lemmas.Grind.{common_steps}
+use Rattle.std.proofs.Common.{rules, ◌≡◌, ℕ, ◌+◌, ◌<◌, ◌≤◌, is_some, Option, List, [], ◌∷◌, ◌++◌, Some, None, get_or, set, take, length, refl}
 use Rattle.std.proofs.Common.{sym, ap, inl, inr, ◌∙◌, arith}
 use Rattle.std.proofs.lemmas.Bool.{cases_lt}
 use Rattle.std.proofs.lemmas.List.{take_more, take_all, length-set, length-take-le, get_or_default, get_or-set_same, get_or-set_other, take-take}
@@ -101,13 +102,7 @@ module _ (oids : List (List ℕ)) (place : ℕ) (o p : List ℕ) (i : ℕ) (bs :
   -- its way
   way_ended : (way : List ℕ) → ((j : ℕ) → j ≤ i → branch_of bs (take j o) ≡ Some (get_or way j 0))
       → IsWay (set bs at (record { after = a.after; standing = s })) (get_or oids place []) way
-  way_ended way before =
-      let b : Branch = record { after = a.after; standing = s } in
-      let inside = branch_inside (take (place + 1) oids) (take place oids) bs are (take i o) at here in
-      let is' : o ≡ get_or oids place [] = same ∙ is ∙ get_or_default oids place p [] within in
-      rw (sym is') (record {
-        each = λ j l. branch-same bs (set bs at b) (follower-set bs at a b inside read refl) (take j o) ∙ before j (omega (arith, end));
-      })
+  way_ended way before = grind (arith, common_steps, branch_inside, get_or_default, branch-same, follower-set)
 
 pub returns-then-is_none : goal.returns-then-is_none
 returns-then-is_none c =
@@ -125,20 +120,4 @@ returns-then-is_none c =
     }
 
 pub returns-else-is_none : goal.returns-else-is_none
-returns-else-is_none c =
-    let a = c.index_mut-branch.result.now in
-    let read : a ≡ get_or c.numbers.branches.items c.numbers.at a = search rules in
-    let some : is_some a.standing ≡ true = search rules in
-    let end : length c.as_slice-numbers.result.now ≤ c.numbers.i = search rules in
-    record {
-      added = ended c.args.oids.now c.args.place c.as_slice-numbers.result.now c.index-oids-place.result c.numbers.i c.numbers.branches.items
-          c.numbers.at a a.standing c.requires.within c.index-oids-place.is c.as_slice-numbers.ensures.value end read
-          c.numbers.invariant.branches c.numbers.invariant.here (kept a.standing c.args.place some);
-      on_way = way_ended c.args.oids.now c.args.place c.as_slice-numbers.result.now c.index-oids-place.result c.numbers.i c.numbers.branches.items
-          c.numbers.at a a.standing c.requires.within c.index-oids-place.is c.as_slice-numbers.ensures.value end read
-          c.numbers.invariant.branches c.numbers.invariant.here c.numbers.way c.numbers.invariant.way;
-    }
-  where
-    kept : (s : Option ℕ) (k : ℕ) → is_some s ≡ true → s ≡ or_else s (Some k)
-    kept None k e = cc
-    kept (Some j) k e = refl
+returns-else-is_none c = grind (arith, common_steps, is_some, ended, way_ended)

@@ -1,24 +1,20 @@
 -- One number more, and the end of the way.
-use Rattle.std.proofs.Common.{rules, ◌≡◌, ℕ, ◌+◌, ◌<◌, inl, inr, Option, List, Some, None, get_or, take, length, sym, ◌∙◌, arith}
+use Rattle.std.proofs.lemmas.Grind.{common_steps}
+use Rattle.std.proofs.Common.{rules, ◌≡◌, ℕ, ◌+◌, ◌<◌, Option, List, Some, None, get_or, take, length, sym, arith}
 use Rattle.smi_tree.specs.branches.Branches.{follower, branch_of, standing_at, deeper_of, AreBranchesOf, SoFar}
 use Rattle.smi_tree.specs.declared.branches.branch.Branch.{Branch}
 use Rattle.smi_tree.specs.declared.branches.identifiers.Deepest.{Deepest}
-use Rattle.smi_tree.proofs.Branching.{SoFar-deeper, SoFar-off, SoFar-whole, branch_more, none_beyond}
+use Rattle.smi_tree.proofs.Branching.{SoFar-whole, branch_more, none_beyond}
 use Rattle.smi_tree.proofs.branches.identifiers.deepest_from.Goals as goal
 
 preserved : (oids : List (List ℕ)) (bs : List Branch) → AreBranchesOf oids bs → (o : List ℕ) (i at b : ℕ) (r new : Option Deepest) → i < length o
     → branch_of bs (take i o) ≡ Some at → SoFar oids o i r → follower bs at (get_or o i 0) ≡ Some b → new ≡ deeper_of (standing_at bs b) b (i + 1) r
     → (branch_of bs (take (i + 1) o) ≡ Some b) × SoFar oids o (i + 1) new
-preserved oids bs are o i at b r new l here far leads is =
-    let there = branch_more bs o i at l here ∙ leads in
-    (there, rw is (SoFar-deeper oids o i b r (standing_at bs b) far (are.standing (take (i + 1) o) b there)))
+preserved oids bs are o i at b r new l here far leads is = grind (arith, common_steps, branch_more)
 
 ended : (oids : List (List ℕ)) (bs : List Branch) → AreBranchesOf oids bs → (o : List ℕ) (i at : ℕ) (r : Option Deepest) → i < length o
     → branch_of bs (take i o) ≡ Some at → SoFar oids o i r → follower bs at (get_or o i 0) ≡ None → SoFar oids o (length o) r
-ended oids bs are o i at r l here far none = elim (SoFar-off oids o i (length o) r far (none_beyond oids bs are o i at l here none)) [
-  | inl f ↦ f
-  | inr m ↦ absurd (omega arith)
-]
+ended oids bs are o i at r l here far none = grind (arith, common_steps, none_beyond)
 
 pub numbers-preserved : goal.numbers-preserved
 numbers-preserved c =

@@ -1,8 +1,8 @@
 -- Labels are words, and lead to the nodes that they are shown for.
+use Rattle.std.proofs.Common.{arith}
+use Rattle.std.proofs.lemmas.Grind.{common_steps}
 use Rattle.smi_tree.proofs.Sounding.{sound-by}
 use Rattle.smi_tree.proofs.naming.TreeNameTree.sound.Goals as goal
 
 pub returns : goal.returns
-returns c =
-    let t = c.is_tree.ensures.1 in
-    sound-by c.args.self.now t.ns c.is_tree.ensures.0 c.one_identifier.ensures t.nodes t.loads
+returns c = grind (arith, common_steps, sound-by)

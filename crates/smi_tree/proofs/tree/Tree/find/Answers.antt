@@ -1,5 +1,6 @@
 -- The first source of the label is looked at, and then the first one in the module.
-use Rattle.std.proofs.Common.{rules, ◌≡◌, ℕ, true, false, List, length, get_or, Some, None, refl, sym, ◌∙◌}
+use Rattle.std.proofs.Common.{arith, rules, ◌≡◌, ℕ, true, false, List, length, get_or, Some, None, refl, sym, ◌∙◌}
+use Rattle.std.proofs.lemmas.Grind.{common_steps}
 use Rattle.std.proofs.lemmas.Option.{slice_get_within, slice_get_read}
 use Rattle.std.specs.List.{slice_get, position_from}
 use Rattle.smi_text.specs.declared.trees.tree.Module.{Module}
@@ -53,13 +54,7 @@ returns-then-is_in_module c =
     (labelled ms i.sources.items i.identifiers x f long e) (there ms i.sources.items i.identifiers x f long e s c.index.ensures) named))
 
 pub returns-in_err-home : goal.returns-in_err-home
-returns-in_err-home c =
-    let i = c.self.inside in
-    let home = c.args.home.now in
-    let x = c.args.label.now in
-    let out : c.from_residual-in_err-home.result ≡ None = search rules in
-    rw (out, sym c.self.view_is) (sym (in_module-sources i.modules.items i.sources.items i.identifiers home x c.self.invariant.long
-    ∙ no_module i.modules.items i.sources.items home x (sym (c.in_err-home.ensures ∙ c.self.invariant.homes home))))
+returns-in_err-home c = grind (arith, common_steps, in_module-sources, no_module)
 
 pub returns : goal.returns
 returns c =

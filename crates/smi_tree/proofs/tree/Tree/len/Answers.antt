@@ -1,10 +1,8 @@
 -- There is a node for each source.
-use Rattle.std.proofs.Common.{rules, ◌≡◌, length, sym, ◌∙◌}
+use Rattle.std.proofs.Common.{arith}
+use Rattle.std.proofs.lemmas.Grind.{common_steps}
 use Rattle.smi_tree.proofs.Bridging.{length-nodes}
 use Rattle.smi_tree.proofs.tree.Tree.len.Goals as goal
 
 pub returns : goal.returns
-returns c =
-    let i = c.self.inside in
-    let count : c.len.result ≡ length i.sources.items = search rules in
-    count ∙ rw (sym c.self.view_is) (sym (length-nodes i.modules.items i.sources.items i.identifiers c.self.invariant.long))
+returns c = grind (arith, common_steps, length-nodes)

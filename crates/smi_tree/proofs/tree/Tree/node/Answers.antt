@@ -1,4 +1,5 @@
 -- The node of the source at the place.
+use Rattle.std.proofs.lemmas.Grind.{common_steps}
 use Rattle.std.proofs.Common.{◌≡◌, ◌<◌, length, [], Some, sym, ap, refl, arith, ◌∙◌}
 use Rattle.std.specs.List.{slice_get}
 use Rattle.std.proofs.lemmas.Option.{slice_get-get_or}
@@ -6,18 +7,10 @@ use Rattle.smi_tree.proofs.Bridging.{length-nodes, node-at, parts}
 use Rattle.smi_tree.proofs.tree.Tree.node.Goals as goal
 
 pub index-source-requires : goal.index-source-requires
-index-source-requires c =
-    let i = c.self.inside in
-    let count = length-nodes i.modules.items i.sources.items i.identifiers c.self.invariant.long in
-    let within = rw (sym c.self.view_is) at c.requires in
-    rw i.sources.ok.0 (omega (arith, count, within))
+index-source-requires c = grind (arith, common_steps, length-nodes)
 
 pub get-requires : goal.get-requires
-get-requires c =
-    let i = c.self.inside in
-    let count = length-nodes i.modules.items i.sources.items i.identifiers c.self.invariant.long in
-    let within = rw (sym c.self.view_is) at c.requires in
-    omega (arith, count, within, c.self.invariant.long)
+get-requires c = grind (arith, common_steps, length-nodes)
 
 pub returns : goal.returns
 returns c =

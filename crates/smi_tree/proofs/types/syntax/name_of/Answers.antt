@@ -1,5 +1,6 @@
 -- The name is no base type's.
-use Rattle.std.proofs.Common.{◌≡◌, false, Option, Some, None, is_some, refl, sym, ap, ◌∙◌}
+use Rattle.std.proofs.Common.{arith, ◌≡◌, false, Option, Some, None, is_some, refl}
+use Rattle.std.proofs.lemmas.Grind.{common_steps}
 use Rattle.smi_text.specs.declared.trees.tree.Base.{Base}
 use Rattle.smi_text.specs.declared.trees.tree.Base.TheVariants as B
 use Rattle.smi_text.specs.declared.trees.names.Name.{Name}
@@ -15,6 +16,4 @@ named b x e h = rw e (by (base_in (B.Named x)) (rw e at h))
     by (Some t) h = absurd (cc)
 
 pub returns-in-Named : goal.returns-in-Named
-returns-in-Named c =
-    let none : is_some (base_in c.args.simple.now.base) ≡ false = ap (λ r. is_some r) (sym c.base_of.ensures) ∙ sym c.if-is_some.ensures in
-    named c.args.simple.now.base c.in-Named.name c.in-Named.is none
+returns-in-Named c = grind (arith, common_steps, is_some, named)

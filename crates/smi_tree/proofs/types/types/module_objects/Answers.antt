@@ -1,5 +1,6 @@
 -- One definition more.
-use Rattle.std.proofs.Common.{rules, ◌≡◌, length}
+use Rattle.std.proofs.Common.{arith, rules}
+use Rattle.std.proofs.lemmas.Grind.{common_steps}
 use Rattle.smi_tree.proofs.Pairing.{first_none, first_next, first_all}
 use Rattle.smi_tree.proofs.types.types.module_objects.Goals as goal
 
@@ -12,6 +13,4 @@ defs-preserved c =
     c.index-defs-k.is c.object.ensures
 
 pub returns : goal.returns
-returns c =
-    let end : c.defs.k ≡ length c.as_slice-defs.result.now = search rules in
-    rw c.as_slice-defs.ensures at (first_all _ _ c.defs.k c.defs.kept.items c.defs.invariant end)
+returns c = grind (arith, common_steps, first_all)

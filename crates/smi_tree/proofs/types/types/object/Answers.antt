@@ -1,5 +1,6 @@
 -- An object states its type and no hint.
-use Rattle.std.proofs.Common.{◌≡◌, None, Some, sym, ap}
+use Rattle.std.proofs.Common.{arith, ◌≡◌, None, Some, sym, ap}
+use Rattle.std.proofs.lemmas.Grind.{common_steps}
 use Rattle.smi_tree.specs.types.Types.{origin_of_object, origin_of_simple}
 use Rattle.smi_tree.proofs.Following.{no_syntax}
 use Rattle.smi_tree.proofs.Refining.{object_states, refined_right}
@@ -19,5 +20,4 @@ returns-in-Some c =
     rw (origin, c.refined.ensures) (refined_right k.modules c.args.at d c.requires.there s states.0 None states.1 home c.named-far.result named)
 
 pub returns-in-None : goal.returns-in-None
-returns-in-None c =
-    no_syntax c.args.entries.now.modules _ (ap (λ x. origin_of_simple c.args.home.now.name.octets None x) (sym c.in-None.ensures))
+returns-in-None c = grind (arith, common_steps, no_syntax)

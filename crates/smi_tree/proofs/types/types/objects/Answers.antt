@@ -1,5 +1,6 @@
 -- One module more.
-use Rattle.std.proofs.Common.{rules, ◌≡◌, length}
+use Rattle.std.proofs.Common.{arith, rules}
+use Rattle.std.proofs.lemmas.Grind.{common_steps}
 use Rattle.smi_tree.proofs.Pairing.{first_none, first_next, first_all}
 use Rattle.smi_tree.proofs.types.types.objects.Goals as goal
 
@@ -12,6 +13,4 @@ modules-preserved c =
     (search rules) c.index-modules-i.is (rw c.requires.named at c.in_ok-kept.ensures)
 
 pub returns : goal.returns
-returns c =
-    let end : c.modules.i ≡ length c.args.modules.now = search rules in
-    first_all _ _ c.modules.i c.modules.objects.items c.modules.invariant end
+returns c = grind (arith, common_steps, first_all)

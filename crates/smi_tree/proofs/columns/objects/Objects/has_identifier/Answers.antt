@@ -1,8 +1,8 @@
 -- A name that has an identifier comes to nothing else.
-use Rattle.std.proofs.Common.{rules, ◌≡◌}
+use Rattle.std.proofs.Common.{arith, ◌≡◌}
+use Rattle.std.proofs.lemmas.Grind.{common_steps}
 use Rattle.smi_names.specs.chains.Resolution.{ComesTo}
 use Rattle.smi_names.specs.declared.chains.resolution.Resolution.TheVariants as R
-use Rattle.smi_names.specs.chains.Chain.{nowhere, here}
 use Rattle.smi_names.specs.meaning.Meaning.{origin, QualifiedName}
 use Rattle.smi_tree.proofs.columns.objects.Objects.has_identifier.Goals as goal
 
@@ -17,12 +17,4 @@ returns-in-Some c =
     )
 
 pub returns-in-None : goal.returns-in-None
-returns-in-None c =
-    let ms : c.self.inside.modules.now ≡ c.args.self.now = c.self.view_is in
-    let p : QualifiedName = record { home = c.args.home.now; name = c.args.name.now } in
-    let none : origin c.args.self.now (record { home = c.args.home.now; name = c.args.name.now }) ≡ nowhere =
-    rw (c.self.invariant.1, ms) at c.in-None.ensures in (
-      λ holds. absurd (search rules),
-      λ some.
-          let same = c.one_resolution.ensures c.args.self.now p (R.Numbers some.0) R.Unresolved some.1 (here none) in absurd (cc),
-    )
+returns-in-None c = grind (arith, common_steps)

@@ -1,5 +1,6 @@
 -- One definition more.
-use Rattle.std.proofs.Common.{rules, ◌≡◌, length, arith}
+use Rattle.std.proofs.lemmas.Grind.{common_steps}
+use Rattle.std.proofs.Common.{rules, arith}
 use Rattle.smi_tree.proofs.Pairing.{first_none, first_next, first_all}
 use Rattle.smi_tree.proofs.columns.objects.Objects.parts_of_module.Goals as goal
 
@@ -12,6 +13,4 @@ defs-preserved c =
     c.def-item.is c.in_ok-own.ensures
 
 pub returns : goal.returns
-returns c =
-    let end : c.defs.def-index ≡ length c.as_slice-defs.result.now = omega (arith, c.defs-test.false, c.defs.auto.def-index-end) in
-    rw c.as_slice-defs.ensures at (first_all _ _ c.defs.def-index c.defs.kept.items c.defs.invariant end)
+returns c = grind (arith, common_steps, first_all)

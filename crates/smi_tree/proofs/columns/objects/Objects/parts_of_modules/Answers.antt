@@ -1,5 +1,6 @@
 -- One module more.
-use Rattle.std.proofs.Common.{rules, ◌≡◌, length, arith}
+use Rattle.std.proofs.lemmas.Grind.{common_steps}
+use Rattle.std.proofs.Common.{rules, ◌≡◌, arith}
 use Rattle.smi_tree.proofs.Pairing.{first_none, first_next, first_all}
 use Rattle.smi_tree.proofs.columns.objects.Objects.parts_of_modules.Goals as goal
 
@@ -13,8 +14,4 @@ modules-preserved c =
     (rw view at c.modules-test.true) (rw view at c.home-item.is) c.in_ok-own.ensures
 
 pub returns : goal.returns
-returns c =
-    let view : c.self.inside.modules.now ≡ c.args.self.now = c.self.view_is in
-    let end : c.modules.home-index ≡ length c.args.self.now =
-    omega (arith, rw view at c.modules-test.false, rw view at c.modules.auto.home-index-end) in
-    first_all _ _ c.modules.home-index c.modules.kept.items c.modules.invariant end
+returns c = grind (arith, common_steps, first_all)

@@ -1,5 +1,6 @@
 -- One node more.
-use Rattle.std.proofs.Common.{rules, ◌≡◌, length, sym, ◌∙◌, arith}
+use Rattle.std.proofs.lemmas.Grind.{common_steps}
+use Rattle.std.proofs.Common.{rules, arith}
 use Rattle.smi_names.specs.nodes.Gathered.{nodes_of}
 use Rattle.smi_tree.proofs.Lists.{get_within}
 use Rattle.smi_tree.proofs.Bridging.{length-nodes}
@@ -21,7 +22,4 @@ places-preserved c =
     }
 
 pub returns : goal.returns
-returns c =
-    let end : c.places.place ≡ length c.args.sources.now = omega (arith, c.places-test.false, c.places.auto.place-end) in
-    let long = length-nodes c.args.self.now c.args.sources.now c.args.identifiers.now c.requires in
-    first_all _ _ c.places.place c.places.rows.items c.places.invariant.rows (end ∙ sym long)
+returns c = grind (arith, common_steps, length-nodes, first_all)
