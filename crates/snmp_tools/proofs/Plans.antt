@@ -28,7 +28,8 @@ use Rattle.smi_text.specs.declared.trees.tree.Module.{Module}
 use Rattle.smi_names.specs.declared.nodes.warning.Warning.{Warning}
 use Rattle.smi_tree.specs.Tree.{Contents, IsTree}
 use Rattle.snmp_tools.specs.Mib.{AreLoaded, Mib, mib_of}
-use Rattle.snmp_tools.specs.Question.{AreNames, AskFor, AskWords, FailsBy, FailsFor, IsAtOrBelow, IsDoneBy, IsEarlyRefusal, IsLastRefusal}
+use Rattle.snmp_walk.specs.Ordered.{IsAtOrBelow}
+use Rattle.snmp_tools.specs.Question.{AreNames, AskFor, AskWords, FailsBy, FailsFor, IsDoneBy, IsEarlyRefusal, IsLastRefusal}
 use Rattle.snmp_tools.specs.Question.{IsLateRefusal, IsQuestionOf, LaterStep, LoadingStep, Plan, Question, Request, HasChosen, HasUnknown}
 use Rattle.snmp_tools.specs.Question.{goes_on_after, root_text, asking, choices_step, mibs_step, get, names, subtree, walk, name_steps}
 use Rattle.snmp_tools.specs.Question.{reaching_steps, sent_steps, below_step, name_step, reach_step, sent_step}

@@ -1,5 +1,5 @@
 -- Names are printed one after the other.
-use Rattle.std.proofs.Common.{◌≡◌, ◌∙◌, ◌++◌, ◌+◌, ◌<◌, ap, refl, sym, subst, ℕ, List, [], ◌∷◌, Bor}
+use Rattle.std.proofs.Common.{◌∙◌, ◌++◌, ◌+◌, ◌<◌, ap, refl, sym, subst, ℕ, List, [], ◌∷◌, Bor}
 use Rattle.std.proofs.Common.{take, drop, length, get_or, append_assoc, append-nil}
 use Rattle.snmp_io.specs.Output.{Stream, extended}
 use Rattle.snmp_io.specs.Streams.{extended-twice}

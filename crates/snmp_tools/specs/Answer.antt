@@ -17,7 +17,8 @@ use Rattle.snmp_walk.specs.declared.end.SinkFault.TheVariants as sink
 use Rattle.snmp_walk.specs.declared.end.WalkEnd.{WalkEnd}
 use Rattle.snmp_walk.specs.declared.end.WalkEnd.TheVariants as ending
 use Rattle.snmp_walk.specs.declared.link.Link.{Ghosts as LinkFacts}
-use Rattle.snmp_tools.specs.Question.{IsAtOrBelow, Plan, Question, Walk, names, subtree}
+use Rattle.snmp_tools.specs.Question.{Plan, Question, Walk, names, subtree}
+use Rattle.snmp_walk.specs.Ordered.{IsAtOrBelow}
 
 -- ---- over a table
 

@@ -4,7 +4,8 @@ use Rattle.std.specs.Prelude.{Option, Some, None, Ok, codes, unwrap_or}
 use Rattle.std.specs.List.{AllZip}
 use Rattle.smi_value.specs.declared.letters.letters.Letters.{Letters}
 use Rattle.smi_show.specs.name.Meant.{TextMeans}
-use Rattle.snmp_oid.specs.Identifier.{IsBelow, IsWire, wire}
+use Rattle.snmp_oid.specs.Identifier.{IsWire, wire}
+use Rattle.snmp_walk.specs.Ordered.{IsAtOrBelow, IsUnsendable}
 use Rattle.snmp_walk.specs.declared.mode.Method.{Method}
 use Rattle.snmp_walk.specs.declared.mode.Mode.{Mode}
 use Rattle.snmp_words.specs.Words.{AskingWords, GetWords, WalkWords}
@@ -174,11 +175,7 @@ HasSendable mib text =
 -- the text states a name that can't be sent
 abbrev pub HasUnsendable : Mib → (text : List ℕ) → Fault → Type 0
 HasUnsendable mib text why = (name : List ℕ) × TextMeans mib.naming text (Ok name)
-    × (IsWire (wire name) → ⊥) × (why ≡ unsendable text)
-
--- a walk below the root can go on after the name
-abbrev pub IsAtOrBelow : (after root : List ℕ) → Type 0
-IsAtOrBelow after root = (after ≡ root) ⊎ IsBelow after root
+    × IsUnsendable name × (why ≡ unsendable text)
 
 -- the texts state a root and a name of which this is true
 abbrev pub HaveNames : Mib → (root_text text : List ℕ) → (List ℕ → List ℕ → Type 0) → Type 0

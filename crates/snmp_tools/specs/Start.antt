@@ -5,6 +5,7 @@ use Rattle.snmp_agent.specs.table.Listing.{variables}
 use Rattle.snmp_agent.specs.table.Table.{IsMibView, MibView}
 use Rattle.snmp_wire.specs.Message.{VarBind}
 use Rattle.snmp_walk.specs.Facts.{IsFresh, walk_at}
+use Rattle.snmp_walk.specs.Ordered.{IsAtOrBelow, IsUnsendable}
 use Rattle.snmp_walk.specs.Ran.{IsGotOver, IsWalkedOver}
 use Rattle.snmp_walk.specs.Walk.{rest_of, walk_of}
 use Rattle.snmp_walk.specs.Walker.{Walker}
@@ -15,8 +16,8 @@ use Rattle.snmp_words.specs.Words.{texts_at}
 use Rattle.snmp_tools.specs.Answer.{first_of}
 use Rattle.snmp_tools.specs.Message.{Fault, outside_root, unsendable}
 use Rattle.snmp_tools.specs.Mib.{Mib}
-use Rattle.snmp_tools.specs.Question.{AreNames, HasSendable, HasUnsendable, IsAtOrBelow, Question}
-use Rattle.snmp_tools.specs.Question.{Walk, names, subtree}
+use Rattle.snmp_tools.specs.Question.{AreNames, HasSendable, HasUnsendable, Question, Walk}
+use Rattle.snmp_tools.specs.Question.{names, subtree}
 use Rattle.snmp_tools.specs.declared.plan.Question as plan
 use Rattle.snmp_tools.specs.declared.plan.Question.TheVariants as planned
 use Rattle.snmp_tools.specs.declared.plan.Walk as plan_walk
@@ -58,12 +59,12 @@ IsRunOver {W} facts link after tries community (begun.Walk core) given refused e
 abbrev pub ResumeFails : (root after text : List ℕ) → Fault → Type 0
 ResumeFails root after text why =
     ((IsAtOrBelow after root → ⊥) × (why ≡ outside_root text))
-    ⊎ (IsAtOrBelow after root × (IsWire (wire after) → ⊥) × (why ≡ unsendable text))
+    ⊎ (IsAtOrBelow after root × IsUnsendable after × (why ≡ unsendable text))
 
 -- why a walk can't begin
 abbrev pub StartFails : plan_walk.Walk → Fault → Type 0
 StartFails w why =
-    ((IsWire (wire w.root) → ⊥) × (why ≡ unsendable w.root_text.now))
+    (IsUnsendable w.root × (why ≡ unsendable w.root_text.now))
     ⊎ (IsWire (wire w.root) × ((after : List ℕ) × (w.after ≡ Some after)
     × ResumeFails w.root after w.after_text.now why))
 

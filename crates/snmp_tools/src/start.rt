@@ -1,23 +1,18 @@
 //! How a question begins: its names must have an encoding.
-ghost use Rattle.std.specs.Prelude.{◌≡◌, ◌≤◌, IfErr, IfOk, OnOk, Some, length};
+ghost use Rattle.std.specs.Prelude.{◌≡◌, ◌≤◌, IfErr, IfOk, OnOk, length};
 ghost use Rattle.snmp_oid.specs.Identifier.{IsWire, wire};
-ghost use Rattle.snmp_agent.specs.table.Listing.{variables};
-ghost use Rattle.snmp_agent.specs.table.Table.{MibView};
-ghost use Rattle.snmp_wire.specs.Message.{VarBind};
-ghost use Rattle.snmp_walk.specs.Facts.{IsFresh, walk_at};
-ghost use Rattle.snmp_walk.specs.Request.{resumed};
-ghost use Rattle.snmp_walk.specs.Walk.{rest_of};
-ghost use Rattle.snmp_tools.specs.Answer.{CanBeSent, CanGoOn};
+ghost use Rattle.snmp_walk.specs.Ordered.{IsUnsendable};
+ghost use Rattle.snmp_tools.specs.Answer.{CanBeSent};
 ghost use Rattle.snmp_tools.specs.Message.{fault_of};
 ghost use Rattle.snmp_tools.specs.Planned.{question_of, walk_of};
 ghost use Rattle.snmp_tools.specs.Question.{subtree};
-ghost use Rattle.snmp_tools.specs.Start.{BeginFails, IsBegun, IsStartOf, ResumeFails, StartFails};
+ghost use Rattle.snmp_tools.specs.Start.{BeginFails, IsBegun, IsStartOf, StartFails};
 
 use crate::failure::Failure;
 use crate::names::check_names;
 use crate::plan::{Plan, Question, Walk};
 use snmp_oid::Oid;
-use snmp_walk::WalkCore;
+use snmp_walk::{StartError, WalkCore};
 
 /// The id of the first request.
 pub(crate) const FIRST_ID: u32 = 1;
@@ -55,38 +50,28 @@ fn start<'a>(walk: &Walk<'a>, community: &[u8]) -> Result<WalkCore, Failure<'a>>
     ensures sendable { OnOk result (CanBeSent (subtree (walk_of walk.now))) }
     ensures err { IfErr result (λ e. StartFails walk.now (fault_of e)) }
 {
-    if walk.root.to_wire().is_err() {
-        return Err(Failure::NotWire(walk.root_text));
-    }
-    if let Some(after) = &walk.after {
-        return resume(walk, community, after);
-    }
     let root = walk.root.copy();
-    match WalkCore::start(root, walk.mode, walk.method, community, FIRST_ID) {
+    let Some(after) = &walk.after else {
+        return match WalkCore::start(root, walk.mode, walk.method, community, FIRST_ID) {
+            Ok(core) => Ok(core),
+            Err(_) => Err(Failure::NotWire(walk.root_text)),
+        };
+    };
+    match WalkCore::resume(root, after, walk.method, community, FIRST_ID) {
         Ok(core) => Ok(core),
-        Err(_) => Err(Failure::NotWire(walk.root_text)),
+        Err(StartError::AfterOutsideRoot) => Err(Failure::AfterOutsideRoot(walk.after_text)),
+        Err(StartError::NotWire) => Err(Failure::NotWire(unsendable_text(walk))),
     }
 }
 
-// The walk that goes on after a name.
-fn resume<'a>(walk: &Walk<'a>, community: &[u8], after: &Oid) -> Result<WalkCore, Failure<'a>>
-    requires sendable { IsWire (wire walk.now.root) }
-    requires community { length community.now ≤ 255 }
-    ensures resumed { IfOk result (λ core.
-        core ≡ resumed walk.now.root after.now walk.now.method community.now 1) }
-    ensures fresh { IfOk result IsFresh }
-    ensures gives { IfOk result (λ core. (view : MibView) (got : VarBind)
-        → walk_at core view got ≡ rest_of walk.now.root (wire after.now) (variables view)) }
-    ensures goes_on { OnOk result (CanGoOn walk.now.root (Some after.now)) }
-    ensures err { IfErr result (λ e.
-        ResumeFails walk.now.root after.now walk.now.after_text.now (fault_of e)) }
+// The text of the first name of a walk that can't be sent: the root's, else that after which it goes
+// on.
+fn unsendable_text<'a>(walk: &Walk<'a>) -> &'a str
+    ensures root { IsUnsendable walk.now.root → result ≡ walk.now.root_text }
+    ensures after { IsWire (wire walk.now.root) → result ≡ walk.now.after_text }
 {
-    if *after != walk.root && !after.is_below(&walk.root) {
-        return Err(Failure::AfterOutsideRoot(walk.after_text));
-    }
-    let root = walk.root.copy();
-    match WalkCore::resume(root, after, walk.method, community, FIRST_ID) {
-        Ok(core) => Ok(core),
-        Err(_) => Err(Failure::NotWire(walk.after_text)),
+    match walk.root.to_wire() {
+        Ok(_) => walk.after_text,
+        Err(_) => walk.root_text,
     }
 }
