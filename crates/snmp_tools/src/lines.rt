@@ -46,8 +46,8 @@ impl<T: ShowTree, O: Output> Sink for Printer<'_, T, O> {
         write_lines(self.out, self.text.as_slice())
     }
 
-    // All lines of a reply are written at once. Their buffer may grow no larger than that of a single
-    // line: a reply may consist of one long binding.
+    // All lines of a reply are written at once. Their buffer may grow no larger than that of a
+    // single line: a reply may consist of one long binding.
     fn rows(&mut self, mut rows: Rows<'_>) -> Result<(), SinkFault> {
         let mut binding = Binding {
             name: Oid::new(),

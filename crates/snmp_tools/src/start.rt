@@ -64,8 +64,8 @@ fn start<'a>(walk: &Walk<'a>, community: &[u8]) -> Result<WalkCore, Failure<'a>>
     }
 }
 
-// The text of the first name of a walk that can't be sent: the root's, else that after which it goes
-// on.
+// The text of the first name of a walk that can't be sent: the root's, else that after which it
+// goes on.
 fn unsendable_text<'a>(walk: &Walk<'a>) -> &'a str
     ensures root { IsUnsendable walk.now.root → result ≡ walk.now.root_text }
     ensures after { IsWire (wire walk.now.root) → result ≡ walk.now.after_text }

@@ -14,8 +14,8 @@ use smi_text::{Def, Name};
 use std::alloc::{AllocError, Global};
 
 /// Where definitions lead. What a definition means may depend on what another name of its module
-/// means, as a type depends on the type that it refines. Imports lead to the same name in the module
-/// after FROM, whatever the meaning (RFC 2578, section 3.2).
+/// means, as a type depends on the type that it refines. Imports lead to the same name in the
+/// module after FROM, whatever the meaning (RFC 2578, section 3.2).
 pub trait Leads {
     /// The name of its own module to which a definition leads.
     ghost leads: { Def → Option (List ℕ) };
@@ -26,8 +26,8 @@ pub trait Leads {
 }
 
 /// A meaning that definitions give to names. An imported name means what the same name means in the
-/// module after FROM (RFC 2578, section 3.2); another what its definition means, which may depend on
-/// what a name means to which that definition leads.
+/// module after FROM (RFC 2578, section 3.2); another what its definition means, which may depend
+/// on what a name means to which that definition leads.
 pub trait Meaning: Copy + Leads {
     /// What the definition at a place means, given what the name means to which it leads.
     ghost means: { ℕ × ℕ → Def → Option Self → Option Self };

@@ -143,8 +143,8 @@ impl<'a> Directory<'a> {
         place
     }
 
-    /// The place to which the name of the entry at `place` leads. `last` is the name that was looked
-    /// up last.
+    /// The place to which the name of the entry at `place` leads. `last` is the name that was
+    /// looked up last.
     fn next<M: Leads>(
         &self,
         place: usize,
@@ -172,8 +172,8 @@ impl<'a> Directory<'a> {
         }
     }
 
-    /// The place to which the name of each entry leads. Parents are found first, in a directory that
-    /// has none.
+    /// The place to which the name of each entry leads. Parents are found first, in a directory
+    /// that has none.
     pub(crate) fn next_places<M: Leads>(
         &self,
         alloc: Global,
