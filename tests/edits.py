@@ -30,7 +30,9 @@ TOP = os.path.dirname(os.path.dirname(os.path.abspath(__file__)))
 EDITS = os.path.join("tests", "edits")
 TRIED = os.path.join(EDITS, "tried.txt")
 HEAD = "# Of each crate whose edits were all refused, the hash of what they were tried over: tests/edits.py wrote it.\n"
-COMMENTS = {".rt": b"//", ".antt": b"--"}
+# How the lines begin that are comments, or list the files of a folder, which are in the hash by their names.
+NO_STATEMENTS = {".rt": (b"//",), ".antt": (b"--", b"pub mod ")}
+IMPORT = re.compile(rb"(\b(?:ghost |pub |unfoldable )*use Rattle\.[\w.+]+\.)\{([^}]*)\}(;?)")
 # Why a crate's edits are to be tried.
 NO_LINE = "it has no line"
 STALE = "it isn't what its edits were tried over"
@@ -80,11 +82,14 @@ def libraries():
 
 
 def statements_of(path):
-    """What a file says, however it is broken into lines: without blank ones and comments."""
-    mark = COMMENTS.get(os.path.splitext(path)[1])
+    """What a file says, in whichever lines it says it: without blank ones, comments and lists of the files beside it,
+    each imported name by itself, and as if the definitions in `private` stood with the others."""
+    marks = NO_STATEMENTS.get(os.path.splitext(path)[1], ())
     with open(path, "rb") as file:
         lines = (line.strip() for line in file)
-        return b" ".join(line for line in lines if line and not (mark and line.startswith(mark)))
+        said = b" ".join(line for line in lines if line and not line.startswith(marks))
+    said = IMPORT.sub(lambda use: b" ".join(use[1] + name.strip() + use[3] for name in use[2].split(b",")), said)
+    return said.replace(b"specs.private.", b"specs.").replace(b"specs::private::", b"specs::")
 
 
 def toolchain():
@@ -104,9 +109,10 @@ def hash_of(crate):
     folders += [f"crates/{below}/specs" for below in crates_below(crate)]
     hashed = hashlib.sha256(toolchain().encode())
     for folder in folders:
-        for path in sorted(os.path.join(room, name) for room, _, names in os.walk(at(folder)) for name in names):
-            said = statements_of(path)
-            hashed.update(f"{os.path.relpath(path, TOP)} {len(said)}\n".encode() + said)
+        files = [os.path.join(room, name) for room, _, names in os.walk(at(folder)) for name in names]
+        said = {os.path.relpath(path, TOP).replace("/private/", "/"): statements_of(path) for path in files}
+        for path in filter(said.get, sorted(said)):
+            hashed.update(f"{path} {len(said[path])}\n".encode() + said[path])
     return hashed.hexdigest()
 
 

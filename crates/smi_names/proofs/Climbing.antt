@@ -8,7 +8,7 @@ use Rattle.std.proofs.lemmas.List.Elements.{All-push, All-nil, All-contains, Con
 use Rattle.std.proofs.lemmas.Bool.{cases_lt, cases_eq}
 use Rattle.smi_names.specs.chains.Chain.{HasEnd, ends, leads_on}
 use Rattle.smi_names.specs.chains.Order.{next_at, ComeAfterNext}
-use Rattle.smi_names.specs.chains.Search.{Keeps, Leads, IsSettled, LeadsToSettled, mark_at}
+use Rattle.smi_names.specs.private.chains.Search.{Keeps, Leads, IsSettled, LeadsToSettled, mark_at}
 use Rattle.smi_names.specs.declared.chains.order.Mark.{Mark}
 use Rattle.smi_names.specs.declared.chains.order.Mark.TheVariants as M
 

@@ -30,6 +30,8 @@ nodes_of-push ms [] (x ∷ os) s o e = absurd (omega arith)
 nodes_of-push ms (x ∷ ss) [] s o e = absurd (omega arith)
 nodes_of-push ms (x ∷ ss) (y ∷ os) s o e = ap (λ ns. node_from ms x y ∷ ns) (nodes_of-push ms ss os s o (omega arith))
 
+-- a definition adds at most one node and one warning: its resolution says whether the list of either
+-- grows by one or is as it was
 pub AddsNodes-extended : (ms : List Module) (old new : Gathered) (s : Source) (m : Module) (d : Def) (r : Resolution)
     → length old.sources.items ≡ length old.oids.items
     → IsSourceOf ms s m d → GrowsByDefinition old new s m d r → AddsNodes ms old new (nodes_by m d r) (warnings_by m d r)

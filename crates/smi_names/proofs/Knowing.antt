@@ -161,6 +161,7 @@ KnowsMore-then e0 e1 e2 s0 s1 s2 m i f g a b = record {
     append_assoc_of : (e0 ++ a.added) ++ b.added ≡ e0 ++ (a.added ++ b.added)
     append_assoc_of = append_assoc e0 a.added b.added
 
+-- what is known more speaks of each name by itself, so a function with the same values does as well
 pub KnowsMore-same : (e0 e1 : List Entry) (s0 s1 : NamePlaces) (m : Module) (i : ℕ) (f g : List ℕ → Option Decision)
     → KnowsMore e0 s0 e1 s1 m i f → ((x : List ℕ) → f x ≡ g x) → KnowsMore e0 s0 e1 s1 m i g
 KnowsMore-same e0 e1 s0 s1 m i f g a h = grind (arith, common_steps)

@@ -3,3 +3,4 @@ pub mod Name
 pub mod chains
 pub mod meaning
 pub mod nodes
+pub mod private

@@ -4,7 +4,7 @@ use Rattle.std.proofs.lemmas.List.{append-nil}
 use Rattle.snmp_oid.specs.Numeric.{IsNumeral, IsPartRead, dot}
 use Rattle.smi_show.specs.declared.name.error.NameError.{NameError}
 use Rattle.smi_show.specs.name.Cutting.{name_parts}
-use Rattle.smi_show.specs.name.Left.{parts_left}
+use Rattle.smi_show.specs.private.name.Left.{parts_left}
 use Rattle.smi_show.specs.name.Meaning.{and_then, fitting, further_meaning, parts_meaning, word_meaning}
 use Rattle.smi_show.specs.name.Naming.{Naming}
 use Rattle.smi_show.specs.name.Word.{Word}

@@ -5,7 +5,7 @@ use Rattle.smi_value.specs.declared.letters.letters.NameForm.{NameForm}
 use Rattle.smi_value.specs.declared.letters.letters.NameForm.TheVariants.{Numeric}
 use Rattle.smi_show.specs.name.Naming.{Naming, Standing}
 use Rattle.smi_show.specs.name.Name.{IsName, IsStandingText}
-use Rattle.smi_show.specs.name.Shown.{name_text, standing_text}
+use Rattle.smi_show.specs.private.name.Shown.{name_text, standing_text}
 use Rattle.smi_show.proofs.PieceLemmas.{pieces_stated, pieces_only}
 
 module _ (naming : Naming) (form : NameForm) (numeric_index : Bool) (o : List ℕ) where

@@ -12,7 +12,7 @@ use Rattle.smi_show.specs.declared.index.part.Extent.TheVariants.{Fixed, Counted
 use Rattle.smi_show.specs.declared.index.part.IndexPart.{IndexPart}
 use Rattle.smi_show.specs.declared.index.part.IndexPart.TheVariants.{Number, Text}
 use Rattle.smi_show.specs.index.Index.{IsInExtent, ReadsValue, ReadValues, extent_of}
-use Rattle.smi_show.specs.index.Reading.{front_of, values_of, instance_pieces}
+use Rattle.smi_show.specs.private.index.Reading.{front_of, values_of, instance_pieces}
 use Rattle.smi_show.specs.index.Pieces.{Piece, plain_number, is_quotable, is_shown_text, piece_numbers, IsPiece, is_text, dotted_text, shown_pieces}
 use Rattle.smi_show.specs.index.Pieces.{as_numbers, as_text, extent_numbers, value_numbers, value_pieces, index_pieces, AreInstancePieces}
 use Rattle.smi_show.proofs.ReadingLemmas.{all_found, all_only, first_value}

@@ -8,7 +8,7 @@ use Rattle.smi_show.specs.declared.index.part.IndexPart.{IndexPart}
 use Rattle.smi_show.specs.declared.index.part.IndexPart.TheVariants.{Text}
 use Rattle.smi_show.specs.index.Index.{ReadValues}
 use Rattle.smi_show.specs.index.Pieces.{Piece, plain_number, as_numbers, index_pieces, is_plain, is_text, is_text_among, value_numbers}
-use Rattle.smi_show.specs.index.Reading.{has_text, instance_pieces, values_of}
+use Rattle.smi_show.specs.private.index.Reading.{has_text, instance_pieces, values_of}
 use Rattle.smi_show.proofs.ReadingLemmas.{all_found}
 use Rattle.smi_show.proofs.PieceLemmas.{read_whole}
 

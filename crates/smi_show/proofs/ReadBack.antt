@@ -9,7 +9,7 @@ use Rattle.snmp_oid.specs.Identifier.{IsIdentifier}
 use Rattle.snmp_oid.specs.Numeric.{IsNumericName, numeric_text}
 use Rattle.smi_text.specs.trees.Word.{is_word}
 use Rattle.smi_show.specs.index.Pieces.{Piece, piece_numbers, IsPiece, shown_piece, shown_pieces}
-use Rattle.smi_show.specs.index.Reading.{instance_pieces}
+use Rattle.smi_show.specs.private.index.Reading.{instance_pieces}
 use Rattle.smi_show.specs.declared.name.error.NameError.{NameError}
 use Rattle.smi_value.specs.declared.letters.letters.NameForm.{NameForm}
 use Rattle.smi_value.specs.declared.letters.letters.NameForm.TheVariants.{ModuleLabel}
@@ -19,7 +19,7 @@ use Rattle.smi_show.specs.name.Word.{Word}
 use Rattle.smi_show.specs.name.Meant.{Scope, in_module, anywhere, found_in}
 use Rattle.smi_show.specs.name.Meaning.{and_then, meaning_in, further_meaning, meaning, part_meaning, plain_meaning, scoped_meaning, word_meaning}
 use Rattle.smi_show.specs.name.Name.{qualified, ReadsBack}
-use Rattle.smi_show.specs.name.Shown.{standing_text, name_text}
+use Rattle.smi_show.specs.private.name.Shown.{standing_text, name_text}
 use Rattle.smi_show.proofs.NumericMeaning.{fits, numeric_meaning, scoped, shorter}
 use Rattle.smi_show.proofs.PieceLemmas.{IsNumber, each, whole}
 use Rattle.smi_show.proofs.PlainLemmas.{plain_word, plain_word_begins}

@@ -10,7 +10,7 @@ use Rattle.smi_show.specs.declared.index.part.Extent.{Extent}
 use Rattle.smi_show.specs.declared.index.part.Extent.TheVariants.{Fixed, Counted, Implied}
 use Rattle.smi_show.specs.declared.index.part.IndexPart.{IndexPart}
 use Rattle.smi_show.specs.index.Index.{AreOctetNumbers, IsInExtent, LeavesIn, extent_of, is_of_octets, ReadsValue, ReadValues}
-use Rattle.smi_show.specs.index.Reading.{front_and_rest, counted, remaining, of_octets, in_extent, front_of, values_of}
+use Rattle.smi_show.specs.private.index.Reading.{front_and_rest, counted, remaining, of_octets, in_extent, front_of, values_of}
 
 abbrev Pair : Type 0
 Pair = List ℕ × List ℕ

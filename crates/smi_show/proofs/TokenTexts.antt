@@ -15,7 +15,7 @@ use Rattle.smi_text.specs.declared.trees.tree.Syntax.{Syntax}
 use Rattle.smi_text.specs.declared.trees.tree.Syntax.TheVariants as T
 use Rattle.smi_show.specs.details.Syntax.{named_number_text, numbers_text, high_text, range_text, ranges_text}
 use Rattle.smi_show.specs.details.Syntax.{refinement_text, refined_text, syntax_text}
-use Rattle.smi_show.specs.details.Tokens.{AreTokensOf, joined_by_blanks}
+use Rattle.smi_show.specs.private.details.Tokens.{AreTokensOf, joined_by_blanks}
 
 -- the text that a mark asks of its token
 abbrev text_of : Mark → List ℕ

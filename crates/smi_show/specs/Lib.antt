@@ -3,3 +3,4 @@ pub mod Found
 pub mod index
 pub mod name
 pub mod details
+pub mod private

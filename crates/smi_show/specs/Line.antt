@@ -6,7 +6,7 @@ use Rattle.smi_value.specs.declared.letters.letters.TypeForm.TheVariants.{Typed,
 use Rattle.snmp_wire.specs.ber.Value.{Datum}
 use Rattle.smi_show.specs.name.Naming.{Naming}
 use Rattle.smi_show.specs.name.Name.{IsName}
-use Rattle.smi_show.specs.name.Shown.{name_text}
+use Rattle.smi_show.specs.private.name.Shown.{name_text}
 use Rattle.smi_value.specs.Syntax.{ObjectSyntax}
 use Rattle.smi_value.specs.Value.{ShowsValue}
 

@@ -1,4 +1,2 @@
 pub mod Index
 pub mod Pieces
-pub mod Reading
-pub mod Digits

@@ -1,13 +1,9 @@
 pub mod Cut
 pub mod Cutting
-pub mod Left
 pub mod Naming
 pub mod Beginnings
 pub mod Standing
 pub mod Word
 pub mod Meaning
-pub mod Part
 pub mod Name
-pub mod Shown
 pub mod Meant
-pub mod Reading

@@ -6,7 +6,7 @@ use Rattle.std.specs.Prelude.{◌==◌, ◌≢◌}
 use Rattle.smi_text.specs.declared.lexer.token.TokenKind.{TokenKind}
 use Rattle.smi_text.specs.declared.lexer.token.TokenKind.TheVariants as K
 use Rattle.smi_text.specs.trees.Mark.{same_kind}
-use Rattle.smi_text.specs.Grammar.{depth_after, is_outside}
+use Rattle.smi_text.specs.private.Grammar.{depth_after, is_outside}
 use Rattle.smi_text.proofs.Fronts.{is_balanced}
 use Rattle.smi_text.specs.trees.Braces.{IsBalanced, none, other, nested}
 use Rattle.smi_text.specs.declared.trees.tree.TokenText.{TokenText}

@@ -10,8 +10,8 @@ use Rattle.std.proofs.lemmas.List.Folds.{list_any-append, list_all-append}
 use Rattle.std.proofs.lemmas.Slice.Eq.{bytes_eq-Decides}
 use Rattle.smi_text.specs.lexer.Token.{Lexeme, Item}
 use Rattle.smi_text.specs.trees.Mark.{Mark, MarksToken, spelled, on_line, same_text}
-use Rattle.smi_text.specs.Format.{StandsAhead, Ahead, begins}
-use Rattle.smi_text.specs.Grammar.{definition, file}
+use Rattle.smi_text.specs.private.Format.{StandsAhead, Ahead, begins}
+use Rattle.smi_text.specs.private.Grammar.{definition, file}
 use Rattle.smi_text.specs.trees.Spelling.{label, of_def, spelling}
 use Rattle.smi_text.specs.Text.{HasNoDoubles}
 use Rattle.smi_text.specs.trees.Lookup.{labels, are_distinct}

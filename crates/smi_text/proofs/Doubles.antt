@@ -8,8 +8,8 @@ use Rattle.std.proofs.lemmas.List.{map-append}
 use Rattle.std.proofs.lemmas.List.Folds.{list_any-append}
 use Rattle.smi_text.specs.lexer.Token.{Lexeme, Item}
 use Rattle.smi_text.specs.trees.Mark.{Mark, same_text}
-use Rattle.smi_text.specs.Format.{StandsAhead, Format, Parsed, begins, apart, with_front, before, many, pair, shaped, word, lower}
-use Rattle.smi_text.specs.Grammar.{to_module, definition, file, head, module_text}
+use Rattle.smi_text.specs.private.Format.{StandsAhead, Format, Parsed, begins, apart, with_front, before, many, pair, shaped, word, lower}
+use Rattle.smi_text.specs.private.Grammar.{to_module, definition, file, head, module_text}
 use Rattle.smi_text.specs.trees.Spelling.{of_def, of_head, spelling}
 use Rattle.smi_text.specs.Text.{HasNoDoubles, HasSecond, DefinesAgain}
 use Rattle.smi_text.specs.trees.Lookup.{labels, are_distinct}

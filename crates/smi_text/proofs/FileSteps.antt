@@ -5,9 +5,9 @@ use Rattle.std.specs.List.{flat_map, list_any}
 use Rattle.std.specs.BTreeSet.{BTreeSet}
 use Rattle.smi_text.specs.lexer.Token.{Item, tokens_of}
 use Rattle.smi_text.specs.trees.Mark.{same_text}
-use Rattle.smi_text.specs.Format.{StandsAhead, begins, many, with_front, shaped, pair, before, lower}
-use Rattle.smi_text.specs.Names.{has}
-use Rattle.smi_text.specs.Grammar.{definition, head, module_text, file}
+use Rattle.smi_text.specs.private.Format.{StandsAhead, begins, many, with_front, shaped, pair, before, lower}
+use Rattle.smi_text.specs.private.Names.{has}
+use Rattle.smi_text.specs.private.Grammar.{definition, head, module_text, file}
 use Rattle.smi_text.specs.trees.Spelling.{of_def, of_head, of_module, spelling}
 use Rattle.smi_text.specs.Text.{HasNoDoubles, HasSecond}
 use Rattle.smi_text.specs.trees.Lookup.{labels, are_distinct}

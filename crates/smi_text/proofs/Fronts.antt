@@ -11,7 +11,7 @@ use Rattle.smi_text.specs.declared.lexer.token.TokenKind.TheVariants as K
 use Rattle.smi_text.specs.declared.trees.tree.TokenText.{TokenText}
 use Rattle.smi_text.specs.trees.Mark.{same_kind}
 use Rattle.smi_text.specs.trees.Fronts.{opening_braces, closing_braces, fronts, has_balanced_braces}
-use Rattle.smi_text.specs.Grammar.{depth_after, is_outside}
+use Rattle.smi_text.specs.private.Grammar.{depth_after, is_outside}
 use Rattle.smi_text.proofs.Marks.{same_kind-eq}
 
 -- after `depth` open braces, the tokens close each brace that is open, and none that is not

@@ -6,8 +6,8 @@ use Rattle.std.specs.Prelude.{codes}
 use Rattle.smi_text.specs.declared.lexer.token.TokenKind.TheVariants as K
 use Rattle.smi_text.specs.lexer.Token.{Item}
 use Rattle.smi_text.specs.trees.Mark.{Mark, sign}
-use Rattle.smi_text.specs.Format.{Format, StandsAhead, a_word, a_kind, begins, behind, either, maybe, pair, shaped, token, lower}
-use Rattle.smi_text.specs.Grammar.{index_parts, implied_name, index_names, read_index, with_names}
+use Rattle.smi_text.specs.private.Format.{Format, StandsAhead, a_word, a_kind, begins, behind, either, maybe, pair, shaped, token, lower}
+use Rattle.smi_text.specs.private.Grammar.{index_parts, implied_name, index_names, read_index, with_names}
 use Rattle.smi_text.specs.trees.Spelling as say
 use Rattle.smi_text.proofs.Productions.{formats}
 use Rattle.smi_text.proofs.Lawful.{Lawful}

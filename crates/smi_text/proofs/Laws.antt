@@ -8,10 +8,10 @@ use Rattle.smi_text.specs.declared.lexer.token.TokenKind.{TokenKind}
 use Rattle.smi_text.specs.declared.lexer.token.TokenKind.TheVariants as K
 use Rattle.smi_text.specs.lexer.Token.{Lexeme, Item}
 use Rattle.smi_text.specs.trees.Mark.{Mark, sign, spelled, same_kind, MarksToken}
-use Rattle.smi_text.specs.Format.{StandsAhead, Format, Ahead, a_name, a_kind, meets, begins, apart, one, word, token}
-use Rattle.smi_text.specs.Format.{text, text_where, name, pair, behind, before, maybe, either, read_many, many, some_of, shaped, line_ahead, lined}
-use Rattle.smi_text.specs.Format.{with_front, lower, name_where, name_of, separated}
-use Rattle.smi_text.specs.Grammar.{kept, kept_text, braced, clause, parenthesized}
+use Rattle.smi_text.specs.private.Format.{StandsAhead, Format, Ahead, a_name, a_kind, meets, begins, apart, one, word, token}
+use Rattle.smi_text.specs.private.Format.{text, text_where, name, pair, behind, before, maybe, either, read_many, many, some_of, shaped, line_ahead, lined}
+use Rattle.smi_text.specs.private.Format.{with_front, lower, name_where, name_of, separated}
+use Rattle.smi_text.specs.private.Grammar.{kept, kept_text, braced, clause, parenthesized}
 use Rattle.smi_text.specs.declared.trees.tree.TokenText.{TokenText}
 use Rattle.smi_text.specs.trees.Reserved.{is_reserved}
 use Rattle.smi_text.specs.trees.Spelling as say

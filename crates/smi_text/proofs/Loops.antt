@@ -7,8 +7,8 @@ use Rattle.smi_text.specs.declared.lexer.token.TokenKind.TheVariants as K
 use Rattle.smi_text.specs.lexer.Token.{Lexeme, Item}
 use Rattle.smi_text.specs.declared.trees.tree.TokenText.{TokenText}
 use Rattle.smi_text.specs.declared.trees.tree.IndexParts.{IndexParts}
-use Rattle.smi_text.specs.Format.{Parsed, a_word, a_kind, begins, with_front, lower, token, token_ahead}
-use Rattle.smi_text.specs.Grammar.{read_index, with_names, index_parts, depth_after, is_outside, kept_text, read_balanced}
+use Rattle.smi_text.specs.private.Format.{Parsed, a_word, a_kind, begins, with_front, lower, token, token_ahead}
+use Rattle.smi_text.specs.private.Grammar.{read_index, with_names, index_parts, depth_after, is_outside, kept_text, read_balanced}
 use Rattle.smi_text.specs.declared.trees.names.Name.{Name}
 use Rattle.smi_text.proofs.Laws.{lower-law, token-law}
 use Rattle.smi_text.proofs.Many.{reading-shorter, with_front-append, with_front-end}

@@ -4,7 +4,7 @@ use Rattle.std.proofs.Common.{◌≡◌, ℕ, zero, suc, ◌+◌, ◌<◌, ◌�
 use Rattle.std.proofs.Common.{option_map, option_and_then, refl, ◌∙◌, ap, arith, append_assoc, append-nil}
 use Rattle.smi_text.specs.lexer.Token.{Item}
 use Rattle.smi_text.specs.trees.Mark.{Mark}
-use Rattle.smi_text.specs.Format.{StandsAhead, Format, Parsed, begins, read_many, many, with_front}
+use Rattle.smi_text.specs.private.Format.{StandsAhead, Format, Parsed, begins, read_many, many, with_front}
 use Rattle.smi_text.proofs.Lawful.{Lawful}
 
 -- tokens that are spelled by no mark are the rest; else the rest is shorter

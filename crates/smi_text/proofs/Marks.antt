@@ -11,7 +11,7 @@ use Rattle.smi_text.specs.declared.lexer.token.TokenKind.{TokenKind}
 use Rattle.smi_text.specs.declared.lexer.token.TokenKind.TheVariants as K
 use Rattle.smi_text.specs.lexer.Token.{Lexeme, Item}
 use Rattle.smi_text.specs.trees.Mark.{Mark, kind_number, same_kind, same_text}
-use Rattle.smi_text.specs.Format.{StandsAhead, Ahead, a_word, a_name, a_kind, no_word, no_kind, is_this_word, meets, begins, half_apart, apart}
+use Rattle.smi_text.specs.private.Format.{StandsAhead, Ahead, a_word, a_name, a_kind, no_word, no_kind, is_this_word, meets, begins, half_apart, apart}
 
 -- kinds and texts
 

@@ -11,8 +11,8 @@ use Rattle.smi_text.specs.lexer.Token.{Lexeme, Item}
 use Rattle.smi_text.specs.trees.Mark.{Mark, sign, spelled, on_line, same_kind}
 use Rattle.smi_text.specs.trees.Spelling as say
 use Rattle.smi_text.specs.trees.Number.{is_bound, is_symbol, is_macro}
-use Rattle.smi_text.specs.Format.{StandsAhead, a_name, a_kind, meets, begins}
-use Rattle.smi_text.specs.Grammar as g
+use Rattle.smi_text.specs.private.Format.{StandsAhead, a_name, a_kind, meets, begins}
+use Rattle.smi_text.specs.private.Grammar as g
 use Rattle.smi_text.proofs.Productions.{all}
 use Rattle.smi_text.proofs.Lawful.{Lawful}
 use Rattle.smi_text.proofs.Marks.{same_kind-eq}

@@ -2,15 +2,15 @@
 use Rattle.std.proofs.Common.{ℕ}
 use Rattle.smi_text.specs.trees.Number.{is_symbol}
 use Rattle.smi_text.specs.trees.Reserved.{is_reserved}
-use Rattle.smi_text.specs.Format.{begins, maybe, behind, lower, word, token, text, text_where, name, pair, before, either, shaped, some_of, separated}
-use Rattle.smi_text.specs.Format.{lined, many}
-use Rattle.smi_text.specs.Grammar.{arc, assigned, balanced, base, before_assign, before_end, bound, braced, choice, clause, default_value, definition}
-use Rattle.smi_text.specs.Grammar.{field, group, head, heading, identifier, import_clause, imported_symbol, imports, index, index_names, later_part}
-use Rattle.smi_text.specs.Grammar.{lower_definition, macro_body, macro_definition, macro_name, module_identity, module_text, named_number, names}
-use Rattle.smi_text.specs.Grammar.{notification_type, object_identifier, object_identifier_words, object_identity, object_type, objects}
-use Rattle.smi_text.specs.Grammar.{octet_string_words, of_row, opening, parenthesized, part, range, ranges, raw_definition, refinement, revision}
-use Rattle.smi_text.specs.Grammar.{sequence, simple_type, size, status, syntax_clause, syntax_type, tag, tagged, textual_convention, upper_definition}
-use Rattle.smi_text.specs.Grammar.{value, file}
+use Rattle.smi_text.specs.private.Format.{begins, maybe, behind, lower, word, token, text, text_where, name, pair, before, either, shaped, some_of, separated}
+use Rattle.smi_text.specs.private.Format.{lined, many}
+use Rattle.smi_text.specs.private.Grammar.{arc, assigned, balanced, base, before_assign, before_end, bound, braced, choice, clause, default_value, definition}
+use Rattle.smi_text.specs.private.Grammar.{field, group, head, heading, identifier, import_clause, imported_symbol, imports, index, index_names, later_part}
+use Rattle.smi_text.specs.private.Grammar.{lower_definition, macro_body, macro_definition, macro_name, module_identity, module_text, named_number, names}
+use Rattle.smi_text.specs.private.Grammar.{notification_type, object_identifier, object_identifier_words, object_identity, object_type, objects}
+use Rattle.smi_text.specs.private.Grammar.{octet_string_words, of_row, opening, parenthesized, part, range, ranges, raw_definition, refinement, revision}
+use Rattle.smi_text.specs.private.Grammar.{sequence, simple_type, size, status, syntax_clause, syntax_type, tag, tagged, textual_convention, upper_definition}
+use Rattle.smi_text.specs.private.Grammar.{value, file}
 
 -- one token, or none
 unfoldable pub tokens : ℕ

@@ -7,9 +7,9 @@ use Rattle.std.specs.Prelude.{◌==◌, codes, map}
 use Rattle.smi_text.specs.declared.lexer.token.TokenKind.TheVariants as K
 use Rattle.smi_text.specs.lexer.Token.{Item}
 use Rattle.smi_text.specs.trees.Mark.{Mark, spelled, same_kind, same_text}
-use Rattle.smi_text.specs.Format.{StandsAhead, no_word, no_kind, begins, with_front}
+use Rattle.smi_text.specs.private.Format.{StandsAhead, no_word, no_kind, begins, with_front}
 use Rattle.smi_text.specs.trees.Spelling.{of_balanced}
-use Rattle.smi_text.specs.Grammar.{depth_after, is_outside, balanced, before_assign, before_end, read_balanced}
+use Rattle.smi_text.specs.private.Grammar.{depth_after, is_outside, balanced, before_assign, before_end, read_balanced}
 use Rattle.smi_text.proofs.Fronts.{is_balanced, fronts-counted}
 use Rattle.smi_text.proofs.Lawful.{Lawful}
 use Rattle.smi_text.proofs.Marks.{if-inv, map-inv}

@@ -5,8 +5,8 @@ use Rattle.smi_text.specs.lexer.Token.{Item}
 use Rattle.smi_text.specs.declared.stop.Stop.{Stop}
 use Rattle.smi_text.specs.Returned.{ReturnsReading}
 use Rattle.smi_text.specs.trees.Mark.{Mark}
-use Rattle.smi_text.specs.Format.{Format, lower}
-use Rattle.smi_text.specs.Grammar as g
+use Rattle.smi_text.specs.private.Format.{Format, lower}
+use Rattle.smi_text.specs.private.Grammar as g
 use Rattle.smi_text.proofs.Productions.{all}
 use Rattle.smi_text.proofs.Lawful.{Lawful}
 use Rattle.smi_text.proofs.Many.{reading-shorter}

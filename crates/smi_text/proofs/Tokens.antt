@@ -5,8 +5,8 @@ use Rattle.smi_text.specs.lexer.Token.{Lexeme, Item, tokens_of, first_fault}
 use Rattle.smi_text.specs.trees.Mark.{Mark, Stands}
 use Rattle.smi_text.specs.trees.Spelling.{spelling}
 use Rattle.smi_text.specs.declared.trees.tree.Module.{Module}
-use Rattle.smi_text.specs.Format.{StandsAhead}
-use Rattle.smi_text.specs.Grammar.{file}
+use Rattle.smi_text.specs.private.Format.{StandsAhead}
+use Rattle.smi_text.specs.private.Grammar.{file}
 use Rattle.smi_text.proofs.DefinitionLists.{file-reads}
 
 -- tokens of which none is a fault

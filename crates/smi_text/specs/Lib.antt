@@ -1,9 +1,5 @@
-pub mod Ahead
-pub mod Format
-pub mod Grammar
 pub mod Returned
-pub mod Names
 pub mod Text
-pub mod Kinds
 pub mod lexer
 pub mod trees
+pub mod private

@@ -8,8 +8,8 @@ use Rattle.smi_text.specs.declared.stop.Stop.TheVariants.{Syntax, Lex, Memory}
 use Rattle.smi_text.specs.declared.error.ParseError.{ParseError}
 use Rattle.smi_text.specs.declared.error.ParseError.TheVariants as E
 use Rattle.smi_text.specs.trees.Mark.{Stands}
-use Rattle.smi_text.specs.Format.{Parsed, token_ahead, begins, many}
-use Rattle.smi_text.specs.Grammar.{definition, module_text, file}
+use Rattle.smi_text.specs.private.Format.{Parsed, token_ahead, begins, many}
+use Rattle.smi_text.specs.private.Grammar.{definition, module_text, file}
 use Rattle.smi_text.specs.trees.Spelling.{of_head}
 use Rattle.smi_text.specs.trees.Lookup.{labels, are_distinct}
 use Rattle.smi_text.specs.declared.trees.names.Name.{Name}

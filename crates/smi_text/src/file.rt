@@ -1,11 +1,11 @@
 //! The reading of a whole text: its modules, one after the other.
-#![tactic(auto, unfolding(crate::specs::Format::begins))]
+#![tactic(auto, unfolding(crate::specs::private::Format::begins))]
 
 ghost use Rattle.std.specs.Prelude.{◌≡◌, List, [], IfOk, IfErr, IfSome, MatchResult, MatchBool};
 ghost use Rattle.std.specs.Prelude.{map, true, false, Some, ◌↔◌, ◌||◌, ℕ, OnOk};
 ghost use Rattle.smi_text.specs.lexer.Token.{Lexeme};
 ghost use Rattle.smi_text.specs.trees.Mark.{Stands, same_text};
-ghost use Rattle.smi_text.specs.Names.{has};
+ghost use Rattle.smi_text.specs.private.Names.{has};
 ghost use Rattle.smi_text.specs.trees.Spelling.{spelling};
 ghost use Rattle.smi_text.specs.trees.Lines.{plain, unlined};
 ghost use Rattle.smi_text.specs.Returned.{ReadsDefinitions, ReadsModule, ReadsModules};
@@ -17,7 +17,7 @@ ghost use Rattle.smi_text.specs.Returned.{IsCauseOf};
 ghost use Rattle.smi_text.specs.Text.{AreSpelledBy, HasNoDoubles, IsCause, BreaksOff};
 ghost use Rattle.smi_text.specs.trees.Braces.{IsBalanced};
 ghost use Rattle.smi_text.specs.trees.Fronts.{has_balanced_braces};
-ghost use Rattle.smi_text.specs.Grammar.{definition};
+ghost use Rattle.smi_text.specs.private.Grammar.{definition};
 ghost use Rattle.smi_text.specs.declared.trees.tree.Module.{Module as Tree};
 ghost use Rattle.smi_text.specs.declared.trees.tree.TokenText.{TokenText};
 

@@ -2,7 +2,7 @@
 
 ghost use Rattle.std.specs.Prelude.{◌≡◌, ℕ, List, ◌||◌, not, IfOk, IfErr};
 ghost use Rattle.smi_text.specs.trees.Mark.{same_text};
-ghost use Rattle.smi_text.specs.Names.{has, last_eight};
+ghost use Rattle.smi_text.specs.private.Names.{has, last_eight};
 
 use crate::stop::Stop;
 use std::collections::BTreeSet;
@@ -12,7 +12,7 @@ use std::collections::BTreeSet;
 pub(crate) type Key<'a> = (u64, &'a [u8]);
 
 /// The last eight octets of a name as one number; 0 for a shorter name.
-#[tactic(auto, unfolding(crate::specs::Names::last_eight))]
+#[tactic(auto, unfolding(crate::specs::private::Names::last_eight))]
 fn last_eight(name: &[u8]) -> u64
     ensures { result ≡ last_eight name.now }
 {

@@ -4,13 +4,14 @@
 ghost use Rattle.std.specs.Prelude.{◌≡◌, ℕ, true, false, MatchBool, List, [], ◌∷◌, codes, map};
 ghost use Rattle.std.specs.Prelude.{drop, IfNone, IfSome, IfOk, IfErr, OnOk, ◌++◌, ◌<◌, length};
 ghost use Rattle.smi_text.specs.lexer.Token.{Lexeme, Item, lexeme_of};
-ghost use Rattle.smi_text.specs.Format.{Format, begins, token_ahead, a_word, a_kind, a_name};
-ghost use Rattle.smi_text.specs.Format.{line_ahead, name_of, with_front};
-ghost use Rattle.smi_text.specs.Kinds.{is_sign_kind, is_word_kind};
-ghost use Rattle.smi_text.specs.Format as format;
+ghost use Rattle.smi_text.specs.private.Format.{Format, begins, token_ahead, a_word, a_kind};
+ghost use Rattle.smi_text.specs.private.Format.{a_name};
+ghost use Rattle.smi_text.specs.private.Format.{line_ahead, name_of, with_front};
+ghost use Rattle.smi_text.specs.private.Kinds.{is_sign_kind, is_word_kind};
+ghost use Rattle.smi_text.specs.private.Format as format;
 ghost use Rattle.smi_text.specs.lexer.Lexes.{Lexes};
 ghost use Rattle.smi_text.specs.Returned.{ReturnsReading, is_memory};
-ghost use Rattle.smi_text.specs.Grammar as grammar;
+ghost use Rattle.smi_text.specs.private.Grammar as grammar;
 ghost use Rattle.smi_text.specs.declared.lexer.token.TokenKind.TheVariants as kinds;
 
 use crate::lexer::{LexError, Lexer, Token, TokenKind};
@@ -41,7 +42,7 @@ impl<'a> Model for Parser<'a> {
 
     ghost Value = { List Item };
 
-    ghost use Rattle.smi_text.specs.Ahead.{items_left};
+    ghost use Rattle.smi_text.specs.private.Ahead.{items_left};
 
     ghost view = { λ p. items_left p.ahead p.lexer };
 }

@@ -2,9 +2,9 @@
 #![tactic(auto, unfolding(crate::proofs::Productions::of_types))]
 
 ghost use Rattle.std.specs.Prelude.{◌≡◌, List, [], ◌∷◌, codes};
-ghost use Rattle.smi_text.specs.Format.{begins, a_word, a_kind, a_name};
-ghost use Rattle.smi_text.specs.Format as format;
-ghost use Rattle.smi_text.specs.Grammar as grammar;
+ghost use Rattle.smi_text.specs.private.Format.{begins, a_word, a_kind, a_name};
+ghost use Rattle.smi_text.specs.private.Format as format;
+ghost use Rattle.smi_text.specs.private.Grammar as grammar;
 ghost use Rattle.smi_text.specs.trees.Number.{is_number};
 ghost use Rattle.smi_text.specs.Returned.{ReturnsReading};
 

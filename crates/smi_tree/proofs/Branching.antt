@@ -122,7 +122,7 @@ walk-same f g same at (n ∷ o) = rw (same at n) (by (f at n) (λ b. walk-same f
 pub branch-same : (bs new : List Branch) → ((c m : ℕ) → follower new c m ≡ follower bs c m) → (o : List ℕ) → branch_of new o ≡ branch_of bs o
 branch-same bs new same o = walk-same (follower bs) (follower new) same 0 o
 
--- more is known
+-- more is known: what was known is, at the place that it had
 pub Branches-known : (known oids : List (List ℕ)) (p : List ℕ) (bs : List Branch) → AreBranches known oids bs → AreBranches (known ++ p ∷ []) oids bs
 Branches-known known oids p bs are = grind (arith, common_steps, length_push, get_or_append_left)
 
@@ -211,6 +211,7 @@ branch_off bs o i at l e f = by (branch_of bs o) refl
         let front = walk_front (follower bs) 0 (take (i + 1) o) (drop (i + 1) o) c whole in
         let none = branch_more bs o i at l e ∙ f in let some = front.1 in absurd (cc)
 
+-- no identifier ends at the next number, so the deepest so far is as it was
 pub SoFar-none : (oids : List (List ℕ)) (o : List ℕ) (i : ℕ) (r : Option Deepest) → SoFar oids o i r → place_of oids (take (i + 1) o) ≡ None
     → SoFar oids o (i + 1) r
 SoFar-none oids o i None f e = λ j l. elim (cases_lt i j) [ inl m ↦ let is : j ≡ i + 1 = omega arith in rw is e | inr m ↦ f j m ]

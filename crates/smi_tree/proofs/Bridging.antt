@@ -11,7 +11,7 @@ use Rattle.smi_tree.specs.Nodes.{has_label, is_of, place_anywhere, place_in_modu
 use Rattle.smi_tree.specs.Places.{home_from, label_from, definition_from, label_in}
 use Rattle.smi_tree.specs.Places as places
 
--- a node of a source, by its parts
+-- a node of a source, by its parts: in both cases of a source each part is read from the same module
 pub parts : (ms : List Module) (s : Source) (o : List ℕ)
     → node_from ms s o ≡ record { home = home_from ms s; label = label_from ms s; oid = o; definition = definition_from ms s }
 parts ms (S.Root n) o = refl

@@ -23,6 +23,7 @@ use Rattle.smi_tree.proofs.Lists.{get_within, same_items}
 use Rattle.smi_tree.proofs.Parting.{defined_once}
 use Rattle.smi_tree.proofs.Indexing.{index_once}
 
+-- sizes fix one bound, and its text states one number
 fixed_once : (sizes : Option (List Range)) (n m : ℕ) (a : (bound : TokenText) × IsFixedBy sizes bound × StatesBound bound n)
     (b : (bound : TokenText) × IsFixedBy sizes bound × StatesBound bound m) → n ≡ m
 fixed_once sizes n m a b = grind (arith, common_steps)

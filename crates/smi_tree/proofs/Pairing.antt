@@ -15,6 +15,7 @@ pub record AreFirst {A X : Type 0} (R : ℕ → A → X → Type 0) (ts : List A
 pub first_none : {A X : Type 0} (R : ℕ → A → X → Type 0) (ts : List A) → AreFirst R ts 0 []
 first_none R ts = record { long = refl; each = λ p t x e f. absurd (cc) }
 
+-- a place before i has the item that it had, and the place i has the new one
 pub first_more : {A X : Type 0} (R : ℕ → A → X → Type 0) (ts : List A) (i : ℕ) (xs ys : List X) (t : A) (x : X) → AreFirst R ts i xs
     → ys ≡ xs ++ x ∷ [] → slice_get ts i ≡ Some t → R i t x → AreFirst R ts (i + 1) ys
 first_more R ts i xs ys t x first pushed at new = grind (arith, common_steps, length_push, get_push)

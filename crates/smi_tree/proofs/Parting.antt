@@ -12,7 +12,7 @@ use Rattle.smi_tree.specs.types.Types.{Facts, HasSyntax, HasNoSyntax, object_ori
 use Rattle.smi_tree.specs.columns.Definitions.{qualified_name, IsDefinedBy, own, through}
 use Rattle.smi_tree.specs.columns.Parts.{IsPartOf}
 use Rattle.smi_tree.specs.columns.Index.{IsIndexPart}
-use Rattle.smi_tree.specs.columns.Named.{IsFoundAt}
+use Rattle.smi_tree.specs.private.columns.Named.{IsFoundAt}
 use Rattle.smi_tree.specs.columns.Kept.{HasNoPart}
 
 -- ---- a name leads to one definition

@@ -48,7 +48,8 @@ kept-none ms t [] k e = refl
 kept-none ms t (s ∷ ss) zero e = absurd (cc)
 kept-none ms t (s ∷ ss) (suc k) e = kept-none ms t ss k e
 
--- what is gathered, with the types and indexes of the modules, is a tree
+-- what is gathered, with the types and indexes of the modules, is a tree: each of its clauses is one of
+-- these premises, said of the nodes that the sources and identifiers make
 pub is_tree : (ms : List Module) (g : Gathered) (t : Types) (os : List (List ℕ)) (indexes : List (Option (List IndexPart))) → AreGathered ms g ms
     → os ≡ g.oids.items → AreSyntaxesOf ms (nodes_of ms g.sources.items os) (syntaxes_from ms t g.sources.items)
     → AreIndexesOf ms (nodes_of ms g.sources.items os) indexes → IsTree ms (contents ms g.sources.items os t indexes) g.warnings.items

@@ -16,7 +16,7 @@ use Rattle.smi_names.specs.declared.nodes.source.Source.{Source}
 use Rattle.smi_names.specs.declared.nodes.source.Source.TheVariants as S
 use Rattle.smi_tree.specs.columns.Definitions.{qualified_name}
 use Rattle.smi_tree.specs.columns.Index.{IsObjectType, IsColumnOf, StandsAt, clause_of}
-use Rattle.smi_tree.specs.columns.Named.{IsFoundAt, IsUndefined}
+use Rattle.smi_tree.specs.private.columns.Named.{IsFoundAt, IsUndefined}
 use Rattle.smi_tree.specs.columns.Kept.{UsesAt, UsesNone, HasNoRow, HasRowOrNone}
 use Rattle.smi_tree.proofs.Lists.{get_within}
 use Rattle.smi_tree.proofs.Bridging.{parts, length-nodes, oids-nodes, nodes-get, node-at}

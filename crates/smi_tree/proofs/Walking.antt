@@ -35,6 +35,7 @@ module _ (next : ℕ → ℕ → Option ℕ) where
       by None h = refl
       by (Some b) h = h b
 
+  -- a walk along one number more goes on from where the walk came to, if it came anywhere
   pub walk-push : (at : ℕ) (xs : List ℕ) (n : ℕ) → walk next at (xs ++ n ∷ []) ≡ option_and_then (λ b. next b n) (walk next at xs)
   walk-push at xs n = grind (arith, common_steps, walk-append)
 

@@ -5,9 +5,9 @@ pub mod Shown
 pub mod Tree
 pub mod Bare
 pub mod Kept
-pub mod Resolved
 pub mod Naming
 pub mod branches
 pub mod types
 pub mod columns
 pub mod Pairwise
+pub mod private

@@ -1,5 +1,4 @@
 pub mod Definitions
 pub mod Parts
 pub mod Index
-pub mod Named
 pub mod Kept

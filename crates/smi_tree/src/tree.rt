@@ -11,7 +11,7 @@ ghost use Rattle.smi_names.specs.meaning.Meaning.{module_named};
 ghost use Rattle.smi_tree.specs.Nodes.{IsFirstChild, is_labelled, oids_of, place_anywhere};
 ghost use Rattle.smi_tree.specs.Nodes.{place_in_module};
 ghost use Rattle.smi_tree.specs.types.Kept.{facts_of};
-ghost use Rattle.smi_tree.specs.Resolved.{IsResolved};
+ghost use Rattle.smi_tree.specs.private.Resolved.{IsResolved};
 ghost use Rattle.smi_tree.specs.Shown.{shown_at, units_at};
 ghost use Rattle.smi_tree.specs.Naming.{oid_of};
 ghost use Rattle.smi_tree.specs.Standing.{longest, longest_of};

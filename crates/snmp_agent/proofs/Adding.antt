@@ -13,8 +13,8 @@ use Rattle.snmp_agent.specs.declared.table.draft.Halt.TheVariants as halt
 use Rattle.snmp_agent.specs.declared.table.error.TableError.{TableError}
 use Rattle.snmp_agent.specs.declared.table.error.TableError.TheVariants as error
 use Rattle.snmp_agent.specs.table.Stated.{IsBehindGood, IsFirstFaultIn, number_of}
-use Rattle.snmp_agent.specs.table.Draft.{AreDistinct, HaltsBy, HoldsTable, IsDraft, IsFaultBehind, IsFirstHalt, IsFull, IsHalt, IsHaltAt, IsStop}
-use Rattle.snmp_agent.specs.table.Draft.{draft_entries, draft_objects}
+use Rattle.snmp_agent.specs.private.table.Draft.{AreDistinct, HaltsBy, HoldsTable, IsDraft, IsFaultBehind, IsFirstHalt, IsFull, IsHalt, IsHaltAt, IsStop}
+use Rattle.snmp_agent.specs.private.table.Draft.{draft_entries, draft_objects}
 use Rattle.snmp_agent.specs.table.Form.{States, instance}
 use Rattle.snmp_agent.specs.table.Format.{Format}
 use Rattle.snmp_agent.specs.table.Places.{entry_of}

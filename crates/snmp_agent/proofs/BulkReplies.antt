@@ -7,7 +7,7 @@ use Rattle.snmp_wire.specs.Canon.{canon_binding, canon_bindings}
 use Rattle.snmp_wire.specs.Sizes.{MessageSizes}
 use Rattle.snmp_agent.specs.table.Table.{MibView}
 use Rattle.snmp_agent.specs.Reply.{Fits, IsBulk, IsResponse, bulk, no_error, response}
-use Rattle.snmp_agent.specs.Answering.{Held, IsRoom, whole_size}
+use Rattle.snmp_agent.specs.private.Answering.{Held, IsRoom, whole_size}
 use Rattle.snmp_agent.proofs.Requests.{response_size}
 use Rattle.snmp_agent.proofs.Lengths.{within, beyond}
 use Rattle.snmp_agent.proofs.ReplyBindings.{longer_by}

@@ -8,7 +8,7 @@ use Rattle.snmp_wire.specs.Spelling.{IsContent, SpellsBindings, Spells, value_ta
 use Rattle.snmp_wire.specs.Canon.{IsEncodable, IsEncodableValue, canon_binding, canon_content, canon_element, canon_value}
 use Rattle.snmp_wire.specs.ber.Sizes.{ElementSizes}
 use Rattle.snmp_agent.specs.table.Table.{IsAnswerValue}
-use Rattle.snmp_agent.specs.Answering.{HasEncoding, IsWritable, AreWritable, IsShortValue}
+use Rattle.snmp_agent.specs.private.Answering.{HasEncoding, IsWritable, AreWritable, IsShortValue}
 
 -- ---- what is read
 

@@ -8,7 +8,7 @@ use Rattle.std.proofs.lemmas.Bool.{cases_lt}
 use Rattle.snmp_wire.specs.Message.{VarBind}
 use Rattle.snmp_wire.specs.Canon.{canon_binding, canon_bindings, canon_element, canon_header}
 use Rattle.snmp_agent.specs.declared.room.ReplyBindings.{ReplyBindings}
-use Rattle.snmp_agent.specs.Answering.{Held, add, fill, held}
+use Rattle.snmp_agent.specs.private.Answering.{Held, add, fill, held}
 
 -- no binding is encoded by nothing
 pub some_octets : (p : VarBind) → 0 < length (canon_binding p)

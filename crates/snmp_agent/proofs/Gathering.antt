@@ -15,7 +15,7 @@ use Rattle.snmp_agent.specs.declared.table.page.Page.{Page}
 use Rattle.snmp_agent.specs.table.Places.{entry_of}
 use Rattle.snmp_agent.specs.table.Pages.{IsSorted, entries_in, entries_of}
 use Rattle.snmp_agent.proofs.Partition.{rows-append}
-use Rattle.snmp_agent.specs.table.Draft.{AreDistinct}
+use Rattle.snmp_agent.specs.private.table.Draft.{AreDistinct}
 use Rattle.snmp_agent.proofs.Rising.{listed_from_find}
 use Rattle.snmp_agent.proofs.TableDrafts.{distinct_moved, distinct_sorted, listed_contained, none_of, put_moves, some_of}
 

@@ -3,7 +3,7 @@ use Rattle.std.proofs.lemmas.Grind.{common_steps}
 use Rattle.std.proofs.Common.{◌≡◌, ℕ, ◌+◌, ◌≤◌, ◌<◌, Bool, true, false, List, length, slice_index_or, refl, sym, ap, ◌∙◌, arith}
 use Rattle.std.specs.List.Sorted.{IsPartitionedBy}
 use Rattle.std.proofs.lemmas.List.{get_or_default}
-use Rattle.snmp_agent.specs.table.Halving.{IsHalvedTo}
+use Rattle.snmp_agent.specs.private.table.Halving.{IsHalvedTo}
 
 -- an element passes, and so do those before it
 pub passes : {X : Type 0} (p : X → Bool) (xs : List X) (passed end at : ℕ) (x : X) → IsPartitionedBy p xs → IsHalvedTo p xs passed end → at < end

@@ -15,7 +15,7 @@ use Rattle.snmp_agent.specs.table.Places.{view_of}
 use Rattle.snmp_agent.specs.table.Format.{Format, IsName, IsNameIn, first_format, second_format}
 use Rattle.snmp_agent.specs.table.Text.{HasPrefix, HasRow, IsValueText}
 use Rattle.snmp_agent.specs.table.Stated.{IsTableIn}
-use Rattle.snmp_agent.specs.table.Draft.{HoldsTable}
+use Rattle.snmp_agent.specs.private.table.Draft.{HoldsTable}
 use Rattle.snmp_agent.proofs.Statements.{name_numbers}
 
 identifier : (text o : List ℕ) → IsName text o → IsIdentifier o

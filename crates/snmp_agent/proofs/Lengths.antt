@@ -3,7 +3,7 @@ use Rattle.std.proofs.Common.{ℕ, zero, suc, ◌≢◌, ◌+◌, ◌≤◌, ◌
 use Rattle.snmp_wire.specs.Canon.{canon_head, canon_header}
 use Rattle.snmp_wire.specs.Message.{Message}
 use Rattle.snmp_wire.specs.Sizes.{MessageSizes}
-use Rattle.snmp_agent.specs.Answering.{whole_size, IsRoom}
+use Rattle.snmp_agent.specs.private.Answering.{whole_size, IsRoom}
 
 -- a message with more octets of bindings is no shorter
 pub longer : MessageSizes → (m : Message) (n k : ℕ) → n ≤ k → whole_size m n ≤ whole_size m k

@@ -8,7 +8,7 @@ use Rattle.std.specs.FinMap.{find, is_sorted, put}
 use Rattle.std.specs.FinMap.Entries.{is_sorted-put}
 use Rattle.snmp_oid.specs.Numeric.{IsNumericName}
 use Rattle.snmp_wire.specs.Message.{Datum, VarBind}
-use Rattle.snmp_agent.specs.table.Draft.{HoldsLines, HoldsTable}
+use Rattle.snmp_agent.specs.private.table.Draft.{HoldsLines, HoldsTable}
 use Rattle.snmp_agent.specs.table.Form.{Statement, nothing, object_prefix, instance}
 use Rattle.snmp_agent.specs.table.Format.{Format, Names}
 use Rattle.snmp_agent.specs.table.Places.{entry_of}

@@ -16,7 +16,7 @@ use Rattle.snmp_agent.specs.declared.table.page.Page.{Page}
 use Rattle.snmp_agent.specs.table.Places.{IsAfterAll, IsBeforeAll, IsBeforeNone, without_name, entry_of}
 use Rattle.snmp_agent.specs.table.Pages.{ArePages, IsPageOf, IsPageWithRoom, IsPlaceAfter, IsRising, IsSorted, StandsApart, begins_up_to, entries_in}
 use Rattle.snmp_agent.specs.table.Pages.{entries_of, has_name}
-use Rattle.snmp_agent.specs.table.Halving.{StandsBetween}
+use Rattle.snmp_agent.specs.private.table.Halving.{StandsBetween}
 use Rattle.snmp_agent.proofs.Changing.{find_in, halves, past_front, put_in, put_past, without_in, without_past}
 use Rattle.snmp_agent.proofs.Finding.{listed_at}
 use Rattle.snmp_agent.proofs.Lists.{IsLast, all_both, last_in_front, last_of, nothing_left}

@@ -9,7 +9,7 @@ use Rattle.std.proofs.lemmas.List.{map-append, set_split, take-append-drop}
 use Rattle.std.proofs.lemmas.Option.{slice_get-get_or}
 use Rattle.snmp_wire.specs.Message.{Datum, VarBind}
 use Rattle.snmp_agent.specs.declared.table.page.Page.{Page}
-use Rattle.snmp_agent.specs.table.Halving.{IsHalvedTo}
+use Rattle.snmp_agent.specs.private.table.Halving.{IsHalvedTo}
 use Rattle.snmp_agent.specs.table.Places.{IsAfterAll, IsBeforeNone, IsBeforeAll, entry_of}
 use Rattle.snmp_agent.specs.table.Pages.{ArePages, IsPageOf, IsPlaceAfter, IsRising, IsSorted, begins_up_to, entries_in, entries_of, is_up_to}
 use Rattle.snmp_agent.proofs.Lists.{all_back, around}

@@ -5,7 +5,7 @@ use Rattle.std.proofs.lemmas.List.{append-nil}
 use Rattle.snmp_wire.specs.Message.{VarBind}
 use Rattle.snmp_wire.specs.Canon.{canon_binding, canon_bindings}
 use Rattle.snmp_agent.specs.declared.room.ReplyBindings.{ReplyBindings}
-use Rattle.snmp_agent.specs.Answering.{held}
+use Rattle.snmp_agent.specs.private.Answering.{held}
 use Rattle.snmp_agent.proofs.Fronts.{HoldsFront}
 
 -- how many octets there are with one more binding, and others behind it

@@ -16,7 +16,7 @@ use Rattle.snmp_wire.specs.Laws.{HasPieces}
 use Rattle.snmp_wire.specs.Sizes.{MessageSizes}
 use Rattle.snmp_agent.specs.table.Table.{MibView, IsGet, IsNext}
 use Rattle.snmp_agent.specs.Reply.{IsServed, AreAnswers, IsWhole, got, got_next, unwritten, response, not_writable, failed_place}
-use Rattle.snmp_agent.specs.Answering.{IsWritten, answer_to, answers_to, whole_size, whole_status, whole_index}
+use Rattle.snmp_agent.specs.private.Answering.{IsWritten, answer_to, answers_to, whole_size, whole_status, whole_index}
 use Rattle.snmp_agent.proofs.Each.{is_got}
 use Rattle.snmp_agent.proofs.Following.{IsOrder}
 use Rattle.snmp_agent.proofs.Standing.{given_there}

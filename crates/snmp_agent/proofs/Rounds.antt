@@ -7,8 +7,8 @@ use Rattle.std.specs.List.{list_all}
 use Rattle.snmp_wire.specs.Message.{Datum, end_of_mib_view, VarBind, Message}
 use Rattle.snmp_agent.specs.table.Table.{MibView, IsMibView}
 use Rattle.snmp_agent.specs.Reply.{AreEnds, AreRounds, IsBulk, joined, or_zero}
-use Rattle.snmp_agent.specs.Answering.{AreGiven, Held, bulk_of, fill, rounds_from}
-use Rattle.snmp_agent.specs.Standing.{given_in, is_over, places_of}
+use Rattle.snmp_agent.specs.private.Answering.{AreGiven, Held, bulk_of, fill, rounds_from}
+use Rattle.snmp_agent.specs.private.Standing.{given_in, is_over, places_of}
 use Rattle.snmp_agent.proofs.Following.{IsOrder}
 use Rattle.snmp_agent.proofs.Fronts.{fill_both, fill_full}
 use Rattle.snmp_agent.proofs.Standing.{all_end, are_given}

@@ -11,8 +11,8 @@ use Rattle.snmp_agent.specs.table.Listing.{first_or_end}
 use Rattle.snmp_agent.specs.table.Places.{var_of, last_name}
 use Rattle.snmp_agent.specs.table.Pages.{AreBehind, entries_after}
 use Rattle.snmp_agent.specs.Reply.{AreEnds}
-use Rattle.snmp_agent.specs.Answering.{AreGiven}
-use Rattle.snmp_agent.specs.Standing.{given_in, has_none, is_over, next_at, passed, place_of, places_of}
+use Rattle.snmp_agent.specs.private.Answering.{AreGiven}
+use Rattle.snmp_agent.specs.private.Standing.{given_in, has_none, is_over, next_at, passed, place_of, places_of}
 use Rattle.snmp_agent.proofs.Following.{IsOrder, all_behind, asked_past, behind_name, behind_past, first_row, is_next}
 
 abbrev Entries : Type 0

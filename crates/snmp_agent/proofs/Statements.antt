@@ -15,11 +15,11 @@ use Rattle.snmp_agent.specs.declared.table.line.Line.{Line}
 use Rattle.snmp_agent.specs.declared.table.line.Line.TheVariants as line
 use Rattle.snmp_agent.specs.declared.table.line.LineFault.{LineFault}
 use Rattle.snmp_agent.specs.declared.table.line.LineFault.TheVariants as fault
-use Rattle.snmp_agent.specs.table.Row.{tag_text}
+use Rattle.snmp_agent.specs.private.table.Row.{tag_text}
 use Rattle.snmp_agent.specs.table.Form.{States, IsTag, IsRowForm}
 use Rattle.snmp_agent.specs.table.Format.{Format, EndsAtBar, HasNoEnd, bar}
 use Rattle.snmp_agent.specs.table.Text.{IsBlank, IsObjectForm, IsRowLine, IsValueText}
-use Rattle.snmp_agent.specs.table.Line.{statement_of, IsInstanceRead, IsLineFault, IsObjectRead}
+use Rattle.snmp_agent.specs.private.table.Line.{statement_of, IsInstanceRead, IsLineFault, IsObjectRead}
 use Rattle.snmp_agent.proofs.Cuts.{HasNoBar, no_cut, same_cut, same_end}
 
 -- ---- first octets

@@ -21,7 +21,7 @@ use Rattle.snmp_agent.specs.table.Form.{Statement, nothing, object_prefix, insta
 use Rattle.snmp_agent.specs.table.Text.{AreTable, DifferInName, IsGoodLine, a_blank, a_prefix, a_row}
 use Rattle.snmp_agent.specs.table.Stated.{IsDouble}
 use Rattle.snmp_agent.specs.table.Places.{IsBeforeAll, entry_of}
-use Rattle.snmp_agent.specs.table.Draft.{AreDistinct, HoldsLines, HoldsTable, has_key}
+use Rattle.snmp_agent.specs.private.table.Draft.{AreDistinct, HoldsLines, HoldsTable, has_key}
 use Rattle.snmp_agent.proofs.Changing.{tied}
 use Rattle.snmp_agent.proofs.OneStatement.{StatesOnly}
 use Rattle.snmp_agent.proofs.Rising.{Listed, before_all, find-listed, first_of_both, listed_from_find, same_name, second_of_both}

@@ -1,6 +1,5 @@
-pub mod Answering
 pub mod Event
 pub mod Reply
 pub mod Serving
 pub mod table
-pub mod Standing
+pub mod private

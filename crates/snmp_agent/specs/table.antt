@@ -1,14 +1,10 @@
-pub mod Draft
 pub mod Exact
 pub mod Form
 pub mod Format
-pub mod Halving
-pub mod Line
 pub mod Listing
 pub mod Pages
 pub mod Places
 pub mod Put
-pub mod Row
 pub mod Stated
 pub mod Table
 pub mod Text

@@ -5,8 +5,8 @@
 ghost use Rattle.std.specs.Prelude.{◌≡◌, ◌≢◌, ◌⊎◌, [], ◌∷◌, ◌++◌, true, false, take, drop, map};
 ghost use Rattle.std.specs.List.{list_all};
 ghost use Rattle.snmp_agent.specs.Reply.{joined, or_zero};
-ghost use Rattle.snmp_agent.specs.Answering.{bulk_of, fill, held, rounds_from};
-ghost use Rattle.snmp_agent.specs.Standing.{given_in, is_over, next_at, passed, places_of};
+ghost use Rattle.snmp_agent.specs.private.Answering.{bulk_of, fill, held, rounds_from};
+ghost use Rattle.snmp_agent.specs.private.Standing.{given_in, is_over, next_at, passed, places_of};
 
 use crate::draft::append_next;
 use crate::place::Place;

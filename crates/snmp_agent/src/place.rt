@@ -2,8 +2,8 @@
 ghost use Rattle.std.specs.Prelude.{◌≡◌};
 ghost use Rattle.snmp_oid.specs.Identifier.{IsWire};
 ghost use Rattle.snmp_wire.specs.Message.{end_of_mib_view};
-ghost use Rattle.snmp_agent.specs.Answering.{add, held};
-ghost use Rattle.snmp_agent.specs.Standing.{name_of};
+ghost use Rattle.snmp_agent.specs.private.Answering.{add, held};
+ghost use Rattle.snmp_agent.specs.private.Standing.{name_of};
 
 use crate::room::{ReplyBindings, blank};
 use crate::table::{Guesses, Successors, Table};
@@ -53,7 +53,7 @@ pub struct Place<'a> {
 }
 
 impl<'a> Model for Place<'a> {
-    ghost use Rattle.snmp_agent.specs.Standing.{Standing, name_of};
+    ghost use Rattle.snmp_agent.specs.private.Standing.{Standing, name_of};
 
     ghost Value = { Standing };
 
@@ -75,8 +75,8 @@ impl<'a> Default for Place<'a> {
 
 impl<'a> Place<'a> {
     ghost use Rattle.std.specs.Prelude.{◌≡◌};
-    ghost use Rattle.snmp_agent.specs.Answering.{add, held};
-    ghost use Rattle.snmp_agent.specs.Standing.{is_over, next_at, passed, place_of};
+    ghost use Rattle.snmp_agent.specs.private.Answering.{add, held};
+    ghost use Rattle.snmp_agent.specs.private.Standing.{is_over, next_at, passed, place_of};
 
     /// The place of a name of a request, before any round.
     pub fn new(table: &'a Table, name: EncodedName<'a>, hint: &mut Guesses<'_>) -> Place<'a>

@@ -20,7 +20,7 @@ pub struct ReplyBindings {
 impl ReplyBindings {
     ghost use Rattle.std.specs.Prelude.{◌≡◌, ◌↔◌, ◌≤◌, IsTrue};
     ghost use Rattle.snmp_wire.specs.Message.{datum, var_bind};
-    ghost use Rattle.snmp_agent.specs.Answering.{IsShortValue, IsWritable, add, put, held};
+    ghost use Rattle.snmp_agent.specs.private.Answering.{IsShortValue, IsWritable, add, put, held};
 
     /// No bindings, with room for this many octets.
     #[inline]

@@ -1,3 +1,3 @@
 pub mod Address
 pub mod Memory
-pub mod Turn
+pub mod private

@@ -2,7 +2,7 @@
 ghost use Rattle.std.specs.Prelude.{◌≡◌, ◌<◌, ◌*◌, ℕ};
 ghost use Rattle.std.specs.Duration.{as_nanos};
 ghost use Rattle.snmp_io.specs.Count.{HasRisen};
-ghost use Rattle.snmp_net.specs.Turn.{turn_seconds};
+ghost use Rattle.snmp_net.specs.private.Turn.{turn_seconds};
 
 use crate::links::Links;
 use crate::udp::{UdpLink, first_address};

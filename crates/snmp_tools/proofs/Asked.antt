@@ -25,7 +25,7 @@ use Rattle.snmp_tools.specs.Answer.{first_after, first_of, request_for}
 use Rattle.snmp_tools.specs.Lines.{IsPrintedUpTo}
 use Rattle.snmp_tools.specs.Mib.{Mib}
 use Rattle.snmp_tools.specs.Question.{Plan, Question, Walk, counts_in, names, subtree}
-use Rattle.snmp_tools.specs.Start.{CanRun, IsBegun, IsRunOver, IsStartOf, rows_given}
+use Rattle.snmp_tools.specs.private.Start.{CanRun, IsBegun, IsRunOver, IsStartOf, rows_given}
 use Rattle.snmp_tools.specs.declared.start.Begun.{Begun}
 use Rattle.snmp_tools.specs.declared.start.Begun.TheVariants as begun
 

@@ -52,7 +52,7 @@ use Rattle.snmp_tools.specs.Outcome.{IsOutcome, IsOutcomeBy, IsRun, IsShown}
 use Rattle.snmp_tools.specs.Question.{AskFor, AskWords, IsPlanFor, Plan, Question, Walk, counts_in, names, subtree}
 use Rattle.snmp_tools.specs.Seen.{Seen}
 use Rattle.snmp_tools.specs.Serving.{IsServeRun}
-use Rattle.snmp_tools.specs.Start.{rows_given}
+use Rattle.snmp_tools.specs.private.Start.{rows_given}
 use Rattle.snmp_tools.proofs.Asked.{begun_rows}
 use Rattle.snmp_tools.proofs.Outcomes.{IsFrontOf, finished, no_fault_at_0}
 use Rattle.snmp_tools.proofs.Plans.{OneList, OneTree, held_is, one_load, one_plan}

@@ -12,7 +12,7 @@ use Rattle.std.specs.Str.Parse.{digits_value}
 use Rattle.snmp_io.specs.Steps.{AreDone}
 use Rattle.snmp_tools.specs.Letters.{AreLettersIn, AreRepetitions, Choices, HaveChosen, IsFirstUnknown, IsKnown, IsLastNumber, IsPlain, IsUnknown}
 use Rattle.snmp_tools.specs.Letters.{has, no_choices}
-use Rattle.snmp_tools.specs.Choosing.{after_part, letter_parts, put, repetitions_in, with_letter, with_number, without_digits}
+use Rattle.snmp_tools.specs.private.Choosing.{after_part, letter_parts, put, repetitions_in, with_letter, with_number, without_digits}
 use Rattle.snmp_tools.proofs.LetterLemmas.{NoDigitFirst, at_place, no_digit_at}
 
 abbrev Part : Type 0

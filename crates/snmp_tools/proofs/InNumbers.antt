@@ -22,7 +22,7 @@ use Rattle.snmp_tools.specs.BothEnds.{IsAskInNumbers, IsWalkInNumbers}
 use Rattle.snmp_tools.specs.Letters.{HaveChosen, no_choices}
 use Rattle.snmp_tools.specs.Mib.{AreLoaded}
 use Rattle.snmp_tools.specs.Question.{AskFor, Plan, of_walk, root_text, subtree}
-use Rattle.snmp_tools.specs.Resolved.{names_in}
+use Rattle.snmp_tools.specs.private.Resolved.{names_in}
 use Rattle.snmp_tools.specs.TableWalk.{HoldsTableFile}
 use Rattle.snmp_tools.proofs.BareNames.{bare_has_no_syntax, bare_is_loaded, bare_mib}
 use Rattle.snmp_tools.proofs.RowLines.{numeric_are, numeric_letters}

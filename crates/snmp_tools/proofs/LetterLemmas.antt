@@ -8,7 +8,7 @@ use Rattle.std.specs.Prelude.{◌&&◌, nat_le, if◌then◌else◌}
 use Rattle.std.specs.Char.{digit_value, is_ascii_digit}
 use Rattle.std.specs.List.{list_all}
 use Rattle.std.specs.Str.Parse.{digits_value, digits_value_after}
-use Rattle.snmp_tools.specs.Choosing.{repetitions_in}
+use Rattle.snmp_tools.specs.private.Choosing.{repetitions_in}
 
 pub at_place : (letters : List ℕ) (place : ℕ) → place < length letters → drop place letters ≡ slice_index_or letters place 0 ∷ drop (place + 1) letters
 at_place letters place low = rw (add-one, drop-cons letters place 0) refl

@@ -10,16 +10,16 @@ use Rattle.snmp_net.specs.Address.{Address, address_of}
 use Rattle.snmp_words.specs.Words.{texts_at}
 use Rattle.snmp_tools.specs.Asking.{HasAgent, IsNameIfGiven, IsReached, MibsFail, NameFails, ReachFails, agent_step, community_step, letters_step}
 use Rattle.snmp_tools.specs.Asking.{version_step}
-use Rattle.snmp_tools.specs.Chosen.{chosen}
+use Rattle.snmp_tools.specs.private.Chosen.{chosen}
 use Rattle.snmp_tools.specs.Letters.{Choices}
 use Rattle.snmp_tools.specs.Message.{Fault, out_of_memory, unsendable}
 use Rattle.snmp_tools.specs.Mib.{IsMibOf, Mib}
-use Rattle.snmp_tools.specs.Planned.{AgentFails, AreOrdersOf, HasTextsOf, NamesFail, ShowingFails, plan_of, question_of}
+use Rattle.snmp_tools.specs.private.Planned.{AgentFails, AreOrdersOf, HasTextsOf, NamesFail, ShowingFails, plan_of, question_of}
 use Rattle.snmp_tools.specs.Question.{AreNames, AskFor, AskWords, FailsBy, FailsFor, HasMeaning, HasSendable, HasUnsendable, IsDoneBy, IsDoneFor}
 use Rattle.snmp_tools.specs.Question.{IsEarlyRefusal, IsLastRefusal, IsLateRefusal, IsQuestionOf, LaterStep, LoadingStep, Question, Request, get}
 use Rattle.snmp_tools.specs.Question.{names, subtree, walk, asking, below_step, choices_step, goes_on_after, loading_steps, mibs_step, name_step}
 use Rattle.snmp_tools.specs.Question.{name_steps, reach_step, reaching_steps, root_text, sent_step, sent_steps}
-use Rattle.snmp_tools.specs.Start.{BeginFails, ResumeFails}
+use Rattle.snmp_tools.specs.private.Start.{BeginFails, ResumeFails}
 use Rattle.snmp_tools.specs.declared.plan.Orders.{Orders}
 use Rattle.snmp_tools.specs.declared.plan.Plan.{Plan}
 use Rattle.snmp_tools.specs.declared.plan.Question as planned

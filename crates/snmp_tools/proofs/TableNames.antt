@@ -7,7 +7,7 @@ use Rattle.smi_show.specs.name.Meaning.{meaning}
 use Rattle.smi_show.specs.name.Meant.{FrontMeans, TextMeans}
 use Rattle.smi_show.specs.name.Naming.{Naming}
 use Rattle.smi_show.specs.declared.name.error.NameError.{NameError}
-use Rattle.snmp_tools.specs.Resolved.{names_in}
+use Rattle.snmp_tools.specs.private.Resolved.{names_in}
 use Rattle.snmp_tools.specs.agent.TableFile.{AreNamesIn}
 
 -- a text means one thing

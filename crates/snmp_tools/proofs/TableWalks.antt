@@ -36,14 +36,14 @@ use Rattle.snmp_io.specs.Output.{IsWritten, Stream, TakesFront, extended}
 use Rattle.snmp_io.specs.Streams.{extended-nil}
 use Rattle.snmp_net.specs.Address as address
 use Rattle.snmp_words.specs.Words.{walk_line}
-use Rattle.snmp_tools.specs.Resolved.{names_in}
+use Rattle.snmp_tools.specs.private.Resolved.{names_in}
 use Rattle.snmp_tools.specs.agent.TableFile.{AreNamesIn}
 use Rattle.snmp_tools.specs.Answer.{IsFeasible, agent_over, first_of}
 use Rattle.snmp_tools.specs.Headline.{IsAsk, IsMishap, WritesRowsOf}
 use Rattle.snmp_tools.specs.Lines.{AreLines}
 use Rattle.snmp_tools.specs.Mib.{Mib}
 use Rattle.snmp_tools.specs.Question.{AskFor, Plan, Walk, of_walk, subtree}
-use Rattle.snmp_tools.specs.Planned.{numeric_walk}
+use Rattle.snmp_tools.specs.private.Planned.{numeric_walk}
 use Rattle.snmp_tools.specs.RowText.{row_line}
 use Rattle.snmp_tools.specs.TableWalk as page
 use Rattle.snmp_tools.specs.TableWalk.{AreRowsBelow, AreWalked, HoldsTableFile, IsFree, IsGot, IsOfObject, IsOutOfMemoryTold, PrintsRows, table_walk}

@@ -18,7 +18,7 @@ use Rattle.snmp_tools.specs.Asking.{MibsFail}
 use Rattle.snmp_tools.specs.Message.{Fault, bad_modules, fault_of, modules_fault, out_of_memory, outcome_of}
 use Rattle.snmp_tools.specs.Mib.{AreLoaded, Mib}
 use Rattle.snmp_tools.specs.Outcome.{IsPrinted}
-use Rattle.snmp_tools.specs.Planned.{mib_in}
+use Rattle.snmp_tools.specs.private.Planned.{mib_in}
 use Rattle.snmp_tools.specs.declared.failure.Failure.{Failure}
 
 -- what the exit of a `?` returns

@@ -1,8 +1,6 @@
 pub mod Answer
 pub mod Asking
 pub mod BothEnds
-pub mod Choosing
-pub mod Chosen
 pub mod Done
 pub mod Headline
 pub mod Letters
@@ -10,12 +8,9 @@ pub mod Lines
 pub mod Message
 pub mod Mib
 pub mod Outcome
-pub mod Planned
 pub mod Question
-pub mod Resolved
 pub mod Seen
 pub mod Serving
-pub mod Start
 pub mod Translating
 pub mod Usage
 pub mod translation
@@ -23,3 +18,4 @@ pub mod agent
 pub mod loading
 pub mod RowText
 pub mod TableWalk
+pub mod private

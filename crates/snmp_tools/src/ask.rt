@@ -7,9 +7,10 @@ ghost use Rattle.snmp_tools.specs.Answer.{CanBeSent, IsAsked, IsAskedOver, end_i
 ghost use Rattle.snmp_tools.specs.Message.{outcome_of};
 ghost use Rattle.snmp_tools.specs.Mib.{IsMibOf};
 ghost use Rattle.snmp_tools.specs.Outcome.{IsFinished, IsOutcome, IsOutcomeBy, IsShown};
-ghost use Rattle.snmp_tools.specs.Planned.{AreOrdersOf, ask_words, mib_in, plan_of, question_of};
+ghost use Rattle.snmp_tools.specs.private.Planned.{AreOrdersOf, ask_words, mib_in, plan_of};
+ghost use Rattle.snmp_tools.specs.private.Planned.{question_of};
 ghost use Rattle.snmp_tools.specs.Seen.{seen};
-ghost use Rattle.snmp_tools.specs.Start.{IsBegun};
+ghost use Rattle.snmp_tools.specs.private.Start.{IsBegun};
 
 use crate::error_output::ErrorOutput;
 use crate::failure::Failure;

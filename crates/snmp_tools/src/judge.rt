@@ -5,12 +5,13 @@ ghost use Rattle.std.specs.Prelude.{string_bytes, Ok};
 ghost use Rattle.snmp_words.specs.Words.{asking_words};
 ghost use Rattle.snmp_net.specs.Address.{address_of};
 ghost use Rattle.snmp_tools.specs.Asking.{AreShown, HasAgent};
-ghost use Rattle.snmp_tools.specs.Chosen.{chosen};
+ghost use Rattle.snmp_tools.specs.private.Chosen.{chosen};
 ghost use Rattle.snmp_tools.specs.Message.{fault_of};
 ghost use Rattle.snmp_io.specs.Files.{Holdings};
-ghost use Rattle.snmp_tools.specs.Planned.{AgentFails, AreOrdersOf, HasTextsOf, NamesFail};
-ghost use Rattle.snmp_tools.specs.Planned.{ShowingFails, ask_words, mib_in, plan_of, question_of};
-ghost use Rattle.snmp_tools.specs.Planned.{request_of};
+ghost use Rattle.snmp_tools.specs.private.Planned.{AgentFails, AreOrdersOf, HasTextsOf, NamesFail};
+ghost use Rattle.snmp_tools.specs.private.Planned.{ShowingFails, ask_words, mib_in, plan_of};
+ghost use Rattle.snmp_tools.specs.private.Planned.{question_of};
+ghost use Rattle.snmp_tools.specs.private.Planned.{request_of};
 ghost use Rattle.snmp_tools.specs.Question.{AskFor, HasChosen, IsEarlyRefusal, IsQuestionOf};
 ghost use Rattle.snmp_tools.specs.Question.{counts_in};
 

@@ -10,7 +10,7 @@ ghost use Rattle.snmp_tools.specs.BothEnds.{IsAskInNumbers, IsAskOfServer, IsWal
 ghost use Rattle.snmp_tools.specs.BothEnds.{PrintsServed, ServesInTurn};
 ghost use Rattle.snmp_tools.specs.Done.{IsAskDone};
 ghost use Rattle.snmp_tools.specs.Headline.{WritesRowsOf};
-ghost use Rattle.snmp_tools.specs.Planned.{numeric_walk};
+ghost use Rattle.snmp_tools.specs.private.Planned.{numeric_walk};
 ghost use Rattle.snmp_tools.specs.Question.{AskWords, of_walk};
 ghost use Rattle.snmp_tools.specs.Seen.{Seen};
 ghost use Rattle.snmp_tools.specs.Serving.{IsServeRun};

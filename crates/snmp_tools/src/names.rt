@@ -8,7 +8,7 @@ ghost use Rattle.snmp_tools.specs.Asking.{IsNameIfGiven, NameFails};
 ghost use Rattle.snmp_tools.specs.Question.{AreNames, HasMeaning, HasSendable, HasUnsendable};
 ghost use Rattle.snmp_tools.specs.Message.{fault_of, out_of_memory};
 ghost use Rattle.snmp_tools.specs.Mib.{Mib};
-ghost use Rattle.snmp_tools.specs.Planned.{mib_in};
+ghost use Rattle.snmp_tools.specs.private.Planned.{mib_in};
 ghost use Rattle.snmp_io.specs.Steps.{IsFirstToFail};
 
 use crate::failure::Failure;

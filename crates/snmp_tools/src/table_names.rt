@@ -1,7 +1,7 @@
 //! The table that a file states, and the names in it, by the nodes of a tree.
 ghost use Rattle.std.specs.Prelude.{◌≡◌, ◌⊎◌, IfErr, IfOk};
 ghost use Rattle.smi_show.specs.name.Naming.{Naming};
-ghost use Rattle.snmp_tools.specs.Resolved.{names_in};
+ghost use Rattle.snmp_tools.specs.private.Resolved.{names_in};
 ghost use Rattle.snmp_tools.specs.Message.{fault_of, out_of_memory};
 ghost use Rattle.snmp_tools.specs.agent.TableFile.{AreNamesIn, HasTable, TableFails};
 ghost use Rattle.snmp_agent.specs.table.Format.{IsFrontRead};

@@ -11,7 +11,7 @@ use Rattle.snmp_walk.specs.Names.{is_end}
 use Rattle.snmp_agent.specs.table.Table.{MibView, IsMibView, IsNext, IsNextAfter}
 use Rattle.snmp_agent.specs.Reply.{AreAnswers, AreEnds, AreRounds, IsBulk, joined, or_zero}
 use Rattle.snmp_walk.specs.Standing.{IsChain}
-use Rattle.snmp_walk.specs.Codec.{Codec}
+use Rattle.snmp_walk.specs.private.Codec.{Codec}
 use Rattle.snmp_walk.proofs.JoinLemmas.{next_first}
 
 -- ---- chains

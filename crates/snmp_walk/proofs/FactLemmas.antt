@@ -10,7 +10,7 @@ use Rattle.snmp_walk.specs.Walker.{Walker, IsWalker}
 use Rattle.snmp_walk.specs.Standing.{Reaches, IsPartOfWalk, IsWholeWalk}
 use Rattle.snmp_walk.specs.Link.{Agents, OneOf, IsNextFrom, IsGotFrom, AreViews}
 use Rattle.snmp_walk.specs.Facts.{IsFresh, IsLastSent, IsEndedBy, IsLawfulEnd, HasNoReply, HasNone, IsDone, GivenFacts, WalkFacts, SendFacts, gets}
-use Rattle.snmp_walk.specs.Codec.{Codec}
+use Rattle.snmp_walk.specs.private.Codec.{Codec}
 use Rattle.snmp_walk.proofs.JoinLemmas.{variables_rise, variables_are, next_first, get_one, get_row, after_precedes}
 use Rattle.snmp_walk.proofs.TableLemmas.{part_is, whole_is}
 use Rattle.snmp_walk.proofs.ViewLemmas.{only_one}

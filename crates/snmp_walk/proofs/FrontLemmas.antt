@@ -11,12 +11,12 @@ use Rattle.snmp_walk.specs.declared.rows.Step.{Step}
 use Rattle.snmp_walk.specs.Names.{is_inside, comes_after}
 use Rattle.snmp_walk.specs.Trail.{last_name}
 use Rattle.snmp_walk.specs.Walker.{Walker}
-use Rattle.snmp_walk.specs.Taken.{inside_front, rising_front, name_at, stops, goes_on, closes, reads, reads_next}
+use Rattle.snmp_walk.specs.private.Taken.{inside_front, rising_front, name_at, stops, goes_on, closes, reads, reads_next}
 use Rattle.snmp_walk.specs.declared.walker.Ending.{Ending}
 use Rattle.snmp_walk.specs.declared.walker.Ending.TheVariants as ending
 use Rattle.snmp_walk.specs.declared.walker.Front.{Front}
-use Rattle.snmp_walk.specs.Reading.{ending_at, after_of, read_front, After, nothing, leaving, falling, ReadFront, front_from, EndsAs, IsReadAs}
-use Rattle.snmp_walk.specs.Reading.{IsFrontOf, is_misplaced}
+use Rattle.snmp_walk.specs.private.Reading.{ending_at, after_of, read_front, After, nothing, leaving, falling, ReadFront, front_from, EndsAs, IsReadAs}
+use Rattle.snmp_walk.specs.private.Reading.{IsFrontOf, is_misplaced}
 use Rattle.snmp_walk.specs.Request.{asked_for}
 
 longer : (e : After) (b : VarBind) (rows inside more : List VarBind) → EndsAs e rows inside more → EndsAs e (b ∷ rows) (b ∷ inside) (b ∷ more)

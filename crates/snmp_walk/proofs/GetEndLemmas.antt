@@ -13,8 +13,8 @@ use Rattle.snmp_wire.specs.Canon.{canon}
 use Rattle.snmp_wire.specs.Message.{Message, VarBind, end_of_mib_view}
 use Rattle.snmp_walk.specs.Facts.{IsDone}
 use Rattle.snmp_walk.specs.Get.{AreFor, AreForNames, IsEndOfGet, IsReasonOfGet, MeansToGet, answers_of, are_for, step_of}
-use Rattle.snmp_walk.specs.Course.{Heard}
-use Rattle.snmp_walk.specs.Course as heard
+use Rattle.snmp_walk.specs.private.Course.{Heard}
+use Rattle.snmp_walk.specs.private.Course as heard
 use Rattle.snmp_walk.specs.Link.{Outcome}
 use Rattle.snmp_walk.specs.Names.{is_end}
 use Rattle.snmp_walk.specs.Read.{Delivers, all_given, is_refused}

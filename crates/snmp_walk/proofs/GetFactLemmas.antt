@@ -11,7 +11,7 @@ use Rattle.snmp_wire.specs.Spelling.{Spells}
 use Rattle.snmp_wire.specs.Canon.{canon}
 use Rattle.snmp_wire.specs.Range.{IsMessageInRange}
 use Rattle.snmp_agent.specs.Event.{Event}
-use Rattle.snmp_walk.specs.Codec.{Codec}
+use Rattle.snmp_walk.specs.private.Codec.{Codec}
 use Rattle.snmp_agent.specs.table.Table.{MibView, IsMibView}
 use Rattle.snmp_agent.specs.Reply.{response, got, got_next, unwritten, Fits, IsWhole, IsResponse, whole, shortened, bulk}
 use Rattle.snmp_walk.specs.declared.end.SinkFault.{SinkFault}
@@ -22,8 +22,8 @@ use Rattle.snmp_walk.specs.declared.tries.Course.TheVariants as course
 use Rattle.snmp_walk.specs.Link.{Agents, OneOf, AreLawful, IsReplyFrom, agent_in, Outcome}
 use Rattle.snmp_walk.specs.Traffic.{Traffic, Lost}
 use Rattle.snmp_walk.specs.Facts.{IsDone, IsDoneOrCutOff, IsDoneOrStopped}
-use Rattle.snmp_walk.specs.Course.{Heard, heard_of}
-use Rattle.snmp_walk.specs.Course as heard
+use Rattle.snmp_walk.specs.private.Course.{Heard, heard_of}
+use Rattle.snmp_walk.specs.private.Course as heard
 use Rattle.snmp_walk.specs.Read.{IsReadAs, Tells}
 use Rattle.snmp_walk.specs.Get.{get_request, got_step, AreFor, AreGot, MeansToGet, IsBrought, IsReasonOfGet, HasRoomForGet, IsEndOfGet, IsLostGet}
 use Rattle.snmp_walk.specs.Get.{IsTooBig, GetFacts, GotFacts}

@@ -6,9 +6,9 @@ use Rattle.snmp_agent.specs.Event.{Event, came}
 use Rattle.snmp_wire.specs.Canon.{canon}
 use Rattle.snmp_wire.specs.Message.{VarBind, Message}
 use Rattle.snmp_wire.specs.Spelling.{Spells}
-use Rattle.snmp_walk.specs.Codec.{Codec}
+use Rattle.snmp_walk.specs.private.Codec.{Codec}
 use Rattle.snmp_walk.specs.Facts.{IsFresh, IsLawfulEnd, GivenFacts, Reading, rows_read, AreRead, IsAskedLast, IsReadSo, IsEndOfRun}
-use Rattle.snmp_walk.specs.Heard.{IsEarlier}
+use Rattle.snmp_walk.specs.private.Heard.{IsEarlier}
 use Rattle.snmp_walk.specs.Judged.{IsResponseTo, MeansBy}
 use Rattle.snmp_walk.specs.Link.{Agents, AreLawful, OneOf, IsReplyFrom, IsNextFrom, IsGotFrom, IsTooLarge, Outcome}
 use Rattle.snmp_walk.specs.Link as outcome
@@ -18,7 +18,7 @@ use Rattle.snmp_walk.specs.Read.{rows_in}
 use Rattle.snmp_walk.specs.Request.{request_of}
 use Rattle.snmp_walk.specs.Sink.{Took}
 use Rattle.snmp_walk.specs.Standing.{Reaches, Advances, AdvancesAnyhow, IsPartOfWalk, Rises, Named}
-use Rattle.snmp_walk.specs.Taken.{take_of, awaits, is_over}
+use Rattle.snmp_walk.specs.private.Taken.{take_of, awaits, is_over}
 use Rattle.snmp_walk.specs.Tries.{InTurn, Happens, IsTried, IsNotAwaited}
 use Rattle.snmp_walk.specs.Walker.{Walker, IsWalker}
 use Rattle.snmp_walk.specs.declared.end.SinkFault.{SinkFault}

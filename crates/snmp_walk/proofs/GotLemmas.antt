@@ -6,14 +6,14 @@ use Rattle.snmp_wire.specs.Message.{Message}
 use Rattle.snmp_wire.specs.Canon.{canon}
 use Rattle.snmp_wire.specs.Spelling.{Spells}
 use Rattle.snmp_wire.specs.Range.{IsMessageInRange}
-use Rattle.snmp_walk.specs.Codec.{Codec}
+use Rattle.snmp_walk.specs.private.Codec.{Codec}
 use Rattle.snmp_agent.specs.Reply.{IsResponse}
 use Rattle.snmp_agent.specs.table.Table.{MibView}
 use Rattle.snmp_walk.specs.Judged.{IsResponseTo}
 use Rattle.snmp_walk.specs.Link.{Agents, OneOf, AreLawful, IsReplyFrom}
 use Rattle.snmp_walk.specs.Link as outcome
-use Rattle.snmp_walk.specs.Heard.{IsAsked}
-use Rattle.snmp_walk.specs.Taken.{awaits}
+use Rattle.snmp_walk.specs.private.Heard.{IsAsked}
+use Rattle.snmp_walk.specs.private.Taken.{awaits}
 use Rattle.snmp_walk.specs.Get.{get_request, IsBrought, IsLostGet}
 use Rattle.snmp_walk.specs.Ran.{IsFreshAndHonest, IsGetTried}
 use Rattle.snmp_walk.specs.Tries.{IsNotAwaited}

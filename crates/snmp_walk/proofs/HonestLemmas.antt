@@ -12,7 +12,7 @@ use Rattle.snmp_wire.specs.Message.{end_of_mib_view}
 use Rattle.snmp_wire.specs.Spelling.{Spells}
 use Rattle.snmp_wire.specs.Canon.{canon, canon_bindings}
 use Rattle.snmp_wire.specs.Range.{IsInRange, IsBindingInRange, IsMessageInRange}
-use Rattle.snmp_walk.specs.Codec.{Codec}
+use Rattle.snmp_walk.specs.private.Codec.{Codec}
 use Rattle.snmp_agent.specs.table.Table.{MibView, IsInstanceValue, IsMibView, IsGet, variable, unknown_object, unknown_instance, IsNext, successor}
 use Rattle.snmp_agent.specs.table.Table.{end_of_view}
 use Rattle.snmp_agent.specs.declared.config.Why.{Why}
@@ -25,7 +25,7 @@ use Rattle.snmp_walk.specs.declared.phase.Phase.{Phase}
 use Rattle.snmp_walk.specs.declared.phase.Phase.TheVariants as phase
 use Rattle.snmp_walk.specs.Walker.{Walker, HasRange, IsMethod, IsWalker}
 use Rattle.snmp_walk.specs.Request.{request_of, request_kind, request_repetitions, asked_for}
-use Rattle.snmp_walk.specs.Taken.{is_over}
+use Rattle.snmp_walk.specs.private.Taken.{is_over}
 use Rattle.snmp_walk.specs.Judged.{IsResponseTo}
 use Rattle.snmp_walk.specs.Standing.{IsChain, IsGetContent, IsLarge, IsReplyContent, IsReplyTo}
 use Rattle.snmp_walk.specs.Link.{Agents, OneOf, AreLawful, IsNextFrom, IsGotFrom, IsTooLarge, IsReplyFrom}

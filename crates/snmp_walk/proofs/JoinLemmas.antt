@@ -31,8 +31,8 @@ use Rattle.snmp_walk.specs.Names.{comes_after}
 use Rattle.snmp_walk.specs.Walk.{rows_after, rows_named}
 use Rattle.snmp_walk.proofs.OrderLemmas.{less_from_after, after-irrefl, less_precedes}
 use Rattle.snmp_walk.specs.Link.{OneOf}
-use Rattle.snmp_walk.specs.Taken.{if_present}
-use Rattle.snmp_walk.specs.Codec.{Codec}
+use Rattle.snmp_walk.specs.private.Taken.{if_present}
+use Rattle.snmp_walk.specs.private.Codec.{Codec}
 use Rattle.snmp_walk.proofs.TableLemmas.{first_of_rows}
 use Rattle.snmp_walk.proofs.ViewLemmas.{value_no_end, value_no_miss}
 use Rattle.snmp_walk.proofs.RowLemmas.{AreAfter, AreRising, AreInstances, or_end}

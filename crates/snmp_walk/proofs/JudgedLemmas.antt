@@ -25,11 +25,11 @@ use Rattle.snmp_walk.specs.declared.end.WalkEnd.TheVariants as ending
 use Rattle.snmp_walk.specs.declared.rows.Step.{Step}
 use Rattle.snmp_walk.specs.Link.{OneOf}
 use Rattle.snmp_walk.specs.Names.{is_end, is_missing, is_inside, comes_after}
-use Rattle.snmp_walk.specs.Reading.{After, EndsAs, nothing, leaving, falling}
+use Rattle.snmp_walk.specs.private.Reading.{After, EndsAs, nothing, leaving, falling}
 use Rattle.snmp_walk.specs.Trail.{last_name}
 use Rattle.snmp_walk.specs.Walker.{Walker}
-use Rattle.snmp_walk.specs.Taken.{is_over, is_response, awaits, is_awaited, is_plain, inside_front, rising_front, name_at, stops, goes_on, closes}
-use Rattle.snmp_walk.specs.Taken.{reads, reads_next, got, reads_first, reads_last, reads_for, reads_reply, take_of}
+use Rattle.snmp_walk.specs.private.Taken.{is_over, is_response, awaits, is_awaited, is_plain, inside_front, rising_front, name_at, stops, goes_on, closes}
+use Rattle.snmp_walk.specs.private.Taken.{reads, reads_next, got, reads_first, reads_last, reads_for, reads_reply, take_of}
 use Rattle.snmp_walk.specs.Judged.{IsResponseTo, IsAwaitedReply, EndsBy, AsksOn, GoesOn, GivesNothing, Closes, AreRowsFrom, AreMisplaced, FollowsBy}
 use Rattle.snmp_walk.specs.Judged.{ReadsRows, IsStray, MeansNext, IsGot, MeansGot, MeansRoot, MeansFor, MeansReply, Means, MeansBy}
 use Rattle.snmp_walk.proofs.OrderLemmas.{less_from_after, less_precedes}

@@ -6,7 +6,7 @@ use Rattle.std.specs.List.{slice_get}
 use Rattle.snmp_walk.specs.Link.{Agents, OneOf, IsReplyFrom, IsUnanswered}
 use Rattle.snmp_walk.specs.Link as outcome
 use Rattle.snmp_walk.specs.Traffic.{latest, datagram_at, Gives, Receives, IsOther, resent, Lost}
-use Rattle.snmp_walk.specs.Heard.{IsAsked}
+use Rattle.snmp_walk.specs.private.Heard.{IsAsked}
 use Rattle.snmp_walk.specs.Moved.{IsMoved}
 use Rattle.snmp_walk.specs.Tries.{InTurn, Gets, Brings, EndsTry, IsTry, AreTried}
 use Rattle.snmp_walk.specs.declared.link.Link.{Ghosts as LinkFacts}

@@ -3,15 +3,15 @@ use Rattle.std.proofs.Common.{◌≡◌, inl, inr, ℕ, false, List, refl, sym, 
 use Rattle.snmp_wire.specs.Message.{Message}
 use Rattle.snmp_wire.specs.Canon.{canon}
 use Rattle.snmp_wire.specs.Spelling.{Spells}
-use Rattle.snmp_walk.specs.Codec.{Codec}
+use Rattle.snmp_walk.specs.private.Codec.{Codec}
 use Rattle.snmp_walk.specs.Walker.{Walker, IsWalker}
 use Rattle.snmp_walk.specs.Request.{request_of}
-use Rattle.snmp_walk.specs.Taken.{is_over}
+use Rattle.snmp_walk.specs.private.Taken.{is_over}
 use Rattle.snmp_walk.specs.Standing.{IsReplyTo}
 use Rattle.snmp_walk.specs.Judged.{IsResponseTo}
 use Rattle.snmp_walk.specs.Link.{Agents, IsNextFrom, IsGotFrom, IsTooLarge, AreLawful, IsReplyFrom}
 use Rattle.snmp_walk.specs.Link as outcome
-use Rattle.snmp_walk.specs.Heard.{IsAsked, IsEarlier}
+use Rattle.snmp_walk.specs.private.Heard.{IsAsked, IsEarlier}
 use Rattle.snmp_walk.specs.Run.{IsFullReply}
 use Rattle.snmp_walk.specs.Tries.{IsNotAwaited, IsTried}
 use Rattle.snmp_walk.specs.declared.link.Link.{Ghosts as LinkFacts}

@@ -6,7 +6,7 @@ use Rattle.snmp_wire.specs.Spelling.{value_tag}
 use Rattle.snmp_wire.specs.Canon.{number_size, canon_element, canon_content, canon_value, canon_binding, canon_bindings, canon_opening, canon_fields, canon}
 use Rattle.snmp_walk.specs.Link.{Agents, single_response, IsTooLarge}
 use Rattle.snmp_walk.specs.Room.{HasRoom, full_response, IsException}
-use Rattle.snmp_walk.specs.Codec.{Codec}
+use Rattle.snmp_walk.specs.private.Codec.{Codec}
 
 module _ (codec : Codec) where
   -- an element with more content is no shorter, whatever the tags

@@ -2,7 +2,7 @@
 use Rattle.std.proofs.Common.{◌≡◌, ℕ, ◌≤◌, true, false, List, [], ◌∷◌, length}
 use Rattle.snmp_wire.specs.Message.{VarBind, end_of_mib_view}
 use Rattle.snmp_walk.specs.Names.{is_end, is_missing, comes_after}
-use Rattle.snmp_walk.specs.Taken.{if_present}
+use Rattle.snmp_walk.specs.private.Taken.{if_present}
 use Rattle.snmp_walk.specs.Walk.{rows_after, rows_named}
 use Rattle.snmp_walk.specs.Walker.{Walker}
 

@@ -16,22 +16,22 @@ use Rattle.snmp_walk.specs.declared.rows.Step.TheVariants as step
 use Rattle.snmp_walk.specs.Walker.{Walker, IsWalker}
 use Rattle.snmp_walk.specs.Request.{request_of}
 use Rattle.snmp_walk.specs.Judged.{MeansBy}
-use Rattle.snmp_walk.specs.Taken.{awaits, is_over, take_of}
+use Rattle.snmp_walk.specs.private.Taken.{awaits, is_over, take_of}
 use Rattle.snmp_walk.specs.Standing.{IsPartOfWalk, Reaches, Ends, Advances, Rises, Named, IsReplyEnd, CountsAll, AdvancesAnyhow, IsReplyTo}
 use Rattle.snmp_walk.specs.Link.{Agents, AreLawful, IsNextFrom, IsGotFrom, IsTooLarge, Outcome}
 use Rattle.snmp_walk.specs.Link as outcome
 use Rattle.snmp_walk.specs.Sink.{Given, Took}
 use Rattle.snmp_walk.specs.Run.{Try, IsFullReply}
 use Rattle.snmp_walk.specs.Read.{rows_in, Delivers, IsReadAs, Tells, all_given, is_refused}
-use Rattle.snmp_walk.specs.Course.{Heard, heard_of}
+use Rattle.snmp_walk.specs.private.Course.{Heard, heard_of}
 use Rattle.snmp_walk.specs.declared.tries.Course.{Course}
 use Rattle.snmp_walk.specs.declared.tries.Course.TheVariants as course
 use Rattle.snmp_walk.specs.declared.end.LinkFault.{LinkFault}
-use Rattle.snmp_walk.specs.Course as heard
+use Rattle.snmp_walk.specs.private.Course as heard
 use Rattle.snmp_walk.specs.Facts.{IsFresh, IsLastSent, IsAskedLast, Reading, AreRead, HasRead, BringsNone, IsReadSo, IsEndedBy, IsLawfulEnd}
 use Rattle.snmp_walk.specs.Facts.{HasNoReply, IsEndOfRun, IsReadyForAll}
-use Rattle.snmp_walk.specs.Heard.{IsEarlier}
-use Rattle.snmp_walk.specs.Codec.{Codec}
+use Rattle.snmp_walk.specs.private.Heard.{IsEarlier}
+use Rattle.snmp_walk.specs.private.Codec.{Codec}
 use Rattle.snmp_walk.specs.declared.link.Link.{Ghosts as LinkFacts}
 use Rattle.snmp_walk.specs.Moved.{IsMovedByTries}
 use Rattle.snmp_walk.specs.Ran.{IsRun, IsWalkedOver, IsFreshAndHonest}

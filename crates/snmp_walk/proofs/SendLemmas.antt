@@ -9,11 +9,11 @@ use Rattle.snmp_walk.specs.declared.phase.Phase.TheVariants as phase
 use Rattle.snmp_walk.specs.Trail.{last_name}
 use Rattle.snmp_walk.specs.Walker.{Walker, IsWalker}
 use Rattle.snmp_walk.specs.Request.{request_of}
-use Rattle.snmp_walk.specs.Taken.{is_over}
+use Rattle.snmp_walk.specs.private.Taken.{is_over}
 use Rattle.snmp_walk.specs.Standing.{IsStage, IsPaced, Reaches, Rises, Named}
 use Rattle.snmp_walk.specs.Link.{OneOf}
 use Rattle.snmp_walk.specs.Traffic.{Traffic}
-use Rattle.snmp_walk.specs.Heard.{IsSentBefore, IsEarlier}
+use Rattle.snmp_walk.specs.private.Heard.{IsSentBefore, IsEarlier}
 use Rattle.snmp_walk.specs.Run.{Try, sent_by, IsNameIn, AsksFor, Asks, AreTries, IsEachSent}
 use Rattle.snmp_walk.proofs.LostLemmas.{one_append, one_same}
 

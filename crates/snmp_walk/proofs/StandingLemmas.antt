@@ -20,8 +20,8 @@ use Rattle.snmp_walk.specs.Names.{is_missing}
 use Rattle.snmp_walk.specs.Trail.{last_name, IsTrail, IsAtEnd}
 use Rattle.snmp_walk.specs.Walker.{Walker}
 use Rattle.std.specs.Ordering.{int_eq}
-use Rattle.snmp_walk.specs.Taken.{is_over, is_plain, inside_front, rising_front, stops, goes_on, closes, reads_next, got, if_present}
-use Rattle.snmp_walk.specs.Taken.{reads_first, reads_last, reads_for, take_of}
+use Rattle.snmp_walk.specs.private.Taken.{is_over, is_plain, inside_front, rising_front, stops, goes_on, closes, reads_next, got, if_present}
+use Rattle.snmp_walk.specs.private.Taken.{reads_first, reads_last, reads_for, take_of}
 use Rattle.snmp_walk.specs.Standing.{IsChain, IsLarge, IsReplyContent, IsReplyTo, IsOpening, IsGiven, IsPartOfWalk, IsStage, opening_gets, IsPaced, Reaches, Advances}
 use Rattle.snmp_walk.proofs.CaseLemmas.{goes_by}
 use Rattle.snmp_walk.proofs.TrailLemmas.{last_name-append, trail-append, IsFront, chain_front, chain_has_values, few_replies}

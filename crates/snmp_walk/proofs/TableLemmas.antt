@@ -11,7 +11,7 @@ use Rattle.snmp_walk.specs.declared.mode.Mode.TheVariants as mode
 use Rattle.snmp_walk.specs.Names.{is_below, is_inside, is_end, comes_after}
 use Rattle.snmp_walk.specs.Walk.{rows_below, rows_after, rows_named, or_only, walk_of, rest_of, walk_from}
 use Rattle.snmp_walk.specs.Trail.{last_name, IsTrail, IsAtEnd}
-use Rattle.snmp_walk.specs.Taken.{if_present}
+use Rattle.snmp_walk.specs.private.Taken.{if_present}
 use Rattle.snmp_walk.specs.Walker.{Walker}
 use Rattle.snmp_walk.specs.Standing.{IsOpening, IsAlone, IsPartOfWalk, IsWholeWalk}
 use Rattle.snmp_walk.proofs.OrderLemmas.{after-irrefl, not_after, after-trans, outside_after, below_after_wire}

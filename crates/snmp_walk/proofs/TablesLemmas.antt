@@ -35,7 +35,7 @@ use Rattle.snmp_walk.specs.Tables.{IsBelowRoot, IsOfWalk, IsFromTable, AreFromTa
 use Rattle.snmp_walk.proofs.OrderLemmas.{outside_after}
 use Rattle.snmp_walk.proofs.NameLemmas.{test_from_below}
 use Rattle.snmp_walk.proofs.ViewLemmas.{views_answer, view_of, value_no_end, value_no_miss}
-use Rattle.snmp_walk.specs.Codec.{Codec}
+use Rattle.snmp_walk.specs.private.Codec.{Codec}
 use Rattle.snmp_walk.proofs.JoinLemmas.{after_precedes, tie_is, one_after, not_itself, row_none}
 use Rattle.snmp_walk.proofs.TrailLemmas.{trail_begins}
 use Rattle.snmp_walk.proofs.StandingLemmas.{opening_last}

@@ -10,7 +10,7 @@ use Rattle.snmp_wire.specs.Message.{Datum, VarBind, no_such_object, no_such_inst
 use Rattle.snmp_walk.specs.Instances.{IsInside, IsMissing}
 use Rattle.snmp_walk.specs.Names.{is_end, is_missing, is_inside, comes_after}
 use Rattle.snmp_walk.specs.Standing.{IsGivenIfPresent}
-use Rattle.snmp_walk.specs.Taken.{if_present}
+use Rattle.snmp_walk.specs.private.Taken.{if_present}
 use Rattle.snmp_walk.proofs.NameLemmas.{below_decided}
 use Rattle.snmp_walk.proofs.OrderLemmas.{less_precedes}
 

@@ -8,7 +8,7 @@ use Rattle.std.specs.List.{list_any}
 use Rattle.snmp_wire.specs.Message.{VarBind}
 use Rattle.snmp_walk.specs.Names.{is_inside, is_end, is_missing, is_below, comes_after}
 use Rattle.snmp_walk.specs.Trail.{last_name, IsTrail, IsAtEnd}
-use Rattle.snmp_walk.specs.Taken.{inside_front, rising_front}
+use Rattle.snmp_walk.specs.private.Taken.{inside_front, rising_front}
 use Rattle.snmp_walk.specs.Standing.{IsChain}
 use Rattle.snmp_walk.proofs.RowLemmas.{AreLawfulReplies}
 use Rattle.snmp_walk.proofs.TestLemmas.{inside_decided, outside}

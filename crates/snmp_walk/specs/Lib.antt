@@ -1,4 +1,3 @@
-pub mod Codec
 pub mod Names
 pub mod Instances
 pub mod Walk
@@ -6,19 +5,15 @@ pub mod Ordered
 pub mod Trail
 pub mod Walker
 pub mod Request
-pub mod Taken
 pub mod Judged
-pub mod Reading
 pub mod Standing
 pub mod Link
 pub mod Traffic
 pub mod Moves
 pub mod Moved
-pub mod Heard
 pub mod Tries
 pub mod Room
 pub mod Sink
-pub mod Course
 pub mod Read
 pub mod Run
 pub mod Tables
@@ -26,7 +21,7 @@ pub mod Get
 pub mod Facts
 pub mod Network
 pub mod Ran
-pub mod Arena
 pub mod Memory
 pub mod MemoryNetwork
 pub mod CarriesLaws
+pub mod private

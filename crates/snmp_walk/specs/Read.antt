@@ -8,9 +8,9 @@ use Rattle.snmp_walk.specs.declared.end.SinkFault.{SinkFault}
 use Rattle.snmp_walk.specs.declared.end.WalkEnd.TheVariants as ending
 use Rattle.snmp_walk.specs.declared.rows.Step.{Step}
 use Rattle.snmp_walk.specs.declared.rows.Step.TheVariants as step
-use Rattle.snmp_walk.specs.Course.{Heard}
-use Rattle.snmp_walk.specs.Course as heard
-use Rattle.snmp_walk.specs.Taken.{awaits}
+use Rattle.snmp_walk.specs.private.Course.{Heard}
+use Rattle.snmp_walk.specs.private.Course as heard
+use Rattle.snmp_walk.specs.private.Taken.{awaits}
 use Rattle.snmp_walk.specs.Sink.{Given}
 use Rattle.snmp_walk.specs.Link.{Outcome, answered, missed, cut_off}
 

@@ -9,7 +9,7 @@ ghost use Rattle.std.specs.Cmp.Lexicographic.{pointwise};
 ghost use Rattle.snmp_wire.specs.ber.Value.{null_value};
 ghost use Rattle.snmp_wire.specs.Message.{Message, VarBind, var_bind};
 ghost use Rattle.snmp_walk.specs.Names.{is_end};
-ghost use Rattle.snmp_walk.specs.Taken.{awaits};
+ghost use Rattle.snmp_walk.specs.private.Taken.{awaits};
 ghost use Rattle.std.specs.List.{AllByRecursion};
 ghost use Rattle.snmp_wire.specs.Range.{IsBindingInRange, IsMessageInRange};
 ghost use Rattle.snmp_walk.specs.Get.{asked_names, get_request, are_for as are_these, answers_of};

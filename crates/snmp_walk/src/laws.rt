@@ -8,7 +8,7 @@ ghost use Rattle.snmp_walk.specs.declared.mode.Mode.{Mode};
 ghost use Rattle.snmp_walk.specs.declared.rows.Step.{Step};
 ghost use Rattle.snmp_walk.specs.Judged.{Means};
 ghost use Rattle.snmp_walk.specs.Walk.{rows_below, walk_of, rest_of};
-ghost use Rattle.snmp_walk.specs.Codec.{Codec};
+ghost use Rattle.snmp_walk.specs.private.Codec.{Codec};
 ghost use Rattle.snmp_walk.specs.Link.{Agents, OneOf};
 ghost use Rattle.snmp_walk.specs.Network.{AreReplies, AreServed, Happening, IsFaithful, of_walk};
 ghost use Rattle.snmp_walk.specs.Ordered.{AreOrdered, IsResumable};

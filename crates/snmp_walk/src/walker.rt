@@ -5,7 +5,7 @@ ghost use Rattle.std.specs.Bool.{nat_eq};
 ghost use Rattle.std.specs.Cmp.Lexicographic.{pointwise};
 ghost use Rattle.snmp_oid.specs.Identifier.{IsIdentifier, IsWire, IsBelow, wire};
 ghost use Rattle.snmp_walk.specs.Names.{is_below, comes_after, is_inside, is_missing, is_end};
-ghost use Rattle.snmp_walk.specs.Reading.{is_misplaced};
+ghost use Rattle.snmp_walk.specs.private.Reading.{is_misplaced};
 ghost use Rattle.snmp_walk.specs.Request.{first_phase as phase_at_first};
 
 use crate::laws::codec;
@@ -75,14 +75,15 @@ impl WalkCore {
     ghost use Rattle.snmp_agent.specs.table.Listing.{variables};
     ghost use Rattle.snmp_walk.specs.Request.{started, resumed, request_of, request_kind};
     ghost use Rattle.snmp_walk.specs.Request.{request_repetitions};
-    ghost use Rattle.snmp_walk.specs.Taken.{is_awaited, stops, goes_on, closes};
-    ghost use Rattle.snmp_walk.specs.Taken.{reads_next, reads_first, reads_last, got, take_of};
+    ghost use Rattle.snmp_walk.specs.private.Taken.{is_awaited, stops, goes_on, closes};
+    ghost use Rattle.snmp_walk.specs.private.Taken.{reads_next, reads_first, reads_last, got};
+    ghost use Rattle.snmp_walk.specs.private.Taken.{take_of};
     ghost use Rattle.snmp_walk.specs.Judged.{MeansBy};
     ghost use Rattle.snmp_walk.specs.Request.{asked_for};
-    ghost use Rattle.snmp_walk.specs.Course.{step_of};
+    ghost use Rattle.snmp_walk.specs.private.Course.{step_of};
     ghost use Rattle.std.specs.Option.{option_map};
-    ghost use Rattle.snmp_walk.specs.Reading.{IsFrontOf, is_misplaced, read_front};
-    ghost use Rattle.snmp_walk.specs.Reading.{ending_at, name_or};
+    ghost use Rattle.snmp_walk.specs.private.Reading.{IsFrontOf, is_misplaced, read_front};
+    ghost use Rattle.snmp_walk.specs.private.Reading.{ending_at, name_or};
     ghost use Rattle.std.specs.Prelude.{IfSome, IfNone};
     ghost use Rattle.snmp_walk.specs.Trail.{last_name};
     ghost use Rattle.snmp_walk.specs.Ordered.{IsAtOrBelow, IsUnsendable};
@@ -520,7 +521,7 @@ impl WalkCore {
 
 impl Waiter for WalkCore {
     ghost use Rattle.std.specs.Prelude.{◌≡◌};
-    ghost use Rattle.snmp_walk.specs.Taken.{take_of};
+    ghost use Rattle.snmp_walk.specs.private.Taken.{take_of};
 
     ghost community = { λ w. w.community };
 

@@ -8,7 +8,7 @@ use Rattle.snmp_wire.specs.ber.Canon.{canon_content, canon_element, canon_header
 use Rattle.snmp_wire.specs.Message.{VarBind, var_bind, var_binds}
 use Rattle.snmp_wire.specs.ber.Value.{object_id, null_value}
 use Rattle.snmp_wire.specs.ber.Spelling.{sequence_tag}
-use Rattle.snmp_wire.specs.ber.Writing.{Writes}
+use Rattle.snmp_wire.specs.private.ber.Writing.{Writes}
 use Rattle.snmp_wire.proofs.ElementLaws.{header_short, content_fits, element_size, header_fits, sizes_value, writes_element}
 use Rattle.snmp_wire.proofs.WritingLaws.{writes_then}
 

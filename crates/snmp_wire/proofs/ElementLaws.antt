@@ -6,7 +6,7 @@ use Rattle.std.proofs.lemmas.Bool.{lt-ltb}
 use Rattle.snmp_wire.specs.ber.Canon.{canon_content, canon_element, canon_header, canon_length, canon_number, canon_value}
 use Rattle.snmp_wire.specs.ber.Value.{Datum, integer_value, octet_string}
 use Rattle.snmp_wire.specs.ber.Spelling.{value_tag}
-use Rattle.snmp_wire.specs.ber.Writing.{Writes}
+use Rattle.snmp_wire.specs.private.ber.Writing.{Writes}
 use Rattle.snmp_wire.proofs.WritingLaws.{writes_same, writes_then}
 
 -- ---- headers

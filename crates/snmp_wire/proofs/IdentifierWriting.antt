@@ -12,7 +12,7 @@ use Rattle.std.specs.List.{AllByRecursion, flat_map}
 use Rattle.snmp_oid.specs.Identifier.{IsWire, IsIdentifier}
 use Rattle.snmp_wire.specs.ber.Canon.{AreShort, canon_content, canon_subidentifier, digits, eight_from, septets, subidentifier_size}
 use Rattle.snmp_wire.specs.ber.Value.{object_id}
-use Rattle.snmp_wire.specs.ber.Writing.{Writes}
+use Rattle.snmp_wire.specs.private.ber.Writing.{Writes}
 use Rattle.snmp_wire.proofs.WritingLaws.{length-flat_map_drop, writes_same, writes_then}
 use Rattle.snmp_wire.specs.ber.Identifier.{AreSubidentifiers, IsObjectId, IsSubidentifier, subidentifiers}
 use Rattle.snmp_wire.specs.ber.Number.{number_of}

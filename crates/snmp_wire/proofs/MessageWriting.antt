@@ -9,7 +9,7 @@ pub use Rattle.snmp_wire.specs.Sizes.{pdu_size}
 use Rattle.snmp_wire.specs.ber.Value.{integer_value, octet_string}
 use Rattle.snmp_wire.specs.Spelling.{kind_tag}
 use Rattle.snmp_wire.specs.ber.Spelling.{sequence_tag}
-use Rattle.snmp_wire.specs.ber.Writing.{Writes}
+use Rattle.snmp_wire.specs.private.ber.Writing.{Writes}
 use Rattle.snmp_wire.proofs.ElementLaws.{length-canon_header}
 use Rattle.snmp_wire.specs.ber.Sizes.{ElementSizes}
 use Rattle.snmp_wire.proofs.WritingLaws.{writes_same, writes_then}

@@ -5,7 +5,7 @@ use Rattle.std.proofs.Common.{◌≡◌, ℕ, ◌+◌, ◌-◌, ◌<◌, ◌≤�
 use Rattle.std.proofs.Common.{append_assoc, length-append}
 use Rattle.std.proofs.lemmas.List.{take-take, drop_more}
 use Rattle.std.specs.List.{flat_map}
-use Rattle.snmp_wire.specs.ber.Writing.{Writes}
+use Rattle.snmp_wire.specs.private.ber.Writing.{Writes}
 
 -- where the front stays as it was, so does each front of it
 pub kept : (k start : ℕ) (old new : List ℕ)

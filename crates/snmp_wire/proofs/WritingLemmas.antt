@@ -4,7 +4,7 @@ use Rattle.std.proofs.Common.{◌≡◌, ℕ, suc, ◌+◌, ◌-◌, ◌/◌, �
 use Rattle.std.proofs.Common.{length, take, drop, set, refl, sym, ap, subst, ◌∙◌, arith, length-drop}
 use Rattle.std.proofs.Math.Nat.{div-div-eq-div-mul, div-one, pow-suc, pow-zero}
 use Rattle.std.proofs.lemmas.List.{append-nil, drop-set, drop_all, drop_at, length-take-le, take-set, take_all, take_at}
-use Rattle.snmp_wire.specs.ber.Writing.{Writes}
+use Rattle.snmp_wire.specs.private.ber.Writing.{Writes}
 use Rattle.snmp_wire.proofs.WritingLaws.{kept, writes_same}
 
 -- nothing written

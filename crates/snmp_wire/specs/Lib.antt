@@ -16,5 +16,6 @@ pub use Rattle.snmp_wire.specs.ber.Length
 pub use Rattle.snmp_wire.specs.ber.Number
 pub use Rattle.snmp_wire.specs.ber.Owned
 pub use Rattle.snmp_wire.specs.ber.Value
-pub use Rattle.snmp_wire.specs.ber.Writing
+pub use Rattle.snmp_wire.specs.private.ber.Writing
 pub mod ber
+pub mod private

@@ -8,4 +8,3 @@ pub mod Reading
 pub mod Sizes
 pub mod Spelling
 pub mod Value
-pub mod Writing

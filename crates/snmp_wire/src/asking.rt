@@ -4,7 +4,7 @@ ghost use Rattle.std.specs.Prelude.{IfNone, IfSome, IsSome};
 ghost use Rattle.snmp_oid.specs.Identifier.{IsIdentifier, IsWire};
 ghost use Rattle.snmp_wire.specs.Canon.{canon_binding};
 ghost use Rattle.snmp_wire.specs.Name.{asking};
-ghost use Rattle.snmp_wire.specs.ber.Writing.{Writes};
+ghost use Rattle.snmp_wire.specs.private.ber.Writing.{Writes};
 
 use crate::ber::tag::{NULL, OBJECT_IDENTIFIER, SEQUENCE};
 use crate::ber::{header_size, put_header, put_text};

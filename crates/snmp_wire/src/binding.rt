@@ -9,7 +9,7 @@ ghost use Rattle.snmp_wire.specs.ber.Reading.{AgreesBy, checked};
 ghost use Rattle.snmp_oid.specs.Identifier.{IsWire};
 ghost use Rattle.snmp_wire.specs.Canon.{IsEncodable, canon_binding};
 ghost use Rattle.snmp_wire.specs.ber.Canon.{canon_value};
-ghost use Rattle.snmp_wire.specs.ber.Writing.{Writes};
+ghost use Rattle.snmp_wire.specs.private.ber.Writing.{Writes};
 
 mod lent;
 

@@ -13,7 +13,7 @@ ghost use Rattle.snmp_wire.specs.ber.Canon.{canon_value};
 ghost use Rattle.snmp_wire.specs.Parts.{parts_message, with_bindings};
 ghost use Rattle.snmp_wire.specs.Range.{IsMessageInRange};
 ghost use Rattle.snmp_wire.specs.Shortest.{IsShortestEncoding};
-ghost use Rattle.snmp_wire.specs.ber.Writing.{Writes};
+ghost use Rattle.snmp_wire.specs.private.ber.Writing.{Writes};
 
 use crate::ber::tag::{INTEGER, OCTET_STRING, SEQUENCE};
 use crate::ber::{

@@ -6,7 +6,7 @@ use Rattle.smi_text.specs.declared.trees.tree.Def.{Def}
 use Rattle.smi_text.specs.trees.Lookup.{kind_words}
 use Rattle.smi_show.specs.name.Naming.{Naming, Standing}
 use Rattle.smi_show.specs.name.Name.{IsName}
-use Rattle.smi_show.specs.name.Shown.{name_text}
+use Rattle.smi_show.specs.private.name.Shown.{name_text}
 use Rattle.smi_show.specs.details.Definition.{definition_text}
 use Rattle.smi_show.specs.details.Value.{identifier_text}
 

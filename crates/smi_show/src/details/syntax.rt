@@ -6,7 +6,7 @@ ghost use Rattle.smi_show.specs.details.Syntax.{base_text, more_numbers, more_ra
 ghost use Rattle.smi_show.specs.details.Syntax.{named_number_text};
 ghost use Rattle.smi_show.specs.details.Syntax.{numbers_text, range_text, ranges_text};
 ghost use Rattle.smi_show.specs.details.Syntax.{refinement_text, syntax_text};
-ghost use Rattle.smi_show.specs.details.Tokens.{AreTokensOf, joined_by_blanks};
+ghost use Rattle.smi_show.specs.private.details.Tokens.{AreTokensOf, joined_by_blanks};
 ghost use Rattle.smi_text.specs.lexer.Token.{Lexeme};
 
 use smi_text::{Base, NamedNumber, Range, Refinement, Syntax};

@@ -8,12 +8,12 @@ ghost use Rattle.std.specs.Option.{is_some};
 ghost use Rattle.std.specs.List.{flat_map, list_all};
 ghost use Rattle.snmp_io.specs.draft.Draft.{Adds};
 ghost use Rattle.smi_show.specs.declared.index.part.IndexPart.{IndexPart};
-ghost use Rattle.smi_show.specs.index.Reading.{has_text, instance_pieces, values_of};
+ghost use Rattle.smi_show.specs.private.index.Reading.{has_text, instance_pieces, values_of};
 ghost use Rattle.smi_show.specs.index.Pieces.{IsPiece, as_numbers, as_text, index_pieces};
 ghost use Rattle.smi_show.specs.index.Pieces.{is_plain, is_quotable, is_shown_text, is_text};
 ghost use Rattle.smi_show.specs.index.Pieces.{piece_numbers};
 ghost use Rattle.smi_show.specs.index.Pieces.{shown_pieces, value_pieces};
-ghost use Rattle.smi_show.specs.index.Digits.{three_digits};
+ghost use Rattle.smi_show.specs.private.index.Digits.{three_digits};
 
 use crate::index::{Extent, IndexPart, read_part, reads};
 use snmp_io::Draft;

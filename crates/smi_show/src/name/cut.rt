@@ -2,7 +2,7 @@
 ghost use Rattle.std.specs.Prelude.{◌≡◌, ◌&&◌, ◌∷◌, ◌++◌, ◌<◌, IfSome, None, length, option_map};
 ghost use Rattle.smi_show.specs.name.Cutting.{is_double_colon, is_unquoted, module_after};
 ghost use Rattle.smi_show.specs.name.Cutting.{name_parts};
-ghost use Rattle.smi_show.specs.name.Left.{parts_left};
+ghost use Rattle.smi_show.specs.private.name.Left.{parts_left};
 ghost use Rattle.snmp_io.specs.Quotes.{is_quote};
 
 use snmp_io::open_after;

@@ -6,14 +6,14 @@ ghost use Rattle.snmp_oid.specs.Identifier.{IsIdentifier};
 ghost use Rattle.snmp_oid.specs.Numeric.{IsNumericName};
 ghost use Rattle.smi_value.specs.declared.letters.letters.NameForm.{NameForm};
 ghost use Rattle.smi_show.specs.name.Cutting.{name_parts, module_after};
-ghost use Rattle.smi_show.specs.name.Left.{parts_left};
+ghost use Rattle.smi_show.specs.private.name.Left.{parts_left};
 ghost use Rattle.smi_show.specs.name.Meaning.{further_meaning, meaning, meaning_in};
 ghost use Rattle.smi_show.specs.name.Meaning.{or_unknown, part_meaning, plain_meaning};
 ghost use Rattle.smi_show.specs.name.Meaning.{scoped_meaning};
 ghost use Rattle.smi_show.specs.name.Meant.{FrontMeans, TextMeans, found_in};
 ghost use Rattle.smi_show.specs.name.Name.{IsName, ReadsBack};
-ghost use Rattle.smi_show.specs.name.Part.{scope_in};
-ghost use Rattle.smi_show.specs.name.Reading.{meant_with, read_to};
+ghost use Rattle.smi_show.specs.private.name.Part.{scope_in};
+ghost use Rattle.smi_show.specs.private.name.Reading.{meant_with, read_to};
 
 use crate::name::cut::{cut_module, cut_part};
 use crate::name::part::read_part;

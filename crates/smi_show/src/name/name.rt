@@ -5,9 +5,9 @@ ghost use Rattle.std.specs.Option.{option_copied};
 ghost use Rattle.snmp_oid.specs.Numeric.{numeric_text};
 ghost use Rattle.snmp_io.specs.draft.Draft.{Adds};
 ghost use Rattle.smi_show.specs.index.Pieces.{shown_pieces};
-ghost use Rattle.smi_show.specs.index.Reading.{instance_pieces};
+ghost use Rattle.smi_show.specs.private.index.Reading.{instance_pieces};
 ghost use Rattle.smi_show.specs.name.Name.{arc_text, node_text, path_text, qualified};
-ghost use Rattle.smi_show.specs.name.Shown.{instance_text, name_text, standing_text};
+ghost use Rattle.smi_show.specs.private.name.Shown.{instance_text, name_text, standing_text};
 ghost use Rattle.smi_show.specs.name.Standing.{standing_of};
 
 use crate::Near;

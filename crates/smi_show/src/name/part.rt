@@ -4,7 +4,7 @@ ghost use Rattle.std.specs.Option.{option_copied};
 ghost use Rattle.std.specs.List.{list_all};
 ghost use Rattle.smi_show.specs.index.Pieces.{is_quotable};
 ghost use Rattle.smi_show.specs.name.Word.{numeral_of, quoted_in, word_of};
-ghost use Rattle.smi_show.specs.name.Part.{outcome_in};
+ghost use Rattle.smi_show.specs.private.name.Part.{outcome_in};
 
 use crate::index::is_quotable;
 use crate::name::NameError;

@@ -5,7 +5,7 @@ ghost use Rattle.smi_names.specs.chains.Resolution.{ComesTo};
 ghost use Rattle.smi_names.specs.meaning.Meaning.{origin, QualifiedName};
 ghost use Rattle.smi_tree.specs.types.Kept.{AreTypesOf};
 ghost use Rattle.smi_tree.specs.columns.Index.{IsIndexPart, clause_of, is_implied};
-ghost use Rattle.smi_tree.specs.columns.Named.{IsFoundAt, IsUndefined};
+ghost use Rattle.smi_tree.specs.private.columns.Named.{IsFoundAt, IsUndefined};
 ghost use Rattle.smi_tree.specs.columns.Kept.{HasNoPart, IsReading, items_of};
 ghost use Rattle.smi_tree.specs.columns.Kept.{IsOwn, AreOwn, AreOwnOfAll};
 

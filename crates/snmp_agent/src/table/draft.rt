@@ -67,9 +67,10 @@ impl Draft {
     ghost use Rattle.std.specs.Str.Lines.{lines};
     ghost use Rattle.snmp_agent.specs.table.Format.{Format};
     ghost use Rattle.snmp_agent.specs.table.Places.{entry_of};
-    ghost use Rattle.snmp_agent.specs.table.Draft.{HoldsTable, IsDraft, IsFirstHalt, IsFull};
-    ghost use Rattle.snmp_agent.specs.table.Draft.{IsHalt, IsHaltAt, IsStop, draft_entries};
-    ghost use Rattle.snmp_agent.specs.table.Draft.{draft_objects};
+    ghost use Rattle.snmp_agent.specs.private.table.Draft.{HoldsTable, IsDraft, IsFirstHalt};
+    ghost use Rattle.snmp_agent.specs.private.table.Draft.{IsFull};
+    ghost use Rattle.snmp_agent.specs.private.table.Draft.{IsHalt, IsHaltAt, IsStop, draft_entries};
+    ghost use Rattle.snmp_agent.specs.private.table.Draft.{draft_objects};
 
     /// A draft of no lines.
     fn new(alloc: Global, exact: bool) -> Draft

@@ -10,7 +10,7 @@ ghost use Rattle.snmp_agent.specs.table.Places.{IsAfterAll, entry_of, last_name}
 ghost use Rattle.snmp_agent.specs.table.Pages.{ArePages, IsPageOf, IsLongPage, IsPageWithRoom};
 ghost use Rattle.snmp_agent.specs.table.Pages.{IsRowIn, IsWithoutRow, StandsApart, entries_in};
 ghost use Rattle.snmp_agent.specs.table.Pages.{entries_of};
-ghost use Rattle.snmp_agent.specs.table.Halving.{StandsBetween};
+ghost use Rattle.snmp_agent.specs.private.table.Halving.{StandsBetween};
 
 use crate::table::hashes::Hashes;
 use crate::table::hint::{Guess, Guesses};

@@ -18,7 +18,7 @@ pub enum RowText {
 impl RowText {
     ghost use Rattle.std.specs.Prelude.{◌≡◌};
     ghost use Rattle.snmp_wire.specs.Message.{datum};
-    ghost use Rattle.snmp_agent.specs.table.Row.{datum_of, IsShort};
+    ghost use Rattle.snmp_agent.specs.private.table.Row.{datum_of, IsShort};
 
     /// Changes a value to this one, which it borrows.
     pub fn read_into<'a>(&'a self, into: &mut ValueRef<'a>)

@@ -5,7 +5,7 @@ ghost use Rattle.std.specs.Option.{option_map};
 ghost use Rattle.std.specs.Ordering.{nat_cmp};
 ghost use Rattle.std.specs.Cmp.Lexicographic.{slice_cmp};
 ghost use Rattle.std.specs.FinMap.{find};
-ghost use Rattle.snmp_agent.specs.table.Halving.{IsHalvedTo};
+ghost use Rattle.snmp_agent.specs.private.table.Halving.{IsHalvedTo};
 ghost use Rattle.snmp_agent.specs.table.Pages.{IsRising, HasNameAt, BelongsAt, IsPlaceAfter};
 ghost use Rattle.snmp_agent.specs.table.Pages.{entries_of};
 

@@ -8,7 +8,7 @@ ghost use Rattle.snmp_wire.specs.Message.{datum};
 ghost use Rattle.snmp_wire.specs.Message.Datum.{integer_value, counter32, gauge32, time_ticks};
 ghost use Rattle.snmp_wire.specs.Message.Datum.{counter64, octet_string};
 ghost use Rattle.snmp_agent.specs.table.Exact.{IsOnly, IsOnlyThere};
-ghost use Rattle.snmp_agent.specs.table.Row.{datum_of, tag_text, TakesMemory};
+ghost use Rattle.snmp_agent.specs.private.table.Row.{datum_of, tag_text, TakesMemory};
 ghost use Rattle.snmp_agent.specs.table.Table.{IsTableString};
 ghost use Rattle.snmp_agent.specs.table.Format.{Format, IsNameIn};
 ghost use Rattle.snmp_agent.specs.table.Text.{IsDecimal, IsSignedDecimal, IsAddressText};
@@ -38,7 +38,7 @@ pub enum Tag {
 impl Tag {
     ghost use Rattle.std.specs.Prelude.{◌≡◌, MatchOption};
     ghost use Rattle.snmp_agent.specs.table.Form.{IsTag};
-    ghost use Rattle.snmp_agent.specs.table.Row.{tag_text};
+    ghost use Rattle.snmp_agent.specs.private.table.Row.{tag_text};
 
     /// The tag that a text names.
     pub fn from_text(text: &[u8]) -> Option<Tag>

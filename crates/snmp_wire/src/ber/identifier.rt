@@ -10,7 +10,7 @@ ghost use Rattle.snmp_wire.specs.ber.Canon.{AreShort, canon_content, canon_subid
 ghost use Rattle.snmp_wire.specs.ber.Canon.{eight_from};
 ghost use Rattle.snmp_wire.specs.ber.Canon.{septets, subidentifier_size};
 ghost use Rattle.snmp_wire.specs.ber.Value.{object_id};
-ghost use Rattle.snmp_wire.specs.ber.Writing.{Writes};
+ghost use Rattle.snmp_wire.specs.private.ber.Writing.{Writes};
 
 use crate::ber::BerError;
 use crate::ber::writing::{put_octet, put_text};

@@ -3,7 +3,7 @@ ghost use Rattle.std.specs.Prelude.{◌≡◌, List, ℕ, ◌+◌, ◌^◌, ◌<
 ghost use Rattle.snmp_wire.specs.ber.Reading as reading;
 ghost use Rattle.snmp_wire.specs.ber.Reading.{AgreesBy};
 ghost use Rattle.snmp_wire.specs.ber.Canon.{canon_header, canon_length, length_size, octets};
-ghost use Rattle.snmp_wire.specs.ber.Writing.{Writes};
+ghost use Rattle.snmp_wire.specs.private.ber.Writing.{Writes};
 
 use crate::ber::BerError;
 use crate::ber::number::{put_octets, unsigned};

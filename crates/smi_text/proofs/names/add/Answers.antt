@@ -8,7 +8,7 @@ use Rattle.std.specs.Cmp.Lexicographic.{slice_cmp}
 use Rattle.std.proofs.lemmas.Map.Text.{is_eq-slice_cmp}
 use Rattle.std.proofs.lemmas.Slice.Eq.{bytes_eq-Decides}
 use Rattle.smi_text.specs.trees.Mark.{same_text}
-use Rattle.smi_text.specs.Names.{has, last_eight}
+use Rattle.smi_text.specs.private.Names.{has, last_eight}
 use Rattle.smi_text.proofs.names.add.Goals as goal
 
 cond-or : (b r : Bool) → cond b true r ≡ (b || r)

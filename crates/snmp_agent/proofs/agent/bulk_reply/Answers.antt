@@ -4,7 +4,7 @@ use Rattle.std.proofs.lemmas.List.{length-take-le}
 use Rattle.snmp_wire.specs.Parts.{parts_message}
 use Rattle.snmp_agent.specs.declared.room.ReplyBindings.{ReplyBindings}
 use Rattle.snmp_agent.specs.Reply.{IsResponse, no_error, response}
-use Rattle.snmp_agent.specs.Answering.{bulk_of, held}
+use Rattle.snmp_agent.specs.private.Answering.{bulk_of, held}
 use Rattle.snmp_agent.proofs.BulkReplies.{bulk_response}
 use Rattle.snmp_agent.proofs.Fronts.{HoldsFront, all_front}
 use Rattle.snmp_agent.proofs.Lengths.{room_within}

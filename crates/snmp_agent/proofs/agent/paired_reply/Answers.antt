@@ -4,7 +4,7 @@ use Rattle.std.proofs.lemmas.List.{length-take-le}
 use Rattle.snmp_wire.specs.Canon.{canon_bindings}
 use Rattle.snmp_wire.specs.Message.{Message}
 use Rattle.snmp_agent.specs.Reply.{Fits, response, shortened, too_big, whole}
-use Rattle.snmp_agent.specs.Answering.{answers_to, held, whole_index, whole_status}
+use Rattle.snmp_agent.specs.private.Answering.{answers_to, held, whole_index, whole_status}
 use Rattle.snmp_agent.specs.table.Table.{MibView}
 use Rattle.snmp_agent.proofs.Fronts.{HoldsFront, all_front, no_bindings}
 use Rattle.snmp_agent.proofs.ReplyBindings.{all_or_full}

@@ -1,7 +1,7 @@
 use Rattle.std.proofs.Common.{◌≡◌, ◌↔◌, ◌≤◌, IsSome, length, take, arith, ◌∙◌}
 use Rattle.std.proofs.lemmas.List.{length-take-le, take-take}
 use Rattle.snmp_wire.specs.Parts.{parts_message}
-use Rattle.snmp_agent.specs.Answering.{whole_size}
+use Rattle.snmp_agent.specs.private.Answering.{whole_size}
 use Rattle.snmp_agent.proofs.Lengths.{some_head}
 use Rattle.snmp_agent.proofs.Requests.{is_written}
 use Rattle.snmp_agent.proofs.agent.sealed.Goals as goal

@@ -3,8 +3,8 @@ use mir.Val.{of_z, to_z, SFits}
 use Rattle.std.proofs.lemmas.Int.{to_z-of_z}
 use Rattle.std.proofs.Common.{rules, ◌≡◌, ℤ, drop, take, sym, ap, ◌∙◌}
 use Rattle.snmp_agent.specs.Reply.{joined, or_zero}
-use Rattle.snmp_agent.specs.Answering.{Held, fill, held, rounds_from}
-use Rattle.snmp_agent.specs.Standing.{given_in}
+use Rattle.snmp_agent.specs.private.Answering.{Held, fill, held, rounds_from}
+use Rattle.snmp_agent.specs.private.Standing.{given_in}
 use Rattle.snmp_agent.proofs.Fronts.{fill_both, fill_full}
 use Rattle.snmp_agent.proofs.bulk.append_bulk.Goals as goal
 use Rattle.snmp_agent.proofs.bulk.append_bulk.Goals.{After-append_singles-reply}

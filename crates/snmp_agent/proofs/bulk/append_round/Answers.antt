@@ -6,8 +6,8 @@ use Rattle.std.proofs.lemmas.List.{append-nil, drop_all, map-append, take_all}
 use Rattle.std.proofs.lemmas.List.Edits.{map_over_more}
 use Rattle.std.proofs.lemmas.List.Folds.{list_all-append}
 use Rattle.snmp_wire.specs.Message.{VarBind}
-use Rattle.snmp_agent.specs.Answering.{Held, fill, held}
-use Rattle.snmp_agent.specs.Standing.{Standing, given_in, is_over, next_at, passed, place_of, places_of}
+use Rattle.snmp_agent.specs.private.Answering.{Held, fill, held}
+use Rattle.snmp_agent.specs.private.Standing.{Standing, given_in, is_over, next_at, passed, place_of, places_of}
 use Rattle.snmp_agent.proofs.Fronts.{fill_both, fill_full}
 use Rattle.snmp_agent.proofs.Lists.{still_there}
 use Rattle.snmp_agent.proofs.bulk.append_round.Goals as goal

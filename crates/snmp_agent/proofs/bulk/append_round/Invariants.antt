@@ -1,7 +1,7 @@
 use Rattle.std.proofs.Common.{◌≡◌, ◌++◌, ◌&&◌, map, take, drop, length}
 use Rattle.std.specs.List.{list_all}
-use Rattle.snmp_agent.specs.Answering.{fill, held}
-use Rattle.snmp_agent.specs.Standing.{given_in, is_over, next_at, passed, places_of}
+use Rattle.snmp_agent.specs.private.Answering.{fill, held}
+use Rattle.snmp_agent.specs.private.Standing.{given_in, is_over, next_at, passed, places_of}
 use Rattle.snmp_agent.proofs.bulk.append_round.Given as goal
 
 -- the places so far are moved, and with what comes next at the others all is added

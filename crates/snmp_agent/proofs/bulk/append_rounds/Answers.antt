@@ -3,8 +3,8 @@ use Rattle.std.proofs.Common.{◌≡◌, ◌⊎◌, inl, inr, ◌+◌, true, Lis
 use Rattle.std.specs.List.{list_all}
 use Rattle.std.proofs.lemmas.List.{map-append}
 use Rattle.snmp_wire.specs.Message.{VarBind}
-use Rattle.snmp_agent.specs.Answering.{fill, held}
-use Rattle.snmp_agent.specs.Standing.{Standing, given_in, is_over, next_at, passed, places_of}
+use Rattle.snmp_agent.specs.private.Answering.{fill, held}
+use Rattle.snmp_agent.specs.private.Standing.{Standing, given_in, is_over, next_at, passed, places_of}
 use Rattle.snmp_agent.proofs.Rounds.{rounds_done, rounds_first, rounds_next, rounds_over}
 use Rattle.snmp_agent.proofs.Standing.{places_passed}
 use Rattle.snmp_agent.proofs.bulk.append_rounds.Goals as goal

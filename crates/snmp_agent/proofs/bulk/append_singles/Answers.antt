@@ -2,8 +2,8 @@ use Rattle.std.proofs.lemmas.Grind.{common_steps}
 use Rattle.std.proofs.Common.{◌≡◌, ℕ, suc, ◌+◌, ◌-◌, List, [], ◌∷◌, take, drop, sym, ap, ◌∙◌, arith}
 use Rattle.std.proofs.Math.Seq.{drop-nil, take-nil}
 use Rattle.snmp_wire.specs.Message.{VarBind}
-use Rattle.snmp_agent.specs.Answering.{Held, fill, held}
-use Rattle.snmp_agent.specs.Standing.{given_in}
+use Rattle.snmp_agent.specs.private.Answering.{Held, fill, held}
+use Rattle.snmp_agent.specs.private.Standing.{given_in}
 use Rattle.snmp_agent.proofs.Fronts.{fill_full}
 use Rattle.snmp_agent.proofs.bulk.append_singles.Goals as goal
 use Rattle.snmp_agent.proofs.bulk.append_singles.Goals.{After-append_next-reply}

@@ -1,6 +1,6 @@
 use Rattle.std.proofs.Common.{arith, List, ◌++◌, ap, append_assoc}
 use Rattle.std.proofs.lemmas.Grind.{common_steps}
-use Rattle.snmp_agent.specs.Standing.{Standing, places_of}
+use Rattle.snmp_agent.specs.private.Standing.{Standing, places_of}
 use Rattle.snmp_agent.proofs.bulk.keep_places.Goals as goal
 
 pub names-init : goal.names-init

@@ -1,5 +1,5 @@
 use Rattle.std.proofs.Common.{◌≡◌, ◌++◌, length}
-use Rattle.snmp_agent.specs.Standing.{places_of}
+use Rattle.snmp_agent.specs.private.Standing.{places_of}
 use Rattle.snmp_agent.proofs.bulk.keep_places.Given as goal
 
 -- the places so far, and those of the names that are left, are all

@@ -1,6 +1,6 @@
 use Rattle.std.proofs.Common.{arith, ◌≡◌, refl, sym, subst, ◌∙◌}
 use Rattle.std.proofs.lemmas.Grind.{common_steps}
-use Rattle.snmp_agent.specs.Answering.{AreWritable, answers_to, fill, held}
+use Rattle.snmp_agent.specs.private.Answering.{AreWritable, answers_to, fill, held}
 use Rattle.snmp_agent.proofs.Fronts.{fill_full}
 use Rattle.snmp_agent.proofs.draft.append_answers.Goals as goal
 use Rattle.snmp_agent.proofs.draft.append_answers.Goals.{After-append_answer-reply}

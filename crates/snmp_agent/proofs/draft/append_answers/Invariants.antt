@@ -1,5 +1,5 @@
 use Rattle.std.proofs.Common.{◌≡◌, length}
-use Rattle.snmp_agent.specs.Answering.{AreWritable, answers_to, fill, held}
+use Rattle.snmp_agent.specs.private.Answering.{AreWritable, answers_to, fill, held}
 use Rattle.snmp_agent.proofs.draft.append_answers.Given as goal
 
 -- what is still to be answered, added now, is all, added at the beginning

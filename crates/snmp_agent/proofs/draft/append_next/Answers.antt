@@ -1,6 +1,6 @@
 use Rattle.std.proofs.Common.{◌∙◌, [], ◌∷◌, List, ℕ, ap, subst}
 use Rattle.snmp_wire.specs.Message.Datum.{end_of_mib_view}
-use Rattle.snmp_agent.specs.Answering.{add, held}
+use Rattle.snmp_agent.specs.private.Answering.{add, held}
 use Rattle.snmp_agent.specs.table.Pages.{AreBehind}
 use Rattle.snmp_agent.specs.table.Places.{entry_of}
 use Rattle.snmp_agent.specs.table.Table.{MibView}

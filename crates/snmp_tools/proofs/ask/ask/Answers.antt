@@ -2,7 +2,7 @@ use Rattle.std.proofs.Common.{ap, refl}
 use Rattle.snmp_tools.specs.loading.Message.{refusal_of}
 use Rattle.snmp_tools.specs.Message.{fault_of, modules_fault}
 use Rattle.snmp_tools.specs.Outcome.{loaded, not_loaded}
-use Rattle.snmp_tools.specs.Planned.{ask_words}
+use Rattle.snmp_tools.specs.private.Planned.{ask_words}
 use Rattle.snmp_tools.specs.Seen.{seen}
 use Rattle.snmp_tools.proofs.Steps.{at_mibs}
 use Rattle.snmp_tools.proofs.Wholes.{are_loaded, loads_from, loads_of, mibs_fail, outcome_as, outcome_err}

@@ -3,7 +3,7 @@ use Rattle.snmp_net.specs.Address.{address_of, table, udp}
 use Rattle.snmp_tools.specs.Asking.{HasAgent}
 use Rattle.snmp_tools.specs.Message.{fault_of}
 use Rattle.snmp_tools.specs.Outcome.{asked, asked_over, not_begun, not_linked, refused}
-use Rattle.snmp_tools.specs.Planned.{ask_words}
+use Rattle.snmp_tools.specs.private.Planned.{ask_words}
 use Rattle.snmp_tools.proofs.Steps.{names_refused, unreached, unsent}
 use Rattle.snmp_tools.proofs.Wholes.{outcome_err, with_facts}
 use Rattle.snmp_tools.proofs.ask.ask_by.Goals as goal

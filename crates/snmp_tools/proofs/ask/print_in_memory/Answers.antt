@@ -4,7 +4,7 @@ use Rattle.snmp_walk.specs.declared.end.WalkEnd.{WalkEnd}
 use Rattle.snmp_tools.specs.Answer.{end_in_memory}
 use Rattle.snmp_tools.specs.Message.{outcome_of}
 use Rattle.snmp_tools.specs.Outcome.{IsFinished}
-use Rattle.snmp_tools.specs.Planned.{plan_of, question_of}
+use Rattle.snmp_tools.specs.private.Planned.{plan_of, question_of}
 use Rattle.snmp_tools.proofs.Asked.{can_run, is_asked, printed_in}
 use Rattle.snmp_tools.proofs.ask.print_in_memory.Goals as goal
 

@@ -1,7 +1,7 @@
 use Rattle.std.proofs.Common.{◌+◌, Bool, subst}
 use Rattle.snmp_tools.specs.Message.{outcome_of}
 use Rattle.snmp_tools.specs.Outcome.{IsFinished}
-use Rattle.snmp_tools.specs.Planned.{plan_of, question_of}
+use Rattle.snmp_tools.specs.private.Planned.{plan_of, question_of}
 use Rattle.snmp_tools.proofs.Asked.{asked_over, can_run}
 use Rattle.snmp_tools.proofs.ask.print_over.Goals as goal
 

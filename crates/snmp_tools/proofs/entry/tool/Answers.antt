@@ -5,7 +5,7 @@ use Rattle.snmp_words.specs.Command.{faults_of, is_taken}
 use Rattle.snmp_words.specs.Words.{HasFaultOf, IsMemory, StateJob, snmpwalk, texts_at}
 use Rattle.snmp_words.specs.declared.UsageError.{UsageError}
 use Rattle.snmp_words.specs.declared.UsageError.TheVariants.{Parse}
-use Rattle.snmp_tools.specs.Planned.{numeric_walk}
+use Rattle.snmp_tools.specs.private.Planned.{numeric_walk}
 use Rattle.snmp_tools.specs.Usage.{AreFaultless}
 use Rattle.snmp_tools.proofs.Jobs.{of_words, undone}
 use Rattle.snmp_tools.proofs.entry.tool.Goals as goal

@@ -1,8 +1,8 @@
 use Rattle.std.proofs.Common.{List, ap, subst, sym, ℕ, ◌∙◌}
 use Rattle.snmp_words.specs.Command.{is_taken}
 use Rattle.snmp_words.specs.Words.{StateJob, snmpwalk}
-use Rattle.snmp_tools.specs.Planned.{numeric_walk}
-use Rattle.snmp_tools.specs.Resolved.{names_in}
+use Rattle.snmp_tools.specs.private.Planned.{numeric_walk}
+use Rattle.snmp_tools.specs.private.Resolved.{names_in}
 use Rattle.snmp_tools.proofs.BareNames.{bare_mib}
 use Rattle.snmp_tools.proofs.TableWalks.{prints_rows, words_are}
 use Rattle.snmp_tools.proofs.laws.table_walks.Goals as goal

@@ -2,7 +2,7 @@ use Rattle.std.proofs.Common.{◌≡◌, ◌⊎◌, ◌+◌, ◌++◌, Bool, fal
 use Rattle.std.specs.Prelude.{if◌then◌else◌}
 use Rattle.std.specs.Result.{is_err, is_ok}
 use Rattle.snmp_words.specs.Words.{texts_at}
-use Rattle.snmp_tools.specs.Planned.{mib_in}
+use Rattle.snmp_tools.specs.private.Planned.{mib_in}
 use Rattle.snmp_io.specs.Steps.{IsFirstToFail}
 use Rattle.snmp_tools.specs.Asking.{NameFails}
 use Rattle.snmp_tools.specs.Message.{fault_of, out_of_memory}

@@ -1,5 +1,5 @@
 use Rattle.std.proofs.Common.{sym, ◌∙◌}
-use Rattle.snmp_walk.specs.Taken.{take_of}
+use Rattle.snmp_walk.specs.private.Taken.{take_of}
 use Rattle.snmp_walk.proofs.JudgedLemmas.{found, only}
 use Rattle.snmp_walk.proofs.laws.messages_mean.Goals as goal
 

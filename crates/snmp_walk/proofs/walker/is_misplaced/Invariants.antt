@@ -1,5 +1,5 @@
 use Rattle.std.proofs.Common.{◌≡◌, length}
-use Rattle.snmp_walk.specs.Reading.{is_misplaced}
+use Rattle.snmp_walk.specs.private.Reading.{is_misplaced}
 use Rattle.snmp_walk.proofs.walker.is_misplaced.Given as goal
 
 abbrev pub invariant-bindings : goal.invariant-bindings

@@ -6,7 +6,7 @@ use mir.Syntax.{w32}
 use mir.Val.{SFits, of_z, to_z}
 use Rattle.snmp_wire.specs.ber.Canon.{canon_content, canon_number}
 use Rattle.snmp_wire.specs.ber.Value.{integer_value}
-use Rattle.snmp_wire.specs.ber.Writing.{Writes}
+use Rattle.snmp_wire.specs.private.ber.Writing.{Writes}
 use Rattle.snmp_wire.proofs.ElementLaws.{content_number, value_content_fits, value_header_fits, writes_value}
 use Rattle.snmp_wire.proofs.WritingLaws.{writes_same}
 use Rattle.snmp_wire.proofs.CanonLemmas.{short_number}

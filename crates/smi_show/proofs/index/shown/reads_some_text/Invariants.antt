@@ -1,5 +1,5 @@
 use Rattle.std.proofs.Common.{◌≡◌, drop, is_some}
-use Rattle.smi_show.specs.index.Reading.{has_text, values_of}
+use Rattle.smi_show.specs.private.index.Reading.{has_text, values_of}
 use Rattle.smi_show.proofs.index.shown.reads_some_text.Given as goal
 
 -- the parts that are left read the numbers that are left exactly where all read all, and have a text where all have one

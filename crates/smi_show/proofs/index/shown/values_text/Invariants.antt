@@ -1,6 +1,6 @@
 use Rattle.std.proofs.Common.{◌≡◌, ℕ, List, ◌++◌, drop, Some}
 use Rattle.snmp_io.specs.draft.Draft.{Grows}
-use Rattle.smi_show.specs.index.Reading.{values_of}
+use Rattle.smi_show.specs.private.index.Reading.{values_of}
 use Rattle.smi_show.specs.index.Pieces.{index_pieces, shown_pieces}
 use Rattle.smi_show.proofs.index.shown.values_text.Given as goal
 

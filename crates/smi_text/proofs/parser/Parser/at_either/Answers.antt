@@ -1,5 +1,5 @@
 use Rattle.std.proofs.Common.{refl, [], ◌∷◌}
-use Rattle.smi_text.specs.Format.{a_kind}
+use Rattle.smi_text.specs.private.Format.{a_kind}
 use Rattle.smi_text.proofs.Marks.{begins-append}
 use Rattle.smi_text.proofs.parser.Parser.at_either.Goals as goal
 

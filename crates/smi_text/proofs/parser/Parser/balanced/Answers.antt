@@ -1,6 +1,6 @@
 use Rattle.std.proofs.lemmas.Grind.{common_steps}
 use Rattle.std.proofs.Common.{◌∙◌, sym, arith, length-append}
-use Rattle.smi_text.specs.Grammar.{balanced}
+use Rattle.smi_text.specs.private.Grammar.{balanced}
 use Rattle.smi_text.proofs.Loops.{depth_after-le, balanced-next, balanced-open, balanced-outside, balanced-closed}
 use Rattle.smi_text.proofs.Many.{with_front-nil}
 use Rattle.smi_text.proofs.parser.Parser.balanced.Goals as goal

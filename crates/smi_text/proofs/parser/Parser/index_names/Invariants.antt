@@ -1,5 +1,5 @@
 use Rattle.std.proofs.Common.{◌≡◌, ℕ, suc, ◌≤◌, length}
-use Rattle.smi_text.specs.Grammar.{index_names, read_index, with_names}
+use Rattle.smi_text.specs.private.Grammar.{index_names, read_index, with_names}
 use Rattle.smi_text.proofs.parser.Parser.index_names.Given as goal
 
 abbrev pub invariant-each : goal.invariant-each

@@ -1,5 +1,5 @@
 use Rattle.std.proofs.Common.{◌≡◌, ℕ, suc, ◌≤◌, length}
-use Rattle.smi_text.specs.Format.{many, read_many, with_front}
+use Rattle.smi_text.specs.private.Format.{many, read_many, with_front}
 use Rattle.smi_text.proofs.parser.Parser.many_after.Given as goal
 
 abbrev pub invariant-each : goal.invariant-each

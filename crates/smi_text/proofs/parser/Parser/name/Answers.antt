@@ -4,7 +4,7 @@ use Rattle.smi_text.specs.contracts.lexer.token.TokenKind.{the_type}
 use Rattle.smi_text.specs.declared.lexer.token.TokenKind.TheVariants as K
 use Rattle.smi_text.specs.lexer.Token.{lexeme_of}
 use Rattle.smi_text.specs.trees.Reserved.{is_reserved}
-use Rattle.smi_text.specs.Format.{a_name, name}
+use Rattle.smi_text.specs.private.Format.{a_name, name}
 use Rattle.smi_text.proofs.Lexical.{gives-name}
 use Rattle.smi_text.proofs.parser.Parser.name.Goals as goal
 

@@ -1,6 +1,6 @@
 use Rattle.std.proofs.Common.{◌≡◌, ◌↔◌, Bool, true, false, List, [], ◌∷◌, ℕ, ap, refl, sym, ◌∙◌}
 use Rattle.snmp_wire.specs.Message.{Datum}
-use Rattle.snmp_agent.specs.Standing.{has_none, is_over}
+use Rattle.snmp_agent.specs.private.Standing.{has_none, is_over}
 use Rattle.snmp_agent.proofs.place.Place.is_at_end.Goals as goal
 
 tested : (b : Bool) (es : List (List ℕ × Datum)) → (b ≡ true) ↔ (es ≡ []) → b ≡ has_none es

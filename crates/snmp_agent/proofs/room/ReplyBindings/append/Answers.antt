@@ -1,6 +1,6 @@
 use Rattle.std.proofs.Common.{arith}
 use Rattle.snmp_wire.specs.Message.{var_bind}
-use Rattle.snmp_agent.specs.Answering.{held}
+use Rattle.snmp_agent.specs.private.Answering.{held}
 use Rattle.std.proofs.lemmas.Grind.{common_steps}
 use Rattle.std.proofs.lemmas.Slice.{take-put_mid_below}
 use Rattle.snmp_agent.proofs.Encodings.{long_binding}

@@ -1,5 +1,5 @@
 use Rattle.std.proofs.Common.{◌∙◌, ap}
-use Rattle.snmp_agent.specs.Answering.{add, put, held}
+use Rattle.snmp_agent.specs.private.Answering.{add, put, held}
 use Rattle.snmp_agent.proofs.room.ReplyBindings.append_row.Goals as goal
 
 pub returns : goal.returns

@@ -2,7 +2,7 @@ use Rattle.std.proofs.Common.{◌≡◌, ℕ, List, Some, true, false, sym, subs
 use Rattle.std.specs.Option.{option_map}
 use Rattle.snmp_wire.specs.Message.{Datum, VarBind, datum}
 use Rattle.snmp_agent.specs.table.Exact.{IsOnly, IsOnlyThere}
-use Rattle.snmp_agent.specs.table.Row.{datum_of, tag_text}
+use Rattle.snmp_agent.specs.private.table.Row.{datum_of, tag_text}
 use Rattle.snmp_agent.specs.table.Form.{IsInstanceText}
 use Rattle.snmp_agent.specs.table.Format.{IsNameIn}
 use Rattle.snmp_agent.specs.table.Text.{IsValueText}

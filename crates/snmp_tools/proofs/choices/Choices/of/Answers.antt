@@ -1,6 +1,6 @@
 use Rattle.std.proofs.Common.{MatchResult, subst, sym}
-use Rattle.snmp_tools.specs.Chosen.{chosen}
-use Rattle.snmp_tools.specs.Planned.{request_of}
+use Rattle.snmp_tools.specs.private.Chosen.{chosen}
+use Rattle.snmp_tools.specs.private.Planned.{request_of}
 use Rattle.snmp_tools.specs.Question.{HasChosen, HasUnknown}
 use Rattle.snmp_tools.specs.declared.request.Request.{Request}
 use Rattle.snmp_tools.proofs.choices.Choices.of.Goals as goal

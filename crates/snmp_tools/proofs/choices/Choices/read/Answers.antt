@@ -2,7 +2,7 @@ use Rattle.std.proofs.Common.{◌+◌, ◌-◌, ◌∙◌, List, ℕ, arith, dro
 use Rattle.std.proofs.lemmas.Grind.{common_steps}
 use Rattle.std.proofs.lemmas.List.{take_all}
 use Rattle.std.proofs.lemmas.Result.{err_from_is_err_and}
-use Rattle.snmp_tools.specs.Chosen.{chosen}
+use Rattle.snmp_tools.specs.private.Chosen.{chosen}
 use Rattle.snmp_tools.specs.Letters.{Choices, HaveChosen, IsFirstUnknown}
 use Rattle.snmp_tools.proofs.ChosenLetters.{AreReadTo, ends, goes_on, none_read}
 use Rattle.snmp_tools.proofs.choices.Choices.read.Goals as goal

@@ -1,9 +1,9 @@
 use Rattle.std.proofs.Common.{◌≡◌, ℕ, List, Bor, Ok, inl, inr, refl, sym, option_map, subst}
 use Rattle.smi_show.specs.name.Meant.{TextMeans}
 use Rattle.snmp_tools.specs.Asking.{NameFails}
-use Rattle.snmp_tools.specs.Chosen.{chosen}
+use Rattle.snmp_tools.specs.private.Chosen.{chosen}
 use Rattle.snmp_tools.specs.Message.{fault_of}
-use Rattle.snmp_tools.specs.Planned.{HasTextsOf, NamesFail, mib_in, request_of}
+use Rattle.snmp_tools.specs.private.Planned.{HasTextsOf, NamesFail, mib_in, request_of}
 use Rattle.snmp_tools.specs.Question.{IsQuestionOf, IsWalkOf, Walk, subtree}
 use Rattle.snmp_tools.specs.declared.failure.Failure.{Failure}
 use Rattle.snmp_tools.specs.declared.plan.Question.TheVariants as planned

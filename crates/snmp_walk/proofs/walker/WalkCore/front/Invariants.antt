@@ -1,5 +1,5 @@
 use Rattle.std.proofs.Common.{◌≡◌, ◌+◌, ◌<◌, ◌^◌, length}
-use Rattle.snmp_walk.specs.Reading.{front_from, is_misplaced, name_or}
+use Rattle.snmp_walk.specs.private.Reading.{front_from, is_misplaced, name_or}
 use Rattle.snmp_walk.proofs.walker.WalkCore.front.Given as goal
 use Rattle.snmp_walk.specs.Request.{asked_for}
 

@@ -1,10 +1,10 @@
 use Rattle.std.proofs.Common.{◌≡◌, ℕ, List, refl, inr, sym, ◌∙◌, ap}
 use Rattle.snmp_wire.specs.Message.{Message}
 use Rattle.snmp_wire.specs.Spelling.{Spells}
-use Rattle.snmp_walk.specs.Codec.{Codec}
-use Rattle.snmp_walk.specs.Course.{step_of}
+use Rattle.snmp_walk.specs.private.Codec.{Codec}
+use Rattle.snmp_walk.specs.private.Course.{step_of}
 use Rattle.snmp_walk.specs.Judged.{MeansBy}
-use Rattle.snmp_walk.specs.Taken.{take_of}
+use Rattle.snmp_walk.specs.private.Taken.{take_of}
 use Rattle.snmp_walk.specs.Walker.{Walker}
 use Rattle.snmp_walk.specs.declared.rows.Step.{Step}
 use Rattle.snmp_walk.proofs.JudgedLemmas.{means_by}

@@ -3,7 +3,7 @@ use Rattle.std.proofs.lemmas.Grind.{common_steps}
 use Rattle.std.proofs.Common.{rules, ◌≡◌, ◌≢◌, ℕ, ◌<◌, inl, inr, List, [], ◌∷◌, ◌++◌, Some, set, length, arith, sym}
 use Rattle.std.proofs.lemmas.List.{get_or-set_same, get_or-set_other}
 use Rattle.std.proofs.lemmas.Bool.{cases_eq}
-use Rattle.smi_names.specs.chains.Search.{Leads, mark_at}
+use Rattle.smi_names.specs.private.chains.Search.{Leads, mark_at}
 use Rattle.smi_names.specs.declared.chains.order.Mark.{Mark}
 use Rattle.smi_names.specs.declared.chains.order.Mark.TheVariants as M
 use Rattle.smi_names.proofs.Climbing.{news-set, Keeps-met, Leads-push}

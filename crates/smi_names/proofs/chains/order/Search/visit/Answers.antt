@@ -4,7 +4,7 @@ use Rattle.std.proofs.Common.{rules, ◌≡◌, ◌≢◌, ℕ, ◌<◌, List, [
 use Rattle.std.proofs.lemmas.List.{get_or-set_same, get_or-set_other}
 use Rattle.std.proofs.lemmas.List.Elements.{All-contains, Contains-push}
 use Rattle.std.proofs.lemmas.Bool.{cases_eq}
-use Rattle.smi_names.specs.chains.Search.{mark_at}
+use Rattle.smi_names.specs.private.chains.Search.{mark_at}
 use Rattle.smi_names.specs.declared.chains.order.Mark.{Mark}
 use Rattle.smi_names.specs.declared.chains.order.Mark.TheVariants as M
 use Rattle.smi_names.proofs.Climbing.{Keeps-settled, Leads-settled, Leads-pop, Keeps-left, IsSettled-stopped}

@@ -41,6 +41,7 @@ returns-then-is_none c =
           (none_of (identifier_value_of c.args.def.now.kind) none);
     }
 
+-- the value is there, and the name comes to what was kept of it
 pub returns-in-Some : goal.returns-in-Some
 returns-in-Some c = grind (arith, common_steps, is_some, some_of, added)
 

@@ -16,5 +16,6 @@ returns-in-Some c =
       λ some. c.is_identifier.ensures.1 (some.0, c.one_resolution.ensures c.args.self.now p c.in-Some.resolution.now (R.Numbers some.0) comes some.1),
     )
 
+-- what comes to nothing has no numbers to come to
 pub returns-in-None : goal.returns-in-None
 returns-in-None c = grind (arith, common_steps)

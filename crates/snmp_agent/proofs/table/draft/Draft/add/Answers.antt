@@ -4,7 +4,7 @@ use Rattle.std.specs.List.{list_any}
 use Rattle.std.specs.Ordering.{nat_cmp, eq_by_cmp}
 use Rattle.std.specs.Cmp.Lexicographic.{slice_cmp}
 use Rattle.snmp_agent.specs.table.Form.{States, nothing, object_prefix, instance}
-use Rattle.snmp_agent.specs.table.Draft.{draft_objects}
+use Rattle.snmp_agent.specs.private.table.Draft.{draft_objects}
 use Rattle.snmp_agent.proofs.Adding.{either, full, row_added, row_halted, stopped}
 use Rattle.snmp_agent.proofs.OneStatement.{states_only}
 use Rattle.snmp_agent.proofs.TableDrafts.{holds_nothing, holds_object, list_any-insert}

@@ -5,7 +5,7 @@ use Rattle.std.specs.Cmp.Lexicographic.{slice_cmp}
 use Rattle.std.specs.FinMap.{FinMap, entries}
 use Rattle.std.specs.Str.Lines.{lines}
 use Rattle.snmp_wire.specs.Message.{Datum}
-use Rattle.snmp_agent.specs.table.Draft.{HoldsTable, draft_objects}
+use Rattle.snmp_agent.specs.private.table.Draft.{HoldsTable, draft_objects}
 use Rattle.snmp_agent.specs.table.Places.{view_of}
 use Rattle.snmp_agent.specs.table.Stated.{IsTableIn}
 use Rattle.snmp_agent.specs.table.Table.{IsMibView}

@@ -9,7 +9,7 @@ use Rattle.snmp_words.specs.Words.{AskingWords, WalkWords, asking_words, texts_a
 use Rattle.snmp_net.specs.Address.{address_of}
 use Rattle.snmp_tools.specs.Asking.{AreShown, AskingFails, HasAgent, IsAskingDone, NameFails}
 use Rattle.snmp_tools.specs.Asking.{agent_step, community_step, letters_step, version_step}
-use Rattle.snmp_tools.specs.Chosen.{chosen}
+use Rattle.snmp_tools.specs.private.Chosen.{chosen}
 use Rattle.snmp_tools.specs.Message.{Fault, out_of_memory}
 use Rattle.snmp_tools.specs.Mib.{Mib}
 use Rattle.snmp_tools.specs.Question as question

@@ -3,7 +3,7 @@ use Rattle.std.specs.Prelude.{◌≡◌, ℕ, ◌<◌, ◌⊎◌, false, List}
 use Rattle.snmp_wire.specs.Canon.{canon}
 use Rattle.snmp_walk.specs.Walker.{Walker, IsWalker}
 use Rattle.snmp_walk.specs.Request.{request_of}
-use Rattle.snmp_walk.specs.Taken.{is_over}
+use Rattle.snmp_walk.specs.private.Taken.{is_over}
 use Rattle.snmp_walk.specs.Link.{Agents, OneOf, IsReplyFrom}
 
 -- `Other` holds of no reply to the request, and of each reply to another of the datagrams sent

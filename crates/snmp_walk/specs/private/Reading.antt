@@ -25,7 +25,7 @@ use Rattle.snmp_walk.specs.declared.walker.Ending.TheVariants as ending
 use Rattle.snmp_walk.specs.declared.walker.Front.{Front}
 use Rattle.snmp_walk.specs.Names.{is_inside, is_missing, comes_after}
 use Rattle.snmp_walk.specs.Trail.{last_name}
-use Rattle.snmp_walk.specs.Taken.{inside_front, rising_front, name_at}
+use Rattle.snmp_walk.specs.private.Taken.{inside_front, rising_front, name_at}
 
 -- what follows the instances that are read: nothing, a binding that ends the walk, or one below the
 -- root whose name doesn't rise

@@ -7,7 +7,7 @@ use Rattle.snmp_agent.specs.declared.table.line.LineFault.{LineFault}
 use Rattle.snmp_agent.specs.declared.table.line.LineFault.TheVariants as fault
 use Rattle.snmp_agent.specs.declared.table.line.Form.{Form}
 use Rattle.snmp_agent.specs.declared.table.line.Form.TheVariants as form
-use Rattle.snmp_agent.specs.table.Row.{tag_text}
+use Rattle.snmp_agent.specs.private.table.Row.{tag_text}
 use Rattle.snmp_agent.specs.table.Form.{Statement, nothing, object_prefix, instance}
 use Rattle.snmp_agent.specs.table.Form.{IsRowForm, IsObjectText, IsInstanceText}
 use Rattle.snmp_agent.specs.table.Form.{IsBadLine, IsBadName, IsBadValue}

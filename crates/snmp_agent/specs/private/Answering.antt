@@ -13,7 +13,7 @@ use Rattle.snmp_agent.specs.table.Table.{MibView, IsNextAfter}
 use Rattle.snmp_agent.specs.declared.room.ReplyBindings.{ReplyBindings}
 use Rattle.snmp_agent.specs.Reply.{AreAnswers, IsResponse, not_writable, no_error}
 use Rattle.snmp_agent.specs.Reply.{failed_place, joined, or_zero}
-use Rattle.snmp_agent.specs.Standing.{given_in, is_over, next_at, place_of, places_of}
+use Rattle.snmp_agent.specs.private.Standing.{given_in, is_over, next_at, place_of, places_of}
 
 -- what the reply to a Get, a GetNext or a Set has for one of its bindings, and for each
 abbrev pub answer_to : MibView → Kind → VarBind → VarBind

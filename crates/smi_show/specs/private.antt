@@ -1,0 +1,3 @@
+pub mod details
+pub mod index
+pub mod name

@@ -1,0 +1,5 @@
+pub mod Ahead
+pub mod Format
+pub mod Grammar
+pub mod Kinds
+pub mod Names

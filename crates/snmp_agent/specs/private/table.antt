@@ -1,0 +1,4 @@
+pub mod Draft
+pub mod Halving
+pub mod Line
+pub mod Row

@@ -1,0 +1,5 @@
+pub mod Choosing
+pub mod Chosen
+pub mod Planned
+pub mod Resolved
+pub mod Start

@@ -1,0 +1,6 @@
+pub mod Arena
+pub mod Codec
+pub mod Course
+pub mod Heard
+pub mod Reading
+pub mod Taken
