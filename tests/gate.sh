@@ -382,13 +382,22 @@ same 'edits that were refused' '0 2 passed, 0 failed, 0 skipped' "$? $(tail -n 1
 stale 'edits that were tried' 0 '2 crates are as their edits were tried'
 printf '\n-- a comment\n' >>"$tree/crates/low/specs/Low.antt"
 stale 'a comment in a definition below' 0 '2 crates are as their edits were tried'
+echo 'use Rattle.low.specs.Low.{a, b}' >"$tree/crates/low/specs/High.antt"
+in_tree tests/edits.py >"$got/out"
+mkdir "$tree/crates/low/specs/private"
+mv "$tree/crates/low/specs/Low.antt" "$tree/crates/low/specs/private/Low.antt"
+printf 'use Rattle.low.specs.private.Low.{%s}\n' a b >"$tree/crates/low/specs/High.antt"
+stale 'definitions that move to private, and an import of two lines' 0 '2 crates are as their edits were tried'
+sed -i 's/{b}/{c}/' "$tree/crates/low/specs/High.antt"
+both=("low: it isn't what its edits were tried over (tests/edits.py low)"
+    "mid: it isn't what its edits were tried over (tests/edits.py mid)"
+    "0 crates are as their edits were tried, 2 aren't")
+stale 'an import of another name' 2 "${both[@]}"
+edited
 echo 'more' >>"$tree/crates/low/src/lib.rt"
 no_line 'a source of another crate' low "it isn't what its edits were tried over"
 edited
 echo 'more' >>"$tree/crates/low/specs/Low.antt"
-both=("low: it isn't what its edits were tried over (tests/edits.py low)"
-    "mid: it isn't what its edits were tried over (tests/edits.py mid)"
-    "0 crates are as their edits were tried, 2 aren't")
 stale 'a definition below' 2 "${both[@]}"
 edited
 sed -i 's/kit-1/kit-2/' "$tree/README.md"
