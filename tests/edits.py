@@ -109,10 +109,14 @@ def hash_of(crate):
     folders += [f"crates/{below}/specs" for below in crates_below(crate)]
     hashed = hashlib.sha256(toolchain().encode())
     for folder in folders:
-        files = [os.path.join(room, name) for room, _, names in os.walk(at(folder)) for name in names]
-        said = {os.path.relpath(path, TOP).replace("/private/", "/"): statements_of(path) for path in files}
-        for path in filter(said.get, sorted(said)):
-            hashed.update(f"{path} {len(said[path])}\n".encode() + said[path])
+        said = {}
+        for path in (os.path.join(room, name) for room, _, names in os.walk(at(folder)) for name in names):
+            place, text = os.path.relpath(path, TOP).replace("/private/", "/"), statements_of(path)
+            if text and place in said:
+                sys.exit(f"edits.py: {place} is there twice, once in private")
+            said.update({place: text} if text else {})
+        for place, text in sorted(said.items()):
+            hashed.update(f"{place} {len(text)}\n".encode() + text)
     return hashed.hexdigest()
 
 

@@ -388,6 +388,11 @@ mkdir "$tree/crates/low/specs/private"
 mv "$tree/crates/low/specs/Low.antt" "$tree/crates/low/specs/private/Low.antt"
 printf 'use Rattle.low.specs.private.Low.{%s}\n' a b >"$tree/crates/low/specs/High.antt"
 stale 'definitions that move to private, and an import of two lines' 0 '2 crates are as their edits were tried'
+cp "$tree/crates/low/specs/High.antt" "$tree/crates/low/specs/Low.antt"
+same 'two files of definitions of one name, one in private' \
+    '1 edits.py: crates/low/specs/Low.antt is there twice, once in private' \
+    "$(in_tree tests/edits.py --stale 2>"$got/out"; echo "$? $(cat "$got/out")")"
+rm "$tree/crates/low/specs/Low.antt"
 sed -i 's/{b}/{c}/' "$tree/crates/low/specs/High.antt"
 both=("low: it isn't what its edits were tried over (tests/edits.py low)"
     "mid: it isn't what its edits were tried over (tests/edits.py mid)"

@@ -1,4 +1,4 @@
--- What the name at a place resolves to, by where its numbers come from and what the name resolves to to which it leads.
+-- What the name at a place resolves to, by where its numbers come from, and by what the name that it leads to resolves to.
 use Rattle.std.proofs.lemmas.Grind.{common_steps}
 use Rattle.std.proofs.Common.{◌≡◌, ℕ, ◌≤◌, ◌⊎◌, inl, inr, nat_le, List, [], ◌∷◌, ◌++◌, length, Option, Some, None}
 use Rattle.std.proofs.Common.{refl, sym, ap, ◌∙◌, subst, arith, length-append}

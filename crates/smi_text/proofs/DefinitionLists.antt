@@ -15,7 +15,7 @@ use Rattle.smi_text.specs.private.Grammar.{definition, file}
 use Rattle.smi_text.specs.trees.Spelling.{label, of_def, spelling}
 use Rattle.smi_text.specs.Text.{HasNoDoubles}
 use Rattle.smi_text.specs.trees.Lookup.{labels, are_distinct}
-use Rattle.smi_text.specs.Returned.{text_ahead}
+use Rattle.smi_text.specs.private.Returned.{text_ahead}
 use Rattle.smi_text.specs.declared.trees.tree.Def.{Def}
 use Rattle.smi_text.specs.declared.trees.names.Name.{Name}
 use Rattle.smi_text.specs.declared.trees.tree.DefKind.{DefKind}

@@ -11,8 +11,8 @@ use Rattle.smi_text.specs.private.Grammar.{definition, head, module_text, file}
 use Rattle.smi_text.specs.trees.Spelling.{of_def, of_head, of_module, spelling}
 use Rattle.smi_text.specs.Text.{HasNoDoubles, HasSecond}
 use Rattle.smi_text.specs.trees.Lookup.{labels, are_distinct}
-use Rattle.smi_text.specs.Returned.{is_memory, error_of, text_ahead, NewDefinitionFault, ReadsDefinitions, DefinitionsFault, ReadsModule, ModuleFault}
-use Rattle.smi_text.specs.Returned.{ReadsModules, ModulesFault}
+use Rattle.smi_text.specs.private.Returned.{is_memory, error_of, text_ahead, NewDefinitionFault, ReadsDefinitions, DefinitionsFault, ReadsModule, ModuleFault}
+use Rattle.smi_text.specs.private.Returned.{ReadsModules, ModulesFault}
 use Rattle.smi_text.specs.declared.stop.Stop.{Stop}
 use Rattle.smi_text.specs.declared.stop.Stop.TheVariants as S
 use Rattle.smi_text.specs.declared.error.ParseError.{ParseError}

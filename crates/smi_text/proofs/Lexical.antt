@@ -14,7 +14,7 @@ use Rattle.smi_text.specs.declared.trees.names.Name.{Name}
 use Rattle.smi_text.specs.private.Kinds.{is_sign_kind}
 use Rattle.smi_text.specs.declared.stop.Stop.{Stop}
 use Rattle.smi_text.specs.declared.stop.Stop.TheVariants.{Memory}
-use Rattle.smi_text.specs.Returned.{ReturnsReading, is_memory}
+use Rattle.smi_text.specs.private.Returned.{ReturnsReading, is_memory}
 use Rattle.smi_text.specs.private.Format.{Ahead, name_of, name_where, token}
 use Rattle.smi_text.proofs.Marks.{same_kind-same, same_text-same}
 use Rattle.smi_text.proofs.NameLaws.{name_of-octets}

@@ -3,7 +3,7 @@ use Rattle.std.proofs.Common.{◌≡◌, ◌<◌, false, List, Result, Ok, Err, 
 use Rattle.std.specs.Prelude.{OnOk}
 use Rattle.smi_text.specs.lexer.Token.{Item}
 use Rattle.smi_text.specs.declared.stop.Stop.{Stop}
-use Rattle.smi_text.specs.Returned.{ReturnsReading}
+use Rattle.smi_text.specs.private.Returned.{ReturnsReading}
 use Rattle.smi_text.specs.trees.Mark.{Mark}
 use Rattle.smi_text.specs.private.Format.{Format, lower}
 use Rattle.smi_text.specs.private.Grammar as g

@@ -1,4 +1,3 @@
-pub mod Returned
 pub mod Text
 pub mod lexer
 pub mod trees

@@ -3,3 +3,4 @@ pub mod Format
 pub mod Grammar
 pub mod Kinds
 pub mod Names
+pub mod Returned

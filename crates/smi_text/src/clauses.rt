@@ -6,7 +6,7 @@ ghost use Rattle.smi_text.specs.private.Format.{begins, a_word, a_kind, no_word,
 ghost use Rattle.smi_text.specs.private.Format as format;
 ghost use Rattle.smi_text.specs.private.Grammar as grammar;
 ghost use Rattle.smi_text.specs.declared.lexer.token.TokenKind.TheVariants as kinds;
-ghost use Rattle.smi_text.specs.Returned.{ReturnsReading};
+ghost use Rattle.smi_text.specs.private.Returned.{ReturnsReading};
 
 use crate::lexer::TokenKind;
 use crate::parser::{AfterComma, Parser, Production, keep};

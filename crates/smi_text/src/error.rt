@@ -24,7 +24,7 @@ pub enum ParseError {
 
 impl From<Stop> for ParseError {
     ghost use Rattle.std.specs.Prelude.{◌≡◌};
-    ghost use Rattle.smi_text.specs.Returned.{error_of};
+    ghost use Rattle.smi_text.specs.private.Returned.{error_of};
 
     ghost from_gives = { λ stop error. error ≡ error_of stop };
 

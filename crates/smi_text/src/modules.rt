@@ -7,7 +7,7 @@ ghost use Rattle.smi_text.specs.private.Format as format;
 ghost use Rattle.smi_text.specs.private.Grammar as grammar;
 ghost use Rattle.smi_text.specs.declared.lexer.token.TokenKind.TheVariants as kinds;
 ghost use Rattle.smi_text.specs.trees.Number as number;
-ghost use Rattle.smi_text.specs.Returned.{ReturnsReading};
+ghost use Rattle.smi_text.specs.private.Returned.{ReturnsReading};
 
 use crate::lexer::TokenKind;
 use crate::parser::{AfterComma, Parser, Production};

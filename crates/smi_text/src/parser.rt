@@ -5,12 +5,11 @@ ghost use Rattle.std.specs.Prelude.{◌≡◌, ℕ, true, false, MatchBool, List
 ghost use Rattle.std.specs.Prelude.{drop, IfNone, IfSome, IfOk, IfErr, OnOk, ◌++◌, ◌<◌, length};
 ghost use Rattle.smi_text.specs.lexer.Token.{Lexeme, Item, lexeme_of};
 ghost use Rattle.smi_text.specs.private.Format.{Format, begins, token_ahead, a_word, a_kind};
-ghost use Rattle.smi_text.specs.private.Format.{a_name};
-ghost use Rattle.smi_text.specs.private.Format.{line_ahead, name_of, with_front};
+ghost use Rattle.smi_text.specs.private.Format.{a_name, line_ahead, name_of, with_front};
 ghost use Rattle.smi_text.specs.private.Kinds.{is_sign_kind, is_word_kind};
 ghost use Rattle.smi_text.specs.private.Format as format;
 ghost use Rattle.smi_text.specs.lexer.Lexes.{Lexes};
-ghost use Rattle.smi_text.specs.Returned.{ReturnsReading, is_memory};
+ghost use Rattle.smi_text.specs.private.Returned.{ReturnsReading, is_memory};
 ghost use Rattle.smi_text.specs.private.Grammar as grammar;
 ghost use Rattle.smi_text.specs.declared.lexer.token.TokenKind.TheVariants as kinds;
 

@@ -7,8 +7,7 @@ ghost use Rattle.snmp_wire.specs.Parts.{parts_message};
 ghost use Rattle.snmp_agent.specs.Reply.{agent_of, IsReply, IsDropped, IsRequest, IsRefused};
 ghost use Rattle.snmp_agent.specs.Reply.{IsServed, response, failed_place};
 ghost use Rattle.snmp_agent.specs.private.Answering.{AreWritable, IsAnswered, IsWritten};
-ghost use Rattle.snmp_agent.specs.private.Answering.{whole_index};
-ghost use Rattle.snmp_agent.specs.private.Answering.{whole_status};
+ghost use Rattle.snmp_agent.specs.private.Answering.{whole_index, whole_status};
 
 use crate::bulk::append_bulk;
 use crate::config::{Config, Outcome, Why};

@@ -6,8 +6,7 @@ ghost use Rattle.std.specs.Prelude.{◌≡◌, ◌≤◌, length};
 ghost use Rattle.std.specs.FinMap.{get};
 ghost use Rattle.snmp_wire.specs.Parts.{parts_message};
 ghost use Rattle.snmp_agent.specs.private.Answering.{AreWritable, IsRoom, IsWritable, add};
-ghost use Rattle.snmp_agent.specs.private.Answering.{answer_to};
-ghost use Rattle.snmp_agent.specs.private.Answering.{answers_to, fill, held};
+ghost use Rattle.snmp_agent.specs.private.Answering.{answer_to, answers_to, fill, held};
 ghost use Rattle.snmp_agent.specs.private.Standing.{next_at, place_of};
 ghost use Rattle.snmp_agent.specs.table.Listing.{got_at};
 

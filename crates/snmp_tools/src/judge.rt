@@ -10,8 +10,7 @@ ghost use Rattle.snmp_tools.specs.Message.{fault_of};
 ghost use Rattle.snmp_io.specs.Files.{Holdings};
 ghost use Rattle.snmp_tools.specs.private.Planned.{AgentFails, AreOrdersOf, HasTextsOf, NamesFail};
 ghost use Rattle.snmp_tools.specs.private.Planned.{ShowingFails, ask_words, mib_in, plan_of};
-ghost use Rattle.snmp_tools.specs.private.Planned.{question_of};
-ghost use Rattle.snmp_tools.specs.private.Planned.{request_of};
+ghost use Rattle.snmp_tools.specs.private.Planned.{question_of, request_of};
 ghost use Rattle.snmp_tools.specs.Question.{AskFor, HasChosen, IsEarlyRefusal, IsQuestionOf};
 ghost use Rattle.snmp_tools.specs.Question.{counts_in};
 

@@ -8,7 +8,7 @@ use Rattle.std.proofs.lemmas.Option.{slice_get-map}
 use Rattle.std.specs.List.{All, slice_get}
 use Rattle.std.specs.Option.{option_map}
 use Rattle.snmp_walk.specs.declared.arena.Span.{Span}
-use Rattle.snmp_walk.specs.private.Arena.{cut_at, cut}
+use Rattle.snmp_walk.specs.Arena.{cut_at, cut}
 use Rattle.snmp_walk.specs.Traffic.{datagram_at}
 
 abbrev Within : List ℕ → Span → Type 0

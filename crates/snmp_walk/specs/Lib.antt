@@ -21,6 +21,7 @@ pub mod Get
 pub mod Facts
 pub mod Network
 pub mod Ran
+pub mod Arena
 pub mod Memory
 pub mod MemoryNetwork
 pub mod CarriesLaws

@@ -1,4 +1,3 @@
-pub mod Arena
 pub mod Codec
 pub mod Course
 pub mod Heard

@@ -22,7 +22,7 @@ pub(crate) struct Arena {
 
 impl Model for Arena {
     ghost use Rattle.std.specs.Prelude.{◌-◌, ◌+◌, ◌≤◌, All, length, vec_len, vec_capacity};
-    ghost use Rattle.snmp_walk.specs.private.Arena.{Store, cut};
+    ghost use Rattle.snmp_walk.specs.Arena.{Store, cut};
 
     ghost Value = { Store };
 

@@ -75,9 +75,8 @@ impl WalkCore {
     ghost use Rattle.snmp_agent.specs.table.Listing.{variables};
     ghost use Rattle.snmp_walk.specs.Request.{started, resumed, request_of, request_kind};
     ghost use Rattle.snmp_walk.specs.Request.{request_repetitions};
-    ghost use Rattle.snmp_walk.specs.private.Taken.{is_awaited, stops, goes_on, closes};
-    ghost use Rattle.snmp_walk.specs.private.Taken.{reads_next, reads_first, reads_last, got};
-    ghost use Rattle.snmp_walk.specs.private.Taken.{take_of};
+    ghost use Rattle.snmp_walk.specs.private.Taken.{is_awaited, stops, goes_on, closes, reads_next};
+    ghost use Rattle.snmp_walk.specs.private.Taken.{reads_first, reads_last, got, take_of};
     ghost use Rattle.snmp_walk.specs.Judged.{MeansBy};
     ghost use Rattle.snmp_walk.specs.Request.{asked_for};
     ghost use Rattle.snmp_walk.specs.private.Course.{step_of};

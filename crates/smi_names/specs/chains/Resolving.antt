@@ -18,12 +18,12 @@ followed_by R.TooLong ns = R.TooLong
 abbrev pub resolution_at : List Resolution → ℕ → Resolution
 resolution_at rs p = slice_index_or rs p R.Unresolved
 
--- what the name resolves to at the place to which a place leads
+-- what the name at the place led to resolves to; unresolved where none is led to
 abbrev pub far_at : List Resolution → Option ℕ → Resolution
 far_at rs None = R.Unresolved
 far_at rs (Some q) = resolution_at rs q
 
--- by where a name's numbers come from, and what the name resolves to to which it leads
+-- by where a name's numbers come from, and by what the name that it leads to resolves to
 abbrev pub resolution_by : {A : Type 0} → Origin A → Resolution → Resolution
 resolution_by (numbers ns) far = lengthened [] ns
 resolution_by (after b ns) far = followed_by far ns

@@ -17,7 +17,7 @@ use Rattle.smi_names.specs.declared.meaning.directory.Found.{Found}
 abbrev pub place_by : Directory → QualifiedName → ℕ
 place_by d p = place_of_name d.homes d.scopes.items (length d.entries.items) p
 
--- the place to which the name of an entry leads, if it leads to one, for private clauses
+-- the place to which the name of an entry leads, if it leads to one
 abbrev pub next_place : Directory → (Def → Option (List ℕ)) → Entry → Option ℕ
 next_place d leads e = option_map (place_by d)
     (next_by leads (qualified (content_of e)) (Some (content_of e).decided))

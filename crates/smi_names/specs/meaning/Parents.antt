@@ -11,11 +11,12 @@ use Rattle.smi_names.specs.meaning.Meaning.{QualifiedName, origin, origin_by, or
 use Rattle.smi_names.specs.meaning.Scopes.{Content, qualified}
 use Rattle.smi_names.specs.meaning.Known.{KnownNames, content_named}
 
--- the name of its own module to which a definition's identifier value leads
+-- The name of its own module to which a definition's identifier value leads, if each part after it
+-- has a number. The home doesn't matter here: only the name is taken.
 abbrev pub parent_of : Def → Option (List ℕ)
 parent_of d = option_map (λ a. a.name) (next_of (origin_of_value [] (identifier_value_of d.kind)))
 
--- where the numbers of the name at a place come from
+-- where a name's numbers come from, by what its place has
 abbrev pub origin_here : Option Content → Origin QualifiedName
 origin_here None = nowhere
 origin_here (Some c) = origin_by (qualified c) (Some c.decided)

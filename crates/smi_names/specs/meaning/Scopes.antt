@@ -7,7 +7,8 @@ use Rattle.indexmap.specs.IndexMap.{IndexMap, get}
 use Rattle.smi_text.specs.declared.trees.tree.Module.{Module}
 use Rattle.smi_text.specs.declared.trees.tree.Def.{Def}
 use Rattle.smi_names.specs.declared.hash.NameHash.{NameHash}
-use Rattle.smi_names.specs.meaning.Meaning.{QualifiedName, Decision, defined, imported, root, or_else, decision}
+use Rattle.smi_names.specs.meaning.Meaning.{QualifiedName, Decision, defined, imported, root}
+use Rattle.smi_names.specs.meaning.Meaning.{or_else, decision}
 use Rattle.smi_names.specs.declared.meaning.entry.Decider.{Decider}
 use Rattle.smi_names.specs.declared.meaning.entry.Decider.TheVariants as D
 use Rattle.smi_names.specs.declared.meaning.entry.Entry.{Entry}

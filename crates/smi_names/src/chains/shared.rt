@@ -55,7 +55,8 @@ pub(crate) fn reasons(alloc: Global, more: usize) -> Result<Vec<Resolution>, All
 }
 
 /// The place in the list of what a name resolves to, if its numbers are those of the name at the
-/// place to which it leads and then these. `places` has those of the names before it.
+/// place to which it leads and then these; that of `Unresolved` if it leads to none. `places` has
+/// those of the names before it.
 pub(crate) fn led(
     list: &mut Vec<Resolution>,
     places: &[usize],

@@ -38,6 +38,7 @@ pub trait Meaning: Copy + Leads {
         ensures { result ≡ means at def.now far };
 }
 
+/// Imports lead to the place of a definition, and it leads no further.
 impl Leads for (usize, usize) {
     ghost use Rattle.smi_names.specs.meaning.Along.{leads_nowhere};
 
@@ -48,8 +49,7 @@ impl Leads for (usize, usize) {
     }
 }
 
-/// The place of a definition as a meaning: that of its module, and its own in that. Imports lead to
-/// it, and it leads no further.
+/// The place of a definition as a meaning: that of its module, and its own in that.
 impl Meaning for (usize, usize) {
     ghost use Rattle.smi_names.specs.meaning.Along.{stands_at};
 

@@ -24,8 +24,8 @@ pub(crate) struct Directory<'a> {
     pub(crate) scopes: Vec<NamePlaces<'a>>,
     /// What decides each name of each module.
     pub(crate) entries: Vec<Entry<'a>>,
-    /// The place to which each name leads towards its identifier. An import leads there in every
-    /// meaning.
+    /// The place to which each name leads towards its identifier; none are there while they are
+    /// found. That of an import holds in every meaning.
     pub(crate) parents: Vec<Option<usize>>,
 }
 

@@ -16,7 +16,8 @@ use smi_text::{Def, Name, Part};
 use snmp_oid::Oid;
 use std::alloc::{AllocError, Global};
 
-/// Definitions lead to the names with which their identifier values begin (RFC 2578, section 7.10).
+/// Definitions lead to the names with which their identifier values begin, if each part after it
+/// has a number (RFC 2578, section 7.10).
 pub(crate) struct Parents;
 
 impl Leads for Parents {

@@ -4,9 +4,7 @@ ghost use Rattle.std.specs.Prelude.{option_map, IfSome, IfNone, IsTrue};
 ghost use Rattle.std.specs.List.{list_all};
 ghost use Rattle.smi_show.specs.index.Index.{ReadsValue, is_octet};
 ghost use Rattle.smi_show.specs.private.index.Reading.{front_and_rest, counted, remaining};
-ghost use Rattle.smi_show.specs.private.index.Reading.{of_octets};
-ghost use Rattle.smi_show.specs.private.index.Reading.{in_extent};
-ghost use Rattle.smi_show.specs.private.index.Reading.{front_of};
+ghost use Rattle.smi_show.specs.private.index.Reading.{of_octets, in_extent, front_of};
 
 /// What decides how many numbers a string of an index has (RFC 2578, section 7.7).
 #[derive(Clone, Copy, Debug, PartialEq, Eq)]

@@ -11,12 +11,9 @@ use Rattle.smi_text.specs.trees.Mark.{same_kind, same_text}
 use Rattle.smi_text.specs.trees.Reserved.{macros}
 use Rattle.smi_text.specs.trees.Number.{is_arc, is_number, is_bound, is_symbol, is_macro}
 use Rattle.smi_text.specs.private.Format.{Format, Parsed, Ahead, a_word, a_name, a_kind, no_word}
-use Rattle.smi_text.specs.private.Format.{no_kind}
-use Rattle.smi_text.specs.private.Format.{begins, one, word, token, text, text_where, name, pair}
-use Rattle.smi_text.specs.private.Format.{behind}
-use Rattle.smi_text.specs.private.Format.{before, maybe, either, many, shaped, some_of, separated}
-use Rattle.smi_text.specs.private.Format.{lined}
-use Rattle.smi_text.specs.private.Format.{with_front, lower, name_where}
+use Rattle.smi_text.specs.private.Format.{no_kind, begins, one, word, token, text, text_where, name}
+use Rattle.smi_text.specs.private.Format.{pair, behind, before, maybe, either, many, shaped}
+use Rattle.smi_text.specs.private.Format.{some_of, separated, lined, with_front, lower, name_where}
 use Rattle.smi_text.specs.declared.trees.names.Name.{Name}
 use Rattle.smi_text.specs.declared.trees.tree.Module.{Module}
 use Rattle.smi_text.specs.declared.modules.Head.{Head}

@@ -68,9 +68,8 @@ impl Draft {
     ghost use Rattle.snmp_agent.specs.table.Format.{Format};
     ghost use Rattle.snmp_agent.specs.table.Places.{entry_of};
     ghost use Rattle.snmp_agent.specs.private.table.Draft.{HoldsTable, IsDraft, IsFirstHalt};
-    ghost use Rattle.snmp_agent.specs.private.table.Draft.{IsFull};
-    ghost use Rattle.snmp_agent.specs.private.table.Draft.{IsHalt, IsHaltAt, IsStop, draft_entries};
-    ghost use Rattle.snmp_agent.specs.private.table.Draft.{draft_objects};
+    ghost use Rattle.snmp_agent.specs.private.table.Draft.{IsFull, IsHalt, IsHaltAt, IsStop};
+    ghost use Rattle.snmp_agent.specs.private.table.Draft.{draft_entries, draft_objects};
 
     /// A draft of no lines.
     fn new(alloc: Global, exact: bool) -> Draft

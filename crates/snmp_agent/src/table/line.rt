@@ -5,8 +5,7 @@ ghost use Rattle.snmp_wire.specs.Range.{IsInRange};
 ghost use Rattle.snmp_agent.specs.private.table.Row.{datum_of, tag_text, IsShort};
 ghost use Rattle.snmp_agent.specs.table.Form.{States};
 ghost use Rattle.snmp_agent.specs.private.table.Line.{IsForm, IsObjectRead, IsInstanceRead};
-ghost use Rattle.snmp_agent.specs.private.table.Line.{IsLineFault};
-ghost use Rattle.snmp_agent.specs.private.table.Line.{statement_of};
+ghost use Rattle.snmp_agent.specs.private.table.Line.{IsLineFault, statement_of};
 ghost use Rattle.snmp_agent.specs.table.Text.{IsBlank, IsObjectForm};
 
 use crate::table::change::is_instance_name;

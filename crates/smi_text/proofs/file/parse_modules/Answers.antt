@@ -8,7 +8,7 @@ use Rattle.smi_text.specs.declared.trees.tree.Module.{Module}
 use Rattle.smi_text.specs.trees.Mark.{Stands}
 use Rattle.smi_text.specs.trees.Spelling.{spelling}
 use Rattle.smi_text.specs.Text.{AreSpelledBy, HasNoDoubles, IsCause}
-use Rattle.smi_text.specs.Returned.{ReadsModules, ModulesFault, IsLexFault, IsCauseOf}
+use Rattle.smi_text.specs.private.Returned.{ReadsModules, ModulesFault, IsLexFault, IsCauseOf}
 use Rattle.smi_text.specs.private.Grammar.{file}
 use Rattle.smi_text.proofs.Laws.{some-inj}
 use Rattle.smi_text.proofs.ProductionLaws.{file-law}

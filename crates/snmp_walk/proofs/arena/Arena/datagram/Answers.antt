@@ -3,7 +3,7 @@ use Rattle.std.proofs.lemmas.Bool.{ltb-true}
 use Rattle.std.proofs.lemmas.Option.{slice_get_read}
 use Rattle.std.specs.List.{slice_get}
 use Rattle.snmp_walk.specs.declared.arena.Span.{Span}
-use Rattle.snmp_walk.specs.private.Arena.{Store, cut}
+use Rattle.snmp_walk.specs.Arena.{Store, cut}
 use Rattle.snmp_walk.specs.Traffic.{datagram_at}
 use Rattle.snmp_walk.proofs.ArenaLemmas.{numbered, cut_found}
 use Rattle.snmp_walk.proofs.arena.Arena.datagram.Goals as goal

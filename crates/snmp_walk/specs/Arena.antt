@@ -1,4 +1,4 @@
--- Datagrams that are kept one after the other in one piece of memory, for private clauses.
+-- Datagrams that are kept one after the other in one piece of memory.
 use Rattle.std.specs.Prelude.{ℕ, List, take, drop, map}
 use Rattle.snmp_walk.specs.declared.arena.Span.{Span}
 
