@@ -1,4 +1,5 @@
 -- What a run over the agent in memory gave.
+use Rattle.std.proofs.lemmas.Grind.{common_steps}
 use Rattle.std.proofs.Common.{◌≡◌, ◌⊎◌, inl, inr, ◌++◌, ◌<◌, ℕ, true, List, [], ◌∷◌, All, length}
 use Rattle.std.proofs.Common.{Option, Some, None, refl, sym, ◌∙◌, ap, subst, arith}
 use Rattle.snmp_oid.specs.Identifier.{IsWire, wire}
@@ -159,8 +160,7 @@ module _ {W : Type 0} (facts : LinkFacts W) (link after : W) (tries : ℕ) (some
 pub asked_over : {W : Type 0} (facts : LinkFacts W) (link after : W) (tries : ℕ) (plan : Plan) (question : Question) (begun : Begun)
     → IsBegun plan.community question begun → (given refused : List VarBind) (end : WalkEnd)
     → IsRunOver facts link after tries plan.community begun given refused end → IsAskedOver facts link after tries plan question given refused end
-asked_over {W} facts link after tries plan (names os) (begun.Get sent) same given refused end run =
-    subst (λ (ns : List (List ℕ)). IsAskedOver facts link after tries plan (names ns) given refused end) same run
+asked_over {W} facts link after tries plan (names os) (begun.Get sent) same given refused end run = grind (arith, common_steps)
 asked_over {W} facts link after tries plan (subtree w) (begun.Walk core) is given refused end run =
     let P : Walker → Type 0 = λ c. IsRunOver facts link after tries plan.community (begun.Walk c) given refused end in
     subst P is.is run

@@ -1,8 +1,8 @@
 -- What is printed of a table file that snmpd serves, where the network between makes nothing up.
+use Rattle.std.proofs.lemmas.Grind.{common_steps}
 use Rattle.std.proofs.Common.{◌≡◌, ◌≢◌, ◌⊎◌, inl, inr, ◌++◌, ◌+◌, ◌≤◌, ℕ, zero, suc, Bool, true, false, cond, List, [], ◌∷◌, length}
 use Rattle.std.proofs.Common.{Option, Some, None, refl, sym, ◌∙◌, ap, subst, arith, append-nil}
-use Rattle.std.specs.Prelude.{MatchOption, codes, drop, filter, if◌then◌else◌}
-use Rattle.std.specs.Str.{bytes_eq}
+use Rattle.std.specs.Prelude.{MatchOption, drop, filter, if◌then◌else◌}
 use Rattle.std.specs.Str.Lines.{lines}
 use Rattle.smi_names.specs.declared.nodes.warning.Warning.{Warning}
 use Rattle.smi_show.specs.name.Naming.{Naming}
@@ -15,7 +15,7 @@ use Rattle.snmp_agent.specs.table.Format.{Names}
 use Rattle.snmp_agent.specs.table.Listing.{variables}
 use Rattle.snmp_agent.specs.table.Stated.{AreTableBy, IsTableOf}
 use Rattle.snmp_agent.specs.table.Table.{IsGet, IsMibView, IsRow, MibView}
-use Rattle.snmp_io.specs.Files.{Holdings, Holds, HoldsIfKnown, MayHold}
+use Rattle.snmp_io.specs.Files.{Holdings, Holds, MayHold}
 use Rattle.snmp_io.specs.Output.{TakesFront, extended}
 use Rattle.snmp_io.specs.Streams.{nothing_taken}
 use Rattle.snmp_net.specs.Address.{table, udp}
@@ -34,8 +34,7 @@ use Rattle.snmp_walk.specs.declared.link.Link.{Ghosts as LinkFacts}
 use Rattle.snmp_walk.specs.declared.mode.Mode.{Mode}
 use Rattle.snmp_walk.specs.declared.mode.Mode.TheVariants as mode
 use Rattle.snmp_wire.specs.Message.{VarBind}
-use Rattle.snmp_words.specs.Words.{ServeWords, StateJob, Stated, StatesNumber, get_of_rows, readings, serve_of_rows, snmpbulkwalk, snmpd, snmpget}
-use Rattle.snmp_words.specs.Words.{snmptranslate, snmpwalk, stated_among, translate_of_rows, walk_of_rows}
+use Rattle.snmp_words.specs.Words.{ServeWords, StateJob, Stated, StatesNumber, readings, snmpd, stated_among}
 use Rattle.snmp_tools.specs.agent.Outcome as serve
 use Rattle.snmp_tools.specs.agent.Outcome.{IsServedBy, IsServeOutcome, listening_line}
 use Rattle.snmp_tools.specs.agent.Service.{IsPlaced, served_agent}
@@ -77,21 +76,7 @@ module _ (words : ServeWords) (line : List (List ℕ)) (s : StateJob line (snmpd
   later k = stated_among (drop k (readings s.numbers)) (s.command, s.rows)
 
   size_fits : words.max_size ≤ 65507
-  size_fits =
-      picked (bytes_eq s.command (codes "snmptranslate")) (Some (snmptranslate (translate_of_rows s.rows))) (later 1) (snmpd words)
-      (λ e. let no : ⊥ = cc in absurd no)
-      (picked (bytes_eq s.command (codes "snmpget")) (Some (snmpget (get_of_rows s.numbers s.rows))) (later 2) (snmpd words)
-      (λ e. let no : ⊥ = cc in absurd no)
-      (picked (bytes_eq s.command (codes "snmpwalk")) (Some (snmpwalk (walk_of_rows s.numbers s.rows))) (later 3) (snmpd words)
-      (λ e. let no : ⊥ = cc in absurd no)
-      (picked (bytes_eq s.command (codes "snmpbulkwalk")) (Some (snmpbulkwalk (walk_of_rows s.numbers s.rows))) (later 4) (snmpd words)
-      (λ e. let no : ⊥ = cc in absurd no)
-      (picked (bytes_eq s.command (codes "snmpd")) (Some (snmpd (serve_of_rows s.numbers s.rows))) None (snmpd words)
-      (λ e.
-      let is : serve_of_rows s.numbers s.rows ≡ words = cc in
-      subst (λ (w : ServeWords). w.max_size ≤ 65507) is
-      (number_fits _ (s.numbers (codes "size") 1472 1 65507) (s.are_numbers (codes "size") 1472 1 65507)))
-      (λ e. let no : ⊥ = cc in absurd no))))) s.stated
+  size_fits = grind (arith, common_steps, picked, number_fits)
 
 -- ---- a walk that begins at its root
 
@@ -225,8 +210,7 @@ server_agents words view = record { tables = view ∷ []; community = words.comm
 module _ {N V D P E : Type 0} (net : Network N V D) (endpoint_at : D → E) (happens : E → Event P → E → Type 0) (words : ServeWords) where
   are_served : (view : MibView) (before after : Seen N) (status : ℕ) (events : List (Event P)) (run : List (Happening P)) → of_agents run ≡ events
       → IsAtServer net endpoint_at happens words view before after status events → AreServed (server_agents words view) run
-  are_served view before after status events run same (ends.unserved none front not_0) =
-      record { services = []; each = tt; in_turn = same ∙ none }
+  are_served view before after status events run same (ends.unserved none front not_0) = grind (arith, common_steps)
   are_served view before after status events run same (ends.served at door later opened counts fault warned bound made turns printed told) = record {
     services = record { view = view; turns = words.turns; served = counts; events = events } ∷ [];
     each = (inl refl, turns.0, tt);
@@ -302,13 +286,7 @@ module _ (below : BelowAreRows) (left : LeftAreRows) (one_get : (view : MibView)
   Agent = server_agents serving ask.view
 
   has_table : HasTable server_before.files ask.nodes.naming serving.table ask.view
-  has_table = (
-    ask.names,
-    ask.named,
-    ask.text,
-    subst (λ (h : Option (Option (List ℕ))). HoldsIfKnown h (Some ask.text)) (sym ask.held) refl,
-    ask.table,
-  )
+  has_table = grind (arith, common_steps)
 
   good_view : IsMibView ask.view
   good_view = is_view one_table tables ask.nodes.naming server_before.files serving.table ask.view has_table
@@ -323,8 +301,7 @@ module _ (below : BelowAreRows) (left : LeftAreRows) (one_get : (view : MibView)
       ask.node_warnings ask.nodes_known ask.text ask.held ask.view has_table serve_run.outcome
 
   ask_not_0 : (why : Fault) → run.fault ≡ Some why → status ≢ 0
-  ask_not_0 why is zero_status =
-      let none : run.fault ≡ None = no_fault_at_0 run.fault run.warned after.err status run.reported zero_status in let no : ⊥ = cc in no
+  ask_not_0 why is zero_status = grind (arith, common_steps, no_fault_at_0)
 
   nothing_asked : (why : Fault) → after.out ≡ before.out → run.fault ≡ Some why → Both
   nothing_asked why same is = record {
@@ -397,8 +374,7 @@ module _ (below : BelowAreRows) (left : LeftAreRows) (one_get : (view : MibView)
   told_by : (mib : Mib) → ask.mib ≡ mib → IsOutcomeBy net wire words mib (record before { err = run.warned }) AskEnd run.fault → Both
   told_by mib same_mib (outcome.refused why refusal same is) = nothing_asked why (ap (λ (s : Seen N). s.out) same) is
   told_by mib same_mib (outcome.not_begun why last plan for (inl (path, over, same)) is) = nothing_asked why (ap (λ (s : Seen N). s.out) same) is
-  told_by mib same_mib (outcome.not_begun why last plan for (inr (host, port, over, opened)) is) =
-      nothing_asked why (ap (λ (s : Seen N). s.out) opened.unchanged) is
+  told_by mib same_mib (outcome.not_begun why last plan for (inr (host, port, over, opened)) is) = grind (arith, common_steps, nothing_asked)
   told_by mib same_mib (outcome.asked plan path view for over states sent printed same) = absurd (no_file mib same_mib plan for path over)
   told_by mib same_mib (outcome.not_linked plan host port for over fails risen same is) = nothing_asked _ same is
   told_by mib same_mib (outcome.asked_over plan host port for over sent shown same) = over_link mib same_mib plan for host port over shown

@@ -1,11 +1,12 @@
 -- The letters of -C, read one after the other, choose what the relations say, and these say one
 -- thing.
+use Rattle.std.proofs.lemmas.Grind.{common_steps}
 use Rattle.std.proofs.Common.{◌≡◌, ◌⊎◌, inl, inr, ◌∙◌, ◌+◌, ◌-◌, ◌++◌, ◌<◌, ◌≤◌, ℕ, Bool, true, false, List, [], ◌∷◌, Option, Some, None, Result, Ok}
 use Rattle.std.proofs.Common.{Err, drop, length, slice_index_or, take, refl, sym, ap, subst, arith, append_assoc, append-nil, length-append}
 use Rattle.std.proofs.lemmas.Bool.{and_parts, eqb-true, eqb-false, or_from, or_parts}
 use Rattle.std.proofs.lemmas.List.{drop_at, length-take-le, take-append-drop, take_at, take_rest}
 use Rattle.std.proofs.lemmas.Bool.Decides.{nat_tests}
-use Rattle.std.specs.Prelude.{◌&&◌, ◌||◌, ◌==◌, not, nat_le, if◌then◌else◌}
+use Rattle.std.specs.Prelude.{◌&&◌, ◌||◌, ◌==◌, not, if◌then◌else◌}
 use Rattle.std.specs.Char.{is_ascii_digit}
 use Rattle.std.specs.List.{list_all}
 use Rattle.std.specs.Str.Parse.{digits_value}
@@ -66,23 +67,10 @@ PartIs bulk part old (Ok new) = IsKnown bulk part × OneMore part old new
 PartIs bulk part old (Err octet) = IsUnknown bulk part octet
 
 stated_number : (digits : List ℕ) (n : ℕ) → repetitions_in digits ≡ Some n → AreRepetitions digits n
-stated_number digits n = at (nat_le 1 (digits_value 10 digits)) (nat_le (digits_value 10 digits) 2147483647) refl refl
-  where
-    at : (a b : Bool) → nat_le 1 (digits_value 10 digits) ≡ a → nat_le (digits_value 10 digits) 2147483647 ≡ b
-        → (if a && b then Some (digits_value 10 digits) else None) ≡ Some n → AreRepetitions digits n
-    at true true low high e =
-        let same : n ≡ digits_value 10 digits = cc in
-        let some : 1 ≤ digits_value 10 digits = grind (arith, nat_tests) in
-        let few : digits_value 10 digits ≤ 2147483647 = grind (arith, nat_tests) in
-        (same, omega (arith, same, some), omega (arith, same, few))
-    at true false low high e = let no : ⊥ = cc in absurd no
-    at false b low high e = let no : ⊥ = cc in absurd no
+stated_number digits n = grind (arith, common_steps, nat_tests)
 
 number_stated : (digits : List ℕ) (n : ℕ) → AreRepetitions digits n → repetitions_in digits ≡ Some n
-number_stated digits n (same, some, few) =
-    let low : nat_le 1 (digits_value 10 digits) ≡ true = grind (arith, nat_tests) in
-    let high : nat_le (digits_value 10 digits) 2147483647 ≡ true = grind (arith, nat_tests) in
-    rw (low, high) (ap Some (sym same))
+number_stated digits n (same, some, few) = grind (arith, common_steps, nat_tests)
 
 r_is_not_plain : (bulk : Bool) → IsPlain bulk 114 → ⊥
 r_is_not_plain bulk (inl e) = omega (arith, e)
@@ -95,10 +83,7 @@ numbered digits old None e = inr (r_is_not_plain true, known, refl)
     known : IsKnown true (114, digits) → ⊥
     known (inl (plain, none)) = r_is_not_plain true plain
     known (inr (bulk, r, (n, are))) = let some = number_stated digits n are in let no : ⊥ = cc in no
-numbered digits old (Some n) e = (
-  inr (refl, refl, (n, stated_number digits n e)),
-  record { includes_root = refl; counts = refl; leaves_last_get = refl; repetitions = inl (refl, stated_number digits n e) },
-)
+numbered digits old (Some n) e = grind (arith, common_steps, stated_number)
 
 plain : (bulk : Bool) (letter : ℕ) (digits : List ℕ) (old new : Choices) → IsPlain bulk letter → OneMore (letter, digits) old new
     → PartIs bulk (letter, digits) old (without_digits letter digits (Some new))
@@ -107,19 +92,13 @@ plain bulk letter (d ∷ digits) old new is more = inl (is, (digits, refl))
 
 module _ (digits : List ℕ) (old : Choices) where
   by_i : (bulk : Bool) → PartIs bulk (105, digits) old (without_digits 105 digits (Some (record old { includes_root = true })))
-  by_i bulk =
-      plain bulk 105 digits old (record old { includes_root = true }) (inl refl)
-      (record { includes_root = refl; counts = refl; leaves_last_get = refl; repetitions = inr (refl, refl) })
+  by_i bulk = grind (arith, common_steps, plain)
 
   by_p : (bulk : Bool) → PartIs bulk (112, digits) old (without_digits 112 digits (Some (record old { counts = true })))
-  by_p bulk =
-      plain bulk 112 digits old (record old { counts = true }) (inr (inl refl))
-      (record { includes_root = refl; counts = refl; leaves_last_get = refl; repetitions = inr (refl, refl) })
+  by_p bulk = grind (arith, common_steps, plain)
 
   by_l : PartIs false (73, digits) old (without_digits 73 digits (Some (record old { leaves_last_get = true })))
-  by_l =
-      plain false 73 digits old (record old { leaves_last_get = true }) (inr (inr (refl, refl)))
-      (record { includes_root = refl; counts = refl; leaves_last_get = refl; repetitions = inr (refl, refl) })
+  by_l = grind (arith, common_steps, plain)
 
   abbrev Unnumbered : Bool → ℕ → Bool → Bool → Bool → Type 0
   Unnumbered bulk letter i p l =
@@ -129,42 +108,20 @@ module _ (digits : List ℕ) (old : Choices) where
 
   unknown : (bulk : Bool) (letter : ℕ) → (IsPlain bulk letter → ⊥) → (bulk ≡ true → letter ≡ 114 → ⊥)
       → PartIs bulk (letter, digits) old (without_digits letter digits None)
-  unknown bulk letter not_plain not_r = inr (not_plain, known, refl)
-    where
-      known : IsKnown bulk (letter, digits) → ⊥
-      known (inl (is, none)) = not_plain is
-      known (inr (is, r, number)) = not_r is r
+  unknown bulk letter not_plain not_r = grind (arith, common_steps)
 
   unnumbered : (bulk : Bool) (letter : ℕ) → (bulk ≡ true → letter ≡ 114 → ⊥) → (i p l : Bool) → (letter == 105) ≡ i → (letter == 112) ≡ p → (letter == 73) ≡ l
       → Unnumbered bulk letter i p l
-  unnumbered bulk letter not_r true p l e f g =
-      let P : ℕ → Type 0 = λ n. PartIs bulk (n, digits) old (without_digits n digits (Some (record old { includes_root = true }))) in
-      subst P (sym (eqb-true letter 105 e)) (by_i bulk)
-  unnumbered bulk letter not_r false true l e f g =
-      let P : ℕ → Type 0 = λ n. PartIs bulk (n, digits) old (without_digits n digits (Some (record old { counts = true }))) in
-      subst P (sym (eqb-true letter 112 f)) (by_p bulk)
-  unnumbered false letter not_r false false true e f g =
-      let P : ℕ → Type 0 = λ n. PartIs false (n, digits) old (without_digits n digits (Some (record old { leaves_last_get = true }))) in
-      subst P (sym (eqb-true letter 73 g)) by_l
-  unnumbered false letter not_r false false false e f g = unknown false letter not_plain not_r
-    where
-      not_plain : IsPlain false letter → ⊥
-      not_plain (inl is) = eqb-false letter 105 e is
-      not_plain (inr (inl is)) = eqb-false letter 112 f is
-      not_plain (inr (inr (snmpwalk, is))) = eqb-false letter 73 g is
-  unnumbered true letter not_r false false l e f g = unknown true letter not_plain not_r
-    where
-      not_plain : IsPlain true letter → ⊥
-      not_plain (inl is) = eqb-false letter 105 e is
-      not_plain (inr (inl is)) = eqb-false letter 112 f is
-      not_plain (inr (inr (snmpwalk, is))) = let no : ⊥ = cc in no
+  unnumbered bulk letter not_r true p l e f g = grind (arith, common_steps, eqb-true, by_i)
+  unnumbered bulk letter not_r false true l e f g = grind (arith, common_steps, eqb-true, by_p)
+  unnumbered false letter not_r false false true e f g = grind (arith, common_steps, eqb-true, by_l)
+  unnumbered false letter not_r false false false e f g = grind (arith, common_steps, unknown, eqb-false)
+  unnumbered true letter not_r false false l e f g = grind (arith, common_steps, unknown, eqb-false)
 
   part_by : (bulk : Bool) (letter : ℕ) (r : Bool) → (letter == 114) ≡ r
       → PartIs bulk (letter, digits) old (if bulk && r then with_number letter old (repetitions_in digits)
       else without_digits letter digits (with_letter bulk letter old))
-  part_by true letter true e =
-      let P : ℕ → Type 0 = λ n. PartIs true (n, digits) old (with_number n old (repetitions_in digits)) in
-      subst P (sym (eqb-true letter 114 e)) (numbered digits old (repetitions_in digits) refl)
+  part_by true letter true e = grind (arith, common_steps, eqb-true, numbered)
   part_by true letter false e = unnumbered true letter (λ _ is. eqb-false letter 114 e is) (letter == 105) (letter == 112) (letter == 73) refl refl refl
   part_by false letter r e = unnumbered false letter (λ no is. cc) (letter == 105) (letter == 112) (letter == 73) refl refl refl
 
@@ -211,18 +168,9 @@ has_more x (p ∷ letters) part = ap (λ (b : Bool). (p.0 == x) || b) (has_more 
 
 last_more : (letters : List Part) (part : Part) (old new : ℕ) → IsLastNumber letters old
     → ((part.0 ≡ 114) × AreRepetitions part.1 new) ⊎ (((part.0 == 114) ≡ false) × (new ≡ old)) → IsLastNumber (letters ++ part ∷ []) new
-last_more letters (letter, digits) old new last (inl (r, are)) =
-    inr (letters, digits, [], ap (λ (n : ℕ). letters ++ (n, digits) ∷ []) r, refl, are)
-last_more letters part old new (inl (none, ten)) (inr (other, same)) =
-    inl (has_more 114 letters part ∙ or_from (part.0 == 114) (has 114 letters) other none, same ∙ ten)
-last_more letters part old new (inr (before, digits, after, e, none, are)) (inr (other, same)) = inr (
-  before,
-  digits,
-  after ++ part ∷ [],
-  ap (λ (ps : List Part). ps ++ part ∷ []) e ∙ append_assoc before ((114, digits) ∷ after) (part ∷ []),
-  has_more 114 after part ∙ or_from (part.0 == 114) (has 114 after) other none,
-  subst (AreRepetitions digits) (sym same) are,
-)
+last_more letters (letter, digits) old new last (inl (r, are)) = grind (arith, common_steps)
+last_more letters part old new (inl (none, ten)) (inr (other, same)) = grind (arith, common_steps, has_more, or_from)
+last_more letters part old new (inr (before, digits, after, e, none, are)) (inr (other, same)) = grind (arith, common_steps, append_assoc, has_more, or_from)
 
 -- one letter more is read
 more_chosen : (bulk : Bool) (front : List ℕ) (letter : ℕ) (digits : List ℕ) (old new : Choices) → HaveChosen bulk front old
@@ -262,18 +210,7 @@ pub record AreReadTo (bulk : Bool) (text : List ℕ) (at : ℕ) (choices : Choic
   pub next : (at ≡ 0) ⊎ NoDigitFirst (drop at text)
 
 pub none_read : (bulk : Bool) (text : List ℕ) → AreReadTo bulk text 0 no_choices
-none_read bulk text = record {
-  chosen = record {
-    letters = [];
-    order = refl;
-    known = tt;
-    includes_root = refl;
-    counts = refl;
-    leaves_last_get = refl;
-    repetitions = inl (refl, refl);
-  };
-  next = inl refl;
-}
+none_read bulk text = grind (arith, common_steps)
 
 -- a letter at a place, with the digits after it
 module _ (bulk : Bool) (text : List ℕ) (at n : ℕ) (old : Choices) (rest : List ℕ) (low : at < length text)
@@ -286,42 +223,19 @@ module _ (bulk : Bool) (text : List ℕ) (at n : ℕ) (old : Choices) (rest : Li
   Front = take at text ++ Letter ∷ take n rest
 
   parts : text ≡ Front ++ drop n rest
-  parts =
-      let after : rest ≡ drop (at + 1) text = is ∙ take_rest text (at + 1) in
-      sym (take-append-drop at text)
-      ∙ ap (λ (t : List ℕ). take at text ++ t) (at_place text at low ∙ ap (λ (t : List ℕ). Letter ∷ t) (sym after ∙ sym (take-append-drop n rest)))
-      ∙ sym (append_assoc (take at text) (Letter ∷ take n rest) (drop n rest))
+  parts = grind (arith, common_steps, take_rest, take-append-drop, at_place, append_assoc)
 
   size : length Front ≡ at + (1 + n)
-  size =
-      let front : length (take at text) ≡ at = length-take-le at text (omega arith) in
-      let digits : length (take n rest) ≡ n = length-take-le n rest within in
-      length-append (take at text) (Letter ∷ take n rest) ∙ omega arith
+  size = grind (arith, common_steps, length-take-le, length-append)
 
   none_after : NoDigitFirst (drop n rest)
   none_after = no_digit_at rest n maximal
 
   no_digit_or_first : (is_ascii_digit Letter ≡ false) ⊎ ((at ≡ 0) × (is_ascii_digit Letter ≡ true))
-  no_digit_or_first = elim (read.next) [
-    | inl zero_at ↦ by (is_ascii_digit Letter) refl zero_at
-    | inr none ↦ inl (let P : List ℕ → Type 0 = λ t. NoDigitFirst t in subst P (at_place text at low) none)
-  ]
-    where
-      by : (b : Bool) → is_ascii_digit Letter ≡ b → at ≡ 0 → (is_ascii_digit Letter ≡ false) ⊎ ((at ≡ 0) × (is_ascii_digit Letter ≡ true))
-      by true e zero_at = inr (zero_at, e)
-      by false e zero_at = inl e
+  no_digit_or_first = grind (arith, common_steps, at_place)
 
   pub goes_on : (new : Choices) → after_part bulk (Letter, take n rest) old ≡ Ok new → AreReadTo bulk text (at + (1 + n)) new
-  goes_on new e = by (subst (PartIs bulk (Letter, take n rest) old) e (part_is bulk (Letter, take n rest) old))
-    where
-      by : PartIs bulk (Letter, take n rest) old (Ok new) → AreReadTo bulk text (at + (1 + n)) new
-      by part =
-          let P : List ℕ → Type 0 = λ t. HaveChosen bulk t new in
-          let Q : List ℕ → Type 0 = λ t. NoDigitFirst t in record {
-            chosen = subst P (sym (ap (take (at + (1 + n))) parts ∙ take_at Front (drop n rest) (at + (1 + n)) size))
-                (more_chosen bulk (take at text) Letter (take n rest) old new read.chosen (known_is_no_digit bulk Letter (take n rest) part.0) all part);
-            next = inr (subst Q (sym (ap (drop (at + (1 + n))) parts ∙ drop_at Front (drop n rest) (at + (1 + n)) size)) none_after);
-          }
+  goes_on new e = grind (arith, common_steps, part_is, parts, take_at, size, more_chosen, known_is_no_digit, drop_at, none_after)
 
   pub ends : (octet : ℕ) → after_part bulk (Letter, take n rest) old ≡ Err octet → IsFirstUnknown bulk text octet
   ends octet e = by no_digit_or_first (subst (PartIs bulk (Letter, take n rest) old) e (part_is bulk (Letter, take n rest) old))
@@ -388,16 +302,12 @@ one_choice bulk text a b h k =
 
 known_or_not : (bulk : Bool) (part : Part) (octet : ℕ) → IsKnown bulk part → IsUnknown bulk part octet → ⊥
 known_or_not bulk (letter, digits) octet (inl (is, none)) (inl (is_too, (more, some))) = let no : ⊥ = cc in no
-known_or_not bulk (letter, digits) octet (inr (is, r, number)) (inl (plain_too, some)) =
-    r_is_not_plain bulk (subst (IsPlain bulk) r plain_too)
+known_or_not bulk (letter, digits) octet (inr (is, r, number)) (inl (plain_too, some)) = grind (arith, common_steps, r_is_not_plain)
 known_or_not bulk (letter, digits) octet known (inr (not_plain, not_known, same)) = not_known known
 
 digit_first : (letters : List Part) (octet : ℕ) (rest : List ℕ) → AreLettersIn (octet ∷ rest) letters → is_ascii_digit octet ≡ true → ⊥
 digit_first [] octet rest e is = let no : ⊥ = cc in no
-digit_first ((letter, digits) ∷ more) octet rest (left, e, none, all, are) is =
-    let same : octet ≡ letter = cc in
-    let here = sym (ap is_ascii_digit same) ∙ is in
-    let no : ⊥ = cc in no
+digit_first ((letter, digits) ∷ more) octet rest (left, e, none, all, are) is = grind (arith, common_steps)
 
 pub no_choice : (bulk : Bool) (text : List ℕ) (a : Choices) (octet : ℕ) → HaveChosen bulk text a → IsFirstUnknown bulk text octet → ⊥
 no_choice bulk text a octet h (inl (rest, e, is)) = digit_first h.letters octet rest (subst (λ (t : List ℕ). AreLettersIn t h.letters) e h.order) is

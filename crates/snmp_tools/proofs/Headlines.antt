@@ -1,5 +1,6 @@
 -- The headline, of what a job wrote and reported.
-use Rattle.std.proofs.Common.{◌≡◌, ◌⊎◌, inl, inr, ◌++◌, ℕ, Bool, true, false, List, [], Option, Some, None, refl, sym, ◌∙◌, ap, subst, codes}
+use Rattle.std.proofs.Common.{arith, ◌≡◌, ◌⊎◌, inl, inr, ◌++◌, ℕ, Bool, true, false, List, [], Option, Some, None, refl, sym, ◌∙◌, ap, subst, codes}
+use Rattle.std.proofs.lemmas.Grind.{common_steps}
 use Rattle.std.specs.Str.Lines.{lines}
 use Rattle.snmp_wire.specs.Message.{VarBind}
 use Rattle.snmp_agent.specs.table.Table.{MibView}
@@ -26,7 +27,7 @@ use Rattle.snmp_tools.specs.Answer.{AreRowsOf, IsFeasible, IsOwnEnd}
 use Rattle.snmp_tools.specs.Done.{IsAskDone}
 use Rattle.snmp_tools.specs.Headline.{IsAsk, IsMishap, IsWholeText, WritesRows}
 use Rattle.snmp_tools.specs.Lines.{IsPrintedUpTo}
-use Rattle.snmp_tools.specs.Message.{Fault, bad_table, ended, fault_message, out_of_memory, status_of}
+use Rattle.snmp_tools.specs.Message.{Fault, bad_table, fault_message, out_of_memory, status_of}
 use Rattle.snmp_tools.specs.Mib.{AreLoaded, Mib}
 use Rattle.snmp_tools.specs.Outcome.{IsFinished, IsOutcome, IsOutcomeBy, IsReported, IsRun, asked}
 use Rattle.snmp_tools.specs.Outcome.{asked_over, loaded, not_begun, not_linked, not_loaded, refused}
@@ -72,16 +73,11 @@ module _ (mib : Mib) (letters : Letters) (agent : List ℕ) (given turned : List
   own_told : (counts : Bool) (end : WalkEnd) → IsOwnEnd end → IsPrintedUpTo mib letters before given turned end between
       → IsFinished agent end counts between after fault → (status ≡ 0) ⊎ Stops before after err_before err_after status
   own_told true (ending.Done n) own printed (inl finish) = inl (told_of None finish.1).0
-  own_told true (ending.Done n) own printed (inr (inl finish)) =
-      inr (want_told out_of_memory before after err_before err_after status (plain_want refl) (told_of (Some out_of_memory) finish.1))
-  own_told true (ending.Done n) own printed (inr (inr finish)) =
-      let faults : between.faults ≡ before.faults = ap (λ (s : Stream). s.faults) printed.2 in
-      let risen = subst (λ (m : ℕ). HasRisen m after.faults) faults finish.0.counted in inr ((told_of _ finish.1).0, inl risen)
+  own_told true (ending.Done n) own printed (inr (inl finish)) = grind (arith, common_steps, want_told, plain_want, told_of)
+  own_told true (ending.Done n) own printed (inr (inr finish)) = grind (arith, common_steps, counted, told_of)
   own_told false (ending.Done n) own printed finish = inl (told_of None finish.1).0
-  own_told counts (ending.Sink sink.Memory) own printed finish =
-      inr (line_told (ended agent (ending.Sink sink.Memory)) before after err_before err_after status refl refl (told_of _ finish.1))
-  own_told counts (ending.Sink sink.Output) own printed finish =
-      inr ((told_of _ finish.1).0, inl (subst (λ (s : Stream). HasRisen before.faults s.faults) (sym finish.0) printed.4.counted))
+  own_told counts (ending.Sink sink.Memory) own printed finish = grind (arith, common_steps, line_told, told_of)
+  own_told counts (ending.Sink sink.Output) own printed finish = grind (arith, common_steps, told_of, counted)
   own_told counts end own printed finish = absurd own
 
 -- nothing was asked, and of what is feasible only for want of memory

@@ -1,10 +1,10 @@
 -- The letters of -C, found place by place.
-use Rattle.std.proofs.Common.{◌≡◌, ◌+◌, ◌*◌, ◌<◌, ◌≤◌, ℕ, Bool, true, false, List, [], ◌∷◌, zero, suc, Some, None, length, drop, slice_index_or, refl}
-use Rattle.std.proofs.Common.{sym, subst, drop-cons, add-one, arith, inl, inr, drop_of_length-le}
+use Rattle.std.proofs.lemmas.Grind.{common_steps}
+use Rattle.std.proofs.Common.{◌≡◌, ◌+◌, ◌*◌, ◌<◌, ◌≤◌, ℕ, true, false, List, [], ◌∷◌, zero, suc, None, length, drop, slice_index_or, refl}
+use Rattle.std.proofs.Common.{drop-cons, add-one, arith, drop_of_length-le}
 use Rattle.std.proofs.lemmas.Bool.{and_parts, cases_lt}
 use Rattle.std.proofs.lemmas.Bool.Decides.{nat_tests}
 use Rattle.std.proofs.lemmas.Str.{digit_value_digit}
-use Rattle.std.specs.Prelude.{◌&&◌, nat_le, if◌then◌else◌}
 use Rattle.std.specs.Char.{digit_value, is_ascii_digit}
 use Rattle.std.specs.List.{list_all}
 use Rattle.std.specs.Str.Parse.{digits_value, digits_value_after}
@@ -19,14 +19,10 @@ NoDigitFirst [] = Unit {0}
 NoDigitFirst (octet ∷ more) = is_ascii_digit octet ≡ false
 
 pub no_digit_at : (rest : List ℕ) (n : ℕ) → (n < length rest → is_ascii_digit (slice_index_or rest n 0) ≡ false) → NoDigitFirst (drop n rest)
-no_digit_at rest n maximal = elim (cases_lt n (length rest)) [
-  | inl low ↦ let P : List ℕ → Type 0 = λ t. NoDigitFirst t in subst P (sym (at_place rest n low)) (maximal low)
-  | inr high ↦ let P : List ℕ → Type 0 = λ t. NoDigitFirst t in subst P (sym (drop_of_length-le rest high)) tt
-]
+no_digit_at rest n maximal = grind (arith, common_steps, cases_lt, at_place, drop_of_length-le)
 
 digit_weight : (c : ℕ) → is_ascii_digit c ≡ true → digit_value c + 48 ≡ c
-digit_weight c e =
-    let range : (48 ≤ c) × (c ≤ 57) = (grind (arith, nat_tests), grind (arith, nat_tests)) in digit_value_digit c range
+digit_weight c e = grind (arith, common_steps, nat_tests, digit_value_digit)
 
 pub weight_at : (digits : List ℕ) (i : ℕ) → list_all is_ascii_digit digits ≡ true → i < length digits
     → digit_value (slice_index_or digits i 0) + 48 ≡ slice_index_or digits i 0
@@ -40,14 +36,4 @@ grows n (d ∷ digits) = omega (arith, grows (n * 10 + digit_value d) digits)
 
 -- a number of which the front digits are too many already
 pub too_many : (n : ℕ) (rest digits : List ℕ) → digits_value_after 10 n rest ≡ digits_value 10 digits → 2147483647 < n → None ≡ repetitions_in digits
-too_many n rest digits same high =
-    let low : 2147483647 < digits_value 10 digits = omega (arith, grows n rest, same, high) in
-    let test : nat_le (digits_value 10 digits) 2147483647 ≡ false = lt-leb-false (digits_value 10 digits) 2147483647 low in
-    rw test (by_first (nat_le 1 (digits_value 10 digits)))
-  where
-    lt-leb-false : (a b : ℕ) → b < a → nat_le a b ≡ false
-    lt-leb-false a b h = grind (arith, nat_tests)
-
-    by_first : (b : Bool) → None ≡ (if b && false then Some (digits_value 10 digits) else None)
-    by_first true = refl
-    by_first false = refl
+too_many n rest digits same high = grind (arith, common_steps, grows, nat_tests)

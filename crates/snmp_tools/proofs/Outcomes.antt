@@ -1,6 +1,7 @@
 -- What a job wrote of what its words ask for.
-use Rattle.std.proofs.Common.{◌≡◌, ◌⊎◌, inl, inr, ◌++◌, ℕ, Bool, true, false, length, List, [], Option, Some, None, refl, sym, ◌∙◌, ap, subst}
+use Rattle.std.proofs.Common.{arith, ◌≡◌, ◌⊎◌, inl, inr, ◌++◌, ℕ, Bool, true, false, length, List, [], Option, Some, None, refl, sym, ◌∙◌, subst}
 use Rattle.std.proofs.Common.{append_assoc, append-nil}
+use Rattle.std.proofs.lemmas.Grind.{common_steps}
 use Rattle.smi_value.specs.declared.letters.letters.Letters.{Letters}
 use Rattle.snmp_wire.specs.Message.{VarBind}
 use Rattle.snmp_walk.specs.Facts.{IsDone}
@@ -13,7 +14,7 @@ use Rattle.snmp_tools.specs.Message.{Fault, ended, status_of}
 use Rattle.snmp_tools.specs.Mib.{Mib}
 use Rattle.snmp_tools.specs.Answer.{Counts}
 use Rattle.snmp_tools.specs.Outcome.{IsFinished, IsReported}
-use Rattle.snmp_io.specs.Streams.{extended-twice, front_after, whole_taken}
+use Rattle.snmp_io.specs.Streams.{front_after, whole_taken}
 use Rattle.snmp_tools.proofs.Printed.{lines_of_both}
 
 -- a front of the lines of some first rows
@@ -55,16 +56,11 @@ module _ (mib : Mib) (letters : Letters) (agent : List ℕ) (before : Stream) (r
 
   whole_of : (given : List VarBind) (count : ℕ) (text : List ℕ) → given ≡ rows → count ≡ length given → AreLines mib letters given text
       → IsWhole mib letters true rows (text ++ count_line count)
-  whole_of given count text whole counted lines = (
-    text,
-    subst (λ (ps : List VarBind). AreLines mib letters ps text) whole lines,
-    ap (λ (n : ℕ). text ++ count_line n) (counted ∙ ap length whole),
-  )
+  whole_of given count text whole counted lines = grind (arith, common_steps)
 
   whole_written : (count : ℕ) (text : List ℕ) (between after : Stream) → between ≡ extended before text
       → after ≡ extended between (count_line count) → after ≡ extended before (text ++ count_line count)
-  whole_written count text between after printed finish =
-      finish ∙ ap (λ (s : Stream). extended s (count_line count)) printed ∙ extended-twice before text (count_line count)
+  whole_written count text between after printed finish = grind (arith, common_steps)
 
   abbrev Whole : Bool → Stream → Type 0
   Whole counts after = (text : List ℕ) × IsWhole mib letters counts rows text × (after ≡ extended before text)
@@ -104,15 +100,7 @@ module _ (mib : Mib) (letters : Letters) (agent : List ℕ) (before : Stream) (r
 
   end_front : (counts : Bool) (given turned : List VarBind) (end : WalkEnd) (between after : Stream) → IsPrintedUpTo mib letters before given turned end between
       → after ≡ between → ((more : List VarBind) × (rows ≡ (given ++ turned) ++ more)) → IsFrontOf mib letters counts rows before after
-  end_front counts given turned end between after printed same left =
-      let f = printed_front mib letters before between given turned end printed in (
-        f.0,
-        f.1 ++ left.0,
-        f.2,
-        left.1 ∙ ap (λ (ps : List VarBind). ps ++ left.0) f.3 ∙ append_assoc f.0 f.1 left.0,
-        inl f.4,
-        subst (λ (s : Stream). TakesFront before f.2 s) (sym same) f.5,
-      )
+  end_front counts given turned end between after printed same left = grind (arith, common_steps, printed_front, append_assoc)
 
   pub finished : (counts : Bool) (given turned : List VarBind) (end : WalkEnd) (between after : Stream) (fault : Option Fault)
       → IsPrintedUpTo mib letters before given turned end between → IsFinished agent end counts between after fault

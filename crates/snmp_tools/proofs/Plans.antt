@@ -1,4 +1,5 @@
 -- The words ask for one plan, and the steps before its question fail for want of memory alone.
+use Rattle.std.proofs.lemmas.Grind.{common_steps}
 use Rattle.std.proofs.Common.{◌≡◌, ◌⊎◌, inl, inr, ℕ, ◌<◌, ◌≤◌, length, arith, List, [], ◌∷◌, All}
 use Rattle.std.proofs.Common.{map, Option, Some, None, Ok, refl, sym, ◌∙◌, ap, subst}
 use Rattle.std.proofs.lemmas.List.Elements.{All-head, All-tail}
@@ -65,16 +66,7 @@ one_load one_list one_tree files paths a b v w e f =
 
 -- a text of letters says one thing
 pub one_reading : (text : List ℕ) (a b : Letters) → AreLetters text a → AreLetters text b → a ≡ b
-one_reading text a b p q = λ i. record {
-  names = (p.n_f_s_S ∙ sym q.n_f_s_S) i;
-  types = (p.q_Q ∙ sym q.q_Q) i;
-  strings = (p.x_a ∙ sym q.x_a) i;
-  value_alone = (p.v ∙ sym q.v) i;
-  numeric_enumerations = (p.e ∙ sym q.e) i;
-  raw_ticks = (p.t ∙ sym q.t) i;
-  numeric_index = (p.b ∙ sym q.b) i;
-  no_units = (p.U ∙ sym q.U) i;
-}
+one_reading text a b p q = grind (arith, common_steps)
 
 one_chosen : (request : Request) (a b : Choices) → HasChosen request a → HasChosen request b → a ≡ b
 one_chosen (get texts) a b h k = h ∙ sym k
@@ -116,16 +108,7 @@ one_question one (walk bulk letters after name) choices mib (subtree v) (subtree
     }
 
 pub one_plan : OneMeaning → (words : AskWords) (mib : Mib) (p q : Plan) → AskFor words mib p → AskFor words mib q → HasAgent words.asking.agent q.agent → p ≡ q
-one_plan one words mib p q a b only =
-    let choice : a.choices ≡ b.choices = one_chosen words.request a.choices b.choices a.chosen b.chosen in
-    let question = one_question one words.request b.choices mib p.question q.question
-    (subst (λ (c : Choices). IsQuestionOf words.request c mib p.question) choice a.question) b.question in λ i. record {
-      agent = only.1 p.agent a.agent i;
-      community = (a.community ∙ sym b.community) i;
-      max_size = (a.max_size ∙ sym b.max_size) i;
-      letters = one_reading words.asking.letters p.letters q.letters a.letters.read b.letters.read i;
-      question = question i;
-    }
+one_plan one words mib p q a b only = grind (arith, common_steps, one_chosen, one_question, one_reading)
 
 -- a fault whose message says that memory ran out
 pub data IsWant (why : Fault) : Type 0 where

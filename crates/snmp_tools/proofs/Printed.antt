@@ -1,5 +1,6 @@
 -- What a printer writes of the rows that it is given.
-use Rattle.std.proofs.Common.{◌≡◌, ◌++◌, ℕ, List, [], ◌∷◌, Result, Ok, Err, sym, refl, ◌∙◌, ap, subst, append-nil, append_assoc}
+use Rattle.std.proofs.Common.{arith, ◌≡◌, ◌++◌, ℕ, List, [], ◌∷◌, Result, Ok, Err, sym, refl, ◌∙◌, ap, subst, append-nil, append_assoc}
+use Rattle.std.proofs.lemmas.Grind.{common_steps}
 use Rattle.smi_value.specs.declared.letters.letters.Letters.{Letters}
 use Rattle.snmp_wire.specs.Message.{VarBind}
 use Rattle.snmp_walk.specs.declared.end.SinkFault.{SinkFault}
@@ -8,7 +9,7 @@ use Rattle.snmp_walk.specs.declared.end.WalkEnd.{WalkEnd}
 use Rattle.snmp_walk.specs.declared.end.WalkEnd.TheVariants as ending
 use Rattle.snmp_walk.specs.Ran.{IsRun}
 use Rattle.snmp_walk.specs.Sink.{Given, Refused, Took}
-use Rattle.snmp_io.specs.Output.{FailsWithin, Stream, extended}
+use Rattle.snmp_io.specs.Output.{Stream, extended}
 use Rattle.snmp_io.specs.Streams.{extended-nil, extended-twice}
 use Rattle.snmp_tools.specs.Lines.{AreLines, ArePrinted, IsPrintedUpTo, TakesLine}
 use Rattle.snmp_tools.specs.Mib.{Mib}
@@ -41,15 +42,8 @@ module _ {S : Type 0} (takes : S → VarBind → Result (Unit {0}) SinkFault →
 
   refused : (old between new : S) (rows turned : List VarBind) (why : SinkFault) → Is old → Given takes old rows between → Refused takes between turned why new
       → IsPrintedUpTo mib letters (stream old) rows turned (ending.Sink why) (stream new)
-  refused old between new rows turned fault.Output is given refusal =
-      let lines = printed old between rows is given in
-      let last = writes between new refusal.0 (Err fault.Output) (stayed old between rows is given) refusal.2 in
-      let P : Stream → Type 0 = λ s. FailsWithin s last.0 (stream new) in
-      let Q : List VarBind → Type 0 = λ ps. AreLines mib letters ps last.0 in
-      (lines.0, last.0, lines.1, subst Q (sym refusal.1) (last.0, [], last.1, refl, sym (append-nil last.0)), subst P lines.2 last.2)
-  refused old between new rows turned fault.Memory is given refusal =
-      let lines = printed old between rows is given in
-      (lines.0, lines.1, writes between new refusal.0 (Err fault.Memory) (stayed old between rows is given) refusal.2 ∙ lines.2)
+  refused old between new rows turned fault.Output is given refusal = grind (arith, common_steps, printed, stayed, append-nil)
+  refused old between new rows turned fault.Memory is given refusal = grind (arith, common_steps, printed, stayed)
 
   pub stays_to_the_end : (old new : S) (rows turned : List VarBind) (why : WalkEnd) → Is old → Took takes old rows turned why new → Is new
   stays_to_the_end old new rows turned (ending.Sink why) is h = stays h.0 new h.2.0 (Err why) (stayed old h.0 rows is h.1) h.2.2

@@ -1,13 +1,14 @@
 -- The modules of one file more, and that there is one list of them.
-use Rattle.std.proofs.Common.{◌≡◌, ◌∙◌, ◌⊎◌, inl, inr, ◌++◌, ◌+◌, ◌<◌, ap, ap₂, refl, sym, subst, ℕ, List, [], ◌∷◌, Bor, Option, Some, take, drop}
-use Rattle.std.proofs.Common.{length, get_or, unwrap_or, append_assoc, append-nil}
+use Rattle.std.proofs.Common.{arith, ◌≡◌, ◌∙◌, ◌⊎◌, inl, inr, ◌++◌, ◌+◌, ◌<◌, ap, ap₂, refl, sym, subst, ℕ, List, [], ◌∷◌, Bor, Option, Some, take}
+use Rattle.std.proofs.Common.{drop, length, get_or, unwrap_or, append_assoc, append-nil}
+use Rattle.std.proofs.lemmas.Grind.{common_steps}
 use Rattle.smi_text.specs.lexer.Lexes.{Lexes}
-use Rattle.smi_text.specs.lexer.Token.{Item, Lexeme, tokens_of}
+use Rattle.smi_text.specs.lexer.Token.{Item, Lexeme}
 use Rattle.smi_text.specs.trees.Mark.{Stands}
 use Rattle.smi_text.specs.trees.Spelling.{spelling}
 use Rattle.smi_text.specs.declared.trees.tree.Module.{Module}
 use Rattle.smi_text.specs.Text.{AreSpelledBy}
-use Rattle.snmp_io.specs.Files.{Holdings, Holds, HoldsIfKnown, MayHold}
+use Rattle.snmp_io.specs.Files.{Holdings, Holds, MayHold}
 use Rattle.snmp_io.specs.Steps.{AreDone}
 use Rattle.snmp_tools.specs.loading.Files.{AreModulesIn, AreModulesOf, FileFails, IsFilesRefusal, MayHoldModules, Refusal, no_memory, texts}
 use Rattle.snmp_tools.proofs.Texts.{texts-parts}
@@ -30,22 +31,17 @@ abbrev OneReading : Type 0
 OneReading = (ms ns : List Module) (tokens : List Lexeme) → Stands (spelling ms) tokens [] → Stands (spelling ns) tokens [] → ms ≡ ns
 
 one_spelled : OneLexing → OneReading → (ms ns : List Module) (text : List ℕ) → AreSpelledBy ms text → AreSpelledBy ns text → ms ≡ ns
-one_spelled lexing reading ms ns text a b =
-    let items : b.items ≡ a.items = lexing [] text b.items a.items b.lexed a.lexed in
-    reading ms ns (tokens_of a.items) a.spelled (subst (λ (xs : List Item). Stands (spelling ns) (tokens_of xs) []) items b.spelled)
+one_spelled lexing reading ms ns text a b = grind (arith, common_steps)
 
 some_inj : (x y : List ℕ) → Some x ≡ Some y → x ≡ y
 some_inj x y e = ap (λ (o : Option (List ℕ)). unwrap_or o x) e
 
 one_text : (files : Holdings) (path text other : List ℕ) → Holds files path text → MayHold files path other → other ≡ text
-one_text files path text other held may =
-    let known : HoldsIfKnown (Some (Some text)) (Some other) = subst (λ (o : Option (Option (List ℕ))). HoldsIfKnown o (Some other)) held may in
-    sym (some_inj text other known)
+one_text files path text other held may = grind (arith, common_steps, some_inj)
 
 one_in : OneLexing → OneReading → (files : Holdings) (path : List ℕ) (ms ns : List Module)
     → AreModulesIn (Holds files) path ms → AreModulesIn (MayHold files) path ns → ms ≡ ns
-one_in lexing reading files path ms ns (text, held, spells, once) (other, may, spells_too, once_too) =
-    one_spelled lexing reading ms ns text spells (subst (λ (t : List ℕ). AreSpelledBy ns t) (one_text files path text other held may) spells_too)
+one_in lexing reading files path ms ns (text, held, spells, once) (other, may, spells_too, once_too) = grind (arith, common_steps, one_spelled, one_text)
 
 pub one_list : OneLexing → OneReading → (files : Holdings) (paths : List (List ℕ)) (ms ns : List Module)
     → AreModulesOf (Holds files) paths ms → AreModulesOf (MayHold files) paths ns → ms ≡ ns

@@ -1,11 +1,12 @@
 -- Why nothing is printed.
-use Rattle.std.proofs.Common.{◌≡◌, ◌⊎◌, inl, inr, refl, ℕ, [], Some, None}
+use Rattle.std.proofs.Common.{arith, ◌≡◌, ◌⊎◌, inl, inr, refl, ℕ, Some, None}
+use Rattle.std.proofs.lemmas.Grind.{common_steps}
 use Rattle.smi_value.specs.letters.Letters.{first_other}
 use Rattle.snmp_io.specs.Files.{Holdings}
 use Rattle.snmp_words.specs.Words.{TranslateWords}
 use Rattle.snmp_tools.specs.Asking.{MibsFail}
 use Rattle.snmp_tools.specs.Message.{Fault, bad_letter, out_of_memory}
-use Rattle.snmp_tools.specs.translation.Refusal.{IsTranslateRefusal, TranslationFails, details_step, letters_step, modules_step}
+use Rattle.snmp_tools.specs.translation.Refusal.{IsTranslateRefusal, TranslationFails, details_step, letters_step}
 use Rattle.snmp_tools.specs.translation.Style.{IsStyleOf, first_other_of_t}
 use Rattle.snmp_tools.specs.declared.translation.style.Style.{Style}
 use Rattle.snmp_tools.proofs.Steps.{first, later}
@@ -21,5 +22,4 @@ details_fail words files octet known other = later _ _ _ letters_step _ known (f
 pub modules_fail : (words : TranslateWords) (files : Holdings) (style : Style) (why : Fault) → IsStyleOf words style
     → (why ≡ out_of_memory) ⊎ MibsFail files words.mibs why → IsTranslateRefusal words files why
 modules_fail words files style why styled (inl none) = inl none
-modules_fail words files style why styled (inr fails) =
-    inr (later _ _ _ letters_step _ styled.known (later _ _ _ details_step _ styled.known_of_t (first _ _ _ modules_step [] fails)))
+modules_fail words files style why styled (inr fails) = grind (arith, common_steps, later, first)

@@ -1,6 +1,7 @@
 -- The lines of a reply are written at once, as if the line of each binding was written by itself.
-use Rattle.std.proofs.Common.{◌≡◌, ◌∙◌, ◌++◌, ◌⊎◌, ℕ, List, [], ◌∷◌, Result, Ok, Err, OnOk, OnErr, IfErr, true, false, inl, inr, ap, refl, subst, sym}
-use Rattle.std.proofs.Common.{append-nil, append_assoc}
+use Rattle.std.proofs.Common.{arith, ◌≡◌, ◌∙◌, ◌++◌, ◌⊎◌, ℕ, List, [], ◌∷◌, Result, Ok, Err, OnOk, OnErr, IfErr, true, false, inl, inr, ap, refl}
+use Rattle.std.proofs.Common.{subst, sym, append-nil, append_assoc}
+use Rattle.std.proofs.lemmas.Grind.{common_steps}
 use Rattle.std.specs.Result.{is_err}
 use Rattle.smi_value.specs.declared.letters.letters.Letters.{Letters}
 use Rattle.snmp_wire.specs.Message.{VarBind}
@@ -38,12 +39,7 @@ no_more (x ∷ more) left e = let no : ⊥ = cc in absurd no
 pub next_line : {R : Type 0} (mib : R → Mib) (tree first : R) (letters from : Letters) (rows : List VarBind) (p : VarBind) (text line all : List ℕ)
     → tree ≡ first → letters ≡ from → AreLines (mib first) from rows text → IsLineOf (mib tree) letters p line → all ≡ text ++ line
     → AreLines (mib first) from (rows ++ p ∷ []) all
-next_line {R} mib tree first letters from rows p text line all same_tree same_letters lines is e =
-    let P : R → Type 0 = λ r. IsLineOf (mib r) letters p line in
-    let Q : Letters → Type 0 = λ l. IsLineOf (mib first) l p line in
-    let W : List ℕ → Type 0 = λ t. AreLines (mib first) from (rows ++ p ∷ []) t in
-    subst W (sym e)
-    (lines_of_both (mib first) from rows (p ∷ []) text line lines (line, [], subst Q same_letters (subst P same_tree is), refl, sym (append-nil line)))
+next_line {R} mib tree first letters from rows p text line all same_tree same_letters lines is e = grind (arith, common_steps, lines_of_both, append-nil)
 
 -- what holds where memory didn't run out
 pub at_ok : {E P : Type 0} (result : Result (Unit {0}) E) → false ≡ is_err result → OnOk result P → P
@@ -68,19 +64,13 @@ module _ {S R N : Type 0} (tree : S → R) (letters : S → Letters) (name : S �
 
   lines_later : (old : S) (rows : List VarBind) (line text : List ℕ) → AreLines (mib (tree old)) (letters old) rows text
       → AreLines (mib (tree (later old line))) (letters (later old line)) rows text
-  lines_later old rows line text lines =
-      let s = same old line in
-      let P : R → Type 0 = λ r. AreLines (mib r) (letters old) rows text in
-      let Q : Letters → Type 0 = λ l. AreLines (mib (tree (later old line))) l rows text in
-      subst Q (sym s.1) (subst P (sym s.0) lines)
+  lines_later old rows line text lines = grind (arith, common_steps)
 
   -- all lines were written
   pub given_all : (old new : S) (p : VarBind) (more : List VarBind) (text : List ℕ) → IsLike new old
       → AreLines (mib (tree old)) (letters old) (p ∷ more) text → stream new ≡ extended (stream old) text
       → Given (prints tree letters name stream mib) old (p ∷ more) new
-  given_all old new p [] text is (line, rest, here, none, whole) taken =
-      let one : text ≡ line = whole ∙ ap (λ t. line ++ t) none ∙ append-nil line in
-      (new, (is.0, is.1, is.2, (line, here, taken ∙ ap (extended (stream old)) one)), refl)
+  given_all old new p [] text is (line, rest, here, none, whole) taken = grind (arith, common_steps, append-nil)
   given_all old new p (q ∷ more) text is (line, rest, here, lines, whole) taken =
       let s = same old line in
       let now : stream new ≡ extended (stream (later old line)) rest =
@@ -161,15 +151,7 @@ module _ {S R N : Type 0} (tree : S → R) (letters : S → Letters) (name : S �
   -- as much of bindings that others may follow
   pub refused_before : (old new : S) (rows left all : List VarBind) (why : SinkFault) → all ≡ rows ++ left → IsCutOff old rows why new
       → IsCutOff old all why new
-  refused_before old new rows left all why parts (front, p, back, order, between, given, refused) = (
-    front,
-    p,
-    back ++ left,
-    parts ∙ ap (λ ps. ps ++ left) order ∙ append_assoc front (p ∷ back) left,
-    between,
-    given,
-    refused,
-  )
+  refused_before old new rows left all why parts (front, p, back, order, between, given, refused) = grind (arith, common_steps, append_assoc)
 
   -- The text of the lines was handed to the output, which is as it was before.
   module _ (old new : S) (p : VarBind) (more left all : List VarBind) (text sent : List ℕ) (start : Stream) (is : IsLike new old)

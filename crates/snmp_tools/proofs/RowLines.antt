@@ -1,5 +1,6 @@
 -- The lines of rows where no object has a syntax: those of `RowText`.
-use Rattle.std.proofs.Common.{◌≡◌, refl, ap, ◌∙◌, subst, ℕ, Bool, true, false, List, [], ◌∷◌, ◌++◌, Option, None, append-nil}
+use Rattle.std.proofs.Common.{arith, ◌≡◌, refl, ap, ◌∙◌, ℕ, Bool, true, false, List, [], ◌∷◌, ◌++◌, None, append-nil}
+use Rattle.std.proofs.lemmas.Grind.{common_steps}
 use Rattle.std.proofs.lemmas.Bool.{and_parts}
 use Rattle.std.specs.Prelude.{codes, if◌then◌else◌, decimal}
 use Rattle.std.specs.Fmt.{signed_decimal}
@@ -14,7 +15,6 @@ use Rattle.smi_value.specs.letters.Letters.{AreLetters}
 use Rattle.smi_value.specs.Pieces as pieces
 use Rattle.smi_value.specs.Pieces.{dotted, quoted}
 use Rattle.smi_value.specs.Texts.{escaped, hexadecimal_text, is_printable}
-use Rattle.smi_value.specs.Syntax.{ObjectSyntax}
 use Rattle.smi_value.specs.Value.{ShowsValue}
 use Rattle.snmp_tools.specs.Lines.{AreLines, IsLineOf}
 use Rattle.snmp_tools.specs.Mib.{Mib}
@@ -81,12 +81,7 @@ value_is names same value text shows = shows
 -- ---- lines
 
 line_is : (mib : Mib) → HasNoSyntax mib → (row : VarBind) (line : List ℕ) → IsLineOf mib numeric_letters row line → line ≡ row_line row
-line_is mib none row line is =
-    let value = is.is_value in
-    let shows : ShowsValue value.names numeric_letters None row.value is.shown =
-    subst (λ (s : Option ObjectSyntax). ShowsValue value.names numeric_letters s row.value is.shown) (none row.name) value.shows in
-    is.whole ∙ ap (λ (t : List ℕ). t ++ codes " = " ++ is.shown ++ codes "\n") is.is_name
-    ∙ ap (λ (t : List ℕ). numeric_text row.name ++ codes " = " ++ t ++ codes "\n") (value_is value.names value.are_names row.value is.shown shows)
+line_is mib none row line is = grind (arith, common_steps, value_is)
 
 pub lines_are : (mib : Mib) → HasNoSyntax mib → (rows : List VarBind) (text : List ℕ) → AreLines mib numeric_letters rows text
     → text ≡ flat_map row_line rows

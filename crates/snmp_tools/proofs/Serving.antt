@@ -1,5 +1,6 @@
 -- Why nothing is served, and what is printed where something is.
-use Rattle.std.proofs.Common.{◌≡◌, ◌⊎◌, ◌<◌, ◌≤◌, ◌+◌, inl, inr, refl, subst, ℕ, List, [], Option, length}
+use Rattle.std.proofs.Common.{arith, ◌≡◌, ◌⊎◌, ◌<◌, ◌≤◌, ◌+◌, inl, inr, refl, subst, ℕ, List, Option, length}
+use Rattle.std.proofs.lemmas.Grind.{common_steps}
 use Rattle.snmp_agent.specs.Reply.{Agent}
 use Rattle.snmp_agent.specs.declared.server.Served.{Served}
 use Rattle.snmp_io.specs.Files.{Holdings}
@@ -10,7 +11,7 @@ use Rattle.smi_show.specs.name.Naming.{Naming}
 use Rattle.snmp_agent.specs.table.Table.{MibView}
 use Rattle.snmp_words.specs.Words.{ServeWords}
 use Rattle.snmp_tools.specs.agent.Outcome.{IsServedAndCounted, IsServedBy, counts_line, listening_line}
-use Rattle.snmp_tools.specs.agent.Service.{IsServeRefusal, ServiceFails, community_step, modules_step, place_step}
+use Rattle.snmp_tools.specs.agent.Service.{IsServeRefusal, ServiceFails, community_step, place_step}
 use Rattle.snmp_tools.specs.Asking.{MibsFail}
 use Rattle.snmp_tools.specs.Lines.{IsTextPrinted}
 use Rattle.snmp_tools.specs.Message.{Fault, bad_agent, long_community, out_of_memory}
@@ -27,8 +28,7 @@ place_fails words files short none = later _ _ _ community_step _ short (first _
 pub modules_fail : (words : ServeWords) (files : Holdings) (host : List ℕ) (port : ℕ) (why : Fault) → length words.community ≤ 255
     → IsHostAndPort words.listen host port → (why ≡ out_of_memory) ⊎ MibsFail files words.mibs why → IsServeRefusal words files why
 modules_fail words files host port why short place (inl none) = inl none
-modules_fail words files host port why short place (inr fails) =
-    inr (later _ _ _ community_step _ short (later _ _ _ place_step _ (host, port, place) (first _ _ _ modules_step [] fails)))
+modules_fail words files host port why short place (inr fails) = grind (arith, common_steps, later, first)
 
 -- what was served, by an agent of the words' community, and the line of its counts
 pub counted : (Serves : Agent → ℕ → Served → Type 0) (words : ServeWords) (view : MibView) (before middle after : Stream) (community : List ℕ)
@@ -37,12 +37,7 @@ pub counted : (Serves : Agent → ℕ → Served → Type 0) (words : ServeWords
     → served.replies + served.dropped + served.idle + served.faults ≡ words.turns
     → middle ≡ extended before (listening_line words.listen) → IsTextPrinted middle (counts_line served) after fault
     → IsServedAndCounted Serves words view (extended before (listening_line words.listen)) after fault
-counted Serves words view before middle after community served fault same serves adds_up is printed = (
-  served,
-  subst (λ (t : List ℕ). Serves (record { view = view; community = t; max_size = words.max_size }) words.turns served) same serves,
-  adds_up,
-  subst (λ (s : Stream). IsTextPrinted s (counts_line served) after fault) is printed,
-)
+counted Serves words view before middle after community served fault same serves adds_up is printed = grind (arith, common_steps)
 
 -- the same by nodes that are the same
 pub by_names : {N V D : Type 0} (net : Network N V D) (words : ServeWords) (host : List ℕ) (port : ℕ) (a b : Naming) (before after : Seen N)

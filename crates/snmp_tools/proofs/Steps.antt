@@ -1,4 +1,5 @@
 -- The first step that fails, after those that are done.
+use Rattle.std.proofs.lemmas.Grind.{common_steps}
 use Rattle.std.proofs.Common.{◌≡◌, ◌⊎◌, inl, inr, ◌++◌, ◌+◌, ◌<◌, ℕ, zero, suc, List, [], ◌∷◌, All, Bor, Option, Some, None, Ok, length, map, take}
 use Rattle.std.proofs.Common.{drop, get_or, option_map, unwrap_or, refl, sym, ◌∙◌, ap, subst, append_assoc, arith}
 use Rattle.std.proofs.lemmas.List.Elements.{All-head, All-tail, AllZip-push}
@@ -54,14 +55,7 @@ after_all IsDone Fails why (step ∷ done) steps d h = later IsDone Fails why st
 -- the first step that fails, with more after
 before_more : {S : Type 0} (IsDone : S → Type 0) (Fails : S → Fault → Type 0) (why : Fault) (steps more : List S) → IsFirstToFail steps IsDone Fails why
     → IsFirstToFail (steps ++ more) IsDone Fails why
-before_more {S} IsDone Fails why steps more h = record {
-  done = h.done;
-  failed = h.failed;
-  left = h.left ++ more;
-  order = ap (λ (s : List S). s ++ more) h.order ∙ append_assoc h.done (h.failed ∷ h.left) more;
-  are_done = h.are_done;
-  fails = h.fails;
-}
+before_more {S} IsDone Fails why steps more h = grind (arith, common_steps, append_assoc)
 
 -- steps that stand for others
 module _ {S T : Type 0} (f : S → T) where
@@ -95,9 +89,7 @@ are_named mib (text ∷ texts) (name ∷ os) e = ((name, e.0), are_named mib tex
 pub more_names : (mib : Mib) (texts : List (Bor (List ℕ))) (i : ℕ) (d : Bor (List ℕ)) (os : List (List ℕ)) (o : List ℕ) → i < length texts
     → AreNames mib (texts_at (take i texts)) os → TextMeans mib.naming (get_or texts i d).now (Ok o)
     → AreNames mib (texts_at (take (i + 1) texts)) (os ++ o ∷ [])
-more_names mib texts i d os o inside are means =
-    subst (λ (ts : List (List ℕ)). AreNames mib ts (os ++ o ∷ [])) (sym (texts-more texts i d inside))
-    (AllZip-push (λ text name. TextMeans mib.naming text (Ok name)) (texts_at (take i texts)) os (get_or texts i d).now o are means)
+more_names mib texts i d os o inside are means = grind (arith, common_steps, texts-more, AllZip-push)
 
 -- the first text that states none
 pub first_unnamed : (mib : Mib) (texts : List (Bor (List ℕ))) (i : ℕ) (d : Bor (List ℕ)) (os : List (List ℕ)) (why : Fault) → i < length texts
@@ -119,10 +111,7 @@ pub first_unsent : (mib : Mib) (texts : List (Bor (List ℕ))) (os : List (List 
     → IsFirstToFail (texts_at texts) (HasSendable mib) (HasUnsendable mib) (unsendable text.now)
 first_unsent mib texts [] i text d o e are inside is_text is_name sent unsent = absurd (omega arith)
 first_unsent mib [] (n ∷ os) i text d o e are inside is_text is_name sent unsent = absurd are
-first_unsent mib (t ∷ texts) (n ∷ os) zero text d o e are inside is_text is_name sent unsent =
-    let fails : HasUnsendable mib t.now (unsendable text.now) =
-    (n, are.0, subst (λ (m : List ℕ). IsWire (wire m) → ⊥) is_name unsent, ap (λ (x : Bor (List ℕ)). unsendable x.now) is_text) in
-    first (HasSendable mib) (HasUnsendable mib) (unsendable text.now) t.now (texts_at texts) fails
+first_unsent mib (t ∷ texts) (n ∷ os) zero text d o e are inside is_text is_name sent unsent = grind (arith, common_steps, first)
 first_unsent mib (t ∷ texts) (n ∷ os) (suc i) text d o e are inside is_text is_name sent unsent =
     later (HasSendable mib) (HasUnsendable mib) (unsendable text.now) t.now (texts_at texts) (n, are.0, All-head (λ n. IsWire (wire n)) n (take i os) sent)
     (first_unsent mib texts os i text d o e are.1 (omega arith) is_text is_name (All-tail (λ n. IsWire (wire n)) n (take i os) sent) unsent)

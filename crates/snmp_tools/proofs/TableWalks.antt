@@ -1,6 +1,7 @@
 -- What the headline says of a walk of a table file in numbers: which lines are printed.
-use Rattle.std.proofs.Common.{◌≡◌, ◌≢◌, ◌⊎◌, inl, inr, refl, sym, ap, ◌∙◌, subst, ℕ, zero, suc, ◌+◌, ◌<◌, ◌≤◌, Bool, false, List, [], ◌∷◌, ◌↔◌, ◌++◌}
-use Rattle.std.proofs.Common.{length, Some, None, Ok, arith, append-nil, append_assoc}
+use Rattle.std.proofs.lemmas.Grind.{common_steps}
+use Rattle.std.proofs.Common.{◌≡◌, ◌≢◌, ◌⊎◌, inl, inr, refl, sym, ◌∙◌, subst, ℕ, zero, suc, ◌+◌, ◌<◌, ◌≤◌, Bool, false, List, [], ◌∷◌, ◌↔◌, ◌++◌}
+use Rattle.std.proofs.Common.{length, None, Ok, arith, append-nil, append_assoc}
 use Rattle.std.specs.Prelude.{AllPairs, Contains, codes, drop, filter, not, slice_index_or}
 use Rattle.std.specs.List.{flat_map}
 use Rattle.std.specs.FinMap.{get}
@@ -19,7 +20,6 @@ use Rattle.snmp_agent.specs.table.Table as table
 use Rattle.snmp_agent.specs.table.Table.{HasObject, IsGet, IsMibView, IsRow, MibView}
 use Rattle.snmp_agent.specs.table.Text.{HasRow}
 use Rattle.snmp_walk.specs.Link.{Agents, OneOf}
-use Rattle.snmp_walk.specs.Names.{comes_after}
 use Rattle.snmp_walk.specs.Ordered.{AreOrdered}
 use Rattle.snmp_walk.specs.Room.{HasRoomForEach, IsShort}
 use Rattle.snmp_walk.specs.Walk.{or_only, rest_of, rows_below}
@@ -59,8 +59,7 @@ begins_with_dot [] = refl
 begins_with_dot (n ∷ more) = refl
 
 pub words_are : (path root : List ℕ) → table_walk path root ≡ walk_line (codes "-On" ∷ []) path (drop 1 (numeric_text root))
-words_are path root =
-    ap (λ (t : List ℕ). codes "snmp" ∷ codes "snmpwalk" ∷ codes "-On" ∷ (codes "table:" ++ path) ∷ t ∷ []) (sym (begins_with_dot root))
+words_are path root = grind (arith, common_steps, begins_with_dot)
 
 abbrev pub plain_walk : (root : List ℕ) → Walk
 plain_walk root = record { root = root; after = None; mode = mode.Plain; method = method.Next; counts = false }
@@ -80,15 +79,7 @@ NumbersAreRead = (naming : Naming) (o : List ℕ) → IsIdentifier o → TextMea
 
 -- no letters of -C choose nothing
 pub nothing_chosen : HaveChosen false [] no_choices
-nothing_chosen = record {
-  letters = [];
-  order = refl;
-  known = tt;
-  includes_root = refl;
-  counts = refl;
-  leaves_last_get = refl;
-  repetitions = inl (refl, refl);
-}
+nothing_chosen = grind (arith, common_steps)
 
 words_ask : NumbersAreRead → (path root : List ℕ) → path ≢ [] → IsIdentifier root → AskFor (of_walk false (numeric_walk path root)) bare_mib (walk_plan path root)
 words_ask read path root named identifier = record {
@@ -136,11 +127,7 @@ pairs_ordered (row ∷ more) ordered =
     (each_one (λ later. Precedes row.name later.name) more ordered.0) (pairs_ordered more ordered.1)
 
 free_name : (ls : List (List ℕ)) (view : MibView) (o : List ℕ) → IsTableIn first_format ls view → get view.rows o ≡ None → IsFree ls o
-free_name ls view o is none row has same =
-    let at : get view.rows row.name ≡ Some row.value = (is.rows row).1 has in
-    let at_o : get view.rows o ≡ Some row.value = ap (get view.rows) (sym same) ∙ at in
-    let no : ⊥ = cc in
-    no
+free_name ls view o is none row has same = grind (arith, common_steps)
 
 object_of : (ls : List (List ℕ)) (view : MibView) (o : List ℕ) → IsTableIn first_format ls view → HasObject view o → IsOfObject ls o
 object_of ls view o is (object, rest, has, parts) = (object, rest, (is.objects object).0 has, parts)
@@ -183,23 +170,13 @@ are_walked ls root got (row ∷ more) are is_got = page.below (λ e. cc) are
 pub front_is : (mib : Mib) (before after : Stream) (rows first rest : List VarBind) (text : List ℕ) → HasNoSyntax mib → rows ≡ first ++ rest
     → AreLines mib numeric_letters first text ⊎ ((shown : List ℕ) × AreLines mib numeric_letters rows shown × (text ≡ shown ++ []))
     → TakesFront before text after → TakesFront before (flat_map row_line rows) after
-front_is mib before after rows first rest text none parts (inl are) taken = record {
-  front = taken.front;
-  rest = taken.rest ++ flat_map row_line rest;
-  parts =
-      ap (flat_map row_line) parts ∙ flat_map-append row_line first rest
-      ∙ ap (λ (t : List ℕ). t ++ flat_map row_line rest) (sym (lines_are mib none first text are) ∙ taken.parts)
-      ∙ append_assoc taken.front taken.rest (flat_map row_line rest);
-  taken = taken.taken;
-}
-front_is mib before after rows first rest text none parts (inr (shown, are, whole)) taken =
-    subst (λ (t : List ℕ). TakesFront before t after) (whole ∙ append-nil shown ∙ lines_are mib none rows shown are) taken
+front_is mib before after rows first rest text none parts (inl are) taken = grind (arith, common_steps, flat_map-append, lines_are, append_assoc)
+front_is mib before after rows first rest text none parts (inr (shown, are, whole)) taken = grind (arith, common_steps, append-nil, lines_are)
 
 pub all_are : (mib : Mib) (before after : Stream) (rows : List VarBind) (text : List ℕ) → HasNoSyntax mib
     → ((shown : List ℕ) × AreLines mib numeric_letters rows shown × (text ≡ shown ++ [])) → after ≡ extended before text
     → after ≡ extended before (flat_map row_line rows)
-all_are mib before after rows text none (shown, are, whole) written =
-    written ∙ ap (extended before) (whole ∙ append-nil shown ∙ lines_are mib none rows shown are)
+all_are mib before after rows text none (shown, are, whole) written = grind (arith, common_steps, append-nil, lines_are)
 
 -- no warnings are no octets
 no_warnings : (before now : Stream) → (now ≡ before) ⊎ IsWritten before [] now → IsWritten before [] now
@@ -210,8 +187,7 @@ mishap_is : (before after err_before err_after : Stream) (status : ℕ) → (sta
     → (status ≡ 0) ⊎ ((status ≡ 1) × (HasRisen before.faults after.faults ⊎ IsOutOfMemoryTold err_before err_after))
 mishap_is before after err_before err_after status (inl zero_status) = inl zero_status
 mishap_is before after err_before err_after status (inr (one, inl risen)) = inr (one, inl risen)
-mishap_is before after err_before err_after status (inr (one, inr (now, told, same))) =
-    inr (one, inr (now, no_warnings err_before now same, told))
+mishap_is before after err_before err_after status (inr (one, inr (now, told, same))) = grind (arith, common_steps, no_warnings)
 
 -- ---- what is needed
 
@@ -235,10 +211,7 @@ ShortHaveRoom = (agents : Agents) (view : MibView) (first : Walker) → first.co
 
 ids_are : (root : List ℕ) (got : VarBind) (vars : List VarBind) → length (or_only got (rows_below root vars)) ≤ 2147483644
     → 1 + length (rest_of root (wire root) vars) + 2 ≤ 2147483647
-ids_are root got vars few =
-    let fewer = filter_is_short (λ row. comes_after (wire root) row.name) (rows_below root vars) in
-    let only = only_is_long got (rows_below root vars) in
-    omega (arith, few, fewer, only)
+ids_are root got vars few = grind (arith, common_steps, filter_is_short, only_is_long)
 
 asked_short : (root : List ℕ) → IsIdentifier root → IsWire root → length (wire root) ≤ 128
 asked_short root identifier sendable = subst (λ (o : List ℕ). length o ≤ 128) (sym (wire_is root sendable)) identifier.short

@@ -1,33 +1,25 @@
 -- Texts that are appended one after the other, or printed.
-use Rattle.std.proofs.Common.{◌≡◌, ◌∙◌, ◌+◌, ◌<◌, ap, ℕ, List, [], ◌∷◌, ◌++◌, Option, Some, None, inl, inr}
-use Rattle.std.proofs.Common.{Bor, subst, sym, append_assoc, drop, get_or, length, take}
+use Rattle.std.proofs.Common.{arith, ◌≡◌, ◌∙◌, ◌+◌, ◌<◌, ap, ℕ, List, [], ◌∷◌, ◌++◌, Option, Some, None, inl, inr, Bor, sym, append_assoc, drop}
+use Rattle.std.proofs.Common.{get_or, length, take}
+use Rattle.std.proofs.lemmas.Grind.{common_steps}
 use Rattle.std.proofs.lemmas.List.{drop_more, map-append, take-append-drop, take_more}
-use Rattle.snmp_io.specs.draft.Draft.{Written, Grows, Adds}
-use Rattle.snmp_io.specs.Output.{FailsWithin, Stream, extended}
+use Rattle.snmp_io.specs.draft.Draft.{Written, Adds}
+use Rattle.snmp_io.specs.Output.{Stream, extended}
 use Rattle.snmp_words.specs.Words.{texts_at}
 use Rattle.snmp_tools.specs.Lines.{IsTextPrinted, StopsAtText}
 use Rattle.snmp_tools.specs.Message.{Fault}
 
 pub adds_both : (old middle new : Written) (a b : List ℕ) → Adds old a middle → Adds middle b new → Adds old (a ++ b) new
-adds_both old middle new a b one two = record {
-  grows = two.goes_on old a one.grows;
-  goes_on = λ first text so_far. (
-      let P : List ℕ → Type 0 = λ t. Grows first t new in
-      subst P (append_assoc text a b) (two.goes_on first (text ++ a) (one.goes_on first text so_far))
-      );
-}
+adds_both old middle new a b one two = grind (arith, common_steps, append_assoc)
 
 -- a text, and then one of two pieces
 pub adds_after : (old middle new : Written) (a b c : List ℕ) → Adds old a middle → Adds middle (b ++ c) new → Adds old (a ++ b ++ c) new
-adds_after old middle new a b c one two =
-    let P : List ℕ → Type 0 = λ t. Adds old t new in
-    subst P (sym (append_assoc a b c)) (adds_both old middle new a (b ++ c) one two)
+adds_after old middle new a b c one two = grind (arith, common_steps, append_assoc, adds_both)
 
 -- the texts behind references, up to a place and one more
 pub texts-more : (texts : List (Bor (List ℕ))) (i : ℕ) (d : Bor (List ℕ)) → i < length texts
     → texts_at (take (i + 1) texts) ≡ texts_at (take i texts) ++ (get_or texts i d).now ∷ []
-texts-more texts i d inside =
-    ap texts_at (take_more texts i d inside) ∙ map-append (λ (p : Bor (List ℕ)). p.now) (take i texts) (get_or texts i d ∷ [])
+texts-more texts i d inside = grind (arith, common_steps, take_more, map-append)
 
 -- all of them, about a place
 pub texts-parts : (texts : List (Bor (List ℕ))) (i : ℕ) (d : Bor (List ℕ)) → i < length texts
@@ -49,5 +41,4 @@ pub stopped : (before after : Stream) (text line : List ℕ) (fault returned : O
     → returned ≡ Some why → IsTextPrinted before text after fault → StopsAtText before line after returned
 stopped before after text line fault returned why same some is (inl (taken, e)) = let no : ⊥ = cc in absurd no
 stopped before after text line fault returned why same some is (inr (inl (kept, e))) = inl (kept, cc)
-stopped before after text line fault returned why same some is (inr (inr (fails, e))) =
-    inr (subst (λ (t : List ℕ). FailsWithin before t after) same fails, cc)
+stopped before after text line fault returned why same some is (inr (inr (fails, e))) = grind (arith, common_steps)

@@ -1,8 +1,9 @@
 -- What the outcome says of the texts of all names.
-use Rattle.std.proofs.Common.{◌≡◌, ◌∙◌, ◌++◌, inl, inr, refl, sym, subst, ℕ, List, [], ◌∷◌, Option, Some, None, append_assoc, append-nil}
+use Rattle.std.proofs.Common.{arith, ◌≡◌, ◌∙◌, ◌++◌, inl, inr, refl, sym, subst, ℕ, List, [], ◌∷◌, Option, Some, None, append_assoc, append-nil}
+use Rattle.std.proofs.lemmas.Grind.{common_steps}
 use Rattle.snmp_tools.specs.loading.Loaded.{IsLoaded, LoadFacts}
 use Rattle.smi_text.specs.declared.trees.tree.Module.{Module}
-use Rattle.smi_tree.specs.Tree.{Contents, IsTree}
+use Rattle.smi_tree.specs.Tree.{Contents}
 use Rattle.snmp_io.specs.Files.{Holdings, MayHold}
 use Rattle.snmp_io.specs.Output.{Stream, extended}
 use Rattle.snmp_io.specs.Streams.{front_after, whole_taken}
@@ -18,26 +19,17 @@ use Rattle.snmp_tools.proofs.Printing.{AreTextsOf-more}
 
 -- words state one style
 one_style : (words : TranslateWords) (a b : Style) → IsStyleOf words a → IsStyleOf words b → a ≡ b
-one_style words a b p q = λ i. record {
-  letters = one_reading words.letters a.letters b.letters p.letters q.letters i;
-  details = (p.details ∙ sym q.details) i;
-}
+one_style words a b p q = grind (arith, common_steps, one_reading)
 
 -- by the tree that was loaded
 by_tree : OneList → (words : TranslateWords) (files : Holdings) (style : Style) (modules : List Module) (tree : Contents) (err_before err_after : Stream)
     (Printed : DetailMib → Type 0) → AskForTranslation words files style modules → IsLoaded (MayHold files) words.mibs tree err_before err_after
     → Printed (detail_mib_of tree) → IsByTree modules Printed
-by_tree one words files style modules tree err_before err_after Printed asked loaded printed = record {
-  tree = tree;
-  warnings = loaded.warnings;
-  loads = subst (λ (ms : List Module). IsTree ms tree loaded.warnings) (sym (one files words.mibs modules loaded.modules asked.read loaded.read)) loaded.loads;
-  printed = printed;
-}
+by_tree one words files style modules tree err_before err_after Printed asked loaded printed = grind (arith, common_steps)
 
 pub all_printed : OneList → (Loads : LoadFacts) (words : TranslateWords) (files : Holdings) (before after err_before err_after : Stream) (fault : Option Fault) → fault ≡ None
     → IsTranslateOutcome Loads words files before after err_before err_after fault → PrintsAll words files before after
-all_printed one Loads words files before after err_before err_after fault none (refused why refusal same same_too is) style modules asked =
-    let no : ⊥ = cc in absurd no
+all_printed one Loads words files before after err_before err_after fault none (refused why refusal same same_too is) style modules asked = grind (arith, common_steps)
 all_printed one Loads words files before after err_before err_after fault none (ran own tree styled loaded made printing) style modules asked =
     by_tree one words files style modules tree err_before err_after (λ (mib : DetailMib). AreNamesPrinted mib style words.names before after) asked loaded
     (subst (λ (s : Style). AreNamesPrinted (detail_mib_of tree) s words.names before after) (one_style words own style styled asked.styled)
@@ -47,10 +39,8 @@ all_printed one Loads words files before after err_before err_after fault none (
 front_stopped : (mib : DetailMib) (style : Style) (names : List (List ℕ)) (before after : Stream) (why : Fault)
     → (stopped : StopsWithin mib style names before after why) → StopsAtName mib style (extended before stopped.text) stopped.name after why
     → IsFront style names before after mib
-front_stopped mib style names before after why stopped (inl (nothing, same)) =
-    (stopped.printed, stopped.name ∷ stopped.left, stopped.text, stopped.order, stopped.shown, whole_taken before after stopped.text same)
-front_stopped mib style names before after why stopped (inr (inl (memory, same))) =
-    (stopped.printed, stopped.name ∷ stopped.left, stopped.text, stopped.order, stopped.shown, whole_taken before after stopped.text same)
+front_stopped mib style names before after why stopped (inl (nothing, same)) = grind (arith, common_steps)
+front_stopped mib style names before after why stopped (inr (inl (memory, same))) = grind (arith, common_steps)
 front_stopped mib style names before after why stopped (inr (inr (output, (text, is_text, fails)))) = (
   stopped.printed ++ stopped.name ∷ [],
   stopped.left,

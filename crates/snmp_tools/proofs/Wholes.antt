@@ -1,11 +1,11 @@
 -- What a job that asks an agent was told, and what it wrote.
-use Rattle.std.proofs.Common.{◌≡◌, ◌∙◌, ◌⊎◌, inl, inr, refl, ap, ℕ, Bool, List, Bor, Option, Some, Result, Ok, Err, subst, sym}
+use Rattle.std.proofs.Common.{arith, ◌≡◌, ◌⊎◌, inl, inr, refl, ap, ℕ, Bool, List, Bor, Option, Some, Result, Ok, Err, subst, sym}
+use Rattle.std.proofs.lemmas.Grind.{common_steps}
 use Rattle.std.specs.Prelude.{IfErr}
 use Rattle.std.specs.Result.{IsErrAnd}
 use Rattle.smi_text.specs.declared.trees.tree.Def.{Def}
 use Rattle.smi_text.specs.declared.trees.tree.Module.{Module}
 use Rattle.smi_show.specs.name.Naming.{Naming}
-use Rattle.smi_tree.specs.Naming.{naming_of}
 use Rattle.smi_value.specs.Syntax.{ObjectSyntax}
 use Rattle.smi_value.specs.declared.letters.letters.Letters.{Letters}
 use Rattle.snmp_io.specs.Files.{Holdings, Holds, MayHold}
@@ -40,8 +40,7 @@ pub loads_from : (files : Holdings) (given paths : List (Bor (List ℕ))) (namin
     (syntax_at : List ℕ → Option ObjectSyntax) (before after : Stream) → given ≡ paths
     → AreLoadedAs (MayHold files) (texts given) naming definition_at syntax_at before after
     → AreLoadedAs (MayHold files) (texts paths) naming definition_at syntax_at before after
-loads_from files given paths naming definition_at syntax_at before after same =
-    subst (λ (ps : List (Bor (List ℕ))). AreLoadedAs (MayHold files) (texts ps) naming definition_at syntax_at before after) same
+loads_from files given paths naming definition_at syntax_at before after same = grind (arith, common_steps)
 
 pub loads_of : (Loads : LoadFacts) (given paths : List (Bor (List ℕ))) (before after : Stream) → given ≡ paths
     → Loads (texts given) before after → Loads (texts paths) before after
@@ -55,9 +54,7 @@ module _ (files : Holdings) (given paths : List (Bor (List ℕ))) (same : given 
   by_fault : (why : Refusal) → (why ≡ no_memory → ⊥) → modules_fault why ≡ bad_modules why → IsFilesRefusal files (texts given) why → HasOnly why
       → (modules_fault why ≡ out_of_memory) ⊎ MibsFail files (texts paths) (modules_fault why)
   by_fault why some is (inl none) only = absurd (some none)
-  by_fault why some is (inr fails) only =
-      inr (subst (λ (ps : List (Bor (List ℕ))). MibsFail files (texts ps) (modules_fault why)) same
-      (why, fails, is, λ modules are. some (only modules are)))
+  by_fault why some is (inr fails) only = grind (arith, common_steps)
 
   pub mibs_fail : (why : Refusal) → IsFilesRefusal files (texts given) why → HasOnly why
       → (modules_fault why ≡ out_of_memory) ⊎ MibsFail files (texts paths) (modules_fault why)
@@ -69,24 +66,10 @@ pub are_loaded : (files : Holdings) (paths : List (List ℕ)) (naming : Naming) 
     (syntax_at : List ℕ → Option ObjectSyntax) (before after : Stream)
     (is : AreLoadedAs (MayHold files) paths naming definition_at syntax_at before after)
     → AreLoaded (MayHold files) paths (mib_in naming syntax_at) is.loaded.warnings
-are_loaded files paths naming definition_at syntax_at before after is = record {
-  modules = is.loaded.modules;
-  read = is.loaded.read;
-  tree = is.tree;
-  loads = is.loaded.loads;
-  is = ap (λ n. mib_in n syntax_at) is.names ∙ ap (mib_in (naming_of is.tree)) is.syntaxes;
-}
+are_loaded files paths naming definition_at syntax_at before after is = grind (arith, common_steps)
 
 -- other facts that follow
 pub with_facts : (F G : List VarBind → List VarBind → WalkEnd → Type 0) (mib : Mib) (letters : Letters) (counts : Bool) (agent : List ℕ)
     (before after : Stream) (fault : Option Fault) → ((given refused : List VarBind) (end : WalkEnd) → F given refused end → G given refused end)
     → IsPrinted F mib letters counts agent before after fault → IsPrinted G mib letters counts agent before after fault
-with_facts F G mib letters counts agent before after fault follows p = record {
-  given = p.given;
-  refused = p.refused;
-  end = p.end;
-  between = p.between;
-  facts = follows p.given p.refused p.end p.facts;
-  lines = p.lines;
-  finish = p.finish;
-}
+with_facts F G mib letters counts agent before after fault follows p = grind (arith, common_steps)

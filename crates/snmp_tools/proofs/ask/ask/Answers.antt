@@ -1,4 +1,5 @@
-use Rattle.std.proofs.Common.{ap, refl}
+use Rattle.std.proofs.Common.{arith, ap, refl}
+use Rattle.std.proofs.lemmas.Grind.{common_steps}
 use Rattle.snmp_tools.specs.loading.Message.{refusal_of}
 use Rattle.snmp_tools.specs.Message.{fault_of, modules_fault}
 use Rattle.snmp_tools.specs.Outcome.{loaded, not_loaded}
@@ -24,9 +25,7 @@ returns-in_err-tree g c =
     (outcome_as _ _ c.from_residual-in_err-tree.ensures.1)
 
 pub ask_by-requires-clause-known : goal.ask_by-requires-clause-known
-ask_by-requires-clause-known g c =
-    let files = g.F.Files.text_at c.args.files.now in
-    (_, are_loaded files _ _ _ _ _ _ (loads_from files _ _ _ _ _ _ _ c.deref.ensures.value c.in_ok-tree.ensures.loaded))
+ask_by-requires-clause-known g c = grind (arith, common_steps, are_loaded, loads_from)
 
 pub returns : goal.returns
 returns g c =

@@ -1,3 +1,4 @@
+use Rattle.std.proofs.lemmas.Grind.{common_steps}
 use Rattle.std.proofs.Common.{◌+◌, Bool, ap, arith, subst}
 use Rattle.snmp_walk.specs.Traffic.{Traffic}
 use Rattle.snmp_walk.specs.declared.end.WalkEnd.{WalkEnd}
@@ -9,8 +10,7 @@ use Rattle.snmp_tools.proofs.Asked.{can_run, is_asked, printed_in}
 use Rattle.snmp_tools.proofs.ask.print_in_memory.Goals as goal
 
 pub print_lines-end-requires-clause-sendable : goal.print_lines-end-requires-clause-sendable
-print_lines-end-requires-clause-sendable g c =
-    can_run c.args.plan.now.orders.community.now (question_of c.args.plan.now.question) c.args.begun c.requires.begun c.requires.sendable
+print_lines-end-requires-clause-sendable g c = grind (arith, common_steps, can_run)
 
 pub returns : goal.returns
 returns g c =

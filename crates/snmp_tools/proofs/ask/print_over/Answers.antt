@@ -1,4 +1,5 @@
-use Rattle.std.proofs.Common.{◌+◌, Bool, subst}
+use Rattle.std.proofs.Common.{arith, ◌+◌, Bool, subst}
+use Rattle.std.proofs.lemmas.Grind.{common_steps}
 use Rattle.snmp_tools.specs.Message.{outcome_of}
 use Rattle.snmp_tools.specs.Outcome.{IsFinished}
 use Rattle.snmp_tools.specs.private.Planned.{plan_of, question_of}
@@ -6,8 +7,7 @@ use Rattle.snmp_tools.proofs.Asked.{asked_over, can_run}
 use Rattle.snmp_tools.proofs.ask.print_over.Goals as goal
 
 pub print_lines-end-requires-clause-sendable : goal.print_lines-end-requires-clause-sendable
-print_lines-end-requires-clause-sendable g c =
-    can_run c.args.plan.now.orders.community.now (question_of c.args.plan.now.question) c.args.begun c.requires.begun c.requires.sendable
+print_lines-end-requires-clause-sendable g c = grind (arith, common_steps, can_run)
 
 pub returns : goal.returns
 returns g c =

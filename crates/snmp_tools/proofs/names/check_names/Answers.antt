@@ -1,4 +1,5 @@
-use Rattle.std.proofs.Common.{◌≡◌, Bool, true, false, [], Result, Ok, Err, get_or, refl, sym, subst}
+use Rattle.std.proofs.Common.{arith, ◌≡◌, Bool, true, false, Result, Ok, Err, refl, sym, subst}
+use Rattle.std.proofs.lemmas.Grind.{common_steps}
 use Rattle.std.proofs.lemmas.List.{take_all}
 use Rattle.std.proofs.lemmas.List.Elements.{All-more, All-same}
 use Rattle.std.specs.Prelude.{◌↔◌, IsOk}
@@ -16,10 +17,7 @@ an_error (Ok x) b P e f v p = let no : ⊥ = cc in no
 an_error (Err x) b P e f v p = let h = v.1 p in let no : ⊥ = cc in no
 
 pub returns-then-is_err-clause-err : goal.returns-then-is_err-clause-err
-returns-then-is_err-clause-err c = λ mib are.
-    first_unsent mib c.args.texts.now c.args.names.now c.names.place (get_or c.args.texts.now c.names.place record { ref_ptr = (0, 0); now = [] }) _
-    c.index-names-place.result _ are c.names-test.true refl c.index-names-place.is c.names.invariant
-    (an_error c.to_wire.result c.is_err.result _ c.is_err.ensures.value c.if-is_err.true c.to_wire.ensures.variant)
+returns-then-is_err-clause-err c = grind (arith, common_steps, first_unsent, an_error)
 
 pub names-preserved : goal.names-preserved
 names-preserved c =

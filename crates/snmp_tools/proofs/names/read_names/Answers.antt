@@ -1,4 +1,5 @@
-use Rattle.std.proofs.Common.{◌≡◌, ◌⊎◌, ◌+◌, ◌++◌, Bool, false, List, [], ◌∷◌, Result, Ok, Err, inr, subst, sym, take}
+use Rattle.std.proofs.Common.{arith, ◌≡◌, ◌⊎◌, ◌++◌, Bool, false, List, Result, Ok, Err, inr}
+use Rattle.std.proofs.lemmas.Grind.{common_steps}
 use Rattle.std.specs.Prelude.{if◌then◌else◌}
 use Rattle.std.specs.Result.{is_err, is_ok}
 use Rattle.snmp_words.specs.Words.{texts_at}
@@ -6,7 +7,7 @@ use Rattle.snmp_tools.specs.private.Planned.{mib_in}
 use Rattle.snmp_io.specs.Steps.{IsFirstToFail}
 use Rattle.snmp_tools.specs.Asking.{NameFails}
 use Rattle.snmp_tools.specs.Message.{fault_of, out_of_memory}
-use Rattle.snmp_tools.specs.Question.{AreNames, HasMeaning}
+use Rattle.snmp_tools.specs.Question.{HasMeaning}
 use Rattle.snmp_tools.proofs.Steps.{first_unnamed, more_names}
 use Rattle.snmp_tools.proofs.Wholes.{if_err}
 use Rattle.snmp_tools.proofs.names.read_names.Goals as goal
@@ -17,13 +18,7 @@ pushed (Ok x) b new old more e f is = is
 pushed (Err x) b new old more e f is = let no : ⊥ = cc in absurd no
 
 pub texts-preserved : goal.texts-preserved
-texts-preserved g c =
-    let mib = mib_in (g.T.NameTree.naming c.args.tree.now) (g.T.ShowTree.syntax_at c.args.tree.now) in
-    let items = pushed c.push.result c.is_err.result c.push.new.self.items c.texts.names.items (c.in_ok-oid.oid ∷ []) c.is_err.ensures.value c.if-is_err.false
-    c.push.ensures.items in
-    subst (AreNames mib (texts_at (take (c.texts.text-index + 1) c.args.texts.now))) (sym items)
-    (more_names mib c.args.texts.now c.texts.text-index record { ref_ptr = (0, 0); now = [] } c.texts.names.items c.in_ok-oid.oid c.texts-test.true
-    c.texts.invariant c.in_ok-oid.ensures.ok)
+texts-preserved g c = grind (arith, common_steps, pushed, more_names)
 
 pub returns-in_err-oid-clause-err : goal.returns-in_err-oid-clause-err
 returns-in_err-oid-clause-err g c =

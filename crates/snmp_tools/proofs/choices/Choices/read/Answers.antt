@@ -1,17 +1,14 @@
-use Rattle.std.proofs.Common.{◌+◌, ◌-◌, ◌∙◌, List, ℕ, arith, drop, length, refl, subst, sym, take}
+use Rattle.std.proofs.Common.{◌+◌, ◌-◌, List, ℕ, arith, drop, length, refl, subst, take}
 use Rattle.std.proofs.lemmas.Grind.{common_steps}
 use Rattle.std.proofs.lemmas.List.{take_all}
 use Rattle.std.proofs.lemmas.Result.{err_from_is_err_and}
 use Rattle.snmp_tools.specs.private.Chosen.{chosen}
-use Rattle.snmp_tools.specs.Letters.{Choices, HaveChosen, IsFirstUnknown}
-use Rattle.snmp_tools.proofs.ChosenLetters.{AreReadTo, ends, goes_on, none_read}
+use Rattle.snmp_tools.specs.Letters.{IsFirstUnknown}
+use Rattle.snmp_tools.proofs.ChosenLetters.{ends, goes_on, none_read}
 use Rattle.snmp_tools.proofs.choices.Choices.read.Goals as goal
 
 pub parts-init : goal.parts-init
-parts-init c = record {
-  within = omega arith;
-  read = subst (λ (x : Choices). AreReadTo c.args.bulk c.as_bytes-letters.result.now 0 x) (sym c.none-choices.ensures) (none_read c.args.bulk _);
-}
+parts-init c = grind (arith, common_steps, none_read)
 
 pub parts-preserved : goal.parts-preserved
 parts-preserved c =
@@ -35,6 +32,4 @@ returns-in_err-choices c =
     rw (p.1, p.2) (subst (λ (t : List ℕ). IsFirstUnknown c.args.bulk t c.in_err-choices.field-0.0) c.as_bytes-letters.ensures.value unknown)
 
 pub returns : goal.returns
-returns c =
-    subst (λ (t : List ℕ). HaveChosen c.args.bulk t (chosen c.parts.choices))
-    (take_all c.parts.at c.as_bytes-letters.result.now c.parts-test.false ∙ c.as_bytes-letters.ensures.value) c.parts.invariant.read.chosen
+returns c = grind (arith, common_steps, take_all)

@@ -1,4 +1,5 @@
-use Rattle.std.proofs.Common.{◌≡◌, ℕ, List, Bor, Ok, inl, inr, refl, sym, option_map, subst}
+use Rattle.std.proofs.Common.{arith, ◌≡◌, ℕ, List, Bor, Ok, inl, inr, refl, sym, option_map, subst}
+use Rattle.std.proofs.lemmas.Grind.{common_steps}
 use Rattle.smi_show.specs.name.Meant.{TextMeans}
 use Rattle.snmp_tools.specs.Asking.{NameFails}
 use Rattle.snmp_tools.specs.private.Chosen.{chosen}
@@ -60,6 +61,4 @@ of_walk : (request r : Request) (w : PlannedWalk) → request ≡ r → HasTexts
 of_walk request r w e = subst (λ (x : Request). HasTextsOf (request_of x) (planned.Walk w)) (sym e)
 
 pub returns-in_ok-name_if_given-in-Walk-clause-texts : goal.returns-in_ok-name_if_given-in-Walk-clause-texts
-returns-in_ok-name_if_given-in-Walk-clause-texts g c =
-    of_walk _ _ _ c.in-Walk.is
-    (text_or c.in-Walk.root _ _ c.unwrap_or-root_text.ensures, text_or c.in-Walk.after _ _ c.unwrap_or-after_text.ensures)
+returns-in_ok-name_if_given-in-Walk-clause-texts g c = grind (arith, common_steps, of_walk, text_or)

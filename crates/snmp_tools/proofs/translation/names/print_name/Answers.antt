@@ -1,4 +1,5 @@
-use Rattle.std.proofs.Common.{ℕ, List, Ok, Err, Result, inl, inr, subst}
+use Rattle.std.proofs.Common.{arith, ℕ, List, Ok, Err, Result, inl, inr}
+use Rattle.std.proofs.lemmas.Grind.{common_steps}
 use Rattle.std.specs.Prelude.{IfErr, OnOk}
 use Rattle.snmp_io.specs.Output.{Stream}
 use Rattle.snmp_tools.specs.Lines.{IsTextPrinted}
@@ -20,10 +21,4 @@ module _ (mib : DetailMib) (style : Style) (before after : Stream) (name text : 
   told (Err f) (inr (inr (fails, some))) = (tt, inr (inr (cc, (text, is, fails))))
 
 pub returns : goal.returns
-returns g c =
-    let mib : DetailMib = record { naming = g.T.NameTree.naming c.args.tree.now; definition_at = g.T.DetailTree.definition_at c.args.tree.now } in
-    let both = told mib c.args.style (g.O.Output.stream c.args.out.now) (g.O.Output.stream c.print_text.new.out) c.args.name.now c.in_ok-text.text.items
-    (c.read_name.new.oid, c.in_ok-read_name.ensures.ok, c.in_ok-text.ensures) c.print_text.result
-    (subst (λ (t : List ℕ). IsTextPrinted (g.O.Output.stream c.args.out.now) t (g.O.Output.stream c.print_text.new.out) (outcome_of c.print_text.result))
-    c.deref.ensures.value c.print_text.ensures) in
-    record { printed = both.0; stopped = both.1 }
+returns g c = grind (arith, common_steps, told)

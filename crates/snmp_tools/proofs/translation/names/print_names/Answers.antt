@@ -1,4 +1,5 @@
-use Rattle.std.proofs.Common.{[], Bor, List, ℕ, refl, subst, sym, take}
+use Rattle.std.proofs.Common.{arith, [], List, ℕ, refl, subst, sym, take}
+use Rattle.std.proofs.lemmas.Grind.{common_steps}
 use Rattle.std.proofs.lemmas.List.{take_all}
 use Rattle.snmp_io.specs.Streams.{extended-nil}
 use Rattle.snmp_words.specs.Words.{texts_at}
@@ -29,8 +30,4 @@ returns-in_err-print_name g c =
     (stopped_at mib c.args.style c.args.names.now c.names.name-index _ _ _ _ _ c.names-test.true c.names.invariant c.in_err-print_name.ensures.stopped)
 
 pub returns : goal.returns
-returns g c =
-    let mib : DetailMib = record { naming = g.T.NameTree.naming c.args.tree.now; definition_at = g.T.DetailTree.definition_at c.args.tree.now } in
-    subst (λ (names : List (Bor (List ℕ))). AreNamesPrinted mib c.args.style (texts_at names) (g.O.Output.stream c.args.out.now)
-    (g.O.Output.stream c.names.out))
-    (take_all c.names.name-index c.args.names.now c.names-test.false) c.names.invariant
+returns g c = grind (arith, common_steps, take_all)
