@@ -75,6 +75,7 @@ module _ (words : ServeWords) (line : List (List ℕ)) (s : StateJob line (snmpd
   abbrev later : ℕ → Option Stated
   later k = stated_among (drop k (readings s.numbers)) (s.command, s.rows)
 
+  -- only snmpd's words state a service, and its number of octets is read within 1 and 65507
   size_fits : words.max_size ≤ 65507
   size_fits = grind (arith, common_steps, picked, number_fits)
 
@@ -285,6 +286,7 @@ module _ (below : BelowAreRows) (left : LeftAreRows) (one_get : (view : MibView)
   abbrev Agent : Agents
   Agent = server_agents serving ask.view
 
+  -- the file is known, so the text that snmpd read is the one that the walk's words suppose
   has_table : HasTable server_before.files ask.nodes.naming serving.table ask.view
   has_table = grind (arith, common_steps)
 

@@ -66,6 +66,7 @@ abbrev PartIs : Bool → Part → Choices → Result Choices ℕ → Type 0
 PartIs bulk part old (Ok new) = IsKnown bulk part × OneMore part old new
 PartIs bulk part old (Err octet) = IsUnknown bulk part octet
 
+-- digits state a number of repetitions exactly from 1 to 2147483647
 stated_number : (digits : List ℕ) (n : ℕ) → repetitions_in digits ≡ Some n → AreRepetitions digits n
 stated_number digits n = grind (arith, common_steps, nat_tests)
 
@@ -110,6 +111,7 @@ module _ (digits : List ℕ) (old : Choices) where
       → PartIs bulk (letter, digits) old (without_digits letter digits None)
   unknown bulk letter not_plain not_r = grind (arith, common_steps)
 
+  -- a letter without a number: i, p, and I of snmpwalk; another is unknown
   unnumbered : (bulk : Bool) (letter : ℕ) → (bulk ≡ true → letter ≡ 114 → ⊥) → (i p l : Bool) → (letter == 105) ≡ i → (letter == 112) ≡ p → (letter == 73) ≡ l
       → Unnumbered bulk letter i p l
   unnumbered bulk letter not_r true p l e f g = grind (arith, common_steps, eqb-true, by_i)
@@ -166,6 +168,7 @@ has_more : (x : ℕ) (letters : List Part) (part : Part) → has x (letters ++ p
 has_more x [] part = refl
 has_more x (p ∷ letters) part = ap (λ (b : Bool). (p.0 == x) || b) (has_more x letters part) ∙ turned (p.0 == x) (part.0 == x) (has x letters)
 
+-- the last number is that of the new part if its letter is r, else the one that it was
 last_more : (letters : List Part) (part : Part) (old new : ℕ) → IsLastNumber letters old
     → ((part.0 ≡ 114) × AreRepetitions part.1 new) ⊎ (((part.0 == 114) ≡ false) × (new ≡ old)) → IsLastNumber (letters ++ part ∷ []) new
 last_more letters (letter, digits) old new last (inl (r, are)) = grind (arith, common_steps)
@@ -209,6 +212,7 @@ pub record AreReadTo (bulk : Bool) (text : List ℕ) (at : ℕ) (choices : Choic
   pub chosen : HaveChosen bulk (take at text) choices
   pub next : (at ≡ 0) ⊎ NoDigitFirst (drop at text)
 
+-- no letters were read, and nothing is chosen
 pub none_read : (bulk : Bool) (text : List ℕ) → AreReadTo bulk text 0 no_choices
 none_read bulk text = grind (arith, common_steps)
 
@@ -231,9 +235,11 @@ module _ (bulk : Bool) (text : List ℕ) (at n : ℕ) (old : Choices) (rest : Li
   none_after : NoDigitFirst (drop n rest)
   none_after = no_digit_at rest n maximal
 
+  -- behind a letter no digit comes, as its digits were read to their end
   no_digit_or_first : (is_ascii_digit Letter ≡ false) ⊎ ((at ≡ 0) × (is_ascii_digit Letter ≡ true))
   no_digit_or_first = grind (arith, common_steps, at_place)
 
+  -- the text up to behind the digits is the text before, the letter and its digits: one part more
   pub goes_on : (new : Choices) → after_part bulk (Letter, take n rest) old ≡ Ok new → AreReadTo bulk text (at + (1 + n)) new
   goes_on new e = grind (arith, common_steps, part_is, parts, take_at, size, more_chosen, known_is_no_digit, drop_at, none_after)
 

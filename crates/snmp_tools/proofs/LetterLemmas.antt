@@ -34,6 +34,6 @@ grows : (n : ℕ) (digits : List ℕ) → n ≤ digits_value_after 10 n digits
 grows n [] = omega arith
 grows n (d ∷ digits) = omega (arith, grows (n * 10 + digit_value d) digits)
 
--- a number of which the front digits are too many already
+-- a number of which the front digits are too many already: more digits only make it larger
 pub too_many : (n : ℕ) (rest digits : List ℕ) → digits_value_after 10 n rest ≡ digits_value 10 digits → 2147483647 < n → None ≡ repetitions_in digits
 too_many n rest digits same high = grind (arith, common_steps, grows, nat_tests)

@@ -98,6 +98,7 @@ module _ (mib : Mib) (letters : Letters) (agent : List ℕ) (before : Stream) (r
       all_finished false after fault
       (text, (text, subst (λ (ps : List VarBind). AreLines mib letters ps text) whole lines, sym (append-nil text)), finish.0 ∙ printed)
 
+  -- what an early end printed are the lines of the rows given, and those are the first of all
   end_front : (counts : Bool) (given turned : List VarBind) (end : WalkEnd) (between after : Stream) → IsPrintedUpTo mib letters before given turned end between
       → after ≡ between → ((more : List VarBind) × (rows ≡ (given ++ turned) ++ more)) → IsFrontOf mib letters counts rows before after
   end_front counts given turned end between after printed same left = grind (arith, common_steps, printed_front, append_assoc)

@@ -107,6 +107,7 @@ one_question one (walk bulk letters after name) choices mib (subtree v) (subtree
       counts = (p.counts ∙ sym q.counts) i;
     }
 
+-- words and names ask for one plan: each field is stated by one of its clauses
 pub one_plan : OneMeaning → (words : AskWords) (mib : Mib) (p q : Plan) → AskFor words mib p → AskFor words mib q → HasAgent words.asking.agent q.agent → p ≡ q
 one_plan one words mib p q a b only = grind (arith, common_steps, one_chosen, one_question, one_reading)
 

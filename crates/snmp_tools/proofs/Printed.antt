@@ -40,6 +40,7 @@ module _ {S : Type 0} (takes : S → VarBind → Result (Unit {0}) SinkFault →
         rest.2 ∙ ap (λ (s : Stream). extended s rest.0) first.2 ∙ extended-twice (stream old) first.0 rest.0,
       )
 
+  -- the lines that the sink took stay; of the refused one a part at most, where the output failed
   refused : (old between new : S) (rows turned : List VarBind) (why : SinkFault) → Is old → Given takes old rows between → Refused takes between turned why new
       → IsPrintedUpTo mib letters (stream old) rows turned (ending.Sink why) (stream new)
   refused old between new rows turned fault.Output is given refusal = grind (arith, common_steps, printed, stayed, append-nil)

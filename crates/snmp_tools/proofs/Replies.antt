@@ -35,7 +35,8 @@ no_more : (more left : List ℕ) → [] ≡ more ++ left → more ≡ []
 no_more [] left e = refl
 no_more (x ∷ more) left e = let no : ⊥ = cc in absurd no
 
--- the line of one more, by what is the tree and are the letters from the start
+-- the line of one more, by what is the tree and are the letters from the start: lines of a list are
+-- those of its first part and of its last
 pub next_line : {R : Type 0} (mib : R → Mib) (tree first : R) (letters from : Letters) (rows : List VarBind) (p : VarBind) (text line all : List ℕ)
     → tree ≡ first → letters ≡ from → AreLines (mib first) from rows text → IsLineOf (mib tree) letters p line → all ≡ text ++ line
     → AreLines (mib first) from (rows ++ p ∷ []) all
@@ -148,7 +149,7 @@ module _ {S R N : Type 0} (tree : S → R) (letters : S → Letters) (name : S �
             })
       ]
 
-  -- as much of bindings that others may follow
+  -- as much of bindings that others may follow: the refused one is left where it was
   pub refused_before : (old new : S) (rows left all : List VarBind) (why : SinkFault) → all ≡ rows ++ left → IsCutOff old rows why new
       → IsCutOff old all why new
   refused_before old new rows left all why parts (front, p, back, order, between, given, refused) = grind (arith, common_steps, append_assoc)

@@ -80,6 +80,7 @@ value_is names same value text shows = shows
 
 -- ---- lines
 
+-- without a syntax both parts of a line are the stated ones: the name in numbers, and the value
 line_is : (mib : Mib) → HasNoSyntax mib → (row : VarBind) (line : List ℕ) → IsLineOf mib numeric_letters row line → line ≡ row_line row
 line_is mib none row line is = grind (arith, common_steps, value_is)
 

@@ -77,7 +77,7 @@ walk_plan path root = record {
 abbrev pub NumbersAreRead : Type 0
 NumbersAreRead = (naming : Naming) (o : List ℕ) → IsIdentifier o → TextMeans naming (numeric_text o) (Ok o)
 
--- no letters of -C choose nothing
+-- no letters of -C choose nothing: none is unknown, and each choice is the one without letters
 pub nothing_chosen : HaveChosen false [] no_choices
 nothing_chosen = grind (arith, common_steps)
 
@@ -167,6 +167,7 @@ are_walked ls root got (row ∷ more) are is_got = page.below (λ e. cc) are
 
 -- ---- what is written
 
+-- the text begins the lines of all rows: it is the lines of the first of them, or of all
 pub front_is : (mib : Mib) (before after : Stream) (rows first rest : List VarBind) (text : List ℕ) → HasNoSyntax mib → rows ≡ first ++ rest
     → AreLines mib numeric_letters first text ⊎ ((shown : List ℕ) × AreLines mib numeric_letters rows shown × (text ≡ shown ++ []))
     → TakesFront before text after → TakesFront before (flat_map row_line rows) after

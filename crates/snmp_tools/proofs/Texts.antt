@@ -9,6 +9,7 @@ use Rattle.snmp_words.specs.Words.{texts_at}
 use Rattle.snmp_tools.specs.Lines.{IsTextPrinted, StopsAtText}
 use Rattle.snmp_tools.specs.Message.{Fault}
 
+-- two texts one after the other are added as one
 pub adds_both : (old middle new : Written) (a b : List ℕ) → Adds old a middle → Adds middle b new → Adds old (a ++ b) new
 adds_both old middle new a b one two = grind (arith, common_steps, append_assoc)
 

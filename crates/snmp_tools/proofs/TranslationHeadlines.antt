@@ -29,7 +29,8 @@ by_tree one words files style modules tree err_before err_after Printed asked lo
 
 pub all_printed : OneList → (Loads : LoadFacts) (words : TranslateWords) (files : Holdings) (before after err_before err_after : Stream) (fault : Option Fault) → fault ≡ None
     → IsTranslateOutcome Loads words files before after err_before err_after fault → PrintsAll words files before after
-all_printed one Loads words files before after err_before err_after fault none (refused why refusal same same_too is) style modules asked = grind (arith, common_steps)
+all_printed one Loads words files before after err_before err_after fault none (refused why refusal same same_too is) style modules asked =
+    grind (arith, common_steps)
 all_printed one Loads words files before after err_before err_after fault none (ran own tree styled loaded made printing) style modules asked =
     by_tree one words files style modules tree err_before err_after (λ (mib : DetailMib). AreNamesPrinted mib style words.names before after) asked loaded
     (subst (λ (s : Style). AreNamesPrinted (detail_mib_of tree) s words.names before after) (one_style words own style styled asked.styled)

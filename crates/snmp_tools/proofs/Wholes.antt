@@ -61,14 +61,14 @@ module _ (files : Holdings) (given paths : List (Bor (List ℕ))) (same : given 
   mibs_fail no_memory refused only = inl refl
   mibs_fail why refused only = by_fault why (λ e. let no : ⊥ = cc in no) refl refused only
 
--- what a load tells of its names and types
+-- what a load tells of its names and types: the tree that it names has them
 pub are_loaded : (files : Holdings) (paths : List (List ℕ)) (naming : Naming) (definition_at : List ℕ → Option Def)
     (syntax_at : List ℕ → Option ObjectSyntax) (before after : Stream)
     (is : AreLoadedAs (MayHold files) paths naming definition_at syntax_at before after)
     → AreLoaded (MayHold files) paths (mib_in naming syntax_at) is.loaded.warnings
 are_loaded files paths naming definition_at syntax_at before after is = grind (arith, common_steps)
 
--- other facts that follow
+-- other facts that follow: all else that is said of what was printed stays
 pub with_facts : (F G : List VarBind → List VarBind → WalkEnd → Type 0) (mib : Mib) (letters : Letters) (counts : Bool) (agent : List ℕ)
     (before after : Stream) (fault : Option Fault) → ((given refused : List VarBind) (end : WalkEnd) → F given refused end → G given refused end)
     → IsPrinted F mib letters counts agent before after fault → IsPrinted G mib letters counts agent before after fault

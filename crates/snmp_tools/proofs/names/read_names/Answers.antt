@@ -17,6 +17,7 @@ pushed : {A E X : Type 0} (r : Result A E) (b : Bool) (new old more : List X) ‚Ü
 pushed (Ok x) b new old more e f is = is
 pushed (Err x) b new old more e f is = let no : ‚ä• = cc in absurd no
 
+-- one text more means the name that was pushed
 pub texts-preserved : goal.texts-preserved
 texts-preserved g c = grind (arith, common_steps, pushed, more_names)
 
