@@ -14,7 +14,7 @@ names='snmptranslate snmpget snmpwalk snmpbulkwalk snmpd'
 tree() {
     rm -rf "${got:?}/tree" "${got:?}/usr" "${got:?}/names" "${got:?}/stage"
     mkdir -p "$got/tree/crates/snmp/out" "$got/tree/modules"
-    cp -r tools completions docs examples "$got/tree"
+    cp -r tools completions docs examples README.md CHANGELOG.md "$got/tree"
     printf '#!/bin/sh\necho "stand-in $*"\n' >"$got/tree/crates/snmp/out/snmp"
     chmod 755 "$got/tree/crates/snmp/out/snmp"
     echo 'base' >"$got/tree/modules/base.txt"
@@ -23,9 +23,8 @@ install_with() { (cd "$got" && tree/tools/install "$@" 2>&1); }
 there() { (cd "$got" && find usr names -type f -o -type l 2>/dev/null | sort); }
 hashes() { (cd "$got" && find usr names -type f -exec sha256sum {} + 2>/dev/null | sort -k 2); }
 files=$(printf 'usr/%s\n' bin/join-modules bin/lines-to-table bin/snmp share/bash-completion/completions/snmp \
-    $(for page in FROM-NET-SNMP HOWTO MANY-DEVICES PERFORMANCE PROFILE PROMISES TROUBLESHOOTING; do
-        [ ! -e docs/$page.md ] || echo share/doc/snmp/$page.md
-    done) \
+    share/doc/snmp/{CHANGELOG,FROM-NET-SNMP,HOWTO,MANY-DEVICES,PERFORMANCE,PROFILE,PROMISES,README,TROUBLESHOOTING}.md \
+    share/doc/snmp/speed.svg \
     $(for page in docs/*.[1-9]; do echo "share/man/man${page##*.}/${page##*/}"; done) \
     $(printf 'share/snmp/%s\n' examples/*) share/snmp/installed share/snmp/modules/base.txt share/zsh/site-functions/_snmp | sort)
 scripts=$(printf 'names/%s\n' $names)
@@ -41,9 +40,17 @@ same 'its list has their hashes' "$(grep -cv '^usr/share/snmp/installed$' <<<"$f
 same 'an installed program runs' 'stand-in x' "$(cd / && "$got/usr/bin/snmp" x)"
 same 'an installed lines-to-table runs' '1.3.6|2|1' "$(echo '.1.3.6 = INTEGER: 1' | "$got/usr/bin/lines-to-table")"
 for file in tools/lines-to-table:bin/lines-to-table docs/snmp.1:share/man/man1/snmp.1 \
-    docs/PROFILE.md:share/doc/snmp/PROFILE.md examples/printer.tab:share/snmp/examples/printer.tab \
+    docs/speed.svg:share/doc/snmp/speed.svg examples/printer.tab:share/snmp/examples/printer.tab \
     completions/snmp.bash:share/bash-completion/completions/snmp completions/_snmp:share/zsh/site-functions/_snmp; do
     count "an install puts ${file%%:*} in place" "$(cmp "${file%%:*}" "$got/usr/${file#*:}" 2>&1)"
+done
+# Each link of a page leads to what is there, and their words are those of the repository's pages.
+while IFS=: read -r page link; do
+    count "a link of $page leads to $link" "$([ -z "${link%%#*}" ] || [ -e "$got/usr/share/doc/snmp/${link%%#*}" ] || echo "it isn't there")"
+done < <(cd "$got/usr/share/doc/snmp" && grep -oE '\]\([^)]*\)' -- *.md | sed -E 's,\]\(([^)]*)\),\1,' | grep -v ':https\?:' | sort -u)
+words() { sed -E 's,\[([^]]*)\]\([^)]*\),\1,g' -- "$@"; }
+for page in README.md CHANGELOG.md docs/PROFILE.md docs/PROMISES.md; do
+    same "the words of $page" "$(words "$page")" "$(words "$got/usr/share/doc/snmp/${page##*/}")"
 done
 # What the manual says is there; the modules are those of the repository and not of this tree.
 while read -r named; do
