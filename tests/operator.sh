@@ -376,9 +376,9 @@ turned 'a line that is cut' '1.3.6.1|2|1' 'input:2: cut off: .1.3.6.2 = INTEGER:
 for rest in '1' '11' '11 2'; do
     turned "octets that are cut at $rest" '' "input:1: cut off: .1.3.6.1 = Hex-STRING: 00 " ".1.3.6.1 = Hex-STRING: 00 "$'\n'"$rest"
 done
-same 'a walk that is no file' "lines-to-table: [Errno 2] No such file or directory: 'no.txt'" "$(tools/lines-to-table no.txt 2>&1)"
+same 'a walk that is no file' 'lines-to-table: no.txt: No such file or directory' "$(tools/lines-to-table no.txt 2>&1)"
 echo '.1.3.6 = INTEGER: 1' | tools/lines-to-table >/dev/full 2>"$got/err"
-same 'an output that takes no more' "1 lines-to-table: [Errno 28] No space left on device" "$? $(cat "$got/err")"
+same 'an output that takes no more' '1 lines-to-table: No space left on device' "$? $(cat "$got/err")"
 
 # -- the drawing of README
 
