@@ -391,7 +391,7 @@ stale 'definitions that move to private, and an import of two lines' 0 '2 crates
 cp "$tree/crates/low/specs/High.antt" "$tree/crates/low/specs/Low.antt"
 same 'two files of definitions of one name, one in private' \
     '1 edits.py: crates/low/specs/Low.antt is there twice, once in private' \
-    "$(in_tree tests/edits.py --stale 2>"$got/out"; echo "$? $(cat "$got/out")")"
+    "$(in_tree tests/edits.py --stale >"$got/out"; echo "$? $(tail -n 1 "$got/out")")"
 rm "$tree/crates/low/specs/Low.antt"
 sed -i 's/{b}/{c}/' "$tree/crates/low/specs/High.antt"
 both=("low: it isn't what its edits were tried over (tests/edits.py low)"
