@@ -211,20 +211,9 @@ branch_off bs o i at l e f = by (branch_of bs o) refl
         let front = walk_front (follower bs) 0 (take (i + 1) o) (drop (i + 1) o) c whole in
         let none = branch_more bs o i at l e ∙ f in let some = front.1 in absurd (cc)
 
--- no identifier ends at the next number, so the deepest so far is as it was
-pub SoFar-none : (oids : List (List ℕ)) (o : List ℕ) (i : ℕ) (r : Option Deepest) → SoFar oids o i r → place_of oids (take (i + 1) o) ≡ None
-    → SoFar oids o (i + 1) r
-SoFar-none oids o i None f e = λ j l. elim (cases_lt i j) [ inl m ↦ let is : j ≡ i + 1 = omega arith in rw is e | inr m ↦ f j m ]
-SoFar-none oids o i (Some d) f e = grind (arith, common_steps, cases_lt)
-
 pub SoFar-some : (oids : List (List ℕ)) (o : List ℕ) (i k b : ℕ) → place_of oids (take i o) ≡ Some k
     → SoFar oids o i (Some (record { place = k; depth = i; branch = b }))
 SoFar-some oids o i k b e = (omega arith, e, λ j l m. absurd (omega arith))
-
-pub SoFar-off : (oids : List (List ℕ)) (o : List ℕ) (i n : ℕ) (r : Option Deepest) → SoFar oids o i r
-    → ((j : ℕ) → i < j → place_of oids (take j o) ≡ None) → SoFar oids o n r ⊎ (n < i)
-SoFar-off oids o i n None f g = elim (cases_lt n i) [ inl l ↦ inr l | inr l ↦ inl (λ j m. elim (cases_lt i j) [ inl k ↦ g j k | inr k ↦ f j k ]) ]
-SoFar-off oids o i n (Some d) f g = grind (arith, common_steps, cases_lt)
 
 pub SoFar-whole : (oids : List (List ℕ)) (o : List ℕ) (r : Option Deepest) → SoFar oids o (length o) r
     → MatchOption r (HasNoBeginning oids o) (λ d. IsDeepestAt oids o d.place d.depth)
@@ -239,11 +228,6 @@ none_beyond oids bs are o i at l e f j m =
     let split : take (i + 1) o ++ drop (i + 1) (take j o) ≡ take j o =
     rw (sym (take-take (i + 1) j o (omega arith))) (take-append-drop (i + 1) (take j o)) in
     rw (sym split) (places_off oids oids bs are (take (i + 1) o) (drop (i + 1) (take j o)) none)
-
-pub SoFar-deeper : (oids : List (List ℕ)) (o : List ℕ) (i b : ℕ) (r : Option Deepest) (s : Option ℕ) → SoFar oids o i r → s ≡ place_of oids (take (i + 1) o)
-    → SoFar oids o (i + 1) (deeper_of s b (i + 1) r)
-SoFar-deeper oids o i b r None f e = SoFar-none oids o i r f (sym e)
-SoFar-deeper oids o i b r (Some k) f e = SoFar-some oids o (i + 1) k b (sym e)
 
 -- an identifier below the one that stands at a branch is on the way there
 pub way_known : (oids : List (List ℕ)) (bs : List Branch) → AreBranchesOf oids bs → (o known : List ℕ) (at place : ℕ) → standing_at bs at ≡ Some place
