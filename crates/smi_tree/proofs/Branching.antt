@@ -1,6 +1,6 @@
 -- Branches stay those of a list as it grows.
 use Rattle.std.proofs.lemmas.Grind.{common_steps}
-use Rattle.std.proofs.Common.{◌≡◌, ◌≢◌, ℕ, zero, suc, ◌+◌, ◌<◌, ◌⊎◌, inl, inr, List, [], ◌∷◌, ◌++◌, length, take, drop, get_or, MatchOption, Option}
+use Rattle.std.proofs.Common.{◌≡◌, ◌≢◌, ℕ, zero, suc, ◌+◌, ◌<◌, inl, inr, List, [], ◌∷◌, ◌++◌, length, take, drop, get_or, MatchOption, Option}
 use Rattle.std.proofs.Common.{Some, None, refl, sym, ap, ◌∙◌, arith}
 use Rattle.std.proofs.lemmas.List.{length-append, length_push, get_or_append_left, get_or_push, take-append-drop, take_more, take-take}
 use Rattle.std.proofs.lemmas.Bool.{cases_eq, cases_lt}
@@ -9,7 +9,7 @@ use Rattle.std.proofs.lemmas.Option.{slice_get_past}
 use Rattle.std.specs.Option.{option_and_then}
 use Rattle.smi_tree.specs.branches.Standing.{place_of, oid_at, HasNoBeginning, IsDeepestAt}
 use Rattle.smi_tree.specs.branches.Branches.{follower, standing_at, walk, branch_of, IsBeginning, AreBranches, AreBranchesOf, SoFar, IsUnderWay}
-use Rattle.smi_tree.specs.branches.Branches.{deeper_of, GrowsBranch, there, made}
+use Rattle.smi_tree.specs.branches.Branches.{GrowsBranch, there, made}
 use Rattle.snmp_oid.specs.Identifier.{IsBelow}
 use Rattle.smi_tree.specs.declared.branches.branch.Branch.{Branch}
 use Rattle.smi_tree.specs.declared.branches.identifiers.Deepest.{Deepest}

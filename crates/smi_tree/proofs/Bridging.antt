@@ -1,6 +1,6 @@
 -- Nodes and their sources, one for each.
 use Rattle.std.proofs.lemmas.Grind.{common_steps}
-use Rattle.std.proofs.Common.{◌≡◌, ℕ, zero, suc, ◌+◌, Bool, true, false, cond, List, [], ◌∷◌, length, Some, is_some, refl, ap, arith}
+use Rattle.std.proofs.Common.{◌≡◌, ℕ, zero, suc, ◌+◌, Bool, List, [], ◌∷◌, length, Some, is_some, refl, ap, arith}
 use Rattle.std.specs.List.{slice_get, position_from, find}
 use Rattle.smi_text.specs.declared.trees.tree.Module.{Module}
 use Rattle.smi_names.specs.nodes.Nodes.{Node}
@@ -59,9 +59,4 @@ in_module-sources ms ss os home x l = position-nodes ms (is_of home x) (places.i
 
 pub is_some-find : {A : Type 0} (t : A → Bool) (b : ℕ) (xs : List A) → is_some (position_from t b xs) ≡ is_some (find t xs)
 is_some-find t b [] = refl
-is_some-find t b (x ∷ xs) = by (t x) (is_some-find t (b + 1) xs)
-  where
-    by : (v : Bool) → is_some (position_from t (b + 1) xs) ≡ is_some (find t xs)
-        → is_some (cond v (Some b) (position_from t (b + 1) xs)) ≡ is_some (cond v (Some x) (find t xs))
-    by true e = refl
-    by false e = e
+is_some-find t b (x ∷ xs) = grind (arith, common_steps, is_some-find t (b + 1) xs, is_some)

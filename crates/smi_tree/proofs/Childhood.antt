@@ -1,4 +1,5 @@
 -- The first child with a label is the one with the lowest number.
+use Rattle.std.proofs.lemmas.Grind.{common_steps}
 use Rattle.std.proofs.Common.{◌≡◌, ◌≢◌, ℕ, zero, suc, ◌<◌, ◌≤◌, ◌⊎◌, inl, inr, Bool, true, false, cond, List, [], ◌∷◌, ◌++◌, length, Option, Some}
 use Rattle.std.proofs.Common.{None, refl, ap, arith}
 use Rattle.std.specs.List.{find, filter_map, Contains}
@@ -38,12 +39,7 @@ IsLowestBelow f b (Some k) = (n : ℕ) × (f n ≡ Some k) × ((m : ℕ) → m <
 lowest_below : (f : ℕ → Option ℕ) (b : ℕ) → IsLowestBelow f b (of_lowest f b)
 unfolding of_lowest
 lowest_below f zero = λ m l. absurd (omega arith)
-lowest_below f (suc b) = by (of_lowest f b) (f b) refl (lowest_below f b)
-  where
-    by : (r q : Option ℕ) → f b ≡ q → IsLowestBelow f b r → IsLowestBelow f (suc b) (or_else r q)
-    by None None e below = λ m l. elim (cases_eq m b) [ inl same ↦ rw same e | inr other ↦ below m (omega arith) ]
-    by None (Some k) e below = (b, e, below)
-    by (Some k) q e below = below
+lowest_below f (suc b) = grind (arith, common_steps, lowest_below f b, cases_eq)
 
 of_lowest-lowest : (f : ℕ → Option ℕ) (b : ℕ) → ((n k : ℕ) → f n ≡ Some k → n < b) → IsOfLowest f (of_lowest f b)
 of_lowest-lowest f b within = by (of_lowest f b) (lowest_below f b)

@@ -1,4 +1,5 @@
 -- The first thing of a list that passes a test.
+use Rattle.std.proofs.lemmas.Grind.{common_steps}
 use Rattle.std.proofs.Common.{◌≡◌, ℕ, zero, suc, ◌+◌, ◌<◌, inl, inr, Bool, true, false, cond, ◌&&◌, List, [], ◌∷◌, ◌++◌, length, take, drop, get_or}
 use Rattle.std.proofs.Common.{Option, Some, None, MatchOption, refl, ap, ◌∙◌, arith}
 use Rattle.std.proofs.lemmas.List.{take_more, take-append-drop, length-take-le}
@@ -79,13 +80,7 @@ module _ {A : Type 0} (t : A → Bool) where
 
   pub append-from : (b : ℕ) (xs ys : List A) → position_from t b (xs ++ ys) ≡ or_else (position_from t b xs) (position_from t (b + length xs) ys)
   append-from b [] ys = let all : b + 0 ≡ b = omega arith in rw all refl
-  append-from b (x ∷ xs) ys = by (t x) (append-from (b + 1) xs ys)
-    where
-      by : (v : Bool) → position_from t (b + 1) (xs ++ ys) ≡ or_else (position_from t (b + 1) xs) (position_from t (b + 1 + length xs) ys)
-          → cond v (Some b) (position_from t (b + 1) (xs ++ ys))
-          ≡ or_else (cond v (Some b) (position_from t (b + 1) xs)) (position_from t (b + length (x ∷ xs)) ys)
-      by true h = refl
-      by false h = let long : b + length (x ∷ xs) ≡ b + 1 + length xs = omega arith in rw long h
+  append-from b (x ∷ xs) ys = grind (arith, common_steps, append-from (b + 1) xs ys)
 
   -- one thing more
   pub more : (xs : List A) (i : ℕ) (d : A) → i < length xs

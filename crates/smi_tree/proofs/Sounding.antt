@@ -10,13 +10,13 @@ use Rattle.std.proofs.lemmas.Option.{slice_get-map, get_or_from_slice_get}
 use Rattle.smi_text.specs.trees.Mark.{same_text}
 use Rattle.smi_text.specs.trees.Word.{is_word}
 use Rattle.smi_text.specs.declared.trees.tree.Module.{Module}
-use Rattle.smi_names.specs.meaning.Meaning.{Means, QualifiedName, or_else}
+use Rattle.smi_names.specs.meaning.Meaning.{Means, QualifiedName}
 use Rattle.smi_tree.specs.branches.Standing.{place_of}
 use Rattle.smi_show.specs.name.Naming.{Naming, Standing, LabelLeadsTo, IsSound}
 use Rattle.smi_names.specs.nodes.Nodes.{Node, node_of_root, roots, Loads}
 use Rattle.smi_names.specs.declared.nodes.warning.Warning.{Warning}
 use Rattle.smi_tree.specs.Nodes.{oids_of, is_of, place_in_module, place_anywhere}
-use Rattle.smi_tree.specs.Standing.{Longest, at_depth, longest_up_to, longest}
+use Rattle.smi_tree.specs.Standing.{Longest, longest_up_to, longest}
 use Rattle.smi_tree.specs.Tree.{Contents}
 use Rattle.smi_tree.specs.Naming.{home_name, standing_from, standing_of_longest, oid_of, naming_of}
 use Rattle.smi_tree.proofs.First.{first, passing}
@@ -32,16 +32,7 @@ Reaches oids o j l = (l.depth ≤ j) × (place_of oids (take l.depth o) ≡ Some
 reached : (oids : List (List ℕ)) (o : List ℕ) (j : ℕ) (l : Longest) → longest_up_to oids o j ≡ Some l → Reaches oids o j l
 unfolding longest_up_to
 reached oids o zero l e = grind (arith, common_steps)
-reached oids o (suc j) l e = by (place_of oids (take (suc j) o)) refl e (reached oids o j l)
-  where
-    by : (r : Option ℕ) → place_of oids (take (suc j) o) ≡ r → or_else (at_depth (suc j) r) (longest_up_to oids o j) ≡ Some l
-        → (longest_up_to oids o j ≡ Some l → Reaches oids o j l) → Reaches oids o (suc j) l
-    by None f e rest = let r = rest e in (omega (arith, r.0), r.1)
-    by (Some p) f e rest =
-        let here : Longest = record { place = p; depth = suc j } in
-        let is : here ≡ l = cc in
-        let low : suc j ≤ suc j = omega arith in
-        subst (λ l. Reaches oids o (suc j) l) is (low, f)
+reached oids o (suc j) l e = grind (arith, common_steps, reached oids o j l)
 
 oid-at : (nodes : List Node) (i : ℕ) (n : Node) → slice_get nodes i ≡ Some n → slice_get (oids_of nodes) i ≡ Some n.oid
 oid-at nodes i n e = slice_get-map (λ (m : Node). m.oid) nodes i ∙ rw e refl

@@ -1,15 +1,13 @@
 -- Nodes of modules have words as labels, which lead to them.
-use Rattle.std.proofs.Common.{arith, ◌≡◌, ℕ, zero, suc, ◌⊎◌, inl, inr, Bool, true, false, cond, List, [], ◌∷◌, ◌++◌, Option, Some, None, is_some}
-use Rattle.std.proofs.Common.{refl, subst}
+use Rattle.std.proofs.Common.{arith, ◌≡◌, ℕ, zero, suc, ◌⊎◌, inl, inr, true, List, [], ◌∷◌, ◌++◌, Option, Some, None, is_some, refl, subst}
 use Rattle.std.proofs.lemmas.Grind.{common_steps}
 use Rattle.std.specs.List.{slice_get}
 use Rattle.smi_names.specs.declared.chains.resolution.Resolution.TheVariants as R
-use Rattle.smi_text.specs.trees.Mark.{same_text}
 use Rattle.smi_text.specs.trees.Lookup.{identifier_value_of}
 use Rattle.smi_text.specs.declared.trees.tree.Module.{Module}
 use Rattle.smi_text.specs.declared.trees.tree.Def.{Def}
 use Rattle.smi_text.specs.declared.trees.tree.Part.{Part}
-use Rattle.smi_names.specs.meaning.Meaning.{Means, module_named}
+use Rattle.smi_names.specs.meaning.Meaning.{Means}
 use Rattle.smi_names.specs.nodes.Nodes.{Node, node_of, roots, GivesNodesBy, Gathers, none, more, is_loaded, Brings, left_out, loaded, Loads, none_yet}
 use Rattle.smi_names.specs.nodes.Nodes.{then_module}
 use Rattle.smi_names.specs.declared.nodes.warning.Warning.{Warning}
@@ -54,21 +52,11 @@ gathered ms m _ _ _ k n l (more ds d ns more_nodes ws more_warnings g gives) e =
 -- a module more
 loaded-more : (ms : List Module) (m : Module) (x : List ℕ) → is_loaded ms x ≡ true → is_loaded (ms ++ m ∷ []) x ≡ true
 loaded-more [] m x e = cc
-loaded-more (y ∷ ms) m x e = by (same_text y.name.octets x) e (loaded-more ms m x)
-  where
-    by : (b : Bool) → is_some (cond b (Some y) (module_named ms x)) ≡ true → (is_loaded ms x ≡ true → is_loaded (ms ++ m ∷ []) x ≡ true)
-        → is_some (cond b (Some y) (module_named (ms ++ m ∷ []) x)) ≡ true
-    by true f rest = refl
-    by false f rest = rest f
+loaded-more (y ∷ ms) m x e = grind (arith, common_steps, loaded-more ms m x, is_some)
 
 loaded-last : (ms : List Module) (m : Module) → is_loaded (ms ++ m ∷ []) m.name.octets ≡ true
 loaded-last [] m = rw (same_itself m.name.octets) refl
-loaded-last (y ∷ ms) m = by (same_text y.name.octets m.name.octets) (loaded-last ms m)
-  where
-    by : (b : Bool) → is_loaded (ms ++ m ∷ []) m.name.octets ≡ true
-        → is_some (cond b (Some y) (module_named (ms ++ m ∷ []) m.name.octets)) ≡ true
-    by true rest = refl
-    by false rest = rest
+loaded-last (y ∷ ms) m = grind (arith, common_steps, loaded-last ms m, is_some)
 
 brought : (ms before : List Module) (m : Module) (ns : List Node) (ws : List Warning) (k : ℕ) (n : Node) → is_loaded ms m.name.octets ≡ true
     → Brings ms before m ns ws → slice_get ns k ≡ Some n → IsOfModule ms n

@@ -20,10 +20,7 @@ pub same_or_not : (xs ys : List ℕ) → (xs ≡ ys) ⊎ (xs ≢ ys)
 same_or_not [] [] = inl refl
 same_or_not [] (y ∷ ys) = inr (λ e. cc)
 same_or_not (x ∷ xs) [] = inr (λ e. cc)
-same_or_not (x ∷ xs) (y ∷ ys) = elim (cases_eq x y) [
-  | inl same ↦ elim (same_or_not xs ys) [ inl e ↦ inl (cc) | inr f ↦ inr (λ e. f (cc)) ]
-  | inr f ↦ inr (λ e. f (cc))
-]
+same_or_not (x ∷ xs) (y ∷ ys) = grind (arith, common_steps, same_or_not xs ys, cases_eq)
 
 module _ (next : ℕ → ℕ → Option ℕ) where
   pub walk-append : (at : ℕ) (xs ys : List ℕ) → walk next at (xs ++ ys) ≡ option_and_then (λ b. walk next b ys) (walk next at xs)
