@@ -33,23 +33,12 @@ digit_some base limit (suc more) n = grind (arith, common_steps, ⊎_elim, count
 -- and at most so many
 pub digit_most : (base limit more n : ℕ) → digit_count base limit more n ≤ 1 + more
 digit_most base limit zero n = omega arith
-digit_most base limit (suc more) n = ⊎_elim
-    (λ h. omega (arith, count_taken base limit more n h))
-    (λ h. omega (arith, count_left base limit more n h, digit_most base (limit * base) more n))
-    (cases_lt n limit)
+digit_most base limit (suc more) n = grind (arith, common_steps, digit_most base (limit * base) more n, ⊎_elim, count_taken, count_left, cases_lt)
 
 -- a greater number has no fewer
 pub count_rises : (base limit more m n : ℕ) → m ≤ n → digit_count base limit more m ≤ digit_count base limit more n
 count_rises base limit zero m n h = omega arith
-count_rises base limit (suc more) m n h = ⊎_elim
-    (λ below. omega (arith, count_taken base limit more m below, digit_some base limit (suc more) n))
-    (λ above. omega (
-      arith,
-      count_left base limit more m above,
-      count_left base limit more n (omega (arith, h, above)),
-      count_rises base (limit * base) more m n h,
-    ))
-    (cases_lt m limit)
+count_rises base limit (suc more) m n h = grind (arith, common_steps, count_rises base (limit * base) more m n h, ⊎_elim, count_taken, digit_some, count_left, cases_lt)
 
 times_power : (limit base k : ℕ) → limit * base ^ suc k ≡ limit * base * base ^ k
 times_power limit base k = omega (arith, ap (λ p. limit * p) (pow-suc base k))

@@ -1,4 +1,5 @@
 -- Numbers and their digits.
+use Rattle.std.proofs.lemmas.Grind.{common_steps}
 use Rattle.std.proofs.Common.{◌≡◌, ℕ, zero, suc, ◌+◌, ◌*◌, ◌/◌, ◌%◌, ◌^◌, ◌<◌, List, [], ◌∷◌, ◌++◌}
 use Rattle.std.proofs.Common.{length, get_or, take, refl, sym, ap, ◌∙◌, add-one, lit<, arith}
 use Rattle.std.proofs.Math.Nat.{add-mul-div_left, add-mul-mod_self_left, div-eq_of_lt, mod-eq_of_lt, mod-lt, mod-one, mul_assoc, one-le-pow}
@@ -14,11 +15,7 @@ use Rattle.snmp_wire.specs.ber.Number.{AreOctets, number_of}
 -- one more digit at the end
 pub number_of-push : (base : ℕ) (xs : List ℕ) (digit : ℕ) → number_of base (xs ++ digit ∷ []) ≡ number_of base xs * base + digit
 number_of-push base [] digit = rw pow-zero (omega arith)
-number_of-push base (first ∷ rest) digit =
-    let more = number_of-push base rest digit in
-    let longer : base ^ length (rest ++ digit ∷ []) ≡ base ^ length rest * base = ap (λ n. base ^ n) (length_push rest digit)
-    ∙ rw add-one (pow-suc base (length rest)) in
-    omega (arith, more, ap (λ n. first * n) longer)
+number_of-push base (first ∷ rest) digit = grind (arith, common_steps, number_of-push base rest digit, length_push, add-one, pow-suc)
 
 -- the step of a loop over the digits
 pub number_of-more : (base : ℕ) (xs : List ℕ) (i : ℕ) → i < length xs
@@ -62,11 +59,7 @@ are_digits base (suc count) n some = (mod-lt (n / base ^ count) some, are_digits
 pub number_of-digits : (base count n : ℕ) → 0 < base → number_of base (digits base count n) ≡ n % base ^ count
 unfolding digits
 number_of-digits base zero n some = rw pow-zero (sym (mod-one n))
-number_of-digits base (suc count) n some =
-    ap (λ k. n / base ^ count % base * base ^ k + number_of base (digits base count n)) (length-digits base count n)
-    ∙ ap (λ rest. n / base ^ count % base * base ^ count + rest) (number_of-digits base count n some)
-    ∙ sym (mod-mul n some (one-le-pow count base some))
-    ∙ ap (λ m. n % m) (sym (pow-succ' base count))
+number_of-digits base (suc count) n some = grind (arith, common_steps, number_of-digits base count n some, length-digits, mod-mul, one-le-pow, pow-succ')
 
 pub digits_value : (base count n : ℕ) → 0 < base → n < base ^ count → number_of base (digits base count n) ≡ n
 digits_value base count n some h = number_of-digits base count n some ∙ mod-eq_of_lt h
@@ -75,13 +68,7 @@ digits_value base count n some h = number_of-digits base count n some ∙ mod-eq
 pub digits-add : (base count a b : ℕ) → 0 < base → digits base count (a + base ^ count * b) ≡ digits base count a
 unfolding digits
 digits-add base zero a b some = refl
-digits-add base (suc count) a b some =
-    let whole : base ^ suc count * b ≡ base ^ count * (base * b) = ap (λ p. p * b) (pow-suc base count) ∙ mul_assoc (base ^ count) base b in
-    let digit : (a + base ^ suc count * b) / base ^ count % base ≡ a / base ^ count % base =
-    ap (λ m. (a + m) / base ^ count % base) whole ∙ ap (λ m. m % base) (add-mul-div_left a (base * b) (one-le-pow count base some))
-    ∙ add-mul-mod_self_left (a / base ^ count) base b in
-    ap (λ d. d ∷ digits base count (a + base ^ suc count * b)) digit
-    ∙ ap (λ ds. (a / base ^ count % base) ∷ ds) (ap (λ m. digits base count (a + m)) whole ∙ digits-add base count a (base * b) some)
+digits-add base (suc count) a b some = grind (arith, common_steps, digits-add base count a (base * b) some, pow-suc, mul_assoc, add-mul-div_left, one-le-pow, add-mul-mod_self_left)
 
 -- digits are those of their number
 pub digits_are : (base : ℕ) (xs : List ℕ) → 0 < base → AreDigits base xs → xs ≡ digits base (length xs) (number_of base xs)

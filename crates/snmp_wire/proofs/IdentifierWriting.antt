@@ -103,8 +103,7 @@ length-content numbers name wire same = grind (arith, common_steps, content_is, 
 -- they are written as they are
 plain_then : (xs ys : List ℕ) → AllByRecursion (λ n. n < 128) xs → flat_map canon_subidentifier (xs ++ ys) ≡ xs ++ flat_map canon_subidentifier ys
 plain_then [] ys h = refl
-plain_then (x ∷ xs) ys h = ap (λ (o : List ℕ). o ++ flat_map canon_subidentifier (xs ++ ys)) (subidentifier_short x h.0)
-    ∙ ap (λ (o : List ℕ). x ∷ o) (plain_then xs ys h.1)
+plain_then (x ∷ xs) ys h = grind (arith, common_steps, plain_then xs ys h.1, subidentifier_short)
 
 -- the numbers from a place on are the one there, and those behind it
 number_then : (numbers : List ℕ) (i next : ℕ) → i + 1 ≡ next → next ≤ length numbers → drop i numbers ≡ get_or numbers i 0 ∷ drop next numbers
@@ -198,9 +197,7 @@ length-low_bits text = length-map text (λ octet. octet % 128)
 low_septets : (count n : ℕ) → low_bits (septets count n) ≡ digits 128 count n
 unfolding septets digits
 low_septets zero n = refl
-low_septets (suc count) n =
-    let digit : (128 + n / 128 ^ count % 128) % 128 ≡ n / 128 ^ count % 128 = omega arith in
-    ap (λ d. d ∷ low_bits (septets count n)) digit ∙ ap (λ ds. (n / 128 ^ count % 128) ∷ ds) (low_septets count n)
+low_septets (suc count) n = grind (arith, common_steps, low_septets count n)
 
 abbrev AreHigh : List ℕ → Type 0
 AreHigh text = AllByRecursion (λ octet. 128 ≤ octet) text
@@ -311,13 +308,7 @@ name_octets name = all_octets (subidentifiers name)
 -- a subidentifier has five octets at most
 length-subidentifiers : (numbers : List ℕ) → length (flat_map canon_subidentifier numbers) ≤ 5 * length numbers
 length-subidentifiers [] = omega arith
-length-subidentifiers (n ∷ more) = omega (
-  arith,
-  length-append (canon_subidentifier n) (flat_map canon_subidentifier more),
-  length-canon_subidentifier n,
-  subidentifier_most n,
-  length-subidentifiers more,
-)
+length-subidentifiers (n ∷ more) = grind (arith, common_steps, length-subidentifiers more, length-append, length-canon_subidentifier, subidentifier_most)
 
 pub length-name : (name : List ℕ) → length (canon_content (object_id name)) ≤ 5 * length name
 unfolding canon_content

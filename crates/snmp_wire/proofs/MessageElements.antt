@@ -75,33 +75,19 @@ value_is_read value text is = record { content = is.content; is_content = conten
 
 pub are_read : (all : Elements) (octets : List ℕ) → SpellsAll strict all octets → SpellsAll lenient all octets
 are_read no_elements octets is = is
-are_read (value_then value more) octets (first, rest, parts, this, others) =
-    (first, rest, parts, value_is_read value first this, are_read more rest others)
-are_read (element_then tag within more) octets (first, rest, parts, content, element, inner, others) =
-    (first, rest, parts, content, element, are_read within content inner, are_read more rest others)
+are_read (value_then value more) octets (first, rest, parts, this, others) = grind (arith, common_steps, are_read more rest others, value_is_read)
+are_read (element_then tag within more) octets (first, rest, parts, content, element, inner, others) = grind (arith, common_steps, are_read within content inner, are_read more rest others)
 
 -- what is written is spelt by the standard
 pub are_strict : (all : Elements) → AreInRange all → SpellsAll strict all (canon_all all)
 are_strict no_elements range = refl
-are_strict (value_then value more) (this, others) =
-    (canon_value value, canon_all more, refl, spells_value value this, are_strict more others)
-are_strict (element_then tag within more) (small, short, inner, others) = (
-  canon_element tag (canon_all within),
-  canon_all more,
-  refl,
-  canon_all within,
-  is_element tag (canon_all within) short,
-  are_strict within inner,
-  are_strict more others,
-)
+are_strict (value_then value more) (this, others) = grind (arith, common_steps, are_strict more others, spells_value)
+are_strict (element_then tag within more) (small, short, inner, others) = grind (arith, common_steps, are_strict within inner, are_strict more others, is_element)
 
 pub are_octets : (all : Elements) → AreInRange all → Octets (canon_all all)
 are_octets no_elements range = tt
-are_octets (value_then value more) (this, others) =
-    both_octets (canon_value value) (canon_all more) (value_octets value this) (are_octets more others)
-are_octets (element_then tag within more) (small, short, inner, others) =
-    both_octets (canon_element tag (canon_all within)) (canon_all more) (element_octets tag (canon_all within) small (are_octets within inner))
-    (are_octets more others)
+are_octets (value_then value more) (this, others) = grind (arith, common_steps, are_octets more others, both_octets, value_octets)
+are_octets (element_then tag within more) (small, short, inner, others) = grind (arith, common_steps, are_octets within inner, are_octets more others, both_octets, element_octets)
 
 -- no spelling by the standard is shorter, and one that is no longer is the written one
 pub are_least : (all : Elements) (octets : List ℕ) → Octets octets → SpellsAll strict all octets → IsNoShorter (canon_all all) octets
@@ -153,8 +139,7 @@ module _ (form : Form) where
   bindings_in_row : (bindings : List VarBind) (octets : List ℕ) → SpellsBindings form bindings octets
       → SpellsAll form (elements_of_bindings bindings) octets
   bindings_in_row [] octets is = is
-  bindings_in_row (binding ∷ more) octets (first, rest, parts, this, others) =
-      rw parts (binding_in_row binding (elements_of_bindings more) first rest this (bindings_in_row more rest others))
+  bindings_in_row (binding ∷ more) octets (first, rest, parts, this, others) = grind (arith, common_steps, bindings_in_row more rest others, binding_in_row)
 
   pub in_row : (message : Message) (octets : List ℕ) → SpellsMessage form message octets → SpellsAll form (elements_of message) octets
   in_row message octets is =
@@ -191,8 +176,7 @@ module _ (form : Form) where
   bindings_of_row : (bindings : List VarBind) (octets : List ℕ) → SpellsAll form (elements_of_bindings bindings) octets
       → SpellsBindings form bindings octets
   bindings_of_row [] octets is = is
-  bindings_of_row (binding ∷ more) octets (first, rest, parts, content, element, inner, others) =
-      (first, rest, parts, binding_of_row binding content first element inner, bindings_of_row more rest others)
+  bindings_of_row (binding ∷ more) octets (first, rest, parts, content, element, inner, others) = grind (arith, common_steps, bindings_of_row more rest others, binding_of_row)
 
   pdu_of_row : (message : Message) (content octets : List ℕ) → IsElement (kind_tag message.kind) content octets
       → SpellsAll form (elements_in_pdu message) content → SpellsPdu form message octets
@@ -264,12 +248,7 @@ kind_fits k = lit< tt
 
 bindings_in_range : (bindings : List VarBind) → AllByRecursion IsBindingInRange bindings → AreInRange (elements_of_bindings bindings)
 bindings_in_range [] range = tt
-bindings_in_range (binding ∷ more) (this, others) = (
-  lit< tt,
-  simp length-append (omega (arith, value_short (object_id binding.name) this.name, value_short binding.value this.value)),
-  (this.name, (this.value, tt)),
-  bindings_in_range more others,
-)
+bindings_in_range (binding ∷ more) (this, others) = grind (arith, common_steps, bindings_in_range more others, length-append, value_short)
 
 -- the bindings have at most 4,000,000,000 octets and each other field few, so each content is shorter than 2 ^ 32
 in_range : (message : Message) → IsMessageInRange message → AreInRange (elements_of message)

@@ -133,10 +133,7 @@ digits_rise base [] after behind c d less size small =
     let same : base ^ length after ≡ base ^ length behind = ap (λ k. base ^ k) size in
     let turned : d * base ^ length behind ≡ base ^ length after * d = ap (λ p. d * p) (sym same) ∙ omega arith in
     omega (arith, bound, turned)
-digits_rise base (z ∷ front) after behind c d less size small =
-    let sizes : length (front ++ c ∷ after) ≡ length (front ++ d ∷ behind) =
-    omega (arith, length-append front (c ∷ after), length-append front (d ∷ behind), size) in
-    omega (arith, ap (λ k. z * base ^ k) sizes, digits_rise base front after behind c d less size small)
+digits_rise base (z ∷ front) after behind c d less size small = grind (arith, common_steps, digits_rise base front after behind c d less size small, length-append)
 
 -- one of several octets has a first digit
 least_of_several : (text : List ℕ) (n : ℕ) → Octets text → IsSubidentifier text n → 1 < length text → 128 ^ (length text - 1) ≤ n

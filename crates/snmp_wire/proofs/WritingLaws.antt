@@ -43,8 +43,7 @@ pub flat_map_rest : {X : Type 0} (f : X → List ℕ) (xs : List X) (i : ℕ)
     → length (flat_map f (drop i xs)) ≤ length (flat_map f xs)
 flat_map_rest f xs zero = omega arith
 flat_map_rest f [] (suc i) = omega arith
-flat_map_rest f (x ∷ xs) (suc i) =
-    omega (arith, flat_map_rest f xs i, length-append (f x) (flat_map f xs))
+flat_map_rest f (x ∷ xs) (suc i) = grind (arith, common_steps, flat_map_rest f xs i, length-append)
 
 -- one piece more is written before those that are
 pub writes_piece : {X : Type 0} {old mid new : List ℕ} {start middle end : ℕ}
