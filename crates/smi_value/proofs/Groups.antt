@@ -9,10 +9,9 @@ use Rattle.snmp_io.specs.draft.Draft.{Written, Grows, Adds}
 use Rattle.smi_value.specs.declared.hint.spec.Spec.{Spec}
 use Rattle.smi_value.specs.hint.Spec.{IsFirstSpec, AreSpecs, IsOctetHint, LastTakesOctets, takes_octets, most_octets}
 use Rattle.smi_value.specs.hint.Pieces.{ArePieces, IsCut, IsGroup, AreGroups, ShowsOctets, piece_text, pieces_text, mark_before, last_mark, body_of}
-use Rattle.smi_value.specs.hint.Pieces.{specs_after, is_single, single_text, marked_text, singles_text}
+use Rattle.smi_value.specs.hint.Pieces.{specs_after, is_single, single_text, singles_text}
 use Rattle.smi_value.specs.declared.hint.spec.OctetFormat.{OctetFormat}
 use Rattle.std.proofs.lemmas.Bool.{and_parts, not-true, eqb-true, cases_order}
-use Rattle.std.specs.List.{flat_map}
 use Rattle.smi_value.proofs.Growing.{grows_none, grows_both, adds_from}
 use Rattle.smi_value.proofs.Specs.{after_first, first_some, Begins}
 
@@ -82,8 +81,7 @@ one_piece spec ahead left old now new rest some first h = go h.pieces h.cut h.gr
 empty_pieces : (spec : Spec) (n : ℕ) (octets : List ℕ) → spec.separator ≡ None
     → pieces_text spec (replicate (suc n) []) octets ≡ mark_before (last_mark spec) octets
 empty_pieces spec zero octets e = refl
-empty_pieces spec (suc n) octets e =
-    ap (λ (mark : Option ℕ). option_to_list mark ++ pieces_text spec (replicate (suc n) []) octets) e ∙ empty_pieces spec n octets e
+empty_pieces spec (suc n) octets e = grind (arith, common_steps, empty_pieces spec n octets e, option_to_list)
 
 are_empty_pieces : (n : ℕ) (octets : List ℕ) → octets ≢ [] → ArePieces 0 (replicate n []) octets octets
 are_empty_pieces zero octets some = refl
@@ -143,9 +141,7 @@ pub record GroupsAhead (hint octets : List ℕ) (old : Written) (spec : Spec) (a
 
 pieces_no_longer : (width : ℕ) (pieces : List (List ℕ)) (octets rest : List ℕ) → ArePieces width pieces octets rest → length rest ≤ length octets
 pieces_no_longer width [] octets rest h = omega (arith, ap length h)
-pieces_no_longer width (piece ∷ pieces) octets rest h =
-    let le = pieces_no_longer width pieces (drop width octets) rest h.2 in
-    omega (arith, le, length-drop width octets)
+pieces_no_longer width (piece ∷ pieces) octets rest h = grind (arith, common_steps, pieces_no_longer width pieces (drop width octets) rest h.2, length-drop)
 
 body_no_longer : (spec : Spec) (octets : List ℕ) → length (body_of spec octets) ≤ length octets
 body_no_longer spec octets = grind (arith, common_steps, length-drop)
@@ -303,13 +299,7 @@ single_pieces_text : (spec : Spec) (octet : ℕ) (more rest : List ℕ) → piec
     ≡ singles_text spec.format spec.separator (octet ∷ more) ++ mark_before (last_mark spec) rest
 unfolding single
 single_pieces_text spec octet [] rest = simp append-nil
-single_pieces_text spec octet (next ∷ more) rest =
-    ap (λ (t : List ℕ). single_text spec.format octet ++ option_to_list spec.separator ++ t) (single_pieces_text spec next more rest)
-    ∙ grouped (single_text spec.format octet) (option_to_list spec.separator) (single_text spec.format next)
-    (flat_map (marked_text spec.format spec.separator) more) (mark_before (last_mark spec) rest)
-  where
-    grouped : (a b c d e : List ℕ) → a ++ b ++ (c ++ d ++ e) ≡ a ++ (b ++ c ++ d) ++ e
-    grouped a b c d e = simp append_assoc
+single_pieces_text spec octet (next ∷ more) rest = grind (arith, common_steps, single_pieces_text spec next more rest, option_to_list, append_assoc)
 
 pub cut_none : (spec : Spec) (times n : ℕ) (octets : List ℕ) (now : Written) → n ≡ min (length octets) times → take n octets ≡ []
     → AppendsPieces spec times octets now now (drop n octets)

@@ -23,8 +23,7 @@ either_way false o y = refl
 
 has_more : (letter : ℕ) (text : List ℕ) (octet : ℕ) → has_letter letter (text ++ octet ∷ []) ≡ (if octet == letter then true else has_letter letter text)
 has_more letter [] octet = grind (arith, common_steps)
-has_more letter (x ∷ text) octet =
-    ap (λ (b : Bool). (x == letter) || b) (has_more letter text octet) ∙ either_way (x == letter) (octet == letter) (has_letter letter text)
+has_more letter (x ∷ text) octet = grind (arith, common_steps, has_more letter text octet, either_way)
 
 -- the letters of a text with one more
 pub letters_more : (text : List ℕ) (octet : ℕ) (old new : Letters) → AreLetters text old → IsWith old octet new → AreLetters (text ++ octet ∷ []) new

@@ -35,10 +35,7 @@ same_pieces : (width times : ℕ) (p q : List (List ℕ)) (octets r s : List ℕ
 same_pieces width times [] [] octets r s h k = (refl, h.are_pieces ∙ sym k.are_pieces)
 same_pieces width times [] (piece ∷ q) octets r s h k = absurd (none_or_some width times piece q octets r s h k)
 same_pieces width times (piece ∷ p) [] octets r s h k = absurd (none_or_some width times piece p octets s r k h)
-same_pieces width times (piece ∷ p) (other ∷ q) octets r s h k =
-    let more = same_pieces width (times - 1) p q (drop width octets) r s (fewer width times piece p octets r h) (fewer width times other q octets s k) in
-    let first : piece ≡ other = h.are_pieces.1 ∙ sym k.are_pieces.1 in
-    (λ i. first i ∷ more.0 i, more.1)
+same_pieces width times (piece ∷ p) (other ∷ q) octets r s h k = grind (arith, common_steps, same_pieces width (times - 1) p q (drop width octets) r s (fewer width times piece p octets r h) (fewer width times other q octets s k), fewer)
 
 same_groups : (specs : List Spec) (g h : List (List (List ℕ))) (octets a b : List ℕ) → AreGroups specs g octets a → AreGroups specs h octets b → a ≡ b
 same_groups specs [] [] octets a b k l = k.1 ∙ sym l.1
