@@ -5,7 +5,6 @@ use Rattle.std.proofs.Common.{take, refl, sym, ◌∙◌, ap, subst, arith, pos,
 use Rattle.std.proofs.lemmas.List.{length-take}
 use Rattle.std.specs.Prelude.{Result, Ok, Err, replicate, Some, None}
 use Rattle.snmp_walk.specs.declared.end.LinkFault.{LinkFault}
-use Rattle.snmp_oid.specs.Identifier.{wire}
 use Rattle.snmp_wire.specs.Message.{VarBind, Message}
 use Rattle.snmp_wire.specs.Spelling.{Spells}
 use Rattle.snmp_wire.specs.Canon.{canon}
@@ -49,15 +48,13 @@ use Rattle.snmp_walk.specs.declared.link.Link.{Ghosts as LinkFacts}
 -- Gets of the names give one list
 one_got : (view : MibView) → IsMibView view → (names : List (List ℕ)) (a b : List VarBind) → AreGot view names a → AreGot view names b → a ≡ b
 one_got view good [] [] [] h k = refl
-one_got view good (o ∷ names) (p ∷ a) (q ∷ b) h k =
-    ap (λ (x : VarBind). x ∷ a) (get_one view good (wire o) p q h.0 k.0) ∙ ap (λ (s : List VarBind). q ∷ s) (one_got view good names a b h.1 k.1)
+one_got view good (o ∷ names) (p ∷ a) (q ∷ b) h k = grind (arith, common_steps, one_got view good names a b h.1 k.1, get_one)
 one_got view good names a b h k = absurd assumption
 
 -- they are for the names
 for_got : (view : MibView) → IsMibView view → (names : List (List ℕ)) (bindings : List VarBind) → AreGot view names bindings → AreFor names bindings
 for_got view good [] [] h = for_nothing
-for_got view good (o ∷ names) (p ∷ bindings) h =
-    for_more o names p bindings ((get_name view (wire o) p h.0, no_end p.value (get_value view good (wire o) p h.0)), for_got view good names bindings h.1)
+for_got view good (o ∷ names) (p ∷ bindings) h = grind (arith, common_steps, for_got view good names bindings h.1, for_more, get_name, no_end, get_value)
 for_got view good names bindings h = absurd h
 
 unless_silent : (end : WalkEnd) → (end ≡ ending.NoResponse → ⊥) → IsDoneOrCutOff end → IsDoneOrStopped end

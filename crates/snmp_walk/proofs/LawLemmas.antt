@@ -26,14 +26,11 @@ use Rattle.snmp_walk.proofs.RowLemmas.{AreAfter, AreRising}
 -- a filtered list rises as the whole one
 after_kept : (test : VarBind → Bool) (x : List ℕ) (rows : List VarBind) → AreAfter x rows → AreAfter x (filter test rows)
 after_kept test x [] h = tt
-after_kept test x (q ∷ rows) h =
-    let rest = after_kept test x rows h.1 in cond_both (test q) (q ∷ filter test rows) (filter test rows) (AreAfter x) (λ _. (h.0, rest)) (λ _. rest)
+after_kept test x (q ∷ rows) h = grind (arith, common_steps, after_kept test x rows h.1, cond_both)
 
 rising_kept : (test : VarBind → Bool) (rows : List VarBind) → AreRising rows → AreRising (filter test rows)
 rising_kept test [] h = tt
-rising_kept test (q ∷ rows) h =
-    let rest = rising_kept test rows h.1 in
-    cond_both (test q) (q ∷ filter test rows) (filter test rows) AreRising (λ _. (after_kept test q.name rows h.0, rest)) (λ _. rest)
+rising_kept test (q ∷ rows) h = grind (arith, common_steps, rising_kept test rows h.1, cond_both, after_kept)
 
 -- what rises is ordered
 module _ (precedes : (o p : List ℕ) → comes_after o p ≡ true → Precedes o p) where
@@ -59,11 +56,7 @@ left_of rows p front more h e = grind (arith, common_steps, left_after)
 -- rows after a name, of those after an earlier one
 later_rows : (o p : List ℕ) (rows : List VarBind) → comes_after o p ≡ true → rows_after p (rows_after o rows) ≡ rows_after p rows
 later_rows o p [] h = refl
-later_rows o p (q ∷ rows) h =
-    let same = later_rows o p rows h in
-    cond_both (comes_after o q.name) (q ∷ rows_after o rows) (rows_after o rows) (λ s. rows_after p s ≡ rows_after p (q ∷ rows))
-    (λ _. ap (λ (s : List VarBind). cond (comes_after p q.name) (q ∷ s) s) same)
-    (λ e. same ∙ rw (false_from_ne_true (comes_after p q.name) (λ k. false≢true (sym e ∙ after-trans o p q.name h k))))
+later_rows o p (q ∷ rows) h = grind (arith, common_steps, later_rows o p rows h, cond_both, false_from_ne_true, after-trans)
 
 -- names as they are sent
 pub wire_long : (name : List ℕ) → 3 ≤ length name → wire name ≡ name

@@ -1,7 +1,7 @@
 -- A walk's requests can be encoded, and fit a datagram.
 use Rattle.std.proofs.lemmas.Grind.{common_steps}
-use Rattle.std.proofs.Common.{◌≡◌, ℕ, zero, suc, ◌+◌, ◌*◌, ◌≤◌, true, false, cond, List, [], ◌∷◌, length, arith, refl, ◌∙◌, length-append, ℤ, pos, negsuc}
-use Rattle.std.specs.Prelude.{All, nat_lt}
+use Rattle.std.proofs.Common.{◌≡◌, ℕ, zero, suc, ◌+◌, ◌*◌, ◌≤◌, List, [], ◌∷◌, length, arith, refl, ◌∙◌, length-append, ℤ, pos, negsuc}
+use Rattle.std.specs.Prelude.{All}
 use Rattle.std.specs.List.{flat_map}
 use Rattle.std.proofs.lemmas.List.{length-map}
 use Rattle.std.proofs.lemmas.List.Elements.{All-cons, All-nil}
@@ -17,9 +17,7 @@ use Rattle.snmp_walk.specs.Request.{request_of}
 
 digit_bound : (base limit more n : ℕ) → digit_count base limit more n ≤ more + 1
 digit_bound base limit zero n = omega arith
-digit_bound base limit (suc more) n =
-    let rest = digit_bound base (limit * base) more n in
-    elim (nat_lt n limit) as (λ b. cond b 1 (1 + digit_count base (limit * base) more n) ≤ suc more + 1) [ true ↦ omega arith | false ↦ omega (arith, rest) ]
+digit_bound base limit (suc more) n = grind (arith, common_steps, digit_bound base (limit * base) more n)
 
 digits_length : (base count n : ℕ) → length (digits base count n) ≡ count
 unfolding digits

@@ -82,8 +82,7 @@ are_more : {L : Type 0} (Tried : Walker → L → Outcome → L → Type 0) (v w
     → AreRead Tried v old readings w now → IsWalker w → Tried w now (outcome.answered r.datagram) new → MeansBy w r.datagram (step.Rows r.rows) x
     → AreRead Tried v old (readings ++ r ∷ []) x new
 are_more Tried v w x old now new [] r h good tried taken = (subst IsWalker h.0 good, x, new, rw (← h.0, ← h.1) tried, rw (← h.0) taken, (refl, refl))
-are_more Tried v w x old now new (s ∷ readings) r h good tried taken =
-    (h.0, h.1, h.2, h.3, h.4, are_more Tried h.1 w x h.2 now new readings r h.5 good tried taken)
+are_more Tried v w x old now new (s ∷ readings) r h good tried taken = grind (arith, common_steps, are_more Tried h.1 w x h.2 now new readings r h.5 good tried taken, taken)
 
 read_more : {L : Type 0} (Tried : Walker → L → Outcome → L → Type 0) (first w x : Walker) (old now new : L) (given rows : List VarBind) (datagram : List ℕ)
     → HasRead Tried first old w now given → IsWalker w → Tried w now (outcome.answered datagram) new → MeansBy w datagram (step.Rows rows) x

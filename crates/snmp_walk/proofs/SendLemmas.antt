@@ -63,14 +63,7 @@ one_right (y ∷ xs) ys x one = inr (one_right xs ys x one)
 pub tries_more : (tries : ℕ) (first : Walker) (rows more : List VarBind) (id : ℕ) (requests : List Try) → AreTries tries first rows id requests
     → AreTries tries first (rows ++ more) id requests
 tries_more tries first rows more id [] h = tt
-tries_more tries first rows more id (t ∷ requests) h = (
-  h.0,
-  h.1,
-  h.2,
-  record { same = h.3.same; name = asks_more first rows more t.by.phase t.by h.3.name },
-  tries_more tries first rows more
-      (id + 1) requests h.4,
-)
+tries_more tries first rows more id (t ∷ requests) h = grind (arith, common_steps, tries_more tries first rows more (id + 1) requests h.4, asks_more)
 
 pub tries_push : (tries : ℕ) (first : Walker) (rows : List VarBind) (id : ℕ) (requests : List Try) (t : Try) → AreTries tries first rows id requests
     → t.by.id ≡ id + length requests → t.by.id < 2 ^ 31 → t.times ≤ tries → Asks first rows t.by → AreTries tries first rows id (requests ++ t ∷ [])
@@ -80,9 +73,7 @@ tries_push tries first rows id (u ∷ requests) t h e low few asks =
 
 pub sent_push : (requests : List Try) (t : Try) → sent_by (requests ++ t ∷ []) ≡ sent_by requests ++ replicate t.times (canon (request_of t.by))
 sent_push [] t = append-nil (replicate t.times (canon (request_of t.by)))
-sent_push (u ∷ requests) t =
-    ap (λ (s : List (List ℕ)). replicate u.times (canon (request_of u.by)) ++ s) (sent_push requests t)
-    ∙ sym (append_assoc (replicate u.times (canon (request_of u.by))) (sent_by requests) (replicate t.times (canon (request_of t.by))))
+sent_push (u ∷ requests) t = grind (arith, common_steps, sent_push requests t, append_assoc)
 
 pub each_push : (requests : List Try) (t : Try) → IsEachSent requests → 0 < t.times → IsEachSent (requests ++ t ∷ [])
 each_push requests t each some u one = grind (arith, common_steps, one_append)

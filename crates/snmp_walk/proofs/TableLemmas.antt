@@ -1,6 +1,5 @@
 -- With one table that doesn't change, a trail is a beginning of the rows below the root, and one that is at its end is all of them.
-use Rattle.std.proofs.Common.{arith}
-use Rattle.std.proofs.Common.{◌≡◌, inl, inr, ℕ, Bool, true, false, cond, List, [], ◌∷◌, ◌++◌, refl, sym, ◌∙◌, ap, subst, append-nil, append_assoc}
+use Rattle.std.proofs.Common.{arith, ◌≡◌, inl, inr, ℕ, Bool, true, false, List, [], ◌∷◌, ◌++◌, refl, sym, ◌∙◌, ap, subst, append-nil, append_assoc}
 use Rattle.std.proofs.lemmas.Grind.{common_steps}
 use Rattle.std.proofs.lemmas.Bool.{and_parts, cond_both, false≢true}
 use Rattle.std.specs.Prelude.{not, filter}
@@ -22,12 +21,7 @@ use Rattle.snmp_walk.proofs.TestLemmas.{inside_decided, outside_test, present_is
 -- two filters in either order
 pub filter-commute : (p q : VarBind → Bool) (xs : List VarBind) → filter p (filter q xs) ≡ filter q (filter p xs)
 filter-commute p q [] = refl
-filter-commute p q (x ∷ xs) =
-    let rest = filter-commute p q xs in
-    cond_both (q x) (x ∷ filter q xs) (filter q xs) (λ s. filter p s ≡ filter q (cond (p x) (x ∷ filter p xs) (filter p xs)))
-    (λ e. cond_both (p x) (x ∷ filter p xs) (filter p xs) (λ s. cond (p x) (x ∷ filter p (filter q xs)) (filter p (filter q xs)) ≡ filter q s)
-    (λ f. rw (e, f) (ap (λ (s : List VarBind). x ∷ s) rest)) (λ f. rw f rest))
-    (λ e. cond_both (p x) (x ∷ filter p xs) (filter p xs) (λ s. filter p (filter q xs) ≡ filter q s) (λ _. rw e rest) (λ _. rest))
+filter-commute p q (x ∷ xs) = grind (arith, common_steps, filter-commute p q xs, cond_both)
 
 pub all_after : (o : List ℕ) (rows : List VarBind) → AreAfter o rows → rows_after o rows ≡ rows
 all_after o [] h = refl
@@ -170,10 +164,7 @@ module _ (rows : List VarBind) (got : VarBind) (Next Got : List ℕ → VarBind 
 -- behind the root as it is sent stand all instances below it
 pub rest_from_wire : (root : List ℕ) (rows : List VarBind) → AreInstances rows → rest_of root (wire root) rows ≡ rows_below root rows
 rest_from_wire root [] h = refl
-rest_from_wire root (r ∷ rows) h =
-    let rest = rest_from_wire root rows h.3 in
-    cond_both (is_below r.name root) (r ∷ rows_below root rows) (rows_below root rows) (λ s. rows_after (wire root) s ≡ s)
-    (λ below. rw (below_after_wire root r.name h.0 below) (ap (λ (t : List VarBind). r ∷ t) rest)) (λ _. rest)
+rest_from_wire root (r ∷ rows) h = grind (arith, common_steps, rest_from_wire root rows h.3, cond_both, below_after_wire)
 
 -- a walk that isn't resumed
 pub walk_from_wire : (m : Mode) (root : List ℕ) (got : VarBind) (rows : List VarBind) → AreInstances rows
