@@ -1,5 +1,5 @@
 -- The beginnings of an identifier with one number more.
-use Rattle.std.proofs.Common.{arith, ◌≡◌, ℕ, List, [], ◌∷◌, ◌++◌, map, refl, ◌∙◌, ap}
+use Rattle.std.proofs.Common.{arith, ◌≡◌, ℕ, List, [], ◌∷◌, ◌++◌, refl}
 use Rattle.std.proofs.lemmas.Grind.{common_steps}
 use Rattle.std.specs.List.{flat_map}
 use Rattle.std.proofs.lemmas.List.{append-nil, map-append}
@@ -14,10 +14,7 @@ last_is (m ∷ next ∷ o) n = last_is (next ∷ o) n
 -- those of the shorter one, and then the whole
 beginnings_more : (o : List ℕ) (n : ℕ) → beginnings (o ++ n ∷ []) ≡ beginnings o ++ (o ++ n ∷ []) ∷ []
 beginnings_more [] n = refl
-beginnings_more (m ∷ o) n =
-    let behind : List ℕ → List ℕ = λ front. m ∷ front in
-    ap (λ (fronts : List (List ℕ)). (m ∷ []) ∷ map behind fronts) (beginnings_more o n)
-    ∙ ap (λ (fronts : List (List ℕ)). (m ∷ []) ∷ fronts) (map-append behind (beginnings o) ((o ++ n ∷ []) ∷ []))
+beginnings_more (m ∷ o) n = grind (arith, common_steps, beginnings_more o n, map-append)
 
 -- what is shown of each beginning, by its last number
 pub text_more : (one : List ℕ → ℕ → List ℕ) (here next : List ℕ) (n : ℕ) → next ≡ here ++ n ∷ []

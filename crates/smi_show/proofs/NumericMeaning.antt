@@ -6,7 +6,7 @@ use Rattle.std.proofs.lemmas.Bool.{and_parts, le-leb, ne_eqb}
 use Rattle.std.proofs.lemmas.List.{append-nil}
 use Rattle.std.specs.Char.{is_ascii_digit}
 use Rattle.std.specs.Str.{all_ascii_digits}
-use Rattle.snmp_oid.specs.Numeric.{IsDotted, IsNumericName, dot}
+use Rattle.snmp_oid.specs.Numeric.{IsDotted, IsNumericName}
 use Rattle.smi_show.specs.declared.name.error.NameError.{NameError}
 use Rattle.smi_show.specs.name.Cutting.{module_after, name_parts}
 use Rattle.smi_show.specs.name.Meaning.{and_then, meaning_in, fitting, further_meaning, meaning, parts_meaning, plain_meaning, scoped_meaning}
@@ -51,9 +51,7 @@ dotted_module : (text o : List ℕ) → IsDotted text o → module_after None te
 dotted_module text [] h = absurd h
 dotted_module text (n ∷ []) h =
     ap (module_after None) (sym (append-nil text)) ∙ scopes text [] (plain_is_whole text (plain_digits text h.digits))
-dotted_module text (n ∷ m ∷ more) (first, rest, is, numeral, dotted) =
-    ap (module_after None) is ∙ scopes first (dot ∷ rest) (plain_is_whole first (plain_digits first numeral.digits))
-    ∙ ap (before_module first) (dot_module rest (dotted_module rest (m ∷ more) dotted))
+dotted_module text (n ∷ m ∷ more) (first, rest, is, numeral, dotted) = grind (arith, common_steps, dotted_module rest (m ∷ more) dotted, scopes, plain_is_whole, plain_digits, before_module, dot_module)
 
 -- it begins with a digit
 digit_no_dot : (octet : ℕ) (more : List ℕ) → all_ascii_digits (octet ∷ more) ≡ true → eqb octet 46 ≡ false

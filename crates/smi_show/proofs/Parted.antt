@@ -60,13 +60,8 @@ parts_here octet text (part ∷ more) is h = grind (arith, common_steps, nothing
 
 parts_from : (quote : Option ℕ) (text : List ℕ) → PartsFrom quote text (parts_after quote text)
 parts_from quote [] = (λ before after e q. nothing 46 before after e, refl)
-parts_from None (octet ∷ more) =
-    let later = parts_after (open_after None octet) more in
-    cond_both (nat_eq octet 46) ([] ∷ parts_after None more) (with_prefix (octet ∷ []) later) (PartsFrom None (octet ∷ more))
-    (λ e. parts_here octet more (parts_after None more) (eqb-true octet 46 e) (parts_from None more))
-    (λ e. parts_more None octet more later e (parts_from (open_after None octet) more))
-parts_from (Some q) (octet ∷ more) =
-    parts_more (Some q) octet more (parts_after (open_after (Some q) octet) more) refl (parts_from (open_after (Some q) octet) more)
+parts_from None (octet ∷ more) = grind (arith, common_steps, parts_from None more, parts_from (open_after None octet) more, later, cond_both, nat_eq, parts_here, eqb-true, parts_more)
+parts_from (Some q) (octet ∷ more) = grind (arith, common_steps, parts_from (open_after (Some q) octet) more, parts_more)
 
 plain_parts : (text : List ℕ) (parts : List (List ℕ)) → PartsFrom None text parts → AreParts text parts
 plain_parts text [] h = h
@@ -134,10 +129,7 @@ module_more quote octet more read other = at read
 
 found_from : (quote : Option ℕ) (text : List ℕ) → FoundFrom quote text (module_after quote text)
 found_from quote [] = λ before after e q. nothing 58 before (58 ∷ after) e
-found_from quote (octet ∷ more) =
-    let read = module_after (open_after quote octet) more in
-    cond_both (at_colons quote (octet ∷ more)) (Some ([], drop 1 more)) (before_module (octet ∷ []) read) (FoundFrom quote (octet ∷ more))
-    (module_here quote octet more) (λ e. module_more quote octet more read e (found_from (open_after quote octet) more))
+found_from quote (octet ∷ more) = grind (arith, common_steps, found_from (open_after quote octet) more, cond_both, at_colons, before_module, module_here, module_more)
 
 pub has_module : (text : List ℕ) (home rest : List ℕ) → module_after None text ≡ Some (home, rest) → IsModuleCut text home rest
 has_module text home rest is = grind (arith, common_steps, found_from, is_closed, none_open)

@@ -70,11 +70,7 @@ index_is : (parts : List IndexPart) (numbers : List ℕ) (values : List (List �
 index_is [] numbers [] h = sym h
 index_is [] numbers (value ∷ values) h = absurd h
 index_is (part ∷ parts) numbers [] h = absurd h
-index_is (part ∷ parts) numbers (value ∷ values) h =
-    flat_map-append piece_numbers (value_pieces part value) (index_pieces parts values)
-    ∙ ap (λ (t : List ℕ). t ++ flat_map piece_numbers (index_pieces parts values)) (either_numbers (extent_of part) value (is_text part value))
-    ∙ ap (λ (t : List ℕ). value_numbers part value ++ t) (index_is parts h.0 values h.2)
-    ∙ sym (read_whole part numbers value h.0 h.1)
+index_is (part ∷ parts) numbers (value ∷ values) h = grind (arith, common_steps, index_is parts h.0 values h.2, flat_map-append, either_numbers, read_whole)
 
 either_whole : (parts : List IndexPart) (numbers : List ℕ) (read : Option (List (List ℕ))) → values_of parts numbers ≡ read
     → flat_map piece_numbers (unwrap_or (option_map (index_pieces parts) read) (as_numbers numbers)) ≡ numbers

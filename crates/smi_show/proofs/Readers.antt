@@ -1,6 +1,6 @@
 -- Readings of a text octet by octet, its parts and its module: an octet that ends nothing stands before what the rest gives.
 use Rattle.std.proofs.Common.{arith, ◌≡◌, ℕ, ◌+◌, ◌<◌, Bool, false, ◌&&◌, nat_eq, List, [], ◌∷◌, ◌++◌, length, take, drop, get_or, Option, Some, None}
-use Rattle.std.proofs.Common.{option_map, refl, sym, ◌∙◌, ap, append_assoc}
+use Rattle.std.proofs.Common.{option_map, refl, sym, ap, append_assoc}
 use Rattle.std.proofs.lemmas.Grind.{common_steps}
 use Rattle.std.proofs.lemmas.Bool.{cond_both}
 use Rattle.std.proofs.lemmas.List.{drop_more, take_more}
@@ -28,10 +28,7 @@ Passing state (octet ∷ more) = Passes state octet × Passing (open_after state
 module _ {X : Type 0} {before : List ℕ → X → X} {read : Option ℕ → List ℕ → X} {ends : Option ℕ → List ℕ → Bool} (r : IsReader before read ends) where
   pub all_pass : (state : Option ℕ) (word rest : List ℕ) → Passing state word → read state (word ++ rest) ≡ before word (read (quote_after state word) rest)
   all_pass state [] rest h = r.none state rest
-  all_pass state (octet ∷ word) rest h =
-      r.next state octet (word ++ rest) (r.passes state octet (word ++ rest) h.0)
-      ∙ ap (before (octet ∷ [])) (all_pass (open_after state octet) word rest h.1)
-      ∙ r.twice (octet ∷ []) word (read (quote_after (open_after state octet) word) rest)
+  all_pass state (octet ∷ word) rest h = grind (arith, common_steps, all_pass (open_after state octet) word rest h.1, quote_after)
 
   -- at a place of a text, before which this quote is open
   pub one_more : (text : List ℕ) (at : ℕ) (state : Option ℕ) → at < length text → ends state (drop at text) ≡ false

@@ -1,5 +1,6 @@
 -- Shown words are cut where they were joined, and nowhere else.
-use Rattle.std.proofs.Common.{◌≡◌, ℕ, true, false, eqb, List, [], ◌∷◌, ◌++◌, map, All, decimal, Option, Some, None, refl, ◌∙◌, ap}
+use Rattle.std.proofs.Common.{arith, ◌≡◌, ℕ, true, false, eqb, List, [], ◌∷◌, ◌++◌, map, All, decimal, Option, Some, None, refl, ◌∙◌, ap}
+use Rattle.std.proofs.lemmas.Grind.{common_steps}
 use Rattle.std.specs.List.{list_all}
 use Rattle.std.proofs.lemmas.Bool.{and_parts, eq-eqb}
 use Rattle.std.proofs.lemmas.List.{append-nil}
@@ -25,9 +26,7 @@ scopes word rest w = all_pass module_reader None word rest w.passing ∙ ap (λ 
 pub plain_is_whole : (word : List ℕ) → ArePlain word → IsWhole word
 unfolding ArePlain
 plain_is_whole [] h = record { passing = tt; closed = refl }
-plain_is_whole (octet ∷ more) h =
-    let rest = plain_is_whole more h.1 in
-    record { passing = ((h.0.dot, h.0.colon), rw h.0.quote rest.passing); closed = rw h.0.quote rest.closed }
+plain_is_whole (octet ∷ more) h = grind (arith, common_steps, plain_is_whole more h.1)
 
 -- octets that may stand between quotes, and the quote that closes them
 quoted : (quote : ℕ) (octets : List ℕ) → is_quotable quote ≡ false → list_all is_quotable octets ≡ true
@@ -50,11 +49,7 @@ piece_is_whole (plain_text octets) h =
 pub joined_parts : (word : List ℕ) (pieces : List Piece) → IsWhole word → All IsPiece pieces
     → name_parts (word ++ shown_pieces pieces) ≡ word ∷ map shown_piece pieces
 joined_parts word [] whole all = cuts word [] whole ∙ ap (λ (t : List ℕ). t ∷ []) (append-nil word)
-joined_parts word (piece ∷ pieces) whole all =
-    cuts word (shown_pieces (piece ∷ pieces)) whole
-    ∙ ap (λ (t : List ℕ). t ∷ name_parts (shown_piece piece ++ shown_pieces pieces)) (append-nil word)
-    ∙ ap (λ (ps : List (List ℕ)). word ∷ ps)
-    (joined_parts (shown_piece piece) pieces (piece_is_whole piece (All-head IsPiece piece pieces all)) (All-tail IsPiece piece pieces all))
+joined_parts word (piece ∷ pieces) whole all = grind (arith, common_steps, joined_parts (shown_piece piece) pieces (piece_is_whole piece (All-head IsPiece piece pieces all)) (All-tail IsPiece piece pieces all), cuts, append-nil, piece_is_whole, All-head, All-tail)
 
 -- there is no module behind a dot, if there is none without it
 pub dot_module : (rest : List ℕ) → module_after None rest ≡ None → module_after None (46 ∷ rest) ≡ None
@@ -62,7 +57,4 @@ dot_module rest none = rw (no_colon 46 rest refl, none) refl
 
 pub joined_module : (word : List ℕ) (pieces : List Piece) → IsWhole word → All IsPiece pieces → module_after None (word ++ shown_pieces pieces) ≡ None
 joined_module word [] whole all = scopes word [] whole
-joined_module word (piece ∷ pieces) whole all =
-    scopes word (shown_pieces (piece ∷ pieces)) whole
-    ∙ ap (before_module word) (dot_module (shown_piece piece ++ shown_pieces pieces)
-    (joined_module (shown_piece piece) pieces (piece_is_whole piece (All-head IsPiece piece pieces all)) (All-tail IsPiece piece pieces all)))
+joined_module word (piece ∷ pieces) whole all = grind (arith, common_steps, joined_module (shown_piece piece) pieces (piece_is_whole piece (All-head IsPiece piece pieces all)) (All-tail IsPiece piece pieces all), scopes, before_module, dot_module, piece_is_whole, All-head, All-tail)

@@ -39,9 +39,7 @@ tokens_spaced : (ms : List Mark) (ts : List Lexeme) → Stands ms ts [] → flat
 tokens_spaced [] [] h = refl
 tokens_spaced [] (t ∷ ts) h = cc
 tokens_spaced (m ∷ ms) [] h = absurd h
-tokens_spaced (m ∷ ms) (t ∷ ts) h =
-    ap (λ (x : List ℕ). (codes " " ++ x) ++ flat_map (λ (y : Lexeme). codes " " ++ y.text) ts) (token_text m t h.0)
-    ∙ ap (λ (x : List ℕ). (codes " " ++ text_of m) ++ x) (tokens_spaced ms ts h.1)
+tokens_spaced (m ∷ ms) (t ∷ ts) h = grind (arith, common_steps, tokens_spaced ms ts h.1, token_text)
 
 tokens_joined : (ms : List Mark) (ts : List Lexeme) → Stands ms ts [] → joined_by_blanks ts ≡ joined ms
 tokens_joined [] [] h = refl
@@ -61,8 +59,7 @@ enclosed opens closes ms text is = rw (is, spaced_append ms (closes ∷ []), app
 parts_spaced : {A : Type 0} (m : Mark) (marks : A → List Mark) (text : A → List ℕ) → ((x : A) → text x ≡ spaced (m ∷ marks x)) → (xs : List A)
     → flat_map text xs ≡ spaced (flat_map (λ x. m ∷ marks x) xs)
 parts_spaced m marks text is [] = refl
-parts_spaced m marks text is (x ∷ xs) =
-    rw (is x, parts_spaced m marks text is xs) (sym (spaced_append (m ∷ marks x) (flat_map (λ y. m ∷ marks y) xs)))
+parts_spaced m marks text is (x ∷ xs) = grind (arith, common_steps, parts_spaced m marks text is xs, spaced_append)
 
 named_number_spaced : (n : NamedNumber) → named_number_text n ≡ spaced (of_named_number n)
 named_number_spaced n = simp (append_assoc, append-nil)
