@@ -32,7 +32,7 @@ TRIED = os.path.join(EDITS, "tried.txt")
 HEAD = "# Of each crate whose edits were all refused, the hash of what they were tried over: tests/edits.py wrote it.\n"
 # How the lines begin that are comments, or list the files of a folder, which are in the hash by their names.
 NO_STATEMENTS = {".rt": (b"//",), ".antt": (b"--", b"pub mod ")}
-IMPORT = re.compile(rb"(\b(?:ghost |pub |unfoldable )*use Rattle\.[\w.+]+\.)\{([^}]*)\}(;?)")
+IMPORT = re.compile(rb"(\b(?:ghost |pub |unfoldable )*use Rattle\.[\w.+]+\.)\{([^}]*)\}(;?) ?")
 # Why a crate's edits are to be tried.
 NO_LINE = "it has no line"
 STALE = "it isn't what its edits were tried over"
@@ -83,13 +83,16 @@ def libraries():
 
 def statements_of(path):
     """What a file says, in whichever lines it says it: without blank ones, comments and lists of the files beside it,
-    each imported name by itself, and as if the definitions in `private` stood with the others."""
+    each imported name by itself, in one order, and as if the definitions in `private` stood with the others."""
     marks = NO_STATEMENTS.get(os.path.splitext(path)[1], ())
     with open(path, "rb") as file:
         lines = (line.strip() for line in file)
         said = b" ".join(line for line in lines if line and not line.startswith(marks))
-    said = IMPORT.sub(lambda use: b" ".join(use[1] + name.strip() + use[3] for name in use[2].split(b",")), said)
-    return said.replace(b"specs.private.", b"specs.").replace(b"specs::private::", b"specs::")
+    names = (use[1] + name.strip() + use[3]
+             for use in IMPORT.finditer(said) for name in use[2].split(b",") if name.strip())
+    said = b"\n".join([*names, IMPORT.sub(b"", said).strip()])
+    *names, rest = said.replace(b"specs.private.", b"specs.").replace(b"specs::private::", b"specs::").split(b"\n")
+    return b" ".join([*sorted(names), rest])
 
 
 def toolchain():

@@ -386,14 +386,14 @@ echo 'use Rattle.low.specs.Low.{a, b}' >"$tree/crates/low/specs/High.antt"
 in_tree tests/edits.py >"$got/out"
 mkdir "$tree/crates/low/specs/private"
 mv "$tree/crates/low/specs/Low.antt" "$tree/crates/low/specs/private/Low.antt"
-printf 'use Rattle.low.specs.private.Low.{%s}\n' a b >"$tree/crates/low/specs/High.antt"
-stale 'definitions that move to private, and an import of two lines' 0 '2 crates are as their edits were tried'
+printf 'use Rattle.low.specs.%s}\n' '{private.Low.b' 'private.Low.{a' >"$tree/crates/low/specs/High.antt"
+stale 'definitions that move to private, and an import of two lines in another order' 0 '2 crates are as their edits were tried'
 cp "$tree/crates/low/specs/High.antt" "$tree/crates/low/specs/Low.antt"
 same 'two files of definitions of one name, one in private' \
     '1 edits.py: crates/low/specs/Low.antt is there twice, once in private' \
     "$(in_tree tests/edits.py --stale >"$got/out"; echo "$? $(tail -n 1 "$got/out")")"
 rm "$tree/crates/low/specs/Low.antt"
-sed -i 's/{b}/{c}/' "$tree/crates/low/specs/High.antt"
+sed -i 's/Low.b}/Low.c}/' "$tree/crates/low/specs/High.antt"
 both=("low: it isn't what its edits were tried over (tests/edits.py low)"
     "mid: it isn't what its edits were tried over (tests/edits.py mid)"
     "0 crates are as their edits were tried, 2 aren't")

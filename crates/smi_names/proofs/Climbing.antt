@@ -1,15 +1,13 @@
 -- The steps of the search: a place is met, a path is settled, and a path that leads back has no end.
-use Rattle.std.proofs.lemmas.Grind.{common_steps}
-use Rattle.std.proofs.Common.{◌≡◌, ◌≢◌, ℕ, zero, suc, ◌+◌, ◌<◌, ◌⊎◌, inl, inr, Bool, true, false, cond, List, [], ◌∷◌, ◌++◌, length, set, take, Option}
-use Rattle.std.proofs.Common.{Some, None, Contains, refl, sym, ap, ◌∙◌, subst, arith}
-use Rattle.std.proofs.lemmas.List.{get_or-set_same, get_or-set_other, length-set, get_or_append_left, get_or_push, length_push, take_all, take-append-le}
-use Rattle.std.proofs.lemmas.List.{get_or_past}
+use Rattle.std.proofs.{lemmas.Grind.common_steps, lemmas.Bool.cases_lt, lemmas.Bool.cases_eq}
+use Rattle.std.proofs.Common.{◌≡◌, ◌≢◌, ℕ, zero, suc, ◌+◌, ◌<◌, ◌⊎◌, inl, inr, Bool, true, false, cond, List, [], ◌∷◌, ◌++◌, length, set, take}
+use Rattle.std.proofs.Common.{Option, Some, None, Contains, refl, sym, ap, ◌∙◌, subst, arith}
+use Rattle.std.proofs.lemmas.List.{get_or-set_same, get_or-set_other, length-set, get_or_append_left, get_or_push, length_push, take_all}
+use Rattle.std.proofs.lemmas.List.{take-append-le, get_or_past}
 use Rattle.std.proofs.lemmas.List.Elements.{All-push, All-nil, All-contains, Contains-push, Contains-push_cases, Contains-append_left}
-use Rattle.std.proofs.lemmas.Bool.{cases_lt, cases_eq}
-use Rattle.smi_names.specs.chains.Chain.{HasEnd, ends, leads_on}
+use Rattle.smi_names.specs.{chains.Chain.HasEnd, chains.Chain.ends, chains.Chain.leads_on, declared.chains.order.Mark.Mark}
 use Rattle.smi_names.specs.chains.Order.{next_at, ComeAfterNext}
 use Rattle.smi_names.specs.private.chains.Search.{Keeps, Leads, IsSettled, LeadsToSettled, mark_at}
-use Rattle.smi_names.specs.declared.chains.order.Mark.{Mark}
 use Rattle.smi_names.specs.declared.chains.order.Mark.TheVariants as M
 
 abbrev pub is_new : Mark → Bool

@@ -2,9 +2,8 @@
 use Rattle.std.proofs.Common.{arith, ◌≡◌, ℕ, List, get_or, All, Option, Some, None, refl, sym, ◌∙◌}
 use Rattle.std.proofs.lemmas.Grind.{common_steps}
 use Rattle.smi_text.specs.declared.trees.tree.Module.{Module}
-use Rattle.smi_names.specs.meaning.Meaning.{Decision, decision}
+use Rattle.smi_names.specs.{meaning.Meaning.Decision, meaning.Meaning.decision, declared.meaning.entry.Entry.Entry}
 use Rattle.smi_names.specs.meaning.Scopes.{NamePlaces, content_of, decision_of, place_in, known, decided_as, IsDecided, KnowsMore}
-use Rattle.smi_names.specs.declared.meaning.entry.Entry.{Entry}
 
 -- what is known of an entry's name decides it
 decided_by : (m : Module) (e : Entry) (r : Option Decision) → e.module.now ≡ m → decided_as m e.name.now r ≡ Some (content_of e)

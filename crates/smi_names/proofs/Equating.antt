@@ -1,28 +1,18 @@
 -- A name's place has what decides the name, so the chain of places is that of names.
-use Rattle.std.proofs.Common.{◌≡◌, ℕ, ◌+◌, ◌-◌, ◌≤◌, ◌==◌, ◌&&◌, inl, inr, Bool, true, false, cond, List, [], ◌∷◌, length, map, unwrap_or}
-use Rattle.std.proofs.Common.{is_some, MatchOption, Option, Some, None, refl, sym, ◌∙◌, arith}
+use Rattle.std.proofs.Common.{◌≡◌, ℕ, ◌+◌, ◌-◌, ◌≤◌, ◌==◌, ◌&&◌, inl, inr, Bool, true, false, cond, List, [], ◌∷◌, length, map, unwrap_or, is_some}
+use Rattle.std.proofs.Common.{MatchOption, Option, Some, None, refl, sym, ◌∙◌, arith}
 use Rattle.std.proofs.lemmas.Bool.{cases_lt, eqb-true}
 use Rattle.std.proofs.lemmas.Option.{slice_get-map, slice_get_past, slice_get_within, get_or_from_slice_get}
-use Rattle.std.specs.List.{slice_get, find, position_from}
-use Rattle.std.specs.Option.{option_and_then, option_map}
-use Rattle.std.specs.Borrow.{Bor}
-use Rattle.smi_names.specs.chains.Chain.{nowhere}
-use Rattle.smi_names.specs.chains.Resolution.{ComesTo}
+use Rattle.std.specs.{List.slice_get, List.find, List.position_from, Option.option_and_then, Option.option_map, Borrow.Bor}
+use Rattle.smi_names.specs.{chains.Chain.nowhere, chains.Resolution.ComesTo, meaning.Names.IsSourced, meaning.Directory.place_by}
+use Rattle.smi_names.specs.{meaning.Directory.is_entry_of, meaning.Known.content_named, meaning.Resolved.IsDirectory, meaning.Resolved.known_names}
+use Rattle.smi_names.specs.{meaning.Parents.AreResolved, declared.meaning.entry.Entry.Entry, declared.meaning.directory.Directory.Directory}
 use Rattle.smi_names.specs.declared.chains.resolution.Resolution.{Resolution}
 use Rattle.smi_names.specs.declared.chains.resolution.Resolution.TheVariants as R
-use Rattle.smi_text.specs.trees.Mark.{same_text}
-use Rattle.smi_text.specs.declared.trees.tree.Module.{Module}
+use Rattle.smi_text.specs.{trees.Mark.same_text, declared.trees.tree.Module.Module}
 use Rattle.smi_names.specs.meaning.Meaning.{QualifiedName, Decision, decision, origin, origin_by, origin_in, module_named}
 use Rattle.smi_names.specs.meaning.Scopes.{NamePlaces, Content, content_of, place_in, known, decided_as, IsDecided}
-use Rattle.smi_names.specs.meaning.Names.{IsSourced}
-use Rattle.smi_names.specs.meaning.Directory.{place_by, is_entry_of}
-use Rattle.smi_names.specs.meaning.Known.{content_named}
-use Rattle.smi_names.specs.meaning.Resolved.{IsDirectory, known_names}
-use Rattle.smi_names.specs.meaning.Parents.{AreResolved}
-use Rattle.smi_names.specs.declared.meaning.entry.Entry.{Entry}
-use Rattle.smi_names.specs.declared.meaning.directory.Directory.{Directory}
-use Rattle.smi_names.proofs.Knowing.{get_within, same}
-use Rattle.smi_names.proofs.Placing.{module_found, module_missing}
+use Rattle.smi_names.proofs.{Knowing.get_within, Knowing.same, Placing.module_found, Placing.module_missing}
 
 pub past_get : {X : Type 0} (xs : List X) (i : ℕ) → slice_get xs i ≡ None → length xs ≤ i
 past_get xs i e = elim (cases_lt i (length xs)) [ inl l ↦ let r = get_within xs i l in let h = r.1 in absurd (cc) | inr l ↦ l ]

@@ -1,12 +1,9 @@
 -- A list is filled in along the order of places.
-use Rattle.std.proofs.lemmas.Grind.{common_steps}
-use Rattle.std.proofs.Common.{◌≡◌, ℕ, ◌+◌, ◌<◌, ◌≤◌, ◌⊎◌, inl, inr, List, [], ◌∷◌, ◌++◌, length, set}
-use Rattle.std.proofs.Common.{get_or, take, replicate, Option, Some, Contains, arith}
+use Rattle.std.proofs.{lemmas.Grind.common_steps, lemmas.List.Elements.Contains-push_cases, lemmas.Bool.cases_lt, lemmas.Bool.cases_eq}
+use Rattle.std.proofs.Common.{◌≡◌, ℕ, ◌+◌, ◌<◌, ◌≤◌, ◌⊎◌, inl, inr, List, [], ◌∷◌, ◌++◌, length, set, get_or, take, replicate, Option, Some, Contains}
+use Rattle.std.proofs.Common.{arith}
 use Rattle.std.proofs.lemmas.List.{get_or-set_same, get_or-set_other, get_or_past, take_more, length-replicate, get_or-replicate}
-use Rattle.std.proofs.lemmas.List.Elements.{Contains-push_cases}
-use Rattle.std.proofs.lemmas.Bool.{cases_lt, cases_eq}
-use Rattle.smi_names.specs.chains.Chain.{HasEnd}
-use Rattle.smi_names.specs.chains.Order.{next_at, ComeAfterNext}
+use Rattle.smi_names.specs.{chains.Chain.HasEnd, chains.Order.next_at, chains.Order.ComeAfterNext}
 
 -- ---- any list that is filled in along an order, which holds `start` where it isn't, and beyond its last place is read as `past`
 module _ {X : Type 0} (Right : ℕ → X → Type 0) (start past : X) where

@@ -1,26 +1,18 @@
 -- Nodes and warnings are added at the end.
-use Rattle.std.proofs.lemmas.Grind.{common_steps}
-use Rattle.std.proofs.Common.{◌≡◌, ℕ, zero, suc, Bool, true, false, cond, is_some, List, [], ◌∷◌, ◌++◌}
-use Rattle.std.proofs.Common.{length, take, Some, None, refl, sym, ap, ◌∙◌, arith, append_assoc}
-use Rattle.std.proofs.lemmas.List.{append-nil, length_push}
+use Rattle.std.proofs.{lemmas.Grind.common_steps, lemmas.List.append-nil, lemmas.List.length_push}
+use Rattle.std.proofs.Common.{◌≡◌, ℕ, zero, suc, Bool, true, false, cond, is_some, List, [], ◌∷◌, ◌++◌, length, take, Some, None, refl, sym, ap, ◌∙◌}
+use Rattle.std.proofs.Common.{arith, append_assoc}
 use Rattle.std.specs.List.{slice_get}
-use Rattle.smi_names.specs.chains.Resolution.{ComesTo}
+use Rattle.smi_names.specs.{chains.Resolution.ComesTo, meaning.Meaning.origin, meaning.Meaning.module_named, nodes.Imports.import_warnings}
+use Rattle.smi_names.specs.{declared.nodes.source.Source.Source, declared.nodes.gather.Gathered.Gathered, declared.nodes.warning.Warning.Warning}
 use Rattle.smi_names.specs.declared.chains.resolution.Resolution.{Resolution}
 use Rattle.smi_text.specs.declared.trees.tree.Module.{Module}
-use Rattle.smi_text.specs.declared.trees.tree.Def.{Def}
-use Rattle.smi_text.specs.declared.trees.tree.Part.{Part}
-use Rattle.smi_text.specs.trees.Lookup.{identifier_value_of}
-use Rattle.smi_text.specs.trees.Mark.{same_text}
-use Rattle.smi_names.specs.meaning.Meaning.{origin, module_named}
+use Rattle.smi_text.specs.{declared.trees.tree.Def.Def, declared.trees.tree.Part.Part, trees.Lookup.identifier_value_of, trees.Mark.same_text}
 use Rattle.smi_names.proofs.Knowing.{same_itself}
-use Rattle.smi_names.specs.nodes.Imports.{import_warnings}
 use Rattle.smi_names.specs.nodes.Nodes.{Node, nodes_by, warnings_by, roots, none, more, is_loaded, left_out, loaded, none_yet, then_module}
-use Rattle.smi_names.specs.nodes.Gathered.{node_from, nodes_of, IsSourceOf}
-use Rattle.smi_names.specs.nodes.Gathered.{GrowsByDefinition, AddsNodes, AddsDefinition, AddsDefinitions, AddsModule, AreGathered}
-use Rattle.smi_names.specs.declared.nodes.source.Source.{Source}
+use Rattle.smi_names.specs.nodes.Gathered.{node_from, nodes_of, IsSourceOf, GrowsByDefinition, AddsNodes, AddsDefinition, AddsDefinitions, AddsModule}
+use Rattle.smi_names.specs.nodes.Gathered.{AreGathered}
 use Rattle.smi_names.specs.declared.nodes.source.Source.TheVariants as S
-use Rattle.smi_names.specs.declared.nodes.gather.Gathered.{Gathered}
-use Rattle.smi_names.specs.declared.nodes.warning.Warning.{Warning}
 use Rattle.smi_names.specs.declared.nodes.warning.Warning.TheVariants as W
 
 nodes_of-push : (ms : List Module) (ss : List Source) (os : List (List ℕ)) (s : Source) (o : List ℕ) → length ss ≡ length os

@@ -1,19 +1,12 @@
 -- What a module has by name, and modules among those before them.
 use Rattle.std.proofs.Common.{◌≡◌, ℕ, zero, suc, ◌+◌, ◌≤◌, Bool, true, false, cond, ◌||◌, nat_lt, List, [], ◌∷◌, take, Option, Some, None, is_some}
 use Rattle.std.proofs.Common.{refl, arith}
-use Rattle.std.specs.Prelude.{option_map}
-use Rattle.std.specs.List.{find, position_from}
-use Rattle.std.specs.Option.{option_and_then}
+use Rattle.std.specs.{Prelude.option_map, List.find, List.position_from, Option.option_and_then}
 use Rattle.std.proofs.lemmas.Bool.{lt-ltb, le-ltb}
-use Rattle.smi_text.specs.trees.Mark.{same_text}
+use Rattle.smi_text.specs.{trees.Mark.same_text, declared.trees.tree.Module.Module, declared.trees.tree.Def.Def, declared.trees.tree.Import.Import}
 use Rattle.smi_text.specs.trees.Lookup.{definition_of, import_of}
-use Rattle.smi_text.specs.declared.trees.tree.Module.{Module}
-use Rattle.smi_text.specs.declared.trees.tree.Def.{Def}
-use Rattle.smi_text.specs.declared.trees.tree.Import.{Import}
 use Rattle.smi_names.specs.meaning.Meaning.{Decision, defined, imported, root, root_arc, or_else, decision}
-use Rattle.smi_names.specs.meaning.Names.{module_place}
-use Rattle.smi_names.specs.nodes.Imports.{is_stated, defines_or_imports}
-use Rattle.smi_names.specs.nodes.Nodes.{is_loaded}
+use Rattle.smi_names.specs.{meaning.Names.module_place, nodes.Imports.is_stated, nodes.Imports.defines_or_imports, nodes.Nodes.is_loaded}
 
 abbrev pub is_stated_some : Option Decision → Bool
 is_stated_some None = false

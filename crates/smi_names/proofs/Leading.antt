@@ -1,24 +1,17 @@
 -- Where the name at a place leads, and what it means, by what decides it.
-use Rattle.std.proofs.lemmas.Grind.{common_steps}
+use Rattle.std.proofs.{lemmas.Grind.common_steps, lemmas.List.get_or_past, lemmas.List.length-map}
 use Rattle.std.proofs.Common.{◌≡◌, ℕ, ◌≤◌, ◌⊎◌, List, length, map, MatchOption, Option, Some, None, refl, sym, ap, ◌∙◌, arith}
-use Rattle.std.proofs.lemmas.List.{get_or_past, length-map}
 use Rattle.std.proofs.lemmas.Option.{slice_get_past, slice_get-map, get_or_from_slice_get}
-use Rattle.std.specs.List.{slice_get}
-use Rattle.std.specs.Option.{option_and_then, option_map}
-use Rattle.smi_text.specs.declared.trees.tree.Module.{Module}
-use Rattle.smi_text.specs.declared.trees.tree.Def.{Def}
-use Rattle.smi_text.specs.declared.trees.tree.Import.{Import}
-use Rattle.smi_names.specs.chains.Chain.{HasEnd, ends, leads_on}
-use Rattle.smi_names.specs.chains.Order.{next_at, at_place}
+use Rattle.std.specs.{List.slice_get, Option.option_and_then, Option.option_map}
+use Rattle.smi_text.specs.{declared.trees.tree.Module.Module, declared.trees.tree.Def.Def, declared.trees.tree.Import.Import}
+use Rattle.smi_names.specs.{chains.Chain.HasEnd, chains.Chain.ends, chains.Chain.leads_on, chains.Order.next_at, chains.Order.at_place}
+use Rattle.smi_names.specs.{meaning.Scopes.Content, meaning.Scopes.content_of, meaning.Parents.parent_of, meaning.Resolved.IsDirectory}
+use Rattle.smi_names.specs.{meaning.Resolved.known_names, declared.meaning.entry.Entry.Entry, meaning.Known.KnownNames, meaning.Known.content_named}
 use Rattle.smi_names.specs.meaning.Meaning.{QualifiedName, Decision, defined, imported, root, module_named}
-use Rattle.smi_names.specs.meaning.Scopes.{Content, content_of}
 use Rattle.smi_names.specs.meaning.Directory.{place_by, next_place, KeepsImports}
-use Rattle.smi_names.specs.meaning.Parents.{parent_of}
-use Rattle.smi_names.specs.meaning.Resolved.{IsDirectory, known_names}
-use Rattle.smi_names.specs.declared.meaning.entry.Entry.{Entry}
 use Rattle.smi_names.specs.declared.meaning.directory.Directory.{Directory}
-use Rattle.smi_names.specs.meaning.Known.{KnownNames, content_named}
-use Rattle.smi_names.specs.meaning.Along.{next_by, decided, next_name, IsOwn, Comes, unknown, of_root, through, at_end, after, IsNext, AreNext, MeansAt, AreMeant}
+use Rattle.smi_names.specs.meaning.Along.{next_by, decided, next_name, IsOwn, Comes, unknown, of_root, through, at_end, after, IsNext, AreNext}
+use Rattle.smi_names.specs.meaning.Along.{MeansAt, AreMeant}
 use Rattle.smi_names.proofs.Equating.{decided_at, is_decided, entry_at, past_get}
 
 module _ (k : KnownNames) (leads : Def → Option (List ℕ)) where

@@ -1,17 +1,11 @@
 -- Modules bring one list of nodes and one of warnings.
 use Rattle.std.proofs.Common.{arith, ◌≡◌, List, [], ◌∷◌, ◌++◌, Option, Some, None, refl, sym, ap, ◌∙◌}
-use Rattle.std.proofs.lemmas.Grind.{common_steps}
-use Rattle.std.proofs.lemmas.List.{same_from_push}
-use Rattle.smi_names.specs.chains.Resolution.{ComesTo}
-use Rattle.smi_names.specs.declared.chains.resolution.Resolution.{Resolution}
+use Rattle.std.proofs.{lemmas.Grind.common_steps, lemmas.List.same_from_push}
+use Rattle.smi_names.specs.{chains.Resolution.ComesTo, declared.chains.resolution.Resolution.Resolution, meaning.Meaning.QualifiedName}
+use Rattle.smi_names.specs.{meaning.Meaning.origin, nodes.Imports.import_warnings, declared.nodes.warning.Warning.Warning}
 use Rattle.smi_text.specs.declared.trees.tree.Module.{Module}
-use Rattle.smi_text.specs.declared.trees.tree.Def.{Def}
-use Rattle.smi_text.specs.declared.trees.tree.Part.{Part}
-use Rattle.smi_text.specs.trees.Lookup.{identifier_value_of}
-use Rattle.smi_names.specs.meaning.Meaning.{QualifiedName, origin}
-use Rattle.smi_names.specs.nodes.Imports.{import_warnings}
+use Rattle.smi_text.specs.{declared.trees.tree.Def.Def, declared.trees.tree.Part.Part, trees.Lookup.identifier_value_of}
 use Rattle.smi_names.specs.nodes.Nodes.{Node, GivesNodesBy, Gathers, none, more, Brings, left_out, loaded, Loads, none_yet, then_module}
-use Rattle.smi_names.specs.declared.nodes.warning.Warning.{Warning}
 
 none_pushed : {X : Type 0} (xs : List X) (x : X) → [] ≡ xs ++ x ∷ [] → ⊥
 none_pushed [] x e = cc

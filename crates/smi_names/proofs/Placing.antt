@@ -1,18 +1,13 @@
 -- Places of names and of modules in lists that grow, and the numbers of parts.
-use Rattle.std.proofs.Common.{◌≡◌, ◌≢◌, ℕ, zero, suc, ◌+◌, ◌-◌, ◌<◌, ◌≤◌, ◌&&◌, Bool, true, false, cond, List, [], ◌∷◌, ◌++◌, length, take, get_or, Option, Some}
-use Rattle.std.proofs.Common.{None, All, is_some, refl, sym, ap, ◌∙◌, arith, length-append, inl, inr}
+use Rattle.std.proofs.Common.{◌≡◌, ◌≢◌, ℕ, zero, suc, ◌+◌, ◌-◌, ◌<◌, ◌≤◌, ◌&&◌, Bool, true, false, cond, List, [], ◌∷◌, ◌++◌, length, take, get_or}
+use Rattle.std.proofs.Common.{Option, Some, None, All, is_some, refl, sym, ap, ◌∙◌, arith, length-append, inl, inr}
 use Rattle.std.proofs.lemmas.List.{take_more, length_push, length-take-le}
-use Rattle.std.proofs.lemmas.List.Elements.{All-append}
-use Rattle.std.proofs.lemmas.Bool.{cases_eq}
+use Rattle.std.proofs.{lemmas.List.Elements.All-append, lemmas.Bool.cases_eq}
 use Rattle.std.specs.List.{slice_get, find, list_all, position_from}
-use Rattle.smi_text.specs.trees.Mark.{same_text}
-use Rattle.smi_text.specs.trees.Lookup.{part_number}
-use Rattle.smi_text.specs.declared.trees.tree.Module.{Module}
-use Rattle.smi_text.specs.declared.trees.tree.Part.{Part}
-use Rattle.smi_names.specs.meaning.Meaning.{or_else, both, arcs, decision}
+use Rattle.smi_text.specs.{trees.Mark.same_text, trees.Lookup.part_number, declared.trees.tree.Module.Module, declared.trees.tree.Part.Part}
+use Rattle.smi_names.specs.{meaning.Meaning.or_else, meaning.Meaning.both, meaning.Meaning.arcs, meaning.Meaning.decision, meaning.Names.module_place}
+use Rattle.smi_names.specs.{meaning.Names.IsSourced, meaning.Names.AreEach, declared.meaning.entry.Entry.Entry}
 use Rattle.smi_names.specs.meaning.Scopes.{NamePlaces, known, decided_as, IsWithin, IsEntryOf, IsDecided}
-use Rattle.smi_names.specs.meaning.Names.{module_place, IsSourced, AreEach}
-use Rattle.smi_names.specs.declared.meaning.entry.Entry.{Entry}
 use Rattle.smi_names.proofs.Knowing.{get-push_at, known-append}
 
 position-push : {A : Type 0} (t : A → Bool) (j : ℕ) (xs : List A) (y : A)

@@ -1,29 +1,21 @@
 -- What the name at a place resolves to, by where its numbers come from, and by what the name that it leads to resolves to.
-use Rattle.std.proofs.lemmas.Grind.{common_steps}
-use Rattle.std.proofs.Common.{◌≡◌, ℕ, ◌≤◌, ◌⊎◌, inl, inr, nat_le, List, [], ◌∷◌, ◌++◌, length, Option, Some, None}
-use Rattle.std.proofs.Common.{refl, sym, ap, ◌∙◌, subst, arith, length-append}
-use Rattle.std.proofs.lemmas.Option.{slice_get_past}
-use Rattle.std.specs.List.{slice_get}
-use Rattle.std.specs.Option.{option_and_then, option_map}
-use Rattle.smi_text.specs.declared.trees.tree.Module.{Module}
-use Rattle.smi_text.specs.declared.trees.tree.Part.{Part}
+use Rattle.std.proofs.{lemmas.Grind.common_steps, lemmas.Option.slice_get_past}
+use Rattle.std.proofs.Common.{◌≡◌, ℕ, ◌≤◌, ◌⊎◌, inl, inr, nat_le, List, [], ◌∷◌, ◌++◌, length, Option, Some, None, refl, sym, ap, ◌∙◌, subst, arith}
+use Rattle.std.proofs.Common.{length-append}
+use Rattle.std.specs.{List.slice_get, Option.option_and_then, Option.option_map}
+use Rattle.smi_text.specs.{declared.trees.tree.Module.Module, declared.trees.tree.Part.Part, trees.Lookup.identifier_value_of}
 use Rattle.smi_text.specs.declared.trees.tree.Part.TheVariants as P
-use Rattle.smi_text.specs.trees.Lookup.{identifier_value_of}
 use Rattle.smi_names.specs.chains.Chain.{Origin, numbers, after, nowhere, next_of, HasEnd, ends, leads_on, HasIdentifier, by_itself, after_another}
 use Rattle.smi_names.specs.chains.Chain.{here, further}
-use Rattle.smi_names.specs.chains.Order.{next_at}
-use Rattle.smi_names.specs.chains.Resolution.{ComesTo}
+use Rattle.smi_names.specs.{chains.Order.next_at, chains.Resolution.ComesTo, declared.chains.resolution.Resolution.Resolution, meaning.Scopes.Content}
+use Rattle.smi_names.specs.{meaning.Scopes.qualified, meaning.Known.KnownNames, meaning.Known.content_named, meaning.Along.next_by}
+use Rattle.smi_names.specs.{meaning.Along.next_name, meaning.Along.AreNext}
 use Rattle.smi_names.specs.chains.Resolving.{lengthened, followed_by, resolution_at, far_at, resolution_by}
-use Rattle.smi_names.specs.declared.chains.resolution.Resolution.{Resolution}
 use Rattle.smi_names.specs.declared.chains.resolution.Resolution.TheVariants as R
-use Rattle.smi_names.specs.meaning.Meaning.{QualifiedName, Decision, decision, defined, imported, root, arcs, by_itself as numbers_of, after_name, origin, origin_by}
-use Rattle.smi_names.specs.meaning.Meaning.{origin_in, origin_of_value, module_named}
-use Rattle.smi_names.specs.meaning.Scopes.{Content, qualified}
-use Rattle.smi_names.specs.meaning.Known.{KnownNames, content_named}
-use Rattle.smi_names.specs.meaning.Along.{next_by, next_name, AreNext}
+use Rattle.smi_names.specs.meaning.Meaning.{QualifiedName, Decision, decision, defined, imported, root, arcs, by_itself as numbers_of, after_name}
+use Rattle.smi_names.specs.meaning.Meaning.{origin, origin_by, origin_in, origin_of_value, module_named}
 use Rattle.smi_names.specs.meaning.Parents.{parent_of, origin_here, AreResolved}
-use Rattle.smi_names.proofs.Equating.{is_decided, undecided}
-use Rattle.smi_names.proofs.Leading.{leads_to, has_end}
+use Rattle.smi_names.proofs.{Equating.is_decided, Equating.undecided, Leading.leads_to, Leading.has_end}
 
 HasEnd-same : {A : Type 0} (f g : A → Option A) → ((a : A) → f a ≡ g a) → {a : A} → HasEnd f a → HasEnd g a
 HasEnd-same f g same {a} (ends e) = ends (sym (same a) ∙ e)

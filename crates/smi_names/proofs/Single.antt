@@ -1,8 +1,7 @@
 -- A thing resolves in one way: its chain has no end, or ends at numbers or nowhere, and never two of these.
 use Rattle.std.proofs.Common.{◌≡◌, ℕ, ◌<◌, ◌≤◌, List, length, refl, sym, ap, subst, arith}
 use Rattle.smi_names.specs.chains.Chain.{Origin, next_of, HasEnd, ends, leads_on, HasIdentifier, by_itself, after_another, EndsNowhere, here, further}
-use Rattle.smi_names.specs.chains.Resolution.{ComesTo}
-use Rattle.smi_names.specs.declared.chains.resolution.Resolution.{Resolution}
+use Rattle.smi_names.specs.{chains.Resolution.ComesTo, declared.chains.resolution.Resolution.Resolution}
 use Rattle.smi_names.specs.declared.chains.resolution.Resolution.TheVariants as R
 
 -- a thing has one identifier at most

@@ -1,7 +1,6 @@
 -- How names are hashed: by SipHash-1-3.
 use Rattle.std.specs.Hash.DefaultHasher as sip
-use Rattle.std.specs.RandomState.{initial_hasher}
-use Rattle.std.specs.declared.hash.DefaultHasher.{DefaultHasher}
+use Rattle.std.specs.{RandomState.initial_hasher, declared.hash.DefaultHasher.DefaultHasher}
 use Rattle.smi_names.specs.declared.hash.NameHash.{NameHash}
 use Rattle.smi_names.specs.declared.hash.NameHash.TheVariants as by
 

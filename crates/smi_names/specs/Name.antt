@@ -1,6 +1,5 @@
 -- Names as the keys of maps.
-use Rattle.std.specs.Prelude.{ℕ, List, [], ◌∷◌}
-use Rattle.std.specs.Hash.{HashWrites}
+use Rattle.std.specs.{Prelude.ℕ, Prelude.List, Prelude.[], Prelude.◌∷◌, Hash.HashWrites}
 
 -- what a name gives to a hasher: its octets, in one write
 abbrev pub name_writes : List ℕ → HashWrites

@@ -2,9 +2,7 @@
 //!
 //! A key gives its octets to the hasher in one write, so that they are hashed eight at a time. A
 //! list of octets as a key would give them one by one.
-ghost use Rattle.std.specs.Prelude.{◌≡◌, IfOk};
-ghost use Rattle.std.specs.Str.{bytes_eq};
-ghost use Rattle.std.specs.Cmp.{partial_equiv_from_equiv};
+ghost use Rattle.std.specs.{Prelude.◌≡◌, Prelude.IfOk, Str.bytes_eq, Cmp.partial_equiv_from_equiv};
 ghost use Rattle.std.specs.Cmp.Lexicographic.{bytes_decides, nat_list_eq_equiv};
 ghost use Rattle.std.proofs.Common.{ap};
 ghost use Rattle.smi_names.specs.Name.{name_writes};

@@ -1,9 +1,7 @@
 -- The beginnings of an identifier with one number more.
 use Rattle.std.proofs.Common.{arith, ◌≡◌, ℕ, List, [], ◌∷◌, ◌++◌, refl}
-use Rattle.std.proofs.lemmas.Grind.{common_steps}
+use Rattle.std.proofs.{lemmas.Grind.common_steps, lemmas.List.append-nil, lemmas.List.map-append, lemmas.List.Concat.flat_map-append}
 use Rattle.std.specs.List.{flat_map}
-use Rattle.std.proofs.lemmas.List.{append-nil, map-append}
-use Rattle.std.proofs.lemmas.List.Concat.{flat_map-append}
 use Rattle.smi_show.specs.name.Beginnings.{beginnings, last_number}
 
 last_is : (o : List ℕ) (n : ℕ) → last_number (o ++ n ∷ []) ≡ n

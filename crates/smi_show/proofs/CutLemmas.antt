@@ -1,9 +1,8 @@
 -- A text cut octet by octet: at each place, what stands before it and the parts after it.
-use Rattle.std.proofs.lemmas.Grind.{common_steps}
-use Rattle.std.proofs.Common.{◌≡◌, ◌≢◌, ℕ, ◌+◌, ◌<◌, true, false, nat_eq, List, [], ◌∷◌}
-use Rattle.std.proofs.Common.{length, take, drop, get_or, Option, Some, None, refl, sym, ◌∙◌, ap, subst, arith}
+use Rattle.std.proofs.{lemmas.Grind.common_steps, lemmas.Bool.ne_eqb, lemmas.Bool.or_from}
+use Rattle.std.proofs.Common.{◌≡◌, ◌≢◌, ℕ, ◌+◌, ◌<◌, true, false, nat_eq, List, [], ◌∷◌, length, take, drop, get_or, Option, Some, None, refl, sym}
+use Rattle.std.proofs.Common.{◌∙◌, ap, subst, arith}
 use Rattle.std.proofs.lemmas.List.{drop_more, append-nil, drop-drop}
-use Rattle.std.proofs.lemmas.Bool.{ne_eqb, or_from}
 use Rattle.snmp_io.specs.Quotes.{is_quote, open_after}
 use Rattle.smi_show.specs.name.Cutting.{with_prefix, parts_after, name_parts, module_after}
 use Rattle.smi_show.proofs.Readers.{at_colons, at_dot, before_module, module_reader, no_colon, one_more, parts_reader, some_part}

@@ -1,7 +1,6 @@
 -- The digits of a number behind a text.
-use Rattle.std.proofs.lemmas.Grind.{common_steps}
+use Rattle.std.proofs.{lemmas.Grind.common_steps, lemmas.Fmt.decimal_digit, lemmas.Fmt.decimal_step}
 use Rattle.std.proofs.Common.{◌≡◌, ℕ, ◌+◌, ◌/◌, ◌%◌, ◌^◌, ◌<◌, ◌≤◌, List, [], ◌∷◌, ◌++◌, decimal, refl, append_assoc, arith}
-use Rattle.std.proofs.lemmas.Fmt.{decimal_digit, decimal_step}
 use Rattle.smi_show.specs.private.index.Digits.{three_digits}
 
 -- the last three digits

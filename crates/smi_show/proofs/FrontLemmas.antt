@@ -3,14 +3,9 @@ use Rattle.std.proofs.Common.{◌≡◌, ℕ, List, [], ◌∷◌, ◌++◌, Mat
 use Rattle.std.proofs.lemmas.List.{append-nil}
 use Rattle.snmp_oid.specs.Numeric.{IsNumeral, IsPartRead, dot}
 use Rattle.smi_show.specs.declared.name.error.NameError.{NameError}
-use Rattle.smi_show.specs.name.Cutting.{name_parts}
-use Rattle.smi_show.specs.private.name.Left.{parts_left}
+use Rattle.smi_show.specs.{name.Cutting.name_parts, private.name.Left.parts_left, name.Naming.Naming, name.Word.Word}
 use Rattle.smi_show.specs.name.Meaning.{and_then, fitting, further_meaning, parts_meaning, word_meaning}
-use Rattle.smi_show.specs.name.Naming.{Naming}
-use Rattle.smi_show.specs.name.Word.{Word}
-use Rattle.smi_show.proofs.PlainLemmas.{plain_digits}
-use Rattle.smi_show.proofs.ShownLemmas.{IsWhole, cuts, plain_is_whole}
-use Rattle.smi_show.proofs.WordLemmas.{digits_word}
+use Rattle.smi_show.proofs.{PlainLemmas.plain_digits, ShownLemmas.IsWhole, ShownLemmas.cuts, ShownLemmas.plain_is_whole, WordLemmas.digits_word}
 
 -- a number in front of further parts
 pub number_next : (naming : Naming) (look_up : List ℕ → Option (List ℕ)) (o text part : List ℕ) (n : ℕ) (after : Option (List ℕ)) → IsNumeral part n

@@ -1,9 +1,7 @@
 -- The text of the numbers at the front of a list, one number more at a time.
-use Rattle.std.proofs.lemmas.Grind.{common_steps}
+use Rattle.std.proofs.{lemmas.Grind.common_steps, lemmas.List.take_more, lemmas.List.map_push, lemmas.List.flat_map_more, lemmas.Fmt.decimal_digit}
 use Rattle.std.proofs.Common.{◌≡◌, ◌<◌, ◌≤◌, ◌+◌, ◌*◌, ◌++◌, ◌∷◌, [], ℕ, List, get_or, codes, decimal, length, take, append_assoc, arith}
-use Rattle.std.proofs.lemmas.List.{take_more, map_push, flat_map_more}
 use Rattle.smi_show.specs.index.Pieces.{as_numbers, shown_pieces}
-use Rattle.std.proofs.lemmas.Fmt.{decimal_digit}
 
 abbrev shown : List ℕ → List ℕ
 shown numbers = shown_pieces (as_numbers numbers)

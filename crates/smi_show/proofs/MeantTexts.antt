@@ -3,15 +3,12 @@ use Rattle.std.proofs.Common.{arith, ◌≡◌, ◌≢◌, ℕ, Bool, true, fals
 use Rattle.std.proofs.Common.{refl, sym, ◌∙◌, ap, subst, inl, inr}
 use Rattle.std.proofs.lemmas.Grind.{common_steps}
 use Rattle.std.proofs.lemmas.Bool.{cond_both, eqb-true, eqb-false, leb-true, leb-false, le-leb, lt-leb, ne_eqb}
-use Rattle.smi_show.specs.index.Pieces.{piece_numbers}
-use Rattle.smi_show.specs.name.Cutting.{module_after, name_parts}
+use Rattle.smi_show.specs.{index.Pieces.piece_numbers, name.Cutting.module_after, name.Cutting.name_parts, name.Naming.Naming, name.Word.Word}
+use Rattle.smi_show.specs.{name.Word.a_piece, name.Word.a_label, name.Word.word_of, declared.name.error.NameError.NameError}
 use Rattle.smi_show.specs.name.Meaning.{and_then, meaning_in, fitting, meaning, or_unknown, part_meaning, parts_meaning, scope_meaning}
 use Rattle.smi_show.specs.name.Meaning.{scoped_meaning, word_meaning}
 use Rattle.smi_show.specs.name.Meant.{Scope, among_roots, anywhere, in_module, found_in, IsFound, IsRoomFor, IsScoped, TextMeans, PartMeans}
 use Rattle.smi_show.specs.name.Meant.{PartsMean, ScopeMeans, is_loaded_in}
-use Rattle.smi_show.specs.name.Naming.{Naming}
-use Rattle.smi_show.specs.name.Word.{Word, a_piece, a_label, word_of}
-use Rattle.smi_show.specs.declared.name.error.NameError.{NameError}
 use Rattle.smi_show.specs.declared.name.error.NameError.TheVariants.{BadIndex, BadNumber, TooLong, Unknown}
 use Rattle.smi_show.proofs.Parted.{are_parts, has_module, has_no_module, no_module, one_module, only_parts}
 use Rattle.smi_show.proofs.MeantWords.{WordIs, index_fails, label_word, number_fails, states_word, word_is}

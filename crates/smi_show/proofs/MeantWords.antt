@@ -1,20 +1,16 @@
 -- What a part of a name states on its own.
-use Rattle.std.proofs.lemmas.Grind.{common_steps}
-use Rattle.std.proofs.Common.{◌≡◌, ◌≢◌, ℕ, Bool, true, false, eqb, cond, List, [], ◌∷◌, ◌++◌}
-use Rattle.std.proofs.Common.{Option, Some, None, Result, Ok, Err, refl, sym, ◌∙◌, ap, inl, inr, arith}
-use Rattle.std.specs.List.{list_all}
-use Rattle.std.specs.Char.{is_ascii_digit}
+use Rattle.std.proofs.{lemmas.Grind.common_steps, lemmas.List.take_more, Math.Seq.take-length}
+use Rattle.std.proofs.Common.{◌≡◌, ◌≢◌, ℕ, Bool, true, false, eqb, cond, List, [], ◌∷◌, ◌++◌, Option, Some, None, Result, Ok, Err, refl, sym, ◌∙◌, ap}
+use Rattle.std.proofs.Common.{inl, inr, arith}
+use Rattle.std.specs.{List.list_all, Char.is_ascii_digit}
 use Rattle.std.proofs.lemmas.Bool.{and_parts, eqb-true, eqb-false, ltb-true, ne_eqb}
-use Rattle.std.proofs.lemmas.List.{take_more}
-use Rattle.std.proofs.Math.Seq.{take-length}
 use Rattle.snmp_oid.specs.Numeric.{IsNumeral}
 use Rattle.smi_show.specs.index.Pieces.{Piece, plain_number, counted_text, plain_text, is_quotable}
 use Rattle.smi_show.specs.name.Meant.{IsBadIndex, IsBadNumber, IsLabel, StatesPiece}
 use Rattle.smi_show.specs.name.Word.{Word, a_piece, a_label, numeral_of, quoted_in, number_word, counted_word, plain_word, word_of}
 use Rattle.smi_show.specs.declared.name.error.NameError.{NameError}
 use Rattle.smi_show.specs.declared.name.error.NameError.TheVariants.{BadIndex, BadNumber, TooLong, Unknown}
-use Rattle.smi_show.proofs.NumeralLemmas.{no_numeral, numeral_is}
-use Rattle.smi_show.proofs.ReadingLemmas.{chosen}
+use Rattle.smi_show.proofs.{NumeralLemmas.no_numeral, NumeralLemmas.numeral_is, ReadingLemmas.chosen}
 use Rattle.smi_show.proofs.WordLemmas.{digit_first, digits_word, quoted_back, some_text}
 
 -- ---- what is read of a part

@@ -1,10 +1,8 @@
 -- The name that is computed is the one that the relation states, and there is no other.
 use Rattle.std.proofs.Common.{arith, ◌≡◌, ℕ, Bool, List, Option, Some, None, refl}
 use Rattle.std.proofs.lemmas.Grind.{common_steps}
-use Rattle.smi_value.specs.declared.letters.letters.NameForm.{NameForm}
-use Rattle.smi_value.specs.declared.letters.letters.NameForm.TheVariants.{Numeric}
-use Rattle.smi_show.specs.name.Naming.{Naming, Standing}
-use Rattle.smi_show.specs.name.Name.{IsName, IsStandingText}
+use Rattle.smi_value.specs.{declared.letters.letters.NameForm.NameForm, declared.letters.letters.NameForm.TheVariants.Numeric}
+use Rattle.smi_show.specs.{name.Naming.Naming, name.Naming.Standing, name.Name.IsName, name.Name.IsStandingText}
 use Rattle.smi_show.specs.private.name.Shown.{name_text, standing_text}
 use Rattle.smi_show.proofs.PieceLemmas.{pieces_stated, pieces_only}
 

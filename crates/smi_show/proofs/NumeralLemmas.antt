@@ -1,9 +1,8 @@
 -- Decimal digits as a part of a name, written and read as a number.
-use Rattle.std.proofs.lemmas.Grind.{common_steps}
+use Rattle.std.proofs.{lemmas.Grind.common_steps, lemmas.Bool.ltb-true, lemmas.Bool.lt-ltb}
 use Rattle.std.proofs.Common.{◌≡◌, ◌≢◌, ℕ, ◌<◌, ◌^◌, Bool, true, false, ◌&&◌, cond, ltb, List, [], IfSome, IfNone, Option, Some, None, refl, sym, ap}
 use Rattle.std.proofs.Common.{arith, decimal, length}
 use Rattle.std.specs.Str.{all_ascii_digits}
-use Rattle.std.proofs.lemmas.Bool.{ltb-true, lt-ltb}
 use Rattle.std.proofs.lemmas.Fmt.{decimal_nonempty, digits_decimal, digits_value-decimal}
 use Rattle.std.proofs.lemmas.Str.Parse.{IsNumeralModel, numerals_by_weight, tells_all_ascii_digits}
 use Rattle.snmp_oid.specs.Numeric.{IsNumeral, decimal_value}

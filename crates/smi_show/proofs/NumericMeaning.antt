@@ -1,20 +1,13 @@
 -- A text of numbers alone means these numbers, whatever nodes there are.
-use Rattle.std.proofs.lemmas.Grind.{common_steps}
+use Rattle.std.proofs.{lemmas.Grind.common_steps, lemmas.Bool.and_parts, lemmas.Bool.le-leb, lemmas.Bool.ne_eqb, lemmas.List.append-nil}
 use Rattle.std.proofs.Common.{◌≡◌, ◌≢◌, ℕ, ◌≤◌, true, false, eqb, List, [], ◌∷◌, ◌++◌, length, inl, inr, Option, Some, None, Result, Ok, refl, sym}
 use Rattle.std.proofs.Common.{◌∙◌, ap, subst, append_assoc, arith, length-append}
-use Rattle.std.proofs.lemmas.Bool.{and_parts, le-leb, ne_eqb}
-use Rattle.std.proofs.lemmas.List.{append-nil}
-use Rattle.std.specs.Char.{is_ascii_digit}
-use Rattle.std.specs.Str.{all_ascii_digits}
+use Rattle.std.specs.{Char.is_ascii_digit, Str.all_ascii_digits}
 use Rattle.snmp_oid.specs.Numeric.{IsDotted, IsNumericName}
 use Rattle.smi_show.specs.declared.name.error.NameError.{NameError}
-use Rattle.smi_show.specs.name.Cutting.{module_after, name_parts}
+use Rattle.smi_show.specs.{name.Cutting.module_after, name.Cutting.name_parts, name.Meant.anywhere, name.Naming.Naming}
 use Rattle.smi_show.specs.name.Meaning.{and_then, meaning_in, fitting, further_meaning, meaning, parts_meaning, plain_meaning, scoped_meaning}
-use Rattle.smi_show.specs.name.Meant.{anywhere}
-use Rattle.smi_show.specs.name.Naming.{Naming}
-use Rattle.smi_show.proofs.FrontLemmas.{number_next}
-use Rattle.smi_show.proofs.PlainLemmas.{apart, plain_digits}
-use Rattle.smi_show.proofs.Readers.{before_module}
+use Rattle.smi_show.proofs.{FrontLemmas.number_next, PlainLemmas.apart, PlainLemmas.plain_digits, Readers.before_module}
 use Rattle.smi_show.proofs.ShownLemmas.{dot_module, plain_is_whole, scopes}
 
 -- numbers that fit

@@ -1,9 +1,8 @@
 -- A text's parts and its module are what the relations of Cut say, and there are no others.
-use Rattle.std.proofs.lemmas.Grind.{common_steps}
-use Rattle.std.proofs.Common.{◌≡◌, ℕ, ◌≤◌, suc, true, false, nat_eq, List, [], ◌∷◌, ◌++◌}
-use Rattle.std.proofs.Common.{take, drop, length, Option, Some, None, refl, sym, ◌∙◌, ap, subst, arith}
+use Rattle.std.proofs.{lemmas.Grind.common_steps, lemmas.List.drop_at, lemmas.List.take_at}
+use Rattle.std.proofs.Common.{◌≡◌, ℕ, ◌≤◌, suc, true, false, nat_eq, List, [], ◌∷◌, ◌++◌, take, drop, length, Option, Some, None, refl, sym, ◌∙◌, ap}
+use Rattle.std.proofs.Common.{subst, arith}
 use Rattle.std.proofs.lemmas.Bool.{and_parts, both_ways, cond_both, eqb-true}
-use Rattle.std.proofs.lemmas.List.{drop_at, take_at}
 use Rattle.snmp_io.specs.Quotes.{open_after}
 use Rattle.snmp_io.specs.QuoteLaws.{cut_once, is_closed, none_open, none_outside, quote_after}
 use Rattle.smi_show.specs.name.Cut.{AreParts, HasNoModule, IsModuleCut}

@@ -1,15 +1,12 @@
 -- The pieces that show numbers: what one more value adds, and that the pieces stand for the numbers shown.
 use Rattle.std.proofs.Common.{arith, ◌≡◌, ◌≢◌, ℕ, ◌+◌, ◌<◌, ◌^◌, Bool, true, false, not, cond, nat_eq, List, [], ◌∷◌, ◌++◌, length, drop, get_or}
 use Rattle.std.proofs.Common.{Option, Some, None, option_map, unwrap_or, All, inl, inr, refl, sym, ◌∙◌, ap, subst}
-use Rattle.std.proofs.lemmas.Grind.{common_steps, flat_map-append}
+use Rattle.std.proofs.{lemmas.Grind.common_steps, lemmas.Grind.flat_map-append, lemmas.List.at_drop_more, lemmas.List.append-nil}
+use Rattle.std.proofs.{lemmas.Bool.and_parts, Math.Seq.take-append_seam, Math.Seq.drop-append_seam}
 use Rattle.std.specs.List.{list_all, flat_map}
-use Rattle.std.proofs.lemmas.List.{at_drop_more, append-nil}
 use Rattle.std.proofs.lemmas.List.Elements.{All-nil, All-cons, All-append, All-map, All-take, All-drop}
-use Rattle.std.proofs.lemmas.Bool.{and_parts}
-use Rattle.std.proofs.Math.Seq.{take-append_seam, drop-append_seam}
-use Rattle.smi_show.specs.declared.index.part.Extent.{Extent}
+use Rattle.smi_show.specs.{declared.index.part.Extent.Extent, declared.index.part.IndexPart.IndexPart}
 use Rattle.smi_show.specs.declared.index.part.Extent.TheVariants.{Fixed, Counted, Implied}
-use Rattle.smi_show.specs.declared.index.part.IndexPart.{IndexPart}
 use Rattle.smi_show.specs.declared.index.part.IndexPart.TheVariants.{Number, Text}
 use Rattle.smi_show.specs.index.Index.{IsInExtent, ReadsValue, ReadValues, extent_of}
 use Rattle.smi_show.specs.private.index.Reading.{front_of, values_of, instance_pieces}

@@ -1,12 +1,8 @@
 -- Octets of labels and numbers are neither dots, nor colons, nor quotes.
-use Rattle.std.proofs.lemmas.Grind.{common_steps}
+use Rattle.std.proofs.{lemmas.Grind.common_steps, lemmas.Bool.and_parts, lemmas.Bool.both_ways, lemmas.Bool.ne_eqb, lemmas.Bool.Decides.nat_tests}
 use Rattle.std.proofs.Common.{◌≡◌, ℕ, Bool, true, false, ◌&&◌, ◌||◌, eqb, List, [], ◌∷◌, refl, sym, ◌∙◌, ap, arith}
-use Rattle.std.specs.Char.{is_ascii_digit, is_ascii_lowercase, is_ascii_uppercase}
-use Rattle.std.specs.Str.{all_ascii_digits}
-use Rattle.std.proofs.lemmas.Bool.{and_parts, both_ways, ne_eqb}
-use Rattle.std.proofs.lemmas.Bool.Decides.{nat_tests}
-use Rattle.smi_text.specs.lexer.Lexeme.{is_word_octet, is_hyphen, begins, is_word_rest}
-use Rattle.smi_text.specs.trees.Word.{is_word}
+use Rattle.std.specs.{Char.is_ascii_digit, Char.is_ascii_lowercase, Char.is_ascii_uppercase, Str.all_ascii_digits}
+use Rattle.smi_text.specs.{lexer.Lexeme.is_word_octet, lexer.Lexeme.is_hyphen, lexer.Lexeme.begins, lexer.Lexeme.is_word_rest, trees.Word.is_word}
 use Rattle.snmp_io.specs.Quotes.{is_quote}
 
 or_weaker : (a b d : Bool) → (a || (b && d)) ≡ true → (a || b) ≡ true

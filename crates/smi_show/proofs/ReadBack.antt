@@ -1,30 +1,21 @@
 -- What a name shows by module and label, or in numbers, means the identifier again.
 use Rattle.std.proofs.Common.{arith, ◌≡◌, ◌≢◌, ℕ, ◌≤◌, Bool, true, cond, List, [], ◌∷◌, ◌++◌, length, map, take, drop, All, inl, inr, Option, Some}
 use Rattle.std.proofs.Common.{None, Result, Ok, refl, sym, ◌∙◌, ap, subst, append_assoc}
-use Rattle.std.proofs.lemmas.Grind.{common_steps}
+use Rattle.std.proofs.{lemmas.Grind.common_steps, lemmas.List.append-nil, lemmas.List.take-append-drop}
 use Rattle.std.specs.List.{flat_map}
-use Rattle.std.proofs.lemmas.List.{append-nil, take-append-drop}
 use Rattle.std.proofs.lemmas.List.Elements.{All-head, All-tail, All-drop}
-use Rattle.snmp_oid.specs.Identifier.{IsIdentifier}
-use Rattle.snmp_oid.specs.Numeric.{IsNumericName, numeric_text}
+use Rattle.snmp_oid.specs.{Identifier.IsIdentifier, Numeric.IsNumericName, Numeric.numeric_text}
 use Rattle.smi_text.specs.trees.Word.{is_word}
 use Rattle.smi_show.specs.index.Pieces.{Piece, piece_numbers, IsPiece, shown_piece, shown_pieces}
-use Rattle.smi_show.specs.private.index.Reading.{instance_pieces}
-use Rattle.smi_show.specs.declared.name.error.NameError.{NameError}
-use Rattle.smi_value.specs.declared.letters.letters.NameForm.{NameForm}
-use Rattle.smi_value.specs.declared.letters.letters.NameForm.TheVariants.{ModuleLabel}
-use Rattle.smi_show.specs.name.Cutting.{name_parts, module_after}
-use Rattle.smi_show.specs.name.Naming.{Naming, Standing, IsSound, LabelLeadsTo}
-use Rattle.smi_show.specs.name.Word.{Word}
-use Rattle.smi_show.specs.name.Meant.{Scope, in_module, anywhere, found_in}
+use Rattle.smi_show.specs.{private.index.Reading.instance_pieces, declared.name.error.NameError.NameError, name.Cutting.name_parts}
+use Rattle.smi_show.specs.{name.Cutting.module_after, name.Naming.Naming, name.Naming.Standing, name.Naming.IsSound, name.Naming.LabelLeadsTo}
+use Rattle.smi_show.specs.{name.Word.Word, name.Meant.Scope, name.Meant.in_module, name.Meant.anywhere, name.Meant.found_in, name.Name.qualified}
+use Rattle.smi_show.specs.{name.Name.ReadsBack, private.name.Shown.standing_text, private.name.Shown.name_text}
+use Rattle.smi_value.specs.{declared.letters.letters.NameForm.NameForm, declared.letters.letters.NameForm.TheVariants.ModuleLabel}
 use Rattle.smi_show.specs.name.Meaning.{and_then, meaning_in, further_meaning, meaning, part_meaning, plain_meaning, scoped_meaning, word_meaning}
-use Rattle.smi_show.specs.name.Name.{qualified, ReadsBack}
-use Rattle.smi_show.specs.private.name.Shown.{standing_text, name_text}
-use Rattle.smi_show.proofs.NumericMeaning.{fits, numeric_meaning, scoped, shorter}
-use Rattle.smi_show.proofs.PieceLemmas.{IsNumber, each, whole}
-use Rattle.smi_show.proofs.PlainLemmas.{plain_word, plain_word_begins}
-use Rattle.smi_show.proofs.ShownLemmas.{joined_module, joined_parts, plain_is_whole, scopes}
-use Rattle.smi_show.proofs.WordLemmas.{piece_word, label_word}
+use Rattle.smi_show.proofs.{NumericMeaning.fits, NumericMeaning.numeric_meaning, NumericMeaning.scoped, NumericMeaning.shorter, PieceLemmas.IsNumber}
+use Rattle.smi_show.proofs.{PieceLemmas.each, PieceLemmas.whole, PlainLemmas.plain_word, PlainLemmas.plain_word_begins, ShownLemmas.joined_module}
+use Rattle.smi_show.proofs.{ShownLemmas.joined_parts, ShownLemmas.plain_is_whole, ShownLemmas.scopes, WordLemmas.piece_word, WordLemmas.label_word}
 
 -- pieces after what stands so far
 further_pieces : (naming : Naming) (so_far : List ℕ) (pieces : List Piece) → All IsPiece pieces → length (so_far ++ flat_map piece_numbers pieces) ≤ 128

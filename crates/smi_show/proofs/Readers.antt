@@ -1,11 +1,8 @@
 -- Readings of a text octet by octet, its parts and its module: an octet that ends nothing stands before what the rest gives.
 use Rattle.std.proofs.Common.{arith, ◌≡◌, ℕ, ◌+◌, ◌<◌, Bool, false, ◌&&◌, nat_eq, List, [], ◌∷◌, ◌++◌, length, take, drop, get_or, Option, Some, None}
 use Rattle.std.proofs.Common.{option_map, refl, sym, ap, append_assoc}
-use Rattle.std.proofs.lemmas.Grind.{common_steps}
-use Rattle.std.proofs.lemmas.Bool.{cond_both}
-use Rattle.std.proofs.lemmas.List.{drop_more, take_more}
-use Rattle.snmp_io.specs.Quotes.{open_after}
-use Rattle.snmp_io.specs.QuoteLaws.{quote_after}
+use Rattle.std.proofs.{lemmas.Grind.common_steps, lemmas.Bool.cond_both, lemmas.List.drop_more, lemmas.List.take_more}
+use Rattle.snmp_io.specs.{Quotes.open_after, QuoteLaws.quote_after}
 use Rattle.smi_show.specs.name.Cutting.{is_unquoted, with_prefix, parts_after, is_double_colon, longer_module, module_after}
 
 -- a quote is open, or the octet is neither a dot nor a colon

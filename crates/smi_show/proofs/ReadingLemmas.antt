@@ -1,14 +1,11 @@
 -- What is computed at the front of the numbers is an encoding of a part, and each encoding is computed.
-use Rattle.std.proofs.lemmas.Grind.{common_steps}
-use Rattle.std.proofs.Common.{◌≡◌, ◌≢◌, ℕ, Bool, true, false, cond, List, [], ◌∷◌, ◌++◌, length, Option, Some, None, option_map}
-use Rattle.std.proofs.Common.{option_and_then, is_some, refl, sym, ◌∙◌, ◌↔◌, IsTrue, ap, subst, arith, length-append}
+use Rattle.std.proofs.{lemmas.Grind.common_steps, Math.Seq.take-append_seam, Math.Seq.drop-append_seam, lemmas.Bool.leb-true, lemmas.Bool.le-leb}
+use Rattle.std.proofs.{lemmas.Bool.false_from_ne_true, lemmas.List.take-append-drop, lemmas.List.length-take-le, lemmas.List.append-nil}
+use Rattle.std.proofs.Common.{◌≡◌, ◌≢◌, ℕ, Bool, true, false, cond, List, [], ◌∷◌, ◌++◌, length, Option, Some, None, option_map, option_and_then}
+use Rattle.std.proofs.Common.{is_some, refl, sym, ◌∙◌, ◌↔◌, IsTrue, ap, subst, arith, length-append}
 use Rattle.std.specs.Bool.{OnTrue}
-use Rattle.std.proofs.lemmas.Bool.{leb-true, le-leb, false_from_ne_true}
-use Rattle.std.proofs.lemmas.List.{take-append-drop, length-take-le, append-nil}
-use Rattle.std.proofs.Math.Seq.{take-append_seam, drop-append_seam}
-use Rattle.smi_show.specs.declared.index.part.Extent.{Extent}
+use Rattle.smi_show.specs.{declared.index.part.Extent.Extent, declared.index.part.IndexPart.IndexPart}
 use Rattle.smi_show.specs.declared.index.part.Extent.TheVariants.{Fixed, Counted, Implied}
-use Rattle.smi_show.specs.declared.index.part.IndexPart.{IndexPart}
 use Rattle.smi_show.specs.index.Index.{AreOctetNumbers, IsInExtent, LeavesIn, extent_of, is_of_octets, ReadsValue, ReadValues}
 use Rattle.smi_show.specs.private.index.Reading.{front_and_rest, counted, remaining, of_octets, in_extent, front_of, values_of}
 

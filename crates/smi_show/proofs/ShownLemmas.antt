@@ -1,15 +1,12 @@
 -- Shown words are cut where they were joined, and nowhere else.
 use Rattle.std.proofs.Common.{arith, ◌≡◌, ℕ, true, false, eqb, List, [], ◌∷◌, ◌++◌, map, All, decimal, Option, Some, None, refl, ◌∙◌, ap}
-use Rattle.std.proofs.lemmas.Grind.{common_steps}
+use Rattle.std.proofs.{lemmas.Grind.common_steps, lemmas.Bool.and_parts, lemmas.Bool.eq-eqb, lemmas.List.append-nil}
 use Rattle.std.specs.List.{list_all}
-use Rattle.std.proofs.lemmas.Bool.{and_parts, eq-eqb}
-use Rattle.std.proofs.lemmas.List.{append-nil}
 use Rattle.std.proofs.lemmas.List.Elements.{All-head, All-tail}
 use Rattle.snmp_io.specs.QuoteLaws.{quote_after}
 use Rattle.smi_show.specs.index.Pieces.{Piece, plain_number, counted_text, plain_text, is_quotable, IsPiece, shown_piece, shown_pieces}
 use Rattle.smi_show.specs.name.Cutting.{with_prefix, parts_after, name_parts, module_after}
-use Rattle.smi_show.proofs.NumeralLemmas.{written_numeral}
-use Rattle.smi_show.proofs.PlainLemmas.{ArePlain, apart, plain_digits}
+use Rattle.smi_show.proofs.{NumeralLemmas.written_numeral, PlainLemmas.ArePlain, PlainLemmas.apart, PlainLemmas.plain_digits}
 use Rattle.smi_show.proofs.Readers.{Passing, all_pass, before_module, module_reader, no_colon, parts_reader}
 
 -- octets that are neither cut nor hold a module's end, and after which no quote is open

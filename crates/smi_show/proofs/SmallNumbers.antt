@@ -1,16 +1,12 @@
 -- The table of small numbers, checked entry by entry.
-use Rattle.std.proofs.lemmas.Grind.{common_steps}
-use Rattle.std.proofs.Common.{◌≡◌, ℕ, zero, suc, ◌+◌, ◌*◌, ◌/◌, ◌%◌, ◌<◌, Bool, true, ◌&&◌, ltb, leb, cond, List, [], ◌∷◌, ◌++◌, ◌≤◌}
-use Rattle.std.proofs.Common.{decimal, length, take, get_or, refl, sym, ap, ◌∙◌, arith}
+use Rattle.std.proofs.{lemmas.Grind.common_steps, Math.Seq.take-append-add, lemmas.List.length-take-le, lemmas.List.take-take}
+use Rattle.std.proofs.{lemmas.Bool.Decides.Decides-below_and, lemmas.Slice.Eq.bytes_eq-Decides, lemmas.Fmt.decimal_digit}
+use Rattle.std.proofs.Common.{◌≡◌, ℕ, zero, suc, ◌+◌, ◌*◌, ◌/◌, ◌%◌, ◌<◌, Bool, true, ◌&&◌, ltb, leb, cond, List, [], ◌∷◌, ◌++◌, ◌≤◌, decimal, length}
+use Rattle.std.proofs.Common.{take, get_or, refl, sym, ap, ◌∙◌, arith}
 use mir.Val.{bool_byte}
 use Rattle.std.specs.Str.{bytes_eq}
-use Rattle.std.proofs.Math.Seq.{take-append-add}
-use Rattle.std.proofs.lemmas.List.{length-take-le, take-take}
 use Rattle.std.proofs.lemmas.Bool.{cases_lt, lt-ltb, le-ltb, lt-leb, le-leb}
-use Rattle.std.proofs.lemmas.Bool.Decides.{Decides-below_and}
-use Rattle.std.proofs.lemmas.Slice.Eq.{bytes_eq-Decides}
 use Rattle.smi_show.specs.declared.index.shown.TheConstants.{SMALL}
-use Rattle.std.proofs.lemmas.Fmt.{decimal_digit}
 use Rattle.smi_show.proofs.DigitLemmas.{two_digits, digits_of_three}
 
 -- a number below 1000 after a dot

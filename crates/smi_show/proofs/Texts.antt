@@ -1,6 +1,5 @@
 -- Texts that are appended one after the other.
-use Rattle.std.proofs.Common.{arith, ℕ, List, ◌++◌, append_assoc}
-use Rattle.std.proofs.lemmas.Grind.{common_steps}
+use Rattle.std.proofs.{Common.arith, Common.ℕ, Common.List, Common.◌++◌, Common.append_assoc, lemmas.Grind.common_steps}
 use Rattle.snmp_io.specs.draft.Draft.{Written, Adds}
 
 pub adds_both : (old middle new : Written) (a b : List ℕ) → Adds old a middle → Adds middle b new → Adds old (a ++ b) new

@@ -2,19 +2,15 @@
 use Rattle.std.proofs.Common.{arith, ◌≡◌, ℕ, List, [], ◌∷◌, ◌++◌, codes, Option, Some, None, refl, sym, ◌∙◌, ap, append_assoc, append-nil}
 use Rattle.std.proofs.lemmas.Grind.{common_steps, flat_map-append}
 use Rattle.std.specs.List.{flat_map}
-use Rattle.smi_text.specs.lexer.Token.{Lexeme}
+use Rattle.smi_text.specs.{lexer.Token.Lexeme, declared.trees.tree.NamedNumber.NamedNumber, declared.trees.tree.Range.Range}
+use Rattle.smi_text.specs.{declared.trees.tree.TokenText.TokenText, declared.trees.tree.Refinement.Refinement, declared.trees.tree.Syntax.Syntax}
 use Rattle.smi_text.specs.declared.lexer.token.TokenKind.TheVariants as K
 use Rattle.smi_text.specs.trees.Mark.{Mark, spelled, on_line, sign, MarksToken, Stands}
 use Rattle.smi_text.specs.trees.Spelling.{bound, of_list, of_named_number, of_range, of_ranges, of_refinement, of_option, of_syntax}
-use Rattle.smi_text.specs.declared.trees.tree.NamedNumber.{NamedNumber}
-use Rattle.smi_text.specs.declared.trees.tree.Range.{Range}
-use Rattle.smi_text.specs.declared.trees.tree.TokenText.{TokenText}
-use Rattle.smi_text.specs.declared.trees.tree.Refinement.{Refinement}
 use Rattle.smi_text.specs.declared.trees.tree.Refinement.TheVariants as R
-use Rattle.smi_text.specs.declared.trees.tree.Syntax.{Syntax}
 use Rattle.smi_text.specs.declared.trees.tree.Syntax.TheVariants as T
-use Rattle.smi_show.specs.details.Syntax.{named_number_text, numbers_text, high_text, range_text, ranges_text}
-use Rattle.smi_show.specs.details.Syntax.{refinement_text, refined_text, syntax_text}
+use Rattle.smi_show.specs.details.Syntax.{named_number_text, numbers_text, high_text, range_text, ranges_text, refinement_text, refined_text}
+use Rattle.smi_show.specs.details.Syntax.{syntax_text}
 use Rattle.smi_show.specs.private.details.Tokens.{AreTokensOf, joined_by_blanks}
 
 -- the text that a mark asks of its token

@@ -1,16 +1,14 @@
 -- A shown piece, or a label, is read as the word that it shows.
-use Rattle.std.proofs.lemmas.Grind.{common_steps}
-use Rattle.std.proofs.Common.{◌≡◌, ◌≢◌, ℕ, true, ◌&&◌, eqb, ltb, cond, List, [], ◌∷◌, ◌++◌, length, take, get_or, decimal, Option, Some, None, Ok, refl, ◌∙◌, ap, arith, length-append}
-use Rattle.std.specs.List.{list_all}
-use Rattle.std.specs.Char.{is_ascii_digit}
-use Rattle.std.proofs.lemmas.Bool.{and_parts, eq-eqb, lt-ltb}
+use Rattle.std.proofs.{lemmas.Grind.common_steps, lemmas.Bool.and_parts, lemmas.Bool.eq-eqb, lemmas.Bool.lt-ltb}
+use Rattle.std.proofs.Common.{◌≡◌, ◌≢◌, ℕ, true, ◌&&◌, eqb, ltb, cond, List, [], ◌∷◌, ◌++◌, length, take, get_or, decimal, Option, Some, None, Ok}
+use Rattle.std.proofs.Common.{refl, ◌∙◌, ap, arith, length-append}
+use Rattle.std.specs.{List.list_all, Char.is_ascii_digit}
 use Rattle.std.proofs.Math.Seq.{take-append_seam, get_or-append_seam}
 use Rattle.snmp_oid.specs.Numeric.{IsNumeral}
 use Rattle.smi_text.specs.trees.Word.{is_word}
 use Rattle.smi_show.specs.index.Pieces.{Piece, plain_number, counted_text, plain_text, is_quotable, IsPiece, shown_piece}
 use Rattle.smi_show.specs.name.Word.{a_piece, a_label, numeral_of, quoted_in, number_word, counted_word, plain_word, word_of}
-use Rattle.smi_show.proofs.NumeralLemmas.{numeral_is, written_numeral}
-use Rattle.smi_show.proofs.PlainLemmas.{plain_word_begins}
+use Rattle.smi_show.proofs.{NumeralLemmas.numeral_is, NumeralLemmas.written_numeral, PlainLemmas.plain_word_begins}
 
 pub digit_first : (octet : ℕ) (more : List ℕ) → is_ascii_digit octet ≡ true → word_of (octet ∷ more) ≡ number_word (numeral_of (octet ∷ more))
 digit_first octet more h = rw h refl

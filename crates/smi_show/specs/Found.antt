@@ -2,9 +2,7 @@
 use Rattle.std.specs.Prelude.{◌≡◌, ℕ, List, Option, option_map, MatchOption}
 use Rattle.snmp_oid.specs.Identifier.{IsBelow}
 use Rattle.smi_value.specs.Syntax.{ObjectSyntax}
-use Rattle.smi_show.specs.name.Naming.{Naming}
-use Rattle.smi_show.specs.name.Standing.{standing_of}
-use Rattle.smi_show.specs.declared.tree.Found.{Found}
+use Rattle.smi_show.specs.{name.Naming.Naming, name.Standing.standing_of, declared.tree.Found.Found}
 
 -- this is found for o
 abbrev pub IsFound : Naming → (List ℕ → Option ObjectSyntax) → List ℕ → Found → Type 0

@@ -4,11 +4,8 @@ use Rattle.smi_value.specs.declared.letters.letters.Letters.{Letters}
 use Rattle.smi_value.specs.declared.letters.letters.TypeForm.{TypeForm}
 use Rattle.smi_value.specs.declared.letters.letters.TypeForm.TheVariants.{Typed, Untyped, Quick}
 use Rattle.snmp_wire.specs.ber.Value.{Datum}
-use Rattle.smi_show.specs.name.Naming.{Naming}
-use Rattle.smi_show.specs.name.Name.{IsName}
-use Rattle.smi_show.specs.private.name.Shown.{name_text}
-use Rattle.smi_value.specs.Syntax.{ObjectSyntax}
-use Rattle.smi_value.specs.Value.{ShowsValue}
+use Rattle.smi_show.specs.{name.Naming.Naming, name.Name.IsName, private.name.Shown.name_text}
+use Rattle.smi_value.specs.{Syntax.ObjectSyntax, Value.ShowsValue}
 
 -- the texts of identifiers, each its name by the letters
 abbrev pub AreNamesBy : Naming → Letters → (names : List ℕ → List ℕ) → Type 0

@@ -1,15 +1,11 @@
 //! The value of a binding, and its line.
-ghost use Rattle.std.specs.Prelude.{◌≡◌, ℕ, List, ◌++◌, codes, Option, OnOk, OnErr};
-ghost use Rattle.std.specs.Prelude.{option_map};
+ghost use Rattle.std.specs.Prelude.{◌≡◌, ℕ, List, ◌++◌, codes, Option, OnOk, OnErr, option_map};
 ghost use Rattle.std.specs.Option.{option_copied};
 ghost use Rattle.snmp_io.specs.draft.Draft.{Adds};
 ghost use Rattle.snmp_wire.specs.ber.Value.{Datum, datum};
-ghost use Rattle.smi_value.specs.Value.{ShowsValue};
+ghost use Rattle.smi_value.specs.{Value.ShowsValue, Syntax.ObjectSyntax};
 ghost use Rattle.smi_value.specs.declared.letters.letters.Letters.{Letters};
-ghost use Rattle.smi_value.specs.Syntax.{ObjectSyntax};
-ghost use Rattle.smi_show.specs.name.Naming.{Naming};
-ghost use Rattle.smi_show.specs.name.Standing.{standing_of};
-ghost use Rattle.smi_show.specs.Found.{IsFound};
+ghost use Rattle.smi_show.specs.{name.Naming.Naming, name.Standing.standing_of, Found.IsFound};
 ghost use Rattle.smi_show.specs.Line.{IsLine, IsValueText, front_text, names_by, separator};
 
 use crate::name::{Node, name_by_node, name_text, numeric};

@@ -2,9 +2,7 @@
 ghost use Rattle.std.specs.Prelude.{◌≡◌, ◌++◌, Bool, List, ℕ, Option, OnOk, OnErr};
 ghost use Rattle.smi_text.specs.declared.trees.tree.Def.{Def};
 ghost use Rattle.smi_value.specs.declared.letters.letters.NameForm.{NameForm};
-ghost use Rattle.smi_show.specs.details.Detail.{IsDetail};
-ghost use Rattle.smi_show.specs.name.Name.{IsName};
-ghost use Rattle.smi_show.specs.name.Naming.{Naming};
+ghost use Rattle.smi_show.specs.{details.Detail.IsDetail, name.Name.IsName, name.Naming.Naming};
 
 use crate::details::{DetailTree, detail_text};
 use crate::name::NameTree;

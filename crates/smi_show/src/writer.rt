@@ -2,8 +2,7 @@
 ghost use Rattle.std.specs.Prelude.{◌≡◌, ℕ, List, ◌++◌, ◌↔◌, OnOk, OnErr, IsTrue, MatchOption};
 ghost use Rattle.snmp_oid.specs.Identifier.{IsBelow};
 ghost use Rattle.snmp_wire.specs.ber.Value.{datum};
-ghost use Rattle.smi_show.specs.Found.{IsFound, IsFoundBelow};
-ghost use Rattle.smi_show.specs.Line.{IsLine};
+ghost use Rattle.smi_show.specs.{Found.IsFound, Found.IsFoundBelow, Line.IsLine};
 
 use crate::binding::append_line;
 use crate::{Found, Near, ShowTree};

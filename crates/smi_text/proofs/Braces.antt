@@ -1,16 +1,13 @@
 -- Counting open braces finds exactly the balanced tokens.
-use Rattle.std.proofs.Common.{◌≡◌, ℕ, zero, suc, ◌+◌, ◌-◌, true, false, not, List, [], ◌∷◌, ◌++◌}
-use Rattle.std.proofs.Common.{refl, sym, ◌∙◌, ap, subst, add-one, arith, append_assoc, append-nil}
+use Rattle.std.proofs.Common.{◌≡◌, ℕ, zero, suc, ◌+◌, ◌-◌, true, false, not, List, [], ◌∷◌, ◌++◌, refl, sym, ◌∙◌, ap, subst, add-one, arith}
+use Rattle.std.proofs.Common.{append_assoc, append-nil}
 use Rattle.std.proofs.lemmas.Bool.{and_parts, false_from_ne_true, not-true}
 use Rattle.std.specs.Prelude.{◌==◌, ◌≢◌}
 use Rattle.smi_text.specs.declared.lexer.token.TokenKind.{TokenKind}
 use Rattle.smi_text.specs.declared.lexer.token.TokenKind.TheVariants as K
-use Rattle.smi_text.specs.trees.Mark.{same_kind}
-use Rattle.smi_text.specs.private.Grammar.{depth_after, is_outside}
-use Rattle.smi_text.proofs.Fronts.{is_balanced}
+use Rattle.smi_text.specs.{trees.Mark.same_kind, private.Grammar.depth_after, private.Grammar.is_outside, declared.trees.tree.TokenText.TokenText}
+use Rattle.smi_text.proofs.{Fronts.is_balanced, Marks.same_kind-eq, Marks.same_kind-same}
 use Rattle.smi_text.specs.trees.Braces.{IsBalanced, none, other, nested}
-use Rattle.smi_text.specs.declared.trees.tree.TokenText.{TokenText}
-use Rattle.smi_text.proofs.Marks.{same_kind-eq, same_kind-same}
 
 -- ---- how a token changes the count
 

@@ -1,13 +1,10 @@
 -- What the class of an octet says of it.
 use Rattle.std.proofs.Common.{arith, ◌≡◌, ℕ, Bool, true, false, cond, List, [], ◌∷◌, refl, sym, subst, eqb}
-use Rattle.std.proofs.lemmas.Grind.{common_steps}
+use Rattle.std.proofs.{lemmas.Grind.common_steps, lemmas.Bool.eqb-true}
 use Rattle.std.specs.Char.{is_ascii_lowercase, is_ascii_uppercase, is_ascii_digit}
-use Rattle.std.proofs.lemmas.Bool.{eqb-true}
-use Rattle.smi_text.specs.declared.lexer.class.Class.{Class}
+use Rattle.smi_text.specs.{declared.lexer.class.Class.Class, declared.lexer.token.TokenKind.TokenKind, lexer.Lexeme.IsLexeme, lexer.Lexeme.is_blank}
+use Rattle.smi_text.specs.{lexer.Reading.class_of, lexer.Reading.symbol_among}
 use Rattle.smi_text.specs.declared.lexer.class.Class.TheVariants as C
-use Rattle.smi_text.specs.declared.lexer.token.TokenKind.{TokenKind}
-use Rattle.smi_text.specs.lexer.Lexeme.{IsLexeme, is_blank}
-use Rattle.smi_text.specs.lexer.Reading.{class_of, symbol_among}
 
 -- what an octet of the class is
 abbrev pub HasClass : Class → ℕ → Type 0

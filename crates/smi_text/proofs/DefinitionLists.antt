@@ -1,28 +1,16 @@
 -- Definitions one after the other, with the names that they define.
 use Rattle.std.proofs.Common.{arith, ◌≡◌, ℕ, true, false, ◌||◌, not, List, [], ◌∷◌, ◌++◌, Some, Ok, Err, refl, sym, ◌∙◌, ap, append-nil}
-use Rattle.std.proofs.lemmas.Grind.{common_steps, flat_map-append}
-use Rattle.std.proofs.lemmas.Bool.{and_parts, and_from, or_parts}
+use Rattle.std.proofs.{lemmas.Grind.common_steps, lemmas.Grind.flat_map-append, lemmas.Bool.and_parts, lemmas.Bool.and_from, lemmas.Bool.or_parts}
+use Rattle.std.proofs.{Math.Bool.or-false, Math.Bool.or_comm, lemmas.Bool.Decides.same_from_decides, lemmas.List.map-append}
+use Rattle.std.proofs.{lemmas.List.Folds.list_any-append, lemmas.List.Folds.list_all-append, lemmas.Slice.Eq.bytes_eq-Decides}
 use Rattle.std.specs.List.{flat_map, list_any}
-use Rattle.std.proofs.Math.Bool.{or-false, or_comm}
-use Rattle.std.proofs.lemmas.Bool.Decides.{same_from_decides}
-use Rattle.std.proofs.lemmas.List.{map-append}
-use Rattle.std.proofs.lemmas.List.Folds.{list_any-append, list_all-append}
-use Rattle.std.proofs.lemmas.Slice.Eq.{bytes_eq-Decides}
-use Rattle.smi_text.specs.lexer.Token.{Lexeme, Item}
-use Rattle.smi_text.specs.trees.Mark.{Mark, MarksToken, spelled, on_line, same_text}
-use Rattle.smi_text.specs.private.Format.{StandsAhead, Ahead, begins}
-use Rattle.smi_text.specs.private.Grammar.{definition, file}
-use Rattle.smi_text.specs.trees.Spelling.{label, of_def, spelling}
-use Rattle.smi_text.specs.Text.{HasNoDoubles}
-use Rattle.smi_text.specs.trees.Lookup.{labels, are_distinct}
-use Rattle.smi_text.specs.private.Returned.{text_ahead}
-use Rattle.smi_text.specs.declared.trees.tree.Def.{Def}
-use Rattle.smi_text.specs.declared.trees.names.Name.{Name}
-use Rattle.smi_text.specs.declared.trees.tree.DefKind.{DefKind}
+use Rattle.smi_text.specs.{lexer.Token.Lexeme, lexer.Token.Item, trees.Mark.Mark, trees.Mark.MarksToken, trees.Mark.spelled, trees.Mark.on_line}
+use Rattle.smi_text.specs.{trees.Mark.same_text, private.Format.StandsAhead, private.Format.Ahead, private.Format.begins, private.Grammar.definition}
+use Rattle.smi_text.specs.{private.Grammar.file, trees.Spelling.label, trees.Spelling.of_def, trees.Spelling.spelling, Text.HasNoDoubles}
+use Rattle.smi_text.specs.{trees.Lookup.labels, trees.Lookup.are_distinct, private.Returned.text_ahead, declared.trees.tree.Def.Def}
+use Rattle.smi_text.specs.{declared.trees.names.Name.Name, declared.trees.tree.DefKind.DefKind, declared.trees.tree.Module.Module}
 use Rattle.smi_text.specs.declared.trees.tree.DefKind.TheVariants as D
-use Rattle.smi_text.specs.declared.trees.tree.Module.{Module}
-use Rattle.smi_text.proofs.Marks.{StandsAhead-append}
-use Rattle.smi_text.proofs.ProductionLaws.{definition-law, file-law}
+use Rattle.smi_text.proofs.{Marks.StandsAhead-append, ProductionLaws.definition-law, ProductionLaws.file-law}
 
 -- the label of a definition is the text of its first token
 

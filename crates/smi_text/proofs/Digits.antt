@@ -1,10 +1,8 @@
 -- What digits write, read from the front.
-use Rattle.std.proofs.lemmas.Grind.{common_steps}
+use Rattle.std.proofs.{lemmas.Grind.common_steps, lemmas.List.drop_all, lemmas.Bool.lt-leb, lemmas.Bool.le-leb}
 use Rattle.std.proofs.Common.{◌≡◌, ℕ, suc, ◌+◌, ◌*◌, ◌^◌, ◌<◌, ◌≤◌, List, [], ◌∷◌, length, get_or, drop, refl, ◌∙◌, ap, arith, drop-cons, add-one}
 use Rattle.std.specs.Prelude.{Some, None}
-use Rattle.std.proofs.lemmas.List.{drop_all}
 use Rattle.std.proofs.Math.Nat.{le-mul_of_pos_right, one-le-pow, mul_comm, mul_assoc, mul-one, pow-zero, pow-succ'}
-use Rattle.std.proofs.lemmas.Bool.{lt-leb, le-leb}
 use Rattle.smi_text.specs.trees.Number.{digit_value, number_value, up_to}
 
 -- what digits write after those that wrote n

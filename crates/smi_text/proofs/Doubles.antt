@@ -1,30 +1,18 @@
 -- Where definitions define a name again, no modules without a double name are read.
 use Rattle.std.proofs.Common.{arith, ◌≡◌, ℕ, true, false, not, List, [], ◌∷◌, ◌++◌, Some, None, refl, sym, ◌∙◌, ap, subst, inl, inr}
-use Rattle.std.proofs.lemmas.Grind.{common_steps}
+use Rattle.std.proofs.{lemmas.Grind.common_steps, lemmas.List.map-append, lemmas.List.Folds.list_any-append}
 use Rattle.std.proofs.lemmas.Bool.{and_parts, or_left, or_right, or_cases}
-use Rattle.std.specs.Prelude.{codes}
-use Rattle.std.specs.List.{flat_map, list_any, list_all}
-use Rattle.std.proofs.lemmas.List.{map-append}
-use Rattle.std.proofs.lemmas.List.Folds.{list_any-append}
-use Rattle.smi_text.specs.lexer.Token.{Lexeme, Item}
-use Rattle.smi_text.specs.trees.Mark.{Mark, same_text}
+use Rattle.std.specs.{Prelude.codes, List.flat_map, List.list_any, List.list_all}
+use Rattle.smi_text.specs.{lexer.Token.Lexeme, lexer.Token.Item, trees.Mark.Mark, trees.Mark.same_text, trees.Spelling.of_def, trees.Spelling.of_head}
+use Rattle.smi_text.specs.{trees.Spelling.spelling, Text.HasNoDoubles, Text.HasSecond, Text.DefinesAgain, trees.Lookup.labels}
+use Rattle.smi_text.specs.{trees.Lookup.are_distinct, declared.modules.Head.Head, declared.trees.tree.Def.Def, declared.trees.tree.Module.Module}
 use Rattle.smi_text.specs.private.Format.{StandsAhead, Format, Parsed, begins, apart, with_front, before, many, pair, shaped, word, lower}
 use Rattle.smi_text.specs.private.Grammar.{to_module, definition, file, head, module_text}
-use Rattle.smi_text.specs.trees.Spelling.{of_def, of_head, spelling}
-use Rattle.smi_text.specs.Text.{HasNoDoubles, HasSecond, DefinesAgain}
-use Rattle.smi_text.specs.trees.Lookup.{labels, are_distinct}
-use Rattle.smi_text.specs.declared.modules.Head.{Head}
-use Rattle.smi_text.specs.declared.trees.tree.Def.{Def}
-use Rattle.smi_text.specs.declared.trees.tree.Module.{Module}
-use Rattle.smi_text.proofs.Lawful.{Lawful}
+use Rattle.smi_text.proofs.{Lawful.Lawful, Laws.starts-with, Laws.some-inj, Productions.all, Shorter.definition-solid, Shorter.module_text-solid}
+use Rattle.smi_text.proofs.{DefinitionLists.read-label, DefinitionLists.spelled-label, Tokens.all_tokens, Tokens.taken-tokens}
 use Rattle.smi_text.proofs.Marks.{same_text-eq, same_text-same, StandsAhead-split, apart-false}
 use Rattle.smi_text.proofs.Many.{many-fails, many-goes_on, with_front-append, with_front-nil}
-use Rattle.smi_text.proofs.Laws.{starts-with, some-inj}
-use Rattle.smi_text.proofs.Productions.{all}
 use Rattle.smi_text.proofs.ProductionLaws.{definition-law, head-law, module_text-law}
-use Rattle.smi_text.proofs.Shorter.{definition-solid, module_text-solid}
-use Rattle.smi_text.proofs.DefinitionLists.{read-label, spelled-label}
-use Rattle.smi_text.proofs.Tokens.{all_tokens, taken-tokens}
 
 fronts-inv : {A : Type 0} (xs : List A) (r : Parsed (List A)) (ys : List A) (rest : List Item) → with_front xs r ≡ Some (ys, rest)
     → (zs : List A) × (r ≡ Some (zs, rest)) × (ys ≡ xs ++ zs)

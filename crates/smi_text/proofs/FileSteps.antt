@@ -1,33 +1,23 @@
 -- The steps of the loops over definitions and over modules.
 use Rattle.std.proofs.Common.{arith, ◌≡◌, ℕ, ◌<◌, Bool, true, false, ◌||◌, List, [], ◌∷◌, ◌++◌, length, Some, None, refl, sym, ◌∙◌, ap, Bor}
 use Rattle.std.proofs.lemmas.Grind.{common_steps}
-use Rattle.std.specs.List.{flat_map, list_any}
-use Rattle.std.specs.BTreeSet.{BTreeSet}
-use Rattle.smi_text.specs.lexer.Token.{Item, tokens_of}
-use Rattle.smi_text.specs.trees.Mark.{same_text}
+use Rattle.std.specs.{List.flat_map, List.list_any, BTreeSet.BTreeSet}
+use Rattle.smi_text.specs.{lexer.Token.Item, lexer.Token.tokens_of, trees.Mark.same_text, private.Names.has, Text.HasNoDoubles, Text.HasSecond}
+use Rattle.smi_text.specs.{trees.Lookup.labels, trees.Lookup.are_distinct, declared.stop.Stop.Stop, declared.error.ParseError.ParseError}
+use Rattle.smi_text.specs.{declared.modules.Head.Head, declared.trees.tree.Def.Def, declared.trees.tree.Module.Module}
 use Rattle.smi_text.specs.private.Format.{StandsAhead, begins, many, with_front, shaped, pair, before, lower}
-use Rattle.smi_text.specs.private.Names.{has}
 use Rattle.smi_text.specs.private.Grammar.{definition, head, module_text, file}
 use Rattle.smi_text.specs.trees.Spelling.{of_def, of_head, of_module, spelling}
-use Rattle.smi_text.specs.Text.{HasNoDoubles, HasSecond}
-use Rattle.smi_text.specs.trees.Lookup.{labels, are_distinct}
-use Rattle.smi_text.specs.private.Returned.{is_memory, error_of, text_ahead, NewDefinitionFault, ReadsDefinitions, DefinitionsFault, ReadsModule, ModuleFault}
-use Rattle.smi_text.specs.private.Returned.{ReadsModules, ModulesFault}
-use Rattle.smi_text.specs.declared.stop.Stop.{Stop}
+use Rattle.smi_text.specs.private.Returned.{is_memory, error_of, text_ahead, NewDefinitionFault, ReadsDefinitions, DefinitionsFault, ReadsModule}
+use Rattle.smi_text.specs.private.Returned.{ModuleFault, ReadsModules, ModulesFault}
 use Rattle.smi_text.specs.declared.stop.Stop.TheVariants as S
-use Rattle.smi_text.specs.declared.error.ParseError.{ParseError}
 use Rattle.smi_text.specs.declared.error.ParseError.TheVariants as E
-use Rattle.smi_text.specs.declared.modules.Head.{Head}
-use Rattle.smi_text.specs.declared.trees.tree.Def.{Def}
-use Rattle.smi_text.specs.declared.trees.tree.Module.{Module}
-use Rattle.smi_text.proofs.Marks.{StandsAhead-append}
+use Rattle.smi_text.proofs.{Marks.StandsAhead-append, Laws.starts-with, Laws.some-inj, Tokens.taken-stands, Tokens.Stands-append}
 use Rattle.smi_text.proofs.Many.{reading-shorter, many-fails, many-goes_on, many-done, with_front-append, with_front-none, with_front-end}
 use Rattle.smi_text.proofs.Many.{with_front-nil}
-use Rattle.smi_text.proofs.Laws.{starts-with, some-inj}
 use Rattle.smi_text.proofs.ProductionLaws.{definition-law, head-law, module_text-law}
 use Rattle.smi_text.proofs.Shorter.{definition-solid, module_text-solid}
 use Rattle.smi_text.proofs.DefinitionLists.{read-label, stands-more, distinct-more, among-more, no-doubles-more, nothing-begins}
-use Rattle.smi_text.proofs.Tokens.{taken-stands, Stands-append}
 
 -- definitions
 

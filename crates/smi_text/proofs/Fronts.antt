@@ -1,17 +1,12 @@
 -- Counting open braces finds exactly the tokens whose beginnings open as many braces as they close, or more.
-use Rattle.std.proofs.lemmas.Grind.{common_steps}
+use Rattle.std.proofs.{lemmas.Grind.common_steps, lemmas.List.Folds.list_all-map, lemmas.List.Sums.sum_by-cons}
 use Rattle.std.proofs.Common.{◌≡◌, ℕ, zero, suc, ◌+◌, Bool, true, false, ◌&&◌, if◌then◌else◌, not, List, [], ◌∷◌, nat_le, refl, ◌∙◌, arith}
-use Rattle.std.specs.Prelude.{◌==◌}
-use Rattle.std.specs.List.{list_all}
+use Rattle.std.specs.{Prelude.◌==◌, List.list_all}
 use Rattle.std.proofs.lemmas.Bool.{and_parts, eqb-true}
-use Rattle.std.proofs.lemmas.List.Folds.{list_all-map}
-use Rattle.std.proofs.lemmas.List.Sums.{sum_by-cons}
 use Rattle.smi_text.specs.declared.lexer.token.TokenKind.{TokenKind}
 use Rattle.smi_text.specs.declared.lexer.token.TokenKind.TheVariants as K
-use Rattle.smi_text.specs.declared.trees.tree.TokenText.{TokenText}
-use Rattle.smi_text.specs.trees.Mark.{same_kind}
+use Rattle.smi_text.specs.{declared.trees.tree.TokenText.TokenText, trees.Mark.same_kind, private.Grammar.depth_after, private.Grammar.is_outside}
 use Rattle.smi_text.specs.trees.Fronts.{opening_braces, closing_braces, fronts, has_balanced_braces}
-use Rattle.smi_text.specs.private.Grammar.{depth_after, is_outside}
 use Rattle.smi_text.proofs.Marks.{same_kind-eq}
 
 -- after `depth` open braces, the tokens close each brace that is open, and none that is not

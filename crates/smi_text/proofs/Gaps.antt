@@ -1,18 +1,15 @@
 -- Gaps: blank octets and comments, and where none begins.
-use Rattle.std.proofs.lemmas.Grind.{common_steps}
+use Rattle.std.proofs.{lemmas.Grind.common_steps, lemmas.List.drop_all}
 use Rattle.std.proofs.Common.{◌≡◌, ℕ, zero, suc, ◌+◌, ◌<◌, ◌≤◌, true, false, cond, List, [], ◌∷◌, length, get_or, take, drop, refl, sym, ap, ◌∙◌, inl}
 use Rattle.std.proofs.Common.{inr, arith, ◌-◌, add-zero}
 use Rattle.std.proofs.lemmas.Bool.{eqb-true, ne_eqb, false≢true, or_cases}
-use Rattle.std.proofs.lemmas.List.{drop_all}
 use Rattle.smi_text.specs.declared.lexer.class.Class.TheVariants as C
 use Rattle.smi_text.specs.lexer.Lexeme.{gap, begins, is_blank, is_hyphen}
 use Rattle.smi_text.specs.lexer.Reading.{HasNoGap, IsLongestPassing, IsPartFront, Skips, hyphen_part, is_comment_rest, is_nothing, ArePassedBetween}
 use Rattle.smi_text.specs.lexer.Reading.{is_space_or_tab, newlines, part_in, part_of}
-use Rattle.smi_text.proofs.LexerFronts.{rest_at, rest_of_two}
-use Rattle.smi_text.proofs.ItemsLemmas.{newlines-one, skips_gap}
-use Rattle.smi_text.proofs.Parts.{none_some, front_behind_first, front_cons, part_front}
+use Rattle.smi_text.proofs.{LexerFronts.rest_at, LexerFronts.rest_of_two, ItemsLemmas.newlines-one, ItemsLemmas.skips_gap, Parts.none_some}
+use Rattle.smi_text.proofs.{Parts.front_behind_first, Parts.front_cons, Parts.part_front, Scans.begins-take, Scans.hand_on}
 use Rattle.smi_text.proofs.PartLaws.{blank_class, comment_one_line, comment_opens, part_is, two_hyphens}
-use Rattle.smi_text.proofs.Scans.{begins-take, hand_on}
 
 -- ---- a blank octet
 

@@ -1,20 +1,15 @@
 -- Indexes are lawful: one of a bounded number of names is made as other formats are, and is read as an index is.
 use Rattle.std.proofs.lemmas.Grind.{common_steps}
-use Rattle.std.proofs.Common.{◌≡◌, ℕ, zero, suc, ◌≤◌, nat_le, Bool, true, false, List, [], ◌∷◌, length, Option, Some, None, if◌then◌else◌, refl, sym, ◌∙◌}
-use Rattle.std.proofs.Common.{arith, inl, inr, ◌⊎◌}
+use Rattle.std.proofs.Common.{◌≡◌, ℕ, zero, suc, ◌≤◌, nat_le, Bool, true, false, List, [], ◌∷◌, length, Option, Some, None, if◌then◌else◌, refl, sym}
+use Rattle.std.proofs.Common.{◌∙◌, arith, inl, inr, ◌⊎◌}
 use Rattle.std.specs.Prelude.{codes}
 use Rattle.smi_text.specs.declared.lexer.token.TokenKind.TheVariants as K
-use Rattle.smi_text.specs.lexer.Token.{Item}
-use Rattle.smi_text.specs.trees.Mark.{Mark, sign}
+use Rattle.smi_text.specs.{lexer.Token.Item, trees.Mark.Mark, trees.Mark.sign, declared.trees.names.Name.Name}
 use Rattle.smi_text.specs.private.Format.{Format, StandsAhead, a_word, a_kind, begins, behind, either, maybe, pair, shaped, token, lower}
 use Rattle.smi_text.specs.private.Grammar.{index_parts, implied_name, index_names, read_index, with_names}
 use Rattle.smi_text.specs.trees.Spelling as say
-use Rattle.smi_text.proofs.Productions.{formats}
-use Rattle.smi_text.proofs.Lawful.{Lawful}
-use Rattle.smi_text.proofs.Marks.{begins-append, begins-none}
-use Rattle.smi_text.proofs.Many.{StandsAhead-length}
+use Rattle.smi_text.proofs.{Productions.formats, Lawful.Lawful, Marks.begins-append, Marks.begins-none, Many.StandsAhead-length}
 use Rattle.smi_text.proofs.Laws.{never-stands, lower-law, pair-law, maybe-law, either-law, made-law, after-word, after-sign}
-use Rattle.smi_text.specs.declared.trees.names.Name.{Name}
 use Rattle.smi_text.specs.declared.trees.tree.IndexParts.{IndexParts}
 
 -- the last name, after IMPLIED or alone, or a name that has others behind a comma

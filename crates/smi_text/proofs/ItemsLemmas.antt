@@ -1,13 +1,9 @@
 -- The computed items of a text: what its longest front makes of them.
-use Rattle.std.proofs.lemmas.Grind.{common_steps}
+use Rattle.std.proofs.{lemmas.Grind.common_steps, lemmas.Bool.cases_lt, lemmas.List.drop-drop, lemmas.List.Sums.sum_by-append}
 use Rattle.std.proofs.Common.{◌≡◌, ℕ, zero, suc, ◌+◌, ◌<◌, ◌≤◌, cond, Option, Some, None, Ok, Err, List, [], ◌∷◌, length, take, drop, refl, sym, ap}
 use Rattle.std.proofs.Common.{◌∙◌, inl, inr, arith, zero-add, add-zero, length-take-le}
-use Rattle.std.proofs.lemmas.Bool.{cases_lt}
-use Rattle.std.proofs.lemmas.List.{drop-drop}
-use Rattle.std.proofs.lemmas.List.Sums.{sum_by-append}
-use Rattle.smi_text.specs.declared.lexer.token.TokenKind.{TokenKind}
+use Rattle.smi_text.specs.{declared.lexer.token.TokenKind.TokenKind, lexer.Lexes.fault_on}
 use Rattle.smi_text.specs.lexer.Lexeme.{Part, gap, lexeme, is_newline}
-use Rattle.smi_text.specs.lexer.Lexes.{fault_on}
 use Rattle.smi_text.specs.lexer.Reading.{HasNoGap, HasNoLexeme, IsPartFront, Skips, part_of, longest_front, front_items, front_rest, part_items}
 use Rattle.smi_text.specs.lexer.Reading.{items_at, newlines}
 use Rattle.smi_text.proofs.Parts.{none_some}

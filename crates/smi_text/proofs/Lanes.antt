@@ -1,8 +1,7 @@
 -- From the mask of a load to the octets that pass a test.
 use Rattle.std.proofs.Common.{◌≡◌, ℕ, ◌+◌, ◌%◌, ◌^◌, ◌≤◌, Bool, true, not, List, map, length, get_or, Fits, w8, sym, ap, ◌∙◌, arith}
-use Rattle.std.proofs.lemmas.Bool.{agree_below, agree_below_at, not-true, not-false}
+use Rattle.std.proofs.{lemmas.Bool.agree_below, lemmas.Bool.agree_below_at, lemmas.Bool.not-true, lemmas.Bool.not-false, lemmas.List.length-map}
 use Rattle.std.proofs.lemmas.Simd.{map-map, mask_l-mod, length-chunk, first_set_mask_l, run_in_chunk_le, run_in_chunk_fails, run_in_chunk_stops}
-use Rattle.std.proofs.lemmas.List.{length-map}
 use Rattle.std.specs.List.{prefix_len}
 use lib.Lanes.{chunk, mask_l, top}
 use Rattle.smi_text.specs.lexer.Reading.{IsRunIn, first_set}

@@ -1,9 +1,7 @@
 -- When a format is sound for a spelling: what it reads is what is spelled, and what is spelled is read.
 use Rattle.std.specs.Prelude.{◌≡◌, true, false, List, Some}
 use Rattle.std.proofs.Common.{◌⊎◌}
-use Rattle.smi_text.specs.lexer.Token.{Item}
-use Rattle.smi_text.specs.trees.Mark.{Mark}
-use Rattle.smi_text.specs.private.Format.{StandsAhead, Format, begins}
+use Rattle.smi_text.specs.{lexer.Token.Item, trees.Mark.Mark, private.Format.StandsAhead, private.Format.Format, private.Format.begins}
 
 pub record Lawful {A : Type 0} (s : A → List Mark) (f : Format A) : Type 0 where
   -- what is read is spelled by the tokens that are taken

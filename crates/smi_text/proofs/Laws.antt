@@ -1,27 +1,22 @@
 -- Each way of making a format keeps it lawful.
 use Rattle.std.proofs.lemmas.Grind.{common_steps}
-use Rattle.std.proofs.Common.{◌≡◌, ℕ, zero, suc, Bool, true, false, ◌&&◌, not, List, [], ◌∷◌, ◌++◌, Option, Some, None, Ok, Err}
-use Rattle.std.proofs.Common.{if◌then◌else◌, refl, sym, ◌∙◌, ap, subst, arith, inl, inr, ◌⊎◌}
+use Rattle.std.proofs.Common.{◌≡◌, ℕ, zero, suc, Bool, true, false, ◌&&◌, not, List, [], ◌∷◌, ◌++◌, Option, Some, None, Ok, Err, if◌then◌else◌, refl}
+use Rattle.std.proofs.Common.{sym, ◌∙◌, ap, subst, arith, inl, inr, ◌⊎◌}
 use Rattle.std.proofs.lemmas.Bool.{and_parts, and_from, or_left, or_right, or_parts, not-true}
 use Rattle.std.specs.List.{list_any, flat_map}
-use Rattle.smi_text.specs.declared.lexer.token.TokenKind.{TokenKind}
+use Rattle.smi_text.specs.{declared.lexer.token.TokenKind.TokenKind, lexer.Token.Lexeme, lexer.Token.Item, declared.trees.tree.TokenText.TokenText}
+use Rattle.smi_text.specs.{trees.Reserved.is_reserved, declared.trees.names.Name.Name}
 use Rattle.smi_text.specs.declared.lexer.token.TokenKind.TheVariants as K
-use Rattle.smi_text.specs.lexer.Token.{Lexeme, Item}
 use Rattle.smi_text.specs.trees.Mark.{Mark, sign, spelled, same_kind, MarksToken}
-use Rattle.smi_text.specs.private.Format.{StandsAhead, Format, Ahead, a_name, a_kind, meets, begins, apart, one, word, token}
-use Rattle.smi_text.specs.private.Format.{text, text_where, name, pair, behind, before, maybe, either, read_many, many, some_of, shaped, line_ahead, lined}
-use Rattle.smi_text.specs.private.Format.{with_front, lower, name_where, name_of, separated}
+use Rattle.smi_text.specs.private.Format.{StandsAhead, Format, Ahead, a_name, a_kind, meets, begins, apart, one, word, token, text, text_where, name}
+use Rattle.smi_text.specs.private.Format.{pair, behind, before, maybe, either, read_many, many, some_of, shaped, line_ahead, lined, with_front, lower}
+use Rattle.smi_text.specs.private.Format.{name_where, name_of, separated}
 use Rattle.smi_text.specs.private.Grammar.{kept, kept_text, braced, clause, parenthesized}
-use Rattle.smi_text.specs.declared.trees.tree.TokenText.{TokenText}
-use Rattle.smi_text.specs.trees.Reserved.{is_reserved}
 use Rattle.smi_text.specs.trees.Spelling as say
-use Rattle.smi_text.specs.declared.trees.names.Name.{Name}
-use Rattle.smi_text.proofs.Lawful.{Lawful}
-use Rattle.smi_text.proofs.NameLaws.{name_of-octets, name_of-is}
+use Rattle.smi_text.proofs.{Lawful.Lawful, NameLaws.name_of-octets, NameLaws.name_of-is, Many.shorter, Many.many-goes_on, Many.many-done}
 pub use Rattle.smi_text.proofs.NameLaws.{some-inj}
 use Rattle.smi_text.proofs.Marks.{same_kind-eq, same_kind-same, same_text-eq, same_text-same, if-inv, StandsAhead-append, StandsAhead-split, map-inv}
 use Rattle.smi_text.proofs.Marks.{then-inv, begins-append, apart-false}
-use Rattle.smi_text.proofs.Many.{shorter, many-goes_on, many-done}
 
 -- no token is marked so
 pub never-stands : (ts rest : List Item) → StandsAhead say.nothing ts rest → ⊥

@@ -1,18 +1,13 @@
 -- The computed items are those that `Lexes` says, and no others are.
-use Rattle.std.proofs.lemmas.Grind.{common_steps}
-use Rattle.std.proofs.Common.{◌≡◌, ℕ, zero, suc, ◌+◌, ◌<◌, ◌≤◌, Option, Some, None, Ok, List, [], ◌∷◌, ◌++◌, length, take, drop, refl, sym}
-use Rattle.std.proofs.Common.{ap, ◌∙◌, ⊎_elim, arith, length-append, length-take-le, length-drop, append_assoc, slice_range}
-use Rattle.std.proofs.lemmas.Bool.{cases_lt}
+use Rattle.std.proofs.{lemmas.Grind.common_steps, lemmas.Bool.cases_lt, Math.Seq.drop-append_seam, lemmas.List.Sums.sum_by-append}
+use Rattle.std.proofs.Common.{◌≡◌, ℕ, zero, suc, ◌+◌, ◌<◌, ◌≤◌, Option, Some, None, Ok, List, [], ◌∷◌, ◌++◌, length, take, drop, refl, sym, ap, ◌∙◌}
+use Rattle.std.proofs.Common.{⊎_elim, arith, length-append, length-take-le, length-drop, append_assoc, slice_range}
 use Rattle.std.proofs.lemmas.List.{take_all, take-append-drop}
-use Rattle.std.proofs.Math.Seq.{drop-append_seam}
-use Rattle.std.proofs.lemmas.List.Sums.{sum_by-append}
-use Rattle.smi_text.specs.lexer.Token.{Item, Lexeme, tokens_of}
-use Rattle.smi_text.specs.lexer.Lexeme.{Part, gap, lexeme}
+use Rattle.smi_text.specs.{lexer.Token.Item, lexer.Token.Lexeme, lexer.Token.tokens_of, lexer.Lexeme.Part, lexer.Lexeme.gap, lexer.Lexeme.lexeme}
 use Rattle.smi_text.specs.lexer.Lexes.{AreInOrder, IsLongest, Lexes, breaks, ends, gives, lexeme_behind, passes}
 use Rattle.smi_text.specs.lexer.Reading.{IsPartFront, items_at, longest_front, newlines, part_of, part_or_shorter}
 use Rattle.smi_text.proofs.ItemsLemmas.{front_some, items-front, items-none, items-nothing}
-use Rattle.smi_text.proofs.PartLaws.{is_part, part_is}
-use Rattle.smi_text.proofs.Parts.{none_some}
+use Rattle.smi_text.proofs.{PartLaws.is_part, PartLaws.part_is, Parts.none_some}
 
 -- ---- the longest front, by the relation and by the reading
 

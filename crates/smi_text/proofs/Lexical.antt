@@ -1,23 +1,13 @@
 -- What the kind of a token says of its text.
 use Rattle.std.proofs.Common.{arith, ◌≡◌, ℕ, Bool, true, List, ◌∷◌, Some, Result, Ok, Err, sym, ◌∙◌, ap}
-use Rattle.std.proofs.lemmas.Grind.{common_steps}
-use Rattle.std.proofs.lemmas.Bool.{and_from, false≢true}
+use Rattle.std.proofs.{lemmas.Grind.common_steps, lemmas.Bool.and_from, lemmas.Bool.false≢true, Math.Bool.Bool-set, Math.Logic.∥∥₁_elim}
 use Rattle.std.specs.Prelude.{drop, IfOk, IfErr}
-use Rattle.std.proofs.Math.Bool.{Bool-set}
-use Rattle.std.proofs.Math.Logic.{∥∥₁_elim}
-use Rattle.smi_text.specs.declared.lexer.token.TokenKind.{TokenKind}
+use Rattle.smi_text.specs.{declared.lexer.token.TokenKind.TokenKind, lexer.Lexeme.IsLexeme, lexer.Token.Lexeme, lexer.Token.Item}
+use Rattle.smi_text.specs.{trees.Mark.sign_text, trees.Mark.same_text, declared.trees.names.Name.Name, private.Kinds.is_sign_kind}
+use Rattle.smi_text.specs.{declared.stop.Stop.Stop, declared.stop.Stop.TheVariants.Memory, private.Returned.ReturnsReading}
+use Rattle.smi_text.specs.{private.Returned.is_memory, private.Format.Ahead, private.Format.name_of, private.Format.name_where, private.Format.token}
 use Rattle.smi_text.specs.declared.lexer.token.TokenKind.TheVariants as K
-use Rattle.smi_text.specs.lexer.Lexeme.{IsLexeme}
-use Rattle.smi_text.specs.lexer.Token.{Lexeme, Item}
-use Rattle.smi_text.specs.trees.Mark.{sign_text, same_text}
-use Rattle.smi_text.specs.declared.trees.names.Name.{Name}
-use Rattle.smi_text.specs.private.Kinds.{is_sign_kind}
-use Rattle.smi_text.specs.declared.stop.Stop.{Stop}
-use Rattle.smi_text.specs.declared.stop.Stop.TheVariants.{Memory}
-use Rattle.smi_text.specs.private.Returned.{ReturnsReading, is_memory}
-use Rattle.smi_text.specs.private.Format.{Ahead, name_of, name_where, token}
-use Rattle.smi_text.proofs.Marks.{same_kind-same, same_text-same}
-use Rattle.smi_text.proofs.NameLaws.{name_of-octets}
+use Rattle.smi_text.proofs.{Marks.same_kind-same, Marks.same_text-same, NameLaws.name_of-octets}
 
 sign-of : (k : TokenKind) (x : List ℕ) → is_sign_kind k ≡ true → IsLexeme k x → x ≡ sign_text k
 sign-of K.Lower x e h = absurd (false≢true e)

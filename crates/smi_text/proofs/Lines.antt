@@ -1,33 +1,20 @@
 -- Trees with one spelling but for lines are the same but for lines: with 0 in the place of each line both stand in the same tokens.
 use Rattle.std.proofs.Common.{arith, ◌≡◌, ℕ, Bool, true, false, List, [], ◌∷◌, ◌++◌, Option, Some, None, if◌then◌else◌, refl, ◌∙◌, ap}
-use Rattle.std.proofs.lemmas.Grind.{common_steps}
-use Rattle.std.specs.Prelude.{map, option_map}
-use Rattle.std.specs.List.{flat_map}
-use Rattle.std.proofs.lemmas.List.{map-append}
-use Rattle.std.proofs.lemmas.List.Folds.{flat_map-map}
-use Rattle.std.proofs.lemmas.Simd.{map-map}
-use Rattle.smi_text.specs.lexer.Token.{Lexeme}
+use Rattle.std.proofs.{lemmas.Grind.common_steps, lemmas.List.map-append, lemmas.List.Folds.flat_map-map, lemmas.Simd.map-map}
+use Rattle.std.specs.{Prelude.map, Prelude.option_map, List.flat_map}
+use Rattle.smi_text.specs.{lexer.Token.Lexeme, trees.Fronts.has_balanced_braces, trees.Lines.plain, trees.Lines.unlined}
+use Rattle.smi_text.specs.{declared.trees.names.Name.Name, declared.trees.tree.Module.Module, declared.trees.tree.TokenText.TokenText}
+use Rattle.smi_text.specs.{declared.trees.tree.DefKind.DefKind, declared.trees.tree.Part.Part, declared.trees.tree.Index.Index}
+use Rattle.smi_text.specs.{declared.trees.tree.Syntax.Syntax, declared.trees.tree.Base.Base, declared.trees.tree.Refinement.Refinement}
 use Rattle.smi_text.specs.trees.Mark.{Mark, spelled, on_line, MarksToken, Stands}
 use Rattle.smi_text.specs.trees.Spelling as say
-use Rattle.smi_text.specs.trees.Fronts.{has_balanced_braces}
-use Rattle.smi_text.specs.trees.Lines.{plain, unlined}
-use Rattle.smi_text.specs.declared.trees.names.Name.{Name}
-use Rattle.smi_text.specs.declared.trees.tree.Module.{Module}
-use Rattle.smi_text.specs.declared.trees.tree.TokenText.{TokenText}
-use Rattle.smi_text.specs.declared.trees.tree.DefKind.{DefKind}
 use Rattle.smi_text.specs.declared.trees.tree.DefKind.TheVariants as D
-use Rattle.smi_text.specs.declared.trees.tree.Part.{Part}
 use Rattle.smi_text.specs.declared.trees.tree.Part.TheVariants as P
-use Rattle.smi_text.specs.declared.trees.tree.Index.{Index}
 use Rattle.smi_text.specs.declared.trees.tree.Index.TheVariants as I
-use Rattle.smi_text.specs.declared.trees.tree.Syntax.{Syntax}
 use Rattle.smi_text.specs.declared.trees.tree.Syntax.TheVariants as T
-use Rattle.smi_text.specs.declared.trees.tree.Base.{Base}
 use Rattle.smi_text.specs.declared.trees.tree.Base.TheVariants as B
-use Rattle.smi_text.specs.declared.trees.tree.Refinement.{Refinement}
 use Rattle.smi_text.specs.declared.trees.tree.Refinement.TheVariants as R
-use Rattle.smi_text.proofs.Laws.{some-inj}
-use Rattle.smi_text.proofs.Tokens.{tokens-read}
+use Rattle.smi_text.proofs.{Laws.some-inj, Tokens.tokens-read}
 
 -- the mark with 0 in the place of its line
 abbrev zeroed : Mark → Mark

@@ -2,16 +2,12 @@
 use Rattle.std.proofs.Common.{◌≡◌, ℕ, zero, suc, ◌+◌, ◌<◌, ◌≤◌, true, false, List, [], ◌∷◌, ◌++◌, length, Some, None, Ok, Err, refl, sym, ap, arith}
 use Rattle.std.proofs.Common.{append_assoc}
 use Rattle.std.specs.Prelude.{◌==◌, codes}
-use Rattle.smi_text.specs.declared.lexer.token.TokenKind.{TokenKind}
+use Rattle.smi_text.specs.{declared.lexer.token.TokenKind.TokenKind, lexer.Token.Lexeme, lexer.Token.Item, declared.trees.tree.TokenText.TokenText}
+use Rattle.smi_text.specs.{declared.trees.tree.IndexParts.IndexParts, declared.trees.names.Name.Name}
 use Rattle.smi_text.specs.declared.lexer.token.TokenKind.TheVariants as K
-use Rattle.smi_text.specs.lexer.Token.{Lexeme, Item}
-use Rattle.smi_text.specs.declared.trees.tree.TokenText.{TokenText}
-use Rattle.smi_text.specs.declared.trees.tree.IndexParts.{IndexParts}
 use Rattle.smi_text.specs.private.Format.{Parsed, a_word, a_kind, begins, with_front, lower, token, token_ahead}
 use Rattle.smi_text.specs.private.Grammar.{read_index, with_names, index_parts, depth_after, is_outside, kept_text, read_balanced}
-use Rattle.smi_text.specs.declared.trees.names.Name.{Name}
-use Rattle.smi_text.proofs.Laws.{lower-law, token-law}
-use Rattle.smi_text.proofs.Many.{reading-shorter, with_front-append, with_front-end}
+use Rattle.smi_text.proofs.{Laws.lower-law, Laws.token-law, Many.reading-shorter, Many.with_front-append, Many.with_front-end}
 
 -- the names of an index
 

@@ -2,8 +2,7 @@
 use Rattle.std.proofs.lemmas.Grind.{common_steps}
 use Rattle.std.proofs.Common.{◌≡◌, ℕ, zero, suc, ◌+◌, ◌<◌, ◌≤◌, true, false, List, [], ◌∷◌, ◌++◌, length, Some, None, Ok, Err, if◌then◌else◌}
 use Rattle.std.proofs.Common.{option_map, option_and_then, refl, ◌∙◌, ap, arith, append_assoc, append-nil}
-use Rattle.smi_text.specs.lexer.Token.{Item}
-use Rattle.smi_text.specs.trees.Mark.{Mark}
+use Rattle.smi_text.specs.{lexer.Token.Item, trees.Mark.Mark}
 use Rattle.smi_text.specs.private.Format.{StandsAhead, Format, Parsed, begins, read_many, many, with_front}
 use Rattle.smi_text.proofs.Lawful.{Lawful}
 

@@ -1,17 +1,14 @@
 -- Marks, kinds and texts: what the tests of tokens mean.
 use Rattle.std.proofs.Common.{arith, ◌≡◌, ℕ, Bool, true, false, ◌||◌, not, List, [], ◌∷◌, ◌++◌, Option, Some, None, Ok, Err, refl, sym, ◌∙◌, ap}
 use Rattle.std.proofs.Common.{subst, inl, inr, get_or, eq-eqb, ◌⊎◌, if◌then◌else◌}
-use Rattle.std.proofs.lemmas.Grind.{common_steps}
+use Rattle.std.proofs.{lemmas.Grind.common_steps, lemmas.List.Folds.list_any-append, lemmas.Slice.Eq.bytes_eq-Decides}
 use Rattle.std.proofs.lemmas.Bool.{and_parts, false_from_ne_true, eqb-true, or_cases}
-use Rattle.std.specs.Prelude.{option_map, option_and_then}
-use Rattle.std.specs.List.{list_any, list_all}
-use Rattle.std.proofs.lemmas.List.Folds.{list_any-append}
-use Rattle.std.proofs.lemmas.Slice.Eq.{bytes_eq-Decides}
-use Rattle.smi_text.specs.declared.lexer.token.TokenKind.{TokenKind}
+use Rattle.std.specs.{Prelude.option_map, Prelude.option_and_then, List.list_any, List.list_all}
+use Rattle.smi_text.specs.{declared.lexer.token.TokenKind.TokenKind, lexer.Token.Lexeme, lexer.Token.Item}
 use Rattle.smi_text.specs.declared.lexer.token.TokenKind.TheVariants as K
-use Rattle.smi_text.specs.lexer.Token.{Lexeme, Item}
 use Rattle.smi_text.specs.trees.Mark.{Mark, kind_number, same_kind, same_text}
-use Rattle.smi_text.specs.private.Format.{StandsAhead, Ahead, a_word, a_name, a_kind, no_word, no_kind, is_this_word, meets, begins, half_apart, apart}
+use Rattle.smi_text.specs.private.Format.{StandsAhead, Ahead, a_word, a_name, a_kind, no_word, no_kind, is_this_word, meets, begins, half_apart}
+use Rattle.smi_text.specs.private.Format.{apart}
 
 -- kinds and texts
 

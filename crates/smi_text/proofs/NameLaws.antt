@@ -1,10 +1,7 @@
 -- The name of octets that are a word: there is one, and one alone.
 use Rattle.std.proofs.Common.{◌≡◌, ℕ, Bool, true, false, List, Some, refl, sym, ◌∙◌, ap}
-use Rattle.std.proofs.Math.Bool.{Bool-set}
-use Rattle.std.proofs.lemmas.Bool.{false≢true}
-use Rattle.smi_text.specs.trees.Word.{is_word}
-use Rattle.smi_text.specs.declared.trees.names.Name.{Name}
-use Rattle.smi_text.specs.private.Format.{name_when, name_of}
+use Rattle.std.proofs.{Math.Bool.Bool-set, lemmas.Bool.false≢true}
+use Rattle.smi_text.specs.{trees.Word.is_word, declared.trees.names.Name.Name, private.Format.name_when, private.Format.name_of}
 
 pub some-inj : {A : Type 0} (x y : A) → Some x ≡ Some y → x ≡ y
 some-inj x y h = cc

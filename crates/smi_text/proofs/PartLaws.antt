@@ -1,26 +1,18 @@
 -- A stretch of octets is a part exactly where it reads as one.
-use Rattle.std.proofs.lemmas.Grind.{common_steps}
+use Rattle.std.proofs.{lemmas.Grind.common_steps, Math.Bool.and-false, lemmas.Bool.Decides.nat_tests, lemmas.List.Folds.list_all-append}
 use Rattle.std.proofs.Common.{◌≡◌, ◌≢◌, ℕ, ◌⊎◌, Bool, true, false, cond, not, ◌&&◌, ◌||◌, Some, List, [], ◌∷◌, ◌++◌, refl, sym, ap, ◌∙◌, subst, inl}
 use Rattle.std.proofs.Common.{inr, arith, eqb, append_assoc, append-nil}
 use Rattle.std.proofs.lemmas.Bool.{and_parts, and_from, or_cases, eqb-true, ne_eqb, false≢true, not-true}
-use Rattle.std.specs.List.{list_all}
-use Rattle.std.specs.Bool.{then_some}
-use Rattle.std.specs.Char.{is_ascii_digit, is_ascii_hexdigit, is_ascii_lowercase, is_ascii_uppercase}
-use Rattle.std.proofs.Math.Bool.{and-false}
-use Rattle.std.proofs.lemmas.Bool.Decides.{nat_tests}
-use Rattle.std.proofs.lemmas.List.Folds.{list_all-append}
-use Rattle.smi_text.specs.declared.lexer.class.Class.{Class}
+use Rattle.std.specs.{List.list_all, Bool.then_some, Char.is_ascii_digit, Char.is_ascii_hexdigit, Char.is_ascii_lowercase, Char.is_ascii_uppercase}
+use Rattle.smi_text.specs.{declared.lexer.class.Class.Class, declared.lexer.token.TokenKind.TokenKind}
 use Rattle.smi_text.specs.declared.lexer.class.Class.TheVariants as C
-use Rattle.smi_text.specs.declared.lexer.token.TokenKind.{TokenKind}
 use Rattle.smi_text.specs.declared.lexer.token.TokenKind.TheVariants as K
 use Rattle.smi_text.specs.lexer.Lexeme.{IsComment, IsLexeme, IsLiteral, IsPart, IsRunOfHyphens, IsWord, Part, begins, gap, is_binary_digit, is_blank}
 use Rattle.smi_text.specs.lexer.Lexeme.{is_hyphen, is_newline, is_remark, is_word_rest, lexeme}
 use Rattle.smi_text.specs.lexer.Reading.{class_of, hyphen_part, is_binary_letter, is_comment_rest, is_hex_letter, is_literal_rest, is_nothing}
 use Rattle.smi_text.specs.lexer.Reading.{is_other, is_remark_rest, is_sole, is_string_rest, literal_part, part_in, part_of, symbol_part, newlines}
 use Rattle.smi_text.specs.lexer.Reading.{literal_of}
-use Rattle.smi_text.proofs.Classes.{class_is}
-use Rattle.smi_text.proofs.ItemsLemmas.{newlines-cons, newlines-one}
-use Rattle.smi_text.proofs.Marks.{if-inv}
+use Rattle.smi_text.proofs.{Classes.class_is, ItemsLemmas.newlines-cons, ItemsLemmas.newlines-one, Marks.if-inv}
 use Rattle.smi_text.proofs.Parts.{none_some, string_step, literal_reads, literal_exact}
 
 -- ---- what reads as a part is one

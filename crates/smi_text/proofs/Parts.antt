@@ -1,19 +1,12 @@
 -- The parts that the scans find, behind their first octet.
-use Rattle.std.proofs.lemmas.Grind.{common_steps}
+use Rattle.std.proofs.{lemmas.Grind.common_steps, lemmas.Bool.and_parts, lemmas.Bool.cases_lt, lemmas.Bool.not-true, Math.Bool.and-false}
+use Rattle.std.proofs.{Math.Bool.and-true, Math.Bool.and_assoc, Math.Seq.take-add, lemmas.List.Folds.list_all-append}
 use Rattle.std.proofs.Common.{◌≡◌, ℕ, zero, suc, ◌+◌, ◌-◌, ◌<◌, ◌≤◌, Bool, true, false, cond, if◌then◌else◌, ◌&&◌, ◌⊎◌, Option, Some, None, List, []}
 use Rattle.std.proofs.Common.{◌∷◌, ◌++◌, length, get_or, take, drop, refl, sym, ap, ◌∙◌, subst, inl, inr, arith, eqb, add-one, length-drop}
-use Rattle.std.proofs.lemmas.Bool.{and_parts, cases_lt, not-true}
-use Rattle.std.specs.List.{list_all}
-use Rattle.std.specs.Bool.{then_some}
-use Rattle.std.proofs.Math.Bool.{and-false, and-true, and_assoc}
-use Rattle.std.proofs.Math.Seq.{take-add}
-use Rattle.std.specs.Option.{option_map}
-use Rattle.std.specs.Char.{is_ascii_hexdigit}
+use Rattle.std.specs.{List.list_all, Bool.then_some, Option.option_map, Char.is_ascii_hexdigit}
 use Rattle.std.proofs.lemmas.List.{drop_all, take-append-drop, take_all, take-take, length-take}
-use Rattle.std.proofs.lemmas.List.Folds.{list_all-append}
-use Rattle.smi_text.specs.declared.lexer.token.TokenKind.{TokenKind}
+use Rattle.smi_text.specs.{declared.lexer.token.TokenKind.TokenKind, lexer.Lexeme.Part, lexer.Lexeme.lexeme, lexer.Lexeme.is_binary_digit}
 use Rattle.smi_text.specs.declared.lexer.token.TokenKind.TheVariants.{Text, Hex, Binary}
-use Rattle.smi_text.specs.lexer.Lexeme.{Part, lexeme, is_binary_digit}
 use Rattle.smi_text.specs.lexer.Reading.{HasNoLexeme, IsFirstPlace, IsLexemeFront, IsLongestPassing, IsPartFront, is_other, is_nothing, is_sole}
 use Rattle.smi_text.specs.lexer.Reading.{is_string_rest, is_literal_rest, string_part, literal_part, literal_of, is_hex_letter, is_binary_letter}
 use Rattle.smi_text.specs.lexer.Reading.{class_of, part_in, part_of}

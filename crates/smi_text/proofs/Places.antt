@@ -1,17 +1,12 @@
 -- Where an octet stands first, and how often a newline does.
-use Rattle.std.proofs.lemmas.Grind.{common_steps}
+use Rattle.std.proofs.{lemmas.Grind.common_steps, lemmas.List.take_all, lemmas.List.append-nil, lemmas.List.Folds.list_all_more}
 use Rattle.std.proofs.Common.{◌≡◌, ℕ, zero, suc, ◌+◌, ◌<◌, ◌≤◌, Bool, true, false, cond, ◌==◌, List, [], ◌∷◌, ◌++◌, length, get_or, take, drop}
 use Rattle.std.proofs.Common.{Option, Some, None, refl, sym, ap, ◌∙◌, arith, add-one}
-use Rattle.std.specs.List.{list_all}
+use Rattle.std.specs.{List.list_all, Iterator.Drains, Iterator.Yields}
 use Rattle.std.proofs.lemmas.Bool.{eqb-true, not_from_false, false_from_ne_true}
-use Rattle.std.proofs.lemmas.List.{take_all, append-nil}
-use Rattle.std.proofs.lemmas.List.Folds.{list_all_more}
-use Rattle.std.specs.Iterator.{Drains, Yields}
 use Rattle.memchr.specs.Find.{IsFirstByte, TakesFirst, is_byte, places, places_from}
-use Rattle.smi_text.specs.lexer.Lexeme.{is_newline}
-use Rattle.smi_text.specs.lexer.Reading.{IsFirstPlace, is_other, newlines}
-use Rattle.smi_text.proofs.ItemsLemmas.{newlines-cons, newlines-one}
-use Rattle.smi_text.proofs.LexerFronts.{rest_at}
+use Rattle.smi_text.specs.{lexer.Lexeme.is_newline, lexer.Reading.IsFirstPlace, lexer.Reading.is_other, lexer.Reading.newlines}
+use Rattle.smi_text.proofs.{ItemsLemmas.newlines-cons, ItemsLemmas.newlines-one, LexerFronts.rest_at}
 
 -- no octet of the front is this one
 others : (octet : ℕ) (text : List ℕ) (n : ℕ) → n ≤ length text

@@ -1,37 +1,27 @@
 -- Each production is lawful: it reads what its case of the grammar spells, and nothing else. A law names the pieces of its production in their order, whose
 -- words stand in the grammar, and says of what pieces each part is made. A `refl` says that the token ahead tells the pieces apart.
-use Rattle.std.proofs.Common.{arith, ◌≡◌, ℕ, true, if◌then◌else◌, List, [], ◌∷◌, Option, Some, None, Ok, refl}
-use Rattle.std.proofs.Common.{inl, inr, ◌⊎◌}
-use Rattle.std.proofs.lemmas.Grind.{common_steps}
-use Rattle.std.proofs.lemmas.Bool.{and_parts, or_right, or_cases}
-use Rattle.std.specs.Prelude.{drop, ◌==◌}
-use Rattle.std.specs.List.{list_any}
+use Rattle.std.proofs.Common.{arith, ◌≡◌, ℕ, true, if◌then◌else◌, List, [], ◌∷◌, Option, Some, None, Ok, refl, inl, inr, ◌⊎◌}
+use Rattle.std.proofs.{lemmas.Grind.common_steps, lemmas.Bool.and_parts, lemmas.Bool.or_right, lemmas.Bool.or_cases}
+use Rattle.std.specs.{Prelude.drop, Prelude.◌==◌, List.list_any}
 use Rattle.smi_text.specs.declared.lexer.token.TokenKind.TheVariants as K
-use Rattle.smi_text.specs.lexer.Token.{Lexeme, Item}
+use Rattle.smi_text.specs.{lexer.Token.Lexeme, lexer.Token.Item, declared.trees.names.Name.Name, declared.trees.tree.Syntax.Syntax}
+use Rattle.smi_text.specs.{declared.modules.Head.Head, declared.trees.tree.DefKind.DefKind, declared.trees.tree.Def.Def}
 use Rattle.smi_text.specs.trees.Mark.{Mark, sign, spelled, on_line, same_kind}
 use Rattle.smi_text.specs.trees.Spelling as say
 use Rattle.smi_text.specs.trees.Number.{is_bound, is_symbol, is_macro}
 use Rattle.smi_text.specs.private.Format.{StandsAhead, a_name, a_kind, meets, begins}
 use Rattle.smi_text.specs.private.Grammar as g
-use Rattle.smi_text.proofs.Productions.{all}
-use Rattle.smi_text.proofs.Lawful.{Lawful}
-use Rattle.smi_text.proofs.Marks.{same_kind-eq}
-use Rattle.smi_text.proofs.Laws.{never-stands, of_either, ◌▸◌, ◌∣◌, last, word-law, token-law, text-law, text_where-law, name_where-law, lower-law, name-law}
-use Rattle.smi_text.proofs.Laws.{pair-law, behind-law, before-law, maybe-law, either-law, many-law, shaped-law, made-law, spelled-as, lined-law, some_of-law}
-use Rattle.smi_text.proofs.Laws.{after-word, after-sign, clause-law, braced-law, parenthesized-law, separated-law, kept-law}
-use Rattle.smi_text.proofs.IndexLaws.{index_names-law}
+use Rattle.smi_text.proofs.{Productions.all, Lawful.Lawful, Marks.same_kind-eq, IndexLaws.index_names-law}
+use Rattle.smi_text.proofs.Laws.{never-stands, of_either, ◌▸◌, ◌∣◌, last, word-law, token-law, text-law, text_where-law, name_where-law, lower-law}
+use Rattle.smi_text.proofs.Laws.{name-law, pair-law, behind-law, before-law, maybe-law, either-law, many-law, shaped-law, made-law, spelled-as}
+use Rattle.smi_text.proofs.Laws.{lined-law, some_of-law, after-word, after-sign, clause-law, braced-law, parenthesized-law, separated-law, kept-law}
 use Rattle.smi_text.proofs.RawLaws.{before_assign-law, before_end-law, balanced-law}
-use Rattle.smi_text.specs.declared.trees.names.Name.{Name}
 use Rattle.smi_text.specs.declared.trees.tree.Part.TheVariants as P
-use Rattle.smi_text.specs.declared.trees.tree.Syntax.{Syntax}
 use Rattle.smi_text.specs.declared.trees.tree.Syntax.TheVariants as T
-use Rattle.smi_text.specs.declared.modules.Head.{Head}
 use Rattle.smi_text.specs.declared.trees.tree.Base.TheVariants as B
 use Rattle.smi_text.specs.declared.trees.tree.Refinement.TheVariants as R
 use Rattle.smi_text.specs.declared.trees.tree.Index.TheVariants as I
-use Rattle.smi_text.specs.declared.trees.tree.DefKind.{DefKind}
 use Rattle.smi_text.specs.declared.trees.tree.DefKind.TheVariants as D
-use Rattle.smi_text.specs.declared.trees.tree.Def.{Def}
 
 -- identifiers
 

@@ -1,16 +1,15 @@
 -- What the functions of a file unfold, each list under one name: the formats, and the productions that the file reads.
 use Rattle.std.proofs.Common.{ℕ}
-use Rattle.smi_text.specs.trees.Number.{is_symbol}
-use Rattle.smi_text.specs.trees.Reserved.{is_reserved}
-use Rattle.smi_text.specs.private.Format.{begins, maybe, behind, lower, word, token, text, text_where, name, pair, before, either, shaped, some_of, separated}
-use Rattle.smi_text.specs.private.Format.{lined, many}
-use Rattle.smi_text.specs.private.Grammar.{arc, assigned, balanced, base, before_assign, before_end, bound, braced, choice, clause, default_value, definition}
-use Rattle.smi_text.specs.private.Grammar.{field, group, head, heading, identifier, import_clause, imported_symbol, imports, index, index_names, later_part}
-use Rattle.smi_text.specs.private.Grammar.{lower_definition, macro_body, macro_definition, macro_name, module_identity, module_text, named_number, names}
-use Rattle.smi_text.specs.private.Grammar.{notification_type, object_identifier, object_identifier_words, object_identity, object_type, objects}
-use Rattle.smi_text.specs.private.Grammar.{octet_string_words, of_row, opening, parenthesized, part, range, ranges, raw_definition, refinement, revision}
-use Rattle.smi_text.specs.private.Grammar.{sequence, simple_type, size, status, syntax_clause, syntax_type, tag, tagged, textual_convention, upper_definition}
-use Rattle.smi_text.specs.private.Grammar.{value, file}
+use Rattle.smi_text.specs.{trees.Number.is_symbol, trees.Reserved.is_reserved}
+use Rattle.smi_text.specs.private.Format.{begins, maybe, behind, lower, word, token, text, text_where, name, pair, before, either, shaped, some_of}
+use Rattle.smi_text.specs.private.Format.{separated, lined, many}
+use Rattle.smi_text.specs.private.Grammar.{arc, assigned, balanced, base, before_assign, before_end, bound, braced, choice, clause, default_value}
+use Rattle.smi_text.specs.private.Grammar.{definition, field, group, head, heading, identifier, import_clause, imported_symbol, imports, index}
+use Rattle.smi_text.specs.private.Grammar.{index_names, later_part, lower_definition, macro_body, macro_definition, macro_name, module_identity}
+use Rattle.smi_text.specs.private.Grammar.{module_text, named_number, names, notification_type, object_identifier, object_identifier_words}
+use Rattle.smi_text.specs.private.Grammar.{object_identity, object_type, objects, octet_string_words, of_row, opening, parenthesized, part, range}
+use Rattle.smi_text.specs.private.Grammar.{ranges, raw_definition, refinement, revision, sequence, simple_type, size, status, syntax_clause}
+use Rattle.smi_text.specs.private.Grammar.{syntax_type, tag, tagged, textual_convention, upper_definition, value, file}
 
 -- one token, or none
 unfoldable pub tokens : ℕ

@@ -1,21 +1,15 @@
 -- Raw runs of tokens are lawful.
-use Rattle.std.proofs.Common.{arith, ◌≡◌, ℕ, true, false, ◌&&◌, not, List, [], ◌∷◌, Some, Ok, Err, inl}
-use Rattle.std.proofs.Common.{inr, ◌⊎◌}
+use Rattle.std.proofs.Common.{arith, ◌≡◌, ℕ, true, false, ◌&&◌, not, List, [], ◌∷◌, Some, Ok, Err, inl, inr, ◌⊎◌}
 use Rattle.std.proofs.lemmas.Grind.{common_steps}
 use Rattle.std.proofs.lemmas.Bool.{and_parts, and_from, or_parts, not-true, not-false}
 use Rattle.std.specs.Prelude.{◌==◌, codes, map}
 use Rattle.smi_text.specs.declared.lexer.token.TokenKind.TheVariants as K
-use Rattle.smi_text.specs.lexer.Token.{Item}
+use Rattle.smi_text.specs.{lexer.Token.Item, trees.Spelling.of_balanced, declared.trees.tree.TokenText.TokenText}
 use Rattle.smi_text.specs.trees.Mark.{Mark, spelled, same_kind, same_text}
 use Rattle.smi_text.specs.private.Format.{StandsAhead, no_word, no_kind, begins, with_front}
-use Rattle.smi_text.specs.trees.Spelling.{of_balanced}
 use Rattle.smi_text.specs.private.Grammar.{depth_after, is_outside, balanced, before_assign, before_end, read_balanced}
-use Rattle.smi_text.proofs.Fronts.{is_balanced, fronts-counted}
-use Rattle.smi_text.proofs.Lawful.{Lawful}
-use Rattle.smi_text.proofs.Marks.{if-inv, map-inv}
-use Rattle.smi_text.proofs.Laws.{some-inj, never-stands}
-use Rattle.smi_text.specs.declared.trees.tree.TokenText.{TokenText}
-use Rattle.smi_text.proofs.Laws.{same-token, kept-law}
+use Rattle.smi_text.proofs.{Fronts.is_balanced, Fronts.fronts-counted, Lawful.Lawful, Marks.if-inv, Marks.map-inv}
+use Rattle.smi_text.proofs.Laws.{some-inj, never-stands, same-token, kept-law}
 
 -- raw runs
 

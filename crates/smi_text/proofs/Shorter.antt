@@ -1,17 +1,10 @@
 -- Productions of which there may be several in a row take a token at least.
 use Rattle.std.proofs.Common.{◌≡◌, ◌<◌, false, List, Result, Ok, Err, length, refl}
 use Rattle.std.specs.Prelude.{OnOk}
-use Rattle.smi_text.specs.lexer.Token.{Item}
-use Rattle.smi_text.specs.declared.stop.Stop.{Stop}
+use Rattle.smi_text.specs.{lexer.Token.Item, declared.stop.Stop.Stop, trees.Mark.Mark, private.Format.Format, private.Format.lower}
 use Rattle.smi_text.specs.private.Returned.{ReturnsReading}
-use Rattle.smi_text.specs.trees.Mark.{Mark}
-use Rattle.smi_text.specs.private.Format.{Format, lower}
 use Rattle.smi_text.specs.private.Grammar as g
-use Rattle.smi_text.proofs.Productions.{all}
-use Rattle.smi_text.proofs.Lawful.{Lawful}
-use Rattle.smi_text.proofs.Many.{reading-shorter}
-use Rattle.smi_text.proofs.Laws.{lower-law}
-use Rattle.smi_text.proofs.RawLaws.{before_assign-law, before_end-law}
+use Rattle.smi_text.proofs.{Productions.all, Lawful.Lawful, Many.reading-shorter, Laws.lower-law, RawLaws.before_assign-law, RawLaws.before_end-law}
 use Rattle.smi_text.proofs.ProductionLaws.{part-law, later_part-law, named_number-law, range-law, field-law, revision-law, imported_symbol-law}
 use Rattle.smi_text.proofs.ProductionLaws.{import_clause-law}
 

@@ -1,12 +1,8 @@
 -- What marks take of the items of a text, and what they say of its tokens.
 use Rattle.std.proofs.Common.{◌≡◌, List, [], ◌∷◌, ◌++◌, Some, None, Ok, Err, refl, ap}
 use Rattle.std.specs.Prelude.{map}
-use Rattle.smi_text.specs.lexer.Token.{Lexeme, Item, tokens_of, first_fault}
-use Rattle.smi_text.specs.trees.Mark.{Mark, Stands}
-use Rattle.smi_text.specs.trees.Spelling.{spelling}
-use Rattle.smi_text.specs.declared.trees.tree.Module.{Module}
-use Rattle.smi_text.specs.private.Format.{StandsAhead}
-use Rattle.smi_text.specs.private.Grammar.{file}
+use Rattle.smi_text.specs.{lexer.Token.Lexeme, lexer.Token.Item, lexer.Token.tokens_of, lexer.Token.first_fault, trees.Mark.Mark, trees.Mark.Stands}
+use Rattle.smi_text.specs.{trees.Spelling.spelling, declared.trees.tree.Module.Module, private.Format.StandsAhead, private.Grammar.file}
 use Rattle.smi_text.proofs.DefinitionLists.{file-reads}
 
 -- tokens of which none is a fault

@@ -2,18 +2,14 @@
 use Rattle.std.specs.Prelude.{◌≡◌, ℕ, true, List, [], ◌++◌, Option, Some, None}
 use Rattle.std.specs.List.{flat_map, list_any, list_all}
 use Rattle.smi_text.specs.lexer.Token.{Lexeme, Item, tokens_of, first_fault}
-use Rattle.smi_text.specs.lexer.Lexes.{Lexes}
+use Rattle.smi_text.specs.{lexer.Lexes.Lexes, declared.error.ParseError.ParseError}
+use Rattle.smi_text.specs.{declared.trees.tree.Module.Module, declared.trees.tree.Part.Part}
+use Rattle.smi_text.specs.{declared.trees.tree.Import.Import, declared.trees.tree.Def.Def}
+use Rattle.smi_text.specs.{trees.Mark.Stands, trees.Mark.same_text, trees.Lookup.labels}
+use Rattle.smi_text.specs.{trees.Lookup.are_distinct, declared.trees.names.Name.Name}
 use Rattle.smi_text.specs.declared.lexer.error.LexError.{LexError}
-use Rattle.smi_text.specs.declared.error.ParseError.{ParseError}
 use Rattle.smi_text.specs.declared.error.ParseError.TheVariants as E
-use Rattle.smi_text.specs.declared.trees.tree.Module.{Module}
-use Rattle.smi_text.specs.declared.trees.tree.Part.{Part}
-use Rattle.smi_text.specs.declared.trees.tree.Import.{Import}
-use Rattle.smi_text.specs.declared.trees.tree.Def.{Def}
-use Rattle.smi_text.specs.trees.Mark.{Stands, same_text}
 use Rattle.smi_text.specs.trees.Spelling.{spelling, of_head, of_def}
-use Rattle.smi_text.specs.trees.Lookup.{labels, are_distinct}
-use Rattle.smi_text.specs.declared.trees.names.Name.{Name}
 
 -- the text lexes to its end, and its tokens are the spelling of the modules
 pub record AreSpelledBy (ms : List Module) (text : List ℕ) : Type 0 where

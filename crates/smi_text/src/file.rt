@@ -3,19 +3,15 @@
 
 ghost use Rattle.std.specs.Prelude.{◌≡◌, List, [], IfOk, IfErr, IfSome, MatchResult, MatchBool};
 ghost use Rattle.std.specs.Prelude.{map, true, false, Some, ◌↔◌, ◌||◌, ℕ, OnOk};
-ghost use Rattle.smi_text.specs.lexer.Token.{Lexeme};
-ghost use Rattle.smi_text.specs.trees.Mark.{Stands, same_text};
-ghost use Rattle.smi_text.specs.private.Names.{has};
-ghost use Rattle.smi_text.specs.trees.Spelling.{spelling};
-ghost use Rattle.smi_text.specs.trees.Lines.{plain, unlined};
+ghost use Rattle.smi_text.specs.{lexer.Token.Lexeme, trees.Mark.Stands, trees.Mark.same_text};
+ghost use Rattle.smi_text.specs.{private.Names.has, trees.Spelling.spelling, trees.Lines.plain};
+ghost use Rattle.smi_text.specs.{trees.Lines.unlined, trees.Braces.IsBalanced};
+ghost use Rattle.smi_text.specs.{trees.Fronts.has_balanced_braces, private.Grammar.definition};
 ghost use Rattle.smi_text.specs.private.Returned.{ReadsDefinitions, ReadsModule, ReadsModules};
 ghost use Rattle.smi_text.specs.private.Returned.{AppendsDefinition, NewDefinitionFault};
 ghost use Rattle.smi_text.specs.private.Returned.{DefinitionsFault, ModuleFault, ModulesFault};
 ghost use Rattle.smi_text.specs.private.Returned.{IsLabelAhead, IsCauseOf};
 ghost use Rattle.smi_text.specs.Text.{AreSpelledBy, HasNoDoubles, IsCause, BreaksOff};
-ghost use Rattle.smi_text.specs.trees.Braces.{IsBalanced};
-ghost use Rattle.smi_text.specs.trees.Fronts.{has_balanced_braces};
-ghost use Rattle.smi_text.specs.private.Grammar.{definition};
 ghost use Rattle.smi_text.specs.declared.trees.tree.Module.{Module as Tree};
 ghost use Rattle.smi_text.specs.declared.trees.tree.TokenText.{TokenText};
 

@@ -1,8 +1,7 @@
 //! The names that a module has defined so far.
 
 ghost use Rattle.std.specs.Prelude.{◌≡◌, ℕ, List, ◌||◌, not, IfOk, IfErr};
-ghost use Rattle.smi_text.specs.trees.Mark.{same_text};
-ghost use Rattle.smi_text.specs.private.Names.{has, last_eight};
+ghost use Rattle.smi_text.specs.{trees.Mark.same_text, private.Names.has, private.Names.last_eight};
 
 use crate::stop::Stop;
 use std::collections::BTreeSet;

@@ -5,8 +5,7 @@ ghost use Rattle.std.specs.Prelude.{◌≡◌, List, [], ◌∷◌, codes};
 ghost use Rattle.smi_text.specs.private.Format.{begins, a_word, a_kind, a_name};
 ghost use Rattle.smi_text.specs.private.Format as format;
 ghost use Rattle.smi_text.specs.private.Grammar as grammar;
-ghost use Rattle.smi_text.specs.trees.Number.{is_number};
-ghost use Rattle.smi_text.specs.private.Returned.{ReturnsReading};
+ghost use Rattle.smi_text.specs.{trees.Number.is_number, private.Returned.ReturnsReading};
 
 use crate::lexer::TokenKind;
 use crate::parser::{AfterBar, AfterComma, Parser, Production};

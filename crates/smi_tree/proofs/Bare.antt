@@ -1,30 +1,18 @@
 -- The tree of no modules: what is found among the three roots.
-use Rattle.std.proofs.lemmas.Grind.{common_steps}
-use Rattle.std.proofs.Common.{◌≡◌, ◌≢◌, ℕ, zero, suc, ◌<◌, ◌≤◌, List, [], ◌∷◌, ◌++◌, length, take, get_or, slice_index_or, Option}
-use Rattle.std.proofs.Common.{Some, None, MatchOption, IfSome, refl, sym, ap, arith, nat_eq}
+use Rattle.std.proofs.{lemmas.Grind.common_steps, lemmas.Bool.ne_eqb, Math.Bool.and-false}
+use Rattle.std.proofs.Common.{◌≡◌, ◌≢◌, ℕ, zero, suc, ◌<◌, ◌≤◌, List, [], ◌∷◌, ◌++◌, length, take, get_or, slice_index_or, Option, Some, None}
+use Rattle.std.proofs.Common.{MatchOption, IfSome, refl, sym, ap, arith, nat_eq}
 use Rattle.snmp_oid.specs.Identifier.{IsBelow}
-use Rattle.std.proofs.lemmas.Bool.{ne_eqb}
-use Rattle.std.proofs.Math.Bool.{and-false}
-use Rattle.std.specs.List.{slice_get}
-use Rattle.std.specs.Option.{option_and_then}
+use Rattle.std.specs.{List.slice_get, Option.option_and_then}
 use Rattle.smi_tree.specs.branches.Standing.{place_of, IsDeepestAt, HasNoBeginning}
-use Rattle.smi_names.specs.meaning.Meaning.{root_label}
-use Rattle.smi_show.specs.name.Naming.{LabelLeadsTo, IsSound}
-use Rattle.smi_names.specs.nodes.Nodes.{Node, roots, none_yet}
-use Rattle.smi_tree.specs.types.Types.{Facts}
-use Rattle.smi_show.specs.declared.index.part.IndexPart.{IndexPart}
-use Rattle.smi_tree.specs.columns.Index.{IsIndex, IsObjectType}
+use Rattle.smi_names.specs.{meaning.Meaning.root_label, nodes.Nodes.Node, nodes.Nodes.roots, nodes.Nodes.none_yet}
+use Rattle.smi_show.specs.{name.Naming.LabelLeadsTo, name.Naming.IsSound, declared.index.part.IndexPart.IndexPart}
+use Rattle.smi_tree.specs.{types.Types.Facts, columns.Index.IsIndex, columns.Index.IsObjectType, Standing.longest, Shown.IsSyntaxOf, Shown.shown_at}
+use Rattle.smi_tree.specs.{Tree.IsTree, Bare.bare, Bare.IsRootOf, types.Chain.no_type}
 use Rattle.smi_tree.specs.Nodes.{oids_of, place_anywhere, child_of, if_labelled, nothing, of_lowest}
-use Rattle.smi_tree.specs.Standing.{longest}
-use Rattle.smi_tree.specs.Shown.{IsSyntaxOf, shown_at}
-use Rattle.smi_tree.specs.Tree.{IsTree}
 use Rattle.smi_tree.specs.Naming.{home_name, standing_of_longest, oid_of, naming_of, nearest_definition, nearest_syntax}
-use Rattle.smi_tree.specs.Bare.{bare, IsRootOf}
-use Rattle.smi_tree.proofs.Childhood.{child-is}
-use Rattle.smi_tree.proofs.Reaching.{longest-some, longest-none}
+use Rattle.smi_tree.proofs.{Childhood.child-is, Reaching.longest-some, Reaching.longest-none, Following.no_syntax}
 use Rattle.smi_tree.proofs.Sounding.{stands, root-case, root-word, leads-alike}
-use Rattle.smi_tree.specs.types.Chain.{no_type}
-use Rattle.smi_tree.proofs.Following.{no_syntax}
 
 -- the roots have no syntax and no index
 none-at : {A : Type 0} (k : ℕ) → slice_index_or {A = Option A} (None ∷ (None ∷ (None ∷ []))) k None ≡ None

@@ -1,18 +1,14 @@
 -- Branches stay those of a list as it grows.
-use Rattle.std.proofs.lemmas.Grind.{common_steps}
-use Rattle.std.proofs.Common.{◌≡◌, ◌≢◌, ℕ, zero, suc, ◌+◌, ◌<◌, inl, inr, List, [], ◌∷◌, ◌++◌, length, take, drop, get_or, MatchOption, Option}
-use Rattle.std.proofs.Common.{Some, None, refl, sym, ap, ◌∙◌, arith}
+use Rattle.std.proofs.{lemmas.Grind.common_steps, lemmas.Bool.cases_eq, lemmas.Bool.cases_lt, Math.Seq.take-append_seam, lemmas.Option.slice_get_past}
+use Rattle.std.proofs.Common.{◌≡◌, ◌≢◌, ℕ, zero, suc, ◌+◌, ◌<◌, inl, inr, List, [], ◌∷◌, ◌++◌, length, take, drop, get_or, MatchOption, Option, Some}
+use Rattle.std.proofs.Common.{None, refl, sym, ap, ◌∙◌, arith}
 use Rattle.std.proofs.lemmas.List.{length-append, length_push, get_or_append_left, get_or_push, take-append-drop, take_more, take-take}
-use Rattle.std.proofs.lemmas.Bool.{cases_eq, cases_lt}
-use Rattle.std.proofs.Math.Seq.{take-append_seam}
-use Rattle.std.proofs.lemmas.Option.{slice_get_past}
 use Rattle.std.specs.Option.{option_and_then}
 use Rattle.smi_tree.specs.branches.Standing.{place_of, oid_at, HasNoBeginning, IsDeepestAt}
 use Rattle.smi_tree.specs.branches.Branches.{follower, standing_at, walk, branch_of, IsBeginning, AreBranches, AreBranchesOf, SoFar, IsUnderWay}
 use Rattle.smi_tree.specs.branches.Branches.{GrowsBranch, there, made}
 use Rattle.snmp_oid.specs.Identifier.{IsBelow}
-use Rattle.smi_tree.specs.declared.branches.branch.Branch.{Branch}
-use Rattle.smi_tree.specs.declared.branches.identifiers.Deepest.{Deepest}
+use Rattle.smi_tree.specs.{declared.branches.branch.Branch.Branch, declared.branches.identifiers.Deepest.Deepest}
 use Rattle.smi_names.specs.meaning.Meaning.{or_else}
 use Rattle.smi_tree.proofs.Growing.{follower_past, standing_inside}
 use Rattle.smi_tree.proofs.PlacesLemmas.{place_found, place_push_itself, place_push_other}

@@ -3,9 +3,7 @@ use Rattle.std.proofs.lemmas.Grind.{common_steps}
 use Rattle.std.proofs.Common.{◌≡◌, ℕ, zero, suc, ◌+◌, Bool, List, [], ◌∷◌, length, Some, is_some, refl, ap, arith}
 use Rattle.std.specs.List.{slice_get, position_from, find}
 use Rattle.smi_text.specs.declared.trees.tree.Module.{Module}
-use Rattle.smi_names.specs.nodes.Nodes.{Node}
-use Rattle.smi_names.specs.nodes.Gathered.{node_from, nodes_of}
-use Rattle.smi_names.specs.declared.nodes.source.Source.{Source}
+use Rattle.smi_names.specs.{nodes.Nodes.Node, nodes.Gathered.node_from, nodes.Gathered.nodes_of, declared.nodes.source.Source.Source}
 use Rattle.smi_names.specs.declared.nodes.source.Source.TheVariants as S
 use Rattle.smi_tree.specs.Nodes.{has_label, is_of, place_anywhere, place_in_module, oids_of}
 use Rattle.smi_tree.specs.Places.{home_from, label_from, definition_from, label_in}

@@ -1,15 +1,11 @@
 -- The first child with a label is the one with the lowest number.
-use Rattle.std.proofs.lemmas.Grind.{common_steps}
+use Rattle.std.proofs.{lemmas.Grind.common_steps, lemmas.Bool.cases_eq, lemmas.Bool.cases_order}
 use Rattle.std.proofs.Common.{◌≡◌, ◌≢◌, ℕ, zero, suc, ◌<◌, ◌≤◌, ◌⊎◌, inl, inr, Bool, true, false, cond, List, [], ◌∷◌, ◌++◌, length, Option, Some}
 use Rattle.std.proofs.Common.{None, refl, ap, arith}
-use Rattle.std.specs.List.{find, filter_map, Contains}
-use Rattle.std.specs.List.Sorted.{IsStrictlySortedBy}
-use Rattle.std.specs.Ordering.{nat_cmp}
-use Rattle.std.proofs.lemmas.Bool.{cases_eq, cases_order}
+use Rattle.std.specs.{List.find, List.filter_map, List.Contains, List.Sorted.IsStrictlySortedBy, Ordering.nat_cmp}
 use Rattle.std.proofs.lemmas.Map.Keys.{sorted_tail, below_from_sorted}
 use Rattle.smi_tree.specs.branches.Standing.{place_of, oid_at, AreChildren}
-use Rattle.smi_names.specs.meaning.Meaning.{or_else}
-use Rattle.smi_names.specs.nodes.Nodes.{Node}
+use Rattle.smi_names.specs.{meaning.Meaning.or_else, nodes.Nodes.Node}
 use Rattle.smi_tree.specs.Nodes.{IsOfLowest, nothing, lowest, IsFirstChild, is_labelled, if_labelled, of_lowest, highest, child_at, child_of, oids_of}
 use Rattle.smi_show.specs.name.Beginnings.{last_number}
 use Rattle.smi_tree.proofs.PlacesLemmas.{place_found}

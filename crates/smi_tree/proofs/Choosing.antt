@@ -1,11 +1,9 @@
 -- A type has one chain, and so one syntax.
-use Rattle.std.proofs.Common.{arith, ◌≡◌, List, ◌∷◌, refl, ap}
-use Rattle.std.proofs.lemmas.Grind.{common_steps}
+use Rattle.std.proofs.{Common.arith, Common.◌≡◌, Common.List, Common.◌∷◌, Common.refl, Common.ap, lemmas.Grind.common_steps}
 use Rattle.smi_text.specs.declared.trees.tree.Module.{Module}
-use Rattle.smi_names.specs.meaning.Meaning.{QualifiedName}
+use Rattle.smi_names.specs.{meaning.Meaning.QualifiedName, declared.meaning.base.TypeBase.TypeBase}
 use Rattle.smi_tree.specs.types.Chain.{Layer, TypeOrigin, TypeChain, at_end, on_type}
 use Rattle.smi_tree.specs.types.Types.{Facts, HasSyntax}
-use Rattle.smi_names.specs.declared.meaning.base.TypeBase.{TypeBase}
 
 module _ {A : Type 0} (origin : A → TypeOrigin A) where
   pub one_chain : {o : TypeOrigin A} {ls : List Layer} {b : TypeBase} → TypeChain origin o ls b

@@ -1,27 +1,17 @@
 -- A column has one index.
-use Rattle.std.proofs.lemmas.Grind.{common_steps}
+use Rattle.std.proofs.{lemmas.Grind.common_steps, lemmas.List.ext_get_or, lemmas.Option.slice_get_within}
 use Rattle.std.proofs.Common.{◌≡◌, ℕ, Bool, List, Option, Some, None, refl, sym, ap, ◌∙◌, arith}
-use Rattle.std.proofs.lemmas.List.{ext_get_or}
-use Rattle.std.proofs.lemmas.Option.{slice_get_within}
-use Rattle.smi_show.specs.declared.index.part.Extent.{Extent}
+use Rattle.smi_show.specs.{declared.index.part.Extent.Extent, declared.index.part.IndexPart.IndexPart}
 use Rattle.smi_show.specs.declared.index.part.Extent.TheVariants.{Fixed, Counted, Implied}
-use Rattle.smi_show.specs.declared.index.part.IndexPart.{IndexPart}
 use Rattle.smi_show.specs.declared.index.part.IndexPart.TheVariants as P
-use Rattle.smi_text.specs.declared.trees.tree.Module.{Module}
-use Rattle.smi_text.specs.declared.trees.tree.Def.{Def}
-use Rattle.smi_text.specs.declared.trees.tree.Range.{Range}
-use Rattle.smi_text.specs.declared.trees.tree.IndexParts.{IndexParts}
-use Rattle.smi_text.specs.declared.trees.tree.TokenText.{TokenText}
+use Rattle.smi_text.specs.{declared.trees.tree.Module.Module, declared.trees.tree.Def.Def, declared.trees.tree.Range.Range}
+use Rattle.smi_text.specs.{declared.trees.tree.IndexParts.IndexParts, declared.trees.tree.TokenText.TokenText}
 use Rattle.smi_tree.specs.types.Types.{HasSyntax, origin_of_object}
-use Rattle.smi_names.specs.declared.meaning.base.TypeBase.{TypeBase}
+use Rattle.smi_names.specs.{declared.meaning.base.TypeBase.TypeBase, nodes.Nodes.Node}
 use Rattle.smi_names.specs.declared.meaning.base.TypeBase.TheVariants as T
-use Rattle.smi_names.specs.nodes.Nodes.{Node}
 use Rattle.smi_tree.specs.columns.Parts.{StatesBound, IsFixedBy, HasExtent, IsPartOf}
 use Rattle.smi_tree.specs.columns.Index.{IsIndexPart, AreParts, IsIndexed, IsIndexOf, IsIndex, AreIndexesOf, index_at, is_implied}
-use Rattle.smi_tree.proofs.Choosing.{one_syntax}
-use Rattle.smi_tree.proofs.Lists.{get_within, same_items}
-use Rattle.smi_tree.proofs.Parting.{defined_once}
-use Rattle.smi_tree.proofs.Indexing.{index_once}
+use Rattle.smi_tree.proofs.{Choosing.one_syntax, Lists.get_within, Lists.same_items, Parting.defined_once, Indexing.index_once}
 
 -- sizes fix one bound, and its text states one number
 fixed_once : (sizes : Option (List Range)) (n m : ℕ) (a : (bound : TokenText) × IsFixedBy sizes bound × StatesBound bound n)

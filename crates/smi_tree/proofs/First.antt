@@ -1,13 +1,9 @@
 -- The first thing of a list that passes a test.
-use Rattle.std.proofs.lemmas.Grind.{common_steps}
+use Rattle.std.proofs.{lemmas.Grind.common_steps, lemmas.Bool.cases_lt, lemmas.Bool.both_ways, lemmas.Option.slice_get_within, Math.Bool.and-false}
 use Rattle.std.proofs.Common.{◌≡◌, ℕ, zero, suc, ◌+◌, ◌<◌, inl, inr, Bool, true, false, cond, ◌&&◌, List, [], ◌∷◌, ◌++◌, length, take, drop, get_or}
 use Rattle.std.proofs.Common.{Option, Some, None, MatchOption, refl, ap, ◌∙◌, arith}
 use Rattle.std.proofs.lemmas.List.{take_more, take-append-drop, length-take-le}
-use Rattle.std.proofs.lemmas.Bool.{cases_lt, both_ways}
-use Rattle.std.proofs.lemmas.Option.{slice_get_within}
-use Rattle.std.proofs.Math.Bool.{and-false}
-use Rattle.std.specs.List.{slice_get, position_from}
-use Rattle.std.specs.Option.{option_map}
+use Rattle.std.specs.{List.slice_get, List.position_from, Option.option_map}
 use Rattle.smi_names.specs.meaning.Meaning.{or_else}
 
 -- none of the first n things passes

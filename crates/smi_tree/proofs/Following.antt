@@ -1,16 +1,12 @@
 -- Chains of types are chains of names.
 use Rattle.std.proofs.lemmas.Grind.{common_steps}
 use Rattle.std.proofs.Common.{◌≡◌, ℕ, zero, suc, ◌≤◌, List, [], ◌∷◌, length, Option, Some, None, refl, sym, ap, ◌∙◌, arith}
-use Rattle.std.specs.List.{slice_get}
-use Rattle.std.specs.Option.{option_and_then, option_map}
-use Rattle.smi_names.specs.chains.Chain.{HasEnd, ends, leads_on}
-use Rattle.smi_text.specs.declared.trees.tree.Module.{Module}
-use Rattle.smi_text.specs.declared.trees.tree.SimpleType.{SimpleType}
-use Rattle.smi_text.specs.declared.trees.tree.Base.{Base}
+use Rattle.std.specs.{List.slice_get, Option.option_and_then, Option.option_map}
+use Rattle.smi_names.specs.{chains.Chain.HasEnd, chains.Chain.ends, chains.Chain.leads_on, declared.meaning.base.TypeBase.TypeBase}
+use Rattle.smi_text.specs.{declared.trees.tree.Module.Module, declared.trees.tree.SimpleType.SimpleType, declared.trees.tree.Base.Base}
 use Rattle.smi_text.specs.declared.trees.tree.Base.TheVariants as B
 use Rattle.smi_names.specs.meaning.Meaning.{QualifiedName, Decision, defined, imported, root}
 use Rattle.smi_names.specs.meaning.Along.{next_by, decided, next_name}
-use Rattle.smi_names.specs.declared.meaning.base.TypeBase.{TypeBase}
 use Rattle.smi_tree.specs.types.Chain.{Layer, TypeOrigin, at_base, on_name, no_type, TypeChain, at_end, on_type}
 use Rattle.smi_tree.specs.types.Types.{base_in, name_in, name_in_base, layer, simple_in, type_syntax, type_hint, origin_of_base, origin_of_simple}
 use Rattle.smi_tree.specs.types.Types.{type_origin, type_origin_by, HasNoSyntax}

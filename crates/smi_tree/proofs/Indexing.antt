@@ -1,19 +1,14 @@
 -- The index of each node, by its row and by the parts of the INDEX clause that the row uses.
-use Rattle.std.proofs.lemmas.Grind.{common_steps}
+use Rattle.std.proofs.{lemmas.Grind.common_steps, lemmas.List.same_from_push}
 use Rattle.std.proofs.Common.{◌≡◌, ℕ, zero, suc, List, [], ◌∷◌, length, Option, Some, None, refl, sym, ap, ◌∙◌, arith}
-use Rattle.std.proofs.lemmas.List.{same_from_push}
-use Rattle.std.specs.List.{slice_get}
-use Rattle.std.specs.Option.{option_and_then}
+use Rattle.std.specs.{List.slice_get, Option.option_and_then}
 use Rattle.smi_show.specs.declared.index.part.IndexPart.{IndexPart}
-use Rattle.smi_text.specs.declared.trees.tree.Module.{Module}
-use Rattle.smi_text.specs.declared.trees.tree.Def.{Def}
-use Rattle.smi_text.specs.declared.trees.tree.Index.{Index}
+use Rattle.smi_text.specs.{declared.trees.tree.Module.Module, declared.trees.tree.Def.Def, declared.trees.tree.Index.Index}
 use Rattle.smi_text.specs.declared.trees.tree.Index.TheVariants.{Own, Augments}
 use Rattle.smi_names.specs.nodes.Nodes.{Node}
 use Rattle.smi_tree.specs.columns.Index.{IsColumnOf, StandsAt, IsIndexOf, IsIndex, AreIndexesOf, IsIndexed, UsesIndexOf, clause_of, index_at}
 use Rattle.smi_tree.specs.columns.Kept.{KeptOfModule, IsOwn, AreOwnOfAll, AreRows, HasRowAt, HasRowOrNone, indexes_of, parts_at, items_of}
-use Rattle.smi_tree.proofs.Pairing.{pair_at}
-use Rattle.smi_tree.proofs.Parting.{Same, same_own, defined_once}
+use Rattle.smi_tree.proofs.{Pairing.pair_at, Parting.Same, Parting.same_own, Parting.defined_once}
 
 -- ---- a column has one row, and a row uses one clause
 

@@ -1,16 +1,13 @@
 -- An identifier below which there is none stands for all that are below it.
-use Rattle.std.proofs.Common.{◌≡◌, ◌≢◌, ℕ, ◌+◌, ◌-◌, ◌<◌, ◌≤◌, List, [], ◌∷◌, ◌++◌, length, take, drop, Option}
-use Rattle.std.proofs.Common.{Some, None, IfSome, MatchOption, refl, sym, ap, ◌∙◌, subst, append_assoc, arith}
+use Rattle.std.proofs.Common.{◌≡◌, ◌≢◌, ℕ, ◌+◌, ◌-◌, ◌<◌, ◌≤◌, List, [], ◌∷◌, ◌++◌, length, take, drop, Option, Some, None, IfSome, MatchOption, refl}
+use Rattle.std.proofs.Common.{sym, ap, ◌∙◌, subst, append_assoc, arith}
 use Rattle.std.proofs.lemmas.List.{length-append, length-take-le, length-drop, take-take, take-append-drop}
 use Rattle.std.proofs.Math.Seq.{take-append_seam}
 use Rattle.smi_tree.specs.branches.Standing.{place_of, oid_at, HasNoneBelow, IsDeepestAt}
 use Rattle.smi_tree.specs.branches.Branches.{follower, standing_at, branch_of, AreBranchesOf}
 use Rattle.snmp_oid.specs.Identifier.{IsBelow}
 use Rattle.smi_tree.specs.declared.branches.branch.Branch.{Branch}
-use Rattle.smi_tree.proofs.Branching.{places_off}
-use Rattle.smi_tree.proofs.Growing.{standing_inside}
-use Rattle.smi_tree.proofs.PlacesLemmas.{place_found}
-use Rattle.smi_tree.proofs.Walking.{walk-push}
+use Rattle.smi_tree.proofs.{Branching.places_off, Growing.standing_inside, PlacesLemmas.place_found, Walking.walk-push}
 
 -- nothing is below what stands at a branch after which no number follows
 pub none_below : (oids : List (List ℕ)) (bs : List Branch) → AreBranchesOf oids bs → (known : List ℕ) (at place : ℕ) → standing_at bs at ≡ Some place

@@ -1,6 +1,5 @@
 -- Texts that are the same.
-use Rattle.std.proofs.Common.{◌≡◌, ℕ, true, List, refl}
-use Rattle.std.proofs.lemmas.Slice.Eq.{bytes_eq-Decides}
+use Rattle.std.proofs.{Common.◌≡◌, Common.ℕ, Common.true, Common.List, Common.refl, lemmas.Slice.Eq.bytes_eq-Decides}
 use Rattle.smi_text.specs.trees.Mark.{same_text}
 
 pub same : (xs ys : List ℕ) → same_text xs ys ≡ true → xs ≡ ys

@@ -1,11 +1,10 @@
 -- The definition to which a name leads.
 use Rattle.std.proofs.Common.{◌≡◌, ℕ, inl, inr, List, MatchOption, Option, Some, None, refl}
 use Rattle.smi_names.specs.chains.Chain.{HasEnd, ends, leads_on}
-use Rattle.smi_text.specs.declared.trees.tree.Module.{Module}
-use Rattle.smi_text.specs.declared.trees.tree.Def.{Def}
-use Rattle.smi_text.specs.declared.trees.tree.Import.{Import}
+use Rattle.smi_text.specs.{declared.trees.tree.Module.Module, declared.trees.tree.Def.Def, declared.trees.tree.Import.Import}
 use Rattle.smi_names.specs.meaning.Meaning.{QualifiedName, defined, imported, decision, module_named}
-use Rattle.smi_names.specs.meaning.Along.{decided, next_name, Comes, unknown, of_root, through as by_import, at_end, after, IsMeant, leads_nowhere, stands_at}
+use Rattle.smi_names.specs.meaning.Along.{decided, next_name, Comes, unknown, of_root, through as by_import, at_end, after, IsMeant, leads_nowhere}
+use Rattle.smi_names.specs.meaning.Along.{stands_at}
 use Rattle.smi_tree.specs.columns.Definitions.{IsDefinedBy, own, through}
 use Rattle.smi_tree.specs.private.columns.Named.{IsFoundAt, IsUndefined}
 

@@ -1,8 +1,6 @@
 -- A list is made item by item, each for one of another list.
-use Rattle.std.proofs.lemmas.Grind.{common_steps}
+use Rattle.std.proofs.{lemmas.Grind.common_steps, lemmas.List.length_push, lemmas.Option.slice_get_within, lemmas.Option.slice_get_read}
 use Rattle.std.proofs.Common.{◌≡◌, ℕ, ◌+◌, ◌<◌, List, [], ◌∷◌, ◌++◌, length, get_or, Some, refl, ◌∙◌, arith}
-use Rattle.std.proofs.lemmas.List.{length_push}
-use Rattle.std.proofs.lemmas.Option.{slice_get_within, slice_get_read}
 use Rattle.std.specs.List.{slice_get}
 use Rattle.smi_tree.specs.Pairwise.{ArePairwise}
 use Rattle.smi_tree.proofs.Lists.{get_within, get_push}

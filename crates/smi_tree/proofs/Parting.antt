@@ -1,19 +1,14 @@
 -- The part of an object, by where its definition is found.
 use Rattle.std.proofs.Common.{arith, ◌≡◌, ℕ, Bool, List, MatchOption, Option, Some, None, refl}
 use Rattle.std.proofs.lemmas.Grind.{common_steps}
-use Rattle.smi_names.specs.chains.Resolution.{ComesTo}
+use Rattle.smi_names.specs.{chains.Resolution.ComesTo, meaning.Meaning.QualifiedName, meaning.Meaning.origin}
 use Rattle.smi_names.specs.declared.chains.resolution.Resolution.TheVariants as R
 use Rattle.smi_show.specs.declared.index.part.IndexPart.{IndexPart}
-use Rattle.smi_text.specs.declared.trees.tree.Module.{Module}
-use Rattle.smi_text.specs.declared.trees.tree.Def.{Def}
-use Rattle.smi_names.specs.meaning.Meaning.{QualifiedName, origin}
-use Rattle.smi_tree.specs.types.Chain.{TypeOrigin}
+use Rattle.smi_text.specs.{declared.trees.tree.Module.Module, declared.trees.tree.Def.Def}
+use Rattle.smi_tree.specs.{types.Chain.TypeOrigin, columns.Parts.IsPartOf, columns.Index.IsIndexPart, columns.Kept.HasNoPart}
 use Rattle.smi_tree.specs.types.Types.{Facts, HasSyntax, HasNoSyntax, object_origin, origin_of_object}
 use Rattle.smi_tree.specs.columns.Definitions.{qualified_name, IsDefinedBy, own, through}
-use Rattle.smi_tree.specs.columns.Parts.{IsPartOf}
-use Rattle.smi_tree.specs.columns.Index.{IsIndexPart}
 use Rattle.smi_tree.specs.private.columns.Named.{IsFoundAt}
-use Rattle.smi_tree.specs.columns.Kept.{HasNoPart}
 
 -- ---- a name leads to one definition
 

@@ -1,8 +1,7 @@
 -- The longest beginning of an identifier for which a node stands.
-use Rattle.std.proofs.lemmas.Grind.{common_steps}
+use Rattle.std.proofs.{lemmas.Grind.common_steps, lemmas.Bool.cases_eq}
 use Rattle.std.proofs.Common.{◌≡◌, ◌≢◌, ℕ, zero, suc, ◌≤◌, ◌⊎◌, inl, inr, List, length, take, Option, Some, None, refl, sym, arith}
 use Rattle.std.specs.Prelude.{MatchOption, ◌<◌, option_map}
-use Rattle.std.proofs.lemmas.Bool.{cases_eq}
 use Rattle.smi_tree.specs.branches.Standing.{place_of, IsDeepestAt, HasNoBeginning}
 use Rattle.smi_names.specs.meaning.Meaning.{or_else}
 use Rattle.smi_tree.specs.Standing.{Longest, at_depth, longest_up_to}

@@ -1,32 +1,21 @@
 -- What a type states is nearer than what the type states that it refines.
 use Rattle.std.proofs.Common.{◌≡◌, ℕ, inl, inr, cond, is_some, List, [], ◌∷◌, Option, Some, None, MatchOption, Vec, refl, ap, ◌∙◌, arith}
-use Rattle.std.proofs.lemmas.List.{get_or_past}
-use Rattle.std.proofs.lemmas.Option.{slice_get_within, get_or_from_slice_get}
-use Rattle.std.specs.Global.{Global}
-use Rattle.std.specs.Borrow.{Bor}
-use Rattle.std.specs.List.{slice_get}
-use Rattle.std.specs.Option.{option_and_then, option_copied, option_map}
-use Rattle.smi_text.specs.declared.trees.tree.Module.{Module}
-use Rattle.smi_text.specs.declared.trees.tree.Def.{Def}
-use Rattle.smi_text.specs.declared.trees.tree.DefKind.{DefKind}
+use Rattle.std.proofs.{lemmas.List.get_or_past, lemmas.Option.slice_get_within, lemmas.Option.get_or_from_slice_get}
+use Rattle.std.specs.{Global.Global, Borrow.Bor, List.slice_get, Option.option_and_then, Option.option_copied, Option.option_map}
+use Rattle.smi_text.specs.{declared.trees.tree.Module.Module, declared.trees.tree.Def.Def, declared.trees.tree.DefKind.DefKind}
+use Rattle.smi_text.specs.{declared.trees.tree.SimpleType.SimpleType, declared.trees.tree.Base.Base}
 use Rattle.smi_text.specs.declared.trees.tree.DefKind.TheVariants as D
-use Rattle.smi_text.specs.declared.trees.tree.SimpleType.{SimpleType}
-use Rattle.smi_text.specs.declared.trees.tree.Base.{Base}
 use Rattle.smi_text.specs.declared.trees.tree.Base.TheVariants as B
-use Rattle.smi_names.specs.meaning.Meaning.{QualifiedName, or_else}
+use Rattle.smi_names.specs.{meaning.Meaning.QualifiedName, meaning.Meaning.or_else, chains.Order.at_place, declared.meaning.base.TypeBase.TypeBase}
 use Rattle.smi_names.specs.meaning.Along.{Comes, unknown, of_root, through, at_end as at_definition, after, IsOwn, IsMeant}
 use Rattle.smi_tree.specs.types.Chain.{Layer, at_base, on_name, no_type, TypeChain, at_end, on_type, nearest}
 use Rattle.smi_tree.specs.types.Types.{type_origin, base_in, name_in, name_in_base, names_in, sizes_in, simple_in, layer, no_layer, type_hint}
-use Rattle.smi_tree.specs.types.Types.{origin_of_base, origin_of_simple, object_syntax, type_syntax}
-use Rattle.smi_tree.specs.types.Types.{object_in, object_origin, def_at, Facts, HasSyntax, HasNoSyntax}
-use Rattle.smi_names.specs.chains.Order.{at_place}
-use Rattle.smi_tree.specs.types.Kept.{facts_of, facts_at, type_in, names_of, sizes_of, def_of, IsKept, refines, type_at}
-use Rattle.smi_tree.specs.types.Kept.{base_or, refined_by, AreKeptOf, AreKeptOfAll}
-use Rattle.smi_names.specs.declared.meaning.base.TypeBase.{TypeBase}
-use Rattle.smi_tree.specs.declared.types.syntax.TypeSyntax.{TypeSyntax}
-use Rattle.smi_tree.specs.declared.types.types.KeptSyntax.{KeptSyntax}
-use Rattle.smi_tree.proofs.Pairing.{pair_at}
-use Rattle.smi_tree.proofs.Following.{by_decision, has_end, no_syntax, past_get}
+use Rattle.smi_tree.specs.types.Types.{origin_of_base, origin_of_simple, object_syntax, type_syntax, object_in, object_origin, def_at, Facts}
+use Rattle.smi_tree.specs.types.Types.{HasSyntax, HasNoSyntax}
+use Rattle.smi_tree.specs.types.Kept.{facts_of, facts_at, type_in, names_of, sizes_of, def_of, IsKept, refines, type_at, base_or, refined_by}
+use Rattle.smi_tree.specs.types.Kept.{AreKeptOf, AreKeptOfAll}
+use Rattle.smi_tree.specs.{declared.types.syntax.TypeSyntax.TypeSyntax, declared.types.types.KeptSyntax.KeptSyntax}
+use Rattle.smi_tree.proofs.{Pairing.pair_at, Following.by_decision, Following.has_end, Following.no_syntax, Following.past_get}
 
 pub is_some-copied : {X : Type 0} (r : Option (Bor X)) → is_some r ≡ is_some (option_copied r)
 is_some-copied None = refl

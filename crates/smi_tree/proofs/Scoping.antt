@@ -1,22 +1,15 @@
 -- Labels that several modules share: the first source of each module.
-use Rattle.std.proofs.Common.{◌≡◌, ℕ, ◌+◌, ◌<◌, ◌==◌, ◌&&◌, Bool, true, false, cond, List, length, take, get_or}
-use Rattle.std.proofs.Common.{Option, Some, None, unwrap_or, option_map, refl, sym, ap, ◌∙◌, eq-eqb}
-use Rattle.std.proofs.lemmas.Bool.{eqb-true}
-use Rattle.std.proofs.Math.Bool.{and-false}
-use Rattle.std.proofs.lemmas.Option.{slice_get-get_or, slice_get_within}
-use Rattle.std.specs.List.{slice_get, position_from}
-use Rattle.std.specs.Option.{option_and_then}
+use Rattle.std.proofs.Common.{◌≡◌, ℕ, ◌+◌, ◌<◌, ◌==◌, ◌&&◌, Bool, true, false, cond, List, length, take, get_or, Option, Some, None, unwrap_or}
+use Rattle.std.proofs.Common.{option_map, refl, sym, ap, ◌∙◌, eq-eqb}
+use Rattle.std.proofs.{lemmas.Bool.eqb-true, Math.Bool.and-false, lemmas.Option.slice_get-get_or, lemmas.Option.slice_get_within}
+use Rattle.std.specs.{List.slice_get, List.position_from, Option.option_and_then}
 use Rattle.indexmap.specs.IndexMap.{get}
-use Rattle.smi_text.specs.trees.Mark.{same_text}
-use Rattle.smi_text.specs.declared.trees.tree.Module.{Module}
-use Rattle.smi_names.specs.meaning.Meaning.{or_else}
-use Rattle.smi_names.specs.meaning.Names.{module_place}
-use Rattle.smi_names.specs.declared.nodes.source.Source.{Source}
+use Rattle.smi_text.specs.{trees.Mark.same_text, declared.trees.tree.Module.Module}
+use Rattle.smi_names.specs.{meaning.Meaning.or_else, meaning.Names.module_place, declared.nodes.source.Source.Source}
 use Rattle.smi_names.specs.declared.nodes.source.Source.TheVariants as S
 use Rattle.smi_tree.specs.Nodes.{is_named}
 use Rattle.smi_tree.specs.Places.{Places, Others, kept_place, home_from, label_from, has_label, is_of, same_key, key_of, AreOthers}
-use Rattle.smi_tree.proofs.First.{IsFirst, first, none_first, more, of_front}
-use Rattle.smi_tree.proofs.Listing.{same, same_itself}
+use Rattle.smi_tree.proofs.{First.IsFirst, First.first, First.none_first, First.more, First.of_front, Listing.same, Listing.same_itself}
 
 -- names are the same where their first places are
 places_decide : {A : Type 0} (name : A → List ℕ) (xs : List A) (a b : List ℕ) (j k : ℕ) → position_from (λ x. same_text (name x) a) 0 xs ≡ Some j

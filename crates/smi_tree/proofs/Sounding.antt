@@ -1,28 +1,16 @@
 -- Names of nodes are sound: labels are words, and lead to the nodes that they are shown for.
-use Rattle.std.proofs.lemmas.Grind.{common_steps}
+use Rattle.std.proofs.{lemmas.Grind.common_steps, lemmas.List.length-map, lemmas.Option.slice_get-map, lemmas.Option.get_or_from_slice_get}
 use Rattle.std.proofs.Common.{◌≡◌, ℕ, zero, suc, ◌≤◌, ◌⊎◌, inl, inr, Bool, true, false, ◌&&◌, List, [], ◌++◌, length, take, Option, Some, None, refl}
 use Rattle.std.proofs.Common.{sym, ap, subst, ◌∙◌, arith}
-use Rattle.std.specs.Prelude.{slice_index_or}
-use Rattle.std.specs.List.{slice_get}
-use Rattle.std.specs.Option.{option_and_then}
-use Rattle.std.proofs.lemmas.List.{length-map}
-use Rattle.std.proofs.lemmas.Option.{slice_get-map, get_or_from_slice_get}
-use Rattle.smi_text.specs.trees.Mark.{same_text}
-use Rattle.smi_text.specs.trees.Word.{is_word}
-use Rattle.smi_text.specs.declared.trees.tree.Module.{Module}
-use Rattle.smi_names.specs.meaning.Meaning.{Means, QualifiedName}
-use Rattle.smi_tree.specs.branches.Standing.{place_of}
+use Rattle.std.specs.{Prelude.slice_index_or, List.slice_get, Option.option_and_then}
+use Rattle.smi_text.specs.{trees.Mark.same_text, trees.Word.is_word, declared.trees.tree.Module.Module}
+use Rattle.smi_names.specs.{meaning.Meaning.Means, meaning.Meaning.QualifiedName, declared.nodes.warning.Warning.Warning}
+use Rattle.smi_tree.specs.{branches.Standing.place_of, Standing.Longest, Standing.longest_up_to, Standing.longest, Tree.Contents}
 use Rattle.smi_show.specs.name.Naming.{Naming, Standing, LabelLeadsTo, IsSound}
 use Rattle.smi_names.specs.nodes.Nodes.{Node, node_of_root, roots, Loads}
-use Rattle.smi_names.specs.declared.nodes.warning.Warning.{Warning}
 use Rattle.smi_tree.specs.Nodes.{oids_of, is_of, place_in_module, place_anywhere}
-use Rattle.smi_tree.specs.Standing.{Longest, longest_up_to, longest}
-use Rattle.smi_tree.specs.Tree.{Contents}
 use Rattle.smi_tree.specs.Naming.{home_name, standing_from, standing_of_longest, oid_of, naming_of}
-use Rattle.smi_tree.proofs.First.{first, passing}
-use Rattle.smi_tree.proofs.Listing.{same, same_itself}
-use Rattle.smi_tree.proofs.Lists.{get_within}
-use Rattle.smi_tree.proofs.PlacesLemmas.{place_found}
+use Rattle.smi_tree.proofs.{First.first, First.passing, Listing.same, Listing.same_itself, Lists.get_within, PlacesLemmas.place_found}
 use Rattle.smi_tree.proofs.Soundness.{IsOfModule, root-or-module}
 
 -- the place of the longest beginning is that of its first numbers

@@ -3,14 +3,11 @@ use Rattle.std.proofs.Common.{arith, ◌≡◌, ℕ, zero, suc, ◌⊎◌, inl, 
 use Rattle.std.proofs.lemmas.Grind.{common_steps}
 use Rattle.std.specs.List.{slice_get}
 use Rattle.smi_names.specs.declared.chains.resolution.Resolution.TheVariants as R
-use Rattle.smi_text.specs.trees.Lookup.{identifier_value_of}
+use Rattle.smi_text.specs.{trees.Lookup.identifier_value_of, declared.trees.tree.Def.Def, declared.trees.tree.Part.Part}
 use Rattle.smi_text.specs.declared.trees.tree.Module.{Module}
-use Rattle.smi_text.specs.declared.trees.tree.Def.{Def}
-use Rattle.smi_text.specs.declared.trees.tree.Part.{Part}
-use Rattle.smi_names.specs.meaning.Meaning.{Means}
+use Rattle.smi_names.specs.{meaning.Meaning.Means, declared.nodes.warning.Warning.Warning}
 use Rattle.smi_names.specs.nodes.Nodes.{Node, node_of, roots, GivesNodesBy, Gathers, none, more, is_loaded, Brings, left_out, loaded, Loads, none_yet}
 use Rattle.smi_names.specs.nodes.Nodes.{then_module}
-use Rattle.smi_names.specs.declared.nodes.warning.Warning.{Warning}
 use Rattle.smi_tree.proofs.Listing.{same_itself}
 
 -- a node of a module that is loaded, whose label means its identifier

@@ -3,23 +3,15 @@ use Rattle.std.proofs.lemmas.Grind.{common_steps}
 use Rattle.std.proofs.Common.{◌≡◌, ℕ, zero, suc, List, [], ◌∷◌, Option, Some, None, slice_index_or, length, refl, sym, ap, arith}
 use Rattle.std.specs.List.{slice_get}
 use Rattle.smi_text.specs.declared.trees.tree.Module.{Module}
-use Rattle.smi_names.specs.nodes.Nodes.{Node}
+use Rattle.smi_names.specs.{nodes.Nodes.Node, declared.nodes.gather.Gathered.Gathered, declared.nodes.source.Source.Source}
 use Rattle.smi_names.specs.nodes.Gathered.{node_from, nodes_of, AreGathered}
-use Rattle.smi_names.specs.declared.nodes.gather.Gathered.{Gathered}
 use Rattle.smi_names.specs.nodes.Gathered as gathered
-use Rattle.smi_names.specs.declared.nodes.source.Source.{Source}
 use Rattle.smi_names.specs.declared.nodes.source.Source.TheVariants as S
-use Rattle.smi_tree.specs.types.Chain.{no_type}
-use Rattle.smi_tree.specs.types.Types.{object_in, object_origin}
-use Rattle.smi_tree.specs.types.Kept.{AreTypesOf}
-use Rattle.smi_tree.specs.declared.types.types.Types.{Types}
+use Rattle.smi_tree.specs.{types.Chain.no_type, types.Types.object_in, types.Types.object_origin, types.Kept.AreTypesOf}
+use Rattle.smi_tree.specs.{declared.types.types.Types.Types, columns.Index.AreIndexesOf, Tree.IsTree, Kept.contents}
 use Rattle.smi_tree.specs.Shown.{IsSyntaxOf, AreSyntaxesOf, syntax_from, syntaxes_from}
 use Rattle.smi_show.specs.declared.index.part.IndexPart.{IndexPart}
-use Rattle.smi_tree.specs.columns.Index.{AreIndexesOf}
-use Rattle.smi_tree.specs.Tree.{IsTree}
-use Rattle.smi_tree.specs.Kept.{contents}
-use Rattle.smi_tree.proofs.Bridging.{parts}
-use Rattle.smi_tree.proofs.Following.{no_syntax}
+use Rattle.smi_tree.proofs.{Bridging.parts, Following.no_syntax}
 
 same_object : (ms : List Module) (i k : ℕ) → object_in (slice_get ms i) (gathered.def_of_module (slice_get ms i) k) ≡ object_origin ms i k
 same_object ms i k = grind (arith, common_steps)

@@ -1,25 +1,17 @@
 -- The rows of columns, and the INDEX clauses that they use.
-use Rattle.std.proofs.lemmas.Grind.{common_steps}
+use Rattle.std.proofs.{lemmas.Grind.common_steps, lemmas.List.same_from_push, lemmas.Option.slice_get_within, lemmas.Option.get_or_from_slice_get}
 use Rattle.std.proofs.Common.{◌≡◌, ℕ, ◌≤◌, List, [], ◌∷◌, ◌++◌, length, MatchOption, Option, Some, None, refl, sym, ap, ◌∙◌, arith}
-use Rattle.std.proofs.lemmas.List.{same_from_push}
-use Rattle.std.proofs.lemmas.Option.{slice_get_within, get_or_from_slice_get}
 use Rattle.std.specs.List.{slice_get}
-use Rattle.smi_tree.specs.branches.Standing.{place_of, oid_at}
-use Rattle.smi_text.specs.declared.trees.tree.Module.{Module}
-use Rattle.smi_text.specs.declared.trees.tree.Def.{Def}
-use Rattle.smi_text.specs.declared.trees.tree.Index.TheVariants.{Own, Augments}
-use Rattle.smi_text.specs.declared.trees.tree.IndexParts.{IndexParts}
-use Rattle.smi_text.specs.declared.trees.names.Name.{Name}
-use Rattle.smi_names.specs.nodes.Nodes.{Node, node_of}
-use Rattle.smi_names.specs.nodes.Gathered.{node_from, nodes_of}
+use Rattle.smi_tree.specs.{branches.Standing.place_of, branches.Standing.oid_at, columns.Definitions.qualified_name}
+use Rattle.smi_text.specs.{declared.trees.tree.Module.Module, declared.trees.tree.Def.Def, declared.trees.tree.Index.TheVariants.Own}
+use Rattle.smi_text.specs.{declared.trees.tree.Index.TheVariants.Augments, declared.trees.tree.IndexParts.IndexParts, declared.trees.names.Name.Name}
+use Rattle.smi_names.specs.{nodes.Nodes.Node, nodes.Nodes.node_of, nodes.Gathered.node_from, nodes.Gathered.nodes_of}
 use Rattle.smi_names.specs.declared.nodes.source.Source.{Source}
 use Rattle.smi_names.specs.declared.nodes.source.Source.TheVariants as S
-use Rattle.smi_tree.specs.columns.Definitions.{qualified_name}
 use Rattle.smi_tree.specs.columns.Index.{IsObjectType, IsColumnOf, StandsAt, clause_of}
 use Rattle.smi_tree.specs.private.columns.Named.{IsFoundAt, IsUndefined}
 use Rattle.smi_tree.specs.columns.Kept.{UsesAt, UsesNone, HasNoRow, HasRowOrNone}
-use Rattle.smi_tree.proofs.Lists.{get_within}
-use Rattle.smi_tree.proofs.Bridging.{parts, length-nodes, oids-nodes, nodes-get, node-at}
+use Rattle.smi_tree.proofs.{Lists.get_within, Bridging.parts, Bridging.length-nodes, Bridging.oids-nodes, Bridging.nodes-get, Bridging.node-at}
 
 -- ---- the clause that a row uses
 

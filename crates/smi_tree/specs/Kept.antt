@@ -2,14 +2,12 @@
 use Rattle.std.specs.Prelude.{◌≡◌, ℕ, List, length, Option}
 use Rattle.std.specs.List.{position_from}
 use Rattle.smi_text.specs.declared.trees.tree.Module.{Module}
-use Rattle.smi_names.specs.meaning.Names.{module_place}
-use Rattle.smi_names.specs.nodes.Gathered.{nodes_of}
+use Rattle.smi_names.specs.{meaning.Names.module_place, nodes.Gathered.nodes_of}
 use Rattle.smi_names.specs.declared.nodes.source.Source.{Source}
 use Rattle.smi_names.specs.declared.nodes.warning.Warning.{Warning}
 use Rattle.smi_tree.specs.declared.types.types.Types.{Types}
 use Rattle.smi_show.specs.declared.index.part.IndexPart.{IndexPart}
-use Rattle.smi_tree.specs.Shown.{syntaxes_from}
-use Rattle.smi_tree.specs.Tree.{Contents, IsTree}
+use Rattle.smi_tree.specs.{Shown.syntaxes_from, Tree.Contents, Tree.IsTree}
 use Rattle.smi_tree.specs.Places.{Places, Others, kept_place, has_label, AreOthers}
 
 abbrev pub contents : List Module → List Source → List (List ℕ) → Types

@@ -1,18 +1,14 @@
 -- The names of a tree's nodes, as words are read and identifiers are shown by them.
 use Rattle.std.specs.Prelude.{ℕ, List, Option, None, is_some, option_map, slice_index_or}
-use Rattle.std.specs.List.{slice_get}
-use Rattle.std.specs.Option.{option_and_then}
+use Rattle.std.specs.{List.slice_get, Option.option_and_then}
 use Rattle.smi_show.specs.declared.index.part.IndexPart.{IndexPart}
-use Rattle.smi_text.specs.declared.trees.tree.Module.{Module}
-use Rattle.smi_text.specs.declared.trees.tree.Def.{Def}
-use Rattle.smi_names.specs.meaning.Meaning.{module_named}
-use Rattle.smi_names.specs.nodes.Nodes.{Node, roots}
+use Rattle.smi_text.specs.{declared.trees.tree.Module.Module, declared.trees.tree.Def.Def}
+use Rattle.smi_names.specs.{meaning.Meaning.module_named, nodes.Nodes.Node, nodes.Nodes.roots}
 use Rattle.smi_show.specs.name.Naming.{Naming, Standing}
 use Rattle.smi_value.specs.Syntax.{ObjectSyntax}
-use Rattle.smi_tree.specs.Shown.{shown_at}
+use Rattle.smi_tree.specs.{Shown.shown_at, Tree.Contents}
 use Rattle.smi_tree.specs.Nodes.{oids_of, place_in_module, place_anywhere, child_of}
 use Rattle.smi_tree.specs.Standing.{Longest, longest, definition_at}
-use Rattle.smi_tree.specs.Tree.{Contents}
 
 abbrev pub home_name : Option Module → Option (List ℕ)
 home_name m = option_map (λ m. m.name.octets) m

@@ -1,32 +1,10 @@
 -- Nodes found by their names and by their identifiers, in a list in order of loading.
-use Rattle.std.specs.Prelude.{
-  ◌≡◌,
-  ℕ,
-  Bool,
-  false,
-  ◌&&◌,
-  zero,
-  suc,
-  List,
-  [],
-  ◌∷◌,
-  ◌++◌,
-  ◌<◌,
-  max,
-  unwrap_or,
-  Option,
-  Some,
-  None,
-  map,
-  option_map,
-  if◌then◌else◌,
-}
+use Rattle.std.specs.Prelude.{◌≡◌, ℕ, Bool, false, ◌&&◌, zero, suc, List, [], ◌∷◌, ◌++◌, ◌<◌, max}
+use Rattle.std.specs.Prelude.{unwrap_or, Option, Some, None, map, option_map, if◌then◌else◌}
 use Rattle.std.specs.List.{slice_get, position_from}
-use Rattle.smi_text.specs.trees.Mark.{same_text}
-use Rattle.smi_text.specs.declared.trees.tree.Module.{Module}
+use Rattle.smi_text.specs.{trees.Mark.same_text, declared.trees.tree.Module.Module}
 use Rattle.smi_tree.specs.branches.Standing.{place_of}
-use Rattle.smi_names.specs.meaning.Meaning.{or_else}
-use Rattle.smi_names.specs.nodes.Nodes.{Node}
+use Rattle.smi_names.specs.{meaning.Meaning.or_else, nodes.Nodes.Node}
 use Rattle.smi_show.specs.name.Beginnings.{last_number}
 
 -- the node is of this label

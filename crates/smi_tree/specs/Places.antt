@@ -1,17 +1,12 @@
 -- Sources of nodes found by their names, and maps from names to places.
-use Rattle.std.specs.Prelude.{◌≡◌, ℕ, ◌==◌, ◌&&◌, Bool, false, List, [], if◌then◌else◌}
-use Rattle.std.specs.Prelude.{Option, Some, None, option_map}
-use Rattle.std.specs.Option.{option_and_then}
-use Rattle.std.specs.List.{slice_get, position_from}
-use Rattle.std.specs.Str.{bytes_eq}
+use Rattle.std.specs.Prelude.{◌≡◌, ℕ, ◌==◌, ◌&&◌, Bool, false, List, [], if◌then◌else◌, Option}
+use Rattle.std.specs.Prelude.{Some, None, option_map}
+use Rattle.std.specs.{Option.option_and_then, List.slice_get, List.position_from, Str.bytes_eq}
 use Rattle.indexmap.specs.IndexMap.{IndexMap, get}
-use Rattle.smi_text.specs.trees.Mark.{same_text}
+use Rattle.smi_text.specs.{trees.Mark.same_text, declared.trees.tree.Def.Def}
 use Rattle.smi_text.specs.declared.trees.tree.Module.{Module}
-use Rattle.smi_text.specs.declared.trees.tree.Def.{Def}
-use Rattle.smi_names.specs.meaning.Meaning.{root_label}
-use Rattle.smi_names.specs.meaning.Names.{module_place}
-use Rattle.smi_names.specs.nodes.Gathered.{def_of_module}
-use Rattle.smi_names.specs.declared.hash.NameHash.{NameHash}
+use Rattle.smi_names.specs.{meaning.Meaning.root_label, meaning.Names.module_place}
+use Rattle.smi_names.specs.{nodes.Gathered.def_of_module, declared.hash.NameHash.NameHash}
 use Rattle.smi_names.specs.declared.nodes.source.Source.{Source}
 use Rattle.smi_names.specs.declared.nodes.source.Source.TheVariants as S
 use Rattle.smi_tree.specs.Nodes.{is_named}

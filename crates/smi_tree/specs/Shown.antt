@@ -1,37 +1,17 @@
 -- The syntax of objects as values are shown by it (RFC 2578, sections 7.1 and 7.2; RFC 2579,
 -- section 3.1).
-use Rattle.std.specs.Prelude.{
-  ◌≡◌,
-  ℕ,
-  ◌-◌,
-  List,
-  [],
-  length,
-  take,
-  drop,
-  unwrap_or,
-  Option,
-  Some,
-  None,
-  map,
-  option_map,
-  slice_index_or,
-}
-use Rattle.std.specs.List.{slice_get}
-use Rattle.std.specs.Option.{option_and_then}
-use Rattle.smi_text.specs.declared.trees.tree.Module.{Module}
-use Rattle.smi_text.specs.declared.trees.tree.DefKind.{DefKind}
+use Rattle.std.specs.Prelude.{◌≡◌, ℕ, ◌-◌, List, [], length, take, drop, unwrap_or, Option, Some}
+use Rattle.std.specs.Prelude.{None, map, option_map, slice_index_or}
+use Rattle.std.specs.{List.slice_get, Option.option_and_then}
+use Rattle.smi_text.specs.{declared.trees.tree.Module.Module, declared.trees.tree.DefKind.DefKind}
 use Rattle.smi_text.specs.declared.trees.tree.DefKind.TheVariants as D
-use Rattle.smi_names.specs.nodes.Nodes.{Node}
-use Rattle.smi_names.specs.declared.nodes.source.Source.{Source}
+use Rattle.smi_names.specs.{nodes.Nodes.Node, declared.nodes.source.Source.Source}
 use Rattle.smi_names.specs.declared.nodes.source.Source.TheVariants as S
-use Rattle.smi_tree.specs.types.Types.{Facts, object_in}
-use Rattle.smi_tree.specs.types.Kept.{kept_syntax, IsSyntax}
+use Rattle.smi_tree.specs.{types.Types.Facts, types.Types.object_in, types.Kept.kept_syntax}
+use Rattle.smi_tree.specs.{types.Kept.IsSyntax, declared.types.types.Types.Types}
 use Rattle.smi_names.specs.declared.meaning.base.TypeBase.{TypeBase}
 use Rattle.smi_names.specs.declared.meaning.base.TypeBase.TheVariants as T
-use Rattle.smi_tree.specs.declared.types.types.Types.{Types}
-use Rattle.smi_value.specs.Syntax.{ObjectSyntax}
-use Rattle.smi_value.specs.declared.base.ValueBase.{ValueBase}
+use Rattle.smi_value.specs.{Syntax.ObjectSyntax, declared.base.ValueBase.ValueBase}
 use Rattle.smi_value.specs.declared.base.ValueBase.TheVariants as V
 
 -- the syntax of a node's object is this one, or it has none

@@ -1,13 +1,10 @@
 -- The node that stands for the longest beginning of an identifier.
 use Rattle.std.specs.Prelude.{ℕ, zero, suc, List, [], length, take, Option, Some, None}
-use Rattle.std.specs.List.{slice_get}
-use Rattle.std.specs.Option.{option_and_then}
-use Rattle.smi_tree.specs.branches.Standing.{place_of}
+use Rattle.std.specs.{List.slice_get, Option.option_and_then}
+use Rattle.smi_tree.specs.{branches.Standing.place_of, Nodes.oids_of}
 use Rattle.smi_tree.specs.declared.branches.identifiers.Deepest.{Deepest}
-use Rattle.smi_names.specs.meaning.Meaning.{or_else}
+use Rattle.smi_names.specs.{meaning.Meaning.or_else, nodes.Nodes.Node}
 use Rattle.smi_text.specs.declared.trees.tree.Def.{Def}
-use Rattle.smi_names.specs.nodes.Nodes.{Node}
-use Rattle.smi_tree.specs.Nodes.{oids_of}
 
 -- a place, and how many numbers the beginning has for which it stands
 pub record Longest : Type 0 where

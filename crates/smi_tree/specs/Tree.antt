@@ -1,13 +1,10 @@
 -- What a tree of names holds.
-use Rattle.std.specs.Prelude.{◌≡◌, List, ◌++◌, Option}
-use Rattle.std.specs.Option.{option_copied}
+use Rattle.std.specs.{Prelude.◌≡◌, Prelude.List, Prelude.◌++◌, Prelude.Option, Option.option_copied}
 use Rattle.smi_text.specs.declared.trees.tree.Module.{Module}
 use Rattle.smi_names.specs.nodes.Nodes.{Node, roots, Loads}
 use Rattle.smi_names.specs.declared.nodes.warning.Warning.{Warning}
-use Rattle.smi_tree.specs.types.Types.{Facts}
-use Rattle.smi_tree.specs.columns.Index.{AreIndexesOf}
+use Rattle.smi_tree.specs.{types.Types.Facts, columns.Index.AreIndexesOf, Shown.AreSyntaxesOf}
 use Rattle.smi_show.specs.declared.index.part.IndexPart.{IndexPart}
-use Rattle.smi_tree.specs.Shown.{AreSyntaxesOf}
 use Rattle.smi_tree.specs.declared.node.Node.{Node as Seen}
 
 -- the modules that were passed, and the nodes in order of loading, each with the syntax of its

@@ -1,13 +1,10 @@
 //! Laws of trees of names, for any modules.
 ghost use Rattle.std.specs.Prelude.{◌≡◌, ℕ, List, [], MatchOption};
 ghost use Rattle.smi_text.specs.declared.trees.tree.Module.{Module};
-ghost use Rattle.smi_names.specs.declared.nodes.warning.Warning.{Warning};
-ghost use Rattle.smi_names.specs.nodes.Nodes.{Node};
-ghost use Rattle.smi_tree.specs.Bare.{bare};
+ghost use Rattle.smi_names.specs.{declared.nodes.warning.Warning.Warning, nodes.Nodes.Node};
+ghost use Rattle.smi_tree.specs.{Bare.bare, Standing.longest, Tree.Contents, Tree.IsTree};
 ghost use Rattle.smi_tree.specs.Nodes.{IsFirstChild, child_of, oids_of};
-ghost use Rattle.smi_tree.specs.Standing.{longest};
 ghost use Rattle.smi_tree.specs.branches.Standing.{HasNoBeginning, IsDeepestAt};
-ghost use Rattle.smi_tree.specs.Tree.{Contents, IsTree};
 
 use smi_names::one_loading;
 

@@ -1,11 +1,9 @@
 //! The tree as names are read and shown by it.
-ghost use Rattle.std.specs.Prelude.{◌≡◌, option_map};
-ghost use Rattle.std.specs.Option.{option_copied};
+ghost use Rattle.std.specs.{Prelude.◌≡◌, Prelude.option_map, Option.option_copied};
 ghost use Rattle.smi_show.specs.name.Standing.{standing_of as seen_as};
 ghost use Rattle.smi_names.specs.nodes.Nodes.{roots};
-ghost use Rattle.smi_tree.specs.Nodes.{place_anywhere};
+ghost use Rattle.smi_tree.specs.{Nodes.place_anywhere, Standing.longest_of};
 ghost use Rattle.smi_tree.specs.Naming.{home_name, standing_of_longest};
-ghost use Rattle.smi_tree.specs.Standing.{longest_of};
 
 use crate::branches::Deepest;
 use crate::tree::Tree;

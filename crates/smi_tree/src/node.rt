@@ -1,7 +1,5 @@
 //! The nodes of a tree, by where each comes from.
-ghost use Rattle.std.specs.Prelude.{◌≡◌};
-ghost use Rattle.std.specs.List.{slice_get};
-ghost use Rattle.std.specs.Option.{option_copied};
+ghost use Rattle.std.specs.{Prelude.◌≡◌, List.slice_get, Option.option_copied};
 ghost use Rattle.smi_tree.specs.Nodes.{is_named};
 ghost use Rattle.smi_tree.specs.Places.{home_from, label_from, definition_from};
 ghost use Rattle.smi_names.specs.chains.Order.{at_place};

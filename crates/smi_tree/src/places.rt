@@ -5,8 +5,7 @@ ghost use Rattle.std.specs.Prelude.{◌≡◌, ◌==◌, ℕ, List, Some, None, 
 ghost use Rattle.std.specs.Prelude.{unwrap_or};
 ghost use Rattle.std.specs.List.{position_from};
 ghost use Rattle.indexmap.specs.IndexMap.{get, hasher_of};
-ghost use Rattle.smi_names.specs.meaning.Meaning.{or_else};
-ghost use Rattle.smi_names.specs.meaning.Names.{module_place};
+ghost use Rattle.smi_names.specs.{meaning.Meaning.or_else, meaning.Names.module_place};
 ghost use Rattle.smi_tree.specs.Places as places;
 ghost use Rattle.smi_tree.specs.Places.{kept_place, AreOthers};
 

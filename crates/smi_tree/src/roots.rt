@@ -2,8 +2,7 @@
 ghost use Rattle.std.specs.Prelude.{◌≡◌, [], ◌∷◌, IfSome};
 ghost use Rattle.std.specs.Option.{option_copied};
 ghost use Rattle.smi_names.specs.nodes.Nodes.{roots};
-ghost use Rattle.smi_tree.specs.Bare.{IsRootOf, bare};
-ghost use Rattle.smi_tree.specs.Naming.{oid_of};
+ghost use Rattle.smi_tree.specs.{Bare.IsRootOf, Bare.bare, Naming.oid_of};
 
 use crate::naming::root_place;
 use smi_names::root_label;

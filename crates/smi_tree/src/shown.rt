@@ -1,9 +1,8 @@
 //! The syntax of objects as values are shown by it.
-ghost use Rattle.std.specs.Prelude.{◌≡◌, option_map};
-ghost use Rattle.std.specs.Option.{option_copied};
+ghost use Rattle.std.specs.{Prelude.◌≡◌, Prelude.option_map, Option.option_copied};
 ghost use Rattle.smi_tree.specs.types.Kept.{facts_of};
-ghost use Rattle.smi_tree.specs.Shown.{syntax_from};
-ghost use Rattle.smi_tree.specs.Shown.{value_base, between_quotes, units_of, shown_syntax};
+ghost use Rattle.smi_tree.specs.Shown.{syntax_from, value_base, between_quotes, units_of};
+ghost use Rattle.smi_tree.specs.Shown.{shown_syntax};
 
 use crate::types::{TypeSyntax, Types};
 use smi_names::{Source, TypeBase};

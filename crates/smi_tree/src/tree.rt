@@ -1,21 +1,16 @@
 //! The tree of names, and what it is asked for.
 ghost use Rattle.std.specs.Prelude.{◌≡◌, ◌<◌, ℕ, List, length, Some, None, IfOk, MatchOption};
-ghost use Rattle.std.specs.Prelude.{IfSome};
-ghost use Rattle.std.specs.Prelude.{◌+◌, is_some, option_map, slice_index_or};
-ghost use Rattle.std.specs.Option.{option_and_then, option_copied};
-ghost use Rattle.std.specs.List.{slice_get};
+ghost use Rattle.std.specs.Prelude.{IfSome, ◌+◌, is_some, option_map, slice_index_or};
+ghost use Rattle.std.specs.{Option.option_and_then, Option.option_copied, List.slice_get};
 ghost use Rattle.smi_tree.specs.branches.Children.{places_left};
 ghost use Rattle.smi_tree.specs.branches.Standing.{AreChildren, HasNoBeginning, IsDeepestAt};
 ghost use Rattle.smi_tree.specs.branches.Standing.{HasNoneBelow, oid_at};
 ghost use Rattle.smi_names.specs.meaning.Meaning.{module_named};
 ghost use Rattle.smi_tree.specs.Nodes.{IsFirstChild, is_labelled, oids_of, place_anywhere};
 ghost use Rattle.smi_tree.specs.Nodes.{place_in_module};
-ghost use Rattle.smi_tree.specs.types.Kept.{facts_of};
-ghost use Rattle.smi_tree.specs.private.Resolved.{IsResolved};
-ghost use Rattle.smi_tree.specs.Shown.{shown_at, units_at};
-ghost use Rattle.smi_tree.specs.Naming.{oid_of};
+ghost use Rattle.smi_tree.specs.{types.Kept.facts_of, private.Resolved.IsResolved, Shown.shown_at};
+ghost use Rattle.smi_tree.specs.{Shown.units_at, Naming.oid_of, Tree.IsTree, Tree.seen_node};
 ghost use Rattle.smi_tree.specs.Standing.{longest, longest_of};
-ghost use Rattle.smi_tree.specs.Tree.{IsTree, seen_node};
 ghost use Rattle.smi_names.specs.declared.nodes.warning.Warning.{Warning};
 
 use crate::branches::{Children, Deepest, Identifiers};

@@ -1,19 +1,14 @@
 -- The bits of a value of BITS that are set.
-use Rattle.std.proofs.lemmas.Grind.{common_steps}
-use Rattle.std.proofs.Common.{◌≡◌, ℕ, zero, suc, ◌+◌, ◌-◌, ◌*◌, ◌/◌, ◌%◌, ◌^◌, ◌<◌, ◌≤◌, Bool, true, eqb, List, [], ◌∷◌, ◌++◌, length}
-use Rattle.std.proofs.Common.{get_or, refl, sym, ◌∙◌, ap, arith, append_assoc}
-use Rattle.std.specs.Prelude.{Contains, codes}
-use Rattle.std.specs.List.{filter, flat_map, enumerate_from, range_with_len}
+use Rattle.std.proofs.{lemmas.Grind.common_steps, lemmas.List.get_or_default, lemmas.List.Kept.AllPairs-filter, lemmas.Map.Made.Contains-tail}
+use Rattle.std.proofs.Common.{◌≡◌, ℕ, zero, suc, ◌+◌, ◌-◌, ◌*◌, ◌/◌, ◌%◌, ◌^◌, ◌<◌, ◌≤◌, Bool, true, eqb, List, [], ◌∷◌, ◌++◌, length, get_or, refl}
+use Rattle.std.proofs.Common.{sym, ◌∙◌, ap, arith, append_assoc}
+use Rattle.std.specs.{Prelude.Contains, Prelude.codes, List.filter, List.flat_map, List.enumerate_from, List.range_with_len}
 use Rattle.std.proofs.lemmas.Bool.{cond_both, eqb-true, eq-eqb}
-use Rattle.std.proofs.lemmas.List.{get_or_default}
 use Rattle.std.proofs.lemmas.List.Elements.{All-contains, All-filter, filter_passes}
 use Rattle.std.proofs.lemmas.List.FromFn.{get_or-range_with_len, length-range_with_len}
-use Rattle.std.proofs.lemmas.List.Kept.{AllPairs-filter}
-use Rattle.std.proofs.lemmas.Map.Made.{Contains-tail}
 use Rattle.smi_text.specs.declared.trees.tree.NamedNumber.{NamedNumber}
-use Rattle.smi_value.specs.declared.letters.letters.Letters.{Letters}
+use Rattle.smi_value.specs.{declared.letters.letters.Letters.Letters, Texts.hexadecimal_text}
 use Rattle.smi_value.specs.Pieces.{AreSetBits, IsBitSet, IsBitsText, bit_text, octet_bits, set_bit_text, type_word}
-use Rattle.smi_value.specs.Texts.{hexadecimal_text}
 
 -- ---- rising numbers
 

@@ -1,25 +1,14 @@
 -- Digits read from the front of a text, and written from the last to the first.
-use Rattle.std.proofs.lemmas.Grind.{common_steps}
+use Rattle.std.proofs.{lemmas.Grind.common_steps, Math.ListN.set, lemmas.List.drop-set, lemmas.List.get_or-take, lemmas.List.take_more}
+use Rattle.std.proofs.{lemmas.List.Sums.prefix_len_passes, lemmas.List.Folds.length-prefix_len, lemmas.Int.Digits.digits_value_more}
+use Rattle.std.proofs.{lemmas.Int.Digits.number_after_append, lemmas.Str.digit_value_digit, lemmas.Str.Parse.digits_value-take-le, Math.Pow.pow_mono}
+use Rattle.std.proofs.{lemmas.Nat.pow-add, lemmas.Fmt.decimal_digit, lemmas.Fmt.decimal_step}
 use Rattle.std.proofs.Common.{◌≡◌, ℕ, suc, ◌+◌, ◌-◌, ◌*◌, ◌/◌, ◌%◌, ◌<◌, ◌≤◌, true, false, List, [], ◌∷◌, length, take, drop, get_or, refl, sym, ◌∙◌}
 use Rattle.std.proofs.Common.{ap, arith, rules, tests, add-one, ◌^◌, inl, inr}
-use Rattle.std.specs.Fmt.{digits, digits_onto, digit_glyph, decimal}
-use Rattle.std.specs.Int.{IsInRange}
-use Rattle.std.specs.Str.Parse.{digits_value}
-use Rattle.std.proofs.Math.ListN.{set}
-use Rattle.std.proofs.lemmas.List.{drop-set, get_or-take, take_more}
-use Rattle.std.proofs.lemmas.List.Sums.{prefix_len_passes}
-use Rattle.std.proofs.lemmas.List.Folds.{length-prefix_len}
-use Rattle.std.proofs.lemmas.Int.Digits.{digits_value_more, number_after_append}
-use Rattle.std.proofs.lemmas.Str.{digit_value_digit}
-use Rattle.std.proofs.lemmas.Str.Parse.{digits_value-take-le}
-use Rattle.std.proofs.Math.Pow.{pow_mono}
+use Rattle.std.specs.{Fmt.digits, Fmt.digits_onto, Fmt.digit_glyph, Fmt.decimal, Int.IsInRange, Str.Parse.digits_value, Bool.◌==◌}
 use Rattle.smi_value.specs.hint.Number.{front_digits, StartsWithNumber, IsNumberHint}
-use Rattle.smi_value.specs.hint.Pieces.{number_of_octets}
-use Rattle.std.proofs.lemmas.Nat.{pow-add}
-use Rattle.std.proofs.lemmas.Fmt.{decimal_digit, decimal_step}
-use Rattle.smi_value.specs.declared.hint.number.NumberForm.{NumberForm}
+use Rattle.smi_value.specs.{hint.Pieces.number_of_octets, declared.hint.number.NumberForm.NumberForm}
 use Rattle.smi_value.specs.declared.hint.number.NumberForm.TheVariants as form
-use Rattle.std.specs.Bool.{◌==◌}
 
 -- the digits that are still to be written stand before the ones that are there
 pub record AreLeft (at base left : ℕ) (written : List ℕ) (n : ℕ) : Type 0 where

@@ -1,8 +1,7 @@
 -- Numbers that one to three digits state.
 use Rattle.std.proofs.lemmas.Grind.{common_steps}
 use Rattle.std.proofs.Common.{◌≡◌, ℕ, pos, ◌+◌, ◌-◌, ◌*◌, ◌≤◌, true, false, [], ◌∷◌, List, Some, refl, length, get_or, arith, rules, tests}
-use Rattle.std.specs.Bool.{nat_le}
-use Rattle.std.specs.Int.{IsInRange}
+use Rattle.std.specs.{Bool.nat_le, Int.IsInRange}
 use Rattle.smi_text.specs.trees.Number.{digit_value, number_value, is_negative, is_number, stated_number}
 
 value_of : (digit : ℕ) → IsInRange 48 57 digit → digit_value digit ≡ digit - 48

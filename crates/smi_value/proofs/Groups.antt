@@ -1,19 +1,16 @@
 -- The pieces and groups that octets are still to be cut into, and those that they were cut into.
-use Rattle.std.proofs.lemmas.Grind.{common_steps}
-use Rattle.std.proofs.Common.{◌≡◌, ◌≢◌, ℕ, zero, suc, ◌+◌, ◌-◌, ◌<◌, ◌≤◌, true, false, List, [], ◌∷◌, ◌++◌, length, take, drop, replicate, refl}
-use Rattle.std.proofs.Common.{sym, ◌∙◌, ap, subst, arith, inl, inr, ◌⊎◌, append-nil, Option, None, option_to_list, if◌then◌else◌}
-use Rattle.std.proofs.Common.{length-drop, map, append_assoc, min}
+use Rattle.std.proofs.{lemmas.Grind.common_steps, lemmas.Bool.and_parts, lemmas.Bool.not-true, lemmas.Bool.eqb-true, lemmas.Bool.cases_order}
+use Rattle.std.proofs.Common.{◌≡◌, ◌≢◌, ℕ, zero, suc, ◌+◌, ◌-◌, ◌<◌, ◌≤◌, true, false, List, [], ◌∷◌, ◌++◌, length, take, drop, replicate, refl, sym}
+use Rattle.std.proofs.Common.{◌∙◌, ap, subst, arith, inl, inr, ◌⊎◌, append-nil, Option, None, option_to_list, if◌then◌else◌, length-drop, map}
+use Rattle.std.proofs.Common.{append_assoc, min}
 use Rattle.std.specs.Bool.{◌==◌}
 use Rattle.std.proofs.lemmas.List.{length-replicate, length-map, length-take, length-take-le, drop_all}
 use Rattle.snmp_io.specs.draft.Draft.{Written, Grows, Adds}
-use Rattle.smi_value.specs.declared.hint.spec.Spec.{Spec}
+use Rattle.smi_value.specs.{declared.hint.spec.Spec.Spec, declared.hint.spec.OctetFormat.OctetFormat}
 use Rattle.smi_value.specs.hint.Spec.{IsFirstSpec, AreSpecs, IsOctetHint, LastTakesOctets, takes_octets, most_octets}
 use Rattle.smi_value.specs.hint.Pieces.{ArePieces, IsCut, IsGroup, AreGroups, ShowsOctets, piece_text, pieces_text, mark_before, last_mark, body_of}
 use Rattle.smi_value.specs.hint.Pieces.{specs_after, is_single, single_text, singles_text}
-use Rattle.smi_value.specs.declared.hint.spec.OctetFormat.{OctetFormat}
-use Rattle.std.proofs.lemmas.Bool.{and_parts, not-true, eqb-true, cases_order}
-use Rattle.smi_value.proofs.Growing.{grows_none, grows_both, adds_from}
-use Rattle.smi_value.proofs.Specs.{after_first, first_some, Begins}
+use Rattle.smi_value.proofs.{Growing.grows_none, Growing.grows_both, Growing.adds_from, Specs.after_first, Specs.first_some, Specs.Begins}
 
 -- from `old` to `new` the text of some pieces of the octets is appended
 pub record AppendsPieces (spec : Spec) (times : ℕ) (octets : List ℕ) (old new : Written) (rest : List ℕ) : Type 0 where

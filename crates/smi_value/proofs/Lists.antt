@@ -1,10 +1,8 @@
 -- Elements that are found or shown one after the other.
-use Rattle.std.proofs.lemmas.Grind.{common_steps}
+use Rattle.std.proofs.{lemmas.Grind.common_steps, lemmas.List.take_more, lemmas.List.flat_map_more, Math.Seq.take-length}
 use Rattle.std.proofs.Common.{◌≡◌, ℕ, ◌+◌, ◌<◌, List, [], ◌++◌, sym, ◌∙◌, ap, take, length, get_or, arith, zero-add}
 use Rattle.std.specs.List.{flat_map, enumerate_from}
-use Rattle.std.proofs.lemmas.List.{take_more, flat_map_more}
 use Rattle.std.proofs.lemmas.List.FromFn.{length-enumerate_from, get_or-enumerate_from}
-use Rattle.std.proofs.Math.Seq.{take-length}
 
 -- one element more, with its place
 pub enumerated_more : (f : ℕ × ℕ → List ℕ) (xs : List ℕ) (count : ℕ) → count < length xs

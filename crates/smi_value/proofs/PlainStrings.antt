@@ -1,16 +1,13 @@
 -- Strings that stand between quotes as they are.
-use Rattle.std.proofs.lemmas.Grind.{common_steps}
+use Rattle.std.proofs.{lemmas.Grind.common_steps, lemmas.List.length-map}
 use Rattle.std.proofs.Common.{◌≡◌, ℕ, suc, ◌+◌, ◌%◌, ◌^◌, ◌≤◌, Bool, true, false, cond, ltb, eqb, List, [], ◌∷◌, length, get_or, map, replicate, w8}
 use Rattle.std.proofs.Common.{refl, sym, ap, ◌∙◌, arith, ◌||◌, not, inl, inr}
-use Rattle.std.specs.Bool.{◌==◌, OnTrue}
-use Rattle.std.specs.List.{flat_map, list_all}
+use Rattle.std.specs.{Bool.◌==◌, Bool.OnTrue, List.flat_map, List.list_all}
 use Rattle.std.proofs.lemmas.Bool.{and_parts, and_from, cases_lt, not-true, eqb-true, OnTrue_from}
-use Rattle.std.proofs.lemmas.List.{length-map}
 use Rattle.std.proofs.lemmas.Simd.{length-chunk, bitmask_splat, tops_compared, zip2_splat_left, mask_l-mod, none_from_empty_mask}
 use lib.Lanes.{chunk, mask_l, zip2, top}
-use Rattle.smi_value.specs.declared.letters.letters.StringForm.{StringForm}
+use Rattle.smi_value.specs.{declared.letters.letters.StringForm.StringForm, Texts.is_printable, Texts.escaped}
 use Rattle.smi_value.specs.declared.letters.letters.StringForm.TheVariants as strings
-use Rattle.smi_value.specs.Texts.{is_printable, escaped}
 use Rattle.smi_value.specs.Pieces.{ArePlain, IsShownPlain, is_plain, dotted}
 
 -- what the mask of a test of lanes is, with the octet that all are compared with on the left

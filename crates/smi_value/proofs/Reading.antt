@@ -1,11 +1,8 @@
 -- Letters that are read one after the other.
 use Rattle.std.proofs.Common.{arith, ◌≡◌, ℕ, ◌+◌, ◌<◌, Bool, true, false, not, List, [], ◌∷◌, ◌++◌, Option, Some, None, refl, sym, ◌∙◌, ap, take}
 use Rattle.std.proofs.Common.{drop, length, get_or, if◌then◌else◌, suc, drop-cons, take-append-drop, ◌||◌}
-use Rattle.std.proofs.lemmas.Grind.{common_steps}
-use Rattle.std.specs.Bool.{◌==◌}
-use Rattle.std.specs.List.{find}
-use Rattle.std.proofs.lemmas.List.{reverse-append, take_more}
-use Rattle.std.proofs.lemmas.List.Folds.{find-append}
+use Rattle.std.proofs.{lemmas.Grind.common_steps, lemmas.List.reverse-append, lemmas.List.take_more, lemmas.List.Folds.find-append}
+use Rattle.std.specs.{Bool.◌==◌, List.find}
 use Rattle.smi_value.specs.letters.Letters.{AreLetters, IsWith, is_one_of, last_of, has_letter, first_other, all_letters}
 use Rattle.smi_value.specs.declared.letters.letters.Letters.{Letters}
 

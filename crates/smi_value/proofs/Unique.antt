@@ -1,14 +1,10 @@
 -- A hint shows a value in one way.
 use Rattle.std.proofs.lemmas.Grind.{common_steps}
 use Rattle.std.proofs.Common.{◌≡◌, ℕ, ℤ, ◌-◌, inl, inr, List, [], ◌∷◌, ◌++◌, drop, get_or, refl, sym, ◌∙◌, ap, subst, arith}
-use Rattle.smi_value.specs.hint.Number.{IsNumberHint}
-use Rattle.smi_value.specs.hint.Hint.{ShowsNumber, Shows}
-use Rattle.smi_value.specs.declared.hint.number.NumberForm.{NumberForm}
+use Rattle.smi_value.specs.{hint.Number.IsNumberHint, hint.Hint.ShowsNumber, hint.Hint.Shows, declared.hint.number.NumberForm.NumberForm}
+use Rattle.smi_value.specs.{declared.hint.hint.HintValue.HintValue, hint.Spec.AreSpecs, declared.hint.spec.Spec.Spec}
 use Rattle.smi_value.specs.declared.hint.number.NumberForm.TheVariants as form
-use Rattle.smi_value.specs.declared.hint.hint.HintValue.{HintValue}
 use Rattle.smi_value.specs.declared.hint.hint.HintValue.TheVariants as value
-use Rattle.smi_value.specs.hint.Spec.{AreSpecs}
-use Rattle.smi_value.specs.declared.hint.spec.Spec.{Spec}
 use Rattle.smi_value.specs.hint.Pieces.{IsCut, AreGroups, ShowsOctets, pieces_text, times_of, body_of, specs_after}
 use Rattle.smi_value.proofs.Specs.{same_spec, same_rest}
 

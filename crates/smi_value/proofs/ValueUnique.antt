@@ -4,12 +4,9 @@ use Rattle.std.proofs.lemmas.Grind.{common_steps}
 use Rattle.std.specs.Prelude.{codes}
 use Rattle.snmp_wire.specs.ber.Value.{Datum, integer_value, octet_string, object_id, gauge32}
 use Rattle.smi_text.specs.declared.trees.tree.NamedNumber.{NamedNumber}
-use Rattle.smi_value.specs.declared.letters.letters.Letters.{Letters}
-use Rattle.smi_value.specs.Pieces.{IsBitsText, type_word}
-use Rattle.smi_value.specs.Syntax.{ObjectSyntax}
+use Rattle.smi_value.specs.{declared.letters.letters.Letters.Letters, Pieces.IsBitsText, Pieces.type_word, Syntax.ObjectSyntax}
 use Rattle.smi_value.specs.Value.{IsNumberText, IsTypedNumber, IsIntegerText, IsHintedString, IsStringText, IsOctetsText, ShowsValue}
-use Rattle.smi_value.proofs.Bits.{bits_once}
-use Rattle.smi_value.proofs.Unique.{same_shown, same_number}
+use Rattle.smi_value.proofs.{Bits.bits_once, Unique.same_shown, Unique.same_number}
 
 number_once : (hint : Option (List ℕ)) (n : ℤ) (a b : List ℕ) → IsNumberText hint n a → IsNumberText hint n b → a ≡ b
 number_once None n a b h k = h ∙ sym k

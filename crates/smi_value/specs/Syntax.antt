@@ -1,10 +1,7 @@
 -- The syntax of an object, as far as its values are shown by it (RFC 2578, section 7; RFC 2579).
 use Rattle.std.specs.Prelude.{ℕ, ℤ, Bool, true, false, if◌then◌else◌, List, [], Option, Some, None}
-use Rattle.std.specs.Option.{option_map}
-use Rattle.std.specs.List.{find}
-use Rattle.std.specs.Ordering.{int_eq}
-use Rattle.smi_text.specs.declared.trees.tree.NamedNumber.{NamedNumber}
-use Rattle.smi_text.specs.trees.Number.{stated_number}
+use Rattle.std.specs.{Option.option_map, List.find, Ordering.int_eq}
+use Rattle.smi_text.specs.{declared.trees.tree.NamedNumber.NamedNumber, trees.Number.stated_number}
 use Rattle.smi_value.specs.declared.base.ValueBase.{ValueBase}
 use Rattle.smi_value.specs.declared.base.ValueBase.TheVariants as base
 

@@ -3,23 +3,15 @@ use Rattle.std.specs.Prelude.{◌≡◌, ℕ, ℤ, pos, ◌⊎◌, List, ◌++�
 use Rattle.std.specs.Prelude.{MatchBool}
 use Rattle.std.specs.Fmt.{signed_decimal}
 use Rattle.smi_value.specs.hint.Hint.{IsOfNumbers, IsOfOctets, ShowsNumber}
-use Rattle.smi_value.specs.hint.Pieces.{ShowsOctets}
+use Rattle.smi_value.specs.{hint.Pieces.ShowsOctets, Texts.address_text, Texts.hexadecimal_text}
 use Rattle.smi_value.specs.declared.letters.letters.Letters.{Letters}
-use Rattle.snmp_wire.specs.ber.Value.{
-  Datum,
-  integer_value,
-  octet_string,
-  null_value,
-  object_id,
-  ip_address,
-}
-use Rattle.snmp_wire.specs.ber.Value.{counter32, gauge32, time_ticks, opaque_octets, counter64}
-use Rattle.snmp_wire.specs.ber.Value.{no_such_object, no_such_instance, end_of_mib_view}
+use Rattle.snmp_wire.specs.ber.Value.{Datum, integer_value, octet_string, null_value, object_id}
+use Rattle.snmp_wire.specs.ber.Value.{ip_address, counter32, gauge32, time_ticks, opaque_octets}
+use Rattle.snmp_wire.specs.ber.Value.{counter64, no_such_object, no_such_instance, end_of_mib_view}
 use Rattle.smi_value.specs.declared.base.ValueBase.TheVariants as base
 use Rattle.smi_value.specs.Syntax.{ObjectSyntax, syntax_at, is_of_bits, name_of_number}
 use Rattle.smi_value.specs.Pieces.{IsBitsText, type_word, units_text, named_text, ticks_text}
 use Rattle.smi_value.specs.Pieces.{string_text}
-use Rattle.smi_value.specs.Texts.{address_text, hexadecimal_text}
 
 -- a number under a hint of integers, otherwise in decimal digits
 abbrev pub IsNumberText : Option (List ℕ) → ℤ → List ℕ → Type 0

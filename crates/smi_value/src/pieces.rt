@@ -1,13 +1,11 @@
 //! The pieces of the texts of values.
-ghost use Rattle.std.specs.Prelude.{◌≡◌, ◌<◌, ◌+◌, ◌*◌, ◌∷◌, ◌++◌, [], List, ℕ, codes};
-ghost use Rattle.std.specs.Prelude.{decimal, if◌then◌else◌, ◌/◌, ◌^◌};
-ghost use Rattle.std.specs.Fmt.{signed_decimal};
+ghost use Rattle.std.specs.Prelude.{◌≡◌, ◌<◌, ◌+◌, ◌*◌, ◌∷◌, ◌++◌, [], List, ℕ, codes, decimal};
+ghost use Rattle.std.specs.Prelude.{if◌then◌else◌, ◌/◌, ◌^◌};
+ghost use Rattle.std.specs.{Fmt.signed_decimal, Option.option_copied};
 ghost use Rattle.std.specs.List.{flat_map, list_all, enumerate_from};
-ghost use Rattle.std.specs.Option.{option_copied};
 ghost use Rattle.snmp_io.specs.draft.Draft.{Adds};
 ghost use Rattle.smi_value.specs.Pieces.{is_typed, type_word, units_text, dotted, quoted, is_text};
-ghost use Rattle.smi_value.specs.Pieces.{string_text, ticks_text, named_text, bit_name};
-ghost use Rattle.smi_value.specs.Pieces.{octet_bits};
+ghost use Rattle.smi_value.specs.Pieces.{string_text, ticks_text, named_text, bit_name, octet_bits};
 ghost use Rattle.smi_value.specs.Pieces.{IsBitsText, bit_text, set_bit_text};
 ghost use Rattle.smi_value.specs.Texts.{is_printable, escaped, dumped, hexadecimal_text};
 ghost use Rattle.smi_value.specs.Texts.{address_text, two_digits, days_text, clock_text};

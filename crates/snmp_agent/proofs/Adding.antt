@@ -1,24 +1,16 @@
 -- What a draft has behind one more line, and why the reading stops at it.
 use Rattle.std.proofs.Common.{◌≡◌, ℕ, List, [], ◌∷◌, ◌++◌, refl, sym, ap, subst, Result, Ok, Err, IfOk, IfErr, MatchResult, append-nil, ◌∙◌, Bool}
 use Rattle.std.proofs.Common.{◌+◌, ◌<◌, ◌≤◌, append_assoc, arith, length, length-append}
-use Rattle.std.specs.Str.Lines.{lines}
-use Rattle.std.specs.List.{Contains}
-use Rattle.std.specs.List.Sorted.{IsPermutation}
+use Rattle.std.specs.{Str.Lines.lines, List.Contains, List.Sorted.IsPermutation, FinMap.entries, FinMap.entries_sorted}
 use Rattle.std.proofs.lemmas.List.Sorted.{Contains-permutation, IsPermutation-append_left, IsPermutation-sym, IsPermutation-trans}
-use Rattle.std.specs.FinMap.{entries, entries_sorted}
 use Rattle.snmp_wire.specs.Message.{Datum, VarBind}
-use Rattle.snmp_agent.specs.declared.table.draft.Draft.{Draft}
-use Rattle.snmp_agent.specs.declared.table.draft.Halt.{Halt}
+use Rattle.snmp_agent.specs.{declared.table.draft.Draft.Draft, declared.table.draft.Halt.Halt, declared.table.error.TableError.TableError}
+use Rattle.snmp_agent.specs.{table.Form.States, table.Form.instance, table.Format.Format, table.Places.entry_of, table.Text.AreTable}
 use Rattle.snmp_agent.specs.declared.table.draft.Halt.TheVariants as halt
-use Rattle.snmp_agent.specs.declared.table.error.TableError.{TableError}
 use Rattle.snmp_agent.specs.declared.table.error.TableError.TheVariants as error
 use Rattle.snmp_agent.specs.table.Stated.{IsBehindGood, IsFirstFaultIn, number_of}
-use Rattle.snmp_agent.specs.private.table.Draft.{AreDistinct, HaltsBy, HoldsTable, IsDraft, IsFaultBehind, IsFirstHalt, IsFull, IsHalt, IsHaltAt, IsStop}
-use Rattle.snmp_agent.specs.private.table.Draft.{draft_entries, draft_objects}
-use Rattle.snmp_agent.specs.table.Form.{States, instance}
-use Rattle.snmp_agent.specs.table.Format.{Format}
-use Rattle.snmp_agent.specs.table.Places.{entry_of}
-use Rattle.snmp_agent.specs.table.Text.{AreTable}
+use Rattle.snmp_agent.specs.private.table.Draft.{AreDistinct, HaltsBy, HoldsTable, IsDraft, IsFaultBehind, IsFirstHalt, IsFull, IsHalt, IsHaltAt}
+use Rattle.snmp_agent.specs.private.table.Draft.{IsStop, draft_entries, draft_objects}
 use Rattle.snmp_agent.proofs.OneStatement.{StatesOnly}
 use Rattle.snmp_agent.proofs.TableDrafts.{distinct_moved, distinct_sorted, double, good_lines, holds_instance, whole}
 

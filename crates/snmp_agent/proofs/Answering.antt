@@ -1,6 +1,5 @@
 -- What the view of an agent answers: names that have an encoding, and values that an answer may give.
-use Rattle.std.proofs.Common.{arith, ◌≡◌, ℕ, zero, suc, List, sym, subst}
-use Rattle.std.proofs.lemmas.Grind.{common_steps}
+use Rattle.std.proofs.{Common.arith, Common.◌≡◌, Common.ℕ, Common.zero, Common.suc, Common.List, Common.sym, Common.subst, lemmas.Grind.common_steps}
 use Rattle.snmp_oid.specs.Identifier.{IsWire}
 use Rattle.snmp_wire.specs.Message.{Datum, VarBind}
 use Rattle.snmp_wire.specs.Message.Datum.{no_such_object, no_such_instance, end_of_mib_view}

@@ -1,9 +1,8 @@
 -- There is one answer to each name.
 use Rattle.std.proofs.Common.{◌≡◌, ℕ, List, [], ◌∷◌, refl, sym, ◌∙◌}
 use Rattle.snmp_wire.specs.Message.{VarBind}
-use Rattle.snmp_agent.specs.table.Exact.{HasOne}
+use Rattle.snmp_agent.specs.{table.Exact.HasOne, Reply.AreAnswers}
 use Rattle.snmp_agent.specs.table.Table.{MibView, IsGet, IsNext, IsNextAfter}
-use Rattle.snmp_agent.specs.Reply.{AreAnswers}
 
 -- the laws of a table: of each name it has one answer
 abbrev pub HasGets : Type 0

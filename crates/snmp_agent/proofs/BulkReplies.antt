@@ -2,15 +2,10 @@
 use Rattle.std.proofs.Common.{◌≡◌, ◌≢◌, ℕ, pos, ◌+◌, ◌≤◌, ◌<◌, List, [], ◌∷◌, ◌++◌, length, refl, sym, ap, subst, ◌∙◌, ⊎_elim, arith}
 use Rattle.std.proofs.lemmas.Bool.{cases_lt}
 use Rattle.snmp_wire.specs.declared.kind.Kind.TheVariants as kind
-use Rattle.snmp_wire.specs.Message.{VarBind, Message}
-use Rattle.snmp_wire.specs.Canon.{canon_binding, canon_bindings}
-use Rattle.snmp_wire.specs.Sizes.{MessageSizes}
-use Rattle.snmp_agent.specs.table.Table.{MibView}
+use Rattle.snmp_wire.specs.{Message.VarBind, Message.Message, Canon.canon_binding, Canon.canon_bindings, Sizes.MessageSizes}
+use Rattle.snmp_agent.specs.{table.Table.MibView, private.Answering.Held, private.Answering.IsRoom, private.Answering.whole_size}
 use Rattle.snmp_agent.specs.Reply.{Fits, IsBulk, IsResponse, bulk, no_error, response}
-use Rattle.snmp_agent.specs.private.Answering.{Held, IsRoom, whole_size}
-use Rattle.snmp_agent.proofs.Requests.{response_size}
-use Rattle.snmp_agent.proofs.Lengths.{within, beyond}
-use Rattle.snmp_agent.proofs.ReplyBindings.{longer_by}
+use Rattle.snmp_agent.proofs.{Requests.response_size, Lengths.within, Lengths.beyond, ReplyBindings.longer_by}
 use Rattle.snmp_agent.proofs.Fronts.{HasNoRoom, HoldsFront, some_octets}
 
 -- a front that is longer than another has the binding behind that

@@ -1,17 +1,14 @@
 -- One row put among others, or removed.
-use Rattle.std.proofs.lemmas.Grind.{common_steps}
+use Rattle.std.proofs.{lemmas.Grind.common_steps, lemmas.Option.slice_get-get_or, lemmas.Option.slice_get_within}
 use Rattle.std.proofs.Common.{◌≡◌, ℕ, suc, ◌-◌, Bool, true, false, not, cond, is_some, List, [], ◌∷◌, ◌++◌, length, take, drop, Some, slice_index_or}
 use Rattle.std.proofs.Common.{None, slice_set, refl, sym, ◌∙◌, ap, subst, arith, Ordering, Less, Equal, Greater, Result, Ok, Err, IfOk, IfErr, Option}
-use Rattle.std.specs.declared.alloc.AllocError.{AllocError}
-use Rattle.std.specs.Ordering.{nat_cmp, is_eq, eq_by_cmp}
-use Rattle.std.specs.Cmp.{tied_itself, alike_right, eq_by_cmp_equiv}
-use Rattle.std.specs.Cmp.Lexicographic.{slice_cmp, nat_list_cmp_total}
+use Rattle.std.specs.{declared.alloc.AllocError.AllocError, Ordering.nat_cmp, Ordering.is_eq, Ordering.eq_by_cmp, Cmp.tied_itself, Cmp.alike_right}
+use Rattle.std.specs.{Cmp.eq_by_cmp_equiv, Cmp.Lexicographic.slice_cmp, Cmp.Lexicographic.nat_list_cmp_total}
 use Rattle.std.specs.FinMap.{FinMap, get, find, from_sorted, insert, remove, contains_key, get-from_sorted, entries-from_sorted, entries-insert}
 use Rattle.std.specs.FinMap.{get-insert, get-remove, same_map, same_entries_map, nat_cmp-IsAntisymmetric, slice_cmp-IsAntisymmetric}
 use Rattle.std.specs.FinMap.Entries.{put, by_order, is_sorted-put, is_sorted-where_key, find-where_key}
 use Rattle.std.specs.List.{slice_get, insert as insert_at, remove as remove_at}
 use Rattle.std.proofs.lemmas.List.{append-nil, take-append-drop, map-append, set_split}
-use Rattle.std.proofs.lemmas.Option.{slice_get-get_or, slice_get_within}
 use Rattle.snmp_oid.specs.Identifier.{IsWire}
 use Rattle.snmp_wire.specs.Message.{Datum, VarBind}
 use Rattle.snmp_agent.specs.table.Table.{MibView, IsRow, IsInstanceName, IsInstanceValue, IsMibView, with_row, without_row}

@@ -2,8 +2,7 @@
 use Rattle.std.proofs.Common.{◌≡◌, ◌≢◌, ℕ, List, [], ◌∷◌, ◌++◌, refl, sym, ◌∙◌, ap}
 use Rattle.std.specs.List.{All}
 use Rattle.std.proofs.lemmas.List.Elements.{All-head, All-tail}
-use Rattle.snmp_io.specs.QuoteLaws.{cut_once}
-use Rattle.snmp_io.specs.Quotes.{IsCut}
+use Rattle.snmp_io.specs.{QuoteLaws.cut_once, Quotes.IsCut}
 use Rattle.snmp_agent.specs.table.Format.{Format, EndsAtBar, bar, first_format, second_format}
 
 -- no bar stands in the text

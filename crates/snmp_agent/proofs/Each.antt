@@ -1,23 +1,15 @@
 -- Each name has just one answer to a Get, and one to a GetNext.
-use Rattle.std.proofs.lemmas.Grind.{common_steps}
+use Rattle.std.proofs.{lemmas.Grind.common_steps, lemmas.List.take-append-drop, Math.Seq.take-append_seam}
 use Rattle.std.proofs.Common.{◌≡◌, ℕ, zero, suc, ◌+◌, inl, inr, Bool, true, false, List, [], map, length, take, drop, Option, Some, None, Less, Equal}
 use Rattle.std.proofs.Common.{Greater, Ordering, refl, sym, ap, subst, ◌∙◌, ⊎_elim, ◌≤◌, arith, cond, length-append, unwrap_or}
-use Rattle.std.specs.Ordering.{nat_cmp}
-use Rattle.std.specs.Cmp.Lexicographic.{slice_cmp}
-use Rattle.std.specs.FinMap.{get, entries}
-use Rattle.std.specs.FinSet.{contains}
+use Rattle.std.specs.{Ordering.nat_cmp, Cmp.Lexicographic.slice_cmp, FinMap.get, FinMap.entries, FinSet.contains}
 use Rattle.std.proofs.lemmas.Bool.{cases_lt, false≢true, or_cases, or_parts}
-use Rattle.std.proofs.lemmas.List.{take-append-drop}
-use Rattle.std.proofs.Math.Seq.{take-append_seam}
 use Rattle.snmp_wire.specs.Message.{Datum, no_such_object, no_such_instance, VarBind}
-use Rattle.snmp_agent.specs.table.Exact.{HasOne}
+use Rattle.snmp_agent.specs.{table.Exact.HasOne, table.Pages.entries_after, table.Places.var_of}
 use Rattle.snmp_agent.specs.table.Table.{MibView, IsRow, HasObject, IsGet, variable, unknown_object, unknown_instance, IsSuccessor, IsNext, successor}
 use Rattle.snmp_agent.specs.table.Table.{end_of_view, IsNextAfter}
 use Rattle.snmp_agent.specs.table.Listing.{first_or_end, got_at, has_prefix}
-use Rattle.snmp_agent.specs.table.Pages.{entries_after}
-use Rattle.snmp_agent.specs.table.Places.{var_of}
-use Rattle.snmp_agent.proofs.Rising.{same_name, turned}
-use Rattle.snmp_agent.proofs.Following.{IsOrder, behind_name, is_next}
+use Rattle.snmp_agent.proofs.{Rising.same_name, Rising.turned, Following.IsOrder, Following.behind_name, Following.is_next}
 
 same_binding : (p q : VarBind) → p.name ≡ q.name → p.value ≡ q.value → p ≡ q
 same_binding p q name value = λ i. record { name = name i; value = value i }

@@ -1,12 +1,9 @@
 -- Which bindings have an encoding, and how long it is.
-use Rattle.std.proofs.lemmas.Grind.{common_steps}
+use Rattle.std.proofs.{lemmas.Grind.common_steps, lemmas.Bool.cases_lt}
 use Rattle.std.proofs.Common.{ℕ, ◌<◌, List, [], ◌∷◌, length, ⊎_elim, arith, length-append}
-use Rattle.std.proofs.lemmas.Bool.{cases_lt}
 use Rattle.snmp_wire.specs.Message.{Datum, object_id, octet_string, opaque_octets, VarBind, Message}
-use Rattle.snmp_wire.specs.Number.{lenient}
-use Rattle.snmp_wire.specs.Spelling.{IsContent, SpellsBindings, Spells, value_tag}
+use Rattle.snmp_wire.specs.{Number.lenient, Spelling.IsContent, Spelling.SpellsBindings, Spelling.Spells, Spelling.value_tag, ber.Sizes.ElementSizes}
 use Rattle.snmp_wire.specs.Canon.{IsEncodable, IsEncodableValue, canon_binding, canon_content, canon_element, canon_value}
-use Rattle.snmp_wire.specs.ber.Sizes.{ElementSizes}
 use Rattle.snmp_agent.specs.table.Table.{IsAnswerValue}
 use Rattle.snmp_agent.specs.private.Answering.{HasEncoding, IsWritable, AreWritable, IsShortValue}
 

@@ -1,19 +1,14 @@
 -- Lines that state a table have no fault.
-use Rattle.std.proofs.lemmas.Grind.{common_steps}
+use Rattle.std.proofs.{lemmas.Grind.common_steps, Math.ListN.get_or-append, Math.Seq.get_or-append_seam}
 use Rattle.std.proofs.Common.{◌≡◌, inl, inr, ℕ, List, ◌∷◌, ◌++◌, length, length-append, get_or, ◌<◌, refl, ◌∙◌, subst, arith}
 use Rattle.std.specs.List.{All, AllPairs, Contains}
-use Rattle.std.proofs.Math.ListN.{get_or-append}
-use Rattle.std.proofs.Math.Seq.{get_or-append_seam}
 use Rattle.std.proofs.lemmas.List.Elements.{All-contains, Contains-append_right}
-use Rattle.snmp_agent.specs.declared.table.error.TableError.{TableError}
+use Rattle.snmp_agent.specs.{declared.table.error.TableError.TableError, table.Format.Format, table.Format.Names, table.Table.MibView}
 use Rattle.snmp_agent.specs.declared.table.error.TableError.TheVariants as error
 use Rattle.snmp_agent.specs.table.Form.{IsObjectText, IsInstanceText, IsBadLine, IsBadName, IsBadValue}
 use Rattle.snmp_agent.specs.table.Text.{AreTable, DifferInName, IsGoodLine, IsValueText, a_blank, a_prefix, a_row}
-use Rattle.snmp_agent.specs.table.Format.{Format, Names}
 use Rattle.snmp_agent.specs.table.Stated.{IsFirstFault, IsFirstFaultIn, IsTableOf}
-use Rattle.snmp_agent.specs.table.Table.{MibView}
-use Rattle.snmp_agent.proofs.Unique.{one_format}
-use Rattle.snmp_agent.proofs.Statements.{blank_no_object, row_form, same_object, same_rows}
+use Rattle.snmp_agent.proofs.{Unique.one_format, Statements.blank_no_object, Statements.row_form, Statements.same_object, Statements.same_rows}
 
 pub good_line : (format : Format) (line : List ℕ) → IsGoodLine format line → IsBadLine format line → ⊥
 good_line format line (a_blank h) bad = bad.not_blank h

@@ -1,17 +1,12 @@
 -- Finding the row of a name.
 use Rattle.std.proofs.Common.{◌≡◌, ℕ, zero, suc, ◌+◌, ◌<◌, inl, inr, List, [], ◌∷◌, map, length, take, Some, None, refl, sym, ◌∙◌, ap, subst, arith}
 use Rattle.std.proofs.Common.{◌||◌, true, false, Vec, Global, length-append}
-use Rattle.std.specs.Ordering.{nat_cmp, is_eq, eq_by_cmp}
-use Rattle.std.specs.Cmp.Lexicographic.{slice_cmp, nat_list_cmp_total}
-use Rattle.std.specs.FinSet.{contains, contains-from_list, from_list}
+use Rattle.std.specs.{Ordering.nat_cmp, Ordering.is_eq, Ordering.eq_by_cmp, Cmp.Lexicographic.slice_cmp, Cmp.Lexicographic.nat_list_cmp_total}
+use Rattle.std.specs.{FinSet.contains, FinSet.contains-from_list, FinSet.from_list, FinMap.get, List.slice_get, List.list_any}
 use Rattle.std.proofs.Math.Seq.{take-append_seam}
-use Rattle.std.specs.FinMap.{get}
-use Rattle.std.specs.List.{slice_get, list_any}
-use Rattle.snmp_wire.specs.Message.{VarBind}
-use Rattle.snmp_wire.specs.Message.Datum.{no_such_object, no_such_instance}
+use Rattle.snmp_wire.specs.{Message.VarBind, Message.Datum.no_such_object, Message.Datum.no_such_instance}
 use Rattle.snmp_agent.specs.table.Table.{HasObject, IsGet, MibView, unknown_object, unknown_instance}
-use Rattle.snmp_agent.specs.table.Places.{HasBeginning, entry_of}
-use Rattle.snmp_agent.specs.table.Pages.{entries_of}
+use Rattle.snmp_agent.specs.{table.Places.HasBeginning, table.Places.entry_of, table.Pages.entries_of}
 use Rattle.snmp_agent.proofs.Rising.{Listed}
 
 pub listed_at : (rows : List VarBind) (k : ℕ) (row : VarBind) → slice_get rows k ≡ Some row → Listed (entry_of row) (entries_of rows)

@@ -1,12 +1,8 @@
 -- What the bindings of a reply hold.
-use Rattle.std.proofs.lemmas.Grind.{common_steps}
-use Rattle.std.proofs.Common.{◌≡◌, ◌≢◌, ℕ, ◌+◌, ◌-◌, ◌≤◌, ◌<◌, List, [], ◌∷◌, ◌++◌, length, refl}
-use Rattle.std.proofs.Common.{⊎_elim, sym, ap, subst, ◌∙◌, arith, length-append, append_assoc}
-use Rattle.std.proofs.lemmas.List.{append-nil}
-use Rattle.std.proofs.lemmas.Bool.Decides.{nat_tests}
-use Rattle.std.proofs.lemmas.Bool.{cases_lt}
-use Rattle.snmp_wire.specs.Message.{VarBind}
-use Rattle.snmp_wire.specs.Canon.{canon_binding, canon_bindings, canon_element, canon_header}
+use Rattle.std.proofs.{lemmas.Grind.common_steps, lemmas.List.append-nil, lemmas.Bool.Decides.nat_tests, lemmas.Bool.cases_lt}
+use Rattle.std.proofs.Common.{◌≡◌, ◌≢◌, ℕ, ◌+◌, ◌-◌, ◌≤◌, ◌<◌, List, [], ◌∷◌, ◌++◌, length, refl, ⊎_elim, sym, ap, subst, ◌∙◌, arith, length-append}
+use Rattle.std.proofs.Common.{append_assoc}
+use Rattle.snmp_wire.specs.{Message.VarBind, Canon.canon_binding, Canon.canon_bindings, Canon.canon_element, Canon.canon_header}
 use Rattle.snmp_agent.specs.declared.room.ReplyBindings.{ReplyBindings}
 use Rattle.snmp_agent.specs.private.Answering.{Held, add, fill, held}
 

@@ -1,22 +1,16 @@
 -- Rows that are put in their places together are those that were there and those that came.
 use Rattle.std.proofs.Common.{arith, ◌≡◌, ℕ, Bool, true, false, List, [], ◌∷◌, ◌++◌, sym, ◌∙◌, ap, append_assoc, append-nil, is_some}
 use Rattle.std.proofs.lemmas.Grind.{common_steps}
-use Rattle.std.specs.List.Sorted.{IsPermutation}
+use Rattle.std.specs.{List.Sorted.IsPermutation, List.Contains, Ordering.nat_cmp, Cmp.Lexicographic.slice_cmp, Cmp.Lexicographic.nat_list_cmp_total}
 use Rattle.std.proofs.lemmas.List.Sorted.{IsPermutation-trans, IsPermutation-append_left, IsPermutation-append_right, IsPermutation-middle}
 use Rattle.std.proofs.lemmas.List.Sorted.{IsPermutation-append_comm, IsPermutation-to_front, Contains-permutation, IsPermutation-map}
 use Rattle.std.proofs.lemmas.List.Sorted.{IsPermutation-sym}
-use Rattle.std.specs.List.{Contains}
-use Rattle.std.specs.Ordering.{nat_cmp}
-use Rattle.std.specs.Cmp.Lexicographic.{slice_cmp, nat_list_cmp_total}
-use Rattle.std.specs.FinMap.{FinMap, contains_key, entries, entries-insert, find, get-entries}
-use Rattle.std.specs.FinMap.{entries-from_sorted, entries_sorted, from_sorted, insert}
+use Rattle.std.specs.FinMap.{FinMap, contains_key, entries, entries-insert, find, get-entries, entries-from_sorted, entries_sorted, from_sorted}
+use Rattle.std.specs.FinMap.{insert}
 use Rattle.snmp_wire.specs.Message.{Datum, VarBind}
-use Rattle.snmp_agent.specs.declared.table.page.Page.{Page}
-use Rattle.snmp_agent.specs.table.Places.{entry_of}
+use Rattle.snmp_agent.specs.{declared.table.page.Page.Page, table.Places.entry_of, private.table.Draft.AreDistinct}
 use Rattle.snmp_agent.specs.table.Pages.{IsSorted, entries_in, entries_of}
-use Rattle.snmp_agent.proofs.Partition.{rows-append}
-use Rattle.snmp_agent.specs.private.table.Draft.{AreDistinct}
-use Rattle.snmp_agent.proofs.Rising.{listed_from_find}
+use Rattle.snmp_agent.proofs.{Partition.rows-append, Rising.listed_from_find}
 use Rattle.snmp_agent.proofs.TableDrafts.{distinct_moved, distinct_sorted, listed_contained, none_of, put_moves, some_of}
 
 abbrev Entries : Type 0

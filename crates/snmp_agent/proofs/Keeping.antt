@@ -1,21 +1,15 @@
 -- What lines state is what a table may keep.
-use Rattle.std.proofs.Common.{arith, ◌≡◌, ℕ, true, List, sym, ◌∙◌}
-use Rattle.std.proofs.lemmas.Grind.{common_steps}
-use Rattle.std.specs.Ordering.{nat_cmp}
-use Rattle.std.specs.Cmp.Lexicographic.{slice_cmp, nat_list_cmp_total}
+use Rattle.std.proofs.{Common.arith, Common.◌≡◌, Common.ℕ, Common.true, Common.List, Common.sym, Common.◌∙◌, lemmas.Grind.common_steps}
+use Rattle.std.specs.{Ordering.nat_cmp, Cmp.Lexicographic.slice_cmp, Cmp.Lexicographic.nat_list_cmp_total, FinSet.contains, FinSet.contains-from_list}
 use Rattle.std.specs.FinMap.{FinMap, entries, entries_sorted, entries-from_sorted, from_sorted, same_entries_map, get, get-from_sorted, find}
-use Rattle.std.specs.FinSet.{contains, contains-from_list}
 use Rattle.snmp_oid.specs.Identifier.{IsIdentifier}
-use Rattle.snmp_wire.specs.Message.{Datum, VarBind}
-use Rattle.snmp_wire.specs.Range.{IsInRange}
+use Rattle.snmp_wire.specs.{Message.Datum, Message.VarBind, Range.IsInRange}
 use Rattle.snmp_wire.specs.Message.Datum.{octet_string, null_value, object_id, ip_address, opaque_octets, no_such_object, no_such_instance}
 use Rattle.snmp_wire.specs.Message.Datum.{end_of_mib_view}
 use Rattle.snmp_agent.specs.table.Table.{IsRow, IsInstanceName, IsInstanceValue, IsMibView, MibView}
-use Rattle.snmp_agent.specs.table.Places.{view_of}
+use Rattle.snmp_agent.specs.{table.Places.view_of, table.Stated.IsTableIn, private.table.Draft.HoldsTable}
 use Rattle.snmp_agent.specs.table.Format.{Format, IsName, IsNameIn, first_format, second_format}
 use Rattle.snmp_agent.specs.table.Text.{HasPrefix, HasRow, IsValueText}
-use Rattle.snmp_agent.specs.table.Stated.{IsTableIn}
-use Rattle.snmp_agent.specs.private.table.Draft.{HoldsTable}
 use Rattle.snmp_agent.proofs.Statements.{name_numbers}
 
 identifier : (text o : List ℕ) → IsName text o → IsIdentifier o

@@ -1,8 +1,6 @@
 -- How long messages are: with more octets of bindings a message is longer.
 use Rattle.std.proofs.Common.{ℕ, zero, suc, ◌≢◌, ◌+◌, ◌≤◌, ◌<◌, length, arith}
-use Rattle.snmp_wire.specs.Canon.{canon_head, canon_header}
-use Rattle.snmp_wire.specs.Message.{Message}
-use Rattle.snmp_wire.specs.Sizes.{MessageSizes}
+use Rattle.snmp_wire.specs.{Canon.canon_head, Canon.canon_header, Message.Message, Sizes.MessageSizes}
 use Rattle.snmp_agent.specs.private.Answering.{whole_size, IsRoom}
 
 -- a message with more octets of bindings is no shorter

@@ -1,22 +1,15 @@
 -- Good lines state a table.
 use Rattle.std.proofs.Common.{◌≡◌, ℕ, List, [], ◌∷◌, ◌++◌, Some, None, refl, sym, subst, T, append_assoc, append-nil}
-use Rattle.std.specs.List.Sorted.{IsPermutation}
+use Rattle.std.specs.{List.Sorted.IsPermutation, Ordering.nat_cmp, FinMap.find, FinMap.is_sorted, FinMap.put, FinMap.Entries.is_sorted-put}
 use Rattle.std.proofs.lemmas.List.Sorted.{IsPermutation-append_left, IsPermutation-refl, IsPermutation-trans}
-use Rattle.std.specs.Ordering.{nat_cmp}
 use Rattle.std.specs.Cmp.Lexicographic.{slice_cmp, nat_list_cmp_total}
-use Rattle.std.specs.FinMap.{find, is_sorted, put}
-use Rattle.std.specs.FinMap.Entries.{is_sorted-put}
 use Rattle.snmp_oid.specs.Numeric.{IsNumericName}
 use Rattle.snmp_wire.specs.Message.{Datum, VarBind}
-use Rattle.snmp_agent.specs.private.table.Draft.{HoldsLines, HoldsTable}
+use Rattle.snmp_agent.specs.{private.table.Draft.HoldsLines, private.table.Draft.HoldsTable, table.Format.Format, table.Format.Names}
+use Rattle.snmp_agent.specs.{table.Places.entry_of, table.Stated.AreTableBy, table.Stated.IsTableOf, table.Table.IsMibView, table.Table.MibView}
 use Rattle.snmp_agent.specs.table.Form.{Statement, nothing, object_prefix, instance}
-use Rattle.snmp_agent.specs.table.Format.{Format, Names}
-use Rattle.snmp_agent.specs.table.Places.{entry_of}
-use Rattle.snmp_agent.specs.table.Stated.{AreTableBy, IsTableOf}
-use Rattle.snmp_agent.specs.table.Table.{IsMibView, MibView}
 use Rattle.snmp_agent.specs.table.Text.{AreTable, HasRow, IsGoodLine, IsRowLine, a_blank, a_prefix, a_row}
-use Rattle.snmp_agent.proofs.Faultless.{earlier_differs, line_good}
-use Rattle.snmp_agent.proofs.Keeping.{is_view, table_of, view_from}
+use Rattle.snmp_agent.proofs.{Faultless.earlier_differs, Faultless.line_good, Keeping.is_view, Keeping.table_of, Keeping.view_from}
 use Rattle.snmp_agent.proofs.OneStatement.{StatesOnly, states_only}
 use Rattle.snmp_agent.proofs.TableDrafts.{holds_instance, holds_no_lines, holds_nothing, holds_object, put_moves, whole}
 

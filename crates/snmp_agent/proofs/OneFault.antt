@@ -1,15 +1,12 @@
 -- Lines have one first fault at most.
 use Rattle.std.proofs.Common.{arith, ◌≡◌, ◌≢◌, ◌⊎◌, inl, inr, ℕ, List, [], ◌∷◌, ◌++◌, refl, sym, ◌∙◌, ap, subst, length, ◌+◌}
 use Rattle.std.proofs.lemmas.Grind.{common_steps}
-use Rattle.snmp_agent.specs.declared.table.error.TableError.{TableError}
+use Rattle.snmp_agent.specs.{declared.table.error.TableError.TableError, table.Text.a_row, table.Format.Format, table.Format.Names}
 use Rattle.snmp_agent.specs.declared.table.error.TableError.TheVariants as error
 use Rattle.snmp_agent.specs.table.Form.{IsBadLine, IsBadName, IsBadValue, IsInstanceText}
-use Rattle.snmp_agent.specs.table.Text.{a_row}
-use Rattle.snmp_agent.specs.table.Format.{Format, Names}
 use Rattle.snmp_agent.specs.table.Stated.{IsBehindGood, IsDouble, IsFirstFault, IsFirstFaultIn, IsWrong, number_of}
 use Rattle.snmp_agent.proofs.Faultless.{good_line, good_name, good_value, no_fault_in}
-use Rattle.snmp_agent.proofs.Statements.{same_rows}
-use Rattle.snmp_agent.proofs.Unique.{one_format}
+use Rattle.snmp_agent.proofs.{Statements.same_rows, Unique.one_format}
 
 -- ---- what is wrong with one line
 

@@ -1,17 +1,13 @@
 -- An agent has at most one reply to a datagram, and none to one that it drops.
-use Rattle.std.proofs.Common.{◌≡◌, inl, inr, ℕ, zero, suc, pos, ◌+◌, ◌≤◌, ◌<◌, List, [], ◌∷◌, ◌++◌}
-use Rattle.std.proofs.Common.{length, take, drop, refl, sym, ap, subst, ◌∙◌, arith}
+use Rattle.std.proofs.Common.{◌≡◌, inl, inr, ℕ, zero, suc, pos, ◌+◌, ◌≤◌, ◌<◌, List, [], ◌∷◌, ◌++◌, length, take, drop, refl, sym, ap, subst, ◌∙◌}
+use Rattle.std.proofs.Common.{arith}
 use Rattle.snmp_wire.specs.declared.kind.Kind.TheVariants as kind
-use Rattle.snmp_wire.specs.Message.{VarBind, Message}
-use Rattle.snmp_wire.specs.Spelling.{Spells}
-use Rattle.snmp_wire.specs.Canon.{canon}
-use Rattle.snmp_agent.specs.table.Table.{MibView, IsGet, IsNext, IsNextAfter}
-use Rattle.snmp_agent.specs.declared.config.Why.{Why}
+use Rattle.snmp_wire.specs.{Message.VarBind, Message.Message, Spelling.Spells, Canon.canon}
+use Rattle.snmp_agent.specs.{table.Table.MibView, table.Table.IsGet, table.Table.IsNext, table.Table.IsNextAfter, declared.config.Why.Why}
 use Rattle.snmp_agent.specs.declared.config.Why.TheVariants as why
 use Rattle.snmp_agent.specs.Reply.{Agent, IsServed, response, AreAnswers, no_error, IsWhole, got, got_next, unwritten, Fits, or_zero, AreEnds, joined}
 use Rattle.snmp_agent.specs.Reply.{AreRounds, IsBulk, IsLongestFront, IsResponse, whole, shortened, bulk, IsReply, IsDropped}
-use Rattle.snmp_agent.proofs.Answers.{HasGets, HasNexts, HasNextsAfter, same_answers}
-use Rattle.snmp_agent.proofs.Rounds.{ends_decided, not_empty}
+use Rattle.snmp_agent.proofs.{Answers.HasGets, Answers.HasNexts, Answers.HasNextsAfter, Answers.same_answers, Rounds.ends_decided, Rounds.not_empty}
 
 abbrev OneSpelling : Type 0
 OneSpelling = (m n : Message) (b c rest more : List ℕ) → Spells m b → Spells n c → b ++ rest ≡ c ++ more → (m ≡ n) × (b ≡ c)

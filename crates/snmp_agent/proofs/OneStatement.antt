@@ -1,21 +1,18 @@
 -- A line states one thing at most.
-use Rattle.std.proofs.lemmas.Grind.{common_steps}
+use Rattle.std.proofs.{lemmas.Grind.common_steps, lemmas.List.append_cancel_left}
 use Rattle.std.proofs.Common.{◌≡◌, ℕ, ℤ, pos, neg_ℤ, ◌+◌, ◌-◌, ◌*◌, ◌⊎◌, inl, inr, true, false, cond, eqb, List, [], ◌∷◌, ◌++◌, length, Ok, refl, sym}
 use Rattle.std.proofs.Common.{◌∙◌, ap, subst, arith, codes, Some}
 use Rattle.std.specs.Str.{all_ascii_digits}
-use Rattle.std.proofs.lemmas.List.{append_cancel_left}
 use Rattle.hex.specs.Hex.{decode_of}
 use Rattle.hex.proofs.HexLemmas.{decode_of-same}
 use Rattle.snmp_oid.specs.Numeric.{IsNumericName}
-use Rattle.snmp_wire.specs.ber.Spelling.{value_tag}
-use Rattle.snmp_wire.specs.Message.{Datum}
+use Rattle.snmp_wire.specs.{ber.Spelling.value_tag, Message.Datum}
 use Rattle.snmp_wire.specs.Message.Datum.{integer_value, octet_string, null_value, object_id, ip_address, counter32, gauge32, time_ticks}
 use Rattle.snmp_wire.specs.Message.Datum.{opaque_octets, counter64, no_such_object, no_such_instance, end_of_mib_view}
 use Rattle.snmp_agent.specs.table.Form.{Statement, nothing, object_prefix, instance, States}
 use Rattle.snmp_agent.specs.table.Format.{Format, IsNameIn, Means, Names, first_format, names_by, numeric_names, second_format}
 use Rattle.snmp_agent.specs.table.Text.{IsDecimal, IsSignedDecimal, IsValueText}
-use Rattle.snmp_agent.proofs.Decimals.{same_decimal}
-use Rattle.snmp_agent.proofs.Statements.{blank_no_object, row_form, same_object, same_rows}
+use Rattle.snmp_agent.proofs.{Decimals.same_decimal, Statements.blank_no_object, Statements.row_form, Statements.same_object, Statements.same_rows}
 
 -- what a line states when it states one thing alone
 abbrev pub StatesOnly : Format → List ℕ → Statement → Type 0

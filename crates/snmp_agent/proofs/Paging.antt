@@ -1,25 +1,19 @@
 -- Pages of rows: what a change of one of them does to all rows, and where it is divided.
-use Rattle.std.proofs.lemmas.Grind.{common_steps}
+use Rattle.std.proofs.{lemmas.Grind.common_steps, lemmas.List.Edits.length-remove}
 use Rattle.std.proofs.Common.{◌≡◌, ℕ, suc, ◌+◌, ◌-◌, ◌≤◌, ◌<◌, false, List, [], ◌∷◌, ◌++◌, length, take, drop, None, Some, slice_set, slice_index_or}
 use Rattle.std.proofs.Common.{refl, sym, ◌∙◌, ap, subst, inl, inr, arith, append_assoc, length-append, add-one, true, is_some, Less}
-use Rattle.std.specs.Ordering.{nat_cmp, is_le}
-use Rattle.std.specs.Cmp.{tied_itself}
-use Rattle.std.specs.Cmp.Lexicographic.{slice_cmp, nat_list_cmp_total}
-use Rattle.std.specs.FinMap.{find, from_sorted, get, get-from_sorted}
-use Rattle.std.specs.FinMap.Entries.{put}
+use Rattle.std.specs.{Ordering.nat_cmp, Ordering.is_le, Cmp.tied_itself, Cmp.Lexicographic.slice_cmp, Cmp.Lexicographic.nat_list_cmp_total}
+use Rattle.std.specs.{FinMap.find, FinMap.from_sorted, FinMap.get, FinMap.get-from_sorted, FinMap.Entries.put}
 use Rattle.std.specs.List.{slice_get, insert as insert_at, remove as remove_at}
 use Rattle.std.proofs.lemmas.Option.{get_or_from_slice_get, slice_get_read, slice_get_within}
 use Rattle.std.proofs.lemmas.List.{append-nil, drop-set-lt, drop_all, length-take-le, length_push, take_at, take_more_set}
-use Rattle.std.proofs.lemmas.List.Edits.{length-remove}
 use Rattle.snmp_wire.specs.Message.{Datum, VarBind}
-use Rattle.snmp_agent.specs.declared.table.page.Page.{Page}
+use Rattle.snmp_agent.specs.{declared.table.page.Page.Page, private.table.Halving.StandsBetween}
 use Rattle.snmp_agent.specs.table.Places.{IsAfterAll, IsBeforeAll, IsBeforeNone, without_name, entry_of}
 use Rattle.snmp_agent.specs.table.Pages.{ArePages, IsPageOf, IsPageWithRoom, IsPlaceAfter, IsRising, IsSorted, StandsApart, begins_up_to, entries_in}
 use Rattle.snmp_agent.specs.table.Pages.{entries_of, has_name}
-use Rattle.snmp_agent.specs.private.table.Halving.{StandsBetween}
 use Rattle.snmp_agent.proofs.Changing.{find_in, halves, past_front, put_in, put_past, without_in, without_past}
-use Rattle.snmp_agent.proofs.Finding.{listed_at}
-use Rattle.snmp_agent.proofs.Lists.{IsLast, all_both, last_in_front, last_of, nothing_left}
+use Rattle.snmp_agent.proofs.{Finding.listed_at, Lists.IsLast, Lists.all_both, Lists.last_in_front, Lists.last_of, Lists.nothing_left}
 use Rattle.snmp_agent.proofs.Partition.{back, front, pages-append, parts, rows-append, rows_ahead, rows_passed, set-parts}
 use Rattle.snmp_agent.proofs.Rising.{Listed, after_last, after_none, after_up_to, before_later, find-listed, not_behind, listed_in_first}
 use Rattle.snmp_agent.proofs.Rising.{listed_in_second, rising_first, rising_rest}

@@ -1,20 +1,15 @@
 -- Where the rows behind a name begin.
 use Rattle.std.proofs.Common.{◌≡◌, ℕ, zero, suc, ◌-◌, ◌≤◌, ◌<◌, true, false, List, [], ◌∷◌, ◌++◌, ◌∙◌, length, take, drop, slice_index_or, slice_set}
 use Rattle.std.proofs.Common.{refl, sym, ap, subst, arith, append_assoc, Some, Less, Greater}
-use Rattle.std.specs.Ordering.{nat_cmp, is_le}
-use Rattle.std.specs.Cmp.Lexicographic.{slice_cmp}
-use Rattle.std.specs.List.{AllWithin, slice_get}
-use Rattle.std.specs.List.Sorted.{IsPartitionedBy}
-use Rattle.std.proofs.lemmas.List.{map-append, set_split, take-append-drop}
-use Rattle.std.proofs.lemmas.Option.{slice_get-get_or}
+use Rattle.std.specs.{Ordering.nat_cmp, Ordering.is_le, Cmp.Lexicographic.slice_cmp, List.AllWithin, List.slice_get, List.Sorted.IsPartitionedBy}
+use Rattle.std.proofs.{lemmas.List.map-append, lemmas.List.set_split, lemmas.List.take-append-drop, lemmas.Option.slice_get-get_or}
 use Rattle.snmp_wire.specs.Message.{Datum, VarBind}
-use Rattle.snmp_agent.specs.declared.table.page.Page.{Page}
-use Rattle.snmp_agent.specs.private.table.Halving.{IsHalvedTo}
+use Rattle.snmp_agent.specs.{declared.table.page.Page.Page, private.table.Halving.IsHalvedTo}
 use Rattle.snmp_agent.specs.table.Places.{IsAfterAll, IsBeforeNone, IsBeforeAll, entry_of}
 use Rattle.snmp_agent.specs.table.Pages.{ArePages, IsPageOf, IsPlaceAfter, IsRising, IsSorted, begins_up_to, entries_in, entries_of, is_up_to}
 use Rattle.snmp_agent.proofs.Lists.{all_back, around}
-use Rattle.snmp_agent.proofs.Rising.{after_up_to, before_all, before_from, before_up_to, first_of_both}
-use Rattle.snmp_agent.proofs.Rising.{is_behind, not_behind, rising_rest, second_of_both, turned}
+use Rattle.snmp_agent.proofs.Rising.{after_up_to, before_all, before_from, before_up_to, first_of_both, is_behind, not_behind, rising_rest}
+use Rattle.snmp_agent.proofs.Rising.{second_of_both, turned}
 
 -- ---- rows
 

@@ -1,11 +1,8 @@
 -- The bindings of a reply, and whether a message with them keeps to its limit.
-use Rattle.std.proofs.lemmas.Grind.{common_steps, flat_map-append}
+use Rattle.std.proofs.{lemmas.Grind.common_steps, lemmas.Grind.flat_map-append, lemmas.List.append-nil}
 use Rattle.std.proofs.Common.{◌≡◌, ◌⊎◌, ℕ, ◌+◌, ◌-◌, ◌<◌, List, [], ◌∷◌, ◌++◌, length, take, arith, length-append}
-use Rattle.std.proofs.lemmas.List.{append-nil}
-use Rattle.snmp_wire.specs.Message.{VarBind}
-use Rattle.snmp_wire.specs.Canon.{canon_binding, canon_bindings}
-use Rattle.snmp_agent.specs.declared.room.ReplyBindings.{ReplyBindings}
-use Rattle.snmp_agent.specs.private.Answering.{held}
+use Rattle.snmp_wire.specs.{Message.VarBind, Canon.canon_binding, Canon.canon_bindings}
+use Rattle.snmp_agent.specs.{declared.room.ReplyBindings.ReplyBindings, private.Answering.held}
 use Rattle.snmp_agent.proofs.Fronts.{HoldsFront}
 
 -- how many octets there are with one more binding, and others behind it

@@ -1,25 +1,17 @@
 -- Requests and their Responses.
-use Rattle.std.proofs.lemmas.Grind.{common_steps}
+use Rattle.std.proofs.{lemmas.Grind.common_steps, lemmas.Int.to_z-of_z, lemmas.Bool.cases_lt, lemmas.List.take-append-le}
 use Rattle.std.specs.Cmp.Lexicographic.{pointwise, same_text, other_text}
 use mir.Syntax.{w32}
 use mir.Val.{of_z, to_z, SFits}
-use Rattle.std.proofs.lemmas.Int.{to_z-of_z}
 use Rattle.std.proofs.Common.{◌≡◌, ℕ, ℤ, pos, Bool, true, false, not, nat_eq, ◌⊎◌, inl, inr, ◌+◌, ◌≤◌, List, [], ◌∷◌, ◌++◌, length, map, take, refl}
 use Rattle.std.proofs.Common.{sym, ap, subst, ◌∙◌, ◌↔◌, ⊎_elim, arith, Option, Some, None, IsSome, IfSome}
-use Rattle.std.proofs.lemmas.Bool.{cases_lt}
-use Rattle.std.proofs.lemmas.List.{take-append-le}
-use Rattle.snmp_wire.specs.declared.kind.Kind.{Kind}
+use Rattle.snmp_wire.specs.{declared.kind.Kind.Kind, Message.VarBind, Message.Message, Laws.HasPieces, Sizes.MessageSizes}
 use Rattle.snmp_wire.specs.declared.kind.Kind.TheVariants as kind
-use Rattle.snmp_wire.specs.Message.{VarBind, Message}
 use Rattle.snmp_wire.specs.Canon.{canon, canon_bindings, canon_fields, canon_front, canon_head, canon_opening}
-use Rattle.snmp_wire.specs.Laws.{HasPieces}
-use Rattle.snmp_wire.specs.Sizes.{MessageSizes}
 use Rattle.snmp_agent.specs.table.Table.{MibView, IsGet, IsNext}
 use Rattle.snmp_agent.specs.Reply.{IsServed, AreAnswers, IsWhole, got, got_next, unwritten, response, not_writable, failed_place}
 use Rattle.snmp_agent.specs.private.Answering.{IsWritten, answer_to, answers_to, whole_size, whole_status, whole_index}
-use Rattle.snmp_agent.proofs.Each.{is_got}
-use Rattle.snmp_agent.proofs.Following.{IsOrder}
-use Rattle.snmp_agent.proofs.Standing.{given_there}
+use Rattle.snmp_agent.proofs.{Each.is_got, Following.IsOrder, Standing.given_there}
 
 -- the head of a message doesn't look at its bindings
 same_head : (m : Message) (total : ℕ) → canon_head (record m { bindings = [] }) total ≡ canon_head m total

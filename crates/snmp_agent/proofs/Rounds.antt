@@ -1,17 +1,13 @@
 -- The rounds of a GetBulk.
-use Rattle.std.proofs.lemmas.Grind.{common_steps}
-use Rattle.std.proofs.Common.{◌≡◌, ◌⊎◌, inl, inr, ℕ, zero, suc, ◌+◌, ◌-◌, ◌≤◌, ◌<◌, true, false, cond}
-use Rattle.std.proofs.Common.{List, [], ◌∷◌, ◌++◌, length, take, drop, refl, sym, ap, subst, ◌∙◌, arith}
-use Rattle.std.proofs.lemmas.List.{append-nil}
+use Rattle.std.proofs.{lemmas.Grind.common_steps, lemmas.List.append-nil}
+use Rattle.std.proofs.Common.{◌≡◌, ◌⊎◌, inl, inr, ℕ, zero, suc, ◌+◌, ◌-◌, ◌≤◌, ◌<◌, true, false, cond, List, [], ◌∷◌, ◌++◌, length, take, drop, refl}
+use Rattle.std.proofs.Common.{sym, ap, subst, ◌∙◌, arith}
 use Rattle.std.specs.List.{list_all}
 use Rattle.snmp_wire.specs.Message.{Datum, end_of_mib_view, VarBind, Message}
-use Rattle.snmp_agent.specs.table.Table.{MibView, IsMibView}
-use Rattle.snmp_agent.specs.Reply.{AreEnds, AreRounds, IsBulk, joined, or_zero}
+use Rattle.snmp_agent.specs.{table.Table.MibView, table.Table.IsMibView, Reply.AreEnds, Reply.AreRounds, Reply.IsBulk, Reply.joined, Reply.or_zero}
+use Rattle.snmp_agent.specs.{private.Standing.given_in, private.Standing.is_over, private.Standing.places_of}
 use Rattle.snmp_agent.specs.private.Answering.{AreGiven, Held, bulk_of, fill, rounds_from}
-use Rattle.snmp_agent.specs.private.Standing.{given_in, is_over, places_of}
-use Rattle.snmp_agent.proofs.Following.{IsOrder}
-use Rattle.snmp_agent.proofs.Fronts.{fill_both, fill_full}
-use Rattle.snmp_agent.proofs.Standing.{all_end, are_given}
+use Rattle.snmp_agent.proofs.{Following.IsOrder, Fronts.fill_both, Fronts.fill_full, Standing.all_end, Standing.are_given}
 
 -- ---- endOfMibView throughout
 

@@ -1,17 +1,12 @@
 -- Facts about the turns of a server.
-use Rattle.std.proofs.lemmas.Grind.{common_steps}
+use Rattle.std.proofs.{lemmas.Grind.common_steps, lemmas.List.flat_map_more, lemmas.List.length_push, lemmas.List.Sums.sum_by_push}
 use Rattle.std.proofs.Common.{◌≡◌, ℕ, zero, suc, ◌+◌, List, [], ◌∷◌, ◌++◌, refl, ap, ◌∙◌, subst, arith}
 use Rattle.std.specs.Prelude.{cond, count_by}
-use Rattle.std.proofs.lemmas.List.{flat_map_more, length_push}
 use Rattle.std.proofs.lemmas.List.Elements.{All-nil, All-push}
-use Rattle.std.proofs.lemmas.List.Sums.{sum_by_push}
 use Rattle.snmp_io.specs.Count.{HasRisenBy}
-use Rattle.snmp_agent.specs.declared.server.Served.{Served}
-use Rattle.snmp_agent.specs.declared.server.Turn.{Turn}
+use Rattle.snmp_agent.specs.{declared.server.Served.Served, declared.server.Turn.Turn, Reply.Agent, Event.Event, Event.InTurn}
 use Rattle.snmp_agent.specs.declared.server.Turn.TheVariants as turn
-use Rattle.snmp_agent.specs.Reply.{Agent}
 use Rattle.snmp_agent.specs.Serving.{AreTurns, IsTurn, TurnDone, same_turn, tally}
-use Rattle.snmp_agent.specs.Event.{Event, InTurn}
 
 -- steps, and then others
 pub in_turn-append : {L X : Type 0} (step : L → X → L → Type 0) (xs ys : List X) (old between new : L) → InTurn step old xs between

@@ -1,25 +1,19 @@
 -- A reply is the shortest encoding of its Response: all parts of this are within their ranges.
-use Rattle.std.proofs.lemmas.Grind.{common_steps}
-use Rattle.std.proofs.Common.{◌≡◌, ℕ, ℤ, pos, zero, suc, ◌+◌, ◌≤◌, List, [], ◌∷◌, ◌++◌, length, take}
-use Rattle.std.proofs.Common.{drop, refl, sym, subst, ◌∙◌, arith, length-append, append_assoc}
-use Rattle.std.proofs.lemmas.List.{take-append-drop}
-use Rattle.std.specs.List.{AllByRecursion}
-use Rattle.std.specs.Int.{w32}
+use Rattle.std.proofs.{lemmas.Grind.common_steps, lemmas.List.take-append-drop}
+use Rattle.std.proofs.Common.{◌≡◌, ℕ, ℤ, pos, zero, suc, ◌+◌, ◌≤◌, List, [], ◌∷◌, ◌++◌, length, take, drop, refl, sym, subst, ◌∙◌, arith}
+use Rattle.std.proofs.Common.{length-append, append_assoc}
+use Rattle.std.specs.{List.AllByRecursion, Int.w32}
 use mir.Val.{SFits}
 use Rattle.snmp_wire.specs.Canon.{canon, canon_binding, canon_bindings, canon_content, canon_head, canon_opening, canon_value}
-use Rattle.snmp_wire.specs.Laws.{OneShortestEncoding, SpeltIsOfType}
+use Rattle.snmp_wire.specs.{Laws.OneShortestEncoding, Laws.SpeltIsOfType, Shortest.IsShortestEncoding, Sizes.MessageSizes, ber.Sizes.ElementSizes}
 use Rattle.snmp_wire.specs.Message.{Datum, VarBind, Message, integer_value, object_id, octet_string, opaque_octets}
 use Rattle.snmp_wire.specs.Range.{IsBindingInRange, IsBindingOfType, IsInRange, IsMessageInRange, IsMessageOfType, IsOfType}
-use Rattle.snmp_wire.specs.Shortest.{IsShortestEncoding}
-use Rattle.snmp_wire.specs.Sizes.{MessageSizes}
-use Rattle.snmp_wire.specs.ber.Sizes.{ElementSizes}
 use Rattle.snmp_agent.specs.table.Table.{MibView, IsMibView, IsRow, IsGet, variable, unknown_object, unknown_instance, IsNext, successor, end_of_view}
 use Rattle.snmp_agent.specs.table.Table.{IsNextAfter}
 use Rattle.snmp_agent.specs.Reply.{Agent, AreAnswers, AreRounds, IsBulk, IsReply, IsResponse, IsWhole, bulk, failed_place, got, got_next, joined}
 use Rattle.snmp_agent.specs.Reply.{no_error, not_writable, or_zero, response, shortened, too_big, unwritten, whole}
-use Rattle.snmp_agent.proofs.Lists.{all_back, all_both, all_front}
+use Rattle.snmp_agent.proofs.{Lists.all_back, Lists.all_both, Lists.all_front, Keeping.name_in_range, Keeping.value_in_range}
 use Rattle.snmp_agent.proofs.Encodings.{longer_binding, longer_value}
-use Rattle.snmp_agent.proofs.Keeping.{name_in_range, value_in_range}
 
 -- ---- bindings of a request, whose strings a Response has room for
 

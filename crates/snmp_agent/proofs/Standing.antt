@@ -1,17 +1,11 @@
 -- Places among the variables of a view, and what names are given there.
 use Rattle.std.proofs.Common.{arith, ◌≡◌, ◌↔◌, ℕ, zero, suc, ◌+◌, true, List, [], ◌∷◌, map, take, drop, refl, ap, subst, ◌∙◌, add-one}
-use Rattle.std.proofs.lemmas.Grind.{common_steps}
-use Rattle.std.proofs.lemmas.Bool.{and_from, and_parts, false≢true}
-use Rattle.std.specs.FinMap.{entries}
-use Rattle.std.specs.List.{list_all}
-use Rattle.snmp_wire.specs.Message.{Datum, VarBind}
-use Rattle.snmp_wire.specs.Message.Datum.{end_of_mib_view}
+use Rattle.std.proofs.{lemmas.Grind.common_steps, lemmas.Bool.and_from, lemmas.Bool.and_parts, lemmas.Bool.false≢true}
+use Rattle.std.specs.{FinMap.entries, List.list_all}
+use Rattle.snmp_wire.specs.{Message.Datum, Message.VarBind, Message.Datum.end_of_mib_view}
 use Rattle.snmp_agent.specs.table.Table.{MibView, IsMibView, IsInstanceValue, IsNextAfter}
-use Rattle.snmp_agent.specs.table.Listing.{first_or_end}
-use Rattle.snmp_agent.specs.table.Places.{var_of, last_name}
+use Rattle.snmp_agent.specs.{table.Listing.first_or_end, table.Places.var_of, table.Places.last_name, Reply.AreEnds, private.Answering.AreGiven}
 use Rattle.snmp_agent.specs.table.Pages.{AreBehind, entries_after}
-use Rattle.snmp_agent.specs.Reply.{AreEnds}
-use Rattle.snmp_agent.specs.private.Answering.{AreGiven}
 use Rattle.snmp_agent.specs.private.Standing.{given_in, has_none, is_over, next_at, passed, place_of, places_of}
 use Rattle.snmp_agent.proofs.Following.{IsOrder, all_behind, asked_past, behind_name, behind_past, first_row, is_next}
 

@@ -1,22 +1,17 @@
 -- Facts about what lines state.
-use Rattle.std.proofs.lemmas.Grind.{common_steps}
+use Rattle.std.proofs.{lemmas.Grind.common_steps, lemmas.List.append_cancel_left, lemmas.List.Elements.All-nil, lemmas.List.Elements.All-cons}
 use Rattle.std.proofs.Common.{◌≡◌, ℕ, ◌^◌, ◌<◌, inl, inr, List, [], ◌∷◌, ◌++◌, Result, Ok, Err, IfErr, IfOk, refl, sym, ◌∙◌, ap, subst, append_assoc}
 use Rattle.std.proofs.Common.{arith, codes}
 use Rattle.std.specs.List.{All}
-use Rattle.std.proofs.lemmas.List.{append_cancel_left}
-use Rattle.std.proofs.lemmas.List.Elements.{All-nil, All-cons}
 use Rattle.snmp_oid.specs.Numeric.{IsDotted, IsNumericName}
 use Rattle.snmp_wire.specs.Message.{Datum, VarBind}
 use Rattle.snmp_wire.specs.Message.Datum.{integer_value, octet_string, null_value, object_id, ip_address, counter32, gauge32, time_ticks}
 use Rattle.snmp_wire.specs.Message.Datum.{opaque_octets, counter64, no_such_object, no_such_instance, end_of_mib_view}
-use Rattle.snmp_agent.specs.declared.table.value.Tag.{Tag}
+use Rattle.snmp_agent.specs.{declared.table.value.Tag.Tag, declared.table.line.Line.Line, declared.table.line.LineFault.LineFault}
+use Rattle.snmp_agent.specs.{private.table.Row.tag_text, table.Form.States, table.Form.IsTag, table.Form.IsRowForm}
 use Rattle.snmp_agent.specs.declared.table.value.Tag.TheVariants as tag
-use Rattle.snmp_agent.specs.declared.table.line.Line.{Line}
 use Rattle.snmp_agent.specs.declared.table.line.Line.TheVariants as line
-use Rattle.snmp_agent.specs.declared.table.line.LineFault.{LineFault}
 use Rattle.snmp_agent.specs.declared.table.line.LineFault.TheVariants as fault
-use Rattle.snmp_agent.specs.private.table.Row.{tag_text}
-use Rattle.snmp_agent.specs.table.Form.{States, IsTag, IsRowForm}
 use Rattle.snmp_agent.specs.table.Format.{Format, EndsAtBar, HasNoEnd, bar}
 use Rattle.snmp_agent.specs.table.Text.{IsBlank, IsObjectForm, IsRowLine, IsValueText}
 use Rattle.snmp_agent.specs.private.table.Line.{statement_of, IsInstanceRead, IsLineFault, IsObjectRead}

@@ -1,29 +1,21 @@
 -- Facts about what lines state together, and about the draft that holds it.
 use Rattle.std.proofs.Common.{◌≡◌, Option, is_some, ℕ, ◌⊎◌, inl, inr, ◌↔◌, Bool, true, false, cond, ◌||◌, List, [], ◌∷◌, ◌++◌, map, Some, None, refl}
 use Rattle.std.proofs.Common.{sym, ◌∙◌, T, ap, Less, zero, suc, get_or, Equal, Greater, Vec, Global, ◌+◌, ◌<◌, ◌≤◌, length, arith}
-use Rattle.std.specs.List.{All, AllPairs, Contains, list_any, sum_by}
-use Rattle.std.specs.List.Sorted.{IsPermutation}
+use Rattle.std.specs.{List.All, List.AllPairs, List.Contains, List.list_any, List.sum_by, List.Sorted.IsPermutation, Ordering.nat_cmp, Ordering.is_eq}
+use Rattle.std.specs.{Ordering.eq_by_cmp, Ordering.match_ordering, Cmp.tied_itself, Cmp.Lexicographic.slice_cmp, Cmp.Lexicographic.nat_list_cmp_total}
+use Rattle.std.specs.{FinMap.find, FinMap.is_sorted, FinMap.put, FinMap.Entries.by_order, BTreeSet.insert_key}
 use Rattle.std.proofs.lemmas.List.Elements.{All-append, All-cons, All-contains_itself, All-nil, Contains-append_left, Contains-append_right}
 use Rattle.std.proofs.lemmas.List.Elements.{Contains-push, Contains-push_cases}
 use Rattle.std.proofs.lemmas.List.Quantifiers.{all_pairs_push}
 use Rattle.std.proofs.lemmas.List.Sorted.{Contains-permutation, IsPermutation-cons, IsPermutation-refl, IsPermutation-sym, IsPermutation-to_front}
 use Rattle.std.proofs.lemmas.List.Sorted.{sum_by-IsPermutation}
 use Rattle.std.proofs.lemmas.List.Sums.{get_or-le-sum_by, sum_by-cons, sum_by_push}
-use Rattle.std.specs.Ordering.{nat_cmp, is_eq, eq_by_cmp, match_ordering}
-use Rattle.std.specs.Cmp.{tied_itself}
-use Rattle.std.specs.Cmp.Lexicographic.{slice_cmp, nat_list_cmp_total}
-use Rattle.std.specs.FinMap.{find, is_sorted, put}
-use Rattle.std.specs.FinMap.Entries.{by_order}
-use Rattle.std.specs.BTreeSet.{insert_key}
 use Rattle.snmp_wire.specs.Message.{Datum, VarBind}
-use Rattle.snmp_agent.specs.table.Format.{Format}
+use Rattle.snmp_agent.specs.{table.Format.Format, table.Stated.IsDouble, table.Places.IsBeforeAll, table.Places.entry_of}
 use Rattle.snmp_agent.specs.table.Form.{Statement, nothing, object_prefix, instance, States}
 use Rattle.snmp_agent.specs.table.Text.{AreTable, DifferInName, IsGoodLine, a_blank, a_prefix, a_row}
-use Rattle.snmp_agent.specs.table.Stated.{IsDouble}
-use Rattle.snmp_agent.specs.table.Places.{IsBeforeAll, entry_of}
 use Rattle.snmp_agent.specs.private.table.Draft.{AreDistinct, HoldsLines, HoldsTable, has_key}
-use Rattle.snmp_agent.proofs.Changing.{tied}
-use Rattle.snmp_agent.proofs.OneStatement.{StatesOnly}
+use Rattle.snmp_agent.proofs.{Changing.tied, OneStatement.StatesOnly}
 use Rattle.snmp_agent.proofs.Rising.{Listed, before_all, find-listed, first_of_both, listed_from_find, same_name, second_of_both}
 
 -- ---- entries in any order

@@ -1,14 +1,11 @@
 -- Lines state one table at most.
 use Rattle.std.proofs.Common.{arith, ◌≡◌, ◌↔◌, ℕ, Bool, true, false, List, subst, refl, sym, ◌∙◌, ap, Option, Some, None}
 use Rattle.std.proofs.lemmas.Grind.{common_steps}
-use Rattle.std.specs.Ordering.{nat_cmp}
-use Rattle.std.specs.Cmp.Lexicographic.{slice_cmp, nat_list_cmp_total}
-use Rattle.std.specs.FinMap.{FinMap, get, same_map, nat_cmp-IsAntisymmetric, slice_cmp-IsAntisymmetric}
-use Rattle.std.specs.FinSet.{FinSet, contains, same_set}
+use Rattle.std.specs.{Ordering.nat_cmp, Cmp.Lexicographic.slice_cmp, Cmp.Lexicographic.nat_list_cmp_total, FinMap.FinMap, FinMap.get, FinMap.same_map}
+use Rattle.std.specs.{FinMap.nat_cmp-IsAntisymmetric, FinMap.slice_cmp-IsAntisymmetric, FinSet.FinSet, FinSet.contains, FinSet.same_set}
 use Rattle.snmp_wire.specs.Message.{Datum}
-use Rattle.snmp_agent.specs.table.Table.{MibView}
+use Rattle.snmp_agent.specs.{table.Table.MibView, table.Stated.IsTableIn, table.Stated.IsTableOf}
 use Rattle.snmp_agent.specs.table.Format.{Format, IsFormat, IsMarked, Names, first_format, second_format}
-use Rattle.snmp_agent.specs.table.Stated.{IsTableIn, IsTableOf}
 
 -- what one knows, the other knows
 same_option : {X : Type 0} (a b : Option X) → ((x : X) → a ≡ Some x → b ≡ Some x) → ((x : X) → b ≡ Some x → a ≡ Some x) → a ≡ b

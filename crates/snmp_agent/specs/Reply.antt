@@ -1,14 +1,11 @@
 -- The replies of a read-only agent (RFC 3416, section 4.2; RFC 1901, section 3).
 use Rattle.std.specs.Prelude.{◌≡◌, ◌≢◌, ℕ, ℤ, pos, negsuc, ◌≤◌, ◌<◌, List, [], ◌∷◌, ◌++◌, length}
 use Rattle.std.specs.Prelude.{take, drop}
-use Rattle.snmp_wire.specs.declared.kind.Kind.{Kind}
+use Rattle.snmp_wire.specs.{declared.kind.Kind.Kind, Spelling.Spells, Canon.canon}
 use Rattle.snmp_wire.specs.declared.kind.Kind.TheVariants as kind
 use Rattle.snmp_wire.specs.Message.{VarBind, Message, end_of_mib_view}
-use Rattle.snmp_wire.specs.Spelling.{Spells}
-use Rattle.snmp_wire.specs.Canon.{canon}
 use Rattle.snmp_agent.specs.table.Table.{MibView, IsGet, IsNext, IsNextAfter}
-use Rattle.snmp_agent.specs.declared.config.Config.{Config}
-use Rattle.snmp_agent.specs.declared.config.Why.{Why}
+use Rattle.snmp_agent.specs.{declared.config.Config.Config, declared.config.Why.Why}
 use Rattle.snmp_agent.specs.declared.config.Why.TheVariants as why
 
 -- an agent: what it serves, its community, and the greatest size of its messages in octets

@@ -1,9 +1,7 @@
 //! Requests and their replies.
 ghost use Rattle.std.specs.Prelude.{◌≡◌, ◌≢◌, ℕ, ◌≤◌, ◌<◌, [], length, take, IfOk, IfErr, IsSome};
 ghost use Rattle.snmp_wire.specs.declared.kind.Kind.TheVariants as kind;
-ghost use Rattle.snmp_wire.specs.Canon.{canon_bindings};
-ghost use Rattle.snmp_wire.specs.Message.{Message};
-ghost use Rattle.snmp_wire.specs.Parts.{parts_message};
+ghost use Rattle.snmp_wire.specs.{Canon.canon_bindings, Message.Message, Parts.parts_message};
 ghost use Rattle.snmp_agent.specs.Reply.{agent_of, IsReply, IsDropped, IsRequest, IsRefused};
 ghost use Rattle.snmp_agent.specs.Reply.{IsServed, response, failed_place};
 ghost use Rattle.snmp_agent.specs.private.Answering.{AreWritable, IsAnswered, IsWritten};

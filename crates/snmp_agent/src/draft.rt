@@ -2,8 +2,7 @@
 //!
 //! They are written to the front of the output, one after the other. Once all are there, they are
 //! moved to make room for the head.
-ghost use Rattle.std.specs.Prelude.{◌≡◌, ◌≤◌, length};
-ghost use Rattle.std.specs.FinMap.{get};
+ghost use Rattle.std.specs.{Prelude.◌≡◌, Prelude.◌≤◌, Prelude.length, FinMap.get};
 ghost use Rattle.snmp_wire.specs.Parts.{parts_message};
 ghost use Rattle.snmp_agent.specs.private.Answering.{AreWritable, IsRoom, IsWritable, add};
 ghost use Rattle.snmp_agent.specs.private.Answering.{answer_to, answers_to, fill, held};

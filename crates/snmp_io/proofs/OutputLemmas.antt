@@ -1,11 +1,7 @@
 -- What is taken piece by piece.
-use Rattle.std.proofs.Common.{◌≡◌, ◌∙◌, ◌+◌, ◌-◌, ◌++◌, ℕ, List, take, drop, length, ap, sym}
-use Rattle.std.proofs.Common.{subst, length-drop}
-use Rattle.std.proofs.Math.Seq.{take-add, take-length}
-use Rattle.std.proofs.lemmas.List.{take-append-drop}
-use Rattle.snmp_io.specs.Count.{HasRisen}
-use Rattle.snmp_io.specs.Output.{FailsWithin, Stream, extended}
-use Rattle.snmp_io.specs.Streams.{extended-twice}
+use Rattle.std.proofs.Common.{◌≡◌, ◌∙◌, ◌+◌, ◌-◌, ◌++◌, ℕ, List, take, drop, length, ap, sym, subst, length-drop}
+use Rattle.std.proofs.{Math.Seq.take-add, Math.Seq.take-length, lemmas.List.take-append-drop}
+use Rattle.snmp_io.specs.{Count.HasRisen, Output.FailsWithin, Output.Stream, Output.extended, Streams.extended-twice}
 
 pub rest_whole : (w : ℕ) (text : List ℕ) → take (length text - w) (drop w text) ≡ drop w text
 rest_whole w text = ap (λ n. take n (drop w text)) (sym (length-drop w text)) ∙ take-length (drop w text)

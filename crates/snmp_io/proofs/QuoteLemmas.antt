@@ -1,9 +1,7 @@
 -- Texts with quotes, octet by octet.
-use Rattle.std.proofs.Common.{◌≡◌, ◌+◌, ◌<◌, ◌∙◌, ℕ, List, [], ◌∷◌, ◌++◌, length, take, get_or}
-use Rattle.std.proofs.Common.{Option, None, refl, sym, ap, subst}
+use Rattle.std.proofs.Common.{◌≡◌, ◌+◌, ◌<◌, ◌∙◌, ℕ, List, [], ◌∷◌, ◌++◌, length, take, get_or, Option, None, refl, sym, ap, subst}
 use Rattle.std.proofs.lemmas.List.{take_more}
-use Rattle.snmp_io.specs.QuoteLaws.{quote_after, HasNoneAfter, none_later}
-use Rattle.snmp_io.specs.Quotes.{open_after}
+use Rattle.snmp_io.specs.{QuoteLaws.quote_after, QuoteLaws.HasNoneAfter, QuoteLaws.none_later, Quotes.open_after}
 
 none_in_nothing : (stop : ℕ) (before after : List ℕ) → [] ≡ before ++ stop ∷ after → ⊥
 none_in_nothing stop [] after e = let wrong : ⊥ = cc in wrong

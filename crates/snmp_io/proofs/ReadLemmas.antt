@@ -1,9 +1,6 @@
 -- What is read of the front of a text.
-use Rattle.std.proofs.Common.{◌≡◌, ◌∙◌, ◌<◌, ◌++◌, ℕ, List, [], Option, Some, None, IfSome, length}
-use Rattle.std.proofs.Common.{min, take, option_map, ap, arith, inl, inr, sym}
-use Rattle.std.proofs.Math.Seq.{take-length}
-use Rattle.std.proofs.lemmas.Bool.{cases_lt}
-use Rattle.std.proofs.lemmas.List.{length-take-le, take_min}
+use Rattle.std.proofs.Common.{◌≡◌, ◌∙◌, ◌<◌, ◌++◌, ℕ, List, [], Option, Some, None, IfSome, length, min, take, option_map, ap, arith, inl, inr, sym}
+use Rattle.std.proofs.{Math.Seq.take-length, lemmas.Bool.cases_lt, lemmas.List.length-take-le, lemmas.List.take_min}
 
 -- fewer octets than were wanted are all that there are
 pub all_is_left : (left : Option (List ℕ)) (limit : ℕ) (start got : List ℕ) → start ≡ [] → length got < limit

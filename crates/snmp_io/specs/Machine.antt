@@ -1,6 +1,5 @@
 -- How large a file may be, and what an error of the machine says of one.
-use Rattle.std.specs.Prelude.{◌≡◌, ℕ}
-use Rattle.std.specs.IoError.{error_kind}
+use Rattle.std.specs.{Prelude.◌≡◌, Prelude.ℕ, IoError.error_kind}
 use Rattle.std.specs.declared.io.ErrorKind.TheVariants.{OutOfMemory}
 use Rattle.snmp_io.specs.declared.machine.ReadError.{ReadError}
 use Rattle.snmp_io.specs.declared.machine.ReadError.TheVariants.{Failed, TooLong}

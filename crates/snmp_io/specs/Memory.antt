@@ -1,7 +1,6 @@
 -- What outputs and files in memory keep.
 use Rattle.std.specs.Prelude.{ℕ, List, Option, find, option_map}
-use Rattle.std.specs.Borrow.{Bor}
-use Rattle.std.specs.Str.{bytes_eq}
+use Rattle.std.specs.{Borrow.Bor, Str.bytes_eq}
 
 -- an output: what it took, the number of octets after which it fails, and how many writes failed
 pub record KeptOutput : Type 0 where

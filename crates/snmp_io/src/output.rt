@@ -1,8 +1,6 @@
 //! Outputs, which take octets, and the loop that writes a whole text to one.
-ghost use Rattle.std.specs.Prelude.{◌≡◌, ◌<◌, ◌≤◌, ℕ, List, length, take};
-ghost use Rattle.std.specs.Prelude.{IfOk, OnErr, OnOk};
-ghost use Rattle.snmp_io.specs.Count.{HasRisen};
-ghost use Rattle.snmp_io.specs.Output.{FailsWithin, Stream, extended};
+ghost use Rattle.std.specs.Prelude.{◌≡◌, ◌<◌, ◌≤◌, ℕ, List, length, take, IfOk, OnErr, OnOk};
+ghost use Rattle.snmp_io.specs.{Count.HasRisen, Output.FailsWithin, Output.Stream, Output.extended};
 
 use thiserror::Error;
 

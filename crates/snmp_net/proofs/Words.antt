@@ -2,9 +2,7 @@
 use Rattle.std.proofs.Common.{◌≡◌, ◌≢◌, ◌<◌, ◌++◌, ◌∷◌, ◌==◌, ◌↔◌, ℕ, Bool, true, false, not, IsTrue, refl, [], List, Bor, Contains, Option, Some}
 use Rattle.std.proofs.Common.{None, IfSome, IfNone, MatchOption, sym, ap, ◌∙◌, length, slice_index, codes, arith, subst, inl, inr}
 use Rattle.std.specs.Str.Pattern.{FindsTextPrefix, StripsPrefix}
-use Rattle.std.proofs.lemmas.Bool.Decides.{nat_tests}
-use Rattle.std.proofs.lemmas.List.{get_or_default}
-use Rattle.std.proofs.lemmas.List.Elements.{Contains-append_right}
+use Rattle.std.proofs.{lemmas.Bool.Decides.nat_tests, lemmas.List.get_or_default, lemmas.List.Elements.Contains-append_right}
 use Rattle.std.proofs.lemmas.Str.Pattern.{IsSplitOnceResult, split_after}
 use Rattle.snmp_net.specs.Address.{Address, IsAgent, IsHost, IsHostAndPort, IsTarget, LacksPrefix, colon, table, udp}
 use Rattle.snmp_net.specs.declared.address.UdpAddress.{UdpAddress}

@@ -1,12 +1,9 @@
 -- Which links are opened to agents in memory.
-use Rattle.std.specs.Prelude.{◌≡◌, ℕ, ◌==◌, ◌&&◌, List, [], ◌∷◌, Option, Some, None, find}
-use Rattle.std.specs.Prelude.{◌<◌, drop, length, map}
-use Rattle.std.specs.Borrow.{Bor}
-use Rattle.std.specs.Str.{bytes_eq}
-use Rattle.snmp_agent.specs.declared.server.Served.{Served}
-use Rattle.snmp_agent.specs.Reply.{Agent}
+use Rattle.std.specs.Prelude.{◌≡◌, ℕ, ◌==◌, ◌&&◌, List, [], ◌∷◌, Option, Some, None, find, ◌<◌}
+use Rattle.std.specs.Prelude.{drop, length, map}
+use Rattle.std.specs.{Borrow.Bor, Str.bytes_eq}
+use Rattle.snmp_agent.specs.{declared.server.Served.Served, Reply.Agent, Serving.AreTurns}
 use Rattle.snmp_agent.specs.Event.{Event, InTurn, came, silence, receive_failed, sent, send_failed}
-use Rattle.snmp_agent.specs.Serving.{AreTurns}
 use Rattle.snmp_walk.specs.Memory.{IsHonest, agents_of, agents_over, traffic_of}
 use Rattle.snmp_walk.specs.declared.memory.MemoryLink.{MemoryLink}
 use Rattle.snmp_net.specs.declared.memory.MemoryAgent.{MemoryAgent}

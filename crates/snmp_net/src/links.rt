@@ -1,8 +1,7 @@
 //! What opens links to agents, and sockets at which a table is served.
 ghost use Rattle.std.specs.Prelude.{◌≡◌, ◌<◌, ◌+◌, [], ℕ, List, IfOk, OnOk, OnErr};
 ghost use Rattle.snmp_io.specs.Count.{HasRisen};
-ghost use Rattle.snmp_agent.specs.Reply.{Agent, agent_of};
-ghost use Rattle.snmp_agent.specs.declared.server.Served.{Served};
+ghost use Rattle.snmp_agent.specs.{Reply.Agent, Reply.agent_of, declared.server.Served.Served};
 
 use snmp_agent::{Config, Served, Table};
 use snmp_walk::{Link, LinkFault};

@@ -1,6 +1,5 @@
 //! Links and doors over the machine's UDP sockets.
-ghost use Rattle.std.specs.Prelude.{◌≡◌, ◌<◌, ◌*◌, ℕ};
-ghost use Rattle.std.specs.Duration.{as_nanos};
+ghost use Rattle.std.specs.{Prelude.◌≡◌, Prelude.◌<◌, Prelude.◌*◌, Prelude.ℕ, Duration.as_nanos};
 ghost use Rattle.snmp_io.specs.Count.{HasRisen};
 ghost use Rattle.snmp_net.specs.private.Turn.{turn_seconds};
 

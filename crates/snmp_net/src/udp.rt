@@ -1,10 +1,8 @@
 //! A link to an agent over UDP (RFC 3417, section 3).
 ghost use Rattle.std.specs.Prelude.{◌≡◌, ◌<◌, IfSome, find, true};
 ghost use Rattle.std.specs.declared.net.ip_addr.IpAddr.{IpAddr};
-ghost use Rattle.std.specs.Net.Grammar.{IsIpText};
-ghost use Rattle.std.specs.Net.Addr.{is_ipv4};
+ghost use Rattle.std.specs.{Net.Grammar.IsIpText, Net.Addr.is_ipv4, Net.ToAddrs.host_addrs};
 ghost use Rattle.std.specs.Net.Socket.{IsPlainSocket, socket_ip};
-ghost use Rattle.std.specs.Net.ToAddrs.{host_addrs};
 ghost use Rattle.snmp_io.specs.Count.{HasRisen};
 
 use snmp_walk::{Link, LinkFault};

@@ -1,16 +1,11 @@
 -- Facts about one decimal number: reading it, and that what is written reads back.
-use Rattle.std.proofs.lemmas.Grind.{common_steps}
-use Rattle.std.proofs.Common.{decimal, ◌≡◌, ◌≢◌, ℕ, ◌+◌, ◌-◌, ◌*◌, ◌^◌, ◌≤◌, ◌<◌, true, false}
-use Rattle.std.proofs.Common.{List, [], ◌∷◌, length, drop, get_or, refl, ◌∙◌, ap}
+use Rattle.std.proofs.{lemmas.Grind.common_steps, Math.Seq.take-suc, lemmas.List.append-nil, lemmas.List.length-take-le, Math.Nat.pow-suc}
+use Rattle.std.proofs.{Math.Nat.one-le-pow, Math.Nat.le-mul_of_pos_right, lemmas.Bool.and_parts, lemmas.Bool.leb-true}
+use Rattle.std.proofs.Common.{decimal, ◌≡◌, ◌≢◌, ℕ, ◌+◌, ◌-◌, ◌*◌, ◌^◌, ◌≤◌, ◌<◌, true, false, List, [], ◌∷◌, length, drop, get_or, refl, ◌∙◌, ap}
 use Rattle.std.proofs.Common.{subst, arith, drop-cons, add-one, take, ◌++◌, append_assoc, leb}
-use Rattle.std.proofs.Math.Seq.{take-suc}
-use Rattle.std.proofs.lemmas.List.{append-nil, length-take-le}
-use Rattle.std.proofs.Math.Nat.{pow-suc, one-le-pow, le-mul_of_pos_right}
 use Rattle.std.proofs.lemmas.Fmt.{decimal_nonempty, digits_decimal, digits_value-decimal}
 use Rattle.std.proofs.lemmas.Str.Parse.{IsNumeralModel, numerals_by_weight, tells_all_ascii_digits}
-use Rattle.std.proofs.lemmas.Bool.{and_parts, leb-true}
-use Rattle.std.specs.Char.{is_ascii_digit}
-use Rattle.std.specs.Str.{all_ascii_digits}
+use Rattle.std.specs.{Char.is_ascii_digit, Str.all_ascii_digits}
 use Rattle.snmp_oid.specs.Numeric.{decimal_value, IsNumeral}
 
 -- the digits of a part are read but for those left

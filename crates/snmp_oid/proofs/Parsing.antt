@@ -1,23 +1,14 @@
 -- Facts about the state of a parse: the parts read so far, the place of the next, and what the end says.
-use Rattle.std.proofs.lemmas.Grind.{common_steps}
-use Rattle.std.proofs.Common.{◌≡◌, ◌≢◌, ℕ, min, ◌+◌, ◌-◌, ◌≤◌, ◌<◌, ◌⊎◌, inl, inr, Bool, true}
-use Rattle.std.proofs.Common.{false, List, [], ◌∷◌, ◌++◌, length, take, drop, get_or}
-use Rattle.std.proofs.Common.{slice_index, Option, Some, None, refl, sym, ◌∙◌, ap, subst, arith}
-use Rattle.std.proofs.Common.{length-append, append_assoc, ⊎_elim}
-use Rattle.std.proofs.lemmas.Bool.{cases_order}
-use Rattle.std.proofs.Common.{MatchOption, All, map, ◌&&◌}
-use Rattle.std.specs.Char.{is_ascii_digit}
-use Rattle.std.specs.List.{flat_map}
-use Rattle.std.specs.Str.{all_ascii_digits}
+use Rattle.std.proofs.{lemmas.Grind.common_steps, lemmas.Bool.cases_order, Math.Seq.get_or-append_seam}
+use Rattle.std.proofs.Common.{◌≡◌, ◌≢◌, ℕ, min, ◌+◌, ◌-◌, ◌≤◌, ◌<◌, ◌⊎◌, inl, inr, Bool, true, false, List, [], ◌∷◌, ◌++◌, length, take, drop, get_or}
+use Rattle.std.proofs.Common.{slice_index, Option, Some, None, refl, sym, ◌∙◌, ap, subst, arith, length-append, append_assoc, ⊎_elim, MatchOption}
+use Rattle.std.proofs.Common.{All, map, ◌&&◌}
+use Rattle.std.specs.{Char.is_ascii_digit, List.flat_map, Str.all_ascii_digits}
 use Rattle.std.proofs.lemmas.List.Elements.{All-head, All-tail}
-use Rattle.std.proofs.lemmas.List.{append-nil, take-append-drop, take_all, take-append-le}
-use Rattle.std.proofs.lemmas.List.{get_or-drop, get_or_append_left, length_push, drop_at}
+use Rattle.std.proofs.lemmas.List.{append-nil, take-append-drop, take_all, take-append-le, get_or-drop, get_or_append_left, length_push, drop_at}
 use Rattle.std.proofs.lemmas.List.{drop-drop, length-take}
-use Rattle.std.proofs.Math.Seq.{get_or-append_seam}
-use Rattle.snmp_oid.specs.Numeric.{dot, IsNumeral, IsDotted, IsNumericName, BeginsPart, part_at}
-use Rattle.snmp_oid.specs.Numeric.{IsFirstBadPart, IsPartRead, AreDigitsRead}
-use Rattle.snmp_oid.proofs.Dotted.{parts, parts_left, AreNumerals, parts_of, to_dot_is}
-use Rattle.snmp_oid.proofs.Dotted.{numerals_from_dotted, dotted_from_numerals, same_numerals}
+use Rattle.snmp_oid.specs.Numeric.{dot, IsNumeral, IsDotted, IsNumericName, BeginsPart, part_at, IsFirstBadPart, IsPartRead, AreDigitsRead}
+use Rattle.snmp_oid.proofs.Dotted.{parts, parts_left, AreNumerals, parts_of, to_dot_is, numerals_from_dotted, dotted_from_numerals, same_numerals}
 use Rattle.snmp_oid.proofs.Dotted.{digits_have_no_dot, numerals_more, part_is_numeral}
 use Rattle.snmp_oid.proofs.Numeral.{IsFrontRead, front_numeral, digit_small}
 

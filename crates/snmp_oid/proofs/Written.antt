@@ -1,11 +1,8 @@
 -- Facts about the numeric text of an identifier: how it is written, and that it names the identifier.
-use Rattle.std.proofs.Common.{inl, inr, All, subst, ◌^◌, ◌≡◌, ℕ, ◌+◌, ◌*◌, ◌≤◌, ◌<◌, List, [], ◌∷◌}
-use Rattle.std.proofs.Common.{◌++◌, ◌-◌, decimal, length, take, refl, sym}
-use Rattle.std.proofs.lemmas.List.{append-nil}
-use Rattle.std.proofs.lemmas.List.Elements.{All-head, All-tail}
+use Rattle.std.proofs.Common.{inl, inr, All, subst, ◌^◌, ◌≡◌, ℕ, ◌+◌, ◌*◌, ◌≤◌, ◌<◌, List, [], ◌∷◌, ◌++◌, ◌-◌, decimal, length, take, refl, sym}
+use Rattle.std.proofs.{lemmas.List.append-nil, lemmas.List.Elements.All-head, lemmas.List.Elements.All-tail}
 use Rattle.std.specs.List.{flat_map}
-use Rattle.snmp_oid.specs.Identifier.{IsIdentifier}
-use Rattle.snmp_oid.specs.Numeric.{dot, numeric_text, IsNumeral, IsDotted, IsNumericName}
+use Rattle.snmp_oid.specs.{Identifier.IsIdentifier, Numeric.dot, Numeric.numeric_text, Numeric.IsNumeral, Numeric.IsDotted, Numeric.IsNumericName}
 use Rattle.snmp_oid.proofs.Numeral.{decimal_is_numeral}
 
 -- the text of the first numbers, of none a dot alone

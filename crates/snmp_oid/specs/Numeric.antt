@@ -1,10 +1,8 @@
 -- Identifiers as text: decimal numbers with a dot before or between them, as in `.1.3.6.1`.
-use Rattle.std.specs.Prelude.{◌≡◌, ◌≢◌, ℕ, ◌+◌, ◌-◌, ◌*◌, ◌^◌, ◌<◌, ◌≤◌, ◌⊎◌, ◌==◌}
-use Rattle.std.specs.Prelude.{List, [], ◌∷◌, ◌++◌, length, take_while, drop, slice_index, decimal}
-use Rattle.std.specs.Prelude.{true, not, map, All, Option, MatchOption}
-use Rattle.std.specs.Char.{is_ascii_digit}
-use Rattle.std.specs.List.{flat_map}
-use Rattle.std.specs.Str.{all_ascii_digits}
+use Rattle.std.specs.Prelude.{◌≡◌, ◌≢◌, ℕ, ◌+◌, ◌-◌, ◌*◌, ◌^◌, ◌<◌, ◌≤◌, ◌⊎◌, ◌==◌, List, [], ◌∷◌}
+use Rattle.std.specs.Prelude.{◌++◌, length, take_while, drop, slice_index, decimal, true, not, map}
+use Rattle.std.specs.Prelude.{All, Option, MatchOption}
+use Rattle.std.specs.{Char.is_ascii_digit, List.flat_map, Str.all_ascii_digits}
 
 -- the octet of `.`
 abbrev pub dot : ℕ

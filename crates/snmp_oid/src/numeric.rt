@@ -1,10 +1,8 @@
 //! Identifiers as text: decimal numbers with a dot before or between them, as in `.1.3.6.1`.
 ghost use Rattle.std.specs.Prelude.{◌≡◌, ◌≢◌, ℕ, ◌+◌, ◌<◌, ◌≤◌, ◌↔◌, ◌⊎◌, List, [], ◌∷◌, ◌++◌};
-ghost use Rattle.std.specs.Prelude.{decimal, length, drop, slice_index, All, MatchOption};
-ghost use Rattle.std.specs.Prelude.{IsTrue, IfOk, OnOk, IfSome, IfNone, IsSome, Ok, Err, Some};
-ghost use Rattle.std.specs.Prelude.{true};
-ghost use Rattle.std.specs.Char.{is_ascii_digit};
-ghost use Rattle.std.specs.Option.{option_map};
+ghost use Rattle.std.specs.Prelude.{decimal, length, drop, slice_index, All, MatchOption, IsTrue};
+ghost use Rattle.std.specs.Prelude.{IfOk, OnOk, IfSome, IfNone, IsSome, Ok, Err, Some, true};
+ghost use Rattle.std.specs.{Char.is_ascii_digit, Option.option_map};
 ghost use Rattle.snmp_oid.specs.Identifier.{IsIdentifier};
 ghost use Rattle.snmp_oid.specs.Numeric.{IsNumericName, IsFirstBadPart, IsTooLong, IsNumeral};
 ghost use Rattle.snmp_oid.specs.Numeric.{AreDigitsRead, IsPartRead, IsWrittenTo, dot, numeric_text};

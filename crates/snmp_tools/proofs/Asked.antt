@@ -1,33 +1,22 @@
 -- What a run over the agent in memory gave.
 use Rattle.std.proofs.lemmas.Grind.{common_steps}
-use Rattle.std.proofs.Common.{◌≡◌, ◌⊎◌, inl, inr, ◌++◌, ◌<◌, ℕ, true, List, [], ◌∷◌, All, length}
-use Rattle.std.proofs.Common.{Option, Some, None, refl, sym, ◌∙◌, ap, subst, arith}
+use Rattle.std.proofs.Common.{◌≡◌, ◌⊎◌, inl, inr, ◌++◌, ◌<◌, ℕ, true, List, [], ◌∷◌, All, length, Option, Some, None, refl, sym, ◌∙◌, ap, subst}
+use Rattle.std.proofs.Common.{arith}
 use Rattle.snmp_oid.specs.Identifier.{IsWire, wire}
 use Rattle.smi_value.specs.declared.letters.letters.Letters.{Letters}
 use Rattle.snmp_io.specs.Output.{Stream}
-use Rattle.snmp_wire.specs.Canon.{canon}
-use Rattle.snmp_wire.specs.Message.{VarBind}
-use Rattle.snmp_agent.specs.table.Exact.{HasOne}
-use Rattle.snmp_agent.specs.table.Listing.{variables}
-use Rattle.snmp_agent.specs.table.Table.{MibView, IsMibView, IsGet}
-use Rattle.snmp_walk.specs.Facts.{WalkFacts, IsLawfulEnd, HasNone, IsDone, IsDoneOrStopped}
-use Rattle.snmp_walk.specs.Get.{GetFacts, IsEndOfGet, IsLostGet, IsTooBig}
-use Rattle.snmp_walk.specs.Link.{Agents, IsUnanswered}
-use Rattle.snmp_walk.specs.Ran.{IsFreshAndHonest}
-use Rattle.snmp_walk.specs.Room.{HasRoomForEach, HasIds}
-use Rattle.snmp_walk.specs.Traffic.{Lost, Traffic}
-use Rattle.snmp_walk.specs.Walker.{Walker}
+use Rattle.snmp_wire.specs.{Canon.canon, Message.VarBind}
+use Rattle.snmp_agent.specs.{table.Exact.HasOne, table.Listing.variables, table.Table.MibView, table.Table.IsMibView, table.Table.IsGet}
+use Rattle.snmp_walk.specs.{Facts.WalkFacts, Facts.IsLawfulEnd, Facts.HasNone, Facts.IsDone, Facts.IsDoneOrStopped, Get.GetFacts, Get.IsEndOfGet}
+use Rattle.snmp_walk.specs.{Get.IsLostGet, Get.IsTooBig, Link.Agents, Link.IsUnanswered, Ran.IsFreshAndHonest, Room.HasRoomForEach, Room.HasIds}
+use Rattle.snmp_walk.specs.{Traffic.Lost, Traffic.Traffic, Walker.Walker, declared.end.WalkEnd.WalkEnd, declared.link.Link.Ghosts as LinkFacts}
 use Rattle.snmp_walk.specs.declared.end.SinkFault.TheVariants as sink
-use Rattle.snmp_walk.specs.declared.end.WalkEnd.{WalkEnd}
 use Rattle.snmp_walk.specs.declared.end.WalkEnd.TheVariants as ending
-use Rattle.snmp_walk.specs.declared.link.Link.{Ghosts as LinkFacts}
 use Rattle.snmp_tools.specs.Answer.{AreRowsAfter, CanBeSent, Counts, HasReason, IsAsked, IsAskedOver, IsOwnEnd, agent_over, end_in_memory}
 use Rattle.snmp_tools.specs.Answer.{first_after, first_of, request_for}
-use Rattle.snmp_tools.specs.Lines.{IsPrintedUpTo}
-use Rattle.snmp_tools.specs.Mib.{Mib}
+use Rattle.snmp_tools.specs.{Lines.IsPrintedUpTo, Mib.Mib, declared.start.Begun.Begun}
 use Rattle.snmp_tools.specs.Question.{Plan, Question, Walk, counts_in, names, subtree}
 use Rattle.snmp_tools.specs.private.Start.{CanRun, IsBegun, IsRunOver, IsStartOf, rows_given}
-use Rattle.snmp_tools.specs.declared.start.Begun.{Begun}
 use Rattle.snmp_tools.specs.declared.start.Begun.TheVariants as begun
 
 own_end : (end : WalkEnd) → IsDoneOrStopped end → IsOwnEnd (end_in_memory end)

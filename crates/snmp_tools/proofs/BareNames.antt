@@ -1,13 +1,9 @@
 -- The names and types that a job knows without module files.
 use Rattle.std.proofs.Common.{◌≡◌, refl, ap, ℕ, zero, suc, List, [], ◌∷◌, Option, Some, None}
-use Rattle.std.specs.Prelude.{slice_index_or, option_map}
-use Rattle.std.specs.Option.{option_and_then}
+use Rattle.std.specs.{Prelude.slice_index_or, Prelude.option_map, Option.option_and_then}
 use Rattle.smi_names.specs.nodes.Nodes.{roots}
-use Rattle.smi_tree.specs.Bare.{bare}
+use Rattle.smi_tree.specs.{Bare.bare, Standing.Longest, Standing.longest, Tree.IsTree, types.Types.Facts}
 use Rattle.smi_tree.specs.Shown.{shown_at, shown_syntax, units_at}
-use Rattle.smi_tree.specs.Standing.{Longest, longest}
-use Rattle.smi_tree.specs.Tree.{IsTree}
-use Rattle.smi_tree.specs.types.Types.{Facts}
 use Rattle.snmp_io.specs.Files.{Holdings, Holds}
 use Rattle.snmp_tools.specs.Mib.{AreLoaded, Mib, mib_of}
 use Rattle.snmp_tools.proofs.RowLines.{HasNoSyntax}

@@ -1,62 +1,37 @@
 -- What is printed of a table file that snmpd serves, where the network between makes nothing up.
 use Rattle.std.proofs.lemmas.Grind.{common_steps}
-use Rattle.std.proofs.Common.{◌≡◌, ◌≢◌, ◌⊎◌, inl, inr, ◌++◌, ◌+◌, ◌≤◌, ℕ, zero, suc, Bool, true, false, cond, List, [], ◌∷◌, length}
-use Rattle.std.proofs.Common.{Option, Some, None, refl, sym, ◌∙◌, ap, subst, arith, append-nil}
-use Rattle.std.specs.Prelude.{MatchOption, drop, filter, if◌then◌else◌}
-use Rattle.std.specs.Str.Lines.{lines}
+use Rattle.std.proofs.Common.{◌≡◌, ◌≢◌, ◌⊎◌, inl, inr, ◌++◌, ◌+◌, ◌≤◌, ℕ, zero, suc, Bool, true, false, cond, List, [], ◌∷◌, length, Option, Some}
+use Rattle.std.proofs.Common.{None, refl, sym, ◌∙◌, ap, subst, arith, append-nil}
+use Rattle.std.specs.{Prelude.MatchOption, Prelude.drop, Prelude.filter, Prelude.if◌then◌else◌, Str.Lines.lines}
 use Rattle.smi_names.specs.declared.nodes.warning.Warning.{Warning}
 use Rattle.smi_show.specs.name.Naming.{Naming}
-use Rattle.smi_tree.specs.Naming.{naming_of}
-use Rattle.smi_tree.specs.Tree.{Contents}
-use Rattle.snmp_agent.specs.Event.{Event, InTurn}
-use Rattle.snmp_agent.specs.Serving.{AreTurns}
-use Rattle.snmp_agent.specs.table.Exact.{HasOne}
-use Rattle.snmp_agent.specs.table.Format.{Names}
-use Rattle.snmp_agent.specs.table.Listing.{variables}
+use Rattle.smi_tree.specs.{Naming.naming_of, Tree.Contents}
+use Rattle.snmp_agent.specs.{Event.Event, Event.InTurn, Serving.AreTurns, table.Exact.HasOne, table.Format.Names, table.Listing.variables}
 use Rattle.snmp_agent.specs.table.Stated.{AreTableBy, IsTableOf}
 use Rattle.snmp_agent.specs.table.Table.{IsGet, IsMibView, IsRow, MibView}
-use Rattle.snmp_io.specs.Files.{Holdings, Holds, MayHold}
-use Rattle.snmp_io.specs.Output.{TakesFront, extended}
-use Rattle.snmp_io.specs.Streams.{nothing_taken}
-use Rattle.snmp_net.specs.Address.{table, udp}
-use Rattle.snmp_net.specs.declared.links.Links.{Ghosts as Network}
+use Rattle.snmp_io.specs.{Files.Holdings, Files.Holds, Files.MayHold, Output.TakesFront, Output.extended, Streams.nothing_taken}
+use Rattle.snmp_net.specs.{Address.table, Address.udp, declared.links.Links.Ghosts as Network}
 use Rattle.snmp_oid.specs.Identifier.{IsBelow, Precedes, wire}
-use Rattle.snmp_walk.specs.Facts.{IsDone, walk_at}
-use Rattle.snmp_walk.specs.Link.{Agents, AreLawful, OneOf}
-use Rattle.snmp_walk.specs.Names.{comes_after}
+use Rattle.snmp_walk.specs.{Facts.IsDone, Facts.walk_at, Link.Agents, Link.AreLawful, Link.OneOf, Names.comes_after, Standing.CountsAll}
+use Rattle.snmp_walk.specs.{Tries.Happens, declared.end.WalkEnd.WalkEnd, declared.link.Link.Ghosts as LinkFacts, declared.mode.Mode.Mode}
 use Rattle.snmp_walk.specs.Network.{AreReplies, AreServed, Happening, IsFaithful, of_agents, of_walk}
-use Rattle.snmp_walk.specs.Standing.{CountsAll}
-use Rattle.snmp_walk.specs.Tries.{Happens}
 use Rattle.snmp_walk.specs.Walk.{or_only, rest_of, rows_below, rows_named, walk_from, walk_of}
-use Rattle.snmp_walk.specs.declared.end.WalkEnd.{WalkEnd}
 use Rattle.snmp_walk.specs.declared.end.WalkEnd.TheVariants as ending
-use Rattle.snmp_walk.specs.declared.link.Link.{Ghosts as LinkFacts}
-use Rattle.snmp_walk.specs.declared.mode.Mode.{Mode}
 use Rattle.snmp_walk.specs.declared.mode.Mode.TheVariants as mode
 use Rattle.snmp_wire.specs.Message.{VarBind}
 use Rattle.snmp_words.specs.Words.{ServeWords, StateJob, Stated, StatesNumber, readings, snmpd, stated_among}
 use Rattle.snmp_tools.specs.agent.Outcome as serve
 use Rattle.snmp_tools.specs.agent.Outcome.{IsServedBy, IsServeOutcome, listening_line}
-use Rattle.snmp_tools.specs.agent.Service.{IsPlaced, served_agent}
-use Rattle.snmp_tools.specs.agent.TableFile.{HasTable}
-use Rattle.snmp_tools.specs.loading.Loaded.{LoadFacts}
+use Rattle.snmp_tools.specs.{agent.Service.IsPlaced, agent.Service.served_agent, agent.TableFile.HasTable, loading.Loaded.LoadFacts}
+use Rattle.snmp_tools.specs.{Headline.IsWholeText, Message.Fault, Mib.AreLoaded, Mib.Mib, Mib.mib_of, Outcome.IsOutcome, Outcome.IsOutcomeBy}
+use Rattle.snmp_tools.specs.{Outcome.IsRun, Outcome.IsShown, Seen.Seen, Serving.IsServeRun, private.Start.rows_given}
 use Rattle.snmp_tools.specs.Answer.{AreRowsOf, Counts, HasFacts, IsAskedOver, first_after, first_of as first_of_walk}
 use Rattle.snmp_tools.specs.BothEnds as ends
 use Rattle.snmp_tools.specs.BothEnds.{AreEndsOfOneRun, IsAskOfServer, IsAtAsker, IsAtServer, PrintsServed, ServesInTurn, events_of}
-use Rattle.snmp_tools.specs.Headline.{IsWholeText}
-use Rattle.snmp_tools.specs.Message.{Fault}
-use Rattle.snmp_tools.specs.Mib.{AreLoaded, Mib, mib_of}
 use Rattle.snmp_tools.specs.Outcome as outcome
-use Rattle.snmp_tools.specs.Outcome.{IsOutcome, IsOutcomeBy, IsRun, IsShown}
 use Rattle.snmp_tools.specs.Question.{AskFor, AskWords, IsPlanFor, Plan, Question, Walk, counts_in, names, subtree}
-use Rattle.snmp_tools.specs.Seen.{Seen}
-use Rattle.snmp_tools.specs.Serving.{IsServeRun}
-use Rattle.snmp_tools.specs.private.Start.{rows_given}
-use Rattle.snmp_tools.proofs.Asked.{begun_rows}
-use Rattle.snmp_tools.proofs.Outcomes.{IsFrontOf, finished, no_fault_at_0}
-use Rattle.snmp_tools.proofs.Plans.{OneList, OneTree, held_is, one_load, one_plan}
-use Rattle.snmp_tools.proofs.TableNames.{OneMeaning, one_look_up}
-use Rattle.snmp_tools.proofs.TableWalks.{BelowAreRows}
+use Rattle.snmp_tools.proofs.{Asked.begun_rows, Outcomes.IsFrontOf, Outcomes.finished, Outcomes.no_fault_at_0, Plans.OneList, Plans.OneTree}
+use Rattle.snmp_tools.proofs.{Plans.held_is, Plans.one_load, Plans.one_plan, TableNames.OneMeaning, TableNames.one_look_up, TableWalks.BelowAreRows}
 
 -- ---- the greatest size that a command line states
 

@@ -1,15 +1,12 @@
 -- The letters of -C, read one after the other, choose what the relations say, and these say one
 -- thing.
-use Rattle.std.proofs.lemmas.Grind.{common_steps}
+use Rattle.std.proofs.{lemmas.Grind.common_steps, lemmas.Bool.Decides.nat_tests}
 use Rattle.std.proofs.Common.{◌≡◌, ◌⊎◌, inl, inr, ◌∙◌, ◌+◌, ◌-◌, ◌++◌, ◌<◌, ◌≤◌, ℕ, Bool, true, false, List, [], ◌∷◌, Option, Some, None, Result, Ok}
 use Rattle.std.proofs.Common.{Err, drop, length, slice_index_or, take, refl, sym, ap, subst, arith, append_assoc, append-nil, length-append}
 use Rattle.std.proofs.lemmas.Bool.{and_parts, eqb-true, eqb-false, or_from, or_parts}
 use Rattle.std.proofs.lemmas.List.{drop_at, length-take-le, take-append-drop, take_at, take_rest}
-use Rattle.std.proofs.lemmas.Bool.Decides.{nat_tests}
 use Rattle.std.specs.Prelude.{◌&&◌, ◌||◌, ◌==◌, not, if◌then◌else◌}
-use Rattle.std.specs.Char.{is_ascii_digit}
-use Rattle.std.specs.List.{list_all}
-use Rattle.std.specs.Str.Parse.{digits_value}
+use Rattle.std.specs.{Char.is_ascii_digit, List.list_all, Str.Parse.digits_value}
 use Rattle.snmp_io.specs.Steps.{AreDone}
 use Rattle.snmp_tools.specs.Letters.{AreLettersIn, AreRepetitions, Choices, HaveChosen, IsFirstUnknown, IsKnown, IsLastNumber, IsPlain, IsUnknown}
 use Rattle.snmp_tools.specs.Letters.{has, no_choices}

@@ -3,41 +3,27 @@ use Rattle.std.proofs.Common.{arith, ◌≡◌, ◌⊎◌, inl, inr, ◌++◌, �
 use Rattle.std.proofs.lemmas.Grind.{common_steps}
 use Rattle.std.specs.Str.Lines.{lines}
 use Rattle.snmp_wire.specs.Message.{VarBind}
-use Rattle.snmp_agent.specs.table.Table.{MibView}
+use Rattle.snmp_agent.specs.{table.Table.MibView, table.Format.Names, table.Stated.IsTableOf, table.Stated.IsFirstFault}
 use Rattle.snmp_agent.specs.declared.table.error.TableError.{TableError}
 use Rattle.snmp_agent.specs.declared.table.error.TableError.TheVariants as table_error
-use Rattle.snmp_agent.specs.table.Format.{Names}
-use Rattle.snmp_agent.specs.table.Stated.{IsTableOf, IsFirstFault}
 use Rattle.snmp_walk.specs.declared.end.SinkFault.TheVariants as sink
-use Rattle.snmp_walk.specs.declared.end.WalkEnd.{WalkEnd}
+use Rattle.snmp_walk.specs.{declared.end.WalkEnd.WalkEnd, declared.link.Link.Ghosts as LinkFacts}
 use Rattle.snmp_walk.specs.declared.end.WalkEnd.TheVariants as ending
-use Rattle.snmp_walk.specs.declared.link.Link.{Ghosts as LinkFacts}
-use Rattle.snmp_io.specs.Count.{HasRisen}
-use Rattle.snmp_io.specs.Files.{Holdings, MayHold}
-use Rattle.snmp_io.specs.Output.{IsWritten, Stream, extended}
-use Rattle.snmp_io.specs.Streams.{nothing_taken}
-use Rattle.snmp_net.specs.Address.{table, udp}
-use Rattle.snmp_net.specs.declared.links.Links.{Ghosts as Network}
+use Rattle.snmp_io.specs.{Count.HasRisen, Files.Holdings, Files.MayHold, Output.IsWritten, Output.Stream, Output.extended, Streams.nothing_taken}
+use Rattle.snmp_net.specs.{Address.table, Address.udp, declared.links.Links.Ghosts as Network}
 use Rattle.smi_names.specs.declared.nodes.warning.Warning.{Warning}
 use Rattle.smi_value.specs.declared.letters.letters.Letters.{Letters}
-use Rattle.snmp_tools.specs.agent.TableFile.{AreNamesIn, HasTable}
-use Rattle.snmp_tools.specs.loading.Loaded.{LoadFacts}
-use Rattle.snmp_tools.specs.loading.Warned.{warning_lines}
-use Rattle.snmp_tools.specs.Answer.{AreRowsOf, IsFeasible, IsOwnEnd}
-use Rattle.snmp_tools.specs.Done.{IsAskDone}
-use Rattle.snmp_tools.specs.Headline.{IsAsk, IsMishap, IsWholeText, WritesRows}
-use Rattle.snmp_tools.specs.Lines.{IsPrintedUpTo}
+use Rattle.snmp_tools.specs.{agent.TableFile.AreNamesIn, agent.TableFile.HasTable, loading.Loaded.LoadFacts, loading.Warned.warning_lines}
+use Rattle.snmp_tools.specs.{Answer.AreRowsOf, Answer.IsFeasible, Answer.IsOwnEnd, Done.IsAskDone, Headline.IsAsk, Headline.IsMishap}
+use Rattle.snmp_tools.specs.{Headline.IsWholeText, Headline.WritesRows, Lines.IsPrintedUpTo, Mib.AreLoaded, Mib.Mib, Seen.Seen}
 use Rattle.snmp_tools.specs.Message.{Fault, bad_table, fault_message, out_of_memory, status_of}
-use Rattle.snmp_tools.specs.Mib.{AreLoaded, Mib}
-use Rattle.snmp_tools.specs.Outcome.{IsFinished, IsOutcome, IsOutcomeBy, IsReported, IsRun, asked}
-use Rattle.snmp_tools.specs.Outcome.{asked_over, loaded, not_begun, not_linked, not_loaded, refused}
+use Rattle.snmp_tools.specs.Outcome.{IsFinished, IsOutcome, IsOutcomeBy, IsReported, IsRun, asked, asked_over, loaded, not_begun, not_linked}
+use Rattle.snmp_tools.specs.Outcome.{not_loaded, refused}
 use Rattle.snmp_tools.specs.Question.{AskFor, AskWords, IsLastRefusal, IsLateRefusal, IsPlanFor, Plan, counts_in}
-use Rattle.snmp_tools.specs.Seen.{Seen}
-use Rattle.snmp_tools.proofs.Asked.{counted}
+use Rattle.snmp_tools.proofs.{Asked.counted, TableNames.OneMeaning, TableNames.one_look_up}
 use Rattle.snmp_tools.proofs.Outcomes.{IsFrontOf, finished, no_fault_at_0}
-use Rattle.snmp_tools.proofs.TableNames.{OneMeaning, one_look_up}
-use Rattle.snmp_tools.proofs.Plans.{IsWant, OneList, OneTree, held_is, one_load, one_path, one_plan}
-use Rattle.snmp_tools.proofs.Plans.{plain_want, table_want, wants_early, wants_last, wants_late}
+use Rattle.snmp_tools.proofs.Plans.{IsWant, OneList, OneTree, held_is, one_load, one_path, one_plan, plain_want, table_want, wants_early, wants_last}
+use Rattle.snmp_tools.proofs.Plans.{wants_late}
 
 -- the status is 1, and the output failed, or that memory ran out was reported after the warnings
 abbrev Stops : (before after warned err_after : Stream) → ℕ → Type 0

@@ -3,30 +3,21 @@ use Rattle.std.proofs.Common.{◌≡◌, ◌↔◌, ℕ, false, List, [], Option
 use Rattle.std.specs.Str.Lines.{lines}
 use Rattle.snmp_oid.specs.Identifier.{wire}
 use Rattle.snmp_wire.specs.Message.{VarBind}
-use Rattle.snmp_agent.specs.table.Exact.{HasOne}
-use Rattle.snmp_agent.specs.table.Format.{IsMarked, first_format}
-use Rattle.snmp_agent.specs.table.Listing.{variables}
-use Rattle.snmp_agent.specs.table.Stated.{AreTableBy, IsTableIn, IsTableOf}
-use Rattle.snmp_agent.specs.table.Table.{IsGet, IsMibView, MibView}
+use Rattle.snmp_agent.specs.{table.Exact.HasOne, table.Format.IsMarked, table.Format.first_format, table.Listing.variables, table.Stated.AreTableBy}
+use Rattle.snmp_agent.specs.{table.Stated.IsTableIn, table.Stated.IsTableOf, table.Table.IsGet, table.Table.IsMibView, table.Table.MibView}
 use Rattle.snmp_io.specs.Files.{Holdings, Holds}
 use Rattle.snmp_net.specs.Address.{udp}
-use Rattle.snmp_walk.specs.Ordered.{AreOrdered}
-use Rattle.snmp_walk.specs.Walk.{or_only, rows_below}
+use Rattle.snmp_walk.specs.{Ordered.AreOrdered, Walk.or_only, Walk.rows_below}
 use Rattle.smi_show.specs.name.Meant.{TextMeans}
-use Rattle.smi_tree.specs.Bare.{bare}
-use Rattle.smi_tree.specs.Tree.{IsTree}
+use Rattle.smi_tree.specs.{Bare.bare, Tree.IsTree}
 use Rattle.snmp_words.specs.Words.{ServeWords, StateJob, WalkWords, snmpd}
-use Rattle.snmp_tools.specs.agent.TableFile.{AreNamesIn}
-use Rattle.snmp_tools.specs.Asking.{AreShown, IsNameIfGiven}
-use Rattle.snmp_tools.specs.BothEnds.{IsAskInNumbers, IsWalkInNumbers}
-use Rattle.snmp_tools.specs.Letters.{HaveChosen, no_choices}
-use Rattle.snmp_tools.specs.Mib.{AreLoaded}
+use Rattle.snmp_tools.specs.{agent.TableFile.AreNamesIn, Asking.AreShown, Asking.IsNameIfGiven, BothEnds.IsAskInNumbers, BothEnds.IsWalkInNumbers}
+use Rattle.snmp_tools.specs.{Letters.HaveChosen, Letters.no_choices, Mib.AreLoaded, private.Resolved.names_in, TableWalk.HoldsTableFile}
 use Rattle.snmp_tools.specs.Question.{AskFor, Plan, of_walk, root_text, subtree}
-use Rattle.snmp_tools.specs.private.Resolved.{names_in}
-use Rattle.snmp_tools.specs.TableWalk.{HoldsTableFile}
 use Rattle.snmp_tools.proofs.BareNames.{bare_has_no_syntax, bare_is_loaded, bare_mib}
 use Rattle.snmp_tools.proofs.RowLines.{numeric_are, numeric_letters}
-use Rattle.snmp_tools.proofs.TableWalks.{BelowAreRows, NumbersAreRead, all_are, are_walked, front_is, got_is, nothing_chosen, plain_walk, rows_are, wire_is}
+use Rattle.snmp_tools.proofs.TableWalks.{BelowAreRows, NumbersAreRead, all_are, are_walked, front_is, got_is, nothing_chosen, plain_walk, rows_are}
+use Rattle.snmp_tools.proofs.TableWalks.{wire_is}
 
 -- no module files are loaded, whatever files hold
 bare_known : IsTree [] bare [] → (files : Holdings) (paths : List (List ℕ)) → paths ≡ [] → AreLoaded (Holds files) paths bare_mib []

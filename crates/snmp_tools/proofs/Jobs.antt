@@ -2,28 +2,19 @@
 use Rattle.std.proofs.Common.{◌≡◌, ℕ, true, false, List, Option, Some, refl, sym, subst, inl, inr, codes}
 use Rattle.snmp_agent.specs.declared.table.error.TableError.{TableError}
 use Rattle.snmp_agent.specs.declared.table.error.TableError.TheVariants as table_error
-use Rattle.snmp_agent.specs.table.Format.{Names}
-use Rattle.snmp_agent.specs.table.Stated.{IsTableOf, IsFirstFault}
-use Rattle.snmp_agent.specs.table.Table.{MibView}
-use Rattle.snmp_io.specs.Files.{Holdings}
-use Rattle.snmp_io.specs.Output.{IsWritten, Stream}
+use Rattle.snmp_agent.specs.{table.Format.Names, table.Stated.IsTableOf, table.Stated.IsFirstFault, table.Table.MibView}
+use Rattle.snmp_io.specs.{Files.Holdings, Output.IsWritten, Output.Stream}
 use Rattle.snmp_net.specs.declared.links.Links.{Ghosts as Network}
 use Rattle.snmp_walk.specs.declared.link.Link.{Ghosts as LinkFacts}
 use Rattle.snmp_words.specs.declared.job.Job.{Job}
 use Rattle.snmp_words.specs.Words.{StateJob, Stated, job_words, snmpbulkwalk, snmpd, snmpget, snmptranslate, snmpwalk}
 use Rattle.snmp_tools.specs.agent.Outcome as serve
-use Rattle.snmp_tools.specs.loading.Loaded.{LoadFacts}
+use Rattle.snmp_tools.specs.{loading.Loaded.LoadFacts, Done.IsAskDone, Done.IsJobDone, Done.IsJobOutcome, Message.Fault, Message.out_of_memory}
+use Rattle.snmp_tools.specs.{Question.AskWords, Question.of_get, Question.of_walk, Seen.Seen, Seen.seen}
 use Rattle.snmp_tools.specs.translation.Outcome as translated
-use Rattle.snmp_tools.specs.Done.{IsAskDone, IsJobDone, IsJobOutcome}
-use Rattle.snmp_tools.specs.Message.{Fault, out_of_memory}
 use Rattle.snmp_tools.specs.Outcome.{IsOutcome, IsReported, not_loaded}
-use Rattle.snmp_tools.specs.Question.{AskWords, of_get, of_walk}
-use Rattle.snmp_tools.specs.Seen.{Seen, seen}
-use Rattle.snmp_tools.proofs.Headlines.{asked_done, not_asked}
-use Rattle.snmp_tools.proofs.Outcomes.{no_fault_at_0}
-use Rattle.snmp_tools.proofs.Plans.{OneList, OneTree, plain_want}
-use Rattle.snmp_tools.proofs.TableNames.{OneMeaning}
-use Rattle.snmp_tools.proofs.TranslationHeadlines.{all_printed, front_printed}
+use Rattle.snmp_tools.proofs.{Headlines.asked_done, Headlines.not_asked, Outcomes.no_fault_at_0, Plans.OneList, Plans.OneTree, Plans.plain_want}
+use Rattle.snmp_tools.proofs.{TableNames.OneMeaning, TranslationHeadlines.all_printed, TranslationHeadlines.front_printed}
 
 -- words state one job
 abbrev pub OneJob : Type 0

@@ -1,13 +1,9 @@
 -- The letters of -C, found place by place.
-use Rattle.std.proofs.lemmas.Grind.{common_steps}
-use Rattle.std.proofs.Common.{◌≡◌, ◌+◌, ◌*◌, ◌<◌, ◌≤◌, ℕ, true, false, List, [], ◌∷◌, zero, suc, None, length, drop, slice_index_or, refl}
-use Rattle.std.proofs.Common.{drop-cons, add-one, arith, drop_of_length-le}
+use Rattle.std.proofs.{lemmas.Grind.common_steps, lemmas.Bool.Decides.nat_tests, lemmas.Str.digit_value_digit}
+use Rattle.std.proofs.Common.{◌≡◌, ◌+◌, ◌*◌, ◌<◌, ◌≤◌, ℕ, true, false, List, [], ◌∷◌, zero, suc, None, length, drop, slice_index_or, refl, drop-cons}
+use Rattle.std.proofs.Common.{add-one, arith, drop_of_length-le}
 use Rattle.std.proofs.lemmas.Bool.{and_parts, cases_lt}
-use Rattle.std.proofs.lemmas.Bool.Decides.{nat_tests}
-use Rattle.std.proofs.lemmas.Str.{digit_value_digit}
-use Rattle.std.specs.Char.{digit_value, is_ascii_digit}
-use Rattle.std.specs.List.{list_all}
-use Rattle.std.specs.Str.Parse.{digits_value, digits_value_after}
+use Rattle.std.specs.{Char.digit_value, Char.is_ascii_digit, List.list_all, Str.Parse.digits_value, Str.Parse.digits_value_after}
 use Rattle.snmp_tools.specs.private.Choosing.{repetitions_in}
 
 pub at_place : (letters : List ℕ) (place : ℕ) → place < length letters → drop place letters ≡ slice_index_or letters place 0 ∷ drop (place + 1) letters

@@ -4,17 +4,12 @@ use Rattle.std.proofs.Common.{append_assoc, append-nil}
 use Rattle.std.proofs.lemmas.Grind.{common_steps}
 use Rattle.smi_value.specs.declared.letters.letters.Letters.{Letters}
 use Rattle.snmp_wire.specs.Message.{VarBind}
-use Rattle.snmp_walk.specs.Facts.{IsDone}
+use Rattle.snmp_walk.specs.{Facts.IsDone, declared.end.WalkEnd.WalkEnd}
 use Rattle.snmp_walk.specs.declared.end.SinkFault.TheVariants as sink
-use Rattle.snmp_walk.specs.declared.end.WalkEnd.{WalkEnd}
 use Rattle.snmp_walk.specs.declared.end.WalkEnd.TheVariants as ending
-use Rattle.snmp_io.specs.Output.{Stream, TakesFront, extended}
+use Rattle.snmp_io.specs.{Output.Stream, Output.TakesFront, Output.extended, Streams.front_after, Streams.whole_taken}
 use Rattle.snmp_tools.specs.Lines.{AreLines, IsPrintedUpTo, count_line, count_text}
-use Rattle.snmp_tools.specs.Message.{Fault, ended, status_of}
-use Rattle.snmp_tools.specs.Mib.{Mib}
-use Rattle.snmp_tools.specs.Answer.{Counts}
-use Rattle.snmp_tools.specs.Outcome.{IsFinished, IsReported}
-use Rattle.snmp_io.specs.Streams.{front_after, whole_taken}
+use Rattle.snmp_tools.specs.{Message.Fault, Message.ended, Message.status_of, Mib.Mib, Answer.Counts, Outcome.IsFinished, Outcome.IsReported}
 use Rattle.snmp_tools.proofs.Printed.{lines_of_both}
 
 -- a front of the lines of some first rows

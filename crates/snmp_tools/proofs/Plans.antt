@@ -1,39 +1,29 @@
 -- The words ask for one plan, and the steps before its question fail for want of memory alone.
-use Rattle.std.proofs.lemmas.Grind.{common_steps}
-use Rattle.std.proofs.Common.{◌≡◌, ◌⊎◌, inl, inr, ℕ, ◌<◌, ◌≤◌, length, arith, List, [], ◌∷◌, All}
-use Rattle.std.proofs.Common.{map, Option, Some, None, Ok, refl, sym, ◌∙◌, ap, subst}
-use Rattle.std.proofs.lemmas.List.Elements.{All-head, All-tail}
+use Rattle.std.proofs.{lemmas.Grind.common_steps, lemmas.List.Elements.All-head, lemmas.List.Elements.All-tail}
+use Rattle.std.proofs.Common.{◌≡◌, ◌⊎◌, inl, inr, ℕ, ◌<◌, ◌≤◌, length, arith, List, [], ◌∷◌, All, map, Option, Some, None, Ok, refl, sym, ◌∙◌, ap}
+use Rattle.std.proofs.Common.{subst}
 use Rattle.std.specs.Str.Lines.{lines}
-use Rattle.smi_value.specs.declared.letters.letters.Letters.{Letters}
-use Rattle.smi_value.specs.letters.Letters.{AreLetters}
+use Rattle.smi_value.specs.{declared.letters.letters.Letters.Letters, letters.Letters.AreLetters}
 use Rattle.smi_show.specs.name.Meant.{TextMeans}
 use Rattle.snmp_oid.specs.Identifier.{IsWire, wire}
 use Rattle.snmp_wire.specs.Message.{VarBind}
-use Rattle.snmp_agent.specs.table.Table.{MibView}
+use Rattle.snmp_agent.specs.{table.Table.MibView, table.Format.Names, table.Stated.IsTableOf, table.Stated.IsFirstFault}
 use Rattle.snmp_agent.specs.declared.table.error.TableError.{TableError}
 use Rattle.snmp_agent.specs.declared.table.error.TableError.TheVariants as table_error
-use Rattle.snmp_agent.specs.table.Format.{Names}
-use Rattle.snmp_agent.specs.table.Stated.{IsTableOf, IsFirstFault}
-use Rattle.snmp_io.specs.Files.{Holdings, Holds, HoldsIfKnown, MayHold}
-use Rattle.snmp_io.specs.Steps.{AreDone, IsFirstToFail}
+use Rattle.snmp_io.specs.{Files.Holdings, Files.Holds, Files.HoldsIfKnown, Files.MayHold, Steps.AreDone, Steps.IsFirstToFail}
 use Rattle.snmp_net.specs.Address.{Address, table}
-use Rattle.snmp_tools.specs.agent.TableFile.{TableFails}
-use Rattle.snmp_tools.specs.Answer.{CanBeSent, CanGoOn}
-use Rattle.snmp_tools.specs.Asking.{AskingFails, AskingStep, HasAgent, IsNameIfGiven, ReachFails}
-use Rattle.snmp_tools.specs.Asking.{agent_step, community_step, letters_step, version_step}
-use Rattle.snmp_tools.specs.Headline.{IsAsk}
-use Rattle.snmp_tools.specs.Letters.{Choices}
-use Rattle.snmp_tools.specs.Message.{Fault, bad_table, out_of_memory}
-use Rattle.snmp_tools.specs.loading.Files.{AreModulesOf}
+use Rattle.snmp_tools.specs.{agent.TableFile.TableFails, Answer.CanBeSent, Answer.CanGoOn, Headline.IsAsk, Letters.Choices, Message.Fault}
+use Rattle.snmp_tools.specs.{Message.bad_table, Message.out_of_memory, loading.Files.AreModulesOf, Mib.AreLoaded, Mib.Mib, Mib.mib_of}
+use Rattle.snmp_tools.specs.Asking.{AskingFails, AskingStep, HasAgent, IsNameIfGiven, ReachFails, agent_step, community_step, letters_step}
+use Rattle.snmp_tools.specs.Asking.{version_step}
 use Rattle.smi_text.specs.declared.trees.tree.Module.{Module}
 use Rattle.smi_names.specs.declared.nodes.warning.Warning.{Warning}
 use Rattle.smi_tree.specs.Tree.{Contents, IsTree}
-use Rattle.snmp_tools.specs.Mib.{AreLoaded, Mib, mib_of}
 use Rattle.snmp_walk.specs.Ordered.{IsAtOrBelow}
-use Rattle.snmp_tools.specs.Question.{AreNames, AskFor, AskWords, FailsBy, FailsFor, IsDoneBy, IsEarlyRefusal, IsLastRefusal}
-use Rattle.snmp_tools.specs.Question.{IsLateRefusal, IsQuestionOf, LaterStep, LoadingStep, Plan, Question, Request, HasChosen, HasUnknown}
-use Rattle.snmp_tools.specs.Question.{goes_on_after, root_text, asking, choices_step, mibs_step, get, names, subtree, walk, name_steps}
-use Rattle.snmp_tools.specs.Question.{reaching_steps, sent_steps, below_step, name_step, reach_step, sent_step}
+use Rattle.snmp_tools.specs.Question.{AreNames, AskFor, AskWords, FailsBy, FailsFor, IsDoneBy, IsEarlyRefusal, IsLastRefusal, IsLateRefusal}
+use Rattle.snmp_tools.specs.Question.{IsQuestionOf, LaterStep, LoadingStep, Plan, Question, Request, HasChosen, HasUnknown, goes_on_after, root_text}
+use Rattle.snmp_tools.specs.Question.{asking, choices_step, mibs_step, get, names, subtree, walk, name_steps, reaching_steps, sent_steps, below_step}
+use Rattle.snmp_tools.specs.Question.{name_step, reach_step, sent_step}
 use Rattle.snmp_tools.proofs.ChosenLetters.{among, both, no_choice, one_choice}
 use Rattle.snmp_tools.proofs.TableNames.{OneMeaning, no_name, one_look_up, one_name}
 

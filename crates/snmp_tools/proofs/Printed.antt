@@ -3,16 +3,11 @@ use Rattle.std.proofs.Common.{arith, ◌≡◌, ◌++◌, ℕ, List, [], ◌∷�
 use Rattle.std.proofs.lemmas.Grind.{common_steps}
 use Rattle.smi_value.specs.declared.letters.letters.Letters.{Letters}
 use Rattle.snmp_wire.specs.Message.{VarBind}
-use Rattle.snmp_walk.specs.declared.end.SinkFault.{SinkFault}
+use Rattle.snmp_walk.specs.{declared.end.SinkFault.SinkFault, declared.end.WalkEnd.WalkEnd, Ran.IsRun, Sink.Given, Sink.Refused, Sink.Took}
 use Rattle.snmp_walk.specs.declared.end.SinkFault.TheVariants as fault
-use Rattle.snmp_walk.specs.declared.end.WalkEnd.{WalkEnd}
 use Rattle.snmp_walk.specs.declared.end.WalkEnd.TheVariants as ending
-use Rattle.snmp_walk.specs.Ran.{IsRun}
-use Rattle.snmp_walk.specs.Sink.{Given, Refused, Took}
-use Rattle.snmp_io.specs.Output.{Stream, extended}
-use Rattle.snmp_io.specs.Streams.{extended-nil, extended-twice}
-use Rattle.snmp_tools.specs.Lines.{AreLines, ArePrinted, IsPrintedUpTo, TakesLine}
-use Rattle.snmp_tools.specs.Mib.{Mib}
+use Rattle.snmp_io.specs.{Output.Stream, Output.extended, Streams.extended-nil, Streams.extended-twice}
+use Rattle.snmp_tools.specs.{Lines.AreLines, Lines.ArePrinted, Lines.IsPrintedUpTo, Lines.TakesLine, Mib.Mib}
 
 pub lines_of_both : (mib : Mib) (letters : Letters) (rows more : List VarBind) (a b : List ℕ) → AreLines mib letters rows a → AreLines mib letters more b
     → AreLines mib letters (rows ++ more) (a ++ b)

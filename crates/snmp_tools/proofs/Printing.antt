@@ -1,13 +1,10 @@
 -- Names are printed one after the other.
-use Rattle.std.proofs.Common.{◌∙◌, ◌++◌, ◌+◌, ◌<◌, ap, refl, sym, subst, ℕ, List, [], ◌∷◌, Bor}
-use Rattle.std.proofs.Common.{take, drop, length, get_or, append_assoc, append-nil}
-use Rattle.snmp_io.specs.Output.{Stream, extended}
-use Rattle.snmp_io.specs.Streams.{extended-twice}
+use Rattle.std.proofs.Common.{◌∙◌, ◌++◌, ◌+◌, ◌<◌, ap, refl, sym, subst, ℕ, List, [], ◌∷◌, Bor, take, drop, length, get_or, append_assoc, append-nil}
+use Rattle.snmp_io.specs.{Output.Stream, Output.extended, Streams.extended-twice}
 use Rattle.snmp_words.specs.Words.{texts_at}
-use Rattle.snmp_tools.specs.Message.{Fault}
+use Rattle.snmp_tools.specs.{Message.Fault, declared.translation.style.Style.Style}
 use Rattle.snmp_tools.specs.translation.Outcome.{AreNamesPrinted, IsNamePrinted, StopsAtName, StopsWithin}
 use Rattle.snmp_tools.specs.translation.Text.{AreTextsOf, DetailMib, IsTextOf}
-use Rattle.snmp_tools.specs.declared.translation.style.Style.{Style}
 use Rattle.snmp_tools.proofs.Texts.{texts-parts}
 
 -- the text of one name more

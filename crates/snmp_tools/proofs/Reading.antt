@@ -2,14 +2,9 @@
 use Rattle.std.proofs.Common.{arith, ◌≡◌, ◌∙◌, ◌⊎◌, inl, inr, ◌++◌, ◌+◌, ◌<◌, ap, ap₂, refl, sym, subst, ℕ, List, [], ◌∷◌, Bor, Option, Some, take}
 use Rattle.std.proofs.Common.{drop, length, get_or, unwrap_or, append_assoc, append-nil}
 use Rattle.std.proofs.lemmas.Grind.{common_steps}
-use Rattle.smi_text.specs.lexer.Lexes.{Lexes}
-use Rattle.smi_text.specs.lexer.Token.{Item, Lexeme}
-use Rattle.smi_text.specs.trees.Mark.{Stands}
-use Rattle.smi_text.specs.trees.Spelling.{spelling}
+use Rattle.smi_text.specs.{lexer.Lexes.Lexes, lexer.Token.Item, lexer.Token.Lexeme, trees.Mark.Stands, trees.Spelling.spelling, Text.AreSpelledBy}
 use Rattle.smi_text.specs.declared.trees.tree.Module.{Module}
-use Rattle.smi_text.specs.Text.{AreSpelledBy}
-use Rattle.snmp_io.specs.Files.{Holdings, Holds, MayHold}
-use Rattle.snmp_io.specs.Steps.{AreDone}
+use Rattle.snmp_io.specs.{Files.Holdings, Files.Holds, Files.MayHold, Steps.AreDone}
 use Rattle.snmp_tools.specs.loading.Files.{AreModulesIn, AreModulesOf, FileFails, IsFilesRefusal, MayHoldModules, Refusal, no_memory, texts}
 use Rattle.snmp_tools.proofs.Texts.{texts-parts}
 

@@ -4,11 +4,9 @@ use Rattle.std.proofs.lemmas.Grind.{common_steps}
 use Rattle.smi_value.specs.letters.Letters.{first_other}
 use Rattle.snmp_io.specs.Files.{Holdings}
 use Rattle.snmp_words.specs.Words.{TranslateWords}
-use Rattle.snmp_tools.specs.Asking.{MibsFail}
-use Rattle.snmp_tools.specs.Message.{Fault, bad_letter, out_of_memory}
+use Rattle.snmp_tools.specs.{Asking.MibsFail, Message.Fault, Message.bad_letter, Message.out_of_memory, declared.translation.style.Style.Style}
 use Rattle.snmp_tools.specs.translation.Refusal.{IsTranslateRefusal, TranslationFails, details_step, letters_step}
 use Rattle.snmp_tools.specs.translation.Style.{IsStyleOf, first_other_of_t}
-use Rattle.snmp_tools.specs.declared.translation.style.Style.{Style}
 use Rattle.snmp_tools.proofs.Steps.{first, later}
 
 pub letters_fail : (words : TranslateWords) (files : Holdings) (octet : ℕ) → first_other words.letters ≡ Some octet

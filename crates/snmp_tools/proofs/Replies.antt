@@ -5,14 +5,11 @@ use Rattle.std.proofs.lemmas.Grind.{common_steps}
 use Rattle.std.specs.Result.{is_err}
 use Rattle.smi_value.specs.declared.letters.letters.Letters.{Letters}
 use Rattle.snmp_wire.specs.Message.{VarBind}
-use Rattle.snmp_walk.specs.declared.end.SinkFault.{SinkFault}
+use Rattle.snmp_walk.specs.{declared.end.SinkFault.SinkFault, Sink.Given}
 use Rattle.snmp_walk.specs.declared.end.SinkFault.TheVariants as fault
-use Rattle.snmp_walk.specs.Sink.{Given}
-use Rattle.snmp_io.specs.Count.{HasRisen}
+use Rattle.snmp_io.specs.{Count.HasRisen, Streams.appended-twice, Streams.extended-twice}
 use Rattle.snmp_io.specs.Output.{FailsWithin, Stream, appended, extended}
-use Rattle.snmp_io.specs.Streams.{appended-twice, extended-twice}
-use Rattle.snmp_tools.specs.Lines.{AreLines, IsLineOf}
-use Rattle.snmp_tools.specs.Mib.{Mib}
+use Rattle.snmp_tools.specs.{Lines.AreLines, Lines.IsLineOf, Mib.Mib}
 use Rattle.snmp_tools.proofs.Printed.{lines_of_both, prints}
 
 -- a front of two texts ends within the first or takes the whole of it

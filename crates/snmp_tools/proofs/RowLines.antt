@@ -1,24 +1,16 @@
 -- The lines of rows where no object has a syntax: those of `RowText`.
 use Rattle.std.proofs.Common.{arith, ◌≡◌, refl, ap, ◌∙◌, ℕ, Bool, true, false, List, [], ◌∷◌, ◌++◌, None, append-nil}
-use Rattle.std.proofs.lemmas.Grind.{common_steps}
-use Rattle.std.proofs.lemmas.Bool.{and_parts}
-use Rattle.std.specs.Prelude.{codes, if◌then◌else◌, decimal}
-use Rattle.std.specs.Fmt.{signed_decimal}
-use Rattle.std.specs.List.{flat_map, list_all}
+use Rattle.std.proofs.{lemmas.Grind.common_steps, lemmas.Bool.and_parts}
+use Rattle.std.specs.{Prelude.codes, Prelude.if◌then◌else◌, Prelude.decimal, Fmt.signed_decimal, List.flat_map, List.list_all}
 use Rattle.snmp_oid.specs.Numeric.{numeric_text}
 use Rattle.snmp_wire.specs.Message.{Datum, VarBind, integer_value, octet_string, object_id, counter32, gauge32, time_ticks, counter64}
-use Rattle.smi_value.specs.declared.letters.letters.Letters.{Letters}
+use Rattle.smi_value.specs.{declared.letters.letters.Letters.Letters, letters.Letters.AreLetters, Pieces.dotted, Pieces.quoted, Value.ShowsValue}
 use Rattle.smi_value.specs.declared.letters.letters.NameForm.TheVariants as names
 use Rattle.smi_value.specs.declared.letters.letters.TypeForm.TheVariants as types
 use Rattle.smi_value.specs.declared.letters.letters.StringForm.TheVariants as strings
-use Rattle.smi_value.specs.letters.Letters.{AreLetters}
 use Rattle.smi_value.specs.Pieces as pieces
-use Rattle.smi_value.specs.Pieces.{dotted, quoted}
 use Rattle.smi_value.specs.Texts.{escaped, hexadecimal_text, is_printable}
-use Rattle.smi_value.specs.Value.{ShowsValue}
-use Rattle.snmp_tools.specs.Lines.{AreLines, IsLineOf}
-use Rattle.snmp_tools.specs.Mib.{Mib}
-use Rattle.snmp_tools.specs.RowText.{row_line, string_text, value_text}
+use Rattle.snmp_tools.specs.{Lines.AreLines, Lines.IsLineOf, Mib.Mib, RowText.row_line, RowText.string_text, RowText.value_text}
 
 -- what `-On` says of lines
 abbrev pub numeric_letters : Letters

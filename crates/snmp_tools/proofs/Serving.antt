@@ -1,21 +1,15 @@
 -- Why nothing is served, and what is printed where something is.
 use Rattle.std.proofs.Common.{arith, ◌≡◌, ◌⊎◌, ◌<◌, ◌≤◌, ◌+◌, inl, inr, refl, subst, ℕ, List, Option, length}
 use Rattle.std.proofs.lemmas.Grind.{common_steps}
-use Rattle.snmp_agent.specs.Reply.{Agent}
-use Rattle.snmp_agent.specs.declared.server.Served.{Served}
-use Rattle.snmp_io.specs.Files.{Holdings}
-use Rattle.snmp_io.specs.Output.{Stream, extended}
-use Rattle.snmp_net.specs.Address.{IsHostAndPort}
-use Rattle.snmp_net.specs.declared.links.Links.{Ghosts as Network}
+use Rattle.snmp_agent.specs.{Reply.Agent, declared.server.Served.Served, table.Table.MibView}
+use Rattle.snmp_io.specs.{Files.Holdings, Output.Stream, Output.extended}
+use Rattle.snmp_net.specs.{Address.IsHostAndPort, declared.links.Links.Ghosts as Network}
 use Rattle.smi_show.specs.name.Naming.{Naming}
-use Rattle.snmp_agent.specs.table.Table.{MibView}
 use Rattle.snmp_words.specs.Words.{ServeWords}
 use Rattle.snmp_tools.specs.agent.Outcome.{IsServedAndCounted, IsServedBy, counts_line, listening_line}
 use Rattle.snmp_tools.specs.agent.Service.{IsServeRefusal, ServiceFails, community_step, place_step}
-use Rattle.snmp_tools.specs.Asking.{MibsFail}
-use Rattle.snmp_tools.specs.Lines.{IsTextPrinted}
+use Rattle.snmp_tools.specs.{Asking.MibsFail, Lines.IsTextPrinted, Seen.Seen}
 use Rattle.snmp_tools.specs.Message.{Fault, bad_agent, long_community, out_of_memory}
-use Rattle.snmp_tools.specs.Seen.{Seen}
 use Rattle.snmp_tools.proofs.Steps.{first, later}
 
 pub community_fails : (words : ServeWords) (files : Holdings) → 255 < length words.community → ServiceFails words files long_community

@@ -1,28 +1,21 @@
 -- The first step that fails, after those that are done.
-use Rattle.std.proofs.lemmas.Grind.{common_steps}
+use Rattle.std.proofs.{lemmas.Grind.common_steps, lemmas.List.Elements.All-head, lemmas.List.Elements.All-tail, lemmas.List.Elements.AllZip-push}
 use Rattle.std.proofs.Common.{◌≡◌, ◌⊎◌, inl, inr, ◌++◌, ◌+◌, ◌<◌, ℕ, zero, suc, List, [], ◌∷◌, All, Bor, Option, Some, None, Ok, length, map, take}
 use Rattle.std.proofs.Common.{drop, get_or, option_map, unwrap_or, refl, sym, ◌∙◌, ap, subst, append_assoc, arith}
-use Rattle.std.proofs.lemmas.List.Elements.{All-head, All-tail, AllZip-push}
 use Rattle.smi_show.specs.name.Meant.{TextMeans}
 use Rattle.snmp_oid.specs.Identifier.{IsWire, wire}
-use Rattle.snmp_io.specs.Files.{Holdings, MayHold}
-use Rattle.snmp_io.specs.Steps.{AreDone, IsFirstToFail}
+use Rattle.snmp_io.specs.{Files.Holdings, Files.MayHold, Steps.AreDone, Steps.IsFirstToFail}
 use Rattle.snmp_net.specs.Address.{Address, address_of}
 use Rattle.snmp_words.specs.Words.{texts_at}
 use Rattle.snmp_tools.specs.Asking.{HasAgent, IsNameIfGiven, IsReached, MibsFail, NameFails, ReachFails, agent_step, community_step, letters_step}
 use Rattle.snmp_tools.specs.Asking.{version_step}
-use Rattle.snmp_tools.specs.private.Chosen.{chosen}
-use Rattle.snmp_tools.specs.Letters.{Choices}
-use Rattle.snmp_tools.specs.Message.{Fault, out_of_memory, unsendable}
-use Rattle.snmp_tools.specs.Mib.{IsMibOf, Mib}
+use Rattle.snmp_tools.specs.{private.Chosen.chosen, Letters.Choices, Message.Fault, Message.out_of_memory, Message.unsendable, Mib.IsMibOf, Mib.Mib}
+use Rattle.snmp_tools.specs.{private.Start.BeginFails, private.Start.ResumeFails, declared.plan.Orders.Orders, declared.plan.Plan.Plan}
 use Rattle.snmp_tools.specs.private.Planned.{AgentFails, AreOrdersOf, HasTextsOf, NamesFail, ShowingFails, plan_of, question_of}
 use Rattle.snmp_tools.specs.Question.{AreNames, AskFor, AskWords, FailsBy, FailsFor, HasMeaning, HasSendable, HasUnsendable, IsDoneBy, IsDoneFor}
 use Rattle.snmp_tools.specs.Question.{IsEarlyRefusal, IsLastRefusal, IsLateRefusal, IsQuestionOf, LaterStep, LoadingStep, Question, Request, get}
 use Rattle.snmp_tools.specs.Question.{names, subtree, walk, asking, below_step, choices_step, goes_on_after, loading_steps, mibs_step, name_step}
 use Rattle.snmp_tools.specs.Question.{name_steps, reach_step, reaching_steps, root_text, sent_step, sent_steps}
-use Rattle.snmp_tools.specs.private.Start.{BeginFails, ResumeFails}
-use Rattle.snmp_tools.specs.declared.plan.Orders.{Orders}
-use Rattle.snmp_tools.specs.declared.plan.Plan.{Plan}
 use Rattle.snmp_tools.specs.declared.plan.Question as planned
 use Rattle.snmp_tools.specs.declared.plan.Question.TheVariants as questions
 use Rattle.snmp_tools.proofs.Texts.{texts-more, texts-parts}

@@ -3,12 +3,9 @@ use Rattle.std.proofs.Common.{◌≡◌, ◌∙◌, ℕ, List, Option, Some, Non
 use Rattle.std.specs.Result.{result_ok}
 use Rattle.snmp_oid.specs.Identifier.{IsIdentifier}
 use Rattle.snmp_agent.specs.table.Format.{IsFrontRead, Names, bar, names_by, numeric_names}
-use Rattle.smi_show.specs.name.Meaning.{meaning}
-use Rattle.smi_show.specs.name.Meant.{FrontMeans, TextMeans}
-use Rattle.smi_show.specs.name.Naming.{Naming}
+use Rattle.smi_show.specs.{name.Meaning.meaning, name.Meant.FrontMeans, name.Meant.TextMeans, name.Naming.Naming}
 use Rattle.smi_show.specs.declared.name.error.NameError.{NameError}
-use Rattle.snmp_tools.specs.private.Resolved.{names_in}
-use Rattle.snmp_tools.specs.agent.TableFile.{AreNamesIn}
+use Rattle.snmp_tools.specs.{private.Resolved.names_in, agent.TableFile.AreNamesIn}
 
 -- a text means one thing
 abbrev pub OneMeaning : Type 0

@@ -1,53 +1,31 @@
 -- What the headline says of a walk of a table file in numbers: which lines are printed.
-use Rattle.std.proofs.lemmas.Grind.{common_steps}
+use Rattle.std.proofs.{lemmas.Grind.common_steps, lemmas.List.Concat.flat_map-append, lemmas.List.Kept.AllPairs-cons}
 use Rattle.std.proofs.Common.{◌≡◌, ◌≢◌, ◌⊎◌, inl, inr, refl, sym, ◌∙◌, subst, ℕ, zero, suc, ◌+◌, ◌<◌, ◌≤◌, Bool, false, List, [], ◌∷◌, ◌↔◌, ◌++◌}
 use Rattle.std.proofs.Common.{length, None, Ok, arith, append-nil, append_assoc}
 use Rattle.std.specs.Prelude.{AllPairs, Contains, codes, drop, filter, not, slice_index_or}
-use Rattle.std.specs.List.{flat_map}
-use Rattle.std.specs.FinMap.{get}
-use Rattle.std.specs.Str.Lines.{lines}
-use Rattle.std.proofs.lemmas.List.Concat.{flat_map-append}
+use Rattle.std.specs.{List.flat_map, FinMap.get, Str.Lines.lines}
 use Rattle.std.proofs.lemmas.List.Filters.{length-filter_both}
-use Rattle.std.proofs.lemmas.List.Kept.{AllPairs-cons}
-use Rattle.snmp_oid.specs.Identifier.{IsBelow, IsIdentifier, IsWire, Precedes, wire}
-use Rattle.snmp_oid.specs.Numeric.{numeric_text}
+use Rattle.snmp_oid.specs.{Identifier.IsBelow, Identifier.IsIdentifier, Identifier.IsWire, Identifier.Precedes, Identifier.wire, Numeric.numeric_text}
 use Rattle.snmp_wire.specs.Message.{VarBind}
-use Rattle.snmp_agent.specs.table.Exact.{HasOne}
-use Rattle.snmp_agent.specs.table.Listing.{variables}
-use Rattle.snmp_agent.specs.table.Format.{IsMarked, first_format}
+use Rattle.snmp_agent.specs.{table.Exact.HasOne, table.Listing.variables, table.Format.IsMarked, table.Format.first_format, table.Text.HasRow}
 use Rattle.snmp_agent.specs.table.Stated.{AreTableBy, IsTableIn, IsTableOf}
 use Rattle.snmp_agent.specs.table.Table as table
 use Rattle.snmp_agent.specs.table.Table.{HasObject, IsGet, IsMibView, IsRow, MibView}
-use Rattle.snmp_agent.specs.table.Text.{HasRow}
-use Rattle.snmp_walk.specs.Link.{Agents, OneOf}
-use Rattle.snmp_walk.specs.Ordered.{AreOrdered}
-use Rattle.snmp_walk.specs.Room.{HasRoomForEach, IsShort}
+use Rattle.snmp_walk.specs.{Link.Agents, Link.OneOf, Ordered.AreOrdered, Room.HasRoomForEach, Room.IsShort, Walker.Walker}
 use Rattle.snmp_walk.specs.Walk.{or_only, rest_of, rows_below}
-use Rattle.snmp_walk.specs.Walker.{Walker}
 use Rattle.snmp_walk.specs.declared.mode.Method.TheVariants as method
 use Rattle.snmp_walk.specs.declared.mode.Mode.TheVariants as mode
-use Rattle.smi_show.specs.name.Meant.{TextMeans}
-use Rattle.smi_show.specs.name.Naming.{Naming}
-use Rattle.smi_tree.specs.Bare.{bare}
-use Rattle.smi_tree.specs.Tree.{IsTree}
-use Rattle.snmp_io.specs.Files.{Holdings}
-use Rattle.snmp_io.specs.Count.{HasRisen}
-use Rattle.snmp_io.specs.Output.{IsWritten, Stream, TakesFront, extended}
-use Rattle.snmp_io.specs.Streams.{extended-nil}
+use Rattle.smi_show.specs.{name.Meant.TextMeans, name.Naming.Naming}
+use Rattle.smi_tree.specs.{Bare.bare, Tree.IsTree}
+use Rattle.snmp_io.specs.{Files.Holdings, Count.HasRisen, Output.IsWritten, Output.Stream, Output.TakesFront, Output.extended, Streams.extended-nil}
 use Rattle.snmp_net.specs.Address as address
 use Rattle.snmp_words.specs.Words.{walk_line}
-use Rattle.snmp_tools.specs.private.Resolved.{names_in}
-use Rattle.snmp_tools.specs.agent.TableFile.{AreNamesIn}
+use Rattle.snmp_tools.specs.{private.Resolved.names_in, agent.TableFile.AreNamesIn, Headline.IsAsk, Headline.IsMishap, Headline.WritesRowsOf}
+use Rattle.snmp_tools.specs.{Lines.AreLines, Mib.Mib, private.Planned.numeric_walk, RowText.row_line, Letters.HaveChosen, Letters.no_choices}
 use Rattle.snmp_tools.specs.Answer.{IsFeasible, agent_over, first_of}
-use Rattle.snmp_tools.specs.Headline.{IsAsk, IsMishap, WritesRowsOf}
-use Rattle.snmp_tools.specs.Lines.{AreLines}
-use Rattle.snmp_tools.specs.Mib.{Mib}
 use Rattle.snmp_tools.specs.Question.{AskFor, Plan, Walk, of_walk, subtree}
-use Rattle.snmp_tools.specs.private.Planned.{numeric_walk}
-use Rattle.snmp_tools.specs.RowText.{row_line}
 use Rattle.snmp_tools.specs.TableWalk as page
 use Rattle.snmp_tools.specs.TableWalk.{AreRowsBelow, AreWalked, HoldsTableFile, IsFree, IsGot, IsOfObject, IsOutOfMemoryTold, PrintsRows, table_walk}
-use Rattle.snmp_tools.specs.Letters.{HaveChosen, no_choices}
 use Rattle.snmp_tools.proofs.BareNames.{bare_has_no_syntax, bare_is_loaded, bare_mib}
 use Rattle.snmp_tools.proofs.RowLines.{HasNoSyntax, lines_are, numeric_are, numeric_letters}
 

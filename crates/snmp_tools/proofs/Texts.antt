@@ -1,13 +1,10 @@
 -- Texts that are appended one after the other, or printed.
 use Rattle.std.proofs.Common.{arith, ◌≡◌, ◌∙◌, ◌+◌, ◌<◌, ap, ℕ, List, [], ◌∷◌, ◌++◌, Option, Some, None, inl, inr, Bor, sym, append_assoc, drop}
 use Rattle.std.proofs.Common.{get_or, length, take}
-use Rattle.std.proofs.lemmas.Grind.{common_steps}
-use Rattle.std.proofs.lemmas.List.{drop_more, map-append, take-append-drop, take_more}
-use Rattle.snmp_io.specs.draft.Draft.{Written, Adds}
-use Rattle.snmp_io.specs.Output.{Stream, extended}
+use Rattle.std.proofs.{lemmas.Grind.common_steps, lemmas.List.drop_more, lemmas.List.map-append, lemmas.List.take-append-drop, lemmas.List.take_more}
+use Rattle.snmp_io.specs.{draft.Draft.Written, draft.Draft.Adds, Output.Stream, Output.extended}
 use Rattle.snmp_words.specs.Words.{texts_at}
-use Rattle.snmp_tools.specs.Lines.{IsTextPrinted, StopsAtText}
-use Rattle.snmp_tools.specs.Message.{Fault}
+use Rattle.snmp_tools.specs.{Lines.IsTextPrinted, Lines.StopsAtText, Message.Fault}
 
 -- two texts one after the other are added as one
 pub adds_both : (old middle new : Written) (a b : List ℕ) → Adds old a middle → Adds middle b new → Adds old (a ++ b) new

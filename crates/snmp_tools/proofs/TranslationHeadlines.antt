@@ -1,21 +1,15 @@
 -- What the outcome says of the texts of all names.
 use Rattle.std.proofs.Common.{arith, ◌≡◌, ◌∙◌, ◌++◌, inl, inr, refl, sym, subst, ℕ, List, [], ◌∷◌, Option, Some, None, append_assoc, append-nil}
 use Rattle.std.proofs.lemmas.Grind.{common_steps}
-use Rattle.snmp_tools.specs.loading.Loaded.{IsLoaded, LoadFacts}
+use Rattle.snmp_tools.specs.{loading.Loaded.IsLoaded, loading.Loaded.LoadFacts, Message.Fault, translation.Style.IsStyleOf}
+use Rattle.snmp_tools.specs.{translation.Text.DetailMib, translation.Text.detail_mib_of, declared.translation.style.Style.Style}
 use Rattle.smi_text.specs.declared.trees.tree.Module.{Module}
 use Rattle.smi_tree.specs.Tree.{Contents}
-use Rattle.snmp_io.specs.Files.{Holdings, MayHold}
-use Rattle.snmp_io.specs.Output.{Stream, extended}
-use Rattle.snmp_io.specs.Streams.{front_after, whole_taken}
+use Rattle.snmp_io.specs.{Files.Holdings, Files.MayHold, Output.Stream, Output.extended, Streams.front_after, Streams.whole_taken}
 use Rattle.snmp_words.specs.Words.{TranslateWords}
-use Rattle.snmp_tools.specs.Message.{Fault}
 use Rattle.snmp_tools.specs.translation.Headline.{AskForTranslation, IsByTree, IsFront, PrintsAll, PrintsFront}
 use Rattle.snmp_tools.specs.translation.Outcome.{AreNamesPrinted, IsPrinting, IsTranslateOutcome, StopsAtName, StopsWithin, ran, refused}
-use Rattle.snmp_tools.specs.translation.Style.{IsStyleOf}
-use Rattle.snmp_tools.specs.translation.Text.{DetailMib, detail_mib_of}
-use Rattle.snmp_tools.specs.declared.translation.style.Style.{Style}
-use Rattle.snmp_tools.proofs.Plans.{OneList, one_reading}
-use Rattle.snmp_tools.proofs.Printing.{AreTextsOf-more}
+use Rattle.snmp_tools.proofs.{Plans.OneList, Plans.one_reading, Printing.AreTextsOf-more}
 
 -- words state one style
 one_style : (words : TranslateWords) (a b : Style) → IsStyleOf words a → IsStyleOf words b → a ≡ b

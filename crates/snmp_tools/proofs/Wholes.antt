@@ -1,25 +1,17 @@
 -- What a job that asks an agent was told, and what it wrote.
 use Rattle.std.proofs.Common.{arith, ◌≡◌, ◌⊎◌, inl, inr, refl, ap, ℕ, Bool, List, Bor, Option, Some, Result, Ok, Err, subst, sym}
 use Rattle.std.proofs.lemmas.Grind.{common_steps}
-use Rattle.std.specs.Prelude.{IfErr}
-use Rattle.std.specs.Result.{IsErrAnd}
-use Rattle.smi_text.specs.declared.trees.tree.Def.{Def}
-use Rattle.smi_text.specs.declared.trees.tree.Module.{Module}
+use Rattle.std.specs.{Prelude.IfErr, Result.IsErrAnd}
+use Rattle.smi_text.specs.{declared.trees.tree.Def.Def, declared.trees.tree.Module.Module}
 use Rattle.smi_show.specs.name.Naming.{Naming}
-use Rattle.smi_value.specs.Syntax.{ObjectSyntax}
-use Rattle.smi_value.specs.declared.letters.letters.Letters.{Letters}
-use Rattle.snmp_io.specs.Files.{Holdings, Holds, MayHold}
-use Rattle.snmp_io.specs.Output.{Stream}
+use Rattle.smi_value.specs.{Syntax.ObjectSyntax, declared.letters.letters.Letters.Letters}
+use Rattle.snmp_io.specs.{Files.Holdings, Files.Holds, Files.MayHold, Output.Stream}
 use Rattle.snmp_wire.specs.Message.{VarBind}
 use Rattle.snmp_walk.specs.declared.end.WalkEnd.{WalkEnd}
 use Rattle.snmp_tools.specs.loading.Files.{AreModulesOf, IsFilesRefusal, Refusal, no_memory, texts}
 use Rattle.snmp_tools.specs.loading.Loaded.{AreLoadedAs, LoadFacts}
-use Rattle.snmp_tools.specs.Asking.{MibsFail}
+use Rattle.snmp_tools.specs.{Asking.MibsFail, Mib.AreLoaded, Mib.Mib, Outcome.IsPrinted, private.Planned.mib_in, declared.failure.Failure.Failure}
 use Rattle.snmp_tools.specs.Message.{Fault, bad_modules, fault_of, modules_fault, out_of_memory, outcome_of}
-use Rattle.snmp_tools.specs.Mib.{AreLoaded, Mib}
-use Rattle.snmp_tools.specs.Outcome.{IsPrinted}
-use Rattle.snmp_tools.specs.private.Planned.{mib_in}
-use Rattle.snmp_tools.specs.declared.failure.Failure.{Failure}
 
 -- what the exit of a `?` returns
 pub outcome_err : {T : Type 0} (r : Result T Failure) (f : Failure) → IsErrAnd r (λ e. e ≡ f) → outcome_of r ≡ Some (fault_of f)

@@ -1,24 +1,17 @@
 -- What a question gives: its rows over a table, and what is known of a run that asks it.
 use Rattle.std.specs.Prelude.{◌≡◌, ◌≢◌, ◌++◌, ℕ, List, [], ◌∷◌, length, Option, Some, None, All}
 use Rattle.snmp_oid.specs.Identifier.{IsWire, wire}
-use Rattle.snmp_agent.specs.table.Listing.{variables}
-use Rattle.snmp_agent.specs.table.Table.{IsGet, MibView}
-use Rattle.snmp_wire.specs.Canon.{canon}
-use Rattle.snmp_wire.specs.Message.{Message, VarBind}
-use Rattle.snmp_walk.specs.Facts.{HasNone, IsDone, IsLawfulEnd}
+use Rattle.snmp_agent.specs.{table.Listing.variables, table.Table.IsGet, table.Table.MibView}
+use Rattle.snmp_wire.specs.{Canon.canon, Message.Message, Message.VarBind}
+use Rattle.snmp_walk.specs.{Facts.HasNone, Facts.IsDone, Facts.IsLawfulEnd, Link.Agents}
+use Rattle.snmp_walk.specs.{Link.IsUnanswered, Ran.IsGotOver, Ran.IsWalkedOver, Request.resumed}
+use Rattle.snmp_walk.specs.{Request.started, Room.HasIds, Room.HasRoomForEach, Walk.rest_of}
+use Rattle.snmp_walk.specs.{Walk.walk_of, Walker.Walker, declared.end.WalkEnd.WalkEnd}
+use Rattle.snmp_walk.specs.{declared.link.Link.Ghosts as LinkFacts, Ordered.IsAtOrBelow}
 use Rattle.snmp_walk.specs.Get.{AreGot, HasRoomForGet, IsEndOfGet, IsTooBig, get_request}
-use Rattle.snmp_walk.specs.Link.{Agents, IsUnanswered}
-use Rattle.snmp_walk.specs.Ran.{IsGotOver, IsWalkedOver}
-use Rattle.snmp_walk.specs.Request.{resumed, started}
-use Rattle.snmp_walk.specs.Room.{HasIds, HasRoomForEach}
-use Rattle.snmp_walk.specs.Walk.{rest_of, walk_of}
-use Rattle.snmp_walk.specs.Walker.{Walker}
 use Rattle.snmp_walk.specs.declared.end.SinkFault.TheVariants as sink
-use Rattle.snmp_walk.specs.declared.end.WalkEnd.{WalkEnd}
 use Rattle.snmp_walk.specs.declared.end.WalkEnd.TheVariants as ending
-use Rattle.snmp_walk.specs.declared.link.Link.{Ghosts as LinkFacts}
 use Rattle.snmp_tools.specs.Question.{Plan, Question, Walk, names, subtree}
-use Rattle.snmp_walk.specs.Ordered.{IsAtOrBelow}
 
 -- ---- over a table
 

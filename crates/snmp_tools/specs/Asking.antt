@@ -1,22 +1,20 @@
 -- The steps that jobs over an agent have in common: the words that say how lines are shown, the
 -- community, and the agent.
-use Rattle.std.specs.Prelude.{◌≡◌, ◌≢◌, ◌<◌, ◌≤◌, ℕ, List, length, Some, None}
-use Rattle.std.specs.Prelude.{Option, Ok, Err, codes}
+use Rattle.std.specs.Prelude.{◌≡◌, ◌≢◌, ◌<◌, ◌≤◌, ℕ, List, length, Some, None, Option, Ok, Err}
+use Rattle.std.specs.Prelude.{codes}
 use Rattle.snmp_tools.specs.loading.Files.{AreModulesOf, FilesFail, Refusal}
 use Rattle.smi_text.specs.declared.trees.tree.Module.{Module}
 use Rattle.smi_value.specs.declared.letters.letters.Letters.{Letters}
 use Rattle.smi_value.specs.letters.Letters.{AreLetters, first_other}
-use Rattle.smi_show.specs.name.Meant.{TextMeans}
-use Rattle.smi_show.specs.name.Naming.{Naming}
+use Rattle.smi_show.specs.{name.Meant.TextMeans, name.Naming.Naming}
 use Rattle.smi_show.specs.declared.name.error.NameError.{NameError}
 use Rattle.snmp_io.specs.Files.{Holdings, Holds}
-use Rattle.snmp_tools.specs.agent.TableFile.{HasTable, TableFails}
+use Rattle.snmp_tools.specs.{agent.TableFile.HasTable, agent.TableFile.TableFails, Mib.Mib}
 use Rattle.snmp_agent.specs.table.Table.{MibView}
 use Rattle.snmp_net.specs.Address.{Address, IsAgent, table, udp}
 use Rattle.snmp_words.specs.Words.{AskingWords}
 use Rattle.snmp_tools.specs.Message.{Fault, bad_agent, bad_letter, bad_modules, bad_name}
 use Rattle.snmp_tools.specs.Message.{bad_version, long_community}
-use Rattle.snmp_tools.specs.Mib.{Mib}
 
 -- ---- words before any file is read
 

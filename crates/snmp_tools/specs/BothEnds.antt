@@ -4,43 +4,31 @@
 -- `tool` promises `IsAskDone` of the words that ask and `IsServeRun` of those of snmpd (`Done`).
 -- From both follows `PrintsServed`. Its lines are those of `Headline`, and its premise about the
 -- network is `IsFaithful` (snmp_walk).
-use Rattle.std.specs.Prelude.{◌≡◌, ◌≢◌, ◌≤◌, ◌+◌, ℕ, false, List, [], length, codes}
-use Rattle.std.specs.Prelude.{Option, Some, None}
-use Rattle.std.specs.List.{flat_map}
-use Rattle.std.specs.Str.Lines.{lines}
+use Rattle.std.specs.Prelude.{◌≡◌, ◌≢◌, ◌≤◌, ◌+◌, ℕ, false, List, [], length, codes, Option, Some}
+use Rattle.std.specs.Prelude.{None}
+use Rattle.std.specs.{List.flat_map, Str.Lines.lines}
 use Rattle.smi_names.specs.declared.nodes.warning.Warning.{Warning}
-use Rattle.snmp_agent.specs.Event.{Event, InTurn}
-use Rattle.snmp_agent.specs.Reply.{Agent}
-use Rattle.snmp_agent.specs.Serving.{AreTurns}
+use Rattle.snmp_agent.specs.{Event.Event, Event.InTurn, Reply.Agent, Serving.AreTurns}
+use Rattle.snmp_agent.specs.{table.Format.Names, table.Stated.IsTableOf, table.Table.MibView}
 use Rattle.snmp_agent.specs.declared.server.Served.{Served}
-use Rattle.snmp_agent.specs.table.Format.{Names}
-use Rattle.snmp_agent.specs.table.Stated.{IsTableOf}
-use Rattle.snmp_agent.specs.table.Table.{MibView}
 use Rattle.snmp_io.specs.Files.{Holdings, Holds}
 use Rattle.snmp_io.specs.Output.{Stream, TakesFront, extended}
-use Rattle.snmp_net.specs.Address.{IsAgent, udp}
-use Rattle.snmp_net.specs.declared.links.Links.{Ghosts as Network}
+use Rattle.snmp_net.specs.{Address.IsAgent, Address.udp, declared.links.Links.Ghosts as Network}
 use Rattle.snmp_oid.specs.Numeric.{numeric_text}
 use Rattle.snmp_walk.specs.Network.{Happening, IsFaithful, of_agents, of_walk}
-use Rattle.snmp_walk.specs.Tries.{Happens}
-use Rattle.snmp_walk.specs.declared.end.WalkEnd.{WalkEnd}
+use Rattle.snmp_walk.specs.{Tries.Happens, declared.end.WalkEnd.WalkEnd}
 use Rattle.snmp_walk.specs.declared.link.Link.{Ghosts as LinkFacts}
 use Rattle.snmp_wire.specs.Message.{VarBind}
 use Rattle.snmp_words.specs.Words.{ServeWords, StateJob, WalkWords, snmpd}
 use Rattle.snmp_tools.specs.agent.Outcome.{counts_line, listening_line}
 use Rattle.snmp_tools.specs.agent.Service.{IsPlaced, served_agent}
-use Rattle.snmp_tools.specs.agent.TableFile.{AreNamesIn}
+use Rattle.snmp_tools.specs.{agent.TableFile.AreNamesIn, Lines.IsTextPrinted, Message.Fault}
+use Rattle.snmp_tools.specs.{Mib.AreLoaded, Mib.Mib, Outcome.IsReported, Outcome.IsShown}
+use Rattle.snmp_tools.specs.{RowText.row_line, Seen.Seen, TableWalk.AreWalked}
 use Rattle.snmp_tools.specs.Answer.{AreRowsOf, HasFacts, IsAskedOver}
 use Rattle.snmp_tools.specs.Headline.{IsFrontWritten, IsWholeWritten}
-use Rattle.snmp_tools.specs.Lines.{IsTextPrinted}
-use Rattle.snmp_tools.specs.Message.{Fault}
-use Rattle.snmp_tools.specs.Mib.{AreLoaded, Mib}
-use Rattle.snmp_tools.specs.Outcome.{IsReported, IsShown}
 use Rattle.snmp_tools.specs.Question.{AskFor, AskWords, Plan, Question, names, of_walk as asking_of}
 use Rattle.snmp_tools.specs.Question.{subtree}
-use Rattle.snmp_tools.specs.RowText.{row_line}
-use Rattle.snmp_tools.specs.Seen.{Seen}
-use Rattle.snmp_tools.specs.TableWalk.{AreWalked}
 
 -- ---- what is asked, and of which table
 

@@ -6,19 +6,14 @@
 -- `AreLines` (Lines) are their lines, by `IsLine` (smi_show), and `count_text` is the count line.
 use Rattle.std.specs.Prelude.{◌≡◌, ◌⊎◌, ◌++◌, ℕ, List, length, codes}
 use Rattle.std.specs.Str.Lines.{lines}
-use Rattle.snmp_tools.specs.loading.Warned.{warning_lines}
+use Rattle.snmp_tools.specs.{loading.Warned.warning_lines, agent.TableFile.AreNamesIn}
+use Rattle.snmp_tools.specs.{Lines.AreLines, Lines.count_text, Mib.AreLoaded, Mib.Mib}
 use Rattle.smi_names.specs.declared.nodes.warning.Warning.{Warning}
-use Rattle.snmp_agent.specs.table.Format.{Names}
-use Rattle.snmp_agent.specs.table.Stated.{IsTableOf}
-use Rattle.snmp_agent.specs.table.Table.{MibView}
+use Rattle.snmp_agent.specs.{table.Format.Names, table.Stated.IsTableOf, table.Table.MibView}
 use Rattle.snmp_wire.specs.Message.{VarBind}
-use Rattle.snmp_io.specs.Count.{HasRisen}
+use Rattle.snmp_io.specs.{Count.HasRisen, Files.Holdings, Files.Holds}
 use Rattle.snmp_io.specs.Output.{IsWritten, Stream, TakesFront, extended}
 use Rattle.snmp_net.specs.Address.{table}
-use Rattle.snmp_tools.specs.agent.TableFile.{AreNamesIn}
-use Rattle.snmp_tools.specs.Lines.{AreLines, count_text}
-use Rattle.snmp_io.specs.Files.{Holdings, Holds}
-use Rattle.snmp_tools.specs.Mib.{AreLoaded, Mib}
 use Rattle.snmp_tools.specs.Answer.{AreRowsOf, IsFeasible}
 use Rattle.snmp_tools.specs.Question.{AskFor, AskWords, Plan, counts_in}
 

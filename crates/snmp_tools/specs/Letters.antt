@@ -1,15 +1,11 @@
 -- What the letters of -C choose, and which octet of them has no meaning.
-use Rattle.std.specs.Prelude.{◌≡◌, ◌≤◌, ◌⊎◌, ◌++◌, ◌==◌, ℕ, Bool, true, false, if◌then◌else◌}
-use Rattle.std.specs.Prelude.{List, [], ◌∷◌, pos}
+use Rattle.std.specs.Prelude.{◌≡◌, ◌≤◌, ◌⊎◌, ◌++◌, ◌==◌, ℕ, Bool, true, false, if◌then◌else◌, List}
+use Rattle.std.specs.Prelude.{[], ◌∷◌, pos}
 use Rattle.std.proofs.Props.{props}
-use Rattle.std.specs.Char.{is_ascii_digit}
-use Rattle.std.specs.List.{list_all, list_any}
-use Rattle.std.specs.Str.Parse.{digits_value}
+use Rattle.std.specs.{Char.is_ascii_digit, List.list_all, List.list_any, Str.Parse.digits_value}
 use Rattle.snmp_io.specs.Steps.{AreDone, IsFirstToFail}
-use Rattle.snmp_walk.specs.Walker.{IsMethod}
-use Rattle.snmp_walk.specs.declared.mode.Method.{Method}
+use Rattle.snmp_walk.specs.{Walker.IsMethod, declared.mode.Method.Method, declared.mode.Mode.Mode}
 use Rattle.snmp_walk.specs.declared.mode.Method.TheVariants as method
-use Rattle.snmp_walk.specs.declared.mode.Mode.{Mode}
 use Rattle.snmp_walk.specs.declared.mode.Mode.TheVariants as mode
 
 -- what the letters of -C choose: `i` includes the root, `p` counts what is printed, snmpwalk's `I`

@@ -4,13 +4,11 @@ use Rattle.std.specs.Prelude.{Option, Some, None, decimal, if◌then◌else◌}
 use Rattle.smi_value.specs.declared.letters.letters.Letters.{Letters}
 use Rattle.smi_show.specs.Line.{IsLine}
 use Rattle.snmp_wire.specs.Message.{VarBind}
-use Rattle.snmp_walk.specs.declared.end.SinkFault.{SinkFault}
+use Rattle.snmp_walk.specs.{declared.end.SinkFault.SinkFault, declared.end.WalkEnd.WalkEnd}
 use Rattle.snmp_walk.specs.declared.end.SinkFault.TheVariants as fault
-use Rattle.snmp_walk.specs.declared.end.WalkEnd.{WalkEnd}
 use Rattle.snmp_walk.specs.declared.end.WalkEnd.TheVariants as ending
 use Rattle.snmp_io.specs.Output.{FailsWithin, Stream, extended}
-use Rattle.snmp_tools.specs.Message.{Fault, no_output, out_of_memory}
-use Rattle.snmp_tools.specs.Mib.{Mib}
+use Rattle.snmp_tools.specs.{Message.Fault, Message.no_output, Message.out_of_memory, Mib.Mib}
 
 -- the line of a binding, by the letters of -O
 abbrev pub IsLineOf : Mib → Letters → VarBind → List ℕ → Type 0

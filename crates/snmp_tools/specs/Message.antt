@@ -1,20 +1,18 @@
 -- Why a job isn't done, and the line on standard error that says so.
-use Rattle.std.specs.Prelude.{ℕ, ℤ, pos, negsuc, List, [], ◌∷◌, ◌++◌, codes, decimal}
-use Rattle.std.specs.Prelude.{Err, Ok, None, Option, Result, Some, slice_index_or}
+use Rattle.std.specs.Prelude.{ℕ, ℤ, pos, negsuc, List, [], ◌∷◌, ◌++◌, codes, decimal, Err, Ok, None}
+use Rattle.std.specs.Prelude.{Option, Result, Some, slice_index_or}
 use Rattle.std.specs.Fmt.{signed_decimal}
 use Rattle.snmp_oid.specs.Numeric.{numeric_text}
 use Rattle.snmp_tools.specs.loading.Files as files
-use Rattle.snmp_tools.specs.loading.Files.{Refusal}
+use Rattle.snmp_tools.specs.{loading.Files.Refusal, declared.failure.Failure.Failure}
 use Rattle.snmp_tools.specs.loading.Message.{refusal_of, refusal_text}
 use Rattle.smi_show.specs.declared.name.error.NameError.{NameError}
 use Rattle.smi_show.specs.declared.name.error.NameError.TheVariants as name
 use Rattle.snmp_agent.specs.declared.table.error.TableError.{TableError}
 use Rattle.snmp_agent.specs.declared.table.error.TableError.TheVariants as table
-use Rattle.snmp_walk.specs.declared.end.WalkEnd.{WalkEnd}
+use Rattle.snmp_walk.specs.{declared.end.WalkEnd.WalkEnd, declared.end.SinkFault.SinkFault}
 use Rattle.snmp_walk.specs.declared.end.WalkEnd.TheVariants as walk_end
-use Rattle.snmp_walk.specs.declared.end.SinkFault.{SinkFault}
 use Rattle.snmp_walk.specs.declared.end.SinkFault.TheVariants as sink
-use Rattle.snmp_tools.specs.declared.failure.Failure.{Failure}
 use Rattle.snmp_tools.specs.declared.failure.Failure.TheVariants as failure
 
 -- why a job isn't done, with the words that its message repeats

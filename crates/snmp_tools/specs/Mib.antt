@@ -4,8 +4,7 @@ use Rattle.snmp_tools.specs.loading.Files.{AreModulesOf}
 use Rattle.smi_text.specs.declared.trees.tree.Module.{Module}
 use Rattle.smi_show.specs.name.Naming.{Naming}
 use Rattle.smi_names.specs.declared.nodes.warning.Warning.{Warning}
-use Rattle.smi_tree.specs.Naming.{naming_of, nearest_syntax}
-use Rattle.smi_tree.specs.Tree.{Contents, IsTree}
+use Rattle.smi_tree.specs.{Naming.naming_of, Naming.nearest_syntax, Tree.Contents, Tree.IsTree}
 use Rattle.smi_value.specs.Syntax.{ObjectSyntax}
 use Rattle.snmp_words.specs.Words.{AskingWords}
 

@@ -1,27 +1,20 @@
 -- What a job that asks an agent writes, and what it reports.
 use Rattle.std.specs.Prelude.{◌≡◌, ◌⊎◌, ◌+◌, ◌++◌, ℕ, Bool, true, List, codes, Option, Some, None}
-use Rattle.snmp_tools.specs.loading.Loaded.{LoadFacts}
-use Rattle.snmp_tools.specs.loading.Warned.{warning_lines}
+use Rattle.snmp_tools.specs.{loading.Loaded.LoadFacts, loading.Warned.warning_lines}
+use Rattle.snmp_tools.specs.{agent.TableFile.HasTable, Mib.AreLoaded, Mib.Mib, Seen.Seen}
 use Rattle.smi_names.specs.declared.nodes.warning.Warning.{Warning}
 use Rattle.snmp_agent.specs.table.Table.{MibView}
 use Rattle.snmp_wire.specs.Message.{VarBind}
-use Rattle.snmp_walk.specs.declared.end.WalkEnd.{WalkEnd}
+use Rattle.snmp_walk.specs.{declared.end.WalkEnd.WalkEnd, declared.link.Link.Ghosts as LinkFacts}
 use Rattle.snmp_walk.specs.declared.end.WalkEnd.TheVariants as ending
-use Rattle.snmp_walk.specs.declared.link.Link.{Ghosts as LinkFacts}
-use Rattle.snmp_io.specs.Count.{HasRisen}
-use Rattle.snmp_io.specs.Output.{IsWritten, Stream}
+use Rattle.snmp_io.specs.{Count.HasRisen, Output.IsWritten, Output.Stream, Files.MayHold}
 use Rattle.smi_value.specs.declared.letters.letters.Letters.{Letters}
 use Rattle.snmp_tools.specs.Lines.{IsPrintedUpTo, IsTextPrinted, count_line}
 use Rattle.snmp_tools.specs.Message.{Fault, ended, fault_message, status_of}
-use Rattle.snmp_net.specs.Address.{table, udp}
-use Rattle.snmp_net.specs.declared.links.Links.{Ghosts as Network}
-use Rattle.snmp_tools.specs.agent.TableFile.{HasTable}
-use Rattle.snmp_io.specs.Files.{MayHold}
-use Rattle.snmp_tools.specs.Mib.{AreLoaded, Mib}
+use Rattle.snmp_net.specs.{Address.table, Address.udp, declared.links.Links.Ghosts as Network}
 use Rattle.snmp_tools.specs.Answer.{CanBeSent, HasFacts, IsAsked}
 use Rattle.snmp_tools.specs.Question.{AskWords, IsEarlyRefusal, IsLastRefusal, IsLateRefusal}
 use Rattle.snmp_tools.specs.Question.{IsPlanFor, Plan, counts_in}
-use Rattle.snmp_tools.specs.Seen.{Seen}
 
 -- ---- what is written
 

@@ -6,8 +6,7 @@ use Rattle.smi_value.specs.declared.letters.letters.Letters.{Letters}
 use Rattle.smi_show.specs.name.Meant.{TextMeans}
 use Rattle.snmp_oid.specs.Identifier.{IsWire, wire}
 use Rattle.snmp_walk.specs.Ordered.{IsAtOrBelow, IsUnsendable}
-use Rattle.snmp_walk.specs.declared.mode.Method.{Method}
-use Rattle.snmp_walk.specs.declared.mode.Mode.{Mode}
+use Rattle.snmp_walk.specs.{declared.mode.Method.Method, declared.mode.Mode.Mode}
 use Rattle.snmp_words.specs.Words.{AskingWords, GetWords, WalkWords}
 use Rattle.snmp_net.specs.Address.{Address, IsAgent}
 use Rattle.snmp_tools.specs.Asking.{AreShown, AskingFails, AskingStep, HasAgent, IsAskingDone}
@@ -16,9 +15,8 @@ use Rattle.snmp_tools.specs.Asking.{agent_step, community_step, letters_step, ve
 use Rattle.snmp_tools.specs.Letters.{Choices, HaveChosen, IsFirstUnknown, method_of, mode_of}
 use Rattle.snmp_tools.specs.Letters.{no_choices}
 use Rattle.snmp_tools.specs.Message.{Fault, bad_letter, out_of_memory, outside_root, unsendable}
-use Rattle.snmp_io.specs.Files.{Holdings, MayHold}
+use Rattle.snmp_io.specs.{Files.Holdings, Files.MayHold, Steps.AreDone, Steps.IsFirstToFail}
 use Rattle.snmp_tools.specs.Mib.{IsMibOf, Mib}
-use Rattle.snmp_io.specs.Steps.{AreDone, IsFirstToFail}
 
 -- ---- the words
 

@@ -1,7 +1,6 @@
 -- The line of a row, `.NUMBERS = TYPE: VALUE`, as `-On` shows it where no module is loaded.
 use Rattle.std.specs.Prelude.{ℕ, ◌/◌, if◌then◌else◌, List, [], ◌∷◌, ◌++◌, codes, decimal}
-use Rattle.std.specs.List.{flat_map, list_all}
-use Rattle.std.specs.Fmt.{signed_decimal}
+use Rattle.std.specs.{List.flat_map, List.list_all, Fmt.signed_decimal}
 use Rattle.snmp_oid.specs.Numeric.{numeric_text}
 use Rattle.snmp_wire.specs.ber.Value.{Datum, integer_value, octet_string, null_value, object_id}
 use Rattle.snmp_wire.specs.ber.Value.{ip_address, counter32, gauge32, time_ticks, opaque_octets}

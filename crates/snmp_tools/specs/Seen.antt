@@ -1,6 +1,5 @@
 -- What is known of the world outside at a time.
-use Rattle.snmp_io.specs.Files.{Holdings}
-use Rattle.snmp_io.specs.Output.{Stream}
+use Rattle.snmp_io.specs.{Files.Holdings, Output.Stream}
 
 -- what the files hold, what opens links, and what the outputs took
 pub record Seen (N : Type 0) : Type 0 where

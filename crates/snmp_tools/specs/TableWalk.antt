@@ -6,16 +6,14 @@
 -- and `Output` (snmp_io) what an output took.
 use Rattle.std.specs.Prelude.{◌≡◌, ◌≢◌, ◌⊎◌, ◌↔◌, ◌++◌, ◌≤◌, ℕ, List, [], ◌∷◌, length, codes}
 use Rattle.std.specs.Prelude.{AllPairs, Contains}
-use Rattle.std.specs.List.{flat_map}
-use Rattle.std.specs.Str.Lines.{lines}
+use Rattle.std.specs.{List.flat_map, Str.Lines.lines}
 use Rattle.snmp_oid.specs.Identifier.{IsBelow, IsIdentifier, IsWire, Precedes}
 use Rattle.snmp_oid.specs.Numeric.{numeric_text}
 use Rattle.snmp_wire.specs.Message.{VarBind, no_such_object, no_such_instance}
 use Rattle.snmp_agent.specs.table.Format.{IsMarked, first_format}
 use Rattle.snmp_agent.specs.table.Text.{AreTable, HasPrefix, HasRow}
 use Rattle.snmp_walk.specs.Room.{IsShort}
-use Rattle.snmp_io.specs.Count.{HasRisen}
-use Rattle.snmp_io.specs.Files.{Holdings, Holds}
+use Rattle.snmp_io.specs.{Count.HasRisen, Files.Holdings, Files.Holds}
 use Rattle.snmp_io.specs.Output.{IsWritten, Stream, TakesFront, extended}
 use Rattle.snmp_tools.specs.RowText.{row_line}
 

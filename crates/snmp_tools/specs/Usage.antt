@@ -2,9 +2,8 @@
 use Rattle.std.specs.Prelude.{◌≡◌, ◌⊎◌, ℕ, List, [], String, false, true, codes}
 use Rattle.std.specs.declared.alloc.Global.{Global}
 use Rattle.snmp_io.specs.Output.{FailsWithin, IsWritten, Stream, extended}
-use Rattle.snmp_words.specs.Command.{faults_of, is_taken}
-use Rattle.snmp_words.specs.Words.{AskForHelp, HasFaultOf}
-use Rattle.snmp_words.specs.declared.UsageError.TheVariants.{Parse}
+use Rattle.snmp_words.specs.{Command.faults_of, Command.is_taken, Words.AskForHelp}
+use Rattle.snmp_words.specs.{Words.HasFaultOf, declared.UsageError.TheVariants.Parse}
 
 -- the command takes the words, or finds no fault in them
 abbrev pub AreFaultless : List (List ℕ) → Type 0

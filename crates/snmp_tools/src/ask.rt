@@ -1,15 +1,12 @@
 //! A job that asks an agent: its words are judged, its names looked up, its agent reached, and its
 //! lines printed.
 ghost use Rattle.std.specs.Prelude.{◌≡◌, ◌+◌};
-ghost use Rattle.snmp_io.specs.Files.{MayHold};
-ghost use Rattle.snmp_io.specs.Output.{Stream};
+ghost use Rattle.snmp_io.specs.{Files.MayHold, Output.Stream};
 ghost use Rattle.snmp_tools.specs.Answer.{CanBeSent, IsAsked, IsAskedOver, end_in_memory};
-ghost use Rattle.snmp_tools.specs.Message.{outcome_of};
-ghost use Rattle.snmp_tools.specs.Mib.{IsMibOf};
+ghost use Rattle.snmp_tools.specs.{Message.outcome_of, Mib.IsMibOf, Seen.seen};
 ghost use Rattle.snmp_tools.specs.Outcome.{IsFinished, IsOutcome, IsOutcomeBy, IsShown};
 ghost use Rattle.snmp_tools.specs.private.Planned.{AreOrdersOf, ask_words, mib_in, plan_of};
 ghost use Rattle.snmp_tools.specs.private.Planned.{question_of};
-ghost use Rattle.snmp_tools.specs.Seen.{seen};
 ghost use Rattle.snmp_tools.specs.private.Start.{IsBegun};
 
 use crate::error_output::ErrorOutput;

@@ -1,9 +1,7 @@
 //! From words to status.
-ghost use Rattle.std.specs.Prelude.{◌≡◌, ℕ, List, codes};
-ghost use Rattle.std.specs.Str.Lines.{lines};
+ghost use Rattle.std.specs.{Prelude.◌≡◌, Prelude.ℕ, Prelude.List, Prelude.codes, Str.Lines.lines};
 ghost use Rattle.snmp_words.specs.Words.{AreFaulty, StateJob, Stated, texts_at};
-ghost use Rattle.snmp_tools.specs.Done.{IsJobDone};
-ghost use Rattle.snmp_tools.specs.Seen.{seen};
+ghost use Rattle.snmp_tools.specs.{Done.IsJobDone, Seen.seen};
 ghost use Rattle.snmp_tools.specs.TableWalk.{HoldsTableFile, PrintsRows, table_walk};
 ghost use Rattle.snmp_tools.specs.Usage.{AreFaultless, IsHelpOrMistake, PrintsHelp};
 

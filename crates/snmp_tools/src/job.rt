@@ -3,8 +3,7 @@ ghost use Rattle.std.specs.Prelude.{◌≡◌, ◌++◌, codes, IfOk};
 ghost use Rattle.snmp_words.specs.Words.{job_words};
 ghost use Rattle.snmp_tools.specs.Done.{IsJobDone, IsJobOutcome};
 ghost use Rattle.snmp_tools.specs.Message.{fault_of, fault_message, outcome_of};
-ghost use Rattle.snmp_tools.specs.Outcome.{IsReported};
-ghost use Rattle.snmp_tools.specs.Seen.{seen};
+ghost use Rattle.snmp_tools.specs.{Outcome.IsReported, Seen.seen};
 
 use crate::agent::serve_table;
 use crate::ask::ask;

@@ -1,19 +1,15 @@
 //! Laws of the words and of what is promised of them, as calls that do nothing.
 ghost use Rattle.std.specs.Prelude.{◌≡◌, ℕ, List, [], false, true};
 ghost use Rattle.std.specs.Str.Lines.{lines};
-ghost use Rattle.snmp_io.specs.Files.{Holdings};
-ghost use Rattle.snmp_io.specs.Output.{Stream};
+ghost use Rattle.snmp_io.specs.{Files.Holdings, Output.Stream};
 ghost use Rattle.snmp_words.specs.Command.{is_taken};
 ghost use Rattle.snmp_words.specs.Words.{ServeWords, StateJob, WalkWords, snmpd, snmpwalk};
 ghost use Rattle.snmp_wire.specs.Message.{VarBind};
 ghost use Rattle.snmp_tools.specs.BothEnds.{IsAskInNumbers, IsAskOfServer, IsWalkInNumbers};
 ghost use Rattle.snmp_tools.specs.BothEnds.{PrintsServed, ServesInTurn};
-ghost use Rattle.snmp_tools.specs.Done.{IsAskDone};
-ghost use Rattle.snmp_tools.specs.Headline.{WritesRowsOf};
+ghost use Rattle.snmp_tools.specs.{Done.IsAskDone, Headline.WritesRowsOf, Question.AskWords};
+ghost use Rattle.snmp_tools.specs.{Question.of_walk, Seen.Seen, Serving.IsServeRun};
 ghost use Rattle.snmp_tools.specs.private.Planned.{numeric_walk};
-ghost use Rattle.snmp_tools.specs.Question.{AskWords, of_walk};
-ghost use Rattle.snmp_tools.specs.Seen.{Seen};
-ghost use Rattle.snmp_tools.specs.Serving.{IsServeRun};
 ghost use Rattle.snmp_tools.specs.TableWalk.{HoldsTableFile, PrintsRows, table_walk};
 
 use crate::error_output::ErrorOutput;

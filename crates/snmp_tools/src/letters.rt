@@ -1,15 +1,12 @@
 //! The letters of `-C`.
 ghost use Rattle.std.specs.Prelude.{◌≡◌, ◌≤◌, ◌<◌, ◌+◌, true, IfErr, IfOk, IfSome, MatchOption, Ok};
 ghost use Rattle.std.specs.Prelude.{Err, Some, length, false, slice_index, take, MatchResult};
-ghost use Rattle.std.specs.Char.{is_ascii_digit};
-ghost use Rattle.std.specs.List.{list_all};
-ghost use Rattle.std.specs.Str.Parse.{digits_value};
+ghost use Rattle.std.specs.{Char.is_ascii_digit, List.list_all, Str.Parse.digits_value};
 ghost use Rattle.snmp_walk.specs.Walker.{IsMethod};
-ghost use Rattle.snmp_tools.specs.private.Chosen.{chosen};
+ghost use Rattle.snmp_tools.specs.{private.Chosen.chosen, private.Planned.request_of};
 ghost use Rattle.snmp_tools.specs.private.Choosing.{after_part, repetitions_in};
 ghost use Rattle.snmp_tools.specs.Letters.{HaveChosen, IsFirstUnknown, method_of, mode_of};
 ghost use Rattle.snmp_tools.specs.Letters.{no_choices};
-ghost use Rattle.snmp_tools.specs.private.Planned.{request_of};
 ghost use Rattle.snmp_tools.specs.Question.{HasChosen, HasUnknown};
 
 use crate::choices::Choices;

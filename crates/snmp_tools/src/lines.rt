@@ -3,8 +3,7 @@
 ghost use Rattle.std.specs.Prelude.{◌≡◌, ◌≤◌, ◌+◌, ◌++◌, IfErr, OnOk, length};
 ghost use Rattle.snmp_io.specs.Output.{FailsWithin, extended};
 ghost use Rattle.snmp_tools.specs.Lines.{ArePrinted, IsTextPrinted, count_line, TakesLine};
-ghost use Rattle.snmp_tools.specs.Message.{outcome_of};
-ghost use Rattle.snmp_tools.specs.private.Planned.{mib_in};
+ghost use Rattle.snmp_tools.specs.{Message.outcome_of, private.Planned.mib_in};
 ghost use Rattle.snmp_tools.specs.private.Start.{CanRun, IsRunOver};
 
 use crate::failure::Failure;

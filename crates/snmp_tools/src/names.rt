@@ -4,11 +4,9 @@ ghost use Rattle.std.specs.Prelude.{option_map};
 ghost use Rattle.smi_show.specs.name.Meant.{TextMeans};
 ghost use Rattle.snmp_oid.specs.Identifier.{IsWire, wire};
 ghost use Rattle.snmp_words.specs.Words.{texts_at};
-ghost use Rattle.snmp_tools.specs.Asking.{IsNameIfGiven, NameFails};
+ghost use Rattle.snmp_tools.specs.{Asking.IsNameIfGiven, Asking.NameFails, Message.fault_of};
+ghost use Rattle.snmp_tools.specs.{Message.out_of_memory, Mib.Mib, private.Planned.mib_in};
 ghost use Rattle.snmp_tools.specs.Question.{AreNames, HasMeaning, HasSendable, HasUnsendable};
-ghost use Rattle.snmp_tools.specs.Message.{fault_of, out_of_memory};
-ghost use Rattle.snmp_tools.specs.Mib.{Mib};
-ghost use Rattle.snmp_tools.specs.private.Planned.{mib_in};
 ghost use Rattle.snmp_io.specs.Steps.{IsFirstToFail};
 
 use crate::failure::Failure;

@@ -1,8 +1,7 @@
 //! What the words of a job that asks an agent ask for.
 ghost use Rattle.std.specs.Prelude.{◌≡◌};
 ghost use Rattle.snmp_words.specs.Words.{get_words, walk_words};
-ghost use Rattle.snmp_tools.specs.private.Planned.{ask_words};
-ghost use Rattle.snmp_tools.specs.Question.{of_get, of_walk};
+ghost use Rattle.snmp_tools.specs.{private.Planned.ask_words, Question.of_get, Question.of_walk};
 
 use snmp_words::{Asking, GetJob, WalkJob};
 

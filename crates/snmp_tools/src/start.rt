@@ -2,10 +2,8 @@
 ghost use Rattle.std.specs.Prelude.{◌≡◌, ◌≤◌, IfErr, IfOk, OnOk, length};
 ghost use Rattle.snmp_oid.specs.Identifier.{IsWire, wire};
 ghost use Rattle.snmp_walk.specs.Ordered.{IsUnsendable};
-ghost use Rattle.snmp_tools.specs.Answer.{CanBeSent};
-ghost use Rattle.snmp_tools.specs.Message.{fault_of};
+ghost use Rattle.snmp_tools.specs.{Answer.CanBeSent, Message.fault_of, Question.subtree};
 ghost use Rattle.snmp_tools.specs.private.Planned.{question_of, walk_of};
-ghost use Rattle.snmp_tools.specs.Question.{subtree};
 ghost use Rattle.snmp_tools.specs.private.Start.{BeginFails, IsBegun, IsStartOf, StartFails};
 
 use crate::failure::Failure;

@@ -1,15 +1,10 @@
 -- Datagrams in one piece of memory.
-use Rattle.std.proofs.lemmas.Grind.{common_steps}
+use Rattle.std.proofs.{lemmas.Grind.common_steps, Math.Seq.drop-append_seam, lemmas.Option.slice_get-map}
 use Rattle.std.proofs.Common.{◌≡◌, ℕ, zero, suc, ◌+◌, ◌-◌, ◌≤◌, List, [], ◌∷◌, ◌++◌, length, refl, ◌∙◌, ap, arith, Some, length-drop}
 use Rattle.std.proofs.lemmas.List.{take-append-le, drop-append-le, take_all, map-append}
-use Rattle.std.proofs.Math.Seq.{drop-append_seam}
 use Rattle.std.proofs.lemmas.List.Elements.{All-head, All-tail}
-use Rattle.std.proofs.lemmas.Option.{slice_get-map}
-use Rattle.std.specs.List.{All, slice_get}
-use Rattle.std.specs.Option.{option_map}
-use Rattle.snmp_walk.specs.declared.arena.Span.{Span}
-use Rattle.snmp_walk.specs.Arena.{cut_at, cut}
-use Rattle.snmp_walk.specs.Traffic.{datagram_at}
+use Rattle.std.specs.{List.All, List.slice_get, Option.option_map}
+use Rattle.snmp_walk.specs.{declared.arena.Span.Span, Arena.cut_at, Arena.cut, Traffic.datagram_at}
 
 abbrev Within : List ℕ → Span → Type 0
 Within octets s = s.start + s.len ≤ length octets

@@ -1,14 +1,9 @@
 -- The request of a walk, written as its head and then the binding that asks for a name.
 use Rattle.std.proofs.Common.{◌≡◌, ◌≤◌, ◌+◌, List, ℕ, [], ◌++◌, length, take, length-append, append_assoc, sym, ap, ◌∙◌, arith}
 use Rattle.std.proofs.lemmas.List.{take_at}
-use Rattle.snmp_wire.specs.Canon.{canon, canon_binding, canon_head}
-use Rattle.snmp_wire.specs.Laws.{HasPieces}
-use Rattle.snmp_wire.specs.Message.{Message}
-use Rattle.snmp_wire.specs.Name.{asking}
-use Rattle.snmp_walk.specs.Request.{request_of}
-use Rattle.snmp_walk.specs.Walker.{Walker}
-use Rattle.snmp_walk.proofs.GetLemmas.{canon_one, pieces_of, size_of}
-use Rattle.snmp_walk.proofs.RequestLemmas.{name_short}
+use Rattle.snmp_wire.specs.{Canon.canon, Canon.canon_binding, Canon.canon_head, Laws.HasPieces, Message.Message, Name.asking}
+use Rattle.snmp_walk.specs.{Request.request_of, Walker.Walker}
+use Rattle.snmp_walk.proofs.{GetLemmas.canon_one, GetLemmas.pieces_of, GetLemmas.size_of, RequestLemmas.name_short}
 
 pub asking_short : (asked name : List ℕ) → name ≡ asked → length asked ≤ 128 → length (canon_binding (asking name)) ≤ 658
 asking_short asked name e h =

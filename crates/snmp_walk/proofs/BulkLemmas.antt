@@ -1,17 +1,12 @@
 -- What a GetBulk of one name is given: each binding is the answer to a GetNext of the name before it.
-use Rattle.std.proofs.lemmas.Grind.{common_steps}
+use Rattle.std.proofs.{lemmas.Grind.common_steps, lemmas.Int.ints, lemmas.Bool.cases_lt, lemmas.Bool.or_right}
 use Rattle.std.proofs.Common.{◌≡◌, ◌≢◌, ◌⊎◌, inl, inr, true, false, ℕ, zero, suc, ◌<◌, ◌≤◌, ℤ, pos, negsuc, ◌≤ℤ◌, List, [], ◌∷◌, ◌++◌, length, take}
 use Rattle.std.proofs.Common.{drop, refl, sym, ◌∙◌, ap, subst, arith, length-append, append_assoc}
-use Rattle.std.specs.Prelude.{unsigned_abs, ◌||◌}
-use Rattle.std.proofs.lemmas.Int.{ints}
+use Rattle.std.specs.{Prelude.unsigned_abs, Prelude.◌||◌, List.list_any}
 use Rattle.snmp_wire.specs.Message.{Datum, VarBind, Message, null_value, end_of_mib_view}
-use Rattle.std.specs.List.{list_any}
-use Rattle.std.proofs.lemmas.Bool.{cases_lt, or_right}
-use Rattle.snmp_walk.specs.Names.{is_end}
+use Rattle.snmp_walk.specs.{Names.is_end, Standing.IsChain, private.Codec.Codec}
 use Rattle.snmp_agent.specs.table.Table.{MibView, IsMibView, IsNext, IsNextAfter}
 use Rattle.snmp_agent.specs.Reply.{AreAnswers, AreEnds, AreRounds, IsBulk, joined, or_zero}
-use Rattle.snmp_walk.specs.Standing.{IsChain}
-use Rattle.snmp_walk.specs.private.Codec.{Codec}
 use Rattle.snmp_walk.proofs.JoinLemmas.{next_first}
 
 -- ---- chains

@@ -2,13 +2,10 @@
 use Rattle.std.proofs.Common.{arith, ◌≡◌, inl, inr, ℕ, List, [], ◌∷◌, ◌++◌, length, refl, sym, subst}
 use Rattle.std.proofs.lemmas.Grind.{common_steps}
 use Rattle.snmp_agent.specs.Event.{Event, came, silence, receive_failed, sent, send_failed}
-use Rattle.snmp_walk.specs.Link.{OneOf, Outcome}
+use Rattle.snmp_walk.specs.{Link.OneOf, Link.Outcome, Network.tried, declared.link.Link.Ghosts as LinkFacts}
 use Rattle.snmp_walk.specs.Link as outcome
-use Rattle.snmp_walk.specs.Network.{tried}
 use Rattle.snmp_walk.specs.Tries.{InTurn, Happens, Sends, Brings, EndsTry, IsTry, AreTried}
-use Rattle.snmp_walk.specs.declared.link.Link.{Ghosts as LinkFacts}
-use Rattle.snmp_walk.proofs.LostLemmas.{one_append}
-use Rattle.snmp_walk.proofs.NetworkLemmas.{tried-append}
+use Rattle.snmp_walk.proofs.{LostLemmas.one_append, NetworkLemmas.tried-append}
 
 pub in_turn-append : {L X : Type 0} (step : L → X → L → Type 0) (xs ys : List X) (old between new : L) → InTurn step old xs between
     → InTurn step between ys new → InTurn step old (xs ++ ys) new

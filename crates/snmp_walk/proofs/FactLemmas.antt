@@ -1,37 +1,20 @@
 -- Over one table the facts of a run are about its rows.
-use Rattle.std.proofs.Common.{◌≡◌, ◌≢◌, inl, inr, ℕ, ◌+◌, ◌*◌, ◌≤◌, ◌<◌, List, [], ◌∷◌, ◌++◌}
-use Rattle.std.proofs.Common.{length, sym, ◌∙◌, ap, subst, arith, length-append, Option}
-use Rattle.snmp_wire.specs.Message.{VarBind}
-use Rattle.snmp_agent.specs.table.Table.{MibView, IsMibView, IsGet, IsNext}
-use Rattle.snmp_agent.specs.table.Listing.{variables}
-use Rattle.snmp_walk.specs.declared.end.WalkEnd.{WalkEnd}
+use Rattle.std.proofs.Common.{◌≡◌, ◌≢◌, inl, inr, ℕ, ◌+◌, ◌*◌, ◌≤◌, ◌<◌, List, [], ◌∷◌, ◌++◌, length, sym, ◌∙◌, ap, subst, arith, length-append}
+use Rattle.std.proofs.Common.{Option}
+use Rattle.snmp_wire.specs.{Message.VarBind, Canon.canon}
+use Rattle.snmp_agent.specs.{table.Table.MibView, table.Table.IsMibView, table.Table.IsGet, table.Table.IsNext, table.Listing.variables}
+use Rattle.snmp_walk.specs.{declared.end.WalkEnd.WalkEnd, Walker.Walker, Walker.IsWalker, Standing.Reaches, Standing.IsPartOfWalk}
+use Rattle.snmp_walk.specs.{Standing.IsWholeWalk, Link.Agents, Link.OneOf, Link.IsNextFrom, Link.IsGotFrom, Link.AreViews, private.Codec.Codec}
+use Rattle.snmp_walk.specs.{Trail.last_name, Tables.HoldsNames, Walk.rest_of, Room.HasRoomForEach, Run.IsEachSent, Run.Try, Run.sent_by}
+use Rattle.snmp_walk.specs.{Request.request_of, Request.asked_for, Traffic.Traffic, Traffic.Lost, Names.comes_after}
 use Rattle.snmp_walk.specs.declared.end.WalkEnd.TheVariants as ending
-use Rattle.snmp_walk.specs.Walker.{Walker, IsWalker}
-use Rattle.snmp_walk.specs.Standing.{Reaches, IsPartOfWalk, IsWholeWalk}
-use Rattle.snmp_walk.specs.Link.{Agents, OneOf, IsNextFrom, IsGotFrom, AreViews}
 use Rattle.snmp_walk.specs.Facts.{IsFresh, IsLastSent, IsEndedBy, IsLawfulEnd, HasNoReply, HasNone, IsDone, GivenFacts, WalkFacts, SendFacts, gets}
-use Rattle.snmp_walk.specs.private.Codec.{Codec}
 use Rattle.snmp_walk.proofs.JoinLemmas.{variables_rise, variables_are, next_first, get_one, get_row, after_precedes}
-use Rattle.snmp_walk.proofs.TableLemmas.{part_is, whole_is}
-use Rattle.snmp_walk.proofs.ViewLemmas.{only_one}
+use Rattle.snmp_walk.proofs.{TableLemmas.part_is, TableLemmas.whole_is, ViewLemmas.only_one, TrailLemmas.last_name-append, PartLemmas.part_front}
+use Rattle.snmp_walk.proofs.{FullLemmas.AreRoomy, FullLemmas.IsFast, FullLemmas.fast_few, SendLemmas.Sends, RowLemmas.IsOneTable}
 use Rattle.snmp_walk.proofs.SwiftLemmas.{left_end, swift_end, few_in, trail_in_rest, HasFew}
-use Rattle.snmp_walk.proofs.TrailLemmas.{last_name-append}
-use Rattle.std.proofs.lemmas.List.{nil_from_length}
-use Rattle.snmp_walk.specs.Trail.{last_name}
-use Rattle.snmp_walk.specs.Tables.{HoldsNames}
+use Rattle.std.proofs.{lemmas.List.nil_from_length, lemmas.Bool.false_from_ne_true}
 use Rattle.snmp_walk.proofs.TablesLemmas.{once, rises, part_from, common_in, common_in_whole, few_rows, whole_some}
-use Rattle.snmp_walk.proofs.PartLemmas.{part_front}
-use Rattle.snmp_walk.proofs.FullLemmas.{AreRoomy, IsFast, fast_few}
-use Rattle.snmp_walk.specs.Walk.{rest_of}
-use Rattle.snmp_walk.specs.Room.{HasRoomForEach}
-use Rattle.snmp_walk.proofs.SendLemmas.{Sends}
-use Rattle.snmp_walk.specs.Run.{IsEachSent, Try, sent_by}
-use Rattle.snmp_walk.specs.Request.{request_of, asked_for}
-use Rattle.snmp_wire.specs.Canon.{canon}
-use Rattle.snmp_walk.specs.Traffic.{Traffic, Lost}
-use Rattle.snmp_walk.proofs.RowLemmas.{IsOneTable}
-use Rattle.snmp_walk.specs.Names.{comes_after}
-use Rattle.std.proofs.lemmas.Bool.{false_from_ne_true}
 
 pub one_table : Codec → (agents : Agents) (first : Walker) (view : MibView) (got : VarBind) → AreViews agents.tables → agents.tables ≡ view ∷ []
     → IsGet view first.asked got

@@ -3,15 +3,11 @@ use Rattle.std.proofs.Common.{◌≡◌, ℕ, List, [], ◌++◌, refl, sym, ap,
 use Rattle.std.proofs.lemmas.List.Elements.{All-nil}
 use Rattle.std.specs.Prelude.{◌≢◌}
 use Rattle.snmp_wire.specs.Message.{VarBind}
-use Rattle.snmp_walk.specs.declared.mode.Mode.{Mode}
+use Rattle.snmp_walk.specs.{declared.mode.Mode.Mode, declared.end.WalkEnd.WalkEnd, Walker.Walker, Request.first_phase, Link.Agents, Link.IsNextFrom}
+use Rattle.snmp_walk.specs.{Link.IsGotFrom, Link.IsTooLarge, Facts.IsFresh, Facts.IsLawfulEnd, Facts.BringsNone}
 use Rattle.snmp_walk.specs.declared.mode.Mode.TheVariants as mode
-use Rattle.snmp_walk.specs.declared.end.WalkEnd.{WalkEnd}
 use Rattle.snmp_walk.specs.declared.end.WalkEnd.TheVariants as ending
-use Rattle.snmp_walk.specs.Walker.{Walker}
-use Rattle.snmp_walk.specs.Request.{first_phase}
 use Rattle.snmp_walk.specs.Standing.{IsOpening, IsStage, IsPaced, Reaches, Ends, opening_gets}
-use Rattle.snmp_walk.specs.Link.{Agents, IsNextFrom, IsGotFrom, IsTooLarge}
-use Rattle.snmp_walk.specs.Facts.{IsFresh, IsLawfulEnd, BringsNone}
 
 -- before the first request
 pub fresh_stands : (Next Got : List ℕ → VarBind → Type 0) (first : Walker) → IsFresh first → Reaches Next Got first first []

@@ -1,23 +1,17 @@
 -- The front of a reply that a walk gives, read binding by binding, is the one that the rules name.
-use Rattle.std.proofs.lemmas.Grind.{common_steps}
+use Rattle.std.proofs.{lemmas.Grind.common_steps, lemmas.Bool.le-ltb, lemmas.Bool.lt-ltb}
 use Rattle.std.proofs.Common.{◌≡◌, ℕ, suc, ◌+◌, Bool, true, false, cond, List, [], ◌∷◌, length, take, refl, sym, ◌∙◌, ap, subst, arith}
 use Rattle.snmp_walk.proofs.TrailLemmas.{fronts_by}
-use Rattle.std.proofs.lemmas.Bool.{le-ltb, lt-ltb}
 use Rattle.std.specs.Prelude.{nat_lt, ◌||◌}
 use Rattle.snmp_wire.specs.Message.{VarBind}
 use Rattle.snmp_walk.specs.declared.phase.Phase.TheVariants as phase
 use Rattle.snmp_walk.specs.declared.end.WalkEnd.TheVariants as walk_end
-use Rattle.snmp_walk.specs.declared.rows.Step.{Step}
-use Rattle.snmp_walk.specs.Names.{is_inside, comes_after}
-use Rattle.snmp_walk.specs.Trail.{last_name}
-use Rattle.snmp_walk.specs.Walker.{Walker}
+use Rattle.snmp_walk.specs.{declared.rows.Step.Step, Names.is_inside, Names.comes_after, Trail.last_name, Walker.Walker}
+use Rattle.snmp_walk.specs.{declared.walker.Ending.Ending, declared.walker.Front.Front, Request.asked_for}
 use Rattle.snmp_walk.specs.private.Taken.{inside_front, rising_front, name_at, stops, goes_on, closes, reads, reads_next}
-use Rattle.snmp_walk.specs.declared.walker.Ending.{Ending}
 use Rattle.snmp_walk.specs.declared.walker.Ending.TheVariants as ending
-use Rattle.snmp_walk.specs.declared.walker.Front.{Front}
-use Rattle.snmp_walk.specs.private.Reading.{ending_at, after_of, read_front, After, nothing, leaving, falling, ReadFront, front_from, EndsAs, IsReadAs}
-use Rattle.snmp_walk.specs.private.Reading.{IsFrontOf, is_misplaced}
-use Rattle.snmp_walk.specs.Request.{asked_for}
+use Rattle.snmp_walk.specs.private.Reading.{ending_at, after_of, read_front, After, nothing, leaving, falling, ReadFront, front_from, EndsAs}
+use Rattle.snmp_walk.specs.private.Reading.{IsReadAs, IsFrontOf, is_misplaced}
 
 longer : (e : After) (b : VarBind) (rows inside more : List VarBind) → EndsAs e rows inside more → EndsAs e (b ∷ rows) (b ∷ inside) (b ∷ more)
 longer nothing b rows inside more h = (ap suc h.0, ap suc h.1)

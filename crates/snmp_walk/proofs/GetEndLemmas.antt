@@ -1,28 +1,17 @@
 -- How a Get ends, and what its bindings and its end are to the names that it asked for.
-use Rattle.std.proofs.lemmas.Grind.{common_steps}
-use Rattle.std.proofs.Common.{◌≡◌, ◌≢◌, ◌⊎◌, inl, inr, ◌++◌, ◌<◌, ℕ, Bool, true, false, List, [], ◌∷◌, length, map, Result, Ok, Err, refl}
-use Rattle.std.proofs.Common.{sym, ◌∙◌, ap, subst, append_assoc, append-nil, length-append, arith}
-use Rattle.std.proofs.lemmas.Bool.{eqb-true, false≢true}
+use Rattle.std.proofs.{lemmas.Grind.common_steps, lemmas.Bool.eqb-true, lemmas.Bool.false≢true, lemmas.List.map-append, lemmas.List.nil_from_length}
+use Rattle.std.proofs.Common.{◌≡◌, ◌≢◌, ◌⊎◌, inl, inr, ◌++◌, ◌<◌, ℕ, Bool, true, false, List, [], ◌∷◌, length, map, Result, Ok, Err, refl, sym, ◌∙◌}
+use Rattle.std.proofs.Common.{ap, subst, append_assoc, append-nil, length-append, arith}
 use Rattle.std.proofs.lemmas.Bool.Decides.{Decides-and, Decides-not, Decides-like, Decides-int_eq}
-use Rattle.std.specs.Prelude.{not, ◌&&◌, ◌==◌}
-use Rattle.std.specs.Bool.{nat_eq, Decides}
-use Rattle.std.proofs.lemmas.List.{map-append, nil_from_length}
+use Rattle.std.specs.{Prelude.not, Prelude.◌&&◌, Prelude.◌==◌, Bool.nat_eq, Bool.Decides}
 use Rattle.std.specs.Cmp.Lexicographic.{pointwise, bytes_decides}
 use Rattle.snmp_oid.specs.Identifier.{wire}
-use Rattle.snmp_wire.specs.Canon.{canon}
-use Rattle.snmp_wire.specs.Message.{Message, VarBind, end_of_mib_view}
-use Rattle.snmp_walk.specs.Facts.{IsDone}
+use Rattle.snmp_wire.specs.{Canon.canon, Message.Message, Message.VarBind, Message.end_of_mib_view}
+use Rattle.snmp_walk.specs.{Facts.IsDone, private.Course.Heard, Link.Outcome, Names.is_end, Read.Delivers, Read.all_given, Read.is_refused, Sink.Took}
+use Rattle.snmp_walk.specs.{declared.end.SinkFault.SinkFault, declared.end.WalkEnd.WalkEnd, declared.rows.Step.Step}
 use Rattle.snmp_walk.specs.Get.{AreFor, AreForNames, IsEndOfGet, IsReasonOfGet, MeansToGet, answers_of, are_for, step_of}
-use Rattle.snmp_walk.specs.private.Course.{Heard}
 use Rattle.snmp_walk.specs.private.Course as heard
-use Rattle.snmp_walk.specs.Link.{Outcome}
-use Rattle.snmp_walk.specs.Names.{is_end}
-use Rattle.snmp_walk.specs.Read.{Delivers, all_given, is_refused}
-use Rattle.snmp_walk.specs.Sink.{Took}
-use Rattle.snmp_walk.specs.declared.end.SinkFault.{SinkFault}
-use Rattle.snmp_walk.specs.declared.end.WalkEnd.{WalkEnd}
 use Rattle.snmp_walk.specs.declared.end.WalkEnd.TheVariants as ending
-use Rattle.snmp_walk.specs.declared.rows.Step.{Step}
 use Rattle.snmp_walk.proofs.TestLemmas.{end_decided}
 
 -- whether bindings are for names

@@ -1,49 +1,30 @@
 -- What a Get gives over an honest link, and when it is done.
-use Rattle.std.proofs.lemmas.Grind.{common_steps}
-use Rattle.std.proofs.Common.{◌≡◌, ◌≢◌, ◌⊎◌, inl, inr, ℕ, ◌<◌, ◌≤◌, List, [], ◌∷◌, ◌++◌, length}
-use Rattle.std.proofs.Common.{take, refl, sym, ◌∙◌, ap, subst, arith, pos, append-nil, Option}
-use Rattle.std.proofs.lemmas.List.{length-take}
+use Rattle.std.proofs.{lemmas.Grind.common_steps, lemmas.List.length-take}
+use Rattle.std.proofs.Common.{◌≡◌, ◌≢◌, ◌⊎◌, inl, inr, ℕ, ◌<◌, ◌≤◌, List, [], ◌∷◌, ◌++◌, length, take, refl, sym, ◌∙◌, ap, subst, arith, pos}
+use Rattle.std.proofs.Common.{append-nil, Option}
 use Rattle.std.specs.Prelude.{Result, Ok, Err, replicate, Some, None}
-use Rattle.snmp_walk.specs.declared.end.LinkFault.{LinkFault}
-use Rattle.snmp_wire.specs.Message.{VarBind, Message}
-use Rattle.snmp_wire.specs.Spelling.{Spells}
-use Rattle.snmp_wire.specs.Canon.{canon}
-use Rattle.snmp_wire.specs.Range.{IsMessageInRange}
-use Rattle.snmp_agent.specs.Event.{Event}
-use Rattle.snmp_walk.specs.private.Codec.{Codec}
-use Rattle.snmp_agent.specs.table.Table.{MibView, IsMibView}
+use Rattle.snmp_walk.specs.{declared.end.LinkFault.LinkFault, private.Codec.Codec, declared.end.SinkFault.SinkFault, declared.end.WalkEnd.WalkEnd}
+use Rattle.snmp_walk.specs.{declared.tries.Course.Course, Link.Agents, Link.OneOf, Link.AreLawful, Link.IsReplyFrom, Link.agent_in, Link.Outcome}
+use Rattle.snmp_walk.specs.{Traffic.Traffic, Traffic.Lost, Facts.IsDone, Facts.IsDoneOrCutOff, Facts.IsDoneOrStopped, private.Course.Heard}
+use Rattle.snmp_walk.specs.{private.Course.heard_of, Read.IsReadAs, Read.Tells, Moved.IsMoved, Judged.IsResponseTo, Network.AreReplies}
+use Rattle.snmp_walk.specs.{Tries.AreTried, Tries.Happens, Tries.InTurn, Tries.IsNotAwaited, declared.link.Link.Ghosts as LinkFacts}
+use Rattle.snmp_wire.specs.{Message.VarBind, Message.Message, Spelling.Spells, Canon.canon, Range.IsMessageInRange}
+use Rattle.snmp_agent.specs.{Event.Event, table.Table.MibView, table.Table.IsMibView}
 use Rattle.snmp_agent.specs.Reply.{response, got, got_next, unwritten, Fits, IsWhole, IsResponse, whole, shortened, bulk}
-use Rattle.snmp_walk.specs.declared.end.SinkFault.{SinkFault}
-use Rattle.snmp_walk.specs.declared.end.WalkEnd.{WalkEnd}
 use Rattle.snmp_walk.specs.declared.end.WalkEnd.TheVariants as ending
-use Rattle.snmp_walk.specs.declared.tries.Course.{Course}
 use Rattle.snmp_walk.specs.declared.tries.Course.TheVariants as course
-use Rattle.snmp_walk.specs.Link.{Agents, OneOf, AreLawful, IsReplyFrom, agent_in, Outcome}
-use Rattle.snmp_walk.specs.Traffic.{Traffic, Lost}
-use Rattle.snmp_walk.specs.Facts.{IsDone, IsDoneOrCutOff, IsDoneOrStopped}
-use Rattle.snmp_walk.specs.private.Course.{Heard, heard_of}
 use Rattle.snmp_walk.specs.private.Course as heard
-use Rattle.snmp_walk.specs.Read.{IsReadAs, Tells}
 use Rattle.snmp_walk.specs.Get.{get_request, got_step, AreFor, AreGot, MeansToGet, IsBrought, IsReasonOfGet, HasRoomForGet, IsEndOfGet, IsLostGet}
 use Rattle.snmp_walk.specs.Get.{IsTooBig, GetFacts, GotFacts}
-use Rattle.snmp_walk.proofs.TestLemmas.{no_end}
+use Rattle.snmp_walk.proofs.{TestLemmas.no_end, JoinLemmas.get_one, EventLemmas.all_tries, EventLemmas.answered_tries, TurnLemmas.Suits}
+use Rattle.snmp_walk.proofs.{TurnLemmas.agrees, TriedMoves.moved_of, TriedMoves.sent_of, TriedMoves.tries_as, HonestLemmas.no_drop}
+use Rattle.snmp_walk.proofs.{HonestLemmas.own as spelt_own, MoveLemmas.moves_as, MoveLemmas.moves_none, MoveLemmas.nil_front}
 use Rattle.snmp_walk.proofs.ViewLemmas.{view_of, only_one, get_name, get_value}
-use Rattle.snmp_walk.proofs.JoinLemmas.{get_one}
-use Rattle.snmp_walk.proofs.EventLemmas.{all_tries, answered_tries}
 use Rattle.snmp_walk.proofs.GotLemmas.{brought, lost_get, no_set, response_of}
-use Rattle.snmp_walk.proofs.TurnLemmas.{Suits, agrees}
-use Rattle.snmp_walk.proofs.TriedMoves.{moved_of, sent_of, tries_as}
-use Rattle.snmp_walk.proofs.HonestLemmas.{no_drop, own as spelt_own}
 use Rattle.snmp_walk.proofs.GetEndLemmas.{IsByReply, IsFrontOfReply, IsGot, MayEnd, by_reply, for_more, for_names, for_none, for_nothing}
 use Rattle.snmp_walk.proofs.GetEndLemmas.{front_of_reply}
-use Rattle.snmp_walk.proofs.MoveLemmas.{moves_as, moves_none, nil_front}
 use Rattle.snmp_walk.specs.Link as outcome
-use Rattle.snmp_walk.specs.Moved.{IsMoved}
-use Rattle.snmp_walk.specs.Judged.{IsResponseTo}
-use Rattle.snmp_walk.specs.Network.{AreReplies}
 use Rattle.snmp_walk.specs.Ran.{HasHappened, IsFreshAndHonest, IsGetTried, IsGotOver, IsRun}
-use Rattle.snmp_walk.specs.Tries.{AreTried, Happens, InTurn, IsNotAwaited}
-use Rattle.snmp_walk.specs.declared.link.Link.{Ghosts as LinkFacts}
 
 -- Gets of the names give one list
 one_got : (view : MibView) → IsMibView view → (names : List (List ℕ)) (a b : List VarBind) → AreGot view names a → AreGot view names b → a ≡ b

@@ -1,22 +1,14 @@
 -- What a Get asks, name by name, and what its reply is for.
-use Rattle.std.proofs.lemmas.Grind.{common_steps, flat_map-append}
-use Rattle.std.proofs.Common.{◌≡◌, ℕ, ◌+◌, ◌<◌, ◌≤◌, Bool, true, false, List, [], ◌∷◌, ◌++◌, length, take, drop, get_or, refl, sym, ◌∙◌, ap}
-use Rattle.std.proofs.Common.{arith, length-append, append-nil, add-one, drop-cons}
-use Rattle.std.proofs.lemmas.Bool.{and_parts}
+use Rattle.std.proofs.{lemmas.Grind.common_steps, lemmas.Grind.flat_map-append, lemmas.Bool.and_parts}
+use Rattle.std.proofs.Common.{◌≡◌, ℕ, ◌+◌, ◌<◌, ◌≤◌, Bool, true, false, List, [], ◌∷◌, ◌++◌, length, take, drop, get_or, refl, sym, ◌∙◌, ap, arith}
+use Rattle.std.proofs.Common.{length-append, append-nil, add-one, drop-cons}
 use Rattle.std.proofs.lemmas.List.{take_all, take-append-drop, take_more, map-append}
-use Rattle.std.specs.Prelude.{◌&&◌, not, pos, Ok}
-use Rattle.std.specs.Bool.{nat_eq}
+use Rattle.std.specs.{Prelude.◌&&◌, Prelude.not, Prelude.pos, Prelude.Ok, Bool.nat_eq, List.AllByRecursion, Ordering.int_eq}
 use Rattle.std.specs.Cmp.Lexicographic.{pointwise}
 use Rattle.snmp_oid.specs.Identifier.{wire}
-use Rattle.snmp_wire.specs.ber.Value.{null_value}
-use Rattle.snmp_wire.specs.Message.{VarBind, Message}
-use Rattle.snmp_wire.specs.Laws.{HasPieces}
-use Rattle.snmp_wire.specs.Range.{IsBindingInRange}
-use Rattle.std.specs.List.{AllByRecursion}
+use Rattle.snmp_wire.specs.{ber.Value.null_value, Message.VarBind, Message.Message, Laws.HasPieces, Range.IsBindingInRange}
 use Rattle.snmp_wire.specs.Canon.{canon, canon_binding, canon_bindings, canon_fields, canon_front, canon_head, canon_opening}
-use Rattle.snmp_walk.specs.Names.{is_end}
-use Rattle.snmp_walk.specs.Get.{asked_names, are_for, answers_of}
-use Rattle.std.specs.Ordering.{int_eq}
+use Rattle.snmp_walk.specs.{Names.is_end, Get.asked_names, Get.are_for, Get.answers_of}
 
 -- the test of one binding
 abbrev pub is_for : List ℕ → VarBind → Bool

@@ -3,45 +3,24 @@ use Rattle.std.proofs.Common.{◌≡◌, ◌≢◌, false, inl, inr, ℕ, ◌<�
 use Rattle.std.proofs.lemmas.Bool.{and_from}
 use Rattle.std.specs.Prelude.{not, Result}
 use Rattle.snmp_agent.specs.Event.{Event, came}
-use Rattle.snmp_wire.specs.Canon.{canon}
-use Rattle.snmp_wire.specs.Message.{VarBind, Message}
-use Rattle.snmp_wire.specs.Spelling.{Spells}
-use Rattle.snmp_walk.specs.private.Codec.{Codec}
+use Rattle.snmp_wire.specs.{Canon.canon, Message.VarBind, Message.Message, Spelling.Spells}
+use Rattle.snmp_walk.specs.{private.Codec.Codec, private.Heard.IsEarlier, Judged.IsResponseTo, Judged.MeansBy, Network.AreReplies, Network.tried}
+use Rattle.snmp_walk.specs.{Ran.HasHappened, Read.rows_in, Request.request_of, Sink.Took, private.Taken.take_of, private.Taken.awaits}
+use Rattle.snmp_walk.specs.{private.Taken.is_over, Walker.Walker, Walker.IsWalker, declared.end.SinkFault.SinkFault, declared.end.WalkEnd.WalkEnd}
+use Rattle.snmp_walk.specs.{declared.link.Link.Ghosts as LinkFacts, declared.rows.Step.Step}
 use Rattle.snmp_walk.specs.Facts.{IsFresh, IsLawfulEnd, GivenFacts, Reading, rows_read, AreRead, IsAskedLast, IsReadSo, IsEndOfRun}
-use Rattle.snmp_walk.specs.private.Heard.{IsEarlier}
-use Rattle.snmp_walk.specs.Judged.{IsResponseTo, MeansBy}
 use Rattle.snmp_walk.specs.Link.{Agents, AreLawful, OneOf, IsReplyFrom, IsNextFrom, IsGotFrom, IsTooLarge, Outcome}
 use Rattle.snmp_walk.specs.Link as outcome
-use Rattle.snmp_walk.specs.Network.{AreReplies, tried}
-use Rattle.snmp_walk.specs.Ran.{HasHappened}
-use Rattle.snmp_walk.specs.Read.{rows_in}
-use Rattle.snmp_walk.specs.Request.{request_of}
-use Rattle.snmp_walk.specs.Sink.{Took}
 use Rattle.snmp_walk.specs.Standing.{Reaches, Advances, AdvancesAnyhow, IsPartOfWalk, Rises, Named}
-use Rattle.snmp_walk.specs.private.Taken.{take_of, awaits, is_over}
 use Rattle.snmp_walk.specs.Tries.{InTurn, Happens, IsTried, IsNotAwaited}
-use Rattle.snmp_walk.specs.Walker.{Walker, IsWalker}
-use Rattle.snmp_walk.specs.declared.end.SinkFault.{SinkFault}
-use Rattle.snmp_walk.specs.declared.end.WalkEnd.{WalkEnd}
 use Rattle.snmp_walk.specs.declared.end.WalkEnd.TheVariants as ending
-use Rattle.snmp_walk.specs.declared.link.Link.{Ghosts as LinkFacts}
-use Rattle.snmp_walk.specs.declared.rows.Step.{Step}
 use Rattle.snmp_walk.specs.declared.rows.Step.TheVariants as step
-use Rattle.snmp_walk.proofs.AnyLemmas.{Small, taken_any, rising_answers}
-use Rattle.snmp_walk.proofs.CaseLemmas.{EndsEmpty, ends_empty}
+use Rattle.snmp_walk.proofs.{AnyLemmas.Small, AnyLemmas.taken_any, AnyLemmas.rising_answers, CaseLemmas.EndsEmpty, CaseLemmas.ends_empty}
+use Rattle.snmp_walk.proofs.{FactLemmas.given_facts, FreshLemmas.fresh_stands, FreshLemmas.lawful_reply, HonestLemmas.honest_reply}
+use Rattle.snmp_walk.proofs.{JoinLemmas.after_precedes, JudgedLemmas.only, JudgedLemmas.response_to_decided, LostLemmas.one_append}
+use Rattle.snmp_walk.proofs.{NetworkLemmas.tried-append, PartLemmas.part_front, ReplyLemmas.asked_of, ReplyLemmas.one_spelt, SendLemmas.before_more}
+use Rattle.snmp_walk.proofs.{StandingLemmas.taken, StandingLemmas.part_of_stage, StandingLemmas.waiting, ViewLemmas.views_answer}
 use Rattle.snmp_walk.proofs.EventLemmas.{in_turn-append, all_tries, answered_tries}
-use Rattle.snmp_walk.proofs.FactLemmas.{given_facts}
-use Rattle.snmp_walk.proofs.FreshLemmas.{fresh_stands, lawful_reply}
-use Rattle.snmp_walk.proofs.HonestLemmas.{honest_reply}
-use Rattle.snmp_walk.proofs.JoinLemmas.{after_precedes}
-use Rattle.snmp_walk.proofs.JudgedLemmas.{only, response_to_decided}
-use Rattle.snmp_walk.proofs.LostLemmas.{one_append}
-use Rattle.snmp_walk.proofs.NetworkLemmas.{tried-append}
-use Rattle.snmp_walk.proofs.PartLemmas.{part_front}
-use Rattle.snmp_walk.proofs.ReplyLemmas.{asked_of, one_spelt}
-use Rattle.snmp_walk.proofs.SendLemmas.{before_more}
-use Rattle.snmp_walk.proofs.StandingLemmas.{taken, part_of_stage, waiting}
-use Rattle.snmp_walk.proofs.ViewLemmas.{views_answer}
 
 module _ {L : Type 0} (codec : Codec) (facts : LinkFacts L) (tries : ℕ) (first : Walker) (fresh : IsFresh first) (link after : L) where
   abbrev Tried : Walker → L → Outcome → L → Type 0

@@ -2,25 +2,14 @@
 use Rattle.std.proofs.Common.{arith, ◌≡◌, inl, inr, ℕ, true, List, [], ◌++◌, replicate, refl, sym, subst}
 use Rattle.std.proofs.lemmas.Grind.{common_steps}
 use Rattle.snmp_wire.specs.declared.kind.Kind.TheVariants as kind
-use Rattle.snmp_wire.specs.Message.{Message}
-use Rattle.snmp_wire.specs.Canon.{canon}
-use Rattle.snmp_wire.specs.Spelling.{Spells}
-use Rattle.snmp_wire.specs.Range.{IsMessageInRange}
-use Rattle.snmp_walk.specs.private.Codec.{Codec}
-use Rattle.snmp_agent.specs.Reply.{IsResponse}
-use Rattle.snmp_agent.specs.table.Table.{MibView}
-use Rattle.snmp_walk.specs.Judged.{IsResponseTo}
+use Rattle.snmp_wire.specs.{Message.Message, Canon.canon, Spelling.Spells, Range.IsMessageInRange}
+use Rattle.snmp_walk.specs.{private.Codec.Codec, Judged.IsResponseTo, private.Heard.IsAsked, private.Taken.awaits, Get.get_request, Get.IsBrought}
+use Rattle.snmp_walk.specs.{Get.IsLostGet, Ran.IsFreshAndHonest, Ran.IsGetTried, Tries.IsNotAwaited, declared.link.Link.Ghosts as LinkFacts}
+use Rattle.snmp_agent.specs.{Reply.IsResponse, table.Table.MibView}
 use Rattle.snmp_walk.specs.Link.{Agents, OneOf, AreLawful, IsReplyFrom}
 use Rattle.snmp_walk.specs.Link as outcome
-use Rattle.snmp_walk.specs.private.Heard.{IsAsked}
-use Rattle.snmp_walk.specs.private.Taken.{awaits}
-use Rattle.snmp_walk.specs.Get.{get_request, IsBrought, IsLostGet}
-use Rattle.snmp_walk.specs.Ran.{IsFreshAndHonest, IsGetTried}
-use Rattle.snmp_walk.specs.Tries.{IsNotAwaited}
-use Rattle.snmp_walk.specs.declared.link.Link.{Ghosts as LinkFacts}
 use Rattle.snmp_walk.proofs.HonestLemmas.{IsAnsweredBy, answered_by}
-use Rattle.snmp_walk.proofs.JudgedLemmas.{response_to_decided}
-use Rattle.snmp_walk.proofs.LostLemmas.{lost_of, reply_of}
+use Rattle.snmp_walk.proofs.{JudgedLemmas.response_to_decided, LostLemmas.lost_of, LostLemmas.reply_of}
 
 pub no_set : kind.GetRequest ≡ kind.SetRequest → ⊥
 no_set k = cc

@@ -1,40 +1,26 @@
 -- An agent's reply to the waiting request is an honest one.
-use Rattle.std.proofs.lemmas.Grind.{common_steps}
+use Rattle.std.proofs.{lemmas.Grind.common_steps, lemmas.List.nil_from_length}
 use Rattle.std.proofs.Common.{◌≡◌, ◌≢◌, ◌≤ℤ◌, ◌⊎◌, inl, inr, ℕ, ◌^◌, ◌<◌, ◌≤◌, List, [], ◌∷◌, ◌++◌, length, refl, sym, ◌∙◌, ap, subst, arith, ℤ, pos}
 use Rattle.std.proofs.Common.{length-append, append-nil, true, false}
-use Rattle.std.proofs.lemmas.List.{nil_from_length}
-use Rattle.std.specs.Prelude.{FitsSigned, unsigned_abs}
-use Rattle.std.specs.Int.{w32}
-use Rattle.std.specs.List.{AllByRecursion, list_any}
+use Rattle.std.specs.{Prelude.FitsSigned, Prelude.unsigned_abs, Int.w32, List.AllByRecursion, List.list_any}
 use Rattle.snmp_wire.specs.declared.kind.Kind.TheVariants as kind
 use Rattle.snmp_wire.specs.Message.{Datum, VarBind, Message, octet_string, null_value, ip_address, opaque_octets, no_such_object, no_such_instance}
 use Rattle.snmp_wire.specs.Message.{end_of_mib_view}
-use Rattle.snmp_wire.specs.Spelling.{Spells}
-use Rattle.snmp_wire.specs.Canon.{canon, canon_bindings}
-use Rattle.snmp_wire.specs.Range.{IsInRange, IsBindingInRange, IsMessageInRange}
-use Rattle.snmp_walk.specs.private.Codec.{Codec}
+use Rattle.snmp_wire.specs.{Spelling.Spells, Canon.canon, Canon.canon_bindings, Range.IsInRange, Range.IsBindingInRange, Range.IsMessageInRange}
+use Rattle.snmp_walk.specs.{private.Codec.Codec, declared.mode.Method.Method, declared.phase.Phase.Phase, Walker.Walker, Walker.HasRange}
+use Rattle.snmp_walk.specs.{Walker.IsMethod, Walker.IsWalker, Request.request_of, Request.request_kind, Request.request_repetitions}
+use Rattle.snmp_walk.specs.{Request.asked_for, private.Taken.is_over, Judged.IsResponseTo, Standing.IsChain, Standing.IsGetContent, Standing.IsLarge}
+use Rattle.snmp_walk.specs.{Standing.IsReplyContent, Standing.IsReplyTo, Room.full_response, Names.is_end, Run.IsFull, Run.IsFullReply}
 use Rattle.snmp_agent.specs.table.Table.{MibView, IsInstanceValue, IsMibView, IsGet, variable, unknown_object, unknown_instance, IsNext, successor}
 use Rattle.snmp_agent.specs.table.Table.{end_of_view}
 use Rattle.snmp_agent.specs.declared.config.Why.{Why}
 use Rattle.snmp_agent.specs.declared.config.Why.TheVariants as why
 use Rattle.snmp_agent.specs.Reply.{Agent, IsDropped, IsServed, response, AreAnswers, got, got_next, unwritten, Fits, IsBulk, IsLongestFront}
 use Rattle.snmp_agent.specs.Reply.{IsResponse, whole, shortened, bulk, no_error}
-use Rattle.snmp_walk.specs.declared.mode.Method.{Method}
 use Rattle.snmp_walk.specs.declared.mode.Method.TheVariants as method
-use Rattle.snmp_walk.specs.declared.phase.Phase.{Phase}
 use Rattle.snmp_walk.specs.declared.phase.Phase.TheVariants as phase
-use Rattle.snmp_walk.specs.Walker.{Walker, HasRange, IsMethod, IsWalker}
-use Rattle.snmp_walk.specs.Request.{request_of, request_kind, request_repetitions, asked_for}
-use Rattle.snmp_walk.specs.private.Taken.{is_over}
-use Rattle.snmp_walk.specs.Judged.{IsResponseTo}
-use Rattle.snmp_walk.specs.Standing.{IsChain, IsGetContent, IsLarge, IsReplyContent, IsReplyTo}
 use Rattle.snmp_walk.specs.Link.{Agents, OneOf, AreLawful, IsNextFrom, IsGotFrom, IsTooLarge, IsReplyFrom}
-use Rattle.snmp_walk.proofs.RequestLemmas.{name_short}
-use Rattle.snmp_walk.proofs.ViewLemmas.{view_of}
-use Rattle.snmp_walk.proofs.RoomLemmas.{longer_full}
-use Rattle.snmp_walk.specs.Room.{full_response}
-use Rattle.snmp_walk.specs.Names.{is_end}
-use Rattle.snmp_walk.specs.Run.{IsFull, IsFullReply}
+use Rattle.snmp_walk.proofs.{RequestLemmas.name_short, ViewLemmas.view_of, RoomLemmas.longer_full}
 use Rattle.snmp_walk.proofs.BulkLemmas.{IsOneBulk, one_bulk, chain_front, chain_by}
 
 -- numbers from 0 below 2^31

@@ -2,39 +2,17 @@
 use Rattle.std.proofs.Common.{arith, ◌≡◌, inl, inr, ℕ, T, Bool, true, false, List, [], ◌∷◌, map, refl, sym, ◌∙◌, ap, subst, Some, None}
 use Rattle.std.proofs.lemmas.Grind.{common_steps}
 use Rattle.std.proofs.lemmas.Bool.{false≢true, and_parts, false_from_ne_true, cond-true, cond-false, cond_both}
-use Rattle.std.specs.Prelude.{filter}
-use Rattle.std.specs.Bool.{nat_eq}
-use Rattle.std.specs.Ordering.{nat_cmp, is_lt, is_eq, eq_by_cmp}
-use Rattle.std.specs.Cmp.{tied_itself}
+use Rattle.std.specs.{Prelude.filter, Bool.nat_eq, Ordering.nat_cmp, Ordering.is_lt, Ordering.is_eq, Ordering.eq_by_cmp, Cmp.tied_itself, FinMap.get}
+use Rattle.std.specs.{FinMap.entries, FinMap.find, FinMap.is_sorted, FinMap.get-entries, FinMap.entries_sorted, FinMap.Entries.below_all}
 use Rattle.std.specs.Cmp.Lexicographic.{slice_cmp, nat_list_cmp_total, pointwise, same_text, texts_ties, nat_list_eq_equiv}
-use Rattle.std.specs.FinMap.{get, entries, find, is_sorted, get-entries, entries_sorted}
-use Rattle.std.specs.FinMap.Entries.{below_all}
 use Rattle.snmp_oid.specs.Identifier.{Precedes}
 use Rattle.snmp_wire.specs.Message.{Datum, VarBind}
-use Rattle.snmp_agent.specs.table.Table.{
-  MibView,
-  IsRow,
-  IsInstanceName,
-  IsInstanceValue,
-  IsMibView,
-  IsGet,
-  variable,
-  unknown_object,
-  unknown_instance,
-  IsSuccessor,
-  IsNext,
-  successor,
-  end_of_view,
-}
+use Rattle.snmp_agent.specs.table.Table.{MibView, IsRow, IsInstanceName, IsInstanceValue, IsMibView, IsGet, variable, unknown_object}
+use Rattle.snmp_agent.specs.table.Table.{unknown_instance, IsSuccessor, IsNext, successor, end_of_view}
 use Rattle.snmp_agent.specs.table.Listing.{variables}
-use Rattle.snmp_walk.specs.Names.{comes_after}
-use Rattle.snmp_walk.specs.Walk.{rows_after, rows_named}
+use Rattle.snmp_walk.specs.{Names.comes_after, Walk.rows_after, Walk.rows_named, Link.OneOf, private.Taken.if_present, private.Codec.Codec}
 use Rattle.snmp_walk.proofs.OrderLemmas.{less_from_after, after-irrefl, less_precedes}
-use Rattle.snmp_walk.specs.Link.{OneOf}
-use Rattle.snmp_walk.specs.private.Taken.{if_present}
-use Rattle.snmp_walk.specs.private.Codec.{Codec}
-use Rattle.snmp_walk.proofs.TableLemmas.{first_of_rows}
-use Rattle.snmp_walk.proofs.ViewLemmas.{value_no_end, value_no_miss}
+use Rattle.snmp_walk.proofs.{TableLemmas.first_of_rows, ViewLemmas.value_no_end, ViewLemmas.value_no_miss}
 use Rattle.snmp_walk.proofs.RowLemmas.{AreAfter, AreRising, AreInstances, or_end}
 
 abbrev binding_of : List ℕ × Datum → VarBind

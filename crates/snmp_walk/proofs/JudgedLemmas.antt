@@ -1,41 +1,27 @@
 -- What the rules say of a message, one by one, is what `take_of` computes.
-use Rattle.std.proofs.lemmas.Grind.{common_steps}
+use Rattle.std.proofs.{lemmas.Grind.common_steps, lemmas.List.nil_from_length, lemmas.List.Sums.take_while-cons}
 use Rattle.std.proofs.Common.{◌≡◌, ◌⊎◌, inl, inr, ℕ, ◌+◌, ◌<◌, Bool, true, false, cond, List, [], ◌∷◌, ◌++◌, length, refl, sym, ◌∙◌, ap, subst, arith}
 use Rattle.std.proofs.Common.{append-nil, length-append, pos, Option, Some, None, ◌↔◌}
 use Rattle.std.proofs.lemmas.Bool.{false≢true, false_from_ne_true}
 use Rattle.std.proofs.lemmas.Bool.Decides.{Decides-and, Decides-or, Decides-not, Decides-like, Decides-ltb, Decides-eqb, Decides-int_eq}
-use Rattle.std.proofs.lemmas.List.{nil_from_length}
-use Rattle.std.proofs.lemmas.List.Sums.{take_while-cons}
-use Rattle.std.specs.Prelude.{nat_lt, ◌==◌, ◌&&◌, ◌||◌, not}
-use Rattle.std.specs.Bool.{nat_eq, Decides}
-use Rattle.std.specs.List.{list_any}
-use Rattle.std.specs.Ordering.{nat_cmp, is_lt, int_eq}
+use Rattle.std.specs.{Prelude.nat_lt, Prelude.◌==◌, Prelude.◌&&◌, Prelude.◌||◌, Prelude.not, Bool.nat_eq, Bool.Decides, List.list_any}
+use Rattle.std.specs.{Ordering.nat_cmp, Ordering.is_lt, Ordering.int_eq, declared.cmp.Ordering.TheVariants.Less}
 use Rattle.std.specs.Cmp.Lexicographic.{pointwise, slice_cmp, bytes_decides}
-use Rattle.std.specs.declared.cmp.Ordering.TheVariants.{Less}
 use Rattle.snmp_oid.specs.Identifier.{Precedes}
-use Rattle.snmp_wire.specs.declared.kind.Kind.{Kind}
+use Rattle.snmp_wire.specs.{declared.kind.Kind.Kind, Message.VarBind, Message.Message, Spelling.Spells}
 use Rattle.snmp_wire.specs.declared.kind.Kind.TheVariants as kind
-use Rattle.snmp_wire.specs.Message.{VarBind, Message}
-use Rattle.snmp_wire.specs.Spelling.{Spells}
-use Rattle.snmp_walk.specs.declared.mode.Mode.{Mode}
+use Rattle.snmp_walk.specs.{declared.mode.Mode.Mode, declared.phase.Phase.Phase, declared.rows.Step.Step, Link.OneOf, Trail.last_name, Walker.Walker}
+use Rattle.snmp_walk.specs.{Request.asked_for, Instances.IsInside, Instances.IsMissing}
 use Rattle.snmp_walk.specs.declared.mode.Mode.TheVariants as mode
-use Rattle.snmp_walk.specs.declared.phase.Phase.{Phase}
 use Rattle.snmp_walk.specs.declared.phase.Phase.TheVariants as phase
 use Rattle.snmp_walk.specs.declared.end.WalkEnd.TheVariants as ending
-use Rattle.snmp_walk.specs.declared.rows.Step.{Step}
-use Rattle.snmp_walk.specs.Link.{OneOf}
 use Rattle.snmp_walk.specs.Names.{is_end, is_missing, is_inside, comes_after}
 use Rattle.snmp_walk.specs.private.Reading.{After, EndsAs, nothing, leaving, falling}
-use Rattle.snmp_walk.specs.Trail.{last_name}
-use Rattle.snmp_walk.specs.Walker.{Walker}
-use Rattle.snmp_walk.specs.private.Taken.{is_over, is_response, awaits, is_awaited, is_plain, inside_front, rising_front, name_at, stops, goes_on, closes}
-use Rattle.snmp_walk.specs.private.Taken.{reads, reads_next, got, reads_first, reads_last, reads_for, reads_reply, take_of}
+use Rattle.snmp_walk.specs.private.Taken.{is_over, is_response, awaits, is_awaited, is_plain, inside_front, rising_front, name_at, stops, goes_on}
+use Rattle.snmp_walk.specs.private.Taken.{closes, reads, reads_next, got, reads_first, reads_last, reads_for, reads_reply, take_of}
 use Rattle.snmp_walk.specs.Judged.{IsResponseTo, IsAwaitedReply, EndsBy, AsksOn, GoesOn, GivesNothing, Closes, AreRowsFrom, AreMisplaced, FollowsBy}
 use Rattle.snmp_walk.specs.Judged.{ReadsRows, IsStray, MeansNext, IsGot, MeansGot, MeansRoot, MeansFor, MeansReply, Means, MeansBy}
-use Rattle.snmp_walk.proofs.OrderLemmas.{less_from_after, less_precedes}
-use Rattle.snmp_walk.proofs.FrontLemmas.{reads_as, reads_by}
-use Rattle.snmp_walk.specs.Request.{asked_for}
-use Rattle.snmp_walk.specs.Instances.{IsInside, IsMissing}
+use Rattle.snmp_walk.proofs.{OrderLemmas.less_from_after, OrderLemmas.less_precedes, FrontLemmas.reads_as, FrontLemmas.reads_by}
 use Rattle.snmp_walk.proofs.TestLemmas.{end_decided, missing_decided, inside_decided}
 
 -- What each test decides.

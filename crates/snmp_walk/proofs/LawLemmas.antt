@@ -1,27 +1,17 @@
 -- What the lists of a walk hold, and what is left of them after a name.
-use Rattle.std.proofs.lemmas.Grind.{common_steps}
+use Rattle.std.proofs.{lemmas.Grind.common_steps, lemmas.Bool.cond_both, lemmas.Bool.false≢true, lemmas.Bool.false_from_ne_true}
 use Rattle.std.proofs.Common.{◌≡◌, inl, inr, ℕ, ◌≤◌, Bool, true, false, cond, List, [], ◌∷◌, ◌++◌, length, refl, sym, ◌∙◌, ap, subst, arith}
-use Rattle.std.proofs.lemmas.Bool.{cond_both, false≢true, false_from_ne_true}
-use Rattle.std.specs.Prelude.{filter}
-use Rattle.std.specs.Ordering.{nat_cmp, is_lt}
-use Rattle.std.specs.Cmp.Lexicographic.{slice_cmp}
-use Rattle.std.specs.declared.cmp.Ordering.TheVariants.{Less}
+use Rattle.std.specs.{Prelude.filter, Ordering.nat_cmp, Ordering.is_lt, Cmp.Lexicographic.slice_cmp, declared.cmp.Ordering.TheVariants.Less}
 use Rattle.snmp_oid.specs.Identifier.{IsWire, IsBelow, Precedes, wire}
 use Rattle.snmp_wire.specs.Message.{VarBind}
-use Rattle.snmp_agent.specs.table.Table.{MibView, IsRow, IsMibView, IsGet}
-use Rattle.snmp_agent.specs.table.Listing.{variables}
-use Rattle.snmp_walk.specs.declared.mode.Mode.{Mode}
+use Rattle.snmp_agent.specs.{table.Table.MibView, table.Table.IsRow, table.Table.IsMibView, table.Table.IsGet, table.Listing.variables}
+use Rattle.snmp_walk.specs.{declared.mode.Mode.Mode, Names.is_below, Names.is_missing, Names.comes_after, Walk.rows_below, Walk.rows_after}
+use Rattle.snmp_walk.specs.{Walk.or_only, Walk.walk_of, Walk.rest_of, Ordered.AreOrdered, Ordered.IsAtOrBelow, Ordered.IsResumable, Link.OneOf}
 use Rattle.snmp_walk.specs.declared.mode.Mode.TheVariants as mode
-use Rattle.snmp_walk.specs.Names.{is_below, is_missing, comes_after}
-use Rattle.snmp_walk.specs.Walk.{rows_below, rows_after, or_only, walk_of, rest_of}
-use Rattle.snmp_walk.specs.Ordered.{AreOrdered, IsAtOrBelow, IsResumable}
-use Rattle.snmp_walk.specs.Link.{OneOf}
 use Rattle.snmp_walk.proofs.NameLemmas.{below_from_test, test_from_below}
 use Rattle.snmp_walk.proofs.OrderLemmas.{less_from_after, after-trans, after-irrefl, less_precedes}
-use Rattle.snmp_walk.proofs.ViewLemmas.{get_name}
-use Rattle.snmp_walk.proofs.TableLemmas.{all_after, rest_from_wire}
+use Rattle.snmp_walk.proofs.{ViewLemmas.get_name, TableLemmas.all_after, TableLemmas.rest_from_wire, RowLemmas.AreAfter, RowLemmas.AreRising}
 use Rattle.snmp_walk.proofs.JoinLemmas.{one_after, kept, keeps, row_in, in_row, variables_rise, variables_are, get_row}
-use Rattle.snmp_walk.proofs.RowLemmas.{AreAfter, AreRising}
 
 -- a filtered list rises as the whole one
 after_kept : (test : VarBind → Bool) (x : List ℕ) (rows : List VarBind) → AreAfter x rows → AreAfter x (filter test rows)

@@ -3,13 +3,10 @@ use Rattle.std.proofs.lemmas.Grind.{common_steps}
 use Rattle.std.proofs.Common.{◌≡◌, ◌≢◌, ◌⊎◌, inl, inr, ℕ, zero, suc, ◌+◌, ◌<◌, List, [], ◌∷◌, ◌++◌, length, replicate, refl, sym, ◌∙◌, ap, subst}
 use Rattle.std.proofs.Common.{arith, append-nil, Option, Some, None}
 use Rattle.std.specs.List.{slice_get}
-use Rattle.snmp_walk.specs.Link.{Agents, OneOf, IsReplyFrom, IsUnanswered}
+use Rattle.snmp_walk.specs.{Link.Agents, Link.OneOf, Link.IsReplyFrom, Link.IsUnanswered, private.Heard.IsAsked, Moved.IsMoved, Tries.InTurn}
+use Rattle.snmp_walk.specs.{Tries.Gets, Tries.Brings, Tries.EndsTry, Tries.IsTry, Tries.AreTried, declared.link.Link.Ghosts as LinkFacts}
 use Rattle.snmp_walk.specs.Link as outcome
 use Rattle.snmp_walk.specs.Traffic.{latest, datagram_at, Gives, Receives, IsOther, resent, Lost}
-use Rattle.snmp_walk.specs.private.Heard.{IsAsked}
-use Rattle.snmp_walk.specs.Moved.{IsMoved}
-use Rattle.snmp_walk.specs.Tries.{InTurn, Gets, Brings, EndsTry, IsTry, AreTried}
-use Rattle.snmp_walk.specs.declared.link.Link.{Ghosts as LinkFacts}
 use Rattle.snmp_walk.proofs.MoveLemmas.{sent_all, unused}
 use Rattle.snmp_walk.proofs.TriedMoves.{few_strays, moved_before, moved_bringing, moved_missed}
 

@@ -1,13 +1,10 @@
 -- Moves of a link, one after another.
-use Rattle.std.proofs.lemmas.Grind.{common_steps}
+use Rattle.std.proofs.{lemmas.Grind.common_steps, lemmas.List.nil_from_length}
 use Rattle.std.proofs.Common.{◌≡◌, ℕ, zero, suc, ◌+◌, ◌*◌, ◌≤◌, List, [], ◌∷◌, ◌++◌, length, replicate, sym, ◌∙◌, ap, subst, arith, Option}
 use Rattle.std.proofs.Common.{append-nil, append_assoc, length-append}
-use Rattle.std.proofs.lemmas.List.{nil_from_length}
 use Rattle.std.specs.Prelude.{false, true}
 use Rattle.snmp_io.specs.Count.{HasRisen}
-use Rattle.snmp_walk.specs.Moves.{AreSent, AreUsed, Moves, octets_in}
-use Rattle.snmp_walk.specs.Moved.{IsMoved}
-use Rattle.snmp_walk.specs.declared.link.Link.{Ghosts as LinkFacts}
+use Rattle.snmp_walk.specs.{Moves.AreSent, Moves.AreUsed, Moves.Moves, Moves.octets_in, Moved.IsMoved, declared.link.Link.Ghosts as LinkFacts}
 
 -- ---- what was sent
 

@@ -1,11 +1,9 @@
 -- Names below a root and their order: the tests that walks are made of say what the relations say.
-use Rattle.std.proofs.Common.{◌≡◌, ℕ, ◌<◌, true, List, [], ◌∷◌, ◌++◌, length, take, drop, refl}
-use Rattle.std.proofs.Common.{sym, ◌∙◌, ap, subst, arith, length-append, length-drop}
-use Rattle.std.proofs.lemmas.List.{take-append-drop}
-use Rattle.std.proofs.Math.Seq.{take-append_seam}
+use Rattle.std.proofs.Common.{◌≡◌, ℕ, ◌<◌, true, List, [], ◌∷◌, ◌++◌, length, take, drop, refl, sym, ◌∙◌, ap, subst, arith, length-append}
+use Rattle.std.proofs.Common.{length-drop}
+use Rattle.std.proofs.{lemmas.List.take-append-drop, Math.Seq.take-append_seam}
 use Rattle.std.proofs.lemmas.Bool.{and_parts, and_from, ltb-true, lt-ltb}
-use Rattle.std.specs.Bool.{nat_eq, Decides}
-use Rattle.std.specs.Prelude.{nat_lt}
+use Rattle.std.specs.{Bool.nat_eq, Bool.Decides, Prelude.nat_lt}
 use Rattle.std.specs.Cmp.Lexicographic.{pointwise, same_text, nat_list_eq_equiv}
 use Rattle.snmp_oid.specs.Identifier.{IsBelow}
 use Rattle.snmp_walk.specs.Names.{is_below}

@@ -3,12 +3,9 @@ use Rattle.std.proofs.Common.{◌≡◌, inl, inr, ℕ, List, [], ◌∷◌, ◌
 use Rattle.std.specs.List.{AllByRecursion}
 use Rattle.std.proofs.lemmas.List.Elements.{recursion_from_All}
 use Rattle.snmp_agent.specs.Event.{Event, came, silence, receive_failed, sent, send_failed}
-use Rattle.snmp_agent.specs.Serving.{IsTurn, TurnDone}
-use Rattle.snmp_agent.specs.declared.server.Turn.{Turn}
+use Rattle.snmp_agent.specs.{Serving.IsTurn, Serving.TurnDone, declared.server.Turn.Turn, table.Table.MibView}
 use Rattle.snmp_agent.specs.declared.server.Turn.TheVariants as turn
-use Rattle.snmp_agent.specs.table.Table.{MibView}
-use Rattle.snmp_wire.specs.Message.{Message}
-use Rattle.snmp_wire.specs.Spelling.{Spells}
+use Rattle.snmp_wire.specs.{Message.Message, Spelling.Spells}
 use Rattle.snmp_walk.specs.Link.{Agents, OneOf, IsReplyFrom, agent_in}
 use Rattle.snmp_walk.specs.Network.{Happening, at_walk, at_agents, of_walk, of_agents, tried, AreReplies, IsFaithful, Service, AreServices, AreServed}
 

@@ -1,18 +1,12 @@
 -- What is given of a walk rises, and a front of it is a beginning of the walk too.
-use Rattle.std.proofs.lemmas.Grind.{common_steps}
-use Rattle.std.proofs.Common.{◌≡◌, ◌⊎◌, inl, inr, ℕ, true, false, List, [], ◌∷◌, ◌++◌, length, refl}
-use Rattle.std.proofs.Common.{sym, ◌∙◌, ap, subst, arith, append-nil, length-append}
-use Rattle.std.proofs.lemmas.List.{nil_from_length}
+use Rattle.std.proofs.{lemmas.Grind.common_steps, lemmas.List.nil_from_length}
+use Rattle.std.proofs.Common.{◌≡◌, ◌⊎◌, inl, inr, ℕ, true, false, List, [], ◌∷◌, ◌++◌, length, refl, sym, ◌∙◌, ap, subst, arith, append-nil}
+use Rattle.std.proofs.Common.{length-append}
 use Rattle.snmp_wire.specs.Message.{VarBind}
-use Rattle.snmp_walk.specs.declared.mode.Mode.{Mode}
+use Rattle.snmp_walk.specs.{declared.mode.Mode.Mode, Names.is_end, Names.comes_after, Trail.last_name, Trail.IsTrail, Walker.Walker}
 use Rattle.snmp_walk.specs.declared.mode.Mode.TheVariants as mode
-use Rattle.snmp_walk.specs.Names.{is_end, comes_after}
-use Rattle.snmp_walk.specs.Trail.{last_name, IsTrail}
-use Rattle.snmp_walk.specs.Walker.{Walker}
 use Rattle.snmp_walk.specs.Standing.{IsOpening, IsGiven, IsAlone, IsPartOfWalk}
-use Rattle.snmp_walk.proofs.TableLemmas.{after_more}
-use Rattle.snmp_walk.proofs.RowLemmas.{AreAfter, AreRising, AreLawfulReplies}
-use Rattle.snmp_walk.proofs.TestLemmas.{end_test}
+use Rattle.snmp_walk.proofs.{TableLemmas.after_more, RowLemmas.AreAfter, RowLemmas.AreRising, RowLemmas.AreLawfulReplies, TestLemmas.end_test}
 
 module _ (Next Got : List ℕ → VarBind → Type 0) (laws : AreLawfulReplies Next Got) (root : List ℕ) where
   -- a trail rises from the name before it

@@ -1,22 +1,12 @@
 -- What an honest reply is to the walk that waits for it.
 use Rattle.std.proofs.Common.{◌≡◌, inl, inr, ℕ, false, List, refl, sym, ◌∙◌, ap, subst, arith, pos, []}
-use Rattle.snmp_wire.specs.Message.{Message}
-use Rattle.snmp_wire.specs.Canon.{canon}
-use Rattle.snmp_wire.specs.Spelling.{Spells}
-use Rattle.snmp_walk.specs.private.Codec.{Codec}
-use Rattle.snmp_walk.specs.Walker.{Walker, IsWalker}
-use Rattle.snmp_walk.specs.Request.{request_of}
-use Rattle.snmp_walk.specs.private.Taken.{is_over}
-use Rattle.snmp_walk.specs.Standing.{IsReplyTo}
-use Rattle.snmp_walk.specs.Judged.{IsResponseTo}
+use Rattle.snmp_wire.specs.{Message.Message, Canon.canon, Spelling.Spells}
+use Rattle.snmp_walk.specs.{private.Codec.Codec, Walker.Walker, Walker.IsWalker, Request.request_of, private.Taken.is_over, Standing.IsReplyTo}
+use Rattle.snmp_walk.specs.{Judged.IsResponseTo, private.Heard.IsAsked, private.Heard.IsEarlier, Run.IsFullReply, Tries.IsNotAwaited, Tries.IsTried}
 use Rattle.snmp_walk.specs.Link.{Agents, IsNextFrom, IsGotFrom, IsTooLarge, AreLawful, IsReplyFrom}
 use Rattle.snmp_walk.specs.Link as outcome
-use Rattle.snmp_walk.specs.private.Heard.{IsAsked, IsEarlier}
-use Rattle.snmp_walk.specs.Run.{IsFullReply}
-use Rattle.snmp_walk.specs.Tries.{IsNotAwaited, IsTried}
 use Rattle.snmp_walk.specs.declared.link.Link.{Ghosts as LinkFacts}
-use Rattle.snmp_walk.proofs.HonestLemmas.{honest_reply}
-use Rattle.snmp_walk.proofs.LostLemmas.{reply_of}
+use Rattle.snmp_walk.proofs.{HonestLemmas.honest_reply, LostLemmas.reply_of}
 
 -- by the one message that the octets spell
 pub one_spelt : Codec → (m n : Message) (octets : List ℕ) → Spells m octets → Spells n octets → m ≡ n

@@ -1,19 +1,15 @@
 -- A walk's requests can be encoded, and fit a datagram.
-use Rattle.std.proofs.lemmas.Grind.{common_steps}
+use Rattle.std.proofs.{lemmas.Grind.common_steps, lemmas.List.length-map, lemmas.List.Elements.All-cons, lemmas.List.Elements.All-nil}
 use Rattle.std.proofs.Common.{◌≡◌, ℕ, zero, suc, ◌+◌, ◌*◌, ◌≤◌, List, [], ◌∷◌, length, arith, refl, ◌∙◌, length-append, ℤ, pos, negsuc}
-use Rattle.std.specs.Prelude.{All}
-use Rattle.std.specs.List.{flat_map}
-use Rattle.std.proofs.lemmas.List.{length-map}
-use Rattle.std.proofs.lemmas.List.Elements.{All-cons, All-nil}
+use Rattle.std.specs.{Prelude.All, List.flat_map}
 use Rattle.snmp_oid.specs.Identifier.{IsWire}
 use Rattle.snmp_wire.specs.Message.{Datum, Message, null_value, integer_value, octet_string, object_id, var_bind}
-use Rattle.snmp_wire.specs.Identifier.{subidentifiers}
-use Rattle.snmp_wire.specs.Spelling.{value_tag}
-use Rattle.snmp_wire.specs.Canon.{digit_count, digits, number_size, canon_number, length_size, canon_length, subidentifier_size, septets, canon_subidentifier, canon_header, canon_element, canon_content, canon_value, canon_binding, canon_bindings, canon_opening, canon_fields, canon, IsEncodable}
-use Rattle.snmp_wire.specs.declared.binding.Binding.{Binding}
+use Rattle.snmp_wire.specs.{Identifier.subidentifiers, Spelling.value_tag, declared.binding.Binding.Binding}
+use Rattle.snmp_wire.specs.Canon.{digit_count, digits, number_size, canon_number, length_size, canon_length, subidentifier_size, septets}
+use Rattle.snmp_wire.specs.Canon.{canon_subidentifier, canon_header, canon_element, canon_content, canon_value, canon_binding, canon_bindings}
+use Rattle.snmp_wire.specs.Canon.{canon_opening, canon_fields, canon, IsEncodable}
 use Rattle.snmp_wire.specs.declared.ber.value.ValueRef.TheVariants as value
-use Rattle.snmp_walk.specs.Walker.{Walker}
-use Rattle.snmp_walk.specs.Request.{request_of}
+use Rattle.snmp_walk.specs.{Walker.Walker, Request.request_of}
 
 digit_bound : (base limit more n : ℕ) → digit_count base limit more n ≤ more + 1
 digit_bound base limit zero n = omega arith

@@ -3,10 +3,10 @@ use Rattle.std.proofs.lemmas.Grind.{common_steps}
 use Rattle.std.proofs.Common.{◌≡◌, ℕ, ◌^◌, ◌<◌, ◌≤◌, List, [], ◌∷◌, length, arith, length-append, pos}
 use Rattle.snmp_wire.specs.Message.{Datum, VarBind, Message, integer_value, no_such_object, no_such_instance, end_of_mib_view}
 use Rattle.snmp_wire.specs.Spelling.{value_tag}
-use Rattle.snmp_wire.specs.Canon.{number_size, canon_element, canon_content, canon_value, canon_binding, canon_bindings, canon_opening, canon_fields, canon}
-use Rattle.snmp_walk.specs.Link.{Agents, single_response, IsTooLarge}
+use Rattle.snmp_wire.specs.Canon.{number_size, canon_element, canon_content, canon_value, canon_binding, canon_bindings, canon_opening, canon_fields}
+use Rattle.snmp_wire.specs.Canon.{canon}
+use Rattle.snmp_walk.specs.{Link.Agents, Link.single_response, Link.IsTooLarge, private.Codec.Codec}
 use Rattle.snmp_walk.specs.Room.{HasRoom, full_response, IsException}
-use Rattle.snmp_walk.specs.private.Codec.{Codec}
 
 module _ (codec : Codec) where
   -- an element with more content is no shorter, whatever the tags

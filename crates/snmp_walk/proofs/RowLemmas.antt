@@ -2,9 +2,7 @@
 use Rattle.std.proofs.Common.{◌≡◌, ℕ, ◌≤◌, true, false, List, [], ◌∷◌, length}
 use Rattle.snmp_wire.specs.Message.{VarBind, end_of_mib_view}
 use Rattle.snmp_walk.specs.Names.{is_end, is_missing, comes_after}
-use Rattle.snmp_walk.specs.private.Taken.{if_present}
-use Rattle.snmp_walk.specs.Walk.{rows_after, rows_named}
-use Rattle.snmp_walk.specs.Walker.{Walker}
+use Rattle.snmp_walk.specs.{private.Taken.if_present, Walk.rows_after, Walk.rows_named, Walker.Walker}
 
 -- each name comes after o
 abbrev pub AreAfter : List ℕ → List VarBind → Type 0

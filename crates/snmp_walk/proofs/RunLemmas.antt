@@ -1,65 +1,36 @@
 -- A run, turn by turn.
-use Rattle.std.proofs.lemmas.Grind.{common_steps}
-use Rattle.std.proofs.Common.{◌≡◌, inl, inr, ℕ, ◌+◌, ◌^◌, ◌<◌, List, [], ◌∷◌, ◌++◌, refl, sym, ◌∙◌, ap}
-use Rattle.std.proofs.Common.{true, false, subst, arith, append-nil, append_assoc, Option, Some, None, replicate}
-use Rattle.std.proofs.lemmas.List.{flat_map_more}
+use Rattle.std.proofs.{lemmas.Grind.common_steps, lemmas.List.flat_map_more, lemmas.Bool.and_from, lemmas.Bool.false≢true}
+use Rattle.std.proofs.Common.{◌≡◌, inl, inr, ℕ, ◌+◌, ◌^◌, ◌<◌, List, [], ◌∷◌, ◌++◌, refl, sym, ◌∙◌, ap, true, false, subst, arith, append-nil}
+use Rattle.std.proofs.Common.{append_assoc, Option, Some, None, replicate}
 use Rattle.std.specs.Prelude.{◌≢◌, not, Result, Ok, Err}
-use Rattle.snmp_wire.specs.Canon.{canon}
-use Rattle.snmp_wire.specs.Message.{VarBind, Message}
-use Rattle.snmp_wire.specs.Spelling.{Spells}
+use Rattle.snmp_wire.specs.{Canon.canon, Message.VarBind, Message.Message, Spelling.Spells}
 use Rattle.snmp_walk.specs.declared.phase.Phase.TheVariants as phase
-use Rattle.snmp_walk.specs.declared.end.WalkEnd.{WalkEnd}
+use Rattle.snmp_walk.specs.{declared.end.WalkEnd.WalkEnd, declared.end.SinkFault.SinkFault, declared.rows.Step.Step, Walker.Walker, Walker.IsWalker}
+use Rattle.snmp_walk.specs.{Request.request_of, Judged.MeansBy, private.Taken.awaits, private.Taken.is_over, private.Taken.take_of, Link.Agents}
+use Rattle.snmp_walk.specs.{Link.AreLawful, Link.IsNextFrom, Link.IsGotFrom, Link.IsTooLarge, Link.Outcome, Sink.Given, Sink.Took, Run.Try}
+use Rattle.snmp_walk.specs.{Run.IsFullReply, Read.rows_in, Read.Delivers, Read.IsReadAs, Read.Tells, Read.all_given, Read.is_refused}
+use Rattle.snmp_walk.specs.{private.Course.Heard, private.Course.heard_of, declared.tries.Course.Course, declared.end.LinkFault.LinkFault}
+use Rattle.snmp_walk.specs.{private.Heard.IsEarlier, private.Codec.Codec, declared.link.Link.Ghosts as LinkFacts, Moved.IsMovedByTries, Ran.IsRun}
+use Rattle.snmp_walk.specs.{Ran.IsWalkedOver, Ran.IsFreshAndHonest, Tries.AreTried, Tries.IsNotAwaited, Tries.IsTried}
 use Rattle.snmp_walk.specs.declared.end.WalkEnd.TheVariants as ending
-use Rattle.snmp_walk.specs.declared.end.SinkFault.{SinkFault}
-use Rattle.snmp_walk.specs.declared.rows.Step.{Step}
 use Rattle.snmp_walk.specs.declared.rows.Step.TheVariants as step
-use Rattle.snmp_walk.specs.Walker.{Walker, IsWalker}
-use Rattle.snmp_walk.specs.Request.{request_of}
-use Rattle.snmp_walk.specs.Judged.{MeansBy}
-use Rattle.snmp_walk.specs.private.Taken.{awaits, is_over, take_of}
 use Rattle.snmp_walk.specs.Standing.{IsPartOfWalk, Reaches, Ends, Advances, Rises, Named, IsReplyEnd, CountsAll, AdvancesAnyhow, IsReplyTo}
-use Rattle.snmp_walk.specs.Link.{Agents, AreLawful, IsNextFrom, IsGotFrom, IsTooLarge, Outcome}
 use Rattle.snmp_walk.specs.Link as outcome
-use Rattle.snmp_walk.specs.Sink.{Given, Took}
-use Rattle.snmp_walk.specs.Run.{Try, IsFullReply}
-use Rattle.snmp_walk.specs.Read.{rows_in, Delivers, IsReadAs, Tells, all_given, is_refused}
-use Rattle.snmp_walk.specs.private.Course.{Heard, heard_of}
-use Rattle.snmp_walk.specs.declared.tries.Course.{Course}
 use Rattle.snmp_walk.specs.declared.tries.Course.TheVariants as course
-use Rattle.snmp_walk.specs.declared.end.LinkFault.{LinkFault}
 use Rattle.snmp_walk.specs.private.Course as heard
 use Rattle.snmp_walk.specs.Facts.{IsFresh, IsLastSent, IsAskedLast, Reading, AreRead, HasRead, BringsNone, IsReadSo, IsEndedBy, IsLawfulEnd}
 use Rattle.snmp_walk.specs.Facts.{HasNoReply, IsEndOfRun, IsReadyForAll}
-use Rattle.snmp_walk.specs.private.Heard.{IsEarlier}
-use Rattle.snmp_walk.specs.private.Codec.{Codec}
-use Rattle.snmp_walk.specs.declared.link.Link.{Ghosts as LinkFacts}
-use Rattle.snmp_walk.specs.Moved.{IsMovedByTries}
-use Rattle.snmp_walk.specs.Ran.{IsRun, IsWalkedOver, IsFreshAndHonest}
-use Rattle.snmp_walk.specs.Tries.{AreTried, IsNotAwaited, IsTried}
-use Rattle.snmp_walk.proofs.JudgedLemmas.{means_by, response_to_decided}
-use Rattle.std.proofs.lemmas.Bool.{and_from, false≢true}
-use Rattle.snmp_walk.proofs.ViewLemmas.{views_answer}
+use Rattle.snmp_walk.proofs.{JudgedLemmas.means_by, JudgedLemmas.response_to_decided, ViewLemmas.views_answer, SwiftLemmas.few_in}
+use Rattle.snmp_walk.proofs.{SwiftLemmas.gets_one, SwiftLemmas.HasFew, MoveLemmas.sent_all, TriedMoves.IsSent, TriedMoves.moved_of}
+use Rattle.snmp_walk.proofs.{TriedMoves.sent_of, TriedMoves.tries_as, LostLemmas.lost_of, ReplyLemmas.asked_of, ReplyLemmas.from_of, TurnLemmas.Suits}
+use Rattle.snmp_walk.proofs.{TurnLemmas.agrees, RequestLemmas.request_short, RowLemmas.AreLawfulReplies, CaseLemmas.EndsEmpty, CaseLemmas.ends_empty}
+use Rattle.snmp_walk.proofs.{LawLemmas.ordered_from_rising, PartLemmas.part_front, PartLemmas.part_rises, FreshLemmas.fresh_stands}
+use Rattle.snmp_walk.proofs.{FreshLemmas.lawful_reply, GivenLemmas.given_by, FullLemmas.AreRoomy, FullLemmas.IsFast, FullLemmas.fast_first}
+use Rattle.snmp_walk.proofs.{FullLemmas.fast_on, SinkLemmas.given-append, StandingLemmas.taken, StandingLemmas.part_of_stage, StandingLemmas.waiting}
+use Rattle.snmp_walk.proofs.{AnyLemmas.Small, AnyLemmas.taken_any, AnyLemmas.rising_answers, JoinLemmas.after_precedes}
 use Rattle.snmp_walk.proofs.FactLemmas.{in_table, in_names, facts as facts_of, send_facts}
-use Rattle.snmp_walk.proofs.SwiftLemmas.{few_in, gets_one, HasFew}
 use Rattle.snmp_walk.proofs.SendLemmas.{Sends, sends_more, one_left, one_right, earlier_first, earlier_more}
-use Rattle.snmp_walk.proofs.MoveLemmas.{sent_all}
-use Rattle.snmp_walk.proofs.TriedMoves.{IsSent, moved_of, sent_of, tries_as}
-use Rattle.snmp_walk.proofs.LostLemmas.{lost_of}
-use Rattle.snmp_walk.proofs.ReplyLemmas.{asked_of, from_of}
 use Rattle.snmp_walk.proofs.TriedLemmas.{HasMoved, moved_first, moved_more, moved_fine}
-use Rattle.snmp_walk.proofs.TurnLemmas.{Suits, agrees}
-use Rattle.snmp_walk.proofs.RequestLemmas.{request_short}
-use Rattle.snmp_walk.proofs.RowLemmas.{AreLawfulReplies}
-use Rattle.snmp_walk.proofs.CaseLemmas.{EndsEmpty, ends_empty}
-use Rattle.snmp_walk.proofs.LawLemmas.{ordered_from_rising}
-use Rattle.snmp_walk.proofs.PartLemmas.{part_front, part_rises}
-use Rattle.snmp_walk.proofs.FreshLemmas.{fresh_stands, lawful_reply}
-use Rattle.snmp_walk.proofs.GivenLemmas.{given_by}
-use Rattle.snmp_walk.proofs.FullLemmas.{AreRoomy, IsFast, fast_first, fast_on}
-use Rattle.snmp_walk.proofs.SinkLemmas.{given-append}
-use Rattle.snmp_walk.proofs.StandingLemmas.{taken, part_of_stage, waiting}
-use Rattle.snmp_walk.proofs.AnyLemmas.{Small, taken_any, rising_answers}
-use Rattle.snmp_walk.proofs.JoinLemmas.{after_precedes}
 
 -- what replies end with leaves the sink as it was given
 took_reply : {S : Type 0} (takes : S → VarBind → Result (Unit {0}) SinkFault → S → Type 0) (before after : S) (rows : List VarBind) (why : WalkEnd)

@@ -2,18 +2,11 @@
 use Rattle.std.proofs.lemmas.Grind.{common_steps}
 use Rattle.std.proofs.Common.{◌≡◌, ◌⊎◌, inl, inr, ℕ, ◌+◌, ◌^◌, ◌<◌, ◌≤◌, false, List, [], ◌∷◌, ◌++◌, length, replicate, refl, sym, ◌∙◌, ap, subst}
 use Rattle.std.proofs.Common.{arith, append-nil, append_assoc, length-append}
-use Rattle.snmp_wire.specs.Message.{VarBind}
-use Rattle.snmp_wire.specs.Canon.{canon}
-use Rattle.snmp_walk.specs.declared.phase.Phase.{Phase}
+use Rattle.snmp_wire.specs.{Message.VarBind, Canon.canon}
+use Rattle.snmp_walk.specs.{declared.phase.Phase.Phase, Trail.last_name, Walker.Walker, Walker.IsWalker, Request.request_of, private.Taken.is_over}
+use Rattle.snmp_walk.specs.{Link.OneOf, Traffic.Traffic, private.Heard.IsSentBefore, private.Heard.IsEarlier}
 use Rattle.snmp_walk.specs.declared.phase.Phase.TheVariants as phase
-use Rattle.snmp_walk.specs.Trail.{last_name}
-use Rattle.snmp_walk.specs.Walker.{Walker, IsWalker}
-use Rattle.snmp_walk.specs.Request.{request_of}
-use Rattle.snmp_walk.specs.private.Taken.{is_over}
 use Rattle.snmp_walk.specs.Standing.{IsStage, IsPaced, Reaches, Rises, Named}
-use Rattle.snmp_walk.specs.Link.{OneOf}
-use Rattle.snmp_walk.specs.Traffic.{Traffic}
-use Rattle.snmp_walk.specs.private.Heard.{IsSentBefore, IsEarlier}
 use Rattle.snmp_walk.specs.Run.{Try, sent_by, IsNameIn, AsksFor, Asks, AreTries, IsEachSent}
 use Rattle.snmp_walk.proofs.LostLemmas.{one_append, one_same}
 

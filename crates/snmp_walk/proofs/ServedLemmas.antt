@@ -1,23 +1,14 @@
 -- The agent's turns and the walk's receives, on one network.
 use Rattle.std.proofs.Common.{arith, ◌≡◌, ℕ, List, [], ◌∷◌, ◌++◌, refl, sym, ◌∙◌, ap, subst, map, Option, Some, None, Ok, take, append-nil}
-use Rattle.std.proofs.lemmas.Grind.{common_steps}
+use Rattle.std.proofs.{lemmas.Grind.common_steps, lemmas.List.Elements.All-nil}
 use Rattle.std.specs.Prelude.{IfSome, IfNone}
-use Rattle.std.proofs.lemmas.List.Elements.{All-nil}
 use Rattle.snmp_agent.specs.Event.{Event, InTurn, came, silence, receive_failed, sent, send_failed}
-use Rattle.snmp_agent.specs.Reply.{Agent}
-use Rattle.snmp_agent.specs.Serving.{AreTurns, IsTurn, TurnDone}
-use Rattle.snmp_agent.specs.declared.server.Served.{Served}
-use Rattle.snmp_agent.specs.table.Table.{MibView}
-use Rattle.snmp_walk.specs.Tries.{Happens}
-use Rattle.snmp_walk.specs.Link.{Agents, OneOf, agent_in}
+use Rattle.snmp_agent.specs.{Reply.Agent, Serving.AreTurns, Serving.IsTurn, Serving.TurnDone, declared.server.Served.Served, table.Table.MibView}
+use Rattle.snmp_walk.specs.{Tries.Happens, Link.Agents, Link.OneOf, Link.agent_in, Ran.IsWalkedOver, Walker.Walker, declared.end.WalkEnd.WalkEnd}
 use Rattle.snmp_walk.specs.Network.{Happening, at_walk, at_agents, of_walk, of_agents, Service, AreServed, IsServedThen, event_of_got}
-use Rattle.snmp_walk.specs.Ran.{IsWalkedOver}
-use Rattle.snmp_walk.specs.Walker.{Walker}
 use Rattle.snmp_wire.specs.Message.{VarBind}
-use Rattle.snmp_walk.specs.declared.end.WalkEnd.{WalkEnd}
 use Rattle.snmp_walk.specs.declared.link.Link.{Ghosts as LinkFacts}
-use Rattle.snmp_walk.proofs.EventLemmas.{in_turn-append}
-use Rattle.snmp_walk.proofs.NetworkLemmas.{of_walk-append, of_agents-append}
+use Rattle.snmp_walk.proofs.{EventLemmas.in_turn-append, NetworkLemmas.of_walk-append, NetworkLemmas.of_agents-append}
 
 module _ {N Peer : Type 0} (happens : N → Event Peer → N → Type 0) (carries : N → Happening Peer → N → Type 0)
     (at_end : (old new : N) (e : Event Peer) → happens old e new → carries old (at_agents e) new) where

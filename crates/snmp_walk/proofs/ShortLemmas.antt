@@ -1,14 +1,10 @@
 -- Where a table has no long strings, messages of 1472 octets have room for each of its rows.
-use Rattle.std.proofs.lemmas.Grind.{common_steps}
-use Rattle.std.proofs.Common.{◌≡◌, ◌≤◌, length, arith, pos}
+use Rattle.std.proofs.{lemmas.Grind.common_steps, Common.◌≡◌, Common.◌≤◌, Common.length, Common.arith, Common.pos}
 use Rattle.snmp_wire.specs.Message.{Datum, VarBind, integer_value, octet_string, null_value, object_id, ip_address, counter32, gauge32, time_ticks}
 use Rattle.snmp_wire.specs.Message.{opaque_octets, counter64, no_such_object, no_such_instance, end_of_mib_view}
-use Rattle.snmp_wire.specs.Identifier.{subidentifiers}
-use Rattle.snmp_wire.specs.Canon.{canon_content}
+use Rattle.snmp_wire.specs.{Identifier.subidentifiers, Canon.canon_content}
 use Rattle.snmp_agent.specs.table.Table.{IsInstanceValue, IsMibView, IsRow, MibView}
-use Rattle.snmp_walk.specs.Link.{Agents, single_response}
-use Rattle.snmp_walk.specs.Room.{HasRoom, HasRoomForEach, IsException, IsShort}
-use Rattle.snmp_walk.specs.Walker.{Walker}
+use Rattle.snmp_walk.specs.{Link.Agents, Link.single_response, Room.HasRoom, Room.HasRoomForEach, Room.IsException, Room.IsShort, Walker.Walker}
 use Rattle.snmp_walk.proofs.RequestLemmas.{each_bound, message_bound, number_bound, one_bound, parts_bound}
 
 short_content : (v : Datum) → IsInstanceValue v → IsShort v → length (canon_content v) ≤ 700

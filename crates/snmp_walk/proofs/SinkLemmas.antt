@@ -2,8 +2,7 @@
 use Rattle.std.proofs.Common.{List, [], ◌∷◌, ◌++◌, refl, subst, Ok}
 use Rattle.std.specs.Prelude.{Result}
 use Rattle.snmp_wire.specs.Message.{VarBind}
-use Rattle.snmp_walk.specs.declared.end.SinkFault.{SinkFault}
-use Rattle.snmp_walk.specs.Sink.{Given}
+use Rattle.snmp_walk.specs.{declared.end.SinkFault.SinkFault, Sink.Given}
 
 module _ (S : Type 0) (takes : S → VarBind → Result (Unit {0}) SinkFault → S → Type 0) where
   pub given-append : (xs ys : List VarBind) (s t u : S) → Given takes s xs t → Given takes t ys u → Given takes s (xs ++ ys) u

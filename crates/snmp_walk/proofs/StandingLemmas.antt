@@ -1,33 +1,23 @@
 -- An honest reply to the waiting request takes a walk a step further, or ends it lawfully.
-use Rattle.std.proofs.lemmas.Grind.{common_steps}
-use Rattle.std.proofs.Common.{◌≡◌, inl, inr, ℕ, ◌+◌, ◌≤◌, true, false, cond, List, [], ◌∷◌, ◌++◌, ◌≢◌, length, refl, sym, ◌∙◌, ap, subst, arith, append_assoc, append-nil, length-append, pos, Some}
+use Rattle.std.proofs.{lemmas.Grind.common_steps, lemmas.List.Elements.All-nil, lemmas.List.Elements.All-push}
+use Rattle.std.proofs.Common.{◌≡◌, inl, inr, ℕ, ◌+◌, ◌≤◌, true, false, cond, List, [], ◌∷◌, ◌++◌, ◌≢◌, length, refl, sym, ◌∙◌, ap, subst, arith}
+use Rattle.std.proofs.Common.{append_assoc, append-nil, length-append, pos, Some}
 use Rattle.std.proofs.lemmas.Bool.{ltb-true, le-ltb, or_from, and_from, and_parts, eqb-true, ltb-false, eq-eqb, cond_both, false≢true}
 use Rattle.std.proofs.lemmas.List.{flat_map_more, length_push, nil_from_length}
-use Rattle.std.proofs.lemmas.List.Elements.{All-nil, All-push}
-use Rattle.std.specs.Prelude.{nat_lt, ◌==◌, ◌&&◌, ◌||◌, flat_map}
-use Rattle.std.specs.Bool.{nat_eq}
-use Rattle.std.specs.List.{list_any}
+use Rattle.std.specs.{Prelude.nat_lt, Prelude.◌==◌, Prelude.◌&&◌, Prelude.◌||◌, Prelude.flat_map, Bool.nat_eq, List.list_any, Ordering.int_eq}
 use Rattle.std.specs.Cmp.Lexicographic.{pointwise, nat_list_eq_equiv}
 use Rattle.snmp_wire.specs.Message.{VarBind, Message}
-use Rattle.snmp_walk.specs.declared.mode.Mode.{Mode}
+use Rattle.snmp_walk.specs.{declared.mode.Mode.Mode, declared.phase.Phase.Phase, declared.rows.Step.Step, Names.is_missing, Trail.last_name}
+use Rattle.snmp_walk.specs.{Trail.IsTrail, Trail.IsAtEnd, Walker.Walker, Request.asked_for}
 use Rattle.snmp_walk.specs.declared.mode.Mode.TheVariants as mode
-use Rattle.snmp_walk.specs.declared.phase.Phase.{Phase}
 use Rattle.snmp_walk.specs.declared.phase.Phase.TheVariants as phase
 use Rattle.snmp_walk.specs.declared.end.WalkEnd.TheVariants as ending
-use Rattle.snmp_walk.specs.declared.rows.Step.{Step}
-use Rattle.snmp_walk.proofs.JudgedLemmas.{response_to_decided}
-use Rattle.snmp_walk.specs.Names.{is_missing}
-use Rattle.snmp_walk.specs.Trail.{last_name, IsTrail, IsAtEnd}
-use Rattle.snmp_walk.specs.Walker.{Walker}
-use Rattle.std.specs.Ordering.{int_eq}
+use Rattle.snmp_walk.proofs.{JudgedLemmas.response_to_decided, CaseLemmas.goes_by, RowLemmas.AreLawfulReplies, TestLemmas.present}
 use Rattle.snmp_walk.specs.private.Taken.{is_over, is_plain, inside_front, rising_front, stops, goes_on, closes, reads_next, got, if_present}
 use Rattle.snmp_walk.specs.private.Taken.{reads_first, reads_last, reads_for, take_of}
-use Rattle.snmp_walk.specs.Standing.{IsChain, IsLarge, IsReplyContent, IsReplyTo, IsOpening, IsGiven, IsPartOfWalk, IsStage, opening_gets, IsPaced, Reaches, Advances}
-use Rattle.snmp_walk.proofs.CaseLemmas.{goes_by}
+use Rattle.snmp_walk.specs.Standing.{IsChain, IsLarge, IsReplyContent, IsReplyTo, IsOpening, IsGiven, IsPartOfWalk, IsStage, opening_gets, IsPaced}
+use Rattle.snmp_walk.specs.Standing.{Reaches, Advances}
 use Rattle.snmp_walk.proofs.TrailLemmas.{last_name-append, trail-append, IsFront, chain_front, chain_has_values, few_replies}
-use Rattle.snmp_walk.specs.Request.{asked_for}
-use Rattle.snmp_walk.proofs.RowLemmas.{AreLawfulReplies}
-use Rattle.snmp_walk.proofs.TestLemmas.{present}
 
 module _ (Next Got : List ℕ → VarBind → Type 0) (Large : ℕ → VarBind → Type 0) (laws : AreLawfulReplies Next Got) (first : Walker) where
   -- a step as a pair

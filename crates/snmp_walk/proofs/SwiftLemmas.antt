@@ -3,57 +3,26 @@ use Rattle.std.proofs.lemmas.Grind.{common_steps}
 use Rattle.std.proofs.Common.{◌≡◌, ◌≢◌, ◌⊎◌, ◌≤ℤ◌, inl, inr, ℕ, ◌+◌, ◌≤◌, false, List, [], ◌∷◌, ◌++◌, length, refl, sym, ◌∙◌, ap, subst, arith, pos}
 use Rattle.std.proofs.Common.{length-append}
 use Rattle.snmp_wire.specs.declared.kind.Kind.TheVariants as kind
-use Rattle.snmp_wire.specs.Message.{VarBind, Message, end_of_mib_view}
-use Rattle.snmp_wire.specs.Spelling.{Spells}
-use Rattle.snmp_wire.specs.Canon.{canon}
-use Rattle.snmp_walk.specs.private.Codec.{Codec}
+use Rattle.snmp_wire.specs.{Message.VarBind, Message.Message, Message.end_of_mib_view, Spelling.Spells, Canon.canon}
+use Rattle.snmp_walk.specs.{private.Codec.Codec, declared.mode.Mode.Mode, declared.mode.Method.Method, declared.phase.Phase.Phase}
+use Rattle.snmp_walk.specs.{declared.end.WalkEnd.WalkEnd, Trail.last_name, Trail.IsTrail, Walker.Walker, Walker.IsMethod, Walker.IsWalker}
+use Rattle.snmp_walk.specs.{Walk.rest_of, Request.request_of, Request.request_kind, Request.request_repetitions, private.Taken.is_over, Room.HasRoom}
+use Rattle.snmp_walk.specs.{Room.HasRoomForEach, Facts.IsLawfulEnd, Facts.HasNone, Facts.IsDoneOrStopped, Facts.IsDoneOrCutOff, Facts.gets}
 use Rattle.snmp_agent.specs.table.Table.{MibView, IsMibView, IsGet, variable, unknown_object, unknown_instance, IsNext, successor, end_of_view}
-use Rattle.snmp_agent.specs.table.Listing.{variables}
-use Rattle.snmp_agent.specs.declared.config.Why.{Why}
+use Rattle.snmp_agent.specs.{table.Listing.variables, declared.config.Why.Why}
 use Rattle.snmp_agent.specs.declared.config.Why.TheVariants as why
-use Rattle.snmp_agent.specs.Reply.{
-  IsServed,
-  response,
-  IsWhole,
-  got,
-  got_next,
-  unwritten,
-  Fits,
-  IsLongestFront,
-  IsResponse,
-  whole,
-  shortened,
-  bulk,
-  IsDropped,
-  no_error,
-}
-use Rattle.snmp_walk.specs.declared.mode.Mode.{Mode}
+use Rattle.snmp_agent.specs.Reply.{IsServed, response, IsWhole, got, got_next, unwritten, Fits, IsLongestFront, IsResponse, whole, shortened, bulk}
+use Rattle.snmp_agent.specs.Reply.{IsDropped, no_error}
 use Rattle.snmp_walk.specs.declared.mode.Mode.TheVariants as mode
-use Rattle.snmp_walk.specs.declared.mode.Method.{Method}
 use Rattle.snmp_walk.specs.declared.mode.Method.TheVariants as method
-use Rattle.snmp_walk.specs.declared.phase.Phase.{Phase}
 use Rattle.snmp_walk.specs.declared.phase.Phase.TheVariants as phase
-use Rattle.snmp_walk.specs.declared.end.WalkEnd.{WalkEnd}
 use Rattle.snmp_walk.specs.declared.end.WalkEnd.TheVariants as ending
-use Rattle.snmp_walk.specs.Trail.{last_name, IsTrail}
-use Rattle.snmp_walk.specs.Walker.{Walker, IsMethod, IsWalker}
-use Rattle.snmp_walk.specs.Walk.{rest_of}
-use Rattle.snmp_walk.specs.Request.{request_of, request_kind, request_repetitions}
-use Rattle.snmp_walk.specs.private.Taken.{is_over}
 use Rattle.snmp_walk.specs.Standing.{IsChain, IsLarge, IsStage, IsReplyTooLarge, opening_gets, Reaches}
 use Rattle.snmp_walk.specs.Link.{Agents, OneOf, agent_in, IsNextFrom, IsGotFrom, IsTooLarge, AreViews}
-use Rattle.snmp_walk.specs.Room.{HasRoom, HasRoomForEach}
-use Rattle.snmp_walk.specs.Facts.{IsLawfulEnd, HasNone, IsDoneOrStopped, IsDoneOrCutOff, gets}
 use Rattle.snmp_walk.proofs.HonestLemmas.{request_in_range, one_answer, get_phase, bulk_phase, set_phase}
-use Rattle.snmp_walk.proofs.BulkLemmas.{IsOneBulk, one_bulk}
+use Rattle.snmp_walk.proofs.{BulkLemmas.IsOneBulk, BulkLemmas.one_bulk, TableLemmas.trail_rest, TrailLemmas.few_replies, ViewLemmas.view_of}
+use Rattle.snmp_walk.proofs.{ViewLemmas.views_answer, StandingLemmas.waiting, TablesLemmas.row_of_next, TestLemmas.end_test, RowLemmas.IsOneTable}
 use Rattle.snmp_walk.proofs.RoomLemmas.{room_fits, room_small, room_exception}
-use Rattle.snmp_walk.proofs.TableLemmas.{trail_rest}
-use Rattle.snmp_walk.proofs.TrailLemmas.{few_replies}
-use Rattle.snmp_walk.proofs.ViewLemmas.{view_of, views_answer}
-use Rattle.snmp_walk.proofs.StandingLemmas.{waiting}
-use Rattle.snmp_walk.proofs.TablesLemmas.{row_of_next}
-use Rattle.snmp_walk.proofs.TestLemmas.{end_test}
-use Rattle.snmp_walk.proofs.RowLemmas.{IsOneTable}
 
 pub gets_one : (m : Mode) → gets m ≤ 1
 gets_one mode.NoLast = omega arith

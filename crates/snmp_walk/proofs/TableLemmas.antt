@@ -1,22 +1,17 @@
 -- With one table that doesn't change, a trail is a beginning of the rows below the root, and one that is at its end is all of them.
 use Rattle.std.proofs.Common.{arith, ◌≡◌, inl, inr, ℕ, Bool, true, false, List, [], ◌∷◌, ◌++◌, refl, sym, ◌∙◌, ap, subst, append-nil, append_assoc}
-use Rattle.std.proofs.lemmas.Grind.{common_steps}
-use Rattle.std.proofs.lemmas.Bool.{and_parts, cond_both, false≢true}
+use Rattle.std.proofs.{lemmas.Grind.common_steps, lemmas.Bool.and_parts, lemmas.Bool.cond_both, lemmas.Bool.false≢true}
 use Rattle.std.specs.Prelude.{not, filter}
 use Rattle.snmp_oid.specs.Identifier.{wire}
 use Rattle.snmp_wire.specs.Message.{VarBind}
-use Rattle.snmp_walk.specs.declared.mode.Mode.{Mode}
+use Rattle.snmp_walk.specs.{declared.mode.Mode.Mode, Trail.last_name, Trail.IsTrail, Trail.IsAtEnd, private.Taken.if_present, Walker.Walker}
 use Rattle.snmp_walk.specs.declared.mode.Mode.TheVariants as mode
 use Rattle.snmp_walk.specs.Names.{is_below, is_inside, is_end, comes_after}
 use Rattle.snmp_walk.specs.Walk.{rows_below, rows_after, rows_named, or_only, walk_of, rest_of, walk_from}
-use Rattle.snmp_walk.specs.Trail.{last_name, IsTrail, IsAtEnd}
-use Rattle.snmp_walk.specs.private.Taken.{if_present}
-use Rattle.snmp_walk.specs.Walker.{Walker}
 use Rattle.snmp_walk.specs.Standing.{IsOpening, IsAlone, IsPartOfWalk, IsWholeWalk}
 use Rattle.snmp_walk.proofs.OrderLemmas.{after-irrefl, not_after, after-trans, outside_after, below_after_wire}
-use Rattle.snmp_walk.proofs.TrailLemmas.{trail_begins}
+use Rattle.snmp_walk.proofs.{TrailLemmas.trail_begins, TestLemmas.inside_decided, TestLemmas.outside_test, TestLemmas.present_is}
 use Rattle.snmp_walk.proofs.RowLemmas.{AreAfter, AreRising, AreInstances, or_end, IsOneTable}
-use Rattle.snmp_walk.proofs.TestLemmas.{inside_decided, outside_test, present_is}
 
 -- two filters in either order
 pub filter-commute : (p q : VarBind → Bool) (xs : List VarBind) → filter p (filter q xs) ≡ filter q (filter p xs)

@@ -1,46 +1,24 @@
 -- Where each reply is that of one of several tables: what is given is theirs, and no name that all of them have is passed over.
-use Rattle.std.proofs.lemmas.Grind.{common_steps}
-use Rattle.std.proofs.Common.{◌≡◌, ◌⊎◌, inl, inr, ℕ, ◌≤◌, Bool, true, false, List, [], ◌∷◌}
-use Rattle.std.proofs.Common.{◌++◌, length, refl, sym, ◌∙◌, ap, subst, arith, length-append}
-use Rattle.std.proofs.lemmas.Bool.{false≢true, false_from_ne_true}
-use Rattle.std.specs.Prelude.{not, ◌&&◌, ◌≢◌}
-use Rattle.std.specs.Ordering.{nat_cmp, is_lt, is_eq, ordering_reverse}
-use Rattle.std.specs.Cmp.Lexicographic.{slice_cmp, nat_list_cmp_total}
-use Rattle.std.specs.declared.cmp.Ordering.{Ordering}
+use Rattle.std.proofs.{lemmas.Grind.common_steps, lemmas.Bool.false≢true, lemmas.Bool.false_from_ne_true}
+use Rattle.std.proofs.Common.{◌≡◌, ◌⊎◌, inl, inr, ℕ, ◌≤◌, Bool, true, false, List, [], ◌∷◌, ◌++◌, length, refl, sym, ◌∙◌, ap, subst, arith}
+use Rattle.std.proofs.Common.{length-append}
+use Rattle.std.specs.{Prelude.not, Prelude.◌&&◌, Prelude.◌≢◌, Ordering.nat_cmp, Ordering.is_lt, Ordering.is_eq, Ordering.ordering_reverse}
+use Rattle.std.specs.{Cmp.Lexicographic.slice_cmp, Cmp.Lexicographic.nat_list_cmp_total, declared.cmp.Ordering.Ordering}
 use Rattle.std.specs.declared.cmp.Ordering.TheVariants.{Less, Equal, Greater}
 use Rattle.snmp_oid.specs.Identifier.{IsBelow, Precedes}
 use Rattle.snmp_wire.specs.Message.{VarBind}
-use Rattle.snmp_agent.specs.table.Table.{
-  MibView,
-  IsRow,
-  IsMibView,
-  IsGet,
-  variable,
-  unknown_object,
-  unknown_instance,
-  IsSuccessor,
-  IsNext,
-  successor,
-  end_of_view,
-}
-use Rattle.snmp_walk.specs.declared.mode.Mode.{Mode}
+use Rattle.snmp_agent.specs.table.Table.{MibView, IsRow, IsMibView, IsGet, variable, unknown_object, unknown_instance, IsSuccessor, IsNext, successor}
+use Rattle.snmp_agent.specs.table.Table.{end_of_view}
+use Rattle.snmp_walk.specs.{declared.mode.Mode.Mode, Trail.last_name, Trail.IsTrail, Trail.IsAtEnd, Walker.Walker, Run.IsNameIn, private.Codec.Codec}
 use Rattle.snmp_walk.specs.declared.mode.Mode.TheVariants as mode
 use Rattle.snmp_walk.specs.Names.{is_below, is_end, is_missing, comes_after}
-use Rattle.snmp_walk.specs.Trail.{last_name, IsTrail, IsAtEnd}
-use Rattle.snmp_walk.specs.Walker.{Walker}
-use Rattle.snmp_walk.specs.Run.{IsNameIn}
 use Rattle.snmp_walk.specs.Standing.{IsOpening, IsGiven, IsPartOfWalk, IsWholeWalk}
 use Rattle.snmp_walk.specs.Link.{Agents, OneOf, IsNextFrom, IsGotFrom, IsTooLarge, AreViews}
 use Rattle.snmp_walk.specs.Tables.{IsBelowRoot, IsOfWalk, IsFromTable, AreFromTables, HasName, IsInEach, IsGivenOnce, HoldsNames}
-use Rattle.snmp_walk.proofs.OrderLemmas.{outside_after}
-use Rattle.snmp_walk.proofs.NameLemmas.{test_from_below}
+use Rattle.snmp_walk.proofs.{OrderLemmas.outside_after, NameLemmas.test_from_below, TrailLemmas.trail_begins, StandingLemmas.opening_last}
+use Rattle.snmp_walk.proofs.{SendLemmas.named_more, SendLemmas.named_after, PartLemmas.trail_rises, PartLemmas.part_rises}
 use Rattle.snmp_walk.proofs.ViewLemmas.{views_answer, view_of, value_no_end, value_no_miss}
-use Rattle.snmp_walk.specs.private.Codec.{Codec}
 use Rattle.snmp_walk.proofs.JoinLemmas.{after_precedes, tie_is, one_after, not_itself, row_none}
-use Rattle.snmp_walk.proofs.TrailLemmas.{trail_begins}
-use Rattle.snmp_walk.proofs.StandingLemmas.{opening_last}
-use Rattle.snmp_walk.proofs.SendLemmas.{named_more, named_after}
-use Rattle.snmp_walk.proofs.PartLemmas.{trail_rises, part_rises}
 use Rattle.snmp_walk.proofs.RowLemmas.{AreAfter, AreRising, AreLawfulReplies}
 use Rattle.snmp_walk.proofs.TestLemmas.{after_test, end_test, outside_test, miss_test, no_miss}
 

@@ -1,18 +1,13 @@
 -- What the tests of names and values decide.
 use Rattle.std.proofs.Common.{arith, ◌≡◌, ◌≢◌, ◌⊎◌, inl, inr, ℕ, Bool, true, false, cond, List, [], ◌∷◌, refl, sym, ◌∙◌, ap}
-use Rattle.std.proofs.lemmas.Grind.{common_steps}
-use Rattle.std.proofs.lemmas.Bool.{false≢true, false_from_ne_true}
+use Rattle.std.proofs.{lemmas.Grind.common_steps, lemmas.Bool.false≢true, lemmas.Bool.false_from_ne_true}
 use Rattle.std.proofs.lemmas.Bool.Decides.{Decides-and, Decides-not}
-use Rattle.std.specs.Bool.{Decides}
-use Rattle.std.specs.Ordering.{is_lt}
+use Rattle.std.specs.{Bool.Decides, Ordering.is_lt}
 use Rattle.snmp_oid.specs.Identifier.{Precedes}
 use Rattle.snmp_wire.specs.Message.{Datum, VarBind, no_such_object, no_such_instance, end_of_mib_view}
-use Rattle.snmp_walk.specs.Instances.{IsInside, IsMissing}
+use Rattle.snmp_walk.specs.{Instances.IsInside, Instances.IsMissing, Standing.IsGivenIfPresent, private.Taken.if_present}
 use Rattle.snmp_walk.specs.Names.{is_end, is_missing, is_inside, comes_after}
-use Rattle.snmp_walk.specs.Standing.{IsGivenIfPresent}
-use Rattle.snmp_walk.specs.private.Taken.{if_present}
-use Rattle.snmp_walk.proofs.NameLemmas.{below_decided}
-use Rattle.snmp_walk.proofs.OrderLemmas.{less_precedes}
+use Rattle.snmp_walk.proofs.{NameLemmas.below_decided, OrderLemmas.less_precedes}
 
 pub end_decided : (v : Datum) → Decides (is_end v) (v ≡ end_of_mib_view)
 end_decided end_of_mib_view = ((λ _. refl), (λ _. refl))

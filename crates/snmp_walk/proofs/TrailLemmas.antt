@@ -1,17 +1,12 @@
 -- A chain of answers is a trail up to the first that leaves the subtree.
 use Rattle.std.proofs.Common.{◌≡◌, ◌≢◌, ℕ, ◌+◌, ◌<◌, ◌≤◌, true, false, List, [], ◌∷◌, ◌++◌, length, length-append, refl, sym, ◌∙◌, ap, subst, arith}
-use Rattle.std.proofs.lemmas.List.Elements.{All-head, All-tail}
-use Rattle.std.proofs.lemmas.List.Sums.{take_while-cons}
+use Rattle.std.proofs.{lemmas.List.Elements.All-head, lemmas.List.Elements.All-tail, lemmas.List.Sums.take_while-cons}
 use Rattle.std.proofs.lemmas.Bool.{and_parts, not-true, or_from, cond_both, false≢true}
-use Rattle.std.specs.Prelude.{All, flat_map, not}
-use Rattle.std.specs.List.{list_any}
+use Rattle.std.specs.{Prelude.All, Prelude.flat_map, Prelude.not, List.list_any}
 use Rattle.snmp_wire.specs.Message.{VarBind}
 use Rattle.snmp_walk.specs.Names.{is_inside, is_end, is_missing, is_below, comes_after}
-use Rattle.snmp_walk.specs.Trail.{last_name, IsTrail, IsAtEnd}
-use Rattle.snmp_walk.specs.private.Taken.{inside_front, rising_front}
-use Rattle.snmp_walk.specs.Standing.{IsChain}
-use Rattle.snmp_walk.proofs.RowLemmas.{AreLawfulReplies}
-use Rattle.snmp_walk.proofs.TestLemmas.{inside_decided, outside}
+use Rattle.snmp_walk.specs.{Trail.last_name, Trail.IsTrail, Trail.IsAtEnd, private.Taken.inside_front, private.Taken.rising_front, Standing.IsChain}
+use Rattle.snmp_walk.proofs.{RowLemmas.AreLawfulReplies, TestLemmas.inside_decided, TestLemmas.outside}
 
 pub last_name-append : (o : List ℕ) (xs ys : List VarBind) → last_name o (xs ++ ys) ≡ last_name (last_name o xs) ys
 last_name-append o [] ys = refl

@@ -1,14 +1,10 @@
 -- How a link moves as a request is tried over it.
-use Rattle.std.proofs.lemmas.Grind.{common_steps, replicate_next}
-use Rattle.std.proofs.Common.{◌≡◌, inl, inr, ℕ, ◌+◌, ◌-◌, ◌*◌, ◌<◌, ◌≤◌, List, [], ◌∷◌}
-use Rattle.std.proofs.Common.{◌++◌, length, replicate, refl, sym, ◌∙◌, ap, subst, arith, append_assoc, length-append}
-use Rattle.std.proofs.lemmas.List.{length-replicate}
-use Rattle.snmp_walk.specs.Link.{Outcome}
+use Rattle.std.proofs.{lemmas.Grind.common_steps, lemmas.Grind.replicate_next, lemmas.List.length-replicate}
+use Rattle.std.proofs.Common.{◌≡◌, inl, inr, ℕ, ◌+◌, ◌-◌, ◌*◌, ◌<◌, ◌≤◌, List, [], ◌∷◌, ◌++◌, length, replicate, refl, sym, ◌∙◌, ap, subst, arith}
+use Rattle.std.proofs.Common.{append_assoc, length-append}
+use Rattle.snmp_walk.specs.{Link.Outcome, Moved.AreFew, Moved.IsMoved, Moved.IsMovedByTries, Traffic.Traffic, declared.link.Link.Ghosts as LinkFacts}
 use Rattle.snmp_walk.specs.Link as outcome
-use Rattle.snmp_walk.specs.Moved.{AreFew, IsMoved, IsMovedByTries}
-use Rattle.snmp_walk.specs.Traffic.{Traffic}
 use Rattle.snmp_walk.specs.Tries.{InTurn, Brings, EndsTry, IsTry, IsLastTry, AreMissed, AreTried}
-use Rattle.snmp_walk.specs.declared.link.Link.{Ghosts as LinkFacts}
 use Rattle.snmp_walk.proofs.MoveLemmas.{moves_as, moves_none, moves_on, sent_all, sent_none, went}
 
 module _ {L : Type 0} (facts : LinkFacts L) (Other : List ℕ → Type 0) (q : List ℕ) where

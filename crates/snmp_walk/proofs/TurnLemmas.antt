@@ -1,10 +1,8 @@
 -- What a call that waits for a reply told, and the ends that this leads to.
 use Rattle.std.proofs.Common.{◌≡◌, ◌≢◌, refl, subst, ℕ, List, Option, Some, None}
 use Rattle.std.specs.Prelude.{IfSome, IfNone, Result, Ok}
-use Rattle.snmp_walk.specs.Link.{Outcome}
+use Rattle.snmp_walk.specs.{Link.Outcome, Read.Tells, declared.end.WalkEnd.WalkEnd}
 use Rattle.snmp_walk.specs.Link as outcome
-use Rattle.snmp_walk.specs.Read.{Tells}
-use Rattle.snmp_walk.specs.declared.end.WalkEnd.{WalkEnd}
 use Rattle.snmp_walk.specs.declared.end.WalkEnd.TheVariants as ending
 
 pub if_some : {X : Type 0} (o : Option X) (P : X → Type 0) (x : X) → o ≡ Some x → IfSome o P → P x

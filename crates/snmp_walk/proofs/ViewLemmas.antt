@@ -7,8 +7,7 @@ use Rattle.snmp_agent.specs.table.Table.{MibView, IsInstanceValue, IsMibView, Is
 use Rattle.snmp_agent.specs.table.Table.{end_of_view}
 use Rattle.snmp_walk.specs.Names.{is_end, is_missing, comes_after}
 use Rattle.snmp_walk.specs.Link.{Agents, OneOf, IsNextFrom, IsGotFrom, AreViews}
-use Rattle.snmp_walk.proofs.OrderLemmas.{less_precedes}
-use Rattle.snmp_walk.proofs.RowLemmas.{AreLawfulReplies}
+use Rattle.snmp_walk.proofs.{OrderLemmas.less_precedes, RowLemmas.AreLawfulReplies}
 
 pub value_no_end : (v : Datum) → IsInstanceValue v → is_end v ≡ false
 value_no_end end_of_mib_view h = absurd h

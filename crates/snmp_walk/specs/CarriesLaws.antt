@@ -3,12 +3,11 @@ use Rattle.std.specs.Prelude.{◌≡◌, ◌⊎◌, ℕ, zero, suc, List, [], �
 use Rattle.std.specs.List.{slice_get}
 use Rattle.std.proofs.Common.{inl, inr, ap, refl, subst}
 use Rattle.snmp_agent.specs.Event.{InTurn, came, sent, send_failed}
-use Rattle.snmp_walk.specs.Link.{OneOf}
+use Rattle.snmp_walk.specs.{Link.OneOf, Traffic.datagram_at}
 use Rattle.snmp_walk.specs.MemoryNetwork.{Carries, IsNew, replies_by, replies_of, requests_by}
 use Rattle.snmp_walk.specs.MemoryNetwork.{requests_of}
-use Rattle.snmp_walk.specs.Network.{Happening, IsFaithful, IsTriedTo, at_agents, at_walk}
-use Rattle.snmp_walk.specs.Network.{of_walk, tried}
-use Rattle.snmp_walk.specs.Traffic.{datagram_at}
+use Rattle.snmp_walk.specs.Network.{Happening, IsFaithful, IsTriedTo, at_agents, at_walk, of_walk}
+use Rattle.snmp_walk.specs.Network.{tried}
 use Rattle.snmp_walk.specs.declared.memory_network.MemoryNetwork.{MemoryNetwork}
 
 -- what happened on the network, in turn

@@ -1,63 +1,26 @@
 -- What is true of a whole run.
-use Rattle.std.specs.Prelude.{
-  ◌≡◌,
-  ℕ,
-  ◌+◌,
-  ◌*◌,
-  ◌≤◌,
-  ◌<◌,
-  ◌≢◌,
-  ◌⊎◌,
-  List,
-  [],
-  ◌∷◌,
-  ◌++◌,
-  length,
-  flat_map,
-  replicate,
-  Option,
-}
-use Rattle.snmp_walk.specs.declared.mode.Mode.{Mode}
+use Rattle.std.specs.Prelude.{◌≡◌, ℕ, ◌+◌, ◌*◌, ◌≤◌, ◌<◌, ◌≢◌, ◌⊎◌, List, [], ◌∷◌, ◌++◌, length}
+use Rattle.std.specs.Prelude.{flat_map, replicate, Option}
+use Rattle.snmp_walk.specs.{declared.mode.Mode.Mode, Traffic.Traffic, Traffic.Lost}
+use Rattle.snmp_walk.specs.{declared.end.WalkEnd.WalkEnd, declared.rows.Step.Step, Read.rows_in}
+use Rattle.snmp_walk.specs.{Ordered.AreOrdered, Walk.walk_from, Walk.rest_of, Judged.MeansBy}
+use Rattle.snmp_walk.specs.{Walker.Walker, Walker.IsWalker}
 use Rattle.snmp_walk.specs.declared.mode.Mode.TheVariants as mode
-use Rattle.snmp_walk.specs.Traffic.{Traffic, Lost}
 use Rattle.snmp_walk.specs.Run.{Try, sent_by, AreTries, IsEachSent}
 use Rattle.snmp_oid.specs.Identifier.{Precedes}
-use Rattle.snmp_wire.specs.Message.{VarBind}
-use Rattle.snmp_wire.specs.Canon.{canon}
-use Rattle.snmp_walk.specs.declared.end.WalkEnd.{WalkEnd}
+use Rattle.snmp_wire.specs.{Message.VarBind, Canon.canon}
 use Rattle.snmp_walk.specs.declared.end.WalkEnd.TheVariants as ending
-use Rattle.snmp_agent.specs.table.Table.{MibView, IsGet}
-use Rattle.snmp_agent.specs.table.Listing.{variables}
-use Rattle.snmp_walk.specs.declared.rows.Step.{Step}
+use Rattle.snmp_agent.specs.{table.Table.MibView, table.Table.IsGet, table.Listing.variables}
 use Rattle.snmp_walk.specs.declared.rows.Step.TheVariants as step
-use Rattle.snmp_walk.specs.Read.{rows_in}
-use Rattle.snmp_walk.specs.Ordered.{AreOrdered}
-use Rattle.snmp_walk.specs.Walk.{walk_from, rest_of}
-use Rattle.snmp_walk.specs.Judged.{MeansBy}
 use Rattle.snmp_walk.specs.declared.phase.Phase.TheVariants as phase
-use Rattle.snmp_walk.specs.Walker.{Walker, IsWalker}
 use Rattle.snmp_walk.specs.Request.{asked_for, request_of, first_phase}
-use Rattle.snmp_walk.specs.Standing.{
-  Reaches,
-  IsPartOfWalk,
-  Ends,
-  Rises,
-  Named,
-  CountsAll,
-  IsReplyEnd,
-}
+use Rattle.snmp_walk.specs.Standing.{Reaches, IsPartOfWalk, Ends, Rises, Named, CountsAll}
+use Rattle.snmp_walk.specs.Standing.{IsReplyEnd}
 use Rattle.snmp_walk.specs.Link.{Agents, OneOf, IsNextFrom, IsGotFrom, IsTooLarge, IsUnanswered}
 use Rattle.snmp_walk.specs.Link.{Outcome, answered, missed, cut_off}
 use Rattle.snmp_walk.specs.Room.{HasRoomForEach, HasRoomForAll, HasIds}
-use Rattle.snmp_walk.specs.Tables.{
-  IsOfWalk,
-  AreFromTables,
-  IsInEach,
-  IsGivenOnce,
-  HoldsNames,
-  HasRoomInEach,
-  HasIdsFor,
-}
+use Rattle.snmp_walk.specs.Tables.{IsOfWalk, AreFromTables, IsInEach, IsGivenOnce, HoldsNames}
+use Rattle.snmp_walk.specs.Tables.{HasRoomInEach, HasIdsFor}
 
 -- a walk that has taken no reply yet, and asks for the root or after a name that begins with it
 pub record IsFresh (w : Walker) : Type 0 where

@@ -1,36 +1,17 @@
 -- What a message means to a walk, rule by rule (RFC 3416, sections 3 and 4.2, and docs/PROFILE.md).
 -- The rules are said of the message alone, in words of names and bindings.
-use Rattle.std.specs.Prelude.{
-  ◌≡◌,
-  ◌≢◌,
-  ◌⊎◌,
-  ℕ,
-  pos,
-  ◌<◌,
-  ◌≤◌,
-  ◌+◌,
-  List,
-  [],
-  ◌∷◌,
-  ◌++◌,
-  length,
-}
+use Rattle.std.specs.Prelude.{◌≡◌, ◌≢◌, ◌⊎◌, ℕ, pos, ◌<◌, ◌≤◌, ◌+◌, List, [], ◌∷◌, ◌++◌, length}
 use Rattle.snmp_oid.specs.Identifier.{Precedes}
 use Rattle.snmp_wire.specs.declared.kind.Kind.TheVariants as kind
 use Rattle.snmp_wire.specs.Message.{VarBind, Message, end_of_mib_view}
 use Rattle.snmp_wire.specs.Spelling.{Spells}
 use Rattle.snmp_walk.specs.declared.mode.Mode.TheVariants as mode
-use Rattle.snmp_walk.specs.declared.phase.Phase.{Phase}
+use Rattle.snmp_walk.specs.{declared.phase.Phase.Phase, declared.end.WalkEnd.WalkEnd}
+use Rattle.snmp_walk.specs.{declared.rows.Step.Step, Link.OneOf, Instances.IsInside}
+use Rattle.snmp_walk.specs.{Instances.IsMissing, Request.asked_for, Trail.last_name, Walker.Walker}
 use Rattle.snmp_walk.specs.declared.phase.Phase.TheVariants as phase
-use Rattle.snmp_walk.specs.declared.end.WalkEnd.{WalkEnd}
 use Rattle.snmp_walk.specs.declared.end.WalkEnd.TheVariants as ending
-use Rattle.snmp_walk.specs.declared.rows.Step.{Step}
 use Rattle.snmp_walk.specs.declared.rows.Step.TheVariants as step
-use Rattle.snmp_walk.specs.Link.{OneOf}
-use Rattle.snmp_walk.specs.Instances.{IsInside, IsMissing}
-use Rattle.snmp_walk.specs.Request.{asked_for}
-use Rattle.snmp_walk.specs.Trail.{last_name}
-use Rattle.snmp_walk.specs.Walker.{Walker}
 
 -- the message is the Response of version 2c (which messages number 1) of this community and
 -- request-id

@@ -1,11 +1,9 @@
 -- What a link promises, and what its agents may reply.
 use Rattle.std.specs.Prelude.{pos, ◌≡◌, ℕ, ◌^◌, ◌<◌, ◌≤◌, ◌⊎◌, List, [], ◌∷◌, length}
 use Rattle.snmp_wire.specs.declared.kind.Kind.TheVariants as kind
-use Rattle.snmp_wire.specs.Message.{VarBind, Message}
-use Rattle.snmp_wire.specs.Canon.{canon}
+use Rattle.snmp_wire.specs.{Message.VarBind, Message.Message, Canon.canon}
 use Rattle.snmp_agent.specs.table.Table.{MibView, IsGet, IsNext, IsMibView}
-use Rattle.snmp_agent.specs.Reply.{Agent, IsReply, IsDropped}
-use Rattle.snmp_agent.specs.declared.config.Why.{Why}
+use Rattle.snmp_agent.specs.{Reply.Agent, Reply.IsReply, Reply.IsDropped, declared.config.Why.Why}
 
 -- the agents that may reply: the tables that they serve, their community, and the greatest size of
 -- their messages

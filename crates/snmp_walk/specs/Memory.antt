@@ -1,14 +1,11 @@
 -- What is kept of a link to an agent in memory.
-use Rattle.std.specs.Prelude.{◌≡◌, ℕ, ◌+◌, ◌<◌, ◌≤◌, ◌⊎◌, List, [], ◌∷◌, ◌++◌, length, drop}
-use Rattle.std.specs.Prelude.{Option, Some, None}
+use Rattle.std.specs.Prelude.{◌≡◌, ℕ, ◌+◌, ◌<◌, ◌≤◌, ◌⊎◌, List, [], ◌∷◌, ◌++◌, length, drop, Option}
+use Rattle.std.specs.Prelude.{Some, None}
 use Rattle.std.specs.List.{slice_get}
-use Rattle.snmp_agent.specs.table.Table.{MibView}
-use Rattle.snmp_agent.specs.declared.config.Config.{Config}
-use Rattle.snmp_walk.specs.declared.memory.MemoryLink.{MemoryLink}
-use Rattle.snmp_agent.specs.declared.config.Why.{Why}
-use Rattle.snmp_agent.specs.Reply.{IsReply, IsDropped}
-use Rattle.snmp_walk.specs.Link.{Agents, AreLawful, agent_in}
-use Rattle.snmp_walk.specs.Traffic.{Traffic, datagram_at}
+use Rattle.snmp_agent.specs.{table.Table.MibView, declared.config.Config.Config}
+use Rattle.snmp_agent.specs.{declared.config.Why.Why, Reply.IsReply, Reply.IsDropped}
+use Rattle.snmp_walk.specs.{declared.memory.MemoryLink.MemoryLink, Link.Agents, Link.AreLawful}
+use Rattle.snmp_walk.specs.{Link.agent_in, Traffic.Traffic, Traffic.datagram_at}
 
 -- the agents of these tables
 abbrev pub agents_over : List MibView → Config → Agents

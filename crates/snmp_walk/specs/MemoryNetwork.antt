@@ -1,9 +1,8 @@
 -- What happens on a network in memory.
 use Rattle.std.specs.Prelude.{◌≡◌, ◌<◌, ℕ, List, [], ◌∷◌, ◌++◌, length, drop, Some, None}
 use Rattle.snmp_agent.specs.Event.{came, silence, receive_failed, sent}
-use Rattle.snmp_walk.specs.Network.{Happening, at_walk, at_agents}
-use Rattle.snmp_walk.specs.Traffic.{datagram_at}
-use Rattle.snmp_walk.specs.declared.memory_network.Delivery.{Delivery}
+use Rattle.snmp_walk.specs.{Network.Happening, Network.at_walk, Network.at_agents}
+use Rattle.snmp_walk.specs.{Traffic.datagram_at, declared.memory_network.Delivery.Delivery}
 use Rattle.snmp_walk.specs.declared.memory_network.Delivery.TheVariants as delivery
 use Rattle.snmp_walk.specs.declared.memory_network.MemoryNetwork.{MemoryNetwork}
 

@@ -1,10 +1,8 @@
 -- How a run moves its link.
 use Rattle.std.specs.Prelude.{◌≤◌, ◌<◌, ◌+◌, ◌*◌, ℕ, List, length, replicate}
 use Rattle.snmp_wire.specs.Message.{VarBind}
-use Rattle.snmp_walk.specs.Moves.{Moves}
-use Rattle.snmp_walk.specs.Run.{AreTries, IsEachSent, Try, sent_by}
-use Rattle.snmp_walk.specs.Walker.{Walker}
-use Rattle.snmp_walk.specs.declared.link.Link.{Ghosts as LinkFacts}
+use Rattle.snmp_walk.specs.{Moves.Moves, Run.AreTries, Run.IsEachSent, Run.Try, Run.sent_by}
+use Rattle.snmp_walk.specs.{Walker.Walker, declared.link.Link.Ghosts as LinkFacts}
 
 -- sends of these datagrams in turn, and so many receives at most, took the link from one state to
 -- the other, and the last of these calls failed if `failed` holds

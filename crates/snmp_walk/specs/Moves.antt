@@ -1,8 +1,7 @@
 -- How a link moves from one state to another, whatever it brings.
 use Rattle.std.specs.Prelude.{◌≡◌, ◌+◌, ◌≤◌, ℕ, List, [], ◌∷◌, ◌++◌, length, Option}
 use Rattle.snmp_io.specs.Count.{HasRisen}
-use Rattle.snmp_walk.specs.Link.{Agents}
-use Rattle.snmp_walk.specs.Traffic.{Traffic}
+use Rattle.snmp_walk.specs.{Link.Agents, Traffic.Traffic}
 
 -- how many octets these datagrams have together
 abbrev pub octets_in : List (List ℕ) → ℕ

@@ -2,9 +2,7 @@
 -- section 4.2.2). By these two `Walk` picks rows of a table, as its laws say in words of names; the
 -- others, of values, are for private clauses.
 use Rattle.std.specs.Prelude.{ℕ, Bool, true, false, ◌&&◌, not, nat_lt, List, length}
-use Rattle.std.specs.List.{starts_with}
-use Rattle.std.specs.Bool.{nat_eq}
-use Rattle.std.specs.Ordering.{nat_cmp, is_lt}
+use Rattle.std.specs.{List.starts_with, Bool.nat_eq, Ordering.nat_cmp, Ordering.is_lt}
 use Rattle.std.specs.Cmp.Lexicographic.{slice_cmp}
 use Rattle.snmp_wire.specs.Message.{Datum, VarBind}
 use Rattle.snmp_wire.specs.Message.Datum.{no_such_object, no_such_instance, end_of_mib_view}

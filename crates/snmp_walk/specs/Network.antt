@@ -1,15 +1,12 @@
 -- A network between a walk and the agents that reply to it (RFC 3417, section 3), and what happens
 -- at its two ends.
-use Rattle.std.specs.Prelude.{◌≡◌, ◌⊎◌, ℕ, List, [], ◌∷◌, ◌++◌, flat_map, map, take, Option}
-use Rattle.std.specs.Prelude.{Some, None, Result, Ok, Err}
+use Rattle.std.specs.Prelude.{◌≡◌, ◌⊎◌, ℕ, List, [], ◌∷◌, ◌++◌, flat_map, map, take, Option, Some}
+use Rattle.std.specs.Prelude.{None, Result, Ok, Err}
 use Rattle.snmp_agent.specs.Event.{Event, InTurn, came, silence, receive_failed, sent, send_failed}
-use Rattle.snmp_agent.specs.Reply.{Agent}
-use Rattle.snmp_agent.specs.Serving.{AreTurns}
+use Rattle.snmp_agent.specs.{Reply.Agent, Serving.AreTurns, table.Table.MibView}
 use Rattle.snmp_agent.specs.declared.server.Served.{Served}
-use Rattle.snmp_agent.specs.table.Table.{MibView}
 use Rattle.snmp_walk.specs.declared.end.LinkFault.{LinkFault}
-use Rattle.snmp_wire.specs.Message.{Message}
-use Rattle.snmp_wire.specs.Spelling.{Spells}
+use Rattle.snmp_wire.specs.{Message.Message, Spelling.Spells}
 use Rattle.snmp_walk.specs.Link.{Agents, OneOf, IsReplyFrom, agent_in}
 
 -- What happens at one end of the network: at that of the walk, which has one peer, or at that of

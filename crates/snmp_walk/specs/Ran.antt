@@ -1,23 +1,18 @@
 -- What is known of a run over a link: of a walk, and of a Get of names.
 use Rattle.std.specs.Prelude.{◌≡◌, ◌≢◌, ◌⊎◌, ◌<◌, ◌≤◌, ◌++◌, ℕ, List, [], Result, replicate}
 use Rattle.snmp_agent.specs.Event.{Event}
-use Rattle.snmp_wire.specs.Canon.{canon}
-use Rattle.snmp_wire.specs.Message.{VarBind}
-use Rattle.snmp_walk.specs.declared.end.SinkFault.{SinkFault}
-use Rattle.snmp_walk.specs.declared.end.WalkEnd.{WalkEnd}
+use Rattle.snmp_wire.specs.{Canon.canon, Message.VarBind}
+use Rattle.snmp_walk.specs.{declared.end.SinkFault.SinkFault, declared.end.WalkEnd.WalkEnd}
+use Rattle.snmp_walk.specs.{Link.Agents, Link.AreLawful, Link.Outcome, Moved.IsMoved}
+use Rattle.snmp_walk.specs.{Moved.IsMovedByRequests, Network.AreReplies, Sink.Took, Walker.Walker}
 use Rattle.snmp_walk.specs.declared.end.WalkEnd.TheVariants as ending
 use Rattle.snmp_walk.specs.declared.link.Link.{Ghosts as LinkFacts}
 use Rattle.snmp_walk.specs.Facts.{EndFacts, GivenFacts, IsLastSent, ReadyFacts, SendFacts}
 use Rattle.snmp_walk.specs.Facts.{WalkFacts}
 use Rattle.snmp_walk.specs.Get.{AreForNames, GetFacts, GotFacts, IsBrought, IsReasonOfGet}
 use Rattle.snmp_walk.specs.Get.{get_request}
-use Rattle.snmp_walk.specs.Link.{Agents, AreLawful, Outcome}
-use Rattle.snmp_walk.specs.Moved.{IsMoved, IsMovedByRequests}
-use Rattle.snmp_walk.specs.Network.{AreReplies}
-use Rattle.snmp_walk.specs.Sink.{Took}
 use Rattle.snmp_walk.specs.Standing.{IsPartOfWalk, Named, Rises}
 use Rattle.snmp_walk.specs.Tries.{AreTried, Happens, InTurn, IsNotAwaited, IsTried}
-use Rattle.snmp_walk.specs.Walker.{Walker}
 
 -- A run gave bindings to a sink, which perhaps refused one more, and ended in this way. `Facts`
 -- holds of the bindings given and refused.

@@ -1,17 +1,13 @@
 -- What comes of a reply that was waited for: it is read, and its bindings are given to a sink. All
 -- but `rows_in` is for private clauses.
-use Rattle.std.specs.Prelude.{◌≡◌, ℕ, true, List, [], ◌∷◌, ◌++◌, Result, Ok, Err}
-use Rattle.std.specs.Prelude.{Option, Some, None}
-use Rattle.snmp_wire.specs.Message.{VarBind, Message}
-use Rattle.snmp_wire.specs.Spelling.{Spells}
-use Rattle.snmp_walk.specs.declared.end.SinkFault.{SinkFault}
+use Rattle.std.specs.Prelude.{◌≡◌, ℕ, true, List, [], ◌∷◌, ◌++◌, Result, Ok, Err, Option, Some}
+use Rattle.std.specs.Prelude.{None}
+use Rattle.snmp_wire.specs.{Message.VarBind, Message.Message, Spelling.Spells}
+use Rattle.snmp_walk.specs.{declared.end.SinkFault.SinkFault, declared.rows.Step.Step}
+use Rattle.snmp_walk.specs.{private.Course.Heard, private.Taken.awaits, Sink.Given}
 use Rattle.snmp_walk.specs.declared.end.WalkEnd.TheVariants as ending
-use Rattle.snmp_walk.specs.declared.rows.Step.{Step}
 use Rattle.snmp_walk.specs.declared.rows.Step.TheVariants as step
-use Rattle.snmp_walk.specs.private.Course.{Heard}
 use Rattle.snmp_walk.specs.private.Course as heard
-use Rattle.snmp_walk.specs.private.Taken.{awaits}
-use Rattle.snmp_walk.specs.Sink.{Given}
 use Rattle.snmp_walk.specs.Link.{Outcome, answered, missed, cut_off}
 
 -- the bindings that a step gives

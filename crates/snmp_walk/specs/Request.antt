@@ -1,16 +1,13 @@
 -- Where a walk begins, and which request it sends (RFC 3416, section 4.2).
 use Rattle.std.specs.Prelude.{ℕ, ℤ, pos, unsigned_abs, List, [], ◌∷◌}
 use Rattle.snmp_oid.specs.Identifier.{wire}
-use Rattle.snmp_wire.specs.declared.kind.Kind.{Kind}
+use Rattle.snmp_wire.specs.{declared.kind.Kind.Kind, Message.Message, Message.null_value}
 use Rattle.snmp_wire.specs.declared.kind.Kind.TheVariants as kind
-use Rattle.snmp_wire.specs.Message.{Message, null_value}
-use Rattle.snmp_walk.specs.declared.mode.Mode.{Mode}
+use Rattle.snmp_walk.specs.{declared.mode.Mode.Mode, declared.phase.Phase.Phase, Walker.Walker}
 use Rattle.snmp_walk.specs.declared.mode.Mode.TheVariants as mode
 use Rattle.snmp_walk.specs.declared.mode.Method.{Method}
 use Rattle.snmp_walk.specs.declared.mode.Method.TheVariants as method
-use Rattle.snmp_walk.specs.declared.phase.Phase.{Phase}
 use Rattle.snmp_walk.specs.declared.phase.Phase.TheVariants as phase
-use Rattle.snmp_walk.specs.Walker.{Walker}
 
 -- a walk that includes its root begins with a Get of it, and any other with the instances after it
 abbrev pub first_phase : Mode → Phase

@@ -2,24 +2,13 @@
 -- ids.
 use Rattle.std.specs.Prelude.{◌≡◌, ℕ, pos, ◌+◌, ◌≤◌, List, length}
 use Rattle.snmp_wire.specs.declared.kind.Kind.TheVariants as kind
-use Rattle.snmp_wire.specs.Message.{
-  Datum,
-  VarBind,
-  Message,
-  octet_string,
-  opaque_octets,
-  no_such_object,
-  no_such_instance,
-  end_of_mib_view,
-}
+use Rattle.snmp_wire.specs.Message.{Datum, VarBind, Message, octet_string, opaque_octets}
+use Rattle.snmp_wire.specs.Message.{no_such_object, no_such_instance, end_of_mib_view}
 use Rattle.snmp_wire.specs.Canon.{canon}
 use Rattle.snmp_agent.specs.table.Table.{MibView, IsRow}
-use Rattle.snmp_agent.specs.table.Listing.{variables}
-use Rattle.snmp_walk.specs.Walk.{rest_of}
-use Rattle.snmp_walk.specs.Walker.{Walker}
+use Rattle.snmp_agent.specs.{table.Listing.variables, Reply.IsBulk}
+use Rattle.snmp_walk.specs.{Walk.rest_of, Walker.Walker, Request.request_of}
 use Rattle.snmp_walk.specs.Link.{Agents, OneOf, single_response}
-use Rattle.snmp_walk.specs.Request.{request_of}
-use Rattle.snmp_agent.specs.Reply.{IsBulk}
 
 -- The agents' messages have room for the binding: the Response with this binding alone and the
 -- greatest request-id is no longer than their greatest size.

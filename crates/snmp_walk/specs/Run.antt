@@ -1,18 +1,13 @@
 -- The requests of a walk, and how often each is sent. What a full reply is is for proofs.
 use Rattle.std.specs.Prelude.{◌≡◌, ℕ, ◌+◌, ◌^◌, ◌<◌, ◌≤◌, ◌⊎◌, true, List, [], ◌∷◌, ◌++◌, length}
 use Rattle.std.specs.Prelude.{pos, replicate}
-use Rattle.snmp_wire.specs.Message.{VarBind, Message}
-use Rattle.snmp_wire.specs.Canon.{canon}
+use Rattle.snmp_wire.specs.{Message.VarBind, Message.Message, Canon.canon}
 use Rattle.snmp_walk.specs.declared.mode.Mode.TheVariants as mode
-use Rattle.snmp_walk.specs.declared.phase.Phase.{Phase}
+use Rattle.snmp_walk.specs.{declared.phase.Phase.Phase, Walker.Walker, declared.mode.Method.Method}
+use Rattle.snmp_walk.specs.{Names.is_end, Room.HasRoomForAll, Link.Agents, Link.OneOf}
 use Rattle.snmp_walk.specs.declared.phase.Phase.TheVariants as phase
-use Rattle.snmp_walk.specs.Walker.{Walker}
 use Rattle.snmp_walk.specs.Request.{asked_for, request_of}
-use Rattle.snmp_walk.specs.declared.mode.Method.{Method}
-use Rattle.snmp_walk.specs.Names.{is_end}
-use Rattle.snmp_walk.specs.Room.{HasRoomForAll}
 use Rattle.std.specs.List.{list_any}
-use Rattle.snmp_walk.specs.Link.{Agents, OneOf}
 
 -- as many bindings as were asked for, or endOfMibView among them
 abbrev pub IsFull : Method → List VarBind → Type 0

@@ -2,39 +2,18 @@
 -- the request that was waiting: agents give for a GetNext what `Next` says and for a Get what `Got`
 -- says, and their largest message has no room for a binding that is `Large` in the reply to a
 -- request of this id.
-use Rattle.std.specs.Prelude.{
-  ◌≡◌,
-  ◌≢◌,
-  ℕ,
-  ◌+◌,
-  ◌^◌,
-  ◌<◌,
-  pos,
-  ◌≤◌,
-  ◌⊎◌,
-  List,
-  [],
-  ◌∷◌,
-  ◌++◌,
-  All,
-  flat_map,
-  length,
-}
+use Rattle.std.specs.Prelude.{◌≡◌, ◌≢◌, ℕ, ◌+◌, ◌^◌, ◌<◌, pos, ◌≤◌, ◌⊎◌, List, [], ◌∷◌, ◌++◌, All}
+use Rattle.std.specs.Prelude.{flat_map, length}
 use Rattle.snmp_oid.specs.Identifier.{Precedes}
 use Rattle.snmp_wire.specs.Message.{VarBind, Message, end_of_mib_view}
-use Rattle.snmp_walk.specs.declared.mode.Mode.{Mode}
+use Rattle.snmp_walk.specs.{declared.mode.Mode.Mode, declared.phase.Phase.Phase}
+use Rattle.snmp_walk.specs.{declared.end.WalkEnd.WalkEnd, declared.rows.Step.Step}
+use Rattle.snmp_walk.specs.{Judged.IsResponseTo, Instances.IsMissing, Trail.last_name}
+use Rattle.snmp_walk.specs.{Trail.IsTrail, Trail.IsAtEnd, Request.asked_for, Walker.Walker}
 use Rattle.snmp_walk.specs.declared.mode.Mode.TheVariants as mode
-use Rattle.snmp_walk.specs.declared.phase.Phase.{Phase}
 use Rattle.snmp_walk.specs.declared.phase.Phase.TheVariants as phase
-use Rattle.snmp_walk.specs.declared.end.WalkEnd.{WalkEnd}
 use Rattle.snmp_walk.specs.declared.end.WalkEnd.TheVariants as ending
-use Rattle.snmp_walk.specs.declared.rows.Step.{Step}
 use Rattle.snmp_walk.specs.declared.rows.Step.TheVariants as step
-use Rattle.snmp_walk.specs.Judged.{IsResponseTo}
-use Rattle.snmp_walk.specs.Instances.{IsMissing}
-use Rattle.snmp_walk.specs.Trail.{last_name, IsTrail, IsAtEnd}
-use Rattle.snmp_walk.specs.Request.{asked_for}
-use Rattle.snmp_walk.specs.Walker.{Walker}
 
 -- each binding is one that a GetNext of the name before it gives
 abbrev pub IsChain : (List ℕ → VarBind → Type 0) → List ℕ → List VarBind → Type 0

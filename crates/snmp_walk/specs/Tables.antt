@@ -4,10 +4,8 @@ use Rattle.snmp_oid.specs.Identifier.{IsBelow, Precedes}
 use Rattle.snmp_wire.specs.Message.{VarBind}
 use Rattle.snmp_agent.specs.table.Table.{MibView, IsRow}
 use Rattle.snmp_walk.specs.declared.mode.Mode.TheVariants as mode
-use Rattle.snmp_walk.specs.Run.{IsNameIn}
-use Rattle.snmp_walk.specs.Walker.{Walker}
+use Rattle.snmp_walk.specs.{Run.IsNameIn, Walker.Walker, Room.HasRoomForEach}
 use Rattle.snmp_walk.specs.Link.{Agents, OneOf, IsGotFrom}
-use Rattle.snmp_walk.specs.Room.{HasRoomForEach}
 
 -- the name is below the root of the walk, and comes after the name that the walk begins from
 abbrev pub IsBelowRoot : Walker → List ℕ → Type 0

@@ -2,17 +2,11 @@
 -- ended.
 use Rattle.std.specs.Prelude.{◌≡◌, ◌<◌, ℕ, ◌⊎◌, List, [], ◌∷◌, length, Option, Some, None}
 use Rattle.snmp_agent.specs.Event.{Event, came, silence, receive_failed, sent, send_failed}
-use Rattle.snmp_wire.specs.Message.{Message}
-use Rattle.snmp_wire.specs.Spelling.{Spells}
-use Rattle.snmp_wire.specs.Canon.{canon}
+use Rattle.snmp_wire.specs.{Message.Message, Spelling.Spells, Canon.canon}
 pub use Rattle.snmp_agent.specs.Event.{InTurn}
-use Rattle.snmp_walk.specs.Walker.{Walker}
-use Rattle.snmp_walk.specs.Request.{request_of}
-use Rattle.snmp_walk.specs.Judged.{IsResponseTo}
+use Rattle.snmp_walk.specs.{Walker.Walker, Request.request_of, Judged.IsResponseTo}
+use Rattle.snmp_walk.specs.{Traffic.Receives, Moved.IsMoved, declared.link.Link.Ghosts as LinkFacts}
 use Rattle.snmp_walk.specs.Link.{OneOf, Outcome, answered, missed, cut_off}
-use Rattle.snmp_walk.specs.Traffic.{Receives}
-use Rattle.snmp_walk.specs.Moved.{IsMoved}
-use Rattle.snmp_walk.specs.declared.link.Link.{Ghosts as LinkFacts}
 
 -- the datagram doesn't encode the reply of this community and request-id: it encodes another
 -- message, or none

@@ -1,12 +1,10 @@
 -- What a walk gives of the rows of a table, in the order of their names.
 use Rattle.std.specs.Prelude.{ℕ, List, [], ◌∷◌, ◌++◌, filter}
-use Rattle.std.specs.Bool.{nat_eq}
-use Rattle.std.specs.Cmp.Lexicographic.{pointwise}
+use Rattle.std.specs.{Bool.nat_eq, Cmp.Lexicographic.pointwise}
 use Rattle.snmp_oid.specs.Identifier.{wire}
 use Rattle.snmp_wire.specs.Message.{VarBind}
-use Rattle.snmp_walk.specs.declared.mode.Mode.{Mode}
+use Rattle.snmp_walk.specs.{declared.mode.Mode.Mode, Names.is_below, Names.comes_after}
 use Rattle.snmp_walk.specs.declared.mode.Mode.TheVariants.{Plain, Include, NoLast}
-use Rattle.snmp_walk.specs.Names.{is_below, comes_after}
 
 -- the rows below the root
 abbrev pub rows_below : List ℕ → List VarBind → List VarBind

@@ -2,10 +2,9 @@
 use Rattle.std.specs.Int.{w32}
 use Rattle.std.specs.Prelude.{FitsSigned, All, ℕ, pos, ◌≤ℤ◌, ◌*◌, ◌^◌, ◌<◌, ◌≤◌, List, length}
 use Rattle.snmp_oid.specs.Identifier.{IsIdentifier, IsWire}
-use Rattle.snmp_walk.specs.declared.mode.Mode.{Mode}
+use Rattle.snmp_walk.specs.{declared.mode.Mode.Mode, declared.phase.Phase.Phase}
 use Rattle.snmp_walk.specs.declared.mode.Method.{Method}
 use Rattle.snmp_walk.specs.declared.mode.Method.TheVariants.{Next, Bulk}
-use Rattle.snmp_walk.specs.declared.phase.Phase.{Phase}
 
 -- a state of a walk, as contracts see it
 pub record Walker : Type 0 where

@@ -2,18 +2,12 @@
 ghost use Rattle.std.specs.Prelude.{◌≡◌, ◌≤◌, ◌<◌, ◌^◌, ◌+◌, ◌++◌, ◌≢◌, replicate, ℕ, List, []};
 ghost use Rattle.std.specs.Prelude.{All, length, take, IfSome, IfNone, IsSome, ◌↔◌, ◌&&◌, not};
 ghost use Rattle.snmp_oid.specs.Identifier.{IsWire, wire};
-ghost use Rattle.snmp_wire.specs.Canon.{canon, canon_binding, canon_bindings};
-ghost use Rattle.snmp_wire.specs.Canon.{IsEncodable};
-ghost use Rattle.std.specs.Bool.{nat_eq};
-ghost use Rattle.std.specs.Cmp.Lexicographic.{pointwise};
-ghost use Rattle.snmp_wire.specs.ber.Value.{null_value};
-ghost use Rattle.snmp_wire.specs.Message.{Message, VarBind, var_bind};
-ghost use Rattle.snmp_walk.specs.Names.{is_end};
-ghost use Rattle.snmp_walk.specs.private.Taken.{awaits};
-ghost use Rattle.std.specs.List.{AllByRecursion};
-ghost use Rattle.snmp_wire.specs.Range.{IsBindingInRange, IsMessageInRange};
+ghost use Rattle.snmp_wire.specs.Canon.{canon, canon_binding, canon_bindings, IsEncodable};
+ghost use Rattle.std.specs.{Bool.nat_eq, Cmp.Lexicographic.pointwise, List.AllByRecursion};
+ghost use Rattle.snmp_wire.specs.{ber.Value.null_value, Message.Message, Message.VarBind};
+ghost use Rattle.snmp_wire.specs.{Message.var_bind, Range.IsBindingInRange, Range.IsMessageInRange};
+ghost use Rattle.snmp_walk.specs.{Names.is_end, private.Taken.awaits, Ran.IsGotOver, Ran.IsRun};
 ghost use Rattle.snmp_walk.specs.Get.{asked_names, get_request, are_for as are_these, answers_of};
-ghost use Rattle.snmp_walk.specs.Ran.{IsGotOver, IsRun};
 
 use crate::laws::codec;
 use crate::tries::{Course, Judgement, Waiter, exchange, is_awaited};

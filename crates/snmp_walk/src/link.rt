@@ -1,8 +1,7 @@
 //! Links, over which a walk sends its requests and receives replies.
 ghost use Rattle.std.specs.Prelude.{◌≡◌, ◌≤◌, ◌+◌, ◌++◌, [], ◌∷◌, ◌⊎◌, ℕ, List, length, Option};
 ghost use Rattle.std.specs.Prelude.{Some, None, IsOk, IsErr, OnOk, IfOk, OnErr, IfSome, IfNone};
-ghost use Rattle.std.specs.Prelude.{take};
-ghost use Rattle.std.specs.Prelude.{◌<◌};
+ghost use Rattle.std.specs.Prelude.{take, ◌<◌};
 
 use crate::LinkFault;
 

@@ -1,6 +1,5 @@
 //! A link to an agent in the same memory.
-ghost use Rattle.std.specs.Prelude.{◌≡◌, ◌<◌, ◌+◌, ℕ, All, length, Some, None, IfSome, OnOk};
-ghost use Rattle.std.specs.Prelude.{OnErr};
+ghost use Rattle.std.specs.Prelude.{◌≡◌, ◌<◌, ◌+◌, ℕ, All, length, Some, None, IfSome, OnOk, OnErr};
 ghost use Rattle.snmp_walk.specs.Traffic.{datagram_at, received, Gives};
 
 use crate::arena::Arena;

@@ -1,14 +1,12 @@
 //! A walk and the agent that replies to it, at the two ends of one network.
-ghost use Rattle.std.specs.Prelude.{◌≡◌, ◌≢◌, ◌≤◌, ◌++◌, ◌∷◌, [], ℕ, List, length, take};
-ghost use Rattle.std.specs.Prelude.{IsErr, IfOk, IfSome, IfNone, OnOk, OnErr};
+ghost use Rattle.std.specs.Prelude.{◌≡◌, ◌≢◌, ◌≤◌, ◌++◌, ◌∷◌, [], ℕ, List, length, take, IsErr};
+ghost use Rattle.std.specs.Prelude.{IfOk, IfSome, IfNone, OnOk, OnErr};
 ghost use Rattle.snmp_io.specs.Count.{HasRisen};
 ghost use Rattle.snmp_agent.specs.Reply.{agent_of};
 ghost use Rattle.snmp_agent.specs.Event.{came, sent, send_failed, silence, receive_failed};
 ghost use Rattle.snmp_walk.specs.Facts.{GivenFacts, IsFresh};
-ghost use Rattle.snmp_walk.specs.Link.{Agents};
-ghost use Rattle.snmp_walk.specs.Memory.{agents_over};
+ghost use Rattle.snmp_walk.specs.{Link.Agents, Memory.agents_over, Ran.IsRun};
 ghost use Rattle.snmp_walk.specs.Network.{AreServed, IsServedThen, of_walk};
-ghost use Rattle.snmp_walk.specs.Ran.{IsRun};
 
 use crate::run::run_walk;
 use crate::{Link, LinkFault, Sink, WalkCore, WalkEnd};

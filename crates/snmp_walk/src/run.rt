@@ -1,7 +1,6 @@
 //! A walk over a link: from the first request to the end, each binding to a sink as it comes.
 ghost use Rattle.std.specs.Prelude.{◌≡◌, ◌+◌};
-ghost use Rattle.snmp_walk.specs.Facts.{IsFresh};
-ghost use Rattle.snmp_walk.specs.Ran.{IsRun, IsWalkedOver};
+ghost use Rattle.snmp_walk.specs.{Facts.IsFresh, Ran.IsRun, Ran.IsWalkedOver};
 
 use crate::laws::codec;
 use crate::tries::{Course, exchange};

@@ -1,8 +1,7 @@
 //! The core of a walk: which request to send, and what the reply means.
 ghost use Rattle.std.specs.Prelude.{◌≡◌, ◌<◌, ◌≤◌, ℕ, length, All, IsOk, IfOk, IfErr, ◌↔◌, ◌^◌};
 ghost use Rattle.std.specs.Prelude.{true, false, IsTrue, None, []};
-ghost use Rattle.std.specs.Bool.{nat_eq};
-ghost use Rattle.std.specs.Cmp.Lexicographic.{pointwise};
+ghost use Rattle.std.specs.{Bool.nat_eq, Cmp.Lexicographic.pointwise};
 ghost use Rattle.snmp_oid.specs.Identifier.{IsIdentifier, IsWire, IsBelow, wire};
 ghost use Rattle.snmp_walk.specs.Names.{is_below, comes_after, is_inside, is_missing, is_end};
 ghost use Rattle.snmp_walk.specs.private.Reading.{is_misplaced};

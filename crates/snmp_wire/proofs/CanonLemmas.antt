@@ -1,22 +1,18 @@
 -- Numbers as octets: how many a number takes, by its digits and by its highest bit, and how long
 -- an encoding is.
-use Rattle.std.proofs.lemmas.Grind.{common_steps}
-use Rattle.std.proofs.Common.{true, false, ◌≡◌, ℕ, ◌+◌, ◌-◌, ◌*◌, ◌^◌, ◌<◌, ◌≤◌, ℤ, pos, negsuc, lit<, suc, zero, ◌∷◌, length, refl, sym, ap}
-use Rattle.std.proofs.Common.{◌∙◌, sub-one, pow-add, ⊎_elim, arith, ◌/◌, ◌%◌, List, []}
+use Rattle.std.proofs.{lemmas.Grind.common_steps, lemmas.Bool.Decides.nat_tests, lemmas.Nat.le_or_l, lemmas.Nat.le_or_r}
+use Rattle.std.proofs.Common.{true, false, ◌≡◌, ℕ, ◌+◌, ◌-◌, ◌*◌, ◌^◌, ◌<◌, ◌≤◌, ℤ, pos, negsuc, lit<, suc, zero, ◌∷◌, length, refl, sym, ap, ◌∙◌}
+use Rattle.std.proofs.Common.{sub-one, pow-add, ⊎_elim, arith, ◌/◌, ◌%◌, List, []}
 use Rattle.std.proofs.Math.Nat.{mul-suc, pow-suc, pow-zero, div-one, pow-le-pow_right}
 use Rattle.std.proofs.lemmas.Bool.{cases_lt, le-ltb, lt-ltb}
-use Rattle.std.proofs.lemmas.Bool.Decides.{nat_tests}
-use Rattle.std.proofs.lemmas.Nat.{le_or_l, le_or_r}
-use Rattle.std.specs.Int.Bits.{bit_or}
-use Rattle.std.specs.Int.{to_be_bytes}
+use Rattle.std.specs.{Int.Bits.bit_or, Int.to_be_bytes}
 use lib.Signed.{lt_z, le_z}
 use mir.Val.{SFits}
 use mir.Syntax.{w32}
 use lib.IntN.{nat_abs}
 use Rattle.snmp_wire.specs.ber.Canon.{canon_length, canon_number, digit_count, length_size, magnitude_of, number_size, octets, digits}
-use Rattle.snmp_wire.proofs.ElementLaws.{canon_length_short, header_short}
+use Rattle.snmp_wire.proofs.{ElementLaws.canon_length_short, ElementLaws.header_short, WritingLaws.writes_same, WritingLaws.writes_then}
 use Rattle.snmp_wire.specs.private.ber.Writing.{Writes}
-use Rattle.snmp_wire.proofs.WritingLaws.{writes_same, writes_then}
 use Rattle.snmp_wire.proofs.Digits.{digits-add, length-digits, digits-suc}
 
 pub count_taken : (base limit more n : ℕ) → n < limit → digit_count base limit (suc more) n ≡ 1

@@ -1,14 +1,9 @@
 -- The first octet in which two words of eight differ: where the lowest bit is set in which they differ.
-use Rattle.std.proofs.lemmas.Grind.{common_steps}
-use Rattle.std.proofs.Common.{◌≡◌, ℕ, zero, suc, ◌+◌, ◌-◌, ◌*◌, ◌/◌, ◌%◌, ◌^◌, ◌<◌, ◌≤◌, ◌⊎◌, inl}
-use Rattle.std.proofs.Common.{inr, List, [], ◌∷◌, length, get_or, refl, sym, ap, ◌∙◌, arith}
-use Rattle.std.proofs.Math.ListN.{get_or-eq_default}
-use Rattle.std.proofs.lemmas.Bool.{cases_lt}
+use Rattle.std.proofs.{lemmas.Grind.common_steps, Math.ListN.get_or-eq_default, lemmas.Bool.cases_lt, lemmas.Nat.trailing_le}
+use Rattle.std.proofs.Common.{◌≡◌, ℕ, zero, suc, ◌+◌, ◌-◌, ◌*◌, ◌/◌, ◌%◌, ◌^◌, ◌<◌, ◌≤◌, ◌⊎◌, inl, inr, List, [], ◌∷◌, length, get_or, refl, sym, ap}
+use Rattle.std.proofs.Common.{◌∙◌, arith}
 use Rattle.std.proofs.lemmas.List.{get_or-drop, get_or_append_left}
-use Rattle.std.specs.Int.{w64, bit_at, from_le_bytes, trailing_zeros}
-use Rattle.std.specs.Int.Bits.{bit_xor}
-use Rattle.std.specs.Int.Count.{trailing_of_zero}
-use Rattle.std.proofs.lemmas.Nat.{trailing_le}
+use Rattle.std.specs.{Int.w64, Int.bit_at, Int.from_le_bytes, Int.trailing_zeros, Int.Bits.bit_xor, Int.Count.trailing_of_zero}
 use Rattle.std.proofs.lemmas.Nat.Bits.{bit_at_xor, bit_at-zero, bit_at-lt, bit_at_cat_low, bit_at_cat_high, bit_at-trailing_zeros}
 use Rattle.std.proofs.lemmas.Nat.Bits.{same_from_bits_below}
 use Rattle.snmp_wire.specs.ber.Canon.{eight_from}

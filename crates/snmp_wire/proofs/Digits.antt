@@ -1,16 +1,12 @@
 -- Numbers and their digits.
-use Rattle.std.proofs.lemmas.Grind.{common_steps}
-use Rattle.std.proofs.Common.{◌≡◌, ℕ, zero, suc, ◌+◌, ◌*◌, ◌/◌, ◌%◌, ◌^◌, ◌<◌, List, [], ◌∷◌, ◌++◌}
-use Rattle.std.proofs.Common.{length, get_or, take, refl, sym, ap, ◌∙◌, add-one, lit<, arith}
+use Rattle.std.proofs.{lemmas.Grind.common_steps, Math.Arith.mod-mul, lemmas.Nat.mul-add-lt, lemmas.List.length_push, lemmas.List.take_more}
+use Rattle.std.proofs.Common.{◌≡◌, ℕ, zero, suc, ◌+◌, ◌*◌, ◌/◌, ◌%◌, ◌^◌, ◌<◌, List, [], ◌∷◌, ◌++◌, length, get_or, take, refl, sym, ap, ◌∙◌, add-one}
+use Rattle.std.proofs.Common.{lit<, arith}
 use Rattle.std.proofs.Math.Nat.{add-mul-div_left, add-mul-mod_self_left, div-eq_of_lt, mod-eq_of_lt, mod-lt, mod-one, mul_assoc, one-le-pow}
 use Rattle.std.proofs.Math.Nat.{pow-le-pow_right, pow-suc, pow-succ', pow-zero}
-use Rattle.std.proofs.Math.Arith.{mod-mul}
-use Rattle.std.proofs.lemmas.Nat.{mul-add-lt}
-use Rattle.std.proofs.lemmas.List.{length_push, take_more}
 use Rattle.std.proofs.lemmas.List.Elements.{All-from_recursion, recursion_from_All}
 use Rattle.std.specs.List.{AllByRecursion}
-use Rattle.snmp_wire.specs.ber.Canon.{digits}
-use Rattle.snmp_wire.specs.ber.Number.{AreOctets, number_of}
+use Rattle.snmp_wire.specs.{ber.Canon.digits, ber.Number.AreOctets, ber.Number.number_of}
 
 -- one more digit at the end
 pub number_of-push : (base : ℕ) (xs : List ℕ) (digit : ℕ) → number_of base (xs ++ digit ∷ []) ≡ number_of base xs * base + digit

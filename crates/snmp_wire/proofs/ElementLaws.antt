@@ -1,12 +1,9 @@
 -- Lemmas on headers, elements and values as they are written, for proofs of values and messages:
 -- how long they are, and how they are written before their content.
-use Rattle.std.proofs.lemmas.Grind.{common_steps}
+use Rattle.std.proofs.{lemmas.Grind.common_steps, lemmas.Bool.lt-ltb}
 use Rattle.std.proofs.Common.{◌≡◌, ℕ, ℤ, ◌+◌, ◌-◌, ◌<◌, ◌≤◌, List, [], ◌∷◌, ◌++◌, length, refl, ap, arith, length-append}
-use Rattle.std.proofs.lemmas.Bool.{lt-ltb}
 use Rattle.snmp_wire.specs.ber.Canon.{canon_content, canon_element, canon_header, canon_length, canon_number, canon_value}
-use Rattle.snmp_wire.specs.ber.Value.{Datum, integer_value, octet_string}
-use Rattle.snmp_wire.specs.ber.Spelling.{value_tag}
-use Rattle.snmp_wire.specs.private.ber.Writing.{Writes}
+use Rattle.snmp_wire.specs.{ber.Value.Datum, ber.Value.integer_value, ber.Value.octet_string, ber.Spelling.value_tag, private.ber.Writing.Writes}
 use Rattle.snmp_wire.proofs.WritingLaws.{writes_same, writes_then}
 
 -- ---- headers

@@ -3,8 +3,7 @@ use Rattle.std.proofs.Common.{◌≡◌, ℕ, ℤ, ◌-◌, ◌<◌, ◌≤◌, 
 use Rattle.snmp_wire.specs.ber.Canon.{canon_element, canon_header, canon_length, canon_number}
 use Rattle.snmp_wire.proofs.ElementLaws.{header_fits, writes_element}
 use Rattle.snmp_wire.specs.private.ber.Writing.{Writes}
-use Rattle.snmp_wire.proofs.WritingLaws.{writes_same, writes_then}
-use Rattle.snmp_wire.proofs.Shortest.{length-number}
+use Rattle.snmp_wire.proofs.{WritingLaws.writes_same, WritingLaws.writes_then, Shortest.length-number}
 
 -- a tag before a length
 pub writes_tag : {old mid new : List ℕ} {start middle end : ℕ} (tag size : ℕ) → Writes old middle end (canon_length size) mid

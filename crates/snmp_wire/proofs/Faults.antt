@@ -1,20 +1,13 @@
 -- What is read as a message is spelt so, and each fault that reading gives is one of the octets.
 -- Octets that spell a message have no fault.
-use Rattle.std.proofs.lemmas.Grind.{common_steps}
-use Rattle.std.proofs.Common.{◌≡◌, ◌≢◌, ℕ, ℤ, zero, suc, ◌<◌, ◌≤◌, eqb, None, List, [], ◌∷◌, ◌++◌, length, Ok, Err, refl, sym, ap}
-use Rattle.std.proofs.Common.{subst, ◌∙◌, arith, inl, inr, Option, Some, append_assoc}
-use Rattle.std.proofs.lemmas.Bool.{eqb-true, eqb-false}
-use Rattle.std.proofs.lemmas.List.{append-nil}
-use Rattle.snmp_wire.specs.declared.ber.error.BerError.{BerError}
+use Rattle.std.proofs.{lemmas.Grind.common_steps, lemmas.Bool.eqb-true, lemmas.Bool.eqb-false, lemmas.List.append-nil}
+use Rattle.std.proofs.Common.{◌≡◌, ◌≢◌, ℕ, ℤ, zero, suc, ◌<◌, ◌≤◌, eqb, None, List, [], ◌∷◌, ◌++◌, length, Ok, Err, refl, sym, ap, subst, ◌∙◌, arith}
+use Rattle.std.proofs.Common.{inl, inr, Option, Some, append_assoc}
+use Rattle.snmp_wire.specs.{declared.ber.error.BerError.BerError, declared.kind.Kind.Kind, ber.Identifier.IsObjectId, ber.Length.IsElement}
+use Rattle.snmp_wire.specs.{ber.Value.Datum, ber.Value.object_id, Message.VarBind, Message.Message, Spelling.kind_tag, Spelling.Spells}
 use Rattle.snmp_wire.specs.declared.ber.error.BerError.TheVariants as error
-use Rattle.snmp_wire.specs.declared.kind.Kind.{Kind}
-use Rattle.snmp_wire.specs.ber.Identifier.{IsObjectId}
-use Rattle.snmp_wire.specs.ber.Length.{IsElement}
 use Rattle.snmp_wire.specs.ber.Number.{AreOctets, IsInteger, lenient}
-use Rattle.snmp_wire.specs.ber.Value.{Datum, object_id}
-use Rattle.snmp_wire.specs.Message.{VarBind, Message}
 use Rattle.snmp_wire.specs.ber.Spelling.{value_tag, IsContent, SpellsValue}
-use Rattle.snmp_wire.specs.Spelling.{kind_tag, Spells}
 use Rattle.snmp_wire.specs.ber.Reading.{inner_at, element_at, integer_of, integer_at, identifier_of, typed_value}
 use Rattle.snmp_wire.specs.Reading.{Fields, fields_of, fields_at, binding_of, binding_at, bindings_within, bindings_of, kind_of, outermost_of, pdu_of}
 use Rattle.snmp_wire.specs.Reading.{message_of}
@@ -27,8 +20,7 @@ use Rattle.snmp_wire.proofs.LengthLaws.{IsBadElement, content_gives, element_giv
 use Rattle.snmp_wire.proofs.LengthLaws.{element_again}
 use Rattle.snmp_wire.proofs.MessageElements.{SpellsAll, no_elements, value_then, elements_in_message, elements_in_pdu, elements_of}
 use Rattle.snmp_wire.proofs.MessageElements.{elements_of_bindings, of_row, Elements, element_then, in_row}
-use Rattle.snmp_wire.proofs.IdentifierReading.{identifier_gives}
-use Rattle.snmp_wire.proofs.MessageLaws.{kind_again}
+use Rattle.snmp_wire.proofs.{IdentifierReading.identifier_gives, MessageLaws.kind_again}
 use Rattle.snmp_wire.proofs.ValueLaws.{IsRead, integer_gives, known_gives, value_again, value_gives}
 
 -- ---- faults at a place

@@ -1,7 +1,6 @@
 -- Four octets tested at once, as the four octets of a word.
 use Rattle.std.proofs.Common.{◌≡◌, ℕ, ◌+◌, ◌*◌, ◌/◌, ◌%◌, ◌<◌, [], ◌∷◌, refl, ap, ◌∙◌, arith}
-use Rattle.std.specs.Int.{w32, bit_at, from_le_bytes}
-use Rattle.std.specs.Int.Bits.{bit_and}
+use Rattle.std.specs.{Int.w32, Int.bit_at, Int.from_le_bytes, Int.Bits.bit_and}
 use Rattle.std.proofs.lemmas.Nat.Bits.{bit_at_and, bit_at-zero, bit_at-lt}
 
 -- the high bit of each octet of a word

@@ -3,19 +3,16 @@
 use Rattle.std.proofs.Common.{◌≡◌, ℕ, ◌+◌, ◌*◌, ◌%◌, ◌^◌, ◌<◌, ◌≤◌, cond, eqb, ltb, List, [], ◌∷◌, length, get_or, drop, Result, Ok, Err, IsOk, refl}
 use Rattle.std.proofs.Common.{sym, ◌∙◌, arith, zero, suc, ◌-◌, ◌++◌, take, All, ap, append_assoc, ◌≢◌, map, lit<, ⊎_elim}
 use Rattle.std.proofs.lemmas.Bool.{ltb-true, lt-ltb, le-ltb, ltb-false, eqb-false, ne_eqb, cases_lt}
-use Rattle.std.proofs.lemmas.Grind.{common_steps}
+use Rattle.std.proofs.{lemmas.Grind.common_steps, Math.Nat.pow-suc, Math.Nat.one-le-pow, Math.Nat.mul-le-mul_left}
 use Rattle.std.proofs.lemmas.List.Elements.{All-head, All-tail, All-cons, All-nil, All-append, All-from_recursion, recursion_from_All}
 use Rattle.std.proofs.lemmas.List.{at_drop_more, at_drop_all, length_push, append-nil, nil_from_length, length-append, length-map}
-use Rattle.std.proofs.Math.Nat.{pow-suc, one-le-pow, mul-le-mul_left}
-use Rattle.std.specs.Result.{result_unwrap_or}
-use Rattle.std.specs.List.{AllByRecursion}
-use Rattle.snmp_wire.specs.declared.ber.error.BerError.{BerError}
+use Rattle.std.specs.{Result.result_unwrap_or, List.AllByRecursion}
+use Rattle.snmp_wire.specs.{declared.ber.error.BerError.BerError, ber.Number.number_of}
 use Rattle.snmp_wire.specs.declared.ber.error.BerError.TheVariants as error
 use Rattle.snmp_wire.specs.ber.Reading.{◌>>=◌, subidentifier_from, subidentifier_at, number_at, checked, largest_subidentifier, numbers_of}
 use Rattle.snmp_wire.specs.ber.Reading.{numbers_in, IsPlainFront, first_number, second_number, identifier_of}
 use Rattle.snmp_wire.proofs.ReadingLaws.{done, passed, refused, ok_value, failed, ok_is, checked_err, is_ok_at, Gives, a_fault, a_value, failing}
 use Rattle.snmp_wire.proofs.ReadingLaws.{given, gives_either, gives_so, gives_then}
-use Rattle.snmp_wire.specs.ber.Number.{number_of}
 use Rattle.snmp_wire.specs.ber.Identifier.{IsSubidentifier, AreSubidentifiers, IsObjectId}
 use Rattle.snmp_wire.proofs.IdentifierWriting.{subidentifier_some}
 

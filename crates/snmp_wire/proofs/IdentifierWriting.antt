@@ -1,24 +1,20 @@
 -- Identifiers as they are written: how long they are, that they are forms by the standard, and
 -- the only ones.
-use Rattle.std.proofs.lemmas.Grind.{common_steps, flat_map-append}
+use Rattle.std.proofs.{lemmas.Grind.common_steps, lemmas.Grind.flat_map-append, lemmas.Nat.le_or_l, lemmas.Nat.le_or_r}
 use Rattle.std.proofs.Common.{◌≡◌, ℕ, ◌+◌, ◌-◌, ◌*◌, ◌/◌, ◌%◌, ◌^◌, ◌<◌, ◌≤◌, suc, List, [], ◌∷◌, ◌++◌, length, take, drop, get_or, refl, sym, ap}
 use Rattle.std.proofs.Common.{◌∙◌, arith, length-append, take_all, ◌≢◌, zero, map, subst, lit<}
 use Rattle.std.proofs.lemmas.List.{append-nil, drop_all, drop_more, length-map, take-append-drop, map-append}
-use Rattle.std.proofs.lemmas.Nat.{le_or_l, le_or_r}
 use Rattle.std.proofs.Math.Nat.{div-lt_iff_lt-mul, le-div_iff_mul-le, mod-lt, one-le-pow, pow-suc}
 use Rattle.std.proofs.lemmas.List.Elements.{All-from_recursion, recursion_from_All}
-use Rattle.std.specs.Int.Bits.{bit_or}
-use Rattle.std.specs.List.{AllByRecursion, flat_map}
+use Rattle.std.specs.{Int.Bits.bit_or, List.AllByRecursion, List.flat_map}
 use Rattle.snmp_oid.specs.Identifier.{IsWire, IsIdentifier}
 use Rattle.snmp_wire.specs.ber.Canon.{AreShort, canon_content, canon_subidentifier, digits, eight_from, septets, subidentifier_size}
-use Rattle.snmp_wire.specs.ber.Value.{object_id}
-use Rattle.snmp_wire.specs.private.ber.Writing.{Writes}
+use Rattle.snmp_wire.specs.{ber.Value.object_id, private.ber.Writing.Writes, ber.Number.number_of}
 use Rattle.snmp_wire.proofs.WritingLaws.{length-flat_map_drop, writes_same, writes_then}
 use Rattle.snmp_wire.specs.ber.Identifier.{AreSubidentifiers, IsObjectId, IsSubidentifier, subidentifiers}
-use Rattle.snmp_wire.specs.ber.Number.{number_of}
 use Rattle.snmp_wire.proofs.CanonLemmas.{count_left, count_taken, digit_most, digit_some, digits_needed, sized}
-use Rattle.snmp_wire.proofs.Digits.{length-digits, AreDigits, Octets, below_power, both_octets}
-use Rattle.snmp_wire.proofs.Digits.{digits_are, digits_value, front_octets, number_of-push}
+use Rattle.snmp_wire.proofs.Digits.{length-digits, AreDigits, Octets, below_power, both_octets, digits_are, digits_value, front_octets}
+use Rattle.snmp_wire.proofs.Digits.{number_of-push}
 
 pub length-septets : (count n : ℕ) → length (septets count n) ≡ count
 unfolding septets

@@ -1,23 +1,15 @@
 -- Bindings that are kept as their encodings: what is written is read again.
 use Rattle.std.proofs.Common.{arith, ◌≡◌, ℕ, List, [], ◌∷◌, ◌++◌, Result, Ok, IsOk, refl, sym, ap, subst, ◌∙◌, ◌<◌, ◌≤◌, length, get_or, take, drop}
-use Rattle.std.proofs.lemmas.Grind.{common_steps}
-use Rattle.std.proofs.lemmas.Bool.{lt-ltb, ltb-false}
-use Rattle.std.proofs.lemmas.List.{append-nil, take-append-drop}
+use Rattle.std.proofs.{lemmas.Grind.common_steps, lemmas.Bool.lt-ltb, lemmas.Bool.ltb-false, lemmas.List.append-nil, lemmas.List.take-append-drop}
 use Rattle.std.specs.Result.{result_unwrap_or}
-use Rattle.snmp_wire.specs.declared.ber.error.BerError.{BerError}
+use Rattle.snmp_wire.specs.{declared.ber.error.BerError.BerError, Encoded.IsKept, Encoded.binding_in, Range.IsBindingInRange, Range.IsInRange}
+use Rattle.snmp_wire.specs.{Reading.bindings_in, Reading.bindings_of, Spelling.SpellsBinding, ber.Number.lenient}
 use Rattle.snmp_wire.specs.Canon.{IsEncodable, IsEncodableValue, canon_binding}
-use Rattle.snmp_wire.specs.Encoded.{IsKept, binding_in}
 use Rattle.snmp_wire.specs.Message.{VarBind, Datum, octet_string, null_value, object_id, opaque_octets}
-use Rattle.snmp_wire.specs.Range.{IsBindingInRange, IsInRange}
-use Rattle.snmp_wire.specs.Reading.{bindings_in, bindings_of}
-use Rattle.snmp_wire.specs.Spelling.{SpellsBinding}
-use Rattle.snmp_wire.proofs.LengthLaws.{inner_again}
-use Rattle.snmp_wire.specs.ber.Number.{lenient}
+use Rattle.snmp_wire.proofs.{LengthLaws.inner_again, IdentifierReading.identifier_again, MessageElements.spells_binding}
 use Rattle.snmp_wire.specs.ber.Reading.{content_at, identifier_of, inner_at, length_at}
 use Rattle.snmp_wire.proofs.ReadingLaws.{Gives, a_value, done, is_ok_at, ok_is, passed, refused}
 use Rattle.snmp_wire.proofs.MessageLaws.{four_then, binding_again, bindings_again}
-use Rattle.snmp_wire.proofs.IdentifierReading.{identifier_again}
-use Rattle.snmp_wire.proofs.MessageElements.{spells_binding}
 
 encodable_value : (v : Datum) → IsInRange v → IsEncodableValue v
 encodable_value (octet_string text) h = h.1

@@ -1,15 +1,13 @@
 -- Lemmas on lengths and elements, for proofs of values and messages: what is read as one is one, what
 -- is read as none isn't, and what is one is read.
 use Rattle.std.proofs.lemmas.Grind.{common_steps}
-use Rattle.std.proofs.Common.{◌≡◌, ◌≢◌, ℕ, ◌+◌, ◌-◌, ◌<◌, ◌≤◌, false, eqb, ltb, ◌&&◌, List, [], ◌∷◌, ◌++◌, length, take, drop, replicate, Ok}
-use Rattle.std.proofs.Common.{refl, sym, ap, subst, ◌∙◌, append_assoc, arith, ◌⊎◌, inl, inr}
+use Rattle.std.proofs.Common.{◌≡◌, ◌≢◌, ℕ, ◌+◌, ◌-◌, ◌<◌, ◌≤◌, false, eqb, ltb, ◌&&◌, List, [], ◌∷◌, ◌++◌, length, take, drop, replicate, Ok, refl}
+use Rattle.std.proofs.Common.{sym, ap, subst, ◌∙◌, append_assoc, arith, ◌⊎◌, inl, inr}
 use Rattle.std.proofs.lemmas.Bool.{ltb-true, ltb-false, lt-ltb, le-ltb, eqb-true, eqb-false, eq-eqb, and_cases, and_parts}
 use Rattle.std.proofs.lemmas.List.{take_at, drop_at, take-append-drop, length-append, length-replicate, length-take-le}
-use Rattle.snmp_wire.specs.declared.ber.error.BerError.{BerError}
+use Rattle.snmp_wire.specs.{declared.ber.error.BerError.BerError, ber.Number.unsigned, ber.Length.IsLength, ber.Length.IsElement}
 use Rattle.snmp_wire.specs.declared.ber.error.BerError.TheVariants as error
 use Rattle.snmp_wire.specs.Fault.{BeginsWith, EndsEarly, HasForbiddenLength}
-use Rattle.snmp_wire.specs.ber.Number.{unsigned}
-use Rattle.snmp_wire.specs.ber.Length.{IsLength, IsElement}
 use Rattle.snmp_wire.specs.ber.Reading.{long_length_at, length_at, content_at, inner_at, element_at}
 use Rattle.snmp_wire.proofs.ReadingLaws.{Gives, a_fault, a_value, gives_either, gives_so, gives_then}
 

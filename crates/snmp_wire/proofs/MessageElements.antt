@@ -1,28 +1,20 @@
 -- Elements in a row, of values or around other elements: the form of bindings, PDUs and messages.
 -- How such a row is spelt and written, and that no spelling of it is shorter, is said and proved
 -- once.
-use Rattle.std.proofs.lemmas.Grind.{common_steps}
+use Rattle.std.proofs.{lemmas.Grind.common_steps, lemmas.List.append-nil, Math.Nat.pow-le-pow_right, Math.Seq.take-append_seam}
 use Rattle.std.proofs.Common.{◌≡◌, ℕ, ◌^◌, ◌<◌, List, [], ◌++◌, length, refl, sym, subst, ◌≤◌, ◌∷◌, ap, ◌∙◌, append_assoc, lit<, arith, length-append}
 use Rattle.std.proofs.Common.{inl, inr, take}
-use Rattle.std.proofs.lemmas.List.{append-nil}
-use Rattle.std.proofs.Math.Nat.{pow-le-pow_right}
-use Rattle.std.proofs.Math.Seq.{take-append_seam}
 use Rattle.std.specs.List.{AllByRecursion}
-use Rattle.snmp_wire.specs.ber.Canon.{canon_element, canon_value}
-use Rattle.snmp_wire.specs.ber.Length.{IsElement}
+use Rattle.snmp_wire.specs.{ber.Canon.canon_element, ber.Canon.canon_value, ber.Length.IsElement, ber.Range.IsInRange, ber.Range.IsOfType}
+use Rattle.snmp_wire.specs.{declared.kind.Kind.Kind, Message.VarBind, Message.Message, Laws.OneShortestEncoding, Shortest.IsShortestEncoding}
 use Rattle.snmp_wire.specs.ber.Number.{Form, IsUnsigned, lenient, strict, AreOctets, number_of, unsigned}
-use Rattle.snmp_wire.specs.ber.Range.{IsInRange, IsOfType}
 use Rattle.snmp_wire.specs.ber.Spelling.{IsContent, SpellsValue, sequence_tag}
 use Rattle.snmp_wire.specs.ber.Value.{Datum, counter32, gauge32, time_ticks, counter64, integer_value, octet_string, object_id, ip_address}
 use Rattle.snmp_wire.specs.ber.Value.{opaque_octets}
-use Rattle.snmp_wire.specs.declared.kind.Kind.{Kind}
 use Rattle.snmp_wire.specs.declared.kind.Kind.TheVariants as kind
 use Rattle.snmp_wire.specs.Canon.{canon, canon_binding, canon_bindings, canon_fields, canon_opening, canon_front, canon_head}
-use Rattle.snmp_wire.specs.Message.{VarBind, Message}
 use Rattle.snmp_wire.specs.Range.{IsBindingInRange, IsBindingOfType, IsMessageInRange, IsMessageOfType}
 use Rattle.snmp_wire.specs.Spelling.{SpellsBinding, SpellsBindings, SpellsMessage, SpellsPdu, Spells, Strict, kind_tag}
-use Rattle.snmp_wire.specs.Laws.{OneShortestEncoding}
-use Rattle.snmp_wire.specs.Shortest.{IsShortestEncoding}
 use Rattle.snmp_wire.proofs.Digits.{Octets, back_octets, both_octets, front_octets, by_octets, octets_by, below_power}
 use Rattle.snmp_wire.proofs.Shortest.{IsNoShorter, both_texts, content_octets, element_least, same_text, value_least, element_octets, is_element}
 use Rattle.snmp_wire.proofs.Shortest.{spells_value, value_octets, element_most, value_short, signed_fits}

@@ -5,9 +5,8 @@ use Rattle.std.proofs.Common.{append_assoc, ◌+◌, ◌-◌, get_or, take, drop
 use Rattle.std.proofs.lemmas.List.{nil_from_length, append-nil, length-append, append_cancel_right, length-drop, length-take-le, take-append-drop}
 use Rattle.std.specs.Result.{result_unwrap_or}
 use Rattle.snmp_wire.specs.declared.ber.error.BerError.{BerError}
-use Rattle.snmp_wire.specs.ber.Value.{Datum, integer_value}
-use Rattle.snmp_wire.specs.Lent.{binding_with}
-use Rattle.snmp_wire.specs.Message.{VarBind, Message}
+use Rattle.snmp_wire.specs.{ber.Value.Datum, ber.Value.integer_value, Lent.binding_with, Message.VarBind, Message.Message, declared.kind.Kind.Kind}
+use Rattle.snmp_wire.specs.{ber.Number.lenient, ber.Length.IsElement, ber.Spelling.value_tag, ber.Spelling.SpellsValue}
 use Rattle.snmp_wire.specs.ber.Reading.{◌>>=◌, checked, identifier_of, typed_value, content_at, inner_at, element_at, integer_at}
 use Rattle.snmp_wire.specs.Reading.{Fields, fields_of, fields_at, binding_of, binding_at, bindings_within, bindings_of, bindings_in, kind_of}
 use Rattle.snmp_wire.specs.Reading.{outermost_of, pdu_of, message_of}
@@ -15,14 +14,9 @@ use Rattle.snmp_wire.proofs.ReadingLaws.{ok_is, bind_ok, bind_same, ok_value, is
 use Rattle.snmp_wire.proofs.ReadingLaws.{gives_any, gives_so, gives_then, done}
 use Rattle.snmp_wire.proofs.LengthLaws.{inner_gives, element_shrinks, content_again, inner_again, element_again}
 use Rattle.snmp_wire.specs.declared.ber.error.BerError.TheVariants as error
-use Rattle.snmp_wire.specs.declared.kind.Kind.{Kind}
 use Rattle.snmp_wire.specs.declared.kind.Kind.TheVariants as kind
-use Rattle.snmp_wire.specs.ber.Number.{lenient}
-use Rattle.snmp_wire.specs.ber.Length.{IsElement}
-use Rattle.snmp_wire.specs.ber.Spelling.{value_tag, SpellsValue}
 use Rattle.snmp_wire.specs.Spelling.{SpellsBinding, SpellsBindings, kind_tag, SpellsPdu, Spells}
-use Rattle.snmp_wire.proofs.IdentifierReading.{identifier_again}
-use Rattle.snmp_wire.proofs.ValueLaws.{integer_again, value_again}
+use Rattle.snmp_wire.proofs.{IdentifierReading.identifier_again, ValueLaws.integer_again, ValueLaws.value_again}
 
 -- a binding has octets of its own
 fields_less : (octets : List ℕ) → Gives (λ x. length x.1 < length octets) (λ e. Unit {0}) (fields_at octets)

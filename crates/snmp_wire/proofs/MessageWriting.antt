@@ -1,18 +1,12 @@
 -- Messages: the parts before the bindings, how long they are, and how they are written.
-use Rattle.std.proofs.lemmas.Grind.{common_steps}
+use Rattle.std.proofs.{lemmas.Grind.common_steps, Math.Nat.add_assoc}
 use Rattle.std.proofs.Common.{◌≡◌, ℕ, ◌+◌, ◌-◌, ◌≤◌, List, ◌++◌, length, sym, ap, ◌∙◌, arith, append_assoc, length-append}
-use Rattle.std.proofs.Math.Nat.{add_assoc}
 use Rattle.snmp_wire.specs.Canon.{canon, canon_bindings, canon_fields, canon_front, canon_head, canon_opening}
 use Rattle.snmp_wire.specs.ber.Canon.{canon_element, canon_header, canon_length, canon_value}
-use Rattle.snmp_wire.specs.Message.{Message}
+use Rattle.snmp_wire.specs.{Message.Message, Spelling.kind_tag, ber.Spelling.sequence_tag, private.ber.Writing.Writes, ber.Sizes.ElementSizes}
 pub use Rattle.snmp_wire.specs.Sizes.{pdu_size}
 use Rattle.snmp_wire.specs.ber.Value.{integer_value, octet_string}
-use Rattle.snmp_wire.specs.Spelling.{kind_tag}
-use Rattle.snmp_wire.specs.ber.Spelling.{sequence_tag}
-use Rattle.snmp_wire.specs.private.ber.Writing.{Writes}
-use Rattle.snmp_wire.proofs.ElementLaws.{length-canon_header}
-use Rattle.snmp_wire.specs.ber.Sizes.{ElementSizes}
-use Rattle.snmp_wire.proofs.WritingLaws.{writes_same, writes_then}
+use Rattle.snmp_wire.proofs.{ElementLaws.length-canon_header, WritingLaws.writes_same, WritingLaws.writes_then}
 
 pub length-canon_fields : (message : Message) → length (canon_fields message)
     ≡ length (canon_value (integer_value message.id)) + length (canon_value (integer_value message.a)) + length (canon_value (integer_value message.b))

@@ -1,30 +1,20 @@
 -- Contents stand for identifiers, and for their order: where subidentifiers end, which of two is
 -- the greater, and what the first octets that differ tell of two names.
-use Rattle.std.proofs.lemmas.Grind.{common_steps, flat_map-append}
+use Rattle.std.proofs.{lemmas.Grind.common_steps, lemmas.Grind.flat_map-append, Math.Nat.mul-le-mul_right, Math.Nat.pow-le-pow_right}
+use Rattle.std.proofs.{Math.Seq.get_or-append_seam, lemmas.Bool.cases_lt, lemmas.Bool.cases_order, lemmas.Nat.mul-add-lt}
 use Rattle.std.proofs.Common.{◌≡◌, ℕ, ◌+◌, ◌-◌, ◌*◌, ◌%◌, ◌^◌, ◌<◌, ◌≤◌, ◌⊎◌, inl, inr, List, [], ◌∷◌, ◌++◌, length, get_or, refl, sym, ap, subst}
 use Rattle.std.proofs.Common.{◌∙◌, suc, ⊎_elim, arith, lit<, length-append, ◌↔◌, take, drop, Result, IsOk, append_assoc, Ok, length-drop, take_all}
 use Rattle.std.proofs.lemmas.List.{take-append-le, append-nil, ext_get_or, get_or-append-add, get_or_append_left, map-append, append_cancel_left}
 use Rattle.std.proofs.lemmas.List.{get_or-take, length-take-le, take-append-drop, drop_more}
-use Rattle.std.proofs.Math.Nat.{mul-le-mul_right, pow-le-pow_right}
-use Rattle.std.proofs.Math.Seq.{get_or-append_seam}
-use Rattle.std.proofs.lemmas.Bool.{cases_lt, cases_order}
-use Rattle.std.proofs.lemmas.Nat.{mul-add-lt}
 use Rattle.std.proofs.lemmas.List.Elements.{All-get_or, All-from_get_or}
-use Rattle.std.specs.Cmp.{ranked}
-use Rattle.std.specs.List.{flat_map}
+use Rattle.std.specs.{Cmp.ranked, List.flat_map, Result.result_unwrap_or, Cmp.Lexicographic.slice_cmp, declared.cmp.Ordering.Ordering}
 use Rattle.std.specs.Ordering.{MatchOrdering, nat_cmp}
-use Rattle.std.specs.Result.{result_unwrap_or}
-use Rattle.std.specs.Cmp.Lexicographic.{slice_cmp}
-use Rattle.std.specs.declared.cmp.Ordering.{Ordering}
 use Rattle.std.specs.declared.cmp.Ordering.TheVariants.{Less, Equal, Greater}
 use Rattle.snmp_oid.specs.Identifier.{PartsBelow, IsBelow, IsWire, Precedes}
 use Rattle.snmp_wire.specs.Name.{ComesFirst, EndsAt, IsAlike, EncodedNames, IsContentOctets, identifier_in}
-use Rattle.snmp_wire.specs.ber.Canon.{canon_content, canon_subidentifier}
+use Rattle.snmp_wire.specs.{ber.Canon.canon_content, ber.Canon.canon_subidentifier, ber.Number.number_of, ber.Number.AreOctets, ber.Value.object_id}
+use Rattle.snmp_wire.specs.{declared.ber.error.BerError.BerError, ber.Reading.identifier_of}
 use Rattle.snmp_wire.specs.ber.Identifier.{AreSubidentifiers, IsObjectId, IsSubidentifier, subidentifiers}
-use Rattle.snmp_wire.specs.ber.Number.{number_of, AreOctets}
-use Rattle.snmp_wire.specs.ber.Value.{object_id}
-use Rattle.snmp_wire.specs.declared.ber.error.BerError.{BerError}
-use Rattle.snmp_wire.specs.ber.Reading.{identifier_of}
 use Rattle.snmp_wire.proofs.ReadingLaws.{is_ok_at, ok_is, ok_value}
 use Rattle.snmp_wire.proofs.Digits.{AreDigits, Octets, back_octets, below_power, by_octets, front_octets, octets_by}
 use Rattle.snmp_wire.proofs.IdentifierWriting.{bits_below, is_object_id, length-low_bits, low_bits, name_octets, same_subidentifier}

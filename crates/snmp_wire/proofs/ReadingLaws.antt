@@ -1,11 +1,8 @@
 -- Lemmas on the steps of a reading that may fail, for proofs of values and messages.
-use Rattle.std.proofs.lemmas.Grind.{common_steps}
-use Rattle.std.proofs.Common.{◌≡◌, ◌≢◌, ℕ, ◌<◌, Bool, true, false, cond, eqb, List, [], length}
-use Rattle.std.proofs.Common.{Result, Ok, Err, IsOk, is_ok, refl, sym, ap, subst, ◌∙◌, arith}
-use Rattle.std.proofs.lemmas.Bool.{eqb-true, eqb-false}
-use Rattle.std.proofs.lemmas.List.{nil_from_length}
-use Rattle.snmp_wire.specs.declared.ber.error.BerError.{BerError}
-use Rattle.snmp_wire.specs.ber.Reading.{◌>>=◌, checked, fault_or}
+use Rattle.std.proofs.{lemmas.Grind.common_steps, lemmas.Bool.eqb-true, lemmas.Bool.eqb-false, lemmas.List.nil_from_length}
+use Rattle.std.proofs.Common.{◌≡◌, ◌≢◌, ℕ, ◌<◌, Bool, true, false, cond, eqb, List, [], length, Result, Ok, Err, IsOk, is_ok, refl, sym, ap, subst}
+use Rattle.std.proofs.Common.{◌∙◌, arith}
+use Rattle.snmp_wire.specs.{declared.ber.error.BerError.BerError, ber.Reading.◌>>=◌, ber.Reading.checked, ber.Reading.fault_or}
 
 -- a reading that returned x
 abbrev pub done : {A : Type 0} → A → Result A BerError

@@ -1,23 +1,18 @@
 -- Numbers, lengths, elements and values as they are written are forms by the standard. None is
 -- shorter, and one that is no longer is the one that is written.
-use Rattle.std.proofs.lemmas.Grind.{common_steps}
+use Rattle.std.proofs.{lemmas.Grind.common_steps, lemmas.Int.ints, lemmas.Bool.cases_lt, lemmas.Bool.Decides.nat_tests, lemmas.Nat.mul-add-lt}
 use Rattle.std.proofs.Common.{◌≡◌, ℕ, ℤ, pos, negsuc, ◌+◌, ◌-◌, ◌-ℤ◌, ◌*◌, ◌/◌, ◌%◌, ◌^◌, ◌<◌, ◌≤◌, suc, List, ◌∷◌, length, get_or, sym, ap, subst}
 use Rattle.std.proofs.Common.{◌∙◌, inl, inr, ⊎_elim, lit<, arith, refl, lit≤, [], ◌++◌, length-append}
 use Rattle.std.proofs.Math.Nat.{div-eq_of_lt, div-lt_iff_lt-mul, le-div_iff_mul-le, one-le-pow, pow-le-pow_right, pow-suc, mul-le-mul_right}
-use Rattle.std.proofs.lemmas.Int.{ints}
-use Rattle.std.proofs.lemmas.Bool.{cases_lt}
-use Rattle.std.proofs.lemmas.Bool.Decides.{nat_tests}
-use Rattle.std.proofs.lemmas.Nat.{mul-add-lt}
 use mir.Val.{SFits}
 use mir.Syntax.{w32}
 use Rattle.snmp_wire.specs.ber.Canon.{canon_length, canon_number, length_size, magnitude_of, number_size, octets, canon_content, canon_element}
 use Rattle.snmp_wire.specs.ber.Canon.{canon_header, canon_value}
-use Rattle.snmp_wire.specs.ber.Length.{IsLength, IsElement, IsLongLength}
+use Rattle.snmp_wire.specs.{ber.Length.IsLength, ber.Length.IsElement, ber.Length.IsLongLength, ber.Range.IsInRange}
 use Rattle.snmp_wire.specs.ber.Number.{IsInteger, IsUnsigned, strict, twos_complement, unsigned, number_of}
-use Rattle.snmp_wire.proofs.ElementLaws.{canon_length_short, length-canon_element}
+use Rattle.snmp_wire.proofs.{ElementLaws.canon_length_short, ElementLaws.length-canon_element, NameOrder.canonical}
 use Rattle.snmp_wire.specs.ber.Value.{Datum, integer_value, octet_string, null_value, object_id, ip_address, counter32, gauge32, time_ticks}
 use Rattle.snmp_wire.specs.ber.Value.{opaque_octets, counter64}
-use Rattle.snmp_wire.specs.ber.Range.{IsInRange}
 use Rattle.snmp_wire.specs.ber.Spelling.{IsContent, SpellsValue, value_tag}
 use Rattle.snmp_wire.proofs.CanonLemmas.{canon_length_long, digit_most, digit_some, length-canon_length_long, length-canon_length_short}
 use Rattle.snmp_wire.proofs.CanonLemmas.{length-canon_number, number_small, number_some, octets_from_below, octets_from_zero, sized, digits_small}
@@ -25,7 +20,6 @@ use Rattle.snmp_wire.proofs.CanonLemmas.{length_rises}
 use Rattle.snmp_wire.proofs.Digits.{Octets, are_digits, digits_value, digits-suc, length-digits, both_octets, octets_by, back_octets, below_power}
 use Rattle.snmp_wire.proofs.Digits.{digits_are, front_octets}
 use Rattle.snmp_wire.proofs.IdentifierWriting.{is_object_id, length-name, name_octets}
-use Rattle.snmp_wire.proofs.NameOrder.{canonical}
 
 -- ---- numbers
 

@@ -1,15 +1,13 @@
 -- What is read as a value is one, what is read as none has a tag or content at fault, and what is one
 -- is read.
-use Rattle.std.proofs.lemmas.Grind.{common_steps}
+use Rattle.std.proofs.{lemmas.Grind.common_steps, lemmas.List.nil_from_length}
 use Rattle.std.proofs.Common.{◌≡◌, ℕ, ℤ, pos, ◌+◌, ◌≤◌, true, cond, eqb, leb, ◌⊎◌, List, [], ◌∷◌, length, Result, Ok, refl, ap, arith, inl, inr}
 use Rattle.std.proofs.lemmas.Bool.{ltb-true, lt-ltb, le-leb, leb-true, eqb-true, eq-eqb, and_parts, and_from, or_cases, or_left, or_right}
-use Rattle.std.proofs.lemmas.List.{nil_from_length}
-use Rattle.snmp_wire.specs.declared.ber.error.BerError.{BerError}
+use Rattle.snmp_wire.specs.{declared.ber.error.BerError.BerError, ber.Spelling.value_tag, ber.Spelling.IsContent}
 use Rattle.snmp_wire.specs.declared.ber.error.BerError.TheVariants as error
 use Rattle.snmp_wire.specs.ber.Number.{IsInteger, IsUnsigned, lenient}
 use Rattle.snmp_wire.specs.ber.Value.{Datum, integer_value, octet_string, null_value, object_id, ip_address, counter32, gauge32, time_ticks}
 use Rattle.snmp_wire.specs.ber.Value.{opaque_octets, counter64, no_such_object, no_such_instance, end_of_mib_view}
-use Rattle.snmp_wire.specs.ber.Spelling.{value_tag, IsContent}
 use Rattle.snmp_wire.specs.ber.Reading.{integer_of, has_width, unsigned_of, empty_of, typed_value}
 use Rattle.snmp_wire.proofs.ReadingLaws.{Gives, a_fault, a_value, done, gives_either, gives_so, gives_then}
 use Rattle.snmp_wire.proofs.IdentifierReading.{identifier_again, identifier_gives}

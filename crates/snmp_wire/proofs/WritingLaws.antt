@@ -1,9 +1,8 @@
 -- Lemmas on what writers leave, one after the other from the back to the front, for proofs of
 -- values and messages.
-use Rattle.std.proofs.lemmas.Grind.{common_steps}
+use Rattle.std.proofs.{lemmas.Grind.common_steps, lemmas.List.take-take, lemmas.List.drop_more}
 use Rattle.std.proofs.Common.{◌≡◌, ℕ, ◌+◌, ◌-◌, ◌<◌, ◌≤◌, suc, zero, List, [], ◌∷◌, ◌++◌, length, take, drop, get_or, sym, ap, ◌∙◌, arith}
 use Rattle.std.proofs.Common.{append_assoc, length-append}
-use Rattle.std.proofs.lemmas.List.{take-take, drop_more}
 use Rattle.std.specs.List.{flat_map}
 use Rattle.snmp_wire.specs.private.ber.Writing.{Writes}
 

@@ -4,9 +4,8 @@ use Rattle.std.specs.Prelude.{ℕ, ◌+◌, List, ◌++◌, length}
 use Rattle.std.specs.List.{flat_map}
 use Rattle.snmp_oid.specs.Identifier.{IsWire}
 use Rattle.snmp_wire.specs.ber.Value.{integer_value, octet_string, object_id}
-use Rattle.snmp_wire.specs.Message.{VarBind, Message}
+use Rattle.snmp_wire.specs.{Message.VarBind, Message.Message, Spelling.kind_tag}
 use Rattle.snmp_wire.specs.ber.Spelling.{sequence_tag}
-use Rattle.snmp_wire.specs.Spelling.{kind_tag}
 unfoldable pub use Rattle.snmp_wire.specs.ber.Canon.{canon_content, canon_element, canon_header}
 unfoldable pub use Rattle.snmp_wire.specs.ber.Canon.{canon_length, canon_number}
 unfoldable pub use Rattle.snmp_wire.specs.ber.Canon.{canon_subidentifier}

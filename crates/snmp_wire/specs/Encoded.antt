@@ -1,11 +1,8 @@
 -- Bindings as they are encoded.
 use Rattle.std.specs.Prelude.{◌≡◌, ℕ, List, [], take, nat_lt, if◌then◌else◌}
 use Rattle.std.specs.Result.{result_unwrap_or}
-use Rattle.snmp_wire.specs.declared.in_place.Octets.{Octets}
-use Rattle.snmp_wire.specs.Canon.{canon_binding}
-use Rattle.snmp_wire.specs.Message.{VarBind, null_value}
-use Rattle.snmp_wire.specs.Range.{IsBindingInRange}
-use Rattle.snmp_wire.specs.Reading.{binding_at}
+use Rattle.snmp_wire.specs.{declared.in_place.Octets.Octets, Canon.canon_binding, Message.VarBind}
+use Rattle.snmp_wire.specs.{Message.null_value, Range.IsBindingInRange, Reading.binding_at}
 
 -- the binding at the front of octets, or that of the empty name and NULL where none is there
 abbrev pub binding_in : List ℕ → VarBind

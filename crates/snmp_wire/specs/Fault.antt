@@ -2,12 +2,9 @@
 use Rattle.std.specs.Prelude.{◌≡◌, ◌≢◌, ℕ, ◌≤◌, ◌⊎◌, List, [], ◌∷◌, ◌++◌, Option, Some, None}
 use Rattle.snmp_wire.specs.declared.ber.error.BerError.{BerError}
 use Rattle.snmp_wire.specs.declared.ber.error.BerError.TheVariants as error
-use Rattle.snmp_wire.specs.declared.kind.Kind.{Kind}
-use Rattle.snmp_wire.specs.ber.Number.{lenient}
-use Rattle.snmp_wire.specs.ber.Length.{IsElement}
-use Rattle.snmp_wire.specs.ber.Value.{Datum}
+use Rattle.snmp_wire.specs.{declared.kind.Kind.Kind, ber.Number.lenient, ber.Length.IsElement}
+use Rattle.snmp_wire.specs.{ber.Value.Datum, Spelling.kind_tag}
 use Rattle.snmp_wire.specs.ber.Spelling.{sequence_tag, value_tag, IsContent}
-use Rattle.snmp_wire.specs.Spelling.{kind_tag}
 
 -- the octets begin with an element, and the rest follows
 pub record BeginsWith (tag : ℕ) (content octets rest : List ℕ) : Type 0 where

@@ -1,10 +1,8 @@
 -- What the laws of messages and their encodings state.
 use Rattle.std.specs.Prelude.{◌≡◌, ◌≤◌, ℕ, List, ◌++◌, length}
-use Rattle.snmp_wire.specs.Canon.{canon, canon_bindings, canon_head}
-use Rattle.snmp_wire.specs.Message.{Message}
+use Rattle.snmp_wire.specs.{Canon.canon, Canon.canon_bindings, Canon.canon_head, Message.Message}
+use Rattle.snmp_wire.specs.{Shortest.IsShortestEncoding, Spelling.Spells, Spelling.Strict}
 use Rattle.snmp_wire.specs.Range.{IsMessageInRange, IsMessageOfType}
-use Rattle.snmp_wire.specs.Shortest.{IsShortestEncoding}
-use Rattle.snmp_wire.specs.Spelling.{Spells, Strict}
 
 -- octets encode one message at most, and no encoding is the front of another
 abbrev pub OneMessage : Type 0

@@ -1,8 +1,7 @@
 -- Values, variable bindings and messages as the standard has them (RFC 3416, section 3; RFC 1901,
 -- section 3), without where they lie in memory.
 use Rattle.std.specs.Prelude.{ℕ, ℤ, List, map}
-use Rattle.snmp_wire.specs.declared.kind.Kind.{Kind}
-use Rattle.snmp_wire.specs.declared.binding.Binding.{Binding}
+use Rattle.snmp_wire.specs.{declared.kind.Kind.Kind, declared.binding.Binding.Binding}
 pub use Rattle.snmp_wire.specs.ber.Value.{Datum, integer_value, octet_string, null_value, object_id}
 pub use Rattle.snmp_wire.specs.ber.Value.{ip_address, counter32, gauge32, time_ticks, opaque_octets}
 pub use Rattle.snmp_wire.specs.ber.Value.{counter64, no_such_object, no_such_instance}

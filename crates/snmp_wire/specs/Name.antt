@@ -5,8 +5,7 @@ use Rattle.std.specs.Result.{result_unwrap_or}
 use Rattle.snmp_oid.specs.Identifier.{IsBelow, IsWire, Precedes}
 use Rattle.snmp_wire.specs.Message.{VarBind, null_value}
 use Rattle.snmp_wire.specs.ber.Identifier.{IsObjectId, IsSubidentifier, subidentifiers}
-use Rattle.snmp_wire.specs.ber.Number.{AreOctets}
-use Rattle.snmp_wire.specs.ber.Reading.{identifier_of}
+use Rattle.snmp_wire.specs.{ber.Number.AreOctets, ber.Reading.identifier_of}
 
 -- the identifier that the content encodes, or the empty one where it encodes none
 abbrev pub identifier_in : List ℕ → List ℕ

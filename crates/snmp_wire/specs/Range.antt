@@ -1,10 +1,8 @@
 -- What has an encoding by the standard: numbers of their types' ranges, octets, and identifiers
 -- with a form on the wire (RFC 2578, section 7.1).
-use Rattle.std.specs.Prelude.{◌≤◌, length}
-use Rattle.std.specs.List.{AllByRecursion}
-use Rattle.snmp_wire.specs.Canon.{canon_bindings}
+use Rattle.std.specs.{Prelude.◌≤◌, Prelude.length, List.AllByRecursion}
+use Rattle.snmp_wire.specs.{Canon.canon_bindings, Message.VarBind, Message.Message}
 use Rattle.snmp_wire.specs.ber.Value.{integer_value, octet_string, object_id}
-use Rattle.snmp_wire.specs.Message.{VarBind, Message}
 pub use Rattle.snmp_wire.specs.ber.Range.{IsInRange, IsOfType}
 
 -- the name and the value of the binding are within their ranges

@@ -5,10 +5,9 @@ use Rattle.std.specs.Prelude.{Ok, Err}
 use Rattle.std.specs.Result.{result_unwrap_or}
 use Rattle.snmp_wire.specs.declared.ber.error.BerError.{BerError}
 use Rattle.snmp_wire.specs.declared.ber.error.BerError.TheVariants as error
-use Rattle.snmp_wire.specs.declared.kind.Kind.{Kind}
+use Rattle.snmp_wire.specs.{declared.kind.Kind.Kind, Message.VarBind, Message.Message}
 use Rattle.snmp_wire.specs.declared.kind.Kind.TheVariants as kind
 use Rattle.snmp_wire.specs.declared.binding.Fields as Lent
-use Rattle.snmp_wire.specs.Message.{VarBind, Message}
 use Rattle.snmp_wire.specs.ber.Reading.{fault_or, content_at, element_at, identifier_of, inner_at}
 use Rattle.snmp_wire.specs.ber.Reading.{integer_at, typed_value, ◌>>=◌}
 

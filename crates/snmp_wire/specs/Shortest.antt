@@ -1,7 +1,6 @@
 -- The shortest encoding of a message (RFC 3417, section 8, asks for a definite length in each).
 use Rattle.std.specs.Prelude.{ℕ, ◌≤◌, List, length}
-use Rattle.snmp_wire.specs.Message.{Message}
-use Rattle.snmp_wire.specs.Spelling.{Strict}
+use Rattle.snmp_wire.specs.{Message.Message, Spelling.Strict}
 
 -- the octets are a shortest encoding of the message: a strict one, and no strict one is shorter
 pub record IsShortestEncoding (octets : List ℕ) (message : Message) : Type 0 where

@@ -1,12 +1,10 @@
 -- How many octets the parts of a message's encoding take.
 use Rattle.std.specs.Prelude.{◌≡◌, ◌≤◌, ℕ, ◌+◌, length}
 use Rattle.snmp_wire.specs.ber.Canon.{canon_header, canon_value}
-use Rattle.snmp_wire.specs.ber.Spelling.{sequence_tag}
+use Rattle.snmp_wire.specs.{ber.Spelling.sequence_tag, Message.Message, Spelling.kind_tag}
 use Rattle.snmp_wire.specs.ber.Value.{integer_value, octet_string}
 use Rattle.snmp_wire.specs.Canon.{canon, canon_bindings, canon_fields, canon_front, canon_head}
 use Rattle.snmp_wire.specs.Canon.{canon_opening}
-use Rattle.snmp_wire.specs.Message.{Message}
-use Rattle.snmp_wire.specs.Spelling.{kind_tag}
 
 -- how many octets the content of a PDU takes, where its bindings take `total` octets together
 abbrev pub pdu_size : Message → ℕ → ℕ

@@ -1,10 +1,9 @@
 -- What octets encode: values, variable bindings and messages in BER (RFC 3416, section 3; RFC 1901,
 -- section 3; RFC 3417, section 8; X.690).
 use Rattle.std.specs.Prelude.{◌≡◌, ℕ, List, [], ◌∷◌, ◌++◌}
-use Rattle.snmp_wire.specs.declared.kind.Kind.{Kind}
+use Rattle.snmp_wire.specs.{declared.kind.Kind.Kind, ber.Length.IsElement}
 use Rattle.snmp_wire.specs.declared.kind.Kind.TheVariants as kind
 use Rattle.snmp_wire.specs.ber.Number.{AreOctets, Form, lenient, strict}
-use Rattle.snmp_wire.specs.ber.Length.{IsElement}
 use Rattle.snmp_wire.specs.ber.Value.{integer_value, octet_string, object_id}
 use Rattle.snmp_wire.specs.Message.{VarBind, Message}
 pub use Rattle.snmp_wire.specs.ber.Spelling.{IsContent, SpellsValue, sequence_tag, value_tag}

@@ -1,15 +1,12 @@
 //! Variable bindings, one and a list of them.
-ghost use Rattle.std.specs.Prelude.{◌≡◌, ℕ, List, [], ◌∷◌, true, false, length, IsOk, Ok, ◌+◌};
-ghost use Rattle.std.specs.Prelude.{◌^◌};
+ghost use Rattle.std.specs.Prelude.{◌≡◌, ℕ, List, [], ◌∷◌, true, false, length, IsOk, Ok, ◌+◌, ◌^◌};
 ghost use Rattle.std.specs.Prelude.{◌<◌, ◌≤◌, ◌↔◌, ◌++◌, drop, IfSome, IfNone, IsSome, ⊤};
-ghost use Rattle.snmp_wire.specs.Message.{var_bind};
+ghost use Rattle.snmp_wire.specs.{Message.var_bind, ber.Reading.AgreesBy, ber.Reading.checked};
+ghost use Rattle.snmp_wire.specs.{ber.Canon.canon_value, private.ber.Writing.Writes};
 ghost use Rattle.snmp_wire.specs.ber.Value.{datum, null_value, object_id};
 ghost use Rattle.snmp_wire.specs.Reading as reading;
-ghost use Rattle.snmp_wire.specs.ber.Reading.{AgreesBy, checked};
 ghost use Rattle.snmp_oid.specs.Identifier.{IsWire};
 ghost use Rattle.snmp_wire.specs.Canon.{IsEncodable, canon_binding};
-ghost use Rattle.snmp_wire.specs.ber.Canon.{canon_value};
-ghost use Rattle.snmp_wire.specs.private.ber.Writing.{Writes};
 
 mod lent;
 

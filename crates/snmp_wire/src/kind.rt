@@ -1,8 +1,7 @@
 //! The kinds of PDU.
 ghost use Rattle.std.specs.Prelude.{◌≡◌};
 ghost use Rattle.snmp_wire.specs.Reading as reading;
-ghost use Rattle.snmp_wire.specs.ber.Reading.{AgreesBy};
-ghost use Rattle.snmp_wire.specs.Spelling.{kind_tag};
+ghost use Rattle.snmp_wire.specs.{ber.Reading.AgreesBy, Spelling.kind_tag};
 
 use crate::ber::BerError;
 

@@ -1,14 +1,10 @@
 //! Laws of messages and their encodings, for proofs above and for readers: each is a call that does
 //! nothing, and whose caller knows what it states.
 ghost use Rattle.std.specs.Prelude.{ℕ, List};
-ghost use Rattle.snmp_wire.specs.declared.ber.error.BerError.{BerError};
-ghost use Rattle.snmp_wire.specs.Fault.{IsFault};
-ghost use Rattle.snmp_wire.specs.Laws.{EncodingIsShortest, EncodingIsStrict, HasPieces};
-ghost use Rattle.snmp_wire.specs.Laws.{OneMessage};
+ghost use Rattle.snmp_wire.specs.{declared.ber.error.BerError.BerError, Fault.IsFault};
+ghost use Rattle.snmp_wire.specs.{Message.Message, Sizes.MessageSizes, Spelling.Spells};
+ghost use Rattle.snmp_wire.specs.Laws.{EncodingIsShortest, EncodingIsStrict, HasPieces, OneMessage};
 ghost use Rattle.snmp_wire.specs.Laws.{OneShortestEncoding, SpeltIsOfType, StrictIsRead};
-ghost use Rattle.snmp_wire.specs.Message.{Message};
-ghost use Rattle.snmp_wire.specs.Sizes.{MessageSizes};
-ghost use Rattle.snmp_wire.specs.Spelling.{Spells};
 
 use crate::ber::element_sizes;
 

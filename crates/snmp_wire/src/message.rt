@@ -1,19 +1,14 @@
 //! Messages, read from datagrams and written.
 ghost use Rattle.std.specs.Prelude.{◌≡◌, ℕ, List, ◌++◌, IfOk, IfErr, Ok, ◌+◌, ◌^◌, ◌<◌, ◌≤◌, ◌↔◌};
 ghost use Rattle.std.specs.Prelude.{length, drop, take, IfSome, IfNone, IsSome, All};
-ghost use Rattle.snmp_wire.specs.Fault.{IsFault};
+ghost use Rattle.snmp_wire.specs.{Fault.IsFault, ber.Value.integer_value, ber.Value.octet_string};
+ghost use Rattle.snmp_wire.specs.{ber.Reading.AgreesBy, Spelling.Spells, ber.Canon.canon_value};
+ghost use Rattle.snmp_wire.specs.{Parts.parts_message, Parts.with_bindings, Range.IsMessageInRange};
+ghost use Rattle.snmp_wire.specs.{Shortest.IsShortestEncoding, private.ber.Writing.Writes};
 ghost use Rattle.snmp_wire.specs.Message.{Message, VarBind, var_bind, var_binds};
-ghost use Rattle.snmp_wire.specs.ber.Value.{integer_value, octet_string};
 ghost use Rattle.snmp_wire.specs.Reading as reading;
-ghost use Rattle.snmp_wire.specs.ber.Reading.{AgreesBy};
-ghost use Rattle.snmp_wire.specs.Spelling.{Spells};
 ghost use Rattle.snmp_wire.specs.Canon.{IsEncodable, canon, canon_bindings, canon_front};
 ghost use Rattle.snmp_wire.specs.Canon.{canon_head};
-ghost use Rattle.snmp_wire.specs.ber.Canon.{canon_value};
-ghost use Rattle.snmp_wire.specs.Parts.{parts_message, with_bindings};
-ghost use Rattle.snmp_wire.specs.Range.{IsMessageInRange};
-ghost use Rattle.snmp_wire.specs.Shortest.{IsShortestEncoding};
-ghost use Rattle.snmp_wire.specs.private.ber.Writing.{Writes};
 
 use crate::ber::tag::{INTEGER, OCTET_STRING, SEQUENCE};
 use crate::ber::{

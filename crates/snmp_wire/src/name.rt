@@ -1,16 +1,14 @@
 //! Names as they are encoded: compared, and tested against a root, without being decoded.
-ghost use Rattle.std.specs.Prelude.{◌≡◌, ℕ, ◌+◌, ◌<◌, ◌≤◌, ◌↔◌, List, length, get_or};
-ghost use Rattle.std.specs.Prelude.{IsOk, IsSome, IsTrue, IfSome, Ok, true};
-ghost use Rattle.std.specs.Ordering.{nat_cmp};
+ghost use Rattle.std.specs.Prelude.{◌≡◌, ℕ, ◌+◌, ◌<◌, ◌≤◌, ◌↔◌, List, length, get_or, IsOk, IsSome};
+ghost use Rattle.std.specs.Prelude.{IsTrue, IfSome, Ok, true};
+ghost use Rattle.std.specs.{Ordering.nat_cmp, Int.w64, Int.from_le_bytes};
 ghost use Rattle.std.specs.Cmp.Lexicographic.{slice_cmp};
-ghost use Rattle.std.specs.Int.{w64, from_le_bytes};
 ghost use Rattle.snmp_oid.specs.Identifier.{IsBelow, IsIdentifier, IsWire};
 ghost use Rattle.snmp_wire.specs.Name.{EncodedNames, EndsAt, IsAlike};
 ghost use Rattle.snmp_wire.specs.ber.Canon.{canon_content, eight_from};
 ghost use Rattle.snmp_wire.specs.ber.Identifier.{IsObjectId};
-ghost use Rattle.snmp_wire.specs.ber.Number.{AreOctets};
+ghost use Rattle.snmp_wire.specs.{ber.Number.AreOctets, ber.Value.object_id};
 ghost use Rattle.snmp_wire.specs.ber.Reading as reading;
-ghost use Rattle.snmp_wire.specs.ber.Value.{object_id};
 
 use crate::ber::{check_identifier, push_identifier, put_identifier};
 use snmp_oid::{Oid, order};

@@ -1,19 +1,13 @@
 -- What follows of a command that has a stated shape.
-use Rattle.std.proofs.Common.{◌≡◌, ◌⊎◌, ◌&&◌, ap, ap₂, refl, sym, inl, inr, true, false, not, true≢false, Bool, List, [], ◌∷◌}
-use Rattle.std.proofs.Common.{Option, Some, None, Result, Ok, subst, cond, option_map, IsSome, is_some, find, ◌∙◌}
-use Rattle.clap.specs.Built.{AddsArg, AddsSubcommand}
+use Rattle.std.proofs.Common.{◌≡◌, ◌⊎◌, ◌&&◌, ap, ap₂, refl, sym, inl, inr, true, false, not, true≢false, Bool, List, [], ◌∷◌, Option, Some, None}
+use Rattle.std.proofs.Common.{Result, Ok, subst, cond, option_map, IsSome, is_some, find, ◌∙◌}
+use Rattle.clap.specs.{Built.AddsArg, Built.AddsSubcommand, Walk.Row, Walk.Rule, Walk.Text, Walk.answers_to, Walk.stop_after, Kinds.IsAmong}
+use Rattle.clap.specs.{Kinds.Kinds, declared.error.ErrorKind.ErrorKind, declared.error.ErrorKind.TheVariants.OutOfMemory}
+use Rattle.clap.specs.{declared.ArgMatches.ArgMatches, declared.builder.arg.Arg.Arg, declared.builder.command.Command.Command}
 use Rattle.clap.specs.Simple.{App, app_of, built, Shape, argument_words, entered, label_of, names_of, rows_at, with_rule, with_subcommand}
-use Rattle.clap.specs.Walk.{Row, Rule, Text, answers_to, stop_after}
-use Rattle.clap.specs.Kinds.{IsAmong, Kinds}
-use Rattle.clap.specs.declared.error.ErrorKind.{ErrorKind}
-use Rattle.clap.specs.declared.error.ErrorKind.TheVariants.{OutOfMemory}
 use Rattle.clap.specs.Words.{has_subcommand, subcommand_of, subcommand_rows_of}
-use Rattle.clap.specs.declared.ArgMatches.{ArgMatches}
-use Rattle.clap.specs.declared.builder.arg.Arg.{Arg}
-use Rattle.clap.specs.declared.builder.command.Command.{Command}
-use Rattle.snmp_words.specs.Command.{IsArg, IsMade, snmp_app}
+use Rattle.snmp_words.specs.{Command.IsArg, Command.IsMade, Command.snmp_app, declared.UsageError.UsageError}
 use Rattle.snmp_words.specs.Words.{HasFaultOf, IsMemory, StandsFor, stated_by, stated_in}
-use Rattle.snmp_words.specs.declared.UsageError.{UsageError}
 use Rattle.snmp_words.specs.declared.UsageError.TheVariants.{Memory, Parse}
 
 -- a plain command has no global argument

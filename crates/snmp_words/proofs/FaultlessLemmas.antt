@@ -1,17 +1,14 @@
 -- Words that the command takes, or that have no fault, name a subcommand and state a job.
-use Rattle.std.proofs.Common.{◌≡◌, ◌∙◌, ◌⊎◌, ◌&&◌, ◌||◌, ap, refl, sym, inl, inr, true, false, not, true≢false, Bool, List, [], ◌∷◌}
-use Rattle.std.proofs.Common.{Option, Some, None, is_some}
+use Rattle.std.proofs.Common.{◌≡◌, ◌∙◌, ◌⊎◌, ◌&&◌, ◌||◌, ap, refl, sym, inl, inr, true, false, not, true≢false, Bool, List, [], ◌∷◌, Option, Some}
+use Rattle.std.proofs.Common.{None, is_some}
 use Rattle.std.specs.List.{list_all, list_any}
-use Rattle.clap.specs.Facts.{explicit_source}
+use Rattle.clap.specs.{Facts.explicit_source, Kinds.Kinds, Kinds.check_kinds, Kinds.or_else}
 use Rattle.clap.specs.Faults.{check_fault, defaults_fault, entered_fault, fault_of, level_fault, settle_fault, walk_fault}
-use Rattle.clap.specs.Kinds.{Kinds, check_kinds, or_else}
 use Rattle.clap.specs.Simple.{App, Shape, argument_words, built, entered, is_simple, names_of, subcommand_of}
 use Rattle.clap.specs.Takes.{default_passes, entered_passes, is_given, is_valid, level_passes, settle_passes, takes, walk_passes}
 use Rattle.clap.specs.Walk.{Held, Names, Row, Text, finished, nothing_held, settled, walk, walk_from}
-use Rattle.snmp_words.specs.Command.{faults_of, is_taken, snmp_app}
-use Rattle.snmp_words.specs.Words.{StateJob, Stated, stated_in}
-use Rattle.snmp_words.proofs.CommandLemmas.{stated_or_none}
-use Rattle.snmp_words.proofs.GivenLemmas.{states}
+use Rattle.snmp_words.specs.{Command.faults_of, Command.is_taken, Command.snmp_app, Words.StateJob, Words.Stated, Words.stated_in}
+use Rattle.snmp_words.proofs.{CommandLemmas.stated_or_none, GivenLemmas.states}
 
 left : (a b : Bool) → (a && b) ≡ true → a ≡ true
 left true b e = refl

@@ -1,18 +1,13 @@
 -- Texts and numbers that a command was given.
-use Rattle.std.proofs.Common.{◌≡◌, ◌∙◌, ◌++◌, ap, ap₂, refl, subst, sym, true, false, Bool, List, [], ◌∷◌, Option, Some, None}
-use Rattle.std.proofs.Common.{ℕ, ◌⊎◌, inl, inr, arith, Bor, unwrap_or, option_map, option_and_then}
-use Rattle.std.specs.Prelude.{if◌then◌else◌, MatchOption}
-use Rattle.std.specs.List.{flat_map, join_by}
-use Rattle.std.specs.Str.Parse.{digits_value, without_leading_plus}
-use Rattle.clap.specs.Values.{IsUnsignedIn}
-use Rattle.clap.specs.ValueTests.{is_unsigned_in}
-use Rattle.clap.specs.Simple.{subcommand_of}
-use Rattle.clap.specs.Walk.{Row, Text, first_of, texts}
+use Rattle.std.proofs.Common.{◌≡◌, ◌∙◌, ◌++◌, ap, ap₂, refl, subst, sym, true, false, Bool, List, [], ◌∷◌, Option, Some, None, ℕ, ◌⊎◌, inl, inr}
+use Rattle.std.proofs.Common.{arith, Bor, unwrap_or, option_map, option_and_then}
+use Rattle.std.specs.{Prelude.if◌then◌else◌, Prelude.MatchOption, List.flat_map, List.join_by, Str.Parse.digits_value, Str.Parse.without_leading_plus}
+use Rattle.clap.specs.{Values.IsUnsignedIn, ValueTests.is_unsigned_in, Simple.subcommand_of, Walk.Row, Walk.Text, Walk.first_of, Walk.texts}
 use Rattle.clap.proofs.ValueTestLemmas.{Accepts-accepts, accepts-Accepts}
 use Rattle.clap.specs.declared.builder.value_parser.ValueParser.TheVariants.{Unsigned}
 use Rattle.snmp_words.specs.Command.{snmp_app}
-use Rattle.snmp_words.specs.Words.{AreNumbersOf, IsNumberOf, Numbers, StateJob, Stated, StatesNumber}
-use Rattle.snmp_words.specs.Words.{number_in, numbers_in, readings, stated_among, stated_in}
+use Rattle.snmp_words.specs.Words.{AreNumbersOf, IsNumberOf, Numbers, StateJob, Stated, StatesNumber, number_in, numbers_in, readings, stated_among}
+use Rattle.snmp_words.specs.Words.{stated_in}
 
 -- texts joined with nothing between
 pub joined : (given : List (Bor (List ℕ))) → join_by (λ s. s.now) [] given ≡ flat_map (λ t. t) (texts given)

@@ -1,14 +1,10 @@
 -- The commands of the program in clap's terms: each has rules for its words.
 use Rattle.std.specs.Prelude.{◌++◌, ◌≡◌, ℕ, Bool, true, false, List, [], ◌∷◌, Some, codes, Result}
 use Rattle.std.specs.Prelude.{IfOk}
-use Rattle.clap.specs.Faults.{fault_of}
-use Rattle.clap.specs.Kinds.{Kinds}
+use Rattle.clap.specs.{Faults.fault_of, Kinds.Kinds, Takes.takes, Walk.Rule, Walk.Text}
+use Rattle.clap.specs.{Walk.rule_of, Words.app_of, declared.builder.arg.Arg.Arg}
 use Rattle.clap.specs.Simple.{App, new_app, new_rule, on_top, with_rule, with_subcommand}
-use Rattle.clap.specs.Takes.{takes}
-use Rattle.clap.specs.Walk.{Rule, Text, rule_of}
-use Rattle.clap.specs.Words.{app_of}
 use Rattle.clap.specs.declared.builder.action.ArgAction.TheVariants.{Append}
-use Rattle.clap.specs.declared.builder.arg.Arg.{Arg}
 use Rattle.clap.specs.declared.builder.command.Command.{Command}
 use Rattle.clap.specs.declared.builder.value_parser.ValueParser.TheVariants.{Unsigned}
 

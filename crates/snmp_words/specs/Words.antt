@@ -1,45 +1,18 @@
 -- What the words of a command line state: the command, and the texts and numbers that they give it.
-use Rattle.std.specs.Prelude.{
-  ◌≡◌,
-  ◌≢◌,
-  ◌<◌,
-  ◌≤◌,
-  ◌^◌,
-  ◌⊎◌,
-  ⊤,
-  ◌++◌,
-  ℕ,
-  Bool,
-  true,
-  false,
-  List,
-  [],
-  ◌∷◌,
-  Option,
-  Some,
-  None,
-}
-use Rattle.std.specs.Prelude.{string_bytes, codes, map, unwrap_or, option_and_then, option_map}
-use Rattle.std.specs.Prelude.{if◌then◌else◌, MatchOption}
-use Rattle.std.specs.List.{flat_map}
-use Rattle.std.specs.Str.{bytes_eq}
+use Rattle.std.specs.Prelude.{◌≡◌, ◌≢◌, ◌<◌, ◌≤◌, ◌^◌, ◌⊎◌, ⊤, ◌++◌, ℕ, Bool, true, false, List, []}
+use Rattle.std.specs.Prelude.{◌∷◌, Option, Some, None, string_bytes, codes, map, unwrap_or}
+use Rattle.std.specs.Prelude.{option_and_then, option_map, if◌then◌else◌, MatchOption}
+use Rattle.std.specs.{List.flat_map, Str.bytes_eq, Borrow.Bor}
 use Rattle.std.specs.Str.Parse.{IsNumeral, digits_value, without_leading_plus}
-use Rattle.std.specs.Borrow.{Bor}
-use Rattle.clap.specs.Kinds.{IsAmong, Kinds}
-use Rattle.clap.specs.Simple.{subcommand_of}
-use Rattle.clap.specs.ValueTests.{is_unsigned_in}
+use Rattle.clap.specs.{Kinds.IsAmong, Kinds.Kinds, Simple.subcommand_of, ValueTests.is_unsigned_in}
 use Rattle.clap.specs.Walk.{Row, Text, all_of, first_of}
 use Rattle.clap.specs.declared.error.kind.ErrorKind.{ErrorKind}
 use Rattle.clap.specs.declared.error.kind.ErrorKind.TheVariants as kind
-use Rattle.snmp_words.specs.Command.{faults_of, snmp_app}
-use Rattle.snmp_words.specs.declared.job.Asking.{Asking}
-use Rattle.snmp_words.specs.declared.job.GetJob.{GetJob}
-use Rattle.snmp_words.specs.declared.job.Job.{Job}
+use Rattle.snmp_words.specs.{Command.faults_of, Command.snmp_app, declared.job.Asking.Asking}
+use Rattle.snmp_words.specs.{declared.job.GetJob.GetJob, declared.job.Job.Job}
+use Rattle.snmp_words.specs.{declared.job.ServeJob.ServeJob, declared.job.TranslateJob.TranslateJob}
+use Rattle.snmp_words.specs.{declared.job.WalkJob.WalkJob, declared.UsageError.UsageError}
 use Rattle.snmp_words.specs.declared.job.Job.TheVariants as job
-use Rattle.snmp_words.specs.declared.job.ServeJob.{ServeJob}
-use Rattle.snmp_words.specs.declared.job.TranslateJob.{TranslateJob}
-use Rattle.snmp_words.specs.declared.job.WalkJob.{WalkJob}
-use Rattle.snmp_words.specs.declared.UsageError.{UsageError}
 use Rattle.snmp_words.specs.declared.UsageError.TheVariants.{Memory, Parse}
 
 -- ---- what the words state

@@ -1,7 +1,6 @@
 //! The commands of the program, with the rules for their words and the help on them.
 ghost use Rattle.std.specs.Prelude.{◌≡◌, true};
-ghost use Rattle.clap.specs.Simple.{App, new_app, with_subcommand};
-ghost use Rattle.clap.specs.Words.{app_of};
+ghost use Rattle.clap.specs.{Simple.App, Simple.new_app, Simple.with_subcommand, Words.app_of};
 ghost use Rattle.snmp_words.specs.Command.{IsMade, asking_rules, get_app, serve_app, snmp_app};
 ghost use Rattle.snmp_words.specs.Command.{top_app, translate_app, walk_app, with_rules};
 

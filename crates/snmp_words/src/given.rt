@@ -1,13 +1,11 @@
 //! The texts and numbers that a command was given.
-ghost use Rattle.std.specs.Prelude.{◌≡◌, ◌≤◌, IfOk, IfSome, IsSome, Some, option_map};
-ghost use Rattle.std.specs.Prelude.{string_bytes};
-ghost use Rattle.clap.specs.Walk.{first_of, rows_of};
-ghost use Rattle.clap.specs.Words.{found_of, subcommand_rows_of};
+ghost use Rattle.std.specs.Prelude.{◌≡◌, ◌≤◌, IfOk, IfSome, IsSome, Some, option_map, string_bytes};
+ghost use Rattle.clap.specs.{Walk.first_of, Walk.rows_of, Words.found_of, Words.subcommand_rows_of};
 ghost use Rattle.snmp_words.specs.Words.{asking_of_rows, asking_words, get_of_rows, get_words};
 ghost use Rattle.snmp_words.specs.Words.{job_words, joined_of, number_in, numbers_in};
-ghost use Rattle.snmp_words.specs.Words.{serve_of_rows, serve_words, stated_in, texts_at};
-ghost use Rattle.snmp_words.specs.Words.{texts_of, translate_of_rows, translate_words};
-ghost use Rattle.snmp_words.specs.Words.{walk_of_rows, walk_words};
+ghost use Rattle.snmp_words.specs.Words.{serve_of_rows, serve_words, stated_in, texts_at, texts_of};
+ghost use Rattle.snmp_words.specs.Words.{translate_of_rows, translate_words, walk_of_rows};
+ghost use Rattle.snmp_words.specs.Words.{walk_words};
 
 use crate::job::{Asking, GetJob, Job, ServeJob, TranslateJob, WalkJob};
 use clap::ArgMatches;

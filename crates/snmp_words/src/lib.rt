@@ -22,13 +22,11 @@ mod job;
 mod mistakes;
 mod options;
 
-ghost use Rattle.std.specs.Prelude.{◌≡◌, [], ◌∷◌, List, ℕ, codes, true};
-ghost use Rattle.std.specs.Prelude.{IfErr, IfOk, OnOk};
-ghost use Rattle.clap.specs.Walk.{Text, texts};
-ghost use Rattle.clap.specs.Words.{kind_of};
+ghost use Rattle.std.specs.Prelude.{◌≡◌, [], ◌∷◌, List, ℕ, codes, true, IfErr, IfOk, OnOk};
+ghost use Rattle.clap.specs.{Walk.Text, Walk.texts, Words.kind_of};
 ghost use Rattle.snmp_words.specs.Command.{faults_of, is_taken};
-ghost use Rattle.snmp_words.specs.Words.{HasFaultOf, IsMemory, StandsFor, StateJob};
-ghost use Rattle.snmp_words.specs.Words.{Stated, bulk_walk_line, get_line, job_words, serve_line};
+ghost use Rattle.snmp_words.specs.Words.{HasFaultOf, IsMemory, StandsFor, StateJob, Stated};
+ghost use Rattle.snmp_words.specs.Words.{bulk_walk_line, get_line, job_words, serve_line};
 ghost use Rattle.snmp_words.specs.Words.{snmpbulkwalk, snmpd, snmpget, snmptranslate, snmpwalk};
 ghost use Rattle.snmp_words.specs.Words.{translate_line, walk_line, words_of_bulk_walk};
 ghost use Rattle.snmp_words.specs.Words.{words_of_get, words_of_server, words_of_translation};

@@ -1,18 +1,6 @@
 -- Places in an order in which each comes after the one that it leads to.
-use Rattle.std.specs.Prelude.{
-  ◌≡◌,
-  ℕ,
-  ◌<◌,
-  List,
-  length,
-  take,
-  slice_index,
-  slice_index_or,
-  Contains,
-  Option,
-  Some,
-  None,
-}
+use Rattle.std.specs.Prelude.{◌≡◌, ℕ, ◌<◌, List, length, take, slice_index, slice_index_or}
+use Rattle.std.specs.Prelude.{Contains, Option, Some, None}
 
 -- the place that a place leads to; beyond the last place there is none
 abbrev pub next_at : List (Option ℕ) → ℕ → Option ℕ

@@ -2,13 +2,10 @@
 -- definition may lead to a name of its module (RFC 2578, sections 3.1 and 3.2).
 use Rattle.std.specs.Prelude.{◌≡◌, ◌⊎◌, ℕ, List, length, MatchOption, Option, Some, None}
 use Rattle.std.specs.Prelude.{option_map}
-use Rattle.std.specs.List.{slice_get}
-use Rattle.std.specs.Option.{option_and_then}
-use Rattle.smi_text.specs.declared.trees.tree.Module.{Module}
-use Rattle.smi_text.specs.declared.trees.tree.Def.{Def}
+use Rattle.std.specs.{List.slice_get, Option.option_and_then}
+use Rattle.smi_text.specs.{declared.trees.tree.Module.Module, declared.trees.tree.Def.Def}
 use Rattle.smi_text.specs.declared.trees.tree.Import.{Import}
-use Rattle.smi_names.specs.chains.Chain.{HasEnd}
-use Rattle.smi_names.specs.chains.Order.{next_at, at_place}
+use Rattle.smi_names.specs.{chains.Chain.HasEnd, chains.Order.next_at, chains.Order.at_place}
 use Rattle.smi_names.specs.meaning.Meaning.{QualifiedName, Decision, defined, imported, root}
 use Rattle.smi_names.specs.meaning.Meaning.{decision, module_named}
 use Rattle.smi_names.specs.meaning.Known.{KnownNames, content_named}

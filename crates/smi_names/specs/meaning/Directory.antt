@@ -1,15 +1,12 @@
 -- The places of names, and the place to which each name leads.
-use Rattle.std.specs.Prelude.{◌≡◌, ℕ, ◌==◌, ◌&&◌, Bool, false, List, length, ⊤}
-use Rattle.std.specs.Prelude.{Option, Some, None, option_map, unwrap_or}
-use Rattle.smi_text.specs.trees.Mark.{same_text}
-use Rattle.std.specs.List.{slice_get}
-use Rattle.std.specs.Option.{option_and_then}
-use Rattle.smi_text.specs.declared.trees.tree.Def.{Def}
+use Rattle.std.specs.Prelude.{◌≡◌, ℕ, ◌==◌, ◌&&◌, Bool, false, List, length, ⊤, Option, Some, None}
+use Rattle.std.specs.Prelude.{option_map, unwrap_or}
+use Rattle.smi_text.specs.{trees.Mark.same_text, declared.trees.tree.Def.Def}
+use Rattle.std.specs.{List.slice_get, Option.option_and_then}
 use Rattle.smi_text.specs.declared.trees.tree.Import.{Import}
-use Rattle.smi_names.specs.meaning.Along.{next_by}
+use Rattle.smi_names.specs.{meaning.Along.next_by, meaning.Names.place_of_name}
 use Rattle.smi_names.specs.meaning.Meaning.{QualifiedName, imported}
 use Rattle.smi_names.specs.meaning.Scopes.{content_of, qualified, decision_of, place_in}
-use Rattle.smi_names.specs.meaning.Names.{place_of_name}
 use Rattle.smi_names.specs.declared.meaning.entry.Entry.{Entry}
 use Rattle.smi_names.specs.declared.meaning.directory.Directory.{Directory}
 use Rattle.smi_names.specs.declared.meaning.directory.Found.{Found}

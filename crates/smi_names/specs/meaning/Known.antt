@@ -1,6 +1,5 @@
 -- The names that have a meaning in modules, each with its place.
-use Rattle.std.specs.Prelude.{List, Option}
-use Rattle.std.specs.Option.{option_and_then}
+use Rattle.std.specs.{Prelude.List, Prelude.Option, Option.option_and_then}
 use Rattle.smi_text.specs.declared.trees.tree.Module.{Module}
 use Rattle.smi_names.specs.meaning.Meaning.{QualifiedName, decision, module_named}
 use Rattle.smi_names.specs.meaning.Scopes.{Content, decided_as}

@@ -1,27 +1,14 @@
 -- What names mean in modules (RFC 2578, sections 3.1, 3.2 and 7.10).
-use Rattle.std.specs.Prelude.{
-  ℕ,
-  ◌==◌,
-  List,
-  [],
-  ◌∷◌,
-  Option,
-  Some,
-  None,
-  option_map,
-  codes,
-  if◌then◌else◌,
-}
+use Rattle.std.specs.Prelude.{ℕ, ◌==◌, List, [], ◌∷◌, Option, Some, None, option_map, codes}
+use Rattle.std.specs.Prelude.{if◌then◌else◌}
 use Rattle.std.specs.List.{find}
 use Rattle.smi_names.specs.chains.Chain as chain
 use Rattle.smi_names.specs.chains.Chain.{Origin, numbers, after, nowhere}
-use Rattle.smi_text.specs.declared.trees.tree.Module.{Module}
-use Rattle.smi_text.specs.declared.trees.tree.Def.{Def}
+use Rattle.smi_text.specs.{declared.trees.tree.Module.Module, declared.trees.tree.Def.Def}
+use Rattle.smi_text.specs.{declared.trees.tree.Part.Part, trees.Mark.same_text}
 use Rattle.smi_text.specs.declared.trees.tree.Import.{Import}
-use Rattle.smi_text.specs.declared.trees.tree.Part.{Part}
 use Rattle.smi_text.specs.declared.trees.tree.Part.TheVariants as P
 use Rattle.smi_text.specs.trees.Lookup.{definition_of, import_of, identifier_value_of, part_number}
-use Rattle.smi_text.specs.trees.Mark.{same_text}
 
 -- a name in a module
 pub record QualifiedName : Type 0 where

@@ -1,9 +1,7 @@
 -- The places of names of modules among the entries.
 use Rattle.std.specs.Prelude.{◌≡◌, ℕ, List, length, Option, Some, unwrap_or, All}
-use Rattle.std.specs.List.{slice_get, position_from}
-use Rattle.std.specs.Option.{option_and_then}
-use Rattle.smi_text.specs.trees.Mark.{same_text}
-use Rattle.smi_text.specs.declared.trees.tree.Module.{Module}
+use Rattle.std.specs.{List.slice_get, List.position_from, Option.option_and_then}
+use Rattle.smi_text.specs.{trees.Mark.same_text, declared.trees.tree.Module.Module}
 use Rattle.smi_names.specs.meaning.Meaning.{QualifiedName, decision}
 use Rattle.smi_names.specs.meaning.Scopes.{NamePlaces, place_in, known, decided_as, IsWithin}
 use Rattle.smi_names.specs.meaning.Scopes.{IsDefinedAt, IsDecided}

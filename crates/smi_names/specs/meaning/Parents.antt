@@ -1,11 +1,9 @@
 -- What names resolve to, by their places.
 use Rattle.std.specs.Prelude.{◌≡◌, ℕ, List, [], length, Option, Some, None, option_map}
 use Rattle.std.specs.List.{slice_get}
-use Rattle.smi_text.specs.declared.trees.tree.Def.{Def}
-use Rattle.smi_text.specs.trees.Lookup.{identifier_value_of}
+use Rattle.smi_text.specs.{declared.trees.tree.Def.Def, trees.Lookup.identifier_value_of}
 use Rattle.smi_names.specs.chains.Chain.{Origin, next_of, nowhere}
-use Rattle.smi_names.specs.chains.Resolution.{ComesTo}
-use Rattle.smi_names.specs.chains.Resolving.{resolution_at}
+use Rattle.smi_names.specs.{chains.Resolution.ComesTo, chains.Resolving.resolution_at}
 use Rattle.smi_names.specs.declared.chains.resolution.Resolution.{Resolution}
 use Rattle.smi_names.specs.meaning.Meaning.{QualifiedName, origin, origin_by, origin_of_value}
 use Rattle.smi_names.specs.meaning.Scopes.{Content, qualified}

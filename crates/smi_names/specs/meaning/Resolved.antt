@@ -3,9 +3,8 @@ use Rattle.std.specs.Prelude.{◌≡◌, ℕ, List, map}
 use Rattle.smi_text.specs.declared.trees.tree.Module.{Module}
 use Rattle.smi_names.specs.meaning.Scopes.{place_in, content_of}
 use Rattle.smi_names.specs.meaning.Names.{AreEach, module_place}
-use Rattle.smi_names.specs.meaning.Known.{KnownNames}
+use Rattle.smi_names.specs.{meaning.Known.KnownNames, meaning.Parents.parent_of}
 use Rattle.smi_names.specs.meaning.Directory.{next_place}
-use Rattle.smi_names.specs.meaning.Parents.{parent_of}
 use Rattle.smi_names.specs.declared.meaning.directory.Directory.{Directory}
 
 -- the directory has the place of each module, an entry for each name that has a meaning, and the

@@ -1,17 +1,13 @@
 -- The names of modules with their places among the entries.
 use Rattle.std.specs.Prelude.{◌≡◌, ℕ, ◌<◌, List, ◌++◌, length, Option, Some, option_map, All}
-use Rattle.std.specs.List.{slice_get}
-use Rattle.std.specs.Option.{option_and_then}
-use Rattle.std.specs.Str.{bytes_eq}
+use Rattle.std.specs.{List.slice_get, Option.option_and_then, Str.bytes_eq}
 use Rattle.indexmap.specs.IndexMap.{IndexMap, get}
-use Rattle.smi_text.specs.declared.trees.tree.Module.{Module}
-use Rattle.smi_text.specs.declared.trees.tree.Def.{Def}
-use Rattle.smi_names.specs.declared.hash.NameHash.{NameHash}
+use Rattle.smi_text.specs.{declared.trees.tree.Module.Module, declared.trees.tree.Def.Def}
+use Rattle.smi_names.specs.{declared.hash.NameHash.NameHash, declared.meaning.entry.Entry.Entry}
 use Rattle.smi_names.specs.meaning.Meaning.{QualifiedName, Decision, defined, imported, root}
 use Rattle.smi_names.specs.meaning.Meaning.{or_else, decision}
 use Rattle.smi_names.specs.declared.meaning.entry.Decider.{Decider}
 use Rattle.smi_names.specs.declared.meaning.entry.Decider.TheVariants as D
-use Rattle.smi_names.specs.declared.meaning.entry.Entry.{Entry}
 
 -- names with their places
 abbrev pub NamePlaces : Type 0

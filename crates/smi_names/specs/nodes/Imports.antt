@@ -1,28 +1,13 @@
 -- The warnings that the imports of a module give (RFC 2578, section 3.2).
-use Rattle.std.specs.Prelude.{
-  ℕ,
-  Bool,
-  true,
-  false,
-  ◌||◌,
-  List,
-  [],
-  ◌∷◌,
-  Option,
-  Some,
-  None,
-  is_some,
-  if◌then◌else◌,
-}
+use Rattle.std.specs.Prelude.{ℕ, Bool, true, false, ◌||◌, List, [], ◌∷◌, Option, Some, None}
+use Rattle.std.specs.Prelude.{is_some, if◌then◌else◌}
 use Rattle.std.specs.List.{flat_map}
-use Rattle.smi_text.specs.trees.Number.{is_macro}
+use Rattle.smi_text.specs.{trees.Number.is_macro, declared.trees.tree.Module.Module}
 use Rattle.smi_text.specs.trees.Lookup.{definition_of, import_of, import_clauses}
-use Rattle.smi_text.specs.declared.trees.tree.Module.{Module}
 use Rattle.smi_text.specs.declared.trees.tree.Import.{Import}
 use Rattle.smi_text.specs.declared.trees.tree.TokenText.{TokenText}
-use Rattle.smi_names.specs.meaning.Base.{base_named}
+use Rattle.smi_names.specs.{meaning.Base.base_named, declared.nodes.warning.Warning.Warning}
 use Rattle.smi_names.specs.meaning.Meaning.{Decision, defined, imported, root, module_named}
-use Rattle.smi_names.specs.declared.nodes.warning.Warning.{Warning}
 use Rattle.smi_names.specs.declared.nodes.warning.Warning.TheVariants as W
 
 -- the names of macros and of base types need no definition

@@ -1,28 +1,12 @@
 -- The nodes of the tree of names, in order of loading (RFC 2578, sections 3.5 and 3.6).
-use Rattle.std.specs.Prelude.{
-  ◌≡◌,
-  ℕ,
-  Bool,
-  true,
-  false,
-  List,
-  [],
-  ◌∷◌,
-  ◌++◌,
-  Option,
-  Some,
-  None,
-  is_some,
-}
-use Rattle.smi_names.specs.chains.Resolution.{ComesTo}
+use Rattle.std.specs.Prelude.{◌≡◌, ℕ, Bool, true, false, List, [], ◌∷◌, ◌++◌, Option, Some, None}
+use Rattle.std.specs.Prelude.{is_some}
+use Rattle.smi_names.specs.{chains.Resolution.ComesTo, nodes.Imports.import_warnings}
 use Rattle.smi_names.specs.declared.chains.resolution.Resolution.{Resolution}
 use Rattle.smi_names.specs.declared.chains.resolution.Resolution.TheVariants as R
-use Rattle.smi_text.specs.declared.trees.tree.Module.{Module}
-use Rattle.smi_text.specs.declared.trees.tree.Def.{Def}
-use Rattle.smi_text.specs.declared.trees.tree.Part.{Part}
-use Rattle.smi_text.specs.trees.Lookup.{identifier_value_of}
+use Rattle.smi_text.specs.{declared.trees.tree.Module.Module, declared.trees.tree.Def.Def}
+use Rattle.smi_text.specs.{declared.trees.tree.Part.Part, trees.Lookup.identifier_value_of}
 use Rattle.smi_names.specs.meaning.Meaning.{origin, module_named, root_label}
-use Rattle.smi_names.specs.nodes.Imports.{import_warnings}
 use Rattle.smi_names.specs.declared.nodes.warning.Warning.{Warning}
 use Rattle.smi_names.specs.declared.nodes.warning.Warning.TheVariants as W
 

@@ -1,8 +1,7 @@
 //! Resolutions that are kept once each: an import shares the resolution of what it imports.
 ghost use Rattle.std.specs.Prelude.{◌≡◌, ◌<◌, ◌∷◌, [], length, option_map, IfOk};
 ghost use Rattle.std.specs.List.{slice_get};
-ghost use Rattle.smi_names.specs.chains.Resolving.{lengthened, followed_by};
-ghost use Rattle.smi_names.specs.chains.Resolving.{far_at, resolution_at};
+ghost use Rattle.smi_names.specs.chains.Resolving.{lengthened, followed_by, far_at, resolution_at};
 ghost use Rattle.smi_names.specs.chains.Shared.{shared, AreWithin, HasReasons, GrowsTo};
 
 use crate::chains::resolution::Resolution;

@@ -1,10 +1,8 @@
 //! The names of modules by their places.
 ghost use Rattle.std.specs.Prelude.{◌≡◌, Some, length, option_map};
 ghost use Rattle.std.specs.List.{slice_get};
-ghost use Rattle.smi_names.specs.meaning.Scopes.{content_of};
-ghost use Rattle.smi_names.specs.meaning.Names.{IsSourced};
-ghost use Rattle.smi_names.specs.meaning.Known.{content_named};
-ghost use Rattle.smi_names.specs.declared.meaning.entry.Entry.{Entry};
+ghost use Rattle.smi_names.specs.{meaning.Scopes.content_of, meaning.Names.IsSourced};
+ghost use Rattle.smi_names.specs.{meaning.Known.content_named, declared.meaning.entry.Entry.Entry};
 
 use crate::meaning::directory::Directory;
 use crate::meaning::entry::Entry;

@@ -1,12 +1,9 @@
 //! The names of modules, resolved.
 ghost use Rattle.std.specs.Prelude.{◌≡◌, IfOk, MatchOption, Some, is_some, option_map};
-ghost use Rattle.std.specs.List.{slice_get};
-ghost use Rattle.std.specs.Option.{option_and_then};
-ghost use Rattle.smi_names.specs.chains.Chain.{nowhere};
-ghost use Rattle.smi_names.specs.chains.Resolution.{ComesTo};
+ghost use Rattle.std.specs.{List.slice_get, Option.option_and_then};
+ghost use Rattle.smi_names.specs.{chains.Chain.nowhere, chains.Resolution.ComesTo};
+ghost use Rattle.smi_names.specs.{meaning.Scopes.decision_of, meaning.Names.module_place};
 ghost use Rattle.smi_names.specs.meaning.Meaning.{origin, module_named, decision, QualifiedName};
-ghost use Rattle.smi_names.specs.meaning.Scopes.{decision_of};
-ghost use Rattle.smi_names.specs.meaning.Names.{module_place};
 
 use crate::chains::{Resolution, Shared};
 use crate::hash::NameHash;

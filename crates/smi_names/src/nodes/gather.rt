@@ -1,12 +1,9 @@
 //! The nodes and warnings that modules give, in order of loading.
 ghost use Rattle.std.specs.Prelude.{◌≡◌, List, [], ◌∷◌, ◌++◌, length, take, Some, OnOk, IfOk};
 ghost use Rattle.std.specs.Prelude.{false, slice_get};
-ghost use Rattle.smi_names.specs.meaning.Meaning.{module_named};
-ghost use Rattle.smi_names.specs.nodes.Nodes.{is_loaded};
+ghost use Rattle.smi_names.specs.{meaning.Meaning.module_named, nodes.Nodes.is_loaded};
 ghost use Rattle.smi_names.specs.nodes.Gathered.{GrowsByDefinition, AddsDefinition};
-ghost use Rattle.smi_names.specs.nodes.Gathered.{AddsDefinitions};
-ghost use Rattle.smi_names.specs.nodes.Gathered.{AreGathered};
-ghost use Rattle.smi_names.specs.nodes.Gathered.{AddsModule};
+ghost use Rattle.smi_names.specs.nodes.Gathered.{AddsDefinitions, AreGathered, AddsModule};
 ghost use Rattle.smi_text.specs.declared.trees.tree.Module.{Module};
 
 use crate::chains::Resolution;

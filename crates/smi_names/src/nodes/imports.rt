@@ -1,8 +1,6 @@
 //! The warnings that the imports of a module give.
-ghost use Rattle.std.specs.Prelude.{◌≡◌, ◌++◌, OnOk};
-ghost use Rattle.std.specs.List.{flat_map};
-ghost use Rattle.smi_names.specs.meaning.Meaning.{module_named};
-ghost use Rattle.smi_names.specs.meaning.Scopes.{decision_of};
+ghost use Rattle.std.specs.{Prelude.◌≡◌, Prelude.◌++◌, Prelude.OnOk, List.flat_map};
+ghost use Rattle.smi_names.specs.{meaning.Meaning.module_named, meaning.Scopes.decision_of};
 ghost use Rattle.smi_names.specs.nodes.Imports as imports;
 
 use crate::meaning::{Decider, Names, TypeBase, import_clauses};

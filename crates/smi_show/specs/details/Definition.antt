@@ -1,9 +1,8 @@
 -- The clauses of a definition as details show them: one per line, with two blanks before the word
 -- and a tab after it.
 use Rattle.std.specs.Prelude.{ℕ, List, [], ◌++◌, codes, Option, Some, None}
-use Rattle.smi_text.specs.declared.trees.tree.DefKind.{DefKind}
+use Rattle.smi_text.specs.{declared.trees.tree.DefKind.DefKind, declared.trees.tree.Status.Status}
 use Rattle.smi_text.specs.declared.trees.tree.DefKind.TheVariants as D
-use Rattle.smi_text.specs.declared.trees.tree.Status.{Status}
 use Rattle.smi_text.specs.declared.trees.tree.ObjectType.{ObjectType}
 use Rattle.smi_show.specs.details.Syntax.{syntax_text}
 

@@ -2,13 +2,10 @@
 -- a value.
 use Rattle.std.specs.Prelude.{◌≡◌, ℕ, Bool, List, [], ◌++◌, codes, Option, Some, None}
 use Rattle.smi_value.specs.declared.letters.letters.NameForm.{NameForm}
-use Rattle.smi_text.specs.declared.trees.tree.Def.{Def}
-use Rattle.smi_text.specs.trees.Lookup.{kind_words}
-use Rattle.smi_show.specs.name.Naming.{Naming, Standing}
-use Rattle.smi_show.specs.name.Name.{IsName}
-use Rattle.smi_show.specs.private.name.Shown.{name_text}
+use Rattle.smi_text.specs.{declared.trees.tree.Def.Def, trees.Lookup.kind_words}
+use Rattle.smi_show.specs.{name.Naming.Naming, name.Naming.Standing, name.Name.IsName}
+use Rattle.smi_show.specs.{private.name.Shown.name_text, details.Value.identifier_text}
 use Rattle.smi_show.specs.details.Definition.{definition_text}
-use Rattle.smi_show.specs.details.Value.{identifier_text}
 
 -- a root is an OBJECT IDENTIFIER
 abbrev pub kind_text : Option Def → List ℕ

@@ -1,15 +1,13 @@
 -- A type as text: its tokens, joined by one blank (RFC 2578, sections 7.1 and 9).
 use Rattle.std.specs.Prelude.{ℕ, List, [], ◌∷◌, ◌++◌, codes, Option, Some, None}
 use Rattle.std.specs.List.{flat_map}
-use Rattle.smi_text.specs.declared.trees.tree.TokenText.{TokenText}
+use Rattle.smi_text.specs.{declared.trees.tree.TokenText.TokenText, declared.trees.tree.Range.Range}
+use Rattle.smi_text.specs.{declared.trees.tree.Base.Base, declared.trees.tree.Syntax.Syntax}
 use Rattle.smi_text.specs.declared.trees.tree.NamedNumber.{NamedNumber}
-use Rattle.smi_text.specs.declared.trees.tree.Range.{Range}
 use Rattle.smi_text.specs.declared.trees.tree.Refinement.{Refinement}
 use Rattle.smi_text.specs.declared.trees.tree.Refinement.TheVariants.{Numbers, Values, Size}
-use Rattle.smi_text.specs.declared.trees.tree.Base.{Base}
 use Rattle.smi_text.specs.declared.trees.tree.Base.TheVariants.{Integer, OctetString}
 use Rattle.smi_text.specs.declared.trees.tree.Base.TheVariants.{ObjectIdentifier, Bits, Named}
-use Rattle.smi_text.specs.declared.trees.tree.Syntax.{Syntax}
 use Rattle.smi_text.specs.declared.trees.tree.Syntax.TheVariants.{SequenceOf, Simple}
 
 -- LOWER "(" NUM ")", with a blank before each token

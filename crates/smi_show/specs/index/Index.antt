@@ -2,8 +2,7 @@
 -- (RFC 2578, section 7.7). A contract sees the value of a part as the list of its numbers, without
 -- a length before it.
 use Rattle.std.specs.Prelude.{◌≡◌, ◌≢◌, ℕ, Bool, true, false, nat_le, List, [], ◌∷◌, ◌++◌, length}
-use Rattle.std.specs.Bool.{OnTrue}
-use Rattle.std.specs.List.{list_all}
+use Rattle.std.specs.{Bool.OnTrue, List.list_all}
 use Rattle.smi_show.specs.declared.index.part.Extent.{Extent}
 use Rattle.smi_show.specs.declared.index.part.Extent.TheVariants.{Fixed, Counted, Implied}
 use Rattle.smi_show.specs.declared.index.part.IndexPart.{IndexPart}

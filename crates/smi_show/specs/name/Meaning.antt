@@ -2,13 +2,11 @@
 -- something.
 use Rattle.std.specs.Prelude.{ℕ, ◌==◌, nat_le, if◌then◌else◌, List, [], ◌∷◌, ◌++◌, length, Option}
 use Rattle.std.specs.Prelude.{Some, None, Result, Ok, Err}
-use Rattle.smi_show.specs.index.Pieces.{piece_numbers}
-use Rattle.smi_show.specs.name.Cutting.{name_parts, module_after}
+use Rattle.smi_show.specs.{index.Pieces.piece_numbers, name.Naming.Naming, name.Cutting.name_parts}
+use Rattle.smi_show.specs.{name.Cutting.module_after, declared.name.error.NameError.NameError}
 use Rattle.smi_show.specs.name.Meant.{Scope, among_roots, anywhere, found_in, in_module}
 use Rattle.smi_show.specs.name.Meant.{is_loaded_in}
-use Rattle.smi_show.specs.name.Naming.{Naming}
 use Rattle.smi_show.specs.name.Word.{Word, a_piece, a_label, word_of}
-use Rattle.smi_show.specs.declared.name.error.NameError.{NameError}
 use Rattle.smi_show.specs.declared.name.error.NameError.TheVariants.{Unknown, TooLong}
 
 abbrev pub and_then : {A B : Type 0} → Result A NameError → (A → Result B NameError)

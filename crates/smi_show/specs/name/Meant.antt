@@ -8,8 +8,7 @@ use Rattle.snmp_io.specs.Quotes.{IsFrontOf}
 use Rattle.smi_show.specs.index.Pieces.{IsPiece, Piece, counted_text, piece_numbers, plain_number}
 use Rattle.smi_show.specs.index.Pieces.{plain_text, shown_piece}
 use Rattle.smi_show.specs.name.Cut.{AreParts, HasNoModule, IsModuleCut}
-use Rattle.smi_show.specs.name.Naming.{Naming}
-use Rattle.smi_show.specs.declared.name.error.NameError.{NameError}
+use Rattle.smi_show.specs.{name.Naming.Naming, declared.name.error.NameError.NameError}
 use Rattle.smi_show.specs.declared.name.error.NameError.TheVariants.{BadIndex, BadNumber, TooLong}
 use Rattle.smi_show.specs.declared.name.error.NameError.TheVariants.{Unknown}
 

@@ -7,12 +7,8 @@ use Rattle.smi_show.specs.index.Pieces.{AreInstancePieces, Piece, shown_pieces}
 use Rattle.smi_show.specs.name.Beginnings.{beginnings, last_number}
 use Rattle.smi_show.specs.name.Naming.{Naming, Standing}
 use Rattle.smi_value.specs.declared.letters.letters.NameForm.{NameForm}
-use Rattle.smi_value.specs.declared.letters.letters.NameForm.TheVariants.{
-  Numeric,
-  Full,
-  Label,
-  ModuleLabel,
-}
+use Rattle.smi_value.specs.declared.letters.letters.NameForm.TheVariants.{Numeric, Full, Label}
+use Rattle.smi_value.specs.declared.letters.letters.NameForm.TheVariants.{ModuleLabel}
 
 -- the label with its module, a root's alone
 abbrev pub qualified : Option (List ℕ) → List ℕ → List ℕ

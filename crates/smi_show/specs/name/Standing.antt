@@ -1,7 +1,6 @@
 -- A node as names see it.
 use Rattle.std.specs.Option.{option_copied}
-use Rattle.smi_show.specs.name.Naming.{Standing}
-use Rattle.smi_show.specs.declared.name.tree.Node.{Node}
+use Rattle.smi_show.specs.{name.Naming.Standing, declared.name.tree.Node.Node}
 
 -- what a node of the code says
 abbrev pub standing_of : Node → Standing

@@ -3,9 +3,8 @@ ghost use Rattle.std.specs.Prelude.{◌≡◌, [], ◌∷◌, ◌++◌, codes, t
 ghost use Rattle.std.specs.List.{flat_map};
 ghost use Rattle.snmp_io.specs.draft.Draft.{Adds};
 ghost use Rattle.smi_show.specs.details.Syntax.{base_text, more_numbers, more_ranges};
-ghost use Rattle.smi_show.specs.details.Syntax.{named_number_text};
-ghost use Rattle.smi_show.specs.details.Syntax.{numbers_text, range_text, ranges_text};
-ghost use Rattle.smi_show.specs.details.Syntax.{refinement_text, syntax_text};
+ghost use Rattle.smi_show.specs.details.Syntax.{named_number_text, numbers_text, range_text};
+ghost use Rattle.smi_show.specs.details.Syntax.{ranges_text, refinement_text, syntax_text};
 ghost use Rattle.smi_show.specs.private.details.Tokens.{AreTokensOf, joined_by_blanks};
 ghost use Rattle.smi_text.specs.lexer.Token.{Lexeme};
 

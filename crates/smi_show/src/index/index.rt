@@ -1,7 +1,6 @@
 //! A whole index, read from the numbers after a column.
 ghost use Rattle.std.specs.Prelude.{◌≡◌, ℕ, ◌↔◌, List, IsTrue};
-ghost use Rattle.smi_show.specs.declared.index.part.IndexPart.{IndexPart};
-ghost use Rattle.smi_show.specs.index.Index.{ReadValues};
+ghost use Rattle.smi_show.specs.{declared.index.part.IndexPart.IndexPart, index.Index.ReadValues};
 
 use crate::index::{IndexPart, read_part};
 

@@ -1,17 +1,15 @@
 //! The text of an instance: numbers with a dot before each, or the values of an index with strings
 //! in quotes.
 ghost use Rattle.std.specs.Prelude.{◌≡◌, ◌≢◌, ℕ, ◌<◌, ◌≤◌, ◌^◌, ◌∷◌, ◌++◌, [], List, All, length};
-ghost use Rattle.std.specs.Prelude.{codes, decimal, IsTrue, Option, Some, None, true, false};
-ghost use Rattle.std.specs.Prelude.{take, ◌+◌, ◌*◌};
-ghost use Rattle.std.specs.Bool.{OnTrue, OnFalse};
-ghost use Rattle.std.specs.Option.{is_some};
+ghost use Rattle.std.specs.Prelude.{codes, decimal, IsTrue, Option, Some, None, true, false, take};
+ghost use Rattle.std.specs.Prelude.{◌+◌, ◌*◌};
+ghost use Rattle.std.specs.{Bool.OnTrue, Bool.OnFalse, Option.is_some};
 ghost use Rattle.std.specs.List.{flat_map, list_all};
 ghost use Rattle.snmp_io.specs.draft.Draft.{Adds};
 ghost use Rattle.smi_show.specs.declared.index.part.IndexPart.{IndexPart};
 ghost use Rattle.smi_show.specs.private.index.Reading.{has_text, instance_pieces, values_of};
-ghost use Rattle.smi_show.specs.index.Pieces.{IsPiece, as_numbers, as_text, index_pieces};
-ghost use Rattle.smi_show.specs.index.Pieces.{is_plain, is_quotable, is_shown_text, is_text};
-ghost use Rattle.smi_show.specs.index.Pieces.{piece_numbers};
+ghost use Rattle.smi_show.specs.index.Pieces.{IsPiece, as_numbers, as_text, index_pieces, is_plain};
+ghost use Rattle.smi_show.specs.index.Pieces.{is_quotable, is_shown_text, is_text, piece_numbers};
 ghost use Rattle.smi_show.specs.index.Pieces.{shown_pieces, value_pieces};
 ghost use Rattle.smi_show.specs.private.index.Digits.{three_digits};
 

@@ -1,10 +1,7 @@
 //! What holds of the meanings of names, for proofs.
 ghost use Rattle.std.specs.Prelude.{◌≡◌, ℕ, List, Ok, Result};
-ghost use Rattle.snmp_oid.specs.Identifier.{IsIdentifier};
-ghost use Rattle.snmp_oid.specs.Numeric.{numeric_text};
-ghost use Rattle.smi_show.specs.name.Meaning.{meaning};
-ghost use Rattle.smi_show.specs.name.Meant.{TextMeans};
-ghost use Rattle.smi_show.specs.name.Naming.{Naming};
+ghost use Rattle.snmp_oid.specs.{Identifier.IsIdentifier, Numeric.numeric_text};
+ghost use Rattle.smi_show.specs.{name.Meaning.meaning, name.Meant.TextMeans, name.Naming.Naming};
 ghost use Rattle.smi_show.specs.declared.name.error.NameError.{NameError};
 
 use snmp_oid::names;

@@ -1,18 +1,15 @@
 //! The identifier that a name means, by its parts from the left.
-ghost use Rattle.std.specs.Prelude.{◌≡◌, ◌<◌, ℕ, Bool, List, [], Ok, Err, IfErr, IfOk, IfSome};
-ghost use Rattle.std.specs.Prelude.{◌≤◌, MatchResult, OnOk, length, option_map, true};
+ghost use Rattle.std.specs.Prelude.{◌≡◌, ◌<◌, ℕ, Bool, List, [], Ok, Err, IfErr, IfOk, IfSome, ◌≤◌};
+ghost use Rattle.std.specs.Prelude.{MatchResult, OnOk, length, option_map, true};
 ghost use Rattle.std.specs.Option.{option_copied};
-ghost use Rattle.snmp_oid.specs.Identifier.{IsIdentifier};
-ghost use Rattle.snmp_oid.specs.Numeric.{IsNumericName};
+ghost use Rattle.snmp_oid.specs.{Identifier.IsIdentifier, Numeric.IsNumericName};
 ghost use Rattle.smi_value.specs.declared.letters.letters.NameForm.{NameForm};
 ghost use Rattle.smi_show.specs.name.Cutting.{name_parts, module_after};
 ghost use Rattle.smi_show.specs.private.name.Left.{parts_left};
-ghost use Rattle.smi_show.specs.name.Meaning.{further_meaning, meaning, meaning_in};
-ghost use Rattle.smi_show.specs.name.Meaning.{or_unknown, part_meaning, plain_meaning};
-ghost use Rattle.smi_show.specs.name.Meaning.{scoped_meaning};
+ghost use Rattle.smi_show.specs.name.Meaning.{further_meaning, meaning, meaning_in, or_unknown};
+ghost use Rattle.smi_show.specs.name.Meaning.{part_meaning, plain_meaning, scoped_meaning};
 ghost use Rattle.smi_show.specs.name.Meant.{FrontMeans, TextMeans, found_in};
-ghost use Rattle.smi_show.specs.name.Name.{IsName, ReadsBack};
-ghost use Rattle.smi_show.specs.private.name.Part.{scope_in};
+ghost use Rattle.smi_show.specs.{name.Name.IsName, name.Name.ReadsBack, private.name.Part.scope_in};
 ghost use Rattle.smi_show.specs.private.name.Reading.{meant_with, read_to};
 
 use crate::name::cut::{cut_module, cut_part};

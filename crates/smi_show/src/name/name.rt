@@ -1,14 +1,13 @@
 //! The name of an identifier as text.
-ghost use Rattle.std.specs.Prelude.{◌≡◌, ◌≤◌, ◌++◌, ℕ, List, [], length, option_map};
-ghost use Rattle.std.specs.Prelude.{decimal, drop, take, codes, if◌then◌else◌, Some, None};
+ghost use Rattle.std.specs.Prelude.{◌≡◌, ◌≤◌, ◌++◌, ℕ, List, [], length, option_map, decimal, drop};
+ghost use Rattle.std.specs.Prelude.{take, codes, if◌then◌else◌, Some, None};
 ghost use Rattle.std.specs.Option.{option_copied};
 ghost use Rattle.snmp_oid.specs.Numeric.{numeric_text};
 ghost use Rattle.snmp_io.specs.draft.Draft.{Adds};
-ghost use Rattle.smi_show.specs.index.Pieces.{shown_pieces};
+ghost use Rattle.smi_show.specs.{index.Pieces.shown_pieces, name.Standing.standing_of};
 ghost use Rattle.smi_show.specs.private.index.Reading.{instance_pieces};
 ghost use Rattle.smi_show.specs.name.Name.{arc_text, node_text, path_text, qualified};
 ghost use Rattle.smi_show.specs.private.name.Shown.{instance_text, name_text, standing_text};
-ghost use Rattle.smi_show.specs.name.Standing.{standing_of};
 
 use crate::Near;
 use crate::index::{index_text, numbers_text};

@@ -1,10 +1,8 @@
 //! Reads a part of a name on its own.
 ghost use Rattle.std.specs.Prelude.{◌≡◌, ◌≢◌, ℕ, [], option_map};
-ghost use Rattle.std.specs.Option.{option_copied};
-ghost use Rattle.std.specs.List.{list_all};
-ghost use Rattle.smi_show.specs.index.Pieces.{is_quotable};
+ghost use Rattle.std.specs.{Option.option_copied, List.list_all};
+ghost use Rattle.smi_show.specs.{index.Pieces.is_quotable, private.name.Part.outcome_in};
 ghost use Rattle.smi_show.specs.name.Word.{numeral_of, quoted_in, word_of};
-ghost use Rattle.smi_show.specs.private.name.Part.{outcome_in};
 
 use crate::index::is_quotable;
 use crate::name::NameError;

@@ -1,9 +1,7 @@
 //! Numbers after an identifier, as a part of a name gives them.
 ghost use Rattle.std.specs.Prelude.{◌≡◌, ◌++◌, ◌∷◌, [], length};
-ghost use Rattle.smi_show.specs.index.Pieces.{piece_numbers};
-ghost use Rattle.smi_show.specs.name.Meaning.{fitting};
-ghost use Rattle.smi_show.specs.private.name.Part.{piece_in};
-ghost use Rattle.smi_show.specs.private.name.Reading.{read_to};
+ghost use Rattle.smi_show.specs.{index.Pieces.piece_numbers, name.Meaning.fitting};
+ghost use Rattle.smi_show.specs.{private.name.Part.piece_in, private.name.Reading.read_to};
 
 use crate::name::NameError;
 use crate::name::word::Piece;

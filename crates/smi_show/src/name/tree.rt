@@ -1,6 +1,5 @@
 //! The tree of nodes that names are read and shown by.
-ghost use Rattle.std.specs.Prelude.{◌≡◌, option_map};
-ghost use Rattle.std.specs.Option.{option_copied};
+ghost use Rattle.std.specs.{Prelude.◌≡◌, Prelude.option_map, Option.option_copied};
 ghost use Rattle.smi_show.specs.name.Naming.{IsSound, Naming, Standing};
 ghost use Rattle.smi_show.specs.name.Standing.{standing_of};
 

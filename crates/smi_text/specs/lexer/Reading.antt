@@ -1,20 +1,17 @@
 -- The tokens of a text, computed in the plain, slow way: every front of what is left is tried, the
 -- longest first. The law that this agrees with `Lexes` is in proofs/; only private clauses use this
 -- file.
-use Rattle.std.specs.Prelude.{◌≡◌, ℕ, zero, suc, pred, ◌+◌, ◌<◌, ◌≤◌, ◌⊎◌, not, get_or, Bool}
-use Rattle.std.specs.Prelude.{true, false, if◌then◌else◌, ◌&&◌, ◌||◌, ◌==◌, Option, Some, None}
-use Rattle.std.specs.Prelude.{Ok, Err, List, [], ◌∷◌, length, take, drop, count_by}
-use Rattle.std.specs.List.{list_all}
-use Rattle.std.specs.Int.{w64, trailing_zeros}
-use Rattle.std.specs.Bool.{then_some}
+use Rattle.std.specs.Prelude.{◌≡◌, ℕ, zero, suc, pred, ◌+◌, ◌<◌, ◌≤◌, ◌⊎◌, not, get_or, Bool, true}
+use Rattle.std.specs.Prelude.{false, if◌then◌else◌, ◌&&◌, ◌||◌, ◌==◌, Option, Some, None, Ok, Err}
+use Rattle.std.specs.Prelude.{List, [], ◌∷◌, length, take, drop, count_by}
+use Rattle.std.specs.{List.list_all, Int.w64, Int.trailing_zeros, Bool.then_some}
 use Rattle.std.specs.Char.{is_ascii_lowercase, is_ascii_uppercase, is_ascii_digit}
 use Rattle.std.specs.Char.{is_ascii_hexdigit}
 use Rattle.smi_text.specs.declared.lexer.class.Class.{Class}
 use Rattle.smi_text.specs.declared.lexer.class.Class.TheVariants as C
 use Rattle.smi_text.specs.declared.lexer.token.TokenKind.{TokenKind}
 use Rattle.smi_text.specs.declared.lexer.token.TokenKind.TheVariants as K
-use Rattle.smi_text.specs.lexer.Token.{Lexeme, Item}
-use Rattle.smi_text.specs.lexer.Lexes.{fault_on}
+use Rattle.smi_text.specs.{lexer.Token.Lexeme, lexer.Token.Item, lexer.Lexes.fault_on}
 use Rattle.smi_text.specs.lexer.Lexeme.{Part, gap, lexeme, is_blank, is_hyphen, is_newline}
 use Rattle.smi_text.specs.lexer.Lexeme.{is_binary_digit, begins, is_word_rest}
 

@@ -7,11 +7,9 @@ use Rattle.std.specs.List.{list_any, list_all}
 use Rattle.std.proofs.Common.{◌⊎◌, inl, inr, zero, suc}
 use Rattle.smi_text.specs.declared.lexer.token.TokenKind.{TokenKind}
 use Rattle.smi_text.specs.declared.lexer.token.TokenKind.TheVariants.{Lower, Upper}
-use Rattle.smi_text.specs.lexer.Token.{Lexeme, Item}
+use Rattle.smi_text.specs.{lexer.Token.Lexeme, lexer.Token.Item, trees.Word.is_word}
+use Rattle.smi_text.specs.{trees.Reserved.is_reserved, declared.trees.names.Name.Name}
 use Rattle.smi_text.specs.trees.Mark.{Mark, sign_text, same_kind, same_text, MarksToken}
-use Rattle.smi_text.specs.trees.Word.{is_word}
-use Rattle.smi_text.specs.trees.Reserved.{is_reserved}
-use Rattle.smi_text.specs.declared.trees.names.Name.{Name}
 
 -- a condition on the token ahead: it is this word of the grammar, a name in upper case, or of this
 -- kind; or it is not this word, or not of this kind

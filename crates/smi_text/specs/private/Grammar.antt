@@ -1,51 +1,42 @@
 -- The productions of the grammar as formats: each reads the part of the tree that its case of the
 -- spelling states.
-use Rattle.std.specs.Prelude.{ℕ, ◌+◌, ◌-◌, ◌==◌, Bool, true, false, ◌&&◌, not, List, [], ◌∷◌}
-use Rattle.std.specs.Prelude.{◌++◌, length, Option, Some, None, Ok, Err, codes, map}
-use Rattle.std.specs.Prelude.{if◌then◌else◌, option_and_then, option_map}
+use Rattle.std.specs.Prelude.{ℕ, ◌+◌, ◌-◌, ◌==◌, Bool, true, false, ◌&&◌, not, List, [], ◌∷◌, ◌++◌}
+use Rattle.std.specs.Prelude.{length, Option, Some, None, Ok, Err, codes, map, if◌then◌else◌}
+use Rattle.std.specs.Prelude.{option_and_then, option_map}
 use Rattle.std.proofs.Common.{◌⊎◌, inl, inr, zero, suc}
 use Rattle.smi_text.specs.declared.lexer.token.TokenKind.{TokenKind}
 use Rattle.smi_text.specs.declared.lexer.token.TokenKind.TheVariants as K
-use Rattle.smi_text.specs.lexer.Token.{Lexeme, Item}
-use Rattle.smi_text.specs.trees.Mark.{same_kind, same_text}
-use Rattle.smi_text.specs.trees.Reserved.{macros}
+use Rattle.smi_text.specs.{lexer.Token.Lexeme, lexer.Token.Item, trees.Mark.same_kind}
+use Rattle.smi_text.specs.{trees.Mark.same_text, trees.Reserved.macros}
+use Rattle.smi_text.specs.{declared.trees.names.Name.Name, declared.trees.tree.Module.Module}
+use Rattle.smi_text.specs.{declared.modules.Head.Head, declared.trees.tree.Import.Import}
+use Rattle.smi_text.specs.{declared.trees.tree.TokenText.TokenText, declared.trees.tree.Def.Def}
+use Rattle.smi_text.specs.{declared.trees.tree.DefKind.DefKind, declared.trees.tree.Part.Part}
+use Rattle.smi_text.specs.{declared.trees.tree.Revision.Revision, declared.trees.tree.Status.Status}
+use Rattle.smi_text.specs.{declared.trees.tree.Index.Index, declared.trees.tree.Group.Group}
+use Rattle.smi_text.specs.{declared.trees.tree.Field.Field, declared.trees.tree.Syntax.Syntax}
+use Rattle.smi_text.specs.{declared.trees.tree.Base.Base, declared.trees.tree.Range.Range}
 use Rattle.smi_text.specs.trees.Number.{is_arc, is_number, is_bound, is_symbol, is_macro}
 use Rattle.smi_text.specs.private.Format.{Format, Parsed, Ahead, a_word, a_name, a_kind, no_word}
 use Rattle.smi_text.specs.private.Format.{no_kind, begins, one, word, token, text, text_where, name}
 use Rattle.smi_text.specs.private.Format.{pair, behind, before, maybe, either, many, shaped}
 use Rattle.smi_text.specs.private.Format.{some_of, separated, lined, with_front, lower, name_where}
-use Rattle.smi_text.specs.declared.trees.names.Name.{Name}
-use Rattle.smi_text.specs.declared.trees.tree.Module.{Module}
-use Rattle.smi_text.specs.declared.modules.Head.{Head}
-use Rattle.smi_text.specs.declared.trees.tree.Import.{Import}
-use Rattle.smi_text.specs.declared.trees.tree.TokenText.{TokenText}
-use Rattle.smi_text.specs.declared.trees.tree.Def.{Def}
-use Rattle.smi_text.specs.declared.trees.tree.DefKind.{DefKind}
 use Rattle.smi_text.specs.declared.trees.tree.DefKind.TheVariants as D
-use Rattle.smi_text.specs.declared.trees.tree.Part.{Part}
 use Rattle.smi_text.specs.declared.trees.tree.Part.TheVariants as P
 use Rattle.smi_text.specs.declared.trees.tree.NamedNumber.{NamedNumber}
 use Rattle.smi_text.specs.declared.trees.tree.ModuleIdentity.{ModuleIdentity}
-use Rattle.smi_text.specs.declared.trees.tree.Revision.{Revision}
 use Rattle.smi_text.specs.declared.trees.tree.ObjectIdentity.{ObjectIdentity}
-use Rattle.smi_text.specs.declared.trees.tree.Status.{Status}
 use Rattle.smi_text.specs.declared.trees.tree.ObjectType.{ObjectType}
-use Rattle.smi_text.specs.declared.trees.tree.Index.{Index}
 use Rattle.smi_text.specs.declared.trees.tree.Index.TheVariants as I
 use Rattle.smi_text.specs.declared.trees.tree.IndexParts.{IndexParts}
 use Rattle.smi_text.specs.declared.trees.tree.NotificationType.{NotificationType}
-use Rattle.smi_text.specs.declared.trees.tree.Group.{Group}
 use Rattle.smi_text.specs.declared.trees.tree.RawDefinition.{RawDefinition}
 use Rattle.smi_text.specs.declared.trees.tree.TextualConvention.{TextualConvention}
-use Rattle.smi_text.specs.declared.trees.tree.Field.{Field}
-use Rattle.smi_text.specs.declared.trees.tree.Syntax.{Syntax}
 use Rattle.smi_text.specs.declared.trees.tree.Syntax.TheVariants as T
 use Rattle.smi_text.specs.declared.trees.tree.SimpleType.{SimpleType}
-use Rattle.smi_text.specs.declared.trees.tree.Base.{Base}
 use Rattle.smi_text.specs.declared.trees.tree.Base.TheVariants as B
 use Rattle.smi_text.specs.declared.trees.tree.Refinement.{Refinement}
 use Rattle.smi_text.specs.declared.trees.tree.Refinement.TheVariants as R
-use Rattle.smi_text.specs.declared.trees.tree.Range.{Range}
 
 -- pieces and parts
 

@@ -2,22 +2,17 @@
 use Rattle.std.specs.Prelude.{◌≡◌, ℕ, Bool, true, false, List, [], ◌∷◌, ◌++◌, Option, Some, None}
 use Rattle.std.specs.Prelude.{Result, Ok, Err}
 use Rattle.std.specs.Borrow.{Bor}
-use Rattle.smi_text.specs.lexer.Token.{Lexeme, Item, tokens_of}
-use Rattle.smi_text.specs.declared.stop.Stop.{Stop}
+use Rattle.smi_text.specs.{lexer.Token.Lexeme, lexer.Token.Item, lexer.Token.tokens_of}
+use Rattle.smi_text.specs.{declared.stop.Stop.Stop, declared.error.ParseError.ParseError}
+use Rattle.smi_text.specs.{trees.Mark.Stands, trees.Spelling.of_head, trees.Lookup.labels}
+use Rattle.smi_text.specs.{trees.Lookup.are_distinct, declared.trees.names.Name.Name}
+use Rattle.smi_text.specs.{declared.trees.tree.Module.Module, declared.trees.tree.Part.Part}
+use Rattle.smi_text.specs.{declared.trees.tree.Import.Import, declared.trees.tree.Def.Def}
 use Rattle.smi_text.specs.declared.stop.Stop.TheVariants.{Syntax, Lex, Memory}
-use Rattle.smi_text.specs.declared.error.ParseError.{ParseError}
 use Rattle.smi_text.specs.declared.error.ParseError.TheVariants as E
-use Rattle.smi_text.specs.trees.Mark.{Stands}
 use Rattle.smi_text.specs.private.Format.{Parsed, token_ahead, begins, many}
 use Rattle.smi_text.specs.private.Grammar.{definition, module_text, file}
-use Rattle.smi_text.specs.trees.Spelling.{of_head}
-use Rattle.smi_text.specs.trees.Lookup.{labels, are_distinct}
-use Rattle.smi_text.specs.declared.trees.names.Name.{Name}
 use Rattle.smi_text.specs.Text.{HasNoDoubles, BreaksOff, HasSecond, DefinesAgain}
-use Rattle.smi_text.specs.declared.trees.tree.Module.{Module}
-use Rattle.smi_text.specs.declared.trees.tree.Part.{Part}
-use Rattle.smi_text.specs.declared.trees.tree.Import.{Import}
-use Rattle.smi_text.specs.declared.trees.tree.Def.{Def}
 
 -- the step stopped because memory ran out
 abbrev pub is_memory : Stop → Bool

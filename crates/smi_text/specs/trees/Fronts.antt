@@ -2,8 +2,7 @@
 use Rattle.std.specs.Prelude.{ℕ, ◌==◌, Bool, ◌&&◌, nat_le, List, [], ◌∷◌, map, count_by}
 use Rattle.std.specs.List.{list_all}
 use Rattle.smi_text.specs.declared.lexer.token.TokenKind.TheVariants.{OpenBrace, CloseBrace}
-use Rattle.smi_text.specs.declared.trees.tree.TokenText.{TokenText}
-use Rattle.smi_text.specs.trees.Mark.{same_kind}
+use Rattle.smi_text.specs.{declared.trees.tree.TokenText.TokenText, trees.Mark.same_kind}
 
 -- how many of the tokens open a brace, and how many close one
 abbrev pub opening_braces : List TokenText → ℕ

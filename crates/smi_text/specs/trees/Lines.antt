@@ -1,9 +1,8 @@
 -- Module trees and their spelling without lines.
 use Rattle.std.specs.Prelude.{map, option_map}
-use Rattle.smi_text.specs.trees.Mark.{Mark, spelled, on_line}
-use Rattle.smi_text.specs.declared.trees.tree.Module.{Module}
+use Rattle.smi_text.specs.{trees.Mark.Mark, trees.Mark.spelled, trees.Mark.on_line}
+use Rattle.smi_text.specs.{declared.trees.tree.Module.Module, declared.trees.tree.Def.Def}
 use Rattle.smi_text.specs.declared.trees.tree.Import.{Import}
-use Rattle.smi_text.specs.declared.trees.tree.Def.{Def}
 
 -- what a mark says of a token, without its line
 abbrev pub plain : Mark → Mark

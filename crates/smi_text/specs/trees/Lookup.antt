@@ -2,15 +2,12 @@
 use Rattle.std.specs.Prelude.{ℕ, Bool, true, ◌&&◌, not, List, [], ◌∷◌, Option, Some, None, codes}
 use Rattle.std.specs.Prelude.{map, unwrap_or}
 use Rattle.std.specs.List.{list_any, find}
-use Rattle.smi_text.specs.trees.Mark.{same_text}
-use Rattle.smi_text.specs.declared.trees.tree.Module.{Module}
-use Rattle.smi_text.specs.declared.trees.tree.Import.{Import}
-use Rattle.smi_text.specs.declared.trees.tree.Def.{Def}
+use Rattle.smi_text.specs.{trees.Mark.same_text, declared.trees.tree.Module.Module}
+use Rattle.smi_text.specs.{declared.trees.tree.Import.Import, declared.trees.tree.Def.Def}
+use Rattle.smi_text.specs.{declared.trees.tree.Part.Part, trees.Number.arc_in}
 use Rattle.smi_text.specs.declared.trees.tree.DefKind.{DefKind}
 use Rattle.smi_text.specs.declared.trees.tree.DefKind.TheVariants as D
-use Rattle.smi_text.specs.declared.trees.tree.Part.{Part}
 use Rattle.smi_text.specs.declared.trees.tree.Part.TheVariants as P
-use Rattle.smi_text.specs.trees.Number.{arc_in}
 
 -- the definition is of this name
 abbrev pub defines : List ℕ → Def → Bool

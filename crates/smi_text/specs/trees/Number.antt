@@ -1,12 +1,10 @@
 -- Numbers of module texts and their ranges (RFC 2578, sections 3.5 and 7.1).
 use Rattle.std.specs.Prelude.{ℕ, ℤ, pos, ◌-ℤ◌, ◌+◌, ◌-◌, ◌*◌, ◌^◌, ◌==◌, Bool, false, ◌&&◌, ◌||◌}
 use Rattle.std.specs.Prelude.{not, nat_le, List, [], ◌∷◌, Option, length, drop, take, if◌then◌else◌}
-use Rattle.std.specs.Bool.{then_some}
-use Rattle.std.specs.List.{list_any}
-use Rattle.smi_text.specs.declared.lexer.token.TokenKind.{TokenKind}
+use Rattle.std.specs.{Bool.then_some, List.list_any}
+use Rattle.smi_text.specs.{declared.lexer.token.TokenKind.TokenKind, trees.Mark.same_text}
+use Rattle.smi_text.specs.{trees.Mark.same_kind, trees.Reserved.is_reserved, trees.Reserved.macros}
 use Rattle.smi_text.specs.declared.lexer.token.TokenKind.TheVariants as K
-use Rattle.smi_text.specs.trees.Mark.{same_text, same_kind}
-use Rattle.smi_text.specs.trees.Reserved.{is_reserved, macros}
 
 -- the value of a digit of a base up to 16, in either case
 abbrev pub digit_value : ℕ → ℕ

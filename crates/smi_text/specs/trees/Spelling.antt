@@ -6,40 +6,32 @@ use Rattle.std.specs.Prelude.{None, codes, map, if◌then◌else◌}
 use Rattle.std.specs.List.{flat_map}
 use Rattle.smi_text.specs.declared.lexer.token.TokenKind.TheVariants as K
 use Rattle.smi_text.specs.trees.Mark.{Mark, sign, spelled, on_line, same_kind, same_text}
-use Rattle.smi_text.specs.trees.Reserved.{is_reserved}
+use Rattle.smi_text.specs.{trees.Reserved.is_reserved, trees.Fronts.has_balanced_braces}
+use Rattle.smi_text.specs.{declared.trees.names.Name.Name, declared.trees.tree.Module.Module}
+use Rattle.smi_text.specs.{declared.trees.tree.Import.Import, declared.trees.tree.Def.Def}
+use Rattle.smi_text.specs.{declared.trees.tree.DefKind.DefKind, declared.trees.tree.Part.Part}
+use Rattle.smi_text.specs.{declared.trees.tree.Revision.Revision, declared.trees.tree.Status.Status}
+use Rattle.smi_text.specs.{declared.trees.tree.Index.Index, declared.trees.tree.Group.Group}
+use Rattle.smi_text.specs.{declared.trees.tree.Field.Field, declared.trees.tree.Syntax.Syntax}
+use Rattle.smi_text.specs.{declared.trees.tree.Base.Base, declared.trees.tree.Range.Range}
 use Rattle.smi_text.specs.trees.Number.{is_arc, is_number, is_bound, is_symbol, is_macro}
-use Rattle.smi_text.specs.trees.Fronts.{has_balanced_braces}
-use Rattle.smi_text.specs.declared.trees.names.Name.{Name}
-use Rattle.smi_text.specs.declared.trees.tree.Module.{Module}
-use Rattle.smi_text.specs.declared.trees.tree.Import.{Import}
 use Rattle.smi_text.specs.declared.trees.tree.TokenText.{TokenText}
-use Rattle.smi_text.specs.declared.trees.tree.Def.{Def}
-use Rattle.smi_text.specs.declared.trees.tree.DefKind.{DefKind}
 use Rattle.smi_text.specs.declared.trees.tree.DefKind.TheVariants as D
-use Rattle.smi_text.specs.declared.trees.tree.Part.{Part}
 use Rattle.smi_text.specs.declared.trees.tree.Part.TheVariants as P
 use Rattle.smi_text.specs.declared.trees.tree.NamedNumber.{NamedNumber}
 use Rattle.smi_text.specs.declared.trees.tree.ModuleIdentity.{ModuleIdentity}
-use Rattle.smi_text.specs.declared.trees.tree.Revision.{Revision}
 use Rattle.smi_text.specs.declared.trees.tree.ObjectIdentity.{ObjectIdentity}
-use Rattle.smi_text.specs.declared.trees.tree.Status.{Status}
 use Rattle.smi_text.specs.declared.trees.tree.ObjectType.{ObjectType}
-use Rattle.smi_text.specs.declared.trees.tree.Index.{Index}
 use Rattle.smi_text.specs.declared.trees.tree.Index.TheVariants as I
 use Rattle.smi_text.specs.declared.trees.tree.NotificationType.{NotificationType}
-use Rattle.smi_text.specs.declared.trees.tree.Group.{Group}
 use Rattle.smi_text.specs.declared.trees.tree.RawDefinition.{RawDefinition}
 use Rattle.smi_text.specs.declared.trees.tree.TextualConvention.{TextualConvention}
 use Rattle.smi_text.specs.declared.trees.tree.TypeAssignment.{TypeAssignment}
-use Rattle.smi_text.specs.declared.trees.tree.Field.{Field}
-use Rattle.smi_text.specs.declared.trees.tree.Syntax.{Syntax}
 use Rattle.smi_text.specs.declared.trees.tree.Syntax.TheVariants as T
 use Rattle.smi_text.specs.declared.trees.tree.SimpleType.{SimpleType}
-use Rattle.smi_text.specs.declared.trees.tree.Base.{Base}
 use Rattle.smi_text.specs.declared.trees.tree.Base.TheVariants as B
 use Rattle.smi_text.specs.declared.trees.tree.Refinement.{Refinement}
 use Rattle.smi_text.specs.declared.trees.tree.Refinement.TheVariants as R
-use Rattle.smi_text.specs.declared.trees.tree.Range.{Range}
 
 -- tokens
 

@@ -1,19 +1,16 @@
 //! The lengths of lexemes and gaps, for the lexer's `next`.
 ghost use Rattle.std.specs.Prelude.{◌≡◌, ◌≤◌, ◌<◌, ℕ, drop, length};
-ghost use Rattle.std.specs.List.{list_all};
-ghost use Rattle.std.specs.Option.{option_map};
+ghost use Rattle.std.specs.{List.list_all, Option.option_map};
 ghost use Rattle.std.specs.Char.{is_ascii_digit, is_ascii_hexdigit};
 ghost use Rattle.smi_text.specs.lexer.Lexeme.{IsLexeme, lexeme, is_binary_digit, is_blank};
-ghost use Rattle.smi_text.specs.lexer.Lexeme.{is_hyphen};
-ghost use Rattle.smi_text.specs.lexer.Lexeme.{is_open_string, is_word_octet, is_word_rest};
+ghost use Rattle.smi_text.specs.lexer.Lexeme.{is_hyphen, is_open_string, is_word_octet};
+ghost use Rattle.smi_text.specs.lexer.Lexeme.{is_word_rest};
 ghost use Rattle.smi_text.specs.lexer.Reading.{GoesOn, HasNoGap, IsFirstPlace, IsLexemeFront};
 ghost use Rattle.smi_text.specs.lexer.Reading.{ArePassedBetween, IsRunBetween, is_space_or_tab};
 ghost use Rattle.smi_text.specs.lexer.Reading.{IsLongestPassing, IsPartFront, IsRemarkEnd, Skips};
 ghost use Rattle.smi_text.specs.lexer.Reading.{is_comment_rest, is_remark_rest, hyphen_part};
-ghost use Rattle.smi_text.specs.lexer.Reading.{literal_of};
-ghost use Rattle.smi_text.specs.lexer.Reading.{literal_part, newlines, part_in, part_of};
-ghost use Rattle.smi_text.specs.lexer.Reading.{string_part};
-ghost use Rattle.smi_text.specs.lexer.Reading.{symbol_part};
+ghost use Rattle.smi_text.specs.lexer.Reading.{literal_of, literal_part, newlines, part_in};
+ghost use Rattle.smi_text.specs.lexer.Reading.{part_of, string_part, symbol_part};
 
 use crate::lexer::class::{Class, class_of_octet};
 use crate::lexer::lanes::{LANES, blank_run, word_run};

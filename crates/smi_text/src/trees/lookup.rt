@@ -1,6 +1,5 @@
 //! What a module defines and imports, and what a definition says of its name.
-ghost use Rattle.std.specs.Prelude.{◌≡◌};
-ghost use Rattle.std.specs.Option.{option_copied};
+ghost use Rattle.std.specs.{Prelude.◌≡◌, Option.option_copied};
 ghost use Rattle.smi_text.specs.trees.Lookup as lookup;
 
 use crate::trees::items::Items;

@@ -3,8 +3,7 @@
 #![tactic(auto, unfolding(crate::specs::trees::Reserved::is_reserved, crate::specs::trees::Number::is_macro))]
 
 ghost use Rattle.std.specs.Prelude.{◌≡◌, get_or, map};
-ghost use Rattle.std.specs.Char.{is_ascii_uppercase};
-ghost use Rattle.std.specs.List.{list_any};
+ghost use Rattle.std.specs.{Char.is_ascii_uppercase, List.list_any};
 ghost use Rattle.smi_text.specs.trees.Mark.{same_text};
 ghost use Rattle.smi_text.specs.trees.Reserved as words;
 ghost use Rattle.smi_text.specs.trees.Number as number;

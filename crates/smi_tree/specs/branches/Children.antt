@@ -1,6 +1,5 @@
 -- What an iterator over the children has left.
-use Rattle.std.specs.Prelude.{ℕ, List}
-use Rattle.std.specs.List.{filter_map}
+use Rattle.std.specs.{Prelude.ℕ, Prelude.List, List.filter_map}
 use Rattle.smi_tree.specs.branches.Branches.{standing_at}
 use Rattle.smi_tree.specs.declared.branches.identifiers.Children.{Children}
 

@@ -1,26 +1,8 @@
 -- The place that stands for an identifier in a list of identifiers: the first one with it.
-use Rattle.std.specs.Prelude.{
-  ◌≡◌,
-  ℕ,
-  ◌<◌,
-  ◌≤◌,
-  List,
-  [],
-  ◌∷◌,
-  ◌++◌,
-  length,
-  take,
-  slice_index_or,
-  Contains,
-  Option,
-  Some,
-  None,
-  nat_eq,
-}
-use Rattle.std.specs.List.{position_from, filter_map}
-use Rattle.std.specs.Cmp.Lexicographic.{pointwise}
-use Rattle.std.specs.List.Sorted.{IsStrictlySortedBy}
-use Rattle.std.specs.Ordering.{nat_cmp}
+use Rattle.std.specs.Prelude.{◌≡◌, ℕ, ◌<◌, ◌≤◌, List, [], ◌∷◌, ◌++◌, length, take, slice_index_or}
+use Rattle.std.specs.Prelude.{Contains, Option, Some, None, nat_eq}
+use Rattle.std.specs.{List.position_from, List.filter_map, Cmp.Lexicographic.pointwise}
+use Rattle.std.specs.{List.Sorted.IsStrictlySortedBy, Ordering.nat_cmp}
 use Rattle.snmp_oid.specs.Identifier.{IsBelow}
 
 -- the first place of the identifier

@@ -1,8 +1,7 @@
 -- The definitions that names lead to (RFC 2578, sections 3.1 and 3.2).
 use Rattle.std.specs.Prelude.{◌≡◌, ℕ, List, Some}
-use Rattle.smi_text.specs.declared.trees.tree.Module.{Module}
+use Rattle.smi_text.specs.{declared.trees.tree.Module.Module, declared.trees.tree.Def.Def}
 use Rattle.smi_text.specs.declared.trees.tree.Import.{Import}
-use Rattle.smi_text.specs.declared.trees.tree.Def.{Def}
 use Rattle.smi_names.specs.meaning.Meaning.{QualifiedName, defined, imported, decision}
 use Rattle.smi_names.specs.meaning.Meaning.{module_named}
 

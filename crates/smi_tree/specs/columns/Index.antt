@@ -1,41 +1,19 @@
 -- The index of a column: what identifies the rows of its table (RFC 2578, sections 7.7 and 7.8).
-use Rattle.std.specs.Prelude.{
-  ◌≡◌,
-  ℕ,
-  ◌+◌,
-  ◌==◌,
-  Bool,
-  ◌&&◌,
-  List,
-  [],
-  ◌∷◌,
-  ◌++◌,
-  length,
-  map,
-  slice_index_or,
-  Option,
-  Some,
-  None,
-}
+use Rattle.std.specs.Prelude.{◌≡◌, ℕ, ◌+◌, ◌==◌, Bool, ◌&&◌, List, [], ◌∷◌, ◌++◌, length, map}
+use Rattle.std.specs.Prelude.{slice_index_or, Option, Some, None}
 use Rattle.std.specs.List.{slice_get}
-use Rattle.smi_names.specs.chains.Resolution.{ComesTo}
+use Rattle.smi_names.specs.{chains.Resolution.ComesTo, meaning.Meaning.origin, nodes.Nodes.Node}
 use Rattle.smi_names.specs.declared.chains.resolution.Resolution.TheVariants as R
-use Rattle.smi_tree.specs.Pairwise.{ArePairwise}
-use Rattle.smi_tree.specs.branches.Standing.{place_of}
+use Rattle.smi_tree.specs.{Pairwise.ArePairwise, branches.Standing.place_of, columns.Parts.IsPartOf}
 use Rattle.smi_show.specs.declared.index.part.IndexPart.{IndexPart}
-use Rattle.smi_text.specs.declared.trees.tree.Module.{Module}
-use Rattle.smi_text.specs.declared.trees.tree.Def.{Def}
-use Rattle.smi_text.specs.declared.trees.tree.DefKind.{DefKind}
+use Rattle.smi_text.specs.{declared.trees.tree.Module.Module, declared.trees.tree.Def.Def}
+use Rattle.smi_text.specs.{declared.trees.tree.DefKind.DefKind, declared.trees.tree.Index.Index}
 use Rattle.smi_text.specs.declared.trees.tree.DefKind.TheVariants as D
 use Rattle.smi_text.specs.declared.trees.tree.ObjectType.{ObjectType}
-use Rattle.smi_text.specs.declared.trees.tree.Index.{Index}
 use Rattle.smi_text.specs.declared.trees.tree.Index.TheVariants.{Own, Augments}
 use Rattle.smi_text.specs.declared.trees.tree.IndexParts.{IndexParts}
-use Rattle.smi_names.specs.meaning.Meaning.{origin}
 use Rattle.smi_tree.specs.types.Types.{Facts, HasSyntax, origin_of_object}
-use Rattle.smi_names.specs.nodes.Nodes.{Node}
 use Rattle.smi_tree.specs.columns.Definitions.{qualified_name, IsDefinedBy}
-use Rattle.smi_tree.specs.columns.Parts.{IsPartOf}
 
 -- ---- the objects of an INDEX clause
 

@@ -1,25 +1,15 @@
 -- What is kept: the parts of each INDEX clause, and for each node which of them identify its row.
 -- The relations here are for private clauses.
 use Rattle.std.specs.Prelude.{◌≡◌, ℕ, List, Bool, Option, Some, None, option_map, map, Vec, ⊤}
-use Rattle.std.specs.List.{slice_get}
-use Rattle.std.specs.Option.{option_and_then}
-use Rattle.std.specs.Global.{Global}
+use Rattle.std.specs.{List.slice_get, Option.option_and_then, Global.Global}
 use Rattle.smi_show.specs.declared.index.part.IndexPart.{IndexPart}
-use Rattle.smi_text.specs.declared.trees.tree.Module.{Module}
-use Rattle.smi_text.specs.declared.trees.tree.Def.{Def}
+use Rattle.smi_text.specs.{declared.trees.tree.Module.Module, declared.trees.tree.Def.Def}
 use Rattle.smi_text.specs.declared.trees.tree.IndexParts.{IndexParts}
 use Rattle.smi_names.specs.nodes.Nodes.{Node}
-use Rattle.smi_tree.specs.Pairwise.{ArePairwise}
-use Rattle.smi_tree.specs.branches.Standing.{place_of}
+use Rattle.smi_tree.specs.{Pairwise.ArePairwise, branches.Standing.place_of}
 use Rattle.smi_tree.specs.declared.columns.rows.LastRow.{LastRow}
-use Rattle.smi_tree.specs.columns.Index.{
-  IsIndexPart,
-  AreParts,
-  IsIndexed,
-  IsColumnOf,
-  UsesIndexOf,
-  clause_of,
-}
+use Rattle.smi_tree.specs.columns.Index.{IsIndexPart, AreParts, IsIndexed, IsColumnOf, UsesIndexOf}
+use Rattle.smi_tree.specs.columns.Index.{clause_of}
 
 -- the object of a name has no part
 abbrev pub HasNoPart : List Module → Module → List ℕ → Bool → Type 0

@@ -3,8 +3,7 @@
 use Rattle.std.specs.Prelude.{ℕ, List, [], ◌∷◌, Option, None}
 use Rattle.smi_text.specs.declared.trees.tree.NamedNumber.{NamedNumber}
 use Rattle.smi_text.specs.declared.trees.tree.Range.{Range}
-use Rattle.smi_names.specs.meaning.Meaning.{or_else}
-use Rattle.smi_names.specs.declared.meaning.base.TypeBase.{TypeBase}
+use Rattle.smi_names.specs.{meaning.Meaning.or_else, declared.meaning.base.TypeBase.TypeBase}
 
 -- what one type of a chain states: a display hint, as the string in quotes, the names of numbers or
 -- bits, and the SIZE

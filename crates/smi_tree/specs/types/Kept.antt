@@ -1,48 +1,17 @@
 -- What is kept of the types of modules, and what it gives.
-use Rattle.std.specs.Prelude.{
-  ℕ,
-  Bool,
-  List,
-  is_some,
-  MatchOption,
-  Option,
-  Some,
-  None,
-  option_map,
-  if◌then◌else◌,
-  Vec,
-}
-use Rattle.std.specs.Global.{Global}
-use Rattle.std.specs.List.{slice_get}
-use Rattle.std.specs.Option.{option_and_then, option_copied}
-use Rattle.smi_text.specs.declared.trees.tree.Module.{Module}
-use Rattle.smi_text.specs.declared.trees.tree.Def.{Def}
-use Rattle.smi_text.specs.declared.trees.tree.DefKind.{DefKind}
+use Rattle.std.specs.Prelude.{ℕ, Bool, List, is_some, MatchOption, Option, Some, None, option_map}
+use Rattle.std.specs.Prelude.{if◌then◌else◌, Vec}
+use Rattle.std.specs.{Global.Global, List.slice_get, Option.option_and_then, Option.option_copied}
+use Rattle.smi_text.specs.{declared.trees.tree.Module.Module, declared.trees.tree.Def.Def}
+use Rattle.smi_text.specs.{declared.trees.tree.DefKind.DefKind, declared.trees.tree.Range.Range}
 use Rattle.smi_text.specs.declared.trees.tree.SimpleType.{SimpleType}
 use Rattle.smi_text.specs.declared.trees.tree.NamedNumber.{NamedNumber}
-use Rattle.smi_text.specs.declared.trees.tree.Range.{Range}
 use Rattle.smi_names.specs.meaning.Meaning.{QualifiedName, or_else}
-use Rattle.smi_names.specs.meaning.Known.{KnownNames}
-use Rattle.smi_tree.specs.Pairwise.{ArePairwise}
-use Rattle.smi_tree.specs.types.Chain.{TypeOrigin}
-use Rattle.smi_tree.specs.types.Types.{
-  base_in,
-  name_in,
-  names_in,
-  sizes_in,
-  simple_in,
-  type_hint,
-  type_syntax,
-  object_syntax,
-  origin_of_object,
-  object_origin,
-  def_at,
-  Facts,
-  HasSyntax,
-  HasNoSyntax,
-}
-use Rattle.smi_names.specs.chains.Order.{at_place}
-use Rattle.smi_names.specs.meaning.Along.{AreMeant}
+use Rattle.smi_names.specs.{meaning.Known.KnownNames, chains.Order.at_place, meaning.Along.AreMeant}
+use Rattle.smi_tree.specs.{Pairwise.ArePairwise, types.Chain.TypeOrigin}
+use Rattle.smi_tree.specs.types.Types.{base_in, name_in, names_in, sizes_in, simple_in, type_hint}
+use Rattle.smi_tree.specs.types.Types.{type_syntax, object_syntax, origin_of_object, object_origin}
+use Rattle.smi_tree.specs.types.Types.{def_at, Facts, HasSyntax, HasNoSyntax}
 use Rattle.smi_names.specs.declared.meaning.base.TypeBase.{TypeBase}
 use Rattle.smi_tree.specs.declared.types.syntax.TypeSyntax.{TypeSyntax}
 use Rattle.smi_tree.specs.declared.types.types.KeptSyntax.{KeptSyntax}

@@ -1,42 +1,23 @@
 -- The types of modules, and the syntax of objects (RFC 2578, sections 7.1 and 9; RFC 2579, section
 -- 3).
 use Rattle.std.specs.Prelude.{◌≡◌, ℕ, List, Option, Some, None}
-use Rattle.std.specs.List.{slice_get}
-use Rattle.std.specs.Option.{option_and_then}
-use Rattle.smi_text.specs.declared.trees.tree.Module.{Module}
-use Rattle.smi_text.specs.declared.trees.tree.Def.{Def}
-use Rattle.smi_text.specs.declared.trees.tree.DefKind.{DefKind}
+use Rattle.std.specs.{List.slice_get, Option.option_and_then}
+use Rattle.smi_text.specs.{declared.trees.tree.Module.Module, declared.trees.tree.Def.Def}
+use Rattle.smi_text.specs.{declared.trees.tree.DefKind.DefKind, declared.trees.tree.Syntax.Syntax}
+use Rattle.smi_text.specs.{declared.trees.tree.Base.Base, declared.trees.tree.Range.Range}
 use Rattle.smi_text.specs.declared.trees.tree.DefKind.TheVariants as D
-use Rattle.smi_text.specs.declared.trees.tree.Syntax.{Syntax}
 use Rattle.smi_text.specs.declared.trees.tree.Syntax.TheVariants as S
 use Rattle.smi_text.specs.declared.trees.tree.SimpleType.{SimpleType}
-use Rattle.smi_text.specs.declared.trees.tree.Base.{Base}
 use Rattle.smi_text.specs.declared.trees.tree.Base.TheVariants as B
 use Rattle.smi_text.specs.declared.trees.tree.Refinement.{Refinement}
 use Rattle.smi_text.specs.declared.trees.tree.Refinement.TheVariants as R
 use Rattle.smi_text.specs.declared.trees.tree.NamedNumber.{NamedNumber}
-use Rattle.smi_text.specs.declared.trees.tree.Range.{Range}
-use Rattle.smi_names.specs.meaning.Meaning.{
-  QualifiedName,
-  Decision,
-  defined,
-  imported,
-  root,
-  decision,
-  module_named,
-}
-use Rattle.smi_names.specs.declared.meaning.base.TypeBase.{TypeBase}
+use Rattle.smi_names.specs.meaning.Meaning.{QualifiedName, Decision, defined, imported, root}
+use Rattle.smi_names.specs.meaning.Meaning.{decision, module_named}
+use Rattle.smi_names.specs.{declared.meaning.base.TypeBase.TypeBase, meaning.Base.base_named}
 use Rattle.smi_names.specs.declared.meaning.base.TypeBase.TheVariants as T
-use Rattle.smi_names.specs.meaning.Base.{base_named}
-use Rattle.smi_tree.specs.types.Chain.{
-  Layer,
-  TypeOrigin,
-  at_base,
-  on_name,
-  no_type,
-  TypeChain,
-  nearest,
-}
+use Rattle.smi_tree.specs.types.Chain.{Layer, TypeOrigin, at_base, on_name, no_type, TypeChain}
+use Rattle.smi_tree.specs.types.Chain.{nearest}
 
 abbrev pub names_in : Option Refinement → Option (List NamedNumber)
 names_in None = None

@@ -1,8 +1,7 @@
 //! A list of object identifiers, with what follows each beginning of one.
 ghost use Rattle.std.specs.Prelude.{◌≡◌, ◌<◌, ◌≤◌, ℕ, List, [], ◌∷◌, ◌++◌, length, IfOk};
 ghost use Rattle.std.specs.Prelude.{MatchOption, IfSome, Some};
-ghost use Rattle.std.specs.Ordering.{nat_cmp};
-ghost use Rattle.std.specs.BTreeMap.{get};
+ghost use Rattle.std.specs.{Ordering.nat_cmp, BTreeMap.get};
 ghost use Rattle.std.specs.Iterator.{YieldsFirst, item_count};
 ghost use Rattle.smi_tree.specs.branches.Standing.{place_of, oid_at, IsDeepestAt, HasNoBeginning};
 ghost use Rattle.smi_tree.specs.branches.Standing.{AreChildren, HasNoneBelow};

@@ -1,10 +1,9 @@
 //! The part of an index for an object, by its type.
-ghost use Rattle.std.specs.Prelude.{ℕ, MatchOption};
-ghost use Rattle.std.specs.Option.{option_copied};
+ghost use Rattle.std.specs.{Prelude.ℕ, Prelude.MatchOption, Option.option_copied};
 ghost use Rattle.smi_show.specs.declared.index.part.IndexPart.{IndexPart};
 ghost use Rattle.smi_show.specs.declared.index.part.Extent.{Extent};
-ghost use Rattle.smi_tree.specs.columns.Parts.{StatesBound, IsFixedBy, IsNotFixed};
-ghost use Rattle.smi_tree.specs.columns.Parts.{HasExtent, IsPartOf};
+ghost use Rattle.smi_tree.specs.columns.Parts.{StatesBound, IsFixedBy, IsNotFixed, HasExtent};
+ghost use Rattle.smi_tree.specs.columns.Parts.{IsPartOf};
 
 use smi_names::TypeBase;
 use smi_show::{Extent, IndexPart};

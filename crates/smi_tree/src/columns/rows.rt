@@ -6,8 +6,7 @@ ghost use Rattle.smi_tree.specs.branches.Standing.{oid_at, place_of};
 ghost use Rattle.smi_names.specs.nodes.Nodes.{Node};
 ghost use Rattle.smi_names.specs.nodes.Gathered.{node_from, nodes_of};
 ghost use Rattle.smi_tree.specs.columns.Index.{IsObjectType};
-ghost use Rattle.smi_tree.specs.columns.Kept.{UsesAt, UsesNone, AreRows, HasRowOrNone};
-ghost use Rattle.smi_tree.specs.columns.Kept.{IsLastRow};
+ghost use Rattle.smi_tree.specs.columns.Kept.{UsesAt, UsesNone, AreRows, HasRowOrNone, IsLastRow};
 
 use crate::branches::Identifiers;
 use crate::columns::objects::{Objects, clause};

@@ -1,8 +1,7 @@
 //! What types state, and the syntax of an object.
 ghost use Rattle.std.specs.Prelude.{◌≡◌, option_map};
 ghost use Rattle.std.specs.Option.{option_copied, option_and_then};
-ghost use Rattle.smi_tree.specs.types.Types.{names_in, sizes_in, simple_in, type_hint};
-ghost use Rattle.smi_tree.specs.types.Types.{type_syntax};
+ghost use Rattle.smi_tree.specs.types.Types.{names_in, sizes_in, simple_in, type_hint, type_syntax};
 ghost use Rattle.smi_tree.specs.types.Types.{object_syntax, base_in, name_in};
 ghost use Rattle.smi_tree.specs.types.Kept.{names_of, sizes_of, type_in};
 

@@ -1,13 +1,12 @@
 //! The types of modules, each followed to its end once.
-ghost use Rattle.std.specs.Prelude.{◌≡◌, IfOk, MatchOption, Option, Some, option_map};
-ghost use Rattle.std.specs.Prelude.{ℕ, List, if◌then◌else◌};
-ghost use Rattle.std.specs.Option.{option_copied};
-ghost use Rattle.std.specs.List.{slice_get};
+ghost use Rattle.std.specs.Prelude.{◌≡◌, IfOk, MatchOption, Option, Some, option_map, ℕ, List};
+ghost use Rattle.std.specs.Prelude.{if◌then◌else◌};
+ghost use Rattle.std.specs.{Option.option_copied, List.slice_get};
 ghost use Rattle.smi_tree.specs.types.Types.{base_in, object_origin, origin_of_object, def_at};
 ghost use Rattle.smi_tree.specs.types.Types.{HasSyntax, HasNoSyntax, name_in, type_origin};
 ghost use Rattle.smi_tree.specs.types.Kept.{AreFollowed, AreKeptOf, AreKeptOfAll, AreTypesOf};
-ghost use Rattle.smi_tree.specs.types.Kept.{IsKept, base_or, def_of, facts_of};
-ghost use Rattle.smi_tree.specs.types.Kept.{kept_syntax, refined_by};
+ghost use Rattle.smi_tree.specs.types.Kept.{IsKept, base_or, def_of, facts_of, kept_syntax};
+ghost use Rattle.smi_tree.specs.types.Kept.{refined_by};
 
 use crate::node::kept;
 use crate::types::syntax::{

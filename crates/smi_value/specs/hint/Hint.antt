@@ -1,11 +1,9 @@
 -- A display hint and what it shows (RFC 2579, section 3.1).
 use Rattle.std.specs.Prelude.{◌≡◌, ℕ, ℤ, List}
-use Rattle.smi_value.specs.hint.Number.{IsNumberHint, number_text}
-use Rattle.smi_value.specs.hint.Spec.{IsOctetHint}
-use Rattle.smi_value.specs.hint.Pieces.{ShowsOctets}
+use Rattle.smi_value.specs.{hint.Number.IsNumberHint, hint.Number.number_text}
+use Rattle.smi_value.specs.{hint.Spec.IsOctetHint, hint.Pieces.ShowsOctets}
+use Rattle.smi_value.specs.{declared.hint.spec.Spec.Spec, declared.hint.hint.HintValue.HintValue}
 use Rattle.smi_value.specs.declared.hint.number.NumberForm.{NumberForm}
-use Rattle.smi_value.specs.declared.hint.spec.Spec.{Spec}
-use Rattle.smi_value.specs.declared.hint.hint.HintValue.{HintValue}
 use Rattle.smi_value.specs.declared.hint.hint.HintValue.TheVariants as value
 
 -- the text is a hint of integers

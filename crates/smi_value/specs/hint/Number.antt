@@ -1,10 +1,7 @@
 -- Display hints of integers (RFC 2579, section 3.1).
 use Rattle.std.specs.Prelude.{◌≡◌, ◌≢◌, ℕ, ℤ, pos, negsuc, suc, zero, ◌+◌, ◌-◌, ◌≤◌, ◌⊎◌, List, []}
 use Rattle.std.specs.Prelude.{◌∷◌, ◌++◌, length, take, drop, replicate, codes, decimal, false, Bool}
-use Rattle.std.specs.List.{take_while}
-use Rattle.std.specs.Char.{is_ascii_digit}
-use Rattle.std.specs.Fmt.{digits}
-use Rattle.std.specs.Str.Parse.{digits_value}
+use Rattle.std.specs.{List.take_while, Char.is_ascii_digit, Fmt.digits, Str.Parse.digits_value}
 use Rattle.smi_value.specs.declared.hint.number.NumberForm.{NumberForm}
 use Rattle.smi_value.specs.declared.hint.number.NumberForm.TheVariants as form
 

@@ -2,13 +2,10 @@
 use Rattle.std.specs.Prelude.{◌≡◌, ◌≢◌, ℕ, ◌≤◌, ◌⊎◌, false, if◌then◌else◌, is_some, List, [], ◌∷◌}
 use Rattle.std.specs.Prelude.{◌++◌, length, take, drop, slice_index, Option, option_to_list}
 use Rattle.std.specs.Prelude.{decimal, Bool, not, ◌&&◌, ◌==◌}
-use Rattle.std.specs.Fmt.{digits}
-use Rattle.std.specs.List.{flat_map}
-use Rattle.std.specs.Int.Digits.{number_from_digits}
-use Rattle.smi_value.specs.hint.Spec.{IsOctetHint}
+use Rattle.std.specs.{Fmt.digits, List.flat_map, Int.Digits.number_from_digits}
+use Rattle.smi_value.specs.{hint.Spec.IsOctetHint, declared.hint.spec.Spec.Spec}
 use Rattle.smi_value.specs.declared.hint.spec.OctetFormat.{OctetFormat}
 use Rattle.smi_value.specs.declared.hint.spec.OctetFormat.TheVariants as octet_format
-use Rattle.smi_value.specs.declared.hint.spec.Spec.{Spec}
 
 -- octets as one number, the most significant first
 abbrev pub number_of_octets : List ℕ → ℕ

@@ -2,8 +2,7 @@
 use Rattle.std.specs.Prelude.{◌≡◌, ◌≢◌, ℕ, ◌≤◌, nat_lt, Bool, true, false, ◌&&◌, ◌||◌, ◌==◌}
 use Rattle.std.specs.Prelude.{if◌then◌else◌, List, [], ◌∷◌, length, drop, Option, Some, None}
 use Rattle.std.specs.Prelude.{is_some, slice_get, option_and_then, option_to_list}
-use Rattle.std.specs.Char.{is_ascii_digit}
-use Rattle.std.specs.Str.Parse.{digits_value}
+use Rattle.std.specs.{Char.is_ascii_digit, Str.Parse.digits_value}
 use Rattle.smi_value.specs.hint.Number.{front_digits, after_digits}
 use Rattle.smi_value.specs.declared.hint.spec.OctetFormat.{OctetFormat}
 use Rattle.smi_value.specs.declared.hint.spec.OctetFormat.TheVariants as octet_format

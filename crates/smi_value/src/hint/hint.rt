@@ -1,6 +1,5 @@
 //! A display hint, which is read once and then applied to values.
-ghost use Rattle.std.specs.Prelude.{◌≡◌, ◌≤◌, ◌↔◌, ◌⊎◌, List, ℕ, IsSome, IfSome, IsTrue};
-ghost use Rattle.std.specs.Prelude.{false};
+ghost use Rattle.std.specs.Prelude.{◌≡◌, ◌≤◌, ◌↔◌, ◌⊎◌, List, ℕ, IsSome, IfSome, IsTrue, false};
 ghost use Rattle.snmp_io.specs.draft.Draft.{Adds};
 
 use crate::hint::number::{NumberForm, append_number, number_form};

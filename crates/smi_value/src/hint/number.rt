@@ -2,9 +2,7 @@
 ghost use Rattle.std.specs.Prelude.{◌≡◌, ◌<◌, ◌≤◌, ◌^◌, ◌*◌, ℕ, List, length, drop, replicate};
 ghost use Rattle.std.specs.Prelude.{IfSome, IfNone, false, decimal, codes, ◌++◌, EachIndex};
 ghost use Rattle.std.specs.Prelude.{slice_index};
-ghost use Rattle.std.specs.List.{take_while};
-ghost use Rattle.std.specs.Char.{is_ascii_digit};
-ghost use Rattle.std.specs.Int.{IsInRange};
+ghost use Rattle.std.specs.{List.take_while, Char.is_ascii_digit, Int.IsInRange};
 ghost use Rattle.std.specs.Fmt.{digits, digit_glyph};
 ghost use Rattle.snmp_io.specs.draft.Draft.{Adds};
 ghost use Rattle.smi_value.specs.declared.hint.number.NumberForm.{NumberForm};

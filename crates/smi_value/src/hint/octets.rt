@@ -2,9 +2,8 @@
 //! again.
 ghost use Rattle.std.specs.Prelude.{◌≡◌, ◌≢◌, ◌<◌, ◌≤◌, List, ℕ, [], ◌++◌, length, drop, take};
 ghost use Rattle.std.specs.Prelude.{if◌then◌else◌, true, decimal, ◌∷◌, false, ◌+◌, ◌*◌};
-ghost use Rattle.std.specs.Fmt.{digits};
+ghost use Rattle.std.specs.{Fmt.digits, List.flat_map};
 ghost use Rattle.snmp_io.specs.draft.Draft.{Adds};
-ghost use Rattle.std.specs.List.{flat_map};
 ghost use Rattle.smi_value.specs.hint.Spec.{IsFirstSpec, IsOctetHint, AreSpecs, most_octets};
 ghost use Rattle.smi_value.specs.hint.Spec.{takes_octets};
 ghost use Rattle.smi_value.specs.hint.Pieces.{IsCut, IsGroup, ShowsOctets, last_mark, mark_before};

@@ -8,11 +8,10 @@ use Rattle.snmp_wire.specs.declared.kind.Kind.{Kind}
 use Rattle.snmp_wire.specs.declared.kind.Kind.TheVariants as kind
 use Rattle.snmp_wire.specs.Message.{Datum, object_id, octet_string, opaque_octets, VarBind, Message}
 use Rattle.snmp_wire.specs.Canon.{canon, canon_binding, canon_head}
-use Rattle.snmp_agent.specs.table.Listing.{got_at}
-use Rattle.snmp_agent.specs.table.Table.{MibView, IsNextAfter}
+use Rattle.snmp_agent.specs.{table.Listing.got_at, table.Table.MibView, table.Table.IsNextAfter}
 use Rattle.snmp_agent.specs.declared.room.ReplyBindings.{ReplyBindings}
-use Rattle.snmp_agent.specs.Reply.{AreAnswers, IsResponse, not_writable, no_error}
-use Rattle.snmp_agent.specs.Reply.{failed_place, joined, or_zero}
+use Rattle.snmp_agent.specs.Reply.{AreAnswers, IsResponse, not_writable, no_error, failed_place}
+use Rattle.snmp_agent.specs.Reply.{joined, or_zero}
 use Rattle.snmp_agent.specs.private.Standing.{given_in, is_over, next_at, place_of, places_of}
 
 -- what the reply to a Get, a GetNext or a Set has for one of its bindings, and for each

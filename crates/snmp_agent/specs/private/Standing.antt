@@ -4,11 +4,9 @@
 use Rattle.std.specs.Prelude.{ℕ, Bool, true, false, List, [], ◌∷◌, drop, map, take}
 use Rattle.std.specs.FinMap.{entries}
 use Rattle.snmp_wire.specs.Message.{Datum, VarBind}
-use Rattle.snmp_agent.specs.table.Table.{MibView}
-use Rattle.snmp_agent.specs.table.Listing.{first_or_end}
-use Rattle.snmp_agent.specs.table.Pages.{entries_after}
+use Rattle.snmp_agent.specs.{table.Table.MibView, table.Listing.first_or_end}
+use Rattle.snmp_agent.specs.{table.Pages.entries_after, declared.place.Given.Given}
 use Rattle.snmp_agent.specs.table.Places.{last_name, var_of}
-use Rattle.snmp_agent.specs.declared.place.Given.{Given}
 use Rattle.snmp_agent.specs.declared.place.Given.TheVariants as given
 
 -- the name of what was given last

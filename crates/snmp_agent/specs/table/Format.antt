@@ -1,10 +1,9 @@
 -- The two formats of a table's text, which differ in how names are read and in where the name of a
 -- row ends.
-use Rattle.std.specs.Prelude.{◌≡◌, ◌≢◌, ◌≤◌, ℕ, List, ◌∷◌, ◌++◌, length, codes, All}
-use Rattle.std.specs.Prelude.{Option, Some, IfSome, option_map}
+use Rattle.std.specs.Prelude.{◌≡◌, ◌≢◌, ◌≤◌, ℕ, List, ◌∷◌, ◌++◌, length, codes, All, Option, Some}
+use Rattle.std.specs.Prelude.{IfSome, option_map}
 use Rattle.snmp_io.specs.Quotes.{HasNoneOutside, IsClosed, IsFrontOf}
-use Rattle.snmp_oid.specs.Identifier.{IsIdentifier}
-use Rattle.snmp_oid.specs.Numeric.{IsNumericName}
+use Rattle.snmp_oid.specs.{Identifier.IsIdentifier, Numeric.IsNumericName}
 use Rattle.snmp_agent.specs.table.Exact.{IsOnly}
 
 -- the octet of `|`

@@ -2,8 +2,7 @@
 -- and proofs calculate.
 use Rattle.std.specs.Prelude.{ℕ, zero, suc, Bool, ◌||◌, cond, List, [], ◌∷◌, length, map, take}
 use Rattle.std.specs.Prelude.{unwrap_or}
-use Rattle.std.specs.FinMap.{entries, get}
-use Rattle.std.specs.FinSet.{contains}
+use Rattle.std.specs.{FinMap.entries, FinMap.get, FinSet.contains}
 use Rattle.snmp_wire.specs.Message.{VarBind}
 use Rattle.snmp_wire.specs.Message.Datum.{end_of_mib_view, no_such_instance, no_such_object}
 use Rattle.snmp_agent.specs.table.Table.{MibView}

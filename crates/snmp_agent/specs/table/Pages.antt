@@ -2,14 +2,12 @@
 -- clauses of public functions cite `AreBehind` alone.
 use Rattle.std.specs.Prelude.{◌≡◌, ℕ, suc, Some, ◌≤◌, ◌<◌, T, Bool, true, is_some, List, [], ◌∷◌}
 use Rattle.std.specs.Prelude.{◌++◌, map, length, take, drop, cond}
-use Rattle.std.specs.Ordering.{nat_cmp, is_le}
+use Rattle.std.specs.{Ordering.nat_cmp, Ordering.is_le, Cmp.Lexicographic.slice_cmp}
 use Rattle.std.specs.List.{slice_get, remove as remove_at}
-use Rattle.std.specs.Cmp.Lexicographic.{slice_cmp}
 use Rattle.std.specs.FinMap.{FinMap, find, get, is_sorted}
 use Rattle.snmp_wire.specs.Message.{Datum, VarBind}
-use Rattle.snmp_agent.specs.declared.table.page.Page.{Page}
+use Rattle.snmp_agent.specs.{declared.table.page.Page.Page, table.Table.MibView}
 use Rattle.snmp_agent.specs.table.Places.{IsBeforeAll, IsBeforeNone, IsAfterAll, entry_of}
-use Rattle.snmp_agent.specs.table.Table.{MibView}
 
 -- the rows as entries
 abbrev pub entries_of : List VarBind → List (List ℕ × Datum)

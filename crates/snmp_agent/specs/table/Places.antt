@@ -2,13 +2,10 @@
 -- cite `view_of`, `entry_of` and `last_name`; the others are what private functions over sorted
 -- lists are proved to find.
 use Rattle.std.specs.Prelude.{◌≡◌, ℕ, true, not, List, [], ◌∷◌, ◌++◌}
-use Rattle.std.specs.Ordering.{nat_cmp, eq_by_cmp}
+use Rattle.std.specs.{Ordering.nat_cmp, Ordering.eq_by_cmp, Cmp.Lexicographic.slice_cmp}
+use Rattle.std.specs.{FinMap.FinMap, FinMap.Entries.where_key, FinSet.from_list}
 use Rattle.std.specs.List.{AllByRecursion, list_any}
 use Rattle.std.specs.declared.cmp.Ordering.TheVariants.{Less, Greater}
-use Rattle.std.specs.Cmp.Lexicographic.{slice_cmp}
-use Rattle.std.specs.FinMap.{FinMap}
-use Rattle.std.specs.FinMap.Entries.{where_key}
-use Rattle.std.specs.FinSet.{from_list}
 use Rattle.snmp_wire.specs.Message.{Datum, VarBind}
 use Rattle.snmp_agent.specs.table.Table.{MibView}
 

@@ -1,11 +1,8 @@
 -- What an agent serves, and what it gives for one name (RFC 3416, sections 4.2.1 and 4.2.2).
 use Rattle.std.specs.Prelude.{◌≡◌, ◌≢◌, ℕ, zero, suc, ◌^◌, ◌<◌, ◌≤◌, true, List, [], ◌++◌, length}
 use Rattle.std.specs.Prelude.{All, Some, None, FitsSigned}
-use Rattle.std.specs.Int.{w32}
-use Rattle.std.specs.Ordering.{nat_cmp}
-use Rattle.std.specs.Cmp.Lexicographic.{slice_cmp}
-use Rattle.std.specs.FinMap.{FinMap, get, insert, remove}
-use Rattle.std.specs.FinSet.{FinSet, contains}
+use Rattle.std.specs.{Int.w32, Ordering.nat_cmp, Cmp.Lexicographic.slice_cmp, FinMap.FinMap}
+use Rattle.std.specs.{FinMap.get, FinMap.insert, FinMap.remove, FinSet.FinSet, FinSet.contains}
 use Rattle.snmp_oid.specs.Identifier.{IsIdentifier, IsWire, Precedes}
 use Rattle.snmp_wire.specs.Message.{Datum, VarBind}
 use Rattle.snmp_wire.specs.Message.Datum.{integer_value, octet_string, object_id, ip_address}

@@ -2,13 +2,11 @@
 -- of an object's instances, `object OID`, or a row, `OID|TAG|VALUE`. Where the first line is
 -- `#snmptab 2`, the text is of the second format. Lines end with LF, CR LF or the text, as those of
 -- Rust's `str::lines` do: a CR that no LF follows belongs to its line.
-use Rattle.std.specs.Prelude.{◌≡◌, ◌≢◌, ℕ, ℤ, pos, ◌^◌, ◌<◌, ◌⊎◌, true, List, [], ◌∷◌, ◌++◌}
-use Rattle.std.specs.Prelude.{length, codes, All, AllPairs, Contains, Ok, FitsSigned, neg_ℤ}
-use Rattle.std.specs.Int.{w32}
-use Rattle.std.specs.Str.{all_ascii_digits}
+use Rattle.std.specs.Prelude.{◌≡◌, ◌≢◌, ℕ, ℤ, pos, ◌^◌, ◌<◌, ◌⊎◌, true, List, [], ◌∷◌, ◌++◌, length}
+use Rattle.std.specs.Prelude.{codes, All, AllPairs, Contains, Ok, FitsSigned, neg_ℤ}
+use Rattle.std.specs.{Int.w32, Str.all_ascii_digits}
 use Rattle.hex.specs.Hex.{decode_of}
-use Rattle.snmp_oid.specs.Identifier.{IsWire}
-use Rattle.snmp_oid.specs.Numeric.{decimal_value, IsDotted}
+use Rattle.snmp_oid.specs.{Identifier.IsWire, Numeric.decimal_value, Numeric.IsDotted}
 use Rattle.snmp_wire.specs.Message.{Datum, VarBind}
 use Rattle.snmp_wire.specs.Message.Datum.{integer_value, octet_string, object_id, ip_address}
 use Rattle.snmp_wire.specs.Message.Datum.{counter32, gauge32, time_ticks, opaque_octets, counter64}

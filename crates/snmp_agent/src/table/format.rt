@@ -2,8 +2,7 @@
 ghost use Rattle.std.specs.Prelude.{◌≡◌, ◌++◌, ◌∷◌, ◌↔◌, IsTrue, MatchOption, codes};
 ghost use Rattle.std.specs.Str.Lines.{lines};
 ghost use Rattle.snmp_agent.specs.table.Exact.{IsOnlyThere};
-ghost use Rattle.snmp_agent.specs.table.Format.{EndsAtBar, Format, HasNoEnd, IsFrontRead};
-ghost use Rattle.snmp_agent.specs.table.Format.{IsMarked};
+ghost use Rattle.snmp_agent.specs.table.Format.{EndsAtBar, Format, HasNoEnd, IsFrontRead, IsMarked};
 ghost use Rattle.snmp_agent.specs.table.Format.{IsName, IsNameIn, Names, bar, numeric_names};
 ghost use Rattle.snmp_agent.specs.table.Format.{first_format, second_format};
 

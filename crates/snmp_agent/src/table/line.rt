@@ -1,12 +1,10 @@
 //! The lines of a table's text.
 ghost use Rattle.std.specs.Prelude.{◌≡◌, ℕ, List, IfOk, IfErr};
-ghost use Rattle.snmp_wire.specs.Message.{object_id};
-ghost use Rattle.snmp_wire.specs.Range.{IsInRange};
+ghost use Rattle.snmp_wire.specs.{Message.object_id, Range.IsInRange};
 ghost use Rattle.snmp_agent.specs.private.table.Row.{datum_of, tag_text, IsShort};
-ghost use Rattle.snmp_agent.specs.table.Form.{States};
+ghost use Rattle.snmp_agent.specs.{table.Form.States, table.Text.IsBlank, table.Text.IsObjectForm};
 ghost use Rattle.snmp_agent.specs.private.table.Line.{IsForm, IsObjectRead, IsInstanceRead};
 ghost use Rattle.snmp_agent.specs.private.table.Line.{IsLineFault, statement_of};
-ghost use Rattle.snmp_agent.specs.table.Text.{IsBlank, IsObjectForm};
 
 use crate::table::change::is_instance_name;
 use crate::table::format::LineFormat;

@@ -1,10 +1,7 @@
 //! Searches by name in lists whose names rise: by halves, or from a guess of the place.
 ghost use Rattle.std.specs.Prelude.{◌≡◌, ◌<◌, ◌≤◌, Bool, List, ℕ, IfOk, IfErr, IfSome};
-ghost use Rattle.std.specs.List.Sorted.{IsPartitionedBy};
-ghost use Rattle.std.specs.Option.{option_map};
-ghost use Rattle.std.specs.Ordering.{nat_cmp};
-ghost use Rattle.std.specs.Cmp.Lexicographic.{slice_cmp};
-ghost use Rattle.std.specs.FinMap.{find};
+ghost use Rattle.std.specs.{List.Sorted.IsPartitionedBy, Option.option_map, Ordering.nat_cmp};
+ghost use Rattle.std.specs.{Cmp.Lexicographic.slice_cmp, FinMap.find};
 ghost use Rattle.snmp_agent.specs.private.table.Halving.{IsHalvedTo};
 ghost use Rattle.snmp_agent.specs.table.Pages.{IsRising, HasNameAt, BelongsAt, IsPlaceAfter};
 ghost use Rattle.snmp_agent.specs.table.Pages.{entries_of};

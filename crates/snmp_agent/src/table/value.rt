@@ -1,7 +1,6 @@
 //! Values as a table's text states them.
 ghost use Rattle.std.specs.Prelude.{◌≡◌, ◌<◌, ◌≤◌, ◌^◌, IfOk, IfSome, IfNone, FitsSigned};
-ghost use Rattle.std.specs.Int.{w32};
-ghost use Rattle.std.specs.Option.{option_map};
+ghost use Rattle.std.specs.{Int.w32, Option.option_map};
 ghost use Rattle.hex.specs.Hex.{decode_of};
 ghost use Rattle.snmp_oid.specs.Identifier.{IsWire};
 ghost use Rattle.snmp_wire.specs.Message.{datum};

@@ -1,22 +1,15 @@
 -- What snmpd does and prints, and why it ends.
 use Rattle.std.specs.Prelude.{◌≡◌, ◌⊎◌, ◌+◌, ◌++◌, ℕ, List, Option, Some, codes, decimal}
-use Rattle.snmp_agent.specs.Reply.{Agent}
-use Rattle.snmp_agent.specs.declared.server.Served.{Served}
-use Rattle.snmp_agent.specs.table.Table.{MibView}
-use Rattle.snmp_io.specs.Count.{HasRisen}
-use Rattle.snmp_io.specs.Files.{MayHold}
-use Rattle.snmp_io.specs.Output.{Stream, extended}
+use Rattle.snmp_agent.specs.{Reply.Agent, declared.server.Served.Served, table.Table.MibView}
+use Rattle.snmp_io.specs.{Count.HasRisen, Files.MayHold, Output.Stream, Output.extended}
 use Rattle.smi_show.specs.name.Naming.{Naming}
-use Rattle.smi_tree.specs.Naming.{naming_of}
-use Rattle.smi_tree.specs.Tree.{Contents}
+use Rattle.smi_tree.specs.{Naming.naming_of, Tree.Contents}
 use Rattle.snmp_net.specs.declared.links.Links.{Ghosts as Network}
 use Rattle.snmp_words.specs.Words.{ServeWords}
 use Rattle.snmp_tools.specs.agent.Service.{IsPlaced, IsServeRefusal, IsTableRefusal, served_agent}
-use Rattle.snmp_tools.specs.agent.TableFile.{HasTable}
+use Rattle.snmp_tools.specs.{agent.TableFile.HasTable, Message.Fault, Message.ended, Seen.Seen}
 use Rattle.snmp_tools.specs.loading.Loaded.{IsLoaded, LoadFacts}
 use Rattle.snmp_tools.specs.Lines.{IsTextPrinted, StopsAtText}
-use Rattle.snmp_tools.specs.Message.{Fault, ended}
-use Rattle.snmp_tools.specs.Seen.{Seen}
 use Rattle.snmp_walk.specs.declared.end.WalkEnd.TheVariants as ending
 
 -- where requests are received, in the word's own octets

@@ -1,16 +1,13 @@
 -- What the words of snmpd ask for, and why it may be refused.
 use Rattle.std.specs.Prelude.{◌≡◌, ◌<◌, ◌≤◌, ◌⊎◌, ℕ, List, [], ◌∷◌, length}
 use Rattle.smi_text.specs.declared.trees.tree.Module.{Module}
-use Rattle.snmp_agent.specs.Reply.{Agent}
-use Rattle.snmp_agent.specs.table.Table.{MibView}
+use Rattle.snmp_agent.specs.{Reply.Agent, table.Table.MibView}
 use Rattle.smi_show.specs.name.Naming.{Naming}
-use Rattle.snmp_io.specs.Files.{Holdings, MayHold}
-use Rattle.snmp_io.specs.Steps.{IsFirstToFail}
+use Rattle.snmp_io.specs.{Files.Holdings, Files.MayHold, Steps.IsFirstToFail}
 use Rattle.snmp_net.specs.Address.{IsHostAndPort}
 use Rattle.snmp_words.specs.Words.{ServeWords}
-use Rattle.snmp_tools.specs.agent.TableFile.{TableFails}
+use Rattle.snmp_tools.specs.{agent.TableFile.TableFails, Asking.MibsFail}
 use Rattle.snmp_tools.specs.loading.Files.{AreModulesOf}
-use Rattle.snmp_tools.specs.Asking.{MibsFail}
 use Rattle.snmp_tools.specs.Message.{Fault, bad_agent, long_community, out_of_memory}
 
 -- the agent that the words ask for, over a table

@@ -3,11 +3,9 @@ use Rattle.std.specs.Prelude.{◌≡◌, ◌⊎◌, ◌↔◌, ℕ, List, Some, 
 use Rattle.std.specs.Str.Lines.{lines}
 use Rattle.snmp_io.specs.Files.{Holdings, MayHold, MayHoldNone}
 use Rattle.snmp_agent.specs.table.Format.{Names, names_by, numeric_names}
-use Rattle.snmp_agent.specs.table.Stated.{IsFirstFault, IsTableOf}
-use Rattle.snmp_agent.specs.table.Table.{MibView}
+use Rattle.snmp_agent.specs.{table.Stated.IsFirstFault, table.Stated.IsTableOf, table.Table.MibView}
 use Rattle.snmp_agent.specs.declared.table.error.TableError.{TableError}
-use Rattle.smi_show.specs.name.Meant.{TextMeans}
-use Rattle.smi_show.specs.name.Naming.{Naming}
+use Rattle.smi_show.specs.{name.Meant.TextMeans, name.Naming.Naming}
 use Rattle.snmp_tools.specs.Message.{Fault, bad_table, unreadable}
 
 -- a text of the second format names what it means by these nodes

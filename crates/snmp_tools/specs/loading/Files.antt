@@ -1,11 +1,9 @@
 -- The modules that files hold, and why they can't be had.
 use Rattle.std.specs.Prelude.{◌≡◌, ◌≢◌, ◌⊎◌, ◌++◌, ℕ, List, [], ◌∷◌, map}
 use Rattle.std.specs.Borrow.{Bor}
-use Rattle.snmp_io.specs.Files.{Holdings, MayHold, MayHoldNone}
-use Rattle.snmp_io.specs.Steps.{IsFirstToFail}
-use Rattle.smi_text.specs.declared.trees.tree.Module.{Module}
+use Rattle.snmp_io.specs.{Files.Holdings, Files.MayHold, Files.MayHoldNone, Steps.IsFirstToFail}
+use Rattle.smi_text.specs.{declared.trees.tree.Module.Module, declared.error.ParseError.ParseError}
 use Rattle.smi_text.specs.Text.{HasNoDoubles, IsCause, AreSpelledBy}
-use Rattle.smi_text.specs.declared.error.ParseError.{ParseError}
 use Rattle.smi_text.specs.declared.error.ParseError.TheVariants as error
 
 -- the texts that references lead to

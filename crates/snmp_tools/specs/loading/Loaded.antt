@@ -1,15 +1,13 @@
 -- The tree of names of module files.
 use Rattle.std.specs.Prelude.{◌≡◌, ℕ, List, Option}
-use Rattle.smi_text.specs.declared.trees.tree.Def.{Def}
-use Rattle.smi_text.specs.declared.trees.tree.Module.{Module}
+use Rattle.smi_text.specs.{declared.trees.tree.Def.Def, declared.trees.tree.Module.Module}
 use Rattle.smi_show.specs.name.Naming.{Naming}
 use Rattle.smi_names.specs.declared.nodes.warning.Warning.{Warning}
 use Rattle.smi_tree.specs.Naming.{naming_of, nearest_definition, nearest_syntax}
 use Rattle.smi_tree.specs.Tree.{Contents, IsTree}
 use Rattle.smi_value.specs.Syntax.{ObjectSyntax}
 use Rattle.snmp_io.specs.Output.{Stream, IsWritten}
-use Rattle.snmp_tools.specs.loading.Files.{AreModulesOf}
-use Rattle.snmp_tools.specs.loading.Warned.{warning_lines}
+use Rattle.snmp_tools.specs.{loading.Files.AreModulesOf, loading.Warned.warning_lines}
 
 -- The tree is that of the modules of the files, and an output took the line of each of its
 -- warnings, in order, or a front of them before a write failed. `Held path text` says that the

@@ -1,7 +1,7 @@
 -- The request and the plan that the program keeps, and what it has read of the words before, for
 -- private clauses.
-use Rattle.std.specs.Prelude.{◌≡◌, ◌≤◌, ◌⊎◌, length, Some, codes, ℕ, List, []}
-use Rattle.std.specs.Prelude.{Option, drop, option_map, unwrap_or}
+use Rattle.std.specs.Prelude.{◌≡◌, ◌≤◌, ◌⊎◌, length, Some, codes, ℕ, List, [], Option, drop}
+use Rattle.std.specs.Prelude.{option_map, unwrap_or}
 use Rattle.snmp_oid.specs.Numeric.{numeric_text}
 use Rattle.smi_show.specs.name.Naming.{Naming}
 use Rattle.smi_value.specs.Syntax.{ObjectSyntax}
@@ -9,20 +9,15 @@ use Rattle.snmp_words.specs.Words.{AskingWords, WalkWords, asking_words, texts_a
 use Rattle.snmp_net.specs.Address.{address_of}
 use Rattle.snmp_tools.specs.Asking.{AreShown, AskingFails, HasAgent, IsAskingDone, NameFails}
 use Rattle.snmp_tools.specs.Asking.{agent_step, community_step, letters_step, version_step}
-use Rattle.snmp_tools.specs.private.Chosen.{chosen}
-use Rattle.snmp_tools.specs.Message.{Fault, out_of_memory}
-use Rattle.snmp_tools.specs.Mib.{Mib}
+use Rattle.snmp_tools.specs.{private.Chosen.chosen, Message.Fault, Message.out_of_memory, Mib.Mib}
+use Rattle.snmp_tools.specs.{declared.request.AskJob.AskJob, declared.plan.Orders.Orders}
+use Rattle.snmp_tools.specs.{declared.plan.Plan.Plan, declared.plan.Question.Question}
+use Rattle.snmp_tools.specs.{declared.request.Request.Request, declared.plan.Walk.Walk}
 use Rattle.snmp_tools.specs.Question as question
 use Rattle.snmp_tools.specs.Question.{AskWords, HasChosen, HasMeaning, root_text}
 use Rattle.snmp_io.specs.Steps.{IsFirstToFail}
-use Rattle.snmp_tools.specs.declared.request.AskJob.{AskJob}
-use Rattle.snmp_tools.specs.declared.plan.Orders.{Orders}
-use Rattle.snmp_tools.specs.declared.plan.Plan.{Plan}
-use Rattle.snmp_tools.specs.declared.plan.Question.{Question}
 use Rattle.snmp_tools.specs.declared.plan.Question.TheVariants as planned
-use Rattle.snmp_tools.specs.declared.request.Request.{Request}
 use Rattle.snmp_tools.specs.declared.request.Request.TheVariants as request
-use Rattle.snmp_tools.specs.declared.plan.Walk.{Walk}
 
 -- ---- what is asked for
 

@@ -1,27 +1,21 @@
 -- How a question begins, and why it can't, for private clauses.
 use Rattle.std.specs.Prelude.{◌≡◌, ◌⊎◌, ℕ, List, All, Option, Some, None}
 use Rattle.snmp_oid.specs.Identifier.{IsWire, wire}
-use Rattle.snmp_agent.specs.table.Listing.{variables}
-use Rattle.snmp_agent.specs.table.Table.{IsMibView, MibView}
+use Rattle.snmp_agent.specs.{table.Listing.variables, table.Table.IsMibView, table.Table.MibView}
 use Rattle.snmp_wire.specs.Message.{VarBind}
-use Rattle.snmp_walk.specs.Facts.{IsFresh, walk_at}
+use Rattle.snmp_walk.specs.{Facts.IsFresh, Facts.walk_at, Ran.IsGotOver, Ran.IsWalkedOver}
+use Rattle.snmp_walk.specs.{Walk.rest_of, Walk.walk_of, Walker.Walker, declared.end.WalkEnd.WalkEnd}
 use Rattle.snmp_walk.specs.Ordered.{IsAtOrBelow, IsUnsendable}
-use Rattle.snmp_walk.specs.Ran.{IsGotOver, IsWalkedOver}
-use Rattle.snmp_walk.specs.Walk.{rest_of, walk_of}
-use Rattle.snmp_walk.specs.Walker.{Walker}
-use Rattle.snmp_walk.specs.declared.end.WalkEnd.{WalkEnd}
 use Rattle.snmp_walk.specs.declared.link.Link.{Ghosts as LinkFacts}
 use Rattle.snmp_io.specs.Steps.{IsFirstToFail}
 use Rattle.snmp_words.specs.Words.{texts_at}
-use Rattle.snmp_tools.specs.Answer.{first_of}
+use Rattle.snmp_tools.specs.{Answer.first_of, Mib.Mib, declared.start.Begun.Begun}
 use Rattle.snmp_tools.specs.Message.{Fault, outside_root, unsendable}
-use Rattle.snmp_tools.specs.Mib.{Mib}
-use Rattle.snmp_tools.specs.Question.{AreNames, HasSendable, HasUnsendable, Question, Walk}
-use Rattle.snmp_tools.specs.Question.{names, subtree}
+use Rattle.snmp_tools.specs.Question.{AreNames, HasSendable, HasUnsendable, Question, Walk, names}
+use Rattle.snmp_tools.specs.Question.{subtree}
 use Rattle.snmp_tools.specs.declared.plan.Question as plan
 use Rattle.snmp_tools.specs.declared.plan.Question.TheVariants as planned
 use Rattle.snmp_tools.specs.declared.plan.Walk as plan_walk
-use Rattle.snmp_tools.specs.declared.start.Begun.{Begun}
 use Rattle.snmp_tools.specs.declared.start.Begun.TheVariants as begun
 
 -- the rows that the walk gives, `got` being what a Get of the root gives

@@ -1,16 +1,13 @@
 -- What snmptranslate promises, in short.
 use Rattle.std.specs.Prelude.{◌≡◌, ◌⊎◌, ◌++◌, ℕ, List}
-use Rattle.snmp_tools.specs.loading.Files.{AreModulesOf}
+use Rattle.snmp_tools.specs.{loading.Files.AreModulesOf, translation.Outcome.AreNamesPrinted}
+use Rattle.snmp_tools.specs.{translation.Style.IsStyleOf, declared.translation.style.Style.Style}
 use Rattle.smi_text.specs.declared.trees.tree.Module.{Module}
 use Rattle.smi_names.specs.declared.nodes.warning.Warning.{Warning}
 use Rattle.smi_tree.specs.Tree.{Contents, IsTree}
-use Rattle.snmp_io.specs.Files.{Holdings, Holds}
-use Rattle.snmp_io.specs.Output.{Stream, TakesFront}
+use Rattle.snmp_io.specs.{Files.Holdings, Files.Holds, Output.Stream, Output.TakesFront}
 use Rattle.snmp_words.specs.Words.{TranslateWords}
-use Rattle.snmp_tools.specs.translation.Outcome.{AreNamesPrinted}
-use Rattle.snmp_tools.specs.translation.Style.{IsStyleOf}
 use Rattle.snmp_tools.specs.translation.Text.{AreTextsOf, DetailMib, detail_mib_of}
-use Rattle.snmp_tools.specs.declared.translation.style.Style.{Style}
 
 -- the words ask for names in this style, by the modules of files whose texts are known
 pub record AskForTranslation (words : TranslateWords) (files : Holdings) (style : Style)

@@ -1,14 +1,12 @@
 -- What snmptranslate prints, and why it ends.
 use Rattle.std.specs.Prelude.{◌≡◌, ◌⊎◌, ◌++◌, ℕ, List, ◌∷◌, Option, Some, None}
-use Rattle.snmp_tools.specs.loading.Loaded.{IsLoaded, LoadFacts}
+use Rattle.snmp_tools.specs.{loading.Loaded.IsLoaded, loading.Loaded.LoadFacts, Asking.NameFails}
+use Rattle.snmp_tools.specs.{translation.Refusal.IsTranslateRefusal, translation.Style.IsStyleOf}
 use Rattle.smi_tree.specs.Tree.{Contents}
 use Rattle.snmp_io.specs.Files.{Holdings, MayHold}
 use Rattle.snmp_io.specs.Output.{FailsWithin, Stream, extended}
 use Rattle.snmp_words.specs.Words.{TranslateWords}
-use Rattle.snmp_tools.specs.Asking.{NameFails}
 use Rattle.snmp_tools.specs.Message.{Fault, no_output, out_of_memory}
-use Rattle.snmp_tools.specs.translation.Refusal.{IsTranslateRefusal}
-use Rattle.snmp_tools.specs.translation.Style.{IsStyleOf}
 use Rattle.snmp_tools.specs.translation.Text.{AreTextsOf, DetailMib, IsTextOf, detail_mib_of}
 use Rattle.snmp_tools.specs.declared.translation.style.Style.{Style}
 

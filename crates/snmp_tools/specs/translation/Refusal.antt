@@ -1,12 +1,10 @@
 -- Why nothing is printed: the words or their module files are refused.
 use Rattle.std.specs.Prelude.{◌≡◌, ◌⊎◌, ℕ, List, [], ◌∷◌, Some, None}
-use Rattle.snmp_tools.specs.loading.Files.{AreModulesOf}
+use Rattle.snmp_tools.specs.{loading.Files.AreModulesOf, Asking.MibsFail}
 use Rattle.smi_value.specs.letters.Letters.{first_other}
 use Rattle.smi_text.specs.declared.trees.tree.Module.{Module}
-use Rattle.snmp_io.specs.Files.{Holdings, MayHold}
-use Rattle.snmp_io.specs.Steps.{IsFirstToFail}
+use Rattle.snmp_io.specs.{Files.Holdings, Files.MayHold, Steps.IsFirstToFail}
 use Rattle.snmp_words.specs.Words.{TranslateWords}
-use Rattle.snmp_tools.specs.Asking.{MibsFail}
 use Rattle.snmp_tools.specs.Message.{Fault, bad_letter, out_of_memory}
 use Rattle.snmp_tools.specs.translation.Style.{first_other_of_t}
 

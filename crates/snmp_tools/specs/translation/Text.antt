@@ -2,11 +2,8 @@
 use Rattle.std.specs.Prelude.{◌≡◌, ◌++◌, ℕ, List, [], ◌∷◌, MatchBool, Option, Ok, codes}
 use Rattle.smi_show.specs.details.Detail.{IsDetail}
 use Rattle.smi_text.specs.declared.trees.tree.Def.{Def}
-use Rattle.smi_show.specs.name.Meant.{TextMeans}
-use Rattle.smi_show.specs.name.Name.{IsName}
-use Rattle.smi_show.specs.name.Naming.{Naming}
-use Rattle.smi_tree.specs.Naming.{nearest_definition, naming_of}
-use Rattle.smi_tree.specs.Tree.{Contents}
+use Rattle.smi_show.specs.{name.Meant.TextMeans, name.Name.IsName, name.Naming.Naming}
+use Rattle.smi_tree.specs.{Naming.nearest_definition, Naming.naming_of, Tree.Contents}
 use Rattle.snmp_tools.specs.declared.translation.style.Style.{Style}
 
 -- the names of nodes, and the definition of the deepest node of an identifier

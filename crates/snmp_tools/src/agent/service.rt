@@ -1,14 +1,12 @@
 //! Modules and a table are read, and the table is served at a UDP port.
 ghost use Rattle.std.specs.Prelude.{◌≡◌, ◌≤◌, IfErr, IfOk, OnOk, length};
-ghost use Rattle.snmp_io.specs.Files.{Holdings};
-ghost use Rattle.snmp_io.specs.Output.{Stream};
+ghost use Rattle.snmp_io.specs.{Files.Holdings, Output.Stream};
 ghost use Rattle.snmp_net.specs.Address.{IsHostAndPort};
 ghost use Rattle.snmp_words.specs.Words.{serve_words};
 ghost use Rattle.snmp_tools.specs.Message.{fault_of, outcome_of};
-ghost use Rattle.snmp_tools.specs.Seen.{seen};
-ghost use Rattle.snmp_tools.specs.agent.Outcome.{IsServeOutcome, IsServedBy, IsServing};
-ghost use Rattle.snmp_tools.specs.agent.Outcome.{ServesAt, counts_line, listening_line};
-ghost use Rattle.snmp_tools.specs.agent.Service.{ServiceFails};
+ghost use Rattle.snmp_tools.specs.{Seen.seen, agent.Service.ServiceFails};
+ghost use Rattle.snmp_tools.specs.agent.Outcome.{IsServeOutcome, IsServedBy, IsServing, ServesAt};
+ghost use Rattle.snmp_tools.specs.agent.Outcome.{counts_line, listening_line};
 
 use crate::error_output::ErrorOutput;
 use crate::failure::Failure;

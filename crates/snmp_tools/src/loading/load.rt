@@ -3,8 +3,7 @@ ghost use Rattle.std.specs.Prelude.{◌≡◌, IfErr, IfOk, List, OnErr};
 ghost use Rattle.smi_text.specs.declared.trees.tree.Module.{Module};
 ghost use Rattle.snmp_io.specs.Files.{Holds, MayHold};
 ghost use Rattle.snmp_tools.specs.loading.Files.{AreModulesOf, IsFilesRefusal, no_memory, texts};
-ghost use Rattle.snmp_tools.specs.loading.Loaded.{IsLoaded};
-ghost use Rattle.snmp_tools.specs.loading.Message.{refusal_of};
+ghost use Rattle.snmp_tools.specs.{loading.Loaded.IsLoaded, loading.Message.refusal_of};
 
 use crate::error_output::ErrorOutput;
 use crate::loading::error::FilesError;

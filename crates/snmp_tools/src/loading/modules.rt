@@ -1,11 +1,9 @@
 //! The names that are loaded from files, of modules or of the roots alone.
 ghost use Rattle.std.specs.Prelude.{◌≡◌, ℕ, IfErr, IfOk, List, None, OnErr, OnOk};
 ghost use Rattle.smi_text.specs.declared.trees.tree.Module.{Module};
-ghost use Rattle.snmp_io.specs.Files.{Holds, MayHold};
-ghost use Rattle.snmp_io.specs.Output.{Stream};
+ghost use Rattle.snmp_io.specs.{Files.Holds, Files.MayHold, Output.Stream};
 ghost use Rattle.snmp_tools.specs.loading.Files.{AreModulesOf, IsFilesRefusal, no_memory, texts};
-ghost use Rattle.snmp_tools.specs.loading.Loaded.{AreLoadedAs};
-ghost use Rattle.snmp_tools.specs.loading.Message.{refusal_of};
+ghost use Rattle.snmp_tools.specs.{loading.Loaded.AreLoadedAs, loading.Message.refusal_of};
 
 use crate::error_output::ErrorOutput;
 use crate::loading::error::FilesError;

@@ -1,7 +1,6 @@
 //! The job of snmptranslate: names are printed by the names of module files.
 ghost use Rattle.snmp_words.specs.Words.{translate_words};
-ghost use Rattle.snmp_tools.specs.Message.{outcome_of};
-ghost use Rattle.snmp_tools.specs.translation.Outcome.{IsTranslateOutcome};
+ghost use Rattle.snmp_tools.specs.{Message.outcome_of, translation.Outcome.IsTranslateOutcome};
 
 use crate::error_output::ErrorOutput;
 use crate::failure::Failure;

@@ -1,9 +1,8 @@
 //! Names are printed one after the other, by the names of a tree.
 ghost use Rattle.std.specs.Prelude.{◌≡◌, IfErr, IfOk, OnOk};
 ghost use Rattle.snmp_words.specs.Words.{texts_at};
-ghost use Rattle.snmp_tools.specs.Message.{fault_of, outcome_of};
+ghost use Rattle.snmp_tools.specs.{Message.fault_of, Message.outcome_of, translation.Text.IsShown};
 ghost use Rattle.snmp_tools.specs.translation.Outcome.{IsNamePrinted, IsPrinting, StopsAtName};
-ghost use Rattle.snmp_tools.specs.translation.Text.{IsShown};
 
 use crate::failure::Failure;
 use crate::lines::print_text;

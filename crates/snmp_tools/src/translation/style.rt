@@ -3,8 +3,7 @@ ghost use Rattle.std.specs.Prelude.{◌≡◌, None, Some, IfErr, IfOk, OnOk};
 ghost use Rattle.snmp_io.specs.Files.{Holdings};
 ghost use Rattle.smi_value.specs.letters.Letters.{has_letter};
 ghost use Rattle.snmp_words.specs.Words.{translate_words};
-ghost use Rattle.snmp_tools.specs.Message.{fault_of};
-ghost use Rattle.snmp_tools.specs.translation.Refusal.{TranslationFails};
+ghost use Rattle.snmp_tools.specs.{Message.fault_of, translation.Refusal.TranslationFails};
 ghost use Rattle.snmp_tools.specs.translation.Style.{IsStyleOf, first_other_of_t};
 
 use crate::failure::Failure;

@@ -1,14 +1,10 @@
 -- What the crates below state, as laws, of names, of messages and their encodings, and of tables,
 -- for proofs.
-use Rattle.std.specs.Prelude.{◌≡◌, ℕ, List}
-use Rattle.std.specs.Ordering.{nat_cmp}
-use Rattle.std.specs.Cmp.Lexicographic.{slice_cmp}
-use Rattle.std.specs.declared.cmp.Ordering.TheVariants.{Less}
+use Rattle.std.specs.{Prelude.◌≡◌, Prelude.ℕ, Prelude.List, Ordering.nat_cmp}
+use Rattle.std.specs.{Cmp.Lexicographic.slice_cmp, declared.cmp.Ordering.TheVariants.Less}
 use Rattle.snmp_oid.specs.Identifier.{Precedes}
-use Rattle.snmp_wire.specs.ber.Sizes.{ElementSizes}
-use Rattle.snmp_wire.specs.Sizes.{MessageSizes}
+use Rattle.snmp_wire.specs.{ber.Sizes.ElementSizes, Sizes.MessageSizes, Message.VarBind}
 use Rattle.snmp_agent.specs.table.Table.{IsGet, MibView}
-use Rattle.snmp_wire.specs.Message.{VarBind}
 use Rattle.snmp_wire.specs.Laws.{OneMessage, StrictIsRead, EncodingIsStrict, HasPieces}
 
 pub record Codec : Type 0 where

@@ -1,12 +1,10 @@
 -- What a reply means, and whether the walk or the Get goes on once its bindings were given. Where
 -- it doesn't, its end is written beside that. For private clauses.
 use Rattle.std.specs.Prelude.{Option, None, Some}
-use Rattle.snmp_walk.specs.declared.end.WalkEnd.{WalkEnd}
-use Rattle.snmp_walk.specs.declared.rows.Step.{Step}
+use Rattle.snmp_walk.specs.{declared.end.WalkEnd.WalkEnd, declared.rows.Step.Step}
+use Rattle.snmp_walk.specs.{declared.tries.Course.Course, declared.tries.Judgement.Judgement}
 use Rattle.snmp_walk.specs.declared.rows.Step.TheVariants as step
-use Rattle.snmp_walk.specs.declared.tries.Course.{Course}
 use Rattle.snmp_walk.specs.declared.tries.Course.TheVariants as course
-use Rattle.snmp_walk.specs.declared.tries.Judgement.{Judgement}
 use Rattle.snmp_walk.specs.declared.tries.Judgement.TheVariants as judgement
 
 -- a judgement, with the end that is written beside it

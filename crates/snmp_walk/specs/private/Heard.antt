@@ -1,10 +1,8 @@
 -- Which replies may come while a request is tried over an honest link, for proofs.
 use Rattle.std.specs.Prelude.{◌≡◌, ℕ, ◌<◌, ◌⊎◌, false, List}
 use Rattle.snmp_wire.specs.Canon.{canon}
-use Rattle.snmp_walk.specs.Walker.{Walker, IsWalker}
-use Rattle.snmp_walk.specs.Request.{request_of}
-use Rattle.snmp_walk.specs.private.Taken.{is_over}
-use Rattle.snmp_walk.specs.Link.{Agents, OneOf, IsReplyFrom}
+use Rattle.snmp_walk.specs.{Walker.Walker, Walker.IsWalker, Request.request_of}
+use Rattle.snmp_walk.specs.{private.Taken.is_over, Link.Agents, Link.OneOf, Link.IsReplyFrom}
 
 -- `Other` holds of no reply to the request, and of each reply to another of the datagrams sent
 pub record IsAsked (agents : Agents) (Other : List ℕ → Type 0) (q : List ℕ) (sent : List

@@ -1,30 +1,12 @@
 -- How the bindings of a reply are read one by one, and that this gives what the rules of `Taken`
 -- name, for private clauses.
-use Rattle.std.specs.Prelude.{
-  ◌≡◌,
-  ℕ,
-  ◌+◌,
-  ◌<◌,
-  List,
-  [],
-  ◌∷◌,
-  if◌then◌else◌,
-  Bool,
-  ◌||◌,
-  nat_lt,
-  Option,
-  Some,
-  None,
-  length,
-  take,
-}
+use Rattle.std.specs.Prelude.{◌≡◌, ℕ, ◌+◌, ◌<◌, List, [], ◌∷◌, if◌then◌else◌, Bool, ◌||◌, nat_lt}
+use Rattle.std.specs.Prelude.{Option, Some, None, length, take}
 use Rattle.std.specs.List.{list_any}
 use Rattle.snmp_wire.specs.Message.{VarBind}
-use Rattle.snmp_walk.specs.declared.walker.Ending.{Ending}
+use Rattle.snmp_walk.specs.{declared.walker.Ending.Ending, declared.walker.Front.Front}
+use Rattle.snmp_walk.specs.{Names.is_inside, Names.is_missing, Names.comes_after, Trail.last_name}
 use Rattle.snmp_walk.specs.declared.walker.Ending.TheVariants as ending
-use Rattle.snmp_walk.specs.declared.walker.Front.{Front}
-use Rattle.snmp_walk.specs.Names.{is_inside, is_missing, comes_after}
-use Rattle.snmp_walk.specs.Trail.{last_name}
 use Rattle.snmp_walk.specs.private.Taken.{inside_front, rising_front, name_at}
 
 -- what follows the instances that are read: nothing, a binding that ends the walk, or one below the

@@ -1,48 +1,19 @@
 -- What a message means to a walk, computed, for private clauses alone: public ones are stated by
 -- the rules of `Judged`, which name just what is computed here.
-use Rattle.std.specs.Prelude.{
-  ℕ,
-  zero,
-  suc,
-  pos,
-  Bool,
-  true,
-  false,
-  ◌&&◌,
-  ◌||◌,
-  not,
-  ◌==◌,
-  nat_lt,
-  if◌then◌else◌,
-  ◌+◌,
-  List,
-  [],
-  ◌∷◌,
-  length,
-  Option,
-  Some,
-  None,
-  take_while,
-}
-use Rattle.std.specs.List.{list_any}
-use Rattle.std.specs.Bool.{nat_eq}
-use Rattle.std.specs.Ordering.{int_eq}
-use Rattle.std.specs.Cmp.Lexicographic.{pointwise}
-use Rattle.snmp_wire.specs.declared.kind.Kind.{Kind}
+use Rattle.std.specs.Prelude.{ℕ, zero, suc, pos, Bool, true, false, ◌&&◌, ◌||◌, not, ◌==◌, nat_lt}
+use Rattle.std.specs.Prelude.{if◌then◌else◌, ◌+◌, List, [], ◌∷◌, length, Option, Some, None}
+use Rattle.std.specs.Prelude.{take_while}
+use Rattle.std.specs.{List.list_any, Bool.nat_eq, Ordering.int_eq, Cmp.Lexicographic.pointwise}
+use Rattle.snmp_wire.specs.{declared.kind.Kind.Kind, Message.VarBind, Message.Message}
 use Rattle.snmp_wire.specs.declared.kind.Kind.TheVariants as kind
-use Rattle.snmp_wire.specs.Message.{VarBind, Message}
-use Rattle.snmp_walk.specs.declared.mode.Mode.{Mode}
+use Rattle.snmp_walk.specs.{declared.mode.Mode.Mode, declared.phase.Phase.Phase}
+use Rattle.snmp_walk.specs.{declared.end.WalkEnd.WalkEnd, declared.rows.Step.Step}
+use Rattle.snmp_walk.specs.{Request.asked_for, Trail.last_name, Walker.Walker}
 use Rattle.snmp_walk.specs.declared.mode.Mode.TheVariants as mode
-use Rattle.snmp_walk.specs.declared.phase.Phase.{Phase}
 use Rattle.snmp_walk.specs.declared.phase.Phase.TheVariants as phase
-use Rattle.snmp_walk.specs.declared.end.WalkEnd.{WalkEnd}
 use Rattle.snmp_walk.specs.declared.end.WalkEnd.TheVariants as ending
-use Rattle.snmp_walk.specs.declared.rows.Step.{Step}
 use Rattle.snmp_walk.specs.declared.rows.Step.TheVariants as step
 use Rattle.snmp_walk.specs.Names.{is_inside, is_end, is_missing, comes_after}
-use Rattle.snmp_walk.specs.Request.{asked_for}
-use Rattle.snmp_walk.specs.Trail.{last_name}
-use Rattle.snmp_walk.specs.Walker.{Walker}
 
 abbrev pub is_over : Phase → Bool
 is_over phase.Over = true

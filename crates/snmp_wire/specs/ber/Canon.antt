@@ -4,10 +4,9 @@ use Rattle.std.specs.Prelude.{ℕ, ℤ, pos, negsuc, ◌+◌, ◌-◌, ◌*◌, 
 use Rattle.std.specs.Prelude.{List, [], ◌∷◌, ◌++◌, length, get_or, map, nat_lt, if◌then◌else◌}
 use Rattle.std.specs.List.{flat_map}
 use Rattle.snmp_oid.specs.Identifier.{IsWire}
-use Rattle.snmp_wire.specs.ber.Identifier.{subidentifiers}
+use Rattle.snmp_wire.specs.{ber.Identifier.subidentifiers, ber.Spelling.value_tag}
 use Rattle.snmp_wire.specs.ber.Value.{Datum, integer_value, octet_string, object_id, ip_address}
 use Rattle.snmp_wire.specs.ber.Value.{counter32, gauge32, time_ticks, opaque_octets, counter64}
-use Rattle.snmp_wire.specs.ber.Spelling.{value_tag}
 
 -- how many digits a number has to a base: one below the limit, and one more for each further power
 -- of the base, up to `more` more

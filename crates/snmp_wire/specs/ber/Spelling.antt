@@ -1,8 +1,7 @@
 -- What octets encode: values in BER (RFC 3416, section 3; RFC 3417, section 8; X.690).
 use Rattle.std.specs.Prelude.{◌≡◌, ℕ, List, [], length}
 use Rattle.snmp_wire.specs.ber.Number.{IsInteger, IsUnsigned, Form}
-use Rattle.snmp_wire.specs.ber.Length.{IsElement}
-use Rattle.snmp_wire.specs.ber.Identifier.{IsObjectId}
+use Rattle.snmp_wire.specs.{ber.Length.IsElement, ber.Identifier.IsObjectId}
 use Rattle.snmp_wire.specs.ber.Value.{Datum, integer_value, octet_string, null_value, object_id}
 use Rattle.snmp_wire.specs.ber.Value.{ip_address, counter32, gauge32, time_ticks, opaque_octets}
 use Rattle.snmp_wire.specs.ber.Value.{counter64, no_such_object, no_such_instance, end_of_mib_view}

@@ -2,9 +2,8 @@
 ghost use Rattle.std.specs.Prelude.{◌≡◌, ℕ, ◌^◌, ◌<◌, ◌≤◌, length, IsTrue, Ok, ◌+◌, pos};
 ghost use Rattle.snmp_wire.specs.ber.Number as number;
 ghost use Rattle.snmp_wire.specs.ber.Reading as reading;
-ghost use Rattle.snmp_wire.specs.ber.Reading.{AgreesBy};
+ghost use Rattle.snmp_wire.specs.{ber.Reading.AgreesBy, private.ber.Writing.Writes};
 ghost use Rattle.snmp_wire.specs.ber.Canon.{canon_number, magnitude_of, number_size, octets};
-ghost use Rattle.snmp_wire.specs.private.ber.Writing.{Writes};
 
 use crate::ber::length::inner_at;
 use crate::ber::writing::{put_octet, put_text};

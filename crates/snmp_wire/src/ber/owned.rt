@@ -1,7 +1,6 @@
 //! Values that own their octets, as a table keeps them.
 ghost use Rattle.std.specs.Prelude.{◌≡◌, IfOk, IsOk};
-ghost use Rattle.snmp_wire.specs.ber.Value.{datum};
-ghost use Rattle.snmp_wire.specs.ber.Owned.{HasNoString, owned};
+ghost use Rattle.snmp_wire.specs.{ber.Value.datum, ber.Owned.HasNoString, ber.Owned.owned};
 
 use crate::ber::ValueRef;
 use snmp_oid::Oid;

@@ -1,8 +1,7 @@
 //! Variable bindings as they lie in a datagram, whose parts are read when they are wanted.
 ghost use Rattle.std.specs.Prelude.{◌≡◌, ◌∷◌, [], IfNone, IfSome, IsOk, Ok};
-ghost use Rattle.snmp_wire.specs.Message.{var_bind};
+ghost use Rattle.snmp_wire.specs.{Message.var_bind, ber.Spelling.value_tag};
 ghost use Rattle.snmp_wire.specs.Reading as reading;
-ghost use Rattle.snmp_wire.specs.ber.Spelling.{value_tag};
 
 use super::{Bindings, Fields, fields_in, read_binding};
 use crate::{Binding, EncodedName};

@@ -1,11 +1,8 @@
 use Rattle.std.proofs.Common.{◌≡◌, ◌∙◌, ◌⊎◌, ap, subst, sym, map}
 use Rattle.clap.specs.Words.{App, app_of, fault_of, is_simple, kind_of, subcommand_of, takes}
-use Rattle.clap.specs.Faults.{is_simple_and_free}
-use Rattle.snmp_words.specs.Command.{snmp_app}
-use Rattle.snmp_words.specs.Words.{stated_in}
-use Rattle.snmp_words.proofs.CommandLemmas.{fault_of_refusal, states_job, plain_is_local}
-use Rattle.snmp_words.proofs.GivenLemmas.{states}
-use Rattle.clap.specs.Kinds.{IsAmong}
+use Rattle.clap.specs.{Faults.is_simple_and_free, Kinds.IsAmong}
+use Rattle.snmp_words.specs.{Command.snmp_app, Words.stated_in}
+use Rattle.snmp_words.proofs.{CommandLemmas.fault_of_refusal, CommandLemmas.states_job, CommandLemmas.plain_is_local, GivenLemmas.states}
 use Rattle.clap.specs.declared.error.ErrorKind.TheVariants as ErrorKind
 use Rattle.snmp_words.proofs.read_words.Goals as goal
 

@@ -1,21 +1,8 @@
 -- The state of the search for places whose chains end, for private clauses.
-use Rattle.std.specs.Prelude.{
-  ◌≡◌,
-  ℕ,
-  ◌<◌,
-  List,
-  [],
-  ◌∷◌,
-  length,
-  slice_index_or,
-  All,
-  Contains,
-  Option,
-  Some,
-}
-use Rattle.smi_names.specs.chains.Chain.{HasEnd}
+use Rattle.std.specs.Prelude.{◌≡◌, ℕ, ◌<◌, List, [], ◌∷◌, length, slice_index_or, All, Contains}
+use Rattle.std.specs.Prelude.{Option, Some}
+use Rattle.smi_names.specs.{chains.Chain.HasEnd, declared.chains.order.Mark.Mark}
 use Rattle.smi_names.specs.chains.Order.{next_at, ComeAfterNext}
-use Rattle.smi_names.specs.declared.chains.order.Mark.{Mark}
 use Rattle.smi_names.specs.declared.chains.order.Mark.TheVariants as M
 
 abbrev pub mark_at : List Mark → ℕ → Mark

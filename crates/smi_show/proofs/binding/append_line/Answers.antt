@@ -1,7 +1,6 @@
 use Rattle.std.proofs.Common.{◌++◌, codes, refl}
 use Rattle.smi_show.specs.Line.{front_text, names_by}
-use Rattle.smi_show.proofs.NamesStated.{name_stated}
-use Rattle.smi_show.proofs.Texts.{adds_both}
+use Rattle.smi_show.proofs.{NamesStated.name_stated, Texts.adds_both}
 use Rattle.smi_show.proofs.binding.append_line.Goals as goal
 
 pub returns : goal.returns

@@ -1,9 +1,6 @@
-use Rattle.std.proofs.Common.{arith, ◌≡◌, ℕ, Bool, List, refl}
-use Rattle.std.proofs.lemmas.Grind.{common_steps}
-use Rattle.smi_value.specs.declared.letters.letters.NameForm.{NameForm}
-use Rattle.smi_value.specs.declared.letters.letters.NameForm.TheVariants.{Numeric}
-use Rattle.smi_show.specs.name.Naming.{Naming}
-use Rattle.smi_show.specs.private.name.Shown.{name_text, standing_text}
+use Rattle.std.proofs.{Common.arith, Common.◌≡◌, Common.ℕ, Common.Bool, Common.List, Common.refl, lemmas.Grind.common_steps}
+use Rattle.smi_value.specs.{declared.letters.letters.NameForm.NameForm, declared.letters.letters.NameForm.TheVariants.Numeric}
+use Rattle.smi_show.specs.{name.Naming.Naming, private.name.Shown.name_text, private.name.Shown.standing_text}
 use Rattle.smi_show.proofs.binding.append_name.Goals as goal
 
 -- a name that isn't in numbers is that of the deepest node

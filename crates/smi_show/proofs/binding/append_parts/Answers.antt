@@ -1,7 +1,6 @@
 use Rattle.std.proofs.Common.{rules, ◌≡◌, ◌∙◌, subst, Option}
 use Rattle.std.specs.Option.{option_copied}
-use Rattle.smi_value.specs.Syntax.{ObjectSyntax}
-use Rattle.smi_value.specs.Value.{ShowsValue}
+use Rattle.smi_value.specs.{Syntax.ObjectSyntax, Value.ShowsValue}
 use Rattle.snmp_wire.specs.ber.Value.{datum}
 use Rattle.smi_show.specs.Line.{front_text, names_by}
 use Rattle.smi_show.proofs.Texts.{adds_both}

@@ -1,9 +1,7 @@
 use Rattle.std.proofs.Common.{◌++◌, codes, refl, sym, subst}
 use Rattle.std.specs.Option.{option_copied}
-use Rattle.smi_value.specs.Pieces.{type_word}
-use Rattle.smi_value.specs.Value.{ShowsValue}
-use Rattle.snmp_wire.specs.ber.Value.{datum}
-use Rattle.snmp_wire.specs.declared.ber.value.ValueRef.{ValueRef}
+use Rattle.smi_value.specs.{Pieces.type_word, Value.ShowsValue}
+use Rattle.snmp_wire.specs.{ber.Value.datum, declared.ber.value.ValueRef.ValueRef}
 use Rattle.smi_show.specs.Line.{names_by}
 use Rattle.smi_show.proofs.Texts.{adds_both}
 use Rattle.smi_show.proofs.binding.append_shown.Goals as goal

@@ -1,5 +1,4 @@
-use Rattle.std.proofs.Common.{arith}
-use Rattle.std.proofs.lemmas.Grind.{common_steps}
+use Rattle.std.proofs.{Common.arith, lemmas.Grind.common_steps}
 use Rattle.smi_show.proofs.NamesStated.{same_name}
 use Rattle.smi_show.proofs.binding.one_value.Goals as goal
 

@@ -1,5 +1,4 @@
-use Rattle.std.proofs.Common.{◌≡◌, ℕ, List, ◌++◌, OnOk, rules}
-use Rattle.std.proofs.lemmas.Result.{on_ok_weaker}
+use Rattle.std.proofs.{Common.◌≡◌, Common.ℕ, Common.List, Common.◌++◌, Common.OnOk, Common.rules, lemmas.Result.on_ok_weaker}
 use Rattle.smi_value.specs.Value.{ShowsValue}
 use Rattle.snmp_wire.specs.ber.Value.{datum}
 use Rattle.smi_show.specs.Line.{names_by}

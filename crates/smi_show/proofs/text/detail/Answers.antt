@@ -1,7 +1,5 @@
-use Rattle.std.proofs.Common.{◌≡◌, ◌++◌, OnOk, refl, rules}
-use Rattle.std.proofs.lemmas.Result.{on_ok_weaker}
-use Rattle.smi_show.specs.details.Detail.{detail_text}
-use Rattle.smi_show.specs.private.name.Shown.{name_text}
+use Rattle.std.proofs.{Common.◌≡◌, Common.◌++◌, Common.OnOk, Common.refl, Common.rules, lemmas.Result.on_ok_weaker}
+use Rattle.smi_show.specs.{details.Detail.detail_text, private.name.Shown.name_text}
 use Rattle.smi_show.proofs.NamesStated.{name_stated}
 use Rattle.smi_show.proofs.text.detail.Goals as goal
 

@@ -1,5 +1,4 @@
-use Rattle.std.proofs.Common.{◌≡◌, ◌++◌, OnOk, rules}
-use Rattle.std.proofs.lemmas.Result.{on_ok_weaker}
+use Rattle.std.proofs.{Common.◌≡◌, Common.◌++◌, Common.OnOk, Common.rules, lemmas.Result.on_ok_weaker}
 use Rattle.smi_show.specs.private.name.Shown.{name_text}
 use Rattle.smi_show.proofs.NamesStated.{name_stated}
 use Rattle.smi_show.proofs.text.name_text.Goals as goal

@@ -1,9 +1,7 @@
 -- The tokens that a module text has for a type, and the text that they make.
 use Rattle.std.specs.Prelude.{ℕ, List, [], ◌∷◌, ◌++◌, codes}
 use Rattle.std.specs.List.{flat_map}
-use Rattle.smi_text.specs.lexer.Token.{Lexeme}
-use Rattle.smi_text.specs.trees.Mark.{Stands}
-use Rattle.smi_text.specs.trees.Spelling.{of_syntax}
+use Rattle.smi_text.specs.{lexer.Token.Lexeme, trees.Mark.Stands, trees.Spelling.of_syntax}
 use Rattle.smi_text.specs.declared.trees.tree.Syntax.{Syntax}
 
 -- the tokens are the type's spelling, and no more

@@ -1,14 +1,12 @@
 -- A part as the code reads it, and a scope as the code has it, for private clauses.
 use Rattle.std.specs.Prelude.{Result, Ok, Err}
 use Rattle.smi_show.specs.index.Pieces as pieces
-use Rattle.smi_show.specs.name.Word.{Word, a_piece, a_label}
+use Rattle.smi_show.specs.{name.Word.Word, name.Word.a_piece, name.Word.a_label}
+use Rattle.smi_show.specs.{declared.name.error.NameError.NameError, declared.name.word.Part.Part}
+use Rattle.smi_show.specs.{declared.name.word.Piece.Piece, declared.name.scope.Scope.Scope}
 use Rattle.smi_show.specs.name.Meant as meant
-use Rattle.smi_show.specs.declared.name.error.NameError.{NameError}
-use Rattle.smi_show.specs.declared.name.word.Part.{Part}
 use Rattle.smi_show.specs.declared.name.word.Part.TheVariants as part
-use Rattle.smi_show.specs.declared.name.word.Piece.{Piece}
 use Rattle.smi_show.specs.declared.name.word.Piece.TheVariants.{Number, Counted, Plain}
-use Rattle.smi_show.specs.declared.name.scope.Scope.{Scope}
 use Rattle.smi_show.specs.declared.name.scope.Scope.TheVariants.{Module, Anywhere, Roots}
 
 abbrev pub piece_in : Piece → pieces.Piece

@@ -1,10 +1,8 @@
 -- What a name, or its first part, was read to in an existing identifier, for private clauses.
 use Rattle.std.specs.Prelude.{ℕ, List, Option, option_map, Result, Ok, Err}
 use Rattle.std.specs.Borrow.{Bor}
-use Rattle.smi_show.specs.private.name.Left.{parts_left}
-use Rattle.smi_show.specs.name.Meaning.{further_meaning}
-use Rattle.smi_show.specs.name.Naming.{Naming}
-use Rattle.smi_show.specs.declared.name.error.NameError.{NameError}
+use Rattle.smi_show.specs.{private.name.Left.parts_left, name.Meaning.further_meaning}
+use Rattle.smi_show.specs.{name.Naming.Naming, declared.name.error.NameError.NameError}
 
 -- the identifier, or the fault
 abbrev pub read_to : Result (Unit {0}) NameError → List ℕ → Result (List ℕ) NameError

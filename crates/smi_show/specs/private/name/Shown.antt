@@ -1,10 +1,8 @@
 -- The name of an identifier, computed, for private clauses: what the relation of Name determines.
 use Rattle.std.specs.Prelude.{ℕ, Bool, if◌then◌else◌, List, ◌++◌, drop, Option, Some, None}
 use Rattle.snmp_oid.specs.Numeric.{numeric_text}
-use Rattle.smi_show.specs.index.Pieces.{shown_pieces}
-use Rattle.smi_show.specs.private.index.Reading.{instance_pieces}
-use Rattle.smi_show.specs.name.Name.{node_text}
-use Rattle.smi_show.specs.name.Naming.{Naming, Standing}
+use Rattle.smi_show.specs.{index.Pieces.shown_pieces, private.index.Reading.instance_pieces}
+use Rattle.smi_show.specs.{name.Name.node_text, name.Naming.Naming, name.Naming.Standing}
 use Rattle.smi_value.specs.declared.letters.letters.NameForm.{NameForm}
 use Rattle.smi_value.specs.declared.letters.letters.NameForm.TheVariants.{Numeric}
 

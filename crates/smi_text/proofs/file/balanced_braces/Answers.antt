@@ -1,7 +1,5 @@
-use Rattle.std.proofs.Common.{arith}
-use Rattle.std.proofs.lemmas.Grind.{common_steps}
-use Rattle.smi_text.proofs.Braces.{counted, balanced-counted}
-use Rattle.smi_text.proofs.Fronts.{fronts-counted}
+use Rattle.std.proofs.{Common.arith, lemmas.Grind.common_steps}
+use Rattle.smi_text.proofs.{Braces.counted, Braces.balanced-counted, Fronts.fronts-counted}
 use Rattle.smi_text.proofs.file.balanced_braces.Goals as goal
 
 pub returns : goal.returns

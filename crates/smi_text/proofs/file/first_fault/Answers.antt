@@ -1,5 +1,4 @@
-use Rattle.std.proofs.Common.{arith, ap}
-use Rattle.std.proofs.lemmas.Grind.{common_steps}
+use Rattle.std.proofs.{Common.arith, Common.ap, lemmas.Grind.common_steps}
 use Rattle.smi_text.specs.lexer.Token.{first_fault}
 use Rattle.smi_text.proofs.file.first_fault.Goals as goal
 

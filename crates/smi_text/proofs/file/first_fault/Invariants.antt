@@ -1,6 +1,5 @@
 use Rattle.std.proofs.Common.{◌≡◌, List, []}
-use Rattle.smi_text.specs.lexer.Token.{Item, first_fault}
-use Rattle.smi_text.specs.lexer.Lexes.{Lexes}
+use Rattle.smi_text.specs.{lexer.Token.Item, lexer.Token.first_fault, lexer.Lexes.Lexes}
 use Rattle.smi_text.proofs.file.first_fault.Given as goal
 
 abbrev pub invariant-each : goal.invariant-each

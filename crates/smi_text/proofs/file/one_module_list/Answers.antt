@@ -1,7 +1,5 @@
-use Rattle.std.proofs.Common.{arith}
-use Rattle.std.proofs.lemmas.Grind.{common_steps}
-use Rattle.smi_text.proofs.Laws.{some-inj}
-use Rattle.smi_text.proofs.Tokens.{tokens-read}
+use Rattle.std.proofs.{Common.arith, lemmas.Grind.common_steps}
+use Rattle.smi_text.proofs.{Laws.some-inj, Tokens.tokens-read}
 use Rattle.smi_text.proofs.file.one_module_list.Goals as goal
 
 pub returns : goal.returns

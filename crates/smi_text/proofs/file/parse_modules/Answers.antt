@@ -1,18 +1,11 @@
 use Rattle.std.proofs.Common.{arith, ◌≡◌, ℕ, List, [], Some, ◌∙◌, sym, ap}
 use Rattle.std.proofs.lemmas.Grind.{common_steps}
-use Rattle.smi_text.specs.lexer.Token.{Item, tokens_of}
-use Rattle.smi_text.specs.lexer.Lexes.{Lexes}
-use Rattle.smi_text.specs.declared.error.ParseError.{ParseError}
+use Rattle.smi_text.specs.{lexer.Token.Item, lexer.Token.tokens_of, lexer.Lexes.Lexes, declared.error.ParseError.ParseError}
+use Rattle.smi_text.specs.{declared.trees.tree.Module.Module, trees.Mark.Stands, trees.Spelling.spelling, private.Grammar.file}
 use Rattle.smi_text.specs.declared.error.ParseError.TheVariants as E
-use Rattle.smi_text.specs.declared.trees.tree.Module.{Module}
-use Rattle.smi_text.specs.trees.Mark.{Stands}
-use Rattle.smi_text.specs.trees.Spelling.{spelling}
 use Rattle.smi_text.specs.Text.{AreSpelledBy, HasNoDoubles, IsCause}
 use Rattle.smi_text.specs.private.Returned.{ReadsModules, ModulesFault, IsLexFault, IsCauseOf}
-use Rattle.smi_text.specs.private.Grammar.{file}
-use Rattle.smi_text.proofs.Laws.{some-inj}
-use Rattle.smi_text.proofs.ProductionLaws.{file-law}
-use Rattle.smi_text.proofs.Doubles.{file-twice}
+use Rattle.smi_text.proofs.{Laws.some-inj, ProductionLaws.file-law, Doubles.file-twice}
 use Rattle.smi_text.proofs.Tokens.{all-whole, taken-stands, taken-no_fault, tokens-read}
 use Rattle.smi_text.proofs.file.parse_modules.Goals as goal
 

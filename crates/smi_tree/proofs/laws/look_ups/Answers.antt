@@ -1,6 +1,5 @@
 use Rattle.smi_tree.specs.Nodes.{oids_of}
-use Rattle.smi_tree.proofs.Childhood.{child-first}
-use Rattle.smi_tree.proofs.Reaching.{longest-is}
+use Rattle.smi_tree.proofs.{Childhood.child-first, Reaching.longest-is}
 use Rattle.smi_tree.proofs.laws.look_ups.Goals as goal
 
 pub returns-clause-longest : goal.returns-clause-longest

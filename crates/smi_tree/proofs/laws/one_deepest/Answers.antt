@@ -1,7 +1,5 @@
 -- Neither beginning is longer than the other.
-use Rattle.std.proofs.lemmas.Grind.{common_steps}
-use Rattle.std.proofs.Common.{ℕ, ◌<◌, List, arith}
-use Rattle.std.proofs.lemmas.Bool.{cases_lt}
+use Rattle.std.proofs.{lemmas.Grind.common_steps, Common.ℕ, Common.◌<◌, Common.List, Common.arith, lemmas.Bool.cases_lt}
 use Rattle.smi_tree.specs.branches.Standing.{IsDeepestAt}
 use Rattle.smi_tree.proofs.laws.one_deepest.Goals as goal
 

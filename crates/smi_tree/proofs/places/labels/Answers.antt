@@ -4,8 +4,7 @@ use Rattle.std.proofs.lemmas.List.{take_all}
 use Rattle.indexmap.specs.IndexMap.{get}
 use Rattle.smi_names.specs.declared.nodes.source.Source.TheVariants as S
 use Rattle.smi_tree.specs.Places.{has_label, label_from, same_key}
-use Rattle.smi_tree.proofs.First.{more, or_else_none}
-use Rattle.smi_tree.proofs.Scoping.{others-more, first_is}
+use Rattle.smi_tree.proofs.{First.more, First.or_else_none, Scoping.others-more, Scoping.first_is}
 use Rattle.smi_tree.proofs.places.labels.Goals as goal
 use Rattle.smi_tree.proofs.places.labels.Goals.{in-Some+in_ok-put_first, in_default}
 

@@ -1,8 +1,6 @@
 -- The definitions that names lead to, by their places, for private clauses.
-use Rattle.std.specs.Prelude.{◌≡◌, ℕ, List, Some}
-use Rattle.std.specs.List.{slice_get}
-use Rattle.smi_text.specs.declared.trees.tree.Module.{Module}
-use Rattle.smi_text.specs.declared.trees.tree.Def.{Def}
+use Rattle.std.specs.{Prelude.◌≡◌, Prelude.ℕ, Prelude.List, Prelude.Some, List.slice_get}
+use Rattle.smi_text.specs.{declared.trees.tree.Module.Module, declared.trees.tree.Def.Def}
 use Rattle.smi_names.specs.meaning.Meaning.{QualifiedName}
 use Rattle.smi_tree.specs.columns.Definitions.{IsDefinedBy}
 

@@ -1,5 +1,4 @@
-use Rattle.smi_value.proofs.Bits.{bits_shown}
-use Rattle.smi_value.proofs.Growing.{adds_from}
+use Rattle.smi_value.proofs.{Bits.bits_shown, Growing.adds_from}
 use Rattle.smi_value.proofs.pieces.append_bits.Goals as goal
 
 pub returns : goal.returns

@@ -1,8 +1,7 @@
 use Rattle.std.proofs.Common.{take}
 use Rattle.std.specs.List.{flat_map}
 use Rattle.snmp_io.specs.draft.Draft.{Grows}
-use Rattle.smi_value.specs.Pieces.{dotted}
-use Rattle.smi_value.specs.Texts.{escaped}
+use Rattle.smi_value.specs.{Pieces.dotted, Texts.escaped}
 use Rattle.smi_value.proofs.pieces.append_escaped.Given as goal
 
 abbrev pub invariant-octets : goal.invariant-octets

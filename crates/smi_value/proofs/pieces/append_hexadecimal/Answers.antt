@@ -1,7 +1,6 @@
 use Rattle.std.proofs.Common.{arith}
 use Rattle.smi_value.specs.Texts.{dumped}
-use Rattle.smi_value.proofs.Growing.{adds_from}
-use Rattle.smi_value.proofs.Lists.{enumerated_more, enumerated_all}
+use Rattle.smi_value.proofs.{Growing.adds_from, Lists.enumerated_more, Lists.enumerated_all}
 use Rattle.smi_value.proofs.pieces.append_hexadecimal.Goals as goal
 
 pub octets-preserved : goal.octets-preserved

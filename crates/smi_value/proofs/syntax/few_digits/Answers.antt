@@ -1,5 +1,4 @@
-use Rattle.std.proofs.lemmas.Grind.{common_steps}
-use Rattle.std.proofs.Common.{arith}
+use Rattle.std.proofs.{lemmas.Grind.common_steps, Common.arith}
 use Rattle.smi_value.proofs.FewDigits.{one_stated, two_stated, three_stated}
 use Rattle.smi_value.proofs.syntax.few_digits.Goals as goal
 

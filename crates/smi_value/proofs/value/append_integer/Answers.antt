@@ -1,12 +1,8 @@
 use Rattle.std.proofs.Common.{◌≡◌, ℕ, List, ◌++◌, Option, Some, codes, refl, subst, w64, ◌∙◌, SFits, to_z, of_z}
-use Rattle.std.specs.Int.{w128}
-use Rattle.std.specs.Fmt.{signed_decimal}
-use Rattle.std.specs.Option.{option_copied}
+use Rattle.std.specs.{Int.w128, Fmt.signed_decimal, Option.option_copied}
 use Rattle.std.proofs.lemmas.Int.{to_z-of_z}
 use Rattle.smi_value.specs.declared.base.ValueBase.TheVariants as base
-use Rattle.smi_value.specs.Syntax.{syntax_at, name_of_number}
-use Rattle.smi_value.specs.Pieces.{type_word, named_text}
-use Rattle.smi_value.specs.Value.{IsIntegerText}
+use Rattle.smi_value.specs.{Syntax.syntax_at, Syntax.name_of_number, Pieces.type_word, Pieces.named_text, Value.IsIntegerText}
 use Rattle.smi_value.proofs.Growing.{adds_from}
 use Rattle.smi_value.proofs.value.append_integer.Goals as goal
 

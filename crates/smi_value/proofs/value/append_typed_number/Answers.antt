@@ -1,5 +1,4 @@
-use Rattle.std.proofs.Common.{refl, w64}
-use Rattle.std.proofs.lemmas.Int.{to_z-of_z}
+use Rattle.std.proofs.{Common.refl, Common.w64, lemmas.Int.to_z-of_z}
 use Rattle.smi_value.proofs.Growing.{adds_from}
 use Rattle.smi_value.proofs.value.append_typed_number.Goals as goal
 

@@ -1,7 +1,6 @@
 use Rattle.std.proofs.Common.{◌≡◌, take, ap, sym, subst, ◌∙◌, arith}
-use Rattle.snmp_agent.specs.declared.config.Why.{Why}
+use Rattle.snmp_agent.specs.{declared.config.Why.Why, Reply.agent_of, Reply.IsDropped}
 use Rattle.snmp_agent.specs.declared.config.Why.TheVariants as why
-use Rattle.snmp_agent.specs.Reply.{agent_of, IsDropped}
 use Rattle.snmp_agent.proofs.Encodings.{read_message}
 use Rattle.snmp_agent.proofs.agent.answer_by.Goals as goal
 

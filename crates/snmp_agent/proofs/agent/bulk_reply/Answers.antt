@@ -1,14 +1,8 @@
-use Rattle.std.proofs.lemmas.Grind.{common_steps}
-use Rattle.std.proofs.Common.{[], pos, arith}
-use Rattle.std.proofs.lemmas.List.{length-take-le}
+use Rattle.std.proofs.{lemmas.Grind.common_steps, Common.[], Common.pos, Common.arith, lemmas.List.length-take-le}
 use Rattle.snmp_wire.specs.Parts.{parts_message}
 use Rattle.snmp_agent.specs.declared.room.ReplyBindings.{ReplyBindings}
-use Rattle.snmp_agent.specs.Reply.{IsResponse, no_error, response}
-use Rattle.snmp_agent.specs.private.Answering.{bulk_of, held}
-use Rattle.snmp_agent.proofs.BulkReplies.{bulk_response}
-use Rattle.snmp_agent.proofs.Fronts.{HoldsFront, all_front}
-use Rattle.snmp_agent.proofs.Lengths.{room_within}
-use Rattle.snmp_agent.proofs.Rounds.{is_bulk}
+use Rattle.snmp_agent.specs.{Reply.IsResponse, Reply.no_error, Reply.response, private.Answering.bulk_of, private.Answering.held}
+use Rattle.snmp_agent.proofs.{BulkReplies.bulk_response, Fronts.HoldsFront, Fronts.all_front, Lengths.room_within, Rounds.is_bulk}
 use Rattle.snmp_agent.proofs.agent.bulk_reply.Goals as goal
 use Rattle.snmp_agent.proofs.agent.bulk_reply.Goals.{After-append_bulk-bindings}
 

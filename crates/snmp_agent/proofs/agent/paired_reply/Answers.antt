@@ -1,14 +1,9 @@
-use Rattle.std.proofs.lemmas.Grind.{common_steps}
+use Rattle.std.proofs.{lemmas.Grind.common_steps, lemmas.List.length-take-le}
 use Rattle.std.proofs.Common.{◌≡◌, ◌⊎◌, inl, inr, ◌<◌, ◌-◌, pos, [], is_some, length, take, refl, sym, ap, arith}
-use Rattle.std.proofs.lemmas.List.{length-take-le}
-use Rattle.snmp_wire.specs.Canon.{canon_bindings}
-use Rattle.snmp_wire.specs.Message.{Message}
-use Rattle.snmp_agent.specs.Reply.{Fits, response, shortened, too_big, whole}
+use Rattle.snmp_wire.specs.{Canon.canon_bindings, Message.Message}
+use Rattle.snmp_agent.specs.{Reply.Fits, Reply.response, Reply.shortened, Reply.too_big, Reply.whole, table.Table.MibView}
 use Rattle.snmp_agent.specs.private.Answering.{answers_to, held, whole_index, whole_status}
-use Rattle.snmp_agent.specs.table.Table.{MibView}
-use Rattle.snmp_agent.proofs.Fronts.{HoldsFront, all_front, no_bindings}
-use Rattle.snmp_agent.proofs.ReplyBindings.{all_or_full}
-use Rattle.snmp_agent.proofs.Requests.{whole_response}
+use Rattle.snmp_agent.proofs.{Fronts.HoldsFront, Fronts.all_front, Fronts.no_bindings, ReplyBindings.all_or_full, Requests.whole_response}
 use Rattle.snmp_agent.proofs.agent.paired_reply.Goals as goal
 use Rattle.snmp_agent.proofs.agent.paired_reply.Goals.{After-append_answers-bindings}
 

@@ -2,10 +2,8 @@ use Rattle.std.proofs.Common.{◌≡◌, ◌↔◌, ◌≤◌, IsSome, length, t
 use Rattle.std.proofs.lemmas.List.{length-take-le, take-take}
 use Rattle.snmp_wire.specs.Parts.{parts_message}
 use Rattle.snmp_agent.specs.private.Answering.{whole_size}
-use Rattle.snmp_agent.proofs.Lengths.{some_head}
-use Rattle.snmp_agent.proofs.Requests.{is_written}
+use Rattle.snmp_agent.proofs.{Lengths.some_head, Requests.is_written, agent.sealed.Goals.After-seal}
 use Rattle.snmp_agent.proofs.agent.sealed.Goals as goal
-use Rattle.snmp_agent.proofs.agent.sealed.Goals.{After-seal}
 
 -- the part of the output that a message may take
 long : (c : After-seal) → length (take c.args.config.now.max_size c.args.out.now) ≡ c.args.config.now.max_size

@@ -1,13 +1,10 @@
 use mir.Syntax.{w32}
 use mir.Val.{of_z, to_z, SFits}
-use Rattle.std.proofs.lemmas.Int.{to_z-of_z}
-use Rattle.std.proofs.Common.{rules, ◌≡◌, ℤ, drop, take, sym, ap, ◌∙◌}
-use Rattle.snmp_agent.specs.Reply.{joined, or_zero}
+use Rattle.std.proofs.{lemmas.Int.to_z-of_z, Common.rules, Common.◌≡◌, Common.ℤ, Common.drop, Common.take, Common.sym, Common.ap, Common.◌∙◌}
+use Rattle.snmp_agent.specs.{Reply.joined, Reply.or_zero, private.Standing.given_in}
 use Rattle.snmp_agent.specs.private.Answering.{Held, fill, held, rounds_from}
-use Rattle.snmp_agent.specs.private.Standing.{given_in}
-use Rattle.snmp_agent.proofs.Fronts.{fill_both, fill_full}
+use Rattle.snmp_agent.proofs.{Fronts.fill_both, Fronts.fill_full, bulk.append_bulk.Goals.After-append_singles-reply}
 use Rattle.snmp_agent.proofs.bulk.append_bulk.Goals as goal
-use Rattle.snmp_agent.proofs.bulk.append_bulk.Goals.{After-append_singles-reply}
 
 -- a number that was handed over
 number : {z : ℤ} (handed : ℤ) → SFits w32 handed → handed ≡ z → to_z w32 (of_z w32 handed) ≡ z

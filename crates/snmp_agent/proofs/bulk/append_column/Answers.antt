@@ -2,13 +2,11 @@ use Rattle.std.proofs.lemmas.Grind.{common_steps}
 use mathlib.Core.Bool.{and-true}
 use Rattle.std.proofs.Common.{◌∙◌, ◌≡◌, ◌⊎◌, inl, inr, true, [], ◌∷◌, ap, sym, arith}
 use Rattle.std.specs.List.{list_all}
-use Rattle.snmp_agent.specs.Reply.{joined}
-use Rattle.snmp_agent.specs.private.Answering.{add, fill, held, rounds_from}
+use Rattle.snmp_agent.specs.{Reply.joined, private.Answering.add, private.Answering.fill, private.Answering.held, private.Answering.rounds_from}
 use Rattle.snmp_agent.specs.private.Standing.{Standing, given_in, is_over, next_at, passed, places_of}
 use Rattle.snmp_agent.proofs.Rounds.{rounds_done, rounds_first, rounds_next, rounds_over}
-use Rattle.snmp_agent.proofs.Standing.{place_passed}
+use Rattle.snmp_agent.proofs.{Standing.place_passed, bulk.append_column.Goals.After-append_next-reply}
 use Rattle.snmp_agent.proofs.bulk.append_column.Goals as goal
-use Rattle.snmp_agent.proofs.bulk.append_column.Goals.{After-append_next-reply}
 
 pub rounds-init : goal.rounds-init
 rounds-init c = grind (arith, common_steps, rounds_first)

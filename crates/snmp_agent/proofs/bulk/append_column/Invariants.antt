@@ -1,6 +1,5 @@
 use Rattle.std.proofs.Common.{◌≡◌, [], ◌∷◌}
-use Rattle.snmp_agent.specs.private.Answering.{held}
-use Rattle.snmp_agent.specs.private.Standing.{place_of}
+use Rattle.snmp_agent.specs.{private.Answering.held, private.Standing.place_of}
 use Rattle.snmp_agent.proofs.Rounds.{AreLeft}
 use Rattle.snmp_agent.proofs.bulk.append_column.Given as goal
 

@@ -1,18 +1,15 @@
-use Rattle.std.proofs.lemmas.Grind.{common_steps}
+use Rattle.std.proofs.{lemmas.Grind.common_steps, lemmas.List.Edits.map_over_more, lemmas.List.Folds.list_all-append}
 use mathlib.Core.Bool.{and-true, and_assoc}
 use Rattle.std.proofs.Common.{◌≡◌, ◌<◌, ◌≤◌, ◌+◌, inl, inr, ◌&&◌, List, ◌++◌, map, length, drop, slice_set, refl, sym, ap, ◌∙◌, arith}
 use Rattle.std.specs.List.{list_all}
 use Rattle.std.proofs.lemmas.List.{append-nil, drop_all, map-append, take_all}
-use Rattle.std.proofs.lemmas.List.Edits.{map_over_more}
-use Rattle.std.proofs.lemmas.List.Folds.{list_all-append}
 use Rattle.snmp_wire.specs.Message.{VarBind}
 use Rattle.snmp_agent.specs.private.Answering.{Held, fill, held}
 use Rattle.snmp_agent.specs.private.Standing.{Standing, given_in, is_over, next_at, passed, place_of, places_of}
-use Rattle.snmp_agent.proofs.Fronts.{fill_both, fill_full}
-use Rattle.snmp_agent.proofs.Lists.{still_there}
+use Rattle.snmp_agent.proofs.{Fronts.fill_both, Fronts.fill_full, Lists.still_there}
 use Rattle.snmp_agent.proofs.bulk.append_round.Goals as goal
-use Rattle.snmp_agent.proofs.bulk.append_round.Goals.{After-append_next-reply, After-append_next-reply-in-Some, In_default}
-use Rattle.snmp_agent.proofs.bulk.append_round.Goals.{then-are_over, else-are_over}
+use Rattle.snmp_agent.proofs.bulk.append_round.Goals.{After-append_next-reply, After-append_next-reply-in-Some, In_default, then-are_over}
+use Rattle.snmp_agent.proofs.bulk.append_round.Goals.{else-are_over}
 
 -- ---- the places
 

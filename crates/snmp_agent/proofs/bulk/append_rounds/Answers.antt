@@ -1,14 +1,12 @@
-use Rattle.std.proofs.lemmas.Grind.{common_steps}
+use Rattle.std.proofs.{lemmas.Grind.common_steps, lemmas.List.map-append}
 use Rattle.std.proofs.Common.{◌≡◌, ◌⊎◌, inl, inr, ◌+◌, true, List, ◌++◌, map, sym, ap, ◌∙◌, arith}
 use Rattle.std.specs.List.{list_all}
-use Rattle.std.proofs.lemmas.List.{map-append}
 use Rattle.snmp_wire.specs.Message.{VarBind}
 use Rattle.snmp_agent.specs.private.Answering.{fill, held}
 use Rattle.snmp_agent.specs.private.Standing.{Standing, given_in, is_over, next_at, passed, places_of}
 use Rattle.snmp_agent.proofs.Rounds.{rounds_done, rounds_first, rounds_next, rounds_over}
-use Rattle.snmp_agent.proofs.Standing.{places_passed}
+use Rattle.snmp_agent.proofs.{Standing.places_passed, bulk.append_rounds.Goals.After-append_round-is_over}
 use Rattle.snmp_agent.proofs.bulk.append_rounds.Goals as goal
-use Rattle.snmp_agent.proofs.bulk.append_rounds.Goals.{After-append_round-is_over}
 
 pub rounds-init : goal.rounds-init
 rounds-init c = grind (arith, common_steps, rounds_first)

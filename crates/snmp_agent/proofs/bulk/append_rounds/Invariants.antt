@@ -1,6 +1,5 @@
 use Rattle.std.proofs.Common.{◌≡◌, ◌++◌}
-use Rattle.snmp_agent.specs.private.Answering.{held}
-use Rattle.snmp_agent.specs.private.Standing.{places_of}
+use Rattle.snmp_agent.specs.{private.Answering.held, private.Standing.places_of}
 use Rattle.snmp_agent.proofs.Rounds.{AreLeft}
 use Rattle.snmp_agent.proofs.bulk.append_rounds.Given as goal
 

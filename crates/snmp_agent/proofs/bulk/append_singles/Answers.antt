@@ -1,12 +1,9 @@
-use Rattle.std.proofs.lemmas.Grind.{common_steps}
+use Rattle.std.proofs.{lemmas.Grind.common_steps, Math.Seq.drop-nil, Math.Seq.take-nil}
 use Rattle.std.proofs.Common.{◌≡◌, ℕ, suc, ◌+◌, ◌-◌, List, [], ◌∷◌, take, drop, sym, ap, ◌∙◌, arith}
-use Rattle.std.proofs.Math.Seq.{drop-nil, take-nil}
 use Rattle.snmp_wire.specs.Message.{VarBind}
-use Rattle.snmp_agent.specs.private.Answering.{Held, fill, held}
-use Rattle.snmp_agent.specs.private.Standing.{given_in}
-use Rattle.snmp_agent.proofs.Fronts.{fill_full}
+use Rattle.snmp_agent.specs.{private.Answering.Held, private.Answering.fill, private.Answering.held, private.Standing.given_in}
+use Rattle.snmp_agent.proofs.{Fronts.fill_full, bulk.append_singles.Goals.After-append_next-reply}
 use Rattle.snmp_agent.proofs.bulk.append_singles.Goals as goal
-use Rattle.snmp_agent.proofs.bulk.append_singles.Goals.{After-append_next-reply}
 
 pub singles-init : goal.singles-init
 singles-init c = grind (arith, common_steps)

@@ -1,6 +1,5 @@
 use Rattle.std.proofs.Common.{◌≡◌, ℕ, ◌+◌, take, drop}
-use Rattle.snmp_agent.specs.private.Answering.{fill, held}
-use Rattle.snmp_agent.specs.private.Standing.{given_in}
+use Rattle.snmp_agent.specs.{private.Answering.fill, private.Answering.held, private.Standing.given_in}
 use Rattle.snmp_agent.proofs.bulk.append_singles.Given as goal
 
 -- what is still to be given, added now, is all, added at the beginning

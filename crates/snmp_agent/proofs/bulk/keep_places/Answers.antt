@@ -1,5 +1,4 @@
-use Rattle.std.proofs.Common.{arith, List, ◌++◌, ap, append_assoc}
-use Rattle.std.proofs.lemmas.Grind.{common_steps}
+use Rattle.std.proofs.{Common.arith, Common.List, Common.◌++◌, Common.ap, Common.append_assoc, lemmas.Grind.common_steps}
 use Rattle.snmp_agent.specs.private.Standing.{Standing, places_of}
 use Rattle.snmp_agent.proofs.bulk.keep_places.Goals as goal
 

@@ -1,10 +1,7 @@
-use Rattle.std.proofs.Common.{arith, ◌≡◌, refl}
-use Rattle.std.proofs.lemmas.Grind.{common_steps}
-use Rattle.snmp_wire.specs.declared.kind.Kind.{Kind}
+use Rattle.std.proofs.{Common.arith, Common.◌≡◌, Common.refl, lemmas.Grind.common_steps}
+use Rattle.snmp_wire.specs.{declared.kind.Kind.Kind, Message.VarBind}
 use Rattle.snmp_wire.specs.declared.kind.Kind.TheVariants as kind
-use Rattle.snmp_wire.specs.Message.{VarBind}
-use Rattle.snmp_agent.specs.private.Answering.{answer_to}
-use Rattle.snmp_agent.specs.table.Table.{MibView}
+use Rattle.snmp_agent.specs.{private.Answering.answer_to, table.Table.MibView}
 use Rattle.snmp_agent.proofs.draft.append_answer.Goals as goal
 
 -- the answer to another request than a Get or a GetNext

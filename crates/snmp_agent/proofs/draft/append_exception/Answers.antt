@@ -1,7 +1,5 @@
-use Rattle.std.proofs.Common.{arith}
-use Rattle.std.proofs.lemmas.Grind.{common_steps}
-use Rattle.snmp_agent.proofs.Each.{is_got, same_get}
-use Rattle.snmp_agent.proofs.Encodings.{answer_value}
+use Rattle.std.proofs.{Common.arith, lemmas.Grind.common_steps}
+use Rattle.snmp_agent.proofs.{Each.is_got, Each.same_get, Encodings.answer_value}
 use Rattle.snmp_agent.proofs.draft.append_exception.Goals as goal
 
 pub exception-binding-requires : goal.exception-binding-requires

@@ -1,5 +1,4 @@
-use Rattle.std.proofs.Common.{arith, unwrap_or}
-use Rattle.std.proofs.lemmas.Grind.{common_steps}
+use Rattle.std.proofs.{Common.arith, Common.unwrap_or, lemmas.Grind.common_steps}
 use Rattle.snmp_agent.proofs.draft.append_get.Goals as goal
 
 pub returns-in-Some : goal.returns-in-Some

@@ -1,6 +1,5 @@
 use Rattle.std.proofs.Common.{◌≡◌, ◌+◌, ◌++◌, [], refl, sym, ap, ◌∙◌, arith, rules}
-use Rattle.snmp_agent.specs.declared.server.Served.{Served}
-use Rattle.snmp_agent.specs.declared.server.Turn.{Turn}
+use Rattle.snmp_agent.specs.{declared.server.Served.Served, declared.server.Turn.Turn}
 use Rattle.snmp_agent.proofs.ServerTurns.{in_turn-append, more_turns, no_turns, one_more, one_more_turn, risen_in_turn}
 use Rattle.snmp_agent.proofs.server.serve_at.Goals as goal
 use Rattle.snmp_agent.proofs.server.serve_at.Goals.{in-Replied, in-Dropped, in-Idle, in-Failed}

@@ -1,7 +1,6 @@
 use Rattle.std.proofs.Common.{◌≡◌, ◌+◌, List}
 use Rattle.snmp_io.specs.Count.{HasRisenBy}
-use Rattle.snmp_agent.specs.Reply.{agent_of}
-use Rattle.snmp_agent.specs.Serving.{Event, InTurn, AreTurns}
+use Rattle.snmp_agent.specs.{Reply.agent_of, Serving.Event, Serving.InTurn, Serving.AreTurns}
 use Rattle.snmp_agent.proofs.server.serve_at.Given as goal
 
 -- the turns so far, and what happened in them

@@ -1,20 +1,16 @@
 -- What a table holds while its text is read.
 use Rattle.std.specs.Prelude.{◌≡◌, ℕ, ◌↔◌, ◌≤◌, ◌++◌, T, Bool, true, false, List, map, Some, cond}
 use Rattle.std.specs.Prelude.{All, AllPairs, Contains}
-use Rattle.std.specs.List.{list_any, sum_by}
-use Rattle.std.specs.List.Sorted.{IsPermutation}
-use Rattle.std.specs.Ordering.{nat_cmp, eq_by_cmp}
-use Rattle.std.specs.Cmp.Lexicographic.{slice_cmp}
+use Rattle.std.specs.{List.list_any, List.sum_by, List.Sorted.IsPermutation, Ordering.nat_cmp}
+use Rattle.std.specs.{Ordering.eq_by_cmp, Cmp.Lexicographic.slice_cmp}
 use Rattle.std.specs.FinMap.{entries, find, is_sorted}
 use Rattle.snmp_wire.specs.Message.{Datum, VarBind}
 use Rattle.snmp_agent.specs.declared.table.draft.Draft.{Draft}
 use Rattle.snmp_agent.specs.declared.table.error.TableError.{TableError}
 use Rattle.snmp_agent.specs.declared.table.error.TableError.TheVariants as error
-use Rattle.snmp_agent.specs.table.Format.{Format}
+use Rattle.snmp_agent.specs.{table.Format.Format, table.Places.entry_of, table.Pages.entries_of}
 use Rattle.snmp_agent.specs.table.Text.{AreTable, DifferInName, HasPrefix, HasRow, IsGoodLine}
 use Rattle.snmp_agent.specs.table.Stated.{IsFirstFaultIn, IsWrong, number_of}
-use Rattle.snmp_agent.specs.table.Places.{entry_of}
-use Rattle.snmp_agent.specs.table.Pages.{entries_of}
 use Rattle.snmp_agent.specs.declared.table.draft.Halt.{Halt}
 use Rattle.snmp_agent.specs.declared.table.draft.Halt.TheVariants as halt
 

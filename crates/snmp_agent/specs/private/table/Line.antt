@@ -1,17 +1,15 @@
 -- What the steps of reading a line find, for private clauses.
 use Rattle.std.specs.Prelude.{ℕ, List, Option, Some, None, Result, Ok, Err}
 use Rattle.snmp_wire.specs.Message.{Datum}
-use Rattle.snmp_agent.specs.declared.table.line.Line.{Line}
+use Rattle.snmp_agent.specs.{declared.table.line.Line.Line, declared.table.line.Form.Form}
+use Rattle.snmp_agent.specs.{private.table.Row.tag_text, table.Format.Format}
 use Rattle.snmp_agent.specs.declared.table.line.Line.TheVariants as line
 use Rattle.snmp_agent.specs.declared.table.line.LineFault.{LineFault}
 use Rattle.snmp_agent.specs.declared.table.line.LineFault.TheVariants as fault
-use Rattle.snmp_agent.specs.declared.table.line.Form.{Form}
 use Rattle.snmp_agent.specs.declared.table.line.Form.TheVariants as form
-use Rattle.snmp_agent.specs.private.table.Row.{tag_text}
-use Rattle.snmp_agent.specs.table.Form.{Statement, nothing, object_prefix, instance}
-use Rattle.snmp_agent.specs.table.Form.{IsRowForm, IsObjectText, IsInstanceText}
-use Rattle.snmp_agent.specs.table.Form.{IsBadLine, IsBadName, IsBadValue}
-use Rattle.snmp_agent.specs.table.Format.{Format}
+use Rattle.snmp_agent.specs.table.Form.{Statement, nothing, object_prefix, instance, IsRowForm}
+use Rattle.snmp_agent.specs.table.Form.{IsObjectText, IsInstanceText, IsBadLine, IsBadName}
+use Rattle.snmp_agent.specs.table.Form.{IsBadValue}
 use Rattle.snmp_agent.specs.table.Text.{IsBlank, IsObjectForm, IsValueText}
 
 abbrev pub statement_of : Line → Statement

@@ -1,5 +1,4 @@
-use Rattle.std.proofs.Common.{arith, rules}
-use Rattle.std.proofs.lemmas.Grind.{common_steps}
+use Rattle.std.proofs.{Common.arith, Common.rules, lemmas.Grind.common_steps}
 use Rattle.snmp_io.proofs.OutputLemmas.{extended_take, fails_after_front}
 use Rattle.snmp_io.proofs.output.write_all.Goals as goal
 

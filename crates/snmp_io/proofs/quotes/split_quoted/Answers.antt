@@ -1,13 +1,10 @@
-use Rattle.std.proofs.Common.{◌≡◌, ◌+◌, ℕ, Bool, true, false, not, List, ◌∷◌, ◌++◌, Option, Some}
-use Rattle.std.proofs.Common.{None, ap, sym, ◌∙◌, take, drop, get_or, refl, subst}
+use Rattle.std.proofs.Common.{◌≡◌, ◌+◌, ℕ, Bool, true, false, not, List, ◌∷◌, ◌++◌, Option, Some, None, ap, sym, ◌∙◌, take, drop, get_or, refl, subst}
 use Rattle.std.specs.Option.{is_some}
 use Rattle.std.proofs.lemmas.List.{at_drop_more, take_all, take-append-drop}
 use Rattle.snmp_io.specs.QuoteLaws.{HasNoneAfter, is_closed, none_outside}
-use Rattle.snmp_io.proofs.OutputLemmas.{rest_whole}
-use Rattle.snmp_io.proofs.QuoteLemmas.{IsSoFar, read_more, read_nothing}
+use Rattle.snmp_io.proofs.{OutputLemmas.rest_whole, QuoteLemmas.IsSoFar, QuoteLemmas.read_more, QuoteLemmas.read_nothing}
 use Rattle.snmp_io.proofs.quotes.split_quoted.Goals as goal
-use Rattle.snmp_io.proofs.quotes.split_quoted.Goals.{else-is_none-via-then-is_none+else-octet-stop}
-use Rattle.snmp_io.proofs.quotes.split_quoted.Goals.{else-is_none-via-else-is_none}
+use Rattle.snmp_io.proofs.quotes.split_quoted.Goals.{else-is_none-via-then-is_none+else-octet-stop, else-is_none-via-else-is_none}
 
 unquoted : (quote : Option ℕ) (test : Bool) → is_some quote ≡ not test → test ≡ true → quote ≡ None
 unquoted None test is yes_none = refl

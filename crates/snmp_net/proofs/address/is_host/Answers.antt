@@ -1,5 +1,4 @@
-use Rattle.std.proofs.Common.{arith}
-use Rattle.std.proofs.lemmas.Str.Pattern.{contains_char}
+use Rattle.std.proofs.{Common.arith, lemmas.Str.Pattern.contains_char}
 use Rattle.snmp_net.proofs.Words.{host_test, not_empty}
 use Rattle.snmp_net.proofs.address.is_host.Goals as goal
 

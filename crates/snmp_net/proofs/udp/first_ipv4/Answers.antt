@@ -1,8 +1,5 @@
 use Rattle.std.proofs.Common.{◌≡◌, Bool, false, find, [], ◌∷◌, sym, ap, ◌∙◌}
-use Rattle.std.specs.declared.net.socket_addr.SocketAddr.{SocketAddr}
-use Rattle.std.specs.Net.Addr.{is_ipv4}
-use Rattle.std.specs.Net.Socket.{socket_ip}
-use Rattle.std.specs.Net.ToAddrs.{host_addrs}
+use Rattle.std.specs.{declared.net.socket_addr.SocketAddr.SocketAddr, Net.Addr.is_ipv4, Net.Socket.socket_ip, Net.ToAddrs.host_addrs}
 use Rattle.snmp_net.proofs.FirstAddress.{first_taken, none_taken, found_later}
 use Rattle.snmp_net.proofs.udp.first_ipv4.Goals as goal
 

@@ -1,7 +1,5 @@
 use Rattle.std.proofs.Common.{◌≡◌, find}
-use Rattle.std.specs.Net.Addr.{is_ipv4}
-use Rattle.std.specs.Net.Socket.{socket_ip}
-use Rattle.std.specs.Net.ToAddrs.{host_addrs}
+use Rattle.std.specs.{Net.Addr.is_ipv4, Net.Socket.socket_ip, Net.ToAddrs.host_addrs}
 use Rattle.snmp_net.proofs.udp.first_ipv4.Given as goal
 
 -- the addresses that are left have the same first IPv4 address as all

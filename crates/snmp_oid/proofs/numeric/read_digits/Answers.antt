@@ -1,8 +1,6 @@
-use Rattle.std.proofs.Common.{◌≡◌, ◌+◌, ◌-◌, ◌*◌, [], ◌∷◌, drop, get_or, true, Some, None, sym}
-use Rattle.std.proofs.Common.{◌∙◌, ap, arith, drop_of_length-le}
+use Rattle.std.proofs.Common.{◌≡◌, ◌+◌, ◌-◌, ◌*◌, [], ◌∷◌, drop, get_or, true, Some, None, sym, ◌∙◌, ap, arith, drop_of_length-le}
 use Rattle.std.specs.Char.{is_ascii_digit}
-use Rattle.snmp_oid.proofs.Numeral.{front_more}
-use Rattle.snmp_oid.proofs.Parsing.{part_is_read}
+use Rattle.snmp_oid.proofs.{Numeral.front_more, Parsing.part_is_read}
 use Rattle.snmp_oid.proofs.numeric.read_digits.Goals as goal
 
 pub digits-preserved : goal.digits-preserved

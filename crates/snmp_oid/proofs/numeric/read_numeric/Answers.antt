@@ -1,13 +1,10 @@
 use Rattle.std.proofs.lemmas.Grind.{common_steps}
-use Rattle.std.proofs.Common.{◌≡◌, ℕ, ◌-◌, ◌<◌, inl, ◌∙◌, List, [], ◌∷◌, ◌++◌, length, Bool}
-use Rattle.std.proofs.Common.{true, false, cond, None, Result, Ok, Err, IsOk, OnOk, OnErr, ◌↔◌, refl}
-use Rattle.std.proofs.Common.{sym, ap, arith}
+use Rattle.std.proofs.Common.{◌≡◌, ℕ, ◌-◌, ◌<◌, inl, ◌∙◌, List, [], ◌∷◌, ◌++◌, length, Bool, true, false, cond, None, Result, Ok, Err, IsOk, OnOk}
+use Rattle.std.proofs.Common.{OnErr, ◌↔◌, refl, sym, ap, arith}
 use Rattle.std.specs.Result.{is_err}
-use Rattle.snmp_oid.specs.declared.oid.OidError.{OidError}
-use Rattle.snmp_oid.specs.Numeric.{IsNumericName, IsFirstBadPart}
-use Rattle.snmp_oid.proofs.Parsing.{IsParsedTo, Keeps, dot_alone, parse_begins, parse_more}
-use Rattle.snmp_oid.proofs.Parsing.{bad_part_here, bad_part_no_name, one_bad_part, parsed_name}
-use Rattle.snmp_oid.proofs.Parsing.{parsed_only, parsed_short, parse_digits}
+use Rattle.snmp_oid.specs.{declared.oid.OidError.OidError, Numeric.IsNumericName, Numeric.IsFirstBadPart}
+use Rattle.snmp_oid.proofs.Parsing.{IsParsedTo, Keeps, dot_alone, parse_begins, parse_more, bad_part_here, bad_part_no_name, one_bad_part}
+use Rattle.snmp_oid.proofs.Parsing.{parsed_name, parsed_only, parsed_short, parse_digits}
 use Rattle.snmp_oid.proofs.numeric.read_numeric.Goals as goal
 
 pub returns-then-is_dot-clause-only : goal.returns-then-is_dot-clause-only

@@ -1,5 +1,4 @@
-use Rattle.std.proofs.lemmas.Grind.{common_steps}
-use Rattle.std.proofs.Common.{arith}
+use Rattle.std.proofs.{lemmas.Grind.common_steps, Common.arith}
 use Rattle.snmp_oid.proofs.Comparing.{eight_alike}
 use Rattle.snmp_oid.proofs.oid.begin_alike.Goals as goal
 

@@ -1,10 +1,6 @@
-use Rattle.std.proofs.Common.{arith, ap, refl}
-use Rattle.std.proofs.lemmas.Grind.{common_steps}
-use Rattle.snmp_tools.specs.loading.Message.{refusal_of}
+use Rattle.std.proofs.{Common.arith, Common.ap, Common.refl, lemmas.Grind.common_steps}
+use Rattle.snmp_tools.specs.{loading.Message.refusal_of, Outcome.loaded, Outcome.not_loaded, private.Planned.ask_words, Seen.seen}
 use Rattle.snmp_tools.specs.Message.{fault_of, modules_fault}
-use Rattle.snmp_tools.specs.Outcome.{loaded, not_loaded}
-use Rattle.snmp_tools.specs.private.Planned.{ask_words}
-use Rattle.snmp_tools.specs.Seen.{seen}
 use Rattle.snmp_tools.proofs.Steps.{at_mibs}
 use Rattle.snmp_tools.proofs.Wholes.{are_loaded, loads_from, loads_of, mibs_fail, outcome_as, outcome_err}
 use Rattle.snmp_tools.proofs.ask.ask.Goals as goal

@@ -1,11 +1,8 @@
 use Rattle.std.proofs.Common.{ap, inl, inr, refl, subst}
 use Rattle.snmp_net.specs.Address.{address_of, table, udp}
-use Rattle.snmp_tools.specs.Asking.{HasAgent}
-use Rattle.snmp_tools.specs.Message.{fault_of}
+use Rattle.snmp_tools.specs.{Asking.HasAgent, Message.fault_of, private.Planned.ask_words}
 use Rattle.snmp_tools.specs.Outcome.{asked, asked_over, not_begun, not_linked, refused}
-use Rattle.snmp_tools.specs.private.Planned.{ask_words}
-use Rattle.snmp_tools.proofs.Steps.{names_refused, unreached, unsent}
-use Rattle.snmp_tools.proofs.Wholes.{outcome_err, with_facts}
+use Rattle.snmp_tools.proofs.{Steps.names_refused, Steps.unreached, Steps.unsent, Wholes.outcome_err, Wholes.with_facts}
 use Rattle.snmp_tools.proofs.ask.ask_by.Goals as goal
 
 pub returns-in_err-plan : goal.returns-in_err-plan

@@ -1,11 +1,6 @@
-use Rattle.std.proofs.lemmas.Grind.{common_steps}
-use Rattle.std.proofs.Common.{◌+◌, Bool, ap, arith, subst}
-use Rattle.snmp_walk.specs.Traffic.{Traffic}
-use Rattle.snmp_walk.specs.declared.end.WalkEnd.{WalkEnd}
-use Rattle.snmp_tools.specs.Answer.{end_in_memory}
-use Rattle.snmp_tools.specs.Message.{outcome_of}
-use Rattle.snmp_tools.specs.Outcome.{IsFinished}
-use Rattle.snmp_tools.specs.private.Planned.{plan_of, question_of}
+use Rattle.std.proofs.{lemmas.Grind.common_steps, Common.◌+◌, Common.Bool, Common.ap, Common.arith, Common.subst}
+use Rattle.snmp_walk.specs.{Traffic.Traffic, declared.end.WalkEnd.WalkEnd}
+use Rattle.snmp_tools.specs.{Answer.end_in_memory, Message.outcome_of, Outcome.IsFinished, private.Planned.plan_of, private.Planned.question_of}
 use Rattle.snmp_tools.proofs.Asked.{can_run, is_asked, printed_in}
 use Rattle.snmp_tools.proofs.ask.print_in_memory.Goals as goal
 

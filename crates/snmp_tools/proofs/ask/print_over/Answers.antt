@@ -1,8 +1,5 @@
-use Rattle.std.proofs.Common.{arith, ◌+◌, Bool, subst}
-use Rattle.std.proofs.lemmas.Grind.{common_steps}
-use Rattle.snmp_tools.specs.Message.{outcome_of}
-use Rattle.snmp_tools.specs.Outcome.{IsFinished}
-use Rattle.snmp_tools.specs.private.Planned.{plan_of, question_of}
+use Rattle.std.proofs.{Common.arith, Common.◌+◌, Common.Bool, Common.subst, lemmas.Grind.common_steps}
+use Rattle.snmp_tools.specs.{Message.outcome_of, Outcome.IsFinished, private.Planned.plan_of, private.Planned.question_of}
 use Rattle.snmp_tools.proofs.Asked.{asked_over, can_run}
 use Rattle.snmp_tools.proofs.ask.print_over.Goals as goal
 

@@ -1,13 +1,9 @@
 use Rattle.std.proofs.Common.{arith, ◌≡◌, sym, inl, inr, Bool, true, subst, ℕ, List}
 use Rattle.std.proofs.lemmas.Grind.{common_steps}
-use Rattle.std.specs.Prelude.{String}
-use Rattle.std.specs.declared.alloc.Global.{Global}
-use Rattle.snmp_words.specs.Command.{faults_of, is_taken}
+use Rattle.std.specs.{Prelude.String, declared.alloc.Global.Global}
+use Rattle.snmp_words.specs.{Command.faults_of, Command.is_taken, declared.UsageError.UsageError, declared.UsageError.TheVariants.Parse}
 use Rattle.snmp_words.specs.Words.{HasFaultOf, IsMemory, StateJob, snmpwalk}
-use Rattle.snmp_words.specs.declared.UsageError.{UsageError}
-use Rattle.snmp_words.specs.declared.UsageError.TheVariants.{Parse}
-use Rattle.snmp_tools.specs.private.Planned.{numeric_walk}
-use Rattle.snmp_tools.specs.Usage.{AreFaultless}
+use Rattle.snmp_tools.specs.{private.Planned.numeric_walk, Usage.AreFaultless}
 use Rattle.snmp_tools.proofs.Jobs.{of_words, undone}
 use Rattle.snmp_tools.proofs.entry.tool.Goals as goal
 

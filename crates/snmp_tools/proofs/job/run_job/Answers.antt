@@ -1,5 +1,4 @@
-use Rattle.std.proofs.Common.{arith}
-use Rattle.std.proofs.lemmas.Grind.{common_steps}
+use Rattle.std.proofs.{Common.arith, lemmas.Grind.common_steps}
 use Rattle.snmp_tools.proofs.Jobs.{job_done}
 use Rattle.snmp_tools.proofs.job.run_job.Goals as goal
 

@@ -1,10 +1,7 @@
 use Rattle.std.proofs.Common.{List, ap, subst, sym, ℕ, ◌∙◌}
-use Rattle.snmp_words.specs.Command.{is_taken}
-use Rattle.snmp_words.specs.Words.{StateJob, snmpwalk}
-use Rattle.snmp_tools.specs.private.Planned.{numeric_walk}
-use Rattle.snmp_tools.specs.private.Resolved.{names_in}
-use Rattle.snmp_tools.proofs.BareNames.{bare_mib}
-use Rattle.snmp_tools.proofs.TableWalks.{prints_rows, words_are}
+use Rattle.snmp_words.specs.{Command.is_taken, Words.StateJob, Words.snmpwalk}
+use Rattle.snmp_tools.specs.{private.Planned.numeric_walk, private.Resolved.names_in}
+use Rattle.snmp_tools.proofs.{BareNames.bare_mib, TableWalks.prints_rows, TableWalks.words_are}
 use Rattle.snmp_tools.proofs.laws.table_walks.Goals as goal
 
 pub returns-clause-taken : goal.returns-clause-taken

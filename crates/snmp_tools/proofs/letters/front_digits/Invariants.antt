@@ -1,6 +1,5 @@
 use Rattle.std.proofs.Common.{◌≡◌, take, true}
-use Rattle.std.specs.List.{list_all}
-use Rattle.std.specs.Char.{is_ascii_digit}
+use Rattle.std.specs.{List.list_all, Char.is_ascii_digit}
 use Rattle.snmp_tools.proofs.letters.front_digits.Given as goal
 
 abbrev pub invariant-octets : goal.invariant-octets

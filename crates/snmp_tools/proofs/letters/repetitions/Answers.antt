@@ -1,5 +1,4 @@
-use Rattle.std.proofs.lemmas.Grind.{common_steps}
-use Rattle.std.proofs.Common.{arith, slice_index_or}
+use Rattle.std.proofs.{lemmas.Grind.common_steps, Common.arith, Common.slice_index_or}
 use Rattle.snmp_tools.proofs.LetterLemmas.{at_place, too_many, weight_at}
 use Rattle.snmp_tools.proofs.letters.repetitions.Goals as goal
 

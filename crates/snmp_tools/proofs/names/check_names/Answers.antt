@@ -1,9 +1,6 @@
 use Rattle.std.proofs.Common.{arith, ◌≡◌, Bool, true, false, Result, Ok, Err, refl, sym, subst}
-use Rattle.std.proofs.lemmas.Grind.{common_steps}
-use Rattle.std.proofs.lemmas.List.{take_all}
-use Rattle.std.proofs.lemmas.List.Elements.{All-more, All-same}
-use Rattle.std.specs.Prelude.{◌↔◌, IsOk}
-use Rattle.std.specs.Result.{is_err}
+use Rattle.std.proofs.{lemmas.Grind.common_steps, lemmas.List.take_all, lemmas.List.Elements.All-more, lemmas.List.Elements.All-same}
+use Rattle.std.specs.{Prelude.◌↔◌, Prelude.IsOk, Result.is_err}
 use Rattle.snmp_oid.specs.Identifier.{IsWire, wire}
 use Rattle.snmp_tools.proofs.Steps.{first_unsent}
 use Rattle.snmp_tools.proofs.names.check_names.Goals as goal

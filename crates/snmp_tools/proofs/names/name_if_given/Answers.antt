@@ -1,7 +1,6 @@
 use Rattle.std.proofs.Common.{arith, ℕ, List, Bor, Ok, Option, Some, option_map, refl, subst, sym}
 use Rattle.std.proofs.lemmas.Grind.{common_steps}
-use Rattle.smi_show.specs.name.Meant.{TextMeans}
-use Rattle.smi_show.specs.name.Naming.{Naming}
+use Rattle.smi_show.specs.{name.Meant.TextMeans, name.Naming.Naming}
 use Rattle.snmp_tools.specs.Asking.{IsNameIfGiven}
 use Rattle.snmp_tools.proofs.Wholes.{if_err}
 use Rattle.snmp_tools.proofs.names.name_if_given.Goals as goal

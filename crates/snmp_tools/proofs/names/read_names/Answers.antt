@@ -1,15 +1,10 @@
 use Rattle.std.proofs.Common.{arith, ◌≡◌, ◌⊎◌, ◌++◌, Bool, false, List, Result, Ok, Err, inr}
 use Rattle.std.proofs.lemmas.Grind.{common_steps}
-use Rattle.std.specs.Prelude.{if◌then◌else◌}
-use Rattle.std.specs.Result.{is_err, is_ok}
+use Rattle.std.specs.{Prelude.if◌then◌else◌, Result.is_err, Result.is_ok}
 use Rattle.snmp_words.specs.Words.{texts_at}
-use Rattle.snmp_tools.specs.private.Planned.{mib_in}
+use Rattle.snmp_tools.specs.{private.Planned.mib_in, Asking.NameFails, Message.fault_of, Message.out_of_memory, Question.HasMeaning}
 use Rattle.snmp_io.specs.Steps.{IsFirstToFail}
-use Rattle.snmp_tools.specs.Asking.{NameFails}
-use Rattle.snmp_tools.specs.Message.{fault_of, out_of_memory}
-use Rattle.snmp_tools.specs.Question.{HasMeaning}
-use Rattle.snmp_tools.proofs.Steps.{first_unnamed, more_names}
-use Rattle.snmp_tools.proofs.Wholes.{if_err}
+use Rattle.snmp_tools.proofs.{Steps.first_unnamed, Steps.more_names, Wholes.if_err}
 use Rattle.snmp_tools.proofs.names.read_names.Goals as goal
 
 pushed : {A E X : Type 0} (r : Result A E) (b : Bool) (new old more : List X) → b ≡ is_err r → b ≡ false

@@ -1,7 +1,6 @@
 use Rattle.std.proofs.Common.{take}
 use Rattle.snmp_words.specs.Words.{texts_at}
-use Rattle.snmp_tools.specs.Question.{AreNames}
-use Rattle.snmp_tools.specs.private.Planned.{mib_in}
+use Rattle.snmp_tools.specs.{Question.AreNames, private.Planned.mib_in}
 use Rattle.snmp_tools.proofs.names.read_names.Given as goal
 
 abbrev pub invariant-texts : goal.invariant-texts

@@ -1,5 +1,4 @@
-use Rattle.std.proofs.Common.{◌+◌, ◌∙◌, ap, arith, Ok, Some}
-use Rattle.std.proofs.lemmas.List.{take_at}
+use Rattle.std.proofs.{Common.◌+◌, Common.◌∙◌, Common.ap, Common.arith, Common.Ok, Common.Some, lemmas.List.take_at}
 use Rattle.snmp_walk.proofs.GetFactLemmas.{get_of}
 use Rattle.snmp_walk.proofs.get.ask.Goals as goal
 

@@ -1,5 +1,4 @@
-use Rattle.std.proofs.Common.{arith}
-use Rattle.std.proofs.lemmas.Grind.{common_steps}
+use Rattle.std.proofs.{Common.arith, lemmas.Grind.common_steps}
 use Rattle.snmp_walk.proofs.GetLemmas.{for_length, answered_all}
 use Rattle.snmp_walk.proofs.get.read_message.Goals as goal
 

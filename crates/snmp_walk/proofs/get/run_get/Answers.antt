@@ -1,6 +1,5 @@
 use Rattle.std.proofs.Common.{◌+◌, arith}
-use Rattle.snmp_walk.proofs.GetEndLemmas.{no_names, some_names}
-use Rattle.snmp_walk.proofs.GetFactLemmas.{got_none, got_too_long}
+use Rattle.snmp_walk.proofs.{GetEndLemmas.no_names, GetEndLemmas.some_names, GetFactLemmas.got_none, GetFactLemmas.got_too_long}
 use Rattle.snmp_walk.proofs.get.run_get.Goals as goal
 
 pub returns-then-is_empty : goal.returns-then-is_empty

@@ -1,7 +1,5 @@
-use Rattle.std.proofs.lemmas.Grind.{common_steps}
-use Rattle.std.proofs.Common.{◌≡◌, ◌+◌, length, take, ap, arith, length-append}
-use Rattle.snmp_wire.specs.Canon.{canon_binding, canon_bindings}
-use Rattle.snmp_wire.specs.Message.{var_bind}
+use Rattle.std.proofs.{lemmas.Grind.common_steps, Common.◌≡◌, Common.◌+◌, Common.length, Common.take, Common.ap, Common.arith, Common.length-append}
+use Rattle.snmp_wire.specs.{Canon.canon_binding, Canon.canon_bindings, Message.var_bind}
 use Rattle.snmp_walk.specs.Get.{asked_names}
 use Rattle.snmp_walk.proofs.GetLemmas.{written_more, longer_all, none_written, range_more}
 use Rattle.snmp_walk.proofs.get.write_names.Goals as goal

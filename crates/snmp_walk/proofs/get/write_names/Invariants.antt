@@ -1,7 +1,6 @@
 use Rattle.std.proofs.Common.{◌≡◌, ◌≤◌, take, length}
 use Rattle.std.specs.List.{AllByRecursion}
-use Rattle.snmp_wire.specs.Range.{IsBindingInRange}
-use Rattle.snmp_wire.specs.Canon.{canon_bindings}
+use Rattle.snmp_wire.specs.{Range.IsBindingInRange, Canon.canon_bindings}
 use Rattle.snmp_walk.specs.Get.{asked_names}
 use Rattle.snmp_walk.proofs.get.write_names.Given as goal
 

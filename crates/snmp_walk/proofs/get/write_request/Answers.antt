@@ -1,7 +1,4 @@
-use Rattle.std.proofs.lemmas.Grind.{common_steps}
-use Rattle.std.proofs.Common.{arith, to_z, ⊎_elim}
-use Rattle.std.proofs.lemmas.Int.{to_z_pos}
-use Rattle.std.proofs.lemmas.Bool.{cases_lt}
+use Rattle.std.proofs.{lemmas.Grind.common_steps, Common.arith, Common.to_z, Common.⊎_elim, lemmas.Int.to_z_pos, lemmas.Bool.cases_lt}
 use Rattle.snmp_walk.proofs.GetLemmas.{pieces_of, size_of}
 use Rattle.snmp_walk.proofs.get.write_request.Goals as goal
 

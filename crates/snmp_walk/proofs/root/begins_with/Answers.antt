@@ -1,5 +1,4 @@
-use Rattle.std.proofs.Common.{arith}
-use Rattle.std.proofs.lemmas.Grind.{common_steps}
+use Rattle.std.proofs.{Common.arith, lemmas.Grind.common_steps}
 use Rattle.snmp_walk.proofs.NameLemmas.{below_decided}
 use Rattle.snmp_walk.proofs.root.begins_with.Goals as goal
 

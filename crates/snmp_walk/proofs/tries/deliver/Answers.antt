@@ -1,6 +1,5 @@
 use Rattle.std.proofs.Common.{◌∙◌, ap, refl}
-use Rattle.snmp_walk.specs.private.Course.{step_of}
-use Rattle.snmp_walk.specs.Read.{rows_in, all_given, is_refused}
+use Rattle.snmp_walk.specs.{private.Course.step_of, Read.rows_in, Read.all_given, Read.is_refused}
 use Rattle.snmp_walk.proofs.tries.deliver.Goals as goal
 
 pub returns-in-Stray : goal.returns-in-Stray

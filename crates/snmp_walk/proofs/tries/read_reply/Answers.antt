@@ -1,6 +1,5 @@
 use Rattle.std.proofs.Common.{◌≡◌, ◌∙◌, sym, ap}
-use Rattle.snmp_walk.specs.private.Taken.{awaits}
-use Rattle.snmp_walk.specs.private.Course.{step_of}
+use Rattle.snmp_walk.specs.{private.Taken.awaits, private.Course.step_of}
 use Rattle.snmp_walk.proofs.JudgedLemmas.{not_response}
 use Rattle.snmp_walk.proofs.tries.read_reply.Goals as goal
 

@@ -1,5 +1,4 @@
-use Rattle.std.proofs.Common.{ap, ◌∙◌}
-use Rattle.std.proofs.lemmas.Map.Text.{is_eq-slice_cmp}
+use Rattle.std.proofs.{Common.ap, Common.◌∙◌, lemmas.Map.Text.is_eq-slice_cmp}
 use Rattle.std.specs.Ordering.{is_eq}
 use Rattle.snmp_walk.proofs.walker.are_same.Goals as goal
 

@@ -1,5 +1,4 @@
-use Rattle.std.proofs.lemmas.Grind.{common_steps}
-use Rattle.std.proofs.Common.{arith}
+use Rattle.std.proofs.{lemmas.Grind.common_steps, Common.arith}
 use Rattle.snmp_wire.proofs.BindingWriting.{encoded}
 use Rattle.snmp_wire.proofs.asking.encode_asking.Goals as goal
 

@@ -1,10 +1,7 @@
 use Rattle.std.proofs.Common.{length, refl, sym, ap, arith}
-use Rattle.snmp_wire.specs.Name.{asking}
+use Rattle.snmp_wire.specs.{Name.asking, ber.Value.null_value, ber.Value.object_id, private.ber.Writing.Writes}
 use Rattle.snmp_wire.specs.ber.Canon.{canon_content, canon_value}
-use Rattle.snmp_wire.proofs.ElementLaws.{value_content_fits, value_header_fits, writes_value}
-use Rattle.snmp_wire.specs.ber.Value.{null_value, object_id}
-use Rattle.snmp_wire.specs.private.ber.Writing.{Writes}
-use Rattle.snmp_wire.proofs.WritingLaws.{writes_same}
+use Rattle.snmp_wire.proofs.{ElementLaws.value_content_fits, ElementLaws.value_header_fits, ElementLaws.writes_value, WritingLaws.writes_same}
 use Rattle.snmp_wire.proofs.BindingWriting.{binding_header_fits, binding_name_fits, binding_value_fits, null_octets, writes_binding}
 use Rattle.snmp_wire.proofs.asking.put_asking.Goals as goal
 use Rattle.snmp_wire.proofs.asking.put_asking.Goals.{After-put_text-content, After-put_text-value}

@@ -1,6 +1,4 @@
-use Rattle.std.proofs.Common.{arith}
-use Rattle.std.proofs.lemmas.Grind.{common_steps}
-use Rattle.std.proofs.lemmas.Result.{err_from_is_err_and}
+use Rattle.std.proofs.{Common.arith, lemmas.Grind.common_steps, lemmas.Result.err_from_is_err_and}
 use Rattle.snmp_wire.specs.Reading.{fields}
 use Rattle.snmp_wire.proofs.ReadingLaws.{some_left, none_left}
 use Rattle.snmp_wire.proofs.MessageLaws.{fields_shrink, check_fails_at, check_fails_in, check_goes_on, check_ends}

@@ -1,5 +1,4 @@
-use Rattle.snmp_wire.proofs.ReadingLaws.{never_err}
-use Rattle.snmp_wire.proofs.MessageLaws.{begins_ok}
+use Rattle.snmp_wire.proofs.{ReadingLaws.never_err, MessageLaws.begins_ok}
 use Rattle.snmp_wire.proofs.binding.long_fields_in.Goals as goal
 
 pub unreachable-requires : goal.unreachable-requires

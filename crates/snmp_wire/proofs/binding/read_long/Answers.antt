@@ -1,7 +1,6 @@
 use Rattle.snmp_wire.specs.Reading.{fields}
-use Rattle.snmp_wire.proofs.MessageLaws.{BeginsWithBinding, stands}
+use Rattle.snmp_wire.proofs.{MessageLaws.BeginsWithBinding, MessageLaws.stands, binding.read_long.Goals.After-long_fields_in}
 use Rattle.snmp_wire.proofs.binding.read_long.Goals as goal
-use Rattle.snmp_wire.proofs.binding.read_long.Goals.{After-long_fields_in}
 
 -- the fields at the front are the first binding's
 first : (c : After-long_fields_in) → BeginsWithBinding c.args.octets.now (fields c.long_fields_in.result.0) c.long_fields_in.result.1.now

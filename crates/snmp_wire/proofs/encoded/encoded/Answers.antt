@@ -1,6 +1,5 @@
 use Rattle.std.proofs.Common.{◌≡◌, ℕ, List, ◌++◌, take, length, arith}
-use Rattle.std.proofs.lemmas.Bool.{lt-ltb}
-use Rattle.std.proofs.lemmas.Grind.{common_steps}
+use Rattle.std.proofs.{lemmas.Bool.lt-ltb, lemmas.Grind.common_steps}
 use Rattle.snmp_wire.proofs.BindingWriting.{encoded}
 use Rattle.snmp_wire.proofs.encoded.encoded.Goals as goal
 

@@ -1,5 +1,4 @@
-use Rattle.std.proofs.lemmas.Grind.{common_steps}
-use Rattle.std.proofs.Common.{arith}
+use Rattle.std.proofs.{lemmas.Grind.common_steps, Common.arith}
 use Rattle.snmp_wire.proofs.Kept.{short_name}
 use Rattle.snmp_wire.proofs.encoded.name_in.Goals as goal
 

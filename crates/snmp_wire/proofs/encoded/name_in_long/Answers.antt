@@ -1,6 +1,5 @@
 use Rattle.snmp_wire.specs.Encoded.{binding_in}
-use Rattle.snmp_wire.proofs.ReadingLaws.{failing, given}
-use Rattle.snmp_wire.proofs.Kept.{name_gives}
+use Rattle.snmp_wire.proofs.{ReadingLaws.failing, ReadingLaws.given, Kept.name_gives}
 use Rattle.snmp_wire.proofs.encoded.name_in_long.Goals as goal
 
 pub unreachable-requires : goal.unreachable-requires

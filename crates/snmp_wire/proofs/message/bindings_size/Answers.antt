@@ -1,8 +1,5 @@
-use Rattle.std.proofs.lemmas.Grind.{common_steps}
-use Rattle.std.proofs.lemmas.List.{at_drop_all}
-use Rattle.std.proofs.Common.{arith}
-use Rattle.snmp_wire.proofs.BindingWriting.{binding_octets, bindings_are}
-use Rattle.snmp_wire.proofs.WritingLaws.{length-flat_map_drop}
+use Rattle.std.proofs.{lemmas.Grind.common_steps, lemmas.List.at_drop_all, Common.arith}
+use Rattle.snmp_wire.proofs.{BindingWriting.binding_octets, BindingWriting.bindings_are, WritingLaws.length-flat_map_drop}
 use Rattle.snmp_wire.proofs.message.bindings_size.Goals as goal
 
 pub overflow_add-total : goal.overflow_add-total

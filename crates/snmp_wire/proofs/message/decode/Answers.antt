@@ -1,14 +1,8 @@
 use Rattle.std.proofs.Common.{◌≡◌, ℕ, ◌<◌, List, get_or, Result, Ok, Err, IfOk, IfErr, sym, subst, ◌∙◌, arith}
 use Rattle.std.proofs.lemmas.List.{get_or_default}
 use Rattle.snmp_wire.specs.declared.ber.error.BerError.{BerError}
-use Rattle.snmp_wire.specs.Message.{Message}
-use Rattle.snmp_wire.specs.ber.Number.{AreOctets}
-use Rattle.snmp_wire.specs.Fault.{IsFault}
-use Rattle.snmp_wire.specs.Spelling.{Spells}
-use Rattle.snmp_wire.specs.ber.Reading.{AgreesBy}
-use Rattle.snmp_wire.specs.Reading.{message_of}
-use Rattle.snmp_wire.proofs.MessageLaws.{message_again}
-use Rattle.snmp_wire.proofs.Faults.{message_faults, message_takes}
+use Rattle.snmp_wire.specs.{Message.Message, ber.Number.AreOctets, Fault.IsFault, Spelling.Spells, ber.Reading.AgreesBy, Reading.message_of}
+use Rattle.snmp_wire.proofs.{MessageLaws.message_again, Faults.message_faults, Faults.message_takes}
 use Rattle.snmp_wire.proofs.message.decode.Goals as goal
 
 are_octets : (octets : List ℕ) → ((i : ℕ) → get_or octets i 0 < 256) → AreOctets octets

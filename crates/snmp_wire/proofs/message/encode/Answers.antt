@@ -1,8 +1,6 @@
 use Rattle.std.proofs.Common.{arith, refl}
 use Rattle.snmp_wire.specs.Parts.{parts_message}
-use Rattle.snmp_wire.proofs.BindingWriting.{encoded}
-use Rattle.snmp_wire.proofs.MessageWriting.{sizes_message, writes_message}
-use Rattle.snmp_wire.proofs.MessageElements.{front_is_shortest}
+use Rattle.snmp_wire.proofs.{BindingWriting.encoded, MessageWriting.sizes_message, MessageWriting.writes_message, MessageElements.front_is_shortest}
 use Rattle.snmp_wire.proofs.message.encode.Goals as goal
 
 pub returns-then-out-size-clause-variant : goal.returns-then-out-size-clause-variant

@@ -1,9 +1,6 @@
-use Rattle.std.proofs.Common.{◌≡◌, List, ◌++◌, take, drop, ap, ◌∙◌}
-use Rattle.std.proofs.Math.Seq.{take-append_seam}
-use Rattle.snmp_wire.specs.Canon.{canon_bindings, canon_head}
-use Rattle.snmp_wire.specs.Parts.{parts_message}
-use Rattle.snmp_wire.proofs.BindingWriting.{encoded}
-use Rattle.snmp_wire.proofs.MessageElements.{sealed_is_shortest}
+use Rattle.std.proofs.{Common.◌≡◌, Common.List, Common.◌++◌, Common.take, Common.drop, Common.ap, Common.◌∙◌, Math.Seq.take-append_seam}
+use Rattle.snmp_wire.specs.{Canon.canon_bindings, Canon.canon_head, Parts.parts_message}
+use Rattle.snmp_wire.proofs.{BindingWriting.encoded, MessageElements.sealed_is_shortest}
 use Rattle.snmp_wire.proofs.message.encode_head.Goals as goal
 
 pub returns-clause-shortest : goal.returns-clause-shortest

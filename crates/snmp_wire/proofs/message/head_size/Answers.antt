@@ -1,6 +1,4 @@
-use Rattle.std.proofs.Common.{arith}
-use Rattle.std.proofs.lemmas.Grind.{common_steps}
-use Rattle.std.proofs.lemmas.Int.{to_z-of_z}
+use Rattle.std.proofs.{Common.arith, lemmas.Grind.common_steps, lemmas.Int.to_z-of_z}
 use Rattle.snmp_wire.proofs.MessageWriting.{sizes_head}
 use Rattle.snmp_wire.proofs.message.head_size.Goals as goal
 

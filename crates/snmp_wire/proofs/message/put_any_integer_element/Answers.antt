@@ -1,8 +1,7 @@
 use Rattle.std.proofs.Common.{List, ap, length, refl, subst, sym, ℕ, ◌≤◌, ◌∙◌}
 use Rattle.std.proofs.lemmas.Int.{to_z-of_z}
 use mir.Syntax.{w32}
-use Rattle.snmp_wire.specs.ber.Canon.{canon_number}
-use Rattle.snmp_wire.specs.ber.Value.{integer_value}
+use Rattle.snmp_wire.specs.{ber.Canon.canon_number, ber.Value.integer_value}
 use Rattle.snmp_wire.proofs.ElementLaws.{content_number, value_content_fits, value_header_fits, writes_value}
 use Rattle.snmp_wire.proofs.WritingLaws.{writes_same}
 use Rattle.snmp_wire.proofs.message.put_any_integer_element.Goals as goal

@@ -4,14 +4,10 @@ use lib.IntN.{nat_abs}
 use lib.Signed.{le_z, lt_z}
 use mir.Syntax.{w32}
 use mir.Val.{SFits, of_z, to_z}
-use Rattle.snmp_wire.specs.ber.Canon.{canon_content, canon_number}
-use Rattle.snmp_wire.specs.ber.Value.{integer_value}
-use Rattle.snmp_wire.specs.private.ber.Writing.{Writes}
+use Rattle.snmp_wire.specs.{ber.Canon.canon_content, ber.Canon.canon_number, ber.Value.integer_value, private.ber.Writing.Writes}
 use Rattle.snmp_wire.proofs.ElementLaws.{content_number, value_content_fits, value_header_fits, writes_value}
-use Rattle.snmp_wire.proofs.WritingLaws.{writes_same}
-use Rattle.snmp_wire.proofs.CanonLemmas.{short_number}
+use Rattle.snmp_wire.proofs.{WritingLaws.writes_same, CanonLemmas.short_number, message.put_integer_element.Goals.After-put_octet-start}
 use Rattle.snmp_wire.proofs.message.put_integer_element.Goals as goal
-use Rattle.snmp_wire.proofs.message.put_integer_element.Goals.{After-put_octet-start}
 
 -- the number is the content
 one : (z : ℤ) → SFits w32 z → le_z (pos 0) (to_z w32 (of_z w32 z)) ≡ true → lt_z (to_z w32 (of_z w32 z)) (pos 128) ≡ true

@@ -1,7 +1,6 @@
 use Rattle.std.proofs.Common.{◌≡◌, ◌+◌, ◌≤◌, ◌++◌, length, take, drop, sym, ap, ◌∙◌, rules, arith, length-drop, length-take-le}
 use Rattle.std.proofs.lemmas.Grind.{common_steps}
-use Rattle.snmp_wire.specs.Canon.{canon_head}
-use Rattle.snmp_wire.specs.Parts.{parts_message}
+use Rattle.snmp_wire.specs.{Canon.canon_head, Parts.parts_message}
 use Rattle.snmp_wire.proofs.MessageElements.{sealed_is_shortest}
 use Rattle.snmp_wire.proofs.message.seal.Goals as goal
 

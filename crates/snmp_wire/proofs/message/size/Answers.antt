@@ -1,6 +1,5 @@
 use Rattle.snmp_wire.specs.Parts.{parts_message}
-use Rattle.snmp_wire.proofs.MessageWriting.{sizes_message}
-use Rattle.snmp_wire.proofs.MessageElements.{shortest_size}
+use Rattle.snmp_wire.proofs.{MessageWriting.sizes_message, MessageElements.shortest_size}
 use Rattle.snmp_wire.proofs.message.size.Goals as goal
 
 pub returns-clause-value : goal.returns-clause-value

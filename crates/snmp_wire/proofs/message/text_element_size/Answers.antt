@@ -1,5 +1,4 @@
-use Rattle.std.proofs.Common.{arith}
-use Rattle.std.proofs.lemmas.Grind.{common_steps}
+use Rattle.std.proofs.{Common.arith, lemmas.Grind.common_steps}
 use Rattle.snmp_wire.proofs.ElementLaws.{content_text, sizes_value}
 use Rattle.snmp_wire.proofs.message.text_element_size.Goals as goal
 

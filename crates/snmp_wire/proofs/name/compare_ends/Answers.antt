@@ -1,6 +1,5 @@
-use Rattle.std.proofs.lemmas.Grind.{common_steps}
+use Rattle.std.proofs.{lemmas.Grind.common_steps, lemmas.Bool.cases_lt}
 use Rattle.std.proofs.Common.{◌≡◌, ℕ, ◌+◌, ◌<◌, ◌≤◌, ◌⊎◌, inl, inr, List, length, get_or, refl, ◌∙◌, arith}
-use Rattle.std.proofs.lemmas.Bool.{cases_lt}
 use Rattle.snmp_wire.specs.Name.{EndsAt}
 use Rattle.snmp_wire.proofs.NameOrder.{OrderLaw, Beside, EndsBy, beside, both_go_on, octets_decide, one_ends, one_is_last}
 use Rattle.snmp_wire.proofs.name.compare_ends.Goals as goal

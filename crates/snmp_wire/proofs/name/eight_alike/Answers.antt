@@ -1,7 +1,5 @@
-use Rattle.std.proofs.Common.{ap, ◌∙◌, arith}
-use Rattle.std.specs.Int.{w64, from_le_bytes}
-use Rattle.std.specs.Int.Bits.{bit_xor}
-use Rattle.std.proofs.lemmas.Nat.{xor_lt}
+use Rattle.std.proofs.{Common.ap, Common.◌∙◌, Common.arith, lemmas.Nat.xor_lt}
+use Rattle.std.specs.{Int.w64, Int.from_le_bytes, Int.Bits.bit_xor}
 use Rattle.snmp_wire.specs.ber.Canon.{eight_from}
 use Rattle.snmp_wire.proofs.Differing.{words_alike}
 use Rattle.snmp_wire.proofs.name.eight_alike.Goals as goal

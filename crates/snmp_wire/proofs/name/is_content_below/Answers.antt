@@ -1,5 +1,4 @@
-use Rattle.std.proofs.Common.{length, arith, rules}
-use Rattle.std.proofs.lemmas.Bool.{eqb-true, ltb-true}
+use Rattle.std.proofs.{Common.length, Common.arith, Common.rules, lemmas.Bool.eqb-true, lemmas.Bool.ltb-true}
 use Rattle.snmp_wire.proofs.NameOrder.{Beside, below_decided, beside, none_below, nothing_alike}
 use Rattle.snmp_wire.proofs.name.is_content_below.Goals as goal
 

@@ -1,10 +1,7 @@
 use Rattle.std.proofs.Common.{◌+◌, ◌-◌, ◌<◌, ◌≤◌, ◌≡◌, length, get_or, ap, subst, arith, ⊎_elim}
 use Rattle.std.proofs.lemmas.Bool.{cases_lt}
-use Rattle.snmp_wire.specs.ber.Identifier.{IsObjectId, subidentifiers}
-use Rattle.snmp_wire.proofs.ReadingLaws.{ok_value}
-use Rattle.snmp_wire.specs.ber.Reading.{identifier_of}
-use Rattle.snmp_wire.proofs.IdentifierReading.{identifier_takes}
-use Rattle.snmp_wire.proofs.NameOrder.{content_ends}
+use Rattle.snmp_wire.specs.{ber.Identifier.IsObjectId, ber.Identifier.subidentifiers, ber.Reading.identifier_of}
+use Rattle.snmp_wire.proofs.{ReadingLaws.ok_value, IdentifierReading.identifier_takes, NameOrder.content_ends}
 use Rattle.snmp_wire.proofs.name.last_octet.Goals as goal
 
 pub octets-preserved : goal.octets-preserved

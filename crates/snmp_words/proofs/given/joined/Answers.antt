@@ -1,5 +1,4 @@
-use Rattle.std.proofs.Common.{◌∙◌, ap, List, ℕ}
-use Rattle.std.proofs.lemmas.Result.{IfOk-weaker}
+use Rattle.std.proofs.{Common.◌∙◌, Common.ap, Common.List, Common.ℕ, lemmas.Result.IfOk-weaker}
 use Rattle.std.specs.List.{flat_map}
 use Rattle.clap.specs.Words.{found_of}
 use Rattle.clap.proofs.WalkLemmas.{raw_values-rows}

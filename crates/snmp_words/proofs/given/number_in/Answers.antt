@@ -1,6 +1,5 @@
 use Rattle.std.proofs.Common.{◌≡◌, ◌∙◌, ◌≤◌, ℕ, ap, subst}
-use Rattle.std.specs.Prelude.{Some}
-use Rattle.std.specs.Str.Parse.{digits_value, without_leading_plus}
+use Rattle.std.specs.{Prelude.Some, Str.Parse.digits_value, Str.Parse.without_leading_plus}
 use Rattle.snmp_words.proofs.GivenLemmas.{number_read, number_refused}
 use Rattle.snmp_words.proofs.given.number_in.Goals as goal
 

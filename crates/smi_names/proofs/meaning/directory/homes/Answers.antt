@@ -1,6 +1,5 @@
 -- One module more.
-use Rattle.std.proofs.Common.{arith}
-use Rattle.std.proofs.lemmas.Grind.{common_steps}
+use Rattle.std.proofs.{Common.arith, lemmas.Grind.common_steps}
 use Rattle.smi_names.proofs.Placing.{module_place-more}
 use Rattle.smi_names.proofs.meaning.directory.homes.Goals as goal
 

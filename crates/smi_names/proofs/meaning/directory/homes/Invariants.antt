@@ -1,6 +1,5 @@
 use Rattle.std.proofs.Common.{◌≡◌, ℕ, List, take}
-use Rattle.smi_names.specs.meaning.Scopes.{place_in}
-use Rattle.smi_names.specs.meaning.Names.{module_place}
+use Rattle.smi_names.specs.{meaning.Scopes.place_in, meaning.Names.module_place}
 use Rattle.smi_names.proofs.meaning.directory.homes.Given as goal
 
 abbrev pub invariant-modules : goal.invariant-modules

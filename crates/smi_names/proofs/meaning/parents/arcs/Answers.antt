@@ -1,7 +1,5 @@
 -- One part more, or one without a number.
-use Rattle.std.proofs.Common.{arith}
-use Rattle.std.proofs.lemmas.Grind.{common_steps}
-use Rattle.std.proofs.lemmas.List.{take_more}
+use Rattle.std.proofs.{Common.arith, lemmas.Grind.common_steps, lemmas.List.take_more}
 use Rattle.smi_names.proofs.Placing.{arcs-push, arcs-none}
 use Rattle.smi_names.proofs.meaning.parents.arcs.Goals as goal
 

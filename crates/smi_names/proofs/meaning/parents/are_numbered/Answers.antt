@@ -1,6 +1,5 @@
 -- Part by part.
-use Rattle.std.proofs.Common.{rules, tests, is_some, ◌∙◌}
-use Rattle.std.proofs.lemmas.Iterator.{YieldsList-from_slice}
+use Rattle.std.proofs.{Common.rules, Common.tests, Common.is_some, Common.◌∙◌, lemmas.Iterator.YieldsList-from_slice}
 use Rattle.std.proofs.lemmas.Iterator.Search.{all_from_yields_List}
 use Rattle.smi_text.specs.trees.Lookup.{part_number}
 use Rattle.smi_names.proofs.Placing.{numbered}

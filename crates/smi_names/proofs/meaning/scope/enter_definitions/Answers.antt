@@ -1,12 +1,8 @@
 -- One definition more.
 use Rattle.std.proofs.Common.{arith, ◌≡◌, ℕ, ◌+◌, ◌<◌, Bool, true, false, cond, length, List, Option, Some, None, get_or, take, refl}
-use Rattle.std.proofs.lemmas.Grind.{common_steps}
-use Rattle.std.proofs.lemmas.List.{take_more, take_all}
-use Rattle.std.proofs.lemmas.Option.{slice_get_read}
+use Rattle.std.proofs.{lemmas.Grind.common_steps, lemmas.List.take_more, lemmas.List.take_all, lemmas.Option.slice_get_read}
 use Rattle.std.specs.Option.{option_map}
-use Rattle.smi_text.specs.trees.Mark.{same_text}
-use Rattle.smi_text.specs.trees.Lookup.{first_definition}
-use Rattle.smi_text.specs.declared.trees.tree.Def.{Def}
+use Rattle.smi_text.specs.{trees.Mark.same_text, trees.Lookup.first_definition, declared.trees.tree.Def.Def}
 use Rattle.smi_names.specs.meaning.Meaning.{defined, or_else}
 use Rattle.smi_names.proofs.Knowing.{KnowsMore-then, KnowsMore-same, find-append}
 use Rattle.smi_names.proofs.meaning.scope.enter_definitions.Goals as goal

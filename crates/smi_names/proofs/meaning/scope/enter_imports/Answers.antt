@@ -1,10 +1,8 @@
 -- One clause more.
 use Rattle.std.proofs.Common.{arith, ◌≡◌, ℕ, ◌+◌, ◌<◌, length, List, [], ◌∷◌, Option, Some, None, get_or, take, refl}
-use Rattle.std.proofs.lemmas.Grind.{common_steps}
-use Rattle.std.proofs.lemmas.List.{take_more}
+use Rattle.std.proofs.{lemmas.Grind.common_steps, lemmas.List.take_more}
 use Rattle.std.specs.Option.{option_map}
-use Rattle.smi_text.specs.trees.Lookup.{first_import}
-use Rattle.smi_text.specs.declared.trees.tree.Import.{Import}
+use Rattle.smi_text.specs.{trees.Lookup.first_import, declared.trees.tree.Import.Import}
 use Rattle.smi_names.specs.meaning.Meaning.{imported, or_else}
 use Rattle.smi_names.proofs.Knowing.{KnowsMore-then, KnowsMore-same, find-append}
 use Rattle.smi_names.proofs.meaning.scope.enter_imports.Goals as goal

@@ -1,8 +1,7 @@
 use Rattle.std.proofs.Common.{take}
 use Rattle.std.specs.Option.{option_map}
 use Rattle.smi_text.specs.trees.Lookup.{first_import}
-use Rattle.smi_names.specs.meaning.Meaning.{imported}
-use Rattle.smi_names.specs.meaning.Scopes.{KnowsMore}
+use Rattle.smi_names.specs.{meaning.Meaning.imported, meaning.Scopes.KnowsMore}
 use Rattle.smi_names.proofs.meaning.scope.enter_imports.Given as goal
 
 abbrev pub invariant-imports : goal.invariant-imports

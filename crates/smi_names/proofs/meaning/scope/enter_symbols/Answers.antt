@@ -1,13 +1,9 @@
 -- One symbol more.
 use Rattle.std.proofs.Common.{arith, ◌≡◌, ℕ, ◌+◌, ◌<◌, ◌||◌, Bool, true, false, cond, length, List, [], ◌∷◌, Some, None, get_or, take, refl}
-use Rattle.std.proofs.lemmas.Grind.{common_steps}
-use Rattle.std.proofs.lemmas.List.{take_more, take_all}
-use Rattle.std.specs.List.{list_any}
-use Rattle.std.specs.Option.{option_map}
-use Rattle.smi_text.specs.trees.Mark.{same_text}
+use Rattle.std.proofs.{lemmas.Grind.common_steps, lemmas.List.take_more, lemmas.List.take_all}
+use Rattle.std.specs.{List.list_any, Option.option_map}
+use Rattle.smi_text.specs.{trees.Mark.same_text, declared.trees.tree.Import.Import, declared.trees.tree.TokenText.TokenText}
 use Rattle.smi_text.specs.trees.Lookup.{first_import, is_imported_by}
-use Rattle.smi_text.specs.declared.trees.tree.Import.{Import}
-use Rattle.smi_text.specs.declared.trees.tree.TokenText.{TokenText}
 use Rattle.smi_names.specs.meaning.Meaning.{Decision, imported, or_else}
 use Rattle.smi_names.proofs.Knowing.{KnowsMore-then, KnowsMore-same, list_any-push}
 use Rattle.smi_names.proofs.meaning.scope.enter_symbols.Goals as goal

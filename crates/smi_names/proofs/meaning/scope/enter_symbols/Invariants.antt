@@ -1,8 +1,7 @@
 use Rattle.std.proofs.Common.{take, cond, Some, None}
 use Rattle.std.specs.List.{list_any}
 use Rattle.smi_text.specs.trees.Mark.{same_text}
-use Rattle.smi_names.specs.meaning.Meaning.{imported}
-use Rattle.smi_names.specs.meaning.Scopes.{KnowsMore}
+use Rattle.smi_names.specs.{meaning.Meaning.imported, meaning.Scopes.KnowsMore}
 use Rattle.smi_names.proofs.meaning.scope.enter_symbols.Given as goal
 
 abbrev pub invariant-symbols : goal.invariant-symbols

@@ -1,8 +1,7 @@
 -- Definitions decide before imports, and these before roots.
 use Rattle.std.proofs.Common.{◌≡◌, None, refl, ◌∙◌}
 use Rattle.smi_names.specs.meaning.Scopes.{place_in}
-use Rattle.smi_names.proofs.Knowing.{KnowsMore-then}
-use Rattle.smi_names.proofs.Deciding.{decided_all}
+use Rattle.smi_names.proofs.{Knowing.KnowsMore-then, Deciding.decided_all}
 use Rattle.smi_names.proofs.meaning.scope.scope.Goals as goal
 
 pub returns-clause-decided : goal.returns-clause-decided

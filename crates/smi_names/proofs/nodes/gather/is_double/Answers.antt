@@ -1,6 +1,5 @@
 -- The first module of the name stands before the place, or not.
-use Rattle.std.proofs.Common.{arith}
-use Rattle.std.proofs.lemmas.Grind.{common_steps}
+use Rattle.std.proofs.{Common.arith, lemmas.Grind.common_steps}
 use Rattle.smi_names.proofs.Importing.{is_loaded-before, is_loaded-none}
 use Rattle.smi_names.proofs.nodes.gather.is_double.Goals as goal
 

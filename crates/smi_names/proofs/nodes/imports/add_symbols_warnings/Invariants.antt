@@ -1,7 +1,6 @@
 use Rattle.std.proofs.Common.{◌≡◌, ◌++◌, take}
 use Rattle.std.specs.List.{flat_map}
-use Rattle.smi_names.specs.meaning.Meaning.{module_named}
-use Rattle.smi_names.specs.nodes.Imports.{symbol_warnings}
+use Rattle.smi_names.specs.{meaning.Meaning.module_named, nodes.Imports.symbol_warnings}
 use Rattle.smi_names.proofs.nodes.imports.add_symbols_warnings.Given as goal
 
 abbrev pub invariant-symbols : goal.invariant-symbols

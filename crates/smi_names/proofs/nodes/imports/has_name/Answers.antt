@@ -1,7 +1,6 @@
 -- What decides says whether the module has the name.
 use Rattle.std.proofs.Common.{Some, ◌∙◌}
-use Rattle.smi_names.specs.meaning.Meaning.{module_named}
-use Rattle.smi_names.specs.meaning.Scopes.{decision_of}
+use Rattle.smi_names.specs.{meaning.Meaning.module_named, meaning.Scopes.decision_of}
 use Rattle.smi_names.proofs.Importing.{defines_or_imports-by}
 use Rattle.smi_names.proofs.nodes.imports.has_name.Goals as goal
 

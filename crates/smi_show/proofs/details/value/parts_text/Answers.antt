@@ -1,8 +1,6 @@
 use Rattle.std.proofs.lemmas.Grind.{common_steps}
 use Rattle.std.proofs.Common.{◌≡◌, ◌-◌, ◌≤◌, ℕ, List, [], ◌∷◌, ◌++◌, length, get_or, take, codes, decimal, refl, arith}
-use Rattle.smi_show.specs.details.Value.{labelled_parts, parts_text}
-use Rattle.smi_show.specs.name.Beginnings.{last_number}
-use Rattle.smi_show.specs.name.Naming.{Naming}
+use Rattle.smi_show.specs.{details.Value.labelled_parts, details.Value.parts_text, name.Beginnings.last_number, name.Naming.Naming}
 use Rattle.smi_show.proofs.Texts.{adds_both}
 use Rattle.smi_show.proofs.details.value.parts_text.Goals as goal
 

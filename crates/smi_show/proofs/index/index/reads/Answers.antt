@@ -1,5 +1,4 @@
-use Rattle.std.proofs.Common.{◌≡◌, is_some, arith, false}
-use Rattle.std.proofs.lemmas.Grind.{common_steps}
+use Rattle.std.proofs.{Common.◌≡◌, Common.is_some, Common.arith, Common.false, lemmas.Grind.common_steps}
 use Rattle.smi_show.specs.private.index.Reading.{values_of}
 use Rattle.smi_show.proofs.ReadingLemmas.{as_stated}
 use Rattle.smi_show.proofs.index.index.reads.Goals as goal

@@ -1,6 +1,4 @@
-use Rattle.std.proofs.Common.{arith}
-use Rattle.std.proofs.lemmas.Grind.{common_steps}
-use Rattle.std.proofs.lemmas.Bool.{OnTrue_at, OnFalse_at}
+use Rattle.std.proofs.{Common.arith, lemmas.Grind.common_steps, lemmas.Bool.OnTrue_at, lemmas.Bool.OnFalse_at}
 use Rattle.smi_show.proofs.ReadingLemmas.{all_only, if_read}
 use Rattle.smi_show.proofs.index.shown.index_text.Goals as goal
 

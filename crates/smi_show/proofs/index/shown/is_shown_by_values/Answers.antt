@@ -1,6 +1,4 @@
-use Rattle.std.proofs.Common.{arith}
-use Rattle.std.proofs.lemmas.Grind.{common_steps}
-use Rattle.std.proofs.lemmas.Bool.{OnFalse_at, OnFalse_from, OnTrue_at}
+use Rattle.std.proofs.{Common.arith, lemmas.Grind.common_steps, lemmas.Bool.OnFalse_at, lemmas.Bool.OnFalse_from, lemmas.Bool.OnTrue_at}
 use Rattle.smi_show.proofs.PlainIndex.{plain_index, numbers_alone}
 use Rattle.smi_show.proofs.index.shown.is_shown_by_values.Goals as goal
 

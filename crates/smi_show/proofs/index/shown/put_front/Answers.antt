@@ -1,6 +1,4 @@
-use Rattle.std.proofs.lemmas.Grind.{common_steps}
-use Rattle.std.proofs.Common.{arith}
-use Rattle.std.proofs.lemmas.Bool.{OnTrue_at}
+use Rattle.std.proofs.{lemmas.Grind.common_steps, Common.arith, lemmas.Bool.OnTrue_at}
 use Rattle.smi_show.proofs.FrontNumbers.{four_digits_more}
 use Rattle.smi_show.proofs.index.shown.put_front.Goals as goal
 

@@ -1,5 +1,4 @@
-use Rattle.std.proofs.lemmas.Grind.{common_steps}
-use Rattle.std.proofs.Common.{arith}
+use Rattle.std.proofs.{lemmas.Grind.common_steps, Common.arith}
 use Rattle.smi_show.proofs.DigitLemmas.{behind}
 use Rattle.smi_show.proofs.index.shown.put_medium.Goals as goal
 

@@ -1,6 +1,4 @@
-use Rattle.std.proofs.Common.{arith}
-use Rattle.std.proofs.lemmas.Fmt.{decimal_digit}
-use Rattle.std.proofs.lemmas.Grind.{common_steps}
+use Rattle.std.proofs.{Common.arith, lemmas.Fmt.decimal_digit, lemmas.Grind.common_steps}
 use Rattle.smi_show.proofs.DigitLemmas.{two_digits, digits_of_three}
 use Rattle.smi_show.proofs.index.shown.put_short.Goals as goal
 

@@ -1,5 +1,4 @@
-use Rattle.std.proofs.Common.{◌≡◌, ◌≤◌, ◌+◌, ◌++◌, take, ap, ◌∙◌, arith}
-use Rattle.std.proofs.lemmas.Grind.{common_steps}
+use Rattle.std.proofs.{Common.◌≡◌, Common.◌≤◌, Common.◌+◌, Common.◌++◌, Common.take, Common.ap, Common.◌∙◌, Common.arith, lemmas.Grind.common_steps}
 use Rattle.smi_show.proofs.SmallNumbers.{octets_of, small_entry, front_behind}
 use Rattle.smi_show.proofs.index.shown.put_small.Goals as goal
 

@@ -1,5 +1,4 @@
-use Rattle.std.proofs.Common.{◌+◌, ◌-◌, arith, drop, length, rules, take}
-use Rattle.std.proofs.lemmas.Grind.{common_steps}
+use Rattle.std.proofs.{Common.◌+◌, Common.◌-◌, Common.arith, Common.drop, Common.length, Common.rules, Common.take, lemmas.Grind.common_steps}
 use Rattle.smi_show.proofs.ReadingLemmas.{as_computed}
 use Rattle.smi_show.proofs.index.shown.reads_some_text.Goals as goal
 

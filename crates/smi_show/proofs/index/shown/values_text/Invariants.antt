@@ -1,7 +1,6 @@
 use Rattle.std.proofs.Common.{◌≡◌, ℕ, List, ◌++◌, drop, Some}
 use Rattle.snmp_io.specs.draft.Draft.{Grows}
-use Rattle.smi_show.specs.private.index.Reading.{values_of}
-use Rattle.smi_show.specs.index.Pieces.{index_pieces, shown_pieces}
+use Rattle.smi_show.specs.{private.index.Reading.values_of, index.Pieces.index_pieces, index.Pieces.shown_pieces}
 use Rattle.smi_show.proofs.index.shown.values_text.Given as goal
 
 -- what is shown, with what the parts that are left read, is the whole text

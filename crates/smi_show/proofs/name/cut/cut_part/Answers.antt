@@ -1,5 +1,4 @@
-use Rattle.std.proofs.Common.{arith}
-use Rattle.std.proofs.lemmas.Grind.{common_steps}
+use Rattle.std.proofs.{Common.arith, lemmas.Grind.common_steps}
 use Rattle.smi_show.proofs.CutLemmas.{cut_begins, cut_later}
 use Rattle.smi_show.proofs.name.cut.cut_part.Goals as goal
 

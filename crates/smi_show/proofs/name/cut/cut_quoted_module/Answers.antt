@@ -1,6 +1,4 @@
-use Rattle.std.proofs.Common.{arith}
-use Rattle.std.proofs.lemmas.Grind.{common_steps}
-use Rattle.std.proofs.lemmas.List.{take_rest}
+use Rattle.std.proofs.{Common.arith, lemmas.Grind.common_steps, lemmas.List.take_rest}
 use Rattle.smi_show.proofs.CutLemmas.{module_here, module_later}
 use Rattle.smi_show.proofs.name.cut.cut_quoted_module.Goals as goal
 

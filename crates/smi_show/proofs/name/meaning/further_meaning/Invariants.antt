@@ -1,6 +1,5 @@
 use Rattle.std.proofs.Common.{◌≡◌, ℕ, ◌+◌, List, length, Option, Some, None, option_map}
-use Rattle.smi_show.specs.private.name.Left.{parts_left}
-use Rattle.smi_show.specs.name.Meaning.{further_meaning}
+use Rattle.smi_show.specs.{private.name.Left.parts_left, name.Meaning.further_meaning}
 use Rattle.smi_show.proofs.name.meaning.further_meaning.Given as goal
 
 -- what is left means, after what stands so far, what the whole means

@@ -1,7 +1,5 @@
 use Rattle.std.proofs.Common.{List, ℕ, Result, option_map, sym, ◌∙◌, ap}
-use Rattle.smi_show.specs.declared.name.error.NameError.{NameError}
-use Rattle.smi_show.specs.private.name.Left.{parts_left}
-use Rattle.smi_show.specs.name.Meaning.{and_then, further_meaning}
+use Rattle.smi_show.specs.{declared.name.error.NameError.NameError, private.name.Left.parts_left, name.Meaning.and_then, name.Meaning.further_meaning}
 use Rattle.smi_show.proofs.FrontLemmas.{number_further}
 use Rattle.smi_show.proofs.name.meaning.next_meaning.Goals as goal
 

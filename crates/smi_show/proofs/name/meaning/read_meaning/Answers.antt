@@ -1,5 +1,4 @@
-use Rattle.std.proofs.Common.{arith}
-use Rattle.std.proofs.lemmas.Grind.{common_steps}
+use Rattle.std.proofs.{Common.arith, lemmas.Grind.common_steps}
 use Rattle.smi_show.proofs.NumericMeaning.{numeric_meaning}
 use Rattle.smi_show.proofs.name.meaning.read_meaning.Goals as goal
 

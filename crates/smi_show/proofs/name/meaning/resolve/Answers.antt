@@ -1,9 +1,6 @@
-use Rattle.std.proofs.Common.{arith, sym, subst}
-use Rattle.std.proofs.lemmas.Grind.{common_steps}
+use Rattle.std.proofs.{Common.arith, Common.sym, Common.subst, lemmas.Grind.common_steps}
 use Rattle.smi_show.specs.name.Meant.{TextMeans}
-use Rattle.smi_show.proofs.MeantTexts.{means}
-use Rattle.smi_show.proofs.NamesStated.{name_only}
-use Rattle.smi_show.proofs.ReadBack.{name_back}
+use Rattle.smi_show.proofs.{MeantTexts.means, NamesStated.name_only, ReadBack.name_back}
 use Rattle.smi_show.proofs.name.meaning.resolve.Goals as goal
 
 pub returns-clause-reads_back : goal.returns-clause-reads_back

@@ -1,8 +1,5 @@
 use Rattle.std.proofs.Common.{ℕ, List, Result, Ok, Err, IfErr, OnOk, sym, subst}
-use Rattle.smi_show.specs.declared.name.error.NameError.{NameError}
-use Rattle.smi_show.specs.name.Meant.{TextMeans}
-use Rattle.smi_show.specs.name.Naming.{Naming}
-use Rattle.smi_show.specs.private.name.Reading.{read_to}
+use Rattle.smi_show.specs.{declared.name.error.NameError.NameError, name.Meant.TextMeans, name.Naming.Naming, private.name.Reading.read_to}
 use Rattle.smi_show.proofs.MeantTexts.{means}
 use Rattle.smi_show.proofs.name.meaning.resolve_into.Goals as goal
 

@@ -1,5 +1,4 @@
-use Rattle.std.proofs.Common.{arith, sym, ◌∙◌}
-use Rattle.std.proofs.lemmas.Grind.{common_steps}
+use Rattle.std.proofs.{Common.arith, Common.sym, Common.◌∙◌, lemmas.Grind.common_steps}
 use Rattle.std.specs.Char.{is_ascii_digit}
 use Rattle.smi_text.proofs.Scans.{passing_step, passing_stop}
 use Rattle.smi_text.proofs.lexer.scan.digits_len.Goals as goal

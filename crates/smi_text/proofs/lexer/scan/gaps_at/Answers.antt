@@ -1,9 +1,6 @@
-use Rattle.std.proofs.lemmas.Grind.{common_steps}
+use Rattle.std.proofs.{lemmas.Grind.common_steps, lemmas.Bool.ne_eqb, lemmas.List.take_rest}
 use Rattle.std.proofs.Common.{sym, ◌∙◌, ◌+◌, ap, subst, drop, arith, get_or, length-drop, add-zero}
-use Rattle.std.proofs.lemmas.Bool.{ne_eqb}
-use Rattle.std.proofs.lemmas.List.{take_rest}
-use Rattle.smi_text.specs.lexer.Lexeme.{is_blank}
-use Rattle.smi_text.specs.lexer.Reading.{IsLongestPassing, Skips, is_comment_rest}
+use Rattle.smi_text.specs.{lexer.Lexeme.is_blank, lexer.Reading.IsLongestPassing, lexer.Reading.Skips, lexer.Reading.is_comment_rest}
 use Rattle.smi_text.proofs.Gaps.{newlines-newline, newlines-other, skips_blank, skips_comment, gaps_end, gaps_stop, skips_run}
 use Rattle.smi_text.proofs.Scans.{begins_at, begins_past}
 use Rattle.smi_text.proofs.lexer.scan.gaps_at.Goals as goal

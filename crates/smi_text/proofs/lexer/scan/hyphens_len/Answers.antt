@@ -1,5 +1,4 @@
-use Rattle.std.proofs.Common.{eq-eqb}
-use Rattle.std.proofs.lemmas.Bool.{ne_eqb}
+use Rattle.std.proofs.{Common.eq-eqb, lemmas.Bool.ne_eqb}
 use Rattle.smi_text.specs.lexer.Lexeme.{is_hyphen}
 use Rattle.smi_text.proofs.Scans.{passing_step, passing_stop}
 use Rattle.smi_text.proofs.lexer.scan.hyphens_len.Goals as goal

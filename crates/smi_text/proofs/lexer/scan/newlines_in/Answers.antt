@@ -1,5 +1,4 @@
-use Rattle.std.proofs.Common.{arith}
-use Rattle.std.proofs.lemmas.Grind.{common_steps}
+use Rattle.std.proofs.{Common.arith, lemmas.Grind.common_steps}
 use Rattle.smi_text.proofs.Places.{each_newline}
 use Rattle.smi_text.proofs.lexer.scan.newlines_in.Goals as goal
 

@@ -1,6 +1,4 @@
-use Rattle.std.proofs.Common.{arith}
-use Rattle.std.proofs.lemmas.Grind.{common_steps}
-use Rattle.std.proofs.lemmas.Bool.{ne_eqb}
+use Rattle.std.proofs.{Common.arith, lemmas.Grind.common_steps, lemmas.Bool.ne_eqb}
 use Rattle.smi_text.proofs.Scans.{remark_step, begins_at, begins_past}
 use Rattle.smi_text.proofs.lexer.scan.remark_len.Goals as goal
 use Rattle.smi_text.proofs.lexer.scan.remark_len.Goals.{else-octet-eq45-via-then-octet-eq45+then-n-text+else-text-n-eq45}

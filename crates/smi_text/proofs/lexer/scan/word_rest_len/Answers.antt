@@ -1,7 +1,6 @@
 use Rattle.std.proofs.lemmas.Grind.{common_steps}
 use Rattle.std.proofs.Common.{◌≡◌, ℕ, ◌+◌, ◌<◌, ◌≤◌, subst, length, List, get_or, false, arith}
-use Rattle.smi_text.specs.lexer.Lexeme.{is_word_octet, is_word_rest}
-use Rattle.smi_text.specs.lexer.Reading.{GoesOn, IsRunBetween}
+use Rattle.smi_text.specs.{lexer.Lexeme.is_word_octet, lexer.Lexeme.is_word_rest, lexer.Reading.GoesOn, lexer.Reading.IsRunBetween}
 use Rattle.smi_text.proofs.Scans.{goes_from_start, hyphen_step, word_ends, word_run_goes}
 use Rattle.smi_text.proofs.lexer.scan.word_rest_len.Goals as goal
 

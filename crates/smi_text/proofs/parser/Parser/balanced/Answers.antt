@@ -1,5 +1,4 @@
-use Rattle.std.proofs.lemmas.Grind.{common_steps}
-use Rattle.std.proofs.Common.{◌∙◌, sym, arith, length-append}
+use Rattle.std.proofs.{lemmas.Grind.common_steps, Common.◌∙◌, Common.sym, Common.arith, Common.length-append}
 use Rattle.smi_text.specs.private.Grammar.{balanced}
 use Rattle.smi_text.proofs.Loops.{depth_after-le, balanced-next, balanced-open, balanced-outside, balanced-closed}
 use Rattle.smi_text.proofs.Many.{with_front-nil}

@@ -1,6 +1,5 @@
 use Rattle.std.proofs.Common.{◌≡◌, ◌≤◌, length}
-use Rattle.smi_text.specs.private.Format.{with_front}
-use Rattle.smi_text.specs.private.Grammar.{read_balanced}
+use Rattle.smi_text.specs.{private.Format.with_front, private.Grammar.read_balanced}
 use Rattle.smi_text.proofs.parser.Parser.balanced.Given as goal
 
 abbrev pub invariant-each : goal.invariant-each

@@ -1,6 +1,4 @@
-use Rattle.std.proofs.Common.{arith}
-use Rattle.std.proofs.lemmas.Grind.{common_steps}
-use Rattle.std.proofs.lemmas.Result.{err_from_is_err_and}
+use Rattle.std.proofs.{Common.arith, lemmas.Grind.common_steps, lemmas.Result.err_from_is_err_and}
 use Rattle.smi_text.proofs.FileSteps.{has_read-start, has_read-done, has_read-shorter, has_read-next, definitions-fault}
 use Rattle.smi_text.proofs.parser.Parser.definitions.Goals as goal
 

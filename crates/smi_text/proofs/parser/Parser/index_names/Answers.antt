@@ -1,6 +1,4 @@
-use Rattle.std.proofs.lemmas.Grind.{common_steps}
-use Rattle.std.proofs.Common.{◌∙◌, sym, length, arith}
-use Rattle.std.proofs.lemmas.Result.{err_from_is_err_and}
+use Rattle.std.proofs.{lemmas.Grind.common_steps, Common.◌∙◌, Common.sym, Common.length, Common.arith, lemmas.Result.err_from_is_err_and}
 use Rattle.smi_text.specs.private.Format.{behind, shaped, pair}
 use Rattle.smi_text.specs.private.Grammar.{index_names, read_index, with_names}
 use Rattle.smi_text.proofs.Loops.{with_names-nil, index-next}

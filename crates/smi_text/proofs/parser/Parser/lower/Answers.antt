@@ -1,9 +1,7 @@
 use Rattle.std.proofs.Common.{true, [], ◌∷◌, refl, sym}
 use denote.Enum.Bare.{same_true}
-use Rattle.smi_text.specs.contracts.lexer.token.TokenKind.{the_type}
+use Rattle.smi_text.specs.{contracts.lexer.token.TokenKind.the_type, lexer.Token.lexeme_of, private.Format.a_kind, private.Format.lower}
 use Rattle.smi_text.specs.declared.lexer.token.TokenKind.TheVariants as K
-use Rattle.smi_text.specs.lexer.Token.{lexeme_of}
-use Rattle.smi_text.specs.private.Format.{a_kind, lower}
 use Rattle.smi_text.proofs.Lexical.{gives-name}
 use Rattle.smi_text.proofs.parser.Parser.lower.Goals as goal
 

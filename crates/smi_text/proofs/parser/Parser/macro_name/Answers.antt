@@ -2,9 +2,7 @@ use Rattle.std.proofs.Common.{refl, sym}
 use denote.Enum.Bare.{same_true}
 use Rattle.smi_text.specs.contracts.lexer.token.TokenKind.{the_type}
 use Rattle.smi_text.specs.declared.lexer.token.TokenKind.TheVariants as K
-use Rattle.smi_text.specs.lexer.Token.{lexeme_of}
-use Rattle.smi_text.specs.trees.Number.{is_macro}
-use Rattle.smi_text.specs.private.Grammar.{macro_name, macro_words}
+use Rattle.smi_text.specs.{lexer.Token.lexeme_of, trees.Number.is_macro, private.Grammar.macro_name, private.Grammar.macro_words}
 use Rattle.smi_text.proofs.Lexical.{gives-name}
 use Rattle.smi_text.proofs.parser.Parser.macro_name.Goals as goal
 

@@ -1,6 +1,5 @@
-use Rattle.std.proofs.lemmas.Grind.{common_steps}
+use Rattle.std.proofs.{lemmas.Grind.common_steps, lemmas.Result.err_from_is_err_and}
 use Rattle.std.proofs.Common.{sym, ◌∙◌, ap, arith, length, refl}
-use Rattle.std.proofs.lemmas.Result.{err_from_is_err_and}
 use Rattle.smi_text.specs.private.Format.{many, read_many, with_front}
 use Rattle.smi_text.proofs.Many.{next-many, with_front-append, with_front-none, with_front-end}
 use Rattle.smi_text.proofs.parser.Parser.many_after.Goals as goal

@@ -1,8 +1,5 @@
-use Rattle.std.proofs.Common.{arith}
-use Rattle.std.proofs.lemmas.Grind.{common_steps}
-use Rattle.std.proofs.lemmas.Result.{err_from_is_err_and}
-use Rattle.smi_text.specs.private.Format.{before, lower, pair, shaped}
-use Rattle.smi_text.specs.private.Grammar.{module_text}
+use Rattle.std.proofs.{Common.arith, lemmas.Grind.common_steps, lemmas.Result.err_from_is_err_and}
+use Rattle.smi_text.specs.{private.Format.before, private.Format.lower, private.Format.pair, private.Format.shaped, private.Grammar.module_text}
 use Rattle.smi_text.proofs.FileSteps.{module-stop, module-defs}
 use Rattle.smi_text.proofs.parser.Parser.module.Goals as goal
 

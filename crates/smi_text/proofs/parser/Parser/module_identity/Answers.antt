@@ -1,7 +1,5 @@
-use Rattle.std.proofs.Common.{refl}
-use Rattle.std.proofs.lemmas.Result.{err_from_is_err_and}
-use Rattle.smi_text.specs.private.Format.{behind, shaped, pair}
-use Rattle.smi_text.specs.private.Grammar.{module_identity}
+use Rattle.std.proofs.{Common.refl, lemmas.Result.err_from_is_err_and}
+use Rattle.smi_text.specs.{private.Format.behind, private.Format.shaped, private.Format.pair, private.Grammar.module_identity}
 use Rattle.smi_text.proofs.parser.Parser.module_identity.Goals as goal
 
 pub returns : goal.returns

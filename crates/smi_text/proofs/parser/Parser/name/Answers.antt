@@ -2,9 +2,7 @@ use Rattle.std.proofs.Common.{not, [], ◌∷◌, refl, sym}
 use denote.Enum.Bare.{same_true}
 use Rattle.smi_text.specs.contracts.lexer.token.TokenKind.{the_type}
 use Rattle.smi_text.specs.declared.lexer.token.TokenKind.TheVariants as K
-use Rattle.smi_text.specs.lexer.Token.{lexeme_of}
-use Rattle.smi_text.specs.trees.Reserved.{is_reserved}
-use Rattle.smi_text.specs.private.Format.{a_name, name}
+use Rattle.smi_text.specs.{lexer.Token.lexeme_of, trees.Reserved.is_reserved, private.Format.a_name, private.Format.name}
 use Rattle.smi_text.proofs.Lexical.{gives-name}
 use Rattle.smi_text.proofs.parser.Parser.name.Goals as goal
 

@@ -1,5 +1,4 @@
-use Rattle.std.proofs.Common.{arith}
-use Rattle.std.proofs.lemmas.Grind.{common_steps}
+use Rattle.std.proofs.{Common.arith, lemmas.Grind.common_steps}
 use Rattle.smi_text.proofs.Lexical.{sign-read}
 use Rattle.smi_text.proofs.parser.Parser.sign.Goals as goal
 

@@ -1,7 +1,5 @@
-use Rattle.std.proofs.Common.{refl}
-use Rattle.std.proofs.lemmas.Result.{err_from_is_err_and}
-use Rattle.smi_text.specs.private.Format.{behind, shaped, pair}
-use Rattle.smi_text.specs.private.Grammar.{textual_convention}
+use Rattle.std.proofs.{Common.refl, lemmas.Result.err_from_is_err_and}
+use Rattle.smi_text.specs.{private.Format.behind, private.Format.shaped, private.Format.pair, private.Grammar.textual_convention}
 use Rattle.smi_text.proofs.parser.Parser.textual_convention.Goals as goal
 
 pub returns : goal.returns

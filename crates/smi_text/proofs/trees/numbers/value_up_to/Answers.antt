@@ -1,6 +1,4 @@
-use Rattle.std.proofs.lemmas.Grind.{common_steps}
-use Rattle.std.proofs.Common.{arith}
-use Rattle.std.proofs.Math.Nat.{mul_comm}
+use Rattle.std.proofs.{lemmas.Grind.common_steps, Common.arith, Math.Nat.mul_comm}
 use Rattle.smi_text.proofs.Digits.{worth-step, worth-above, worth-end, value-within}
 use Rattle.smi_text.proofs.trees.numbers.value_up_to.Goals as goal
 

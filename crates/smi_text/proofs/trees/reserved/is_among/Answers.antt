@@ -1,5 +1,4 @@
-use Rattle.std.proofs.Common.{arith, sym}
-use Rattle.std.proofs.lemmas.Grind.{common_steps}
+use Rattle.std.proofs.{Common.arith, Common.sym, lemmas.Grind.common_steps}
 use Rattle.smi_text.proofs.Words.{is_one_of-drop, is_one_of-none}
 use Rattle.smi_text.proofs.trees.reserved.is_among.Goals as goal
 

@@ -1,6 +1,5 @@
 use Rattle.std.proofs.Common.{◌≡◌, drop}
-use Rattle.std.specs.Prelude.{map}
-use Rattle.std.specs.List.{list_any}
+use Rattle.std.specs.{Prelude.map, List.list_any}
 use Rattle.smi_text.specs.trees.Mark.{same_text}
 use Rattle.smi_text.proofs.trees.reserved.is_among.Given as goal
 

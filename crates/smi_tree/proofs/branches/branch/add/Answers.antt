@@ -1,9 +1,8 @@
 -- The numbers of the identifier are gone along from where the last one's differ, and it stands at
 -- the end, if none did.
-use Rattle.std.proofs.lemmas.Grind.{common_steps}
-use Rattle.std.proofs.Common.{rules, ◌≡◌, ℕ, ◌+◌, ◌<◌, ◌≤◌, is_some, Option, List, [], ◌∷◌, ◌++◌, Some, None, get_or, set, take, length, refl}
-use Rattle.std.proofs.Common.{sym, ap, inl, inr, ◌∙◌, arith}
-use Rattle.std.proofs.lemmas.Bool.{cases_lt}
+use Rattle.std.proofs.{lemmas.Grind.common_steps, lemmas.Bool.cases_lt}
+use Rattle.std.proofs.Common.{rules, ◌≡◌, ℕ, ◌+◌, ◌<◌, ◌≤◌, is_some, Option, List, [], ◌∷◌, ◌++◌, Some, None, get_or, set, take, length, refl, sym}
+use Rattle.std.proofs.Common.{ap, inl, inr, ◌∙◌, arith}
 use Rattle.std.proofs.lemmas.List.{take_more, take_all, length-set, length-take-le, get_or_default, get_or-set_same, get_or-set_other, take-take}
 use Rattle.smi_tree.specs.branches.Branches.{AreBranches, AreBranchesOf, branch_of, IsBeginning, IsWay, GrowsBranch}
 use Rattle.smi_tree.specs.declared.branches.branch.Branch.{Branch}

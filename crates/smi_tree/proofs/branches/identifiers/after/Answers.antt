@@ -1,7 +1,5 @@
 -- What follows is what the branch has.
-use Rattle.std.proofs.Common.{arith}
-use Rattle.std.proofs.lemmas.Grind.{common_steps}
-use Rattle.std.proofs.lemmas.Option.{slice_get_read, slice_get_past}
+use Rattle.std.proofs.{Common.arith, lemmas.Grind.common_steps, lemmas.Option.slice_get_read, lemmas.Option.slice_get_past}
 use Rattle.smi_tree.proofs.Walking.{walk-push}
 use Rattle.smi_tree.proofs.branches.identifiers.after.Goals as goal
 

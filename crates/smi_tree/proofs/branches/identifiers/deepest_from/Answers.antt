@@ -2,8 +2,7 @@
 use Rattle.std.proofs.lemmas.Grind.{common_steps}
 use Rattle.std.proofs.Common.{rules, ◌≡◌, ℕ, ◌+◌, ◌<◌, Option, List, Some, None, get_or, take, length, sym, arith}
 use Rattle.smi_tree.specs.branches.Branches.{follower, branch_of, standing_at, deeper_of, AreBranchesOf, SoFar}
-use Rattle.smi_tree.specs.declared.branches.branch.Branch.{Branch}
-use Rattle.smi_tree.specs.declared.branches.identifiers.Deepest.{Deepest}
+use Rattle.smi_tree.specs.{declared.branches.branch.Branch.Branch, declared.branches.identifiers.Deepest.Deepest}
 use Rattle.smi_tree.proofs.Branching.{SoFar-whole, branch_more, none_beyond}
 use Rattle.smi_tree.proofs.branches.identifiers.deepest_from.Goals as goal
 

@@ -1,8 +1,7 @@
 -- What stands at the branch is on the way to what is below it.
 use Rattle.std.proofs.Common.{rules, ◌≡◌, Some}
 use Rattle.snmp_oid.specs.Identifier.{IsBelow}
-use Rattle.smi_tree.specs.branches.Standing.{oid_at}
-use Rattle.smi_tree.specs.branches.Branches.{standing_at}
+use Rattle.smi_tree.specs.{branches.Standing.oid_at, branches.Branches.standing_at}
 use Rattle.smi_tree.proofs.Branching.{way_known}
 use Rattle.smi_tree.proofs.branches.identifiers.known.Goals as goal
 

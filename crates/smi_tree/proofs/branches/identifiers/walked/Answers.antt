@@ -1,6 +1,5 @@
 -- One number more.
-use Rattle.std.proofs.Common.{arith}
-use Rattle.std.proofs.lemmas.Grind.{common_steps}
+use Rattle.std.proofs.{Common.arith, lemmas.Grind.common_steps}
 use Rattle.smi_tree.proofs.Branching.{branch_more, branch_off}
 use Rattle.smi_tree.proofs.branches.identifiers.walked.Goals as goal
 

@@ -1,6 +1,5 @@
 -- The value is at most that of 64 bits.
-use Rattle.std.proofs.Common.{pos, ◌≤ℤ◌, sym, arith}
-use Rattle.std.proofs.lemmas.Int.{ints}
+use Rattle.std.proofs.{Common.pos, Common.◌≤ℤ◌, Common.sym, Common.arith, lemmas.Int.ints}
 use Rattle.smi_tree.proofs.Bounds.{bound_fits}
 use Rattle.smi_tree.proofs.columns.part.number.Goals as goal
 

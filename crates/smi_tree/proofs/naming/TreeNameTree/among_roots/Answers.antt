@@ -1,6 +1,5 @@
 -- The roots come first.
-use Rattle.std.proofs.Common.{arith, ap}
-use Rattle.std.proofs.lemmas.Grind.{common_steps}
+use Rattle.std.proofs.{Common.arith, Common.ap, lemmas.Grind.common_steps}
 use Rattle.smi_names.specs.nodes.Nodes.{roots}
 use Rattle.smi_tree.specs.Naming.{oid_of}
 use Rattle.smi_tree.proofs.Sounding.{among-roots}

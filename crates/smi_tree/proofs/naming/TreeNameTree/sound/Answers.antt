@@ -1,6 +1,5 @@
 -- Labels are words, and lead to the nodes that they are shown for.
-use Rattle.std.proofs.Common.{arith}
-use Rattle.std.proofs.lemmas.Grind.{common_steps}
+use Rattle.std.proofs.{Common.arith, lemmas.Grind.common_steps}
 use Rattle.smi_tree.proofs.Sounding.{sound-by}
 use Rattle.smi_tree.proofs.naming.TreeNameTree.sound.Goals as goal
 

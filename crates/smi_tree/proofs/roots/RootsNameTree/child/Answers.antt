@@ -1,6 +1,5 @@
 -- The children of the identifier of no numbers are the roots, which have no children.
-use Rattle.std.proofs.Common.{arith}
-use Rattle.std.proofs.lemmas.Grind.{common_steps}
+use Rattle.std.proofs.{Common.arith, lemmas.Grind.common_steps}
 use Rattle.smi_tree.proofs.Bare.{child-roots, child-longer}
 use Rattle.smi_tree.proofs.roots.RootsNameTree.child.Goals as goal
 

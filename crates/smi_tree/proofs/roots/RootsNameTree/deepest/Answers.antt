@@ -1,6 +1,5 @@
 -- The root of the first number.
-use Rattle.std.proofs.lemmas.Grind.{common_steps}
-use Rattle.std.proofs.Common.{arith}
+use Rattle.std.proofs.{lemmas.Grind.common_steps, Common.arith}
 use Rattle.smi_tree.proofs.Bare.{deepest-some, deepest-none}
 use Rattle.smi_tree.proofs.roots.RootsNameTree.deepest.Goals as goal
 use Rattle.smi_tree.proofs.roots.RootsNameTree.deepest.Goals.{in_default-via-then-as_slice-lt1, in_default-via-in-len1-up+else-number-lt3}

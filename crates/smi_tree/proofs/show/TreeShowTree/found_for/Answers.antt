@@ -1,8 +1,7 @@
 -- The identifier below which all have the node and its syntax.
 use Rattle.std.proofs.Common.{refl, ◌∙◌}
 use Rattle.smi_tree.specs.Nodes.{oids_of}
-use Rattle.smi_tree.proofs.Reaching.{longest-some}
-use Rattle.smi_tree.proofs.Lasting.{holds_below}
+use Rattle.smi_tree.proofs.{Reaching.longest-some, Lasting.holds_below}
 use Rattle.smi_tree.proofs.show.TreeShowTree.found_for.Goals as goal
 
 pub returns-in-Some-clause-below : goal.returns-in-Some-clause-below

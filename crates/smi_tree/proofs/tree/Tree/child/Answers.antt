@@ -1,6 +1,5 @@
 -- The first of the children that has the label.
-use Rattle.std.proofs.Common.{arith}
-use Rattle.std.proofs.lemmas.Grind.{common_steps}
+use Rattle.std.proofs.{Common.arith, lemmas.Grind.common_steps}
 use Rattle.smi_tree.proofs.Childhood.{child-found}
 use Rattle.smi_tree.proofs.tree.Tree.child.Goals as goal
 

@@ -1,7 +1,6 @@
 use Rattle.std.proofs.Common.{◌≡◌, length}
 use Rattle.std.specs.List.{find}
-use Rattle.smi_tree.specs.branches.Children.{places_left}
-use Rattle.smi_tree.specs.Nodes.{is_labelled}
+use Rattle.smi_tree.specs.{branches.Children.places_left, Nodes.is_labelled}
 use Rattle.smi_tree.proofs.tree.Tree.child.Given as goal
 
 abbrev pub invariant-children : goal.invariant-children

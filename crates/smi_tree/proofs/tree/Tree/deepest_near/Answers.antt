@@ -1,8 +1,6 @@
 -- The identifiers are those of the nodes.
-use Rattle.std.proofs.Common.{arith}
-use Rattle.std.proofs.lemmas.Grind.{common_steps}
-use Rattle.smi_tree.proofs.Bridging.{oids-nodes}
-use Rattle.smi_tree.proofs.Reaching.{longest-found}
+use Rattle.std.proofs.{Common.arith, lemmas.Grind.common_steps}
+use Rattle.smi_tree.proofs.{Bridging.oids-nodes, Reaching.longest-found}
 use Rattle.smi_tree.proofs.tree.Tree.deepest_near.Goals as goal
 
 pub returns : goal.returns

@@ -1,18 +1,13 @@
 -- The first source of the label is looked at, and then the first one in the module.
 use Rattle.std.proofs.Common.{arith, rules, ◌≡◌, ℕ, true, false, List, length, get_or, Some, None, refl, sym, ◌∙◌}
-use Rattle.std.proofs.lemmas.Grind.{common_steps}
-use Rattle.std.proofs.lemmas.Option.{slice_get_within, slice_get_read}
+use Rattle.std.proofs.{lemmas.Grind.common_steps, lemmas.Option.slice_get_within, lemmas.Option.slice_get_read}
 use Rattle.std.specs.List.{slice_get, position_from}
 use Rattle.smi_text.specs.declared.trees.tree.Module.{Module}
-use Rattle.smi_names.specs.nodes.Nodes.{Node}
-use Rattle.smi_names.specs.nodes.Gathered.{nodes_of}
-use Rattle.smi_names.specs.declared.nodes.source.Source.{Source}
-use Rattle.smi_tree.specs.Nodes.{is_named, place_anywhere}
+use Rattle.smi_names.specs.{nodes.Nodes.Node, nodes.Gathered.nodes_of, declared.nodes.source.Source.Source}
+use Rattle.smi_tree.specs.{Nodes.is_named, Nodes.place_anywhere, Places.has_label, Places.home_from}
 use Rattle.smi_tree.specs.Nodes as nodes
-use Rattle.smi_tree.specs.Places.{has_label, home_from}
 use Rattle.smi_tree.proofs.Bridging.{anywhere-sources, in_module-sources}
-use Rattle.smi_tree.proofs.First.{IsFirst, first, both_none, both_first}
-use Rattle.smi_tree.proofs.Scoping.{no_module}
+use Rattle.smi_tree.proofs.{First.IsFirst, First.first, First.both_none, First.both_first, Scoping.no_module}
 use Rattle.smi_tree.proofs.tree.Tree.find.Goals as goal
 
 module _ (ms : List Module) (ss : List Source) (os : List (List ℕ)) (x : List ℕ) (f : ℕ) (long : length ss ≡ length os)

@@ -1,6 +1,5 @@
 -- A module of the name is found where the name has a place.
-use Rattle.std.proofs.Common.{arith, is_some}
-use Rattle.std.proofs.lemmas.Grind.{common_steps}
+use Rattle.std.proofs.{Common.arith, Common.is_some, lemmas.Grind.common_steps}
 use Rattle.smi_tree.proofs.Bridging.{is_some-find}
 use Rattle.smi_tree.proofs.tree.Tree.has_module.Goals as goal
 

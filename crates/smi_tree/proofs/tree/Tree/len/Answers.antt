@@ -1,6 +1,5 @@
 -- There is a node for each source.
-use Rattle.std.proofs.Common.{arith}
-use Rattle.std.proofs.lemmas.Grind.{common_steps}
+use Rattle.std.proofs.{Common.arith, lemmas.Grind.common_steps}
 use Rattle.smi_tree.proofs.Bridging.{length-nodes}
 use Rattle.smi_tree.proofs.tree.Tree.len.Goals as goal
 

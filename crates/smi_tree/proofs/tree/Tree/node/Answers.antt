@@ -1,8 +1,7 @@
 -- The node of the source at the place.
-use Rattle.std.proofs.lemmas.Grind.{common_steps}
+use Rattle.std.proofs.{lemmas.Grind.common_steps, lemmas.Option.slice_get-get_or}
 use Rattle.std.proofs.Common.{◌≡◌, ◌<◌, length, [], Some, sym, ap, refl, arith, ◌∙◌}
 use Rattle.std.specs.List.{slice_get}
-use Rattle.std.proofs.lemmas.Option.{slice_get-get_or}
 use Rattle.smi_tree.proofs.Bridging.{length-nodes, node-at, parts}
 use Rattle.smi_tree.proofs.tree.Tree.node.Goals as goal
 

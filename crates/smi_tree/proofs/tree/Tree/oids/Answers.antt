@@ -1,6 +1,5 @@
 -- The identifiers are those of the nodes.
-use Rattle.std.proofs.Common.{arith}
-use Rattle.std.proofs.lemmas.Grind.{common_steps}
+use Rattle.std.proofs.{Common.arith, lemmas.Grind.common_steps}
 use Rattle.smi_tree.proofs.Bridging.{oids-nodes}
 use Rattle.smi_tree.proofs.tree.Tree.oids.Goals as goal
 

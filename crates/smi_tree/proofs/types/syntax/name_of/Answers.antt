@@ -1,9 +1,8 @@
 -- The name is no base type's.
 use Rattle.std.proofs.Common.{arith, ◌≡◌, false, Option, Some, None, is_some, refl}
 use Rattle.std.proofs.lemmas.Grind.{common_steps}
-use Rattle.smi_text.specs.declared.trees.tree.Base.{Base}
+use Rattle.smi_text.specs.{declared.trees.tree.Base.Base, declared.trees.names.Name.Name}
 use Rattle.smi_text.specs.declared.trees.tree.Base.TheVariants as B
-use Rattle.smi_text.specs.declared.trees.names.Name.{Name}
 use Rattle.smi_tree.specs.types.Types.{base_in, name_in_base, name_in}
 use Rattle.smi_names.specs.declared.meaning.base.TypeBase.{TypeBase}
 use Rattle.smi_tree.proofs.types.syntax.name_of.Goals as goal

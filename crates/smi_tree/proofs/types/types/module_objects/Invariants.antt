@@ -1,5 +1,4 @@
-use Rattle.smi_tree.specs.types.Types.{origin_of_object}
-use Rattle.smi_tree.specs.types.Kept.{IsKept}
+use Rattle.smi_tree.specs.{types.Types.origin_of_object, types.Kept.IsKept}
 use Rattle.smi_tree.proofs.Pairing.{AreFirst}
 use Rattle.smi_tree.proofs.types.types.module_objects.Given as goal
 

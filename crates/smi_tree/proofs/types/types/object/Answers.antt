@@ -1,9 +1,7 @@
 -- An object states its type and no hint.
-use Rattle.std.proofs.Common.{arith, ◌≡◌, None, Some, sym, ap}
-use Rattle.std.proofs.lemmas.Grind.{common_steps}
+use Rattle.std.proofs.{Common.arith, Common.◌≡◌, Common.None, Common.Some, Common.sym, Common.ap, lemmas.Grind.common_steps}
 use Rattle.smi_tree.specs.types.Types.{origin_of_object, origin_of_simple}
-use Rattle.smi_tree.proofs.Following.{no_syntax}
-use Rattle.smi_tree.proofs.Refining.{object_states, refined_right}
+use Rattle.smi_tree.proofs.{Following.no_syntax, Refining.object_states, Refining.refined_right}
 use Rattle.smi_tree.proofs.types.types.object.Goals as goal
 
 pub returns-in-Some : goal.returns-in-Some

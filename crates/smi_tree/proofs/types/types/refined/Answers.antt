@@ -1,6 +1,5 @@
 -- What the type states itself.
-use Rattle.std.proofs.Common.{arith, is_some}
-use Rattle.std.proofs.lemmas.Grind.{common_steps}
+use Rattle.std.proofs.{Common.arith, Common.is_some, lemmas.Grind.common_steps}
 use Rattle.smi_tree.proofs.Refining.{is_some-copied}
 use Rattle.smi_tree.proofs.types.types.refined.Goals as goal
 

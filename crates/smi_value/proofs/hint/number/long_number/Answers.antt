@@ -1,5 +1,4 @@
-use Rattle.std.proofs.lemmas.Grind.{common_steps}
-use Rattle.std.proofs.Common.{◌<◌, length, arith}
+use Rattle.std.proofs.{lemmas.Grind.common_steps, Common.◌<◌, Common.length, Common.arith}
 use Rattle.smi_value.proofs.Digits.{value_more, value_above}
 use Rattle.smi_value.proofs.hint.number.long_number.Goals as goal
 

@@ -1,5 +1,4 @@
-use Rattle.std.proofs.lemmas.Grind.{common_steps}
-use Rattle.std.proofs.Common.{arith, drop_of_length-le}
+use Rattle.std.proofs.{lemmas.Grind.common_steps, Common.arith, Common.drop_of_length-le}
 use Rattle.smi_value.proofs.Digits.{all_left, written_before, written_last}
 use Rattle.smi_value.proofs.hint.number.put_digits.Goals as goal
 

@@ -1,6 +1,4 @@
-use Rattle.std.proofs.Common.{arith}
-use Rattle.std.proofs.lemmas.Grind.{common_steps}
-use Rattle.std.proofs.lemmas.List.Folds.{length-prefix_len}
+use Rattle.std.proofs.{Common.arith, lemmas.Grind.common_steps, lemmas.List.Folds.length-prefix_len}
 use Rattle.smi_value.proofs.Digits.{front_is_digits}
 use Rattle.smi_value.proofs.hint.number.split_digits.Goals as goal
 

@@ -1,5 +1,4 @@
-use Rattle.std.proofs.Common.{arith}
-use Rattle.std.proofs.lemmas.Fmt.{decimal_digit}
+use Rattle.std.proofs.{Common.arith, lemmas.Fmt.decimal_digit}
 use Rattle.smi_value.proofs.Digits.{decimal_two, decimal_three}
 use Rattle.smi_value.proofs.hint.octets.append_marked_decimal.Goals as goal
 

@@ -1,6 +1,4 @@
-use Rattle.std.proofs.lemmas.Grind.{common_steps}
-use Rattle.std.proofs.Common.{arith, false}
-use Rattle.std.proofs.lemmas.Fmt.{hex_one_digit, hex_two_digits}
+use Rattle.std.proofs.{lemmas.Grind.common_steps, Common.arith, Common.false, lemmas.Fmt.hex_one_digit, lemmas.Fmt.hex_two_digits}
 use Rattle.smi_value.proofs.hint.octets.append_marked_hexadecimal.Goals as goal
 
 pub returns-then-octet-lt16 : goal.returns-then-octet-lt16

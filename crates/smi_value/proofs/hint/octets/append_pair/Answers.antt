@@ -1,5 +1,4 @@
-use Rattle.std.proofs.lemmas.Grind.{common_steps}
-use Rattle.std.proofs.Common.{arith}
+use Rattle.std.proofs.{lemmas.Grind.common_steps, Common.arith}
 use Rattle.smi_value.proofs.Digits.{hexadecimal_three, hexadecimal_four}
 use Rattle.smi_value.proofs.hint.octets.append_pair.Goals as goal
 

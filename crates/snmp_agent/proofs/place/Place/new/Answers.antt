@@ -1,6 +1,5 @@
 use Rattle.std.proofs.Common.{refl, subst}
-use Rattle.snmp_agent.specs.table.Pages.{AreBehind}
-use Rattle.snmp_agent.specs.table.Table.{MibView}
+use Rattle.snmp_agent.specs.{table.Pages.AreBehind, table.Table.MibView}
 use Rattle.snmp_agent.proofs.Standing.{place_past}
 use Rattle.snmp_agent.proofs.place.Place.new.Goals as goal
 

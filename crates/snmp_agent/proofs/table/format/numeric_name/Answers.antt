@@ -1,10 +1,8 @@
 use Rattle.std.proofs.Common.{arith, ◌≡◌, ◌≤◌, ℕ, List, length, Result, Ok, Err, OnOk, sym}
 use Rattle.std.proofs.lemmas.Grind.{common_steps}
 use Rattle.std.specs.Result.{is_ok}
-use Rattle.snmp_oid.specs.Numeric.{IsNumericName}
-use Rattle.snmp_oid.specs.declared.numeric.OidTextError.{OidTextError}
-use Rattle.snmp_agent.specs.table.Exact.{IsOnlyThere}
-use Rattle.snmp_agent.specs.table.Format.{IsName}
+use Rattle.snmp_oid.specs.{Numeric.IsNumericName, declared.numeric.OidTextError.OidTextError}
+use Rattle.snmp_agent.specs.{table.Exact.IsOnlyThere, table.Format.IsName}
 use Rattle.snmp_agent.proofs.table.format.numeric_name.Goals as goal
 
 only_name : (text o : List ℕ) (r : Result (Unit {0}) OidTextError) → OnOk r (IsNumericName text o) → OnOk r (length o ≤ 128)

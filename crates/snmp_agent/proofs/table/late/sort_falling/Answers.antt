@@ -1,8 +1,6 @@
-use Rattle.std.proofs.lemmas.Grind.{common_steps}
+use Rattle.std.proofs.{lemmas.Grind.common_steps, lemmas.List.drop_all, lemmas.List.take_all, lemmas.List.Sorted.length_permutation}
 use Rattle.std.proofs.Common.{◌≡◌, ◌++◌, ℕ, List, length, take, drop, arith, append-nil}
 use Rattle.std.specs.List.Sorted.{IsPermutation}
-use Rattle.std.proofs.lemmas.List.{drop_all, take_all}
-use Rattle.std.proofs.lemmas.List.Sorted.{length_permutation}
 use Rattle.snmp_agent.proofs.table.late.sort_falling.Goals as goal
 
 -- what a list holds once all of its slice was written

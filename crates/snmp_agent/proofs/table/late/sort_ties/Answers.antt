@@ -1,6 +1,4 @@
-use Rattle.std.proofs.Common.{arith}
-use Rattle.std.proofs.lemmas.Grind.{common_steps}
-use Rattle.std.proofs.lemmas.List.Sorted.{IsPermutation-put_mid, IsPermutation-trans}
+use Rattle.std.proofs.{Common.arith, lemmas.Grind.common_steps, lemmas.List.Sorted.IsPermutation-put_mid, lemmas.List.Sorted.IsPermutation-trans}
 use Rattle.snmp_agent.proofs.table.late.sort_ties.Goals as goal
 
 pub ties-preserved-then-sort_tie : goal.ties-preserved-then-sort_tie

@@ -1,13 +1,9 @@
 use Rattle.std.proofs.Common.{◌≡◌, ℕ, List, Some, true, false, sym, subst, ap}
 use Rattle.std.specs.Option.{option_map}
 use Rattle.snmp_wire.specs.Message.{Datum, VarBind, datum}
-use Rattle.snmp_agent.specs.table.Exact.{IsOnly, IsOnlyThere}
+use Rattle.snmp_agent.specs.{table.Exact.IsOnly, table.Exact.IsOnlyThere, table.Form.IsInstanceText, table.Format.IsNameIn, table.Text.IsValueText}
 use Rattle.snmp_agent.specs.private.table.Row.{datum_of, tag_text}
-use Rattle.snmp_agent.specs.table.Form.{IsInstanceText}
-use Rattle.snmp_agent.specs.table.Format.{IsNameIn}
-use Rattle.snmp_agent.specs.table.Text.{IsValueText}
-use Rattle.snmp_agent.proofs.Keeping.{instance_value, value_in_range}
-use Rattle.snmp_agent.proofs.table.line.instance.Given.{Over}
+use Rattle.snmp_agent.proofs.{Keeping.instance_value, Keeping.value_in_range, table.line.instance.Given.Over}
 use Rattle.snmp_agent.proofs.table.line.instance.Goals as goal
 use Rattle.snmp_agent.proofs.table.line.instance.Goals.{In-Some, In-Some-true}
 

@@ -1,7 +1,5 @@
-use Rattle.std.proofs.Common.{arith}
-use Rattle.std.proofs.lemmas.Grind.{common_steps}
-use Rattle.snmp_agent.specs.private.table.Row.{tag_text}
-use Rattle.snmp_agent.specs.table.Form.{IsRowForm}
+use Rattle.std.proofs.{Common.arith, lemmas.Grind.common_steps}
+use Rattle.snmp_agent.specs.{private.table.Row.tag_text, table.Form.IsRowForm}
 use Rattle.snmp_agent.proofs.Statements.{object_states, row_faults, row_states}
 use Rattle.snmp_agent.proofs.table.line.read_line.Goals as goal
 

@@ -1,7 +1,5 @@
-use Rattle.std.proofs.Common.{arith, ◌≡◌, subst}
-use Rattle.std.proofs.lemmas.Grind.{common_steps}
-use Rattle.snmp_agent.specs.table.Form.{IsTag}
-use Rattle.snmp_agent.specs.private.table.Row.{tag_text}
+use Rattle.std.proofs.{Common.arith, Common.◌≡◌, Common.subst, lemmas.Grind.common_steps}
+use Rattle.snmp_agent.specs.{table.Form.IsTag, private.table.Row.tag_text}
 use Rattle.snmp_agent.proofs.Cuts.{HasNoBar}
 use Rattle.snmp_agent.proofs.Statements.{tag_known, no_row_without_bar, no_row_with_one_bar, same_parts, row_parts}
 use Rattle.snmp_agent.proofs.table.line.row_form.Goals as goal

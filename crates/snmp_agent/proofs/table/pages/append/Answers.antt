@@ -1,7 +1,5 @@
-use Rattle.std.proofs.lemmas.Grind.{common_steps}
-use Rattle.std.proofs.Common.{arith}
-use Rattle.snmp_agent.proofs.Changing.{if_err}
-use Rattle.snmp_agent.proofs.Paging.{appended, appended_page, same_rows}
+use Rattle.std.proofs.{lemmas.Grind.common_steps, Common.arith}
+use Rattle.snmp_agent.proofs.{Changing.if_err, Paging.appended, Paging.appended_page, Paging.same_rows}
 use Rattle.snmp_agent.proofs.table.pages.append.Goals as goal
 
 pub returns-in_err-push-clause-unchanged_on_error : goal.returns-in_err-push-clause-unchanged_on_error

@@ -1,5 +1,4 @@
-use Rattle.std.proofs.Common.{◌<◌, ◌+◌, ℕ, length, ◌∙◌, ap, sym}
-use Rattle.std.proofs.lemmas.Option.{slice_get_within}
+use Rattle.std.proofs.{Common.◌<◌, Common.◌+◌, Common.ℕ, Common.length, Common.◌∙◌, Common.ap, Common.sym, lemmas.Option.slice_get_within}
 use Rattle.snmp_agent.specs.table.Pages.{ArePages, IsPageOf, IsPageWithRoom, entries_in}
 use Rattle.snmp_agent.proofs.Paging.{divided, same_rows, divided_rows, room_before, room_behind}
 use Rattle.snmp_agent.proofs.table.pages.divide.Goals as goal

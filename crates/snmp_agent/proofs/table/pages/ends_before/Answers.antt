@@ -1,7 +1,5 @@
-use Rattle.std.proofs.Common.{arith}
-use Rattle.std.proofs.lemmas.Grind.{common_steps}
-use Rattle.snmp_agent.proofs.Paging.{after_all}
-use Rattle.snmp_agent.proofs.Rising.{less_from_test}
+use Rattle.std.proofs.{Common.arith, lemmas.Grind.common_steps}
+use Rattle.snmp_agent.proofs.{Paging.after_all, Rising.less_from_test}
 use Rattle.snmp_agent.proofs.table.pages.ends_before.Goals as goal
 
 pub returns-clause-before : goal.returns-clause-before

@@ -1,7 +1,5 @@
-use Rattle.std.proofs.Common.{◌<◌, List, length, subst, refl, rules}
-use Rattle.std.proofs.lemmas.Option.{slice_get_read}
-use Rattle.snmp_agent.specs.declared.table.page.Page.{Page}
-use Rattle.snmp_agent.specs.table.Pages.{IsPageOf}
+use Rattle.std.proofs.{Common.◌<◌, Common.List, Common.length, Common.subst, Common.refl, Common.rules, lemmas.Option.slice_get_read}
+use Rattle.snmp_agent.specs.{declared.table.page.Page.Page, table.Pages.IsPageOf}
 use Rattle.snmp_agent.proofs.table.pages.page_with_room.Goals as goal
 
 pub returns-then-len-lt-PAGE_ROWS-clause-place : goal.returns-then-len-lt-PAGE_ROWS-clause-place

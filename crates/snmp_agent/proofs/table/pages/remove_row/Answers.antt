@@ -1,7 +1,6 @@
 use Rattle.std.proofs.Common.{arith, ◌≡◌, ◌<◌, ◌≤◌, length, Some, ◌∙◌, ap, sym, subst, rules}
 use Rattle.std.proofs.lemmas.Grind.{common_steps}
-use Rattle.snmp_agent.specs.declared.table.page.Page.{Page}
-use Rattle.snmp_agent.specs.table.Pages.{entries_in}
+use Rattle.snmp_agent.specs.{declared.table.page.Page.Page, table.Pages.entries_in}
 use Rattle.snmp_agent.proofs.Paging.{page_read, without_row_of, without_page}
 use Rattle.snmp_agent.proofs.table.pages.remove_row.Goals as goal
 

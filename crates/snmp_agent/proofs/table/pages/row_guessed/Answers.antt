@@ -1,12 +1,7 @@
-use Rattle.std.proofs.Common.{◌≡◌, List, ℕ, Some, length, subst, refl}
-use Rattle.std.specs.List.{slice_get}
-use Rattle.std.specs.Ordering.{nat_cmp}
-use Rattle.std.specs.Cmp.Lexicographic.{slice_cmp}
-use Rattle.std.specs.FinMap.{find}
-use Rattle.std.proofs.lemmas.Option.{slice_get_read}
+use Rattle.std.proofs.{Common.◌≡◌, Common.List, Common.ℕ, Common.Some, Common.length, Common.subst, Common.refl, lemmas.Option.slice_get_read}
+use Rattle.std.specs.{List.slice_get, Ordering.nat_cmp, Cmp.Lexicographic.slice_cmp, FinMap.find}
 use Rattle.snmp_agent.specs.table.Pages.{entries_in}
-use Rattle.snmp_agent.proofs.Changing.{same_named}
-use Rattle.snmp_agent.proofs.Paging.{found_in_page}
+use Rattle.snmp_agent.proofs.{Changing.same_named, Paging.found_in_page}
 use Rattle.snmp_agent.proofs.table.pages.row_guessed.Goals as goal
 
 pub returns-clause-name : goal.returns-clause-name

@@ -1,12 +1,9 @@
 use Rattle.std.proofs.Common.{arith, ◌≡◌, [], ◌∷◌, List, ℕ, true, false, Some, ◌∙◌, ap, sym, refl, Ordering, Less, Equal, Greater}
 use Rattle.std.proofs.lemmas.Grind.{common_steps}
-use Rattle.std.specs.List.{slice_get}
-use Rattle.std.specs.Ordering.{is_gt, is_le, nat_cmp}
-use Rattle.std.specs.Cmp.Lexicographic.{slice_cmp}
+use Rattle.std.specs.{List.slice_get, Ordering.is_gt, Ordering.is_le, Ordering.nat_cmp, Cmp.Lexicographic.slice_cmp}
 use Rattle.snmp_wire.specs.Message.{VarBind}
 use Rattle.snmp_agent.specs.table.Pages.{begins_up_to}
-use Rattle.snmp_agent.proofs.Lists.{last_of}
-use Rattle.snmp_agent.proofs.Rising.{same_name}
+use Rattle.snmp_agent.proofs.{Lists.last_of, Rising.same_name}
 use Rattle.snmp_agent.proofs.table.pages.stands_between.Goals as goal
 
 -- how a row compares

@@ -1,5 +1,4 @@
-use Rattle.std.proofs.lemmas.Grind.{common_steps}
-use Rattle.std.proofs.Common.{ℕ, ◌+◌, ◌-◌, ◌/◌, arith, sym, ◌∙◌}
+use Rattle.std.proofs.{lemmas.Grind.common_steps, Common.ℕ, Common.◌+◌, Common.◌-◌, Common.◌/◌, Common.arith, Common.sym, Common.◌∙◌}
 use Rattle.snmp_agent.proofs.Halving.{fails, met, passes}
 use Rattle.snmp_agent.proofs.table.search.count_between.Goals as goal
 

@@ -1,7 +1,6 @@
 use Rattle.std.proofs.Common.{◌≡◌, take, sym, ap, ◌∙◌}
 use Rattle.snmp_wire.specs.Message.{VarBind}
-use Rattle.snmp_agent.proofs.Lists.{IsLast}
-use Rattle.snmp_agent.proofs.Changing.{has_name_at, belongs_at, other_named, same_named}
+use Rattle.snmp_agent.proofs.{Lists.IsLast, Changing.has_name_at, Changing.belongs_at, Changing.other_named, Changing.same_named}
 use Rattle.snmp_agent.proofs.table.search.find_row.Goals as goal
 
 pub returns-in-Some-clause-found : goal.returns-in-Some-clause-found

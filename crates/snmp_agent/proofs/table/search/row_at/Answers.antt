@@ -1,5 +1,4 @@
-use Rattle.std.proofs.Common.{arith, ◌≡◌, ◌-◌, take, sym, ◌∙◌, ap}
-use Rattle.std.proofs.lemmas.Grind.{common_steps}
+use Rattle.std.proofs.{Common.arith, Common.◌≡◌, Common.◌-◌, Common.take, Common.sym, Common.◌∙◌, Common.ap, lemmas.Grind.common_steps}
 use Rattle.snmp_wire.specs.Message.{VarBind}
 use Rattle.snmp_agent.proofs.Changing.{belongs_at, has_name_at, name_found, no_name, other_named, same_named}
 use Rattle.snmp_agent.proofs.Lists.{IsLast}

@@ -1,5 +1,4 @@
-use Rattle.std.proofs.Common.{arith}
-use Rattle.std.proofs.lemmas.Grind.{common_steps}
+use Rattle.std.proofs.{Common.arith, lemmas.Grind.common_steps}
 use Rattle.snmp_agent.proofs.TextLines.{lines_first, lines_last}
 use Rattle.snmp_agent.proofs.table.split.split_line.Goals as goal
 

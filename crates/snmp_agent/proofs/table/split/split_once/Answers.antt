@@ -1,6 +1,5 @@
 use Rattle.std.proofs.Common.{◌≡◌, ◌+◌, ◌-◌, ℕ, List, length, drop, take, get_or, ◌++◌, ◌∷◌, add-one, sym, subst, arith, eq-eqb, length-drop}
-use Rattle.std.proofs.lemmas.Bool.{eqb-true}
-use Rattle.std.proofs.lemmas.List.{take_all}
+use Rattle.std.proofs.{lemmas.Bool.eqb-true, lemmas.List.take_all}
 use Rattle.snmp_agent.proofs.Splitting.{Cut, cut, others}
 use Rattle.snmp_agent.proofs.table.split.split_once.Goals as goal
 

@@ -1,7 +1,5 @@
 use Rattle.std.proofs.Common.{◌≡◌, ◌<◌, ◌+◌, ℕ, true, false, take, drop, map, sym, ◌∙◌, arith, below_more, refl, length}
-use Rattle.std.specs.List.{list_any}
-use Rattle.std.specs.Ordering.{nat_cmp, eq_by_cmp}
-use Rattle.std.specs.Cmp.Lexicographic.{slice_cmp}
+use Rattle.std.specs.{List.list_any, Ordering.nat_cmp, Ordering.eq_by_cmp, Cmp.Lexicographic.slice_cmp}
 use Rattle.std.proofs.lemmas.List.{take-append-drop}
 use Rattle.snmp_agent.proofs.Finding.{list_any-items, no_beginning}
 use Rattle.snmp_agent.proofs.table.table.has_beginning.Goals as goal

@@ -1,5 +1,4 @@
-use Rattle.std.proofs.lemmas.Grind.{common_steps, get_or_default_zero}
-use Rattle.std.proofs.Common.{arith}
+use Rattle.std.proofs.{lemmas.Grind.common_steps, lemmas.Grind.get_or_default_zero, Common.arith}
 use Rattle.hex.proofs.HexLemmas.{decode_of-ok, decode_of-same}
 use Rattle.snmp_agent.proofs.table.value.hexadecimal.Goals as goal
 

@@ -1,8 +1,5 @@
-use Rattle.std.proofs.Common.{arith, inl, refl}
-use Rattle.std.proofs.lemmas.Grind.{common_steps}
-use Rattle.snmp_tools.proofs.Serving.{counted}
-use Rattle.snmp_tools.proofs.Texts.{printed, stopped}
-use Rattle.snmp_tools.proofs.Wholes.{outcome_err}
+use Rattle.std.proofs.{Common.arith, Common.inl, Common.refl, lemmas.Grind.common_steps}
+use Rattle.snmp_tools.proofs.{Serving.counted, Texts.printed, Texts.stopped, Wholes.outcome_err}
 use Rattle.snmp_tools.proofs.agent.service.serve_at.Goals as goal
 
 pub returns-in_err-listening-clause-served : goal.returns-in_err-listening-clause-served

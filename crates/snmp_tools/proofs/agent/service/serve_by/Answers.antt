@@ -1,6 +1,5 @@
 use Rattle.std.proofs.Common.{◌∙◌, refl}
-use Rattle.snmp_tools.specs.agent.Outcome.{bound, not_bound, refused}
-use Rattle.snmp_tools.specs.Message.{fault_of}
+use Rattle.snmp_tools.specs.{agent.Outcome.bound, agent.Outcome.not_bound, agent.Outcome.refused, Message.fault_of}
 use Rattle.snmp_tools.proofs.Wholes.{outcome_err}
 use Rattle.snmp_tools.proofs.agent.service.serve_by.Goals as goal
 

@@ -1,9 +1,7 @@
 use Rattle.std.proofs.Common.{ap, inr, refl}
 use Rattle.snmp_words.specs.Words.{serve_words}
 use Rattle.snmp_tools.specs.agent.Outcome.{loaded, not_loaded}
-use Rattle.snmp_tools.specs.loading.Message.{refusal_of}
-use Rattle.snmp_tools.specs.Message.{fault_of, modules_fault}
-use Rattle.snmp_tools.specs.Seen.{seen}
+use Rattle.snmp_tools.specs.{loading.Message.refusal_of, Message.fault_of, Message.modules_fault, Seen.seen}
 use Rattle.snmp_tools.proofs.Serving.{by_names, modules_fail}
 use Rattle.snmp_tools.proofs.Wholes.{loads_from, loads_of, mibs_fail, outcome_as, outcome_err}
 use Rattle.snmp_tools.proofs.agent.service.serve_table.Goals as goal

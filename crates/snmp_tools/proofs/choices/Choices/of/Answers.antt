@@ -1,5 +1,4 @@
-use Rattle.std.proofs.Common.{arith}
-use Rattle.std.proofs.lemmas.Grind.{common_steps}
+use Rattle.std.proofs.{Common.arith, lemmas.Grind.common_steps}
 use Rattle.snmp_tools.proofs.choices.Choices.of.Goals as goal
 
 pub returns-in-Walk : goal.returns-in-Walk

@@ -1,8 +1,5 @@
 use Rattle.std.proofs.Common.{◌+◌, subst, sym}
-use Rattle.snmp_tools.specs.Lines.{ArePrinted}
-use Rattle.snmp_tools.specs.private.Planned.{mib_in}
-use Rattle.snmp_tools.specs.private.Start.{IsRunOver}
-use Rattle.snmp_tools.specs.declared.start.Begun.{Begun}
+use Rattle.snmp_tools.specs.{Lines.ArePrinted, private.Planned.mib_in, private.Start.IsRunOver, declared.start.Begun.Begun}
 use Rattle.snmp_tools.proofs.Printed.{are_printed, same_name}
 use Rattle.snmp_tools.proofs.lines.Printer.print.Goals as goal
 

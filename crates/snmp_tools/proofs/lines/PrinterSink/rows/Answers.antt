@@ -1,8 +1,7 @@
 use Rattle.std.proofs.Common.{◌≡◌, ◌∙◌, ◌++◌, ℕ, List, [], ◌∷◌, refl, sym, ap, append-nil, append_assoc}
 use Rattle.std.proofs.lemmas.Result.{err_from_is_err_and}
 use Rattle.snmp_wire.specs.Message.{VarBind, var_bind}
-use Rattle.snmp_tools.specs.private.Planned.{mib_in}
-use Rattle.snmp_tools.specs.declared.lines.Printer.{Printer}
+use Rattle.snmp_tools.specs.{private.Planned.mib_in, declared.lines.Printer.Printer}
 use Rattle.snmp_tools.proofs.Replies.{at_err, at_ok, given_if, next_line, refused_at, refused_if, refused_next}
 use Rattle.snmp_tools.proofs.lines.PrinterSink.rows.Given.{Over}
 use Rattle.snmp_tools.proofs.lines.PrinterSink.rows.Goals as goal

@@ -1,7 +1,6 @@
 use Rattle.std.proofs.Common.{◌≡◌, ◌∷◌, ◌++◌, List, length}
 use Rattle.snmp_wire.specs.Message.{VarBind}
-use Rattle.snmp_tools.specs.Lines.{AreLines}
-use Rattle.snmp_tools.specs.private.Planned.{mib_in}
+use Rattle.snmp_tools.specs.{Lines.AreLines, private.Planned.mib_in}
 use Rattle.snmp_tools.proofs.lines.PrinterSink.rows.Given as goal
 
 abbrev pub invariant-rows : goal.invariant-rows

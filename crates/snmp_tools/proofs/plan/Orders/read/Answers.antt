@@ -1,8 +1,6 @@
 use Rattle.std.proofs.Common.{refl}
-use Rattle.snmp_tools.specs.private.Chosen.{chosen}
-use Rattle.snmp_tools.specs.private.Planned.{ask_words}
-use Rattle.snmp_tools.proofs.Steps.{at_agent, at_choices, at_showing}
-use Rattle.snmp_tools.proofs.Wholes.{if_err}
+use Rattle.snmp_tools.specs.{private.Chosen.chosen, private.Planned.ask_words}
+use Rattle.snmp_tools.proofs.{Steps.at_agent, Steps.at_choices, Steps.at_showing, Wholes.if_err}
 use Rattle.snmp_tools.proofs.plan.Orders.read.Goals as goal
 
 pub returns-in_err-letters-clause-refused : goal.returns-in_err-letters-clause-refused

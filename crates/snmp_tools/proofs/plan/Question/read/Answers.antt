@@ -1,17 +1,12 @@
 use Rattle.std.proofs.Common.{arith, ◌≡◌, ℕ, List, Bor, Ok, inl, inr, refl, sym, option_map, subst}
 use Rattle.std.proofs.lemmas.Grind.{common_steps}
 use Rattle.smi_show.specs.name.Meant.{TextMeans}
-use Rattle.snmp_tools.specs.Asking.{NameFails}
-use Rattle.snmp_tools.specs.private.Chosen.{chosen}
-use Rattle.snmp_tools.specs.Message.{fault_of}
+use Rattle.snmp_tools.specs.{Asking.NameFails, private.Chosen.chosen, Message.fault_of, declared.failure.Failure.Failure}
+use Rattle.snmp_tools.specs.{declared.plan.Walk.Walk as PlannedWalk, declared.request.Request.Request}
 use Rattle.snmp_tools.specs.private.Planned.{HasTextsOf, NamesFail, mib_in, request_of}
 use Rattle.snmp_tools.specs.Question.{IsQuestionOf, IsWalkOf, Walk, subtree}
-use Rattle.snmp_tools.specs.declared.failure.Failure.{Failure}
 use Rattle.snmp_tools.specs.declared.plan.Question.TheVariants as planned
-use Rattle.snmp_tools.specs.declared.plan.Walk.{Walk as PlannedWalk}
-use Rattle.snmp_tools.specs.declared.request.Request.{Request}
-use Rattle.snmp_tools.proofs.Steps.{text_or}
-use Rattle.snmp_tools.proofs.Wholes.{if_err}
+use Rattle.snmp_tools.proofs.{Steps.text_or, Wholes.if_err}
 use Rattle.snmp_tools.proofs.plan.Question.read.Goals as goal
 
 pub returns-in_err-name-in-Walk-clause-refused : goal.returns-in_err-name-in-Walk-clause-refused

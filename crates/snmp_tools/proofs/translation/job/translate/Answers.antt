@@ -1,13 +1,10 @@
 use Rattle.std.proofs.Common.{◌≡◌, ◌∙◌, ℕ, List, Option, Bor, ap, inr, refl, subst}
-use Rattle.snmp_tools.specs.loading.Message.{refusal_of}
+use Rattle.snmp_tools.specs.{loading.Message.refusal_of, Message.fault_of, Message.modules_fault, Message.outcome_of, translation.Text.DetailMib}
 use Rattle.smi_text.specs.declared.trees.tree.Def.{Def}
 use Rattle.smi_show.specs.name.Naming.{Naming}
 use Rattle.snmp_words.specs.Words.{texts_at, translate_words}
-use Rattle.snmp_tools.specs.Message.{fault_of, modules_fault, outcome_of}
 use Rattle.snmp_tools.specs.translation.Outcome.{IsPrinting, ran, refused}
-use Rattle.snmp_tools.specs.translation.Text.{DetailMib}
-use Rattle.snmp_tools.proofs.Refusals.{modules_fail}
-use Rattle.snmp_tools.proofs.Wholes.{loads_from, loads_of, mibs_fail, outcome_as, outcome_err}
+use Rattle.snmp_tools.proofs.{Refusals.modules_fail, Wholes.loads_from, Wholes.loads_of, Wholes.mibs_fail, Wholes.outcome_as, Wholes.outcome_err}
 use Rattle.snmp_tools.proofs.translation.job.translate.Goals as goal
 
 pub returns-in_err-style : goal.returns-in_err-style

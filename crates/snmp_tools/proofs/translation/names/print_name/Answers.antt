@@ -1,13 +1,9 @@
-use Rattle.std.proofs.Common.{arith, ℕ, List, Ok, Err, Result, inl, inr}
-use Rattle.std.proofs.lemmas.Grind.{common_steps}
+use Rattle.std.proofs.{Common.arith, Common.ℕ, Common.List, Common.Ok, Common.Err, Common.Result, Common.inl, Common.inr, lemmas.Grind.common_steps}
 use Rattle.std.specs.Prelude.{IfErr, OnOk}
 use Rattle.snmp_io.specs.Output.{Stream}
-use Rattle.snmp_tools.specs.Lines.{IsTextPrinted}
-use Rattle.snmp_tools.specs.Message.{fault_of, outcome_of}
-use Rattle.snmp_tools.specs.declared.failure.Failure.{Failure}
-use Rattle.snmp_tools.specs.declared.translation.style.Style.{Style}
+use Rattle.snmp_tools.specs.{Lines.IsTextPrinted, Message.fault_of, Message.outcome_of, declared.failure.Failure.Failure}
+use Rattle.snmp_tools.specs.{declared.translation.style.Style.Style, translation.Text.DetailMib, translation.Text.IsTextOf}
 use Rattle.snmp_tools.specs.translation.Outcome.{IsNamePrinted, StopsAtName}
-use Rattle.snmp_tools.specs.translation.Text.{DetailMib, IsTextOf}
 use Rattle.snmp_tools.proofs.translation.names.print_name.Goals as goal
 
 module _ (mib : DetailMib) (style : Style) (before after : Stream) (name text : List ℕ) (is : IsTextOf mib style name text) where

@@ -1,13 +1,9 @@
 use Rattle.std.proofs.Common.{arith, [], List, ℕ, refl, subst, sym, take}
-use Rattle.std.proofs.lemmas.Grind.{common_steps}
-use Rattle.std.proofs.lemmas.List.{take_all}
+use Rattle.std.proofs.{lemmas.Grind.common_steps, lemmas.List.take_all}
 use Rattle.snmp_io.specs.Streams.{extended-nil}
 use Rattle.snmp_words.specs.Words.{texts_at}
-use Rattle.snmp_tools.specs.translation.Outcome.{AreNamesPrinted, IsPrinting}
-use Rattle.snmp_tools.specs.translation.Text.{DetailMib}
-use Rattle.snmp_tools.proofs.Printing.{more_printed, stopped_at}
-use Rattle.snmp_tools.proofs.Texts.{texts-more}
-use Rattle.snmp_tools.proofs.Wholes.{outcome_err}
+use Rattle.snmp_tools.specs.{translation.Outcome.AreNamesPrinted, translation.Outcome.IsPrinting, translation.Text.DetailMib}
+use Rattle.snmp_tools.proofs.{Printing.more_printed, Printing.stopped_at, Texts.texts-more, Wholes.outcome_err}
 use Rattle.snmp_tools.proofs.translation.names.print_names.Goals as goal
 
 pub names-init : goal.names-init

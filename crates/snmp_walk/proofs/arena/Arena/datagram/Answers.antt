@@ -1,10 +1,7 @@
 use Rattle.std.proofs.Common.{◌≡◌, ◌<◌, ◌≤◌, ◌+◌, ◌-◌, List, length, take, drop, refl, sym, ◌∙◌, ap, ℕ, arith, Some}
-use Rattle.std.proofs.lemmas.Bool.{ltb-true}
-use Rattle.std.proofs.lemmas.Option.{slice_get_read}
+use Rattle.std.proofs.{lemmas.Bool.ltb-true, lemmas.Option.slice_get_read}
 use Rattle.std.specs.List.{slice_get}
-use Rattle.snmp_walk.specs.declared.arena.Span.{Span}
-use Rattle.snmp_walk.specs.Arena.{Store, cut}
-use Rattle.snmp_walk.specs.Traffic.{datagram_at}
+use Rattle.snmp_walk.specs.{declared.arena.Span.Span, Arena.Store, Arena.cut, Traffic.datagram_at}
 use Rattle.snmp_walk.proofs.ArenaLemmas.{numbered, cut_found}
 use Rattle.snmp_walk.proofs.arena.Arena.datagram.Goals as goal
 

@@ -1,5 +1,4 @@
-use Rattle.std.proofs.Common.{arith}
-use Rattle.std.proofs.lemmas.Grind.{common_steps}
+use Rattle.std.proofs.{Common.arith, lemmas.Grind.common_steps}
 use Rattle.snmp_walk.proofs.ArenaLemmas.{cut-push}
 use Rattle.snmp_walk.proofs.arena.Arena.push.Goals as goal
 

@@ -1,5 +1,4 @@
-use Rattle.std.proofs.Common.{arith}
-use Rattle.std.proofs.lemmas.Grind.{common_steps}
+use Rattle.std.proofs.{Common.arith, lemmas.Grind.common_steps}
 use Rattle.snmp_walk.proofs.MemoryLemmas.{views_more}
 use Rattle.snmp_walk.proofs.memory.MemoryLink.changing.Goals as goal
 

@@ -1,5 +1,4 @@
-use Rattle.std.proofs.lemmas.Grind.{common_steps}
-use Rattle.std.proofs.Common.{arith}
+use Rattle.std.proofs.{lemmas.Grind.common_steps, Common.arith}
 use Rattle.snmp_walk.proofs.memory.MemoryLink.reserve.Goals as goal
 
 pub returns-clause-kept : goal.returns-clause-kept

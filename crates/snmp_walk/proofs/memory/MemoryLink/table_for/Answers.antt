@@ -1,6 +1,4 @@
-use Rattle.std.proofs.lemmas.Grind.{common_steps}
-use Rattle.std.proofs.Common.{◌<◌, length, ℕ, sym, subst, arith}
-use Rattle.std.proofs.lemmas.Bool.{ltb-true}
+use Rattle.std.proofs.{lemmas.Grind.common_steps, Common.◌<◌, Common.length, Common.ℕ, Common.sym, Common.subst, Common.arith, lemmas.Bool.ltb-true}
 use Rattle.snmp_walk.proofs.MemoryLemmas.{one_got, table_found}
 use Rattle.snmp_walk.proofs.memory.MemoryLink.table_for.Goals as goal
 

@@ -1,10 +1,9 @@
 use Rattle.std.proofs.Common.{◌≡◌, false, refl, sym, ◌∙◌, ap, subst, arith, List, ℕ, [], ◌∷◌}
 use Rattle.std.proofs.lemmas.Grind.{common_steps}
-use Rattle.snmp_walk.specs.declared.walker.Ending.TheVariants.{GoesOn}
+use Rattle.snmp_walk.specs.{declared.walker.Ending.TheVariants.GoesOn, Request.asked_for}
 use Rattle.snmp_walk.specs.private.Reading.{IsFrontOf, is_misplaced, name_or, read_front}
 use Rattle.snmp_walk.proofs.FrontLemmas.{front_ended, front_goes, front_done, none_misplaced}
 use Rattle.snmp_walk.proofs.walker.WalkCore.front.Goals as goal
-use Rattle.snmp_walk.specs.Request.{asked_for}
 
 pub returns-else-is_misplaced-clause-some : goal.returns-else-is_misplaced-clause-some
 returns-else-is_misplaced-clause-some c =

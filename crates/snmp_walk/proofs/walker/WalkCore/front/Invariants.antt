@@ -1,7 +1,6 @@
 use Rattle.std.proofs.Common.{◌≡◌, ◌+◌, ◌<◌, ◌^◌, length}
-use Rattle.snmp_walk.specs.private.Reading.{front_from, is_misplaced, name_or}
+use Rattle.snmp_walk.specs.{private.Reading.front_from, private.Reading.is_misplaced, private.Reading.name_or, Request.asked_for}
 use Rattle.snmp_walk.proofs.walker.WalkCore.front.Given as goal
-use Rattle.snmp_walk.specs.Request.{asked_for}
 
 abbrev pub invariant-bindings : goal.invariant-bindings
 invariant-bindings l =

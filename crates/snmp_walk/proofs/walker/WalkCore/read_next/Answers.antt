@@ -1,5 +1,4 @@
-use Rattle.std.proofs.Common.{arith}
-use Rattle.std.proofs.lemmas.Grind.{common_steps}
+use Rattle.std.proofs.{Common.arith, lemmas.Grind.common_steps}
 use Rattle.snmp_walk.proofs.FrontLemmas.{read_leaving}
 use Rattle.snmp_walk.proofs.walker.WalkCore.read_next.Goals as goal
 

@@ -1,15 +1,10 @@
-use Rattle.std.proofs.lemmas.Grind.{common_steps}
+use Rattle.std.proofs.{lemmas.Grind.common_steps, lemmas.Bool.false≢true, lemmas.Int.to_z_pos, lemmas.Int.to_z-of_z}
 use Rattle.std.proofs.Common.{rules, ◌≡◌, ◌≤◌, ◌+◌, [], length, arith, w32, to_z, of_z, pos, ap, ◌∙◌}
-use Rattle.std.proofs.lemmas.Bool.{false≢true}
-use Rattle.std.proofs.lemmas.Int.{to_z_pos, to_z-of_z}
-use Rattle.snmp_wire.specs.Canon.{canon, canon_head}
-use Rattle.snmp_wire.specs.Message.{Message}
-use Rattle.snmp_walk.specs.Request.{request_of}
-use Rattle.snmp_walk.specs.Walker.{Walker}
+use Rattle.snmp_wire.specs.{Canon.canon, Canon.canon_head, Message.Message}
+use Rattle.snmp_walk.specs.{Request.request_of, Walker.Walker}
 use Rattle.snmp_walk.proofs.AskingLemmas.{asking_short, request_made, request_size}
-use Rattle.snmp_walk.proofs.RequestLemmas.{request_short}
+use Rattle.snmp_walk.proofs.{RequestLemmas.request_short, walker.WalkCore.request_in.Goals.After-repetitions}
 use Rattle.snmp_walk.proofs.walker.WalkCore.request_in.Goals as goal
-use Rattle.snmp_walk.proofs.walker.WalkCore.request_in.Goals.{After-repetitions}
 
 -- the message of no bindings whose head is written
 abbrev bare : After-repetitions → Message

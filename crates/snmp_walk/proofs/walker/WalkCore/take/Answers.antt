@@ -1,11 +1,6 @@
 use Rattle.std.proofs.Common.{◌≡◌, ℕ, List, refl, inr, sym, ◌∙◌, ap}
-use Rattle.snmp_wire.specs.Message.{Message}
-use Rattle.snmp_wire.specs.Spelling.{Spells}
-use Rattle.snmp_walk.specs.private.Codec.{Codec}
-use Rattle.snmp_walk.specs.private.Course.{step_of}
-use Rattle.snmp_walk.specs.Judged.{MeansBy}
-use Rattle.snmp_walk.specs.private.Taken.{take_of}
-use Rattle.snmp_walk.specs.Walker.{Walker}
+use Rattle.snmp_wire.specs.{Message.Message, Spelling.Spells}
+use Rattle.snmp_walk.specs.{private.Codec.Codec, private.Course.step_of, Judged.MeansBy, private.Taken.take_of, Walker.Walker}
 use Rattle.snmp_walk.specs.declared.rows.Step.{Step}
 use Rattle.snmp_walk.proofs.JudgedLemmas.{means_by}
 use Rattle.snmp_walk.proofs.walker.WalkCore.take.Goals as goal

@@ -1,5 +1,4 @@
-use Rattle.std.proofs.Common.{arith}
-use Rattle.std.proofs.lemmas.Grind.{common_steps}
+use Rattle.std.proofs.{Common.arith, lemmas.Grind.common_steps}
 use Rattle.snmp_wire.proofs.NameOrder.{content_octets}
 use Rattle.snmp_wire.proofs.asking.NameBuffer.new.Goals as goal
 

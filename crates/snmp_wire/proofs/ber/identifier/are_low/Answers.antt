@@ -1,6 +1,4 @@
-use Rattle.std.proofs.lemmas.Grind.{common_steps}
-use Rattle.std.proofs.Common.{arith}
-use Rattle.std.proofs.lemmas.Bool.{eqb-true}
+use Rattle.std.proofs.{lemmas.Grind.common_steps, Common.arith, lemmas.Bool.eqb-true}
 use Rattle.snmp_wire.proofs.HighBits.{low_octets}
 use Rattle.snmp_wire.proofs.ber.identifier.are_low.Goals as goal
 

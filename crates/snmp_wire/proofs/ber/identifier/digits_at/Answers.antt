@@ -1,6 +1,4 @@
-use Rattle.std.proofs.lemmas.Grind.{common_steps}
-use Rattle.std.proofs.Common.{sym, ◌∙◌, arith}
-use Rattle.std.proofs.lemmas.List.{take_rest}
+use Rattle.std.proofs.{lemmas.Grind.common_steps, Common.sym, Common.◌∙◌, Common.arith, lemmas.List.take_rest}
 use Rattle.snmp_wire.proofs.IdentifierReading.{digit_is_large, digit_is_last, digit_goes_on, digits_end}
 use Rattle.snmp_wire.proofs.ber.identifier.digits_at.Goals as goal
 

@@ -1,6 +1,5 @@
 use Rattle.std.proofs.Common.{◌∙◌}
-use Rattle.snmp_wire.proofs.IdentifierReading.{digits_ok}
-use Rattle.snmp_wire.proofs.ReadingLaws.{never_err}
+use Rattle.snmp_wire.proofs.{IdentifierReading.digits_ok, ReadingLaws.never_err}
 use Rattle.snmp_wire.proofs.ber.identifier.digits_in.Goals as goal
 
 pub unreachable-requires : goal.unreachable-requires

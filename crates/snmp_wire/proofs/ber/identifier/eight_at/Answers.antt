@@ -1,5 +1,4 @@
-use Rattle.std.proofs.Common.{arith}
-use Rattle.std.proofs.lemmas.Grind.{common_steps}
+use Rattle.std.proofs.{Common.arith, lemmas.Grind.common_steps}
 use Rattle.snmp_wire.proofs.IdentifierReading.{plain_fronts}
 use Rattle.snmp_wire.proofs.ber.identifier.eight_at.Goals as goal
 

@@ -1,5 +1,4 @@
-use Rattle.std.proofs.Common.{arith}
-use Rattle.std.proofs.lemmas.Grind.{common_steps}
+use Rattle.std.proofs.{Common.arith, lemmas.Grind.common_steps}
 use Rattle.snmp_wire.proofs.IdentifierReading.{plain_front}
 use Rattle.snmp_wire.proofs.ber.identifier.four_at.Goals as goal
 

@@ -1,5 +1,4 @@
-use Rattle.std.proofs.lemmas.Grind.{common_steps}
-use Rattle.std.proofs.Common.{arith}
+use Rattle.std.proofs.{lemmas.Grind.common_steps, Common.arith}
 use Rattle.snmp_wire.proofs.IdentifierWriting.{plain_before, small_before}
 use Rattle.snmp_wire.proofs.ber.identifier.four_before.Goals as goal
 

@@ -1,5 +1,4 @@
-use Rattle.std.proofs.lemmas.Grind.{common_steps}
-use Rattle.std.proofs.Common.{arith}
+use Rattle.std.proofs.{lemmas.Grind.common_steps, Common.arith}
 use Rattle.snmp_wire.proofs.IdentifierWriting.{nine_counted, none_before}
 use Rattle.snmp_wire.proofs.ber.identifier.numbers_size.Goals as goal
 

@@ -1,5 +1,4 @@
-use Rattle.std.proofs.lemmas.Grind.{common_steps}
-use Rattle.std.proofs.Common.{arith, sym}
+use Rattle.std.proofs.{lemmas.Grind.common_steps, Common.arith, Common.sym}
 use Rattle.snmp_wire.proofs.IdentifierWriting.{content_is, length-canon_subidentifier, length-content}
 use Rattle.snmp_wire.proofs.WritingLaws.{writes_same, writes_then}
 use Rattle.snmp_wire.proofs.ber.identifier.put_identifier.Goals as goal

@@ -1,5 +1,4 @@
-use Rattle.std.proofs.lemmas.Grind.{common_steps}
-use Rattle.std.proofs.Common.{◌/◌, sym, arith}
+use Rattle.std.proofs.{lemmas.Grind.common_steps, Common.◌/◌, Common.sym, Common.arith}
 use Rattle.snmp_wire.proofs.IdentifierWriting.{length-canon_subidentifier, one_septet, subidentifier_short, size_some, subidentifier_three}
 use Rattle.snmp_wire.proofs.IdentifierWriting.{subidentifier_two, two_septets, writes_subidentifier}
 use Rattle.snmp_wire.proofs.WritingLaws.{writes_same, writes_then}

@@ -1,5 +1,4 @@
-use Rattle.std.proofs.Common.{arith}
-use Rattle.std.proofs.lemmas.Grind.{common_steps}
+use Rattle.std.proofs.{Common.arith, lemmas.Grind.common_steps}
 use Rattle.snmp_wire.proofs.IdentifierReading.{read_some, subidentifier_plain, subidentifier_longer, subidentifier_of_two, subidentifier_longest}
 use Rattle.snmp_wire.proofs.IdentifierReading.{subidentifier_of_three}
 use Rattle.snmp_wire.proofs.ber.identifier.subidentifier_in.Goals as goal

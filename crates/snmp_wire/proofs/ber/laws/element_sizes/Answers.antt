@@ -1,5 +1,4 @@
-use Rattle.std.proofs.Common.{arith}
-use Rattle.std.proofs.lemmas.Grind.{common_steps}
+use Rattle.std.proofs.{Common.arith, lemmas.Grind.common_steps}
 use Rattle.snmp_wire.proofs.CanonLemmas.{count_rises, digit_some, length-canon_length_long, length-canon_length_short, length-from_zero, length_rises}
 use Rattle.snmp_wire.proofs.ElementLaws.{length-canon_element, length-canon_header}
 use Rattle.snmp_wire.proofs.ber.laws.element_sizes.Goals as goal

@@ -1,7 +1,6 @@
 use Rattle.std.proofs.Common.{ap, sym, ◌∙◌, ◌∷◌, ◌+◌}
 use Rattle.snmp_wire.specs.ber.Canon.{octets}
-use Rattle.snmp_wire.proofs.CanonLemmas.{canon_length_long}
-use Rattle.snmp_wire.proofs.WritingLaws.{writes_same, writes_then}
+use Rattle.snmp_wire.proofs.{CanonLemmas.canon_length_long, WritingLaws.writes_same, WritingLaws.writes_then}
 use Rattle.snmp_wire.proofs.ber.length.put_length.Goals as goal
 
 pub returns-else-size-lt128 : goal.returns-else-size-lt128

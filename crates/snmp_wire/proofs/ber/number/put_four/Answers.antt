@@ -1,6 +1,5 @@
 use Rattle.std.proofs.Common.{◌∙◌}
-use Rattle.snmp_wire.proofs.CanonLemmas.{four_octets}
-use Rattle.snmp_wire.proofs.WritingLaws.{writes_same}
+use Rattle.snmp_wire.proofs.{CanonLemmas.four_octets, WritingLaws.writes_same}
 use Rattle.snmp_wire.proofs.ber.number.put_four.Goals as goal
 
 pub returns : goal.returns

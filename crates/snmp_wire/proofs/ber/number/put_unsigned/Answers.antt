@@ -1,7 +1,6 @@
 use Rattle.std.proofs.Common.{ap, ◌∙◌}
 use Rattle.snmp_wire.specs.ber.Canon.{octets}
-use Rattle.snmp_wire.proofs.CanonLemmas.{octets_from_zero}
-use Rattle.snmp_wire.proofs.WritingLaws.{writes_same}
+use Rattle.snmp_wire.proofs.{CanonLemmas.octets_from_zero, WritingLaws.writes_same}
 use Rattle.snmp_wire.proofs.ber.number.put_unsigned.Goals as goal
 
 pub returns : goal.returns

@@ -1,5 +1,4 @@
-use Rattle.std.proofs.lemmas.Grind.{common_steps}
-use Rattle.std.proofs.Common.{arith}
+use Rattle.std.proofs.{lemmas.Grind.common_steps, Common.arith}
 use Rattle.snmp_wire.proofs.Digits.{number_of-more, octet_more, octet_fits}
 use Rattle.snmp_wire.proofs.ber.number.unsigned.Goals as goal
 

@@ -1,5 +1,4 @@
-use Rattle.std.proofs.Common.{lit<, arith}
-use Rattle.std.proofs.Math.Nat.{pow-le-pow_right}
+use Rattle.std.proofs.{Common.lit<, Common.arith, Math.Nat.pow-le-pow_right}
 use Rattle.snmp_wire.proofs.ber.number.unsigned32.Goals as goal
 
 pub overflow_cast-result : goal.overflow_cast-result

@@ -1,5 +1,4 @@
-use Rattle.std.proofs.lemmas.Grind.{common_steps}
-use Rattle.std.proofs.Common.{arith}
+use Rattle.std.proofs.{lemmas.Grind.common_steps, Common.arith}
 use Rattle.snmp_wire.proofs.CanonLemmas.{size_of_bits, size_one}
 use Rattle.snmp_wire.proofs.ber.number.unsigned_size.Goals as goal
 

@@ -1,5 +1,4 @@
-use Rattle.std.proofs.Common.{arith}
-use Rattle.std.proofs.lemmas.Grind.{common_steps}
+use Rattle.std.proofs.{Common.arith, lemmas.Grind.common_steps}
 use Rattle.snmp_wire.specs.ber.Reading.{integer_of, typed_value}
 use Rattle.snmp_wire.proofs.ber.value.check_value.Goals as goal
 

@@ -1,5 +1,4 @@
-use Rattle.snmp_wire.specs.ber.Canon.{canon_content}
-use Rattle.snmp_wire.specs.ber.Value.{object_id}
+use Rattle.snmp_wire.specs.{ber.Canon.canon_content, ber.Value.object_id}
 use Rattle.snmp_wire.proofs.ElementLaws.{content_fits, header_fits, writes_element}
 use Rattle.snmp_wire.proofs.ber.value.put_object_id.Goals as goal
 

@@ -1,10 +1,8 @@
-use Rattle.std.proofs.Common.{arith, sym, ◌∙◌}
-use Rattle.std.proofs.lemmas.Grind.{common_steps}
+use Rattle.std.proofs.{Common.arith, Common.sym, Common.◌∙◌, lemmas.Grind.common_steps}
 use Rattle.snmp_wire.specs.Reading.{fields}
-use Rattle.snmp_wire.proofs.ReadingLaws.{some_left, none_left}
+use Rattle.snmp_wire.proofs.{ReadingLaws.some_left, ReadingLaws.none_left, binding.Bindings.next_ref.Goals.After-fields_in}
 use Rattle.snmp_wire.proofs.MessageLaws.{BeginsWithBinding, bindings_in_end, stands, with_fields}
 use Rattle.snmp_wire.proofs.binding.Bindings.next_ref.Goals as goal
-use Rattle.snmp_wire.proofs.binding.Bindings.next_ref.Goals.{After-fields_in}
 
 pub returns-then-is_empty-clause-none : goal.returns-then-is_empty-clause-none
 returns-then-is_empty-clause-none c = grind (arith, common_steps, bindings_in_end, none_left)

@@ -1,8 +1,6 @@
-use Rattle.std.proofs.Common.{arith, sym, ◌∙◌}
-use Rattle.std.proofs.lemmas.Grind.{common_steps}
+use Rattle.std.proofs.{Common.arith, Common.sym, Common.◌∙◌, lemmas.Grind.common_steps}
 use Rattle.snmp_wire.specs.Reading.{fields}
-use Rattle.snmp_wire.proofs.ReadingLaws.{some_left, none_left}
-use Rattle.snmp_wire.proofs.MessageLaws.{stands, bindings_in_end}
+use Rattle.snmp_wire.proofs.{ReadingLaws.some_left, ReadingLaws.none_left, MessageLaws.stands, MessageLaws.bindings_in_end}
 use Rattle.snmp_wire.proofs.binding.Bindings.read_next.Goals as goal
 
 pub returns-then-is_empty-clause-none : goal.returns-then-is_empty-clause-none

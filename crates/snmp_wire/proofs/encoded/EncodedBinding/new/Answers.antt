@@ -1,7 +1,5 @@
-use Rattle.std.proofs.Common.{arith}
-use Rattle.std.proofs.lemmas.Grind.{common_steps}
-use Rattle.snmp_wire.specs.Encoded.{octets_of}
-use Rattle.snmp_wire.specs.Message.{datum}
+use Rattle.std.proofs.{Common.arith, lemmas.Grind.common_steps}
+use Rattle.snmp_wire.specs.{Encoded.octets_of, Message.datum}
 use Rattle.snmp_wire.proofs.Kept.{encodable, is_kept, read_again}
 use Rattle.snmp_wire.proofs.encoded.EncodedBinding.new.Goals as goal
 

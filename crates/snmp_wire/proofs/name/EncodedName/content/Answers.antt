@@ -1,7 +1,5 @@
-use Rattle.std.proofs.lemmas.Grind.{common_steps}
-use Rattle.std.proofs.Common.{arith}
-use Rattle.snmp_wire.proofs.Digits.{octets_by}
-use Rattle.snmp_wire.proofs.NameOrder.{canonical, content_short, is_name}
+use Rattle.std.proofs.{lemmas.Grind.common_steps, Common.arith}
+use Rattle.snmp_wire.proofs.{Digits.octets_by, NameOrder.canonical, NameOrder.content_short, NameOrder.is_name}
 use Rattle.snmp_wire.proofs.name.EncodedName.content.Goals as goal
 
 pub returns-clause-encodes : goal.returns-clause-encodes

@@ -1,13 +1,9 @@
 use Rattle.std.proofs.Common.{arith, ◌≡◌, ◌-◌, length, take, drop, Ok, sym, ◌∙◌}
 use Rattle.std.proofs.lemmas.Grind.{common_steps}
 use Rattle.snmp_wire.specs.ber.Reading.{identifier_of}
-use Rattle.snmp_wire.proofs.ReadingLaws.{is_ok_at, ok_is}
-use Rattle.snmp_wire.proofs.IdentifierReading.{identifier_again}
-use Rattle.snmp_wire.proofs.NameOrder.{content_short}
-use Rattle.snmp_wire.proofs.IdentifierWriting.{is_object_id}
-use Rattle.snmp_wire.proofs.WritingLemmas.{written_to_end}
+use Rattle.snmp_wire.proofs.{ReadingLaws.is_ok_at, ReadingLaws.ok_is, IdentifierReading.identifier_again, NameOrder.content_short}
+use Rattle.snmp_wire.proofs.{IdentifierWriting.is_object_id, WritingLemmas.written_to_end, name.EncodedName.write.Goals.After-put_identifier-start}
 use Rattle.snmp_wire.proofs.name.EncodedName.write.Goals as goal
-use Rattle.snmp_wire.proofs.name.EncodedName.write.Goals.{After-put_identifier-start}
 
 pub put_identifier-start-requires-clause-room : goal.put_identifier-start-requires-clause-room
 put_identifier-start-requires-clause-room c = content_short c.args.name.now c.as_slice-numbers.ensures.at_most_128

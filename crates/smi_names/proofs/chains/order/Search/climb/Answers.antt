@@ -1,10 +1,7 @@
 -- A place is met: the path goes on by it, and fewer places are new.
-use Rattle.std.proofs.lemmas.Grind.{common_steps}
+use Rattle.std.proofs.{lemmas.Grind.common_steps, lemmas.List.get_or-set_same, lemmas.List.get_or-set_other, lemmas.Bool.cases_eq}
 use Rattle.std.proofs.Common.{rules, ◌≡◌, ◌≢◌, ℕ, ◌<◌, inl, inr, List, [], ◌∷◌, ◌++◌, Some, set, length, arith, sym}
-use Rattle.std.proofs.lemmas.List.{get_or-set_same, get_or-set_other}
-use Rattle.std.proofs.lemmas.Bool.{cases_eq}
-use Rattle.smi_names.specs.private.chains.Search.{Leads, mark_at}
-use Rattle.smi_names.specs.declared.chains.order.Mark.{Mark}
+use Rattle.smi_names.specs.{private.chains.Search.Leads, private.chains.Search.mark_at, declared.chains.order.Mark.Mark}
 use Rattle.smi_names.specs.declared.chains.order.Mark.TheVariants as M
 use Rattle.smi_names.proofs.Climbing.{news-set, Keeps-met, Leads-push}
 use Rattle.smi_names.proofs.chains.order.Search.climb.Goals as goal

@@ -1,10 +1,7 @@
 -- A new place is settled; one that is reached stays so.
 use Rattle.std.proofs.Common.{arith, rules, ◌≡◌, ◌≢◌, ℕ, ◌<◌, List, [], ◌∷◌, ◌++◌, set, length}
-use Rattle.std.proofs.lemmas.Grind.{common_steps}
-use Rattle.std.proofs.lemmas.List.{get_or-set_same, get_or-set_other}
-use Rattle.std.proofs.lemmas.Bool.{cases_eq}
-use Rattle.smi_names.specs.private.chains.Search.{mark_at}
-use Rattle.smi_names.specs.declared.chains.order.Mark.{Mark}
+use Rattle.std.proofs.{lemmas.Grind.common_steps, lemmas.List.get_or-set_same, lemmas.List.get_or-set_other, lemmas.Bool.cases_eq}
+use Rattle.smi_names.specs.{private.chains.Search.mark_at, declared.chains.order.Mark.Mark}
 use Rattle.smi_names.specs.declared.chains.order.Mark.TheVariants as M
 use Rattle.smi_names.proofs.Climbing.{Keeps-alone}
 use Rattle.smi_names.proofs.chains.order.Search.settle.Goals as goal

@@ -1,11 +1,8 @@
 -- A path is left where it leads back, and else its last place is settled, again and again.
-use Rattle.std.proofs.lemmas.Grind.{common_steps}
+use Rattle.std.proofs.{lemmas.Grind.common_steps, lemmas.List.get_or-set_same, lemmas.List.get_or-set_other, lemmas.Bool.cases_eq}
 use Rattle.std.proofs.Common.{rules, ◌≡◌, ◌≢◌, ℕ, ◌<◌, List, [], ◌∷◌, ◌++◌, Some, set, length, arith}
-use Rattle.std.proofs.lemmas.List.{get_or-set_same, get_or-set_other}
 use Rattle.std.proofs.lemmas.List.Elements.{All-contains, Contains-push}
-use Rattle.std.proofs.lemmas.Bool.{cases_eq}
-use Rattle.smi_names.specs.private.chains.Search.{mark_at}
-use Rattle.smi_names.specs.declared.chains.order.Mark.{Mark}
+use Rattle.smi_names.specs.{private.chains.Search.mark_at, declared.chains.order.Mark.Mark}
 use Rattle.smi_names.specs.declared.chains.order.Mark.TheVariants as M
 use Rattle.smi_names.proofs.Climbing.{Keeps-settled, Leads-settled, Leads-pop, Keeps-left, IsSettled-stopped}
 use Rattle.smi_names.proofs.chains.order.Search.visit.Goals as goal

@@ -2,10 +2,8 @@
 use Rattle.std.proofs.Common.{rules, ◌≡◌, ◌<◌, length, get_or, replicate, None, refl, ◌∙◌}
 use Rattle.std.proofs.lemmas.List.{length-set, take_all, length-replicate, get_or_default}
 use Rattle.std.proofs.lemmas.List.Elements.{All-get_or}
-use Rattle.smi_names.specs.chains.Order.{next_at}
-use Rattle.smi_names.specs.meaning.Along.{MeansAt}
-use Rattle.smi_names.proofs.Filling.{Fills-start, Fills-step, filled}
-use Rattle.smi_names.proofs.Leading.{none_past, far_of, are_meant}
+use Rattle.smi_names.specs.{chains.Order.next_at, meaning.Along.MeansAt}
+use Rattle.smi_names.proofs.{Filling.Fills-start, Filling.Fills-step, Filling.filled, Leading.none_past, Leading.far_of, Leading.are_meant}
 use Rattle.smi_names.proofs.meaning.entries.Entries.along.Goals as goal
 
 pub places-init : goal.places-init

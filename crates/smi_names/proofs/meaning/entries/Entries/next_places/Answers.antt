@@ -1,7 +1,5 @@
 -- The entries' next places, by names.
-use Rattle.std.proofs.Common.{arith}
-use Rattle.std.proofs.lemmas.Grind.{common_steps}
-use Rattle.std.proofs.lemmas.Result.{IfOk-weaker}
+use Rattle.std.proofs.{Common.arith, lemmas.Grind.common_steps, lemmas.Result.IfOk-weaker}
 use Rattle.smi_names.proofs.Leading.{are_next, keeps_imports}
 use Rattle.smi_names.proofs.meaning.entries.Entries.next_places.Goals as goal
 

@@ -1,6 +1,5 @@
 -- The entries' next places, by names.
-use Rattle.std.proofs.Common.{arith}
-use Rattle.std.proofs.lemmas.Grind.{common_steps}
+use Rattle.std.proofs.{Common.arith, lemmas.Grind.common_steps}
 use Rattle.smi_names.proofs.Leading.{are_next}
 use Rattle.smi_names.proofs.meaning.entries.Entries.parents.Goals as goal
 

@@ -1,9 +1,6 @@
 -- The place of a name has what decides it.
-use Rattle.std.proofs.Common.{◌≡◌, sym, ◌∙◌}
-use Rattle.smi_names.specs.meaning.Meaning.{QualifiedName}
-use Rattle.smi_names.specs.meaning.Directory.{place_by}
-use Rattle.smi_names.specs.meaning.Scopes.{content_of}
-use Rattle.std.proofs.lemmas.Option.{slice_get-map}
+use Rattle.std.proofs.{Common.◌≡◌, Common.sym, Common.◌∙◌, lemmas.Option.slice_get-map}
+use Rattle.smi_names.specs.{meaning.Meaning.QualifiedName, meaning.Directory.place_by, meaning.Scopes.content_of}
 use Rattle.smi_names.proofs.Equating.{entry_at}
 use Rattle.smi_names.proofs.meaning.entries.Entries.place.Goals as goal
 

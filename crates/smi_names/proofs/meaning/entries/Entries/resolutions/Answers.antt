@@ -1,14 +1,11 @@
 -- The order's places are filled in one after the other, each by a resolution of the list.
 use Rattle.std.proofs.Common.{rules, inl, ◌≡◌, ◌<◌, ◌∷◌, [], length, replicate, get_or, refl, sym, ◌∙◌, arith}
 use Rattle.std.proofs.lemmas.List.{length-set, length-map, take_all, length-replicate}
-use Rattle.std.proofs.lemmas.Bool.{eqb-true}
-use Rattle.std.proofs.lemmas.List.Elements.{All-get_or, All-replicate}
+use Rattle.std.proofs.{lemmas.Bool.eqb-true, lemmas.List.Elements.All-get_or, lemmas.List.Elements.All-replicate}
 use Rattle.std.specs.List.{slice_get}
-use Rattle.smi_names.specs.chains.Order.{next_at}
+use Rattle.smi_names.specs.{chains.Order.next_at, chains.Shared.shared, meaning.Parents.origin_here}
 use Rattle.smi_names.specs.chains.Resolving.{resolution_at, resolution_by, far_at}
-use Rattle.smi_names.specs.chains.Shared.{shared}
 use Rattle.smi_names.specs.declared.chains.resolution.Resolution.TheVariants as R
-use Rattle.smi_names.specs.meaning.Parents.{origin_here}
 use Rattle.smi_names.proofs.Filling.{Fills-start, Fills-step, filled}
 use Rattle.smi_names.proofs.Resolving.{ResolvesAt, beyond_comes, resolves_step, are_resolved}
 use Rattle.smi_names.proofs.Sharing.{shared-grown, AreWithin-grown, HasReasons-grown, shared-start}

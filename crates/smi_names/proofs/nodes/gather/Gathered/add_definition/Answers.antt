@@ -2,19 +2,13 @@
 use Rattle.std.proofs.Common.{arith, rules, ◌≡◌, true, false, List, length, Option, Some, None, Result, Ok, Err, OnOk, is_some, refl, sym}
 use Rattle.std.proofs.lemmas.Grind.{common_steps}
 use Rattle.std.specs.declared.alloc.AllocError.{AllocError}
-use Rattle.smi_names.specs.chains.Chain.{here}
-use Rattle.smi_names.specs.chains.Resolution.{ComesTo}
-use Rattle.smi_names.specs.declared.chains.resolution.Resolution.{Resolution}
+use Rattle.smi_names.specs.{chains.Chain.here, chains.Resolution.ComesTo, declared.chains.resolution.Resolution.Resolution, meaning.Meaning.origin}
+use Rattle.smi_names.specs.{declared.nodes.source.Source.Source, declared.nodes.gather.Gathered.Gathered}
 use Rattle.smi_names.specs.declared.chains.resolution.Resolution.TheVariants as R
 use Rattle.smi_text.specs.declared.trees.tree.Module.{Module}
-use Rattle.smi_text.specs.declared.trees.tree.Def.{Def}
-use Rattle.smi_text.specs.declared.trees.tree.Part.{Part}
-use Rattle.smi_text.specs.trees.Lookup.{identifier_value_of}
-use Rattle.smi_names.specs.meaning.Meaning.{origin}
+use Rattle.smi_text.specs.{declared.trees.tree.Def.Def, declared.trees.tree.Part.Part, trees.Lookup.identifier_value_of}
 use Rattle.smi_names.specs.nodes.Gathered.{GrowsByDefinition, AddsDefinition, IsSourceOf}
-use Rattle.smi_names.specs.declared.nodes.source.Source.{Source}
 use Rattle.smi_names.specs.declared.nodes.source.Source.TheVariants as S
-use Rattle.smi_names.specs.declared.nodes.gather.Gathered.{Gathered}
 use Rattle.smi_names.proofs.Gathering.{AddsDefinition-by, AddsDefinition-none, IsSourceOf-definition}
 use Rattle.smi_names.proofs.nodes.gather.Gathered.add_definition.Goals as goal
 

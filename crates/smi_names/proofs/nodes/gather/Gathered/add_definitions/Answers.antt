@@ -1,8 +1,6 @@
 -- One definition more.
 use Rattle.std.proofs.Common.{arith, rules, ◌≡◌, ◌+◌, ◌<◌, [], ◌∷◌, ◌++◌, length, take, refl, sym, ◌∙◌}
-use Rattle.std.proofs.lemmas.Grind.{common_steps}
-use Rattle.std.proofs.lemmas.List.{take_more}
-use Rattle.std.proofs.lemmas.Option.{slice_get_read}
+use Rattle.std.proofs.{lemmas.Grind.common_steps, lemmas.List.take_more, lemmas.Option.slice_get_read}
 use Rattle.smi_names.proofs.Gathering.{AddsDefinitions-none, AddsDefinitions-more}
 use Rattle.smi_names.proofs.nodes.gather.Gathered.add_definitions.Goals as goal
 

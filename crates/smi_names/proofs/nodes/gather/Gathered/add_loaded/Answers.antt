@@ -1,6 +1,5 @@
 -- Warnings of imports alone are added, and then what the definitions give.
-use Rattle.std.proofs.Common.{arith, refl, take}
-use Rattle.std.proofs.lemmas.Grind.{common_steps}
+use Rattle.std.proofs.{Common.arith, Common.refl, Common.take, lemmas.Grind.common_steps}
 use Rattle.smi_names.specs.declared.nodes.gather.Gathered.{Gathered}
 use Rattle.smi_names.proofs.Gathering.{AddsModule-loaded, named_first}
 use Rattle.smi_names.proofs.nodes.gather.Gathered.add_loaded.Goals as goal

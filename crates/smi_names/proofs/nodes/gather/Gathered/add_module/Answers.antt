@@ -1,8 +1,7 @@
 -- A warning alone is added for a name that is loaded.
 use Rattle.std.proofs.Common.{rules, ◌≡◌, ◌++◌, ◌∷◌, [], refl, take, true}
-use Rattle.smi_names.specs.declared.nodes.gather.Gathered.{Gathered}
+use Rattle.smi_names.specs.{declared.nodes.gather.Gathered.Gathered, nodes.Nodes.is_loaded}
 use Rattle.smi_names.specs.declared.nodes.warning.Warning.TheVariants as W
-use Rattle.smi_names.specs.nodes.Nodes.{is_loaded}
 use Rattle.smi_names.proofs.Gathering.{AddsModule-left_out}
 use Rattle.smi_names.proofs.nodes.gather.Gathered.add_module.Goals as goal
 

@@ -1,9 +1,6 @@
-use Rattle.std.proofs.lemmas.Grind.{common_steps}
+use Rattle.std.proofs.{lemmas.Grind.common_steps, lemmas.Bool.eqb-true}
 use Rattle.std.proofs.Common.{◌≡◌, ◌<◌, ◌+◌, sym, ap, List, [], ◌∷◌, Err, Ok, length, subst, arith, take, eq-eqb}
-use Rattle.std.proofs.lemmas.Bool.{eqb-true}
-use Rattle.smi_text.specs.lexer.Token.{Item}
-use Rattle.smi_text.specs.lexer.Lexeme.{IsLexeme, lexeme}
-use Rattle.smi_text.specs.lexer.Reading.{items_at}
+use Rattle.smi_text.specs.{lexer.Token.Item, lexer.Lexeme.IsLexeme, lexer.Lexeme.lexeme, lexer.Reading.items_at}
 use Rattle.smi_text.proofs.ItemsLemmas.{items-empty, items-nothing, next_ends, next_faults, next_gives_token}
 use Rattle.smi_text.proofs.PartLaws.{part_is}
 use Rattle.smi_text.proofs.lexer.lexer.LexerIterator.next.Goals as goal

@@ -2,15 +2,9 @@
 use Rattle.std.proofs.Common.{rules, ◌≡◌, ℕ, zero, suc, Bool, true, false, cond, List, [], ◌∷◌, ◌++◌, Option, Some, None, All, Contains, get_or, refl}
 use Rattle.std.proofs.Common.{sym, ◌∙◌, arith, eqb-true}
 use Rattle.std.proofs.lemmas.List.Elements.{All-head, All-tail}
-use Rattle.std.specs.List.{filter_map}
-use Rattle.std.specs.List.Sorted.{IsStrictlySortedBy}
-use Rattle.std.specs.Ordering.{nat_cmp}
-use Rattle.std.specs.Cmp.{unsigned_ties}
-use Rattle.std.specs.Map.{lookup, keys_of}
-use Rattle.std.specs.BTreeMap.{is_at}
-use Rattle.smi_tree.specs.branches.Standing.{place_of, AreChildren}
+use Rattle.std.specs.{List.filter_map, List.Sorted.IsStrictlySortedBy, Ordering.nat_cmp, Cmp.unsigned_ties, Map.lookup, Map.keys_of, BTreeMap.is_at}
+use Rattle.smi_tree.specs.{branches.Standing.place_of, branches.Standing.AreChildren, declared.branches.branch.Branch.Branch}
 use Rattle.smi_tree.specs.branches.Branches.{branch_of, standing_at, AreBranchesOf}
-use Rattle.smi_tree.specs.declared.branches.branch.Branch.{Branch}
 use Rattle.smi_tree.proofs.Branching.{place_off}
 use Rattle.smi_tree.proofs.branches.identifiers.Identifiers.children.Goals as goal
 

@@ -1,6 +1,5 @@
 -- What no branch leads to is none of the identifiers.
-use Rattle.std.proofs.Common.{arith}
-use Rattle.std.proofs.lemmas.Grind.{common_steps}
+use Rattle.std.proofs.{Common.arith, lemmas.Grind.common_steps}
 use Rattle.smi_tree.proofs.Branching.{place_off}
 use Rattle.smi_tree.proofs.branches.identifiers.Identifiers.find_numbers.Goals as goal
 

@@ -1,10 +1,8 @@
 -- No number follows the branch where the place stands.
 use Rattle.std.proofs.Common.{rules, ◌≡◌, ℕ, [], Some, None, IfSome, length, refl, sym}
 use Rattle.std.specs.List.{slice_get}
-use Rattle.std.proofs.lemmas.List.{nil_from_length}
-use Rattle.std.proofs.lemmas.Option.{slice_get_read}
-use Rattle.smi_tree.specs.branches.Standing.{oid_at}
-use Rattle.smi_tree.specs.branches.Branches.{follower, standing_at}
+use Rattle.std.proofs.{lemmas.List.nil_from_length, lemmas.Option.slice_get_read}
+use Rattle.smi_tree.specs.{branches.Standing.oid_at, branches.Branches.follower, branches.Branches.standing_at}
 use Rattle.smi_tree.proofs.Lasting.{last_if_some, none_below}
 use Rattle.smi_tree.proofs.branches.identifiers.Identifiers.last_on_way.Goals as goal
 

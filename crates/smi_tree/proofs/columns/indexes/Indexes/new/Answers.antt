@@ -1,6 +1,5 @@
 -- By the clauses and the rows that are kept.
-use Rattle.std.proofs.Common.{arith}
-use Rattle.std.proofs.lemmas.Grind.{common_steps}
+use Rattle.std.proofs.{Common.arith, lemmas.Grind.common_steps}
 use Rattle.smi_tree.proofs.Indexing.{are_indexes}
 use Rattle.smi_tree.proofs.columns.indexes.Indexes.new.Goals as goal
 

@@ -1,10 +1,7 @@
 -- By the syntax of the object.
 use Rattle.std.proofs.Common.{rules, ◌≡◌, IsTrue}
-use Rattle.smi_tree.specs.types.Kept.{facts_of}
-use Rattle.smi_tree.specs.columns.Definitions.{qualified_name}
-use Rattle.smi_tree.specs.private.columns.Named.{IsFoundAt}
-use Rattle.smi_tree.proofs.Choosing.{one_syntax}
-use Rattle.smi_tree.proofs.Parting.{part_untyped, part_read}
+use Rattle.smi_tree.specs.{types.Kept.facts_of, columns.Definitions.qualified_name, private.columns.Named.IsFoundAt}
+use Rattle.smi_tree.proofs.{Choosing.one_syntax, Parting.part_untyped, Parting.part_read}
 use Rattle.smi_tree.proofs.columns.objects.Objects.part.Goals as goal
 
 pub returns-in_err-syntax : goal.returns-in_err-syntax

@@ -1,6 +1,5 @@
 -- One name more.
-use Rattle.std.proofs.Common.{rules, ◌≡◌, ◌<◌, length, Some, refl}
-use Rattle.std.proofs.lemmas.Option.{slice_get_read}
+use Rattle.std.proofs.{Common.rules, Common.◌≡◌, Common.◌<◌, Common.length, Common.Some, Common.refl, lemmas.Option.slice_get_read}
 use Rattle.std.specs.List.{slice_get}
 use Rattle.smi_tree.specs.columns.Index.{IsIndexPart, is_implied}
 use Rattle.smi_tree.proofs.Pairing.{first_more, pair_at}

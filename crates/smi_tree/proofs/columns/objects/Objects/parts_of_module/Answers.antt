@@ -1,6 +1,5 @@
 -- One definition more.
-use Rattle.std.proofs.lemmas.Grind.{common_steps}
-use Rattle.std.proofs.Common.{rules, arith}
+use Rattle.std.proofs.{lemmas.Grind.common_steps, Common.rules, Common.arith}
 use Rattle.smi_tree.proofs.Pairing.{first_none, first_next, first_all}
 use Rattle.smi_tree.proofs.columns.objects.Objects.parts_of_module.Goals as goal
 

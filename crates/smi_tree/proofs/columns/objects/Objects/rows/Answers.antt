@@ -1,10 +1,7 @@
 -- One node more.
-use Rattle.std.proofs.lemmas.Grind.{common_steps}
-use Rattle.std.proofs.Common.{rules, arith}
+use Rattle.std.proofs.{lemmas.Grind.common_steps, Common.rules, Common.arith}
 use Rattle.smi_names.specs.nodes.Gathered.{nodes_of}
-use Rattle.smi_tree.proofs.Lists.{get_within}
-use Rattle.smi_tree.proofs.Bridging.{length-nodes}
-use Rattle.smi_tree.proofs.Pairing.{first_none, first_more, first_all}
+use Rattle.smi_tree.proofs.{Lists.get_within, Bridging.length-nodes, Pairing.first_none, Pairing.first_more, Pairing.first_all}
 use Rattle.smi_tree.proofs.columns.objects.Objects.rows.Goals as goal
 
 pub places-init : goal.places-init

@@ -1,6 +1,5 @@
 -- By the clause of the definition.
-use Rattle.std.proofs.Common.{◌≡◌, length, Some, refl, sym, ◌∙◌}
-use Rattle.std.proofs.lemmas.Option.{slice_get_read}
+use Rattle.std.proofs.{Common.◌≡◌, Common.length, Common.Some, Common.refl, Common.sym, Common.◌∙◌, lemmas.Option.slice_get_read}
 use Rattle.std.specs.List.{slice_get}
 use Rattle.smi_text.specs.declared.trees.tree.Index.TheVariants.{Own, Augments}
 use Rattle.smi_tree.specs.columns.Index.{clause_of}

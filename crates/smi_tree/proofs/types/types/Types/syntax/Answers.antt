@@ -1,6 +1,5 @@
 -- What is kept is right.
-use Rattle.std.proofs.Common.{arith}
-use Rattle.std.proofs.lemmas.Grind.{common_steps}
+use Rattle.std.proofs.{Common.arith, lemmas.Grind.common_steps}
 use Rattle.smi_tree.proofs.Refining.{by_facts}
 use Rattle.smi_tree.proofs.types.types.Types.syntax.Goals as goal
 

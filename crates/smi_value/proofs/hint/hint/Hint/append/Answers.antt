@@ -1,5 +1,4 @@
-use Rattle.std.proofs.Common.{arith}
-use Rattle.std.proofs.lemmas.Grind.{common_steps}
+use Rattle.std.proofs.{Common.arith, lemmas.Grind.common_steps}
 use Rattle.smi_value.proofs.Specs.{number_kept, octets_kept}
 use Rattle.smi_value.proofs.hint.hint.Hint.append.Goals as goal
 

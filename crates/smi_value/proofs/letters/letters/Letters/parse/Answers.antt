@@ -1,5 +1,4 @@
-use Rattle.std.proofs.lemmas.Grind.{common_steps}
-use Rattle.std.proofs.Common.{arith}
+use Rattle.std.proofs.{lemmas.Grind.common_steps, Common.arith}
 use Rattle.smi_value.proofs.Reading.{letters_at, no_other_more, other_at}
 use Rattle.smi_value.proofs.letters.letters.Letters.parse.Goals as goal
 

@@ -1,15 +1,10 @@
-use Rattle.std.proofs.Common.{arith, map, ap, ◌∙◌}
-use Rattle.std.proofs.lemmas.Grind.{common_steps}
-use Rattle.std.specs.List.{list_any}
-use Rattle.std.specs.Ordering.{nat_cmp, eq_by_cmp}
-use Rattle.std.specs.Cmp.Lexicographic.{slice_cmp}
-use Rattle.snmp_agent.specs.table.Form.{States, nothing, object_prefix, instance}
-use Rattle.snmp_agent.specs.private.table.Draft.{draft_objects}
+use Rattle.std.proofs.{Common.arith, Common.map, Common.ap, Common.◌∙◌, lemmas.Grind.common_steps}
+use Rattle.std.specs.{List.list_any, Ordering.nat_cmp, Ordering.eq_by_cmp, Cmp.Lexicographic.slice_cmp}
+use Rattle.snmp_agent.specs.{table.Form.States, table.Form.nothing, table.Form.object_prefix, table.Form.instance, private.table.Draft.draft_objects}
 use Rattle.snmp_agent.proofs.Adding.{either, full, row_added, row_halted, stopped}
-use Rattle.snmp_agent.proofs.OneStatement.{states_only}
+use Rattle.snmp_agent.proofs.{OneStatement.states_only, table.draft.Draft.add.Goals.in-Ok, table.draft.Draft.add.Goals.in-Err}
 use Rattle.snmp_agent.proofs.TableDrafts.{holds_nothing, holds_object, list_any-insert}
 use Rattle.snmp_agent.proofs.table.draft.Draft.add.Goals as goal
-use Rattle.snmp_agent.proofs.table.draft.Draft.add.Goals.{in-Ok, in-Err}
 
 pub returns-in-Ok-Nothing-clause-draft : goal.returns-in-Ok-Nothing-clause-draft
 returns-in-Ok-Nothing-clause-draft g c = λ before h.

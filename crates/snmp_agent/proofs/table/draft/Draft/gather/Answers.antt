@@ -1,7 +1,6 @@
 use Rattle.std.specs.FinMap.{entries}
 use Rattle.std.proofs.lemmas.List.Sorted.{IsPermutation-refl}
-use Rattle.snmp_agent.specs.private.table.Draft.{draft_entries}
-use Rattle.snmp_agent.specs.table.Pages.{entries_of}
+use Rattle.snmp_agent.specs.{private.table.Draft.draft_entries, table.Pages.entries_of}
 use Rattle.snmp_agent.proofs.Gathering.{appended_moves}
 use Rattle.snmp_agent.proofs.table.draft.Draft.gather.Goals as goal
 

@@ -1,6 +1,4 @@
-use Rattle.std.proofs.Common.{arith}
-use Rattle.std.proofs.lemmas.Grind.{common_steps}
-use Rattle.std.proofs.lemmas.Result.{IfOk-weaker}
+use Rattle.std.proofs.{Common.arith, lemmas.Grind.common_steps, lemmas.Result.IfOk-weaker}
 use Rattle.snmp_agent.proofs.Gathering.{settled_moves}
 use Rattle.snmp_agent.proofs.table.draft.Draft.place_late.Goals as goal
 

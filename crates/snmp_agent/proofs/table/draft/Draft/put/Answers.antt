@@ -1,5 +1,4 @@
-use Rattle.std.proofs.Common.{refl}
-use Rattle.std.proofs.lemmas.List.Sorted.{IsPermutation-refl}
+use Rattle.std.proofs.{Common.refl, lemmas.List.Sorted.IsPermutation-refl}
 use Rattle.snmp_agent.specs.private.table.Draft.{draft_entries}
 use Rattle.snmp_agent.proofs.Gathering.{had_one, placed_moves}
 use Rattle.snmp_agent.proofs.table.draft.Draft.put.Goals as goal

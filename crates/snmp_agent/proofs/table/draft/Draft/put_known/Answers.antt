@@ -1,5 +1,4 @@
-use Rattle.std.proofs.Common.{arith, refl, rules}
-use Rattle.std.proofs.lemmas.Grind.{common_steps}
+use Rattle.std.proofs.{Common.arith, Common.refl, Common.rules, lemmas.Grind.common_steps}
 use Rattle.snmp_agent.specs.private.table.Draft.{draft_entries}
 use Rattle.snmp_agent.proofs.Gathering.{had_one, placed_moves}
 use Rattle.snmp_agent.proofs.table.draft.Draft.put_known.Goals as goal

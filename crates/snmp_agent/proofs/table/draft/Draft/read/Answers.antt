@@ -1,6 +1,5 @@
-use Rattle.std.proofs.lemmas.Grind.{common_steps}
+use Rattle.std.proofs.{lemmas.Grind.common_steps, lemmas.Result.err_from_is_err_and}
 use Rattle.std.proofs.Common.{◌≡◌, ◌∷◌, [], ℕ, List, length, ◌∙◌, subst, Bool, true, eqb, eqb-true, arith, refl}
-use Rattle.std.proofs.lemmas.Result.{err_from_is_err_and}
 use Rattle.snmp_agent.proofs.Adding.{IsReadTo, all_read, halted_at, read_more, read_nothing}
 use Rattle.snmp_agent.proofs.table.draft.Draft.read.Goals as goal
 

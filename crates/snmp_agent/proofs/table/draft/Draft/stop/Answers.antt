@@ -1,5 +1,4 @@
-use Rattle.std.proofs.Common.{arith}
-use Rattle.std.proofs.lemmas.Grind.{common_steps}
+use Rattle.std.proofs.{Common.arith, lemmas.Grind.common_steps}
 use Rattle.snmp_agent.proofs.Adding.{settled_distinct}
 use Rattle.snmp_agent.proofs.table.draft.Draft.stop.Goals as goal
 

@@ -1,12 +1,9 @@
 use Rattle.std.proofs.Common.{◌≡◌, ℕ, List, ◌++◌, ◌∷◌, [], subst, refl, sym, ap, ◌∙◌}
 use Rattle.std.specs.FinMap.{entries}
 use Rattle.snmp_wire.specs.Message.{Datum}
-use Rattle.snmp_agent.specs.table.Places.{IsAfterAll, entry_of}
-use Rattle.snmp_agent.specs.table.Pages.{IsSorted, entries_in}
-use Rattle.snmp_agent.proofs.Changing.{put_behind, sorted_put}
-use Rattle.snmp_agent.proofs.Gathering.{entries_are}
+use Rattle.snmp_agent.specs.{table.Places.IsAfterAll, table.Places.entry_of, table.Pages.IsSorted, table.Pages.entries_in}
+use Rattle.snmp_agent.proofs.{Changing.put_behind, Changing.sorted_put, Gathering.entries_are, table.pages.Pages.append.Goals.In_ok-append}
 use Rattle.snmp_agent.proofs.table.pages.Pages.append.Goals as goal
-use Rattle.snmp_agent.proofs.table.pages.Pages.append.Goals.{In_ok-append}
 
 same : (c : In_ok-append) → entries c.args.self.now ≡ entries_in c.self.inside.list.items
 same c = entries_are (entries_in c.self.inside.list.items) c.args.self.now c.self.invariant c.self.view_is

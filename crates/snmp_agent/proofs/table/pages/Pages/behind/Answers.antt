@@ -1,9 +1,7 @@
 use Rattle.std.proofs.Common.{◌≡◌, ◌<◌, ◌≤◌, length, take, drop, ◌∙◌, ap, sym, arith}
 use Rattle.snmp_wire.specs.Message.{VarBind}
 use Rattle.snmp_agent.specs.declared.table.page.Page.{Page}
-use Rattle.snmp_agent.proofs.Changing.{same_named}
-use Rattle.snmp_agent.proofs.Lists.{IsLast}
-use Rattle.snmp_agent.proofs.Paging.{apart_behind}
+use Rattle.snmp_agent.proofs.{Changing.same_named, Lists.IsLast, Paging.apart_behind}
 use Rattle.snmp_agent.proofs.table.pages.Pages.behind.Goals as goal
 
 pub returns-then-is_eq : goal.returns-then-is_eq

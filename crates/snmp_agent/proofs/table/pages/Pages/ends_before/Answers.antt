@@ -1,5 +1,4 @@
-use Rattle.std.proofs.Common.{arith}
-use Rattle.std.proofs.lemmas.Grind.{common_steps}
+use Rattle.std.proofs.{Common.arith, lemmas.Grind.common_steps}
 use Rattle.snmp_agent.proofs.Gathering.{entries_are}
 use Rattle.snmp_agent.proofs.table.pages.Pages.ends_before.Goals as goal
 

@@ -1,11 +1,6 @@
 use Rattle.std.proofs.Common.{arith, ◌≡◌, ◌≤◌, List, Some, Bor, length, ◌∙◌, ap, sym, refl, ltb-false}
-use Rattle.std.proofs.lemmas.Grind.{common_steps}
-use Rattle.std.specs.Option.{option_map}
-use Rattle.std.specs.List.{slice_get}
-use Rattle.std.specs.Ordering.{nat_cmp}
-use Rattle.std.specs.Cmp.Lexicographic.{slice_cmp}
-use Rattle.std.specs.FinMap.{find}
-use Rattle.std.proofs.lemmas.Option.{slice_get_read}
+use Rattle.std.proofs.{lemmas.Grind.common_steps, lemmas.Option.slice_get_read}
+use Rattle.std.specs.{Option.option_map, List.slice_get, Ordering.nat_cmp, Cmp.Lexicographic.slice_cmp, FinMap.find}
 use Rattle.snmp_wire.specs.Message.{VarBind}
 use Rattle.snmp_agent.specs.table.Pages.{IsPageOf, IsRising, entries_of}
 use Rattle.snmp_agent.proofs.Paging.{page_rising, get_in, get_in_page, get_none}

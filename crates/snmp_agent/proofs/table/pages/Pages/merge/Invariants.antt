@@ -1,7 +1,5 @@
 use Rattle.std.proofs.Common.{◌≡◌, ◌++◌, length}
-use Rattle.std.specs.FinMap.{entries}
-use Rattle.std.specs.List.Sorted.{IsPermutation}
-use Rattle.std.specs.Vec.Iter.{into_iter_items, into_iter_len}
+use Rattle.std.specs.{FinMap.entries, List.Sorted.IsPermutation, Vec.Iter.into_iter_items, Vec.Iter.into_iter_len}
 use Rattle.snmp_agent.specs.table.Pages.{entries_in, entries_of}
 use Rattle.snmp_agent.proofs.table.pages.Pages.merge.Given as goal
 

@@ -1,5 +1,4 @@
-use Rattle.std.proofs.lemmas.Grind.{common_steps}
-use Rattle.std.proofs.Common.{arith}
+use Rattle.std.proofs.{lemmas.Grind.common_steps, Common.arith}
 use Rattle.snmp_agent.proofs.Gathering.{page_row_moves}
 use Rattle.snmp_agent.proofs.table.pages.Pages.merge_page.Goals as goal
 

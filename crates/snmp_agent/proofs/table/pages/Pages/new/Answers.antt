@@ -1,9 +1,6 @@
 use Rattle.std.proofs.Common.{List, [], ◌∙◌, ap}
-use Rattle.std.specs.Ordering.{nat_cmp}
-use Rattle.std.specs.Cmp.Lexicographic.{slice_cmp}
-use Rattle.std.specs.FinMap.{entries, from_sorted, entries-from_sorted}
-use Rattle.snmp_agent.specs.declared.table.page.Page.{Page}
-use Rattle.snmp_agent.specs.table.Pages.{entries_in}
+use Rattle.std.specs.{Ordering.nat_cmp, Cmp.Lexicographic.slice_cmp, FinMap.entries, FinMap.from_sorted, FinMap.entries-from_sorted}
+use Rattle.snmp_agent.specs.{declared.table.page.Page.Page, table.Pages.entries_in}
 use Rattle.snmp_agent.proofs.table.pages.Pages.new.Goals as goal
 
 pub returns : goal.returns

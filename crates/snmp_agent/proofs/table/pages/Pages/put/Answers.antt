@@ -1,12 +1,8 @@
 use Rattle.std.proofs.Common.{arith, ◌≡◌, List, ℕ, slice_set, ◌∙◌, ap, subst, sym}
 use Rattle.std.proofs.lemmas.Grind.{common_steps}
-use Rattle.std.specs.Ordering.{nat_cmp}
-use Rattle.std.specs.Cmp.Lexicographic.{slice_cmp}
-use Rattle.std.specs.FinMap.{from_sorted}
-use Rattle.std.specs.FinMap.Entries.{put as put_entry}
+use Rattle.std.specs.{Ordering.nat_cmp, Cmp.Lexicographic.slice_cmp, FinMap.from_sorted, FinMap.Entries.put as put_entry}
 use Rattle.snmp_wire.specs.Message.{Datum}
-use Rattle.snmp_agent.specs.table.Places.{IsAfterAll}
-use Rattle.snmp_agent.specs.table.Pages.{IsPageWithRoom, IsSorted, entries_in, has_name}
+use Rattle.snmp_agent.specs.{table.Places.IsAfterAll, table.Pages.IsPageWithRoom, table.Pages.IsSorted, table.Pages.entries_in, table.Pages.has_name}
 use Rattle.snmp_agent.proofs.Changing.{had_name, if_err, map_put, none_behind, put_behind, sorted_put}
 use Rattle.snmp_agent.proofs.Paging.{kept_found, named_found, put_found, rising_found, room_found}
 use Rattle.snmp_agent.proofs.table.pages.Pages.put.Goals as goal

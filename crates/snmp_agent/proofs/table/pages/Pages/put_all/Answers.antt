@@ -1,5 +1,4 @@
-use Rattle.std.proofs.Common.{arith}
-use Rattle.std.proofs.lemmas.Grind.{common_steps}
+use Rattle.std.proofs.{Common.arith, lemmas.Grind.common_steps}
 use Rattle.snmp_agent.proofs.Gathering.{last_moves}
 use Rattle.snmp_agent.proofs.table.pages.Pages.put_all.Goals as goal
 

@@ -1,6 +1,5 @@
 use Rattle.std.proofs.Common.{◌++◌, length}
-use Rattle.std.specs.FinMap.{entries}
-use Rattle.std.specs.List.Sorted.{IsPermutation}
+use Rattle.std.specs.{FinMap.entries, List.Sorted.IsPermutation}
 use Rattle.snmp_agent.specs.table.Pages.{entries_of}
 use Rattle.snmp_agent.proofs.table.pages.Pages.put_all.Given as goal
 

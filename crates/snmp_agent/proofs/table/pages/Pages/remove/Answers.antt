@@ -1,10 +1,7 @@
 use Rattle.std.proofs.Common.{arith, ◌≡◌, ◌≤◌, None, Some, length, ◌∙◌, ap, sym, refl, ltb-false, is_some}
-use Rattle.std.proofs.lemmas.Grind.{common_steps}
-use Rattle.std.specs.List.{slice_get}
-use Rattle.std.specs.FinMap.{get}
-use Rattle.std.proofs.lemmas.Option.{slice_get_read}
-use Rattle.snmp_agent.specs.table.Places.{without_name}
-use Rattle.snmp_agent.specs.table.Pages.{BelongsAt, HasNameAt, IsPageOf, entries_in}
+use Rattle.std.proofs.{lemmas.Grind.common_steps, lemmas.Option.slice_get_read}
+use Rattle.std.specs.{List.slice_get, FinMap.get}
+use Rattle.snmp_agent.specs.{table.Places.without_name, table.Pages.BelongsAt, table.Pages.HasNameAt, table.Pages.IsPageOf, table.Pages.entries_in}
 use Rattle.snmp_agent.proofs.Changing.{row_removed, name_found, no_name, nothing_removed, sorted_without, map_removed}
 use Rattle.snmp_agent.proofs.Paging.{page_rising, get_in_page, get_none, without_in_page}
 use Rattle.snmp_agent.proofs.table.pages.Pages.remove.Goals as goal

@@ -1,8 +1,6 @@
 use Rattle.std.proofs.Common.{◌∷◌, [], List, ℕ, sym, ap, subst}
 use Rattle.snmp_wire.specs.Message.{Datum, VarBind}
-use Rattle.snmp_agent.specs.table.Places.{entry_of}
-use Rattle.snmp_agent.specs.table.Table.{IsNext}
-use Rattle.snmp_agent.specs.table.Pages.{AreBehind}
+use Rattle.snmp_agent.specs.{table.Places.entry_of, table.Table.IsNext, table.Pages.AreBehind}
 use Rattle.snmp_agent.proofs.Following.{is_next, behind_first}
 use Rattle.snmp_agent.proofs.table.pages.Successors.advance.Goals as goal
 

@@ -1,9 +1,7 @@
-use Rattle.std.proofs.lemmas.Grind.{common_steps}
+use Rattle.std.proofs.{lemmas.Grind.common_steps, lemmas.Bool.eqb-true}
 use Rattle.std.proofs.Common.{◌≡◌, ◌≤◌, ◌++◌, ◌∷◌, [], List, ℕ, length, refl, arith, eq-eqb}
-use Rattle.std.proofs.lemmas.Bool.{eqb-true}
 use Rattle.snmp_wire.specs.Message.{Datum, VarBind}
-use Rattle.snmp_agent.specs.declared.table.page.Page.{Page}
-use Rattle.snmp_agent.specs.table.Pages.{entries_in, entries_of}
+use Rattle.snmp_agent.specs.{declared.table.page.Page.Page, table.Pages.entries_in, table.Pages.entries_of}
 use Rattle.snmp_agent.proofs.table.pages.Successors.is_empty.Goals as goal
 
 none : (rows : List VarBind) (pages : List Page) → length rows ≡ 0 → length pages ≡ 0 → entries_of rows ++ entries_in pages ≡ []

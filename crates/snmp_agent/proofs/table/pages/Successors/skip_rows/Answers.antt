@@ -1,5 +1,4 @@
-use Rattle.std.proofs.lemmas.Grind.{common_steps}
-use Rattle.std.proofs.Common.{arith}
+use Rattle.std.proofs.{lemmas.Grind.common_steps, Common.arith}
 use Rattle.snmp_agent.proofs.Following.{drop_rows, take_rows}
 use Rattle.snmp_agent.proofs.table.pages.Successors.skip_rows.Goals as goal
 

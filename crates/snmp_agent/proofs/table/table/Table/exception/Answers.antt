@@ -1,5 +1,4 @@
-use Rattle.std.proofs.Common.{arith}
-use Rattle.std.proofs.lemmas.Grind.{common_steps}
+use Rattle.std.proofs.{Common.arith, lemmas.Grind.common_steps}
 use Rattle.snmp_agent.proofs.Finding.{get_no_instance, get_no_object}
 use Rattle.snmp_agent.proofs.table.table.Table.exception.Goals as goal
 

@@ -1,8 +1,7 @@
 use Rattle.std.proofs.Common.{map}
 use Rattle.snmp_wire.specs.Message.{VarBind, datum}
 use Rattle.snmp_agent.specs.table.Table.{IsInstanceName, IsInstanceValue}
-use Rattle.snmp_agent.proofs.Changing.{put_either}
-use Rattle.snmp_agent.proofs.Keeping.{name_in_range, value_in_range}
+use Rattle.snmp_agent.proofs.{Changing.put_either, Keeping.name_in_range, Keeping.value_in_range}
 use Rattle.snmp_agent.proofs.table.table.Table.put.Goals as goal
 
 pub new-requires-clause-name : goal.new-requires-clause-name

@@ -1,16 +1,9 @@
-use Rattle.std.proofs.Common.{arith, subst}
-use Rattle.std.proofs.lemmas.Grind.{common_steps}
-use Rattle.std.specs.Ordering.{nat_cmp}
-use Rattle.std.specs.Cmp.Lexicographic.{slice_cmp}
-use Rattle.std.specs.FinMap.{FinMap, entries}
-use Rattle.std.specs.Str.Lines.{lines}
+use Rattle.std.proofs.{Common.arith, Common.subst, lemmas.Grind.common_steps}
+use Rattle.std.specs.{Ordering.nat_cmp, Cmp.Lexicographic.slice_cmp, FinMap.FinMap, FinMap.entries, Str.Lines.lines}
 use Rattle.snmp_wire.specs.Message.{Datum}
 use Rattle.snmp_agent.specs.private.table.Draft.{HoldsTable, draft_objects}
-use Rattle.snmp_agent.specs.table.Places.{view_of}
-use Rattle.snmp_agent.specs.table.Stated.{IsTableIn}
-use Rattle.snmp_agent.specs.table.Table.{IsMibView}
-use Rattle.snmp_agent.proofs.Keeping.{is_view, table_of, of_entries}
-use Rattle.snmp_agent.proofs.table.table.Table.read_in.Given.{Over}
+use Rattle.snmp_agent.specs.{table.Places.view_of, table.Stated.IsTableIn, table.Table.IsMibView}
+use Rattle.snmp_agent.proofs.{Keeping.is_view, Keeping.table_of, Keeping.of_entries, table.table.Table.read_in.Given.Over}
 use Rattle.snmp_agent.proofs.table.table.Table.read_in.Goals as goal
 use Rattle.snmp_agent.proofs.table.table.Table.read_in.Goals.{In-Ok, in-Err-Again, in_default, in_default-2}
 

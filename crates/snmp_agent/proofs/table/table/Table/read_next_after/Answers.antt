@@ -1,10 +1,7 @@
 use Rattle.std.proofs.Common.{◌≡◌, List, ℕ, take, drop, sym, ◌∙◌, ap, subst}
 use Rattle.snmp_wire.specs.Message.{Datum, var_bind}
-use Rattle.snmp_agent.specs.table.Places.{last_name}
-use Rattle.snmp_agent.specs.table.Pages.{AreBehind}
-use Rattle.snmp_agent.specs.table.Table.{IsNext, IsNextAfter}
-use Rattle.snmp_agent.proofs.Answering.{next_after_name, next_after_value}
-use Rattle.snmp_agent.proofs.Following.{asked_past, behind_past}
+use Rattle.snmp_agent.specs.{table.Places.last_name, table.Pages.AreBehind, table.Table.IsNext, table.Table.IsNextAfter}
+use Rattle.snmp_agent.proofs.{Answering.next_after_name, Answering.next_after_value, Following.asked_past, Following.behind_past}
 use Rattle.snmp_agent.proofs.table.table.Table.read_next_after.Goals as goal
 
 answered : (c : goal.After-advance) → IsNextAfter c.args.self.now c.args.rounds c.args.name.now (var_bind c.advance.new.binding)

@@ -1,7 +1,5 @@
-use Rattle.std.proofs.Common.{arith, ◌≡◌, true}
-use Rattle.std.proofs.lemmas.Grind.{common_steps}
+use Rattle.std.proofs.{Common.arith, Common.◌≡◌, Common.true, lemmas.Grind.common_steps, lemmas.Result.IfErr-weaker, lemmas.Result.IfOk-weaker}
 use Rattle.std.specs.Str.Lines.{lines}
-use Rattle.std.proofs.lemmas.Result.{IfErr-weaker, IfOk-weaker}
 use Rattle.snmp_agent.specs.table.Format.{IsMarked, first_format}
 use Rattle.snmp_agent.proofs.table.table.Table.read_with.Goals as goal
 

@@ -1,12 +1,8 @@
-use Rattle.std.proofs.Common.{arith, ◌≡◌, None, ap, is_some}
-use Rattle.std.proofs.lemmas.Grind.{common_steps}
-use Rattle.std.specs.Ordering.{nat_cmp}
-use Rattle.std.specs.Cmp.Lexicographic.{slice_cmp}
-use Rattle.std.specs.FinMap.{FinMap, get}
+use Rattle.std.proofs.{Common.arith, Common.◌≡◌, Common.None, Common.ap, Common.is_some, lemmas.Grind.common_steps}
+use Rattle.std.specs.{Ordering.nat_cmp, Cmp.Lexicographic.slice_cmp, FinMap.FinMap, FinMap.get}
 use Rattle.snmp_wire.specs.Message.{Datum}
-use Rattle.snmp_agent.proofs.Changing.{nothing_removed, removed_good, unnamed}
+use Rattle.snmp_agent.proofs.{Changing.nothing_removed, Changing.removed_good, Changing.unnamed, table.table.Table.remove.Goals.Then-not-is_wire}
 use Rattle.snmp_agent.proofs.table.table.Table.remove.Goals as goal
-use Rattle.snmp_agent.proofs.table.table.Table.remove.Goals.{Then-not-is_wire}
 
 none : (c : Then-not-is_wire) → None ≡ get c.args.self.now.rows c.args.name.now
 none c = grind (arith, common_steps, unnamed)

@@ -1,5 +1,4 @@
-use Rattle.std.proofs.Common.{arith}
-use Rattle.std.proofs.lemmas.Grind.{common_steps}
+use Rattle.std.proofs.{Common.arith, lemmas.Grind.common_steps}
 use Rattle.snmp_agent.proofs.Changing.{unnamed}
 use Rattle.snmp_agent.proofs.table.table.Table.row_of.Goals as goal
 

@@ -1,5 +1,4 @@
-use Rattle.std.proofs.Common.{◌/◌, arith}
-use Rattle.std.proofs.lemmas.Fmt.{decimal_digit, decimal_step}
+use Rattle.std.proofs.{Common.◌/◌, Common.arith, lemmas.Fmt.decimal_digit, lemmas.Fmt.decimal_step}
 use Rattle.snmp_io.proofs.draft.draft.Draft.number.Goals as goal
 
 pub returns-then-n-lt10 : goal.returns-then-n-lt10

@@ -1,10 +1,6 @@
 use Rattle.std.proofs.Common.{sym, ◌∙◌, ap}
-use Rattle.snmp_wire.specs.Message.{VarBind}
-use Rattle.snmp_wire.specs.Reading.{fields}
-use Rattle.snmp_wire.specs.ber.Spelling.{value_tag}
-use Rattle.snmp_wire.proofs.MessageLaws.{value_of, with_fields}
-use Rattle.snmp_wire.proofs.ReadingLaws.{given}
-use Rattle.snmp_wire.proofs.ValueLaws.{value_gives}
+use Rattle.snmp_wire.specs.{Message.VarBind, Reading.fields, ber.Spelling.value_tag}
+use Rattle.snmp_wire.proofs.{MessageLaws.value_of, MessageLaws.with_fields, ReadingLaws.given, ValueLaws.value_gives}
 use Rattle.snmp_wire.proofs.binding.lent.BindingRef.tag.Goals as goal
 
 pub returns : goal.returns
