@@ -37,11 +37,7 @@ sizes_long header name_header name value_header value binding n v hn hv h =
 length-content : (end : ℕ) (binding : VarBind) → length (canon_binding binding) ≤ end
     → length (canon_value (object_id binding.name)) + length (canon_value binding.value) ≤ end
 unfolding canon_binding
-length-content end binding room = omega (
-  arith,
-  content_fits sequence_tag end (canon_value (object_id binding.name) ++ canon_value binding.value) room,
-  length-append (canon_value (object_id binding.name)) (canon_value binding.value),
-)
+length-content end binding room = omega (arith, simp length-append at (content_fits _ _ _ room))
 
 pub binding_value_fits : (end : ℕ) (binding : VarBind) → length (canon_binding binding) ≤ end → length (canon_value binding.value) ≤ end
 binding_value_fits end binding room = omega (arith, length-content end binding room)

@@ -1,11 +1,10 @@
 -- Numbers as octets: how many a number takes, by its digits and by its highest bit, and how long
 -- an encoding is.
-use Rattle.std.proofs.{lemmas.Grind.common_steps, lemmas.Bool.Decides.nat_tests, lemmas.Nat.le_or_l, lemmas.Nat.le_or_r}
+use Rattle.std.proofs.{lemmas.Grind.common_steps, lemmas.Bool.Decides.nat_tests, lemmas.Bool.cases_lt, lemmas.Bool.le-ltb, lemmas.Bool.lt-ltb}
 use Rattle.std.proofs.Common.{true, false, ◌≡◌, ℕ, ◌+◌, ◌-◌, ◌*◌, ◌^◌, ◌<◌, ◌≤◌, ℤ, pos, negsuc, lit<, suc, zero, ◌∷◌, length, refl, sym, ap, ◌∙◌}
 use Rattle.std.proofs.Common.{sub-one, pow-add, ⊎_elim, arith, ◌/◌, ◌%◌, List, []}
 use Rattle.std.proofs.Math.Nat.{mul-suc, pow-suc, pow-zero, div-one, pow-le-pow_right}
-use Rattle.std.proofs.lemmas.Bool.{cases_lt, le-ltb, lt-ltb}
-use Rattle.std.specs.{Int.Bits.bit_or, Int.to_be_bytes}
+use Rattle.std.specs.Int.{to_be_bytes}
 use lib.Signed.{lt_z, le_z}
 use mir.Val.{SFits}
 use mir.Syntax.{w32}
@@ -65,11 +64,8 @@ digits_small base limit zero n most h = omega arith
 digits_small base limit (suc more) n zero h = grind (arith, common_steps, ⊎_elim, count_taken, times_one, cases_lt)
 digits_small base limit (suc more) n (suc most) h = ⊎_elim
     (λ below. omega (arith, count_taken base limit more n below))
-    (λ above. omega (
-      arith,
-      count_left base limit more n above,
-      digits_small base (limit * base) more n most (omega (arith, times_power limit base most)),
-    ))
+    (λ above. let fewer = digits_small base (limit * base) more n most (omega (arith, times_power limit base most)) in
+    omega (arith, count_left base limit more n above, fewer))
     (cases_lt n limit)
 
 -- each digit is needed
@@ -157,10 +153,6 @@ extended_above (negsuc n) m above e = absurd (cc)
 pub length-from_zero : (n : ℕ) → length (canon_number (pos n)) ≡ number_size n
 length-from_zero n = length-canon_number (pos n)
 
--- each of four numbers is below 128 where the four have no higher bit
-pub below_128 : (a b c d : ℕ) → bit_or (bit_or (bit_or a b) c) d < 128 → (a < 128) × (b < 128) × (c < 128) × (d < 128)
-below_128 a b c d low = grind (arith, common_steps, le_or_l, le_or_r)
-
 -- ---- how many octets a number takes, by its highest bit, and four octets at once
 
 -- the least number that wants one octet more, as a power of 2
@@ -200,26 +192,19 @@ size_of_bits n k low high all =
 pub size_one : (n : ℕ) → n < 128 → 1 ≡ number_size n
 size_one n h = let one : number_size n ≤ 1 = number_small n 0 (omega (arith, h)) in omega (arith, one, number_some n)
 
+size_is : (n less : ℕ) → n < 2 ^ 64 → 128 * 256 ^ less ≤ n → n < 128 * 256 ^ suc less → number_size n ≡ suc (suc less)
+size_is n less all low high = let most = number_small n (suc less) high in omega (arith, most, number_large n less all low)
+
 pub size_four : (n : ℕ) → 8388608 ≤ n → n < 2147483648 → number_size n ≡ 4
-size_four n low high =
-    let most : number_size n ≤ 4 = number_small n 3 (omega (arith, high)) in
-    omega (arith, most, number_large n 2 (omega (arith, high)) (omega (arith, low)))
+size_four n low high = size_is n 2 (omega arith) (omega arith) (omega arith)
 
 pub size_five : (n : ℕ) → 2147483648 ≤ n → n < 2 ^ 32 → number_size n ≡ 5
-size_five n low high =
-    let most : number_size n ≤ 5 = number_small n 4 (omega (arith, high)) in
-    omega (arith, most, number_large n 3 (omega (arith, high)) (omega (arith, low)))
+size_five n low high = size_is n 3 (omega arith) (omega arith) (omega arith)
 
 -- the octets of a number of 32 bits
 pub four_octets : (n : ℕ) → to_be_bytes w32 n ≡ octets 4 n
 unfolding digits
 four_octets n = ap (λ m. (n / 256 ^ 3 % 256) ∷ (n / 256 ^ 2 % 256) ∷ (n / 256 ^ 1 % 256) ∷ (m % 256) ∷ []) (sym (div-one n))
-
-pub four_octets_fit : (n : ℕ) → 8388608 ≤ n → n < 2 ^ 32 → 4 ≤ number_size n
-four_octets_fit n low high = number_large n 2 (omega (arith, high)) (omega (arith, low))
-
-pub fifth_octet_fits : (n : ℕ) → 2147483648 ≤ n → n < 2 ^ 32 → 5 ≤ number_size n
-fifth_octet_fits n low high = number_large n 3 (omega (arith, high)) (omega (arith, low))
 
 pub writes_four_octets : {old new : List ℕ} {start end : ℕ} (n : ℕ) → 8388608 ≤ n → n < 2147483648 → Writes old start end (octets 4 n) new
     → Writes old start end (canon_number (pos n)) new

@@ -1,5 +1,5 @@
 -- The first octet in which two words of eight differ: where the lowest bit is set in which they differ.
-use Rattle.std.proofs.{lemmas.Grind.common_steps, Math.ListN.get_or-eq_default, lemmas.Bool.cases_lt, lemmas.Nat.trailing_le}
+use Rattle.std.proofs.{lemmas.Grind.common_steps, Math.ListN.get_or-eq_default, lemmas.Bool.cases_lt, lemmas.Nat.trailing_le, lemmas.Nat.xor_lt}
 use Rattle.std.proofs.Common.{◌≡◌, ℕ, zero, suc, ◌+◌, ◌-◌, ◌*◌, ◌/◌, ◌%◌, ◌^◌, ◌<◌, ◌≤◌, ◌⊎◌, inl, inr, List, [], ◌∷◌, length, get_or, refl, sym, ap}
 use Rattle.std.proofs.Common.{◌∙◌, arith}
 use Rattle.std.proofs.lemmas.List.{get_or-drop, get_or_append_left}
@@ -62,8 +62,7 @@ module _ (xs ys : List ℕ) (small : (i : ℕ) → get_or xs i 0 < 256) (other_s
       let place : t / 8 * 8 + t % 8 ≡ t = omega arith in
       let within : t % 8 < 8 = omega arith in
       let bits : bit_at (word_of xs) t ≡ bit_at (word_of ys) t =
-      ap (bit_at (word_of xs)) (sym place) ∙ bits_of xs small (t / 8) (t % 8) within ∙ ap (λ x. bit_at x (t % 8)) same
-      ∙ sym (bits_of ys other_small (t / 8) (t % 8) within) ∙ ap (bit_at (word_of ys)) place in
+      cc (bits_of xs small (t / 8) (t % 8) within, bits_of ys other_small (t / 8) (t % 8) within) in
       other_bit (word_of xs) (word_of ys) t (ap (λ m. bit_at m t) (sym is) ∙ lowest_set n fits low) bits
 
 -- one of the eight octets from a place on
@@ -83,15 +82,15 @@ pub record AreAlike (octets others : List ℕ) (at count : ℕ) : Type 0 where
   pub same : (k : ℕ) → k < count → get_or octets (at + k) 0 ≡ get_or others (at + k) 0
   pub first : count < 8 → get_or octets (at + count) 0 ≡ get_or others (at + count) 0 → ⊥
 
-pub words_alike : (octets others : List ℕ) (at n : ℕ) → at + 8 ≤ length octets → at + 8 ≤ length others → ((i : ℕ) → get_or octets i 0 < 256)
-    → ((i : ℕ) → get_or others i 0 < 256) → n < 2 ^ 64
-    → n ≡ bit_xor (from_le_bytes w64 (eight_from octets at)) (from_le_bytes w64 (eight_from others at))
-    → AreAlike octets others at (trailing_zeros w64 n / 8)
-words_alike octets others at n long other_long small other_small fits is =
+pub words_alike : (octets others : List ℕ) (at a b : ℕ) → at + 8 ≤ length octets → at + 8 ≤ length others → ((i : ℕ) → get_or octets i 0 < 256)
+    → ((i : ℕ) → get_or others i 0 < 256) → a ≡ from_le_bytes w64 (eight_from octets at) → b ≡ from_le_bytes w64 (eight_from others at)
+    → a < 2 ^ 64 → b < 2 ^ 64 → AreAlike octets others at (trailing_zeros w64 (bit_xor a b) / 8)
+words_alike octets others at a b long other_long small other_small e f below other_below =
+    let n : ℕ = bit_xor a b in
+    let fits : n < 2 ^ 64 = xor_lt 64 a b below other_below in
     let xs : List ℕ = eight_from octets at in
     let ys : List ℕ = eight_from others at in
-    let word : n ≡ bit_xor (word_of xs) (word_of ys) =
-    is ∙ ap (λ a. bit_xor a (from_le_bytes w64 ys)) (eight_word octets at) ∙ ap (bit_xor (word_of xs)) (eight_word others at) in
+    let word : n ≡ bit_xor (word_of xs) (word_of ys) = cc (eight_word octets at, eight_word others at) in
     let most : trailing_zeros w64 n ≤ 64 = trailing_le 64 n in
     let these : (i : ℕ) → get_or xs i 0 < 256 = eight_small octets at long small in
     let those : (i : ℕ) → get_or ys i 0 < 256 = eight_small others at other_long other_small in

@@ -77,8 +77,7 @@ digits_are base (x ∷ xs) some h =
     let quotient : (rest + power * x) / power ≡ x =
     omega (arith, add-mul-div_left rest x (one-le-pow (length xs) base some), div-eq_of_lt (below_power base xs h.1)) in
     let digit : (x * power + rest) / power % base ≡ x = ap (λ m. m / power % base) turned ∙ ap (λ q. q % base) quotient ∙ mod-eq_of_lt h.0 in
-    let others : digits base (length xs) (x * power + rest) ≡ xs =
-    ap (digits base (length xs)) turned ∙ digits-add base (length xs) rest x some ∙ sym (digits_are base xs some h.1) in
+    let others = ap (digits base (length xs)) turned ∙ digits-add base (length xs) rest x some ∙ sym (digits_are base xs some h.1) in
     sym (ap (λ d. d ∷ digits base (length xs) (x * power + rest)) digit ∙ ap (λ ds. x ∷ ds) others)
 
 -- ---- octets

@@ -1,21 +1,22 @@
 -- What is read as a message is spelt so, and each fault that reading gives is one of the octets.
 -- Octets that spell a message have no fault.
-use Rattle.std.proofs.{lemmas.Grind.common_steps, lemmas.Bool.eqb-true, lemmas.Bool.eqb-false, lemmas.List.append-nil}
+use Rattle.std.proofs.lemmas.List.{nil_from_length, length-append, append-nil}
+use Rattle.std.proofs.{lemmas.Grind.common_steps, lemmas.Bool.eqb-true, lemmas.Bool.eqb-false}
 use Rattle.std.proofs.Common.{◌≡◌, ◌≢◌, ℕ, ℤ, zero, suc, ◌<◌, ◌≤◌, eqb, None, List, [], ◌∷◌, ◌++◌, length, Ok, Err, refl, sym, ap, subst, ◌∙◌, arith}
 use Rattle.std.proofs.Common.{inl, inr, Option, Some, append_assoc}
 use Rattle.snmp_wire.specs.{declared.ber.error.BerError.BerError, declared.kind.Kind.Kind, ber.Identifier.IsObjectId, ber.Length.IsElement}
-use Rattle.snmp_wire.specs.{ber.Value.Datum, ber.Value.object_id, Message.VarBind, Message.Message, Spelling.kind_tag, Spelling.Spells}
+use Rattle.snmp_wire.specs.{Message.VarBind, Message.Message, Spelling.kind_tag, Spelling.Spells, ber.Number.AreOctets}
+use Rattle.snmp_wire.specs.{ber.Number.lenient, ber.Spelling.value_tag, ber.Spelling.IsContent, ber.Spelling.SpellsValue}
+use Rattle.snmp_wire.specs.ber.Value.{Datum, integer_value, octet_string, object_id}
 use Rattle.snmp_wire.specs.declared.ber.error.BerError.TheVariants as error
-use Rattle.snmp_wire.specs.ber.Number.{AreOctets, IsInteger, lenient}
-use Rattle.snmp_wire.specs.ber.Spelling.{value_tag, IsContent, SpellsValue}
 use Rattle.snmp_wire.specs.ber.Reading.{inner_at, element_at, integer_of, integer_at, identifier_of, typed_value}
 use Rattle.snmp_wire.specs.Reading.{Fields, fields_of, fields_at, binding_of, binding_at, bindings_within, bindings_of, kind_of, outermost_of, pdu_of}
 use Rattle.snmp_wire.specs.Reading.{message_of}
 use Rattle.snmp_wire.specs.Fault.{BeginsWith, Place, at_message, at_version, at_community, at_pdu, at_id, at_a, at_b, at_list, at_binding, at_name}
 use Rattle.snmp_wire.specs.Fault.{at_value, first_inside, next_behind, AllowsTag, Expects, starts, inside, behind, IsFault, EndsEarly}
 use Rattle.snmp_wire.specs.Fault.{HasForbiddenLength, Calls}
-use Rattle.snmp_wire.proofs.ReadingLaws.{Gives, a_fault, a_value, done, failed, failing, given, gives, gives_all, gives_either, gives_fault, gives_so}
-use Rattle.snmp_wire.proofs.ReadingLaws.{gives_then, ok_is}
+use Rattle.snmp_wire.proofs.ReadingLaws.{Gives, a_fault, a_value, done, failed, failing, given, gives, gives_all, gives_end, gives_either}
+use Rattle.snmp_wire.proofs.ReadingLaws.{gives_fault, gives_so, gives_then, ok_is}
 use Rattle.snmp_wire.proofs.LengthLaws.{IsBadElement, content_gives, element_gives, element_shrinks, inner_gives, no_octets, some_octets}
 use Rattle.snmp_wire.proofs.LengthLaws.{element_again}
 use Rattle.snmp_wire.proofs.MessageElements.{SpellsAll, no_elements, value_then, elements_in_message, elements_in_pdu, elements_of}
@@ -71,12 +72,10 @@ outermost_reads (tag ∷ rest) =
       | inr form ↦ subst (λ (d : BerError). IsFault d octets) form.0
           (record { place = at_message; here = octets; expected = starts; bad = inl form.1 })
     ]) (content_gives error.Truncated tag rest))
-    (λ x begins. gives_so {is = λ content. BeginsWith tag content octets x.1 × (x.1 ≡ [])}
-    (λ content found. subst (λ (t : ℕ). BeginsWith t content octets []) (eqb-true tag 0x30 is)
-    (subst (λ (o : List ℕ). BeginsWith tag content octets o) found.1 found.0))
-    (λ e due. due)
-    (gives_all {is = λ content. BeginsWith tag content octets x.1} error.Trailing x.1 (a_value x.0 begins)
-    (λ some. record { tag = tag; content = x.0; after = x.1; begins = begins; some = some }))))
+    (λ x begins. gives_end error.Trailing x.1
+    (λ none. a_value x.0 (subst (λ (t : ℕ). BeginsWith t x.0 octets []) (eqb-true tag 0x30 is)
+    (subst (λ (o : List ℕ). BeginsWith tag x.0 octets o) none begins)))
+    (λ some. record { tag = tag; content = x.0; after = x.1; begins = begins; some = some })))
     (λ other. a_fault error.Tag (bad_tag octets at_message tag rest error.Tag starts (λ allowed. eqb-false tag 0x30 other allowed) refl))
 
 -- where the parts of a binding stand in its content
@@ -115,14 +114,23 @@ module _ (octets : List ℕ) where
   -- a place of an INTEGER
   integer_reads : (place : Place) (here : List ℕ) → Expects octets place here → place ≢ at_message → first_inside place ≡ None
       → ((found : ℕ) → AllowsTag place found → found ≡ 0x02) → AllowsTag place 0x02
-      → Gives (λ x. (content : List ℕ) × BeginsWith 0x02 content here x.1 × IsInteger content x.0) (λ e. IsFault e octets) (integer_at here)
+      → Gives (λ x. (first : List ℕ) × (here ≡ first ++ x.1) × SpellsValue lenient (integer_value x.0) first) (λ e. IsFault e octets)
+      (integer_at here)
   unfolding integer_at typed_value
   integer_reads place here stands inner is_value only allowed =
       gives_then _ (inner_reads place 0x02 here stands inner only) (λ x begins. gives_then _ (gives (integer_of x.0) (λ z is. given z (integer_gives x.0) is)
       (λ e h.
       let read : typed_value 0x02 x.0 ≡ Err e = rw h refl in
       bad_content octets place here 0x02 x.0 x.1 e stands is_value allowed begins (not_content 0x02 x.0 e read)
-      (failing e (integer_gives x.0) h))) (λ z is. a_value _ (x.0, begins, is)))
+      (failing e (integer_gives x.0) h)))
+      (λ z is. a_value _ (begins.element, begins.parts, record { content = x.0; is_content = is; element = begins.is_element })))
+
+  -- what stands behind an INTEGER
+  behind_integer : (before place : Place) (here first rest : List ℕ) (z : ℤ) → Expects octets before here → AllowsTag before 0x02
+      → SpellsValue lenient (integer_value z) first → here ≡ first ++ rest → next_behind before ≡ Some place → Calls place rest
+      → Expects octets place rest
+  behind_integer before place here first rest z stands allowed is parts next calls =
+      behind before place here 0x02 is.content rest stands allowed (record { element = first; is_element = is.element; parts = parts }) next calls
 
   -- ---- bindings
 
@@ -158,17 +166,14 @@ module _ (octets : List ℕ) where
       let behind_it : Expects octets at_value name.1 = behind at_name at_value content 0x06 name.0 name.1 stands refl begins refl tt in
       gives_then _ (element_reads at_value name.1 behind_it (λ is. cc)) (λ value follows.
       let made : Fields = record { name = name.0; tag = value.0; content = value.1 } in
-      gives_so {is = λ fields. (fields ≡ made) × (value.2 ≡ [])}
-      (λ fields found. subst (StandIn octets content) (sym found.0) (record {
+      gives_end _ value.2 (λ none. a_value made (record {
         value_here = name.1;
         name_begins = begins;
         value_stands = behind_it;
-        value_begins = subst (BeginsWith value.0 value.1 name.1) found.1 follows;
-      }))
-      (λ e due. due)
-      (gives_all {is = λ fields. fields ≡ made} _ value.2 (a_value made refl) (λ some. gives_fault (λ e. IsFault e octets) error.Content
+        value_begins = subst (BeginsWith value.0 value.1 name.1) none follows;
+      })) (λ some. gives_fault (λ e. IsFault e octets) error.Content
       (value_reads name.1 value.0 value.1 value.2 behind_it follows)
-      (λ read is. left_over octets at_value name.1 value.0 value.1 value.2 behind_it (λ is. cc) refl (read, sym is.is_tag) follows some)))))
+      (λ read is. left_over octets at_value name.1 value.0 value.1 value.2 behind_it (λ is. cc) refl (read, sym is.is_tag) follows some))))
 
   binding_reads : (here : List ℕ) → Expects octets at_binding here → Gives (IsBinding here) (λ e. IsFault e octets) (binding_at here)
   unfolding binding_at fields_at binding_of
@@ -181,18 +186,14 @@ module _ (octets : List ℕ) where
       gives_then {is = λ binding. SpellsAll lenient (value_then (object_id binding.name) (value_then binding.value no_elements)) found.0} _
       (gives_then _ (name_reads found.0 x.0.name s.value_here found.2 s.name_begins) (λ name is_name.
       gives_then _ (value_reads s.value_here x.0.tag x.0.content [] s.value_stands s.value_begins) (λ value is_value.
-      let is_typed : SpellsValue lenient value s.value_begins.element = record {
-        content = x.0.content;
-        is_content = is_value.is_content;
-        element = subst (λ (tag : ℕ). IsElement tag x.0.content s.value_begins.element) (sym is_value.is_tag) s.value_begins.is_element;
-      } in
-      a_value (record { name = name; value = value }) (
-        s.name_begins.element,
-        s.value_here,
-        s.name_begins.parts,
-        record { content = x.0.name; is_content = is_name; element = s.name_begins.is_element },
-        (s.value_begins.element, [], s.value_begins.parts, is_typed, refl),
-      )))) (λ binding row. a_value (binding, x.1) (found.0, found.1, row)))
+      let is_element = subst (λ (tag : ℕ). IsElement tag x.0.content s.value_begins.element) (sym is_value.is_tag) s.value_begins.is_element in
+      let is_named : SpellsValue lenient (object_id name) s.name_begins.element =
+      record { content = x.0.name; is_content = is_name; element = s.name_begins.is_element } in
+      let is_typed : SpellsValue lenient value s.value_begins.element =
+      record { content = x.0.content; is_content = is_value.is_content; element = is_element } in
+      a_value (record { name = name; value = value })
+      (s.name_begins.element, s.value_here, s.name_begins.parts, is_named, (s.value_begins.element, [], s.value_begins.parts, is_typed, refl)))))
+      (λ binding row. a_value (binding, x.1) (found.0, found.1, row)))
 
   bindings_read : (fuel : ℕ) (here : List ℕ) → length here ≤ fuel → (here ≢ [] → Expects octets at_binding here)
       → Gives (λ bindings. SpellsAll lenient (elements_of_bindings bindings) here) (λ e. IsFault e octets) (bindings_within fuel here)
@@ -225,34 +226,17 @@ module _ (octets : List ℕ) where
   unfolding pdu_of bindings_of
   pdu_reads version community found content Is id_stands made =
       gives_then _ (integer_reads at_id content id_stands (λ is. cc) refl (λ t allowed. allowed) refl) (λ id i.
-      let a_stands = behind at_id at_a content 0x02 i.0 id.1 id_stands refl i.1 refl tt in
+      let a_stands = behind_integer at_id at_a content i.0 id.1 id.0 id_stands refl i.2 i.1 refl tt in
       gives_then _ (integer_reads at_a id.1 a_stands (λ is. cc) refl (λ t allowed. allowed) refl) (λ a j.
-      let b_stands = behind at_a at_b id.1 0x02 j.0 a.1 a_stands refl j.1 refl tt in
+      let b_stands = behind_integer at_a at_b id.1 j.0 a.1 a.0 a_stands refl j.2 j.1 refl tt in
       gives_then _ (integer_reads at_b a.1 b_stands (λ is. cc) refl (λ t allowed. allowed) refl) (λ b k.
-      let list_stands = behind at_b at_list a.1 0x02 k.0 b.1 b_stands refl k.1 refl tt in
+      let list_stands = behind_integer at_b at_list a.1 k.0 b.1 b.0 b_stands refl k.2 k.1 refl tt in
       gives_then _ (inner_reads at_list 0x30 b.1 list_stands (λ is. cc) (λ t allowed. allowed)) (λ list l.
       gives_then _ (gives_all error.Content list.1
       (bindings_read (length list.0) list.0 (omega arith) (λ some. inside at_list at_binding b.1 0x30 list.0 list.1 list_stands refl l refl some))
       (λ some. left_over octets at_list b.1 0x30 list.0 list.1 list_stands (λ is. cc) refl refl l some)) (λ bindings both.
-      let fields : SpellsAll lenient (elements_in_pdu (message_with version community found id.0 a.0 b.0 bindings)) content = (
-        i.1.element,
-        id.1,
-        i.1.parts,
-        record { content = i.0; is_content = i.2; element = i.1.is_element },
-        (
-          j.1.element,
-          a.1,
-          j.1.parts,
-          record { content = j.0; is_content = j.2; element = j.1.is_element },
-          (
-            k.1.element,
-            b.1,
-            k.1.parts,
-            record { content = k.0; is_content = k.2; element = k.1.is_element },
-            (l.element, list.1, l.parts, list.0, l.is_element, both.0, both.1),
-          ),
-        ),
-      ) in
+      let fields : SpellsAll lenient (elements_in_pdu (message_with version community found id.0 a.0 b.0 bindings)) content =
+      (i.0, id.1, i.1, i.2, (j.0, a.1, j.1, j.2, (k.0, b.1, k.1, k.2, (l.element, list.1, l.parts, list.0, l.is_element, both.0, both.1)))) in
       a_value _ (made id.0 a.0 b.0 bindings fields))))))
 
   message_reads : Gives (λ m. SpellsAll lenient (elements_of m) octets) (λ e. IsFault e octets) (message_of octets)
@@ -261,7 +245,7 @@ module _ (octets : List ℕ) where
       gives_then _ (outermost_reads octets) (λ content outer.
       let version_stands = inside at_message at_version octets 0x30 content [] starts refl outer refl tt in
       gives_then _ (integer_reads at_version content version_stands (λ is. cc) refl (λ t allowed. allowed) refl) (λ version v.
-      let community_stands = behind at_version at_community content 0x02 v.0 version.1 version_stands refl v.1 refl tt in
+      let community_stands = behind_integer at_version at_community content v.0 version.1 version.0 version_stands refl v.2 v.1 refl tt in
       gives_then _ (inner_reads at_community 0x04 version.1 community_stands (λ is. cc) (λ t allowed. allowed)) (λ community c.
       let pdu_stands = behind at_community at_pdu version.1 0x04 community.0 community.1 community_stands refl c refl tt in
       gives_then _ (element_reads at_pdu community.1 pdu_stands (λ is. cc)) (λ pdu p.
@@ -273,19 +257,10 @@ module _ (octets : List ℕ) where
       (inside at_pdu at_id community.1 pdu.0 pdu.1 pdu.2 pdu_stands (found, sym k.0) p refl tt)
       (λ id a b bindings row.
       let is_pdu : IsElement (kind_tag found) pdu.1 p.element = subst (λ (tag : ℕ). IsElement tag pdu.1 p.element) (sym k.0) p.is_element in
-      let inner : SpellsAll lenient (elements_in_message (message_with version.0 community.0 found id a b bindings)) content = (
-        v.1.element,
-        version.1,
-        v.1.parts,
-        record { content = v.0; is_content = v.2; element = v.1.is_element },
-        (
-          c.element,
-          community.1,
-          c.parts,
-          record { content = community.0; is_content = refl; element = c.is_element },
-          (p.element, pdu.2, p.parts, pdu.1, is_pdu, row, k.1),
-        ),
-      ) in
+      let is_community : SpellsValue lenient (octet_string community.0) c.element =
+      record { content = community.0; is_content = refl; element = c.is_element } in
+      let inner : SpellsAll lenient (elements_in_message (message_with version.0 community.0 found id a b bindings)) content =
+      (v.0, version.1, v.1, v.2, (c.element, community.1, c.parts, is_community, (p.element, pdu.2, p.parts, pdu.1, is_pdu, row, k.1))) in
       (outer.element, [], outer.parts, content, outer.is_element, inner, refl)))))))
 
   pub message_faults : (e : BerError) → message_of octets ≡ Err e → IsFault e octets
@@ -372,12 +347,10 @@ Front = ℕ × List ℕ × List ℕ
 reads : (tag : ℕ) (content here rest : List ℕ) → BeginsWith tag content here rest → element_at here ≡ Ok (tag, content, rest)
 reads tag content here rest b = ap element_at b.parts ∙ element_again tag content b.element rest b.is_element
 
-one_front : (tag : ℕ) (content : List ℕ) (other : ℕ) (contents here rest more : List ℕ) → BeginsWith tag content here rest
-    → BeginsWith other contents here more → ◌≡◌ {A = Front} (tag, content, rest) (other, contents, more)
-one_front tag content other contents here rest more b c =
-    let first : Front = (tag, content, rest) in
-    let second : Front = (other, contents, more) in
-    ok_is first second (sym (reads tag content here rest b) ∙ reads other contents here more c)
+one_front : {tag other : ℕ} {content contents here rest more : List ℕ} → BeginsWith tag content here rest → BeginsWith other contents here more
+    → ◌≡◌ {A = Front} (tag, content, rest) (other, contents, more)
+one_front {tag} {other} {content} {contents} {here} {rest} {more} b c =
+    ok_is (tag, content, rest) (other, contents, more) (sym (reads tag content here rest b) ∙ reads other contents here more c)
 
 -- what is expected stands there
 
@@ -385,11 +358,11 @@ stands : (octets : List ℕ) (place : Place) (here : List ℕ) → Row at_messag
 stands octets place here all starts = parts_of at_message octets tt all
 stands octets place here all (inside outer _ around tag content rest expected allowed begins is_first calls) =
     let p = stands octets outer around all expected in
-    let same : p.content ≡ content = ap (λ (f : Front). f.1) (one_front p.tag p.content tag content around p.rest rest p.begins begins) in
+    let same : p.content ≡ content = ap (λ (f : Front). f.1) (one_front p.begins begins) in
     parts_of place here calls (subst (Row place) same (p.within place is_first))
 stands octets place here all (behind before _ around tag content rest expected allowed begins is_next calls) =
     let p = stands octets before around all expected in
-    let same : p.rest ≡ rest = ap (λ (f : Front). f.2) (one_front p.tag p.content tag content around p.rest rest p.begins begins) in
+    let same : p.rest ≡ rest = ap (λ (f : Front). f.2) (one_front p.begins begins) in
     parts_of place here calls (subst (Row place) same (p.after place is_next))
 
 -- ---- what stands so has no fault
@@ -397,21 +370,11 @@ stands octets place here all (behind before _ around tag content rest expected a
 not_early : (tag : ℕ) (content here rest : List ℕ) → BeginsWith tag content here rest → EndsEarly here → ⊥
 not_early tag content here rest b early =
     let longer : BeginsWith tag content (here ++ early.missing) (rest ++ early.missing) =
-    record {
-      element = b.element;
-      is_element = b.is_element;
-      parts = ap (λ (o : List ℕ). o ++ early.missing) b.parts
-          ∙ append_assoc b.element rest early.missing;
-    } in
+    record { element = b.element; is_element = b.is_element; parts = cc (append_assoc b.element rest early.missing, b.parts) } in
     let whole : BeginsWith early.tag early.content (here ++ early.missing) [] =
     record { element = here ++ early.missing; is_element = early.whole; parts = sym (append-nil (here ++ early.missing)) } in
-    let none : rest ++ early.missing ≡ [] = ap (λ (f : Front). f.2) (one_front tag content early.tag early.content (here ++ early.missing)
-    (rest ++ early.missing) [] longer whole) in
-    early.some (nothing rest early.missing none)
-  where
-    nothing : (first second : List ℕ) → first ++ second ≡ [] → second ≡ []
-    nothing [] second e = e
-    nothing (x ∷ first) second e = absurd cc
+    let none : length (rest ++ early.missing) ≡ 0 = ap (λ (f : Front). length f.2) (one_front longer whole) in
+    early.some (nil_from_length early.missing (omega (arith, none, length-append rest early.missing)))
 
 -- a length begins with an octet below 128, or with 129 to 132 for one to four digits: never with 128, nor with 133 or more
 not_forbidden : (tag : ℕ) (content here rest : List ℕ) → BeginsWith tag content here rest → HasForbiddenLength here → ⊥
@@ -423,19 +386,19 @@ no_fault_in octets error.Truncated all f =
     not_early p.tag p.content octets p.rest p.begins f
 no_fault_in octets error.Trailing all f =
     let p = parts_of at_message octets tt all in
-    f.some (ap (λ (x : Front). x.2) (one_front f.tag f.content p.tag p.content octets f.after p.rest f.begins p.begins) ∙ p.last refl)
+    f.some (ap (λ (x : Front). x.2) (one_front f.begins p.begins) ∙ p.last refl)
 no_fault_in octets error.Length all f =
     let p = stands octets f.place f.here all f.expected in
     elim f.bad [ inl form ↦ not_forbidden p.tag p.content f.here p.rest p.begins form | inr early ↦ not_early p.tag p.content f.here p.rest p.begins early.1 ]
 no_fault_in octets error.Tag all f = grind (arith, common_steps, stands)
 no_fault_in octets error.Content all (inl f) =
     let p = stands octets f.place f.here all f.expected in
-    let same = one_front p.tag p.content f.tag f.content f.here p.rest f.after p.begins f.begins in
+    let same = one_front p.begins f.begins in
     let v = p.value f.is_value in
     f.bad v.0 (sym (ap (λ (x : Front). x.0) same) ∙ v.1) (subst (λ (o : List ℕ). IsContent lenient v.0 o) (ap (λ (x : Front). x.1) same) v.2)
 no_fault_in octets error.Content all (inr f) =
     let p = stands octets f.place f.here all f.expected in
-    let same = one_front p.tag p.content f.tag f.content f.here p.rest f.after p.begins f.begins in
+    let same = one_front p.begins f.begins in
     f.some (sym (ap (λ (x : Front). x.2) same) ∙ p.last f.is_last)
 
 pub no_fault_of : (message : Message) (octets : List ℕ) (fault : BerError) → Spells message octets → IsFault fault octets → ⊥

@@ -1,17 +1,17 @@
 -- Reading identifiers, a subidentifier or a number at a time: what is read as one is one, what is
 -- read as none has content at fault, and what is one is read.
 use Rattle.std.proofs.Common.{◌≡◌, ℕ, ◌+◌, ◌*◌, ◌%◌, ◌^◌, ◌<◌, ◌≤◌, cond, eqb, ltb, List, [], ◌∷◌, length, get_or, drop, Result, Ok, Err, IsOk, refl}
-use Rattle.std.proofs.Common.{sym, ◌∙◌, arith, zero, suc, ◌-◌, ◌++◌, take, All, ap, append_assoc, ◌≢◌, map, lit<, ⊎_elim}
+use Rattle.std.proofs.Common.{sym, ◌∙◌, arith, zero, suc, ◌-◌, ◌++◌, take, All, ap, append_assoc, ◌≢◌, map, lit<, ⊎_elim, inl, inr, is_ok, true}
 use Rattle.std.proofs.lemmas.Bool.{ltb-true, lt-ltb, le-ltb, ltb-false, eqb-false, ne_eqb, cases_lt}
 use Rattle.std.proofs.{lemmas.Grind.common_steps, Math.Nat.pow-suc, Math.Nat.one-le-pow, Math.Nat.mul-le-mul_left}
 use Rattle.std.proofs.lemmas.List.Elements.{All-head, All-tail, All-cons, All-nil, All-append, All-from_recursion, recursion_from_All}
-use Rattle.std.proofs.lemmas.List.{at_drop_more, at_drop_all, length_push, append-nil, nil_from_length, length-append, length-map}
+use Rattle.std.proofs.lemmas.List.{get_or_append_left, at_drop_more, at_drop_all, length_push, append-nil, nil_from_length, length-append, length-map}
 use Rattle.std.specs.{Result.result_unwrap_or, List.AllByRecursion}
 use Rattle.snmp_wire.specs.{declared.ber.error.BerError.BerError, ber.Number.number_of}
 use Rattle.snmp_wire.specs.declared.ber.error.BerError.TheVariants as error
 use Rattle.snmp_wire.specs.ber.Reading.{◌>>=◌, subidentifier_from, subidentifier_at, number_at, checked, largest_subidentifier, numbers_of}
 use Rattle.snmp_wire.specs.ber.Reading.{numbers_in, IsPlainFront, first_number, second_number, identifier_of}
-use Rattle.snmp_wire.proofs.ReadingLaws.{done, passed, refused, ok_value, failed, ok_is, checked_err, is_ok_at, Gives, a_fault, a_value, failing}
+use Rattle.snmp_wire.proofs.ReadingLaws.{done, refused, ok_value, failed, ok_is, checked_err, is_ok_at, Gives, a_fault, a_value, failing}
 use Rattle.snmp_wire.proofs.ReadingLaws.{given, gives_either, gives_so, gives_then}
 use Rattle.snmp_wire.specs.ber.Identifier.{IsSubidentifier, AreSubidentifiers, IsObjectId}
 use Rattle.snmp_wire.proofs.IdentifierWriting.{subidentifier_some}
@@ -23,45 +23,23 @@ first_ok (Err d) f h = absurd cc
 
 -- ---- subidentifiers
 
-pub read_some : (octets : List ℕ) → IsOk (subidentifier_at octets) → 0 < length octets
-unfolding subidentifier_at
-read_some [] h = absurd cc
-read_some (octet ∷ rest) h = omega arith
+-- what the first octets tell of one that is read
+pub record ReadsShort (octets : List ℕ) : Type 0 where
+  pub some : 0 < length octets
+  pub one : get_or octets 0 0 < 128 → subidentifier_at octets ≡ Ok (get_or octets 0 0, drop 1 octets)
+  pub longer : 128 ≤ get_or octets 0 0 → 1 < length octets
+  pub two : 128 ≤ get_or octets 0 0 → get_or octets 1 0 < 128
+      → subidentifier_at octets ≡ Ok (get_or octets 0 0 % 128 * 128 + get_or octets 1 0, drop 2 octets)
+  pub longest : 128 ≤ get_or octets 0 0 → 128 ≤ get_or octets 1 0 → 2 < length octets
+  pub three : 128 ≤ get_or octets 0 0 → 128 ≤ get_or octets 1 0 → get_or octets 2 0 < 128
+      → subidentifier_at octets ≡ Ok ((get_or octets 0 0 % 128 * 128 + get_or octets 1 0 % 128) * 128 + get_or octets 2 0, drop 3 octets)
 
-pub subidentifier_plain : (octets : List ℕ) → 0 < length octets → get_or octets 0 0 < 128 → subidentifier_at octets ≡ Ok (get_or octets 0 0, drop 1 octets)
+pub reads_short : (octets : List ℕ) → IsOk (subidentifier_at octets) → ReadsShort octets
 unfolding subidentifier_at subidentifier_from
-subidentifier_plain [] some small = absurd (omega arith)
-subidentifier_plain (octet ∷ rest) some small = grind (arith, common_steps, common_steps)
-
-pub subidentifier_longer : (octets : List ℕ) → IsOk (subidentifier_at octets) → 128 ≤ get_or octets 0 0 → 1 < length octets
-unfolding subidentifier_at subidentifier_from
-subidentifier_longer [] h large = absurd cc
-subidentifier_longer (octet ∷ []) h large = absurd (grind (arith, common_steps))
-subidentifier_longer (octet ∷ low ∷ rest) h large = omega arith
-
-pub subidentifier_of_two : (octets : List ℕ) → IsOk (subidentifier_at octets) → 128 ≤ get_or octets 0 0 → get_or octets 1 0 < 128
-    → subidentifier_at octets ≡ Ok (get_or octets 0 0 % 128 * 128 + get_or octets 1 0, drop 2 octets)
-unfolding subidentifier_at subidentifier_from
-subidentifier_of_two [] h large small = absurd cc
-subidentifier_of_two (octet ∷ []) h large small = absurd (grind (arith, common_steps))
-subidentifier_of_two (octet ∷ low ∷ rest) h large small = grind (arith, common_steps)
-
-pub subidentifier_longest : (octets : List ℕ) → IsOk (subidentifier_at octets) → 128 ≤ get_or octets 0 0 → 128 ≤ get_or octets 1 0
-    → 2 < length octets
-unfolding subidentifier_at subidentifier_from
-subidentifier_longest [] h large more = absurd cc
-subidentifier_longest (octet ∷ []) h large more = absurd (grind (arith, common_steps))
-subidentifier_longest (octet ∷ low ∷ []) h large more = absurd (grind (arith, common_steps))
-subidentifier_longest (octet ∷ low ∷ last ∷ rest) h large more = omega arith
-
-pub subidentifier_of_three : (octets : List ℕ) → IsOk (subidentifier_at octets) → 128 ≤ get_or octets 0 0 → 128 ≤ get_or octets 1 0
-    → get_or octets 2 0 < 128
-    → subidentifier_at octets ≡ Ok ((get_or octets 0 0 % 128 * 128 + get_or octets 1 0 % 128) * 128 + get_or octets 2 0, drop 3 octets)
-unfolding subidentifier_at subidentifier_from
-subidentifier_of_three [] h large more small = absurd cc
-subidentifier_of_three (octet ∷ []) h large more small = absurd (grind (arith, common_steps))
-subidentifier_of_three (octet ∷ low ∷ []) h large more small = absurd (grind (arith, common_steps))
-subidentifier_of_three (octet ∷ low ∷ last ∷ rest) h large more small = grind (arith, common_steps)
+reads_short [] h = absurd cc
+reads_short (octet ∷ []) h = grind (arith, common_steps, common_steps)
+reads_short (octet ∷ low ∷ []) h = grind (arith, common_steps, common_steps)
+reads_short (octet ∷ low ∷ last ∷ rest) h = grind (arith, common_steps, common_steps)
 
 pub digits_ok : (octets : List ℕ) → IsOk (subidentifier_at octets) → subidentifier_at octets ≡ subidentifier_from 0 octets
 unfolding subidentifier_at
@@ -72,40 +50,26 @@ pub number_subidentifier : (octets : List ℕ) → IsOk (number_at octets) → I
 unfolding number_at
 number_subidentifier octets h = first_ok (subidentifier_at octets) (λ n. cond (ltb n.0 (2 ^ 32)) (Ok n) (Err error.Content)) h
 
-small_number : (read : Result (ℕ × List ℕ) BerError) (n : ℕ) (rest : List ℕ) (y : ℕ × List ℕ) → read ≡ Ok (n, rest)
-    → (read >>= λ n. cond (ltb n.0 (2 ^ 32)) (Ok n) (Err error.Content)) ≡ Ok y → n < 2 ^ 32
-small_number read n rest y e h = grind (arith, common_steps, ltb-true, passed, done)
-
-pub number_small : (octets : List ℕ) (n : ℕ) (rest : List ℕ) → IsOk (number_at octets) → subidentifier_at octets ≡ Ok (n, rest) → n < 2 ^ 32
+-- and is that, of 32 bits
+pub number_is : (octets : List ℕ) (n : ℕ) (rest : List ℕ) → IsOk (number_at octets) → subidentifier_at octets ≡ Ok (n, rest)
+    → (n < 2 ^ 32) × (number_at octets ≡ Ok (n, rest))
 unfolding number_at
-number_small octets n rest h e = grind (arith, common_steps, ok_value, small_number)
-
-pub number_is : (octets : List ℕ) (n : ℕ) (rest : List ℕ) → IsOk (number_at octets) → subidentifier_at octets ≡ Ok (n, rest) → number_at octets ≡ Ok (n, rest)
-unfolding number_at
-number_is octets n rest h e = rw (e, lt-ltb n (2 ^ 32) (number_small octets n rest h e)) refl
+number_is octets n rest h e = elim (cases_lt n (2 ^ 32)) [
+  | inl small ↦ (small, rw (e, lt-ltb n (2 ^ 32) small) refl)
+  | inr large ↦ let none : is_ok (failed {A = ℕ × List ℕ} error.Content) ≡ true = rw (e, le-ltb n (2 ^ 32) large) at h in absurd cc
+]
 
 -- ---- the loop over the octets of a subidentifier
 
-abbrev next_of : ℕ → List ℕ → ℕ → ℕ
+abbrev pub next_of : ℕ → List ℕ → ℕ → ℕ
 next_of n octets i = n * 128 + get_or octets i 0 % 128
 
-from_step : (n : ℕ) (octets : List ℕ) (i : ℕ) → i < length octets → subidentifier_from n (drop i octets)
+-- one octet of it
+pub from_step : (n : ℕ) (octets : List ℕ) (i : ℕ) → i < length octets → subidentifier_from n (drop i octets)
     ≡ cond (ltb largest_subidentifier (next_of n octets i)) (Err error.Content)
     (cond (ltb (get_or octets i 0) 128) (Ok (next_of n octets i, drop (i + 1) octets)) (subidentifier_from (next_of n octets i) (drop (i + 1) octets)))
 unfolding subidentifier_from
 from_step n octets i lt = at_drop_more (subidentifier_from n) octets i 0 lt
-
-pub digit_is_large : (n : ℕ) (octets : List ℕ) (i : ℕ) → i < length octets → largest_subidentifier < n * 128 + get_or octets i 0 % 128
-    → subidentifier_from n (drop i octets) ≡ Err error.Content
-digit_is_large n octets i lt large = from_step n octets i lt ∙ rw (lt-ltb largest_subidentifier (next_of n octets i) large) refl
-
-pub digit_is_last : (n : ℕ) (octets : List ℕ) (i : ℕ) → i < length octets → n * 128 + get_or octets i 0 % 128 ≤ largest_subidentifier → get_or octets i 0 < 128
-    → subidentifier_from n (drop i octets) ≡ Ok (n * 128 + get_or octets i 0 % 128, drop (i + 1) octets)
-digit_is_last n octets i lt small last = grind (arith, common_steps, from_step, le-ltb, lt-ltb)
-
-pub digit_goes_on : (n : ℕ) (octets : List ℕ) (i : ℕ) → i < length octets → n * 128 + get_or octets i 0 % 128 ≤ largest_subidentifier → 128 ≤ get_or octets i 0
-    → subidentifier_from n (drop i octets) ≡ subidentifier_from (n * 128 + get_or octets i 0 % 128) (drop (i + 1) octets)
-digit_goes_on n octets i lt small more = grind (arith, common_steps, from_step, le-ltb)
 
 pub digits_end : (n : ℕ) (octets : List ℕ) (i : ℕ) → length octets ≤ i → subidentifier_from n (drop i octets) ≡ Err error.Content
 unfolding subidentifier_from
@@ -128,10 +92,6 @@ unfolding numbers_of
 numbers_step room [] some has_room = absurd (omega arith)
 numbers_step zero (octet ∷ rest) some has_room = absurd (omega arith)
 numbers_step (suc room) (octet ∷ rest) some has_room = grind (arith, common_steps)
-
-pub check_fails : (room : ℕ) (octets : List ℕ) (e : BerError) (total : Result (Unit {0}) BerError) → 0 < length octets → 0 < room → number_at octets ≡ Err e
-    → checked (numbers_of room octets) ≡ total → total ≡ Err e
-check_fails room octets e total some has_room h so_far = grind (arith, common_steps, checked_err, numbers_step)
 
 forget : (n : ℕ) (read : Result (List ℕ) BerError) → checked (read >>= λ more. Ok (n ∷ more)) ≡ checked read
 forget n (Ok more) = refl
@@ -204,12 +164,15 @@ push_skips front (n ∷ ns) rest whole plain so_far =
 abbrev pub AreLow : List ℕ → ℕ → Type 0
 AreLow octets i = (get_or octets i 0 < 128) × (get_or octets (i + 1) 0 < 128) × (get_or octets (i + 2) 0 < 128) × (get_or octets (i + 3) 0 < 128)
 
+pub four_then : (l : List ℕ) → 4 ≤ length l → l ≡ get_or l 0 0 ∷ get_or l 1 0 ∷ get_or l 2 0 ∷ get_or l 3 0 ∷ drop 4 l
+four_then [] long = absurd (omega arith)
+four_then (a ∷ []) long = absurd (omega arith)
+four_then (a ∷ b ∷ []) long = absurd (omega arith)
+four_then (a ∷ b ∷ c ∷ []) long = absurd (omega arith)
+four_then (a ∷ b ∷ c ∷ d ∷ rest) long = refl
+
 pub plain_front : (octets : List ℕ) → 4 ≤ length octets → AreLow octets 0 → IsPlainFront 4 (take 4 octets) (drop 4 octets) octets
-plain_front [] long low = absurd (omega arith)
-plain_front (a ∷ []) long low = absurd (omega arith)
-plain_front (a ∷ b ∷ []) long low = absurd (omega arith)
-plain_front (a ∷ b ∷ c ∷ []) long low = absurd (omega arith)
-plain_front (a ∷ b ∷ c ∷ d ∷ rest) long low = grind (arith, common_steps, All-cons, All-nil)
+plain_front octets long low = rw (four_then octets long) (grind (arith, common_steps, All-cons, All-nil))
 
 -- eight, as four and four
 pub plain_fronts : (octets : List ℕ) → 8 ≤ length octets → AreLow octets 0 → AreLow octets 4 → IsPlainFront 8 (take 8 octets) (drop 8 octets) octets
@@ -301,23 +264,19 @@ record TakesSubidentifier (octets : List ℕ) (x : ℕ × List ℕ) : Type 0 whe
   parts : octets ≡ text ++ x.1
   small : x.0 ≤ largest_subidentifier
 
-front_octet : (front : List ℕ) (last : ℕ) (rest : List ℕ) (first : ℕ) (tail : List ℕ) → first ∷ tail ≡ (front ++ last ∷ []) ++ rest
-    → get_or (front ++ last ∷ []) 0 0 ≡ first
-front_octet [] last rest first tail e = cc
-front_octet (octet ∷ front) last rest first tail e = cc
-
 subidentifier_gives : (octets : List ℕ) → Gives (TakesSubidentifier octets) (λ e. error.Content ≡ e) (subidentifier_at octets)
 unfolding subidentifier_at
 subidentifier_gives [] = a_fault error.Content refl
 subidentifier_gives (first ∷ rest) = gives_either (eqb first 128) (λ zero_digit. a_fault error.Content refl) (λ other.
     gives_so (λ x t.
+    let at_front = get_or_append_left (t.front ++ t.last ∷ []) x.1 0 0 (omega (arith, length_push t.front t.last)) in
     let is_subidentifier : IsSubidentifier (t.front ++ t.last ∷ []) x.0 = record {
       front = t.front;
       last = t.last;
       parts = refl;
       goes_on = All-from_recursion (λ octet. 128 ≤ octet) t.front t.goes_on;
       ends = t.ends;
-      minimal = λ h. eqb-false first 128 other (sym (front_octet t.front t.last x.1 first rest t.parts) ∙ h);
+      minimal = λ h. eqb-false first 128 other (ap (λ (o : List ℕ). get_or o 0 0) t.parts ∙ at_front ∙ h);
       value = omega (arith, t.value);
     } in
     record { text = t.front ++ t.last ∷ []; is_subidentifier = is_subidentifier; parts = t.parts; small = t.small })
@@ -458,7 +417,7 @@ plain_length count numbers rest octets front = omega (arith, ap length front.0, 
 pub number_refused : (octets : List ℕ) (e : BerError) → 0 < length octets → number_at octets ≡ Err e → (room : ℕ)
     → checked (numbers_of room octets) ≡ Err e
 number_refused octets e some h zero = no_room octets 0 some (omega arith) ∙ ap (λ (d : BerError). failed d) (number_fails octets e h)
-number_refused octets e some h (suc room) = check_fails (suc room) octets e _ some (omega arith) h refl
+number_refused octets e some h (suc room) = checked_err (numbers_of (suc room) octets) e (numbers_step (suc room) octets some (omega arith) ∙ rw h refl)
 
 -- ---- the loop
 

@@ -109,7 +109,7 @@ pub eight_then : (numbers : List ℕ) (from : ℕ) → from + 8 ≤ length numbe
 eight_then numbers from h = grind (arith, common_steps, number_then)
 
 -- each of four numbers is below 128 where the four have no higher bit
-below_128 : (a b c d : ℕ) → bit_or (bit_or (bit_or a b) c) d < 128 → (a < 128) × (b < 128) × (c < 128) × (d < 128)
+pub below_128 : (a b c d : ℕ) → bit_or (bit_or (bit_or a b) c) d < 128 → (a < 128) × (b < 128) × (c < 128) × (d < 128)
 below_128 a b c d low = grind (arith, common_steps, le_or_l, le_or_r)
 
 -- or-ed together, numbers are no smaller than each of them: where all eight have no higher bit, none has
@@ -127,55 +127,34 @@ nine numbers number h s e =
     let k : ℕ = length numbers - 9 in
     let front : List ℕ = take k numbers in
     let eight : List ℕ = eight_from numbers k in
-    let at_last : k + 8 ≡ length numbers - 1 = omega (arith, h) in
-    let last : drop (k + 8) numbers ≡ number ∷ [] = ap (λ i. drop i numbers) at_last
-    ∙ number_then numbers (length numbers - 1) (length numbers) (omega (arith, h)) (omega arith)
-    ∙ ap (λ (more : List ℕ). get_or numbers (length numbers - 1) 0 ∷ more) (drop_all (length numbers) numbers (omega arith)) ∙ ap (λ n. n ∷ []) (sym e) in
-    let parts : front ++ (eight ++ number ∷ []) ≡ numbers =
-    sym (ap (λ (more : List ℕ). front ++ more) (eight_then numbers k (omega (arith, h)) ∙ ap (λ (more : List ℕ). eight ++ more) last))
-    ∙ take-append-drop k numbers in
+    let place : k + 8 ≡ length numbers - 1 = omega (arith, h) in
+    let last : drop (k + 8) numbers ≡ number ∷ [] =
+    cc (number_then numbers (k + 8) (length numbers) (omega (arith, h)) (omega arith), drop_all (length numbers) numbers (omega arith)) in
+    let parts : numbers ≡ front ++ (eight ++ number ∷ []) = cc (eight_then numbers k (omega (arith, h)), take-append-drop k numbers) in
     let short : AllByRecursion (λ n. n < 128) eight = (s.first, (s.second, (s.third, (s.fourth, (s.fifth, (s.sixth, (s.seventh, (s.eighth, tt)))))))) in
-    sym (flat_map-append canon_subidentifier front (eight ++ number ∷ [])
-    ∙ ap (λ (more : List ℕ). flat_map canon_subidentifier front ++ more)
-    (plain_then eight (number ∷ []) short ∙ ap (λ (more : List ℕ). eight ++ more) (append-nil (canon_subidentifier number))))
-    ∙ ap (flat_map canon_subidentifier) parts
+    let all : flat_map canon_subidentifier (eight ++ number ∷ []) ≡ eight ++ canon_subidentifier number =
+    plain_then eight (number ∷ []) short ∙ ap (λ (more : List ℕ). eight ++ more) (append-nil (canon_subidentifier number)) in
+    sym (ap (flat_map canon_subidentifier) parts ∙ flat_map-append canon_subidentifier front (eight ++ number ∷ [])
+    ∙ ap (λ (more : List ℕ). flat_map canon_subidentifier front ++ more) all)
 
 pub nine_counted : (numbers : List ℕ) (number : ℕ) → 9 ≤ length numbers → AreShort numbers (length numbers - 9)
     → number ≡ get_or numbers (length numbers - 1) 0
     → length (flat_map canon_subidentifier numbers)
     ≡ length (flat_map canon_subidentifier (take (length numbers - 9) numbers)) + (8 + subidentifier_size number)
 nine_counted numbers number h s e =
-    let front : List ℕ = flat_map canon_subidentifier (take (length numbers - 9) numbers) in
-    let eight : List ℕ = eight_from numbers (length numbers - 9) in
-    omega (
-      arith,
-      ap length (nine numbers number h s e),
-      length-append front (eight ++ canon_subidentifier number),
-      length-append eight (canon_subidentifier number),
-      length-canon_subidentifier number,
-    )
+    omega (arith, simp (length-append, length-canon_subidentifier) at (ap length (nine numbers number h s e)))
 
 pub none_before : (numbers : List ℕ) → length numbers ≡ 9 → flat_map canon_subidentifier (take (length numbers - 9) numbers) ≡ []
 none_before numbers e = let none : length numbers - 9 ≡ 0 = omega (arith, e) in ap (λ k. flat_map canon_subidentifier (take k numbers)) none
-
-pub small_before : (numbers : List ℕ) (left : ℕ) → bit_or (bit_or (bit_or (get_or numbers (left - 4) 0) (get_or numbers (left - 3) 0))
-    (get_or numbers (left - 2) 0)) (get_or numbers (left - 1) 0) < 128
-    → (get_or numbers (left - 4) 0 < 128) × (get_or numbers (left - 3) 0 < 128) × (get_or numbers (left - 2) 0 < 128) × (get_or numbers (left - 1) 0 < 128)
-small_before numbers left low = grind (arith, common_steps, below_128)
 
 pub plain_before : (numbers : List ℕ) (left : ℕ) → 4 ≤ left → left ≤ length numbers → bit_or (bit_or (bit_or (get_or numbers (left - 4) 0)
     (get_or numbers (left - 3) 0)) (get_or numbers (left - 2) 0)) (get_or numbers (left - 1) 0) < 128
     → flat_map canon_subidentifier (drop (left - 4) numbers) ≡ (get_or numbers (left - 4) 0 ∷ get_or numbers (left - 3) 0 ∷ get_or numbers (left - 2) 0
     ∷ get_or numbers (left - 1) 0 ∷ []) ++ flat_map canon_subidentifier (drop left numbers)
 plain_before numbers left some within low =
-    let small = small_before numbers left low in
+    let small = below_128 _ _ _ _ low in
     let four = get_or numbers (left - 4) 0 ∷ get_or numbers (left - 3) 0 ∷ get_or numbers (left - 2) 0 ∷ get_or numbers (left - 1) 0 ∷ [] in
-    let parts : drop (left - 4) numbers ≡ four ++ drop left numbers = rw (
-      number_then numbers (left - 4) (left - 3) (omega (arith, some)) (omega (arith, some, within)),
-      number_then numbers (left - 3) (left - 2) (omega (arith, some)) (omega (arith, some, within)),
-      number_then numbers (left - 2) (left - 1) (omega (arith, some)) (omega (arith, some, within)),
-      number_then numbers (left - 1) left (omega (arith, some)) within,
-    ) refl in
+    let parts : drop (left - 4) numbers ≡ four ++ drop left numbers = grind (arith, common_steps, number_then) in
     ap (flat_map canon_subidentifier) parts ∙ plain_then four (drop left numbers) (small.0, (small.1, (small.2, (small.3, tt))))
 
 -- ---- digits of seven bits
@@ -241,10 +220,8 @@ text_is text n h is =
     let size : length is.front ≡ length text - 1 = omega (arith, ap length is.parts, length-append is.front (is.last ∷ [])) in
     let high : v ≡ n / 128 = omega (arith, value) in
     let low : is.last ≡ n % 128 = omega (arith, value, is.ends) in
-    let front : is.front ≡ septets (length text - 1) (n / 128) =
-    septets_are is.front (front_octets is.front (is.last ∷ []) (subst Octets is.parts h)) (recursion_from_All (λ octet. 128 ≤ octet) is.front is.goes_on)
-    ∙ ap (λ k. septets k v) size ∙ ap (septets (length text - 1)) high in
-    is.parts ∙ ap (λ (o : List ℕ). o ++ is.last ∷ []) front ∙ ap (λ l. septets (length text - 1) (n / 128) ++ l ∷ []) low
+    cc (septets_are is.front (front_octets is.front (is.last ∷ []) (subst Octets is.parts h))
+    (recursion_from_All (λ octet. 128 ≤ octet) is.front is.goes_on))
 
 -- so texts of as many octets are the same
 pub same_subidentifier : (xs ys : List ℕ) (n : ℕ) → Octets xs → Octets ys → length xs ≡ length ys → IsSubidentifier xs n → IsSubidentifier ys n → xs ≡ ys
@@ -278,16 +255,15 @@ all_octets [] = tt
 all_octets (n ∷ more) = both_octets (canon_subidentifier n) (flat_map canon_subidentifier more) (subidentifier_octets n) (all_octets more)
 
 pub small_subidentifiers : (name : List ℕ) → IsWire name → IsIdentifier name → AllByRecursion (λ n. n < 2 ^ 35) (subidentifiers name)
-small_subidentifiers name wire identifier = by_numbers name wire (recursion_from_All (λ n. n < 2 ^ 32) name identifier.numbers)
+small_subidentifiers [] wire identifier = tt
+small_subidentifiers (x ∷ []) wire identifier = tt
+small_subidentifiers (x ∷ y ∷ rest) wire identifier =
+    let numbers = recursion_from_All (λ n. n < 2 ^ 32) (x ∷ y ∷ rest) identifier.numbers in
+    (omega (arith, wire.0, numbers.1.0), wider rest numbers.1.1)
   where
     wider : (numbers : List ℕ) → AllByRecursion (λ n. n < 2 ^ 32) numbers → AllByRecursion (λ n. n < 2 ^ 35) numbers
     wider [] h = tt
     wider (n ∷ more) h = (omega (arith, h.0), wider more h.1)
-
-    by_numbers : (name : List ℕ) → IsWire name → AllByRecursion (λ n. n < 2 ^ 32) name → AllByRecursion (λ n. n < 2 ^ 35) (subidentifiers name)
-    by_numbers [] wire h = tt
-    by_numbers (x ∷ []) wire h = tt
-    by_numbers (x ∷ y ∷ rest) wire h = (omega (arith, wire.0, h.1.0), wider rest h.1.1)
 
 pub content_is_subidentifiers : (name : List ℕ) → canon_content (object_id name) ≡ flat_map canon_subidentifier (subidentifiers name)
 unfolding canon_content

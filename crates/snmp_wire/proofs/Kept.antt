@@ -1,15 +1,15 @@
 -- Bindings that are kept as their encodings: what is written is read again.
-use Rattle.std.proofs.Common.{arith, ◌≡◌, ℕ, List, [], ◌∷◌, ◌++◌, Result, Ok, IsOk, refl, sym, ap, subst, ◌∙◌, ◌<◌, ◌≤◌, length, get_or, take, drop}
+use Rattle.std.proofs.Common.{arith, ◌≡◌, ℕ, List, [], ◌∷◌, ◌++◌, Result, Ok, IsOk, refl, sym, ap, ◌∙◌, ◌<◌, ◌≤◌, length, get_or, take, drop}
 use Rattle.std.proofs.{lemmas.Grind.common_steps, lemmas.Bool.lt-ltb, lemmas.Bool.ltb-false, lemmas.List.append-nil, lemmas.List.take-append-drop}
 use Rattle.std.specs.Result.{result_unwrap_or}
 use Rattle.snmp_wire.specs.{declared.ber.error.BerError.BerError, Encoded.IsKept, Encoded.binding_in, Range.IsBindingInRange, Range.IsInRange}
 use Rattle.snmp_wire.specs.{Reading.bindings_in, Reading.bindings_of, Spelling.SpellsBinding, ber.Number.lenient}
 use Rattle.snmp_wire.specs.Canon.{IsEncodable, IsEncodableValue, canon_binding}
 use Rattle.snmp_wire.specs.Message.{VarBind, Datum, octet_string, null_value, object_id, opaque_octets}
-use Rattle.snmp_wire.proofs.{LengthLaws.inner_again, IdentifierReading.identifier_again, MessageElements.spells_binding}
+use Rattle.snmp_wire.proofs.{LengthLaws.inner_again, IdentifierReading.identifier_again, IdentifierReading.four_then, MessageElements.spells_binding}
 use Rattle.snmp_wire.specs.ber.Reading.{content_at, identifier_of, inner_at, length_at}
 use Rattle.snmp_wire.proofs.ReadingLaws.{Gives, a_value, done, is_ok_at, ok_is, passed, refused}
-use Rattle.snmp_wire.proofs.MessageLaws.{four_then, binding_again, bindings_again}
+use Rattle.snmp_wire.proofs.MessageLaws.{binding_again, bindings_again}
 
 encodable_value : (v : Datum) → IsInRange v → IsEncodableValue v
 encodable_value (octet_string text) h = h.1
@@ -47,47 +47,34 @@ module _ (p : VarBind) (range : IsBindingInRange p) where
   pub one_binding : (octets : List ℕ) → octets ≡ canon_binding p → bindings_in octets ≡ p ∷ []
   one_binding octets e = ap bindings_in e ∙ ap (λ (read : Result (List VarBind) BerError). result_unwrap_or read []) all_again
 
-  -- the content of the binding and that of its name, in octets that are its encoding
-  record HasName (octets : List ℕ) : Type 0 where
-    content : List ℕ
-    name : List ℕ
-    value : List ℕ
-    outer : inner_at 0x30 octets ≡ Ok (content, [])
-    inner : inner_at 0x06 content ≡ Ok (name, value)
-    is_name : identifier_of name ≡ Ok p.name
+  -- its content, and that of its name
+  outer : (octets : List ℕ) → octets ≡ canon_binding p → inner_at 0x30 octets ≡ Ok (spells.name ++ spells.value, [])
+  outer octets e = ap (inner_at 0x30) (e ∙ sym (append-nil (canon_binding p)))
+      ∙ inner_again 0x30 (spells.name ++ spells.value) (canon_binding p) [] spells.element
 
-  has_name : (octets : List ℕ) → octets ≡ canon_binding p → HasName octets
-  has_name octets e = record {
-    content = spells.name ++ spells.value;
-    name = spells.is_name.content;
-    value = spells.value;
-    outer =
-        ap (inner_at 0x30) (e ∙ sym (append-nil (canon_binding p)))
-        ∙ inner_again 0x30 (spells.name ++ spells.value) (canon_binding p) [] spells.element;
-    inner = inner_again 0x06 spells.is_name.content spells.name spells.value spells.is_name.element;
-    is_name = identifier_again spells.is_name.content p.name spells.is_name.is_content;
-  }
+  inner : inner_at 0x06 (spells.name ++ spells.value) ≡ Ok (spells.is_name.content, spells.value)
+  inner = inner_again 0x06 spells.is_name.content spells.name spells.value spells.is_name.element
+
+  is_name : identifier_of spells.is_name.content ≡ Ok p.name
+  is_name = identifier_again spells.is_name.content p.name spells.is_name.is_content
 
   -- so the content is read, then the name in it, and no fault is met
   abbrev InContent : List ℕ × List ℕ → Type 0
   InContent content = Gives (λ name. identifier_of name.0 ≡ Ok p.name) (λ fault. ⊥) (inner_at 0x06 content.0)
 
   pub name_gives : (octets : List ℕ) → octets ≡ canon_binding p → Gives InContent (λ fault. ⊥) (inner_at 0x30 octets)
-  name_gives octets e =
-      let h = has_name octets e in
-      let inner : InContent (h.content, []) =
-      subst (Gives (λ name. identifier_of name.0 ≡ Ok p.name) (λ fault. ⊥)) (sym h.inner) (a_value (h.name, h.value) h.is_name) in
-      subst (Gives InContent (λ fault. ⊥)) (sym h.outer) (a_value (h.content, []) inner)
+  name_gives octets e = rw (outer octets e) (a_value (spells.name ++ spells.value, [])
+      (rw inner (a_value (spells.is_name.content, spells.value) is_name)))
 
   -- the name behind the first four octets, where both lengths have one octet
   pub short_name : (octets : List ℕ) → octets ≡ canon_binding p → 4 ≤ length octets → get_or octets 1 0 < 128 → get_or octets 3 0 < 128
       → (get_or octets 3 0 ≤ length (drop 4 octets)) × (identifier_of (take (get_or octets 3 0) (drop 4 octets)) ≡ Ok p.name)
   short_name octets e long small short =
-      let h = has_name octets e in
       let elements : List ℕ = get_or octets 2 0 ∷ get_or octets 3 0 ∷ drop 4 octets in
-      let outer = short_inner 0x30 (get_or octets 0 0) (get_or octets 1 0) elements h.content [] small (ap (inner_at 0x30) (sym (four_then octets long)) ∙ h.outer) in
-      let whole : elements ≡ h.content =
-      sym (take-append-drop (get_or octets 1 0) elements) ∙ ap (λ (rest : List ℕ). take (get_or octets 1 0) elements ++ rest) outer.2
-      ∙ append-nil (take (get_or octets 1 0) elements) ∙ outer.1 in
-      let inner = short_inner 0x06 (get_or octets 2 0) (get_or octets 3 0) (drop 4 octets) h.name h.value short (ap (inner_at 0x06) whole ∙ h.inner) in
-      (inner.0, ap identifier_of inner.1 ∙ h.is_name)
+      let front = short_inner 0x30 (get_or octets 0 0) (get_or octets 1 0) elements (spells.name ++ spells.value) [] small
+      (ap (inner_at 0x30) (sym (four_then octets long)) ∙ outer octets e) in
+      let whole : elements ≡ spells.name ++ spells.value =
+      cc (take-append-drop (get_or octets 1 0) elements, front.1, front.2, append-nil (spells.name ++ spells.value)) in
+      let back = short_inner 0x06 (get_or octets 2 0) (get_or octets 3 0) (drop 4 octets) spells.is_name.content spells.value short
+      (ap (inner_at 0x06) whole ∙ inner) in
+      (back.0, ap identifier_of back.1 ∙ is_name)

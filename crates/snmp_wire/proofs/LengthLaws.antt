@@ -2,7 +2,7 @@
 -- is read as none isn't, and what is one is read.
 use Rattle.std.proofs.lemmas.Grind.{common_steps}
 use Rattle.std.proofs.Common.{◌≡◌, ◌≢◌, ℕ, ◌+◌, ◌-◌, ◌<◌, ◌≤◌, false, eqb, ltb, ◌&&◌, List, [], ◌∷◌, ◌++◌, length, take, drop, replicate, Ok, refl}
-use Rattle.std.proofs.Common.{sym, ap, subst, ◌∙◌, append_assoc, arith, ◌⊎◌, inl, inr}
+use Rattle.std.proofs.Common.{sym, ap, subst, append_assoc, arith, ◌⊎◌, inl, inr}
 use Rattle.std.proofs.lemmas.Bool.{ltb-true, ltb-false, lt-ltb, le-ltb, eqb-true, eqb-false, eq-eqb, and_cases, and_parts}
 use Rattle.std.proofs.lemmas.List.{take_at, drop_at, take-append-drop, length-append, length-replicate, length-take-le}
 use Rattle.snmp_wire.specs.{declared.ber.error.BerError.BerError, ber.Number.unsigned, ber.Length.IsLength, ber.Length.IsElement}
@@ -19,25 +19,36 @@ zeros n = replicate n 0
 pub some_octets : (octets : List ℕ) → 0 < length octets → octets ≢ []
 some_octets octets lt e = let none : length octets ≡ 0 = ap length e in omega arith
 
+-- so do the front octets of an element
+ends_early : {octets : List ℕ} (tag : ℕ) (lead content missing : List ℕ) → 0 < length missing → IsLength lead (length content)
+    → octets ++ missing ≡ tag ∷ lead ++ content → EndsEarly octets
+ends_early tag lead content missing some is_length parts = record {
+  missing = missing;
+  some = some_octets missing some;
+  tag = tag;
+  content = content;
+  whole = record { length_octets = lead; is_length = is_length; parts = parts };
+}
+
+-- a first octet of 129 to 132, and as many digits
+long_form : (first : ℕ) (digits : List ℕ) → 128 < first → first < 133 → length digits ≡ first - 128 → IsLength (first ∷ digits) (unsigned digits)
+long_form first digits low high size = inr (record {
+  digits = digits;
+  some = omega arith;
+  few = omega arith;
+  value = refl;
+  parts = ap (λ (n : ℕ). n ∷ digits) (omega arith);
+})
+
 -- the length is there, and not the whole of the content
 content_short : (tag : ℕ) (lead after : List ℕ) (n : ℕ)
     → IsLength lead n → length after < n → EndsEarly (tag ∷ lead ++ after)
 content_short tag lead after n is_length short =
     let missing = zeros (n - length after) in
     let size = length-replicate {A = ℕ} (n - length after) 0 in
-    let len : length (after ++ missing) ≡ n =
-    omega (arith, length-append after missing, size) in
-    record {
-      missing = missing;
-      some = some_octets missing (omega (arith, size));
-      tag = tag;
-      content = after ++ missing;
-      whole = record {
-        length_octets = lead;
-        is_length = subst (IsLength lead) (sym len) is_length;
-        parts = ap (λ (o : List ℕ). tag ∷ o) (append_assoc lead after missing);
-      };
-    }
+    let whole : n ≡ length (after ++ missing) = omega (arith, length-append after missing, size) in
+    ends_early tag lead (after ++ missing) missing (omega (arith, size)) (subst (IsLength lead) whole is_length)
+    (ap (λ (o : List ℕ). tag ∷ o) (append_assoc lead after missing))
 
 -- not even the length is there
 length_short : (tag first : ℕ) (rest : List ℕ)
@@ -46,50 +57,20 @@ length_short tag first rest low high short =
     let more = zeros (first - 128 - length rest) in
     let size = length-replicate {A = ℕ} (first - 128 - length rest) 0 in
     let digits = rest ++ more in
-    let len : length digits ≡ first - 128 = omega (arith, length-append rest more, size) in
     let content = zeros (unsigned digits) in
-    let is_long : IsLength (first ∷ digits) (unsigned digits) = inr (record {
-      digits = digits;
-      some = omega arith;
-      few = omega arith;
-      value = refl;
-      parts = ap (λ (n : ℕ). n ∷ digits) (omega arith);
-    }) in
-    record {
-      missing = more ++ content;
-      some = some_octets (more ++ content) (omega (arith, length-append more content, size));
-      tag = tag;
-      content = content;
-      whole = record {
-        length_octets = first ∷ digits;
-        is_length = subst (IsLength (first ∷ digits))
-            (sym (length-replicate {A = ℕ} (unsigned digits) 0)) is_long;
-        parts = ap (λ (o : List ℕ). tag ∷ first ∷ o) (sym (append_assoc rest more content));
-      };
-    }
+    let is_long = long_form first digits low high (omega (arith, length-append rest more, size)) in
+    ends_early tag (first ∷ digits) content (more ++ content) (omega (arith, length-append more content, size))
+    (subst (IsLength (first ∷ digits)) (sym (length-replicate {A = ℕ} (unsigned digits) 0)) is_long)
+    (ap (λ (o : List ℕ). tag ∷ first ∷ o) (sym (append_assoc rest more content)))
+
+no_length : IsLength (0 ∷ []) 0
+no_length = inl (record { small = omega arith; one = refl })
 
 nothing_there : (tag : ℕ) → EndsEarly (tag ∷ [])
-nothing_there tag = record {
-  missing = 0 ∷ [];
-  some = some_octets (0 ∷ []) (omega arith);
-  tag = tag;
-  content = [];
-  whole = record {
-    length_octets = 0 ∷ [];
-    is_length = inl (record { small = omega arith; one = refl });
-    parts = refl;
-  };
-}
+nothing_there tag = ends_early tag (0 ∷ []) [] (0 ∷ []) (omega arith) no_length refl
 
 pub no_octets : EndsEarly []
-unfolding nothing_there
-no_octets = record {
-  missing = 0 ∷ 0 ∷ [];
-  some = some_octets (0 ∷ 0 ∷ []) (omega arith);
-  tag = 0;
-  content = [];
-  whole = (nothing_there 0).whole;
-}
+no_octets = ends_early 0 (0 ∷ []) [] (0 ∷ 0 ∷ []) (omega arith) no_length refl
 
 -- ---- lengths
 
@@ -121,29 +102,11 @@ long_length_gives cut tag first rest large =
     (λ short. a_fault cut
     (inl (refl, length_short tag first rest low high (ltb-true (length rest) width short))))
     (λ long.
-    let room : width ≤ length rest = ltb-false (length rest) width long in
-    let len : length (take width rest) ≡ width = length-take-le width rest room in
-    a_value (unsigned (take width rest), drop width rest) (
-      first ∷ take width rest,
-      inr (record {
-        digits = take width rest;
-        some = omega arith;
-        few = omega arith;
-        value = refl;
-        parts = ap (λ n. n ∷ take width rest) (omega arith);
-      }),
-      ap (λ (tail : List ℕ). first ∷ tail) (sym (take-append-drop width rest)),
-    )))
-    (λ bad. a_fault error.Length (inr (
-      refl,
-      record {
-        tag = tag;
-        first = first;
-        rest = rest;
-        parts = refl;
-        forbidden = forbidden first large bad;
-      },
-    )))
+    let size : length (take width rest) ≡ width = length-take-le width rest (ltb-false (length rest) width long) in
+    a_value (unsigned (take width rest), drop width rest)
+    (first ∷ take width rest, long_form first (take width rest) low high size, ap (λ (o : List ℕ). first ∷ o) (sym (take-append-drop width rest)))))
+    (λ bad. a_fault error.Length
+    (inr (refl, record { tag = tag; first = first; rest = rest; parts = refl; forbidden = forbidden first large bad })))
 
 length_gives : (cut : BerError) (tag : ℕ) (octets : List ℕ)
     → Gives (TakesLength octets) (IsBadElement cut (tag ∷ octets)) (length_at cut octets)
@@ -181,25 +144,15 @@ content_gives cut tag octets = gives_then _ (length_gives cut tag octets) (λ x 
     let n = x.0 in
     let after = x.1 in
     gives_either (ltb (length after) n)
-    (λ short. a_fault cut (inl (
-      refl,
-      subst (λ (o : List ℕ). EndsEarly (tag ∷ o)) (sym t.2)
-          (content_short tag t.0 after n t.1 (ltb-true (length after) n short)),
-    )))
+    (λ short. let early = content_short tag t.0 after n t.1 (ltb-true (length after) n short) in
+    a_fault cut (inl (refl, subst (λ (o : List ℕ). EndsEarly (tag ∷ o)) (sym t.2) early)))
     (λ long.
     let content = take n after in
     let len : length content ≡ n = length-take-le n after (ltb-false (length after) n long) in
-    a_value (content, drop n after) (record {
-      element = tag ∷ t.0 ++ content;
-      is_element = record {
-        length_octets = t.0;
-        is_length = subst (IsLength t.0) (sym len) t.1;
-        parts = refl;
-      };
-      parts = ap (λ (o : List ℕ). tag ∷ o)
-          (t.2 ∙ ap (λ (o : List ℕ). t.0 ++ o) (sym (take-append-drop n after))
-          ∙ sym (append_assoc t.0 content (drop n after)));
-    })))
+    let is_length = subst (IsLength t.0) (sym len) t.1 in
+    let is_element : IsElement tag content (tag ∷ t.0 ++ content) = record { length_octets = t.0; is_length = is_length; parts = refl } in
+    let parts : tag ∷ octets ≡ (tag ∷ t.0 ++ content) ++ drop n after = cc (take-append-drop n after, append_assoc t.0 content (drop n after)) in
+    a_value (content, drop n after) (record { element = tag ∷ t.0 ++ content; is_element = is_element; parts = parts })))
 
 -- a content after its length is read
 pub content_again : (cut : BerError) (lead content rest : List ℕ) → IsLength lead (length content)
@@ -208,12 +161,7 @@ unfolding content_at
 content_again cut lead content rest h =
     let room : ltb (length (content ++ rest)) (length content) ≡ false =
     le-ltb _ _ (omega (arith, length-append content rest)) in
-    rw (
-      length_again cut lead (length content) (content ++ rest) h,
-      room,
-      take_at content rest (length content) refl,
-      drop_at content rest (length content) refl,
-    ) refl
+    rw (length_again cut lead (length content) (content ++ rest) h, room, take_at content rest _ refl, drop_at content rest _ refl) refl
 
 -- no element of a tag: none at all, or one of another
 abbrev pub IsNoInner : ℕ → List ℕ → BerError → Type 0
@@ -227,8 +175,7 @@ pub inner_gives : (tag : ℕ) (octets : List ℕ)
 unfolding inner_at
 inner_gives tag [] = a_fault error.Length (inl (inl (refl, no_octets)))
 inner_gives tag (found ∷ octets) = gives_either (eqb found tag)
-    (λ same. subst (λ (t : ℕ). Gives (λ x. BeginsWith t x.0 (found ∷ octets) x.1)
-    (IsNoInner tag (found ∷ octets)) (content_at error.Length octets)) (eqb-true found tag same)
+    (λ same. rw (← eqb-true found tag same)
     (gives_so (λ x begins. begins) (λ e bad. inl bad) (content_gives error.Length found octets)))
     (λ other. a_fault error.Tag (inr (refl, found, octets, refl, eqb-false found tag other)))
 

@@ -133,29 +133,27 @@ module _ (form : Form) where
   bindings_in_row [] octets is = is
   bindings_in_row (binding ∷ more) octets (first, rest, parts, this, others) = grind (arith, common_steps, bindings_in_row more rest others, binding_in_row)
 
+  -- an element alone
+  alone : (tag : ℕ) (within : Elements) {content octets : List ℕ} → IsElement tag content octets → SpellsAll form within content
+      → SpellsAll form (element_then tag within no_elements) octets
+  alone tag within {content} {octets} element inner = (octets, [], sym (append-nil octets), content, element, inner, refl)
+
+  of_alone : (tag : ℕ) (within : Elements) (octets : List ℕ) → SpellsAll form (element_then tag within no_elements) octets
+      → (content : List ℕ) × IsElement tag content octets × SpellsAll form within content
+  of_alone tag within octets (first, end, parts, content, element, inner, none) =
+      (content, subst (IsElement tag content) (sym (last_is octets first end parts none)) element, inner)
+
   pub in_row : (message : Message) (octets : List ℕ) → SpellsMessage form message octets → SpellsAll form (elements_of message) octets
   in_row message octets is =
       let pdu = is.is_pdu in
-      let bindings : SpellsAll form (elements_of_bindings message.bindings) pdu.bindings = bindings_in_row message.bindings pdu.bindings pdu.are_bindings in
-      let list : SpellsAll form (element_then sequence_tag (elements_of_bindings message.bindings) no_elements) pdu.list =
-      (pdu.list, [], sym (append-nil pdu.list), pdu.bindings, pdu.is_list, bindings, refl) in
-      let fields : SpellsAll form (elements_in_pdu message) (pdu.id ++ pdu.a ++ pdu.b ++ pdu.list) = (
-        pdu.id,
-        pdu.a ++ (pdu.b ++ pdu.list),
-        simp append_assoc,
-        pdu.is_id,
-        (pdu.a, pdu.b ++ pdu.list, refl, pdu.is_a, (pdu.b, pdu.list, refl, pdu.is_b, list)),
-      ) in
-      let whole : SpellsAll form (element_then (kind_tag message.kind) (elements_in_pdu message) no_elements) is.pdu =
-      (is.pdu, [], sym (append-nil is.pdu), pdu.id ++ pdu.a ++ pdu.b ++ pdu.list, pdu.element, fields, refl) in
-      let inner : SpellsAll form (elements_in_message message) (is.version ++ is.community ++ is.pdu) = (
-        is.version,
-        is.community ++ is.pdu,
-        append_assoc is.version is.community is.pdu,
-        is.is_version,
-        (is.community, is.pdu, refl, is.is_community, whole),
-      ) in
-      (octets, [], sym (append-nil octets), is.version ++ is.community ++ is.pdu, is.element, inner, refl)
+      let list = alone sequence_tag (elements_of_bindings message.bindings) pdu.is_list
+      (bindings_in_row message.bindings pdu.bindings pdu.are_bindings) in
+      let fields : SpellsAll form (elements_in_pdu message) (pdu.id ++ (pdu.a ++ (pdu.b ++ pdu.list))) =
+      (pdu.id, pdu.a ++ (pdu.b ++ pdu.list), refl, pdu.is_id, (pdu.a, pdu.b ++ pdu.list, refl, pdu.is_a, (pdu.b, pdu.list, refl, pdu.is_b, list))) in
+      let row = alone (kind_tag message.kind) (elements_in_pdu message) (rw (append_assoc, append_assoc) at pdu.element) fields in
+      let inner : SpellsAll form (elements_in_message message) (is.version ++ (is.community ++ is.pdu)) =
+      (is.version, is.community ++ is.pdu, refl, is.is_version, (is.community, is.pdu, refl, is.is_community, row)) in
+      alone sequence_tag (elements_in_message message) (rw append_assoc at is.element) inner
 
   binding_of_row : (binding : VarBind) (content octets : List ℕ) → IsElement sequence_tag content octets
       → SpellsAll form (value_then (object_id binding.name) (value_then binding.value no_elements)) content → SpellsBinding form binding octets
@@ -172,52 +170,42 @@ module _ (form : Form) where
 
   pdu_of_row : (message : Message) (content octets : List ℕ) → IsElement (kind_tag message.kind) content octets
       → SpellsAll form (elements_in_pdu message) content → SpellsPdu form message octets
-  pdu_of_row message content octets element (
-    id,
-    ahead,
-    one,
-    is_id,
-    (a, after, two, is_a, (b, rest, three, is_b, (list, end, last, bindings, is_list, inner, none))),
-  ) =
+  pdu_of_row message content octets element (id, ahead, one, is_id, (a, after, two, is_a, (b, list, three, is_b, last))) =
+      let bindings = of_alone sequence_tag (elements_of_bindings message.bindings) list last in
       record {
         id = id;
         a = a;
         b = b;
-        bindings = bindings;
+        bindings = bindings.0;
         list = list;
         is_id = is_id;
         is_a = is_a;
         is_b = is_b;
-        are_bindings = bindings_of_row message.bindings bindings inner;
-        is_list = is_list;
-        element = subst (λ (o : List ℕ). IsElement (kind_tag message.kind) o octets)
-            (one ∙ ap (λ (o : List ℕ). id ++ o) (two ∙ ap (λ (o : List ℕ). a ++ o) (three ∙ ap (λ (o : List ℕ). b ++ o) (last_is rest list end last none)))
-            ∙ simp append_assoc) element;
+        are_bindings = bindings_of_row message.bindings bindings.0 bindings.2;
+        is_list = bindings.1;
+        element = rw (append_assoc, append_assoc, ← three, ← two, ← one) element;
       }
 
-  pub of_row : (message : Message) (octets : List ℕ) → AreOctets octets → SpellsAll form (elements_of message) octets
-      → SpellsMessage form message octets
-  of_row message octets h (
-    first,
-    end,
-    whole,
-    content,
-    element,
-    (version, ahead, one, is_version, (community, after, two, is_community, (pdu, behind, last, inner, is_pdu, within, none))),
-    nothing,
-  ) =
+  message_of_row : (message : Message) (content octets : List ℕ) → AreOctets octets → IsElement sequence_tag content octets
+      → SpellsAll form (elements_in_message message) content → SpellsMessage form message octets
+  message_of_row message content octets h element (version, ahead, one, is_version, (community, pdu, two, is_community, last)) =
+      let row = of_alone (kind_tag message.kind) (elements_in_pdu message) pdu last in
       record {
         version = version;
         community = community;
         pdu = pdu;
         is_version = is_version;
         is_community = is_community;
-        is_pdu = pdu_of_row message inner pdu is_pdu within;
-        element = subst (λ (o : List ℕ). IsElement sequence_tag o octets)
-            (one ∙ ap (λ (o : List ℕ). version ++ o) (two ∙ ap (λ (o : List ℕ). community ++ o) (last_is after pdu behind last none)) ∙ simp append_assoc)
-            (subst (IsElement sequence_tag content) (sym (last_is octets first end whole nothing)) element);
+        is_pdu = pdu_of_row message row.0 pdu row.1 row.2;
+        element = rw (append_assoc, ← two, ← one) element;
         are_octets = h;
       }
+
+  pub of_row : (message : Message) (octets : List ℕ) → AreOctets octets → SpellsAll form (elements_of message) octets
+      → SpellsMessage form message octets
+  of_row message octets h all =
+      let row = of_alone sequence_tag (elements_in_message message) octets all in
+      message_of_row message row.0 octets h row.1 row.2
 
 -- ---- what is written
 
@@ -250,9 +238,9 @@ in_range message range = grind (arith, common_steps, bindings_are, length-append
 
 pub spells_binding : (binding : VarBind) → IsBindingInRange binding → SpellsBinding lenient binding (canon_binding binding)
 spells_binding binding range =
-    one_of_row lenient binding (canon_binding binding) (subst (SpellsAll lenient (binding_then binding no_elements)) (sym (binding_is binding))
-    (are_read (binding_then binding no_elements) (canon_all (binding_then binding no_elements))
-    (are_strict (binding_then binding no_elements) (bindings_in_range (binding ∷ []) (range, tt)))))
+    let row = binding_then binding no_elements in
+    rw (binding_is binding) (one_of_row lenient binding (canon_all row)
+    (are_read row (canon_all row) (are_strict row (bindings_in_range (binding ∷ []) (range, tt)))))
 
 pub strict_is_read : (message : Message) (octets : List ℕ) → Strict message octets → Spells message octets
 strict_is_read message octets is = of_row lenient message octets is.are_octets (are_read (elements_of message) octets (in_row strict message octets is))
@@ -287,18 +275,11 @@ unsigned_fits : (width : ℕ) (content : List ℕ) (n : ℕ) → Octets content 
 unsigned_fits width [] n h is = absurd (omega (arith, is.some))
 unsigned_fits width (first ∷ rest) n h is =
     subst (λ (m : ℕ). m < 256 ^ width) is.value (elim is.few [
-      | inl few ↦
-          let below : unsigned (first ∷ rest) < 256 ^ length (first ∷ rest) = below_power 256 (first ∷ rest) h in
-          let most : 256 ^ length (first ∷ rest) ≤ 256 ^ width =
-          pow-le-pow_right {n = 256} (lit< tt) {i = length (first ∷ rest)} {j = width} few in
-          omega (arith, below, most)
+      | inl few ↦ omega (arith, below_power 256 (first ∷ rest) h, pow-le-pow_right {n = 256} (lit< tt) {i = length (first ∷ rest)} {j = width} few)
       | inr more ↦
-          let below : number_of 256 rest < 256 ^ length rest = below_power 256 rest h.1 in
           let size : length rest ≡ width = omega (arith, more.0) in
-          let most : 256 ^ length rest ≡ 256 ^ width = ap (λ k. 256 ^ k) size in
-          let zero_first : first ≡ 0 = more.1 in
-          let whole : unsigned (first ∷ rest) ≡ number_of 256 rest = rw zero_first (omega arith) in
-          omega (arith, below, most, whole)
+          let whole : unsigned (first ∷ rest) ≡ number_of 256 rest = rw more.1 (omega arith) in
+          omega (arith, below_power 256 rest h.1, ap (λ k. 256 ^ k) size, whole)
     ])
 
 -- ---- values
@@ -360,6 +341,5 @@ unfolding canon_head canon_front canon_opening canon_fields
 sealed_is_shortest law message bindings total octets e size range =
     let whole : Message = record message { bindings = bindings } in
     let head : canon_head message total ≡ canon_head whole (length (canon_bindings bindings)) = ap (canon_head whole) size in
-    let written : canon whole ≡ octets =
-    canon_parts whole ∙ sym (e ∙ ap (λ (front : List ℕ). front ++ canon_bindings bindings) head) in
+    let written : canon whole ≡ octets = cc (canon_parts whole) in
     subst (λ (text : List ℕ). IsShortestEncoding text whole) written (law.written whole range)

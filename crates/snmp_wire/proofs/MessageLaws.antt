@@ -16,7 +16,7 @@ use Rattle.snmp_wire.proofs.LengthLaws.{inner_gives, element_shrinks, content_ag
 use Rattle.snmp_wire.specs.declared.ber.error.BerError.TheVariants as error
 use Rattle.snmp_wire.specs.declared.kind.Kind.TheVariants as kind
 use Rattle.snmp_wire.specs.Spelling.{SpellsBinding, SpellsBindings, kind_tag, SpellsPdu, Spells}
-use Rattle.snmp_wire.proofs.{IdentifierReading.identifier_again, ValueLaws.integer_again, ValueLaws.value_again}
+use Rattle.snmp_wire.proofs.{IdentifierReading.identifier_again, IdentifierReading.four_then, ValueLaws.integer_again, ValueLaws.value_again}
 
 -- a binding has octets of its own
 fields_less : (octets : List ℕ) → Gives (λ x. length x.1 < length octets) (λ e. Unit {0}) (fields_at octets)
@@ -113,7 +113,7 @@ pub record AreParts (fields : Fields) : Type 0 where
   pub name : IsOk (identifier_of fields.name)
   pub value : IsOk (typed_value fields.tag fields.content)
 
-parts_are : (fields : Fields) (binding : VarBind) → binding_of fields ≡ Ok binding
+pub parts_are : (fields : Fields) (binding : VarBind) → binding_of fields ≡ Ok binding
     → (identifier_of fields.name ≡ Ok binding.name) × (typed_value fields.tag fields.content ≡ Ok binding.value)
 unfolding binding_of
 parts_are fields binding e = grind (arith, common_steps, bind_ok, ok_is)
@@ -126,12 +126,9 @@ pub binding_made : (fields : Fields) (name : List ℕ) (value : Datum) → ident
 unfolding binding_of
 binding_made fields name value e f = rw (e, f) refl
 
--- and of a binding that is read so
+-- the name of a binding that is read so
 pub name_of : (fields : Fields) (binding : VarBind) (name : List ℕ) → binding_of fields ≡ Ok binding → identifier_of fields.name ≡ Ok name → name ≡ binding.name
 name_of fields binding name e f = ok_is name binding.name (sym f ∙ (parts_are fields binding e).0)
-
-pub value_of : (fields : Fields) (binding : VarBind) → binding_of fields ≡ Ok binding → typed_value fields.tag fields.content ≡ Ok binding.value
-value_of fields binding e = (parts_are fields binding e).1
 
 -- the binding of fields that are one's
 pub with_fields : (fields : Fields) → IsOk (binding_of fields) → binding_of fields ≡ Ok (binding_with fields)
@@ -150,8 +147,7 @@ pub fields_again : (name value : List ℕ) (fields : Fields) → IsElement 0x06 
     → fields_of (name ++ value) ≡ Ok fields
 unfolding fields_of
 fields_again name value fields is_name is_value =
-    let whole : element_at value ≡ Ok (fields.tag, fields.content, []) = ap element_at (sym (append-nil value))
-    ∙ element_again fields.tag fields.content value [] is_value in
+    let whole = ap element_at (sym (append-nil value)) ∙ element_again fields.tag fields.content value [] is_value in
     rw (inner_again 0x06 fields.name name value is_name, whole) refl
 
 pub binding_again : (binding : VarBind) (text rest : List ℕ) → SpellsBinding lenient binding text
@@ -159,12 +155,10 @@ pub binding_again : (binding : VarBind) (text rest : List ℕ) → SpellsBinding
 unfolding binding_at fields_at binding_of
 binding_again binding text rest h =
     let fields : Fields = record { name = h.is_name.content; tag = value_tag binding.value; content = h.is_value.content } in
-    rw (
-      inner_again 0x30 (h.name ++ h.value) text rest h.element,
-      fields_again h.name h.value fields h.is_name.element h.is_value.element,
-      identifier_again h.is_name.content binding.name h.is_name.is_content,
-      value_again binding.value h.is_value.content h.is_value.is_content,
-    ) refl
+    let outer = inner_again 0x30 (h.name ++ h.value) text rest h.element in
+    let parts = fields_again h.name h.value fields h.is_name.element h.is_value.element in
+    let value = value_again binding.value h.is_value.content h.is_value.is_content in
+    rw (outer, parts, identifier_again h.is_name.content binding.name h.is_name.is_content, value) refl
 
 pub bindings_again : (bindings : List VarBind) (octets : List ℕ) → SpellsBindings lenient bindings octets
     → bindings_of octets ≡ Ok bindings
@@ -173,8 +167,7 @@ bindings_again [] octets h = ap bindings_of h
 bindings_again (binding ∷ more) octets h =
     let text = h.0 in
     let rest = h.1 in
-    let one : length text ≡ suc (length (h.3.element.length_octets ++ (h.3.name ++ h.3.value))) = ap length h.3.element.parts in
-    let some : 0 < length (text ++ rest) = omega (arith, one, length-append text rest) in
+    let some : 0 < length (text ++ rest) = omega (arith, ap length h.3.element.parts, length-append text rest) in
     let others = bindings_again more rest h.4 in
     ap bindings_of h.2 ∙ bindings_step (text ++ rest) some ∙ rw (binding_again binding text rest h.3, others) refl
 
@@ -202,27 +195,22 @@ unfolding pdu_of
 pdu_again message content octets h e =
     let regrouped : content ≡ h.id ++ (h.a ++ (h.b ++ h.list)) = e ∙ append_assoc (h.id ++ h.a) h.b h.list ∙ append_assoc h.id h.a (h.b ++ h.list) in
     let whole : inner_at 0x30 h.list ≡ Ok (h.bindings, []) = ap (inner_at 0x30) (sym (append-nil h.list)) ∙ inner_again 0x30 h.bindings h.list [] h.is_list in
+    let id = integer_at_again message.id h.id (h.a ++ (h.b ++ h.list)) h.is_id in
+    let a = integer_at_again message.a h.a (h.b ++ h.list) h.is_a in
+    let b = integer_at_again message.b h.b h.list h.is_b in
     ap (pdu_of message.version message.community message.kind) regrouped
-    ∙ rw (
-      integer_at_again message.id h.id (h.a ++ (h.b ++ h.list)) h.is_id,
-      integer_at_again message.a h.a (h.b ++ h.list) h.is_a,
-      integer_at_again message.b h.b h.list h.is_b,
-      whole,
-      bindings_again message.bindings h.bindings h.are_bindings,
-    ) refl
+    ∙ rw (id, a, b, whole, bindings_again message.bindings h.bindings h.are_bindings) refl
 
 pub message_again : (octets : List ℕ) (message : Message) → Spells message octets → message_of octets ≡ Ok message
 unfolding message_of
 message_again octets message h =
-    let content = h.version ++ h.community ++ h.pdu in
     let inside = h.is_pdu.id ++ h.is_pdu.a ++ h.is_pdu.b ++ h.is_pdu.list in
-    let first : integer_at content ≡ Ok (message.version, h.community ++ h.pdu) = ap integer_at (append_assoc h.version h.community h.pdu)
-    ∙ integer_at_again message.version h.version (h.community ++ h.pdu) h.is_version in
     let second : inner_at 0x04 (h.community ++ h.pdu) ≡ Ok (message.community, h.pdu) =
     inner_again 0x04 h.is_community.content h.community h.pdu h.is_community.element ∙ ap (λ (o : List ℕ). done (o, h.pdu)) h.is_community.is_content in
-    let third : element_at h.pdu ≡ Ok (kind_tag message.kind, inside, []) = ap element_at (sym (append-nil h.pdu))
-    ∙ element_again (kind_tag message.kind) inside h.pdu [] h.is_pdu.element in
-    rw (outermost_again octets content h.element, first, second, third, kind_again message.kind) (pdu_again message inside h.pdu h.is_pdu refl)
+    let third = ap element_at (sym (append-nil h.pdu)) ∙ element_again (kind_tag message.kind) inside h.pdu [] h.is_pdu.element in
+    let outer = outermost_again octets _ (rw append_assoc at h.element) in
+    let first = integer_at_again message.version h.version (h.community ++ h.pdu) h.is_version in
+    rw (outer, first, second, third, kind_again message.kind) (pdu_again message inside h.pdu h.is_pdu refl)
 
 -- ---- laws
 
@@ -230,11 +218,10 @@ message_again octets message h =
 pub one_message : (message other : Message) (octets spelling rest more : List ℕ) → Spells message octets → Spells other spelling
     → octets ++ rest ≡ spelling ++ more → (message ≡ other) × (octets ≡ spelling)
 one_message message other octets spelling rest more h k e =
-    let content = h.version ++ h.community ++ h.pdu in
-    let others = k.version ++ k.community ++ k.pdu in
-    let both : done (content, rest) ≡ done (others, more) = sym (inner_again 0x30 content octets rest h.element) ∙ ap (inner_at 0x30) e
-    ∙ inner_again 0x30 others spelling more k.element in
-    let rests : rest ≡ more = ap (λ (y : List ℕ × List ℕ). y.1) (ok_is (content, rest) (others, more) both) in
+    let this = inner_again 0x30 (h.version ++ h.community ++ h.pdu) octets rest h.element in
+    let that = inner_again 0x30 (k.version ++ k.community ++ k.pdu) spelling more k.element in
+    let both = sym this ∙ ap (inner_at 0x30) e ∙ that in
+    let rests : rest ≡ more = ap (λ (y : List ℕ × List ℕ). y.1) (ok_is _ _ both) in
     let same : octets ≡ spelling = append_cancel_right octets spelling more (ap (λ (o : List ℕ). octets ++ o) (sym rests) ∙ e) in
     (ok_is message other (sym (message_again octets message h) ∙ ap message_of same ∙ message_again spelling other k), same)
 
@@ -260,60 +247,25 @@ short_binding name tag content rest small =
     inner_again 0x30 inner (0x30 ∷ length inner ∷ inner) rest is_binding in
     rw (parts, ← size, whole, read) refl
 
-pub four_then : (l : List ℕ) → 4 ≤ length l → l ≡ get_or l 0 0 ∷ get_or l 1 0 ∷ get_or l 2 0 ∷ get_or l 3 0 ∷ drop 4 l
-four_then [] long = absurd (omega arith)
-four_then (a ∷ []) long = absurd (omega arith)
-four_then (a ∷ b ∷ []) long = absurd (omega arith)
-four_then (a ∷ b ∷ c ∷ []) long = absurd (omega arith)
-four_then (a ∷ b ∷ c ∷ d ∷ rest) long = refl
-
 two_then : (l : List ℕ) → 2 ≤ length l → l ≡ get_or l 0 0 ∷ get_or l 1 0 ∷ drop 2 l
 two_then [] long = absurd (omega arith)
 two_then (a ∷ []) long = absurd (omega arith)
 two_then (a ∷ b ∷ rest) long = refl
 
--- as it is found behind the first four octets
-short_behind : (size n v : ℕ) (elements : List ℕ) → size < 128 → size ≤ length elements + 2 → get_or (drop n elements) 1 0 ≡ v → n + 4 + v ≡ size
-    → fields_at (0x30 ∷ size ∷ 0x06 ∷ n ∷ elements) ≡ Ok (
-      record {
-        name = take n elements;
-        tag = get_or (drop n elements) 0 0;
-        content =
-            take v (drop 2 (drop n elements));
-      },
-      drop v (drop 2 (drop n elements)),
-    )
-short_behind size n v elements small fits is_v parts =
-    let name = take n elements in
-    let value = drop n elements in
-    let behind = drop 2 value in
-    let content = take v behind in
-    let rest = drop v behind in
-    let name_long : length name ≡ n = length-take-le n elements (omega arith) in
-    let value_long : length value ≡ length elements - n = length-drop n elements in
-    let behind_long : length behind ≡ length value - 2 = length-drop 2 value in
-    let content_long : length content ≡ v = length-take-le v behind (omega arith) in
-    let split : value ≡ get_or value 0 0 ∷ v ∷ content ++ rest =
-    two_then value (omega arith) ∙ ap (λ (w : ℕ). get_or value 0 0 ∷ w ∷ behind) is_v
-    ∙ ap (λ (tail : List ℕ). get_or value 0 0 ∷ v ∷ tail) (sym (take-append-drop v behind)) in
-    let whole : elements ≡ name ++ (get_or value 0 0 ∷ v ∷ content ++ rest) = sym (take-append-drop n elements) ∙ ap (λ (tail : List ℕ). name ++ tail) split in
-    let read = short_binding name (get_or value 0 0) content rest (omega arith) in
-    let size_is : length name + 4 + length content ≡ size = omega arith in
-    ap (λ (tail : List ℕ). fields_at (0x30 ∷ size ∷ 0x06 ∷ n ∷ tail)) whole
-    ∙ rw (size_is, name_long, content_long) at read
-
 -- as the code cuts it
-pub record Cuts (octets elements name value behind content rest : List ℕ) (n v : ℕ) : Type 0 where
-  pub elements_are : elements ≡ drop 4 octets
-  pub name_is : name ≡ take n elements
-  pub value_is : value ≡ drop n elements
-  pub behind_is : behind ≡ drop 2 value
-  pub content_is : content ≡ take v behind
-  pub rest_is : rest ≡ drop v behind
-
-pub short_fields : (octets elements name value behind content rest : List ℕ) (size n v : ℕ) → Cuts octets elements name value behind content rest n v
+pub short_fields : (octets elements name value behind content rest : List ℕ) (size n v : ℕ) → elements ≡ drop 4 octets → name ≡ take n elements
+    → value ≡ drop n elements → behind ≡ drop 2 value → content ≡ take v behind → rest ≡ drop v behind
     → 4 ≤ length octets → get_or octets 0 0 ≡ 0x30 → get_or octets 2 0 ≡ 0x06 → size ≡ get_or octets 1 0 → n ≡ get_or octets 3 0
     → size < 128 → size ≤ length elements + 2 → v ≡ get_or value 1 0 → n + 4 + v ≡ size
     → fields_at octets ≡ Ok (record { name = name; tag = get_or value 0 0; content = content }, rest)
-short_fields octets elements name value behind content rest size n v cuts long s i z m small fits is_v parts =
-    grind (arith, common_steps, short_behind, four_then)
+short_fields octets elements name value behind content rest size n v e f g h j k long s i z m small fits is_v parts =
+    let name_long : length name ≡ n = ap length f ∙ length-take-le n elements (omega arith) in
+    let value_long : length value ≡ length elements - n = ap length g ∙ length-drop n elements in
+    let behind_long : length behind ≡ length value - 2 = ap length h ∙ length-drop 2 value in
+    let content_long : length content ≡ v = ap length j ∙ length-take-le v behind (omega arith) in
+    let size_is : length name + 4 + length content ≡ size = omega arith in
+    let value_parts : value ≡ get_or value 0 0 ∷ length content ∷ (content ++ rest) = cc (two_then value (omega arith), take-append-drop v behind) in
+    let tag = get_or value 0 0 in
+    let whole : octets ≡ 0x30 ∷ (length name + 4 + length content) ∷ 0x06 ∷ length name ∷ (name ++ (tag ∷ length content ∷ (content ++ rest))) =
+    cc (four_then octets long, take-append-drop n elements) in
+    ap fields_at whole ∙ short_binding name tag content rest (omega arith)

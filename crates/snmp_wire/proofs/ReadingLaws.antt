@@ -134,14 +134,17 @@ gives_so value fault (a_value x h) = a_value x (value x h)
 gives_so value fault (a_fault e h) = a_fault e (fault e h)
 
 -- a value is returned where no octets are left, and a fault where some are
+pub gives_end : {A : Type 0} {is : A → Type 0} {fails : BerError → Type 0} {r : Result A BerError}
+    (d : BerError) (rest : List ℕ) → (rest ≡ [] → Gives is fails r) → (rest ≢ [] → fails d)
+    → Gives is fails (cond (eqb (length rest) 0) r (Err d))
+gives_end d rest h left =
+    gives_either (eqb (length rest) 0) (λ none. h (nil_from_length rest (eqb-true (length rest) 0 none)))
+    (λ some. a_fault d (left (λ none. eqb-false (length rest) 0 some (ap length none))))
+
 pub gives_all : {A : Type 0} {is : A → Type 0} {fails : BerError → Type 0} {r : Result A BerError}
     (d : BerError) (rest : List ℕ) → Gives is fails r → (rest ≢ [] → fails d)
     → Gives (λ x. is x × (rest ≡ [])) fails (cond (eqb (length rest) 0) r (Err d))
-gives_all d rest h left =
-    gives_either (eqb (length rest) 0)
-    (λ none. gives_so (λ x value. (value, nil_from_length rest (eqb-true (length rest) 0 none)))
-    (λ e fault. fault) h)
-    (λ some. a_fault d (left (λ none. eqb-false (length rest) 0 some (ap length none))))
+gives_all d rest h left = gives_end d rest (λ none. gives_so (λ x value. (value, none)) (λ e fault. fault) h) left
 
 -- what a reading gives of its fault, and its value says of another, is true of `fault_or`
 pub gives_fault : {A : Type 0} {is : A → Type 0} (fails : BerError → Type 0)

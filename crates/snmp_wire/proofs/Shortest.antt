@@ -66,10 +66,8 @@ negative_value n small =
     let power : 256 ^ size ≡ 256 ^ s.0 * 256 = pow-suc 256 s.0 in
     let fits : u < 256 ^ size = omega (arith, s.2, power, one-le-pow s.0 256 (lit< tt)) in
     let large : 128 * 256 ^ s.0 ≤ u = omega (arith, s.2, power) in
-    sym (ap twos_complement text) ∙ negative (octets size u) (first_above s.0 u large fits)
-    ∙ ap (λ v. pos v -ℤ pos (256 ^ length (octets size u))) (digits_value 256 size u (lit< tt) fits)
-    ∙ ap (λ k. pos u -ℤ pos (256 ^ k)) (length-digits 256 size u)
-    ∙ minus u n (256 ^ size) (omega (arith, s.2, power))
+    let below = negative (octets size u) (first_above s.0 u large fits) in
+    cc (below, digits_value 256 size u (lit< tt) fits, length-digits 256 size u, minus u n (256 ^ size) (omega (arith, s.2, power)))
 
 pub is_integer : (z : ℤ) → SFits w32 z → IsInteger (canon_number z) z
 is_integer z fits = record {
@@ -104,8 +102,7 @@ is_unsigned_of width n narrow h =
     zero_first : (width n : ℕ) → n < 256 ^ width → number_size n ≡ suc width → get_or (canon_number (pos n)) 0 0 ≡ 0
     zero_first width n h e =
         let text : octets (suc width) n ≡ canon_number (pos n) = ap (λ k. octets k n) (sym e) ∙ octets_from_zero n in
-        let none : n / 256 ^ width ≡ 0 = div-eq_of_lt h in
-        sym (ap (λ content. get_or content 0 0) text) ∙ first_octet width n ∙ ap (λ d. d % 256) none
+        sym (ap (λ content. get_or content 0 0) text) ∙ first_octet width n ∙ ap (λ d. d % 256) (div-eq_of_lt h)
 
 pub number_octets : (z : ℤ) → Octets (canon_number z)
 number_octets (pos n) = subst Octets (octets_from_zero n) (are_digits 256 (number_size n) n (lit< tt))
@@ -222,19 +219,17 @@ number_is first rest z h e =
     let u : ℕ = unsigned (first ∷ rest) in
     let low : number_of 256 rest < power = below_power 256 rest h.1 in
     let are : first ∷ rest ≡ octets (suc (length rest)) u = digits_are 256 (first ∷ rest) (lit< tt) h in
-    let P : ℤ → Type 0 = λ y.
-    (magnitude_of y < 128 * 256 ^ length rest) × (suc (length rest) ≡ number_size (magnitude_of y) → first ∷ rest ≡ canon_number y) in
     ⊎_elim
     (λ small.
     let bound : first * power + number_of 256 rest < power * 128 = mul-add-lt first power (number_of 256 rest) 128 small low in
-    subst P (sym (positive (first ∷ rest) small) ∙ e) (omega (arith, bound), λ same. are ∙ ap (λ k. octets k u) same ∙ octets_from_zero u))
+    rw (← e, positive (first ∷ rest) small) (omega (arith, bound), λ same. are ∙ ap (λ k. octets k u) same ∙ octets_from_zero u))
     (λ large.
     let n : ℕ = 256 ^ suc (length rest) - u - 1 in
     let whole : 256 ^ suc (length rest) ≡ power * 256 = pow-suc 256 (length rest) in
     let high : first * power + number_of 256 rest < power * 256 = mul-add-lt first power (number_of 256 rest) 256 h.0 low in
     let least : 128 * power ≤ first * power = mul-le-mul_right power large in
     let back : u ≡ 256 ^ suc (length rest) - (n + 1) = omega (arith, high, whole) in
-    subst P (sym (minus u n (256 ^ suc (length rest)) (omega (arith, high, whole))) ∙ sym (negative (first ∷ rest) large) ∙ e) (
+    rw (← e, negative (first ∷ rest) large, minus u n (256 ^ suc (length rest)) (omega (arith, high, whole))) (
       omega (arith, least, whole, high),
       λ same. are ∙ ap (octets (suc (length rest))) back ∙ ap (λ k. octets k (256 ^ k - (n + 1))) same ∙ octets_from_below n,
     ))
@@ -268,8 +263,7 @@ long_least lead n h l above =
       least = omega (arith, size, length-canon_length_long n above, few);
       one = λ short.
           let same : length l.digits ≡ length_size n = omega (arith, size, length-canon_length_long n above, few, short) in
-          l.parts ∙ ap (λ ds. (128 + length l.digits) ∷ ds) (digits_are 256 l.digits (lit< tt) all.1 ∙ ap (octets (length l.digits)) l.value)
-          ∙ ap (λ k. (128 + k) ∷ octets k n) same ∙ sym (canon_length_long n above);
+          cc (digits_are 256 l.digits (lit< tt) all.1, canon_length_long n above);
     }
 
 length_least : (lead : List ℕ) (n : ℕ) → Octets lead → IsLength lead n → IsNoShorter (canon_length n) lead

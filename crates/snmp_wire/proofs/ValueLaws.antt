@@ -44,6 +44,9 @@ pub record IsRead (tag : ℕ) (content : List ℕ) (value : Datum) : Type 0 wher
   pub is_tag : value_tag value ≡ tag
   pub is_content : IsContent lenient value content
 
+read : (value : Datum) (content : List ℕ) → IsContent lenient value content → Gives (IsRead (value_tag value) content) (λ e. error.Content ≡ e) (Ok value)
+read value content is = a_value value (record { is_tag = refl; is_content = is })
+
 empty_gives : (made : Datum) (content : List ℕ) → IsContent lenient made [] → Gives (IsRead (value_tag made) content) (λ e. error.Content ≡ e) (empty_of made content)
 empty_gives made content is = grind (arith, common_steps, gives_either, a_value, nil_from_length, eqb-true, a_fault)
 
@@ -51,21 +54,15 @@ empty_gives made content is = grind (arith, common_steps, gives_either, a_value,
 pub known_gives : (value : Datum) (content : List ℕ)
     → Gives (IsRead (value_tag value) content) (λ e. error.Content ≡ e) (typed_value (value_tag value) content)
 unfolding typed_value
-known_gives (integer_value z) content =
-    gives_then _ (integer_gives content) (λ n h. a_value (integer_value n) (record { is_tag = refl; is_content = h }))
-known_gives (octet_string text) content = a_value (octet_string content) (record { is_tag = refl; is_content = refl })
-known_gives (object_id name) content =
-    gives_then _ (identifier_gives content) (λ n h. a_value (object_id n) (record { is_tag = refl; is_content = h }))
+known_gives (integer_value z) content = gives_then _ (integer_gives content) (λ n. read (integer_value n) content)
+known_gives (octet_string text) content = read (octet_string content) content refl
+known_gives (object_id name) content = gives_then _ (identifier_gives content) (λ n. read (object_id n) content)
 known_gives (ip_address address) content = grind (arith, common_steps, gives_either, a_value, eqb-true, a_fault)
-known_gives (counter32 n) content =
-    gives_then _ (unsigned_gives 4 content) (λ m h. a_value (counter32 m) (record { is_tag = refl; is_content = h }))
-known_gives (gauge32 n) content =
-    gives_then _ (unsigned_gives 4 content) (λ m h. a_value (gauge32 m) (record { is_tag = refl; is_content = h }))
-known_gives (time_ticks n) content =
-    gives_then _ (unsigned_gives 4 content) (λ m h. a_value (time_ticks m) (record { is_tag = refl; is_content = h }))
-known_gives (opaque_octets text) content = a_value (opaque_octets content) (record { is_tag = refl; is_content = refl })
-known_gives (counter64 n) content =
-    gives_then _ (unsigned_gives 8 content) (λ m h. a_value (counter64 m) (record { is_tag = refl; is_content = h }))
+known_gives (counter32 n) content = gives_then _ (unsigned_gives 4 content) (λ m. read (counter32 m) content)
+known_gives (gauge32 n) content = gives_then _ (unsigned_gives 4 content) (λ m. read (gauge32 m) content)
+known_gives (time_ticks n) content = gives_then _ (unsigned_gives 4 content) (λ m. read (time_ticks m) content)
+known_gives (opaque_octets text) content = read (opaque_octets content) content refl
+known_gives (counter64 n) content = gives_then _ (unsigned_gives 8 content) (λ m. read (counter64 m) content)
 known_gives value content = empty_gives value content refl
 
 -- the content is at fault, and the tag is a value's; or the tag is

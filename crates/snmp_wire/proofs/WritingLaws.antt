@@ -63,11 +63,8 @@ pub piece_fits : {X : Type 0} {old mid : List ℕ} {middle end : ℕ}
     → length (f x) ≤ middle
 piece_fits f xs i x d some h e w room =
     let next : i - 1 + 1 ≡ i = omega arith in
-    let step : length (flat_map f (drop (i - 1) xs))
-    ≡ length (f x) + length (flat_map f (drop i xs)) =
-    length-flat_map_drop f xs (i - 1) x d (omega arith) e
-    ∙ ap (λ k. length (f x) + length (flat_map f (drop k xs))) next in
-    omega (arith, step, flat_map_rest f xs (i - 1), w.begins)
+    let behind = ap (λ k. length (flat_map f (drop k xs))) next in
+    omega (arith, length-flat_map_drop f xs (i - 1) x d (omega arith) e, behind, flat_map_rest f xs (i - 1), w.begins)
 
 -- all pieces are written where none is left
 pub writes_pieces : {X : Type 0} {old new : List ℕ} {start end : ℕ}

@@ -10,7 +10,7 @@ returns-in_err-fields c = grind (arith, common_steps, err_from_is_err_and, check
 pub returns-in_err-check_binding : goal.returns-in_err-check_binding
 returns-in_err-check_binding c =
     let p = err_from_is_err_and c.from_residual-in_err-check_binding.result c.from_residual-in_err-check_binding.ensures.1 in
-    rw (p.1, p.2) (check_fails_in c.bindings.rest.now (fields c.in_ok-fields.fields) c.in_ok-fields.after.now c.in_err-check_binding.field-0.0 _
+    rw (p.1, p.2) (check_fails_in _ (fields c.in_ok-fields.fields) c.in_ok-fields.after.now _ _
     (some_left _ _ c.is_empty.ensures c.bindings-test.true) c.in_ok-fields.ensures c.in_err-check_binding.ensures c.bindings.invariant)
 
 pub bindings-smaller : goal.bindings-smaller

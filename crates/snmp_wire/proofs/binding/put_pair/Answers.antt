@@ -1,39 +1,37 @@
 use Rattle.std.proofs.{lemmas.Grind.common_steps, Common.arith, Common.refl}
-use Rattle.snmp_wire.specs.{ber.Value.object_id, Message.datum}
 use Rattle.snmp_wire.proofs.BindingWriting.{binding_header_fits, binding_name_fits, binding_value_fits, writes_binding}
 use Rattle.snmp_wire.proofs.ElementLaws.{header_short, length-canon_header, value_content_fits, value_header_fits, writes_value}
 use Rattle.snmp_wire.proofs.binding.put_pair.Goals as goal
 
 pub put_value-value-requires-clause-room : goal.put_value-value-requires-clause-room
-put_value-value-requires-clause-room c = binding_value_fits c.args.end (record { name = c.args.name.now; value = datum c.args.value.now }) c.requires.room
+put_value-value-requires-clause-room c = binding_value_fits _ _ c.requires.room
 
 pub put_identifier-content-requires-clause-room : goal.put_identifier-content-requires-clause-room
-put_identifier-content-requires-clause-room c = value_content_fits c.put_value-value.result (object_id c.args.name.now)
-    (binding_name_fits (record { name = c.args.name.now; value = datum c.args.value.now }) c.put_value-value.ensures c.requires.room)
+put_identifier-content-requires-clause-room c = value_content_fits _ _ (binding_name_fits _ c.put_value-value.ensures c.requires.room)
 
 pub put_short_header-name-requires-clause-room : goal.put_short_header-name-requires-clause-room
-put_short_header-name-requires-clause-room c = value_header_fits 6 (object_id c.args.name.now) refl c.put_identifier-content.ensures
-    (binding_name_fits (record { name = c.args.name.now; value = datum c.args.value.now }) c.put_value-value.ensures c.requires.room)
+put_short_header-name-requires-clause-room c = value_header_fits 6 _ refl c.put_identifier-content.ensures
+    (binding_name_fits _ c.put_value-value.ensures c.requires.room)
 
 pub put_short_header-requires-clause-below_128 : goal.put_short_header-requires-clause-below_128
 put_short_header-requires-clause-below_128 c = grind (arith, common_steps, length-canon_header, header_short)
 
 pub put_short_header-requires-clause-room : goal.put_short_header-requires-clause-room
-put_short_header-requires-clause-room c = binding_header_fits (record { name = c.args.name.now; value = datum c.args.value.now }) c.put_value-value.ensures
-    (writes_value 6 (object_id c.args.name.now) refl c.put_identifier-content.ensures c.put_short_header-name.ensures) c.requires.room
+put_short_header-requires-clause-room c = binding_header_fits _ c.put_value-value.ensures
+    (writes_value 6 _ refl c.put_identifier-content.ensures c.put_short_header-name.ensures) c.requires.room
 
 pub returns-then-end-content-lt126 : goal.returns-then-end-content-lt126
-returns-then-end-content-lt126 c = writes_binding (record { name = c.args.name.now; value = datum c.args.value.now }) c.put_value-value.ensures
-    (writes_value 6 (object_id c.args.name.now) refl c.put_identifier-content.ensures c.put_short_header-name.ensures) c.put_short_header.ensures
+returns-then-end-content-lt126 c = writes_binding _ c.put_value-value.ensures
+    (writes_value 6 _ refl c.put_identifier-content.ensures c.put_short_header-name.ensures) c.put_short_header.ensures
 
 pub put_header-name-requires-clause-room : goal.put_header-name-requires-clause-room
-put_header-name-requires-clause-room c = value_header_fits 6 (object_id c.args.name.now) refl c.put_identifier-content.ensures
-    (binding_name_fits (record { name = c.args.name.now; value = datum c.args.value.now }) c.put_value-value.ensures c.requires.room)
+put_header-name-requires-clause-room c = value_header_fits 6 _ refl c.put_identifier-content.ensures
+    (binding_name_fits _ c.put_value-value.ensures c.requires.room)
 
 pub put_header-requires-clause-room : goal.put_header-requires-clause-room
-put_header-requires-clause-room c = binding_header_fits (record { name = c.args.name.now; value = datum c.args.value.now }) c.put_value-value.ensures
-    (writes_value 6 (object_id c.args.name.now) refl c.put_identifier-content.ensures c.put_header-name.ensures) c.requires.room
+put_header-requires-clause-room c = binding_header_fits _ c.put_value-value.ensures
+    (writes_value 6 _ refl c.put_identifier-content.ensures c.put_header-name.ensures) c.requires.room
 
 pub returns : goal.returns
-returns c = writes_binding (record { name = c.args.name.now; value = datum c.args.value.now }) c.put_value-value.ensures
-    (writes_value 6 (object_id c.args.name.now) refl c.put_identifier-content.ensures c.put_header-name.ensures) c.put_header.ensures
+returns c = writes_binding _ c.put_value-value.ensures
+    (writes_value 6 _ refl c.put_identifier-content.ensures c.put_header-name.ensures) c.put_header.ensures

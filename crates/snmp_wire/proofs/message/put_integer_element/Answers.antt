@@ -4,9 +4,9 @@ use lib.IntN.{nat_abs}
 use lib.Signed.{le_z, lt_z}
 use mir.Syntax.{w32}
 use mir.Val.{SFits, of_z, to_z}
-use Rattle.snmp_wire.specs.{ber.Canon.canon_content, ber.Canon.canon_number, ber.Value.integer_value, private.ber.Writing.Writes}
+use Rattle.snmp_wire.specs.{ber.Canon.canon_content, ber.Canon.canon_number, ber.Value.integer_value}
 use Rattle.snmp_wire.proofs.ElementLaws.{content_number, value_content_fits, value_header_fits, writes_value}
-use Rattle.snmp_wire.proofs.{WritingLaws.writes_same, CanonLemmas.short_number, message.put_integer_element.Goals.After-put_octet-start}
+use Rattle.snmp_wire.proofs.{WritingLaws.writes_same, CanonLemmas.short_number}
 use Rattle.snmp_wire.proofs.message.put_integer_element.Goals as goal
 
 -- the number is the content
@@ -16,18 +16,13 @@ one z fits low high = short_number (to_z w32 (of_z w32 z)) low high ∙ ap canon
 
 pub put_octet-start-requires-clause-room : goal.put_octet-start-requires-clause-room
 put_octet-start-requires-clause-room c =
-    let size : 1 ≡ length (canon_content (integer_value c.args.number)) =
-    ap length (one c.args.number c.ranges.number c.if-number-ge0.true c.if-number-lt128.true) in
+    let size = ap length (one c.args.number c.ranges.number c.if-number-ge0.true c.if-number-lt128.true) in
     omega (arith, size, value_content_fits c.args.end (integer_value c.args.number) c.requires.room)
-
-written : (c : After-put_octet-start)
-    → Writes c.args.out.now c.put_octet-start.result c.args.end (canon_content (integer_value c.args.number)) c.put_octet-start.new.out
-written c = writes_same c.put_octet-start.ensures (one c.args.number c.ranges.number c.if-number-ge0.true c.if-number-lt128.true)
 
 pub put_short_header-requires-clause-room : goal.put_short_header-requires-clause-room
 put_short_header-requires-clause-room c = value_header_fits 2 (integer_value c.args.number) refl
-    (written (goal.at.put_short_header-requires-clause-room c).After-put_octet-start) c.requires.room
+    (writes_same c.put_octet-start.ensures (one c.args.number c.ranges.number c.if-number-ge0.true c.if-number-lt128.true)) c.requires.room
 
 pub returns-then-number-lt128 : goal.returns-then-number-lt128
 returns-then-number-lt128 c = writes_value 2 (integer_value c.args.number) refl
-    (written (goal.at.returns-then-number-lt128 c).After-put_octet-start) c.put_short_header.ensures
+    (writes_same c.put_octet-start.ensures (one c.args.number c.ranges.number c.if-number-ge0.true c.if-number-lt128.true)) c.put_short_header.ensures

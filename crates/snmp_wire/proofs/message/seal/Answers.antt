@@ -1,4 +1,4 @@
-use Rattle.std.proofs.Common.{◌≡◌, ◌+◌, ◌≤◌, ◌++◌, length, take, drop, sym, ap, ◌∙◌, rules, arith, length-drop, length-take-le}
+use Rattle.std.proofs.Common.{◌≡◌, ◌+◌, ◌++◌, length, take, drop, sym, ap, ◌∙◌, rules, arith, length-drop, length-take-le}
 use Rattle.std.proofs.lemmas.Grind.{common_steps}
 use Rattle.snmp_wire.specs.{Canon.canon_head, Parts.parts_message}
 use Rattle.snmp_wire.proofs.MessageElements.{sealed_is_shortest}
@@ -10,8 +10,7 @@ returns-clause-shortest c = λ bindings range are.
     let octets = take (c.head_size-head.result + c.args.len) c.put_head.new.out in
     let lies = take c.args.len (drop c.args.at c.args.out.now) in
     let sealed : octets ≡ canon_head m c.args.len ++ lies = first_of (search rules, grind (arith, common_steps)) in
-    let within : c.args.len ≤ length (drop c.args.at c.args.out.now) =
-    omega (arith, c.requires.within, length-drop c.args.at c.args.out.now) in
-    let total = sym (length-take-le c.args.len (drop c.args.at c.args.out.now) within) ∙ ap length are in
+    let within = length-drop c.args.at c.args.out.now in
+    let total = sym (length-take-le c.args.len (drop c.args.at c.args.out.now) (omega (arith, c.requires.within, within))) ∙ ap length are in
     sealed_is_shortest c.one_shortest_encoding.ensures m bindings c.args.len octets
     (sealed ∙ ap (λ text. canon_head m c.args.len ++ text) are) total range

@@ -12,8 +12,7 @@ numbers-preserved c = grind (arith, common_steps, counted_more)
 pub returns-in_err-some : goal.returns-in_err-some
 returns-in_err-some c =
     let p = err_from_is_err_and c.from_residual.result c.from_residual.ensures.1 in
-    rw (p.1, p.2) (counted_fails c.numbers.count c.numbers.rest.now c.in_err-some.field-0.0 _
-    (some_left _ _ c.is_empty.ensures c.numbers-test.true) c.in_err-some.ensures.err c.numbers.invariant.0)
+    rw (p.1, p.2) (counted_fails _ _ _ _ (some_left _ _ c.is_empty.ensures c.numbers-test.true) c.in_err-some.ensures.err c.numbers.invariant.0)
 
 pub returns : goal.returns
 returns c = grind (arith, common_steps, counted_ends, none_left)

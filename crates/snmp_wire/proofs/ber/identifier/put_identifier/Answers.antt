@@ -11,5 +11,4 @@ put_subidentifier-requires-clause-room c = grind (arith, common_steps, length-ca
 
 pub returns : goal.returns
 returns c = writes_same (writes_then c.put_numbers-start.ensures c.put_subidentifier.ensures)
-    (sym (content_is c.as_slice.result.now c.args.name.now c.first_subidentifier.result c.requires.encodable c.as_slice.ensures.value
-    c.first_subidentifier.ensures))
+    (sym (content_is _ _ _ c.requires.encodable c.as_slice.ensures.value c.first_subidentifier.ensures))

@@ -20,15 +20,8 @@ returns-then-count-eq9 c =
 
 pub put_other_numbers-requires-2-clause-room : goal.put_other_numbers-requires-2-clause-room
 put_other_numbers-requires-2-clause-room c =
-    let whole = nine_counted c.args.numbers.now c.from.result c.if-count-lt9.false (c.are_short.ensures c.if-not-are_short.false) c.from.ensures in
-    omega (
-      arith,
-      whole,
-      length-canon_subidentifier c.from.result,
-      c.requires.room,
-      c.put_subidentifier-last.ensures.begins,
-      c.put_eight-start.ensures.begins,
-    )
+    let whole = nine_counted _ _ c.if-count-lt9.false (c.are_short.ensures c.if-not-are_short.false) c.from.ensures in
+    omega (arith, whole, length-canon_subidentifier c.from.result)
 
 pub returns : goal.returns
 returns c = writes_same (writes_then (writes_then c.put_subidentifier-last.ensures c.put_eight-start.ensures) c.put_other_numbers-2.ensures)

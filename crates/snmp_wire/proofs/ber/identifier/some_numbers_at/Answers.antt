@@ -2,23 +2,11 @@ use Rattle.std.proofs.{lemmas.Grind.common_steps, Common.arith, lemmas.Result.er
 use Rattle.snmp_wire.proofs.IdentifierReading.{number_shrinks, check_goes_on, check_plain, no_room, number_refused, plain_full, plain_length}
 use Rattle.snmp_wire.proofs.ber.identifier.some_numbers_at.Goals as goal
 
-pub returns-in-Some-clause-some : goal.returns-in-Some-clause-some
-returns-in-Some-clause-some c = grind (arith, common_steps, plain_length)
+pub returns-in-Some : goal.returns-in-Some
+returns-in-Some c = grind (arith, common_steps, plain_length, check_plain, plain_full)
 
-pub returns-in-Some-clause-fits : goal.returns-in-Some-clause-fits
-returns-in-Some-clause-fits c = grind (arith, common_steps, check_plain)
-
-pub returns-in-Some-clause-full : goal.returns-in-Some-clause-full
-returns-in-Some-clause-full c = grind (arith, common_steps, plain_full)
-
-pub returns-in-Some-four_at-clause-some : goal.returns-in-Some-four_at-clause-some
-returns-in-Some-four_at-clause-some c = grind (arith, common_steps, plain_length)
-
-pub returns-in-Some-four_at-clause-fits : goal.returns-in-Some-four_at-clause-fits
-returns-in-Some-four_at-clause-fits c = grind (arith, common_steps, check_plain)
-
-pub returns-in-Some-four_at-clause-full : goal.returns-in-Some-four_at-clause-full
-returns-in-Some-four_at-clause-full c = grind (arith, common_steps, plain_full)
+pub returns-in-Some-four_at : goal.returns-in-Some-four_at
+returns-in-Some-four_at c = grind (arith, common_steps, plain_length, check_plain, plain_full)
 
 pub returns-in_err-rest-clause-err : goal.returns-in_err-rest-clause-err
 returns-in_err-rest-clause-err c = grind (arith, common_steps, err_from_is_err_and, number_refused)

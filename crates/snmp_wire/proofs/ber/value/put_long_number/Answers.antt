@@ -1,15 +1,10 @@
 use Rattle.std.proofs.Common.{arith, pos}
-use Rattle.snmp_wire.specs.ber.Canon.{canon_number}
 use Rattle.snmp_wire.proofs.{CanonLemmas.length-from_zero, ElementLemmas.number_short}
 use Rattle.snmp_wire.proofs.ElementLaws.{content_fits, header_fits, writes_element}
 use Rattle.snmp_wire.proofs.ber.value.put_long_number.Goals as goal
 
 pub put_unsigned-start-requires-clause-room : goal.put_unsigned-start-requires-clause-room
-put_unsigned-start-requires-clause-room c = omega (
-  arith,
-  content_fits c.args.tag c.args.end (canon_number (pos c.args.number)) c.requires.room,
-  length-from_zero c.args.number,
-)
+put_unsigned-start-requires-clause-room c = omega (arith, content_fits _ _ _ c.requires.room, length-from_zero c.args.number)
 
 pub put_short_header-requires-clause-below_128 : goal.put_short_header-requires-clause-below_128
 put_short_header-requires-clause-below_128 c = number_short (pos c.args.number) c.put_unsigned-start.ensures

@@ -1,7 +1,6 @@
 use Rattle.std.proofs.{lemmas.Grind.common_steps, Common.length, Common.pos, Common.ap, Common.arith, Common.sym, Common.◌∙◌}
 use Rattle.snmp_wire.specs.ber.Canon.{canon_number}
-use Rattle.snmp_wire.proofs.CanonLemmas.{length-from_zero, fifth_octet_fits, four_octets_fit, size_five, size_four, writes_five_octets}
-use Rattle.snmp_wire.proofs.CanonLemmas.{writes_four_octets}
+use Rattle.snmp_wire.proofs.CanonLemmas.{length-from_zero, number_large, size_five, size_four, writes_five_octets, writes_four_octets}
 use Rattle.snmp_wire.proofs.{Digits.length-digits, ElementLaws.content_fits, ElementLaws.header_fits, ElementLaws.writes_element}
 use Rattle.snmp_wire.proofs.{ElementLemmas.number_short, ElementLemmas.sized_header_fits, ElementLemmas.writes_sized, WritingLaws.writes_same}
 use Rattle.snmp_wire.proofs.ber.value.put_number.Goals as goal
@@ -23,12 +22,8 @@ returns-then-number c = writes_element c.args.tag (writes_same c.put_unsigned-st
 
 pub put_four-start-requires-clause-room : goal.put_four-start-requires-clause-room
 put_four-start-requires-clause-room c =
-    omega (
-      arith,
-      four_octets_fit c.args.number c.if-number.false (omega (arith, c.ranges.number.fits)),
-      content_fits c.args.tag c.args.end (canon_number (pos c.args.number)) c.requires.room,
-      length-from_zero c.args.number,
-    )
+    let size = number_large c.args.number 2 (omega (arith, c.ranges.number.fits)) (omega (arith, c.if-number.false)) in
+    omega (arith, size, content_fits _ _ _ c.requires.room, length-from_zero c.args.number)
 
 pub put_short_header-requires-then-number-2-clause-room : goal.put_short_header-requires-then-number-2-clause-room
 put_short_header-requires-then-number-2-clause-room c =
@@ -42,27 +37,17 @@ returns-then-number-2 c =
 
 pub put_octet-start-requires-clause-room : goal.put_octet-start-requires-clause-room
 put_octet-start-requires-clause-room c =
-    omega (
-      arith,
-      fifth_octet_fits c.args.number c.if-number-2.false (omega (arith, c.ranges.number.fits)),
-      content_fits c.args.tag c.args.end (canon_number (pos c.args.number)) c.requires.room,
-      length-from_zero c.args.number,
-      c.put_four-start.ensures.begins,
-      length-digits 256 4 c.args.number,
-    )
+    let size = number_large c.args.number 3 (omega (arith, c.ranges.number.fits)) (omega (arith, c.if-number-2.false)) in
+    omega (arith, size, content_fits _ _ _ c.requires.room, length-from_zero c.args.number, length-digits 256 4 c.args.number)
 
 pub put_short_header-requires-else-number-2-clause-room : goal.put_short_header-requires-else-number-2-clause-room
 put_short_header-requires-else-number-2-clause-room c =
     sized_header_fits c.args.tag 5 (sym (length-from_zero c.args.number ∙ size_five c.args.number c.if-number-2.false (omega (arith, c.ranges.number.fits))))
-    (writes_five_octets c.args.number c.if-number-2.false (omega (
-      arith,
-      c.ranges.number.fits,
-    )) c.put_four-start.ensures c.put_octet-start.ensures) c.requires.room
+    (writes_five_octets c.args.number c.if-number-2.false (omega (arith, c.ranges.number.fits)) c.put_four-start.ensures c.put_octet-start.ensures)
+    c.requires.room
 
 pub returns-else-number-2 : goal.returns-else-number-2
 returns-else-number-2 c =
     writes_sized c.args.tag 5 (sym (length-from_zero c.args.number ∙ size_five c.args.number c.if-number-2.false (omega (arith, c.ranges.number.fits))))
-    (writes_five_octets c.args.number c.if-number-2.false (omega (
-      arith,
-      c.ranges.number.fits,
-    )) c.put_four-start.ensures c.put_octet-start.ensures) c.put_short_header-else-number-2.ensures
+    (writes_five_octets c.args.number c.if-number-2.false (omega (arith, c.ranges.number.fits)) c.put_four-start.ensures c.put_octet-start.ensures)
+    c.put_short_header-else-number-2.ensures

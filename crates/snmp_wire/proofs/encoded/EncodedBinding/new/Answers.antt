@@ -8,8 +8,7 @@ encoded-requires c = encodable (record { name = c.args.name.now; value = datum c
 
 pub invariant_of-result : goal.invariant_of-result
 invariant_of-result c =
-    is_kept (record { name = c.args.name.now; value = datum c.args.value.now })
-    (record { name = c.requires.name; value = c.requires.value }) (octets_of c.in_ok-octets.octets) c.in_ok-octets.ensures
+    is_kept _ (record { name = c.requires.name; value = c.requires.value }) (octets_of c.in_ok-octets.octets) c.in_ok-octets.ensures
 
 pub returns : goal.returns
 returns c = grind (arith, common_steps, read_again)
