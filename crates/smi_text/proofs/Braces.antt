@@ -1,52 +1,91 @@
--- Counting open braces finds exactly the balanced tokens.
-use Rattle.std.proofs.Common.{◌≡◌, ℕ, zero, suc, ◌+◌, ◌-◌, true, false, not, List, [], ◌∷◌, ◌++◌, refl, sym, ◌∙◌, ap, subst, add-one, arith}
-use Rattle.std.proofs.Common.{append_assoc, append-nil}
-use Rattle.std.proofs.lemmas.Bool.{and_parts, false_from_ne_true, not-true}
-use Rattle.std.specs.Prelude.{◌==◌, ◌≢◌}
+-- Counting open braces finds exactly the balanced tokens, and those whose beginnings open as many braces as they close, or more.
+use Rattle.std.proofs.{lemmas.Grind.common_steps, lemmas.List.Folds.list_all-map, lemmas.List.Sums.sum_by-cons}
+use Rattle.std.proofs.Common.{◌≡◌, ℕ, zero, suc, ◌+◌, Bool, true, false, ◌&&◌, if◌then◌else◌, not, List, [], ◌∷◌, nat_le, refl, ◌∙◌, arith, zero-add}
+use Rattle.std.proofs.Common.{◌-◌, ◌++◌, sym, ap, add-one, append_assoc, append-nil}
+use Rattle.std.specs.{Prelude.◌==◌, Prelude.◌≢◌, List.list_all}
+use Rattle.std.proofs.lemmas.Bool.{and_parts, eqb-true, not-true}
 use Rattle.smi_text.specs.declared.lexer.token.TokenKind.{TokenKind}
 use Rattle.smi_text.specs.declared.lexer.token.TokenKind.TheVariants as K
-use Rattle.smi_text.specs.{trees.Mark.same_kind, private.Grammar.depth_after, private.Grammar.is_outside, declared.trees.tree.TokenText.TokenText}
-use Rattle.smi_text.proofs.{Fronts.is_balanced, Marks.same_kind-eq, Marks.same_kind-same}
+use Rattle.smi_text.specs.{declared.trees.tree.TokenText.TokenText, trees.Mark.same_kind, private.Grammar.depth_after, private.Grammar.is_outside}
+use Rattle.smi_text.specs.trees.Fronts.{opening_braces, closing_braces, fronts, has_balanced_braces}
+use Rattle.smi_text.proofs.Marks.{same_kind-eq}
 use Rattle.smi_text.specs.trees.Braces.{IsBalanced, none, other, nested}
 
--- ---- how a token changes the count
+-- after `depth` open braces, the tokens close each brace that is open, and none that is not
+unfoldable pub is_balanced : ℕ → List TokenText → Bool
+is_balanced depth [] = depth == 0
+is_balanced depth (x ∷ xs) = not (is_outside x.kind depth) && is_balanced (depth_after x.kind depth) xs
 
-opening : (k : TokenKind) (d : ℕ) → k ≡ K.OpenBrace → (is_outside k d ≡ false) × (depth_after k d ≡ d + 1)
-opening k d e = subst (λ j. (is_outside j d ≡ false) × (depth_after j d ≡ d + 1)) (sym e) (refl, refl)
+-- with d braces open before them
+abbrev is_within : ℕ → List TokenText → Bool
+is_within d front = nat_le (closing_braces front) (d + opening_braces front)
 
-closing : (k : TokenKind) (d : ℕ) → k ≡ K.CloseBrace → (is_outside k d ≡ (d == 0)) × (depth_after k d ≡ d - 1)
-closing k d e = subst (λ j. (is_outside j d ≡ (d == 0)) × (depth_after j d ≡ d - 1)) (sym e) (refl, refl)
+abbrev is_whole : ℕ → List TokenText → Bool
+is_whole d xs = list_all (is_within d) (fronts xs) && d + opening_braces xs == closing_braces xs
 
-passing : (k : TokenKind) (d : ℕ) → same_kind k K.OpenBrace ≡ false → same_kind k K.CloseBrace ≡ false → (is_outside k d ≡ false) × (depth_after k d ≡ d)
-passing k d o c = (rw c refl, rw (o, c) refl)
+all-same : {A : Type 0} (p q : A → Bool) → ((x : A) → p x ≡ q x) → (xs : List A) → list_all p xs ≡ list_all q xs
+all-same p q h [] = refl
+all-same p q h (x ∷ xs) = λ i. h x i && all-same p q h xs i
 
-is_no : (k j : TokenKind) → k ≢ j → same_kind k j ≡ false
-is_no k j n = false_from_ne_true (same_kind k j) (λ h. n (same_kind-eq k j h))
+-- how many braces a token of this kind opens, and how many it closes
+abbrev opens : TokenKind → ℕ
+opens k = if same_kind k K.OpenBrace then 1 else 0
 
-is_not : (k j : TokenKind) → same_kind k j ≡ false → k ≢ j
-is_not k j h e = let yes : same_kind k j ≡ true = rw e (same_kind-same j) in cc (h, yes)
+abbrev closes : TokenKind → ℕ
+closes k = if same_kind k K.CloseBrace then 1 else 0
+
+-- the first token of a front is counted
+opening-cons : (x : TokenText) (xs : List TokenText) → opening_braces (x ∷ xs) ≡ opens x.kind + opening_braces xs
+opening-cons x xs = sum_by-cons (λ y. opens y.kind) x xs
+
+closing-cons : (x : TokenText) (xs : List TokenText) → closing_braces (x ∷ xs) ≡ closes x.kind + closing_braces xs
+closing-cons x xs = sum_by-cons (λ y. closes y.kind) x xs
+
+within-none : (d : ℕ) → is_within d [] ≡ true
+within-none d = grind arith
+
+shifted : (d n o c : ℕ) → d + o ≡ n + c → (a b : ℕ) → (nat_le (c + a) (d + (o + b)) ≡ nat_le a (n + b)) × ((d + (o + b) == c + a) ≡ (n + b == a))
+shifted d n o c e a b = (grind arith, grind arith)
+
+-- the fronts of tokens behind one more, where that one takes the count from d to n
+step : (d n : ℕ) (x : TokenText) (xs : List TokenText) → d + opens x.kind ≡ n + closes x.kind → is_whole d (x ∷ xs) ≡ is_whole n xs
+step d n x xs e = grind (arith, common_steps, shifted, within-none, list_all-map, all-same, opening-cons, closing-cons)
+
+fronts-first : (p : List TokenText → Bool) (xs : List TokenText) → p [] ≡ false → list_all p (fronts xs) ≡ false
+fronts-first p [] h = rw h refl
+fronts-first p (x ∷ xs) h = rw h refl
+
+outside : (d : ℕ) (x : TokenText) (xs : List TokenText) → is_outside x.kind d ≡ true → is_whole d (x ∷ xs) ≡ false
+outside d x xs o = grind (arith, common_steps, and_parts, opening-cons, closing-cons, same_kind-eq, list_all-map, fronts-first, eqb-true, within-none)
+
+depth-counted : (k : TokenKind) (d : ℕ) → is_outside k d ≡ false → d + opens k ≡ depth_after k d + closes k
+depth-counted k d o = grind (arith, common_steps)
+
+counted-as : (d : ℕ) (xs : List TokenText) → is_whole d xs ≡ is_balanced d xs
+unfolding is_balanced
+counted-as d [] = rw (within-none d) (grind arith)
+counted-as d (x ∷ xs) = grind (arith, common_steps, outside, step, depth-counted, counted-as (depth_after x.kind d) xs)
+
+pub fronts-counted : (xs : List TokenText) → has_balanced_braces xs ≡ is_balanced 0 xs
+unfolding has_balanced_braces
+fronts-counted xs = simp (is_within, zero-add) at (counted-as 0 xs)
 
 -- ---- balanced tokens leave the count as it was
 
-step : (x : TokenText) (xs : List TokenText) (d n : ℕ) → is_outside x.kind d ≡ false → depth_after x.kind d ≡ n → is_balanced d (x ∷ xs) ≡ is_balanced n xs
+-- a token that is no brace
+passing : (k : TokenKind) (d : ℕ) → k ≢ K.OpenBrace → k ≢ K.CloseBrace → (is_outside k d ≡ false) × (depth_after k d ≡ d)
+passing k d o c = grind (arith, common_steps)
+
+past : (x : TokenText) (xs : List TokenText) (d n : ℕ) → is_outside x.kind d ≡ false → depth_after x.kind d ≡ n
+    → is_balanced d (x ∷ xs) ≡ is_balanced n xs
 unfolding is_balanced
-step x xs d n o e = rw (o, e) refl
+past x xs d n o e = rw (o, e) refl
 
 leaves : {xs : List TokenText} → IsBalanced xs → (d : ℕ) (rest : List TokenText) → is_balanced d (xs ++ rest) ≡ is_balanced d rest
 leaves none d rest = refl
-leaves (other {x} {xs} n m b) d rest =
-    let p = passing x.kind d (is_no x.kind K.OpenBrace n) (is_no x.kind K.CloseBrace m) in
-    step x (xs ++ rest) d d p.0 p.1 ∙ leaves b d rest
+leaves (other {x} {xs} n m b) d rest = grind (arith, common_steps, passing, past, leaves b d rest)
 leaves (nested first last inner more k l b c) d rest =
-    let p = opening first.kind d k in
-    let q = closing last.kind (d + 1) l in
-    let above : (d + 1 == 0) ≡ false = grind arith in
-    let back : (d + 1) - 1 ≡ d = omega arith in
-    step first ((inner ++ last ∷ more) ++ rest) d (d + 1) p.0 p.1
-    ∙ ap (λ ys. is_balanced (d + 1) ys) (append_assoc inner (last ∷ more) rest)
-    ∙ leaves b (d + 1) (last ∷ (more ++ rest))
-    ∙ step last (more ++ rest) (d + 1) d (q.0 ∙ above) (q.1 ∙ back)
-    ∙ leaves c d rest
+    grind (arith, common_steps, past, append_assoc, leaves b (d + 1) (last ∷ (more ++ rest)), leaves c d rest)
 
 -- ---- counted tokens are balanced, but for the braces that close those which are open
 
@@ -60,44 +99,28 @@ closes-other zero x xs n m c = other n m c
 closes-other (suc d) x xs n m (inner, last, rest, e, l, b, c) = (x ∷ inner, last, rest, ap (λ ys. x ∷ ys) e, l, other n m b, c)
 
 closes-opening : (d : ℕ) (x : TokenText) (xs : List TokenText) → x.kind ≡ K.OpenBrace → Closes (suc d) xs → Closes d (x ∷ xs)
-closes-opening zero x xs k (inner, last, rest, e, l, b, c) = subst (λ ys. IsBalanced (x ∷ ys)) (sym e) (nested x last inner rest k l b c)
+closes-opening zero x xs k (inner, last, rest, e, l, b, c) = rw e (nested x last inner rest k l b c)
 closes-opening (suc d) x xs k (inner, last, rest, e, l, b, (more, end, after, f, g, h, c)) =
     let split : xs ≡ (inner ++ last ∷ more) ++ end ∷ after = e ∙ ap (λ ys. inner ++ last ∷ ys) f ∙ sym (append_assoc inner (last ∷ more) (end ∷ after)) in
     (x ∷ (inner ++ last ∷ more), end, after, ap (λ ys. x ∷ ys) split, g, nested x last inner more k l b h, c)
 
-at_end : (d : ℕ) → (d == 0) ≡ true → Closes d []
-at_end zero h = none
-at_end (suc d) h = absurd (let no : (suc d == 0) ≡ false = grind arith in cc (h, no))
+-- one token more, of each kind
+closes-more : (k : TokenKind) (d : ℕ) (x : TokenText) (xs : List TokenText) → x.kind ≡ k → is_outside k d ≡ false → Closes (depth_after k d) xs
+    → Closes d (x ∷ xs)
+closes-more K.OpenBrace d x xs e inside c = closes-opening d x xs e (rw add-one at c)
+closes-more K.CloseBrace zero x xs e inside c = absurd (cc)
+closes-more K.CloseBrace (suc d) x xs e inside c = ([], x, xs, refl, e, none, let back : suc d - 1 ≡ d = omega arith in rw back at c)
+closes-more _ d x xs e inside c = closes-other d x xs (λ o. cc) (λ o. cc) c
 
-closes-closing : (d : ℕ) (x : TokenText) (xs : List TokenText) → x.kind ≡ K.CloseBrace → (d == 0) ≡ false → Closes (d - 1) xs → Closes d (x ∷ xs)
-closes-closing zero x xs k h c = absurd (let yes : (zero == 0) ≡ true = refl in cc (h, yes))
-closes-closing (suc d) x xs k h c =
-    let back : suc d - 1 ≡ d = omega arith in
-    ([], x, xs, refl, k, none, subst (λ n. Closes n xs) back c)
-
-closes : (xs : List TokenText) (d : ℕ) → is_balanced d xs ≡ true → Closes d xs
+closes-each : (xs : List TokenText) (d : ℕ) → is_balanced d xs ≡ true → Closes d xs
 unfolding is_balanced
-closes [] d h = at_end d h
-closes (x ∷ xs) d h =
+closes-each [] d h = rw (eqb-true d 0 h) none
+closes-each (x ∷ xs) d h =
     let both = and_parts (not (is_outside x.kind d)) (is_balanced (depth_after x.kind d) xs) h in
-    let inside = not-true (is_outside x.kind d) both.0 in
-    let later = closes xs (depth_after x.kind d) both.1 in
-    elim (same_kind x.kind K.OpenBrace) as (λ b. same_kind x.kind K.OpenBrace ≡ b → Closes d (x ∷ xs)) [
-      | true ↦ λ o.
-          let k = same_kind-eq x.kind K.OpenBrace o in
-          closes-opening d x xs k (rw ((opening x.kind d k).1, add-one) at later)
-      | false ↦ λ o.
-          elim (same_kind x.kind K.CloseBrace) as (λ b. same_kind x.kind K.CloseBrace ≡ b → Closes d (x ∷ xs)) [
-            | true ↦ λ c.
-                let k = same_kind-eq x.kind K.CloseBrace c in
-                let p = closing x.kind d k in
-                closes-closing d x xs k (sym p.0 ∙ inside) (subst (λ n. Closes n xs) p.1 later)
-            | false ↦ λ c. closes-other d x xs (is_not x.kind K.OpenBrace o) (is_not x.kind K.CloseBrace c) (rw (passing x.kind d o c).1 at later)
-          ] refl
-    ] refl
+    closes-more x.kind d x xs refl (not-true (is_outside x.kind d) both.0) (closes-each xs (depth_after x.kind d) both.1)
 
 pub counted : (xs : List TokenText) → is_balanced 0 xs ≡ true → IsBalanced xs
-counted xs h = closes xs 0 h
+counted xs h = closes-each xs 0 h
 
 pub balanced-counted : (xs : List TokenText) → IsBalanced xs → is_balanced 0 xs ≡ true
 unfolding is_balanced

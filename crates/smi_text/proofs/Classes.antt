@@ -1,5 +1,5 @@
 -- What the class of an octet says of it.
-use Rattle.std.proofs.Common.{arith, ◌≡◌, ℕ, Bool, true, false, cond, List, [], ◌∷◌, refl, sym, subst, eqb}
+use Rattle.std.proofs.Common.{arith, ◌≡◌, ℕ, true, List, [], ◌∷◌, subst}
 use Rattle.std.proofs.{lemmas.Grind.common_steps, lemmas.Bool.eqb-true}
 use Rattle.std.specs.Char.{is_ascii_lowercase, is_ascii_uppercase, is_ascii_digit}
 use Rattle.smi_text.specs.{declared.lexer.class.Class.Class, declared.lexer.token.TokenKind.TokenKind, lexer.Lexeme.IsLexeme, lexer.Lexeme.is_blank}
@@ -18,10 +18,6 @@ HasClass C.Apostrophe c = c ≡ 39
 HasClass (C.Symbol kind) c = IsLexeme kind (c ∷ [])
 HasClass C.Other c = Unit {0}
 
-either : (c : ℕ) (b : Bool) (x y : Class) → (b ≡ true → HasClass x c) → HasClass y c → HasClass (cond b x y) c
-either c true x y first second = first refl
-either c false x y first second = second
-
 -- each symbol of the table is its kind's lexeme
 abbrev AreLexemes : List (ℕ × TokenKind) → Type 0
 AreLexemes [] = Unit {0}
@@ -29,12 +25,10 @@ AreLexemes (symbol ∷ others) = IsLexeme symbol.1 (symbol.0 ∷ []) × AreLexem
 
 among : (table : List (ℕ × TokenKind)) (c : ℕ) → AreLexemes table → HasClass (symbol_among table c) c
 among [] c all = tt
-among (symbol ∷ others) c all =
-    either c (eqb c symbol.0) (C.Symbol symbol.1) (symbol_among others c)
-    (λ same. subst (λ d. IsLexeme symbol.1 (d ∷ [])) (sym (eqb-true c symbol.0 same)) all.0) (among others c all.1)
+among (symbol ∷ others) c all = grind (arith, common_steps, eqb-true, among others c all.1)
 
 pub has_class : (c : ℕ) → HasClass (class_of c) c
-has_class c = grind (arith, common_steps, either, eqb-true, among)
+has_class c = grind (arith, common_steps, eqb-true, among)
 
 pub class_is : (c : ℕ) (class : Class) → class_of c ≡ class → HasClass class c
 class_is c class e = subst (λ x. HasClass x c) e (has_class c)

@@ -1,17 +1,16 @@
 -- Where definitions define a name again, no modules without a double name are read.
-use Rattle.std.proofs.Common.{arith, ◌≡◌, ℕ, true, false, not, List, [], ◌∷◌, ◌++◌, Some, None, refl, sym, ◌∙◌, ap, subst, inl, inr}
+use Rattle.std.proofs.Common.{arith, ◌≡◌, ℕ, true, false, List, [], ◌∷◌, ◌++◌, Some, None, refl, sym, ◌∙◌, ap}
 use Rattle.std.proofs.{lemmas.Grind.common_steps, lemmas.List.map-append, lemmas.List.Folds.list_any-append}
 use Rattle.std.proofs.lemmas.Bool.{and_parts, or_left, or_right, or_cases}
-use Rattle.std.specs.{Prelude.codes, List.flat_map, List.list_any, List.list_all}
+use Rattle.std.specs.List.{flat_map, list_any, list_all}
 use Rattle.smi_text.specs.{lexer.Token.Lexeme, lexer.Token.Item, trees.Mark.Mark, trees.Mark.same_text, trees.Spelling.of_def, trees.Spelling.of_head}
 use Rattle.smi_text.specs.{trees.Spelling.spelling, Text.HasNoDoubles, Text.HasSecond, Text.DefinesAgain, trees.Lookup.labels}
 use Rattle.smi_text.specs.{trees.Lookup.are_distinct, declared.modules.Head.Head, declared.trees.tree.Def.Def, declared.trees.tree.Module.Module}
-use Rattle.smi_text.specs.private.Format.{StandsAhead, Format, Parsed, begins, apart, with_front, before, many, pair, shaped, word, lower}
-use Rattle.smi_text.specs.private.Grammar.{to_module, definition, file, head, module_text}
+use Rattle.smi_text.specs.private.Format.{StandsAhead, Format, Parsed, begins, apart, with_front, before, many, pair, shaped, lower}
+use Rattle.smi_text.specs.private.Grammar.{definition, file, head, module_text}
 use Rattle.smi_text.proofs.{Lawful.Lawful, Laws.starts-with, Laws.some-inj, Productions.all, Shorter.definition-solid, Shorter.module_text-solid}
-use Rattle.smi_text.proofs.{DefinitionLists.read-label, DefinitionLists.spelled-label, Tokens.all_tokens, Tokens.taken-tokens}
-use Rattle.smi_text.proofs.Marks.{same_text-eq, same_text-same, StandsAhead-split, apart-false}
-use Rattle.smi_text.proofs.Many.{many-fails, many-goes_on, with_front-append, with_front-nil}
+use Rattle.smi_text.proofs.{FileSteps.read-label, FileSteps.spelled-label, FileSteps.same-sym, Tokens.all_tokens, Tokens.taken-tokens}
+use Rattle.smi_text.proofs.{Marks.StandsAhead-split, Marks.apart-false, Marks.map-inv, Many.many-fails, Many.many-goes_on}
 use Rattle.smi_text.proofs.ProductionLaws.{definition-law, head-law, module_text-law}
 
 fronts-inv : {A : Type 0} (xs : List A) (r : Parsed (List A)) (ys : List A) (rest : List Item) → with_front xs r ≡ Some (ys, rest)
@@ -20,50 +19,37 @@ unfolding with_front
 fronts-inv xs None ys rest h = absurd (cc)
 fronts-inv {A} xs (Some p) ys rest h = grind (arith, common_steps, some-inj)
 
--- parts that are spelled before one that begins again are read first
+-- parts that are spelled before one that begins again are read first, and then that one
 module _ {A : Type 0} {s : A → List Mark} {f : Format A} (law : Lawful s f) (solid : f.empty ≡ false) (far : apart f.stop f.first ≡ true) where
   begin-again : (xs : List A) (ts mid : List Item) → StandsAhead (flat_map s xs) ts mid → begins f.first mid ≡ true → begins f.first ts ≡ true
   begin-again [] ts mid h b = ap (begins f.first) h ∙ b
-  begin-again (x ∷ xs) ts mid h b =
-      let r = StandsAhead-split (s x) (flat_map s xs) ts mid h in
-      starts-with law solid x ts r.0 r.1
+  begin-again (x ∷ xs) ts mid h b = grind (arith, common_steps, StandsAhead-split, starts-with)
 
-  pub many-before : (xs : List A) (ts mid : List Item) → StandsAhead (flat_map s xs) ts mid → begins f.first mid ≡ true
-      → (many f).read ts ≡ with_front xs ((many f).read mid)
-  many-before [] ts mid h b = ap (λ (us : List Item). (many f).read us) h ∙ sym (with_front-nil _)
-  many-before (x ∷ xs) ts mid h b =
-      let r = StandsAhead-split (s x) (flat_map s xs) ts mid h in
-      let on = apart-false f.stop f.first r.0 far (begin-again xs r.0 mid r.2 b) in
-      many-goes_on law solid x ts r.0 (starts-with law solid x ts r.0 r.1) (law.again x ts r.0 r.1 on)
-      ∙ ap (with_front (x ∷ [])) (many-before xs r.0 mid r.2 b)
-      ∙ sym (with_front-append (x ∷ []) xs ((many f).read mid))
-
-  -- where one begins and some are read, the first of them is
-  pub many-first : (ts rest : List Item) (xs : List A) → begins f.first ts ≡ true → (many f).read ts ≡ Some (xs, rest)
-      → (x : A) × (more : List A) × (mid : List Item) × (f.read ts ≡ Some (x, mid)) × (xs ≡ x ∷ more)
-  many-first ts rest xs b h =
-      elim (f.read ts) as (λ r. f.read ts ≡ r → (x : A) × (more : List A) × (mid : List Item) × (f.read ts ≡ Some (x, mid)) × (xs ≡ x ∷ more)) [
-        | None ↦ λ e. absurd (cc (h, many-fails f ts b e))
+  many-before : (xs : List A) (ts mid rest : List Item) (ys : List A) → StandsAhead (flat_map s xs) ts mid → begins f.first mid ≡ true
+      → (many f).read ts ≡ Some (ys, rest) → (x : A) × (more : List A) × (after : List Item) × (f.read mid ≡ Some (x, after)) × (ys ≡ xs ++ x ∷ more)
+  many-before [] ts mid rest ys h b r =
+      elim (f.read mid) as (λ o. f.read mid ≡ o → (x : A) × (more : List A) × (after : List Item) × (f.read mid ≡ Some (x, after))
+      × (ys ≡ x ∷ more)) [
+        | None ↦ λ e. absurd (cc (h, r, many-fails f mid b e))
         | Some p ↦ λ e.
-            let q = fronts-inv (p.0 ∷ []) ((many f).read p.1) xs rest (sym (many-goes_on law solid p.0 ts p.1 b e) ∙ h) in
+            let q = fronts-inv (p.0 ∷ []) ((many f).read p.1) ys rest (sym (many-goes_on law solid p.0 mid p.1 b e) ∙ rw h at r) in
             (p.0, q.0, p.1, e, q.2)
       ] refl
+  many-before (x ∷ xs) ts mid rest ys h b r =
+      let p = StandsAhead-split (s x) (flat_map s xs) ts mid h in
+      let read = law.again x ts p.0 p.1 (apart-false f.stop f.first p.0 far (begin-again xs p.0 mid p.2 b)) in
+      let q = fronts-inv (x ∷ []) ((many f).read p.0) ys rest (sym (many-goes_on law solid x ts p.0 (starts-with law solid x ts p.0 p.1) read) ∙ r) in
+      let later = many-before xs p.0 mid rest q.0 p.2 b q.1 in
+      (later.0, later.1, later.2, later.3, cc (q.2, later.4))
 
 -- names that stand twice
 
-any-middle : (x y : List ℕ) (xs ys : List (List ℕ)) → same_text x y ≡ true → list_any (same_text x) (xs ++ y ∷ ys) ≡ true
-any-middle x y xs ys h = grind (arith, common_steps, list_any-append, or_right, or_left)
+any-middle : (x y : List ℕ) (xs ys : List (List ℕ)) → same_text y x ≡ true → list_any (same_text x) (xs ++ y ∷ ys) ≡ true
+any-middle x y xs ys h = grind (arith, common_steps, list_any-append, or_right, or_left, same-sym x y)
 
 twice : (xs ys : List (List ℕ)) (y : List ℕ) → list_any (same_text y) xs ≡ true → are_distinct (xs ++ y ∷ ys) ≡ true → ⊥
 twice [] ys y h k = cc
-twice (x ∷ xs) ys y h k =
-    elim (or_cases (same_text y x) (list_any (same_text y) xs) h) [
-      | inl e ↦
-          let same : y ≡ x = same_text-eq y x e in
-          let there = any-middle x y xs ys (let P : List ℕ → Type 0 = λ z. same_text z y ≡ true in subst P same (same_text-same y)) in
-          cc (there, (and_parts (not (list_any (same_text x) (xs ++ y ∷ ys))) (are_distinct (xs ++ y ∷ ys)) k).0)
-      | inr e ↦ twice xs ys y e (and_parts (not (list_any (same_text x) (xs ++ y ∷ ys))) (are_distinct (xs ++ y ∷ ys)) k).1
-    ]
+twice (x ∷ xs) ys y h k = grind (arith, common_steps, or_cases, and_parts, any-middle x y xs ys, twice xs ys y)
 
 -- definitions
 
@@ -84,11 +70,9 @@ module _ (line : ℕ) (body : List Lexeme) (s : HasSecond line body) where
 
   definitions-twice : (ds : List Def) (rest : List Item) → (many definition).read (all_tokens body) ≡ Some (ds, rest) → are_distinct (labels ds) ≡ true → ⊥
   definitions-twice ds rest h k =
-      let e = many-before definition-law definition-solid definition-apart s.before (all_tokens body) halves.0 halves.1 second-ahead in
-      let inv = fronts-inv s.before ((many definition).read halves.0) ds rest (sym e ∙ h) in
-      let f = many-first definition-law definition-solid definition-apart halves.0 rest inv.0 second-ahead inv.1 in
+      let f = many-before definition-law definition-solid definition-apart s.before (all_tokens body) halves.0 rest ds halves.1 second-ahead h in
       let same : s.second.label.octets ≡ f.0.label.octets = spelled-label s.second halves.0 (all_tokens s.rest) halves.2 ∙ sym (read-label f.0 halves.0 f.2 f.3) in
-      let all : labels ds ≡ labels s.before ++ f.0.label.octets ∷ labels f.1 = ap labels inv.2 ∙ ap (λ (xs : List Def). labels (s.before ++ xs)) f.4
+      let all : labels ds ≡ labels s.before ++ f.0.label.octets ∷ labels f.1 = ap labels f.4
       ∙ map-append (λ (d : Def). d.label.octets) s.before (f.0 ∷ f.1) in
       twice (labels s.before) (labels f.1) f.0.label.octets (rw same at s.defined) (rw all at k)
 
@@ -108,15 +92,7 @@ unfolding module_text shaped pair before lower
 module-inv ts body h m rest e r =
     elim ((many definition).read body) as (λ o. (many definition).read body ≡ o → (after : List Item) × ((many definition).read body ≡ Some (m.defs, after))) [
       | None ↦ λ d. absurd (let no : module_text.read ts ≡ None = rw (e, d) refl in cc (no, r))
-      | Some p ↦ λ d.
-          elim ((word (codes "END")).read p.1) as (λ o. (word (codes "END")).read p.1 ≡ o
-          → (after : List Item) × ((many definition).read body ≡ Some (m.defs, after))) [
-            | None ↦ λ w. absurd (let no : module_text.read ts ≡ None = rw (e, d, w) refl in cc (no, r))
-            | Some q ↦ λ w.
-                let yes : module_text.read ts ≡ Some (to_module (h, p.0), q.1) = rw (e, d, w) refl in
-                let same = some-inj {A = Module × List Item} (to_module (h, p.0), q.1) (m, rest) (sym yes ∙ r) in
-                (p.1, d ∙ ap (λ (v : Module × List Item). Some (v.0.defs, p.1)) same)
-          ] refl
+      | Some p ↦ λ d. (p.1, grind (arith, common_steps, map-inv, some-inj))
     ] refl
 
 module _ (line : ℕ) (tokens : List Lexeme) (d : DefinesAgain line tokens) where
@@ -139,9 +115,6 @@ module _ (line : ℕ) (tokens : List Lexeme) (d : DefinesAgain line tokens) wher
   pub file-twice : (ns : List Module) → file.read (all_tokens tokens) ≡ Some (ns, []) → HasNoDoubles ns → ⊥
   unfolding file
   file-twice ns h k =
-      let e = many-before module_text-law module_text-solid module-apart d.modules (all_tokens tokens) opened.0 opened.1 module-ahead in
-      let inv = fronts-inv d.modules ((many module_text).read opened.0) ns [] (sym e ∙ h) in
-      let f = many-first module_text-law module_text-solid module-apart opened.0 [] inv.0 module-ahead inv.1 in
+      let f = many-before module_text-law module_text-solid module-apart d.modules (all_tokens tokens) opened.0 [] ns opened.1 module-ahead h in
       let defs = module-inv opened.0 (all_tokens d.body) top f.0 f.2 head-read f.3 in
-      let all : ns ≡ d.modules ++ f.0 ∷ f.1 = inv.2 ∙ ap (λ (xs : List Module). d.modules ++ xs) f.4 in
-      definitions-twice line d.body d.twice f.0.defs defs.0 defs.1 (all-middle d.modules f.0 f.1 (rw all at k))
+      definitions-twice line d.body d.twice f.0.defs defs.0 defs.1 (all-middle d.modules f.0 f.1 (rw (f.4) at k))

@@ -1,23 +1,88 @@
--- The steps of the loops over definitions and over modules.
-use Rattle.std.proofs.Common.{arith, ◌≡◌, ℕ, ◌<◌, Bool, true, false, ◌||◌, List, [], ◌∷◌, ◌++◌, length, Some, None, refl, sym, ◌∙◌, ap, Bor}
-use Rattle.std.proofs.lemmas.Grind.{common_steps}
+-- Definitions one after the other, with the names that they define, and the steps of the loops over definitions and over modules.
+use Rattle.std.proofs.Common.{arith, ◌≡◌, ℕ, true, false, ◌||◌, List, [], ◌∷◌, ◌++◌, Some, Ok, refl, sym, ◌∙◌, ap, append-nil, ◌<◌, Bool, length}
+use Rattle.std.proofs.Common.{None, Bor}
+use Rattle.std.proofs.{lemmas.Grind.common_steps, lemmas.Grind.flat_map-append, lemmas.Bool.and_parts, lemmas.Bool.and_from, lemmas.Bool.or_parts}
+use Rattle.std.proofs.{Math.Bool.or-false, Math.Bool.or_comm, lemmas.Bool.Decides.same_from_decides, lemmas.List.map-append}
+use Rattle.std.proofs.{lemmas.List.Folds.list_any-append, lemmas.List.Folds.list_all-append, lemmas.Slice.Eq.bytes_eq-Decides}
 use Rattle.std.specs.{List.flat_map, List.list_any, BTreeSet.BTreeSet}
-use Rattle.smi_text.specs.{lexer.Token.Item, lexer.Token.tokens_of, trees.Mark.same_text, private.Names.has, Text.HasNoDoubles, Text.HasSecond}
-use Rattle.smi_text.specs.{trees.Lookup.labels, trees.Lookup.are_distinct, declared.stop.Stop.Stop, declared.error.ParseError.ParseError}
-use Rattle.smi_text.specs.{declared.modules.Head.Head, declared.trees.tree.Def.Def, declared.trees.tree.Module.Module}
-use Rattle.smi_text.specs.private.Format.{StandsAhead, begins, many, with_front, shaped, pair, before, lower}
-use Rattle.smi_text.specs.private.Grammar.{definition, head, module_text, file}
-use Rattle.smi_text.specs.trees.Spelling.{of_def, of_head, of_module, spelling}
-use Rattle.smi_text.specs.private.Returned.{is_memory, error_of, text_ahead, NewDefinitionFault, ReadsDefinitions, DefinitionsFault, ReadsModule}
+use Rattle.smi_text.specs.{lexer.Token.Lexeme, lexer.Token.Item, lexer.Token.tokens_of, Text.HasNoDoubles, Text.HasSecond, trees.Lookup.labels}
+use Rattle.smi_text.specs.{trees.Lookup.are_distinct, declared.trees.tree.Def.Def, declared.trees.names.Name.Name}
+use Rattle.smi_text.specs.{declared.trees.tree.DefKind.DefKind, declared.trees.tree.Module.Module, private.Names.has, declared.stop.Stop.Stop}
+use Rattle.smi_text.specs.{declared.error.ParseError.ParseError, declared.modules.Head.Head}
+use Rattle.smi_text.specs.trees.Mark.{Mark, MarksToken, spelled, on_line, same_text}
+use Rattle.smi_text.specs.private.Format.{StandsAhead, Ahead, begins, many, with_front, shaped, pair, before, lower}
+use Rattle.smi_text.specs.private.Grammar.{definition, file, head, module_text}
+use Rattle.smi_text.specs.trees.Spelling.{label, of_def, spelling, of_head, of_module}
+use Rattle.smi_text.specs.private.Returned.{text_ahead, is_memory, error_of, NewDefinitionFault, ReadsDefinitions, DefinitionsFault, ReadsModule}
 use Rattle.smi_text.specs.private.Returned.{ModuleFault, ReadsModules, ModulesFault}
-use Rattle.smi_text.specs.declared.stop.Stop.TheVariants as S
-use Rattle.smi_text.specs.declared.error.ParseError.TheVariants as E
 use Rattle.smi_text.proofs.{Marks.StandsAhead-append, Laws.starts-with, Laws.some-inj, Tokens.taken-stands, Tokens.Stands-append}
+use Rattle.smi_text.proofs.ProductionLaws.{definition-law, head-law, module_text-law}
+use Rattle.smi_text.specs.declared.error.ParseError.TheVariants as E
 use Rattle.smi_text.proofs.Many.{reading-shorter, many-fails, many-goes_on, many-done, with_front-append, with_front-none, with_front-end}
 use Rattle.smi_text.proofs.Many.{with_front-nil}
-use Rattle.smi_text.proofs.ProductionLaws.{definition-law, head-law, module_text-law}
 use Rattle.smi_text.proofs.Shorter.{definition-solid, module_text-solid}
-use Rattle.smi_text.proofs.DefinitionLists.{read-label, stands-more, distinct-more, among-more, no-doubles-more, nothing-begins}
+
+-- the label of a definition is the text of its first token
+
+mark_text : Mark → List ℕ
+mark_text (spelled k x ok) = x
+mark_text (on_line n m) = mark_text m
+
+fits-text : (m : Mark) (t : Lexeme) → MarksToken m t → mark_text m ≡ t.text
+unfolding mark_text
+fits-text (spelled k x ok) t h = sym h.1
+fits-text (on_line n m) t h = fits-text m t h.0
+
+label-text : (x : Name) (k : DefKind) → mark_text (label x k) ≡ x.octets
+unfolding mark_text
+label-text x k = grind (arith, common_steps)
+
+pub spelled-label : (d : Def) (ts rest : List Item) → StandsAhead (of_def d) ts rest → d.label.octets ≡ text_ahead ts
+unfolding mark_text
+spelled-label d (Ok t ∷ ts) rest h = sym (label-text d.label d.kind) ∙ fits-text (label d.label d.kind) t h.0.0
+spelled-label d _ rest h = absurd h
+
+pub read-label : (d : Def) (ts rest : List Item) → definition.read ts ≡ Some (d, rest) → d.label.octets ≡ text_ahead ts
+read-label d ts rest h = spelled-label d ts rest (definition-law.takes ts rest d h)
+
+-- one more
+
+flat-more : {A : Type 0} (f : A → List Mark) (xs : List A) (x : A) → flat_map f (xs ++ x ∷ []) ≡ flat_map f xs ++ f x
+flat-more f xs x = flat_map-append f xs (x ∷ []) ∙ ap (λ (ms : List Mark). flat_map f xs ++ ms) (append-nil (f x))
+
+pub stands-more : {A : Type 0} (f : A → List Mark) (xs : List A) (x : A) (ts mid rest : List Item) → StandsAhead (flat_map f xs) ts mid
+    → StandsAhead (f x) mid rest
+    → StandsAhead (flat_map f (xs ++ x ∷ [])) ts rest
+stands-more f xs x ts mid rest h k =
+    rw (flat-more f xs x) (StandsAhead-append (flat_map f xs) (f x) ts mid rest h k)
+
+any-more : (x : List ℕ) (ys : List (List ℕ)) (y : List ℕ) → list_any (same_text x) (ys ++ y ∷ []) ≡ (same_text x y || list_any (same_text x) ys)
+any-more x ys y = grind (arith, common_steps, list_any-append, or-false, or_comm)
+
+pub same-sym : (x y : List ℕ) → same_text x y ≡ same_text y x
+same-sym x y = grind (arith, common_steps, same_from_decides, bytes_eq-Decides)
+
+labels-more : (ds : List Def) (d : Def) → labels (ds ++ d ∷ []) ≡ labels ds ++ d.label.octets ∷ []
+labels-more ds d = map-append (λ (e : Def). e.label.octets) ds (d ∷ [])
+
+distinct-text : (xs : List (List ℕ)) (x : List ℕ) → are_distinct xs ≡ true → list_any (same_text x) xs ≡ false → are_distinct (xs ++ x ∷ []) ≡ true
+distinct-text [] x h k = refl
+distinct-text (y ∷ ys) x h k = grind (arith, common_steps, or_parts, and_parts, and_from, any-more, same-sym, distinct-text ys x)
+
+pub distinct-more : (ds : List Def) (d : Def) → are_distinct (labels ds) ≡ true → list_any (same_text d.label.octets) (labels ds) ≡ false
+    → are_distinct (labels (ds ++ d ∷ [])) ≡ true
+distinct-more ds d h k = rw (labels-more ds d) (distinct-text (labels ds) d.label.octets h k)
+
+pub among-more : (ds : List Def) (d : Def) (x : List ℕ)
+    → list_any (same_text x) (labels (ds ++ d ∷ [])) ≡ (same_text d.label.octets x || list_any (same_text x) (labels ds))
+among-more ds d x = grind (arith, common_steps, labels-more, any-more, same-sym)
+
+pub no-doubles-more : (ms : List Module) (m : Module) → HasNoDoubles ms → are_distinct (labels m.defs) ≡ true → HasNoDoubles (ms ++ m ∷ [])
+no-doubles-more ms m h k = grind (arith, common_steps, list_all-append, and_from)
+
+pub nothing-begins : (cs : List Ahead) → begins cs [] ≡ false
+unfolding begins
+nothing-begins cs = refl
 
 -- definitions
 
@@ -74,25 +139,20 @@ module _ (names : BTreeSet (ℕ × Bor (List ℕ))) (defs : List Def) (from now 
 pub definitions-fault : (names : BTreeSet (ℕ × Bor (List ℕ))) (defs : List Def) (from now : List Item) → HasRead names defs from now
     → (x : List ℕ) → begins definition.first now ≡ true → x ≡ text_ahead now
     → (error : ParseError) → NewDefinitionFault error (has names x) now → DefinitionsFault error from
-definitions-fault names defs from now have x ahead label (E.Lex fault) f = has_read-stuck names defs from now have ahead f
-definitions-fault names defs from now have x ahead label (E.Syntax line) f = has_read-stuck names defs from now have ahead f
 definitions-fault names defs from now have x ahead label (E.DoubleName line) f =
     rw f.1.on_line at (has_read-second names defs from now have x f.1.def f.1.rest ahead label f.1.read f.0)
 definitions-fault names defs from now have x ahead label E.Memory f = tt
+definitions-fault names defs from now have x ahead label _ f = has_read-stuck names defs from now have ahead f
 
 -- a stop is a fault of the module
 pub module-stop : (stop : Stop) (ts : List Item) → (is_memory stop ≡ false → module_text.read ts ≡ None) → ModuleFault (error_of stop) ts
-module-stop (S.Syntax line) ts h = h refl
-module-stop (S.Lex fault) ts h = h refl
-module-stop S.Memory ts h = tt
+module-stop stop ts h = grind (arith, common_steps)
 
 -- one module
 
 module _ (ts mid : List Item) (h : Head) (read : head.read ts ≡ Some (h, mid)) where
   pub module-defs : (error : ParseError) → DefinitionsFault error mid → ModuleFault error ts
   unfolding module_text shaped pair before lower
-  module-defs (E.Lex fault) f = rw (read, f) refl
-  module-defs (E.Syntax line) f = rw (read, f) refl
   module-defs (E.DoubleName line) f = record {
     name = h.name;
     heading = h.heading;
@@ -102,6 +162,7 @@ module _ (ts mid : List Item) (h : Head) (read : head.read ts ≡ Some (h, mid))
     twice = f;
   }
   module-defs E.Memory f = tt
+  module-defs _ f = rw (read, f) refl
 
 -- modules
 
@@ -135,8 +196,6 @@ module _ (ms : List Module) (from now : List Item) (have : HasModules ms from no
   stuck e some us h = grind (arith, common_steps, with_front-none, many-fails, many-done, with_front-end, some-inj)
 
   pub has_modules-fault : (error : ParseError) → (now ≡ [] → ⊥) → ModuleFault error now → ModulesFault error from
-  has_modules-fault (E.Lex fault) some f = stuck f some
-  has_modules-fault (E.Syntax line) some f = stuck f some
   has_modules-fault (E.DoubleName line) some f = record {
     modules = ms;
     once = have.distinct;
@@ -149,3 +208,4 @@ module _ (ms : List Module) (from now : List Item) (have : HasModules ms from no
     twice = f.twice;
   }
   has_modules-fault E.Memory some f = tt
+  has_modules-fault _ some f = stuck f some

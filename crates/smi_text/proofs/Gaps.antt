@@ -1,45 +1,47 @@
 -- Gaps: blank octets and comments, and where none begins.
 use Rattle.std.proofs.{lemmas.Grind.common_steps, lemmas.List.drop_all}
 use Rattle.std.proofs.Common.{◌≡◌, ℕ, zero, suc, ◌+◌, ◌<◌, ◌≤◌, true, false, cond, List, [], ◌∷◌, length, get_or, take, drop, refl, sym, ap, ◌∙◌, inl}
-use Rattle.std.proofs.Common.{inr, arith, ◌-◌, add-zero}
+use Rattle.std.proofs.Common.{inr, arith, ◌-◌, add-zero, Option}
 use Rattle.std.proofs.lemmas.Bool.{eqb-true, ne_eqb, false≢true, or_cases}
 use Rattle.smi_text.specs.declared.lexer.class.Class.TheVariants as C
-use Rattle.smi_text.specs.lexer.Lexeme.{gap, begins, is_blank, is_hyphen}
+use Rattle.smi_text.specs.lexer.Lexeme.{Part, gap, begins, is_blank, is_hyphen}
+use Rattle.std.specs.Bool.{then_some}
 use Rattle.smi_text.specs.lexer.Reading.{HasNoGap, IsLongestPassing, IsPartFront, Skips, hyphen_part, is_comment_rest, is_nothing, ArePassedBetween}
 use Rattle.smi_text.specs.lexer.Reading.{is_space_or_tab, newlines, part_in, part_of}
-use Rattle.smi_text.proofs.{LexerFronts.rest_at, LexerFronts.rest_of_two, ItemsLemmas.newlines-one, ItemsLemmas.skips_gap, Parts.none_some}
+use Rattle.smi_text.proofs.{Scans.rest_at, Scans.rest_of_two, ItemsLemmas.newlines-one, ItemsLemmas.skips_gap, Parts.none_some}
 use Rattle.smi_text.proofs.{Parts.front_behind_first, Parts.front_cons, Parts.part_front, Scans.begins-take, Scans.hand_on}
 use Rattle.smi_text.proofs.PartLaws.{blank_class, comment_one_line, comment_opens, part_is, two_hyphens}
 
 -- ---- a blank octet
-
--- a newline ends a line, and no other octet does
-pub newlines-newline : (c : ℕ) → c ≡ 10 → newlines (c ∷ []) ≡ 1
-newlines-newline c is = rw is refl
-
-pub newlines-other : (c : ℕ) → (c ≡ 10 → ⊥) → newlines (c ∷ []) ≡ 0
-newlines-other c other = newlines-one c ∙ ap (λ b. cond b 1 0) (ne_eqb c 10 other)
 
 nothing_front : (cs : List ℕ) → IsLongestPassing is_nothing cs 0
 nothing_front cs = grind (arith, common_steps)
 
 pub blank_front : (c : ℕ) (cs : List ℕ) → is_blank c ≡ true → IsPartFront part_of (c ∷ cs) gap 1
 blank_front c cs h =
-    front_behind_first c cs gap 0 (rw (blank_class c h) (part_front is_nothing (part_in C.Blank) gap cs 0 (λ s. refl) (nothing_front cs)))
+    front_behind_first c cs C.Blank (sym (blank_class c h)) gap 0 (part_front is_nothing (part_in C.Blank) gap cs 0 (λ s. refl) (nothing_front cs))
 
-pub skips_blank : (text : List ℕ) (n lines : ℕ) → n < length text → is_blank (get_or text n 0) ≡ true
-    → Skips text n lines → Skips text (n + 1) (lines + newlines (get_or text n 0 ∷ []))
-skips_blank text n lines here blank skips = grind (arith, common_steps, rest_at, skips_gap, blank_front)
+skips_blank : (text : List ℕ) (n lines more : ℕ) → n < length text → is_blank (get_or text n 0) ≡ true → newlines (get_or text n 0 ∷ []) ≡ more
+    → Skips text n lines → Skips text (n + 1) (lines + more)
+skips_blank text n lines more here blank ended skips = grind (arith, common_steps, rest_at, skips_gap, blank_front)
 
--- a space or a tab ends no line, and is blank
-ends_no_line : (c : ℕ) → is_space_or_tab c ≡ true → (newlines (c ∷ []) ≡ 0) × (is_blank c ≡ true)
+-- a newline ends a line, and no other octet does
+pub skips_newline : (text : List ℕ) (n lines : ℕ) → n < length text → get_or text n 0 ≡ 10 → Skips text n lines → Skips text (n + 1) (lines + 1)
+skips_newline text n lines here newline skips = skips_blank text n lines 1 here (ap is_blank newline) (rw newline refl) skips
+
+pub skips_other : (text : List ℕ) (n lines : ℕ) → n < length text → (get_or text n 0 ≡ 10 → ⊥) → is_blank (get_or text n 0) ≡ true
+    → Skips text n lines → Skips text (n + 1) lines
+skips_other text n lines here other blank skips =
+    let none = newlines-one (get_or text n 0) ∙ ap (λ b. cond b 1 0) (ne_eqb (get_or text n 0) 10 other) in
+    rw add-zero at (skips_blank text n lines 0 here blank none skips)
+
+-- a space or a tab is blank, and ends no line
+ends_no_line : (c : ℕ) → is_space_or_tab c ≡ true → (c ≡ 10 → ⊥) × (is_blank c ≡ true)
 ends_no_line c is = grind (arith, common_steps, or_cases, eqb-true)
 
 skips_space : (text : List ℕ) (n lines : ℕ) → n < length text → is_space_or_tab (get_or text n 0) ≡ true
     → Skips text n lines → Skips text (n + 1) lines
-skips_space text n lines here is skips =
-    let plain = ends_no_line (get_or text n 0) is in
-    rw (plain.0, add-zero) at (skips_blank text n lines here plain.1 skips)
+skips_space text n lines here is skips = grind (arith, common_steps, skips_other, ends_no_line)
 
 -- a space, and the spaces and tabs behind it
 pub skips_run : (text : List ℕ) (n to lines : ℕ) → n < length text → get_or text n 0 ≡ 32 → ArePassedBetween is_space_or_tab text (n + 1) to
@@ -56,23 +58,24 @@ skips_run text n to lines here space run skips =
 pub comment_part : (s : List ℕ) (n : ℕ) → IsLongestPassing is_comment_rest s n → IsPartFront part_of (45 ∷ 45 ∷ s) gap (2 + n)
 comment_part s n front =
     let place : (n + 1) + 1 ≡ 2 + n = omega arith in
-    rw place at (front_behind_first 45 (45 ∷ s) gap (n + 1) (front_cons hyphen_part is_comment_rest gap 45 s n (λ s. refl) front))
+    let behind : List ℕ → Option Part = λ s. then_some (is_comment_rest s) gap in
+    rw place at (front_behind_first 45 (45 ∷ s) C.Hyphen refl gap (n + 1) (front_cons hyphen_part behind 45 s gap n (λ s. refl)
+    (part_front is_comment_rest behind gap s n (λ s. refl) front)))
 
 pub skips_comment : (text : List ℕ) (n lines k : ℕ) → n + 1 < length text → get_or text n 0 ≡ 45 → get_or text (n + 1) 0 ≡ 45
-    → IsLongestPassing is_comment_rest (drop (n + 2) text) k → Skips text n lines → Skips text (n + (2 + k)) (lines + 0)
+    → IsLongestPassing is_comment_rest (drop (n + 2) text) k → Skips text n lines → Skips text (n + (2 + k)) lines
 skips_comment text n lines k here first second front skips =
     let behind = drop (n + 2) text in
     let rest : drop n text ≡ 45 ∷ 45 ∷ behind = rw (first, second) at (rest_of_two text n here) in
     let two : 2 + k ≡ suc (suc k) = omega arith in
-    skips_gap text n lines (2 + k) 0 (rw rest (comment_part behind k front))
-    (rw (rest, two) (comment_one_line (45 ∷ 45 ∷ take k behind) (two_hyphens (take k behind) front.passes))) skips
+    rw add-zero at (skips_gap text n lines (2 + k) 0 (rw rest (comment_part behind k front))
+    (rw (rest, two) (comment_one_line (45 ∷ 45 ∷ take k behind) (two_hyphens (take k behind) front.passes))) skips)
 
 -- ---- where no gap begins
 
 pub no_gap_of_nothing : HasNoGap []
 unfolding part_of
-no_gap_of_nothing zero is = none_some gap is
-no_gap_of_nothing (suc m) is = none_some gap is
+no_gap_of_nothing = grind (arith, common_steps)
 
 no_gap_at : (c : ℕ) (cs : List ℕ) → is_blank c ≡ false → (c ≡ 45 → begins is_hyphen cs ≡ false) → HasNoGap (c ∷ cs)
 unfolding part_of

@@ -42,18 +42,14 @@ pub items-skipped : (k at before : ℕ) (text : List ℕ) → items_at k at befo
 unfolding items_at
 items-skipped zero at before text = simp add-zero
 items-skipped (suc k) at before [] = refl
-items-skipped (suc k) at before (c ∷ cs) =
-    let place : (at + 1) + k ≡ at + suc k = omega arith in
-    let line : (before + newlines (c ∷ [])) + newlines (take k cs) ≡ before + newlines (c ∷ take k cs) = omega (arith, newlines-cons c (take k cs)) in
-    cc (items-skipped k (at + 1) (before + newlines (c ∷ [])) cs)
+items-skipped (suc k) at before (c ∷ cs) = grind (arith, common_steps, items-skipped k (at + 1) (before + newlines (c ∷ [])) cs, newlines-cons)
 
 -- the longest front gives its item, before those of the rest
 pub items-front : (text : List ℕ) (part : Part) (k at before : ℕ) → IsPartFront part_of text part k
     → items_at 0 at before text ≡ part_items at before part (take k text) (items_at 0 (at + k) (before + newlines (take k text)) (drop k text))
 unfolding items_at part_of
-items-front [] part zero at before front = absurd (none_some part front.reads)
+items-front text part zero at before front = absurd (none_some part front.reads)
 items-front [] part (suc k) at before front = absurd (none_some part front.reads)
-items-front (c ∷ cs) part zero at before front = absurd (none_some part front.reads)
 items-front (c ∷ cs) part (suc k) at before front =
     let found : longest_front (length (c ∷ cs)) (c ∷ cs) ≡ Some (part, suc k) = longest_is (length (c ∷ cs)) (c ∷ cs) part (suc k) front
     (omega arith) front.within (omega arith) in
@@ -83,9 +79,7 @@ skips_gap text n lines k more front ended skips at before =
 -- ---- one call of `next`
 
 neither : (r : Option Part) → (r ≡ Some gap → ⊥) → ((kind : TokenKind) → r ≡ Some (lexeme kind) → ⊥) → r ≡ None
-neither None gaps lexemes = refl
-neither (Some gap) gaps lexemes = absurd (gaps refl)
-neither (Some (lexeme kind)) gaps lexemes = absurd (lexemes kind refl)
+neither r gaps lexemes = grind (arith, common_steps)
 
 -- behind the gaps, where no lexeme stands
 pub items-fault : (c : ℕ) (cs : List ℕ) (at before : ℕ) → HasNoGap (c ∷ cs) → HasNoLexeme part_of (c ∷ cs)
@@ -93,8 +87,7 @@ pub items-fault : (c : ℕ) (cs : List ℕ) (at before : ℕ) → HasNoGap (c �
 items-fault c cs at before gaps lexemes = items-none c cs at before (λ m. neither (part_of (take m (c ∷ cs))) (gaps m) (λ kind. lexemes kind m))
 
 pub items-empty : (at before : ℕ) (text : List ℕ) → length text ≡ 0 → items_at 0 at before text ≡ []
-items-empty at before [] empty = items-nothing at before
-items-empty at before (c ∷ cs) empty = absurd (omega arith)
+items-empty at before text empty = grind (arith, common_steps, items-nothing)
 
 -- behind the gaps of what isn't read stands this text
 module _ (unread text : List ℕ) (at before n ended : ℕ) (skips : Skips unread n ended) (is_rest : text ≡ drop n unread) where

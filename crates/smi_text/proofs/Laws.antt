@@ -1,6 +1,6 @@
 -- Each way of making a format keeps it lawful.
 use Rattle.std.proofs.lemmas.Grind.{common_steps}
-use Rattle.std.proofs.Common.{◌≡◌, ℕ, zero, suc, Bool, true, false, ◌&&◌, not, List, [], ◌∷◌, ◌++◌, Option, Some, None, Ok, Err, if◌then◌else◌, refl}
+use Rattle.std.proofs.Common.{◌≡◌, ℕ, zero, suc, Bool, true, false, ◌&&◌, not, List, [], ◌∷◌, ◌++◌, Option, Some, None, if◌then◌else◌, refl}
 use Rattle.std.proofs.Common.{sym, ◌∙◌, ap, subst, arith, inl, inr, ◌⊎◌}
 use Rattle.std.proofs.lemmas.Bool.{and_parts, and_from, or_left, or_right, or_parts, not-true}
 use Rattle.std.specs.List.{list_any, flat_map}
@@ -20,9 +20,7 @@ use Rattle.smi_text.proofs.Marks.{then-inv, begins-append, apart-false}
 
 -- no token is marked so
 pub never-stands : (ts rest : List Item) → StandsAhead say.nothing ts rest → ⊥
-never-stands [] rest h = h
-never-stands (Err f ∷ ts) rest h = h
-never-stands (Ok t ∷ ts) rest h = cc (h.0.2)
+never-stands ts rest h = grind (arith, common_steps)
 
 -- what is spelled by a format that is not empty begins as it says
 pub starts-with : {A : Type 0} {s : A → List Mark} {f : Format A} → Lawful s f → f.empty ≡ false → (x : A) (ts rest : List Item) → StandsAhead (s x) ts rest

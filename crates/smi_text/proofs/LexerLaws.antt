@@ -12,8 +12,7 @@ use Rattle.smi_text.proofs.{PartLaws.is_part, PartLaws.part_is, Parts.none_some}
 -- ---- the longest front, by the relation and by the reading
 
 none_unless : (r : Option Part) → ((part : Part) → r ≡ Some part → ⊥) → r ≡ None
-none_unless None h = refl
-none_unless (Some part) h = absurd (h part refl)
+none_unless r h = grind (arith, common_steps)
 
 longest-front : (part : Part) (n : ℕ) (text : List ℕ) → IsPartFront part_of text part n → IsLongest part n text
 longest-front part n text front = grind (arith, common_steps, part_is, none_some, is_part)
@@ -121,12 +120,5 @@ in_order (passes {before} {text} {items} n longest rest) =
     earlier (before ++ text) (length before) (length (before ++ take n text)) (tokens_of items) (omega (arith, length-append before (take n text)))
     (rw (append_assoc, take-append-drop) at (in_order rest))
 in_order (gives {before} {text} {items} kind n longest rest) =
-    let some : 0 < n = front_some text (lexeme kind) n (front-longest (lexeme kind) n text longest) in
-    let len = length-take-le n text longest.within in (
-      omega arith,
-      omega (arith, len),
-      omega (arith, len, longest.within, length-append before text),
-      span_of before text n longest.within,
-      rw (append_assoc, take-append-drop, length-append) at (in_order rest),
-    )
+    grind (arith, common_steps, in_order rest, front_some, front-longest, length-take-le, length-append, span_of, append_assoc, take-append-drop)
 in_order (breaks c cs none) = tt

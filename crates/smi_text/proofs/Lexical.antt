@@ -6,17 +6,10 @@ use Rattle.smi_text.specs.{declared.lexer.token.TokenKind.TokenKind, lexer.Lexem
 use Rattle.smi_text.specs.{trees.Mark.sign_text, trees.Mark.same_text, declared.trees.names.Name.Name, private.Kinds.is_sign_kind}
 use Rattle.smi_text.specs.{declared.stop.Stop.Stop, declared.stop.Stop.TheVariants.Memory, private.Returned.ReturnsReading}
 use Rattle.smi_text.specs.{private.Returned.is_memory, private.Format.Ahead, private.Format.name_of, private.Format.name_where, private.Format.token}
-use Rattle.smi_text.specs.declared.lexer.token.TokenKind.TheVariants as K
 use Rattle.smi_text.proofs.{Marks.same_kind-same, Marks.same_text-same, NameLaws.name_of-octets}
 
 sign-of : (k : TokenKind) (x : List ℕ) → is_sign_kind k ≡ true → IsLexeme k x → x ≡ sign_text k
-sign-of K.Lower x e h = absurd (false≢true e)
-sign-of K.Upper x e h = absurd (false≢true e)
-sign-of K.Number x e h = absurd (false≢true e)
-sign-of K.Text x e h = absurd (false≢true e)
-sign-of K.Hex x e h = absurd (false≢true e)
-sign-of K.Binary x e h = absurd (false≢true e)
-sign-of _ x e h = h
+sign-of k x e h = grind (arith, common_steps)
 
 -- the text of a sign is that of its kind
 sign_is : (k : TokenKind) (x : List ℕ) → is_sign_kind k ≡ true → ∥ IsLexeme k x ∥₁ → same_text x (sign_text k) ≡ true

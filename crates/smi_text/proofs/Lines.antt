@@ -1,5 +1,5 @@
 -- Trees with one spelling but for lines are the same but for lines: with 0 in the place of each line both stand in the same tokens.
-use Rattle.std.proofs.Common.{arith, ◌≡◌, ℕ, Bool, true, false, List, [], ◌∷◌, ◌++◌, Option, Some, None, if◌then◌else◌, refl, ◌∙◌, ap}
+use Rattle.std.proofs.Common.{arith, ◌≡◌, ℕ, Bool, true, false, List, [], ◌∷◌, ◌++◌, Option, if◌then◌else◌, refl, ◌∙◌, ap}
 use Rattle.std.proofs.{lemmas.Grind.common_steps, lemmas.List.map-append, lemmas.List.Folds.flat_map-map, lemmas.Simd.map-map}
 use Rattle.std.specs.{Prelude.map, Prelude.option_map, List.flat_map}
 use Rattle.smi_text.specs.{lexer.Token.Lexeme, trees.Fronts.has_balanced_braces, trees.Lines.plain, trees.Lines.unlined}
@@ -9,10 +9,8 @@ use Rattle.smi_text.specs.{declared.trees.tree.Syntax.Syntax, declared.trees.tre
 use Rattle.smi_text.specs.trees.Mark.{Mark, spelled, on_line, MarksToken, Stands}
 use Rattle.smi_text.specs.trees.Spelling as say
 use Rattle.smi_text.specs.declared.trees.tree.DefKind.TheVariants as D
-use Rattle.smi_text.specs.declared.trees.tree.Part.TheVariants as P
 use Rattle.smi_text.specs.declared.trees.tree.Index.TheVariants as I
 use Rattle.smi_text.specs.declared.trees.tree.Syntax.TheVariants as T
-use Rattle.smi_text.specs.declared.trees.tree.Base.TheVariants as B
 use Rattle.smi_text.specs.declared.trees.tree.Refinement.TheVariants as R
 use Rattle.smi_text.proofs.{Laws.some-inj, Tokens.tokens-read}
 
@@ -27,40 +25,34 @@ each f [] = refl
 each f (x ∷ xs) = map-append zeroed (f x) (flat_map f xs) ∙ ap (λ ms. map zeroed (f x) ++ ms) (each f xs)
 
 option : {A : Type 0} (f : A → List Mark) (o : Option A) → map zeroed (say.of_option f o) ≡ say.of_option (λ x. map zeroed (f x)) o
-option f None = refl
-option f (Some x) = refl
+option f o = grind (arith, common_steps)
 
 some : {A : Type 0} (f g : A → List Mark) (xs : List A) → map zeroed (say.of_some f g xs) ≡ say.of_some (λ x. map zeroed (f x)) (λ x. map zeroed (g x)) xs
 some f g [] = refl
 some f g (x ∷ xs) = simp (map-append, each)
 
 option-map : {A B : Type 0} (f : B → List Mark) (g : A → B) (o : Option A) → say.of_option f (option_map g o) ≡ say.of_option (λ x. f (g x)) o
-option-map f g None = refl
-option-map f g (Some x) = refl
+option-map f g o = grind (arith, common_steps)
 
 put_line-zeroed : (line : ℕ) (ms : List Mark) → map zeroed (say.put_line line ms) ≡ say.put_line 0 (map zeroed ms)
-put_line-zeroed line [] = refl
-put_line-zeroed line (m ∷ ms) = refl
+put_line-zeroed line ms = grind (arith, common_steps)
 
 ruleset zeroing = (map-append, each, some, option)
 
 -- ---- productions that say no line
 
 part : (p : Part) → map zeroed (say.of_part p) ≡ say.of_part p
-part (P.Number n) = refl
-part _ = refl
+part p = grind (arith, common_steps)
 
 later_part : (p : Part) → map zeroed (say.of_later_part p) ≡ say.of_later_part p
-later_part (P.Number n) = refl
-later_part _ = refl
+later_part p = grind (arith, common_steps)
 
 refinement : (r : Refinement) → map zeroed (say.of_refinement r) ≡ say.of_refinement r
 refinement (R.Numbers ns) = simp zeroing
 refinement _ = simp zeroing
 
 base : (b : Base) → map zeroed (say.of_base b) ≡ say.of_base b
-base B.Integer = refl
-base _ = refl
+base b = grind (arith, common_steps)
 
 syntax_type : (t : Syntax) → map zeroed (say.of_syntax t) ≡ say.of_syntax t
 syntax_type (T.SequenceOf x) = refl
@@ -68,8 +60,7 @@ syntax_type (T.Simple t) = simp (zeroing, base, refinement)
 
 index_names : (xs : List Name) (b : Bool) → map zeroed (say.of_index_names xs b) ≡ say.of_index_names xs b
 index_names [] b = refl
-index_names (x ∷ []) true = refl
-index_names (x ∷ []) false = refl
+index_names (x ∷ []) b = grind (arith, common_steps)
 index_names (x ∷ (y ∷ ys)) b = rw (index_names (y ∷ ys) b) refl
 
 index : (x : Index) → map zeroed (say.of_index x) ≡ say.of_index x
@@ -91,8 +82,7 @@ kind (D.ObjectIdentifier v) = simp productions
 kind _ = simp productions
 
 label : (x : Name) (k : DefKind) → zeroed (say.label x k) ≡ say.label x k
-label x (D.ObjectType d) = refl
-label x _ = refl
+label x k = grind (arith, common_steps)
 
 spelling-zeroed : (ms : List Module) → map zeroed (say.spelling ms) ≡ say.spelling (map unlined ms)
 spelling-zeroed ms = simp (zeroing, part, label, kind, put_line-zeroed, option-map, flat_map-map)

@@ -1,25 +1,24 @@
 -- One step of the loops that read the names of an index, and tokens between braces.
-use Rattle.std.proofs.Common.{◌≡◌, ℕ, zero, suc, ◌+◌, ◌<◌, ◌≤◌, true, false, List, [], ◌∷◌, ◌++◌, length, Some, None, Ok, Err, refl, sym, ap, arith}
+use Rattle.std.proofs.Common.{◌≡◌, ℕ, zero, suc, ◌+◌, ◌<◌, ◌≤◌, true, false, List, [], ◌∷◌, ◌++◌, length, Some, None, Ok, refl, sym, arith}
 use Rattle.std.proofs.Common.{append_assoc}
+use Rattle.std.proofs.lemmas.Grind.{common_steps}
 use Rattle.std.specs.Prelude.{◌==◌, codes}
 use Rattle.smi_text.specs.{declared.lexer.token.TokenKind.TokenKind, lexer.Token.Lexeme, lexer.Token.Item, declared.trees.tree.TokenText.TokenText}
 use Rattle.smi_text.specs.{declared.trees.tree.IndexParts.IndexParts, declared.trees.names.Name.Name}
 use Rattle.smi_text.specs.declared.lexer.token.TokenKind.TheVariants as K
 use Rattle.smi_text.specs.private.Format.{Parsed, a_word, a_kind, begins, with_front, lower, token, token_ahead}
-use Rattle.smi_text.specs.private.Grammar.{read_index, with_names, index_parts, depth_after, is_outside, kept_text, read_balanced}
+use Rattle.smi_text.specs.private.Grammar.{read_index, with_names, depth_after, is_outside, kept_text, read_balanced}
 use Rattle.smi_text.proofs.{Laws.lower-law, Laws.token-law, Many.reading-shorter, Many.with_front-append, Many.with_front-end}
 
 -- the names of an index
 
 pub with_names-nil : (r : Parsed IndexParts) → with_names [] r ≡ r
 unfolding with_names
-with_names-nil None = refl
-with_names-nil (Some p) = refl
+with_names-nil r = grind (arith, common_steps)
 
 with_names-append : (xs ys : List Name) (r : Parsed IndexParts) → with_names (xs ++ ys) r ≡ with_names xs (with_names ys r)
 unfolding with_names
-with_names-append xs ys None = refl
-with_names-append xs ys (Some p) = ap (λ (zs : List Name). Some (index_parts zs p.0.implied, p.1)) (append_assoc xs ys p.0.names)
+with_names-append xs ys r = grind (arith, common_steps, append_assoc)
 
 pub index-next : (names : List Name) (n : ℕ) (ts : List Item) → length ts ≤ n → (x : Name) (rest after : List Item)
     → begins (a_word (codes "IMPLIED") ∷ []) ts ≡ false → lower.read ts ≡ Some (x, rest)
@@ -36,9 +35,7 @@ index-next names (suc m) ts h x rest after b e c t = (
 -- tokens between braces
 
 pub depth_after-le : (k : TokenKind) (depth : ℕ) → depth_after k depth ≤ depth + 1
-depth_after-le K.OpenBrace depth = omega arith
-depth_after-le K.CloseBrace depth = omega arith
-depth_after-le _ depth = omega arith
+depth_after-le k depth = grind arith
 
 pub balanced-next : (xs : List TokenText) (depth : ℕ) (t : Lexeme) (ts : List Item) → is_outside t.kind depth ≡ false
     → with_front xs (read_balanced depth (Ok t ∷ ts)) ≡ with_front (xs ++ kept_text t ∷ []) (read_balanced (depth_after t.kind depth) ts)
@@ -48,10 +45,8 @@ balanced-next xs depth t ts o = rw o (sym (with_front-append xs (kept_text t ∷
 pub balanced-open : (xs : List TokenText) (depth : ℕ) (items : List Item) → 0 < depth → token_ahead items ≡ None
     → with_front xs (read_balanced depth items) ≡ None
 unfolding read_balanced with_front
-balanced-open xs zero items h n = absurd (omega arith)
-balanced-open xs (suc d) [] h n = let e : (suc d == 0) ≡ false = grind arith in rw e refl
-balanced-open xs (suc d) (Err f ∷ items) h n = let e : (suc d == 0) ≡ false = grind arith in rw e refl
-balanced-open xs (suc d) (Ok t ∷ items) h n = absurd (cc)
+balanced-open xs depth (Ok t ∷ items) h n = absurd (cc)
+balanced-open xs depth _ h n = let e : (depth == 0) ≡ false = grind arith in rw e refl
 
 pub balanced-outside : (xs : List TokenText) (depth : ℕ) (t : Lexeme) (ts : List Item) → is_outside t.kind depth ≡ true
     → with_front xs (read_balanced depth (Ok t ∷ ts)) ≡ Some (xs, Ok t ∷ ts)
@@ -61,6 +56,5 @@ balanced-outside xs depth t ts o = rw o (with_front-end xs (Ok t ∷ ts))
 pub balanced-closed : (xs : List TokenText) (depth : ℕ) (items : List Item) → depth ≡ 0 → token_ahead items ≡ None
     → with_front xs (read_balanced depth items) ≡ Some (xs, items)
 unfolding read_balanced
-balanced-closed xs depth [] e n = rw e (with_front-end xs [])
-balanced-closed xs depth (Err f ∷ items) e n = rw e (with_front-end xs (Err f ∷ items))
 balanced-closed xs depth (Ok t ∷ items) e n = absurd (cc)
+balanced-closed xs depth _ e n = rw e (with_front-end xs _)

@@ -1,6 +1,6 @@
 -- Readings of any number of one part.
 use Rattle.std.proofs.lemmas.Grind.{common_steps}
-use Rattle.std.proofs.Common.{◌≡◌, ℕ, zero, suc, ◌+◌, ◌<◌, ◌≤◌, true, false, List, [], ◌∷◌, ◌++◌, length, Some, None, Ok, Err, if◌then◌else◌}
+use Rattle.std.proofs.Common.{◌≡◌, ℕ, zero, suc, ◌+◌, ◌<◌, ◌≤◌, true, false, List, [], ◌∷◌, ◌++◌, length, Some, None, Ok, if◌then◌else◌}
 use Rattle.std.proofs.Common.{option_map, option_and_then, refl, ◌∙◌, ap, arith, append_assoc, append-nil}
 use Rattle.smi_text.specs.{lexer.Token.Item, trees.Mark.Mark}
 use Rattle.smi_text.specs.private.Format.{StandsAhead, Format, Parsed, begins, read_many, many, with_front}
@@ -9,9 +9,8 @@ use Rattle.smi_text.proofs.Lawful.{Lawful}
 -- tokens that are spelled by no mark are the rest; else the rest is shorter
 pub StandsAhead-length : (ms : List Mark) (ts rest : List Item) → StandsAhead ms ts rest → length ts ≡ length ms + length rest
 StandsAhead-length [] ts rest h = ap length h ∙ omega arith
-StandsAhead-length (m ∷ ms) [] rest h = absurd h
-StandsAhead-length (m ∷ ms) (Err f ∷ ts) rest h = absurd h
 StandsAhead-length (m ∷ ms) (Ok t ∷ ts) rest h = omega (arith, StandsAhead-length ms ts rest h.1)
+StandsAhead-length (m ∷ ms) _ rest h = absurd h
 
 pub shorter : {A : Type 0} {s : A → List Mark} {f : Format A} → Lawful s f → f.empty ≡ false → (x : A) (ts rest : List Item) → StandsAhead (s x) ts rest
     → length rest < length ts
@@ -64,8 +63,7 @@ many-done f ts b = rw b refl
 
 pub with_front-append : {A : Type 0} (xs ys : List A) (r : Parsed (List A)) → with_front (xs ++ ys) r ≡ with_front xs (with_front ys r)
 unfolding with_front
-with_front-append xs ys None = refl
-with_front-append {A} xs ys (Some p) = ap (λ (zs : List A). Some (zs, p.1)) (append_assoc xs ys p.0)
+with_front-append xs ys r = grind (arith, common_steps, append_assoc)
 
 pub with_front-none : {A : Type 0} (xs : List A) (r : Parsed (List A)) → r ≡ None → with_front xs r ≡ None
 unfolding with_front
@@ -77,8 +75,7 @@ with_front-end {A} xs ts = ap (λ (zs : List A). Some (zs, ts)) (append-nil xs)
 
 pub with_front-nil : {A : Type 0} (r : Parsed (List A)) → with_front [] r ≡ r
 unfolding with_front
-with_front-nil None = refl
-with_front-nil (Some p) = refl
+with_front-nil r = grind (arith, common_steps)
 
 -- one step of a loop that reads several parts: what is left to read, and a bound that is enough for it
 pub next-many : {A : Type 0} (f : Format A) (n : ℕ) (x : A) (ts rest : List Item) → begins f.first ts ≡ true → f.read ts ≡ Some (x, rest) → length ts ≤ n

@@ -1,14 +1,13 @@
 -- Marks, kinds and texts: what the tests of tokens mean.
-use Rattle.std.proofs.Common.{arith, ◌≡◌, ℕ, Bool, true, false, ◌||◌, not, List, [], ◌∷◌, ◌++◌, Option, Some, None, Ok, Err, refl, sym, ◌∙◌, ap}
-use Rattle.std.proofs.Common.{subst, inl, inr, get_or, eq-eqb, ◌⊎◌, if◌then◌else◌}
+use Rattle.std.proofs.Common.{arith, ◌≡◌, ℕ, Bool, true, false, ◌||◌, not, List, [], ◌∷◌, ◌++◌, Option, Some, None, Ok, refl, sym, ◌∙◌, ap, subst}
+use Rattle.std.proofs.Common.{get_or, eq-eqb, ◌⊎◌, if◌then◌else◌}
 use Rattle.std.proofs.{lemmas.Grind.common_steps, lemmas.List.Folds.list_any-append, lemmas.Slice.Eq.bytes_eq-Decides}
 use Rattle.std.proofs.lemmas.Bool.{and_parts, false_from_ne_true, eqb-true, or_cases}
 use Rattle.std.specs.{Prelude.option_map, Prelude.option_and_then, List.list_any, List.list_all}
 use Rattle.smi_text.specs.{declared.lexer.token.TokenKind.TokenKind, lexer.Token.Lexeme, lexer.Token.Item}
 use Rattle.smi_text.specs.declared.lexer.token.TokenKind.TheVariants as K
 use Rattle.smi_text.specs.trees.Mark.{Mark, kind_number, same_kind, same_text}
-use Rattle.smi_text.specs.private.Format.{StandsAhead, Ahead, a_word, a_name, a_kind, no_word, no_kind, is_this_word, meets, begins, half_apart}
-use Rattle.smi_text.specs.private.Format.{apart}
+use Rattle.smi_text.specs.private.Format.{StandsAhead, Ahead, a_kind, is_this_word, meets, begins, half_apart, apart}
 
 -- kinds and texts
 
@@ -38,18 +37,14 @@ same_text-same x = (bytes_eq-Decides x x).1 refl
 
 pub StandsAhead-append : (xs ys : List Mark) (ts mid rest : List Item) → StandsAhead xs ts mid → StandsAhead ys mid rest → StandsAhead (xs ++ ys) ts rest
 StandsAhead-append [] ys ts mid rest h k = let P : List Item → Type 0 = λ us. StandsAhead ys us rest in subst P (sym h) k
-StandsAhead-append (x ∷ xs) ys [] mid rest h k = absurd h
-StandsAhead-append (x ∷ xs) ys (Err f ∷ ts) mid rest h k = absurd h
 StandsAhead-append (x ∷ xs) ys (Ok t ∷ ts) mid rest h k = (h.0, StandsAhead-append xs ys ts mid rest h.1 k)
+StandsAhead-append (x ∷ xs) ys _ mid rest h k = absurd h
 
 pub StandsAhead-split : (xs ys : List Mark) (ts rest : List Item) → StandsAhead (xs ++ ys) ts rest
     → (mid : List Item) × StandsAhead xs ts mid × StandsAhead ys mid rest
 StandsAhead-split [] ys ts rest h = (ts, refl, h)
-StandsAhead-split (x ∷ xs) ys [] rest h = absurd h
-StandsAhead-split (x ∷ xs) ys (Err f ∷ ts) rest h = absurd h
-StandsAhead-split (x ∷ xs) ys (Ok t ∷ ts) rest h =
-    let r = StandsAhead-split xs ys ts rest h.1 in
-    (r.0, (h.0, r.1), r.2)
+StandsAhead-split (x ∷ xs) ys (Ok t ∷ ts) rest h = grind (arith, common_steps, StandsAhead-split xs ys ts rest h.1)
+StandsAhead-split (x ∷ xs) ys _ rest h = absurd h
 
 -- readings
 
@@ -62,25 +57,23 @@ then-inv k None y h = absurd (cc)
 then-inv k (Some x) y h = (x, refl, h)
 
 pub if-inv : {A : Type 0} (b : Bool) (x y z : A) → (if b then x else y) ≡ z → ((b ≡ true) × (x ≡ z)) ⊎ ((b ≡ false) × (y ≡ z))
-if-inv true x y z h = inl (refl, h)
-if-inv false x y z h = inr (refl, h)
+if-inv b x y z h = grind (arith, common_steps)
 
 -- what stands ahead
 
 pub begins-append : (cs ds : List Ahead) (ts : List Item) → begins (cs ++ ds) ts ≡ (begins cs ts || begins ds ts)
 unfolding begins
-begins-append cs ds [] = refl
-begins-append cs ds (Err f ∷ ts) = refl
-begins-append cs ds (Ok t ∷ ts) = list_any-append (meets t) cs ds
+begins-append cs ds ts = grind (arith, common_steps, list_any-append)
+
+pub begins-two : (j k : TokenKind) (ts : List Item) → begins (a_kind j ∷ a_kind k ∷ []) ts ≡ (begins (a_kind j ∷ []) ts || begins (a_kind k ∷ []) ts)
+begins-two j k ts = begins-append (a_kind j ∷ []) (a_kind k ∷ []) ts
 
 pub begins-none : (ts : List Item) → begins [] ts ≡ false
 unfolding begins
-begins-none (Ok t ∷ ts) = refl
-begins-none _ = refl
+begins-none ts = grind (arith, common_steps)
 
 true-not : (b : Bool) → not b ≡ true → b ≡ true → ⊥
-true-not true h k = cc
-true-not false h k = cc
+true-not b h k = grind (arith, common_steps)
 
 module _ (t : Lexeme) where
   word-kind : (w : List ℕ) → is_this_word w t ≡ true → t.kind ≡ K.Upper
@@ -93,15 +86,8 @@ module _ (t : Lexeme) where
   kind-clash j k a h e = true-not (same_kind j k) a (rw (← h, ← e) (same_kind-same t.kind))
 
   half-sound : (c d : Ahead) → half_apart c d ≡ true → meets t c ≡ true → meets t d ≡ true → ⊥
-  half-sound (a_word v) (a_word w) a h k = grind (arith, common_steps, true-not, word-text, same_text-same)
-  half-sound (a_word v) a_name a h k = grind (arith, common_steps, true-not, and_parts, word-text)
-  half-sound (a_word v) (a_kind k) a h e = kind-clash K.Upper k a (word-kind v h) (same_kind-eq t.kind k e)
-  half-sound (a_word v) (no_word w) a h k =
-      true-not (is_this_word w t) k (let e : v ≡ w = same_text-eq v w a in rw (← e) h)
-  half-sound a_name (a_kind k) a h e = grind (arith, common_steps, kind-clash, same_kind-eq, and_parts)
-  half-sound (a_kind j) (a_kind k) a h e = kind-clash j k a (same_kind-eq t.kind j h) (same_kind-eq t.kind k e)
-  half-sound (a_kind j) (no_kind k) a h e = grind (arith, common_steps, true-not, same_kind-eq)
-  half-sound _ _ a h k = cc
+  half-sound c d a h k =
+      grind (arith, common_steps, true-not, word-kind, word-text, same_text-same, same_text-eq, and_parts, kind-clash, same_kind-eq)
 
   list-sound : (c : Ahead) (ds : List Ahead) → list_all (λ d. half_apart c d || half_apart d c) ds ≡ true → meets t c ≡ true → list_any (meets t) ds ≡ true → ⊥
   list-sound c [] a h k = cc
@@ -114,9 +100,8 @@ module _ (t : Lexeme) where
 -- a token that begins one of these begins none of those
 pub apart-sound : (cs ds : List Ahead) (ts : List Item) → apart cs ds ≡ true → begins cs ts ≡ true → begins ds ts ≡ true → ⊥
 unfolding begins
-apart-sound cs ds [] a h k = cc
-apart-sound cs ds (Err f ∷ ts) a h k = cc
 apart-sound cs ds (Ok t ∷ ts) a h k = lists-sound t cs ds a h k
+apart-sound cs ds _ a h k = cc
 
 pub apart-false : (cs ds : List Ahead) (ts : List Item) → apart cs ds ≡ true → begins ds ts ≡ true → begins cs ts ≡ false
 apart-false cs ds ts a k = false_from_ne_true (begins cs ts) (λ h. apart-sound cs ds ts a h k)

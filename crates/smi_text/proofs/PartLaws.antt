@@ -1,6 +1,6 @@
 -- A stretch of octets is a part exactly where it reads as one.
 use Rattle.std.proofs.{lemmas.Grind.common_steps, Math.Bool.and-false, lemmas.Bool.Decides.nat_tests, lemmas.List.Folds.list_all-append}
-use Rattle.std.proofs.Common.{◌≡◌, ◌≢◌, ℕ, ◌⊎◌, Bool, true, false, cond, not, ◌&&◌, ◌||◌, Some, List, [], ◌∷◌, ◌++◌, refl, sym, ap, ◌∙◌, subst, inl}
+use Rattle.std.proofs.Common.{◌≡◌, ◌≢◌, ℕ, ◌⊎◌, Bool, true, false, cond, not, ◌&&◌, ◌||◌, Some, List, [], ◌∷◌, ◌++◌, refl, sym, ap, ◌∙◌, inl}
 use Rattle.std.proofs.Common.{inr, arith, eqb, append_assoc, append-nil}
 use Rattle.std.proofs.lemmas.Bool.{and_parts, and_from, or_cases, eqb-true, ne_eqb, false≢true, not-true}
 use Rattle.std.specs.{List.list_all, Bool.then_some, Char.is_ascii_digit, Char.is_ascii_hexdigit, Char.is_ascii_lowercase, Char.is_ascii_uppercase}
@@ -19,12 +19,10 @@ use Rattle.smi_text.proofs.Parts.{none_some, string_step, literal_reads, literal
 
 -- a test that was passed
 then_is : (b : Bool) (part other : Part) (s : List ℕ) → then_some b part ≡ Some other → (b ≡ true → IsPart part s) → IsPart other s
-then_is true part other s h is = subst (λ p. IsPart p s) (let e : part ≡ other = cc in e) (is refl)
-then_is false part other s h is = absurd (none_some other h)
+then_is b part other s h is = grind (arith, common_steps)
 
 nothing_is : (s : List ℕ) → is_nothing s ≡ true → s ≡ []
-nothing_is [] h = refl
-nothing_is (c ∷ cs) h = absurd (false≢true h)
+nothing_is s h = grind (arith, common_steps)
 
 sole_is : (test : ℕ → Bool) (s : List ℕ) → is_sole test s ≡ true → (c : ℕ) × (s ≡ c ∷ []) × (test c ≡ true)
 sole_is test [] h = absurd (false≢true h)
@@ -63,13 +61,11 @@ literal_part_is s part h = grind (arith, common_steps, if-inv, then_is, literal_
 -- comments
 -- a front of octets that begin no run
 begins_front : (b : Bool) (front rest : List ℕ) → (b && begins is_hyphen (front ++ rest)) ≡ false → (b && begins is_hyphen front) ≡ false
-begins_front b [] rest h = and-false b
-begins_front b (c ∷ cs) rest h = h
+begins_front b front rest h = grind (arith, common_steps, and-false)
 
 -- a closing run begins with two hyphens
 run_is : (c : ℕ) (cs : List ℕ) → (is_hyphen c && begins is_hyphen cs) ≡ true → list_all is_hyphen cs ≡ true → IsRunOfHyphens (c ∷ cs)
-run_is c [] two all = absurd (false≢true (sym (and-false (is_hyphen c)) ∙ two))
-run_is c (d ∷ ds) two all = (omega arith, and_from (is_hyphen c) (list_all is_hyphen (d ∷ ds)) (and_parts (is_hyphen c) (is_hyphen d) two).0 all)
+run_is c cs two all = grind (arith, common_steps, and-false, and_from, and_parts)
 
 remark_body : (s : List ℕ) → is_remark_rest s ≡ true
     → (remark closing : List ℕ) × (s ≡ remark ++ closing) × (is_remark remark ≡ true) × ((closing ≡ []) ⊎ IsRunOfHyphens closing)
@@ -171,12 +167,10 @@ string_reads (c ∷ cs) h = grind (arith, common_steps, and_parts, string_step, 
 
 -- literals
 hex_letter : (c : ℕ) → (c ≡ 72) ⊎ (c ≡ 104) → is_hex_letter c ≡ true
-hex_letter c (inl e) = rw e refl
-hex_letter c (inr e) = rw e refl
+hex_letter c h = grind arith
 
 binary_letter : (c : ℕ) → (c ≡ 66) ⊎ (c ≡ 98) → (is_hex_letter c ≡ false) × (is_binary_letter c ≡ true)
-binary_letter c (inl e) = rw e (refl, refl)
-binary_letter c (inr e) = rw e (refl, refl)
+binary_letter c h = grind arith
 
 literal_reads_of : (digits : List ℕ) (letter : ℕ) → list_all (is_other 39) digits ≡ true
     → literal_part (digits ++ 39 ∷ [] ++ letter ∷ []) ≡ literal_of digits letter
@@ -196,8 +190,7 @@ lexeme_of_kind _ s h = rw h refl
 
 -- comments: hyphens and nothing else may close a remark
 all_hyphens : (closing : List ℕ) → (closing ≡ []) ⊎ IsRunOfHyphens closing → list_all is_hyphen closing ≡ true
-all_hyphens closing (inl none) = ap (list_all is_hyphen) none
-all_hyphens closing (inr run) = run.1
+all_hyphens closing h = grind (arith, common_steps)
 
 -- the first two of a run
 run_opens : (run : List ℕ) → IsRunOfHyphens run → (more : List ℕ) × (run ≡ 45 ∷ 45 ∷ more) × (list_all is_hyphen more ≡ true)
@@ -206,16 +199,13 @@ run_opens (c ∷ []) h = absurd (omega (arith, h.0))
 run_opens (c ∷ d ∷ more) h = grind (arith, common_steps, and_parts, eqb-true)
 
 hyphens_read : (closing : List ℕ) → (closing ≡ []) ⊎ IsRunOfHyphens closing → is_remark_rest closing ≡ true
-hyphens_read closing (inl none) = rw none refl
-hyphens_read closing (inr run) = let r = run_opens closing run in rw r.1 r.2
+hyphens_read closing h = grind (arith, common_steps, run_opens)
 
 remark_octet_reads : (c : ℕ) (cs closing : List ℕ) (b : Bool) → (is_hyphen c && begins is_hyphen (cs ++ closing)) ≡ b
     → not (is_hyphen c && begins is_hyphen cs) ≡ true
     → list_all is_hyphen closing ≡ true → is_remark_rest (cs ++ closing) ≡ true
     → cond b (list_all is_hyphen (cs ++ closing)) (is_remark_rest (cs ++ closing)) ≡ true
-remark_octet_reads c cs closing false is alone run rest = rest
-remark_octet_reads c [] closing true is alone run rest = run
-remark_octet_reads c (d ∷ ds) closing true is alone run rest = absurd (false≢true (sym (ap not is) ∙ alone))
+remark_octet_reads c cs closing b is alone run rest = grind (arith, common_steps)
 
 remark_reads : (remark closing : List ℕ) → is_remark remark ≡ true → (closing ≡ []) ⊎ IsRunOfHyphens closing → is_remark_rest (remark ++ closing) ≡ true
 remark_reads [] closing remark_is closes = hyphens_read closing closes

@@ -9,8 +9,9 @@ use Rattle.smi_text.specs.{declared.lexer.token.TokenKind.TokenKind, lexer.Lexem
 use Rattle.smi_text.specs.declared.lexer.token.TokenKind.TheVariants.{Text, Hex, Binary}
 use Rattle.smi_text.specs.lexer.Reading.{HasNoLexeme, IsFirstPlace, IsLexemeFront, IsLongestPassing, IsPartFront, is_other, is_nothing, is_sole}
 use Rattle.smi_text.specs.lexer.Reading.{is_string_rest, is_literal_rest, string_part, literal_part, literal_of, is_hex_letter, is_binary_letter}
+use Rattle.smi_text.specs.declared.lexer.class.Class.{Class}
 use Rattle.smi_text.specs.lexer.Reading.{class_of, part_in, part_of}
-use Rattle.smi_text.proofs.LexerFronts.{rest_at, longest_behind, goes_on_past}
+use Rattle.smi_text.proofs.Scans.{rest_at, longest_behind, goes_on_past}
 
 -- a front that a test decides
 pub part_front : (test : List ℕ → Bool) (reading : List ℕ → Option Part) (part : Part) (text : List ℕ) (n : ℕ)
@@ -126,9 +127,9 @@ literal_letter digits c (d ∷ ds) (suc (suc k)) = grind (arith, common_steps, a
 
 -- the letter decides
 pub literal_front : (text : List ℕ) (i : ℕ) → IsFirstPlace 39 text (Some i) → i + 1 < length text
-    → (found : Option TokenKind) → option_map lexeme found ≡ literal_of (take i text) (get_or text (i + 1) 0)
+    → (digits : List ℕ) → digits ≡ take i text → (found : Option TokenKind) → option_map lexeme found ≡ literal_of digits (get_or text (i + 1) 0)
     → IsLexemeFront literal_part text (option_map (λ kind. (kind, i + 2)) found)
-literal_front text i h next found kind_is = by_kind found kind_is
+literal_front text i h next digits front found kind_is = by_kind found (rw front at kind_is)
   where
     rest : (k : ℕ) → literal_behind (take i text) (take k (drop (i + 1) text))
         ≡ literal_behind (take i text) (take k (get_or text (i + 1) 0 ∷ drop ((i + 1) + 1) text))
@@ -160,37 +161,29 @@ literal_front text i h next found kind_is = by_kind found kind_is
 
 -- ---- with the first octet
 
--- an octet before a front of octets that a test decides
-pub front_cons : (reading : List ℕ → Option Part) (test : List ℕ → Bool) (part : Part) (c : ℕ) (cs : List ℕ) (n : ℕ)
-    → ((s : List ℕ) → reading (c ∷ s) ≡ then_some (test s) part) → IsLongestPassing test cs n → IsPartFront reading (c ∷ cs) part (n + 1)
-front_cons reading test part c cs n read front = rw (add-one n) (record {
+-- a front behind one octet more
+pub front_cons : (reading inner : List ℕ → Option Part) (c : ℕ) (cs : List ℕ) (part : Part) (n : ℕ) → ((s : List ℕ) → reading (c ∷ s) ≡ inner s)
+    → IsPartFront inner cs part n → IsPartFront reading (c ∷ cs) part (n + 1)
+front_cons reading inner c cs part n read front = rw (add-one n) (record {
   within = omega (arith, front.within);
-  reads = read (take n cs) ∙ ap (λ b. then_some b part) front.passes;
+  reads = read (take n cs) ∙ front.reads;
   longest = longer;
 })
   where
     longer : (m : ℕ) → suc n < m → m ≤ suc (length cs) → reading (take m (c ∷ cs)) ≡ None
     longer zero above within = absurd (omega arith)
-    longer (suc m) above within = read (take m cs) ∙ ap (λ b. then_some b part) (front.longest m (omega arith) (omega arith))
+    longer (suc m) above within = read (take m cs) ∙ front.longest m (omega arith) (omega arith)
 
-pub none_behind_first : (c : ℕ) (cs : List ℕ) → HasNoLexeme (part_in (class_of c)) cs → HasNoLexeme part_of (c ∷ cs)
+pub none_behind_first : (c : ℕ) (cs : List ℕ) (class : Class) → class ≡ class_of c → HasNoLexeme (part_in class) cs → HasNoLexeme part_of (c ∷ cs)
 unfolding part_of
-none_behind_first c cs none kind zero is = none_some (lexeme kind) is
-none_behind_first c cs none kind (suc m) is = none kind m is
+none_behind_first c cs class of none kind zero is = none_some (lexeme kind) is
+none_behind_first c cs class of none kind (suc m) is = none kind m (rw of is)
 
-pub front_behind_first : (c : ℕ) (cs : List ℕ) (part : Part) (n : ℕ) → IsPartFront (part_in (class_of c)) cs part n → IsPartFront part_of (c ∷ cs) part (n + 1)
+pub front_behind_first : (c : ℕ) (cs : List ℕ) (class : Class) → class ≡ class_of c → (part : Part) (n : ℕ) → IsPartFront (part_in class) cs part n
+    → IsPartFront part_of (c ∷ cs) part (n + 1)
 unfolding part_of
-front_behind_first c cs part n front = rw (add-one n) (record {
-  within = omega (arith, front.within);
-  reads = front.reads;
-  longest = longer;
-})
-  where
-    longer : (m : ℕ) → suc n < m → m ≤ suc (length cs) → part_of (take m (c ∷ cs)) ≡ None
-    longer zero above within = absurd (omega arith)
-    longer (suc m) above within = front.longest m (omega arith) (omega arith)
+front_behind_first c cs class of part n front = front_cons part_of (part_in class) c cs part n (λ s. rw of refl) front
 
 pub no_lexeme_of_nothing : HasNoLexeme part_of []
 unfolding part_of
-no_lexeme_of_nothing kind zero is = none_some (lexeme kind) is
-no_lexeme_of_nothing kind (suc m) is = none_some (lexeme kind) is
+no_lexeme_of_nothing = grind (arith, common_steps)

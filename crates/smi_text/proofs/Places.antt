@@ -1,12 +1,12 @@
 -- Where an octet stands first, and how often a newline does.
 use Rattle.std.proofs.{lemmas.Grind.common_steps, lemmas.List.take_all, lemmas.List.append-nil, lemmas.List.Folds.list_all_more}
-use Rattle.std.proofs.Common.{◌≡◌, ℕ, zero, suc, ◌+◌, ◌<◌, ◌≤◌, Bool, true, false, cond, ◌==◌, List, [], ◌∷◌, ◌++◌, length, get_or, take, drop}
-use Rattle.std.proofs.Common.{Option, Some, None, refl, sym, ap, ◌∙◌, arith, add-one}
+use Rattle.std.proofs.Common.{◌≡◌, ℕ, zero, suc, ◌+◌, ◌<◌, ◌≤◌, Bool, true, cond, ◌==◌, List, [], ◌∷◌, ◌++◌, length, get_or, take, drop}
+use Rattle.std.proofs.Common.{Option, Some, None, refl, ap, ◌∙◌, arith, add-one}
 use Rattle.std.specs.{List.list_all, Iterator.Drains, Iterator.Yields}
 use Rattle.std.proofs.lemmas.Bool.{eqb-true, not_from_false, false_from_ne_true}
 use Rattle.memchr.specs.Find.{IsFirstByte, TakesFirst, is_byte, places, places_from}
-use Rattle.smi_text.specs.{lexer.Lexeme.is_newline, lexer.Reading.IsFirstPlace, lexer.Reading.is_other, lexer.Reading.newlines}
-use Rattle.smi_text.proofs.{ItemsLemmas.newlines-cons, ItemsLemmas.newlines-one, LexerFronts.rest_at}
+use Rattle.smi_text.specs.{lexer.Reading.IsFirstPlace, lexer.Reading.is_other, lexer.Reading.newlines}
+use Rattle.smi_text.proofs.{ItemsLemmas.newlines-cons, ItemsLemmas.newlines-one, Scans.rest_at}
 
 -- no octet of the front is this one
 others : (octet : ℕ) (text : List ℕ) (n : ℕ) → n ≤ length text
@@ -28,20 +28,14 @@ first_place octet text (Some i) found = grind (arith, common_steps, eqb-true, ot
 -- one place more where an octet passes the test
 placed : (b : Bool) (i : ℕ) (later : List ℕ) (m : ℕ) → length later ≡ m
     → length (cond b (i ∷ later) later) ≡ cond b 1 0 + m
-placed true i later m h = omega arith
-placed false i later m h = omega arith
+placed b i later m h = grind (arith, common_steps)
 
 newlines_placed : (text : List ℕ) (i n : ℕ) → i + n ≤ length text
     → length (places_from (is_byte 10) text i n) ≡ newlines (take n (drop i text))
 unfolding places_from
 newlines_placed text i zero within = refl
 newlines_placed text i (suc n) within =
-    let c = get_or text i 0 in
-    let later = newlines_placed text (i + 1) n (omega arith) in
-    placed (is_newline c) i (places_from (is_byte 10) text (i + 1) n) (newlines (take n (drop (i + 1) text))) later
-    ∙ ap (λ m. m + newlines (take n (drop (i + 1) text))) (sym (newlines-one c))
-    ∙ sym (newlines-cons c (take n (drop (i + 1) text)))
-    ∙ ap (λ s. newlines (take (suc n) s)) (sym (rest_at text i (omega arith)))
+    grind (arith, common_steps, placed, newlines_placed text (i + 1) n, newlines-one, newlines-cons (get_or text i 0) (take n (drop (i + 1) text)), rest_at)
 
 places_of_newlines : (text : List ℕ) → length (places (is_byte 10) text) ≡ newlines text
 places_of_newlines text = grind (arith, common_steps, newlines_placed, take_all)

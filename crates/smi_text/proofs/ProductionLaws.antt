@@ -11,7 +11,7 @@ use Rattle.smi_text.specs.trees.Spelling as say
 use Rattle.smi_text.specs.trees.Number.{is_bound, is_symbol, is_macro}
 use Rattle.smi_text.specs.private.Format.{StandsAhead, a_name, a_kind, meets, begins}
 use Rattle.smi_text.specs.private.Grammar as g
-use Rattle.smi_text.proofs.{Productions.all, Lawful.Lawful, Marks.same_kind-eq, IndexLaws.index_names-law}
+use Rattle.smi_text.proofs.{Productions.all, Lawful.Lawful, Marks.same_kind-eq, RawLaws.index_names-law}
 use Rattle.smi_text.proofs.Laws.{never-stands, of_either, ◌▸◌, ◌∣◌, last, word-law, token-law, text-law, text_where-law, name_where-law, lower-law}
 use Rattle.smi_text.proofs.Laws.{name-law, pair-law, behind-law, before-law, maybe-law, either-law, many-law, shaped-law, made-law, spelled-as}
 use Rattle.smi_text.proofs.Laws.{lined-law, some_of-law, after-word, after-sign, clause-law, braced-law, parenthesized-law, separated-law, kept-law}

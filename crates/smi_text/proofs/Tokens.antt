@@ -1,9 +1,10 @@
 -- What marks take of the items of a text, and what they say of its tokens.
 use Rattle.std.proofs.Common.{◌≡◌, List, [], ◌∷◌, ◌++◌, Some, None, Ok, Err, refl, ap}
 use Rattle.std.specs.Prelude.{map}
-use Rattle.smi_text.specs.{lexer.Token.Lexeme, lexer.Token.Item, lexer.Token.tokens_of, lexer.Token.first_fault, trees.Mark.Mark, trees.Mark.Stands}
-use Rattle.smi_text.specs.{trees.Spelling.spelling, declared.trees.tree.Module.Module, private.Format.StandsAhead, private.Grammar.file}
-use Rattle.smi_text.proofs.DefinitionLists.{file-reads}
+use Rattle.smi_text.specs.lexer.Token.{Lexeme, Item, tokens_of, first_fault}
+use Rattle.smi_text.specs.{trees.Mark.Mark, trees.Mark.Stands, trees.Spelling.spelling, declared.trees.tree.Module.Module, private.Grammar.file}
+use Rattle.smi_text.specs.private.Format.{StandsAhead, begins}
+use Rattle.smi_text.proofs.ProductionLaws.{file-law}
 
 -- tokens of which none is a fault
 abbrev pub all_tokens : List Lexeme → List Item
@@ -15,7 +16,8 @@ taken-tokens (m ∷ ms) [] rest h = h
 taken-tokens (m ∷ ms) (t ∷ ts) rest h = (h.0, taken-tokens ms ts rest h.1)
 
 pub tokens-read : (ms : List Module) (ts : List Lexeme) → Stands (spelling ms) ts [] → file.read (all_tokens ts) ≡ Some (ms, [])
-tokens-read ms ts h = file-reads ms (all_tokens ts) (taken-tokens (spelling ms) ts [] h)
+unfolding begins
+tokens-read ms ts h = file-law.again ms (all_tokens ts) [] (taken-tokens (spelling ms) ts [] h) refl
 
 -- a text that lexes to its end
 pub all-whole : (items : List Item) → first_fault items ≡ None → items ≡ all_tokens (tokens_of items)
@@ -25,15 +27,13 @@ all-whole (Err f ∷ items) w = absurd (cc)
 
 pub taken-stands : (ms : List Mark) (items rest : List Item) → StandsAhead ms items rest → Stands ms (tokens_of items) (tokens_of rest)
 taken-stands [] items rest h = ap tokens_of h
-taken-stands (m ∷ ms) [] rest h = h
-taken-stands (m ∷ ms) (Err f ∷ items) rest h = h
 taken-stands (m ∷ ms) (Ok t ∷ items) rest h = (h.0, taken-stands ms items rest h.1)
+taken-stands (m ∷ ms) _ rest h = h
 
 pub taken-no_fault : (ms : List Mark) (items : List Item) → StandsAhead ms items [] → first_fault items ≡ None
 taken-no_fault [] items h = ap first_fault h
-taken-no_fault (m ∷ ms) [] h = refl
-taken-no_fault (m ∷ ms) (Err f ∷ items) h = absurd h
 taken-no_fault (m ∷ ms) (Ok t ∷ items) h = taken-no_fault ms items h.1
+taken-no_fault (m ∷ ms) _ h = absurd h
 
 -- marks one after the other
 pub Stands-append : (xs ys : List Mark) (ts mid rest : List Lexeme) → Stands xs ts mid → Stands ys mid rest → Stands (xs ++ ys) ts rest

@@ -1,9 +1,9 @@
 -- A text among words.
-use Rattle.std.proofs.Common.{◌≡◌, ℕ, ◌+◌, ◌<◌, ◌≤◌, Bool, true, false, ◌||◌, List, [], ◌∷◌, length, get_or, drop, refl, sym, ap, ◌∙◌, drop-cons}
-use Rattle.std.proofs.Common.{add-one, Bor}
-use Rattle.std.proofs.lemmas.Bool.{and_parts, false≢true, false_from_ne_true}
+use Rattle.std.proofs.Common.{◌≡◌, ℕ, ◌+◌, ◌<◌, ◌≤◌, Bool, true, false, ◌||◌, List, [], ◌∷◌, length, get_or, drop, refl, drop-cons, add-one, Bor}
+use Rattle.std.proofs.Common.{arith}
+use Rattle.std.proofs.{lemmas.Grind.common_steps, lemmas.Slice.Eq.bytes_eq-Decides, lemmas.List.drop_all}
+use Rattle.std.proofs.lemmas.Bool.{and_parts, false_from_ne_true}
 use Rattle.std.specs.{Prelude.map, List.list_all, List.list_any}
-use Rattle.std.proofs.{lemmas.Slice.Eq.bytes_eq-Decides, lemmas.List.drop_all}
 use Rattle.smi_text.specs.trees.Mark.{same_text}
 
 abbrev pub is_one_of : List ℕ → List (Bor (List ℕ)) → Bool
@@ -20,8 +20,4 @@ is_one_of-none x ws i h = rw (drop_all i ws h) refl
 pub other_second : (test : ℕ → Bool) (words : List (List ℕ)) (x : List ℕ) → list_all (λ w. test (get_or w 1 0)) words ≡ true
     → test (get_or x 1 0) ≡ false → list_any (same_text x) words ≡ false
 other_second test [] x all other = refl
-other_second test (w ∷ ws) x all other =
-    let both = and_parts (test (get_or w 1 0)) (list_all (λ v. test (get_or v 1 0)) ws) all in
-    let differ : same_text x w ≡ false = false_from_ne_true (same_text x w) (λ is.
-    false≢true (sym other ∙ ap (λ s. test (get_or s 1 0)) ((bytes_eq-Decides x w).0 is) ∙ both.0)) in
-    rw differ (other_second test ws x both.1 other)
+other_second test (w ∷ ws) x all other = grind (arith, common_steps, and_parts, bytes_eq-Decides, false_from_ne_true, other_second test ws x)

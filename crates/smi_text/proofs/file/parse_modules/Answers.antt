@@ -23,8 +23,7 @@ module _ (text : List ℕ) (items : List Item) (lexed : Lexes [] text items) (so
           items = items;
           lexed = lexed;
           whole = taken-no_fault (spelling ms) items taken;
-          spelled = taken-stands
-              (spelling ms) items [] taken;
+          spelled = taken-stands (spelling ms) items [] taken;
         },
         r.distinct,
       )
@@ -35,8 +34,7 @@ module _ (text : List ℕ) (items : List Item) (lexed : Lexes [] text items) (so
   lex-cause : (error : ParseError) → ((ms : List Module) → file.read items ≡ Some (ms, []) → ⊥) → IsLexFault error text → IsCause error text
   lex-cause (E.Lex fault) f e = e
   lex-cause (E.Syntax line) f e = λ ms s. f ms (reads ms s)
-  lex-cause (E.DoubleName line) f e = absurd e
-  lex-cause E.Memory f e = absurd e
+  lex-cause _ f e = absurd e
 
   cause : (stop error : ParseError) → ModulesFault stop items → IsCauseOf stop error text → IsCause error text
   cause (E.Lex fault) error f e = lex-cause error f e
@@ -46,10 +44,7 @@ module _ (text : List ℕ) (items : List Item) (lexed : Lexes [] text items) (so
 
   refused : (stop error : ParseError) → ModulesFault stop items → IsCauseOf stop error text → (ms : List Module) → AreSpelledBy ms text → HasNoDoubles ms
       → error ≡ E.Memory
-  refused (E.Lex fault) error f e ms s n = absurd (f ms (reads ms s))
-  refused (E.Syntax line) error f e ms s n = absurd (f ms (reads ms s))
-  refused (E.DoubleName line) error f e ms s n = absurd (file-twice line (tokens_of items) f ms (tokens-read ms (tokens_of items) (spelled ms s)) n)
-  refused E.Memory error f e ms s n = e
+  refused stop error f e ms s n = grind (arith, common_steps, reads, file-twice, tokens-read, spelled)
 
 pub returns-in-Ok-clause-found : goal.returns-in-Ok-clause-found
 returns-in-Ok-clause-found c = grind (arith, common_steps, found, only)

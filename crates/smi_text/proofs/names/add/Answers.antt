@@ -1,21 +1,16 @@
-use Rattle.std.proofs.Common.{arith, ◌≡◌, ℕ, Bool, true, false, not, ◌||◌, List, Bor, cond, refl, ◌∙◌, ap, rules}
+use Rattle.std.proofs.Common.{arith, ◌≡◌, ℕ, Bool, true, not, ◌||◌, List, Bor, cond, ◌∙◌, ap, rules}
 use Rattle.std.proofs.{lemmas.Grind.common_steps, lemmas.Map.Text.is_eq-slice_cmp, lemmas.Slice.Eq.bytes_eq-Decides}
 use Rattle.std.specs.Ordering.{is_eq, nat_cmp, ordering_then}
 use Rattle.std.specs.{declared.cmp.Ordering.Ordering, BTreeSet.contains_by, Cmp.Lexicographic.slice_cmp}
-use Rattle.std.specs.declared.cmp.Ordering.TheVariants.{Less, Equal, Greater}
 use Rattle.smi_text.specs.{trees.Mark.same_text, private.Names.has, private.Names.last_eight}
 use Rattle.smi_text.proofs.names.add.Goals as goal
 
 cond-or : (b r : Bool) → cond b true r ≡ (b || r)
-cond-or true r = refl
-cond-or false r = refl
+cond-or b r = grind (arith, common_steps)
 
 -- numbers that agree where the texts do make no difference to whether the texts are equal
 same_then : (first texts : Ordering) → (is_eq texts ≡ true → is_eq first ≡ true) → is_eq (ordering_then first texts) ≡ is_eq texts
-same_then Less Equal agree = agree refl
-same_then Equal texts agree = refl
-same_then Greater Equal agree = agree refl
-same_then _ _ agree = refl
+same_then first texts agree = grind (arith, common_steps)
 
 nat_cmp-same : (n : ℕ) → is_eq (nat_cmp n n) ≡ true
 nat_cmp-same n = search rules

@@ -1,5 +1,5 @@
-use Rattle.std.proofs.Common.{sym, subst, ◌+◌, ◌∙◌, ap, arith, get_or, None, Some}
-use Rattle.smi_text.specs.lexer.Reading.{IsLexemeFront, literal_part, literal_of}
+use Rattle.std.proofs.Common.{sym, subst, arith, None, Some}
+use Rattle.smi_text.specs.lexer.Reading.{IsLexemeFront, literal_part}
 use Rattle.smi_text.proofs.Parts.{literal_none, literal_ends, literal_front}
 use Rattle.smi_text.proofs.lexer.scan.literal_rest.Goals as goal
 
@@ -11,15 +11,11 @@ returns-then-end-text c = literal_ends c.args.text.now c.in_ok-end.end c.in_ok-e
 
 pub returns-in_err-kind : goal.returns-in_err-kind
 returns-in_err-kind c =
-    let text = c.args.text.now in
-    let place = c.in_ok-end.ensures in
-    subst (IsLexemeFront literal_part text) (sym c.from_residual-in_err-kind.ensures)
-    (literal_front text c.in_ok-end.end place (omega (arith, place.0)) None (c.in_err-kind.ensures
-    ∙ ap (λ s. literal_of s (get_or text (c.in_ok-end.end + 1) 0)) c.split_at.ensures.front))
+    rw (c.from_residual-in_err-kind.ensures)
+    (literal_front c.args.text.now c.in_ok-end.end c.in_ok-end.ensures (omega (arith, c.in_ok-end.ensures.0)) _
+    c.split_at.ensures.front None c.in_err-kind.ensures)
 
 pub returns : goal.returns
 returns c =
-    let text = c.args.text.now in
-    let place = c.in_ok-end.ensures in
-    literal_front text c.in_ok-end.end place (omega (arith, place.0)) (Some c.in_ok-kind.kind) (c.in_ok-kind.ensures
-    ∙ ap (λ s. literal_of s (get_or text (c.in_ok-end.end + 1) 0)) c.split_at.ensures.front)
+    literal_front c.args.text.now c.in_ok-end.end c.in_ok-end.ensures (omega (arith, c.in_ok-end.ensures.0)) _ c.split_at.ensures.front
+    (Some c.in_ok-kind.kind) c.in_ok-kind.ensures
