@@ -1,12 +1,12 @@
 -- What a draft has behind one more line, and why the reading stops at it.
-use Rattle.std.proofs.Common.{◌≡◌, ℕ, List, [], ◌∷◌, ◌++◌, refl, sym, ap, subst, Result, Ok, Err, IfOk, IfErr, MatchResult, append-nil, ◌∙◌, Bool}
+use Rattle.std.proofs.lemmas.Grind.{common_steps}
+use Rattle.std.proofs.Common.{◌≡◌, ℕ, List, [], ◌∷◌, ◌++◌, refl, sym, ap, subst, Result, IfOk, IfErr, MatchResult, append-nil, ◌∙◌, Bool}
 use Rattle.std.proofs.Common.{◌+◌, ◌<◌, ◌≤◌, append_assoc, arith, length, length-append}
 use Rattle.std.specs.{Str.Lines.lines, List.Contains, List.Sorted.IsPermutation, FinMap.entries, FinMap.entries_sorted}
 use Rattle.std.proofs.lemmas.List.Sorted.{Contains-permutation, IsPermutation-append_left, IsPermutation-sym, IsPermutation-trans}
 use Rattle.snmp_wire.specs.Message.{Datum, VarBind}
 use Rattle.snmp_agent.specs.{declared.table.draft.Draft.Draft, declared.table.draft.Halt.Halt, declared.table.error.TableError.TableError}
 use Rattle.snmp_agent.specs.{table.Form.States, table.Form.instance, table.Format.Format, table.Places.entry_of, table.Text.AreTable}
-use Rattle.snmp_agent.specs.declared.table.draft.Halt.TheVariants as halt
 use Rattle.snmp_agent.specs.declared.table.error.TableError.TheVariants as error
 use Rattle.snmp_agent.specs.table.Stated.{IsBehindGood, IsFirstFaultIn, number_of}
 use Rattle.snmp_agent.specs.private.table.Draft.{AreDistinct, HaltsBy, HoldsTable, IsDraft, IsFaultBehind, IsFirstHalt, IsFull, IsHalt, IsHaltAt}
@@ -16,16 +16,13 @@ use Rattle.snmp_agent.proofs.TableDrafts.{distinct_moved, distinct_sorted, doubl
 
 pub either : {A B : Type 0} {P P' : A → Type 0} {Q Q' : B → Type 0} (r : Result A B) → IfOk r P
     → IfErr r Q → ((a : A) → P a → P' a) → ((b : B) → Q b → Q' b) → MatchResult r P' Q'
-either (Ok a) p q f g = f a p
-either (Err b) p q f g = g b q
+either r p q f g = grind (arith, common_steps)
 
 -- another reason to stop, of each fault
 halts_weaker : (P Q : TableError → Type 0) (exact : Bool)
     → ((fault : TableError) → P fault → Q fault) → (e : Halt) → HaltsBy P exact e
     → HaltsBy Q exact e
-halts_weaker P Q exact f (halt.Fault fault) k = f fault k
-halts_weaker P Q exact f halt.Memory k = k
-halts_weaker P Q exact f halt.Again k = k
+halts_weaker P Q exact f e k = grind (arith, common_steps)
 
 -- no fault: memory ran out
 pub full : (P : TableError → Type 0) (exact : Bool) (e : Halt) → IsFull exact e

@@ -1,37 +1,28 @@
 -- What the view of an agent answers: names that have an encoding, and values that an answer may give.
 use Rattle.std.proofs.{Common.arith, Common.◌≡◌, Common.ℕ, Common.zero, Common.suc, Common.List, Common.sym, Common.subst, lemmas.Grind.common_steps}
 use Rattle.snmp_oid.specs.Identifier.{IsWire}
-use Rattle.snmp_wire.specs.Message.{Datum, VarBind}
-use Rattle.snmp_wire.specs.Message.Datum.{no_such_object, no_such_instance, end_of_mib_view}
-use Rattle.snmp_agent.specs.table.Table.{MibView, IsMibView, IsInstanceValue, IsAnswerValue, IsGet, variable, unknown_object, unknown_instance}
-use Rattle.snmp_agent.specs.table.Table.{IsNext, successor, end_of_view, IsNextAfter}
+use Rattle.snmp_wire.specs.{Message.Datum, Message.VarBind, Message.Datum.end_of_mib_view}
+use Rattle.snmp_agent.specs.table.Table.{MibView, IsMibView, IsInstanceValue, IsAnswerValue, IsGet, IsNext, successor, end_of_view, IsNextAfter}
 
 instance_answer : (v : Datum) → IsInstanceValue v → IsAnswerValue v
-instance_answer no_such_object h = absurd h
-instance_answer no_such_instance h = absurd h
-instance_answer end_of_mib_view h = absurd h
-instance_answer _ h = h
+instance_answer v h = grind (arith, common_steps)
 
 -- at a binding that equals a record
 at_binding : (Q : VarBind → Type 0) (p q : VarBind) → p ≡ q → Q q → Q p
 at_binding Q p q same h = subst Q (sym same) h
 
 pub get_value : (view : MibView) (o : List ℕ) (p : VarBind) → IsMibView view → IsGet view o p → IsAnswerValue p.value
-get_value view o p h (variable name row) = instance_answer p.value (h.values p row)
-get_value view o p h (unknown_object none never same) = grind (arith, common_steps, at_binding)
-get_value view o p h (unknown_instance none some same) = grind (arith, common_steps, at_binding)
+get_value view o p h e = grind (arith, common_steps, instance_answer, at_binding)
 
 pub next_value : (view : MibView) (o : List ℕ) (p : VarBind) → IsMibView view → IsNext view o p → IsAnswerValue p.value
-next_value view o p h (successor is) = instance_answer p.value (h.values p is.row)
-next_value view o p h (end_of_view none same) = at_binding (λ (q : VarBind). IsAnswerValue q.value) p (record { name = o; value = end_of_mib_view }) same tt
+next_value view o p h e = grind (arith, common_steps, instance_answer, at_binding)
 
 pub next_name : (view : MibView) (o : List ℕ) (p : VarBind) → IsMibView view → IsWire o → IsNext view o p → IsWire p.name
 next_name view o p h wire (successor is) = (h.names p is.row).wire
 next_name view o p h wire (end_of_view none same) = at_binding (λ (q : VarBind). IsWire q.name) p (record { name = o; value = end_of_mib_view }) same wire
 
 pub next_after_value : (view : MibView) (rounds : ℕ) (o : List ℕ) (p : VarBind) → IsMibView view → IsNextAfter view rounds o p → IsAnswerValue p.value
-next_after_value view zero o p h is = next_value view o p h is
-next_after_value view (suc rounds) o p h is = next_value view is.0.name p h is.2
+next_after_value view rounds o p h is = grind (arith, common_steps, next_value)
 
 pub next_after_name : (view : MibView) (rounds : ℕ) (o : List ℕ) (p : VarBind) → IsMibView view → IsWire o → IsNextAfter view rounds o p → IsWire p.name
 next_after_name view zero o p h wire is = next_name view o p h wire is

@@ -1,7 +1,7 @@
 -- One row put among others, or removed.
 use Rattle.std.proofs.{lemmas.Grind.common_steps, lemmas.Option.slice_get-get_or, lemmas.Option.slice_get_within}
 use Rattle.std.proofs.Common.{◌≡◌, ℕ, suc, ◌-◌, Bool, true, false, not, cond, is_some, List, [], ◌∷◌, ◌++◌, length, take, drop, Some, slice_index_or}
-use Rattle.std.proofs.Common.{None, slice_set, refl, sym, ◌∙◌, ap, subst, arith, Ordering, Less, Equal, Greater, Result, Ok, Err, IfOk, IfErr, Option}
+use Rattle.std.proofs.Common.{None, slice_set, refl, sym, ◌∙◌, ap, subst, arith, Ordering, Less, Result, Ok, Err, IfOk, IfErr}
 use Rattle.std.specs.{declared.alloc.AllocError.AllocError, Ordering.nat_cmp, Ordering.is_eq, Ordering.eq_by_cmp, Cmp.tied_itself, Cmp.alike_right}
 use Rattle.std.specs.{Cmp.eq_by_cmp_equiv, Cmp.Lexicographic.slice_cmp, Cmp.Lexicographic.nat_list_cmp_total}
 use Rattle.std.specs.FinMap.{FinMap, get, find, from_sorted, insert, remove, contains_key, get-from_sorted, entries-from_sorted, entries-insert}
@@ -27,56 +27,26 @@ cmp = slice_cmp nat_cmp
 
 pub put_past : (o : List ℕ) (v : Datum) (front es : Entries) → IsAfterAll o front → put cmp o v (front ++ es) ≡ front ++ put cmp o v es
 put_past o v [] es h = refl
-put_past o v (e ∷ front) es h =
-    ap (λ r. by_order r ((o, v) ∷ e ∷ (front ++ es)) ((e.0, v) ∷ (front ++ es)) (e ∷ put cmp o v (front ++ es))) h.0
-    ∙ ap (λ fs. e ∷ fs) (put_past o v front es h.1)
+put_past o v (e ∷ front) es h = grind (arith, common_steps, put_past o v front es h.1)
 
 pub put_in : (o : List ℕ) (v : Datum) (es back : Entries) → IsBeforeAll o back → put cmp o v (es ++ back) ≡ put cmp o v es ++ back
 put_in o v [] [] h = refl
 put_in o v [] (e ∷ back) h = ap (λ r. by_order r ((o, v) ∷ e ∷ back) ((e.0, v) ∷ back) (e ∷ put cmp o v back)) h.0
-put_in o v (e ∷ es) back h =
-    elim (cmp o e.0) as (λ r. by_order r ((o, v) ∷ e ∷ (es ++ back)) ((e.0, v) ∷ (es ++ back)) (e ∷ put cmp o v (es ++ back))
-    ≡ by_order r ((o, v) ∷ e ∷ es) ((e.0, v) ∷ es) (e ∷ put cmp o v es) ++ back) [
-      | Less ↦ refl
-      | Equal ↦ refl
-      | Greater ↦ ap (λ fs. e ∷ fs) (put_in o v es back h)
-    ]
-
-put_between : (o : List ℕ) (v : Datum) (front back : Entries) → IsAfterAll o front → IsBeforeAll o back → put cmp o v (front ++ back) ≡ front ++ (o, v) ∷ back
-put_between o v front back h k = put_past o v front back h ∙ ap (λ es. front ++ es) (put_in o v [] back k)
-
-put_over : (o : List ℕ) (v w : Datum) (front back : Entries) → IsAfterAll o front → put cmp o v (front ++ (o, w) ∷ back) ≡ front ++ (o, v) ∷ back
-put_over o v w front back h =
-    put_past o v front ((o, w) ∷ back) h
-    ∙ ap (λ r. front ++ by_order r ((o, v) ∷ (o, w) ∷ back) ((o, v) ∷ back) ((o, w) ∷ put cmp o v back)) (tied_itself nat_list_cmp_total o)
+put_in o v (e ∷ es) back h = grind (arith, common_steps, put_in o v es back h)
 
 keeps_after : (o : List ℕ) (es : Entries) → IsBeforeAll o es → without_name o es ≡ es
 keeps_after o [] h = refl
-keeps_after o (e ∷ es) h =
-    ap (λ r. cond (not (is_eq r)) (e ∷ without_name o es) (without_name o es)) h.0 ∙ ap (λ fs. e ∷ fs) (keeps_after o es h.1)
+keeps_after o (e ∷ es) h = grind (arith, common_steps, keeps_after o es h.1)
 
 pub without_past : (o : List ℕ) (front es : Entries) → IsAfterAll o front → without_name o (front ++ es) ≡ front ++ without_name o es
 without_past o [] es h = refl
-without_past o (e ∷ front) es h =
-    ap (λ r. cond (not (is_eq r)) (e ∷ without_name o (front ++ es)) (without_name o (front ++ es))) h.0 ∙ ap (λ fs. e ∷ fs) (without_past o front es h.1)
+without_past o (e ∷ front) es h = grind (arith, common_steps, without_past o front es h.1)
 
 pub without_in : (o : List ℕ) (es back : Entries) → IsBeforeAll o back → without_name o (es ++ back) ≡ without_name o es ++ back
 without_in o [] back h = keeps_after o back h
-without_in o (e ∷ es) back h =
-    elim (cmp o e.0) as (λ r. cond (not (is_eq r)) (e ∷ without_name o (es ++ back)) (without_name o (es ++ back))
-    ≡ cond (not (is_eq r)) (e ∷ without_name o es) (without_name o es) ++ back) [
-      | Less ↦ ap (λ fs. e ∷ fs) (without_in o es back h)
-      | Equal ↦ without_in o es back h
-      | Greater ↦ ap (λ fs. e ∷ fs) (without_in o es back h)
-    ]
+without_in o (e ∷ es) back h = grind (arith, common_steps, without_in o es back h)
 
-removes : (o : List ℕ) (w : Datum) (front back : Entries) → IsAfterAll o front → IsBeforeAll o back → without_name o (front ++ (o, w) ∷ back) ≡ front ++ back
-removes o w front back h k =
-    without_past o front ((o, w) ∷ back) h
-    ∙ ap (λ r. front ++ cond (not (is_eq r)) ((o, w) ∷ without_name o back) (without_name o back)) (tied_itself nat_list_cmp_total o)
-    ∙ ap (λ es. front ++ es) (keeps_after o back k)
-
-pub none_after : (o : List ℕ) (es : Entries) → IsBeforeAll o es → find cmp o es ≡ None
+none_after : (o : List ℕ) (es : Entries) → IsBeforeAll o es → find cmp o es ≡ None
 none_after o [] h = refl
 none_after o (e ∷ es) h = ap (λ r. cond (is_eq r) (Some e.1) (find cmp o es)) h.0 ∙ none_after o es h.1
 
@@ -86,14 +56,18 @@ past_front o (e ∷ front) back h = ap (λ r. cond (is_eq r) (Some e.1) (find cm
 
 pub find_in : (o : List ℕ) (es back : Entries) → IsBeforeAll o back → find cmp o (es ++ back) ≡ find cmp o es
 find_in o [] back h = none_after o back h
-find_in o (e ∷ es) back h =
-    elim (is_eq (cmp o e.0)) as (λ b. cond b (Some e.1) (find cmp o (es ++ back)) ≡ cond b (Some e.1) (find cmp o es)) [
-      | true ↦ refl
-      | false ↦ find_in o es back h
-    ]
+find_in o (e ∷ es) back h = grind (arith, common_steps, find_in o es back h)
 
-at_front : (o : List ℕ) (w : Datum) (back : Entries) → find cmp o ((o, w) ∷ back) ≡ Some w
-at_front o w back = ap (λ r. cond (is_eq r) (Some w) (find cmp o back)) (tied_itself nat_list_cmp_total o)
+-- each acts on the entries between those before the name and those after it
+module _ (o : List ℕ) (front es back : Entries) (passed : IsAfterAll o front) (ahead : IsBeforeAll o back) where
+  pub put_mid : (v : Datum) → put cmp o v (front ++ (es ++ back)) ≡ front ++ (put cmp o v es ++ back)
+  put_mid v = put_past o v front (es ++ back) passed ∙ ap (λ fs. front ++ fs) (put_in o v es back ahead)
+
+  pub without_mid : without_name o (front ++ (es ++ back)) ≡ front ++ (without_name o es ++ back)
+  without_mid = without_past o front (es ++ back) passed ∙ ap (λ fs. front ++ fs) (without_in o es back ahead)
+
+  pub find_mid : find cmp o (front ++ (es ++ back)) ≡ find cmp o es
+  find_mid = past_front o front (es ++ back) passed ∙ find_in o es back ahead
 
 -- an entry put behind all others
 pub put_behind : (o : List ℕ) (v : Datum) (es : List (List ℕ × Datum)) → IsAfterAll o es → put cmp o v es ≡ es ++ (o, v) ∷ []
@@ -152,50 +126,52 @@ belongs_at rows place o rising h other =
     record { bound = h.bound; passed = after_front o (take place rows) front h.passed other; ahead = h.ahead }
 
 module _ (o : List ℕ) (rows : List VarBind) (place : ℕ) where
+  abbrev front : Entries
+  front = entries_of (take place rows)
+
+  abbrev back : Entries
+  back = entries_of (drop (suc place) rows)
+
   -- the entries round the row of the name
   with_it : (h : HasNameAt o rows place)
-      → entries_of rows ≡ entries_of (take place rows) ++ (o, h.found.value) ∷ entries_of (drop (suc place) rows)
+      → entries_of rows ≡ front ++ (o, h.found.value) ∷ back
   with_it h =
       ap entries_of (around rows place h.found h.at) ∙ entries_around rows place h.found
-      ∙ ap (λ (p : List ℕ). entries_of (take place rows) ++ (p, h.found.value) ∷ entries_of (drop (suc place) rows)) h.name
+      ∙ ap (λ (p : List ℕ). front ++ (p, h.found.value) ∷ back) h.name
 
   pub row_replaced : (new : VarBind) → HasNameAt o rows place → new.name ≡ o
       → entries_of (slice_set rows place new) ≡ put cmp o (new.value) (entries_of rows)
   row_replaced new h name =
-      ap entries_of (set_split rows place new h.low) ∙ entries_around rows place new
-      ∙ ap (λ (p : List ℕ). entries_of (take place rows) ++ (p, new.value) ∷ entries_of (drop (suc place) rows)) name
-      ∙ sym (ap (put cmp o (new.value)) (with_it h)
-      ∙ put_over o (new.value) (h.found.value) (entries_of (take place rows)) (entries_of (drop (suc place) rows)) h.passed)
+      rw (set_split rows place new h.low, entries_around rows place new, name, with_it h)
+      (sym (put_mid o front ((o, h.found.value) ∷ []) back h.passed h.ahead new.value
+      ∙ ap (λ r. front
+      ++ (by_order r ((o, new.value) ∷ (o, h.found.value) ∷ []) ((o, new.value) ∷ []) ((o, h.found.value) ∷ (o, new.value) ∷ []) ++ back))
+      (tied_itself nat_list_cmp_total o)))
 
   pub row_inserted : (new : VarBind) → BelongsAt o rows place → new.name ≡ o
       → entries_of (insert_at rows place new) ≡ put cmp o (new.value) (entries_of rows)
   row_inserted new h name =
-      map-append entry_of (take place rows) (new ∷ drop place rows)
-      ∙ ap (λ (p : List ℕ). entries_of (take place rows) ++ (p, new.value) ∷ entries_of (drop place rows)) name
-      ∙ sym (ap (put cmp o (new.value)) (halves rows place)
-      ∙ put_between o (new.value) (entries_of (take place rows)) (entries_of (drop place rows)) h.passed h.ahead)
+      rw (map-append entry_of (take place rows) (new ∷ drop place rows), name, halves rows place)
+      (sym (put_mid o front [] (entries_of (drop place rows)) h.passed h.ahead new.value))
 
   pub row_removed : HasNameAt o rows place → entries_of (remove_at rows place) ≡ without_name o (entries_of rows)
   row_removed h =
-      map-append entry_of (take place rows) (drop (suc place) rows)
-      ∙ sym (ap (without_name o) (with_it h)
-      ∙ removes o (h.found.value) (entries_of (take place rows)) (entries_of (drop (suc place) rows)) h.passed h.ahead)
+      rw (map-append entry_of (take place rows) (drop (suc place) rows), with_it h)
+      (sym (without_mid o front ((o, h.found.value) ∷ []) back h.passed h.ahead
+      ∙ ap (λ r. front ++ (cond (not (is_eq r)) ((o, h.found.value) ∷ []) [] ++ back)) (tied_itself nat_list_cmp_total o)))
 
   pub name_found : (h : HasNameAt o rows place) → find cmp o (entries_of rows) ≡ Some h.found.value
   name_found h =
-      let back = entries_of (drop (suc place) rows) in
-      ap (find cmp o) (with_it h) ∙ past_front o (entries_of (take place rows)) ((o, h.found.value) ∷ back) h.passed ∙ at_front o h.found.value back
+      rw (with_it h) (find_mid o front ((o, h.found.value) ∷ []) back h.passed h.ahead
+      ∙ ap (λ r. cond (is_eq r) (Some h.found.value) None) (tied_itself nat_list_cmp_total o))
 
   pub no_name : BelongsAt o rows place → find cmp o (entries_of rows) ≡ None
-  no_name h =
-      let back = entries_of (drop place rows) in
-      ap (find cmp o) (halves rows place) ∙ past_front o (entries_of (take place rows)) back h.passed ∙ none_after o back h.ahead
+  no_name h = rw (halves rows place) (find_mid o front [] (entries_of (drop place rows)) h.passed h.ahead)
 
 -- ---- maps
 
 turned_cond : {A : Type 0} (b : Bool) (x y : A) → cond (not b) x y ≡ cond b y x
-turned_cond true x y = refl
-turned_cond false x y = refl
+turned_cond b x y = grind (arith, common_steps)
 
 module _ (o : List ℕ) (es fs : Entries) (rising : IsSorted es) where
   pub sorted_put : (v : Datum) → fs ≡ put cmp o v es → IsSorted fs
@@ -247,11 +223,10 @@ module _ (o : List ℕ) {row name : List ℕ} {r : Ordering} {b : Bool} (is : na
 pub nothing_removed : (m : FinMap cmp Datum) (o : List ℕ) → None ≡ get m o → m ≡ remove m o
 nothing_removed m o none =
     same_map nat_list_cmp_total (slice_cmp-IsAntisymmetric nat_cmp-IsAntisymmetric) m (remove m o)
-    (λ q. by_cases q (eq_by_cmp cmp q o) refl ∙ sym (get-remove nat_list_cmp_total m o q))
-  where
-    by_cases : (q : List ℕ) (b : Bool) → eq_by_cmp cmp q o ≡ b → get m q ≡ cond (eq_by_cmp cmp q o) None (get m q)
-    by_cases q true is = ap (get m) (tied q o true is refl) ∙ sym none ∙ ap (λ b. cond b None (get m q)) (sym is)
-    by_cases q false is = ap (λ b. cond b None (get m q)) (sym is)
+    (λ q. elim (eq_by_cmp cmp q o) as (λ b. eq_by_cmp cmp q o ≡ b → get m q ≡ cond b None (get m q)) [
+      | true ↦ λ is. ap (get m) (tied q o true is refl) ∙ sym none
+      | false ↦ λ _. refl
+    ] refl ∙ sym (get-remove nat_list_cmp_total m o q))
 
 -- ---- views
 
@@ -259,29 +234,18 @@ module _ (view : MibView) (good : IsMibView view) (o : List ℕ) where
   -- a variable of the changed view is the one put, or one that was there
   module _ (v : Datum) (name : IsInstanceName o) (value : IsInstanceValue v) where
     put_variable : (p : VarBind) → IsRow (with_row view o v) p → IsInstanceName p.name × IsInstanceValue p.value
-    put_variable p row = by_cases (eq_by_cmp cmp p.name o) refl
-      where
-        found : (b : Bool) → eq_by_cmp cmp p.name o ≡ b → cond b (Some v) (get view.rows p.name) ≡ Some p.value
-        found b is = ap (λ t. cond t (Some v) (get view.rows p.name)) (sym is) ∙ sym (get-insert nat_list_cmp_total view.rows o v p.name) ∙ row
-
-        by_cases : (b : Bool) → eq_by_cmp cmp p.name o ≡ b → IsInstanceName p.name × IsInstanceValue p.value
-        by_cases true is =
-            let held : v ≡ p.value = let e : Some v ≡ Some p.value = found true is in cc in
-            (subst IsInstanceName (sym (tied p.name o true is refl)) name, subst IsInstanceValue held value)
-        by_cases false is = (good.names p (found false is), good.values p (found false is))
+    put_variable p row =
+        elim (eq_by_cmp cmp p.name o) as (λ b. eq_by_cmp cmp p.name o ≡ b → cond b (Some v) (get view.rows p.name) ≡ Some p.value
+        → IsInstanceName p.name × IsInstanceValue p.value) [
+          | true ↦ λ is here. let held : p.value ≡ v = cc in (rw (tied p.name o true is refl) name, rw held value)
+          | false ↦ λ _ old. (good.names p old, good.values p old)
+        ] refl (sym (get-insert nat_list_cmp_total view.rows o v p.name) ∙ row)
 
     pub put_good : IsMibView (with_row view o v)
     put_good = record { names = λ p row. (put_variable p row).0; values = λ p row. (put_variable p row).1; objects = good.objects }
 
   left_variable : (p : VarBind) → IsRow (without_row view o) p → IsRow view p
-  left_variable p row = by_cases (eq_by_cmp cmp p.name o) refl
-    where
-      found : (b : Bool) → eq_by_cmp cmp p.name o ≡ b → cond b None (get view.rows p.name) ≡ Some p.value
-      found b is = ap (λ t. cond t None (get view.rows p.name)) (sym is) ∙ sym (get-remove nat_list_cmp_total view.rows o p.name) ∙ row
-
-      by_cases : (b : Bool) → eq_by_cmp cmp p.name o ≡ b → IsRow view p
-      by_cases true is = let e : None ≡ Some p.value = found true is in absurd (cc)
-      by_cases false is = found false is
+  left_variable p row = grind (arith, common_steps, get-remove nat_list_cmp_total view.rows o p.name)
 
   pub removed_good : IsMibView (without_row view o)
   removed_good = record {
@@ -292,11 +256,11 @@ module _ (view : MibView) (good : IsMibView view) (o : List ℕ) where
 
 -- a name with no encoding
 pub unnamed : (view : MibView) → IsMibView view → (o : List ℕ) → (IsWire o → ⊥) → None ≡ get view.rows o
-unnamed view good o never = by_cases (get view.rows o) refl
-  where
-    by_cases : (found : Option Datum) → get view.rows o ≡ found → None ≡ get view.rows o
-    by_cases None is = sym is
-    by_cases (Some v) is = absurd (never (good.names (record { name = o; value = v }) is).wire)
+unnamed view good o never =
+    elim (get view.rows o) as (λ found. get view.rows o ≡ found → None ≡ found) [
+      | None ↦ λ _. refl
+      | Some v ↦ λ is. absurd (never (good.names (record { name = o; value = v }) is).wire)
+    ] refl
 
 -- what a table keeps where a row is put, or an error leaves all as it was
 pub put_either : (result : Result Bool AllocError) (old new : FinMap cmp Datum) (objects : List (List ℕ)) (o : List ℕ) (v : Datum)
@@ -307,5 +271,4 @@ put_either (Err e) old new objects o v put_it kept name value good = rw kept goo
 
 -- what holds whatever the error
 pub if_err : {A E : Type 0} (r : Result A E) (P : Type 0) → P → IfErr r (λ _. P)
-if_err (Ok a) P p = tt
-if_err (Err e) P p = p
+if_err r P p = grind (arith, common_steps)

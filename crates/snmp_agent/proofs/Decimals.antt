@@ -1,7 +1,7 @@
 -- Facts about reading decimal digits.
 use Rattle.std.proofs.{lemmas.Grind.common_steps, Math.Nat.pow-suc, Math.Nat.one-le-pow, Math.Nat.le-mul_of_pos_right}
-use Rattle.std.proofs.Common.{◌≡◌, ◌≢◌, ℕ, ◌+◌, ◌-◌, ◌*◌, ◌^◌, ◌≤◌, ◌<◌, true, false, List, [], ◌∷◌, ◌++◌, length, drop, get_or, refl, sym, ◌∙◌}
-use Rattle.std.proofs.Common.{subst, arith, drop-cons, add-one}
+use Rattle.std.proofs.Common.{◌≡◌, ◌≢◌, ℕ, ◌+◌, ◌-◌, ◌*◌, ◌^◌, ◌≤◌, ◌<◌, true, List, [], ◌∷◌, ◌++◌, length, drop, get_or, refl, sym, ◌∙◌}
+use Rattle.std.proofs.Common.{arith, drop-cons, add-one}
 use Rattle.std.specs.{Char.is_ascii_digit, Str.all_ascii_digits}
 use Rattle.snmp_oid.specs.Numeric.{decimal_value, IsNumeral, IsDotted}
 use Rattle.snmp_agent.specs.table.Text.{IsDecimal}
@@ -27,7 +27,7 @@ front_at text count low = rw (add-one, drop-cons text count 0) refl
 
 at_front : (text : List ℕ) (count number : ℕ) → count < length text → IsReadTo text (drop count text) number
     → IsReadTo text (get_or text count 0 ∷ drop (count + 1) text) number
-at_front text count number low h = let P : List ℕ → Type 0 = λ left. IsReadTo text left number in subst P (front_at text count low) h
+at_front text count number low h = rw (← front_at text count low) h
 
 -- one more digit
 pub read_more : (text : List ℕ) (count number : ℕ) → count < length text → is_ascii_digit (get_or text count 0) ≡ true → IsReadTo text (drop count text) number
@@ -37,11 +37,6 @@ read_more text count number low is_digit h = grind (arith, common_steps, at_fron
 -- all digits
 pub read_all : (text : List ℕ) (number : ℕ) → text ≢ [] → IsReadTo text [] number → IsDecimal text number
 read_all text number some h = record { some = some; digits = sym h.digits; value = let e : number * 1 + 0 ≡ decimal_value text = h.value in omega arith }
-
--- an octet that is no digit
-pub read_other : (text : List ℕ) (count number : ℕ) → count < length text → is_ascii_digit (get_or text count 0) ≡ false
-    → IsReadTo text (drop count text) number → (n : ℕ) → IsDecimal text n → ⊥
-read_other text count number low other h n decimal = grind (arith, common_steps, at_front)
 
 -- more than 64 bits
 pub read_large : (text : List ℕ) (count number : ℕ) → count < length text → 2 ^ 64 ≤ number * 10 + (get_or text count 0 - 48)
@@ -55,12 +50,10 @@ same_decimal text n m one other = sym other.value ∙ one.value
 -- ---- dotted numerals
 
 digit_first : (text : List ℕ) (n : ℕ) → IsNumeral text n → get_or text 0 0 ≡ 46 → ⊥
-digit_first [] n h first = h.some refl
-digit_first (octet ∷ text) n h first = grind (arith, common_steps)
+digit_first text n h first = grind (arith, common_steps)
 
 front_first : (front rest : List ℕ) → front ≢ [] → get_or (front ++ rest) 0 0 ≡ get_or front 0 0
-front_first [] rest some = absurd (some refl)
-front_first (octet ∷ front) rest some = refl
+front_first front rest some = grind (arith, common_steps)
 
 -- dotted numerals don't begin with a dot
 pub no_dot_first : (text o : List ℕ) → IsDotted text o → get_or text 0 0 ≡ 46 → ⊥

@@ -65,15 +65,7 @@ module _ (view : MibView) (o : List ℕ) where
   no_row p name row none = some_none p.value (sym (row_at p name row) ∙ none)
 
   pub same_get : (p q : VarBind) → IsGet view o p → IsGet view o q → p ≡ q
-  same_get p q (variable name row) (variable other at) = grind (arith, common_steps, same_binding, some_once, row_at)
-  same_get p q (variable name row) (unknown_object none never is) = absurd (no_row p name row none)
-  same_get p q (variable name row) (unknown_instance none some is) = absurd (no_row p name row none)
-  same_get p q (unknown_object none never is) (variable name row) = absurd (no_row q name row none)
-  same_get p q (unknown_object none never is) (unknown_object nothing neither same) = is ∙ sym same
-  same_get p q (unknown_object none never is) (unknown_instance nothing some same) = absurd (never some)
-  same_get p q (unknown_instance none some is) (variable name row) = absurd (no_row q name row none)
-  same_get p q (unknown_instance none some is) (unknown_object nothing never same) = absurd (never some)
-  same_get p q (unknown_instance none some is) (unknown_instance nothing other same) = is ∙ sym same
+  same_get p q h e = grind (arith, common_steps, same_binding, some_once, row_at, no_row)
 
 pub one_get : (view : MibView) (o : List ℕ) → HasOne (IsGet view o)
 one_get view o = (got_at view o, is_got view o, λ q is. same_get view o q (got_at view o) is (is_got view o))

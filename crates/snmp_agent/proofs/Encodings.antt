@@ -1,7 +1,7 @@
 -- Which bindings have an encoding, and how long it is.
-use Rattle.std.proofs.{lemmas.Grind.common_steps, lemmas.Bool.cases_lt}
+use Rattle.std.proofs.{lemmas.Grind.common_steps}
 use Rattle.std.proofs.Common.{ℕ, ◌<◌, List, [], ◌∷◌, length, ⊎_elim, arith, length-append}
-use Rattle.snmp_wire.specs.Message.{Datum, object_id, octet_string, opaque_octets, VarBind, Message}
+use Rattle.snmp_wire.specs.Message.{Datum, VarBind, Message}
 use Rattle.snmp_wire.specs.{Number.lenient, Spelling.IsContent, Spelling.SpellsBindings, Spelling.Spells, Spelling.value_tag, ber.Sizes.ElementSizes}
 use Rattle.snmp_wire.specs.Canon.{IsEncodable, IsEncodableValue, canon_binding, canon_content, canon_element, canon_value}
 use Rattle.snmp_agent.specs.table.Table.{IsAnswerValue}
@@ -10,13 +10,11 @@ use Rattle.snmp_agent.specs.private.Answering.{HasEncoding, IsWritable, AreWrita
 -- ---- what is read
 
 read_value : (value : Datum) (content : List ℕ) → IsContent lenient value content → HasEncoding value
-read_value (object_id name) content h = h.wire
-read_value _ content h = tt
+read_value value content h = grind (arith, common_steps)
 
 read_bindings : (bindings : List VarBind) (octets : List ℕ) → SpellsBindings lenient bindings octets → AreWritable bindings
 read_bindings [] octets h = tt
-read_bindings (binding ∷ more) octets h =
-    (record { name = h.3.is_name.is_content.wire; value = read_value binding.value h.3.is_value.content h.3.is_value.is_content }, read_bindings more h.1 h.4)
+read_bindings (binding ∷ more) octets h = grind (arith, common_steps, read_bindings more h.1 h.4, read_value)
 
 -- the bindings of a message that was read have encodings
 pub read_message : (q : Message) (octets : List ℕ) → Spells q octets → AreWritable q.bindings
@@ -26,16 +24,12 @@ read_message q octets h = read_bindings q.bindings h.is_pdu.bindings h.is_pdu.ar
 
 -- what a table answers has an encoding
 pub answer_value : (value : Datum) → IsAnswerValue value → HasEncoding value
-answer_value (object_id name) h = h.0
-answer_value _ h = tt
+answer_value value h = grind (arith, common_steps)
 
 -- ---- what is written
 
 encodable_value : (value : Datum) → HasEncoding value → IsShortValue value → IsEncodableValue value
-encodable_value (object_id name) h short = h
-encodable_value (octet_string text) h short = short
-encodable_value (opaque_octets text) h short = short
-encodable_value _ h short = tt
+encodable_value value h short = grind (arith, common_steps)
 
 pub encodable : (binding : VarBind) → IsWritable binding → IsShortValue binding.value → IsEncodable binding
 encodable binding h short = record { name = h.name; value = encodable_value binding.value h.value short }
@@ -54,9 +48,7 @@ longer_binding sizes binding = grind (arith, common_steps, longer_element, lengt
 
 long_content : (value : Datum) → (IsShortValue value → ⊥) → 65535 < length (canon_content value)
 unfolding canon_content
-long_content (octet_string text) long = ⊎_elim (λ h. absurd (long (omega arith))) (λ h. h) (cases_lt (length text) 65536)
-long_content (opaque_octets text) long = ⊎_elim (λ h. absurd (long (omega arith))) (λ h. h) (cases_lt (length text) 65536)
-long_content _ long = absurd (long tt)
+long_content value long = grind (arith, common_steps, ⊎_elim)
 
 -- a binding with a longer string than any datagram has
 pub long_binding : ElementSizes → (binding : VarBind) → (IsShortValue binding.value → ⊥) → 65535 < length (canon_binding binding)

@@ -1,6 +1,6 @@
 -- Lines that state a table have no fault.
 use Rattle.std.proofs.{lemmas.Grind.common_steps, Math.ListN.get_or-append, Math.Seq.get_or-append_seam}
-use Rattle.std.proofs.Common.{◌≡◌, inl, inr, ℕ, List, ◌∷◌, ◌++◌, length, length-append, get_or, ◌<◌, refl, ◌∙◌, subst, arith}
+use Rattle.std.proofs.Common.{◌≡◌, inl, inr, ℕ, List, ◌∷◌, ◌++◌, length, length-append, ◌<◌, refl, subst, arith}
 use Rattle.std.specs.List.{All, AllPairs, Contains}
 use Rattle.std.proofs.lemmas.List.Elements.{All-contains, Contains-append_right}
 use Rattle.snmp_agent.specs.{declared.table.error.TableError.TableError, table.Format.Format, table.Format.Names, table.Table.MibView}
@@ -42,9 +42,7 @@ pub earlier_differs : (format : Format) (front : List (List ℕ)) (line : List �
 earlier_differs format front line back other h at =
     let low : length front < length (front ++ line ∷ back) = omega (arith, length-append front (line ∷ back)) in
     let here = h at.0 (length front) other at.1 low in
-    let P : List ℕ → Type 0 = λ l. DifferInName format other l in
-    let Q : List ℕ → Type 0 = λ l. DifferInName format l (get_or (front ++ line ∷ back) (length front) other) in
-    subst P (get_or-append_seam front line back other) (subst Q (get_or-append front (line ∷ back) other at.0 at.1 ∙ at.2) here)
+    rw (get_or-append front (line ∷ back) other at.0 at.1, at.2, get_or-append_seam front line back other) at here
 
 pub no_fault_in : (format : Format) (lines : List (List ℕ)) (fault : TableError) → AreTable format lines → IsFirstFaultIn format lines fault → fault ≡ error.Memory
 no_fault_in format lines (error.BadLine n) good h =

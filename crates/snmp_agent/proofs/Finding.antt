@@ -1,18 +1,17 @@
 -- Finding the row of a name.
-use Rattle.std.proofs.Common.{◌≡◌, ℕ, zero, suc, ◌+◌, ◌<◌, inl, inr, List, [], ◌∷◌, map, length, take, Some, None, refl, sym, ◌∙◌, ap, subst, arith}
+use Rattle.std.proofs.Common.{◌≡◌, ℕ, zero, suc, ◌+◌, ◌<◌, List, [], ◌∷◌, map, length, take, Some, None, refl, sym, ◌∙◌, ap, subst, arith}
 use Rattle.std.proofs.Common.{◌||◌, true, false, Vec, Global, length-append}
 use Rattle.std.specs.{Ordering.nat_cmp, Ordering.is_eq, Ordering.eq_by_cmp, Cmp.Lexicographic.slice_cmp, Cmp.Lexicographic.nat_list_cmp_total}
-use Rattle.std.specs.{FinSet.contains, FinSet.contains-from_list, FinSet.from_list, FinMap.get, List.slice_get, List.list_any}
-use Rattle.std.proofs.Math.Seq.{take-append_seam}
+use Rattle.std.specs.{FinSet.contains, FinSet.contains-from_list, FinSet.from_list, FinMap.get, List.Contains, List.slice_get, List.list_any}
+use Rattle.std.proofs.{Math.Seq.take-append_seam, lemmas.List.Elements.Contains-append_right}
 use Rattle.snmp_wire.specs.{Message.VarBind, Message.Datum.no_such_object, Message.Datum.no_such_instance}
 use Rattle.snmp_agent.specs.table.Table.{HasObject, IsGet, MibView, unknown_object, unknown_instance}
 use Rattle.snmp_agent.specs.{table.Places.HasBeginning, table.Places.entry_of, table.Pages.entries_of}
-use Rattle.snmp_agent.proofs.Rising.{Listed}
 
-pub listed_at : (rows : List VarBind) (k : ℕ) (row : VarBind) → slice_get rows k ≡ Some row → Listed (entry_of row) (entries_of rows)
+pub listed_at : (rows : List VarBind) (k : ℕ) (row : VarBind) → slice_get rows k ≡ Some row → Contains (entries_of rows) (entry_of row)
 listed_at [] k row at = let no : ⊥ = cc in absurd no
-listed_at (first ∷ rows) zero row at = let same : first ≡ row = cc in inl (ap entry_of (sym same))
-listed_at (first ∷ rows) (suc k) row at = inr (listed_at rows k row at)
+listed_at (first ∷ rows) zero row at = let same : first ≡ row = cc in (0, omega arith, ap entry_of same)
+listed_at (first ∷ rows) (suc k) row at = Contains-append_right (entry_of first ∷ []) (entries_of rows) (entry_of row) (listed_at rows k row at)
 
 -- ---- Get
 

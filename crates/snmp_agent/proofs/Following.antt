@@ -1,8 +1,9 @@
 -- What comes next in a list of entries whose names rise.
-use Rattle.std.proofs.lemmas.Grind.{common_steps}
+use Rattle.std.proofs.{lemmas.Grind.common_steps, lemmas.List.Elements.Contains-append_cases, lemmas.List.Elements.Contains-append_right}
 use Rattle.std.proofs.Common.{◌≡◌, ◌↔◌, ℕ, zero, suc, inl, inr, T, List, [], ◌∷◌, ◌++◌, map, Some, true, false, cond, refl, sym, ◌∙◌, ap, subst}
 use Rattle.std.proofs.Common.{append_assoc, Less, ◌+◌, ◌≤◌, length, take, drop, arith, ◌-◌}
-use Rattle.std.specs.{Ordering.is_le, Ordering.nat_cmp, Cmp.Lexicographic.slice_cmp, Cmp.Lexicographic.nat_list_cmp_total, List.slice_get}
+use Rattle.std.specs.{Ordering.is_le, Ordering.nat_cmp, List.Contains, List.slice_get}
+use Rattle.std.specs.Cmp.Lexicographic.{slice_cmp, nat_list_cmp_total}
 use Rattle.std.specs.FinMap.{find, is_sorted, entries, entries_sorted, entries-from_sorted, from_sorted, get-entries, get-from_sorted, same_map}
 use Rattle.std.specs.FinMap.{nat_cmp-IsAntisymmetric, slice_cmp-IsAntisymmetric}
 use Rattle.snmp_oid.specs.Identifier.{Precedes}
@@ -11,9 +12,9 @@ use Rattle.snmp_agent.specs.table.Table.{MibView, IsRow, IsNext, successor, end_
 use Rattle.snmp_agent.specs.table.Listing.{first_or_end}
 use Rattle.snmp_agent.specs.table.Places.{IsBeforeAll, IsBeforeNone, var_of, last_name}
 use Rattle.snmp_agent.specs.table.Pages.{StandsApart, AreBehind, entries_after, entries_of}
-use Rattle.snmp_agent.proofs.Rising.{Listed, not_before_itself, not_both, before_listed, not_before_listed, listed_in_both, listed_in_second}
-use Rattle.snmp_agent.proofs.Rising.{before_from, before_later, is_behind, not_behind, second_of_both, before_no_earlier, find-listed}
-use Rattle.snmp_agent.proofs.Rising.{listed_from_find}
+use Rattle.snmp_agent.proofs.Lists.{of_each}
+use Rattle.snmp_agent.proofs.Rising.{not_before_itself, not_both, before_from, before_later, is_behind, not_behind, second_of_both, before_no_earlier}
+use Rattle.snmp_agent.proofs.Rising.{find-listed, listed_from_find}
 
 -- the order of names is the standard's
 abbrev pub IsOrder : Type 0
@@ -23,7 +24,7 @@ abbrev Entries : Type 0
 Entries = List (List ℕ × Datum)
 
 listed : (view : MibView) (o : List ℕ) (front back : Entries) → StandsApart view.rows o front back → (q : VarBind) → IsRow view q
-    → Listed (q.name, q.value) (front ++ back)
+    → Contains (front ++ back) (q.name, q.value)
 listed view o front back apart q row = listed_from_find q.name q.value (front ++ back) (sym (apart.found q.name) ∙ row)
 
 -- past an entry
@@ -46,26 +47,29 @@ next_from view (suc rounds) o p q first more = (more.0, next_from view rounds o 
 module _ (order : IsOrder) where
   -- a row after the name is among the later ones
   later_listed : (view : MibView) (o : List ℕ) (front back : Entries) → StandsApart view.rows o front back → (q : VarBind) → IsRow view q → Precedes o q.name
-      → Listed (q.name, q.value) back
+      → Contains back (q.name, q.value)
   later_listed view o front back apart q row behind =
-      elim (listed_in_both (q.name, q.value) front back (listed view o front back apart q row)) [
-        | inl here ↦ absurd (not_before_listed o (q.name, q.value) front apart.passed here ((order o q.name).1 behind))
+      elim (Contains-append_cases front back (q.name, q.value) (listed view o front back apart q row)) [
+        | inl here ↦ absurd (of_each (λ (e : List ℕ × Datum). slice_cmp nat_cmp o e.0 ≡ Less → ⊥) front (q.name, q.value) apart.passed here
+            ((order o q.name).1 behind))
         | inr there ↦ there
       ]
 
-  nearest_in : (p : List ℕ × Datum) (back : Entries) (q : VarBind) → IsBeforeAll p.0 back → Listed (q.name, q.value) (p ∷ back) → Precedes q.name p.0 → ⊥
-  nearest_in p back q ahead (inl same) before =
+  nearest_in : (p : List ℕ × Datum) (back : Entries) (q : VarBind) → IsBeforeAll p.0 back → Contains (p ∷ back) (q.name, q.value)
+      → Precedes q.name p.0 → ⊥
+  nearest_in p back q ahead (zero, low, same) before =
       let less : slice_cmp nat_cmp q.name p.0 ≡ Less = (order q.name p.0).1 before in
-      let name : q.name ≡ p.0 = ap (λ (e : List ℕ × Datum). e.0) same in
+      let name : q.name ≡ p.0 = ap (λ (e : List ℕ × Datum). e.0) (sym same) in
       not_before_itself p.0 (rw name at less)
-  nearest_in p back q ahead (inr later) before =
-      not_both q.name p.0 ((order q.name p.0).1 before) (before_listed p.0 (q.name, q.value) back ahead later)
+  nearest_in p back q ahead (suc k, low, later) before =
+      not_both q.name p.0 ((order q.name p.0).1 before)
+      (of_each (λ (e : List ℕ × Datum). slice_cmp nat_cmp p.0 e.0 ≡ Less) back (q.name, q.value) ahead (k, omega (arith, low), later))
 
   pub is_next : (view : MibView) (o : List ℕ) (front back : List (List ℕ × Datum)) → StandsApart view.rows o front back
       → IsNext view o (first_or_end o (map var_of back))
-  is_next view o front [] apart = end_of_view (λ q row behind. later_listed view o front [] apart q row behind) refl
+  is_next view o front [] apart = end_of_view (λ q row behind. omega (arith, (later_listed view o front [] apart q row behind).1)) refl
   is_next view o front (p ∷ back) apart = successor record {
-    row = apart.found p.0 ∙ find-listed p (front ++ p ∷ back) apart.rising (listed_in_second p front (p ∷ back) (inl refl));
+    row = apart.found p.0 ∙ find-listed p (front ++ p ∷ back) apart.rising (Contains-append_right front (p ∷ back) p (0, omega arith, refl));
     behind = (order o p.0).0 apart.ahead.0;
     nearest = λ q row behind.
         nearest_in p back q (before_later front back p apart.rising) (later_listed view o front (p ∷ back) apart q row behind);
@@ -117,12 +121,7 @@ behind_name view o =
 after_both : (o : List ℕ) (front back : Entries) → IsBeforeNone o front → IsBeforeAll o back → entries_after o (front ++ back) ≡ back
 after_both o [] [] passed ahead = refl
 after_both o [] (e ∷ back) passed ahead = grind (arith, common_steps, not_behind)
-after_both o (e ∷ front) back passed ahead =
-    elim (is_le (slice_cmp nat_cmp e.0 o)) as (λ b. is_le (slice_cmp nat_cmp e.0 o) ≡ b
-    → cond b (entries_after o (front ++ back)) (e ∷ (front ++ back)) ≡ back) [
-      | true ↦ λ up_to. after_both o front back passed.1 ahead
-      | false ↦ λ begins. absurd (passed.0 (is_behind o e.0 begins))
-    ] refl
+after_both o (e ∷ front) back passed ahead = grind (arith, common_steps, after_both o front back passed.1 ahead, is_behind)
 
 -- and no others are
 pub all_behind : (view : MibView) (o : List ℕ) (back : List (List ℕ × Datum)) → AreBehind view o back → back ≡ entries_after o (entries view.rows)
@@ -134,7 +133,7 @@ all_behind view o back h =
 
 -- the first of them is a variable
 pub first_row : (view : MibView) (o : List ℕ) (e : List ℕ × Datum) (es : List (List ℕ × Datum)) → AreBehind view o (e ∷ es) → IsRow view (var_of e)
-first_row view o e es h = h.1.found e.0 ∙ find-listed e (h.0 ++ e ∷ es) h.1.rising (listed_in_second e h.0 (e ∷ es) (inl refl))
+first_row view o e es h = h.1.found e.0 ∙ find-listed e (h.0 ++ e ∷ es) h.1.rising (Contains-append_right h.0 (e ∷ es) e (0, omega arith, refl))
 
 pub behind_first : (view : MibView) (o : List ℕ) (e : List ℕ × Datum) (es : List (List ℕ × Datum)) → AreBehind view o (e ∷ es) → AreBehind view e.0 es
 behind_first view o e es h = (h.0 ++ e ∷ [], past view o h.0 es e h.1)

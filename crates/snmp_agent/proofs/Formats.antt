@@ -1,5 +1,5 @@
 -- Names in the two formats.
-use Rattle.std.proofs.Common.{arith, ◌≡◌, ◌↔◌, ℕ, List, [], ◌∷◌, Option, Some, None, MatchOption, codes}
+use Rattle.std.proofs.Common.{arith, ◌≡◌, ◌↔◌, ℕ, List, [], ◌∷◌, Option, None, MatchOption, codes}
 use Rattle.std.proofs.lemmas.Grind.{common_steps}
 use Rattle.snmp_io.specs.Quotes.{HasNoneOutside}
 use Rattle.snmp_agent.specs.table.Exact.{IsOnly}
@@ -33,5 +33,4 @@ marked_by_first all line more e = grind (arith, common_steps)
 -- ---- what is found
 
 pub match_weaker : {X A B : Type 0} (r : Option X) (P Q : X → Type 0) → (A → B) → ((x : X) → P x → Q x) → MatchOption r A P → MatchOption r B Q
-match_weaker None P Q none some h = none h
-match_weaker (Some x) P Q none some h = some x h
+match_weaker r P Q none some h = grind (arith, common_steps)

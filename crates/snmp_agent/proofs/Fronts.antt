@@ -1,6 +1,6 @@
 -- What the bindings of a reply hold.
 use Rattle.std.proofs.{lemmas.Grind.common_steps, lemmas.List.append-nil, lemmas.Bool.Decides.nat_tests, lemmas.Bool.cases_lt}
-use Rattle.std.proofs.Common.{◌≡◌, ◌≢◌, ℕ, ◌+◌, ◌-◌, ◌≤◌, ◌<◌, List, [], ◌∷◌, ◌++◌, length, refl, ⊎_elim, sym, ap, subst, ◌∙◌, arith, length-append}
+use Rattle.std.proofs.Common.{◌≡◌, ◌≢◌, ℕ, ◌+◌, ◌-◌, ◌≤◌, ◌<◌, List, [], ◌∷◌, ◌++◌, length, refl, ⊎_elim, sym, ap, ◌∙◌, arith, length-append}
 use Rattle.std.proofs.Common.{append_assoc}
 use Rattle.snmp_wire.specs.{Message.VarBind, Canon.canon_binding, Canon.canon_bindings, Canon.canon_element, Canon.canon_header}
 use Rattle.snmp_agent.specs.declared.room.ReplyBindings.{ReplyBindings}
@@ -72,10 +72,7 @@ no_bindings = refl
 front_of : (room : ℕ) (h : Held) (all : List VarBind) → length h.octets + h.left ≡ room → HoldsFront room h.octets all (fill h all)
 front_of room h [] is = grind (arith, common_steps, added, append-nil, no_bindings)
 front_of room h (p ∷ more) is = ⊎_elim
-    (λ large.
-    let same : fill h (p ∷ more) ≡ record { octets = h.octets; left = 0 } = ap (λ (g : Held). fill g more) (refused h p large)
-    ∙ fill_full (record { octets = h.octets; left = 0 }) more refl in
-    subst (λ (end : Held). HoldsFront room h.octets (p ∷ more) end) (sym same) (record {
+    (λ large. rw (refused h p large, fill_full (record { octets = h.octets; left = 0 }) more refl) (record {
       added = [];
       more = p ∷ more;
       front = refl;
@@ -88,7 +85,7 @@ front_of room h (p ∷ more) is = ⊎_elim
     (λ fits.
     let next : Held = record { octets = h.octets ++ canon_binding p; left = h.left - length (canon_binding p) } in
     let rest = front_of room next more (omega (arith, length-append h.octets (canon_binding p))) in
-    subst (λ (g : Held). HoldsFront room h.octets (p ∷ more) (fill g more)) (sym (added h p fits)) (record {
+    rw (added h p fits) (record {
       added = p ∷ rest.added;
       more = rest.more;
       front = ap (λ ps. p ∷ ps) rest.front;

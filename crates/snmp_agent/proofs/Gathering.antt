@@ -11,7 +11,7 @@ use Rattle.snmp_wire.specs.Message.{Datum, VarBind}
 use Rattle.snmp_agent.specs.{declared.table.page.Page.Page, table.Places.entry_of, private.table.Draft.AreDistinct}
 use Rattle.snmp_agent.specs.table.Pages.{IsSorted, entries_in, entries_of}
 use Rattle.snmp_agent.proofs.{Partition.rows-append, Rising.listed_from_find}
-use Rattle.snmp_agent.proofs.TableDrafts.{distinct_moved, distinct_sorted, listed_contained, none_of, put_moves, some_of}
+use Rattle.snmp_agent.proofs.TableDrafts.{distinct_moved, distinct_sorted, none_of, put_moves, some_of}
 
 abbrev Entries : Type 0
 Entries = List (List ℕ × Datum)
@@ -122,14 +122,12 @@ placed_moves old m n gathered late row had h none put has hasnt =
     (rw (none, append-nil (entries m)) at h)) (row_moves m n row had put has hasnt))
 
 -- appended to the rows in their places
-pub appended_moves : (total ms ns late : Entries) (row : VarBind) → IsPermutation total (ms ++ late)
-    → ns ≡ ms ++ entry_of row ∷ [] → IsPermutation (total ++ entry_of row ∷ []) (ns ++ late)
-appended_moves total ms ns late row h appended =
+pub appended_moves : (ms ns late : Entries) (row : VarBind) → ns ≡ ms ++ entry_of row ∷ []
+    → IsPermutation ((ms ++ late) ++ entry_of row ∷ []) (ns ++ late)
+appended_moves ms ns late row appended =
     let e = entry_of row in
-    let moved : IsPermutation ((ms ++ late) ++ e ∷ []) ((ms ++ e ∷ []) ++ late) =
-    rw (append_assoc ms late (e ∷ []), append_assoc ms (e ∷ []) late) (IsPermutation-append_right ms (late ++ e ∷ []) (e ∷ late)
-    (IsPermutation-to_front late e)) in
-    rw appended (IsPermutation-trans _ _ _ (IsPermutation-append_left (e ∷ []) total (ms ++ late) h) moved)
+    rw (appended, append_assoc ms late (e ∷ []), append_assoc ms (e ∷ []) late)
+    (IsPermutation-append_right ms (late ++ e ∷ []) (e ∷ late) (IsPermutation-to_front late e))
 
 -- a row has the name of one that is there
 pub had_one : (es : Entries) (m : Rows) (late : List VarBind) (o : List ℕ) (had : Bool)
@@ -142,5 +140,5 @@ had_one es m late o had h none has is =
       distinct_moved es (entries m) moved (distinct_sorted (entries m) (entries_sorted m)),
       found.0,
       Contains-permutation (entries m) es (o, found.0) (IsPermutation-sym es (entries m) moved)
-          (listed_contained (o, found.0) (entries m) (listed_from_find o found.0 (entries m) found.1)),
+          (listed_from_find o found.0 (entries m) found.1),
     )

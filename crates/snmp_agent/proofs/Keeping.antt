@@ -3,13 +3,10 @@ use Rattle.std.proofs.{Common.arith, Common.◌≡◌, Common.ℕ, Common.true, 
 use Rattle.std.specs.{Ordering.nat_cmp, Cmp.Lexicographic.slice_cmp, Cmp.Lexicographic.nat_list_cmp_total, FinSet.contains, FinSet.contains-from_list}
 use Rattle.std.specs.FinMap.{FinMap, entries, entries_sorted, entries-from_sorted, from_sorted, same_entries_map, get, get-from_sorted, find}
 use Rattle.snmp_oid.specs.Identifier.{IsIdentifier}
-use Rattle.snmp_wire.specs.{Message.Datum, Message.VarBind, Range.IsInRange}
-use Rattle.snmp_wire.specs.Message.Datum.{octet_string, null_value, object_id, ip_address, opaque_octets, no_such_object, no_such_instance}
-use Rattle.snmp_wire.specs.Message.Datum.{end_of_mib_view}
+use Rattle.snmp_wire.specs.{Message.Datum, Message.VarBind, Range.IsInRange, Message.Datum.object_id}
 use Rattle.snmp_agent.specs.table.Table.{IsRow, IsInstanceName, IsInstanceValue, IsMibView, MibView}
-use Rattle.snmp_agent.specs.{table.Places.view_of, table.Stated.IsTableIn, private.table.Draft.HoldsTable}
-use Rattle.snmp_agent.specs.table.Format.{Format, IsName, IsNameIn, first_format, second_format}
-use Rattle.snmp_agent.specs.table.Text.{HasPrefix, HasRow, IsValueText}
+use Rattle.snmp_agent.specs.{table.Places.view_of, table.Stated.IsTableIn, private.table.Draft.HoldsTable, table.Format.Format, table.Format.IsName}
+use Rattle.snmp_agent.specs.{table.Format.IsNameIn, table.Text.HasPrefix, table.Text.HasRow, table.Text.IsValueText}
 use Rattle.snmp_agent.proofs.Statements.{name_numbers}
 
 identifier : (text o : List ℕ) → IsName text o → IsIdentifier o
@@ -17,26 +14,17 @@ identifier text o h = record { short = h.short; numbers = name_numbers text o h.
 
 -- a name is one of an identifier
 is_identifier : (format : Format) (text o : List ℕ) → IsNameIn format text o → IsIdentifier o
-is_identifier first_format text o h = identifier text o h
-is_identifier (second_format names) text o h = grind (arith, common_steps, identifier)
+is_identifier format text o h = grind (arith, common_steps, identifier)
 
 pub instance_value : (format : Format) (tag text : List ℕ) (v : Datum) → IsValueText format tag text v → IsInstanceValue v
-instance_value format tag text (object_id o) h = (h.2, is_identifier format text o h.1)
-instance_value format tag text _ h = assumption
+instance_value format tag text v h = grind (arith, common_steps, is_identifier)
 
 -- an instance has an encoding
 pub name_in_range : (o : List ℕ) → IsInstanceName o → IsInRange (object_id o)
 name_in_range o h = (h.wire, h.identifier)
 
 pub value_in_range : (v : Datum) → IsInstanceValue v → IsInRange v
-value_in_range (octet_string octets) h = (h.1, h.0)
-value_in_range (ip_address octets) h = (h.1, h.0)
-value_in_range (opaque_octets octets) h = (h.1, h.0)
-value_in_range null_value h = tt
-value_in_range no_such_object h = tt
-value_in_range no_such_instance h = tt
-value_in_range end_of_mib_view h = tt
-value_in_range _ h = h
+value_in_range v h = grind (arith, common_steps)
 
 -- the view of these entries and object prefixes
 abbrev pub view_from : List (List ℕ × Datum) → List (List ℕ) → MibView

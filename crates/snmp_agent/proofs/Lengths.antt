@@ -1,5 +1,5 @@
 -- How long messages are: with more octets of bindings a message is longer.
-use Rattle.std.proofs.Common.{ℕ, zero, suc, ◌≢◌, ◌+◌, ◌≤◌, ◌<◌, length, arith}
+use Rattle.std.proofs.{lemmas.Grind.common_steps, Common.ℕ, Common.◌≢◌, Common.◌+◌, Common.◌≤◌, Common.◌<◌, Common.length, Common.arith}
 use Rattle.snmp_wire.specs.{Canon.canon_head, Canon.canon_header, Message.Message, Sizes.MessageSizes}
 use Rattle.snmp_agent.specs.private.Answering.{whole_size, IsRoom}
 
@@ -21,5 +21,4 @@ pub beyond : MessageSizes → (m : Message) (limit room n : ℕ) → IsRoom m li
 beyond sizes m limit room n h past = omega (arith, h.most, longer sizes m (room + 1) n (omega (arith, past)))
 
 pub room_within : (m : Message) (limit room : ℕ) → IsRoom m limit room → room ≤ limit
-room_within m limit zero h = omega arith
-room_within m limit (suc room) h = omega (arith, h.fits (λ none. omega (arith, none)))
+room_within m limit room h = grind (arith, common_steps)

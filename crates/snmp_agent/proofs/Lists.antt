@@ -1,8 +1,9 @@
 -- Facts about lists.
 use Rattle.std.proofs.lemmas.Grind.{common_steps}
-use Rattle.std.proofs.Common.{◌≡◌, ℕ, zero, suc, ◌-◌, ◌≤◌, ◌<◌, List, [], ◌∷◌, ◌++◌, length, take, drop, get_or, map, Some, arith, refl, ap, ◌∙◌, ◌+◌}
-use Rattle.std.specs.List.{AllByRecursion, slice_get}
-use Rattle.std.proofs.lemmas.List.{drop_all, drop_more, get_or_at, length-map, length-take-le}
+use Rattle.std.proofs.Common.{◌≡◌, ℕ, zero, suc, ◌-◌, ◌≤◌, ◌<◌, List, [], ◌∷◌, ◌++◌, length, take, drop, get_or, map, Some, arith, refl, sym, ap}
+use Rattle.std.proofs.Common.{subst, ◌∙◌, ◌+◌}
+use Rattle.std.specs.List.{AllByRecursion, Contains, slice_get}
+use Rattle.std.proofs.lemmas.List.{drop_all, drop_more, get_or_at, length-map, length-take-le, take_at}
 
 module _ {X : Type 0} (P : X → Type 0) where
   pub all_both : (xs ys : List X) → AllByRecursion P xs → AllByRecursion P ys → AllByRecursion P (xs ++ ys)
@@ -17,7 +18,26 @@ module _ {X : Type 0} (P : X → Type 0) where
   all_back [] ys h = h
   all_back (x ∷ xs) ys h = all_back xs ys h.1
 
+  -- what holds of all holds of each
+  pub of_each : (xs : List X) (x : X) → AllByRecursion P xs → Contains xs x → P x
+  of_each [] x h at = absurd (omega (arith, at.1))
+  of_each (y ∷ xs) x h (zero, low, at) = subst P at h.0
+  of_each (y ∷ xs) x h (suc k, low, at) = of_each xs x h.1 (k, omega (arith, low), at)
+
 module _ {X : Type 0} where
+  -- fronts of one length
+  pub same_front : (xs ys more rest : List X) → xs ++ more ≡ ys ++ rest → length xs ≡ length ys → xs ≡ ys
+  same_front xs ys more rest e long =
+      sym (take_at xs more (length xs) refl) ∙ ap (take (length xs)) e ∙ take_at ys rest (length xs) (sym long)
+
+  -- what stands behind a front stands in a longer front too
+  pub inside : (front : List X) (x : X) (back other rest : List X) → front ++ x ∷ back ≡ other ++ rest → length front < length other
+      → (more : List X) × (other ≡ front ++ x ∷ more)
+  inside front x back [] rest e low = absurd (omega (arith, low))
+  inside [] x back (y ∷ other) rest e low = (other, cc)
+  inside (z ∷ front) x back (y ∷ other) rest e low =
+      let later = inside front x back other rest (cc) (omega (arith, low)) in (later.0, cc (later.1))
+
   -- a list round one of its elements
   pub around : (xs : List X) (place : ℕ) (x : X) → slice_get xs place ≡ Some x → xs ≡ take place xs ++ x ∷ drop (suc place) xs
   around [] place x at = cc
@@ -45,8 +65,7 @@ module _ {X : Type 0} where
   last_in_front xs n x within last = grind (arith, common_steps, in_front, length-take-le)
 
   pub nothing_left : (xs : List X) → length xs ≡ 0 → xs ≡ []
-  nothing_left [] h = refl
-  nothing_left (x ∷ xs) h = absurd (omega arith)
+  nothing_left xs h = grind (arith, common_steps)
 
   -- where the elements before a place were changed, the one at the place still stands there
   pub still_there : (f : X → X) (xs ys : List X) (i : ℕ) (x : X) → i < length xs → ys ≡ map f (take i xs) ++ drop i xs → x ≡ get_or ys i x

@@ -1,5 +1,5 @@
 -- Good lines state a table.
-use Rattle.std.proofs.Common.{◌≡◌, ℕ, List, [], ◌∷◌, ◌++◌, Some, None, refl, sym, subst, T, append_assoc, append-nil}
+use Rattle.std.proofs.Common.{◌≡◌, ℕ, List, [], ◌∷◌, ◌++◌, Some, None, refl, T, append_assoc, append-nil}
 use Rattle.std.specs.{List.Sorted.IsPermutation, Ordering.nat_cmp, FinMap.find, FinMap.is_sorted, FinMap.put, FinMap.Entries.is_sorted-put}
 use Rattle.std.proofs.lemmas.List.Sorted.{IsPermutation-append_left, IsPermutation-refl, IsPermutation-trans}
 use Rattle.std.specs.Cmp.Lexicographic.{slice_cmp, nat_list_cmp_total}
@@ -28,23 +28,19 @@ module _ (format : Format) (done : List (List ℕ)) (line : List ℕ) (rest : Li
     (good : AreTable format (done ++ line ∷ rest)) (h : HasDraft format done) where
   no_row : (p : VarBind) → IsRowLine format line p → find (slice_cmp nat_cmp) p.name h.1 ≡ None
   no_row p row =
-      let found = find (slice_cmp nat_cmp) p.name h.1 in
-      elim found as (λ r. found ≡ r → r ≡ None) [
+      elim (find (slice_cmp nat_cmp) p.name h.1) as (λ r. find (slice_cmp nat_cmp) p.name h.1 ≡ r → r ≡ None) [
         | None ↦ λ _. refl
         | Some v ↦ λ is.
             let q : VarBind = record { name = p.name; value = v } in
             let earlier : HasRow format done q = ((holds_table format done h).rows q).0 is in
-            absurd (earlier_differs format done line rest earlier.0 good.differ earlier.1 q p
-            earlier.2 row refl)
+            absurd (earlier_differs format done line rest earlier.0 good.differ earlier.1 q p earlier.2 row refl)
       ] refl
 
   one_more : (s : Statement) → StatesOnly format line s → HasDraft format (done ++ line ∷ [])
   one_more nothing only =
       (h.0, h.1, h.2, holds_nothing format done line h.0 h.2 h.3 only, h.4, h.5)
   one_more (object_prefix object) only =
-      let objects = object ∷ h.2 in
-      let holds = holds_object format done line h.0 h.2 h.3 object objects only (λ o. refl) in
-      (h.0, h.1, objects, holds, h.4, h.5)
+      (h.0, h.1, object ∷ h.2, holds_object format done line h.0 h.2 h.3 object (object ∷ h.2) only (λ o. refl), h.4, h.5)
   one_more (instance p) only =
       let es = h.0 ++ entry_of p ∷ [] in
       let fs = put (slice_cmp nat_cmp) p.name p.value h.1 in
@@ -62,16 +58,11 @@ module _ (one_name : (text o p : List ℕ) → IsNumericName text o → IsNumeri
   only_statement format line (a_row row h) = (instance row, states_only one_name format line (instance row) h)
 
   all_held : (format : Format) (rest done : List (List ℕ)) → HasDraft format done → AreTable format (done ++ rest) → HasDraft format (done ++ rest)
-  all_held format [] done h good = subst (λ (ls : List (List ℕ)). HasDraft format ls) (sym (append-nil done)) h
+  all_held format [] done h good = rw (append-nil done) h
   all_held format (line ∷ rest) done h good =
-      let same : (done ++ line ∷ []) ++ rest ≡ done ++ line ∷ rest =
-      append_assoc done (line ∷ []) rest in
       let only = only_statement format line (line_good format done line rest good.each) in
-      let more : HasDraft format (done ++ line ∷ []) =
-      one_more format done line rest good h only.0 only.1 in
-      subst (λ (ls : List (List ℕ)). HasDraft format ls) same
-      (all_held format rest (done ++ line ∷ []) more
-      (subst (λ (ls : List (List ℕ)). AreTable format ls) (sym same) good))
+      rw (← append_assoc done (line ∷ []) rest) (all_held format rest (done ++ line ∷ [])
+      (one_more format done line rest good h only.0 only.1) (rw (append_assoc done (line ∷ []) rest) good))
 
   pub table_of_lines : (names : Names) (lines : List (List ℕ)) → AreTableBy names lines
       → (view : MibView) × IsTableOf names lines view × IsMibView view

@@ -1,19 +1,18 @@
 -- Lines have one first fault at most.
-use Rattle.std.proofs.Common.{arith, ◌≡◌, ◌≢◌, ◌⊎◌, inl, inr, ℕ, List, [], ◌∷◌, ◌++◌, refl, sym, ◌∙◌, ap, subst, length, ◌+◌}
-use Rattle.std.proofs.lemmas.Grind.{common_steps}
-use Rattle.snmp_agent.specs.{declared.table.error.TableError.TableError, table.Text.a_row, table.Format.Format, table.Format.Names}
+use Rattle.std.proofs.{lemmas.Grind.common_steps, lemmas.List.append_cancel_left}
+use Rattle.std.proofs.Common.{arith, ◌≡◌, ◌≢◌, inl, inr, ℕ, List, ◌∷◌, ◌++◌, refl, sym, ◌∙◌, ap, length, ◌<◌}
+use Rattle.snmp_agent.specs.{declared.table.error.TableError.TableError, table.Text.IsGoodLine, table.Text.a_row, table.Format.Format}
+use Rattle.snmp_agent.specs.{table.Format.Names, table.Form.IsBadLine, table.Form.IsBadName, table.Form.IsBadValue}
 use Rattle.snmp_agent.specs.declared.table.error.TableError.TheVariants as error
-use Rattle.snmp_agent.specs.table.Form.{IsBadLine, IsBadName, IsBadValue, IsInstanceText}
 use Rattle.snmp_agent.specs.table.Stated.{IsBehindGood, IsDouble, IsFirstFault, IsFirstFaultIn, IsWrong, number_of}
 use Rattle.snmp_agent.proofs.Faultless.{good_line, good_name, good_value, no_fault_in}
-use Rattle.snmp_agent.proofs.{Statements.same_rows, Unique.one_format}
+use Rattle.snmp_agent.proofs.{Lists.inside, Lists.same_front, Statements.same_rows, Unique.one_format}
 
 -- ---- what is wrong with one line
 
 module _ (format : Format) (line : List ℕ) where
   formed_name : IsBadName format line → IsBadLine format line → ⊥
-  formed_name (inl name) bad = bad.no_object name.0 name.1
-  formed_name (inr name) bad = bad.no_row name.0 name.1 name.2 name.3
+  formed_name h bad = grind (arith, common_steps)
 
   formed_value : IsBadValue format line → IsBadLine format line → ⊥
   formed_value value bad = bad.no_row value.0 value.1 value.2 value.3
@@ -22,18 +21,11 @@ module _ (format : Format) (line : List ℕ) where
   named_value value (inl name) = value.3.no_object name.0 name.1
   named_value value (inr name) =
       let same = same_rows format line name.0 name.1 name.2 value.0 value.1 value.2 name.3 value.3 in
-      let P : List ℕ → Type 0 = λ n. IsInstanceText format n value.4.0 in
-      name.4 value.4.0 (subst P same.0 value.4.1)
+      name.4 value.4.0 (rw (← same.0) value.4.1)
 
   module _ (front : List (List ℕ)) where
-    stated_line : IsDouble format front line → IsBadLine format line → ⊥
-    stated_line double = good_line format line (a_row double.0 double.2)
-
-    stated_name : IsDouble format front line → IsBadName format line → ⊥
-    stated_name double = good_name format line (a_row double.0 double.2)
-
-    stated_value : IsDouble format front line → IsBadValue format line → ⊥
-    stated_value double = good_value format line (a_row double.0 double.2)
+    stated : IsDouble format front line → IsGoodLine format line
+    stated double = a_row double.0 double.2
 
     -- one thing at most is wrong with a line
     one_wrong : (fault other : TableError) → number_of fault ≡ number_of other
@@ -44,77 +36,49 @@ module _ (format : Format) (line : List ℕ) where
     one_wrong (error.Double n) (error.Double m) e h k = ap error.Double e
     one_wrong error.Memory _ e h k = absurd h
     one_wrong _ error.Memory e h k = absurd k
-    one_wrong _ _ e h k = absurd (search (formed_name, formed_value, named_value, stated_line, stated_name, stated_value))
+    one_wrong _ _ e h k = absurd (search (formed_name, formed_value, named_value, good_line, good_name, good_value, stated))
 
 -- ---- which line it is
 
-record IsFaulty (format : Format) (lines : List (List ℕ)) (fault : TableError) : Type 0 where
-  front : List (List ℕ)
-  line : List ℕ
-  behind : IsBehindGood format lines (number_of fault) front line
-  wrong : IsWrong format front line fault
+-- what a fault says of lines, unless memory ran out
+abbrev IsFaulty : Format → List (List ℕ) → TableError → Type 0
+IsFaulty format lines fault = (front : List (List ℕ)) × (line : List ℕ)
+    × IsBehindGood format lines (number_of fault) front line × IsWrong format front line fault
 
 faulty : (format : Format) (lines : List (List ℕ)) (fault : TableError)
     → IsFirstFaultIn format lines fault → fault ≢ error.Memory → IsFaulty format lines fault
 faulty format lines error.Memory h other = absurd (other refl)
-faulty format lines _ h other = record { front = h.0; line = h.1; behind = h.2; wrong = h.3 }
+faulty format lines _ h other = h
 
 first : (format : Format) (lines : List (List ℕ)) (fault : TableError)
     → IsFaulty format lines fault → IsFirstFaultIn format lines fault
-first format lines error.Memory h = absurd h.wrong
-first format lines _ h = (h.front, h.line, h.behind, h.wrong)
-
--- of two lines with their fronts one is the other, or stands before it
-abbrev AreOrdered : (front : List (List ℕ)) → (line : List ℕ) → (other : List (List ℕ)) → (later : List ℕ) → Type 0
-AreOrdered front line other later =
-    ((front ≡ other) × (line ≡ later)) ⊎ (((more : List (List ℕ)) × (other ≡ front ++ line ∷ more))
-    ⊎ ((more : List (List ℕ)) × (front ≡ other ++ later ∷ more)))
-
-ordered : (front : List (List ℕ)) (line : List ℕ) (back other : List (List ℕ)) (later : List ℕ) (rest : List (List ℕ))
-    → front ++ line ∷ back ≡ other ++ later ∷ rest → AreOrdered front line other later
-ordered [] line back [] later rest e = inl (refl, cc)
-ordered [] line back (o ∷ other) later rest e = grind (arith, common_steps)
-ordered (f ∷ front) line back [] later rest e = grind (arith, common_steps)
-ordered (f ∷ front) line back (o ∷ other) later rest e =
-    let same : f ≡ o = cc in
-    let behind : front ++ line ∷ back ≡ other ++ later ∷ rest = cc in
-    elim (ordered front line back other later rest behind) [
-      | inl both ↦ inl ((λ i. same i ∷ both.0 i), both.1)
-      | inr (inl next) ↦ inr (inl (next.0, λ i. sym same i ∷ next.1 i))
-      | inr (inr next) ↦ inr (inr (next.0, λ i. same i ∷ next.1 i))
-    ]
+first format lines fault h = grind (arith, common_steps)
 
 module _ (format : Format) (lines : List (List ℕ)) where
   -- a faulty line isn't one of the good lines before another
   not_before : (fault other : TableError) (h : IsFaulty format lines fault) (k : IsFaulty format lines other)
-      → (more : List (List ℕ)) → k.front ≡ h.front ++ h.line ∷ more → fault ≡ error.Memory
-  not_before fault other h k more e =
-      no_fault_in format k.front fault k.behind.good (first format k.front fault (record {
-        front = h.front;
-        line = h.line;
-        behind = record { back = more; parts = e; place = h.behind.place; good = h.behind.good };
-        wrong = h.wrong;
-      }))
+      → fault ≢ error.Memory → length h.0 < length k.0 → ⊥
+  not_before fault other h k known low =
+      let there = inside h.0 h.1 h.2.back k.0 (k.1 ∷ k.2.back) (sym h.2.parts ∙ k.2.parts) low in
+      let behind : IsBehindGood format k.0 (number_of fault) h.0 h.1 =
+      record { back = there.0; parts = there.1; place = h.2.place; good = h.2.good } in
+      known (no_fault_in format k.0 fault k.2.good (first format k.0 fault (h.0, h.1, behind, h.3)))
 
   same_fault : (fault other : TableError) → IsFaulty format lines fault → IsFaulty format lines other
       → fault ≢ error.Memory → other ≢ error.Memory → fault ≡ other
   same_fault fault other h k one two =
-      elim (ordered h.front h.line h.behind.back k.front k.line k.behind.back (sym h.behind.parts ∙ k.behind.parts)) [
-        | inl same ↦
-            let number : number_of fault ≡ number_of other =
-            h.behind.place ∙ ap (λ (front : List (List ℕ)). length front + 1) same.0 ∙ sym k.behind.place in
-            let P : List (List ℕ) → Type 0 = λ front. IsWrong format front k.line other in
-            let Q : List ℕ → Type 0 = λ line. IsWrong format h.front line other in
-            one_wrong format h.line h.front fault other number h.wrong
-            (subst Q (sym same.1) (subst P (sym same.0) k.wrong))
-        | inr (inl later) ↦ absurd (one (not_before fault other h k later.0 later.1))
-        | inr (inr earlier) ↦ absurd (two (not_before other fault k h earlier.0 earlier.1))
-      ]
+      let early = not_before fault other h k one in
+      let late = not_before other fault k h two in
+      let long : length h.0 ≡ length k.0 = omega (arith, early, late) in
+      let parts : h.0 ++ h.1 ∷ h.2.back ≡ k.0 ++ k.1 ∷ k.2.back = sym h.2.parts ∙ k.2.parts in
+      let front : h.0 ≡ k.0 = same_front h.0 k.0 (h.1 ∷ h.2.back) (k.1 ∷ k.2.back) parts long in
+      let back : h.1 ∷ h.2.back ≡ k.1 ∷ k.2.back = append_cancel_left k.0 _ _ (rw front at parts) in
+      let line : h.1 ≡ k.1 = cc in
+      one_wrong format h.1 h.0 fault other (omega (arith, h.2.place, k.2.place, long)) h.3 (rw (front, line) k.3)
 
 pub one_fault : (names : Names) (lines : List (List ℕ)) (fault other : TableError)
     → IsFirstFault names lines fault → IsFirstFault names lines other
     → fault ≢ error.Memory → other ≢ error.Memory → fault ≡ other
 one_fault names lines fault other h k one two =
-    let P : Format → Type 0 = λ f. IsFirstFaultIn f lines other in
-    let here : IsFirstFaultIn h.0 lines other = subst P (one_format names lines h.0 k.0 h.1 k.1) k.2 in
+    let here : IsFirstFaultIn h.0 lines other = rw (← one_format names lines h.0 k.0 h.1 k.1) k.2 in
     same_fault h.0 lines fault other (faulty h.0 lines fault h.2 one) (faulty h.0 lines other here two) one two

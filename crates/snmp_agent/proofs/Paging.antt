@@ -5,6 +5,7 @@ use Rattle.std.proofs.Common.{refl, sym, ◌∙◌, ap, subst, inl, inr, arith, 
 use Rattle.std.specs.{Ordering.nat_cmp, Ordering.is_le, Cmp.tied_itself, Cmp.Lexicographic.slice_cmp, Cmp.Lexicographic.nat_list_cmp_total}
 use Rattle.std.specs.{FinMap.find, FinMap.from_sorted, FinMap.get, FinMap.get-from_sorted, FinMap.Entries.put}
 use Rattle.std.specs.List.{slice_get, insert as insert_at, remove as remove_at}
+use Rattle.std.proofs.lemmas.List.Elements.{Contains-append_left, Contains-append_right}
 use Rattle.std.proofs.lemmas.Option.{get_or_from_slice_get, slice_get_read, slice_get_within}
 use Rattle.std.proofs.lemmas.List.{append-nil, drop-set-lt, drop_all, length-take-le, length_push, take_at, take_more_set}
 use Rattle.snmp_wire.specs.Message.{Datum, VarBind}
@@ -12,11 +13,10 @@ use Rattle.snmp_agent.specs.{declared.table.page.Page.Page, private.table.Halvin
 use Rattle.snmp_agent.specs.table.Places.{IsAfterAll, IsBeforeAll, IsBeforeNone, without_name, entry_of}
 use Rattle.snmp_agent.specs.table.Pages.{ArePages, IsPageOf, IsPageWithRoom, IsPlaceAfter, IsRising, IsSorted, StandsApart, begins_up_to, entries_in}
 use Rattle.snmp_agent.specs.table.Pages.{entries_of, has_name}
-use Rattle.snmp_agent.proofs.Changing.{find_in, halves, past_front, put_in, put_past, without_in, without_past}
-use Rattle.snmp_agent.proofs.{Finding.listed_at, Lists.IsLast, Lists.all_both, Lists.last_in_front, Lists.last_of, Lists.nothing_left}
+use Rattle.snmp_agent.proofs.{Changing.find_mid, Changing.halves, Changing.put_mid, Changing.without_mid, Finding.listed_at}
+use Rattle.snmp_agent.proofs.Lists.{IsLast, all_both, last_in_front, last_of, nothing_left}
 use Rattle.snmp_agent.proofs.Partition.{back, front, pages-append, parts, rows-append, rows_ahead, rows_passed, set-parts}
-use Rattle.snmp_agent.proofs.Rising.{Listed, after_last, after_none, after_up_to, before_later, find-listed, not_behind, listed_in_first}
-use Rattle.snmp_agent.proofs.Rising.{listed_in_second, rising_first, rising_rest}
+use Rattle.snmp_agent.proofs.Rising.{after_last, after_none, after_up_to, before_later, find-listed, not_behind, rising_first, rising_rest}
 
 abbrev Entries : Type 0
 Entries = List (List ℕ × Datum)
@@ -72,23 +72,15 @@ module _ (pages : List Page) (place : ℕ) (o : List ℕ) (h : IsPageOf o pages 
   pub put_in_page : (v : Datum) → front pages place ++ (put (slice_cmp nat_cmp) o v (entries_of page.rows.items) ++ back pages place)
       ≡ put (slice_cmp nat_cmp) o v (entries_in pages)
   put_in_page v =
-      ap (λ es. front pages place ++ es) (sym (put_in o v (entries_of page.rows.items) (back pages place) h.ahead))
-      ∙ sym (put_past o v (front pages place) (entries_of page.rows.items ++ back pages place) h.passed)
-      ∙ ap (put (slice_cmp nat_cmp) o v) (sym (parts pages place page at))
+      rw (parts pages place page at) (sym (put_mid o (front pages place) (entries_of page.rows.items) (back pages place) h.passed h.ahead v))
 
   pub without_in_page : (es : List (List ℕ × Datum)) → es ≡ without_name o (entries_of page.rows.items)
       → front pages place ++ (es ++ back pages place) ≡ without_name o (entries_in pages)
   without_in_page es same =
-      ap (λ fs. front pages place ++ (fs ++ back pages place)) same
-      ∙ ap (λ fs. front pages place ++ fs) (sym (without_in o (entries_of page.rows.items) (back pages place) h.ahead))
-      ∙ sym (without_past o (front pages place) (entries_of page.rows.items ++ back pages place) h.passed)
-      ∙ ap (without_name o) (sym (parts pages place page at))
+      rw (same, parts pages place page at) (sym (without_mid o (front pages place) (entries_of page.rows.items) (back pages place) h.passed h.ahead))
 
   pub find_in_page : find (slice_cmp nat_cmp) o (entries_in pages) ≡ find (slice_cmp nat_cmp) o (entries_of page.rows.items)
-  find_in_page =
-      ap (find (slice_cmp nat_cmp) o) (parts pages place page at)
-      ∙ past_front o (front pages place) (entries_of page.rows.items ++ back pages place) h.passed
-      ∙ find_in o (entries_of page.rows.items) (back pages place) h.ahead
+  find_in_page = rw (parts pages place page at) (find_mid o (front pages place) (entries_of page.rows.items) (back pages place) h.passed h.ahead)
 
   pub get_in_page : ArePages pages → get (from_sorted {R = slice_cmp nat_cmp} (entries_in pages)) o ≡ find (slice_cmp nat_cmp) o (entries_of page.rows.items)
   get_in_page rising = get_in o pages rising ∙ find_in_page
@@ -160,8 +152,7 @@ module _ (pages : List Page) (place : ℕ) (found first second : Page) (low : pl
     room_before begins =
         let ahead = rows_ahead o second.rows.items (back pages place) (rising_rest (entries_of first.rows.items) _ rising_halves) begins in
         let room : length first.rows.items < 128 = omega (arith, found.most, second.some, ap length same, length-append first.rows.items second.rows.items) in
-        subst (λ (ps : List Page). IsPageWithRoom o ps place) (sym as_list)
-        (page_between o (take place pages) (second ∷ drop (suc place) pages) first place long h.passed ahead room)
+        rw as_list (page_between o (take place pages) (second ∷ drop (suc place) pages) first place long h.passed ahead room)
 
     pub room_behind : begins_up_to o second.rows.items ≡ true → IsPageWithRoom o (divided pages place first second) (place + 1)
     room_behind begins =
@@ -170,15 +161,13 @@ module _ (pages : List Page) (place : ℕ) (found first second : Page) (low : pl
         let passed : IsAfterAll o (entries_in early) = subst (IsAfterAll o) (sym (pages-append (take place pages) (first ∷ [])))
         (all_both _ (front pages place) _ h.passed (all_both _ (entries_of first.rows.items) [] behind tt)) in
         let room : length second.rows.items < 128 = omega (arith, found.most, first.some, ap length same, length-append first.rows.items second.rows.items) in
-        subst (λ (ps : List Page). IsPageWithRoom o ps (place + 1))
-        (append_assoc (take place pages) (first ∷ []) (second ∷ drop (suc place) pages) ∙ sym as_list)
+        rw (as_list, ← append_assoc (take place pages) (first ∷ []) (second ∷ drop (suc place) pages))
         (page_between o early (drop (suc place) pages) second (place + 1) (length_push (take place pages) first ∙ ap (λ k. k + 1) long) passed h.ahead room)
 
 -- ---- no pages
 
 pub no_pages : (o : List ℕ) (pages : List Page) (place : ℕ) → IsPageOf o pages place → length pages ≤ place → entries_in pages ≡ []
-no_pages o [] place h past = refl
-no_pages o (page ∷ pages) place h past = let low : place < length (page ∷ pages) = h.within (omega arith) in absurd (omega (arith, low, past))
+no_pages o pages place h past = grind (arith, common_steps)
 
 pub get_none : (o : List ℕ) (pages : List Page) (place : ℕ) → ArePages pages → IsPageOf o pages place → length pages ≤ place
     → get (from_sorted {R = slice_cmp nat_cmp} (entries_in pages)) o ≡ None
@@ -244,9 +233,7 @@ pub apart_behind : (o : List ℕ) (pages : List Page) (n : ℕ) (page : Page) (k
 apart_behind o pages n page k row rising within some last row_some row_last name =
     let rows : List VarBind = take k page.rows.items in
     let one_less : suc (n - 1) ≡ n = omega (arith, some, length-take-le n pages within) in
-    subst (λ (m : ℕ). (early : List (List ℕ × Datum))
-    × StandsApart (from_sorted (entries_in pages)) o early (entries_of (drop k page.rows.items) ++ entries_in (drop m pages))) one_less
-    (apart_between o pages (n - 1) page k rising (last_in_front pages n page within last) record {
+    rw (← one_less) (apart_between o pages (n - 1) page k rising (last_in_front pages n page within last) record {
       init = take (length rows - 1) rows;
       row = row;
       last = last_of rows row row_some row_last;
@@ -260,8 +247,8 @@ pub found_in_page : (pages : List Page) (place : ℕ) (page : Page) (k : ℕ) (r
 found_in_page pages place page k row rising at row_at =
     let rows : Entries = entries_of page.rows.items in
     find-listed (entry_of row) (entries_in pages) rising
-    (subst (Listed (entry_of row)) (sym (parts pages place page at)) (listed_in_second (entry_of row) (front pages place) (rows ++ back pages place)
-    (listed_in_first (entry_of row) rows (back pages place) (listed_at page.rows.items k row row_at))))
+    (rw (parts pages place page at) (Contains-append_right (front pages place) (rows ++ back pages place) (entry_of row)
+    (Contains-append_left rows (back pages place) (entry_of row) (listed_at page.rows.items k row row_at))))
 
 -- ---- a row put into its page
 

@@ -1,6 +1,7 @@
 -- Where the rows behind a name begin.
+use Rattle.std.proofs.lemmas.Grind.{common_steps}
 use Rattle.std.proofs.Common.{◌≡◌, ℕ, zero, suc, ◌-◌, ◌≤◌, ◌<◌, true, false, List, [], ◌∷◌, ◌++◌, ◌∙◌, length, take, drop, slice_index_or, slice_set}
-use Rattle.std.proofs.Common.{refl, sym, ap, subst, arith, append_assoc, Some, Less, Greater}
+use Rattle.std.proofs.Common.{refl, ap, subst, arith, append_assoc, Some, Less}
 use Rattle.std.specs.{Ordering.nat_cmp, Ordering.is_le, Cmp.Lexicographic.slice_cmp, List.AllWithin, List.slice_get, List.Sorted.IsPartitionedBy}
 use Rattle.std.proofs.{lemmas.List.map-append, lemmas.List.set_split, lemmas.List.take-append-drop, lemmas.Option.slice_get-get_or}
 use Rattle.snmp_wire.specs.Message.{Datum, VarBind}
@@ -59,8 +60,7 @@ rows-append = map-append entry_of
 
 pub pages-append : (xs ys : List Page) → entries_in (xs ++ ys) ≡ entries_in xs ++ entries_in ys
 pages-append [] ys = refl
-pages-append (page ∷ xs) ys =
-    ap (λ es. entries_of page.rows.items ++ es) (pages-append xs ys) ∙ sym (append_assoc (entries_of page.rows.items) (entries_in xs) (entries_in ys))
+pages-append (page ∷ xs) ys = grind (arith, common_steps, pages-append xs ys, append_assoc)
 
 -- the rows before a page, those of it and those behind it
 module _ (pages : List Page) (place : ℕ) where
@@ -81,8 +81,7 @@ module _ (pages : List Page) (place : ℕ) where
 -- the name comes after what stands in front of rows that begin up to it
 pub rows_passed : (o : List ℕ) (early : List (List ℕ × Datum)) (rows : List VarBind) (late : List (List ℕ × Datum)) → 1 ≤ length rows
     → IsSorted (early ++ (entries_of rows ++ late)) → begins_up_to o rows ≡ true → IsAfterAll o early
-rows_passed o early [] late some rising begins = absurd (omega (arith, some))
-rows_passed o early (row ∷ rows) late some rising begins = after_up_to o early (entries_of rows ++ late) (entry_of row) rising begins
+rows_passed o early rows late some rising begins = grind (arith, common_steps, after_up_to)
 
 pages_passed : (o : List ℕ) (pages : List Page) → ArePages pages → (n : ℕ) (d : Page) → n < length pages
     → begins_up_to o (slice_index_or pages n d).rows.items ≡ true → IsAfterAll o (entries_in (take n pages))
@@ -92,8 +91,7 @@ pages_passed o pages rising n d low begins =
     (subst IsSorted (parts pages n page (slice_get-get_or pages n d low)) rising) begins
 
 begins_passed : (o : List ℕ) (rows : List VarBind) (more : List (List ℕ × Datum)) → IsAfterAll o (entries_of rows ++ more) → begins_up_to o rows ≡ true
-begins_passed o [] more h = refl
-begins_passed o (row ∷ rows) more h = ap is_le (turned o row.name Greater h.0)
+begins_passed o rows more h = grind (arith, common_steps, turned)
 
 pub pages_partitioned : (o : List ℕ) (pages : List Page) → ArePages pages → IsPartitionedBy (λ page. begins_up_to o page.rows.items) pages
 pages_partitioned o [] rising i j d order low h = absurd (omega (arith, low))
@@ -107,8 +105,7 @@ pages_partitioned o (page ∷ pages) rising (suc i) (suc j) d order low h =
 -- it comes before rows whose first it comes before, and before all behind them
 pub rows_ahead : (o : List ℕ) (rows : List VarBind) (more : List (List ℕ × Datum)) → IsSorted (entries_of rows ++ more) → begins_up_to o rows ≡ false
     → IsBeforeAll o (entries_of rows ++ more)
-rows_ahead o [] more rising begins = absurd (cc)
-rows_ahead o (row ∷ rows) more rising begins = before_from o (entry_of row) (entries_of rows ++ more) rising begins
+rows_ahead o rows more rising begins = grind (arith, common_steps, before_from)
 
 pages_ahead : (o : List ℕ) (pages : List Page) (n : ℕ) → ArePages pages → AllWithin (λ page. begins_up_to o page.rows.items ≡ false) pages n (length pages)
     → IsBeforeAll o (entries_in (drop n pages))

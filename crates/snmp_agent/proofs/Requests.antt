@@ -1,10 +1,10 @@
 -- Requests and their Responses.
-use Rattle.std.proofs.{lemmas.Grind.common_steps, lemmas.Int.to_z-of_z, lemmas.Bool.cases_lt, lemmas.List.take-append-le}
+use Rattle.std.proofs.{lemmas.Grind.common_steps, lemmas.Int.to_z-of_z}
 use Rattle.std.specs.Cmp.Lexicographic.{pointwise, same_text, other_text}
 use mir.Syntax.{w32}
 use mir.Val.{of_z, to_z, SFits}
-use Rattle.std.proofs.Common.{◌≡◌, ℕ, ℤ, pos, Bool, true, false, not, nat_eq, ◌⊎◌, inl, inr, ◌+◌, ◌≤◌, List, [], ◌∷◌, ◌++◌, length, map, take, refl}
-use Rattle.std.proofs.Common.{sym, ap, subst, ◌∙◌, ◌↔◌, ⊎_elim, arith, Option, Some, None, IsSome, IfSome}
+use Rattle.std.proofs.Common.{◌≡◌, ℕ, ℤ, pos, Bool, true, false, not, nat_eq, ◌⊎◌, ◌+◌, ◌≤◌, List, [], ◌∷◌, ◌++◌, length, map, take, refl}
+use Rattle.std.proofs.Common.{sym, ap, ◌∙◌, ◌↔◌, ⊎_elim, arith, Option, IsSome, IfSome}
 use Rattle.snmp_wire.specs.{declared.kind.Kind.Kind, Message.VarBind, Message.Message, Laws.HasPieces, Sizes.MessageSizes}
 use Rattle.snmp_wire.specs.declared.kind.Kind.TheVariants as kind
 use Rattle.snmp_wire.specs.Canon.{canon, canon_bindings, canon_fields, canon_front, canon_head, canon_opening}
@@ -68,8 +68,7 @@ module _ (sizes : MessageSizes) (pieces : HasPieces) (limit total : ℕ) (m r : 
 
   pub is_written : (result : Option ℕ) → IsSome result ↔ (whole_size m total ≤ limit)
       → IfSome result (λ n. (n ≡ whole_size m total) × (take n part ≡ canon_head m total ++ take total out)) → IsWritten limit r result (part ++ rest)
-  is_written None fits h = ⊎_elim (λ large. omega (arith, large, size)) (λ low. let is = fits.1 low in absurd (cc)) (cases_lt limit (whole_size m total))
-  is_written (Some n) fits h = grind (arith, common_steps, head, size, take-append-le)
+  is_written result fits h = grind (arith, common_steps, ⊎_elim, size, head)
 
 -- ---- what a request is tested for
 
@@ -78,8 +77,7 @@ pub is_one : {handed z : ℤ} → SFits w32 handed → handed ≡ z → of_z w32
 is_one {handed} {z} fits e one = sym e ∙ sym (to_z-of_z w32 handed fits) ∙ ap (to_z w32) one
 
 flip : (a b : Bool) → a ≡ not b → not a ≡ b
-flip a true h = ap not h
-flip a false h = ap not h
+flip a b h = grind (arith, common_steps)
 
 pub other_community : {found : List ℕ} {own theirs : List ℕ} → found ≡ theirs → true ≡ not (pointwise nat_eq found own) → theirs ≡ own → ⊥
 other_community {found} {own} e differs same = other_text found own (flip true (pointwise nat_eq found own) differs) (e ∙ same)
@@ -89,10 +87,7 @@ same_community {found} {own} e agrees = sym e ∙ same_text found own (flip fals
 
 pub served_kinds : {found theirs : Kind} → found ≡ theirs
     → (found ≡ kind.GetRequest) ⊎ ((found ≡ kind.GetNextRequest) ⊎ ((found ≡ kind.GetBulkRequest) ⊎ (found ≡ kind.SetRequest))) → IsServed theirs
-served_kinds {found} {theirs} e (inl is) = subst (λ (k : Kind). IsServed k) (sym is ∙ e) tt
-served_kinds {found} {theirs} e (inr (inl is)) = subst (λ (k : Kind). IsServed k) (sym is ∙ e) tt
-served_kinds {found} {theirs} e (inr (inr (inl is))) = subst (λ (k : Kind). IsServed k) (sym is ∙ e) tt
-served_kinds {found} {theirs} e (inr (inr (inr is))) = subst (λ (k : Kind). IsServed k) (sym is ∙ e) tt
+served_kinds {found} {theirs} e h = grind (arith, common_steps)
 
 pub other_kind : {found theirs : Kind} → found ≡ theirs → (found ≡ kind.GetRequest → ⊥) → (found ≡ kind.GetNextRequest → ⊥) → (found ≡ kind.GetBulkRequest
     → ⊥) → (found ≡ kind.SetRequest → ⊥) → IsServed theirs → ⊥

@@ -1,18 +1,13 @@
 -- Facts about lists of entries whose names rise.
-use Rattle.std.proofs.Common.{arith, ◌≡◌, ℕ, ◌⊎◌, inl, inr, Bool, true, false, cond, ◌&&◌, T, List, [], ◌∷◌, ◌++◌, Some, refl, sym, ◌∙◌, ap, subst}
+use Rattle.std.proofs.{lemmas.Grind.common_steps, lemmas.List.Elements.Contains-append_right}
+use Rattle.std.proofs.Common.{arith, ◌≡◌, ℕ, zero, suc, Bool, true, false, cond, ◌&&◌, T, List, [], ◌∷◌, ◌++◌, Some, refl, sym, ◌∙◌, ap, subst}
 use Rattle.std.proofs.Common.{Ordering, Less, Equal, Greater}
-use Rattle.std.proofs.lemmas.Grind.{common_steps}
+use Rattle.std.specs.{List.Contains, Cmp.tied_itself, Cmp.Lexicographic.slice_cmp, Cmp.Lexicographic.nat_list_cmp_total, FinMap.Entries.below_all}
 use Rattle.std.specs.Ordering.{nat_cmp, is_eq, is_le, is_lt, ordering_reverse}
-use Rattle.std.specs.{Cmp.tied_itself, Cmp.Lexicographic.slice_cmp, Cmp.Lexicographic.nat_list_cmp_total, FinMap.Entries.below_all}
 use Rattle.std.specs.FinMap.{find, is_sorted, slice_cmp-IsAntisymmetric, nat_cmp-IsAntisymmetric}
 use Rattle.snmp_wire.specs.Message.{Datum}
 use Rattle.snmp_agent.specs.table.Places.{IsAfterAll, IsBeforeAll, IsBeforeNone}
-use Rattle.snmp_agent.proofs.Lists.{all_back, all_both}
-
--- the entry stands in the list
-abbrev pub Listed : List ℕ × Datum → List (List ℕ × Datum) → Type 0
-Listed e [] = ⊥
-Listed e (f ∷ fs) = (e ≡ f) ⊎ Listed e fs
+use Rattle.snmp_agent.proofs.Lists.{all_back, all_both, of_each}
 
 -- ---- the order of names
 
@@ -53,49 +48,20 @@ after_none o (e ∷ es) h = ((λ less. let greater = h.0 in absurd (cc)), after_
 -- ---- where an entry stands
 
 pub less_from_test : (r : Ordering) → T (is_lt r) → r ≡ Less
-less_from_test Less h = refl
-less_from_test Equal h = absurd h
-less_from_test Greater h = absurd h
+less_from_test r h = grind (arith, common_steps)
 
 pub first_of_both : (a b : Bool) → T (a && b) → T a
-first_of_both true b h = tt
-first_of_both false b h = h
+first_of_both a b h = grind (arith, common_steps)
 
 pub second_of_both : (a b : Bool) → T (a && b) → T b
-second_of_both true b h = h
-second_of_both false b h = absurd h
+second_of_both a b h = grind (arith, common_steps)
 
 pub both : (a b : Bool) → T a → T b → T (a && b)
-both true b h k = k
-both false b h k = h
+both a b h k = grind (arith, common_steps)
 
 pub before_all : (o : List ℕ) (es : List (List ℕ × Datum)) → T (below_all (slice_cmp nat_cmp) o es) → IsBeforeAll o es
 before_all o [] h = tt
 before_all o (e ∷ es) h = (less_from_test _ (first_of_both _ _ h), before_all o es (second_of_both _ _ h))
-
-pub before_listed : (o : List ℕ) (e : List ℕ × Datum) (es : List (List ℕ × Datum)) → IsBeforeAll o es → Listed e es → slice_cmp nat_cmp o e.0 ≡ Less
-before_listed o e [] h at = absurd at
-before_listed o e (f ∷ fs) h (inl same) = ap (λ (g : List ℕ × Datum). slice_cmp nat_cmp o g.0) same ∙ h.0
-before_listed o e (f ∷ fs) h (inr later) = before_listed o e fs h.1 later
-
-pub not_before_listed : (o : List ℕ) (e : List ℕ × Datum) (es : List (List ℕ × Datum)) → IsBeforeNone o es → Listed e es → slice_cmp nat_cmp o e.0 ≡ Less → ⊥
-not_before_listed o e [] h at less = absurd at
-not_before_listed o e (f ∷ fs) h (inl same) less = h.0 (ap (λ (g : List ℕ × Datum). slice_cmp nat_cmp o g.0) (sym same) ∙ less)
-not_before_listed o e (f ∷ fs) h (inr later) less = not_before_listed o e fs h.1 later less
-
-pub listed_in_both : (e : List ℕ × Datum) (es fs : List (List ℕ × Datum)) → Listed e (es ++ fs) → Listed e es ⊎ Listed e fs
-listed_in_both e [] fs at = inr at
-listed_in_both e (f ∷ es) fs (inl same) = inl (inl same)
-listed_in_both e (f ∷ es) fs (inr later) = elim (listed_in_both e es fs later) [ inl here ↦ inl (inr here) | inr there ↦ inr there ]
-
-pub listed_in_first : (e : List ℕ × Datum) (es fs : List (List ℕ × Datum)) → Listed e es → Listed e (es ++ fs)
-listed_in_first e [] fs at = absurd at
-listed_in_first e (f ∷ es) fs (inl same) = inl same
-listed_in_first e (f ∷ es) fs (inr later) = inr (listed_in_first e es fs later)
-
-pub listed_in_second : (e : List ℕ × Datum) (es fs : List (List ℕ × Datum)) → Listed e fs → Listed e (es ++ fs)
-listed_in_second e [] fs at = at
-listed_in_second e (f ∷ es) fs at = inr (listed_in_second e es fs at)
 
 -- ---- rising lists
 
@@ -142,26 +108,25 @@ after_last o es e h less = all_both _ es (e ∷ []) (after_up_to o es [] e h (ap
 
 -- ---- finding
 
-find_step : (o : List ℕ) (e f : List ℕ × Datum) (fs : List (List ℕ × Datum)) → slice_cmp nat_cmp f.0 e.0 ≡ Less
-    → find (slice_cmp nat_cmp) e.0 (f ∷ fs) ≡ find (slice_cmp nat_cmp) e.0 fs
-find_step o e f fs less = ap (λ r. cond (is_eq r) (Some f.1) (find (slice_cmp nat_cmp) e.0 fs)) (turned f.0 e.0 Less less)
-
-pub find-listed : (e : List ℕ × Datum) (es : List (List ℕ × Datum)) → T (is_sorted (slice_cmp nat_cmp) es) → Listed e es
+-- an entry of the list is found by its name
+pub find-listed : (e : List ℕ × Datum) (es : List (List ℕ × Datum)) → T (is_sorted (slice_cmp nat_cmp) es) → Contains es e
     → find (slice_cmp nat_cmp) e.0 es ≡ Some e.1
-find-listed e [] rising at = absurd at
-find-listed e (f ∷ fs) rising (inl same) =
-    let here : find (slice_cmp nat_cmp) f.0 (f ∷ fs) ≡ Some f.1 = ap (λ r. cond (is_eq r) (Some f.1) (find (slice_cmp nat_cmp) f.0 fs))
-    (tied_itself nat_list_cmp_total f.0) in
-    let P : List ℕ × Datum → Type 0 = λ g. find (slice_cmp nat_cmp) g.0 (f ∷ fs) ≡ Some g.1 in subst P (sym same) here
-find-listed e (f ∷ fs) rising (inr later) =
-    find_step e.0 e f fs (before_listed f.0 e fs (before_all f.0 fs (first_of_both _ _ rising)) later) ∙ find-listed e fs (second_of_both _ _ rising) later
+find-listed e [] rising at = absurd (omega (arith, at.1))
+find-listed e (f ∷ fs) rising (zero, low, at) =
+    subst (λ (g : List ℕ × Datum). find (slice_cmp nat_cmp) g.0 (f ∷ fs) ≡ Some g.1) at
+    (ap (λ r. cond (is_eq r) (Some f.1) (find (slice_cmp nat_cmp) f.0 fs)) (tied_itself nat_list_cmp_total f.0))
+find-listed e (f ∷ fs) rising (suc k, low, at) =
+    let later : Contains fs e = (k, omega (arith, low), at) in
+    let less = of_each (λ (g : List ℕ × Datum). slice_cmp nat_cmp f.0 g.0 ≡ Less) fs e (before_all f.0 fs (first_of_both _ _ rising)) later in
+    ap (λ r. cond (is_eq r) (Some f.1) (find (slice_cmp nat_cmp) e.0 fs)) (turned f.0 e.0 Less less)
+    ∙ find-listed e fs (second_of_both _ _ rising) later
 
-pub listed_from_find : (o : List ℕ) (v : Datum) (es : List (List ℕ × Datum)) → find (slice_cmp nat_cmp) o es ≡ Some v → Listed (o, v) es
+pub listed_from_find : (o : List ℕ) (v : Datum) (es : List (List ℕ × Datum)) → find (slice_cmp nat_cmp) o es ≡ Some v → Contains es (o, v)
 listed_from_find o v [] e = let no : ⊥ = cc in absurd no
 listed_from_find o v (f ∷ fs) found =
     elim (slice_cmp nat_cmp o f.0) as (λ r. slice_cmp nat_cmp o f.0 ≡ r → cond (is_eq r) (Some f.1) (find (slice_cmp nat_cmp) o fs) ≡ Some v
-    → Listed (o, v) (f ∷ fs)) [
-      | Less ↦ λ _ e. inr (listed_from_find o v fs e)
-      | Equal ↦ λ tied e. inl (let name : o ≡ f.0 = same_name o f.0 tied in let value : v ≡ f.1 = cc in λ i. (name i, value i))
-      | Greater ↦ λ _ e. inr (listed_from_find o v fs e)
+    → Contains (f ∷ fs) (o, v)) [
+      | Less ↦ λ _ e. Contains-append_right (f ∷ []) fs (o, v) (listed_from_find o v fs e)
+      | Equal ↦ λ tied e. (0, omega arith, let name : f.0 ≡ o = sym (same_name o f.0 tied) in let value : f.1 ≡ v = cc in λ i. (name i, value i))
+      | Greater ↦ λ _ e. Contains-append_right (f ∷ []) fs (o, v) (listed_from_find o v fs e)
     ] refl found

@@ -3,29 +3,13 @@ use Rattle.std.proofs.{lemmas.Grind.common_steps, lemmas.List.append-nil}
 use Rattle.std.proofs.Common.{◌≡◌, ◌⊎◌, inl, inr, ℕ, zero, suc, ◌+◌, ◌-◌, ◌≤◌, ◌<◌, true, false, cond, List, [], ◌∷◌, ◌++◌, length, take, drop, refl}
 use Rattle.std.proofs.Common.{sym, ap, subst, ◌∙◌, arith}
 use Rattle.std.specs.List.{list_all}
-use Rattle.snmp_wire.specs.Message.{Datum, end_of_mib_view, VarBind, Message}
+use Rattle.snmp_wire.specs.Message.{VarBind, Message}
 use Rattle.snmp_agent.specs.{table.Table.MibView, table.Table.IsMibView, Reply.AreEnds, Reply.AreRounds, Reply.IsBulk, Reply.joined, Reply.or_zero}
 use Rattle.snmp_agent.specs.{private.Standing.given_in, private.Standing.is_over, private.Standing.places_of}
 use Rattle.snmp_agent.specs.private.Answering.{AreGiven, Held, bulk_of, fill, rounds_from}
 use Rattle.snmp_agent.proofs.{Following.IsOrder, Fronts.fill_both, Fronts.fill_full, Standing.all_end, Standing.are_given}
 
--- ---- endOfMibView throughout
-
-is_end : (v : Datum) → (v ≡ end_of_mib_view) ⊎ (v ≡ end_of_mib_view → ⊥)
-is_end end_of_mib_view = inl refl
-is_end _ = inr (λ e. cc)
-
-pub ends_decided : (ps : List VarBind) → AreEnds ps ⊎ (AreEnds ps → ⊥)
-ends_decided [] = inl tt
-ends_decided (p ∷ more) = elim (is_end p.value) [
-  | inl here ↦ elim (ends_decided more) [
-    | inl there ↦ inl (here, there)
-    | inr none ↦ inr (λ h. none h.1)
-  ]
-  | inr none ↦ inr (λ h. none h.0)
-]
-
-pub not_empty : (before later : List (List VarBind)) (round : List VarBind) → [] ≡ before ++ round ∷ later → ⊥
+not_empty : (before later : List (List VarBind)) (round : List VarBind) → [] ≡ before ++ round ∷ later → ⊥
 not_empty [] later round e = cc
 not_empty (r ∷ before) later round e = cc
 

@@ -1,6 +1,6 @@
 -- Facts about the turns of a server.
 use Rattle.std.proofs.{lemmas.Grind.common_steps, lemmas.List.flat_map_more, lemmas.List.length_push, lemmas.List.Sums.sum_by_push}
-use Rattle.std.proofs.Common.{◌≡◌, ℕ, zero, suc, ◌+◌, List, [], ◌∷◌, ◌++◌, refl, ap, ◌∙◌, subst, arith}
+use Rattle.std.proofs.Common.{◌≡◌, ℕ, ◌+◌, List, [], ◌∷◌, ◌++◌, ap, ◌∙◌, subst, arith}
 use Rattle.std.specs.Prelude.{cond, count_by}
 use Rattle.std.proofs.lemmas.List.Elements.{All-nil, All-push}
 use Rattle.snmp_io.specs.Count.{HasRisenBy}
@@ -32,8 +32,7 @@ one_more_of : {a b c d : ℕ} (n : Turn → ℕ) (t : Turn) → a ≡ n turn.Rep
     → d ≡ n turn.Failed + cond (same_turn turn.Failed t) 1 0
     → one_more t (record { replies = n turn.Replied; dropped = n turn.Dropped; idle = n turn.Idle; faults = n turn.Failed })
     ≡ record { replies = a; dropped = b; idle = c; faults = d }
-one_more_of n turn.Replied e f g h = same_counts _ _ (omega arith) (omega arith) (omega arith) (omega arith)
-one_more_of n _ e f g h = same_counts _ _ (omega arith) (omega arith) (omega arith) (omega arith)
+one_more_of n t e f g h = grind (arith, common_steps, same_counts)
 
 module _ {Peer : Type 0} where
   count_push : (done : List (TurnDone Peer)) (d : TurnDone Peer) (kind : Turn)
@@ -61,20 +60,15 @@ module _ {Peer : Type 0} where
       }
 
 pub one_more_turn : (t : Turn) (s : Served) → sum (one_more t s) ≡ sum s + 1
-one_more_turn turn.Replied s = omega arith
-one_more_turn _ s = omega arith
+one_more_turn t s = grind (arith, common_steps)
 
 -- ---- how the endpoint's count of faults rises
 
 risen_more : (n m a b c : ℕ) → HasRisenBy n a b → HasRisenBy m b c → HasRisenBy (n + m) a c
-risen_more zero zero a b c h k = (λ z. k.0 refl ∙ h.0 refl, λ some. absurd (omega (arith, some)))
-risen_more zero (suc m) a b c h k = grind (arith, common_steps)
-risen_more (suc n) zero a b c h k = grind (arith, common_steps)
-risen_more (suc n) (suc m) a b c h k = grind (arith, common_steps)
+risen_more n m a b c h k = grind (arith, common_steps)
 
 faults_with : (t : Turn) (s : Served) → s.faults + cond (same_turn turn.Failed t) 1 0 ≡ (one_more t s).faults
-faults_with turn.Replied s = omega arith
-faults_with _ s = omega arith
+faults_with t s = grind (arith, common_steps)
 
 -- with one more turn
 pub risen_in_turn : (t : Turn) (s more : Served) (a b c : ℕ) → more ≡ one_more t s → HasRisenBy s.faults a b

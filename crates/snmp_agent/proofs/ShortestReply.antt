@@ -6,10 +6,9 @@ use Rattle.std.specs.{List.AllByRecursion, Int.w32}
 use mir.Val.{SFits}
 use Rattle.snmp_wire.specs.Canon.{canon, canon_binding, canon_bindings, canon_content, canon_head, canon_opening, canon_value}
 use Rattle.snmp_wire.specs.{Laws.OneShortestEncoding, Laws.SpeltIsOfType, Shortest.IsShortestEncoding, Sizes.MessageSizes, ber.Sizes.ElementSizes}
-use Rattle.snmp_wire.specs.Message.{Datum, VarBind, Message, integer_value, object_id, octet_string, opaque_octets}
+use Rattle.snmp_wire.specs.Message.{Datum, VarBind, Message, integer_value, object_id, octet_string}
 use Rattle.snmp_wire.specs.Range.{IsBindingInRange, IsBindingOfType, IsInRange, IsMessageInRange, IsMessageOfType, IsOfType}
-use Rattle.snmp_agent.specs.table.Table.{MibView, IsMibView, IsRow, IsGet, variable, unknown_object, unknown_instance, IsNext, successor, end_of_view}
-use Rattle.snmp_agent.specs.table.Table.{IsNextAfter}
+use Rattle.snmp_agent.specs.table.Table.{MibView, IsMibView, IsRow, IsGet, IsNext, IsNextAfter}
 use Rattle.snmp_agent.specs.Reply.{Agent, AreAnswers, AreRounds, IsBulk, IsReply, IsResponse, IsWhole, bulk, failed_place, got, got_next, joined}
 use Rattle.snmp_agent.specs.Reply.{no_error, not_writable, or_zero, response, shortened, too_big, unwritten, whole}
 use Rattle.snmp_agent.proofs.{Lists.all_back, Lists.all_both, Lists.all_front, Keeping.name_in_range, Keeping.value_in_range}
@@ -23,9 +22,7 @@ content_size text = refl
 
 value_of_request : (value : Datum) → IsOfType value → length (canon_content value) ≤ 65535 → IsInRange value
 unfolding canon_content
-value_of_request (octet_string text) h short = (h, short)
-value_of_request (opaque_octets text) h short = (h, short)
-value_of_request _ h short = h
+value_of_request value h short = grind (arith, common_steps)
 
 module _ (sizes : ElementSizes) where
   bindings_of_request : (bindings : List VarBind) → AllByRecursion IsBindingOfType bindings → length (canon_bindings bindings) ≤ 65535
@@ -51,7 +48,7 @@ answers_in_range : (IsAnswer : VarBind → VarBind → Type 0)
     → AllByRecursion IsBindingInRange given
 answers_in_range IsAnswer one [] [] h answers = tt
 answers_in_range IsAnswer one (asked ∷ more) (given ∷ rest) h answers =
-    (one asked given h.0.name answers.0, answers_in_range IsAnswer one more rest h.1 answers.1)
+    grind (arith, common_steps, answers_in_range IsAnswer one more rest h.1 answers.1)
 answers_in_range IsAnswer one _ _ h answers = absurd answers
 
 module _ (view : MibView) (is_view : IsMibView view) where
@@ -59,13 +56,10 @@ module _ (view : MibView) (is_view : IsMibView view) where
   row_in_range p row = grind (arith, common_steps, name_in_range, value_in_range)
 
   get_in_range : (o : List ℕ) (p : VarBind) → IsInRange (object_id o) → IsGet view o p → IsBindingInRange p
-  get_in_range o p h (variable name row) = row_in_range p row
-  get_in_range o p h (unknown_object none never e) = subst IsBindingInRange (sym e) (record { name = h; value = tt })
-  get_in_range o p h (unknown_instance none some e) = subst IsBindingInRange (sym e) (record { name = h; value = tt })
+  get_in_range o p h e = grind (arith, common_steps, row_in_range)
 
   next_in_range : (o : List ℕ) (p : VarBind) → IsInRange (object_id o) → IsNext view o p → IsBindingInRange p
-  next_in_range o p h (successor next) = row_in_range p next.row
-  next_in_range o p h (end_of_view none e) = subst IsBindingInRange (sym e) (record { name = h; value = tt })
+  next_in_range o p h e = grind (arith, common_steps, row_in_range)
 
   next_after_in_range : (rounds : ℕ) (o : List ℕ) (p : VarBind) → IsInRange (object_id o) → IsNextAfter view rounds o p → IsBindingInRange p
   next_after_in_range zero o p h next = next_in_range o p h next
@@ -98,8 +92,7 @@ fits_0 : SFits w32 (pos 0)
 fits_0 = record { sfits = omega arith }
 
 place_fits : (bindings : List VarBind) → SFits w32 (failed_place bindings)
-place_fits [] = fits_0
-place_fits (_ ∷ _) = record { sfits = omega arith }
+place_fits bindings = grind (arith, common_steps, fits_0)
 
 module _ (sizes : MessageSizes) (elements : ElementSizes) (q : Message) (h : IsMessageOfType q) where
   made : (r : Message) (status index : ℤ) (bindings : List VarBind) → r ≡ response q status index bindings → length (canon r) ≤ 65535

@@ -1,6 +1,6 @@
 -- Places among the variables of a view, and what names are given there.
+use Rattle.std.proofs.{lemmas.Grind.common_steps}
 use Rattle.std.proofs.Common.{arith, ◌≡◌, ◌↔◌, ℕ, zero, suc, ◌+◌, true, List, [], ◌∷◌, map, take, drop, refl, ap, subst, ◌∙◌, add-one}
-use Rattle.std.proofs.{lemmas.Grind.common_steps, lemmas.Bool.and_from, lemmas.Bool.and_parts, lemmas.Bool.false≢true}
 use Rattle.std.specs.{FinMap.entries, List.list_all}
 use Rattle.snmp_wire.specs.{Message.Datum, Message.VarBind, Message.Datum.end_of_mib_view}
 use Rattle.snmp_agent.specs.table.Table.{MibView, IsMibView, IsInstanceValue, IsNextAfter}
@@ -43,16 +43,12 @@ place_passed view round o = rw add-one (one_past round o (entries_after o (entri
 
 pub places_passed : (view : MibView) (round : ℕ) (names : List VarBind) → map passed (places_of view round names) ≡ places_of view (round + 1) names
 places_passed view round [] = refl
-places_passed view round (p ∷ names) =
-    let first = place_passed view round p.name in
-    let rest = places_passed view round names in
-    λ i. first i ∷ rest i
+places_passed view round (p ∷ names) = grind (arith, common_steps, places_passed view round names, place_passed)
 
 -- ---- what names are given
 
 has_end : (o : List ℕ) (es : Entries) → has_none es ≡ true → (first_or_end o (map var_of es)).value ≡ end_of_mib_view
-has_end o [] over = refl
-has_end o (e ∷ es) over = absurd (false≢true over)
+has_end o es over = grind (arith, common_steps)
 
 not_end : (v : Datum) → IsInstanceValue v → v ≡ end_of_mib_view → ⊥
 not_end v h e = let never : IsInstanceValue end_of_mib_view = subst IsInstanceValue e h in never
@@ -69,12 +65,7 @@ module _ (view : MibView) (mib : IsMibView view) where
 
   pub all_end : (round : ℕ) (names : List VarBind) → (list_all is_over (places_of view round names) ≡ true) ↔ AreEnds (given_in view round names)
   all_end round [] = (λ over. tt, λ ends. refl)
-  all_end round (p ∷ names) =
-      let here = ends_here round p.name in
-      let rest = all_end round names in (
-        λ over. let both = and_parts _ _ over in (here.0 both.0, rest.0 both.1),
-        λ ends. and_from _ _ (here.1 ends.0) (rest.1 ends.1),
-      )
+  all_end round (p ∷ names) = grind (arith, common_steps, all_end round names, ends_here)
 
 module _ (order : IsOrder) (view : MibView) (round : ℕ) where
   -- what the name is given in the next round

@@ -1,22 +1,22 @@
 -- Facts about what lines state together, and about the draft that holds it.
-use Rattle.std.proofs.Common.{◌≡◌, Option, is_some, ℕ, ◌⊎◌, inl, inr, ◌↔◌, Bool, true, false, cond, ◌||◌, List, [], ◌∷◌, ◌++◌, map, Some, None, refl}
-use Rattle.std.proofs.Common.{sym, ◌∙◌, T, ap, Less, zero, suc, get_or, Equal, Greater, Vec, Global, ◌+◌, ◌<◌, ◌≤◌, length, arith}
-use Rattle.std.specs.{List.All, List.AllPairs, List.Contains, List.list_any, List.sum_by, List.Sorted.IsPermutation, Ordering.nat_cmp, Ordering.is_eq}
-use Rattle.std.specs.{Ordering.eq_by_cmp, Ordering.match_ordering, Cmp.tied_itself, Cmp.Lexicographic.slice_cmp, Cmp.Lexicographic.nat_list_cmp_total}
+use Rattle.std.proofs.{lemmas.Grind.common_steps, Math.Bool.or-true, lemmas.Bool.or_cases, lemmas.List.Quantifiers.all_pairs_push}
+use Rattle.std.proofs.Common.{◌≡◌, Option, is_some, ℕ, ◌⊎◌, inl, inr, ◌↔◌, true, false, cond, ◌||◌, List, [], ◌∷◌, ◌++◌, map, Some, None, refl}
+use Rattle.std.proofs.Common.{sym, ◌∙◌, T, ap, Less, get_or, Equal, Greater, Vec, Global, ◌+◌, ◌≤◌, arith}
+use Rattle.std.specs.{List.Contains, List.list_any, List.sum_by, List.Sorted.IsPermutation, Ordering.nat_cmp, Ordering.is_eq}
+use Rattle.std.specs.{Ordering.eq_by_cmp, Cmp.tied_itself, Cmp.Lexicographic.slice_cmp, Cmp.Lexicographic.nat_list_cmp_total}
 use Rattle.std.specs.{FinMap.find, FinMap.is_sorted, FinMap.put, FinMap.Entries.by_order, BTreeSet.insert_key}
 use Rattle.std.proofs.lemmas.List.Elements.{All-append, All-cons, All-contains_itself, All-nil, Contains-append_left, Contains-append_right}
 use Rattle.std.proofs.lemmas.List.Elements.{Contains-push, Contains-push_cases}
-use Rattle.std.proofs.lemmas.List.Quantifiers.{all_pairs_push}
 use Rattle.std.proofs.lemmas.List.Sorted.{Contains-permutation, IsPermutation-cons, IsPermutation-refl, IsPermutation-sym, IsPermutation-to_front}
 use Rattle.std.proofs.lemmas.List.Sorted.{sum_by-IsPermutation}
 use Rattle.std.proofs.lemmas.List.Sums.{get_or-le-sum_by, sum_by-cons, sum_by_push}
 use Rattle.snmp_wire.specs.Message.{Datum, VarBind}
-use Rattle.snmp_agent.specs.{table.Format.Format, table.Stated.IsDouble, table.Places.IsBeforeAll, table.Places.entry_of}
+use Rattle.snmp_agent.specs.{table.Format.Format, table.Stated.IsDouble, table.Places.IsBeforeAll, table.Places.entry_of, table.Places.var_of}
 use Rattle.snmp_agent.specs.table.Form.{Statement, nothing, object_prefix, instance, States}
 use Rattle.snmp_agent.specs.table.Text.{AreTable, DifferInName, IsGoodLine, a_blank, a_prefix, a_row}
 use Rattle.snmp_agent.specs.private.table.Draft.{AreDistinct, HoldsLines, HoldsTable, has_key}
 use Rattle.snmp_agent.proofs.{Changing.tied, OneStatement.StatesOnly}
-use Rattle.snmp_agent.proofs.Rising.{Listed, before_all, find-listed, first_of_both, listed_from_find, same_name, second_of_both}
+use Rattle.snmp_agent.proofs.Rising.{before_all, find-listed, first_of_both, listed_from_find, same_name, second_of_both}
 
 -- ---- entries in any order
 
@@ -33,10 +33,7 @@ contained_counts o v es h =
 none_behind : (o : List ℕ) (es : List (List ℕ × Datum)) → IsBeforeAll o es
     → sum_by (has_key o) es ≡ 0
 none_behind o [] h = refl
-none_behind o (e ∷ es) h =
-    let here : has_key o e ≡ 0 = ap (λ r. cond (is_eq r) 1 0) h.0 in
-    let later : sum_by (has_key o) es ≡ 0 = none_behind o es h.1 in
-    omega (arith, sum_by-cons (has_key o) e es)
+none_behind o (e ∷ es) h = grind (arith, common_steps, none_behind o es h.1, sum_by-cons)
 
 pub distinct_moved : (es fs : List (List ℕ × Datum)) → IsPermutation es fs → AreDistinct fs
     → AreDistinct es
@@ -58,23 +55,6 @@ distinct_sorted (e ∷ es) rising = λ o.
           let none : sum_by (has_key o) es ≡ 0 = none_behind o es ahead in omega arith
       | false ↦ λ is. let other : has_key o e ≡ 0 = ap (λ b. cond b 1 0) is in omega arith
     ] refl
-
-pub listed_contained : (e : List ℕ × Datum) (es : List (List ℕ × Datum)) → Listed e es
-    → Contains es e
-listed_contained e [] at = absurd at
-listed_contained e (f ∷ fs) (inl same) = (0, omega arith, sym same)
-listed_contained e (f ∷ fs) (inr later) =
-    let rest = listed_contained e fs later in (suc rest.0, omega (arith, rest.1), rest.2)
-
-listed_at : (e : List ℕ × Datum) (es : List (List ℕ × Datum)) (k : ℕ) → k < length es
-    → get_or es k e ≡ e → Listed e es
-listed_at e [] k low at = absurd (omega arith)
-listed_at e (f ∷ fs) zero low at = inl (sym at)
-listed_at e (f ∷ fs) (suc k) low at = inr (listed_at e fs k (omega arith) at)
-
-pub contained_listed : (e : List ℕ × Datum) (es : List (List ℕ × Datum)) → Contains es e
-    → Listed e es
-contained_listed e es h = listed_at e es h.0 h.1 h.2
 
 -- to put an entry of a new name in its place only moves entries
 pub put_moves : (o : List ℕ) (v : Datum) (es : List (List ℕ × Datum))
@@ -129,123 +109,88 @@ holds_no_lines format es os no_entries no_objects = rw (no_entries, no_objects) 
 -- one more line
 module _ (format : Format) (before : List (List ℕ)) (line : List ℕ)
     (es : List (List ℕ × Datum)) (os : List (List ℕ)) (h : HoldsLines format before es os) where
-  each_more : (s : Statement) → States format line s
-      → All (IsGoodLine format) (before ++ line ∷ [])
-  each_more s states =
-      All-append (IsGoodLine format) before (line ∷ []) h.each (All-cons (IsGoodLine format) line []
-      (good_statement format line s states) (All-nil (IsGoodLine format)))
-
-  -- what the line doesn't state is stated as before
-  same : (s : Statement) (P : Type 0) → (States format line s → ⊥) → P ↔ IsStated format before s
-      → P ↔ IsStated format (before ++ line ∷ []) s
-  same s P never stands = (
-    λ has. stated_before format before line s (stands.0 has),
-    λ stated. elim (stated_either format before line s stated) [
-      | inl old ↦ stands.1 old
-      | inr now ↦ absurd (never now)
+  -- what the lines state then is what they stated, and what this one states alone
+  stated : (s : Statement) → StatesOnly format line s → (t : Statement) {P Q : Type 0} → P ↔ IsStated format before t → Q ↔ (P ⊎ (t ≡ s))
+      → Q ↔ IsStated format (before ++ line ∷ []) t
+  stated s only t old new = (
+    λ q. elim (new.0 q) [
+      | inl p ↦ stated_before format before line t (old.0 p)
+      | inr same ↦ stated_now format before line t (rw same only.0)
     ],
+    λ is. new.1 (elim (stated_either format before line t is) [ inl earlier ↦ inl (old.1 earlier) | inr now ↦ inr (only.1 t now) ]),
   )
 
-  same_differ : ((p : VarBind) → States format line (instance p) → ⊥) → AreDistinct es
-      → AllPairs (DifferInName format) (before ++ line ∷ [])
-  same_differ never distinct =
-      all_pairs_push (DifferInName format) before line (h.differ distinct)
-      (λ k d low row other is_row is_other. absurd (never other is_other))
+  -- the entries and the object prefixes then, by what they were and what the line states
+  holds_more : (s : Statement) → StatesOnly format line s → (fs : List (List ℕ × Datum)) (more : List (List ℕ))
+      → ((p : VarBind) → Contains fs (entry_of p) ↔ (Contains es (entry_of p) ⊎ (instance p ≡ s)))
+      → ((o : List ℕ) → (list_any (eq_by_cmp (slice_cmp nat_cmp) o) more ≡ true)
+      ↔ ((list_any (eq_by_cmp (slice_cmp nat_cmp) o) os ≡ true) ⊎ (object_prefix o ≡ s)))
+      → (AreDistinct fs → AreDistinct es × ((p q : VarBind) → instance p ≡ s → Contains es (entry_of q) → q.name ≡ p.name → ⊥))
+      → HoldsLines format (before ++ line ∷ []) fs more
+  holds_more s only fs more rows prefixes fresh = record {
+    each = All-append (IsGoodLine format) before (line ∷ []) h.each (All-cons (IsGoodLine format) line []
+        (good_statement format line s only.0) (All-nil (IsGoodLine format)));
+    rows = λ p. stated s only (instance p) (h.rows p) (rows p);
+    differ = λ distinct. all_pairs_push (DifferInName format) before line (h.differ (fresh distinct).0) (λ k d low row other is_row is_other.
+        (fresh distinct).1 other row (only.1 (instance other) is_other)
+        ((h.rows row).1 (get_or before k d, All-contains_itself before k d low, is_row)));
+    prefixes = λ o. stated s only (object_prefix o) (h.prefixes o) (prefixes o);
+  }
+
+  -- what the line doesn't state
+  kept : {P Q : Type 0} → (Q → ⊥) → P ↔ (P ⊎ Q)
+  kept never = (λ p. inl p, λ either. elim either [ inl p ↦ p | inr q ↦ absurd (never q) ])
 
   pub holds_nothing : StatesOnly format line nothing
       → HoldsLines format (before ++ line ∷ []) es os
-  holds_nothing only = record {
-    each = each_more nothing only.0;
-    rows = λ p. same (instance p) _ (no_row p) (h.rows p);
-    differ = same_differ no_row;
-    prefixes = λ o. same (object_prefix o) _ (λ states.
-        let other : object_prefix o ≡ nothing = only.1 (object_prefix o) states in cc) (h.prefixes o);
-  } where
-    no_row : (p : VarBind) → States format line (instance p) → ⊥
-    no_row p states = let same : instance p ≡ nothing = only.1 (instance p) states in cc
+  holds_nothing only =
+      holds_more nothing only es os (λ p. kept (λ e. cc)) (λ o. kept (λ e. cc)) (λ distinct. (distinct, λ p q e. absurd (cc)))
 
   pub holds_object : (object : List ℕ) (more : List (List ℕ))
       → StatesOnly format line (object_prefix object)
       → ((o : List ℕ) → list_any (eq_by_cmp (slice_cmp nat_cmp) o) more
       ≡ (is_eq (slice_cmp nat_cmp o object) || list_any (eq_by_cmp (slice_cmp nat_cmp) o) os))
       → HoldsLines format (before ++ line ∷ []) es more
-  holds_object object more only has = record {
-    each = each_more (object_prefix object) only.0;
-    rows = λ p. same (instance p) _ (no_row p) (h.rows p);
-    differ = same_differ no_row;
-    prefixes = λ o. (
-      λ found. elim (eq_by_cmp (slice_cmp nat_cmp) o object) as (λ b. eq_by_cmp (slice_cmp nat_cmp) o object ≡ b
-          → (b || list_any (eq_by_cmp (slice_cmp nat_cmp) o) os) ≡ true
-          → IsStated format (before ++ line ∷ []) (object_prefix o)) [
-            | true ↦ λ is _. rw (tied o object true is refl) (stated_now format before line (object_prefix object) only.0)
-            | false ↦ λ _ old.
-                stated_before format before line (object_prefix o) ((h.prefixes o).0 old)
-          ] refl (sym (has o) ∙ found),
-      λ stated. has o ∙ elim (stated_either format before line (object_prefix o) stated) [
-        | inl old ↦ ap (λ b. is_eq (slice_cmp nat_cmp o object) || b) ((h.prefixes o).1 old)
-            ∙ or_true (is_eq (slice_cmp nat_cmp o object))
-        | inr now ↦
-            let same : object_prefix o ≡ object_prefix object = only.1 (object_prefix o) now in
-            let name : o ≡ object = cc in
-            let others = list_any (eq_by_cmp (slice_cmp nat_cmp) o) os in
-            ap (λ p. is_eq (slice_cmp nat_cmp p object) || others) name
-            ∙ ap (λ r. is_eq r || others) (tied_itself nat_list_cmp_total object)
-      ],
-    );
-  } where
-    no_row : (p : VarBind) → States format line (instance p) → ⊥
-    no_row p states =
-        let same : instance p ≡ object_prefix object = only.1 (instance p) states in cc
-
-    or_true : (b : Bool) → (b || true) ≡ true
-    or_true true = refl
-    or_true false = refl
+  holds_object object more only has =
+      holds_more (object_prefix object) only es more (λ p. kept (λ e. cc)) has_prefix (λ distinct. (distinct, λ p q e. absurd (cc)))
+    where
+      has_prefix : (o : List ℕ) → (list_any (eq_by_cmp (slice_cmp nat_cmp) o) more ≡ true)
+          ↔ ((list_any (eq_by_cmp (slice_cmp nat_cmp) o) os ≡ true) ⊎ (object_prefix o ≡ object_prefix object))
+      has_prefix o = (
+        λ found. elim (or_cases _ _ (sym (has o) ∙ found)) [ inl is ↦ inr (ap object_prefix (tied o object true is refl)) | inr old ↦ inl old ],
+        λ either. has o ∙ elim either [
+          | inl old ↦ rw old (or-true (is_eq (slice_cmp nat_cmp o object)))
+          | inr same ↦
+              let name : o ≡ object = cc in
+              rw name (ap (λ r. is_eq r || list_any (eq_by_cmp (slice_cmp nat_cmp) object) os) (tied_itself nat_list_cmp_total object))
+        ],
+      )
 
   pub holds_instance : (p : VarBind) → StatesOnly format line (instance p)
       → HoldsLines format (before ++ line ∷ []) (es ++ entry_of p ∷ []) os
-  holds_instance p only = record {
-    each = each_more (instance p) only.0;
-    rows = λ q. (row_stated q, row_contained q);
-    differ = λ distinct. all_pairs_push (DifferInName format) before line
-        (h.differ (earlier distinct)) (λ k d low row other is_row is_other same.
-        let is : instance other ≡ instance p = only.1 (instance other) is_other in
-        let name : other.name ≡ p.name = cc in
-        fresh distinct row (get_or before k d, All-contains_itself before k d low, is_row)
-        (same ∙ name));
-    prefixes = λ o. same (object_prefix o) _ (λ states.
-        let other : object_prefix o ≡ instance p = only.1 (object_prefix o) states in cc) (h.prefixes o);
-  } where
-    earlier : AreDistinct (es ++ entry_of p ∷ []) → AreDistinct es
-    earlier distinct = λ o. omega (arith, sum_by_push (has_key o) es (entry_of p), distinct o)
+  holds_instance p only = holds_more (instance p) only (es ++ entry_of p ∷ []) os row (λ o. kept (λ e. cc)) fresh
+    where
+      row : (q : VarBind) → Contains (es ++ entry_of p ∷ []) (entry_of q) ↔ (Contains es (entry_of q) ⊎ (instance q ≡ instance p))
+      row q = (
+        λ has. elim (Contains-push_cases es (entry_of p) (entry_of q) has) [
+          | inl old ↦ inl old
+          | inr same ↦ inr (ap (λ e. instance (var_of e)) (sym same))
+        ],
+        λ either. elim either [
+          | inl old ↦ Contains-append_left es (entry_of p ∷ []) (entry_of q) old
+          | inr same ↦ let is : q ≡ p = cc in rw is (Contains-push es (entry_of p))
+        ],
+      )
 
-    fresh : AreDistinct (es ++ entry_of p ∷ []) → (row : VarBind)
-        → IsStated format before (instance row) → row.name ≡ p.name → ⊥
-    fresh distinct row stated name =
-        let some : 1 ≤ sum_by (has_key row.name) es =
-        contained_counts row.name row.value es ((h.rows row).1 stated) in
-        let own : has_key row.name (entry_of p) ≡ 1 =
-        ap (λ o. has_key row.name (o, p.value)) (sym name)
-        ∙ counted_itself row.name p.value in
-        omega (arith, sum_by_push (has_key row.name) es (entry_of p), distinct row.name)
-
-    row_stated : (q : VarBind) → Contains (es ++ entry_of p ∷ []) (entry_of q)
-        → IsStated format (before ++ line ∷ []) (instance q)
-    row_stated q has = elim (Contains-push_cases es (entry_of p) (entry_of q) has) [
-      | inl old ↦ stated_before format before line (instance q) ((h.rows q).0 old)
-      | inr same ↦
-          let row : p ≡ q = λ i. record { name = (same i).0; value = (same i).1 } in
-          rw (← row) (stated_now format before line (instance p) only.0)
-    ]
-
-    row_contained : (q : VarBind) → IsStated format (before ++ line ∷ []) (instance q)
-        → Contains (es ++ entry_of p ∷ []) (entry_of q)
-    row_contained q stated = elim (stated_either format before line (instance q) stated) [
-      | inl old ↦
-          Contains-append_left es (entry_of p ∷ []) (entry_of q) ((h.rows q).1 old)
-      | inr now ↦
-          let same : instance q ≡ instance p = only.1 (instance q) now in
-          let row : q ≡ p = cc in rw row (Contains-push es (entry_of p))
-    ]
+      fresh : AreDistinct (es ++ entry_of p ∷ [])
+          → AreDistinct es × ((r q : VarBind) → instance r ≡ instance p → Contains es (entry_of q) → q.name ≡ r.name → ⊥)
+      fresh distinct = (
+        λ o. omega (arith, sum_by_push (has_key o) es (entry_of p), distinct o),
+        λ r q same has name.
+            let is : q.name ≡ p.name = let one : r ≡ p = cc in name ∙ ap (λ (x : VarBind). x.name) one in
+            let own : has_key q.name (entry_of p) ≡ 1 = ap (λ o. has_key o (entry_of p)) is ∙ counted_itself p.name p.value in
+            omega (arith, contained_counts q.name q.value es has, own, sum_by_push (has_key q.name) es (entry_of p), distinct q.name),
+      )
 
   pub double : (p : VarBind) (v : Datum) → States format line (instance p)
       → Contains es (p.name, v) → IsDouble format before line
@@ -268,11 +213,8 @@ whole format lines es fs os h moved rising = record {
   good = good_lines format lines es os h (distinct_moved es fs moved (distinct_sorted fs rising));
   rising = rising;
   rows = λ p. (
-    λ found. (h.rows p).0 (Contains-permutation fs es (entry_of p)
-        (IsPermutation-sym es fs moved)
-        (listed_contained (entry_of p) fs (listed_from_find p.name p.value fs found))),
-    λ stated. find-listed (entry_of p) fs rising (contained_listed (entry_of p) fs
-        (Contains-permutation es fs (entry_of p) moved ((h.rows p).1 stated))),
+    λ found. (h.rows p).0 (Contains-permutation fs es (entry_of p) (IsPermutation-sym es fs moved) (listed_from_find p.name p.value fs found)),
+    λ stated. find-listed (entry_of p) fs rising (Contains-permutation es fs (entry_of p) moved ((h.rows p).1 stated)),
   );
   prefixes = h.prefixes;
 }
@@ -283,35 +225,12 @@ pub list_any-insert : (o : List ℕ) (ks : List (Vec ℕ Global)) (k : Vec ℕ G
     → list_any (eq_by_cmp (slice_cmp nat_cmp) o) (map (λ x. x.items) (insert_key (λ x y. slice_cmp nat_cmp x.items y.items) ks k))
     ≡ (is_eq (slice_cmp nat_cmp o k.items) || list_any (eq_by_cmp (slice_cmp nat_cmp) o) (map (λ x. x.items) ks))
 list_any-insert o [] k = refl
-list_any-insert o (x ∷ ks) k =
-    let others = list_any (eq_by_cmp (slice_cmp nat_cmp) o) (map (λ y. y.items) ks) in
-    elim (slice_cmp nat_cmp k.items x.items) as (λ r. slice_cmp nat_cmp k.items x.items ≡ r
-    → list_any (eq_by_cmp (slice_cmp nat_cmp) o) (map (λ y. y.items) (match_ordering r (k ∷ x ∷ ks) (x ∷ ks) (x ∷ insert_key
-    (λ y z. slice_cmp nat_cmp y.items z.items) ks k)))
-    ≡ (is_eq (slice_cmp nat_cmp o k.items) || (is_eq (slice_cmp nat_cmp o x.items) || others))) [
-      | Less ↦ λ _. refl
-      | Equal ↦ λ tied.
-          twice (is_eq (slice_cmp nat_cmp o x.items)) others
-          ∙ ap (λ (y : List ℕ). is_eq (slice_cmp nat_cmp o y) || (is_eq (slice_cmp nat_cmp o x.items) || others)) (sym (same_name k.items x.items tied))
-      | Greater ↦ λ _. ap (λ b. is_eq (slice_cmp nat_cmp o x.items) || b) (list_any-insert o ks k)
-          ∙ swapped (is_eq (slice_cmp nat_cmp o x.items)) (is_eq (slice_cmp nat_cmp o k.items)) others
-    ] refl where
-      twice : (a b : Bool) → (a || b) ≡ (a || (a || b))
-      twice true b = refl
-      twice false b = refl
-
-      swapped : (a b c : Bool) → (a || (b || c)) ≡ (b || (a || c))
-      swapped true true c = refl
-      swapped true false c = refl
-      swapped false true c = refl
-      swapped false false c = refl
+list_any-insert o (x ∷ ks) k = grind (arith, common_steps, list_any-insert o ks k, same_name)
 
 -- ---- what a look-up says
 
 pub some_of : {X : Type 0} (r : Option X) → is_some r ≡ true → (x : X) × (r ≡ Some x)
-some_of (Some x) h = (x, refl)
-some_of None h = absurd (cc)
+some_of r h = grind (arith, common_steps)
 
 pub none_of : {X : Type 0} (r : Option X) → is_some r ≡ false → r ≡ None
-none_of (Some x) h = absurd (cc)
-none_of None h = refl
+none_of r h = grind (arith, common_steps)

@@ -1,22 +1,18 @@
 -- Lines state one table at most.
-use Rattle.std.proofs.Common.{arith, ◌≡◌, ◌↔◌, ℕ, Bool, true, false, List, subst, refl, sym, ◌∙◌, ap, Option, Some, None}
+use Rattle.std.proofs.Common.{arith, ◌≡◌, ◌↔◌, ℕ, Bool, true, List, ◌∙◌, ap, Option, Some}
 use Rattle.std.proofs.lemmas.Grind.{common_steps}
 use Rattle.std.specs.{Ordering.nat_cmp, Cmp.Lexicographic.slice_cmp, Cmp.Lexicographic.nat_list_cmp_total, FinMap.FinMap, FinMap.get, FinMap.same_map}
 use Rattle.std.specs.{FinMap.nat_cmp-IsAntisymmetric, FinMap.slice_cmp-IsAntisymmetric, FinSet.FinSet, FinSet.contains, FinSet.same_set}
 use Rattle.snmp_wire.specs.Message.{Datum}
 use Rattle.snmp_agent.specs.{table.Table.MibView, table.Stated.IsTableIn, table.Stated.IsTableOf}
-use Rattle.snmp_agent.specs.table.Format.{Format, IsFormat, IsMarked, Names, first_format, second_format}
+use Rattle.snmp_agent.specs.table.Format.{Format, IsFormat, IsMarked, Names, first_format}
 
 -- what one knows, the other knows
 same_option : {X : Type 0} (a b : Option X) → ((x : X) → a ≡ Some x → b ≡ Some x) → ((x : X) → b ≡ Some x → a ≡ Some x) → a ≡ b
-same_option (Some x) b f g = sym (f x refl)
-same_option None (Some y) f g = g y refl
-same_option None None f g = refl
+same_option a b f g = grind (arith, common_steps)
 
 same_bool : (a b : Bool) → (a ≡ true → b ≡ true) → (b ≡ true → a ≡ true) → a ≡ b
-same_bool true b f g = sym (f refl)
-same_bool false true f g = g refl
-same_bool false false f g = refl
+same_bool a b f g = grind (arith, common_steps)
 
 one_view_in : (format : Format) (lines : List (List ℕ)) (v w : MibView) → IsTableIn format lines v → IsTableIn format lines w → v ≡ w
 one_view_in format lines v w h k =
@@ -33,15 +29,10 @@ one_view_in format lines v w h k =
 
 -- lines have one format
 pub one_format : (names : Names) (lines : List (List ℕ)) (f g : Format) → IsFormat names lines f → IsFormat names lines g → g ≡ f
-one_format names lines first_format first_format h k = refl
-one_format names lines first_format (second_format other) h k = absurd (h k.0)
-one_format names lines (second_format given) first_format h k = absurd (k h.0)
-one_format names lines (second_format given) (second_format other) h k = ap second_format (k.1 ∙ sym h.1)
+one_format names lines f g h k = grind (arith, common_steps)
 
 pub one_view : (names : Names) (lines : List (List ℕ)) (v w : MibView) → IsTableOf names lines v → IsTableOf names lines w → v ≡ w
-one_view names lines v w h k =
-    let P : Format → Type 0 = λ f. IsTableIn f lines w in
-    one_view_in h.0 lines v w h.2 (subst P (one_format names lines h.0 k.0 h.1 k.1) k.2)
+one_view names lines v w h k = one_view_in h.0 lines v w h.2 (rw (← one_format names lines h.0 k.0 h.1 k.1) k.2)
 
 -- lines without the mark are of the first format
 pub without_mark : (names : Names) (lines : List (List ℕ)) (P : Format → Type 0)

@@ -3,7 +3,7 @@ use Rattle.std.specs.Prelude.{◌≡◌, ◌≢◌, ◌⊎◌, List, [], ◌∷�
 use Rattle.snmp_wire.specs.Message.{Datum, VarBind}
 use Rattle.snmp_agent.specs.table.Table.{IsInstanceName}
 use Rattle.snmp_agent.specs.table.Format.{Format, EndsAtBar, IsNameIn, bar}
-use Rattle.snmp_agent.specs.table.Text.{IsBlank, IsObjectForm, IsPrefixLine, IsRowLine, IsValueText}
+use Rattle.snmp_agent.specs.table.Text.{IsBlank, IsPrefixLine, IsRowLine, IsValueText}
 
 -- what a line states: nothing, an object prefix, or an instance with its value
 pub data Statement : Type 0 where
@@ -25,7 +25,7 @@ IsTag tag = Contains (codes "2" ∷ codes "4" ∷ codes "4x" ∷ codes "6" ∷ c
 -- two bars with a known tag between them, in a line that is neither blank nor an object's
 pub record IsRowForm (format : Format) (line name tag text : List ℕ) : Type 0 where
   pub not_blank : IsBlank line → ⊥
-  pub no_object : (object : List ℕ) → IsObjectForm line object → ⊥
+  pub no_object : (object : List ℕ) → line ≢ codes "object " ++ object
   pub parts : line ≡ name ++ bar ∷ tag ++ bar ∷ text
   pub name_ends : EndsAtBar format name
   pub tag_ends : All (λ octet. octet ≢ bar) tag
@@ -43,13 +43,14 @@ IsInstanceText format text o = IsNameIn format text o × IsInstanceName o
 -- none of the three forms
 pub record IsBadLine (format : Format) (line : List ℕ) : Type 0 where
   pub not_blank : IsBlank line → ⊥
-  pub no_object : (text : List ℕ) → IsObjectForm line text → ⊥
+  pub no_object : (object : List ℕ) → line ≢ codes "object " ++ object
   pub no_row : (name tag text : List ℕ) → IsRowForm format line name tag text → ⊥
 
 -- a name that names no object, or no instance
 abbrev pub IsBadName : Format → List ℕ → Type 0
 IsBadName format line =
-    ((text : List ℕ) × IsObjectForm line text × ((o : List ℕ) → IsObjectText format text o → ⊥))
+    ((text : List ℕ) × (line ≡ codes "object " ++ text)
+    × ((o : List ℕ) → IsObjectText format text o → ⊥))
     ⊎ ((name : List ℕ) × (tag : List ℕ) × (text : List ℕ) × IsRowForm format line name tag text
     × ((o : List ℕ) → IsInstanceText format name o → ⊥))
 

@@ -56,20 +56,17 @@ IsValueText format tag text _ = ⊥
 abbrev pub IsBlank : List ℕ → Type 0
 IsBlank line = (line ≡ []) ⊎ ((comment : List ℕ) × (line ≡ codes "#" ++ comment))
 
--- the line of an object prefix, with this name
-abbrev pub IsObjectForm : (line text : List ℕ) → Type 0
-IsObjectForm line text = line ≡ codes "object " ++ text
-
 -- the line of this object prefix, which has a number at least
 abbrev pub IsPrefixLine : Format → (line object : List ℕ) → Type 0
 IsPrefixLine format line object =
-    (text : List ℕ) × IsObjectForm line text × IsNameIn format text object × (object ≢ [])
+    (text : List ℕ) × (line ≡ codes "object " ++ text) × IsNameIn format text object
+    × (object ≢ [])
 
 -- the line of this row, which is neither blank nor an object prefix's: the name of an instance, a
 -- tag, and the text of a value, which may have more bars
 pub record IsRowLine (format : Format) (line : List ℕ) (row : VarBind) : Type 0 where
   pub not_blank : IsBlank line → ⊥
-  pub no_object : (object : List ℕ) → IsObjectForm line object → ⊥
+  pub no_object : (object : List ℕ) → line ≢ codes "object " ++ object
   pub name : List ℕ
   pub tag : List ℕ
   pub text : List ℕ

@@ -1,8 +1,8 @@
 //! The lines of a table's text.
-ghost use Rattle.std.specs.Prelude.{◌≡◌, ℕ, List, IfOk, IfErr};
+ghost use Rattle.std.specs.Prelude.{◌≡◌, ◌≢◌, ◌++◌, ℕ, List, codes, IfOk, IfErr};
 ghost use Rattle.snmp_wire.specs.{Message.object_id, Range.IsInRange};
 ghost use Rattle.snmp_agent.specs.private.table.Row.{datum_of, tag_text, IsShort};
-ghost use Rattle.snmp_agent.specs.{table.Form.States, table.Text.IsBlank, table.Text.IsObjectForm};
+ghost use Rattle.snmp_agent.specs.{table.Form.States, table.Text.IsBlank};
 ghost use Rattle.snmp_agent.specs.private.table.Line.{IsForm, IsObjectRead, IsInstanceRead};
 ghost use Rattle.snmp_agent.specs.private.table.Line.{IsLineFault, statement_of};
 
@@ -102,7 +102,7 @@ fn form_of<'a, F: LineFormat>(format: &F, line: &'a [u8]) -> Option<Form<'a>>
 /// the bars is missing or the tag is unknown.
 fn row_form<'a, F: LineFormat>(format: &F, line: &'a [u8]) -> Option<Form<'a>>
     requires not_blank { IsBlank line.now → ⊥ }
-    requires no_object { (text : List ℕ) → IsObjectForm line.now text → ⊥ }
+    requires no_object { (text : List ℕ) → line.now ≢ codes "object " ++ text }
     ensures { IsForm (F.format format.now) line.now result }
 {
     let (name, behind) = format.split_name(line)?;

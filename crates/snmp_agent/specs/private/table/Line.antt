@@ -1,5 +1,5 @@
 -- What the steps of reading a line find, for private clauses.
-use Rattle.std.specs.Prelude.{ℕ, List, Option, Some, None, Result, Ok, Err}
+use Rattle.std.specs.Prelude.{◌≡◌, ◌++◌, ℕ, List, codes, Option, Some, None, Result, Ok, Err}
 use Rattle.snmp_wire.specs.Message.{Datum}
 use Rattle.snmp_agent.specs.{declared.table.line.Line.Line, declared.table.line.Form.Form}
 use Rattle.snmp_agent.specs.{private.table.Row.tag_text, table.Format.Format}
@@ -10,7 +10,7 @@ use Rattle.snmp_agent.specs.declared.table.line.Form.TheVariants as form
 use Rattle.snmp_agent.specs.table.Form.{Statement, nothing, object_prefix, instance, IsRowForm}
 use Rattle.snmp_agent.specs.table.Form.{IsObjectText, IsInstanceText, IsBadLine, IsBadName}
 use Rattle.snmp_agent.specs.table.Form.{IsBadValue}
-use Rattle.snmp_agent.specs.table.Text.{IsBlank, IsObjectForm, IsValueText}
+use Rattle.snmp_agent.specs.table.Text.{IsBlank, IsValueText}
 
 abbrev pub statement_of : Line → Statement
 statement_of line.Nothing = nothing
@@ -20,7 +20,7 @@ statement_of (line.Instance row) = instance row
 abbrev pub IsForm : Format → List ℕ → Option Form → Type 0
 IsForm format l None = IsBadLine format l
 IsForm format l (Some form.Blank) = IsBlank l
-IsForm format l (Some (form.Object text)) = IsObjectForm l text.now
+IsForm format l (Some (form.Object text)) = l ≡ codes "object " ++ text.now
 IsForm format l (Some (form.Row name tag text)) =
     IsRowForm format l name.now (tag_text tag) text.now
 

@@ -1,4 +1,4 @@
-use Rattle.std.proofs.Common.{arith, ◌≡◌, ◌≤◌, ℕ, List, length, Result, Ok, Err, OnOk, sym}
+use Rattle.std.proofs.Common.{arith, ◌≡◌, ◌≤◌, ℕ, List, length, Result, Ok, OnOk}
 use Rattle.std.proofs.lemmas.Grind.{common_steps}
 use Rattle.std.specs.Result.{is_ok}
 use Rattle.snmp_oid.specs.{Numeric.IsNumericName, declared.numeric.OidTextError.OidTextError}
@@ -8,8 +8,7 @@ use Rattle.snmp_agent.proofs.table.format.numeric_name.Goals as goal
 only_name : (text o : List ℕ) (r : Result (Unit {0}) OidTextError) → OnOk r (IsNumericName text o) → OnOk r (length o ≤ 128)
     → ((p : List ℕ) → IsNumericName text p → length p ≤ 128 → (r ≡ Ok tt) × (o ≡ p))
     → IsOnlyThere (IsName text) (is_ok r) o
-only_name text o (Ok u) found short only = (record { named = found; short = short }, λ p h. sym (only p h.named h.short).1)
-only_name text o (Err e) found short only = λ p h. let none = (only p h.named h.short).0 in cc
+only_name text o r found short only = grind (arith, common_steps)
 
 pub returns : goal.returns
 returns c = grind (arith, common_steps, only_name)

@@ -1,4 +1,4 @@
-use Rattle.std.proofs.Common.{arith, ◌≡◌, [], ◌∷◌, List, ℕ, true, false, Some, ◌∙◌, ap, sym, refl, Ordering, Less, Equal, Greater}
+use Rattle.std.proofs.Common.{arith, ◌≡◌, List, ℕ, true, false, Some, ◌∙◌, ap, sym, Ordering}
 use Rattle.std.proofs.lemmas.Grind.{common_steps}
 use Rattle.std.specs.{List.slice_get, Ordering.is_gt, Ordering.is_le, Ordering.nat_cmp, Cmp.Lexicographic.slice_cmp}
 use Rattle.snmp_wire.specs.Message.{VarBind}
@@ -11,14 +11,11 @@ order : (o : List ℕ) {row name : List ℕ} {r s : Ordering} → name ≡ row �
 order o {row} {name} same compared is = ap (λ (p : List ℕ). slice_cmp nat_cmp p o) (sym same) ∙ sym compared ∙ is
 
 greater : (r : Ordering) → is_gt r ≡ true → is_le r ≡ false
-greater Greater e = refl
-greater Less e = cc
-greater Equal e = cc
+greater r e = grind (arith, common_steps)
 
 begins : (o : List ℕ) (rows : List VarBind) (next : VarBind) → slice_get rows 0 ≡ Some next → is_le (slice_cmp nat_cmp next.name o) ≡ false
     → begins_up_to o rows ≡ false
-begins o [] next at behind = cc
-begins o (row ∷ rows) next at behind = let same : row ≡ next = cc in ap (λ (r : VarBind). is_le (slice_cmp nat_cmp r.name o)) same ∙ behind
+begins o rows next at behind = grind (arith, common_steps)
 
 -- the last row in front has the name
 pub returns-in-Equal : goal.returns-in-Equal

@@ -1,5 +1,5 @@
 use Rattle.std.proofs.{lemmas.Grind.common_steps, lemmas.Result.err_from_is_err_and}
-use Rattle.std.proofs.Common.{◌≡◌, ◌∷◌, [], ℕ, List, length, ◌∙◌, subst, Bool, true, eqb, eqb-true, arith, refl}
+use Rattle.std.proofs.Common.{◌≡◌, [], ℕ, List, length, ◌∙◌, subst, Bool, true, eqb, eqb-true, arith}
 use Rattle.snmp_agent.proofs.Adding.{IsReadTo, all_read, halted_at, read_more, read_nothing}
 use Rattle.snmp_agent.proofs.table.draft.Draft.read.Goals as goal
 
@@ -30,8 +30,7 @@ returns-in_err-add-clause-halt g c =
     rw (p.1, p.2, ← c.lines.invariant.1) stops
 
 nothing_left : (rest : List ℕ) (b : Bool) → b ≡ eqb (length rest) 0 → b ≡ true → rest ≡ []
-nothing_left [] b is h = refl
-nothing_left (octet ∷ rest) b is h = grind (arith, common_steps, eqb-true)
+nothing_left rest b is h = grind (arith, common_steps, eqb-true)
 
 pub returns-then-settle-clause-draft : goal.returns-then-settle-clause-draft
 returns-then-settle-clause-draft g c =

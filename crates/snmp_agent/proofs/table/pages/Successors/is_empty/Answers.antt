@@ -5,9 +5,7 @@ use Rattle.snmp_agent.specs.{declared.table.page.Page.Page, table.Pages.entries_
 use Rattle.snmp_agent.proofs.table.pages.Successors.is_empty.Goals as goal
 
 none : (rows : List VarBind) (pages : List Page) → length rows ≡ 0 → length pages ≡ 0 → entries_of rows ++ entries_in pages ≡ []
-none [] [] rows_none pages_none = refl
-none [] (page ∷ pages) rows_none pages_none = absurd (omega (arith, pages_none))
-none (row ∷ rows) pages rows_none pages_none = absurd (omega (arith, rows_none))
+none rows pages rows_none pages_none = grind (arith, common_steps)
 
 page_left : (rows : List VarBind) (more : List (List ℕ × Datum)) → 1 ≤ length rows → entries_of rows ++ more ≡ [] → ⊥
 page_left [] more some e = omega (arith, some)

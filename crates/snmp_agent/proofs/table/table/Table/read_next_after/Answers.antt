@@ -1,4 +1,4 @@
-use Rattle.std.proofs.Common.{◌≡◌, List, ℕ, take, drop, sym, ◌∙◌, ap, subst}
+use Rattle.std.proofs.Common.{◌≡◌, List, ℕ, take, ◌∙◌, ap}
 use Rattle.snmp_wire.specs.Message.{Datum, var_bind}
 use Rattle.snmp_agent.specs.{table.Places.last_name, table.Pages.AreBehind, table.Table.IsNext, table.Table.IsNextAfter}
 use Rattle.snmp_agent.proofs.{Answering.next_after_name, Answering.next_after_value, Following.asked_past, Following.behind_past}
@@ -12,12 +12,9 @@ answered c =
     let behind : AreBehind view o rows = c.after-rows.ensures in
     let at : c.skip.new.name ≡ last_name o (take c.args.rounds rows) =
     c.skip.ensures.name ∙ ap (λ (p : List ℕ). last_name p (take c.args.rounds rows)) c.read_into.ensures in
-    let here : AreBehind view c.skip.new.name c.skip.new.self = subst (λ (es : List (List ℕ × Datum)). AreBehind view c.skip.new.name es)
-    (sym c.skip.ensures.left)
-    (subst (λ (p : List ℕ). AreBehind view p (drop c.args.rounds rows)) (sym at) (behind_past view c.args.rounds o rows behind)) in
+    let here : AreBehind view c.skip.new.name c.skip.new.self = rw (c.skip.ensures.left, at) (behind_past view c.args.rounds o rows behind) in
     let next : IsNext view c.skip.new.name (var_bind c.advance.new.binding) = c.advance.ensures.next view here in
-    asked_past c.order.ensures.less view c.args.rounds o behind.0 rows behind.1 (var_bind c.advance.new.binding)
-    (subst (λ (p : List ℕ). IsNext view p (var_bind c.advance.new.binding)) at next)
+    asked_past c.order.ensures.less view c.args.rounds o behind.0 rows behind.1 (var_bind c.advance.new.binding) (rw (← at) next)
 
 pub returns : goal.returns
 returns c = record {
