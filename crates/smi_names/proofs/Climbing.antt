@@ -24,11 +24,19 @@ news-set [] p h e = absurd (omega arith)
 news-set (m ∷ ms) zero h e = let e' : m ≡ M.New = e in rw e' (omega arith)
 news-set (m ∷ ms) (suc p) h e = let r = news-set ms p (omega arith) e in omega arith
 
+-- what is marked stays so, and the place is
+pub marked : (marks : List Mark) (at p : ℕ) (m : Mark) → is_new m ≡ false → at < length marks → mark_at marks p ≢ M.New
+    → mark_at (set marks at m) p ≢ M.New
+marked marks at p m old inside other = grind (arith, common_steps, cases_eq, get_or-set_same, get_or-set_other)
+
 module _ (next : List (Option ℕ)) where
-  -- one step down
+  -- one step up, and one step down
+  has_end_from : (p : ℕ) (to : Option ℕ) → next_at next p ≡ to → ((q : ℕ) → to ≡ Some q → HasEnd (next_at next) q) → HasEnd (next_at next) p
+  has_end_from p None e f = ends e
+  has_end_from p (Some q) e f = leads_on e (f q refl)
+
   below : {p q : ℕ} → HasEnd (next_at next) p → next_at next p ≡ Some q → HasEnd (next_at next) q
-  below (ends e) h = cc
-  below {p} {q} (leads_on {a} {b} e r) h = let same : b ≡ q = cc in subst (λ x. HasEnd (next_at next) x) same r
+  below h g = grind arith
 
   pub Leads-push : (path : List ℕ) (from : Option ℕ) (p : ℕ) → Leads next path from (Some p) → Leads next (path ++ p ∷ []) from (next_at next p)
   Leads-push [] from p e = (e, refl)
@@ -67,8 +75,7 @@ module _ (next : List (Option ℕ)) where
   -- places that lead back among themselves have no end
   no_end : (S : ℕ → Type 0) → ((p : ℕ) → S p → (q : ℕ) × (next_at next p ≡ Some q) × S q) → {p : ℕ} → HasEnd (next_at next) p → S p → ⊥
   no_end S closed {p} (ends e) s = let r = closed p s in let f = r.1 in cc
-  no_end S closed {p} (leads_on {a} {b} e h) s =
-      let r = closed p s in let f = r.1 in let same : r.0 ≡ b = cc in no_end S closed h (subst S same r.2)
+  no_end S closed {p} (leads_on {a} {b} e h) s = grind (arith, common_steps, no_end S closed h)
 
   module _ (marks : List Mark) (order path : List ℕ) (kept : Keeps next marks order path) where
     pub Keeps-met : (at : ℕ) → at < length next → mark_at marks at ≡ M.New → Keeps next (set marks at M.Met) order (path ++ at ∷ [])
@@ -78,10 +85,7 @@ module _ (next : List (Option ℕ)) where
       along = All-push (λ p. p < length next) path at kept.along inside;
       only_ended = kept.only_ended;
       after_next = kept.after_next;
-      settled = λ p e. elim (cases_eq p at) [
-        | inl same ↦ let here : mark_at (set marks at M.Met) p ≡ M.Met = rw same (get_or-set_same marks at M.Met M.New (omega (arith, kept.long))) in cc
-        | inr other ↦ kept.settled p (sym (get_or-set_other marks at p M.Met M.New other) ∙ e)
-      ];
+      settled = λ p e. grind (arith, common_steps, cases_eq, get_or-set_same, get_or-set_other, kept.settled p, kept.long);
       met = λ p e h. elim (cases_eq p at) [
         | inl same ↦ rw same (Contains-push path at)
         | inr other ↦ Contains-append_left path (at ∷ []) p (kept.met p (sym (get_or-set_other marks at p M.Met M.New other) ∙ e) h)
@@ -140,10 +144,6 @@ module _ (next : List (Option ℕ)) where
           ]
         ];
       }
-    where
-      has_end_from : (p : ℕ) (to : Option ℕ) → next_at next p ≡ to → ((q : ℕ) → to ≡ Some q → HasEnd (next_at next) q) → HasEnd (next_at next) p
-      has_end_from p None e f = ends e
-      has_end_from p (Some q) e f = leads_on e (f q refl)
 
   -- a place that leads nowhere is settled by itself
   pub Keeps-alone : (marks : List Mark) (order : List ℕ) (p : ℕ) → Keeps next marks order [] → p < length next → next_at next p ≡ None
@@ -166,15 +166,8 @@ module _ (next : List (Option ℕ)) where
         from = l.from;
         to = Some p;
         leads = back.0;
-        settled = λ q e. let same : p ≡ q = cc in (
-          subst (λ x. HasEnd (next_at next) x) same (has_end_to p l.to back.1 (λ r f. (l.settled r f).0)),
-          λ _. subst (λ x. Contains (order ++ p ∷ []) x) same (Contains-push order p),
-        );
+        settled = λ q e. let same : q ≡ p = cc in rw same (has_end_from p l.to back.1 (λ r f. (l.settled r f).0), λ _. Contains-push order p);
       }
-    where
-      has_end_to : (p : ℕ) (to : Option ℕ) → next_at next p ≡ to → ((q : ℕ) → to ≡ Some q → HasEnd (next_at next) q) → HasEnd (next_at next) p
-      has_end_to p None e f = ends e
-      has_end_to p (Some q) e f = leads_on e (f q refl)
 
   -- a climb that stopped at no place that is met, nor at a new one, has come to an end
   pub IsSettled-stopped : (marks : List Mark) (order path : List ℕ) (to : Option ℕ) → Keeps next marks order path
@@ -187,6 +180,4 @@ module _ (next : List (Option ℕ)) where
   ]
     where
       left : (m : Mark) → m ≢ M.New → m ≢ M.Met → m ≡ M.Settled
-      left M.New f g = absurd (f refl)
-      left M.Met f g = absurd (g refl)
-      left M.Settled f g = refl
+      left m f g = grind (arith, common_steps)

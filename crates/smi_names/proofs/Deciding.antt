@@ -8,8 +8,7 @@ use Rattle.smi_names.specs.meaning.Scopes.{NamePlaces, content_of, decision_of, 
 -- what is known of an entry's name decides it
 decided_by : (m : Module) (e : Entry) (r : Option Decision) → e.module.now ≡ m → decided_as m e.name.now r ≡ Some (content_of e)
     → r ≡ Some (decision_of e.decider)
-decided_by m e None home says = cc
-decided_by m e (Some v) home says = grind (arith, common_steps)
+decided_by m e r home says = grind (arith, common_steps)
 
 -- entries that are added to none
 pub decided_all : (e0 e1 : List Entry) (s0 s1 : NamePlaces) (m : Module) (i : ℕ) (f : List ℕ → Option Decision) → (a : KnowsMore e0 s0 e1 s1 m i f)

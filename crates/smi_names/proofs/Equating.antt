@@ -1,7 +1,7 @@
 -- A name's place has what decides the name, so the chain of places is that of names.
-use Rattle.std.proofs.Common.{◌≡◌, ℕ, ◌+◌, ◌-◌, ◌≤◌, ◌==◌, ◌&&◌, inl, inr, Bool, true, false, cond, List, [], ◌∷◌, length, map, unwrap_or, is_some}
-use Rattle.std.proofs.Common.{MatchOption, Option, Some, None, refl, sym, ◌∙◌, arith}
-use Rattle.std.proofs.lemmas.Bool.{cases_lt, eqb-true}
+use Rattle.std.proofs.{lemmas.Grind.common_steps, lemmas.Bool.cases_lt, lemmas.Bool.eqb-true}
+use Rattle.std.proofs.Common.{◌≡◌, ℕ, ◌-◌, ◌≤◌, ◌==◌, ◌&&◌, inl, inr, Bool, true, List, [], ◌∷◌, length, map, unwrap_or, is_some}
+use Rattle.std.proofs.Common.{MatchOption, Option, Some, None, refl, sym, ◌∙◌, arith, subst}
 use Rattle.std.proofs.lemmas.Option.{slice_get-map, slice_get_past, slice_get_within, get_or_from_slice_get}
 use Rattle.std.specs.{List.slice_get, List.find, List.position_from, Option.option_and_then, Option.option_map, Borrow.Bor}
 use Rattle.smi_names.specs.{chains.Chain.nowhere, chains.Resolution.ComesTo, meaning.Names.IsSourced, meaning.Directory.place_by}
@@ -12,18 +12,14 @@ use Rattle.smi_names.specs.declared.chains.resolution.Resolution.TheVariants as 
 use Rattle.smi_text.specs.{trees.Mark.same_text, declared.trees.tree.Module.Module}
 use Rattle.smi_names.specs.meaning.Meaning.{QualifiedName, Decision, decision, origin, origin_by, origin_in, module_named}
 use Rattle.smi_names.specs.meaning.Scopes.{NamePlaces, Content, content_of, place_in, known, decided_as, IsDecided}
-use Rattle.smi_names.proofs.{Knowing.get_within, Knowing.same, Placing.module_found, Placing.module_missing}
+use Rattle.smi_names.proofs.{Knowing.get_within, Knowing.same, Placing.IsFirst, Placing.is_first}
 
 pub past_get : {X : Type 0} (xs : List X) (i : ℕ) → slice_get xs i ≡ None → length xs ≤ i
 past_get xs i e = elim (cases_lt i (length xs)) [ inl l ↦ let r = get_within xs i l in let h = r.1 in absurd (cc) | inr l ↦ l ]
 
 pub find_true : (t : Module → Bool) (ms : List Module) (m : Module) → find t ms ≡ Some m → t m ≡ true
 find_true t [] m e = absurd (cc)
-find_true t (x ∷ ms) m e = by (t x) refl e (λ h. find_true t ms m h)
-  where
-    by : (b : Bool) → t x ≡ b → cond b (Some x) (find t ms) ≡ Some m → (find t ms ≡ Some m → t m ≡ true) → t m ≡ true
-    by true h e ih = let is : x ≡ m = cc in rw (sym is) h
-    by false h e ih = ih e
+find_true t (x ∷ ms) m e = grind (arith, common_steps, find_true t ms m)
 
 -- what decides a name, by what its place has
 pub record IsDecidedBy (ms : List Module) (a : QualifiedName) (c : Content) : Type 0 where
@@ -35,25 +31,22 @@ pub record IsDecidedBy (ms : List Module) (a : QualifiedName) (c : Content) : Ty
 pub is_decided : (ms : List Module) (a : QualifiedName) (c : Content) → content_named ms a ≡ Some c → IsDecidedBy ms a c
 is_decided ms a c e = of_module (module_named ms a.home) refl e
   where
-    content : Module → Decision → Content
-    content m d = record { home = m; name = a.name; decided = d }
-
-    of_decision : (m : Module) → module_named ms a.home ≡ Some m → (d : Option Decision) → decision m a.name ≡ d → decided_as m a.name d ≡ Some c
-        → IsDecidedBy ms a c
-    of_decision m named None by e = absurd (cc)
-    of_decision m named (Some d) by e =
-        let is : record { home = m; name = a.name; decided = d } ≡ c = cc in
-        rw (← is) (record {
-          named = named;
-          by = by;
-          name = refl;
-          home = same m.name.octets a.home (find_true (λ n. same_text n.name.octets a.home) ms m named);
-        })
+    of_decision : (m : Module) → module_named ms a.home ≡ Some m → m.name.octets ≡ a.home → (d : Option Decision) → decision m a.name ≡ d
+        → decided_as m a.name d ≡ Some c → IsDecidedBy ms a c
+    of_decision m named home d by e = grind (arith, common_steps)
 
     of_module : (r : Option Module) → module_named ms a.home ≡ r → option_and_then (λ m. decided_as m a.name (decision m a.name)) r ≡ Some c
         → IsDecidedBy ms a c
     of_module None named e = absurd (cc)
-    of_module (Some m) named e = of_decision m named (decision m a.name) refl e
+    of_module (Some m) named e =
+        let home = same m.name.octets a.home (find_true (λ n. same_text n.name.octets a.home) ms m named) in
+        of_decision m named home (decision m a.name) refl e
+
+-- the first module of a name, by its place
+first_named : (ms : List Module) (d : Directory) → IsDirectory ms d → (x : List ℕ) (r : Option ℕ) → place_in d.homes x ≡ r
+    → IsFirst (λ (m : Module). same_text m.name.octets x) 0 ms (module_named ms x) r
+first_named ms d dir x r e =
+    let t = λ (m : Module). same_text m.name.octets x in subst (λ s. IsFirst t 0 ms (module_named ms x) s) (sym (dir.placed x) ∙ e) (is_first t 0 ms)
 
 -- what the place of a name has
 pub entry_at : (ms : List Module) (d : Directory) → IsDirectory ms d → (a : QualifiedName)
@@ -61,32 +54,25 @@ pub entry_at : (ms : List Module) (d : Directory) → IsDirectory ms d → (a : 
     ≡ option_and_then (λ m. decided_as m a.name (decision m a.name)) (module_named ms a.home)
 entry_at ms d dir a = by (place_in d.homes a.home) refl
   where
-    es : List Entry
-    es = d.entries.items
-
-    t : Module → Bool
-    t = λ m. same_text m.name.octets a.home
-
     inner : (m : Module) (scope : NamePlaces) → known d.entries.items scope a.name ≡ decided_as m a.name (decision m a.name)
         → (r : Option ℕ) → place_in scope a.name ≡ r
         → option_map content_of (slice_get d.entries.items (unwrap_or r (length d.entries.items))) ≡ decided_as m a.name (decision m a.name)
-    inner m scope k None e = rw (slice_get_past d.entries.items (length d.entries.items) (omega arith)) (rw e at k)
-    inner m scope k (Some p) e = rw e at k
+    inner m scope k r e = grind (arith, common_steps, slice_get_past)
 
     by : (r : Option ℕ) → place_in d.homes a.home ≡ r
         → option_map content_of (slice_get d.entries.items
         (unwrap_or (option_and_then (λ i. option_and_then (λ scope. place_in scope a.name) (slice_get d.scopes.items i)) r) (length d.entries.items)))
         ≡ option_and_then (λ m. decided_as m a.name (decision m a.name)) (module_named ms a.home)
     by None e =
-        let none = module_missing (λ m. same_text m.name.octets a.home) 0 ms (sym (dir.placed a.home) ∙ e) in
+        let none : module_named ms a.home ≡ None = first_named ms d dir a.home None e in
         rw (slice_get_past d.entries.items (length d.entries.items) (omega arith), none) refl
     by (Some i) e =
-        let found = module_found (λ m. same_text m.name.octets a.home) 0 ms i (sym (dir.placed a.home) ∙ e) in
-        let m = found.0 in
+        let found = first_named ms d dir a.home (Some i) e in
+        let m = found.2 in
         let all : i - 0 ≡ i = omega arith in
-        let at : slice_get ms i ≡ Some found.0 = rw all at found.1 in
-        let s = get_within d.scopes.items i (omega (arith, slice_get_within ms i found.0 at, dir.named.long)) in
-        rw (s.1, found.2) (inner m s.0 (dir.named.each i m s.0 at s.1 a.name) (place_in s.0 a.name) refl)
+        let at : slice_get ms i ≡ Some found.2 = rw all at found.3 in
+        let s = get_within d.scopes.items i (omega (arith, found.1, dir.named.long)) in
+        rw (s.1, found.4) (inner m s.0 (dir.named.each i m s.0 at s.1 a.name) (place_in s.0 a.name) refl)
 
 -- a name without a place comes from nowhere
 pub undecided : (a : QualifiedName) (r : Option Module) → None ≡ option_and_then (λ m. decided_as m a.name (decision m a.name)) r → origin_in a r ≡ nowhere
@@ -94,8 +80,7 @@ undecided a None e = refl
 undecided a (Some m) e = step (decision m a.name) e
   where
     step : (v : Option Decision) → None ≡ decided_as m a.name v → origin_by a v ≡ nowhere
-    step None e = refl
-    step (Some v) e = absurd (cc)
+    step v e = grind (arith, common_steps)
 
 module _ (ms : List Module) (d : Directory) (rs : List Resolution) (dir : IsDirectory ms d) (is : AreResolved (known_names ms d) rs) where
   -- what the names at a place resolve to
@@ -120,9 +105,7 @@ module _ (ms : List Module) (d : Directory) (rs : List Resolution) (dir : IsDire
       resolved_at p (record { home = m.name.octets; name = x }) r (by (slice_get d.entries.items p) refl entry)
     where
       both_true : (a b : Bool) → (a && b) ≡ true → (a ≡ true) × (b ≡ true)
-      both_true true true e = (refl, refl)
-      both_true true false e = cc
-      both_true false b e = cc
+      both_true a b e = grind (arith, common_steps)
 
       by : (s : Option Entry) → slice_get d.entries.items p ≡ s → is_entry_of s i x ≡ true
           → slice_get (map content_of d.entries.items) p ≡ content_named ms (record { home = m.name.octets; name = x })
@@ -142,18 +125,11 @@ module _ (ms : List Module) (d : Directory) (rs : List Resolution) (dir : IsDire
 
 pub decided_at : (x : List ℕ) (s : Option Content) (r : Option Module) → s ≡ option_and_then (λ m. decided_as m x (decision m x)) r
     → option_map (λ c. c.decided) s ≡ option_and_then (λ m. decision m x) r
-decided_at x s None e = rw e refl
-decided_at x s (Some m) e = rw e (step (decision m x))
-  where
-    step : (v : Option Decision) → option_map (λ (c : Content). c.decided) (decided_as m x v) ≡ v
-    step None = refl
-    step (Some v) = refl
+decided_at x s r e = grind (arith, common_steps)
 
 pub loaded : (t : Module → Bool) (j : ℕ) (ms : List Module) → is_some (position_from t j ms) ≡ is_some (find t ms)
-loaded t j [] = refl
-loaded t j (m ∷ ms) = by (t m) (loaded t (j + 1) ms)
+loaded t j ms = by (position_from t j ms) (is_first t j ms)
   where
-    by : (b : Bool) → is_some (position_from t (j + 1) ms) ≡ is_some (find t ms)
-        → is_some (cond b (Some j) (position_from t (j + 1) ms)) ≡ is_some (cond b (Some m) (find t ms))
-    by true h = refl
-    by false h = h
+    by : (r : Option ℕ) → IsFirst t j ms (find t ms) r → is_some r ≡ is_some (find t ms)
+    by None f = rw f refl
+    by (Some k) f = rw f.4 refl

@@ -16,10 +16,7 @@ module _ {X : Type 0} (Right : ℕ → X → Type 0) (start past : X) where
 
   module _ (n : ℕ) (beyond : (p : ℕ) → n ≤ p → Right p past) where
     pub Fills-start : Fills [] (replicate n start)
-    Fills-start = λ p. elim (cases_lt p n) [
-      | inl there ↦ inr (get_or-replicate n p start past there, λ m. absurd (omega (arith, m.1)))
-      | inr out ↦ inl (rw (get_or_past (replicate n start) p past (omega (arith, out, length-replicate n start))) (beyond p out))
-    ]
+    Fills-start = grind (arith, common_steps, get_or-replicate, get_or_past, length-replicate)
 
     module _ (next : List (Option ℕ)) (order : List ℕ) (xs : List X) (places : length next ≡ n) (long : length xs ≡ n) where
       pub Fills-step : (i : ℕ) (x : X) → Fills (take i order) xs → i < length order → get_or order i 0 < n → ComeAfterNext next order
@@ -33,10 +30,4 @@ module _ {X : Type 0} (Right : ℕ → X → Type 0) (start past : X) where
 
       pub filled : Fills order xs → ((p : ℕ) → p < length next → HasEnd (next_at next) p → Contains order p)
           → (p : ℕ) → Right p (get_or xs p past) ⊎ ((HasEnd (next_at next) p → ⊥) × (get_or xs p past ≡ start))
-      filled fills complete p = elim (fills p) [
-        | inl right ↦ inl right
-        | inr out ↦ elim (cases_lt p n) [
-          | inl there ↦ inr (λ h. out.1 (complete p (omega arith) h), out.0)
-          | inr past_all ↦ inl (rw (get_or_past xs p past (omega arith)) (beyond p past_all))
-        ]
-      ]
+      filled fills complete p = grind (arith, cases_lt, get_or_past)

@@ -1,19 +1,17 @@
 -- Nodes and warnings are added at the end.
 use Rattle.std.proofs.{lemmas.Grind.common_steps, lemmas.List.append-nil, lemmas.List.length_push}
-use Rattle.std.proofs.Common.{◌≡◌, ℕ, zero, suc, Bool, true, false, cond, is_some, List, [], ◌∷◌, ◌++◌, length, take, Some, None, refl, sym, ap, ◌∙◌}
-use Rattle.std.proofs.Common.{arith, append_assoc}
-use Rattle.std.specs.List.{slice_get}
-use Rattle.smi_names.specs.{chains.Resolution.ComesTo, meaning.Meaning.origin, meaning.Meaning.module_named, nodes.Imports.import_warnings}
+use Rattle.std.proofs.Common.{◌≡◌, ℕ, zero, suc, false, is_some, List, [], ◌∷◌, ◌++◌, length, take, Some, None, refl, sym, ap, ◌∙◌}
+use Rattle.std.proofs.Common.{arith, append_assoc, Result, Ok, Err, OnOk}
+use Rattle.std.specs.{List.slice_get, declared.alloc.AllocError.AllocError}
+use Rattle.smi_names.specs.{chains.Resolution.ComesTo, meaning.Meaning.origin, meaning.Meaning.module_named}
 use Rattle.smi_names.specs.{declared.nodes.source.Source.Source, declared.nodes.gather.Gathered.Gathered, declared.nodes.warning.Warning.Warning}
 use Rattle.smi_names.specs.declared.chains.resolution.Resolution.{Resolution}
 use Rattle.smi_text.specs.declared.trees.tree.Module.{Module}
-use Rattle.smi_text.specs.{declared.trees.tree.Def.Def, declared.trees.tree.Part.Part, trees.Lookup.identifier_value_of, trees.Mark.same_text}
+use Rattle.smi_text.specs.{declared.trees.tree.Def.Def, declared.trees.tree.Part.Part, trees.Lookup.identifier_value_of}
 use Rattle.smi_names.proofs.Knowing.{same_itself}
-use Rattle.smi_names.specs.nodes.Nodes.{Node, nodes_by, warnings_by, roots, none, more, is_loaded, left_out, loaded, none_yet, then_module}
+use Rattle.smi_names.specs.nodes.Nodes.{Node, nodes_by, warnings_by, roots, none, more, is_loaded, then_module}
 use Rattle.smi_names.specs.nodes.Gathered.{node_from, nodes_of, IsSourceOf, GrowsByDefinition, AddsNodes, AddsDefinition, AddsDefinitions, AddsModule}
 use Rattle.smi_names.specs.nodes.Gathered.{AreGathered}
-use Rattle.smi_names.specs.declared.nodes.source.Source.TheVariants as S
-use Rattle.smi_names.specs.declared.nodes.warning.Warning.TheVariants as W
 
 nodes_of-push : (ms : List Module) (ss : List Source) (os : List (List ℕ)) (s : Source) (o : List ℕ) → length ss ≡ length os
     → nodes_of ms (ss ++ s ∷ []) (os ++ o ∷ []) ≡ nodes_of ms ss os ++ node_from ms s o ∷ []
@@ -30,14 +28,16 @@ pub AddsNodes-extended : (ms : List Module) (old new : Gathered) (s : Source) (m
 AddsNodes-extended ms old new s m d r long is e = grind (arith, common_steps, length_push, append-nil, nodes_of-push)
 
 pub AddsDefinition-by : (ms : List Module) (old new : Gathered) (s : Source) (m : Module) (d : Def) (r : Resolution) (v : List Part)
-    → length old.sources.items ≡ length old.oids.items → IsSourceOf ms s m d → identifier_value_of d.kind ≡ Some v
-    → ComesTo (origin ms) (record { home = m.name.octets; name = d.label.octets }) r → GrowsByDefinition old new s m d r → AddsDefinition ms old new m d
-AddsDefinition-by ms old new s m d r v long is value comes e = record {
+    (out : Result (Unit {0}) AllocError) → length old.sources.items ≡ length old.oids.items → IsSourceOf ms s m d
+    → identifier_value_of d.kind ≡ Some v → ComesTo (origin ms) (record { home = m.name.octets; name = d.label.octets }) r
+    → OnOk out (GrowsByDefinition old new s m d r) → OnOk out (AddsDefinition ms old new m d)
+AddsDefinition-by ms old new s m d r v (Ok u) long is value comes e = record {
   ns = nodes_by m d r;
   ws = warnings_by m d r;
   gives = rw value (r, comes, refl, refl);
   adds = AddsNodes-extended ms old new s m d r long is e;
 }
+AddsDefinition-by ms old new s m d r v (Err x) long is value comes e = tt
 
 pub AddsDefinition-none : (ms : List Module) (g : Gathered) (m : Module) (d : Def) → length g.sources.items ≡ length g.oids.items
     → identifier_value_of d.kind ≡ None → AddsDefinition ms g g m d
@@ -85,47 +85,9 @@ pub AddsNodes-warnings : (ms : List Module) (old new : Gathered) (ws : List Warn
     → AddsNodes ms old new [] ws
 AddsNodes-warnings ms old new ws long s o w = grind (arith, common_steps, append-nil)
 
-pub AddsModule-left_out : (ms : List Module) (old new : Gathered) (before : List Module) (m : Module) → length old.sources.items ≡ length old.oids.items
-    → is_loaded before m.name.octets ≡ true
-    → new.sources.items ≡ old.sources.items → new.oids.items ≡ old.oids.items
-    → new.warnings.items ≡ old.warnings.items ++ W.DoubleModule m.name.octets ∷ []
-    → AddsModule ms old new before m
-AddsModule-left_out ms old new before m long double s o w = record {
-  ns = [];
-  ws = W.DoubleModule m.name.octets ∷ [];
-  brings = left_out double;
-  adds = AddsNodes-warnings ms old new (W.DoubleModule m.name.octets ∷ []) long s o w;
-}
-
-pub AddsModule-loaded : (ms : List Module) (a b c : Gathered) (before : List Module) (m : Module) → length a.sources.items ≡ length a.oids.items
-    → is_loaded before m.name.octets ≡ false
-    → b.sources.items ≡ a.sources.items → b.oids.items ≡ a.oids.items → b.warnings.items ≡ a.warnings.items ++ import_warnings ms m
-    → AddsDefinitions ms b c m m.defs → AddsModule ms a c before m
-AddsModule-loaded ms a b c before m long first s o w f = record {
-  ns = f.ns;
-  ws = import_warnings ms m ++ f.ws;
-  brings = loaded f.ns f.ws first f.gathers;
-  adds = AddsNodes-then ms a b c [] f.ns (import_warnings ms m) f.ws (AddsNodes-warnings ms a b (import_warnings ms m) long s o w) f.adds;
-}
-
--- the definition at its place
-pub IsSourceOf-definition : (ms : List Module) (i k : ℕ) (m : Module) (d : Def) → slice_get ms i ≡ Some m → slice_get m.defs k ≡ Some d
-    → IsSourceOf ms (S.Definition i k) m d
-IsSourceOf-definition ms i k m d at there = λ o. rw (at, there) refl
-
-pub AreGathered-roots : (ms : List Module) (g : Gathered) → g.sources.items ≡ S.Root 0 ∷ (S.Root 1 ∷ (S.Root 2 ∷ []))
-    → g.oids.items ≡ (0 ∷ []) ∷ ((1 ∷ []) ∷ ((2 ∷ []) ∷ [])) → g.warnings.items ≡ [] → AreGathered ms g []
-AreGathered-roots ms g s o w = record { ns = []; long = rw (s, o) refl; nodes = rw (s, o) refl; loads = rw w none_yet }
-
 -- a module is the first of its name, if none before it has it
 pub named_first : (ms : List Module) (i : ℕ) (m : Module) → slice_get ms i ≡ Some m → is_loaded (take i ms) m.name.octets ≡ false
     → module_named ms m.name.octets ≡ Some m
 named_first [] i m at absent = absurd (cc)
 named_first (x ∷ ms) zero m at absent = grind (arith, common_steps, same_itself)
-named_first (x ∷ ms) (suc i) m at absent = by (same_text x.name.octets m.name.octets) absent (λ e. named_first ms i m at e)
-  where
-    by : (b : Bool) → is_some (cond b (Some x) (module_named (take i ms) m.name.octets)) ≡ false
-        → (is_loaded (take i ms) m.name.octets ≡ false → module_named ms m.name.octets ≡ Some m)
-        → cond b (Some x) (module_named ms m.name.octets) ≡ Some m
-    by true e f = cc
-    by false e f = f e
+named_first (x ∷ ms) (suc i) m at absent = grind (arith, common_steps, named_first ms i m, is_some)

@@ -1,9 +1,9 @@
 -- What scopes know, as names are entered.
 use Rattle.std.proofs.{lemmas.Grind.common_steps, lemmas.List.append-nil, lemmas.List.length_push, lemmas.Slice.Eq.bytes_eq-Decides}
-use Rattle.std.proofs.Common.{◌≡◌, ℕ, zero, suc, ◌<◌, ◌≤◌, ◌||◌, Bool, true, false, cond, List, [], ◌∷◌, ◌++◌, length, Option, Some, None, unwrap_or}
-use Rattle.std.proofs.Common.{refl, sym, ap, ◌∙◌, arith, append_assoc, get_or}
-use Rattle.std.proofs.lemmas.List.Elements.{All-nil, All-push, All-append}
-use Rattle.std.specs.List.{slice_get, find, list_any}
+use Rattle.std.proofs.{lemmas.Option.slice_get_cases, lemmas.List.Elements.All-nil, lemmas.List.Elements.All-push, lemmas.List.Elements.All-append}
+use Rattle.std.proofs.Common.{◌≡◌, ℕ, zero, suc, ◌<◌, ◌≤◌, Bool, true, false, cond, List, [], ◌∷◌, ◌++◌, length, Option, Some, None, unwrap_or}
+use Rattle.std.proofs.Common.{refl, sym, ap, ◌∙◌, arith, append_assoc, get_or, inl, inr}
+use Rattle.std.specs.List.{slice_get}
 use Rattle.smi_text.specs.{trees.Mark.same_text, declared.trees.tree.Module.Module}
 use Rattle.smi_names.specs.{meaning.Meaning.Decision, meaning.Meaning.or_else, declared.meaning.entry.Entry.Entry}
 use Rattle.smi_names.specs.meaning.Scopes.{Content, NamePlaces, content_of, place_in, known, decided_as, IsWithin, IsEntryOf, KnowsMore}
@@ -14,24 +14,7 @@ same xs ys e = (bytes_eq-Decides xs ys).0 e
 pub same_itself : (xs : List ℕ) → same_text xs xs ≡ true
 same_itself xs = (bytes_eq-Decides xs xs).1 refl
 
-pub find-append : {A : Type 0} (p : A → Bool) (xs ys : List A) → find p (xs ++ ys) ≡ or_else (find p xs) (find p ys)
-find-append p [] ys = refl
-find-append p (x ∷ xs) ys = by (p x) (find-append p xs ys)
-  where
-    by : (b : Bool) → find p (xs ++ ys) ≡ or_else (find p xs) (find p ys)
-        → cond b (Some x) (find p (xs ++ ys)) ≡ or_else (cond b (Some x) (find p xs)) (find p ys)
-    by true h = refl
-    by false h = h
-
-pub list_any-push : {A : Type 0} (p : A → Bool) (xs : List A) (y : A) → list_any p (xs ++ y ∷ []) ≡ (list_any p xs || p y)
-list_any-push p [] y = grind (arith, common_steps)
-list_any-push p (x ∷ xs) y = by (p x) (list_any-push p xs y)
-  where
-    by : (b : Bool) → list_any p (xs ++ y ∷ []) ≡ (list_any p xs || p y) → (b || list_any p (xs ++ y ∷ [])) ≡ ((b || list_any p xs) || p y)
-    by true h = refl
-    by false h = h
-
-get-append : {X : Type 0} (xs ys : List X) (i : ℕ) → i < length xs → slice_get (xs ++ ys) i ≡ slice_get xs i
+pub get-append : {X : Type 0} (xs ys : List X) (i : ℕ) → i < length xs → slice_get (xs ++ ys) i ≡ slice_get xs i
 get-append [] ys i l = absurd (omega arith)
 get-append (x ∷ xs) ys zero l = refl
 get-append (x ∷ xs) ys (suc i) l = get-append xs ys i (omega arith)
@@ -41,26 +24,21 @@ get-push_at [] y = refl
 get-push_at (x ∷ xs) y = get-push_at xs y
 
 pub get_within : {X : Type 0} (xs : List X) (i : ℕ) → i < length xs → (x : X) × (slice_get xs i ≡ Some x)
-get_within [] i l = absurd (omega arith)
-get_within (x ∷ xs) zero l = (x, refl)
-get_within (x ∷ xs) (suc i) l = get_within xs i (omega arith)
+get_within xs i l = elim (slice_get_cases xs i).1 [ inl r ↦ (r.0, r.2) | inr r ↦ absurd (omega arith) ]
 
 pub known-append : (old added : List Entry) (scope : NamePlaces) (x : List ℕ) → IsWithin old scope → known (old ++ added) scope x ≡ known old scope x
 known-append old added scope x within = grind (arith, common_steps, get-append)
 
 or_else_none : {A : Type 0} (o : Option A) → or_else o None ≡ o
-or_else_none None = refl
-or_else_none (Some x) = refl
+or_else_none o = grind (arith, common_steps)
 
 -- a place before the one that was offered is the name's own
 pub had_place : (r : Option ℕ) (p place : ℕ) → p ≡ unwrap_or r place → p < place → r ≡ Some p
-had_place None p place e l = let is : p ≡ place = e in absurd (omega (arith, is))
-had_place (Some q) p place e l = let is : p ≡ q = e in rw is refl
+had_place r p place e l = grind (arith, common_steps)
 
 -- any other place is the one that was offered, to a name without one, where all places are before it
 pub had_none : (r : Option ℕ) (p place : ℕ) → p ≡ unwrap_or r place → ((q : ℕ) → r ≡ Some q → q < place) → place ≤ p → r ≡ None
-had_none None p place e within l = refl
-had_none (Some q) p place e within l = let is : p ≡ q = e in absurd (omega (arith, is, within q refl))
+had_none r p place e within l = grind (arith, common_steps)
 
 -- a name without a place gets the one that was offered
 pub put_absent : (scope new : NamePlaces) (name : List ℕ) (place : ℕ) → place_in scope name ≡ None
@@ -128,20 +106,19 @@ module _ (old : List Entry) (scope : NamePlaces) (m : Module) (i : ℕ) (within 
           rw (at, before, get-push_at old e) (ap (λ v. Some v) says)
 
       itself : known (old ++ e ∷ []) new e.name.now ≡ Some (content_of e)
-      itself =
-          let at : place_in new e.name.now ≡ Some (length old) = places e.name.now ∙ rw (named, same_itself name) refl in
-          rw (at, get-push_at old e) refl
+      itself = grind (arith, common_steps, same_itself, get-push_at)
 
       inside : (x : List ℕ) (p : ℕ) (b : Bool) → cond b (Some (length old)) (place_in scope x) ≡ Some p → p < length (old ++ e ∷ [])
       inside x p true at = let is : length old ≡ p = cc in omega (arith, length_push old e)
       inside x p false at = omega (arith, within x p at, length_push old e)
 
-pub KnowsMore-then : (e0 e1 e2 : List Entry) (s0 s1 s2 : NamePlaces) (m : Module) (i : ℕ) (f g : List ℕ → Option Decision)
-    → KnowsMore e0 s0 e1 s1 m i f → KnowsMore e1 s1 e2 s2 m i g → KnowsMore e0 s0 e2 s2 m i (λ x. or_else (f x) (g x))
-KnowsMore-then e0 e1 e2 s0 s1 s2 m i f g a b = record {
-  knows = λ x. b.knows x ∙ rw (a.knows x) (both x (known e0 s0 x) (f x));
+-- what is known more speaks of each name by itself, so any function with these values says it
+pub KnowsMore-then : (e0 e1 e2 : List Entry) (s0 s1 s2 : NamePlaces) (m : Module) (i : ℕ) (f g h : List ℕ → Option Decision)
+    → KnowsMore e0 s0 e1 s1 m i f → KnowsMore e1 s1 e2 s2 m i g → ((x : List ℕ) → or_else (f x) (g x) ≡ h x) → KnowsMore e0 s0 e2 s2 m i h
+KnowsMore-then e0 e1 e2 s0 s1 s2 m i f g h a b same = record {
+  knows = λ x. b.knows x ∙ rw (a.knows x, sym (same x)) (both x (known e0 s0 x) (f x));
   added = a.added ++ b.added;
-  grown = b.grown ∙ rw a.grown append_assoc_of;
+  grown = b.grown ∙ rw a.grown (append_assoc e0 a.added b.added);
   of = All-append (IsEntryOf m i) a.added b.added a.of b.of;
   there = All-append (λ e. known e2 s2 e.name.now ≡ Some (content_of e)) a.added b.added
       (λ k e l. b.knows (get_or a.added k e).name.now ∙ rw (a.there k e l) refl) b.there;
@@ -150,14 +127,4 @@ KnowsMore-then e0 e1 e2 s0 s1 s2 m i f g a b = record {
   where
     both : (x : List ℕ) (k : Option Content) (d : Option Decision)
         → or_else (or_else k (decided_as m x d)) (decided_as m x (g x)) ≡ or_else k (decided_as m x (or_else d (g x)))
-    both x (Some c) d = refl
-    both x None None = refl
-    both x None (Some v) = refl
-
-    append_assoc_of : (e0 ++ a.added) ++ b.added ≡ e0 ++ (a.added ++ b.added)
-    append_assoc_of = append_assoc e0 a.added b.added
-
--- what is known more speaks of each name by itself, so a function with the same values does as well
-pub KnowsMore-same : (e0 e1 : List Entry) (s0 s1 : NamePlaces) (m : Module) (i : ℕ) (f g : List ℕ → Option Decision)
-    → KnowsMore e0 s0 e1 s1 m i f → ((x : List ℕ) → f x ≡ g x) → KnowsMore e0 s0 e1 s1 m i g
-KnowsMore-same e0 e1 s0 s1 m i f g a h = grind (arith, common_steps)
+    both x k d = grind (arith, common_steps)

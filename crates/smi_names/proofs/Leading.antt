@@ -20,13 +20,11 @@ module _ (k : KnownNames) (leads : Def → Option (List ℕ)) where
       (λ q. (b : QualifiedName) × (next_name k.modules leads a ≡ Some b) × (slice_get k.names q ≡ content_named k.modules b))
 
   leads_nowhere : (a : QualifiedName) (to : Option ℕ) → Leads a to → next_name k.modules leads a ≡ None → to ≡ None
-  leads_nowhere a None l e = refl
-  leads_nowhere a (Some q) l e = let other = l.1 in cc
+  leads_nowhere a to l e = grind (arith, common_steps)
 
   pub leads_to : (a b : QualifiedName) (to : Option ℕ) → Leads a to → next_name k.modules leads a ≡ Some b
       → (q : ℕ) × (to ≡ Some q) × (slice_get k.names q ≡ content_named k.modules b)
-  leads_to a b None l e = absurd (cc)
-  leads_to a b (Some q) l e = let other = l.1 in let is : l.0 ≡ b = cc in (q, refl, rw is at l.2)
+  leads_to a b to l e = grind (arith, common_steps)
 
   -- a chain of names that has an end is one of places
   pub has_end : (next : List (Option ℕ)) → ((p : ℕ) → IsNext k leads p (next_at next p)) → {a : QualifiedName} → HasEnd (next_name k.modules leads) a
@@ -106,8 +104,7 @@ module _ (ms : List Module) (d : Directory) (dir : IsDirectory ms d) (leads : De
     where
       by : (a : QualifiedName) (r : Option QualifiedName) → next_name ms leads a ≡ r → MatchOption (option_map (place_by d) r) (next_name ms leads a ≡ None)
           (λ q. (b : QualifiedName) × (next_name ms leads a ≡ Some b) × (slice_get (known_names ms d).names q ≡ content_named ms b))
-      by a None e = e
-      by a (Some b) e = (b, e, slice_get-map content_of d.entries.items (place_by d b) ∙ entry_at ms d dir b)
+      by a r e = grind (arith, common_steps, slice_get-map, entry_at)
 
   pub are_next : AreNext (known_names ms d) leads (map (next_place d leads) d.entries.items)
   are_next = record { long = length-map d.entries.items (next_place d leads) ∙ sym (length-map d.entries.items content_of); each = each_next }
@@ -115,8 +112,7 @@ module _ (ms : List Module) (d : Directory) (dir : IsDirectory ms d) (leads : De
 -- what a list has at the place to which a place leads
 pub far_of : {X : Type 0} (Right : ℕ → Option X → Type 0) (found : List (Option X)) (to : Option ℕ) → ((q : ℕ) → to ≡ Some q → Right q (at_place found q))
     → MatchOption to (option_and_then (λ q. at_place found q) to ≡ None) (λ q. Right q (option_and_then (λ q. at_place found q) to))
-far_of Right found None f = refl
-far_of Right found (Some q) f = f q refl
+far_of Right found to f = grind (arith, common_steps)
 
 module _ {X : Type 0} (k : KnownNames) (leads : Def → Option (List ℕ)) (means : ℕ × ℕ → Def → Option X → Option X) (next : List (Option ℕ))
     (are : AreNext k leads next) where

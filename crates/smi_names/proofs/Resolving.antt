@@ -1,10 +1,9 @@
 -- What the name at a place resolves to, by where its numbers come from, and by what the name that it leads to resolves to.
 use Rattle.std.proofs.{lemmas.Grind.common_steps, lemmas.Option.slice_get_past}
-use Rattle.std.proofs.Common.{◌≡◌, ℕ, ◌≤◌, ◌⊎◌, inl, inr, nat_le, List, [], ◌∷◌, ◌++◌, length, Option, Some, None, refl, sym, ap, ◌∙◌, subst, arith}
+use Rattle.std.proofs.Common.{◌≡◌, ℕ, ◌≤◌, ◌⊎◌, inl, inr, nat_le, List, [], ◌++◌, length, Option, Some, None, refl, sym, ap, ◌∙◌, arith}
 use Rattle.std.proofs.Common.{length-append}
-use Rattle.std.specs.{List.slice_get, Option.option_and_then, Option.option_map}
-use Rattle.smi_text.specs.{declared.trees.tree.Module.Module, declared.trees.tree.Part.Part, trees.Lookup.identifier_value_of}
-use Rattle.smi_text.specs.declared.trees.tree.Part.TheVariants as P
+use Rattle.std.specs.{List.slice_get, Option.option_and_then}
+use Rattle.smi_text.specs.declared.trees.tree.Module.{Module}
 use Rattle.smi_names.specs.chains.Chain.{Origin, numbers, after, nowhere, next_of, HasEnd, ends, leads_on, HasIdentifier, by_itself, after_another}
 use Rattle.smi_names.specs.chains.Chain.{here, further}
 use Rattle.smi_names.specs.{chains.Order.next_at, chains.Resolution.ComesTo, declared.chains.resolution.Resolution.Resolution, meaning.Scopes.Content}
@@ -12,8 +11,7 @@ use Rattle.smi_names.specs.{meaning.Scopes.qualified, meaning.Known.KnownNames, 
 use Rattle.smi_names.specs.{meaning.Along.next_name, meaning.Along.AreNext}
 use Rattle.smi_names.specs.chains.Resolving.{lengthened, followed_by, resolution_at, far_at, resolution_by}
 use Rattle.smi_names.specs.declared.chains.resolution.Resolution.TheVariants as R
-use Rattle.smi_names.specs.meaning.Meaning.{QualifiedName, Decision, decision, defined, imported, root, arcs, by_itself as numbers_of, after_name}
-use Rattle.smi_names.specs.meaning.Meaning.{origin, origin_by, origin_in, origin_of_value, module_named}
+use Rattle.smi_names.specs.meaning.Meaning.{QualifiedName, decision, origin, origin_by, origin_in, module_named}
 use Rattle.smi_names.specs.meaning.Parents.{parent_of, origin_here, AreResolved}
 use Rattle.smi_names.proofs.{Equating.is_decided, Equating.undecided, Leading.leads_to, Leading.has_end}
 
@@ -23,8 +21,7 @@ HasEnd-same f g same {a} (leads_on e h) = leads_on (sym (same a) ∙ e) (HasEnd-
 
 module _ {A : Type 0} (origin : A → Origin A) where
   below : {a b : A} → HasEnd (λ c. next_of (origin c)) a → next_of (origin a) ≡ Some b → HasEnd (λ c. next_of (origin c)) b
-  below (ends e) h = cc
-  below {a} {b} (leads_on {b = c} e r) h = let same : c ≡ b = cc in subst (λ x. HasEnd (λ y. next_of (origin y)) x) same r
+  below h g = grind (arith, common_steps)
 
   lengthened_comes : (a : A) (o ns : List ℕ) → HasIdentifier origin a (o ++ ns) → ComesTo origin a (lengthened o ns)
   lengthened_comes a o ns m = grind (arith, common_steps, nat_le, length-append)
@@ -45,34 +42,8 @@ module _ {A : Type 0} (origin : A → Origin A) where
 parents : (ms : List Module) (a : QualifiedName) → next_of (origin ms a) ≡ next_name ms parent_of a
 parents ms a = of_module (module_named ms a.home)
   where
-    renamed : Option QualifiedName → Option QualifiedName
-    renamed b = option_map (λ x. record { home = a.home; name = x }) (option_map (λ y. y.name) b)
-
-    numbered : (r : Option (List ℕ)) → next_of (numbers_of r) ≡ renamed (next_of (numbers_of r))
-    numbered None = refl
-    numbered (Some ns) = refl
-
-    named : (x : List ℕ) (r : Option (List ℕ)) → next_of (after_name (record { home = a.home; name = x }) r)
-        ≡ renamed (next_of (after_name (record { home = []; name = x }) r))
-    named x None = refl
-    named x (Some ns) = refl
-
-    of_value : (v : Option (List Part)) → next_of (origin_of_value a.home v) ≡ renamed (next_of (origin_of_value [] v))
-    of_value None = refl
-    of_value (Some []) = refl
-    of_value (Some (P.Name x ∷ rest)) = named x.octets (arcs rest)
-    of_value (Some (P.Number n ∷ rest)) = numbered (arcs (P.Number n ∷ rest))
-    of_value (Some (P.NamedNumber n ∷ rest)) = numbered (arcs (P.NamedNumber n ∷ rest))
-
-    of_decision : (v : Option Decision) → next_of (origin_by a v) ≡ next_by parent_of a v
-    of_decision None = refl
-    of_decision (Some (defined d)) = of_value (identifier_value_of d.kind)
-    of_decision (Some (imported i)) = refl
-    of_decision (Some (root n)) = refl
-
     of_module : (r : Option Module) → next_of (origin_in a r) ≡ next_by parent_of a (option_and_then (λ m. decision m a.name) r)
-    of_module None = refl
-    of_module (Some m) = of_decision (decision m a.name)
+    of_module r = grind (arith, common_steps)
 
 -- the names at a place resolve to this
 abbrev pub ResolvesAt : KnownNames → ℕ → Resolution → Type 0

@@ -1,14 +1,10 @@
 -- A place is met: the path goes on by it, and fewer places are new.
-use Rattle.std.proofs.{lemmas.Grind.common_steps, lemmas.List.get_or-set_same, lemmas.List.get_or-set_other, lemmas.Bool.cases_eq}
-use Rattle.std.proofs.Common.{rules, ◌≡◌, ◌≢◌, ℕ, ◌<◌, inl, inr, List, [], ◌∷◌, ◌++◌, Some, set, length, arith, sym}
-use Rattle.smi_names.specs.{private.chains.Search.Leads, private.chains.Search.mark_at, declared.chains.order.Mark.Mark}
+use Rattle.std.proofs.{lemmas.Grind.common_steps, lemmas.List.get_or-set_same}
+use Rattle.std.proofs.Common.{refl, rules, ◌≡◌, ◌<◌, inl, inr, [], ◌∷◌, ◌++◌, Some, set, length, arith, sym}
+use Rattle.smi_names.specs.{private.chains.Search.Leads, private.chains.Search.mark_at}
 use Rattle.smi_names.specs.declared.chains.order.Mark.TheVariants as M
-use Rattle.smi_names.proofs.Climbing.{news-set, Keeps-met, Leads-push}
+use Rattle.smi_names.proofs.Climbing.{marked, news-set, Keeps-met, Leads-push}
 use Rattle.smi_names.proofs.chains.order.Search.climb.Goals as goal
-
--- what is marked stays so, and the place is
-marked : (marks : List Mark) (at p : ℕ) → at < length marks → mark_at marks p ≢ M.New → mark_at (set marks at M.Met) p ≢ M.New
-marked marks at p inside old = grind (arith, common_steps, cases_eq, get_or-set_same, get_or-set_other)
 
 pub up-smaller : goal.up-smaller
 up-smaller c = grind (arith, common_steps, news-set)
@@ -27,7 +23,7 @@ up-preserved c =
         | inl same ↦ let here : c.in-Some.at ≡ c.args.start = cc in λ e.
             let met : mark_at (set c.up.self.marks.items c.in-Some.at M.Met) c.args.start ≡ M.Met = rw (sym here)
             (get_or-set_same c.up.self.marks.items c.in-Some.at M.Met M.New new.0) in cc
-        | inr old ↦ marked c.up.self.marks.items c.in-Some.at c.args.start new.0 old
+        | inr old ↦ marked c.up.self.marks.items c.in-Some.at c.args.start M.Met refl new.0 old
       ]),
-      λ p old. marked c.up.self.marks.items c.in-Some.at p new.0 (c.up.invariant.3 p old),
+      λ p old. marked c.up.self.marks.items c.in-Some.at p M.Met refl new.0 (c.up.invariant.3 p old),
     )

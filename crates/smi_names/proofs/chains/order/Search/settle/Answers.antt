@@ -1,13 +1,7 @@
 -- A new place is settled; one that is reached stays so.
-use Rattle.std.proofs.Common.{arith, rules, ◌≡◌, ◌≢◌, ℕ, ◌<◌, List, [], ◌∷◌, ◌++◌, set, length}
-use Rattle.std.proofs.{lemmas.Grind.common_steps, lemmas.List.get_or-set_same, lemmas.List.get_or-set_other, lemmas.Bool.cases_eq}
-use Rattle.smi_names.specs.{private.chains.Search.mark_at, declared.chains.order.Mark.Mark}
-use Rattle.smi_names.specs.declared.chains.order.Mark.TheVariants as M
+use Rattle.std.proofs.Common.{rules, ◌≡◌, [], ◌∷◌, ◌++◌}
 use Rattle.smi_names.proofs.Climbing.{Keeps-alone}
 use Rattle.smi_names.proofs.chains.order.Search.settle.Goals as goal
-
-marked : (marks : List Mark) (at p : ℕ) → at < length marks → mark_at marks p ≢ M.New → mark_at (set marks at M.Settled) p ≢ M.New
-marked marks at p inside old = grind (arith, common_steps, cases_eq, get_or-set_same, get_or-set_other)
 
 pub returns-in_ok-push-clause-kept : goal.returns-in_ok-push-clause-kept
 returns-in_ok-push-clause-kept c =

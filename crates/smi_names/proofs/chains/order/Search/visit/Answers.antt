@@ -1,14 +1,9 @@
 -- A path is left where it leads back, and else its last place is settled, again and again.
-use Rattle.std.proofs.{lemmas.Grind.common_steps, lemmas.List.get_or-set_same, lemmas.List.get_or-set_other, lemmas.Bool.cases_eq}
-use Rattle.std.proofs.Common.{rules, ◌≡◌, ◌≢◌, ℕ, ◌<◌, List, [], ◌∷◌, ◌++◌, Some, set, length, arith}
+use Rattle.std.proofs.Common.{refl, rules, ◌≡◌, ◌<◌, [], ◌∷◌, ◌++◌, Some, length, arith}
 use Rattle.std.proofs.lemmas.List.Elements.{All-contains, Contains-push}
-use Rattle.smi_names.specs.{private.chains.Search.mark_at, declared.chains.order.Mark.Mark}
 use Rattle.smi_names.specs.declared.chains.order.Mark.TheVariants as M
-use Rattle.smi_names.proofs.Climbing.{Keeps-settled, Leads-settled, Leads-pop, Keeps-left, IsSettled-stopped}
+use Rattle.smi_names.proofs.Climbing.{marked, Keeps-settled, Leads-settled, Leads-pop, Keeps-left, IsSettled-stopped}
 use Rattle.smi_names.proofs.chains.order.Search.visit.Goals as goal
-
-marked : (marks : List Mark) (at p : ℕ) → at < length marks → mark_at marks p ≢ M.New → mark_at (set marks at M.Settled) p ≢ M.New
-marked marks at p inside old = grind (arith, common_steps, cases_eq, get_or-set_same, get_or-set_other)
 
 pub down-preserved : goal.down-preserved
 down-preserved c =
@@ -25,8 +20,8 @@ down-preserved c =
     rw pushed (
       Keeps-settled c.args.next.now c.down.self.marks.items c.down.self.order.items rest place leads.to kept back.1 leads.settled,
       Leads-settled c.args.next.now c.down.self.order.items rest place leads inside,
-      marked c.down.self.marks.items place c.args.start here c.down.invariant.2,
-      λ p old. marked c.down.self.marks.items place p here (c.down.invariant.3 p old),
+      marked c.down.self.marks.items place c.args.start M.Settled refl here c.down.invariant.2,
+      λ p old. marked c.down.self.marks.items place p M.Settled refl here (c.down.invariant.3 p old),
     )
 
 pub returns-then-not-has_ended-clause-kept : goal.returns-then-not-has_ended-clause-kept

@@ -1,16 +1,24 @@
 -- Warnings of imports alone are added, and then what the definitions give.
-use Rattle.std.proofs.{Common.arith, Common.refl, Common.take, lemmas.Grind.common_steps}
-use Rattle.smi_names.specs.declared.nodes.gather.Gathered.{Gathered}
-use Rattle.smi_names.proofs.Gathering.{AddsModule-loaded, named_first}
+use Rattle.std.proofs.{Common.arith, Common.refl, Common.[], Common.◌++◌, lemmas.Grind.common_steps}
+use Rattle.smi_names.specs.{nodes.Imports.import_warnings, nodes.Nodes.loaded, declared.nodes.gather.Gathered.Gathered}
+use Rattle.smi_names.proofs.Gathering.{AddsNodes-then, AddsNodes-warnings, named_first}
 use Rattle.smi_names.proofs.nodes.gather.Gathered.add_loaded.Goals as goal
 
 pub returns : goal.returns
 returns c =
+    let ms = c.args.names.now in
+    let ws = import_warnings c.args.names.now c.args.module.now in
+    let f = c.in_ok-add_definitions.ensures.added in
     let old = c.args.self.now in
     let warned : Gathered = record { sources = old.sources; oids = old.oids; warnings = c.add_import_warnings.new.warnings } in
     record {
-      added = AddsModule-loaded c.args.names.now old warned c.add_definitions.new.self (take c.args.place c.args.names.now) c.args.module.now c.requires.long
-          c.requires.first refl refl c.in_ok-add_import_warnings.ensures c.in_ok-add_definitions.ensures.added;
+      added = record {
+        ns = f.ns;
+        ws = ws ++ f.ws;
+        brings = loaded f.ns f.ws c.requires.first f.gathers;
+        adds = AddsNodes-then ms old warned c.add_definitions.new.self [] f.ns ws f.ws
+            (AddsNodes-warnings ms old warned ws c.requires.long refl refl c.in_ok-add_import_warnings.ensures) f.adds;
+      };
     }
 
 -- no module before it has its name

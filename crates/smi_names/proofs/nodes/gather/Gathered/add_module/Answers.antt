@@ -1,8 +1,8 @@
 -- A warning alone is added for a name that is loaded.
 use Rattle.std.proofs.Common.{rules, ◌≡◌, ◌++◌, ◌∷◌, [], refl, take, true}
-use Rattle.smi_names.specs.{declared.nodes.gather.Gathered.Gathered, nodes.Nodes.is_loaded}
+use Rattle.smi_names.specs.{declared.nodes.gather.Gathered.Gathered, nodes.Nodes.is_loaded, nodes.Nodes.left_out}
 use Rattle.smi_names.specs.declared.nodes.warning.Warning.TheVariants as W
-use Rattle.smi_names.proofs.Gathering.{AddsModule-left_out}
+use Rattle.smi_names.proofs.Gathering.{AddsNodes-warnings}
 use Rattle.smi_names.proofs.nodes.gather.Gathered.add_module.Goals as goal
 
 pub returns-then-is_double : goal.returns-then-is_double
@@ -14,5 +14,10 @@ returns-then-is_double c =
     let warned = rw (name, c.as_bytes.ensures.octets) at pushed in
     let double : is_loaded (take c.args.place c.args.names.now) c.args.module.now.name.octets ≡ true = search rules in
     record {
-      added = AddsModule-left_out c.args.names.now old new (take c.args.place c.args.names.now) c.args.module.now c.requires.long double refl refl warned;
+      added = record {
+        ns = [];
+        ws = W.DoubleModule c.args.module.now.name.octets ∷ [];
+        brings = left_out double;
+        adds = AddsNodes-warnings c.args.names.now old new (W.DoubleModule c.args.module.now.name.octets ∷ []) c.requires.long refl refl warned;
+      };
     }

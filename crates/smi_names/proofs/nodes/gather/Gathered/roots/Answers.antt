@@ -1,8 +1,7 @@
 -- The three roots, each with its number.
 use Rattle.std.proofs.Common.{rules, ◌≡◌, [], ◌∷◌, ◌++◌, refl}
 use Rattle.smi_names.specs.declared.nodes.source.Source.TheVariants as S
-use Rattle.smi_names.specs.declared.nodes.gather.Gathered.{Gathered}
-use Rattle.smi_names.proofs.Gathering.{AreGathered-roots}
+use Rattle.smi_names.specs.nodes.Nodes.{none_yet}
 use Rattle.smi_names.proofs.nodes.gather.Gathered.roots.Goals as goal
 
 pub returns : goal.returns
@@ -14,5 +13,9 @@ returns c = λ ms.
     let o2 : c.push-4.new.self.items ≡ c.push-2.new.self.items ++ c.single-2.result ∷ [] = search rules in
     let o3 : c.push-6.new.self.items ≡ c.push-4.new.self.items ++ c.single-3.result ∷ [] = search rules in
     let w : c.new.result.items ≡ [] = search rules in
-    let g : Gathered = record { sources = c.push-5.new.self; oids = c.push-6.new.self; warnings = c.new.result } in
-    AreGathered-roots ms g (rw (s3, s2, s1) refl) (rw (o3, o2, o1, c.single.ensures, c.single-2.ensures, c.single-3.ensures) refl) w
+    record {
+      ns = [];
+      long = rw (s3, s2, s1, o3, o2, o1) refl;
+      nodes = rw (s3, s2, s1, o3, o2, o1, c.single.ensures, c.single-2.ensures, c.single-3.ensures) refl;
+      loads = rw w none_yet;
+    }
