@@ -10,7 +10,7 @@ use Rattle.snmp_walk.specs.{Request.request_of, Request.asked_for, Traffic.Traff
 use Rattle.snmp_walk.specs.declared.end.WalkEnd.TheVariants as ending
 use Rattle.snmp_walk.specs.Facts.{IsFresh, IsLastSent, IsEndedBy, IsLawfulEnd, HasNoReply, HasNone, IsDone, GivenFacts, WalkFacts, SendFacts, gets}
 use Rattle.snmp_walk.proofs.JoinLemmas.{variables_rise, variables_are, next_first, get_one, get_row, after_precedes}
-use Rattle.snmp_walk.proofs.{TableLemmas.part_is, TableLemmas.whole_is, ViewLemmas.only_one, TrailLemmas.last_name-append, PartLemmas.part_front}
+use Rattle.snmp_walk.proofs.{TableLemmas.part_is, TableLemmas.whole_is, RowLemmas.only_one, TrailLemmas.last_name-append, PartLemmas.part_front}
 use Rattle.snmp_walk.proofs.{FullLemmas.AreRoomy, FullLemmas.IsFast, FullLemmas.fast_few, SendLemmas.Sends, RowLemmas.IsOneTable}
 use Rattle.snmp_walk.proofs.SwiftLemmas.{left_end, swift_end, few_in, trail_in_rest, HasFew}
 use Rattle.std.proofs.{lemmas.List.nil_from_length, lemmas.Bool.false_from_ne_true}

@@ -1,18 +1,25 @@
 -- How a Get ends, and what its bindings and its end are to the names that it asked for.
 use Rattle.std.proofs.{lemmas.Grind.common_steps, lemmas.Bool.eqb-true, lemmas.Bool.false≢true, lemmas.List.map-append, lemmas.List.nil_from_length}
 use Rattle.std.proofs.Common.{◌≡◌, ◌≢◌, ◌⊎◌, inl, inr, ◌++◌, ◌<◌, ℕ, Bool, true, false, List, [], ◌∷◌, length, map, Result, Ok, Err, refl, sym, ◌∙◌}
-use Rattle.std.proofs.Common.{ap, subst, append_assoc, append-nil, length-append, arith}
+use Rattle.std.proofs.Common.{ap, subst, append_assoc, append-nil, length-append, arith, replicate}
 use Rattle.std.proofs.lemmas.Bool.Decides.{Decides-and, Decides-not, Decides-like, Decides-int_eq}
 use Rattle.std.specs.{Prelude.not, Prelude.◌&&◌, Prelude.◌==◌, Bool.nat_eq, Bool.Decides}
 use Rattle.std.specs.Cmp.Lexicographic.{pointwise, bytes_decides}
 use Rattle.snmp_oid.specs.Identifier.{wire}
-use Rattle.snmp_wire.specs.{Canon.canon, Message.Message, Message.VarBind, Message.end_of_mib_view}
-use Rattle.snmp_walk.specs.{Facts.IsDone, private.Course.Heard, Link.Outcome, Names.is_end, Read.Delivers, Read.all_given, Read.is_refused, Sink.Took}
-use Rattle.snmp_walk.specs.{declared.end.SinkFault.SinkFault, declared.end.WalkEnd.WalkEnd, declared.rows.Step.Step}
-use Rattle.snmp_walk.specs.Get.{AreFor, AreForNames, IsEndOfGet, IsReasonOfGet, MeansToGet, answers_of, are_for, step_of}
+use Rattle.snmp_wire.specs.{Canon.canon, Message.Message, Message.VarBind, Message.end_of_mib_view, Spelling.Spells, Range.IsMessageInRange}
+use Rattle.snmp_walk.specs.{Facts.IsDone, private.Course.Heard, Link.Outcome, Link.Agents, Link.OneOf, Link.AreLawful, Link.IsReplyFrom, Names.is_end}
+use Rattle.snmp_walk.specs.{Read.Delivers, Read.all_given, Read.is_refused, Sink.Took, declared.end.SinkFault.SinkFault, declared.end.WalkEnd.WalkEnd}
+use Rattle.snmp_walk.specs.{declared.rows.Step.Step, private.Codec.Codec, Judged.IsResponseTo, private.Heard.IsAsked, private.Taken.awaits}
+use Rattle.snmp_walk.specs.{Ran.IsFreshAndHonest, Ran.IsGetTried, Tries.IsNotAwaited, declared.link.Link.Ghosts as LinkFacts}
+use Rattle.snmp_walk.specs.Get.{AreFor, AreForNames, IsEndOfGet, IsReasonOfGet, MeansToGet, answers_of, are_for, step_of, get_request, IsBrought}
+use Rattle.snmp_walk.specs.Get.{IsLostGet}
 use Rattle.snmp_walk.specs.private.Course as heard
 use Rattle.snmp_walk.specs.declared.end.WalkEnd.TheVariants as ending
-use Rattle.snmp_walk.proofs.TestLemmas.{end_decided}
+use Rattle.snmp_walk.proofs.{NameLemmas.end_decided, JudgedLemmas.response_to_decided, LostLemmas.lost_of, LostLemmas.reply_of}
+use Rattle.snmp_wire.specs.declared.kind.Kind.TheVariants as kind
+use Rattle.snmp_agent.specs.{Reply.IsResponse, table.Table.MibView}
+use Rattle.snmp_walk.specs.Link as outcome
+use Rattle.snmp_walk.proofs.HonestLemmas.{IsAnsweredBy, answered_by}
 
 -- whether bindings are for names
 pub for_more : (o : List ℕ) (names : List (List ℕ)) (p : VarBind) (more : List VarBind)
@@ -163,3 +170,54 @@ for_none request names none = record {
   no_names = λ _. tt;
   too_long = λ some. absurd (some none);
 }
+
+-- ---- an agent's reply to a Get is awaited, and is its Response
+
+pub no_set : kind.GetRequest ≡ kind.SetRequest → ⊥
+no_set k = cc
+
+module _ (codec : Codec) (community : List ℕ) (id : ℕ) (names : List (List ℕ)) (ranged : IsMessageInRange (get_request community id names)) where
+  abbrev Asked : Message
+  Asked = get_request community id names
+
+  answered : (agents : Agents) → AreLawful agents → (octets : List ℕ) → IsReplyFrom agents (canon Asked) octets
+      → IsAnsweredBy codec Asked ranged no_set agents octets
+  answered agents lawful octets h = answered_by codec Asked ranged no_set agents lawful octets h
+
+  -- a message that it spells is the Response of one of the agents
+  pub response_of : (agents : Agents) → AreLawful agents → (m : Message) (d : List ℕ) → Spells m d → IsReplyFrom agents (canon Asked) d
+      → (view : MibView) × OneOf agents.tables view × (community ≡ agents.community) × IsResponse view agents.max_size Asked m
+  response_of agents lawful m d spelt reply =
+      let a = answered agents lawful d reply in
+      let same = (codec.one a.message m d d [] [] a.spelt spelt refl).0 in
+      (a.view, a.one, a.named, subst (IsResponse a.view agents.max_size Asked) same a.is_response)
+
+  asked_alone : (agents : Agents) → AreLawful agents → (sent : List (List ℕ)) → sent ≡ [] → IsAsked agents (IsNotAwaited community id) (canon Asked) sent
+  asked_alone agents lawful sent none = record {
+    own = λ octets reply other. let a = answered agents lawful octets reply in
+        other a.message a.spelt (subst (IsResponseTo community id) (sym a.is) (record { version = refl; community_is = refl; kind = refl; id_is = refl }));
+    others = λ d one. absurd (subst (λ (s : List (List ℕ)). OneOf s d) none one);
+  }
+
+  module _ {L : Type 0} (facts : LinkFacts L) (keeping : (link : L) → facts.honest link → facts.keeps link) (link after : L) (tries : ℕ)
+      (lawful : facts.honest link → AreLawful (facts.agents link)) where
+    -- the message that came
+    pub brought : (m : Message) (d : List ℕ) → IsGetTried facts link after tries community id names (outcome.answered d) → Spells m d → awaits community id m ≡ true
+        → IsBrought (IsGetTried facts link after tries community id names) (facts.agents link) (IsFreshAndHonest facts link) community id names m
+    brought m d tried spelt awaited = (
+      (response_to_decided community id m).0 awaited,
+      λ h. response_of (facts.agents link) (lawful h.0) m d spelt
+          (reply_of facts keeping (IsNotAwaited community id) (canon Asked) tries link after h.0
+          (asked_alone (facts.agents link) (lawful h.0) (facts.traffic link).sent h.1) d
+          (λ other. other m spelt ((response_to_decided community id m).0 awaited)) tried),
+      (d, tried, spelt),
+    )
+
+    -- none came
+    pub lost_get : IsGetTried facts link after tries community id names outcome.missed → IsFreshAndHonest facts link
+        → (facts.traffic after).sent ≡ (facts.traffic link).sent ++ replicate tries (canon Asked)
+        → IsLostGet (facts.agents link) tries (facts.traffic link) (canon Asked) (facts.traffic after)
+    lost_get tried h sent =
+        let l = lost_of facts keeping (IsNotAwaited community id) (canon Asked) tries link after h.0
+        (asked_alone (facts.agents link) (lawful h.0) (facts.traffic link).sent h.1) tried in
+        record { sent = sent; lost = elim l.2 [ inl none ↦ inl none | inr gone ↦ inr (l.0, l.1, gone) ] }

@@ -16,13 +16,11 @@ use Rattle.snmp_walk.specs.declared.tries.Course.TheVariants as course
 use Rattle.snmp_walk.specs.private.Course as heard
 use Rattle.snmp_walk.specs.Get.{get_request, got_step, AreFor, AreGot, MeansToGet, IsBrought, IsReasonOfGet, HasRoomForGet, IsEndOfGet, IsLostGet}
 use Rattle.snmp_walk.specs.Get.{IsTooBig, GetFacts, GotFacts}
-use Rattle.snmp_walk.proofs.{TestLemmas.no_end, JoinLemmas.get_one, EventLemmas.all_tries, EventLemmas.answered_tries, TurnLemmas.Suits}
-use Rattle.snmp_walk.proofs.{TurnLemmas.agrees, TriedMoves.moved_of, TriedMoves.sent_of, TriedMoves.tries_as, HonestLemmas.no_drop}
-use Rattle.snmp_walk.proofs.{HonestLemmas.own as spelt_own, MoveLemmas.moves_as, MoveLemmas.moves_none, MoveLemmas.nil_front}
-use Rattle.snmp_walk.proofs.ViewLemmas.{view_of, only_one, get_name, get_value}
-use Rattle.snmp_walk.proofs.GotLemmas.{brought, lost_get, no_set, response_of}
-use Rattle.snmp_walk.proofs.GetEndLemmas.{IsByReply, IsFrontOfReply, IsGot, MayEnd, by_reply, for_more, for_names, for_none, for_nothing}
-use Rattle.snmp_walk.proofs.GetEndLemmas.{front_of_reply}
+use Rattle.snmp_walk.proofs.{NameLemmas.no_end, JoinLemmas.get_one, NetworkLemmas.all_tries, NetworkLemmas.answered_tries, HonestLemmas.no_drop}
+use Rattle.snmp_walk.proofs.{HonestLemmas.own as spelt_own, RowLemmas.view_of, RowLemmas.only_one, RowLemmas.get_name, RowLemmas.get_value}
+use Rattle.snmp_walk.proofs.GetEndLemmas.{brought, lost_get, no_set, response_of, IsByReply, IsFrontOfReply, IsGot, MayEnd, by_reply, for_more}
+use Rattle.snmp_walk.proofs.GetEndLemmas.{for_names, for_none, for_nothing, front_of_reply}
+use Rattle.snmp_walk.proofs.MoveLemmas.{Suits, agrees, moved_of, sent_of, tries_as, moves_as, moves_none, nil_front}
 use Rattle.snmp_walk.specs.Link as outcome
 use Rattle.snmp_walk.specs.Ran.{HasHappened, IsFreshAndHonest, IsGetTried, IsGotOver, IsRun}
 
@@ -246,6 +244,13 @@ module _ {W S : Type 0} (facts : LinkFacts W) (link : W) (tries : ℕ) (communit
   abbrev IsOver : W → S → WalkEnd → Type 0
   IsOver after sunk end = IsRun takes before end sunk (λ given refused. IsGotOver facts link after tries community id names given refused end)
 
+  -- what the Get comes to, by what the exchange returned
+  abbrev pub IsGetTurn : W → S → WalkEnd → Result (Option Course) LinkFault → Type 0
+  IsGetTurn after sunk end (Ok (Some course.GoesOn)) = ⊥
+  IsGetTurn after sunk end (Ok (Some course.Ends)) = IsOver after sunk end
+  IsGetTurn after sunk end (Ok None) = IsOver after sunk ending.NoResponse
+  IsGetTurn after sunk end (Err e) = IsOver after sunk ending.Link
+
   -- nothing was sent
   sent_none : (end : WalkEnd) → (end ≡ ending.NoResponse → ⊥) → (names ≢ [] → end ≢ ending.RequestTooLong → ⊥) → Sent link end
   sent_none end heard unsent keeps = grind (arith, common_steps, append-nil)
@@ -341,16 +346,11 @@ module _ {W S : Type 0} (facts : LinkFacts W) (link : W) (tries : ℕ) (communit
       abbrev IsReadSo : {V : Type 0} → V → S → List ℕ → Heard → Type 0
       IsReadSo {V} new sunk d what = IsReadAs d community id (λ m given (_ : V). given ≡ got_step names m) takes before new sunk what
 
-      abbrev pub IsGetTurn : S → WalkEnd → Result (Option Course) LinkFault → Type 0
-      IsGetTurn sunk end (Ok (Some course.GoesOn)) = ⊥
-      IsGetTurn sunk end (Ok (Some course.Ends)) = IsOver after sunk end
-      IsGetTurn sunk end (Ok None) = IsOver after sunk ending.NoResponse
-      IsGetTurn sunk end (Err e) = IsOver after sunk ending.Link
-
       pub get_of : {V : Type 0} (new : V) (same : Type 0) (sunk : S) (end : WalkEnd) (what : Outcome)
           → AreTried facts (IsNotAwaited community id) (take n octets) tries link what after → (result other : Result (Option Course) LinkFault)
-          → Tells (λ d course. IsReadSo new sunk d (heard_of course end)) (same × (sunk ≡ before)) result what → result ≡ other → IsGetTurn sunk end other
-      get_of {V} new same sunk end what h result other told result_is = subst (IsGetTurn sunk end) result_is (by_result result told)
+          → Tells (λ d course. IsReadSo new sunk d (heard_of course end)) (same × (sunk ≡ before)) result what → result ≡ other
+          → IsGetTurn after sunk end other
+      get_of {V} new same sunk end what h result other told result_is = subst (IsGetTurn after sunk end) result_is (by_result result told)
         where
           came : (o : Outcome) → what ≡ o → Tried after o
           came o e = subst (Tried after) e (subst (λ (x : List ℕ). AreTried facts (IsNotAwaited community id) x tries link what after) is h)
@@ -363,7 +363,7 @@ module _ {W S : Type 0} (facts : LinkFacts W) (link : W) (tries : ℕ) (communit
               (b.0, b.1, got_asked (outcome.answered d) tried sunk b.0 ((λ x. subst IsByReply x b.2), λ x. subst IsByReply x b.2) (λ x. subst IsByReply x b.2) b.3)
 
           by_result : (x : Result (Option Course) LinkFault) → Tells (λ d course. IsReadSo new sunk d (heard_of course end)) (same × (sunk ≡ before)) x what
-              → IsGetTurn sunk end x
+              → IsGetTurn after sunk end x
           by_result (Ok (Some course.GoesOn)) t = let e = (read_so t.0 heard.goes_on t.1 t.2).1 in cc
           by_result (Ok (Some course.Ends)) t =
               let b = read_so t.0 (heard.ends end) t.1 t.2 in

@@ -59,9 +59,6 @@ module _ (law : HasPieces) (m bare : Message) (same : bare ≡ record m { bindin
       let whole = pieces_of total (canon_bindings m.bindings) long refl in
       omega (arith, ap length whole, long, length-append (canon_head bare total) (canon_bindings m.bindings))
 
-  pub size_at_least : length (canon_bindings m.bindings) ≤ length (canon m)
-  size_at_least = omega (arith, ap length (law m), length-append (canon_head m (length (canon_bindings m.bindings))) (canon_bindings m.bindings))
-
 pub none_written : (0 ≤ 65507) × (0 ≡ length (canon_bindings [])) × ([] ≡ canon_bindings [])
 unfolding canon_bindings
 none_written = (omega arith, refl, refl)

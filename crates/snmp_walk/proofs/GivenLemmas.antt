@@ -15,12 +15,12 @@ use Rattle.snmp_walk.specs.Standing.{Reaches, Advances, AdvancesAnyhow, IsPartOf
 use Rattle.snmp_walk.specs.Tries.{InTurn, Happens, IsTried, IsNotAwaited}
 use Rattle.snmp_walk.specs.declared.end.WalkEnd.TheVariants as ending
 use Rattle.snmp_walk.specs.declared.rows.Step.TheVariants as step
-use Rattle.snmp_walk.proofs.{AnyLemmas.Small, AnyLemmas.taken_any, AnyLemmas.rising_answers, CaseLemmas.EndsEmpty, CaseLemmas.ends_empty}
-use Rattle.snmp_walk.proofs.{FactLemmas.given_facts, FreshLemmas.fresh_stands, FreshLemmas.lawful_reply, HonestLemmas.honest_reply}
-use Rattle.snmp_walk.proofs.{JoinLemmas.after_precedes, JudgedLemmas.only, JudgedLemmas.response_to_decided, LostLemmas.one_append}
-use Rattle.snmp_walk.proofs.{NetworkLemmas.tried-append, PartLemmas.part_front, ReplyLemmas.asked_of, ReplyLemmas.one_spelt, SendLemmas.before_more}
-use Rattle.snmp_walk.proofs.{StandingLemmas.taken, StandingLemmas.part_of_stage, StandingLemmas.waiting, ViewLemmas.views_answer}
-use Rattle.snmp_walk.proofs.EventLemmas.{in_turn-append, all_tries, answered_tries}
+use Rattle.snmp_walk.proofs.StandingLemmas.{Small, taken_any, rising_answers, taken, part_of_stage, part_of_step, waiting}
+use Rattle.snmp_walk.proofs.{CaseLemmas.EndsEmpty, CaseLemmas.ends_empty, FactLemmas.given_facts, FreshLemmas.fresh_stands, FreshLemmas.lawful_reply}
+use Rattle.snmp_walk.proofs.{JoinLemmas.after_precedes, JudgedLemmas.only, JudgedLemmas.response_to_decided, MemberLemmas.one_append}
+use Rattle.snmp_walk.proofs.{PartLemmas.part_front, SendLemmas.before_more, RowLemmas.views_answer}
+use Rattle.snmp_walk.proofs.HonestLemmas.{honest_reply, asked_of, one_spelt}
+use Rattle.snmp_walk.proofs.NetworkLemmas.{tried-append, in_turn-append, all_tries, answered_tries}
 
 module _ {L : Type 0} (codec : Codec) (facts : LinkFacts L) (tries : ℕ) (first : Walker) (fresh : IsFresh first) (link after : L) where
   abbrev Tried : Walker → L → Outcome → L → Type 0
@@ -196,8 +196,11 @@ module _ {L : Type 0} (codec : Codec) (facts : LinkFacts L) (tries : ℕ) (first
         let h = reads w a.now after a.given s.0 a.walker datagram st over (λ e. some (no_rows e)) means a.tried [] s.1 in
         let whole_rows : a.given ++ rows_in st ≡ (rows ++ refused) ++ left =
         ap (λ (g : List VarBind). a.given ++ g) cut ∙ sym (append_assoc a.given more (refused ++ left)) ∙ ap (λ (g : List VarBind). g ++ (refused ++ left)) (sym a.parts)
-        ∙ sym (append_assoc rows refused left) in
-        (part_front Next Got first (rows ++ refused) left (subst (IsPartOfWalk Next Got first) whole_rows (part st over h.honestly)), tt)
+        ∙ sym (append_assoc rows refused left) in (
+          part_front Next Got first (rows ++ refused) left (subst (IsPartOfWalk Next Got first) whole_rows (part_of_step Next Got (IsTooLarge agents)
+              (views_answer agents good.views) first w a.given st over h.honestly)),
+          tt,
+        )
       where
         no_rows : st ≡ step.Stray → refused ≡ []
         no_rows e = nil_middle more refused left (sym cut ∙ ap rows_in e)
@@ -206,11 +209,6 @@ module _ {L : Type 0} (codec : Codec) (facts : LinkFacts L) (tries : ℕ) (first
             nil_middle [] [] c e = refl
             nil_middle [] (x ∷ b) c e = let no : ⊥ = cc in absurd no
             nil_middle (x ∷ a) b c e = let no : ⊥ = cc in absurd no
-
-        part : (s : Step) (u : Walker) → Advances Next Got (IsTooLarge agents) first w a.given s u → IsPartOfWalk Next Got first (a.given ++ rows_in s)
-        part step.Stray u k = absurd k
-        part (step.Rows more) u k = part_of_stage Next Got (IsTooLarge agents) (views_answer agents good.views) first (a.given ++ more) u.asked u.phase k.stage
-        part (step.Last more why) u k = k.0
 
     end_none : (Sent : Walker → Type 0) (rows : List VarBind) (o : Outcome) (w : Walker) (end : WalkEnd) → (a : Asked Sent rows o w [])
         → all ≡ (asked_events Sent rows o w [] a).0 → (Reaches Next Got first w rows → IsLawfulEnd agents Silent first rows end) → IsHonestEnd rows [] end
@@ -257,9 +255,4 @@ module _ {L : Type 0} (codec : Codec) (facts : LinkFacts L) (tries : ℕ) (first
       known_by Sent rows refused (ending.Sink fault) (outcome.answered datagram) w more a
       (λ agents good replies. end_refused agents good _ replies Sent rows refused fault (λ none. let r = took.2 in let no : ⊥ = cc in no) datagram w more a
       st over left means cut refl)
-  given_by Sent rows refused (ending.Done n) takes before now took h = rw took.1 (known_read Sent rows (ending.Done n) h)
-  given_by Sent rows refused (ending.Fault s i) takes before now took h = rw took.1 (known_read Sent rows (ending.Fault s i) h)
-  given_by Sent rows refused (ending.NoProgress o) takes before now took h = rw took.1 (known_read Sent rows (ending.NoProgress o) h)
-  given_by Sent rows refused ending.BadReply takes before now took h = rw took.1 (known_read Sent rows ending.BadReply h)
-  given_by Sent rows refused (ending.NotIncreasing o p) takes before now took h = rw took.1 (known_read Sent rows (ending.NotIncreasing o p) h)
-  given_by Sent rows refused ending.TooManyRequests takes before now took h = rw took.1 (known_read Sent rows ending.TooManyRequests h)
+  given_by Sent rows refused end takes before now took h = rw took.1 (known_read Sent rows end h)

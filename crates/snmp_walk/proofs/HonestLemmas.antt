@@ -2,26 +2,24 @@
 use Rattle.std.proofs.{lemmas.Grind.common_steps, lemmas.List.nil_from_length}
 use Rattle.std.proofs.Common.{◌≡◌, ◌≢◌, ◌≤ℤ◌, ◌⊎◌, inl, inr, ℕ, ◌^◌, ◌<◌, ◌≤◌, List, [], ◌∷◌, ◌++◌, length, refl, sym, ◌∙◌, ap, subst, arith, ℤ, pos}
 use Rattle.std.proofs.Common.{length-append, append-nil, true, false}
-use Rattle.std.specs.{Prelude.FitsSigned, Prelude.unsigned_abs, Int.w32, List.AllByRecursion, List.list_any}
+use Rattle.std.specs.{Prelude.FitsSigned, Prelude.unsigned_abs, Int.w32, List.list_any}
 use Rattle.snmp_wire.specs.declared.kind.Kind.TheVariants as kind
-use Rattle.snmp_wire.specs.Message.{Datum, VarBind, Message, octet_string, null_value, ip_address, opaque_octets, no_such_object, no_such_instance}
-use Rattle.snmp_wire.specs.Message.{end_of_mib_view}
-use Rattle.snmp_wire.specs.{Spelling.Spells, Canon.canon, Canon.canon_bindings, Range.IsInRange, Range.IsBindingInRange, Range.IsMessageInRange}
+use Rattle.snmp_wire.specs.{Message.VarBind, Message.Message, Message.null_value, Spelling.Spells, Canon.canon, Range.IsMessageInRange}
 use Rattle.snmp_walk.specs.{private.Codec.Codec, declared.mode.Method.Method, declared.phase.Phase.Phase, Walker.Walker, Walker.HasRange}
 use Rattle.snmp_walk.specs.{Walker.IsMethod, Walker.IsWalker, Request.request_of, Request.request_kind, Request.request_repetitions}
 use Rattle.snmp_walk.specs.{Request.asked_for, private.Taken.is_over, Judged.IsResponseTo, Standing.IsChain, Standing.IsGetContent, Standing.IsLarge}
 use Rattle.snmp_walk.specs.{Standing.IsReplyContent, Standing.IsReplyTo, Room.full_response, Names.is_end, Run.IsFull, Run.IsFullReply}
-use Rattle.snmp_agent.specs.table.Table.{MibView, IsInstanceValue, IsMibView, IsGet, variable, unknown_object, unknown_instance, IsNext, successor}
-use Rattle.snmp_agent.specs.table.Table.{end_of_view}
-use Rattle.snmp_agent.specs.declared.config.Why.{Why}
+use Rattle.snmp_walk.specs.{private.Heard.IsAsked, private.Heard.IsEarlier, Tries.IsNotAwaited, Tries.IsTried, declared.link.Link.Ghosts as LinkFacts}
+use Rattle.snmp_agent.specs.{table.Table.MibView, table.Table.IsMibView, table.Table.IsGet, table.Table.IsNext, declared.config.Why.Why}
 use Rattle.snmp_agent.specs.declared.config.Why.TheVariants as why
 use Rattle.snmp_agent.specs.Reply.{Agent, IsDropped, IsServed, response, AreAnswers, got, got_next, unwritten, Fits, IsBulk, IsLongestFront}
 use Rattle.snmp_agent.specs.Reply.{IsResponse, whole, shortened, bulk, no_error}
 use Rattle.snmp_walk.specs.declared.mode.Method.TheVariants as method
 use Rattle.snmp_walk.specs.declared.phase.Phase.TheVariants as phase
-use Rattle.snmp_walk.specs.Link.{Agents, OneOf, AreLawful, IsNextFrom, IsGotFrom, IsTooLarge, IsReplyFrom}
-use Rattle.snmp_walk.proofs.{RequestLemmas.name_short, ViewLemmas.view_of, RoomLemmas.longer_full}
+use Rattle.snmp_walk.specs.Link.{Agents, OneOf, agent_in, single_response, AreLawful, IsNextFrom, IsGotFrom, IsTooLarge, IsReplyFrom}
+use Rattle.snmp_walk.proofs.{RequestLemmas.name_short, RowLemmas.view_of, RoomLemmas.longer_full, LostLemmas.reply_of}
 use Rattle.snmp_walk.proofs.BulkLemmas.{IsOneBulk, one_bulk, chain_front, chain_by}
+use Rattle.snmp_walk.specs.Link as outcome
 
 -- numbers from 0 below 2^31
 pub fits_from : (n : ℕ) → n < 2 ^ 31 → FitsSigned w32 (pos n)
@@ -34,111 +32,44 @@ repetitions_fit p m h = fits_from 0 (omega arith)
 pub request_in_range : (w : Walker) → IsWalker w → IsMessageInRange (request_of w)
 request_in_range w good = grind (arith, common_steps, fits_from, repetitions_fit, name_short)
 
-value_in_range : (v : Datum) → IsInstanceValue v → IsInRange v
-value_in_range (octet_string s) h = (h.1, h.0)
-value_in_range null_value h = absurd h
-value_in_range (ip_address a) h = (h.1, h.0)
-value_in_range (opaque_octets s) h = (h.1, h.0)
-value_in_range no_such_object h = tt
-value_in_range no_such_instance h = tt
-value_in_range end_of_mib_view h = tt
-value_in_range v h = h
-
-get_in_range : (view : MibView) → IsMibView view → (asked p : VarBind) → IsBindingInRange asked → IsGet view asked.name p → IsBindingInRange p
-get_in_range view good asked p h (variable e row) = grind (arith, common_steps, value_in_range)
-get_in_range view good asked p h (unknown_object none unknown is) = subst IsBindingInRange (sym is) (record { name = h.name; value = tt })
-get_in_range view good asked p h (unknown_instance none has is) = subst IsBindingInRange (sym is) (record { name = h.name; value = tt })
-
-next_in_range : (view : MibView) → IsMibView view → (asked p : VarBind) → IsBindingInRange asked → IsNext view asked.name p → IsBindingInRange p
-next_in_range view good asked p h (successor s) = grind (arith, common_steps, value_in_range)
-next_in_range view good asked p h (end_of_view none is) = subst IsBindingInRange (sym is) (record { name = h.name; value = tt })
-
--- each of a chain of answers
-chain_in_range : (view : MibView) → IsMibView view → (asked : VarBind) (ps : List VarBind) → IsBindingInRange asked → IsChain (IsNext view) asked.name ps
-    → AllByRecursion IsBindingInRange ps
-chain_in_range view good asked [] h chain = tt
-chain_in_range view good asked (p ∷ ps) h chain =
-    let first = next_in_range view good asked p h chain.0 in (first, chain_in_range view good p ps first chain.1)
-
--- each answer to a binding of its own
-answers_in_range : (R : VarBind → VarBind → Type 0) → ((asked p : VarBind) → IsBindingInRange asked → R asked p → IsBindingInRange p)
-    → (asked bindings : List VarBind) → AllByRecursion IsBindingInRange asked → AreAnswers R asked bindings → AllByRecursion IsBindingInRange bindings
-answers_in_range R each [] [] h are = tt
-answers_in_range R each (q ∷ asked) (p ∷ bindings) h are = (each q p h.0 are.0, answers_in_range R each asked bindings h.1 are.1)
-answers_in_range R each asked bindings h are = absurd are
-
--- a message of at most so many octets has no more of bindings
-bindings_within : Codec → (m : Message) (n : ℕ) → length (canon m) ≤ n → length (canon_bindings m.bindings) ≤ n
-bindings_within codec m n h = grind (arith, common_steps, length-append)
-
 -- a request that isn't a Set, and the Responses to it
 module _ (codec : Codec) (q : Message) (ranged : IsMessageInRange q) (no_set : q.kind ≡ kind.SetRequest → ⊥) where
   pub own : Spells q (canon q)
   own = codec.read q (canon q) (codec.strict q ranged)
 
-  -- a Response in answer to it
-  pub record IsResponseBy (r : Message) : Type 0 where
-    pub status : ℕ
-    pub bindings : List VarBind
-    pub is : r ≡ response q (pos status) (pos 0) bindings
-    pub small : status < 2
-    pub each : AllByRecursion IsBindingInRange bindings
-
-  pub response_by : (view : MibView) → IsMibView view → (n : ℕ)
-      → ((all bindings : List VarBind) → q.kind ≡ kind.GetBulkRequest → IsBulk view q all → IsLongestFront n q all bindings
-      → AllByRecursion IsBindingInRange bindings)
-      → (r : Message) → IsResponse view n q r → IsResponseBy r
-  response_by view good n of_bulk r (whole (got bindings k answers e) fits) =
-      let each = answers_in_range _ (λ a p. get_in_range view good a p) q.bindings bindings ranged.bindings answers in
-      record { status = 0; bindings = bindings; is = e; small = omega arith; each = each }
-  response_by view good n of_bulk r (whole (got_next bindings k answers e) fits) =
-      let each = answers_in_range _ (λ a p. next_in_range view good a p) q.bindings bindings ranged.bindings answers in
-      record { status = 0; bindings = bindings; is = e; small = omega arith; each = each }
-  response_by view good n of_bulk r (whole (unwritten k e) fits) = absurd (no_set k)
-  response_by view good n of_bulk r (shortened large a no_fit e) = record { status = 1; bindings = []; is = e; small = omega arith; each = tt }
-  response_by view good n of_bulk r (bulk all bindings k asked longest e) =
-      record { status = 0; bindings = bindings; is = e; small = omega arith; each = of_bulk all bindings k asked longest }
-
-  response_in_range : (r : Message) → IsResponseBy r → (n : ℕ) → Fits n r → n ≤ 65507 → IsMessageInRange r
-  response_in_range r h n fits datagram =
-      let total = bindings_within codec r n fits in
-      subst IsMessageInRange (sym h.is) (record {
-        version = ranged.version;
-        community = ranged.community;
-        id = ranged.id;
-        a = fits_from h.status (omega (arith, h.small));
-        b = fits_from 0 (omega arith);
-        bindings = h.each;
-        total = omega (arith, datagram, subst (λ (x : Message). length (canon_bindings x.bindings) ≤ n) h.is total);
-      })
+  response_by : (view : MibView) (n : ℕ) (r : Message) → IsResponse view n q r
+      → (status : ℤ) × (bindings : List VarBind) × (r ≡ response q status (pos 0) bindings)
+  response_by view n r (whole (got bindings k answers e) fits) = (pos 0, bindings, e)
+  response_by view n r (whole (got_next bindings k answers e) fits) = (pos 0, bindings, e)
+  response_by view n r (whole (unwritten k e) fits) = absurd (no_set k)
+  response_by view n r (shortened large a no_fit e) = (pos 1, [], e)
+  response_by view n r (bulk all bindings k asked longest e) = (pos 0, bindings, e)
 
   -- what an agent replies to it
   pub record IsAnsweredBy (agents : Agents) (octets : List ℕ) : Type 0 where
     pub message : Message
     pub spelt : Spells message octets
-    pub by : IsResponseBy message
+    pub status : ℤ
+    pub bindings : List VarBind
+    pub is : message ≡ response q status (pos 0) bindings
     pub view : MibView
     pub one : OneOf agents.tables view
     pub named : q.community ≡ agents.community
     pub is_response : IsResponse view agents.max_size q message
 
-  pub answered_by : (agents : Agents) → AreLawful agents
-      → ((view : MibView) → IsMibView view → (all bindings : List VarBind) → q.kind ≡ kind.GetBulkRequest → IsBulk view q all
-      → IsLongestFront agents.max_size q all bindings → AllByRecursion IsBindingInRange bindings)
-      → (octets : List ℕ) → IsReplyFrom agents (canon q) octets → IsAnsweredBy agents octets
-  answered_by agents lawful of_bulk octets h =
-      let agent = h.2 in
-      let good = view_of agents.tables lawful.views h.0 h.1 in
+  pub answered_by : (agents : Agents) → AreLawful agents → (octets : List ℕ) → IsReplyFrom agents (canon q) octets → IsAnsweredBy agents octets
+  answered_by agents lawful octets (view, one, agent) =
       let same : agent.request ≡ q = (codec.one agent.request q (canon q) (canon q) [] [] agent.is_request.spelt own refl).0 in
-      let is_response = subst (λ (x : Message). IsResponse h.0 agents.max_size x agent.response) same agent.is_response in
-      let by = response_by h.0 good agents.max_size (of_bulk h.0 good) agent.response is_response in
-      let range = response_in_range agent.response by agents.max_size agent.fits lawful.size in
+      let is_response = subst (λ (x : Message). IsResponse view agents.max_size x agent.response) same agent.is_response in
+      let by = response_by view agents.max_size agent.response is_response in
       record {
         message = agent.response;
-        spelt = subst (Spells agent.response) (sym agent.encoding) (codec.read agent.response (canon agent.response) (codec.strict agent.response range));
-        by = by;
-        view = h.0;
-        one = h.1;
+        spelt = codec.reply (agent_in agents view) (canon q) octets (view_of agents.tables lawful.views view one) (omega (arith, lawful.size)) agent;
+        status = by.0;
+        bindings = by.1;
+        is = by.2;
+        view = view;
+        one = one;
         named = ap (λ (x : Message). x.community) (sym same) ∙ agent.is_request.named;
         is_response = is_response;
       }
@@ -193,12 +124,6 @@ module _ (codec : Codec) (agents : Agents) (w : Walker) (good : IsWalker w) (vie
   front_chain all bindings asked longest =
       chain_front (IsNext view) w.asked bindings longest.more (subst (IsChain (IsNext view) w.asked) longest.front (bulk_of all asked).chain)
 
-  bulk_in_range : (all bindings : List VarBind) → request_kind w.phase w.method ≡ kind.GetBulkRequest → IsBulk view (request_of w) all
-      → IsLongestFront agents.max_size (request_of w) all bindings → AllByRecursion IsBindingInRange bindings
-  bulk_in_range all bindings k asked longest =
-      chain_in_range view view_good (record { name = w.asked; value = null_value }) bindings (record { name = (good.asked, good.identifier); value = tt })
-      (front_chain all bindings asked longest)
-
   module _ (waits : is_over w.phase ≡ false) (one : OneOf agents.tables view) (community : w.community ≡ agents.community) where
     abbrev IsContent : Phase → Message → Type 0
     IsContent p m = IsReplyContent (IsNextFrom agents) (IsGotFrom agents) (IsTooLarge agents) p w m
@@ -214,10 +139,7 @@ module _ (codec : Codec) (agents : Agents) (w : Walker) (good : IsWalker w) (vie
     -- what is too large for the agent is too large
     large : (p : VarBind) → (Fits agents.max_size (response (request_of w) no_error (pos 0) (p ∷ [])) → ⊥) → IsTooLarge agents w.id p
     large p no_fit =
-        let Response = λ (c : List ℕ). length (canon
-        (record { version = pos 1; community = c; kind = kind.Response; id = pos w.id; a = pos 0; b = pos 0; bindings = p ∷ [] })) in
-        let more : agents.max_size < Response w.community = omega (arith, no_fit) in
-        (good.id, subst (λ (c : List ℕ). agents.max_size < Response c) community more)
+        let more : agents.max_size < length (canon (single_response w.community w.id p)) = omega (arith, no_fit) in (good.id, rw community at more)
 
     -- where no binding came, the first has no room
     first_large : (all bindings : List VarBind) → bindings ≡ [] → IsChain (IsNext view) w.asked all → all ≢ []
@@ -241,11 +163,9 @@ module _ (codec : Codec) (agents : Agents) (w : Walker) (good : IsWalker w) (vie
     all_fit : (all : List VarBind) → length (canon (full_response agents.community 2147483647 all)) ≤ agents.max_size
         → Fits agents.max_size (response (request_of w) no_error (pos 0) all)
     all_fit all room =
-        let Size = λ (c : List ℕ). length (canon
-        (record { version = pos 1; community = c; kind = kind.Response; id = pos w.id; a = pos 0; b = pos 0; bindings = all })) in
         let longer = longer_full codec agents.community w.id 2147483647 all (omega (arith, good.id)) in
-        let fits : Size agents.community ≤ agents.max_size = omega (arith, room, longer) in
-        subst (λ (c : List ℕ). Size c ≤ agents.max_size) (sym community) fits
+        let fits : length (canon (full_response agents.community w.id all)) ≤ agents.max_size = omega (arith, room, longer) in
+        rw (← community) at fits
 
     -- a front that isn't shorter is all
     whole_front : (all bindings more : List VarBind) → all ≡ bindings ++ more → length all ≤ length bindings → all ≡ bindings
@@ -310,14 +230,49 @@ pub honest_reply : Codec → (agents : Agents) → AreLawful agents → (w : Wal
     → IsReplyFrom agents (canon (request_of w)) reply
     → (m : Message) × Spells m reply × IsReplyTo (IsNextFrom agents) (IsGotFrom agents) (IsTooLarge agents) w m × IsFullReply agents w m
 honest_reply codec agents lawful w good waits reply h =
-    let a = answered_by codec (request_of w) (request_in_range w good) (set_phase w.phase w.method) agents lawful
-    (λ view view_good. bulk_in_range codec agents w good view view_good) reply h in
+    let a = answered_by codec (request_of w) (request_in_range w good) (set_phase w.phase w.method) agents lawful reply h in
     let honest = honest_of codec agents w good a.view (view_of agents.tables lawful.views a.view a.one) waits a.one a.named a.message a.is_response in (
       a.message,
       a.spelt,
       record {
-        response = subst (IsResponseTo w.community w.id) (sym a.by.is) (record { version = refl; community_is = refl; kind = refl; id_is = refl });
+        response = subst (IsResponseTo w.community w.id) (sym a.is) (record { version = refl; community_is = refl; kind = refl; id_is = refl });
         content = honest.0;
       },
       honest.1,
     )
+
+-- ---- what an honest reply is to the walk that waits for it
+
+-- by the one message that the octets spell
+pub one_spelt : Codec → (m n : Message) (octets : List ℕ) → Spells m octets → Spells n octets → m ≡ n
+one_spelt codec m n octets a b = (codec.one m n octets octets [] [] a b refl).0
+
+-- where what was sent before are requests of this walk, the replies to the waiting one alone are awaited
+pub asked_of : Codec → (agents : Agents) (sent : List (List ℕ)) (w : Walker) → AreLawful agents → IsWalker w → is_over w.phase ≡ false → IsEarlier sent w
+    → IsAsked agents (IsNotAwaited w.community w.id) (canon (request_of w)) sent
+asked_of codec agents sent w lawful good waits earlier = record {
+  own = λ octets reply other. let given = honest_reply codec agents lawful w good waits octets reply in other given.0 given.1 given.2.response;
+  others = λ d one. elim (earlier d one) [
+    | inl e ↦ inl e
+    | inr v ↦ inr (λ octets reply m spelt response.
+        let given = honest_reply codec agents lawful v.0 v.1 v.2 octets (subst (λ (x : List ℕ). IsReplyFrom agents x octets) v.4 reply) in
+        let same : pos v.0.id ≡ pos w.id =
+        sym given.2.response.id_is ∙ ap (λ (n : Message). n.id) (one_spelt codec given.0 m octets given.1 spelt) ∙ response.id_is in
+        let equal : v.0.id ≡ w.id = cc in
+        omega (arith, equal, v.3))
+  ];
+}
+
+-- the reply that was read is the one that was waited for
+pub from_of : {L : Type 0} (facts : LinkFacts L) → ((link : L) → facts.honest link → facts.keeps link) → Codec → (tries : ℕ) (w : Walker) (link after : L)
+    → (facts.honest link → AreLawful (facts.agents link)) → IsWalker w → is_over w.phase ≡ false → (m : Message) (d : List ℕ)
+    → IsTried facts tries w link (outcome.answered d) after → Spells m d → IsResponseTo w.community w.id m
+    → facts.honest link → IsEarlier (facts.traffic link).sent w
+    → IsReplyTo (IsNextFrom (facts.agents link)) (IsGotFrom (facts.agents link)) (IsTooLarge (facts.agents link)) w m × IsFullReply (facts.agents link) w m
+from_of facts keeping codec tries w link after lawful good waits m d tried spelt response honest earlier =
+    let agents = facts.agents link in
+    let reply = reply_of facts keeping (IsNotAwaited w.community w.id) (canon (request_of w)) tries link after honest
+    (asked_of codec agents (facts.traffic link).sent w (lawful honest) good waits earlier) d (λ other. other m spelt response) tried in
+    let given = honest_reply codec agents (lawful honest) w good waits d reply in
+    let same = one_spelt codec given.0 m d given.1 spelt in
+    (subst (IsReplyTo (IsNextFrom agents) (IsGotFrom agents) (IsTooLarge agents) w) same given.2, subst (IsFullReply agents w) same given.3)

@@ -11,9 +11,8 @@ use Rattle.snmp_agent.specs.table.Table.{MibView, IsRow, IsInstanceName, IsInsta
 use Rattle.snmp_agent.specs.table.Table.{unknown_instance, IsSuccessor, IsNext, successor, end_of_view}
 use Rattle.snmp_agent.specs.table.Listing.{variables}
 use Rattle.snmp_walk.specs.{Names.comes_after, Walk.rows_after, Walk.rows_named, Link.OneOf, private.Taken.if_present, private.Codec.Codec}
-use Rattle.snmp_walk.proofs.OrderLemmas.{less_from_after, after-irrefl, less_precedes}
-use Rattle.snmp_walk.proofs.{TableLemmas.first_of_rows, ViewLemmas.value_no_end, ViewLemmas.value_no_miss}
-use Rattle.snmp_walk.proofs.RowLemmas.{AreAfter, AreRising, AreInstances, or_end}
+use Rattle.snmp_walk.proofs.{NameLemmas.less_from_after, NameLemmas.after-irrefl, NameLemmas.less_precedes, TableLemmas.first_of_rows}
+use Rattle.snmp_walk.proofs.RowLemmas.{value_no_end, value_no_miss, AreAfter, AreRising, AreInstances, or_end}
 
 abbrev binding_of : List ℕ × Datum → VarBind
 binding_of e = record { name = e.0; value = e.1 }

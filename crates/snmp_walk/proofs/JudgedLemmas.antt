@@ -1,8 +1,7 @@
 -- What the rules say of a message, one by one, is what `take_of` computes.
-use Rattle.std.proofs.{lemmas.Grind.common_steps, lemmas.List.nil_from_length, lemmas.List.Sums.take_while-cons}
+use Rattle.std.proofs.{lemmas.Grind.common_steps, lemmas.List.nil_from_length, lemmas.Bool.false≢true, lemmas.Bool.false_from_ne_true}
 use Rattle.std.proofs.Common.{◌≡◌, ◌⊎◌, inl, inr, ℕ, ◌+◌, ◌<◌, Bool, true, false, cond, List, [], ◌∷◌, ◌++◌, length, refl, sym, ◌∙◌, ap, subst, arith}
-use Rattle.std.proofs.Common.{append-nil, length-append, pos, Option, Some, None, ◌↔◌}
-use Rattle.std.proofs.lemmas.Bool.{false≢true, false_from_ne_true}
+use Rattle.std.proofs.Common.{pos, Option, Some, None, ◌↔◌}
 use Rattle.std.proofs.lemmas.Bool.Decides.{Decides-and, Decides-or, Decides-not, Decides-like, Decides-ltb, Decides-eqb, Decides-int_eq}
 use Rattle.std.specs.{Prelude.nat_lt, Prelude.◌==◌, Prelude.◌&&◌, Prelude.◌||◌, Prelude.not, Bool.nat_eq, Bool.Decides, List.list_any}
 use Rattle.std.specs.{Ordering.nat_cmp, Ordering.is_lt, Ordering.int_eq, declared.cmp.Ordering.TheVariants.Less}
@@ -11,18 +10,17 @@ use Rattle.snmp_oid.specs.Identifier.{Precedes}
 use Rattle.snmp_wire.specs.{declared.kind.Kind.Kind, Message.VarBind, Message.Message, Spelling.Spells}
 use Rattle.snmp_wire.specs.declared.kind.Kind.TheVariants as kind
 use Rattle.snmp_walk.specs.{declared.mode.Mode.Mode, declared.phase.Phase.Phase, declared.rows.Step.Step, Link.OneOf, Trail.last_name, Walker.Walker}
-use Rattle.snmp_walk.specs.{Request.asked_for, Instances.IsInside, Instances.IsMissing}
+use Rattle.snmp_walk.specs.{Request.asked_for, Instances.IsInside, Instances.IsMissing, Names.is_end, Names.is_missing, Names.comes_after}
 use Rattle.snmp_walk.specs.declared.mode.Mode.TheVariants as mode
 use Rattle.snmp_walk.specs.declared.phase.Phase.TheVariants as phase
 use Rattle.snmp_walk.specs.declared.end.WalkEnd.TheVariants as ending
-use Rattle.snmp_walk.specs.Names.{is_end, is_missing, is_inside, comes_after}
-use Rattle.snmp_walk.specs.private.Reading.{After, EndsAs, nothing, leaving, falling}
-use Rattle.snmp_walk.specs.private.Taken.{is_over, is_response, awaits, is_awaited, is_plain, inside_front, rising_front, name_at, stops, goes_on}
-use Rattle.snmp_walk.specs.private.Taken.{closes, reads, reads_next, got, reads_first, reads_last, reads_for, reads_reply, take_of}
+use Rattle.snmp_walk.specs.private.Reading.{After, nothing, leaving, falling, ReadFront, before, front_of}
+use Rattle.snmp_walk.specs.private.Taken.{is_over, is_response, awaits, is_awaited, is_plain, stops, goes_on, closes, reads, reads_as, reads_next}
+use Rattle.snmp_walk.specs.private.Taken.{got, reads_first, reads_last, reads_for, reads_reply, take_of}
 use Rattle.snmp_walk.specs.Judged.{IsResponseTo, IsAwaitedReply, EndsBy, AsksOn, GoesOn, GivesNothing, Closes, AreRowsFrom, AreMisplaced, FollowsBy}
 use Rattle.snmp_walk.specs.Judged.{ReadsRows, IsStray, MeansNext, IsGot, MeansGot, MeansRoot, MeansFor, MeansReply, Means, MeansBy}
-use Rattle.snmp_walk.proofs.{OrderLemmas.less_from_after, OrderLemmas.less_precedes, FrontLemmas.reads_as, FrontLemmas.reads_by}
-use Rattle.snmp_walk.proofs.TestLemmas.{end_decided, missing_decided, inside_decided}
+use Rattle.snmp_walk.proofs.NameLemmas.{less_from_after, less_precedes, end_decided, missing_decided, inside_decided, outside, outside_test}
+use Rattle.snmp_walk.proofs.FrontLemmas.{fronts_by}
 
 -- What each test decides.
 
@@ -85,89 +83,50 @@ got_decides asked [] = inr (refl, λ c h. let alone = h.alone in cc)
 got_decides asked (b ∷ []) = grind (arith, common_steps, got_parts)
 got_decides asked (b ∷ d ∷ more) = inr (refl, λ c h. let alone = h.alone in cc)
 
--- what stands after the rows of a reply: nothing, or a binding that ends them
-abbrev IsCut : (root last : List ℕ) → List VarBind → Type 0
-IsCut root last [] = Unit {0}
-IsCut root last (b ∷ _) = (IsInside root b → ⊥) ⊎ (IsInside root b × (Precedes last b.name → ⊥))
-
-abbrev after_cut : (root last : List ℕ) (rest : List VarBind) → IsCut root last rest → After
-after_cut root last [] c = nothing
-after_cut root last (b ∷ _) (inl _) = leaving
-after_cut root last (b ∷ _) (inr _) = falling b.name
-
-name_there : (rows more : List VarBind) (b : VarBind) → name_at (rows ++ b ∷ more) (length rows) ≡ b.name
-name_there [] more b = refl
-name_there (c ∷ rows) more b = name_there rows more b
-
-inside_next : (root : List ℕ) (b : VarBind) (more : List VarBind) (t : Bool) → is_inside root b ≡ t
-    → inside_front root (b ∷ more) ≡ cond t (b ∷ inside_front root more) []
-inside_next root b more t e = grind (arith, common_steps, take_while-cons)
+-- what stands after the rows of a reply, by how it ends them
+abbrev IsCut : (root last : List ℕ) → List VarBind → After → Type 0
+IsCut root last [] after = after ≡ nothing
+IsCut root last (b ∷ _) after =
+    ((IsInside root b → ⊥) × (after ≡ leaving)) ⊎ (IsInside root b × (Precedes last b.name → ⊥) × (after ≡ falling b.name))
 
 -- the order of names, as the standard has it
 module _ (precedes : (o p : List ℕ) → slice_cmp nat_cmp o p ≡ Less → Precedes o p) where
   after_decided : (o p : List ℕ) → Decides (comes_after o p) (Precedes o p)
   after_decided o p = ((λ e. precedes o p (less_from_after o p e)), (λ h. ap is_lt (less_precedes o p h)))
 
-  inside_rows : (root o : List ℕ) (rows rest : List VarBind) → AreRowsFrom root o rows → inside_front root (rows ++ rest) ≡ rows ++ inside_front root rest
-  inside_rows root o [] rest h = refl
-  inside_rows root o (b ∷ rows) rest h =
-      inside_next root b (rows ++ rest) true ((inside_decided root b).1 h.0) ∙ ap (λ (s : List VarBind). b ∷ s) (inside_rows root b.name rows rest h.2)
+  -- what is read of rows and what cuts them
+  read_cut : (root o : List ℕ) (rows rest : List VarBind) (after : After) → AreRowsFrom root o rows → IsCut root (last_name o rows) rest after
+      → front_of root o (rows ++ rest) ≡ record { rows = rows; after = after }
+  read_cut root o [] [] after h c = rw c refl
+  read_cut root o [] (b ∷ rest) after h (inl c) = rw (outside_test root b c.0, c.1) refl
+  read_cut root o [] (b ∷ rest) after h (inr c) =
+      let test : comes_after o b.name ≡ false = false_from_ne_true (comes_after o b.name) (λ e. c.1 ((after_decided o b.name).0 e)) in
+      rw ((inside_decided root b).1 c.0, test, c.2) refl
+  read_cut root o (b ∷ rows) rest after h c =
+      rw ((inside_decided root b).1 h.0, (after_decided o b.name).1 h.1) (ap (before b) (read_cut root b.name rows rest after h.2 c))
 
-  rising_rows : (root o : List ℕ) (rows more : List VarBind) → AreRowsFrom root o rows
-      → rising_front o (rows ++ more) ≡ rows ++ rising_front (last_name o rows) more
-  rising_rows root o [] more h = refl
-  rising_rows root o (b ∷ rows) more h =
-      ap (λ (t : Bool). cond t (b ∷ rising_front b.name (rows ++ more)) []) ((after_decided o b.name).1 h.1)
-      ∙ ap (λ (s : List VarBind). b ∷ s) (rising_rows root b.name rows more h.2)
-
-  -- how a reply is read whose bindings are rows and others
-  read_by : (w : Walker) (rows rest inside : List VarBind) (e : After) → AreRowsFrom w.root w.asked rows → inside_front w.root rest ≡ inside
-      → rising_front (last_name w.asked rows) inside ≡ [] → EndsAs e rows (rows ++ inside) (rows ++ rest) → reads w (rows ++ rest) ≡ reads_as e w rows
-  read_by w rows rest inside e h is none ends = grind (arith, common_steps, inside_rows, rising_rows, append-nil, reads_by)
-
-  read_cut : (w : Walker) (rows rest : List VarBind) → AreRowsFrom w.root w.asked rows → (c : IsCut w.root (last_name w.asked rows) rest)
-      → reads w (rows ++ rest) ≡ reads_as (after_cut w.root (last_name w.asked rows) rest c) w rows
-  read_cut w rows [] h c =
-      let same : length rows ≡ length (rows ++ []) = omega (arith, length-append rows []) in read_by w rows [] [] nothing h refl refl (same, same)
-  read_cut w rows (b ∷ rest) h (inl out) =
-      let test : is_inside w.root b ≡ false = false_from_ne_true (is_inside w.root b) (λ e. out ((inside_decided w.root b).0 e)) in
-      read_by w rows (b ∷ rest) [] leaving h (inside_next w.root b rest false test) refl
-      (omega (arith, length-append rows []), omega (arith, length-append rows (b ∷ rest)))
-  read_cut w rows (b ∷ rest) h (inr c) =
-      let last = last_name w.asked rows in
-      let test : comes_after last b.name ≡ false = false_from_ne_true (comes_after last b.name) (λ e. c.1 ((after_decided last b.name).0 e)) in
-      let none : rising_front last (b ∷ inside_front w.root rest) ≡ [] =
-      ap (λ (t : Bool). cond t (b ∷ rising_front b.name (inside_front w.root rest)) []) test in
-      read_by w rows (b ∷ rest) (b ∷ inside_front w.root rest) (falling b.name) h (inside_next w.root b rest true ((inside_decided w.root b).1 c.0)) none
-      (omega (arith, length-append rows (b ∷ inside_front w.root rest)), sym (name_there rows (inside_front w.root rest) b))
-
-  -- bindings are rows and others
-  record IsSplit (root o : List ℕ) (bindings : List VarBind) : Type 0 where
-    rows : List VarBind
+  -- bindings are the rows that are read, and others that cut them
+  record IsSplit (root o : List ℕ) (bindings : List VarBind) (front : ReadFront) : Type 0 where
     rest : List VarBind
-    parts : bindings ≡ rows ++ rest
-    are_rows : AreRowsFrom root o rows
-    cut : IsCut root (last_name o rows) rest
+    parts : bindings ≡ front.rows ++ rest
+    are_rows : AreRowsFrom root o front.rows
+    cut : IsCut root (last_name o front.rows) rest front.after
 
-  no_rows : (root o : List ℕ) (bindings : List VarBind) → IsCut root o bindings → IsSplit root o bindings
-  no_rows root o bindings cut = record { rows = []; rest = bindings; parts = refl; are_rows = tt; cut = cut }
-
-  split_by : (root o : List ℕ) (b : VarBind) (more : List VarBind) (inside rises : Bool) → inside ≡ is_inside root b → rises ≡ comes_after o b.name
-      → IsSplit root b.name more → IsSplit root o (b ∷ more)
-  split_by root o b more true true e f s = record {
-    rows = b ∷ s.rows;
-    rest = s.rest;
-    parts = ap (λ (x : List VarBind). b ∷ x) s.parts;
-    are_rows = ((inside_decided root b).0 (sym e), (after_decided o b.name).0 (sym f), s.are_rows);
-    cut = s.cut;
-  }
-  split_by root o b more true false e f s =
-      no_rows root o (b ∷ more) (inr ((inside_decided root b).0 (sym e), λ h. false≢true (f ∙ (after_decided o b.name).1 h)))
-  split_by root o b more false rises e f s = no_rows root o (b ∷ more) (inl (λ h. false≢true (e ∙ (inside_decided root b).1 h)))
-
-  split : (root o : List ℕ) (bindings : List VarBind) → IsSplit root o bindings
-  split root o [] = no_rows root o [] tt
-  split root o (b ∷ more) = split_by root o b more (is_inside root b) (comes_after o b.name) refl refl (split root b.name more)
+  split : (root o : List ℕ) (bindings : List VarBind) → IsSplit root o bindings (front_of root o bindings)
+  split root = fronts_by root (IsSplit root) (λ o. record { rest = []; parts = refl; are_rows = tt; cut = refl })
+      (λ o b more front i u s. record {
+        rest = s.rest;
+        parts = ap (λ (x : List VarBind). b ∷ x) s.parts;
+        are_rows = ((inside_decided root b).0 i, (after_decided o b.name).0 u, s.are_rows);
+        cut = s.cut;
+      })
+      (λ o b more i f. record {
+        rest = b ∷ more;
+        parts = refl;
+        are_rows = tt;
+        cut = inr ((inside_decided root b).0 i, (λ h. false≢true (sym f ∙ (after_decided o b.name).1 h)), refl);
+      })
+      (λ o b more f. record { rest = b ∷ more; parts = refl; are_rows = tt; cut = inl (outside root b f, refl) })
 
   -- a step, and the walk after it
   module _ (given : Step) (new : Walker) where
@@ -199,26 +158,29 @@ module _ (precedes : (o p : List ℕ) → slice_cmp nat_cmp o p ≡ Less → Pre
 
     -- what comes of rows
     follows_in : (w : Walker) (rows rest : List VarBind) → FollowsBy w rows rest given new
-        → (c : IsCut w.root (last_name w.asked rows) rest) × Is (reads_as (after_cut w.root (last_name w.asked rows) rest c) w rows)
-    follows_in w rows [] h = (tt, (goes w phase.Rows rows).0 h)
-    follows_in w rows (b ∷ rest) (inl h) = (inl h.0, (closing w rows).0 h.1)
-    follows_in w rows (b ∷ rest) (inr h) = (inr (h.0, h.1), h.2)
+        → (after : After) × IsCut w.root (last_name w.asked rows) rest after × Is (reads_as after w rows)
+    follows_in w rows [] h = (nothing, refl, (goes w phase.Rows rows).0 h)
+    follows_in w rows (b ∷ rest) (inl h) = (leaving, inl (h.0, refl), (closing w rows).0 h.1)
+    follows_in w rows (b ∷ rest) (inr h) = (falling b.name, inr (h.0, h.1, refl), h.2)
 
-    follows_out : (w : Walker) (rows rest : List VarBind) (c : IsCut w.root (last_name w.asked rows) rest)
-        → Is (reads_as (after_cut w.root (last_name w.asked rows) rest c) w rows) → FollowsBy w rows rest given new
-    follows_out w rows [] c h = (goes w phase.Rows rows).1 h
-    follows_out w rows (b ∷ rest) (inl out) h = inl (out, (closing w rows).1 h)
-    follows_out w rows (b ∷ rest) (inr c) h = inr (c.0, c.1, h)
+    follows_out : (w : Walker) (rows rest : List VarBind) (after : After) → IsCut w.root (last_name w.asked rows) rest after
+        → Is (reads_as after w rows) → FollowsBy w rows rest given new
+    follows_out w rows [] after c h = (goes w phase.Rows rows).1 (rw c at h)
+    follows_out w rows (b ∷ rest) after (inl c) h = inl (c.0, (closing w rows).1 (rw c.1 at h))
+    follows_out w rows (b ∷ rest) after (inr c) h = inr (c.0, c.1, rw c.2 at h)
 
     reading : (w : Walker) (bindings : List VarBind) → ReadsRows w bindings given new ↔ Is (reads w bindings)
     reading w bindings = (
-      λ r. let f = follows_in w r.rows r.rest r.follows in subst Is (sym (ap (reads w) r.parts ∙ read_cut w r.rows r.rest r.are_rows f.0)) f.1,
+      λ r.
+          let f = follows_in w r.rows r.rest r.follows in
+          subst (λ (front : ReadFront). Is (reads_as front.after w front.rows))
+          (sym (ap (front_of w.root w.asked) r.parts ∙ read_cut w.root w.asked r.rows r.rest f.0 r.are_rows f.1)) f.2,
       λ h. let s = split w.root w.asked bindings in record {
-        rows = s.rows;
+        rows = (front_of w.root w.asked bindings).rows;
         rest = s.rest;
         parts = s.parts;
         are_rows = s.are_rows;
-        follows = follows_out w s.rows s.rest s.cut (subst Is (ap (reads w) s.parts ∙ read_cut w s.rows s.rest s.are_rows s.cut) h);
+        follows = follows_out w _ s.rest _ s.cut h;
       },
     )
 

@@ -8,9 +8,9 @@ use Rattle.snmp_agent.specs.{table.Table.MibView, table.Table.IsRow, table.Table
 use Rattle.snmp_walk.specs.{declared.mode.Mode.Mode, Names.is_below, Names.is_missing, Names.comes_after, Walk.rows_below, Walk.rows_after}
 use Rattle.snmp_walk.specs.{Walk.or_only, Walk.walk_of, Walk.rest_of, Ordered.AreOrdered, Ordered.IsAtOrBelow, Ordered.IsResumable, Link.OneOf}
 use Rattle.snmp_walk.specs.declared.mode.Mode.TheVariants as mode
-use Rattle.snmp_walk.proofs.NameLemmas.{below_from_test, test_from_below}
-use Rattle.snmp_walk.proofs.OrderLemmas.{less_from_after, after-trans, after-irrefl, less_precedes}
-use Rattle.snmp_walk.proofs.{ViewLemmas.get_name, TableLemmas.all_after, TableLemmas.rest_from_wire, RowLemmas.AreAfter, RowLemmas.AreRising}
+use Rattle.snmp_walk.proofs.{MemberLemmas.one_there, NameLemmas.below_from_test, NameLemmas.test_from_below, RowLemmas.get_name}
+use Rattle.snmp_walk.proofs.{TableLemmas.all_after, TableLemmas.rest_from_wire, RowLemmas.AreAfter, RowLemmas.AreRising}
+use Rattle.snmp_walk.proofs.NameLemmas.{less_from_after, after-trans, after-irrefl, less_precedes}
 use Rattle.snmp_walk.proofs.JoinLemmas.{one_after, kept, keeps, row_in, in_row, variables_rise, variables_are, get_row}
 
 -- a filtered list rises as the whole one
@@ -32,13 +32,10 @@ module _ (precedes : (o p : List ℕ) → comes_after o p ≡ true → Precedes 
 not_before : (o p : List ℕ) → comes_after o p ≡ true → comes_after p o ≡ false
 not_before o p h = false_from_ne_true (comes_after p o) (λ k. false≢true (sym (after-irrefl o) ∙ after-trans o p o h k))
 
-one_there : (p : VarBind) (front more : List VarBind) → OneOf (front ++ p ∷ more) p
-one_there p [] more = inl refl
-one_there p (q ∷ front) more = inr (one_there p front more)
-
 pub left_after : (p : VarBind) (front more : List VarBind) → AreRising (front ++ p ∷ more) → rows_after p.name (front ++ p ∷ more) ≡ more
 left_after p [] more h = rw (after-irrefl p.name) (all_after p.name more h.0)
-left_after p (q ∷ front) more h = rw (not_before q.name p.name (one_after q.name (front ++ p ∷ more) p h.0 (one_there p front more))) (left_after p front more h.1)
+left_after p (q ∷ front) more h = rw (not_before q.name p.name (one_after q.name (front ++ p ∷ more) p h.0 (one_there front more p)))
+    (left_after p front more h.1)
 
 left_of : (rows : List VarBind) (p : VarBind) (front more : List VarBind) → AreRising rows → rows ≡ front ++ p ∷ more → more ≡ rows_after p.name rows
 left_of rows p front more h e = grind (arith, common_steps, left_after)
@@ -103,7 +100,7 @@ module _ (view : MibView) (good : IsMibView view) (root : List ℕ) where
   pub rest_again : (o : List ℕ) (p : VarBind) (front more : List VarBind) → rest_of root o (variables view) ≡ front ++ p ∷ more
       → more ≡ rest_of root p.name (variables view)
   rest_again o p front more e =
-      let one : OneOf (rest_of root o (variables view)) p = subst (λ (s : List VarBind). OneOf s p) (sym e) (one_there p front more) in
+      let one : OneOf (rest_of root o (variables view)) p = subst (λ (s : List VarBind). OneOf s p) (sym e) (one_there front more p) in
       let behind = (kept (λ row. comes_after o row.name) p Below one).1 in
       left_of (rest_of root o (variables view)) p front more (rest_rise o) e ∙ later_rows o p.name Below behind
 

@@ -1,21 +1,16 @@
 pub mod NameLemmas
-mod RowLemmas
-mod TestLemmas
+pub mod RowLemmas
+mod MemberLemmas
 pub mod RequestLemmas
 pub mod FrontLemmas
 pub mod TrailLemmas
 pub mod StandingLemmas
-pub mod OrderLemmas
 pub mod TableLemmas
 pub mod AskingLemmas
-pub mod AnyLemmas
 pub mod SinkLemmas
-pub mod ReplyLemmas
-pub mod TurnLemmas
 pub mod SendLemmas
 pub mod MoveLemmas
 pub mod RunLemmas
-pub mod ViewLemmas
 pub mod JoinLemmas
 pub mod CaseLemmas
 pub mod PartLemmas
@@ -29,18 +24,13 @@ pub mod SwiftLemmas
 pub mod FullLemmas
 pub mod ArenaLemmas
 pub mod MemoryLemmas
-pub mod TriedMoves
 pub mod LostLemmas
 mod TryLemmas
-pub mod TriedLemmas
 pub mod GetLemmas
-pub mod GotLemmas
 pub mod LawLemmas
 mod JudgedLemmas
 pub mod GetEndLemmas
 pub mod GetFactLemmas
 pub mod FreshLemmas
 pub mod NetworkLemmas
-mod EventLemmas
 mod GivenLemmas
-mod ServedLemmas

@@ -7,8 +7,8 @@ use Rattle.snmp_walk.specs.{Link.Agents, Link.OneOf, Link.IsReplyFrom, Link.IsUn
 use Rattle.snmp_walk.specs.{Tries.Gets, Tries.Brings, Tries.EndsTry, Tries.IsTry, Tries.AreTried, declared.link.Link.Ghosts as LinkFacts}
 use Rattle.snmp_walk.specs.Link as outcome
 use Rattle.snmp_walk.specs.Traffic.{latest, datagram_at, Gives, Receives, IsOther, resent, Lost}
-use Rattle.snmp_walk.proofs.MoveLemmas.{sent_all, unused}
-use Rattle.snmp_walk.proofs.TriedMoves.{few_strays, moved_before, moved_bringing, moved_missed}
+use Rattle.snmp_walk.proofs.{MemberLemmas.one_append, MemberLemmas.one_same, MoveLemmas.sent_all, MoveLemmas.unused}
+use Rattle.snmp_walk.proofs.MoveLemmas.{few_strays, moved_before, moved_bringing, moved_missed}
 
 -- ---- the datagrams sent
 
@@ -20,16 +20,6 @@ one_of (x ∷ sent) (suc k) d e = inr (one_of sent k d e)
 found : (sent : List (List ℕ)) (k : ℕ) (d : List ℕ) → datagram_at sent k ≡ Some d → OneOf sent d
 found sent zero d e = let no : ⊥ = cc in absurd no
 found sent (suc k) d e = one_of sent k d e
-
-pub one_append : {X : Type 0} (xs ys : List X) (d : X) → OneOf (xs ++ ys) d → OneOf xs d ⊎ OneOf ys d
-one_append [] ys d one = inr one
-one_append (x ∷ xs) ys d (inl e) = inl (inl e)
-one_append (x ∷ xs) ys d (inr one) = elim (one_append xs ys d one) [ inl h ↦ inl (inr h) | inr h ↦ inr h ]
-
-pub one_same : (n : ℕ) (q d : List ℕ) → OneOf (replicate n q) d → d ≡ q
-one_same zero q d one = absurd one
-one_same (suc n) q d (inl e) = e
-one_same (suc n) q d (inr one) = one_same n q d one
 
 latest_is : (sent : List (List ℕ)) (q : List ℕ) → latest (sent ++ q ∷ []) ≡ Some q
 latest_is [] q = refl

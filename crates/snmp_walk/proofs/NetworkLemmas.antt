@@ -1,29 +1,20 @@
 -- What comes to a walk over a faithful network.
-use Rattle.std.proofs.Common.{◌≡◌, inl, inr, ℕ, List, [], ◌∷◌, ◌++◌, refl, sym, ◌∙◌, ap, subst, append_assoc, append-nil, flat_map}
-use Rattle.std.specs.List.{AllByRecursion}
-use Rattle.std.proofs.lemmas.List.Elements.{recursion_from_All}
-use Rattle.snmp_agent.specs.Event.{Event, came, silence, receive_failed, sent, send_failed}
-use Rattle.snmp_agent.specs.{Serving.IsTurn, Serving.TurnDone, declared.server.Turn.Turn, table.Table.MibView}
+use Rattle.std.proofs.Common.{◌≡◌, inl, inr, ℕ, List, [], ◌∷◌, ◌++◌, refl, sym, ◌∙◌, ap, subst, append_assoc, append-nil, flat_map, arith, length}
+use Rattle.std.proofs.Common.{map, Option, Some, None, Ok, take}
+use Rattle.std.specs.{List.AllByRecursion, Prelude.IfSome, Prelude.IfNone}
+use Rattle.std.proofs.{lemmas.List.Elements.recursion_from_All, lemmas.List.Elements.All-nil, lemmas.Grind.common_steps}
+use Rattle.snmp_agent.specs.Event.{Event, came, silence, receive_failed, sent, send_failed, InTurn}
+use Rattle.snmp_agent.specs.Serving.{IsTurn, TurnDone, AreTurns}
+use Rattle.snmp_agent.specs.{declared.server.Turn.Turn, table.Table.MibView, Reply.Agent, declared.server.Served.Served}
 use Rattle.snmp_agent.specs.declared.server.Turn.TheVariants as turn
-use Rattle.snmp_wire.specs.{Message.Message, Spelling.Spells}
-use Rattle.snmp_walk.specs.Link.{Agents, OneOf, IsReplyFrom, agent_in}
+use Rattle.snmp_wire.specs.{Message.Message, Message.VarBind, Spelling.Spells}
+use Rattle.snmp_walk.specs.Link.{Agents, OneOf, IsReplyFrom, agent_in, Outcome}
+use Rattle.snmp_walk.proofs.MemberLemmas.{one_left, one_there, split_at, one_append}
 use Rattle.snmp_walk.specs.Network.{Happening, at_walk, at_agents, of_walk, of_agents, tried, AreReplies, IsFaithful, Service, AreServices, AreServed}
-
--- ---- members of lists
-
-one_front : {X : Type 0} (xs ys : List X) (x : X) → OneOf xs x → OneOf (xs ++ ys) x
-one_front [] ys x one = absurd one
-one_front (y ∷ xs) ys x (inl e) = inl e
-one_front (y ∷ xs) ys x (inr one) = inr (one_front xs ys x one)
-
-one_last : {X : Type 0} (xs ys : List X) (x : X) → OneOf (xs ++ x ∷ ys) x
-one_last [] ys x = inl refl
-one_last (y ∷ xs) ys x = inr (one_last xs ys x)
-
-split_at : {X : Type 0} (xs : List X) (x : X) → OneOf xs x → (front : List X) × (back : List X) × (xs ≡ front ++ x ∷ back)
-split_at [] x one = absurd one
-split_at (y ∷ xs) x (inl e) = ([], xs, ap (λ z. z ∷ xs) (sym e))
-split_at (y ∷ xs) x (inr one) = let s = split_at xs x one in (y ∷ s.0, s.1, ap (λ zs. y ∷ zs) s.2)
+use Rattle.snmp_walk.specs.Network.{IsServedThen, event_of_got}
+use Rattle.snmp_walk.specs.{declared.link.Link.Ghosts as LinkFacts, Ran.IsWalkedOver, Walker.Walker, declared.end.WalkEnd.WalkEnd}
+use Rattle.snmp_walk.specs.Link as outcome
+use Rattle.snmp_walk.specs.Tries.{InTurn, Happens, Sends, Brings, EndsTry, IsTry, AreTried}
 
 -- ---- the two ends of a run
 
@@ -76,12 +67,12 @@ module _ {Peer : Type 0} (agents : Agents) where
   of_turn : (view : MibView) → OneOf agents.tables view → (before : List (Event Peer)) (t : Turn) (events : List (Event Peer))
       → IsTurn (agent_in agents view) t events → AreAnswers before events
   of_turn view one before turn.Replied events h =
-      subst (AreAnswers before) (sym h.4) (tt, ((h.1, one_last before [] (came h.0 h.1), (view, one, h.3)), tt))
+      subst (AreAnswers before) (sym h.4) (tt, ((h.1, one_there before [] (came h.0 h.1), (view, one, h.3)), tt))
   of_turn view one before turn.Dropped events h = subst (AreAnswers before) (sym h.4) (tt, tt)
   of_turn view one before turn.Idle events h = subst (AreAnswers before) (sym h) (tt, tt)
   of_turn view one before turn.Failed events (inl h) = subst (AreAnswers before) (sym h) (tt, tt)
   of_turn view one before turn.Failed events (inr h) =
-      subst (AreAnswers before) (sym h.4) (tt, ((h.1, one_last before [] (came h.0 h.1), (view, one, h.3)), tt))
+      subst (AreAnswers before) (sym h.4) (tt, ((h.1, one_there before [] (came h.0 h.1), (view, one, h.3)), tt))
 
   of_turns : (view : MibView) → OneOf agents.tables view → (before : List (Event Peer)) (done : List (TurnDone Peer))
       → AllByRecursion (λ (t : TurnDone Peer). IsTurn (agent_in agents view) t.turn t.events) done
@@ -140,7 +131,7 @@ module _ {Peer : Type 0} (agents : Agents) where
           ap of_walk (s.2 ∙ ap (λ b. b ++ at_agents e ∷ s.1) t.2 ∙ append_assoc t.0 (at_agents (came walker replied.0) ∷ t.1) (at_agents e ∷ s.1))
           ∙ of_walk-append t.0 (at_agents (came walker replied.0) ∷ (t.1 ++ at_agents e ∷ s.1)) in (
             replied.0,
-            subst (λ (ds : List (List ℕ)). OneOf ds replied.0) (sym (ap tried earlier ∙ tried-append (of_walk t.0) _)) (one_front _ _ replied.0 asked),
+            subst (λ (ds : List (List ℕ)). OneOf ds replied.0) (sym (ap tried earlier ∙ tried-append (of_walk t.0) _)) (one_left _ _ replied.0 asked),
             replied.2,
           )
 
@@ -165,3 +156,194 @@ replies_over agents walker run faithful served before after peer r is m spelt =
     let w = walk_place run before after (came peer r) is in
     let c = carried agents walker run faithful served w.0 w.1 peer r w.2 m spelt in
     (c.0, subst (λ (es : List (Event (Unit {0}))). OneOf (tried es) c.0) w.3 c.1, c.2)
+
+-- ---- what happens at a link as a request is tried over it
+
+pub in_turn-append : {L X : Type 0} (step : L → X → L → Type 0) (xs ys : List X) (old between new : L) → InTurn step old xs between
+    → InTurn step between ys new → InTurn step old (xs ++ ys) new
+in_turn-append step [] ys old between new h k = subst (λ l. InTurn step l ys new) h k
+in_turn-append step (x ∷ xs) ys old between new h k = (h.0, h.1, in_turn-append step xs ys h.0 between new h.2 k)
+
+module _ {L : Type 0} (facts : LinkFacts L) (q : List ℕ) where
+  -- this happened, and no other datagram than this one was sent in it
+  abbrev pub Grows : L → L → Type 0
+  Grows old new = (events : List (Event (Unit {0}))) × InTurn (Happens facts) old events new × ((d : List ℕ) → OneOf (tried events) d → d ≡ q)
+
+  grows_none : (old : L) → Grows old old
+  grows_none old = ([], refl, λ d one. absurd one)
+
+  pub grows_on : (old between new : L) → Grows old between → Grows between new → Grows old new
+  grows_on old between new a b = grind (arith, common_steps, in_turn-append, one_append, tried-append)
+
+  brought : (old new : L) (d : List ℕ) → Brings facts old d new → Grows old new
+  brought old new d h = (came tt d ∷ [], (new, h.0, refl), λ e one. absurd one)
+
+  brought_all : (strays : List (List ℕ)) (old new : L) → InTurn (Brings facts) old strays new → Grows old new
+  brought_all [] old new h = subst (λ (l : L). Grows old l) (sym h) (grows_none old)
+  brought_all (d ∷ strays) old new h = grows_on old h.0 new (brought old h.0 d h.1) (brought_all strays h.0 new h.2)
+
+  sent_once : (old new : L) → Sends facts old q new → Grows old new
+  sent_once old new h = (sent tt q ∷ [], (new, h.0, refl), λ d one. elim one [ inl e ↦ e | inr none ↦ absurd none ])
+
+  over_try : (strays : ℕ) (old new : L) (o : Outcome) → EndsTry facts strays old o new → Grows old new
+  over_try strays old new (outcome.answered d) h = brought old new d h.1
+  over_try strays old new outcome.missed (inl h) = (silence ∷ [], (new, h.1.0, refl), λ e one. absurd one)
+  over_try strays old new outcome.missed (inr h) = subst (λ (l : L). Grows old l) (sym h.1) (grows_none old)
+  over_try strays old new outcome.cut_off h = (receive_failed ∷ [], (new, h.1.0, refl), λ e one. absurd one)
+
+  module _ (Other : List ℕ → Type 0) where
+    up_to : (old new : L) (strays : List (List ℕ)) (o : Outcome) → (t : IsTry facts Other q o old strays new) → Grows old t.received.last
+    up_to old new strays o t =
+        grows_on old t.between t.received.last (sent_once old t.between t.sent) (brought_all strays t.between t.received.last t.received.brought)
+
+    pub one_try : (old new : L) (strays : List (List ℕ)) (o : Outcome) → IsTry facts Other q o old strays new → Grows old new
+    one_try old new strays o t =
+        grows_on old t.received.last new (up_to old new strays o t) (over_try (length strays) t.received.last new o t.received.over)
+
+    pub missed_tries : (received : List (List (List ℕ))) (old new : L) → InTurn (IsTry facts Other q outcome.missed) old received new → Grows old new
+    missed_tries [] old new h = subst (λ (l : L). Grows old l) (sym h) (grows_none old)
+    missed_tries (strays ∷ more) old new h =
+        grows_on old h.0 new (one_try old h.0 strays outcome.missed h.1) (missed_tries more h.0 new h.2)
+
+    -- the tries whose last was answered: this happened before the answer
+    pub answered_tries : (tries : ℕ) (old new : L) (r : List ℕ) → AreTried facts Other q tries old (outcome.answered r) new
+        → (last : L) × Grows old last × facts.brings last r new
+    answered_tries tries old new r (earlier, few, before, missed, inl (strays, t)) = (
+      t.received.last,
+      grows_on old before t.received.last (missed_tries missed.received old before missed.are_missed) (up_to before new strays (outcome.answered r) t),
+      t.received.over.1.0,
+    )
+    answered_tries tries old new r (earlier, few, before, missed, inr (same, fails)) = let never : ⊥ = cc in absurd never
+
+    abbrev pub all_tries : (tries : ℕ) (old new : L) (o : Outcome) → AreTried facts Other q tries old o new
+        → (events : List (Event (Unit {0}))) × InTurn (Happens facts) old events new
+    all_tries tries old new outcome.missed h = let g = missed_tries h.received old new h.are_missed in (g.0, g.1)
+    all_tries tries old new (outcome.answered r) h =
+        let a = answered_tries tries old new r h in
+        (a.1.0 ++ came tt r ∷ [], in_turn-append (Happens facts) a.1.0 (came tt r ∷ []) old a.0 new a.1.1 (new, a.2, refl))
+    all_tries tries old new outcome.cut_off (earlier, few, before, missed, inl (strays, t)) =
+        let g = grows_on old before new (missed_tries missed.received old before missed.are_missed) (one_try before new strays outcome.cut_off t) in (g.0, g.1)
+    all_tries tries old new outcome.cut_off (earlier, few, before, missed, inr (is, fails)) =
+        let g = missed_tries missed.received old before missed.are_missed in
+        (g.0 ++ send_failed tt q ∷ [], in_turn-append (Happens facts) g.0 (send_failed tt q ∷ []) old before new g.1 (new, fails.0, refl))
+
+-- ---- the agent's turns and the walk's receives, on one network
+
+module _ {N Peer : Type 0} (happens : N → Event Peer → N → Type 0) (carries : N → Happening Peer → N → Type 0)
+    (at_end : (old new : N) (e : Event Peer) → happens old e new → carries old (at_agents e) new) where
+  turns_carried : (events : List (Event Peer)) (old new : N) → InTurn happens old events new → InTurn carries old (map at_agents events) new
+  turns_carried [] old new h = h
+  turns_carried (e ∷ events) old new h = (h.0, at_end old h.0 e h.1, turns_carried events h.0 new h.2)
+
+  pub then_is : (agent : Agent) (e : Event (Unit {0})) (turns : ℕ) (served : Served) (events : List (Event Peer)) (old between new : N)
+      → AreTurns agent turns served events → InTurn happens old events between → carries between (at_walk e) new → IsServedThen carries agent old e new
+  then_is agent e turns served events old between new are first last = grind (arith, common_steps, in_turn-append, turns_carried)
+
+pub by_some : (got : Option ℕ) (buffer : List ℕ) (P : Event (Unit {0}) → Type 0) → P (event_of_got (Ok got) buffer) → IfSome got (λ n. P (came tt (take n buffer)))
+by_some None buffer P h = tt
+by_some (Some n) buffer P h = h
+
+pub by_none : (got : Option ℕ) (buffer : List ℕ) (P : Event (Unit {0}) → Type 0) → P (event_of_got (Ok got) buffer) → IfNone got (P silence)
+by_none None buffer P h = h
+by_none (Some n) buffer P h = tt
+
+module _ {Peer : Type 0} where
+  walk_of_agents : (events : List (Event Peer)) → of_walk (map at_agents events) ≡ []
+  walk_of_agents [] = refl
+  walk_of_agents (e ∷ events) = walk_of_agents events
+
+  agents_of_agents : (events : List (Event Peer)) → of_agents (map at_agents events) ≡ events
+  agents_of_agents [] = refl
+  agents_of_agents (e ∷ events) = ap (λ es. e ∷ es) (agents_of_agents events)
+
+no_turns : {Peer : Type 0} (agent : Agent) → AreTurns {Peer = Peer} agent 0 (record { replies = 0; dropped = 0; idle = 0; faults = 0 }) []
+no_turns {Peer} agent = record { done = []; each = All-nil (λ (u : TurnDone Peer). IsTurn agent u.turn u.events); count = refl; by_kind = refl; in_order = refl }
+
+module _ {W N Peer : Type 0} (net : W → N) (agent_at : W → Agent) (carries : N → Happening Peer → N → Type 0) where
+  -- what one event at the link is on the network
+  record Part (old new : W) (e : Event (Unit {0})) : Type 0 where
+    same : agent_at new ≡ agent_at old
+    run : List (Happening Peer)
+    chain : InTurn carries (net old) run (net new)
+    seen : of_walk run ≡ e ∷ []
+    turns : ℕ
+    served : Served
+    are_turns : AreTurns (agent_at old) turns served (of_agents run)
+
+  -- what all of them are
+  pub record Whole (agents : Agents) (old new : W) (events : List (Event (Unit {0}))) : Type 0 where
+    pub run : List (Happening Peer)
+    pub chain : InTurn carries (net old) run (net new)
+    pub seen : of_walk run ≡ events
+    pub served : AreServed agents run
+
+  once : (old new : W) (e : Event (Unit {0})) → (agent_at new ≡ agent_at old) × carries (net old) (at_walk e) (net new) → Part old new e
+  once old new e h = record {
+    same = h.0;
+    run = at_walk e ∷ [];
+    chain = (net new, h.1, refl);
+    seen = refl;
+    turns = 0;
+    served = record { replies = 0; dropped = 0; idle = 0; faults = 0 };
+    are_turns = no_turns (agent_at old);
+  }
+
+  then_part : (old new : W) (e : Event (Unit {0})) → (agent_at new ≡ agent_at old) × IsServedThen carries (agent_at old) (net old) e (net new) → Part old new e
+  then_part old new e (same, (turns, served, events, are, chain)) = record {
+    same = same;
+    run = map at_agents events ++ at_walk e ∷ [];
+    chain = chain;
+    seen = of_walk-append (map at_agents events) (at_walk e ∷ []) ∙ ap (λ es. es ++ e ∷ []) (walk_of_agents events);
+    turns = turns;
+    served = served;
+    are_turns = subst (AreTurns (agent_at old) turns served)
+        (sym (of_agents-append (map at_agents events) (at_walk e ∷ []) ∙ append-nil (of_agents (map at_agents events)) ∙ agents_of_agents events)) are;
+  }
+
+module _ {W N Peer : Type 0} (facts : LinkFacts W) (net : W → N) (agent_at : W → Agent) (carries : N → Happening Peer → N → Type 0)
+    (sends : (old new : W) (d : List ℕ) → facts.sends old d new → (agent_at new ≡ agent_at old) × carries (net old) (at_walk (sent tt d)) (net new))
+    (fails : (old new : W) (d : List ℕ) → facts.send_fails old d new → (agent_at new ≡ agent_at old) × carries (net old) (at_walk (send_failed tt d)) (net new))
+    (brings : (old new : W) (d : List ℕ) → facts.brings old d new
+    → (agent_at new ≡ agent_at old) × IsServedThen carries (agent_at old) (net old) (came tt d) (net new))
+    (silent : (old new : W) → facts.is_silent old new → (agent_at new ≡ agent_at old) × IsServedThen carries (agent_at old) (net old) silence (net new))
+    (receives : (old new : W) → facts.receive_fails old new
+    → (agent_at new ≡ agent_at old) × IsServedThen carries (agent_at old) (net old) receive_failed (net new)) where
+  part : (old new : W) (e : Event (Unit {0})) → Happens facts old e new → Part net agent_at carries old new e
+  part old new (sent p d) h = once net agent_at carries old new (sent p d) (sends old new d h)
+  part old new (send_failed p d) h = once net agent_at carries old new (send_failed p d) (fails old new d h)
+  part old new (came p d) h = then_part net agent_at carries old new (came p d) (brings old new d h)
+  part old new silence h = then_part net agent_at carries old new silence (silent old new h)
+  part old new receive_failed h = then_part net agent_at carries old new receive_failed (receives old new h)
+
+  pub whole : (agents : Agents) (view : MibView) → OneOf agents.tables view → (events : List (Event (Unit {0}))) (old new : W)
+      → agent_at old ≡ agent_in agents view → InTurn (Happens facts) old events new → Whole net agent_at carries agents old new events
+  whole agents view one [] old new is h = grind (arith, common_steps)
+  whole agents view one (e ∷ events) old new is h =
+      let p = part old h.0 e h.1 in
+      let w = whole agents view one events h.0 new (p.same ∙ is) h.2 in
+      let s : Service Peer = record { view = view; turns = p.turns; served = p.served; events = of_agents p.run } in
+      record {
+        run = p.run ++ w.run;
+        chain = in_turn-append carries p.run w.run (net old) (net h.0) (net new) p.chain w.chain;
+        seen = of_walk-append p.run w.run ∙ ap (λ es. es ++ of_walk w.run) p.seen ∙ ap (λ es. e ∷ es) w.seen;
+        served = record {
+          services = s ∷ w.served.services;
+          each = (one, subst (λ (a : Agent). AreTurns a p.turns p.served (of_agents p.run)) is p.are_turns, w.served.each);
+          in_turn = of_agents-append p.run w.run ∙ ap (λ es. of_agents p.run ++ es) w.served.in_turn;
+        };
+      }
+
+-- all that happened at a link in a walk
+pub all_of : {W N Peer : Type 0} {facts : LinkFacts W} {link after : W} {tries : ℕ} {first : Walker} {given refused : List VarBind} {end : WalkEnd}
+    → (w : IsWalkedOver facts link after tries first given refused end) (net : W → N) (agent_at : W → Agent) (carries : N → Happening Peer → N → Type 0)
+    → ((old new : W) (d : List ℕ) → facts.sends old d new → (agent_at new ≡ agent_at old) × carries (net old) (at_walk (sent tt d)) (net new))
+    → ((old new : W) (d : List ℕ) → facts.send_fails old d new → (agent_at new ≡ agent_at old) × carries (net old) (at_walk (send_failed tt d)) (net new))
+    → ((old new : W) (d : List ℕ) → facts.brings old d new
+    → (agent_at new ≡ agent_at old) × IsServedThen carries (agent_at old) (net old) (came tt d) (net new))
+    → ((old new : W) → facts.is_silent old new → (agent_at new ≡ agent_at old) × IsServedThen carries (agent_at old) (net old) silence (net new))
+    → ((old new : W) → facts.receive_fails old new
+    → (agent_at new ≡ agent_at old) × IsServedThen carries (agent_at old) (net old) receive_failed (net new))
+    → (agents : Agents) (view : MibView) → OneOf agents.tables view
+    → agent_at link ≡ agent_in agents view → Whole net agent_at carries agents link after w.happened.events
+all_of {W} {N} {Peer} {facts} {link} {after} w net agent_at carries sends fails brings silent receives agents view one is =
+    grind (arith, common_steps, whole)

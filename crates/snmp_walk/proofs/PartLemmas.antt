@@ -1,12 +1,12 @@
 -- What is given of a walk rises, and a front of it is a beginning of the walk too.
-use Rattle.std.proofs.{lemmas.Grind.common_steps, lemmas.List.nil_from_length}
-use Rattle.std.proofs.Common.{◌≡◌, ◌⊎◌, inl, inr, ℕ, true, false, List, [], ◌∷◌, ◌++◌, length, refl, sym, ◌∙◌, ap, subst, arith, append-nil}
-use Rattle.std.proofs.Common.{length-append}
+use Rattle.std.proofs.{lemmas.Grind.common_steps}
+use Rattle.std.proofs.Common.{◌≡◌, ◌⊎◌, inl, inr, ℕ, true, false, List, [], ◌∷◌, ◌++◌, refl, sym, ◌∙◌, ap, subst, arith, append-nil}
 use Rattle.snmp_wire.specs.Message.{VarBind}
 use Rattle.snmp_walk.specs.{declared.mode.Mode.Mode, Names.is_end, Names.comes_after, Trail.last_name, Trail.IsTrail, Walker.Walker}
 use Rattle.snmp_walk.specs.declared.mode.Mode.TheVariants as mode
 use Rattle.snmp_walk.specs.Standing.{IsOpening, IsGiven, IsAlone, IsPartOfWalk}
-use Rattle.snmp_walk.proofs.{TableLemmas.after_more, RowLemmas.AreAfter, RowLemmas.AreRising, RowLemmas.AreLawfulReplies, TestLemmas.end_test}
+use Rattle.snmp_walk.proofs.{MoveLemmas.nil_front, TableLemmas.after_more, NameLemmas.end_test}
+use Rattle.snmp_walk.proofs.RowLemmas.{AreAfter, AreRising, AreLawfulReplies}
 
 module _ (Next Got : List ℕ → VarBind → Type 0) (laws : AreLawfulReplies Next Got) (root : List ℕ) where
   -- a trail rises from the name before it
@@ -36,9 +36,6 @@ one_front p [] ys e = inl refl
 one_front p (x ∷ []) ys e = let same : x ≡ p = cc in inr (ap (λ (q : VarBind). q ∷ []) same)
 one_front p (x ∷ y ∷ xs) ys e = absurd cc
 
-none_front : (xs ys : List VarBind) → [] ≡ xs ++ ys → xs ≡ []
-none_front xs ys e = nil_from_length xs (omega (arith, ap length e, length-append xs ys))
-
 -- two ways to cut a list
 two_cuts : (xs ys front trail : List VarBind) → xs ++ ys ≡ front ++ trail
     → ((rest : List VarBind) × (front ≡ xs ++ rest)) ⊎ ((more : List VarBind) × (xs ≡ front ++ more) × (trail ≡ more ++ ys))
@@ -55,9 +52,9 @@ trail_front Next root o (x ∷ xs) ys h = (h.0, h.1, trail_front Next root x.nam
 
 module _ (Next Got : List ℕ → VarBind → Type 0) (first : Walker) where
   opening_front : (m : Mode) (xs rest front : List VarBind) → IsOpening Got m first.asked front → front ≡ xs ++ rest → (xs ≡ []) ⊎ (xs ≡ front)
-  opening_front mode.Include xs rest front (p, got, inl none) e = inl (none_front xs rest (sym none.1 ∙ e))
+  opening_front mode.Include xs rest front (p, got, inl none) e = inl (nil_front xs rest (sym none.1 ∙ e))
   opening_front mode.Include xs rest front (p, got, inr some) e = grind (arith, common_steps, one_front)
-  opening_front _ xs rest front none e = inl (none_front xs rest (sym none ∙ e))
+  opening_front _ xs rest front none e = inl (nil_front xs rest (sym none ∙ e))
 
   -- a front of what was given is a beginning too
   given_front : (xs ys : List VarBind) (o : List ℕ) (g : IsGiven Next Got first (xs ++ ys) o)
@@ -87,6 +84,6 @@ module _ (Next Got : List ℕ → VarBind → Type 0) (first : Walker) where
   alone_front xs ys h = grind (arith, common_steps, one_front)
 
   pub part_front : (xs ys : List VarBind) → IsPartOfWalk Next Got first (xs ++ ys) → IsPartOfWalk Next Got first xs
-  part_front xs ys (inl none) = inl (none_front xs ys (sym none))
+  part_front xs ys (inl none) = inl (nil_front xs ys (sym none))
   part_front xs ys (inr (inl h)) = given_front xs ys h.0 h.1 (two_cuts xs ys h.1.front h.1.trail h.1.parts)
   part_front xs ys (inr (inr h)) = alone_front xs ys h

@@ -1,14 +1,12 @@
 -- A walk's requests can be encoded, and fit a datagram.
-use Rattle.std.proofs.{lemmas.Grind.common_steps, lemmas.List.length-map, lemmas.List.Elements.All-cons, lemmas.List.Elements.All-nil}
+use Rattle.std.proofs.{lemmas.Grind.common_steps, lemmas.List.length-map}
 use Rattle.std.proofs.Common.{◌≡◌, ℕ, zero, suc, ◌+◌, ◌*◌, ◌≤◌, List, [], ◌∷◌, length, arith, refl, ◌∙◌, length-append, ℤ, pos, negsuc}
-use Rattle.std.specs.{Prelude.All, List.flat_map}
-use Rattle.snmp_oid.specs.Identifier.{IsWire}
-use Rattle.snmp_wire.specs.Message.{Datum, Message, null_value, integer_value, octet_string, object_id, var_bind}
-use Rattle.snmp_wire.specs.{Identifier.subidentifiers, Spelling.value_tag, declared.binding.Binding.Binding}
+use Rattle.std.specs.{List.flat_map}
+use Rattle.snmp_wire.specs.Message.{Datum, Message, null_value, integer_value, octet_string, object_id}
+use Rattle.snmp_wire.specs.{Identifier.subidentifiers, Spelling.value_tag}
 use Rattle.snmp_wire.specs.Canon.{digit_count, digits, number_size, canon_number, length_size, canon_length, subidentifier_size, septets}
 use Rattle.snmp_wire.specs.Canon.{canon_subidentifier, canon_header, canon_element, canon_content, canon_value, canon_binding, canon_bindings}
-use Rattle.snmp_wire.specs.Canon.{canon_opening, canon_fields, canon, IsEncodable}
-use Rattle.snmp_wire.specs.declared.ber.value.ValueRef.TheVariants as value
+use Rattle.snmp_wire.specs.Canon.{canon_opening, canon_fields, canon}
 use Rattle.snmp_walk.specs.{Walker.Walker, Request.request_of}
 
 digit_bound : (base limit more n : ℕ) → digit_count base limit more n ≤ more + 1
@@ -93,6 +91,3 @@ message_bound m = omega (arith, element_bound, integer_bound, text_bound, length
 -- no request of a walk is longer than 1,000 octets
 pub request_short : (w : Walker) → length w.community ≤ 255 → length w.asked ≤ 128 → length (canon (request_of w)) ≤ 1000
 request_short w h k = omega (arith, h, message_bound (request_of w), name_short w.asked k)
-
-pub encodable : (name : List ℕ) → IsWire name → All (λ (b : Binding). IsEncodable (var_bind b)) (record { name = name; value = value.Null } ∷ [])
-encodable name h = grind (arith, common_steps, All-cons, All-nil)

@@ -20,17 +20,16 @@ use Rattle.snmp_walk.specs.declared.tries.Course.TheVariants as course
 use Rattle.snmp_walk.specs.private.Course as heard
 use Rattle.snmp_walk.specs.Facts.{IsFresh, IsLastSent, IsAskedLast, Reading, AreRead, HasRead, BringsNone, IsReadSo, IsEndedBy, IsLawfulEnd}
 use Rattle.snmp_walk.specs.Facts.{HasNoReply, IsEndOfRun, IsReadyForAll}
-use Rattle.snmp_walk.proofs.{JudgedLemmas.means_by, JudgedLemmas.response_to_decided, ViewLemmas.views_answer, SwiftLemmas.few_in}
-use Rattle.snmp_walk.proofs.{SwiftLemmas.gets_one, SwiftLemmas.HasFew, MoveLemmas.sent_all, TriedMoves.IsSent, TriedMoves.moved_of}
-use Rattle.snmp_walk.proofs.{TriedMoves.sent_of, TriedMoves.tries_as, LostLemmas.lost_of, ReplyLemmas.asked_of, ReplyLemmas.from_of, TurnLemmas.Suits}
-use Rattle.snmp_walk.proofs.{TurnLemmas.agrees, RequestLemmas.request_short, RowLemmas.AreLawfulReplies, CaseLemmas.EndsEmpty, CaseLemmas.ends_empty}
+use Rattle.snmp_walk.proofs.{JudgedLemmas.means_by, JudgedLemmas.response_to_decided, RowLemmas.views_answer, SwiftLemmas.few_in}
+use Rattle.snmp_walk.proofs.{SwiftLemmas.gets_one, SwiftLemmas.HasFew, LostLemmas.lost_of, HonestLemmas.asked_of, HonestLemmas.from_of}
+use Rattle.snmp_walk.proofs.{RequestLemmas.request_short, RowLemmas.AreLawfulReplies, CaseLemmas.EndsEmpty, CaseLemmas.ends_empty}
 use Rattle.snmp_walk.proofs.{LawLemmas.ordered_from_rising, PartLemmas.part_front, PartLemmas.part_rises, FreshLemmas.fresh_stands}
 use Rattle.snmp_walk.proofs.{FreshLemmas.lawful_reply, GivenLemmas.given_by, FullLemmas.AreRoomy, FullLemmas.IsFast, FullLemmas.fast_first}
-use Rattle.snmp_walk.proofs.{FullLemmas.fast_on, SinkLemmas.given-append, StandingLemmas.taken, StandingLemmas.part_of_stage, StandingLemmas.waiting}
-use Rattle.snmp_walk.proofs.{AnyLemmas.Small, AnyLemmas.taken_any, AnyLemmas.rising_answers, JoinLemmas.after_precedes}
+use Rattle.snmp_walk.proofs.{FullLemmas.fast_on, SinkLemmas.given-append, JoinLemmas.after_precedes, MemberLemmas.one_left, MemberLemmas.one_right}
+use Rattle.snmp_walk.proofs.MoveLemmas.{sent_all, IsSent, moved_of, sent_of, tries_as, Suits, agrees}
+use Rattle.snmp_walk.proofs.StandingLemmas.{taken, part_of_stage, part_of_step, waiting, Small, taken_any, rising_answers}
 use Rattle.snmp_walk.proofs.FactLemmas.{in_table, in_names, facts as facts_of, send_facts}
-use Rattle.snmp_walk.proofs.SendLemmas.{Sends, sends_more, one_left, one_right, earlier_first, earlier_more}
-use Rattle.snmp_walk.proofs.TriedLemmas.{HasMoved, moved_first, moved_more, moved_fine}
+use Rattle.snmp_walk.proofs.SendLemmas.{Sends, sends_more, earlier_first, earlier_more, HasMoved, moved_first, moved_more, moved_fine}
 
 -- what replies end with leaves the sink as it was given
 took_reply : {S : Type 0} (takes : S → VarBind → Result (Unit {0}) SinkFault → S → Type 0) (before after : S) (rows : List VarBind) (why : WalkEnd)
@@ -94,9 +93,23 @@ module _ {S L : Type 0} (facts : LinkFacts L) (takes : S → VarBind → Result 
     fast = λ h. fast_first (IsNextFrom (facts.agents link)) (IsGotFrom (facts.agents link)) (AreRoomy (facts.agents link) []) first fresh;
   }
 
+  -- what is known of a run that ended
+  abbrev pub Returns : L → WalkEnd → S → Type 0
+  Returns after end t = IsRun takes before end t (λ given refused. IsWalkedOver facts link after tries first given refused end)
+
+  -- what a turn of the walk w comes to, by what the exchange returned
+  abbrev pub IsTurn : Walker → L → Walker → S → WalkEnd → Result (Option Course) LinkFault → Type 0
+  IsTurn w after v t end (Ok (Some course.GoesOn)) = Runs after v t × (v.id ≡ w.id + 1) × (v.id < 2 ^ 31)
+  IsTurn w after v t end (Ok (Some course.Ends)) = Returns after end t
+  IsTurn w after v t end (Ok None) = Returns after ending.NoResponse t
+  IsTurn w after v t end (Err e) = Returns after ending.Link t
+
 module _ {S L : Type 0} {facts : LinkFacts L} {takes : S → VarBind → Result (Unit {0}) SinkFault → S → Type 0} {tries : ℕ} {first w : Walker} {link here : L}
     {before s : S} (codec : Codec) (keeping : (l : L) → facts.honest l → facts.keeps l) (lawful : (l : L) → facts.honest l → AreLawful (facts.agents l))
     (some : 0 < tries) (r : Runs facts takes tries first link before here w s) (good : IsWalker w) (after : L) where
+  abbrev Ran : WalkEnd → S → Type 0
+  Ran = Returns facts takes tries first link before after
+
   abbrev agents : Agents
   agents = facts.agents link
 
@@ -255,7 +268,7 @@ module _ {S L : Type 0} {facts : LinkFacts L} {takes : S → VarBind → Result 
 
     -- what is known of the whole run
     ran : IsFresh first → (rows : List VarBind) (t : S) → IsOver (r.given ++ rows) end t
-        → IsRun takes before end t (λ given refused. IsWalkedOver facts link after tries first given refused end)
+        → Ran end t
     ran fresh rows t done =
         let all = r.given ++ rows in
         let a = agrees what end suits in
@@ -314,7 +327,7 @@ module _ {S L : Type 0} {facts : LinkFacts L} {takes : S → VarBind → Result 
   module _ (m : Message) (d : List ℕ) (tried : Tried (outcome.answered d)) (spelt : Spells m d) (awaited : awaits w.community w.id m ≡ true)
       (fresh : IsFresh first) (rows : List VarBind) (t : S) where
     pub ran_reply : (why : WalkEnd) → (take_of w m).0 ≡ step.Last rows why → Given takes s rows t
-        → IsRun takes before why t (λ given refused. IsWalkedOver facts link after tries first given refused why)
+        → Ran why t
     ran_reply why e sink =
         let over = subst (λ (st : Step). AdvancesAnyhow first w r.given st (take_of w m).1) e (any m d tried spelt awaited) in
         let none = subst EndsEmpty e (ends_empty w m) in
@@ -337,7 +350,7 @@ module _ {S L : Type 0} {facts : LinkFacts L} {takes : S → VarBind → Result 
 
     pub ran_refused : (fault : SinkFault) (p : VarBind) (left : List VarBind) (between : S) → rows_in (take_of w m).0 ≡ rows ++ p ∷ left
         → Given takes s rows between → takes between p (Err fault) t
-        → IsRun takes before (ending.Sink fault) t (λ given refused. IsWalkedOver facts link after tries first given refused (ending.Sink fault))
+        → Ran (ending.Sink fault) t
     ran_refused fault p left between e sink refused =
         let cut : r.given ++ rows_in (take_of w m).0 ≡ ((r.given ++ rows) ++ p ∷ []) ++ left =
         ap (λ (g : List VarBind). r.given ++ g) e ∙ sym (append_assoc r.given rows (p ∷ left)) ∙ sym (append_assoc (r.given ++ rows) (p ∷ []) left) in
@@ -361,7 +374,8 @@ module _ {S L : Type 0} {facts : LinkFacts L} {takes : S → VarBind → Result 
           );
           honestly = λ h. (
             part_front Next Got first ((r.given ++ rows) ++ p ∷ []) left
-                (subst (IsPartOfWalk Next Got first) cut (honest_part h (take_of w m).0 (take_of w m).1 (honest_step m d tried spelt awaited h))),
+                (subst (IsPartOfWalk Next Got first) cut (part_of_step Next Got (IsTooLarge agents) (laws h) first w r.given (take_of w m).0
+                (take_of w m).1 (honest_step m d tried spelt awaited h))),
             tt,
             ended_by (outcome.answered d) (ending.Sink fault) suits tried rows (r.given ++ rows) refl h (λ own. absurd own) tt (λ is. absurd (suits.1 is)),
           );
@@ -372,18 +386,12 @@ module _ {S L : Type 0} {facts : LinkFacts L} {takes : S → VarBind → Result 
         any_part (step.Rows more) u k = part_of_stage Rises Named Small rising_answers first (r.given ++ more) u.asked u.phase k.2.stage
         any_part (step.Last more why) u k = k.1
 
-        honest_part : IsFreshAndHonest facts link → (st : Step) (u : Walker) → Advances Next Got (IsTooLarge agents) first w r.given st u
-            → IsPartOfWalk Next Got first (r.given ++ rows_in st)
-        honest_part h step.Stray u k = absurd k
-        honest_part h (step.Rows more) u k = part_of_stage Next Got (IsTooLarge agents) (laws h) first (r.given ++ more) u.asked u.phase k.stage
-        honest_part h (step.Last more why) u k = k.0
-
   -- and without one
   ran_none : (what : Outcome) (why : WalkEnd) (suits : Suits what why) (tried : Tried what) → IsFresh first → (IsReplyEnd why → ⊥) → CountsAll why r.given
       → IsEndOfRun (IsAskedLast (IsTried facts tries) (IsSentLast why) first link r.given after) [] why → Took takes before r.given [] why s
       → BringsNone why [] → (IsFreshAndHonest facts link → why ≡ ending.NoResponse → IsUnreplied w)
       → (IsFreshAndHonest facts link → IsLawfulEnd agents IsUnreplied first r.given why)
-      → IsRun takes before why s (λ given refused. IsWalkedOver facts link after tries first given refused why)
+      → Ran why s
   ran_none what why suits tried fresh none counts reason sink no_rows silent lawful_end =
       ran what why suits tried fresh [] s (subst (λ (g : List VarBind). IsOver g why s) (sym (append-nil r.given)) (record {
         refused = [];
@@ -399,14 +407,14 @@ module _ {S L : Type 0} {facts : LinkFacts L} {takes : S → VarBind → Result 
       }))
 
   pub ran_silent : Tried outcome.missed → IsFresh first
-      → IsRun takes before ending.NoResponse s (λ given refused. IsWalkedOver facts link after tries first given refused ending.NoResponse)
+      → Ran ending.NoResponse s
   ran_silent tried fresh =
       ran_none outcome.missed ending.NoResponse refl tried fresh (λ own. own) tt
       (w, asked_last outcome.missed ending.NoResponse refl tried [] r.given (sym (append-nil r.given))) (r.sunk, refl) refl (λ h _. no_reply tried h)
       (λ h. (w, good, r.honestly h, no_reply tried h))
 
   pub ran_cut : Tried outcome.cut_off → IsFresh first
-      → IsRun takes before ending.Link s (λ given refused. IsWalkedOver facts link after tries first given refused ending.Link)
+      → Ran ending.Link s
   ran_cut tried fresh =
       ran_none outcome.cut_off ending.Link refl tried fresh (λ own. own) tt
       (w, asked_last outcome.cut_off ending.Link refl tried [] r.given (sym (append-nil r.given))) (r.sunk, refl) refl (λ h is. absurd cc) (λ h. tt)
@@ -429,11 +437,11 @@ module _ {S L : Type 0} {facts : LinkFacts L} {takes : S → VarBind → Result 
       by_step given e (is_refused fault rows p left between parts on sink refused) = absurd cc
 
   pub reads_end : (d : List ℕ) (v : Walker) (t : S) (end : WalkEnd) → Tried (outcome.answered d) → IsReadSoBy d v t (heard.ends end) → IsFresh first
-      → IsRun takes before end t (λ given refused. IsWalkedOver facts link after tries first given refused end)
+      → Ran end t
   reads_end d v t end tried h fresh = by_step h.given (sym (ap (λ (x : Step × Walker). x.0) h.read)) h.delivered
     where
       by_step : (given : Step) → (take_of w h.message).0 ≡ given → Delivers takes given s (heard.ends end) t
-          → IsRun takes before end t (λ given refused. IsWalkedOver facts link after tries first given refused end)
+          → Ran end t
       by_step step.Stray e delivered =
           absurd (subst (λ (st : Step). AdvancesAnyhow first w r.given st (take_of w h.message).1) e (any h.message d tried h.spelt h.awaited))
       by_step (step.Rows rows) e (all_given is sink) = absurd cc
@@ -445,25 +453,20 @@ module _ {S L : Type 0} {facts : LinkFacts L} {takes : S → VarBind → Result 
 
   -- ---- by what the exchange returned
 
-  abbrev Returns : WalkEnd → S → Type 0
-  Returns end t = IsRun takes before end t (λ given refused. IsWalkedOver facts link after tries first given refused end)
-
-  abbrev pub IsTurn : Walker → S → WalkEnd → Result (Option Course) LinkFault → Type 0
-  IsTurn v t end (Ok (Some course.GoesOn)) = Runs facts takes tries first link before after v t × (v.id ≡ w.id + 1) × (v.id < 2 ^ 31)
-  IsTurn v t end (Ok (Some course.Ends)) = Returns end t
-  IsTurn v t end (Ok None) = Returns ending.NoResponse t
-  IsTurn v t end (Err e) = Returns ending.Link t
+  abbrev Turn : Walker → S → WalkEnd → Result (Option Course) LinkFault → Type 0
+  Turn = IsTurn facts takes tries first link before w after
 
   pub turn_of : IsFresh first → (v : Walker) (t : S) (end : WalkEnd) {q : List ℕ} → ((w.phase ≢ phase.Over) → q ≡ canon (request_of w)) → (what : Outcome)
       → AreTried facts (IsNotAwaited w.community w.id) q tries here what after → (result other : Result (Option Course) LinkFault)
-      → Tells (λ d course. IsReadSoBy d v t (heard_of course end)) ((v ≡ w) × (t ≡ s)) result what → result ≡ other → IsTurn v t end other
-  turn_of fresh v t end {q} is what h result other told same = subst (IsTurn v t end) same (by_result result told)
+      → Tells (λ d course. IsReadSoBy d v t (heard_of course end)) ((v ≡ w) × (t ≡ s)) result what → result ≡ other → Turn v t end other
+  turn_of fresh v t end {q} is what h result other told same = subst (Turn v t end) same (by_result result told)
     where
       came : (other : Outcome) → what ≡ other → Tried other
       came other same = tried_by (is still_waits) same h
 
-      by_result : (x : Result (Option Course) LinkFault) → Tells (λ d course. IsReadSoBy d v t (heard_of course end)) ((v ≡ w) × (t ≡ s)) x what → IsTurn v t end x
+      by_result : (x : Result (Option Course) LinkFault) → Tells (λ d course. IsReadSoBy d v t (heard_of course end)) ((v ≡ w) × (t ≡ s)) x what
+          → Turn v t end x
       by_result (Ok (Some course.GoesOn)) h = reads_on h.0 v t (came (outcome.answered h.0) h.1) h.2
       by_result (Ok (Some course.Ends)) h = reads_end h.0 v t end (came (outcome.answered h.0) h.1) h.2 fresh
-      by_result (Ok None) h = subst (Returns ending.NoResponse) (sym h.1.1) (ran_silent (came outcome.missed h.0) fresh)
-      by_result (Err e) h = subst (Returns ending.Link) (sym h.1.1) (ran_cut (came outcome.cut_off h.0) fresh)
+      by_result (Ok None) h = subst (Ran ending.NoResponse) (sym h.1.1) (ran_silent (came outcome.missed h.0) fresh)
+      by_result (Err e) h = subst (Ran ending.Link) (sym h.1.1) (ran_cut (came outcome.cut_off h.0) fresh)

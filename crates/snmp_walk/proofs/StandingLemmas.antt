@@ -1,23 +1,31 @@
 -- An honest reply to the waiting request takes a walk a step further, or ends it lawfully.
 use Rattle.std.proofs.{lemmas.Grind.common_steps, lemmas.List.Elements.All-nil, lemmas.List.Elements.All-push}
 use Rattle.std.proofs.Common.{◌≡◌, inl, inr, ℕ, ◌+◌, ◌≤◌, true, false, cond, List, [], ◌∷◌, ◌++◌, ◌≢◌, length, refl, sym, ◌∙◌, ap, subst, arith}
-use Rattle.std.proofs.Common.{append_assoc, append-nil, length-append, pos, Some}
-use Rattle.std.proofs.lemmas.Bool.{ltb-true, le-ltb, or_from, and_from, and_parts, eqb-true, ltb-false, eq-eqb, cond_both, false≢true}
+use Rattle.std.proofs.Common.{append_assoc, append-nil, length-append, pos, Some, None}
+use Rattle.std.proofs.lemmas.Bool.{le-ltb, or_from, and_from, and_parts, eqb-true, eq-eqb, cond_both, false≢true, or_parts, not-true}
 use Rattle.std.proofs.lemmas.List.{flat_map_more, length_push, nil_from_length}
-use Rattle.std.specs.{Prelude.nat_lt, Prelude.◌==◌, Prelude.◌&&◌, Prelude.◌||◌, Prelude.flat_map, Bool.nat_eq, List.list_any, Ordering.int_eq}
-use Rattle.std.specs.Cmp.Lexicographic.{pointwise, nat_list_eq_equiv}
-use Rattle.snmp_wire.specs.Message.{VarBind, Message}
-use Rattle.snmp_walk.specs.{declared.mode.Mode.Mode, declared.phase.Phase.Phase, declared.rows.Step.Step, Names.is_missing, Trail.last_name}
-use Rattle.snmp_walk.specs.{Trail.IsTrail, Trail.IsAtEnd, Walker.Walker, Request.asked_for}
+use Rattle.std.specs.{Prelude.◌==◌, Prelude.◌&&◌, Prelude.flat_map, Prelude.not, Bool.nat_eq, List.list_any, Ordering.int_eq}
+use Rattle.std.specs.Cmp.Lexicographic.{pointwise, nat_list_eq_equiv, same_text}
+use Rattle.snmp_wire.specs.Message.{VarBind, Message, end_of_mib_view}
+use Rattle.snmp_walk.specs.{declared.mode.Mode.Mode, declared.phase.Phase.Phase, declared.rows.Step.Step, Trail.last_name, Trail.IsTrail}
+use Rattle.snmp_walk.specs.{Trail.IsAtEnd, Walker.Walker, Request.asked_for, Read.rows_in, declared.end.WalkEnd.WalkEnd}
+use Rattle.snmp_walk.specs.Names.{is_missing, is_end, comes_after}
 use Rattle.snmp_walk.specs.declared.mode.Mode.TheVariants as mode
 use Rattle.snmp_walk.specs.declared.phase.Phase.TheVariants as phase
 use Rattle.snmp_walk.specs.declared.end.WalkEnd.TheVariants as ending
-use Rattle.snmp_walk.proofs.{JudgedLemmas.response_to_decided, CaseLemmas.goes_by, RowLemmas.AreLawfulReplies, TestLemmas.present}
-use Rattle.snmp_walk.specs.private.Taken.{is_over, is_plain, inside_front, rising_front, stops, goes_on, closes, reads_next, got, if_present}
-use Rattle.snmp_walk.specs.private.Taken.{reads_first, reads_last, reads_for, take_of}
+use Rattle.snmp_walk.specs.declared.rows.Step.TheVariants as step
+use Rattle.snmp_walk.proofs.{JudgedLemmas.response_to_decided, RowLemmas.AreLawfulReplies, FrontLemmas.front_taken, FrontLemmas.fronts_by}
+use Rattle.snmp_walk.proofs.CaseLemmas.{goes_by, given_of, take_by}
+use Rattle.snmp_walk.proofs.NameLemmas.{present, after_test, end_test, inside_decided, miss_test, no_end, no_miss}
+use Rattle.snmp_walk.specs.private.Taken.{is_over, is_plain, stops, goes_on, closes, reads_as, reads_next, got, if_present, reads_first, reads_last}
+use Rattle.snmp_walk.specs.private.Taken.{reads_for, take_of, is_awaited}
 use Rattle.snmp_walk.specs.Standing.{IsChain, IsLarge, IsReplyContent, IsReplyTo, IsOpening, IsGiven, IsPartOfWalk, IsStage, opening_gets, IsPaced}
-use Rattle.snmp_walk.specs.Standing.{Reaches, Advances}
-use Rattle.snmp_walk.proofs.TrailLemmas.{last_name-append, trail-append, IsFront, chain_front, chain_has_values, few_replies}
+use Rattle.snmp_walk.specs.Standing.{Reaches, Advances, Rises, Named, IsReplyEnd, CountsAll, AdvancesAnyhow}
+use Rattle.snmp_walk.specs.private.Reading.{After, nothing, leaving, falling, front_of, is_misplaced}
+use Rattle.snmp_walk.proofs.TrailLemmas.{last_name-append, trail-append, EndsChain, IsFront, chain_front, chain_has_values, few_replies}
+use Rattle.snmp_walk.specs.declared.phase.Phase.TheVariants as phase
+use Rattle.snmp_walk.specs.declared.end.WalkEnd.TheVariants as ending
+use Rattle.snmp_oid.specs.Identifier.{Precedes}
 
 module _ (Next Got : List ℕ → VarBind → Type 0) (Large : ℕ → VarBind → Type 0) (laws : AreLawfulReplies Next Got) (first : Walker) where
   -- a step as a pair
@@ -29,6 +37,12 @@ module _ (Next Got : List ℕ → VarBind → Type 0) (Large : ℕ → VarBind �
   part_of_stage given o phase.Rows h = inr (inl (o, h))
   part_of_stage given o phase.Last h = inl h.0
   part_of_stage given o phase.Over h = absurd h
+
+  pub part_of_step : (old : Walker) (given : List VarBind) (st : Step) (w : Walker) → Advances Next Got Large first old given st w
+      → IsPartOfWalk Next Got first (given ++ rows_in st)
+  part_of_step old given step.Stray w h = absurd h
+  part_of_step old given (step.Rows more) w h = part_of_stage (given ++ more) w.asked w.phase h.stage
+  part_of_step old given (step.Last more why) w h = h.0
 
   -- what a walk gives before the instances has the name that it begins from
   pub opening_last : (m : Mode) (o : List ℕ) (front trail : List VarBind) → IsOpening Got m o front → last_name o (front ++ trail) ≡ last_name o trail
@@ -115,6 +129,16 @@ module _ (Next Got : List ℕ → VarBind → Type 0) (Large : ℕ → VarBind �
       → IsGiven Next Got first (given ++ rows) (last_name o rows)
   given_more given rows o h more = grind (arith, common_steps, append_assoc, trail-append, last_name-append)
 
+  -- the rows at the front of a reply, by what follows them
+  reads_front : (given rows : List VarBind) (w : Walker) (after : After) → w.phase ≡ phase.Rows → Reaches Next Got first w given
+      → IsGiven Next Got first given w.asked → IsTrail Next first.root w.asked rows → EndsChain Next first.root (last_name w.asked rows) after
+      → (after ≡ nothing → 1 ≤ length rows) → Goes w given (reads_as after w rows)
+  reads_front given rows w nothing waits h before trail end some =
+      goes given rows w phase.Rows h (given_more given rows w.asked before trail) (more_pace given rows w waits h before trail (some refl))
+  reads_front given rows w leaving waits h before trail end some =
+      closed given rows w (last_name w.asked rows) waits h before (given_more given rows w.asked before trail) end
+  reads_front given rows w (falling name) waits h before trail end some = absurd end
+
   -- a reply with the next instances
   reads_instances : (given bindings : List VarBind) (w : Walker) → w.phase ≡ phase.Rows → Reaches Next Got first w given → IsGiven Next Got first given w.asked
       → IsChain Next w.asked bindings → length bindings ≤ asked_for w.method → (bindings ≡ [] → IsLarge Next (Large w.id) w.asked)
@@ -122,18 +146,12 @@ module _ (Next Got : List ℕ → VarBind → Type 0) (Large : ℕ → VarBind �
   reads_instances given [] w waits h before chain few large = grind (arith, common_steps, append-nil)
   reads_instances given (b ∷ more) w waits h before chain few large =
       let bindings = b ∷ more in
-      let inside = inside_front w.root bindings in
-      let rows = rising_front w.asked inside in
-      let fine : (nat_lt (asked_for w.method) (length bindings) || list_any (λ p. is_missing p.value) bindings) ≡ false =
+      let front = front_of w.root w.asked bindings in
+      let fine : is_misplaced (asked_for w.method) bindings ≡ false =
       or_from _ _ (le-ltb _ _ few) (chain_has_values Next Got laws first.root w.asked bindings chain) in
-      let front : IsFront Next first.root w.asked bindings inside rows =
-      subst (λ (r : List ℕ). IsFront Next r w.asked bindings inside rows) (root_is w given h) (chain_front Next Got laws w.root w.asked bindings chain) in
-      let after = given_more given rows w.asked before front.is_trail in
-      rw fine (rw (le-ltb (length rows) (length inside) (omega (arith, ap length front.rising)))
-      (cond_both (nat_lt (length rows) (length bindings)) (closes w rows) (goes_on w phase.Rows rows) (Goes w given)
-      (λ fewer. closed given rows w (last_name w.asked rows) waits h before after (front.leaves (ltb-true _ _ fewer)))
-      (λ all. let long : length bindings ≤ length rows = ltb-false _ _ all in
-      goes given rows w phase.Rows h after (more_pace given rows w waits h before front.is_trail (omega (arith, long))))))
+      let is = subst (λ (r : List ℕ). IsFront Next r w.asked front) (root_is w given h) (chain_front Next Got laws w.root w.asked bindings chain) in
+      rw fine (reads_front given front.rows w front.after waits h before is.is_trail is.ends
+      (λ all. omega (arith, ap length ((front_taken w.root w.asked bindings).1 all))))
 
   -- the binding of a Get's reply
   got_is : (o : List ℕ) (p : VarBind) → Got o p → got o (p ∷ []) ≡ Some p
@@ -190,3 +208,90 @@ module _ (Next Got : List ℕ → VarBind → Type 0) (Large : ℕ → VarBind �
   pub taken : (given : List VarBind) (w : Walker) (m : Message) → Reaches Next Got first w given → IsReplyTo Next Got Large w m
       → Advances Next Got Large first w given (take_of w m).0 (take_of w m).1
   taken given w m h r = grind (arith, common_steps, and_from, waiting, response_to_decided, reads_content)
+
+-- ---- what holds of a step whatever the message is
+
+-- no binding is said to be large here
+abbrev pub Small : ℕ → VarBind → Type 0
+Small id p = Unit {0}
+
+pub rising_answers : AreLawfulReplies Rises Named
+rising_answers = grind (arith, common_steps, after_test, no_end, miss_test, end_test)
+
+-- any name is at the end of what might be answered
+anywhere : (root o : List ℕ) → IsAtEnd Rises root o
+anywhere root o =
+    let last : VarBind = record { name = o; value = end_of_mib_view } in
+    (last, ((λ value. absurd (value refl)), no_miss last refl), (λ inside. inside.value refl))
+
+-- the binding of a Get's reply is the one asked for
+got_named : (o : List ℕ) (bindings : List VarBind) (p : VarBind) → got o bindings ≡ Some p → Named o p
+got_named o [] p h = absurd cc
+got_named o (b ∷ []) p h = cond_both (pointwise nat_eq b.name o && not (is_end b.value)) (Some b) None (λ g. g ≡ Some p → Named o p) (λ both e.
+    let parts = and_parts _ _ both in
+    let same : b ≡ p = cc in
+    subst (Named o) same (same_text b.name o (sym parts.0), no_end b.value (not-true _ parts.1))) (λ _ e. absurd cc) h
+got_named o (b ∷ c ∷ more) p h = absurd cc
+
+-- the rows of any reply are a trail of rising names
+rising_trail : ((o p : List ℕ) → comes_after o p ≡ true → Precedes o p) → (root o : List ℕ) (bindings : List VarBind)
+    → list_any (λ p. is_missing p.value) bindings ≡ false → IsTrail Rises root o (front_of root o bindings).rows
+rising_trail precedes root = fronts_by root (λ o all front. list_any (λ p. is_missing p.value) all ≡ false → IsTrail Rises root o front.rows)
+    (λ o v. tt)
+    (λ o p more front i u later v.
+    let parts = or_parts (is_missing p.value) (list_any (λ q. is_missing q.value) more) v in
+    (((λ _. precedes o p.name u), no_miss p parts.0), (inside_decided root p).0 i, later parts.1)) (λ o p more i f v. tt) (λ o p more f v. tt)
+
+module _ (first old : Walker) (given : List VarBind) where
+  abbrev IsAny : Step × Walker → Type 0
+  IsAny s = AdvancesAnyhow first old given s.0 s.1
+
+  -- an honest step is one of any kind
+  abbrev IsHonest : Step × Walker → Type 0
+  IsHonest s = Advances Rises Named Small first old given s.0 s.1
+
+  goes_any : (more : List VarBind) (next : Phase) → IsHonest (goes_on old next more) → IsAny (goes_on old next more)
+  goes_any more next = goes_by old (λ s. IsHonest s → IsAny s) next more (λ less h. (refl, omega arith, h)) (λ _ h. (tt, h.0, tt))
+
+  closes_any : (more : List VarBind) → IsHonest (closes old more) → IsAny (closes old more)
+  closes_any more = cond_both (is_plain old.mode && (old.count + length more == 0)) (goes_on old phase.Last [])
+      (stops old more (ending.Done (old.count + length more))) (λ s. IsHonest s → IsAny s) (λ _. goes_any [] phase.Last) (λ _ h. (tt, h.0, h.1.0))
+
+  pub taken_any : ((o p : List ℕ) → comes_after o p ≡ true → Precedes o p) → (m : Message) → is_awaited old m ≡ true
+      → Reaches Rises Named first old given → AdvancesAnyhow first old given (take_of old m).0 (take_of old m).1
+  taken_any precedes m awaited h = take_by old m IsAny (record {
+    stray = λ other. absurd (false≢true (sym other ∙ awaited));
+    fault = none (ending.Fault m.a m.b) tt tt;
+    bad = none ending.BadReply tt tt;
+    first = λ waits b e. goes_any (if_present b) phase.Rows (reads_root Rises Named Small rising_answers first given old b waits h (stage phase.First waits)
+        (got_named old.asked m.bindings b e));
+    last = λ waits b e.
+        let alone = reads_alone Rises Named Small rising_answers first given old b h (stage phase.Last waits) (got_named old.asked m.bindings b e) in
+        (tt, alone.0, alone.1.0);
+    empty = λ _. none (ending.NoProgress old.asked) tt tt;
+    next = λ waits _ some fine.
+        let rows = given_of old m.bindings in
+        let before : IsGiven Rises Named first given old.asked = stage phase.Rows waits in
+        let trail : IsTrail Rises first.root old.asked rows =
+        subst (λ (r : List ℕ). IsTrail Rises r old.asked rows) (root_is Rises Named Small rising_answers first old given h)
+        (rising_trail precedes old.root old.asked m.bindings fine) in
+        let after = given_more Rises Named Small rising_answers first given rows old.asked before trail in (
+          (λ name last. (tt, inr (inl (last_name old.asked rows, after)), tt)),
+          closes_any rows (closed Rises Named Small rising_answers first given rows old (last_name old.asked rows) waits h before after
+              (anywhere first.root (last_name old.asked rows))),
+          λ all. goes_any rows phase.Rows (goes Rises Named Small rising_answers first given rows old phase.Rows h after
+              (more_pace Rises Named Small rising_answers first given rows old waits h before trail
+              (omega (arith, some, ap length ((front_taken old.root old.asked m.bindings).1 all))))),
+        );
+  })
+    where
+      none : (why : WalkEnd) → IsReplyEnd why → CountsAll why (given ++ []) → IsAny (stops old [] why)
+      none why own counts = (
+        own,
+        subst (IsPartOfWalk Rises Named first) (sym (append-nil given))
+            (part_of_stage Rises Named Small rising_answers first given old.asked old.phase h.stage),
+        counts,
+      )
+
+      stage : (p : Phase) → old.phase ≡ p → IsStage Rises Named first given old.asked p
+      stage p waits = subst (IsStage Rises Named first given old.asked) waits h.stage

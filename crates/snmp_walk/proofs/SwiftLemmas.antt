@@ -2,15 +2,13 @@
 use Rattle.std.proofs.lemmas.Grind.{common_steps}
 use Rattle.std.proofs.Common.{◌≡◌, ◌≢◌, ◌⊎◌, ◌≤ℤ◌, inl, inr, ℕ, ◌+◌, ◌≤◌, false, List, [], ◌∷◌, ◌++◌, length, refl, sym, ◌∙◌, ap, subst, arith, pos}
 use Rattle.std.proofs.Common.{length-append}
-use Rattle.snmp_wire.specs.declared.kind.Kind.TheVariants as kind
-use Rattle.snmp_wire.specs.{Message.VarBind, Message.Message, Message.end_of_mib_view, Spelling.Spells, Canon.canon}
+use Rattle.snmp_wire.specs.{Message.VarBind, Message.Message, Message.end_of_mib_view, Canon.canon}
 use Rattle.snmp_walk.specs.{private.Codec.Codec, declared.mode.Mode.Mode, declared.mode.Method.Method, declared.phase.Phase.Phase}
 use Rattle.snmp_walk.specs.{declared.end.WalkEnd.WalkEnd, Trail.last_name, Trail.IsTrail, Walker.Walker, Walker.IsMethod, Walker.IsWalker}
 use Rattle.snmp_walk.specs.{Walk.rest_of, Request.request_of, Request.request_kind, Request.request_repetitions, private.Taken.is_over, Room.HasRoom}
 use Rattle.snmp_walk.specs.{Room.HasRoomForEach, Facts.IsLawfulEnd, Facts.HasNone, Facts.IsDoneOrStopped, Facts.IsDoneOrCutOff, Facts.gets}
 use Rattle.snmp_agent.specs.table.Table.{MibView, IsMibView, IsGet, variable, unknown_object, unknown_instance, IsNext, successor, end_of_view}
 use Rattle.snmp_agent.specs.{table.Listing.variables, declared.config.Why.Why}
-use Rattle.snmp_agent.specs.declared.config.Why.TheVariants as why
 use Rattle.snmp_agent.specs.Reply.{IsServed, response, IsWhole, got, got_next, unwritten, Fits, IsLongestFront, IsResponse, whole, shortened, bulk}
 use Rattle.snmp_agent.specs.Reply.{IsDropped, no_error}
 use Rattle.snmp_walk.specs.declared.mode.Mode.TheVariants as mode
@@ -19,9 +17,9 @@ use Rattle.snmp_walk.specs.declared.phase.Phase.TheVariants as phase
 use Rattle.snmp_walk.specs.declared.end.WalkEnd.TheVariants as ending
 use Rattle.snmp_walk.specs.Standing.{IsChain, IsLarge, IsStage, IsReplyTooLarge, opening_gets, Reaches}
 use Rattle.snmp_walk.specs.Link.{Agents, OneOf, agent_in, IsNextFrom, IsGotFrom, IsTooLarge, AreViews}
-use Rattle.snmp_walk.proofs.HonestLemmas.{request_in_range, one_answer, get_phase, bulk_phase, set_phase}
-use Rattle.snmp_walk.proofs.{BulkLemmas.IsOneBulk, BulkLemmas.one_bulk, TableLemmas.trail_rest, TrailLemmas.few_replies, ViewLemmas.view_of}
-use Rattle.snmp_walk.proofs.{ViewLemmas.views_answer, StandingLemmas.waiting, TablesLemmas.row_of_next, TestLemmas.end_test, RowLemmas.IsOneTable}
+use Rattle.snmp_walk.proofs.HonestLemmas.{request_in_range, own as spelt_own, no_drop as served_by, one_answer, get_phase, bulk_phase, set_phase}
+use Rattle.snmp_walk.proofs.{BulkLemmas.IsOneBulk, BulkLemmas.one_bulk, TableLemmas.trail_rest, TrailLemmas.few_replies, RowLemmas.view_of}
+use Rattle.snmp_walk.proofs.{RowLemmas.views_answer, StandingLemmas.waiting, TablesLemmas.row_of_next, NameLemmas.end_test, RowLemmas.IsOneTable}
 use Rattle.snmp_walk.proofs.RoomLemmas.{room_fits, room_small, room_exception}
 
 pub gets_one : (m : Mode) → gets m ≤ 1
@@ -116,18 +114,9 @@ module _ (codec : Codec) (agents : Agents) (first : Walker) (good_views : AreVie
     community : w.community ≡ agents.community
     community = ap (λ (v : Walker). v.community) h.same ∙ (rooms view one).community
 
-    own : Spells (request_of w) (canon (request_of w))
-    own = codec.read (request_of w) (canon (request_of w)) (codec.strict (request_of w) (request_in_range w good))
-
-    the_request : (q : Message) → Spells q (canon (request_of w)) → q ≡ request_of w
-    the_request q spelt = (codec.one q (request_of w) (canon (request_of w)) (canon (request_of w)) [] [] spelt own refl).0
-
     -- the response of one binding fits
     fits : (p : VarBind) → HasRoom agents p → Fits agents.max_size (response (request_of w) no_error (pos 0) (p ∷ []))
-    fits p room =
-        let Size = λ (c : List ℕ).
-        length (canon (record { version = pos 1; community = c; kind = kind.Response; id = pos w.id; a = pos 0; b = pos 0; bindings = p ∷ [] })) in
-        subst (λ (c : List ℕ). Size c ≤ agents.max_size) (sym community) (room_fits codec agents p w.id good.id room)
+    fits p room = rw (← community) at (room_fits codec agents p w.id good.id room)
 
     asked_at_get : (p : Phase) → (p ≡ phase.First) ⊎ (p ≡ phase.Last) → IsStage Next Got first given w.asked p
         → w.asked ≡ first.asked
@@ -169,15 +158,8 @@ module _ (codec : Codec) (agents : Agents) (first : Walker) (good_views : AreVie
 
     -- each agent answers
     no_drop : (cause : Why) → IsDropped (agent_in agents view) (canon (request_of w)) cause → ⊥
-    no_drop why.Undecodable d = d (request_of w) own
-    no_drop why.Version d = d.2 (ap (λ (m : Message). m.version) (the_request d.0 d.1))
-    no_drop why.Community d = d.3 (ap (λ (m : Message). m.community) (the_request d.0 d.1) ∙ community)
-    no_drop why.Pdu d =
-        let is : d.0.kind ≡ request_kind w.phase w.method = ap (λ (m : Message). m.kind) (the_request d.0 d.1) in
-        d.4 (subst IsServed (sym is) (served w.phase w.method))
-    no_drop why.TooLong d =
-        let same : d.0 ≡ request_of w = the_request d.0 d.2.spelt in
-        d.4 (response_fits d.1 (subst (λ (q : Message). IsResponse view agents.max_size q d.1) same d.3))
+    no_drop = served_by codec (request_of w) (spelt_own codec (request_of w) (request_in_range w good) (set_phase w.phase w.method)) refl
+        (agent_in agents view) community (served w.phase w.method) response_fits
 
   module _ (k : ℕ) (bound : HasFew Next first k) (ids : first.id + k + 2 ≤ 2147483647) where
     -- the ends that are left

@@ -9,8 +9,8 @@ use Rattle.snmp_walk.specs.declared.mode.Mode.TheVariants as mode
 use Rattle.snmp_walk.specs.Names.{is_below, is_inside, is_end, comes_after}
 use Rattle.snmp_walk.specs.Walk.{rows_below, rows_after, rows_named, or_only, walk_of, rest_of, walk_from}
 use Rattle.snmp_walk.specs.Standing.{IsOpening, IsAlone, IsPartOfWalk, IsWholeWalk}
-use Rattle.snmp_walk.proofs.OrderLemmas.{after-irrefl, not_after, after-trans, outside_after, below_after_wire}
-use Rattle.snmp_walk.proofs.{TrailLemmas.trail_begins, TestLemmas.inside_decided, TestLemmas.outside_test, TestLemmas.present_is}
+use Rattle.snmp_walk.proofs.NameLemmas.{after-irrefl, not_after, after-trans, outside_after, below_after_wire}
+use Rattle.snmp_walk.proofs.{TrailLemmas.trail_begins, NameLemmas.inside_decided, NameLemmas.outside_test, NameLemmas.present_is}
 use Rattle.snmp_walk.proofs.RowLemmas.{AreAfter, AreRising, AreInstances, or_end, IsOneTable}
 
 -- two filters in either order

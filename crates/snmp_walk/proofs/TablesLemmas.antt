@@ -15,19 +15,13 @@ use Rattle.snmp_walk.specs.Names.{is_below, is_end, is_missing, comes_after}
 use Rattle.snmp_walk.specs.Standing.{IsOpening, IsGiven, IsPartOfWalk, IsWholeWalk}
 use Rattle.snmp_walk.specs.Link.{Agents, OneOf, IsNextFrom, IsGotFrom, IsTooLarge, AreViews}
 use Rattle.snmp_walk.specs.Tables.{IsBelowRoot, IsOfWalk, IsFromTable, AreFromTables, HasName, IsInEach, IsGivenOnce, HoldsNames}
-use Rattle.snmp_walk.proofs.{OrderLemmas.outside_after, NameLemmas.test_from_below, TrailLemmas.trail_begins, StandingLemmas.opening_last}
+use Rattle.snmp_walk.proofs.NameLemmas.{outside_after, test_from_below, after_test, end_test, outside_test, miss_test, no_miss}
+use Rattle.snmp_walk.proofs.{TrailLemmas.trail_begins, StandingLemmas.opening_last, MemberLemmas.one_append, MemberLemmas.split_at}
 use Rattle.snmp_walk.proofs.{SendLemmas.named_more, SendLemmas.named_after, PartLemmas.trail_rises, PartLemmas.part_rises}
-use Rattle.snmp_walk.proofs.ViewLemmas.{views_answer, view_of, value_no_end, value_no_miss}
+use Rattle.snmp_walk.proofs.RowLemmas.{AreAfter, AreRising, AreLawfulReplies, views_answer, view_of, value_no_end, value_no_miss}
 use Rattle.snmp_walk.proofs.JoinLemmas.{after_precedes, tie_is, one_after, not_itself, row_none}
-use Rattle.snmp_walk.proofs.RowLemmas.{AreAfter, AreRising, AreLawfulReplies}
-use Rattle.snmp_walk.proofs.TestLemmas.{after_test, end_test, outside_test, miss_test, no_miss}
 
 -- ---- lists of names
-
-one_of_both : (xs ys : List VarBind) (p : VarBind) → OneOf (xs ++ ys) p → OneOf xs p ⊎ OneOf ys p
-one_of_both [] ys p one = inr one
-one_of_both (x ∷ xs) ys p (inl e) = inl (inl e)
-one_of_both (x ∷ xs) ys p (inr one) = elim (one_of_both xs ys p one) [ inl h ↦ inl (inr h) | inr h ↦ inr h ]
 
 name_after : (o : List ℕ) (rows : List VarBind) (name : List ℕ) → AreAfter o rows → IsNameIn rows name → comes_after o name ≡ true
 name_after o [] name h i = absurd i
@@ -59,11 +53,6 @@ once (p ∷ rows) name h (inr i) =
     }
 
 -- a list with one name less
-holds : (names : List (List ℕ)) (x : List ℕ) → OneOf names x → (front : List (List ℕ)) × (back : List (List ℕ)) × (names ≡ front ++ x ∷ back)
-holds [] x one = absurd one
-holds (y ∷ names) x (inl e) = ([], names, ap (λ (n : List ℕ). n ∷ names) (sym e))
-holds (y ∷ names) x (inr one) = let h = holds names x one in (y ∷ h.0, h.1, ap (λ (s : List (List ℕ)). y ∷ s) h.2)
-
 without : (front back : List (List ℕ)) (x y : List ℕ) → OneOf (front ++ x ∷ back) y → (y ≡ x → ⊥) → OneOf (front ++ back) y
 without [] back x y (inl e) other = absurd (other e)
 without [] back x y (inr one) other = one
@@ -75,7 +64,7 @@ pub few_names : (rows : List VarBind) (names : List (List ℕ)) → AreRising ro
     → length rows ≤ length names
 few_names [] names h each = omega arith
 few_names (p ∷ rows) names h each =
-    let split = holds names p.name (each p (inl refl)) in
+    let split = split_at names p.name (each p (inl refl)) in
     let rest = few_names rows (split.0 ++ split.1) h.1 (λ q one.
     without split.0 split.1 p.name q.name (subst (λ (s : List (List ℕ)). OneOf s q.name) split.2 (each q (inr one)))
     (not_itself p.name q.name (one_after p.name rows q h.0 one))) in
@@ -155,7 +144,7 @@ module _ (codec : Codec) (agents : Agents) (views : AreViews agents.tables) (fir
 
   pub part_from : (given : List VarBind) → IsPartOfWalk Next Got first given → AreFromTables agents first given
   part_from given (inl none) = inl (λ p one. absurd (subst (λ (f : List VarBind). OneOf f p) none one))
-  part_from given (inr (inl (o, g))) = inl (λ p one. elim (one_of_both g.front g.trail p (subst (λ (f : List VarBind). OneOf f p) g.parts one)) [
+  part_from given (inr (inl (o, g))) = inl (λ p one. elim (one_append g.front g.trail p (subst (λ (f : List VarBind). OneOf f p) g.parts one)) [
     | inl front ↦ opening_from first.mode refl g.front g.opening p front
     | inr trail ↦ let row = trail_from g.trail g.is_trail p trail in (row.0, row.1, row.2, inl row.3)
   ])

@@ -10,7 +10,7 @@ ghost use Rattle.snmp_walk.specs.{Link.Agents, Link.OneOf, Ordered.AreOrdered, O
 ghost use Rattle.snmp_walk.specs.{Room.HasRoomForEach, Room.IsShort, Walker.Walker};
 ghost use Rattle.snmp_walk.specs.Network.{AreReplies, AreServed, Happening, IsFaithful, of_walk};
 
-use snmp_agent::{Endpoint, one_answer};
+use snmp_agent::{Endpoint, one_answer, shortest_reply};
 use snmp_oid::order;
 use snmp_wire::{
     element_sizes, encoding_is_strict, message_sizes, one_spelling, pieces, strict_is_read,
@@ -81,7 +81,7 @@ pub fn honest_networks<E: Endpoint>()
         → IsFaithful walker run → AreServed agents run → AreReplies agents (of_walk run) }
 {}
 
-/// What the crates below state of names, of messages and their encodings, and of tables.
+/// What the crates below state of names, of messages and their encodings, of tables and replies.
 #[inline]
 pub(crate) fn codec()
     ensures { Codec }
@@ -92,6 +92,7 @@ pub(crate) fn codec()
     pieces();
     message_sizes();
     element_sizes();
+    shortest_reply();
     order();
     one_answer();
 }

@@ -7,11 +7,11 @@ ghost use Rattle.snmp_walk.specs.Names.{is_below, comes_after, is_inside, is_mis
 ghost use Rattle.snmp_walk.specs.private.Reading.{is_misplaced};
 ghost use Rattle.snmp_walk.specs.Request.{first_phase as phase_at_first};
 
-use crate::laws::codec;
 use crate::root::Root;
 use crate::tries::{Judgement, Waiter, is_awaited};
 use crate::{Method, Mode, Phase, Rows, StartError, Step, WalkEnd};
 use arrayvec::ArrayVec;
+use snmp_oid::order;
 use snmp_wire::{
     BindingRef, Bindings, EncodedName, Kind, MAX_CONTENT, MessageRef, NameBuffer, Oid, OidError,
     Parts, asking_size, decode, encode_asking, encode_head, pieces, tag,
@@ -80,8 +80,8 @@ impl WalkCore {
     ghost use Rattle.snmp_walk.specs.Request.{asked_for};
     ghost use Rattle.snmp_walk.specs.private.Course.{step_of};
     ghost use Rattle.std.specs.Option.{option_map};
-    ghost use Rattle.snmp_walk.specs.private.Reading.{IsFrontOf, is_misplaced, read_front};
-    ghost use Rattle.snmp_walk.specs.private.Reading.{ending_at, name_or};
+    ghost use Rattle.snmp_walk.specs.private.Reading.{IsFrontOf, after_of, ending_at, front_of};
+    ghost use Rattle.snmp_walk.specs.private.Reading.{is_misplaced, name_or};
     ghost use Rattle.std.specs.Prelude.{IfSome, IfNone};
     ghost use Rattle.snmp_walk.specs.Trail.{last_name};
     ghost use Rattle.snmp_walk.specs.Ordered.{IsAtOrBelow, IsUnsendable};
@@ -229,7 +229,7 @@ impl WalkCore {
     pub fn take<'a>(&mut self, datagram: &'a [u8]) -> Step<'a>
         ensures { MeansBy self.old datagram.now result self.new }
     {
-        codec();
+        order();
         let Ok(message) = decode(datagram) else {
             return Step::Stray;
         };
@@ -334,8 +334,10 @@ impl WalkCore {
             (is_misplaced (asked_for self.now.method) bindings.entry ≡ true) }
         ensures some { IfSome result
             (λ front. (is_misplaced (asked_for self.now.method) bindings.entry ≡ false)
-            × IsFrontOf self.now.root self.now.asked 0 bindings.entry
-            (read_front front (name_or self.now.asked last.new) (name_or [] read.new))) }
+            × IsFrontOf self.now.asked bindings.entry
+            (front_of self.now.root self.now.asked bindings.entry)
+            (name_or self.now.asked last.new) front.rows
+            (after_of front.ending (name_or [] read.new))) }
     {
         let mut room = self.asked_for();
         let mut rows = 0;

@@ -1,10 +1,12 @@
 -- What the crates below state, as laws, of names, of messages and their encodings, and of tables,
 -- for proofs.
-use Rattle.std.specs.{Prelude.◌≡◌, Prelude.ℕ, Prelude.List, Ordering.nat_cmp}
+use Rattle.std.specs.{Prelude.◌≡◌, Prelude.◌≤◌, Prelude.ℕ, Prelude.List, Ordering.nat_cmp}
 use Rattle.std.specs.{Cmp.Lexicographic.slice_cmp, declared.cmp.Ordering.TheVariants.Less}
 use Rattle.snmp_oid.specs.Identifier.{Precedes}
 use Rattle.snmp_wire.specs.{ber.Sizes.ElementSizes, Sizes.MessageSizes, Message.VarBind}
-use Rattle.snmp_agent.specs.table.Table.{IsGet, MibView}
+use Rattle.snmp_agent.specs.table.Table.{IsGet, IsMibView, MibView}
+use Rattle.snmp_agent.specs.Reply.{Agent, IsReply}
+use Rattle.snmp_wire.specs.Spelling.{Spells}
 use Rattle.snmp_wire.specs.Laws.{OneMessage, StrictIsRead, EncodingIsStrict, HasPieces}
 
 pub record Codec : Type 0 where
@@ -19,6 +21,9 @@ pub record Codec : Type 0 where
   -- how long it is, and how long its elements are
   pub sizes : MessageSizes
   pub elements : ElementSizes
+  -- what an agent replies is an encoding of its Response
+  pub reply : (agent : Agent) (datagram octets : List ℕ) → IsMibView agent.view
+      → agent.max_size ≤ 65535 → (r : IsReply agent datagram octets) → Spells r.response octets
   -- a name that compares as less comes before the other
   pub less : (o p : List ℕ) → slice_cmp nat_cmp o p ≡ Less → Precedes o p
   -- a Get of any name gives a binding

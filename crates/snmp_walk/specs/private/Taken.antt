@@ -1,9 +1,8 @@
 -- What a message means to a walk, computed, for private clauses alone: public ones are stated by
 -- the rules of `Judged`, which name just what is computed here.
-use Rattle.std.specs.Prelude.{ℕ, zero, suc, pos, Bool, true, false, ◌&&◌, ◌||◌, not, ◌==◌, nat_lt}
+use Rattle.std.specs.Prelude.{ℕ, pos, Bool, true, false, ◌&&◌, not, ◌==◌, nat_lt}
 use Rattle.std.specs.Prelude.{if◌then◌else◌, ◌+◌, List, [], ◌∷◌, length, Option, Some, None}
-use Rattle.std.specs.Prelude.{take_while}
-use Rattle.std.specs.{List.list_any, Bool.nat_eq, Ordering.int_eq, Cmp.Lexicographic.pointwise}
+use Rattle.std.specs.{Bool.nat_eq, Ordering.int_eq, Cmp.Lexicographic.pointwise}
 use Rattle.snmp_wire.specs.{declared.kind.Kind.Kind, Message.VarBind, Message.Message}
 use Rattle.snmp_wire.specs.declared.kind.Kind.TheVariants as kind
 use Rattle.snmp_walk.specs.{declared.mode.Mode.Mode, declared.phase.Phase.Phase}
@@ -13,7 +12,9 @@ use Rattle.snmp_walk.specs.declared.mode.Mode.TheVariants as mode
 use Rattle.snmp_walk.specs.declared.phase.Phase.TheVariants as phase
 use Rattle.snmp_walk.specs.declared.end.WalkEnd.TheVariants as ending
 use Rattle.snmp_walk.specs.declared.rows.Step.TheVariants as step
-use Rattle.snmp_walk.specs.Names.{is_inside, is_end, is_missing, comes_after}
+use Rattle.snmp_walk.specs.private.Reading as reading
+use Rattle.snmp_walk.specs.private.Reading.{After, front_of, is_misplaced}
+use Rattle.snmp_walk.specs.Names.{is_end, is_missing}
 
 abbrev pub is_over : Phase → Bool
 is_over phase.Over = true
@@ -32,21 +33,6 @@ awaits community id m =
 -- the message is the reply to the waiting request
 abbrev pub is_awaited : Walker → Message → Bool
 is_awaited w m = not (is_over w.phase) && awaits w.community w.id m
-
--- the bindings before the first that ends the walk
-abbrev pub inside_front : List ℕ → List VarBind → List VarBind
-inside_front root bindings = take_while (is_inside root) bindings
-
--- the bindings whose names rise, from the first on, which comes after the name o
-abbrev pub rising_front : List ℕ → List VarBind → List VarBind
-rising_front o [] = []
-rising_front o (b ∷ more) = if comes_after o b.name then b ∷ rising_front b.name more else []
-
--- the name of the binding at a place
-abbrev pub name_at : List VarBind → ℕ → List ℕ
-name_at [] k = []
-name_at (b ∷ more) zero = b.name
-name_at (b ∷ more) (suc k) = name_at more k
 
 -- the walk ends, after these bindings
 abbrev pub stops : Walker → List VarBind → WalkEnd → Step × Walker
@@ -79,22 +65,23 @@ closes w rows =
     then goes_on w phase.Last []
     else stops w rows (ending.Done (w.count + length rows))
 
+-- the walk gives these rows at the front of a reply, by what follows them
+abbrev pub reads_as : After → Walker → List VarBind → Step × Walker
+reads_as reading.nothing w rows = goes_on w phase.Rows rows
+reads_as reading.leaving w rows = closes w rows
+reads_as (reading.falling name) w rows =
+    stops w rows (ending.NotIncreasing (last_name w.asked rows) name)
+
 -- the bindings of a reply with the next instances, none of them out of place
 abbrev pub reads : Walker → List VarBind → Step × Walker
 reads w bindings =
-    let inside = inside_front w.root bindings in
-    let rows = rising_front w.asked inside in
-    if nat_lt (length rows) (length inside) then stops w rows (ending.NotIncreasing
-    (last_name w.asked rows) (name_at inside (length rows)))
-    else if nat_lt (length rows) (length bindings) then closes w rows
-    else goes_on w phase.Rows rows
+    let front = front_of w.root w.asked bindings in reads_as front.after w front.rows
 
 -- a reply with the next instances
 abbrev pub reads_next : Walker → List VarBind → Step × Walker
 reads_next w [] = stops w [] (ending.NoProgress w.asked)
 reads_next w (b ∷ more) =
-    if nat_lt (asked_for w.method) (length (b ∷ more)) || list_any (λ p. is_missing p.value)
-    (b ∷ more)
+    if is_misplaced (asked_for w.method) (b ∷ more)
     then stops w [] ending.BadReply
     else reads w (b ∷ more)
 

@@ -1,7 +1,7 @@
 use Rattle.std.proofs.Common.{[], ◌∷◌, inl, refl, subst}
 use Rattle.snmp_agent.specs.Reply.{agent_of}
 use Rattle.snmp_walk.specs.{Network.AreReplies, Memory.agents_over}
-use Rattle.snmp_walk.proofs.{NetworkLemmas.replies_over, ServedLemmas.all_of}
+use Rattle.snmp_walk.proofs.{NetworkLemmas.replies_over, NetworkLemmas.all_of}
 use Rattle.snmp_walk.proofs.network.walk_served.Goals as goal
 
 pub returns : goal.returns

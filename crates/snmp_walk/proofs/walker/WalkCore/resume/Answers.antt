@@ -1,7 +1,7 @@
 use Rattle.std.proofs.Common.{arith, ap, sym, List, ℕ, ◌++◌, ◌≡◌, ◌⊎◌, ◌∙◌, refl, rules}
 use Rattle.std.proofs.lemmas.Grind.{common_steps}
 use Rattle.snmp_oid.specs.Identifier.{IsBelow}
-use Rattle.snmp_walk.proofs.OrderLemmas.{wire_begins_at}
+use Rattle.snmp_walk.proofs.NameLemmas.{wire_begins_at}
 use Rattle.snmp_walk.proofs.walker.WalkCore.resume.Goals as goal
 use Rattle.snmp_walk.proofs.walker.WalkCore.resume.Goals.{else-ne-via-then-ne+else-not-is_below, else-ne-via-else-ne}
 

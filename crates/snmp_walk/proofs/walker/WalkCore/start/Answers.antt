@@ -1,5 +1,5 @@
 use Rattle.std.proofs.{Common.arith, Common.◌∙◌, Common.◌++◌, Common.refl, Common.sym, Common.ap, Common.List, Common.ℕ, lemmas.Grind.common_steps}
-use Rattle.snmp_walk.proofs.{JoinLemmas.variables_are, TableLemmas.walk_from_wire, OrderLemmas.wire_begins}
+use Rattle.snmp_walk.proofs.{JoinLemmas.variables_are, TableLemmas.walk_from_wire, NameLemmas.wire_begins}
 use Rattle.snmp_walk.proofs.walker.WalkCore.start.Goals as goal
 
 pub returns-clause-fresh : goal.returns-clause-fresh
