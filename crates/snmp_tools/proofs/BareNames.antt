@@ -1,5 +1,5 @@
 -- The names and types that a job knows without module files.
-use Rattle.std.proofs.Common.{◌≡◌, refl, ap, ℕ, zero, suc, List, [], ◌∷◌, Option, Some, None}
+use Rattle.std.proofs.Common.{◌≡◌, refl, sym, subst, ap, ℕ, zero, suc, List, [], ◌∷◌, Option, Some, None}
 use Rattle.std.specs.{Prelude.slice_index_or, Prelude.option_map, Option.option_and_then}
 use Rattle.smi_names.specs.nodes.Nodes.{roots}
 use Rattle.smi_tree.specs.{Bare.bare, Standing.Longest, Standing.longest, Tree.IsTree, types.Types.Facts}
@@ -11,8 +11,11 @@ use Rattle.snmp_tools.proofs.RowLines.{HasNoSyntax}
 abbrev pub bare_mib : Mib
 bare_mib = mib_of bare
 
-pub bare_is_loaded : IsTree [] bare [] → (files : Holdings) → AreLoaded (Holds files) [] bare_mib []
-bare_is_loaded loads files = record { modules = []; read = refl; tree = bare; loads = loads; is = refl }
+-- no module files are loaded, whatever files hold
+pub bare_is_loaded : IsTree [] bare [] → (files : Holdings) (paths : List (List ℕ)) → paths ≡ [] → AreLoaded (Holds files) paths bare_mib []
+bare_is_loaded loads files paths none =
+    subst (λ (ps : List (List ℕ)). AreLoaded (Holds files) ps bare_mib []) (sym none)
+    record { modules = []; read = refl; tree = bare; loads = loads; is = refl }
 
 abbrev none_three : List (Option Facts)
 none_three = None ∷ (None ∷ (None ∷ []))

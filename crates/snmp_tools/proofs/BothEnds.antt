@@ -1,6 +1,6 @@
 -- What is printed of a table file that snmpd serves, where the network between makes nothing up.
-use Rattle.std.proofs.lemmas.Grind.{common_steps}
-use Rattle.std.proofs.Common.{◌≡◌, ◌≢◌, ◌⊎◌, inl, inr, ◌++◌, ◌+◌, ◌≤◌, ℕ, zero, suc, Bool, true, false, cond, List, [], ◌∷◌, length, Option, Some}
+use Rattle.std.proofs.{lemmas.Grind.common_steps, lemmas.List.Elements.All-contains, lemmas.List.Elements.filter_passes}
+use Rattle.std.proofs.Common.{◌≡◌, ◌≢◌, ◌⊎◌, inl, inr, ◌++◌, ◌+◌, ◌≤◌, ℕ, zero, suc, Bool, true, false, List, [], ◌∷◌, length, Option, Some}
 use Rattle.std.proofs.Common.{None, refl, sym, ◌∙◌, ap, subst, arith, append-nil}
 use Rattle.std.specs.{Prelude.MatchOption, Prelude.drop, Prelude.filter, Prelude.if◌then◌else◌, Str.Lines.lines}
 use Rattle.smi_names.specs.declared.nodes.warning.Warning.{Warning}
@@ -30,8 +30,9 @@ use Rattle.snmp_tools.specs.BothEnds as ends
 use Rattle.snmp_tools.specs.BothEnds.{AreEndsOfOneRun, IsAskOfServer, IsAtAsker, IsAtServer, PrintsServed, ServesInTurn, events_of}
 use Rattle.snmp_tools.specs.Outcome as outcome
 use Rattle.snmp_tools.specs.Question.{AskFor, AskWords, IsPlanFor, Plan, Question, Walk, counts_in, names, subtree}
-use Rattle.snmp_tools.proofs.{Asked.begun_rows, Outcomes.IsFrontOf, Outcomes.finished, Outcomes.no_fault_at_0, Plans.OneList, Plans.OneTree}
-use Rattle.snmp_tools.proofs.{Plans.held_is, Plans.one_load, Plans.one_plan, TableNames.OneMeaning, TableNames.one_look_up, TableWalks.BelowAreRows}
+use Rattle.snmp_tools.proofs.{Asked.begun_rows, TableNames.OneMeaning, TableNames.one_look_up, TableWalks.BelowAreRows, TableWalks.one_is_contained}
+use Rattle.snmp_tools.proofs.Outcomes.{IsFrontOf, finished, no_fault_at_0}
+use Rattle.snmp_tools.proofs.Plans.{OneList, OneTree, held_is, one_load, one_plan}
 
 -- ---- the greatest size that a command line states
 
@@ -60,16 +61,6 @@ all_pass : (test : VarBind → Bool) (rows : List VarBind) → ((row : VarBind) 
 all_pass test [] each = refl
 all_pass test (row ∷ more) each =
     rw (each row (inl refl)) (ap (λ (s : List VarBind). row ∷ s) (all_pass test more (λ other one. each other (inr one))))
-
-kept : (b : Bool) (test : VarBind → Bool) (first : VarBind) (more : List VarBind) (row : VarBind) → test first ≡ b → (OneOf more row → test row ≡ true)
-    → OneOf (cond b (first ∷ more) more) row → test row ≡ true
-kept true test first more row is rest (inl same) = ap test same ∙ is
-kept true test first more row is rest (inr one) = rest one
-kept false test first more row is rest one = rest one
-
-passes : (test : VarBind → Bool) (rows : List VarBind) (row : VarBind) → OneOf (filter test rows) row → test row ≡ true
-passes test [] row one = absurd one
-passes test (first ∷ more) row one = kept (test first) test first (filter test more) row refl (passes test more row) one
 
 -- an instance below the root comes after the root as it is sent
 after_wire : (root o : List ℕ) → 3 ≤ length o → IsBelow o root → Precedes (wire root) o
@@ -116,7 +107,9 @@ module _ (below : BelowAreRows) (left : LeftAreRows) (one_get : (view : MibView)
   is_after root p one =
       let is = (below view root p good).0 one in
       let behind : Precedes (wire root) p.name = after_wire root p.name (good.names p is.0).long is.1 in
-      passes (λ row. comes_after (wire root) row.name) (rows_below root (variables view)) p ((left view root (wire root) p good).1 (is.0, is.1, behind))
+      let after : VarBind → Bool = λ row. comes_after (wire root) row.name in
+      All-contains (λ row. after row ≡ true) (rest_of root (wire root) (variables view)) p (filter_passes after (rows_below root (variables view)))
+      (one_is_contained (rest_of root (wire root) (variables view)) p ((left view root (wire root) p good).1 (is.0, is.1, behind)))
 
   rest_is : (root : List ℕ) → rest_of root (wire root) (variables view) ≡ rows_below root (variables view)
   rest_is root = all_pass (λ row. comes_after (wire root) row.name) (rows_below root (variables view)) (is_after root)

@@ -1,10 +1,9 @@
 -- The letters of -C, found place by place.
 use Rattle.std.proofs.{lemmas.Grind.common_steps, lemmas.Bool.Decides.nat_tests, lemmas.Str.digit_value_digit}
-use Rattle.std.proofs.Common.{◌≡◌, ◌+◌, ◌*◌, ◌<◌, ◌≤◌, ℕ, true, false, List, [], ◌∷◌, zero, suc, None, length, drop, slice_index_or, refl, drop-cons}
+use Rattle.std.proofs.Common.{◌≡◌, ◌+◌, ◌*◌, ◌<◌, ◌≤◌, ℕ, true, false, List, [], ◌∷◌, zero, suc, length, drop, slice_index_or, refl, drop-cons}
 use Rattle.std.proofs.Common.{add-one, arith, drop_of_length-le}
 use Rattle.std.proofs.lemmas.Bool.{and_parts, cases_lt}
-use Rattle.std.specs.{Char.digit_value, Char.is_ascii_digit, List.list_all, Str.Parse.digits_value, Str.Parse.digits_value_after}
-use Rattle.snmp_tools.specs.private.Choosing.{repetitions_in}
+use Rattle.std.specs.{Char.digit_value, Char.is_ascii_digit, List.list_all, Str.Parse.digits_value_after}
 
 pub at_place : (letters : List ℕ) (place : ℕ) → place < length letters → drop place letters ≡ slice_index_or letters place 0 ∷ drop (place + 1) letters
 at_place letters place low = rw (add-one, drop-cons letters place 0) refl
@@ -26,10 +25,7 @@ weight_at [] i all low = absurd (omega (arith, low))
 weight_at (c ∷ more) zero all low = digit_weight c (and_parts (is_ascii_digit c) (list_all is_ascii_digit more) all).0
 weight_at (c ∷ more) (suc i) all low = weight_at more i (and_parts (is_ascii_digit c) (list_all is_ascii_digit more) all).1 (omega (arith, low))
 
-grows : (n : ℕ) (digits : List ℕ) → n ≤ digits_value_after 10 n digits
+-- more digits only make a number larger
+pub grows : (n : ℕ) (digits : List ℕ) → n ≤ digits_value_after 10 n digits
 grows n [] = omega arith
 grows n (d ∷ digits) = omega (arith, grows (n * 10 + digit_value d) digits)
-
--- a number of which the front digits are too many already: more digits only make it larger
-pub too_many : (n : ℕ) (rest digits : List ℕ) → digits_value_after 10 n rest ≡ digits_value 10 digits → 2147483647 < n → None ≡ repetitions_in digits
-too_many n rest digits same high = grind (arith, common_steps, grows, nat_tests)

@@ -20,4 +20,3 @@ pub mod Serving
 pub mod Reading
 pub mod Jobs
 pub mod BothEnds
-pub mod InNumbers

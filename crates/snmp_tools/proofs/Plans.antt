@@ -1,7 +1,6 @@
 -- The words ask for one plan, and the steps before its question fail for want of memory alone.
 use Rattle.std.proofs.{lemmas.Grind.common_steps, lemmas.List.Elements.All-head, lemmas.List.Elements.All-tail}
-use Rattle.std.proofs.Common.{◌≡◌, ◌⊎◌, inl, inr, ℕ, ◌<◌, ◌≤◌, length, arith, List, [], ◌∷◌, All, map, Option, Some, None, Ok, refl, sym, ◌∙◌, ap}
-use Rattle.std.proofs.Common.{subst}
+use Rattle.std.proofs.Common.{◌≡◌, ◌⊎◌, inl, inr, ℕ, arith, List, [], ◌∷◌, All, map, Option, Some, None, Ok, refl, sym, ◌∙◌, ap, subst}
 use Rattle.std.specs.Str.Lines.{lines}
 use Rattle.smi_value.specs.{declared.letters.letters.Letters.Letters, letters.Letters.AreLetters}
 use Rattle.smi_show.specs.name.Meant.{TextMeans}
@@ -89,13 +88,9 @@ one_question one (get texts) choices mib (subtree v) b p q = absurd p
 one_question one (walk bulk letters after name) choices mib (names a) b p q = absurd p
 one_question one (walk bulk letters after name) choices mib (subtree v) (names b) p q = absurd q
 one_question one (walk bulk letters after name) choices mib (subtree v) (subtree w) p q =
-    λ i. subtree record {
-      root = one_name one mib.naming (root_text name) v.root w.root p.root q.root i;
-      after = one_after one mib after v.after w.after p.goes_on q.goes_on i;
-      mode = (p.mode ∙ sym q.mode) i;
-      method = (p.method ∙ sym q.method) i;
-      counts = (p.counts ∙ sym q.counts) i;
-    }
+    let root = one_name one mib.naming (root_text name) v.root w.root p.root q.root in
+    let goes_on = one_after one mib after v.after w.after p.goes_on q.goes_on in
+    grind (arith, common_steps, p.mode, q.mode, p.method, q.method, p.counts, q.counts)
 
 -- words and names ask for one plan: each field is stated by one of its clauses
 pub one_plan : OneMeaning → (words : AskWords) (mib : Mib) (p q : Plan) → AskFor words mib p → AskFor words mib q → HasAgent words.asking.agent q.agent → p ≡ q
@@ -105,9 +100,6 @@ one_plan one words mib p q a b only = grind (arith, common_steps, one_chosen, on
 pub data IsWant (why : Fault) : Type 0 where
   plain_want : why ≡ out_of_memory → IsWant why
   table_want : (path : List ℕ) → why ≡ bad_table path table_error.Memory → IsWant why
-
-pub other_way : (n m : ℕ) → n < m → m ≤ n → ⊥
-other_way n m low high = omega (arith, low, high)
 
 module _ (one : OneMeaning)
     (no_fault : (names : Names) (ls : List (List ℕ)) (view : MibView) (fault : TableError) → IsTableOf names ls view → IsFirstFault names ls fault → fault ≡ table_error.Memory)
@@ -128,7 +120,7 @@ module _ (one : OneMeaning)
   no_asking_failure : (step : AskingStep) → AskingFails words.asking step why → ⊥
   no_asking_failure version_step f = f.0 ask.asked.version
   no_asking_failure letters_step f = let e = ask.asked.letters.known in let g = f.1 in cc
-  no_asking_failure community_step f = other_way 255 (length words.asking.community) f.0 ask.asked.short_community
+  no_asking_failure community_step f = omega (arith, f.0, ask.asked.short_community)
   no_asking_failure agent_step f = f.0 ask.plan.agent ask.asked.agent
 
   -- no step up to the modules fails

@@ -29,11 +29,9 @@ module _ {S : Type 0} (takes : S → VarBind → Result (Unit {0}) SinkFault →
   printed old new [] is e = ([], refl, ap stream e ∙ sym (extended-nil (stream old)))
   printed old new (p ∷ more) is h =
       let first = writes old h.0 p (Ok tt) is h.1 in
-      let rest = printed h.0 new more (stays old h.0 p (Ok tt) is h.1) h.2 in (
-        first.0 ++ rest.0,
-        (first.0, rest.0, first.1, rest.1, refl),
-        rest.2 ∙ ap (λ (s : Stream). extended s rest.0) first.2 ∙ extended-twice (stream old) first.0 rest.0,
-      )
+      let rest = printed h.0 new more (stays old h.0 p (Ok tt) is h.1) h.2 in
+      let now = rest.2 ∙ ap (λ (s : Stream). extended s rest.0) first.2 ∙ extended-twice (stream old) first.0 rest.0 in
+      (first.0 ++ rest.0, (first.0, rest.0, first.1, rest.1, refl), now)
 
   -- the lines that the sink took stay; of the refused one a part at most, where the output failed
   refused : (old between new : S) (rows turned : List VarBind) (why : SinkFault) → Is old → Given takes old rows between → Refused takes between turned why new

@@ -11,13 +11,8 @@ use Rattle.snmp_tools.proofs.Texts.{texts-parts}
 pub AreTextsOf-more : (mib : DetailMib) (style : Style) (names : List (List ℕ)) (name text one : List ℕ)
     → AreTextsOf mib style names text → IsTextOf mib style name one → AreTextsOf mib style (names ++ name ∷ []) (text ++ one)
 AreTextsOf-more mib style [] name text one none is = (one, [], is, refl, ap (λ (t : List ℕ). t ++ one) none ∙ sym (append-nil one))
-AreTextsOf-more mib style (n ∷ names) name text one (first, rest, here, more, whole) is = (
-  first,
-  rest ++ one,
-  here,
-  AreTextsOf-more mib style names name rest one more is,
-  ap (λ (t : List ℕ). t ++ one) whole ∙ append_assoc first rest one,
-)
+AreTextsOf-more mib style (n ∷ names) name text one (first, rest, here, more, whole) is =
+    (first, rest ++ one, here, AreTextsOf-more mib style names name rest one more is, ap (λ (t : List ℕ). t ++ one) whole ∙ append_assoc first rest one)
 
 -- one name more is printed
 pub more_printed : (mib : DetailMib) (style : Style) (names : List (List ℕ)) (name : List ℕ) (before middle after : Stream)

@@ -11,13 +11,9 @@ use Rattle.snmp_tools.proofs.Texts.{texts-parts}
 pub AreModulesOf-more : (Held : (path text : List ℕ) → Type 0) (paths : List (List ℕ)) (path : List ℕ) (ms first : List Module)
     → AreModulesOf Held paths ms → AreModulesIn Held path first → AreModulesOf Held (paths ++ path ∷ []) (ms ++ first)
 AreModulesOf-more Held [] path ms first none one = (first, [], one, refl, ap (λ (xs : List Module). xs ++ first) none ∙ sym (append-nil first))
-AreModulesOf-more Held (p ∷ paths) path ms first (here, rest, is, more, whole) one = (
-  here,
-  rest ++ first,
-  is,
-  AreModulesOf-more Held paths path rest first more one,
-  ap (λ (xs : List Module). xs ++ first) whole ∙ append_assoc here rest first,
-)
+AreModulesOf-more Held (p ∷ paths) path ms first (here, rest, is, more, whole) one =
+    let all = ap (λ (xs : List Module). xs ++ first) whole ∙ append_assoc here rest first in
+    (here, rest ++ first, is, AreModulesOf-more Held paths path rest first more one, all)
 
 abbrev OneLexing : Type 0
 OneLexing = (before text : List ℕ) (xs ys : List Item) → Lexes before text xs → Lexes before text ys → xs ≡ ys

@@ -7,8 +7,7 @@ use Rattle.smi_value.specs.declared.letters.letters.Letters.{Letters}
 use Rattle.snmp_wire.specs.Message.{VarBind}
 use Rattle.snmp_walk.specs.{declared.end.SinkFault.SinkFault, Sink.Given}
 use Rattle.snmp_walk.specs.declared.end.SinkFault.TheVariants as fault
-use Rattle.snmp_io.specs.{Count.HasRisen, Streams.appended-twice, Streams.extended-twice}
-use Rattle.snmp_io.specs.Output.{FailsWithin, Stream, appended, extended}
+use Rattle.snmp_io.specs.{Streams.appended-twice, Streams.extended-twice, Output.FailsWithin, Output.Stream, Output.appended, Output.extended}
 use Rattle.snmp_tools.specs.{Lines.AreLines, Lines.IsLineOf, Mib.Mib}
 use Rattle.snmp_tools.proofs.Printed.{lines_of_both, prints}
 
@@ -16,21 +15,30 @@ use Rattle.snmp_tools.proofs.Printed.{lines_of_both, prints}
 abbrev Ends : (line rest front left : List ℕ) → Type 0
 Ends line rest front left = ((cut : List ℕ) × (line ≡ front ++ cut)) ⊎ ((more : List ℕ) × (front ≡ line ++ more) × (rest ≡ more ++ left))
 
-one_longer : (x y : ℕ) (line rest front left : List ℕ) → x ≡ y → Ends line rest front left → Ends (x ∷ line) rest (y ∷ front) left
-one_longer x y line rest front left same (inl h) = inl (h.0, (let e = h.1 in cc))
-one_longer x y line rest front left same (inr h) = inr (h.0, (let e = h.1 in cc), h.2)
-
 where_it_ends : (line rest front left : List ℕ) → line ++ rest ≡ front ++ left → Ends line rest front left
 where_it_ends [] rest front left e = inr (front, refl, e)
 where_it_ends (x ∷ line) rest [] left e = inl (x ∷ line, refl)
-where_it_ends (x ∷ line) rest (y ∷ front) left e =
-    let same : x ≡ y = cc in
-    let more : line ++ rest ≡ front ++ left = cc in
-    one_longer x y line rest front left same (where_it_ends line rest front left more)
+where_it_ends (x ∷ line) rest (y ∷ front) left e = grind (arith, common_steps, where_it_ends line rest front left)
 
-no_more : (more left : List ℕ) → [] ≡ more ++ left → more ≡ []
-no_more [] left e = refl
-no_more (x ∷ more) left e = let no : ⊥ = cc in absurd no
+-- a write of two texts fails within the first or, after it, within the second
+fails_in_one : (before after : Stream) (a b : List ℕ) → FailsWithin before (a ++ b) after
+    → FailsWithin before a after ⊎ FailsWithin (extended before a) b after
+fails_in_one before after a b f =
+    elim (where_it_ends a b f.begun.front f.begun.rest f.begun.parts) [
+      | inl h ↦ inl record {
+        begun = record { front = f.begun.front; rest = h.0; parts = h.1; taken = f.begun.taken };
+        counted = f.counted;
+      }
+      | inr h ↦ inr record {
+        begun = record {
+          front = h.0;
+          rest = f.begun.rest;
+          parts = h.2;
+          taken = f.begun.taken ∙ ap (appended before.taken) h.1 ∙ sym (appended-twice before.taken a h.0);
+        };
+        counted = f.counted;
+      }
+    ]
 
 -- the line of one more, by what is the tree and are the letters from the start: lines of a list are
 -- those of its first part and of its last
@@ -84,23 +92,9 @@ module _ {S R N : Type 0} (tree : S → R) (letters : S → Letters) (name : S �
       (front : List VarBind) × (p : VarBind) × (back : List VarBind) × (rows ≡ front ++ p ∷ back) × (between : S)
       × Given (prints tree letters name stream mib) old front between × prints tree letters name stream mib between p (Err why) new
 
-  refused_here : (old new : S) (p : VarBind) (more : List VarBind) (line front cut : List ℕ) → IsLike new old
-      → IsLineOf (mib (tree old)) (letters old) p line → line ≡ front ++ cut → (stream new).taken ≡ appended (stream old).taken front
-      → HasRisen (stream old).faults (stream new).faults → IsCutOff old (p ∷ more) fault.Output new
-  refused_here old new p more line front cut is here parts taken counted = (
-    [],
-    p,
-    more,
-    refl,
-    old,
-    refl,
-    (
-      is.0,
-      is.1,
-      is.2,
-      (line, here, record { begun = record { front = front; rest = cut; parts = parts; taken = taken }; counted = counted }),
-    ),
-  )
+  refused_here : (old new : S) (p : VarBind) (more : List VarBind) (line : List ℕ) → IsLike new old → IsLineOf (mib (tree old)) (letters old) p line
+      → FailsWithin (stream old) line (stream new) → IsCutOff old (p ∷ more) fault.Output new
+  refused_here old new p more line is here fails = ([], p, more, refl, old, refl, (is.0, is.1, is.2, (line, here, fails)))
 
   refused_after : (old new : S) (p : VarBind) (more : List VarBind) (line : List ℕ) (why : SinkFault)
       → IsLineOf (mib (tree old)) (letters old) p line → IsCutOff (later old line) more why new → IsCutOff old (p ∷ more) why new
@@ -119,31 +113,15 @@ module _ {S R N : Type 0} (tree : S → R) (letters : S → Letters) (name : S �
       → AreLines (mib (tree old)) (letters old) (p ∷ more) text → FailsWithin (stream old) text (stream new)
       → IsCutOff old (p ∷ more) fault.Output new
   refused_one old new p [] text is (line, rest, here, none, whole) cut =
-      elim (where_it_ends line rest cut.begun.front cut.begun.rest (sym whole ∙ cut.begun.parts)) [
-        | inl h ↦ refused_here old new p [] line cut.begun.front h.0 is here h.1 cut.begun.taken cut.counted
-        | inr h ↦
-            let left : h.0 ≡ [] = no_more h.0 cut.begun.rest (sym none ∙ h.2) in
-            let full : cut.begun.front ≡ line = h.1 ∙ ap (λ t. line ++ t) left ∙ append-nil line in
-            refused_here old new p [] line cut.begun.front [] is here (sym full ∙ sym (append-nil cut.begun.front)) cut.begun.taken cut.counted
-      ]
+      let one : text ≡ line = whole ∙ ap (λ t. line ++ t) none ∙ append-nil line in
+      refused_here old new p [] line is here (subst (λ t. FailsWithin (stream old) t (stream new)) one cut)
   refused_one old new p (q ∷ more) text is (line, rest, here, lines, whole) cut =
-      elim (where_it_ends line rest cut.begun.front cut.begun.rest (sym whole ∙ cut.begun.parts)) [
-        | inl h ↦ refused_here old new p (q ∷ more) line cut.begun.front h.0 is here h.1 cut.begun.taken cut.counted
-        | inr h ↦
-            let P : Stream → Type 0 = λ s. HasRisen s.faults (stream new).faults in
+      elim (fails_in_one (stream old) (stream new) line rest (subst (λ t. FailsWithin (stream old) t (stream new)) whole cut)) [
+        | inl fails ↦ refused_here old new p (q ∷ more) line is here fails
+        | inr fails ↦
             refused_after old new p (q ∷ more) line fault.Output here
             (refused_one (later old line) new q more rest (like_later new old line is) (lines_later old (q ∷ more) line rest lines)
-            record {
-              begun = record {
-                front = h.0;
-                rest = cut.begun.rest;
-                parts = h.2;
-                taken = cut.begun.taken ∙ ap (appended (stream old).taken) h.1
-                    ∙ sym (appended-twice (stream old).taken line h.0)
-                    ∙ ap (λ (s : Stream). appended s.taken h.0) (sym (reaches old line));
-              };
-              counted = subst P (sym (reaches old line)) cut.counted;
-            })
+            (subst (λ s. FailsWithin s rest (stream new)) (sym (reaches old line)) fails))
       ]
 
   -- as much of bindings that others may follow: the refused one is left where it was

@@ -37,11 +37,7 @@ HasNoSyntax mib = (o : List ℕ) → mib.syntax_at o ≡ None
 -- no dots are written where each octet is printable
 without_dots : (xs : List ℕ) → list_all is_printable xs ≡ true → flat_map (λ x. escaped (dotted x)) xs ≡ flat_map escaped xs
 without_dots [] e = refl
-without_dots (x ∷ xs) e =
-    let parts = and_parts (is_printable x) (list_all is_printable xs) e in
-    let first : escaped (dotted x) ≡ escaped x = ap (λ (b : Bool). escaped (if b then x else 46)) parts.0 in
-    let rest = without_dots xs parts.1 in
-    ap (λ (t : List ℕ). t ++ flat_map (λ y. escaped (dotted y)) xs) first ∙ ap (λ (t : List ℕ). escaped x ++ t) rest
+without_dots (x ∷ xs) e = grind (arith, common_steps, and_parts, without_dots xs)
 
 text_is : (xs : List ℕ) (b : Bool) → list_all is_printable xs ≡ b
     → (if b then codes "STRING: " ++ quoted xs else codes "Hex-STRING: " ++ hexadecimal_text xs)

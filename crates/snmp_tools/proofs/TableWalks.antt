@@ -1,7 +1,7 @@
 -- What the headline says of a walk of a table file in numbers: which lines are printed.
 use Rattle.std.proofs.{lemmas.Grind.common_steps, lemmas.List.Concat.flat_map-append, lemmas.List.Kept.AllPairs-cons}
-use Rattle.std.proofs.Common.{◌≡◌, ◌≢◌, ◌⊎◌, inl, inr, refl, sym, ◌∙◌, subst, ℕ, zero, suc, ◌+◌, ◌<◌, ◌≤◌, Bool, false, List, [], ◌∷◌, ◌↔◌, ◌++◌}
-use Rattle.std.proofs.Common.{length, None, Ok, arith, append-nil, append_assoc}
+use Rattle.std.proofs.Common.{◌≡◌, ◌≢◌, ◌⊎◌, inl, inr, refl, sym, ◌∙◌, subst, ℕ, zero, suc, ◌+◌, ◌<◌, ◌≤◌, Bool, false, List, [], ◌∷◌, ◌↔◌, ◌++◌, ap}
+use Rattle.std.proofs.Common.{length, None, Ok, Option, Some, arith, append-nil, append_assoc}
 use Rattle.std.specs.Prelude.{AllPairs, Contains, codes, drop, filter, not, slice_index_or}
 use Rattle.std.specs.{List.flat_map, FinMap.get, Str.Lines.lines}
 use Rattle.std.proofs.lemmas.List.Filters.{length-filter_both}
@@ -10,7 +10,7 @@ use Rattle.snmp_wire.specs.Message.{VarBind}
 use Rattle.snmp_agent.specs.{table.Exact.HasOne, table.Listing.variables, table.Format.IsMarked, table.Format.first_format, table.Text.HasRow}
 use Rattle.snmp_agent.specs.table.Stated.{AreTableBy, IsTableIn, IsTableOf}
 use Rattle.snmp_agent.specs.table.Table as table
-use Rattle.snmp_agent.specs.table.Table.{HasObject, IsGet, IsMibView, IsRow, MibView}
+use Rattle.snmp_agent.specs.table.Table.{IsGet, IsMibView, IsRow, MibView}
 use Rattle.snmp_walk.specs.{Link.Agents, Link.OneOf, Ordered.AreOrdered, Room.HasRoomForEach, Room.IsShort, Walker.Walker}
 use Rattle.snmp_walk.specs.Walk.{or_only, rest_of, rows_below}
 use Rattle.snmp_walk.specs.declared.mode.Method.TheVariants as method
@@ -18,14 +18,15 @@ use Rattle.snmp_walk.specs.declared.mode.Mode.TheVariants as mode
 use Rattle.smi_show.specs.{name.Meant.TextMeans, name.Naming.Naming}
 use Rattle.smi_tree.specs.{Bare.bare, Tree.IsTree}
 use Rattle.snmp_io.specs.{Files.Holdings, Count.HasRisen, Output.IsWritten, Output.Stream, Output.TakesFront, Output.extended, Streams.extended-nil}
-use Rattle.snmp_net.specs.Address as address
-use Rattle.snmp_words.specs.Words.{walk_line}
+use Rattle.snmp_net.specs.Address.{Address, IsAgent, udp, table as table_at}
+use Rattle.snmp_words.specs.Words.{ServeWords, StateJob, WalkWords, snmpd, walk_line}
 use Rattle.snmp_tools.specs.{private.Resolved.names_in, agent.TableFile.AreNamesIn, Headline.IsAsk, Headline.IsMishap, Headline.WritesRowsOf}
 use Rattle.snmp_tools.specs.{Lines.AreLines, Mib.Mib, private.Planned.numeric_walk, RowText.row_line, Letters.HaveChosen, Letters.no_choices}
-use Rattle.snmp_tools.specs.Answer.{IsFeasible, agent_over, first_of}
-use Rattle.snmp_tools.specs.Question.{AskFor, Plan, Walk, of_walk, subtree}
+use Rattle.snmp_tools.specs.{Answer.IsFeasible, Answer.agent_over, Answer.first_of, Asking.AreShown, Asking.IsNameIfGiven}
+use Rattle.snmp_tools.specs.Question.{AskFor, Plan, Walk, of_walk, root_text, subtree}
+use Rattle.snmp_tools.specs.BothEnds.{IsAskInNumbers, IsWalkInNumbers}
 use Rattle.snmp_tools.specs.TableWalk as page
-use Rattle.snmp_tools.specs.TableWalk.{AreRowsBelow, AreWalked, HoldsTableFile, IsFree, IsGot, IsOfObject, IsOutOfMemoryTold, PrintsRows, table_walk}
+use Rattle.snmp_tools.specs.TableWalk.{AreRowsBelow, AreWalked, HoldsTableFile, IsGot, PrintsRows, table_walk}
 use Rattle.snmp_tools.proofs.BareNames.{bare_has_no_syntax, bare_is_loaded, bare_mib}
 use Rattle.snmp_tools.proofs.RowLines.{HasNoSyntax, lines_are, numeric_are, numeric_letters}
 
@@ -39,42 +40,48 @@ begins_with_dot (n ∷ more) = refl
 pub words_are : (path root : List ℕ) → table_walk path root ≡ walk_line (codes "-On" ∷ []) path (drop 1 (numeric_text root))
 words_are path root = grind (arith, common_steps, begins_with_dot)
 
-abbrev pub plain_walk : (root : List ℕ) → Walk
+abbrev plain_walk : (root : List ℕ) → Walk
 plain_walk root = record { root = root; after = None; mode = mode.Plain; method = method.Next; counts = false }
 
-abbrev walk_plan : (path root : List ℕ) → Plan
-walk_plan path root = record {
-  agent = address.table path;
-  community = codes "public";
-  max_size = 1472;
+abbrev walk_plan : WalkWords → (root : List ℕ) → Address → Plan
+walk_plan words root agent = record {
+  agent = agent;
+  community = words.asking.community;
+  max_size = words.asking.max_size;
   letters = numeric_letters;
   question = subtree (plain_walk root);
 }
+
+-- that of a table file
+abbrev file_plan : (path root : List ℕ) → Plan
+file_plan path root = walk_plan (numeric_walk path root) root (table_at path)
 
 -- an identifier in numbers means itself
 abbrev pub NumbersAreRead : Type 0
 NumbersAreRead = (naming : Naming) (o : List ℕ) → IsIdentifier o → TextMeans naming (numeric_text o) (Ok o)
 
 -- no letters of -C choose nothing: none is unknown, and each choice is the one without letters
-pub nothing_chosen : HaveChosen false [] no_choices
+nothing_chosen : HaveChosen false [] no_choices
 nothing_chosen = grind (arith, common_steps)
 
-words_ask : NumbersAreRead → (path root : List ℕ) → path ≢ [] → IsIdentifier root → AskFor (of_walk false (numeric_walk path root)) bare_mib (walk_plan path root)
-words_ask read path root named identifier = record {
-  version = refl;
-  letters = record { known = refl; read = numeric_are };
+words_ask : NumbersAreRead → (words : WalkWords) (root : List ℕ) (agent : Address) → words.asking.protocol ≡ codes "2c" → words.asking.letters ≡ codes "n"
+    → length words.asking.community ≤ 255 → IsAgent words.asking.agent agent → words.letters ≡ [] → words.after ≡ None
+    → words.name ≡ Some (numeric_text root) → IsIdentifier root → AskFor (of_walk false words) bare_mib (walk_plan words root agent)
+words_ask read words root agent version numeric short is none whole from identifier = record {
+  version = version;
+  letters = subst (λ (t : List ℕ). AreShown t numeric_letters) (sym numeric) (record { known = refl; read = numeric_are });
   choices = no_choices;
-  chosen = nothing_chosen;
-  short_community = omega arith;
+  chosen = subst (λ (t : List ℕ). HaveChosen false t no_choices) (sym none) nothing_chosen;
+  short_community = short;
   community = refl;
   max_size = refl;
-  agent = (named, refl);
+  agent = is;
   question = record {
     mode = refl;
     method = refl;
     counts = refl;
-    root = subst (λ (t : List ℕ). TextMeans bare_mib.naming t (Ok root)) (sym (begins_with_dot root)) (read bare_mib.naming root identifier);
-    goes_on = refl;
+    root = subst (λ (n : Option (List ℕ)). TextMeans bare_mib.naming (root_text n) (Ok root)) (sym from) (read bare_mib.naming root identifier);
+    goes_on = subst (λ (a : Option (List ℕ)). IsNameIfGiven bare_mib a None) (sym whole) refl;
   };
 }
 
@@ -85,7 +92,7 @@ contained_is_one [] row (k, within, at) = absurd (omega arith)
 contained_is_one (first ∷ more) row (zero, within, at) = inl (sym at)
 contained_is_one (first ∷ more) row (suc k, within, at) = inr (contained_is_one more row (k, omega arith, at))
 
-one_is_contained : (rows : List VarBind) (row : VarBind) → OneOf rows row → Contains rows row
+pub one_is_contained : (rows : List VarBind) (row : VarBind) → OneOf rows row → Contains rows row
 one_is_contained [] row none = absurd none
 one_is_contained (first ∷ more) row (inl e) = (0, omega arith, sym e)
 one_is_contained (first ∷ more) row (inr one) =
@@ -104,20 +111,16 @@ pairs_ordered (row ∷ more) ordered =
     AllPairs-cons (λ r later. Precedes r.name later.name) row more
     (each_one (λ later. Precedes row.name later.name) more ordered.0) (pairs_ordered more ordered.1)
 
-free_name : (ls : List (List ℕ)) (view : MibView) (o : List ℕ) → IsTableIn first_format ls view → get view.rows o ≡ None → IsFree ls o
+free_name : (ls : List (List ℕ)) (view : MibView) (o : List ℕ) → IsTableIn first_format ls view → get view.rows o ≡ None
+    → (row : VarBind) → HasRow first_format ls row → row.name ≢ o
 free_name ls view o is none row has same = grind (arith, common_steps)
 
-object_of : (ls : List (List ℕ)) (view : MibView) (o : List ℕ) → IsTableIn first_format ls view → HasObject view o → IsOfObject ls o
-object_of ls view o is (object, rest, has, parts) = (object, rest, (is.objects object).0 has, parts)
-
-no_object_of : (ls : List (List ℕ)) (view : MibView) (o : List ℕ) → IsTableIn first_format ls view → (HasObject view o → ⊥) → IsOfObject ls o → ⊥
-no_object_of ls view o is lacks (object, rest, has, parts) = lacks (object, rest, (is.objects object).1 has, parts)
-
-pub got_is : (ls : List (List ℕ)) (view : MibView) (o : List ℕ) (got : VarBind) → IsTableIn first_format ls view → IsGet view o got → IsGot ls o got
+got_is : (ls : List (List ℕ)) (view : MibView) (o : List ℕ) (got : VarBind) → IsTableIn first_format ls view → IsGet view o got → IsGot ls o got
 got_is ls view o got is (table.variable e row) = page.variable e ((is.rows got).0 row)
-got_is ls view o got is (table.unknown_object none lacks e) =
-    page.unknown_object (free_name ls view o is none) (no_object_of ls view o is lacks) e
-got_is ls view o got is (table.unknown_instance none has e) = page.unknown_instance (free_name ls view o is none) (object_of ls view o is has) e
+got_is ls view o got is (table.unknown_object none lacks e) = page.unknown_object (free_name ls view o is none)
+    (λ object rest has parts. lacks (object, rest, (is.objects object).1 has, parts)) e
+got_is ls view o got is (table.unknown_instance none (object, rest, has, parts) e) =
+    page.unknown_instance (free_name ls view o is none) object rest ((is.objects object).0 has) parts e
 
 -- what a walk gives below its root
 abbrev pub BelowAreRows : Type 0
@@ -125,7 +128,7 @@ BelowAreRows = (view : MibView) (root : List ℕ) (p : VarBind) → IsMibView vi
     → (OneOf (rows_below root (variables view)) p → IsRow view p × IsBelow p.name root)
     × (IsRow view p × IsBelow p.name root → OneOf (rows_below root (variables view)) p)
 
-pub rows_are : (ls : List (List ℕ)) (view : MibView) (root : List ℕ) → IsTableIn first_format ls view → IsMibView view → BelowAreRows
+rows_are : (ls : List (List ℕ)) (view : MibView) (root : List ℕ) → IsTableIn first_format ls view → IsMibView view → BelowAreRows
     → AreOrdered (rows_below root (variables view)) → AreRowsBelow ls root (rows_below root (variables view))
 rows_are ls view root is is_view law ordered = record {
   ordered = pairs_ordered (rows_below root (variables view)) ordered;
@@ -138,7 +141,7 @@ rows_are ls view root is is_view law ordered = record {
   );
 }
 
-pub are_walked : (ls : List (List ℕ)) (root : List ℕ) (got : VarBind) (rows : List VarBind) → AreRowsBelow ls root rows → IsGot ls root got
+are_walked : (ls : List (List ℕ)) (root : List ℕ) (got : VarBind) (rows : List VarBind) → AreRowsBelow ls root rows → IsGot ls root got
     → AreWalked ls root (or_only got rows)
 are_walked ls root got [] are is_got = page.none_below got are is_got refl
 are_walked ls root got (row ∷ more) are is_got = page.below (λ e. cc) are
@@ -146,13 +149,13 @@ are_walked ls root got (row ∷ more) are is_got = page.below (λ e. cc) are
 -- ---- what is written
 
 -- the text begins the lines of all rows: it is the lines of the first of them, or of all
-pub front_is : (mib : Mib) (before after : Stream) (rows first rest : List VarBind) (text : List ℕ) → HasNoSyntax mib → rows ≡ first ++ rest
+front_is : (mib : Mib) (before after : Stream) (rows first rest : List VarBind) (text : List ℕ) → HasNoSyntax mib → rows ≡ first ++ rest
     → AreLines mib numeric_letters first text ⊎ ((shown : List ℕ) × AreLines mib numeric_letters rows shown × (text ≡ shown ++ []))
     → TakesFront before text after → TakesFront before (flat_map row_line rows) after
 front_is mib before after rows first rest text none parts (inl are) taken = grind (arith, common_steps, flat_map-append, lines_are, append_assoc)
 front_is mib before after rows first rest text none parts (inr (shown, are, whole)) taken = grind (arith, common_steps, append-nil, lines_are)
 
-pub all_are : (mib : Mib) (before after : Stream) (rows : List VarBind) (text : List ℕ) → HasNoSyntax mib
+all_are : (mib : Mib) (before after : Stream) (rows : List VarBind) (text : List ℕ) → HasNoSyntax mib
     → ((shown : List ℕ) × AreLines mib numeric_letters rows shown × (text ≡ shown ++ [])) → after ≡ extended before text
     → after ≡ extended before (flat_map row_line rows)
 all_are mib before after rows text none (shown, are, whole) written = grind (arith, common_steps, append-nil, lines_are)
@@ -163,14 +166,15 @@ no_warnings before now (inl same) = inl (same ∙ sym (extended-nil before))
 no_warnings before now (inr written) = written
 
 mishap_is : (before after err_before err_after : Stream) (status : ℕ) → (status ≡ 0) ⊎ IsMishap [] before after err_before err_after status
-    → (status ≡ 0) ⊎ ((status ≡ 1) × (HasRisen before.faults after.faults ⊎ IsOutOfMemoryTold err_before err_after))
+    → (status ≡ 0) ⊎ ((status ≡ 1) × (HasRisen before.faults after.faults
+    ⊎ ((now : Stream) × IsWritten err_before [] now × IsWritten now (codes "Out of memory.\n") err_after)))
 mishap_is before after err_before err_after status (inl zero_status) = inl zero_status
 mishap_is before after err_before err_after status (inr (one, inl risen)) = inr (one, inl risen)
 mishap_is before after err_before err_after status (inr (one, inr (now, told, same))) = grind (arith, common_steps, no_warnings)
 
 -- ---- what is needed
 
-pub wire_is : (o : List ℕ) → IsWire o → wire o ≡ o
+wire_is : (o : List ℕ) → IsWire o → wire o ≡ o
 wire_is [] h = absurd h
 wire_is (x ∷ []) h = absurd h
 wire_is (x ∷ y ∷ more) h = refl
@@ -197,11 +201,11 @@ asked_short root identifier sendable = subst (λ (o : List ℕ). length o ≤ 12
 
 feasible : (ls : List (List ℕ)) (path root : List ℕ) (view : MibView) (got : VarBind) → IsIdentifier root → IsWire root → IsTableIn first_format ls view
     → IsMibView view → ShortHaveRoom → ((row : VarBind) → HasRow first_format ls row → IsShort row.value)
-    → length (or_only got (rows_below root (variables view))) ≤ 2147483644 → IsFeasible (walk_plan path root) view
+    → length (or_only got (rows_below root (variables view))) ≤ 2147483644 → IsFeasible (file_plan path root) view
 feasible ls path root view got identifier sendable is is_view room short few = record {
   sendable = (subst IsWire (sym (wire_is root sendable)) sendable, tt);
   room = (
-    room (agent_over (walk_plan path root) view) view (first_of (codes "public") (plain_walk root)) refl (omega arith) (omega arith)
+    room (agent_over (file_plan path root) view) view (first_of (codes "public") (plain_walk root)) refl (omega arith) (omega arith)
         (asked_short root identifier sendable) is_view (λ p row. short p ((is.rows p).0 row)),
     ids_are root got (variables view) few,
   );
@@ -209,58 +213,111 @@ feasible ls path root view got identifier sendable is is_view room short few = r
 
 -- ---- the walk
 
-abbrev walk_over : (files : Holdings) (path root text : List ℕ) → HoldsTableFile files path root text → IsTree [] bare [] → NumbersAreRead
-    → AreNamesIn bare_mib.naming (names_in bare_mib.naming) → (view : MibView) → IsTableOf (names_in bare_mib.naming) (lines text) view → (got : VarBind) → IsGet view (wire root) got
-    → IsAsk (of_walk false (numeric_walk path root)) files (or_only got (rows_below root (variables view)))
-walk_over files path root text holds loads read named view is got is_got = record {
-  mib = bare_mib;
-  warnings = [];
-  known = bare_is_loaded loads files;
-  plan = walk_plan path root;
-  asked = words_ask read path root holds.named holds.identifier;
-  path = path;
-  over = refl;
-  text = text;
-  held = holds.held;
-  view = view;
-  names = names_in bare_mib.naming;
-  named = named;
-  table = is;
-  are_rows = (got, is_got, refl);
-}
+-- the table of lines, and what a walk of it gives
+record Walked (ls : List (List ℕ)) (root : List ℕ) : Type 0 where
+  view : MibView
+  by_names : IsTableOf (names_in bare_mib.naming) ls view
+  in_lines : IsTableIn first_format ls view
+  is_view : IsMibView view
+  got : VarBind
+  is_got : IsGet view (wire root) got
+  gives : AreWalked ls root (or_only got (rows_below root (variables view)))
 
-pub prints_rows : IsTree [] bare [] → NumbersAreRead → AreNamesIn bare_mib.naming (names_in bare_mib.naming) → BelowAreRows
-    → ((view : MibView) (root : List ℕ) → IsMibView view → AreOrdered (rows_below root (variables view)))
-    → ((view : MibView) (o : List ℕ) → HasOne (IsGet view o)) → ShortHaveRoom
-    → ((ls : List (List ℕ)) → AreTableBy (names_in bare_mib.naming) ls → (view : MibView) × IsTableOf (names_in bare_mib.naming) ls view × IsMibView view)
-    → ((ls : List (List ℕ)) (view : MibView) → (IsMarked ls → ⊥) → (IsTableOf (names_in bare_mib.naming) ls view ↔ IsTableIn first_format ls view))
-    → (files : Holdings) (path root text : List ℕ) (before after err_before err_after : Stream) (status : ℕ)
-    → HoldsTableFile files path root text
-    → WritesRowsOf (of_walk false (numeric_walk path root)) files before after err_before err_after status
-    → PrintsRows (lines text) root before after err_before err_after status
-prints_rows loads read named law ordered one_get room tables plain files path root text before after err_before err_after status holds writes =
-    let stated = tables (lines text) (first_format, holds.unmarked, holds.table) in
-    let view : MibView = stated.0 in
-    let by : IsTableOf (names_in bare_mib.naming) (lines text) view = stated.1 in
-    let is : IsTableIn first_format (lines text) view = (plain (lines text) view holds.unmarked).0 by in
-    let is_view : IsMibView view = stated.2 in
-    let one = one_get view (wire root) in
-    let got : VarBind = one.0 in
-    let is_got : IsGet view (wire root) got = one.1 in
-    let got_root : IsGet view root got = subst (λ (o : List ℕ). IsGet view o got) (wire_is root holds.sendable) is_got in
-    let rows : List VarBind = or_only got (rows_below root (variables view)) in
-    let walk : IsAsk (of_walk false (numeric_walk path root)) files rows = walk_over files path root text holds loads read named view by got is_got in
-    let written = writes rows walk in
-    let first = written.front_written in
-    record {
-      rows = rows;
-      are_walked = are_walked (lines text) root got (rows_below root (variables view)) (rows_are (lines text) view root is is_view law
-          (ordered view root is_view)) (got_is (lines text) view root got is got_root);
-      front = front_is bare_mib before after rows first.0 first.1 first.2 bare_has_no_syntax first.3 first.4 first.5;
-      all = λ zero_status. (
-          let whole = written.all_written_at_status_0 zero_status in
-          all_are bare_mib before after rows whole.0 bare_has_no_syntax whole.1 whole.2
-          );
-      ends = λ short few. mishap_is before after err_before err_after status
-          (written.ends_at_status_0 (feasible (lines text) path root view got holds.identifier holds.sendable is is_view room short few));
-    }
+module _ (loads : IsTree [] bare []) (read : NumbersAreRead) (named : AreNamesIn bare_mib.naming (names_in bare_mib.naming)) (law : BelowAreRows)
+    (ordered : (view : MibView) (root : List ℕ) → IsMibView view → AreOrdered (rows_below root (variables view)))
+    (one_get : (view : MibView) (o : List ℕ) → HasOne (IsGet view o))
+    (tables : (ls : List (List ℕ)) → AreTableBy (names_in bare_mib.naming) ls
+    → (view : MibView) × IsTableOf (names_in bare_mib.naming) ls view × IsMibView view)
+    (plain : (ls : List (List ℕ)) (view : MibView) → (IsMarked ls → ⊥) → (IsTableOf (names_in bare_mib.naming) ls view ↔ IsTableIn first_format ls view)) where
+  walked : (files : Holdings) (path root text : List ℕ) → HoldsTableFile files path root text → Walked (lines text) root
+  walked files path root text holds =
+      let stated = tables (lines text) (first_format, holds.unmarked, holds.table) in
+      let view : MibView = stated.0 in
+      let is : IsTableIn first_format (lines text) view = (plain (lines text) view holds.unmarked).0 stated.1 in
+      let one = one_get view (wire root) in
+      let got_root : IsGet view root one.0 = subst (λ (o : List ℕ). IsGet view o one.0) (wire_is root holds.sendable) one.1 in
+      record {
+        view = view;
+        by_names = stated.1;
+        in_lines = is;
+        is_view = stated.2;
+        got = one.0;
+        is_got = one.1;
+        gives = are_walked (lines text) root one.0 (rows_below root (variables view))
+            (rows_are (lines text) view root is stated.2 law (ordered view root stated.2)) (got_is (lines text) view root one.0 is got_root);
+      }
+
+  pub prints_rows : ShortHaveRoom → (files : Holdings) (path root text : List ℕ) (before after err_before err_after : Stream) (status : ℕ)
+      → HoldsTableFile files path root text
+      → WritesRowsOf (of_walk false (numeric_walk path root)) files before after err_before err_after status
+      → PrintsRows (lines text) root before after err_before err_after status
+  prints_rows room files path root text before after err_before err_after status holds writes =
+      let w : Walked (lines text) root = walked files path root text holds in
+      let rows : List VarBind = or_only w.got (rows_below root (variables w.view)) in
+      let ask : IsAsk (of_walk false (numeric_walk path root)) files rows = record {
+        mib = bare_mib;
+        warnings = [];
+        known = bare_is_loaded loads files [] refl;
+        plan = file_plan path root;
+        asked = words_ask read (numeric_walk path root) root (table_at path) refl refl (omega arith) (holds.named, refl) refl refl
+            (ap Some (begins_with_dot root)) holds.identifier;
+        path = path;
+        over = refl;
+        text = text;
+        held = holds.held;
+        view = w.view;
+        names = names_in bare_mib.naming;
+        named = named;
+        table = w.by_names;
+        are_rows = (w.got, w.is_got, refl);
+      } in
+      let written = writes rows ask in
+      let first = written.front_written in
+      record {
+        rows = rows;
+        are_walked = w.gives;
+        front = front_is bare_mib before after rows first.0 first.1 first.2 bare_has_no_syntax first.3 first.4 first.5;
+        all = λ zero_status. (
+            let whole = written.all_written_at_status_0 zero_status in
+            all_are bare_mib before after rows whole.0 bare_has_no_syntax whole.1 whole.2
+            );
+        ends = λ short few. mishap_is before after err_before err_after status
+            (written.ends_at_status_0 (feasible (lines text) path root w.view w.got holds.identifier holds.sendable w.in_lines w.is_view room short few));
+      }
+
+  -- of a table file that snmpd serves
+  pub asked_in_numbers : (words : WalkWords) (files : Holdings) (serving : ServeWords) (server_files : Holdings) (line : List (List ℕ)) (root text : List ℕ)
+      → IsWalkInNumbers words root → StateJob line (snmpd serving) → serving.mibs ≡ [] → HoldsTableFile server_files serving.table root text
+      → IsAskInNumbers words files serving server_files (lines text) root
+  asked_in_numbers words files serving server_files line root text is stated no_modules holds =
+      let w : Walked (lines text) root = walked server_files serving.table root text holds in
+      let rows : List VarBind = or_only w.got (rows_below root (variables w.view)) in
+      record {
+        rows = rows;
+        are_walked = w.gives;
+        ask = record {
+          mib = bare_mib;
+          warnings = [];
+          known = bare_is_loaded loads files words.asking.mibs is.no_modules;
+          plan = walk_plan words root (udp is.host is.port);
+          asked = words_ask read words root (udp is.host is.port) is.version is.numeric is.short_community is.agent is.no_choices is.whole is.from
+              holds.identifier;
+          host = is.host;
+          port = is.port;
+          over = refl;
+          line = line;
+          stated = stated;
+          nodes = bare_mib;
+          node_warnings = [];
+          nodes_known = bare_is_loaded loads server_files serving.mibs no_modules;
+          text = text;
+          held = holds.held;
+          view = w.view;
+          names = names_in bare_mib.naming;
+          named = named;
+          table = w.by_names;
+          are_rows = (w.got, w.is_got, refl);
+        };
+        front = λ before after p. front_is bare_mib before after rows p.0 p.1 p.2 bare_has_no_syntax p.3 p.4 p.5;
+        all = λ before after p. all_are bare_mib before after rows p.0 bare_has_no_syntax p.1 p.2;
+      }

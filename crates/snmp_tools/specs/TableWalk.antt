@@ -44,22 +44,15 @@ pub record AreRowsBelow (lines : List (List ℕ)) (root : List ℕ) (rows : List
   pub exact : (row : VarBind)
       → Contains rows row ↔ (HasRow first_format lines row × IsBelow row.name root)
 
--- no row has this name
-abbrev pub IsFree : (lines : List (List ℕ)) → List ℕ → Type 0
-IsFree lines o = (row : VarBind) → HasRow first_format lines row → row.name ≢ o
-
--- an object's prefix begins the name, or is the name
-abbrev pub IsOfObject : (lines : List (List ℕ)) → List ℕ → Type 0
-IsOfObject lines o =
-    (object : List ℕ) × (rest : List ℕ) × HasPrefix first_format lines object × (o ≡ object ++ rest)
-
--- What a Get of a name gives (RFC 3416, section 4.2.1): the row of that name, or that there is no
--- such object or no such instance of one.
+-- What a Get of a name gives (RFC 3416, section 4.2.1): the row of that name; where no row has it,
+-- that there is no such instance of an object whose prefix begins the name, or no such object.
 pub data IsGot (lines : List (List ℕ)) (o : List ℕ) (got : VarBind) : Type 0 where
   variable : got.name ≡ o → HasRow first_format lines got → IsGot lines o got
-  unknown_object : IsFree lines o → (IsOfObject lines o → ⊥)
+  unknown_object : ((row : VarBind) → HasRow first_format lines row → row.name ≢ o)
+      → ((object rest : List ℕ) → HasPrefix first_format lines object → o ≢ object ++ rest)
       → got ≡ record { name = o; value = no_such_object } → IsGot lines o got
-  unknown_instance : IsFree lines o → IsOfObject lines o
+  unknown_instance : ((row : VarBind) → HasRow first_format lines row → row.name ≢ o)
+      → (object rest : List ℕ) → HasPrefix first_format lines object → o ≡ object ++ rest
       → got ≡ record { name = o; value = no_such_instance } → IsGot lines o got
 
 -- the rows below the root; where there are none, what a Get of the root gives
@@ -69,12 +62,6 @@ pub data AreWalked (lines : List (List ℕ)) (root : List ℕ) (rows : List VarB
       → AreWalked lines root rows
 
 -- ---- what is printed
-
--- Standard error was given no octet, and then that memory ran out, or a front of that where it
--- failed.
-abbrev pub IsOutOfMemoryTold : (before after : Stream) → Type 0
-IsOutOfMemoryTold before after =
-    (now : Stream) × IsWritten before [] now × IsWritten now (codes "Out of memory.\n") after
 
 -- the lines of the rows are printed, and the status says whether that was done
 pub record PrintsRows (lines : List (List ℕ)) (root : List ℕ)
@@ -86,9 +73,11 @@ pub record PrintsRows (lines : List (List ℕ)) (root : List ℕ)
   -- at status 0 all of them are
   pub all : status ≡ 0 → after ≡ extended before (flat_map row_line rows)
   -- Where strings are short and there are fewer rows than ids of requests, it is 0, unless the
-  -- output fails or memory runs out.
+  -- output fails, or memory runs out: standard error was given no octet, and then that, or a front
+  -- of that where it failed.
   pub ends : ((row : VarBind) → HasRow first_format lines row → IsShort row.value)
       → length rows ≤ 2147483644
       → (status ≡ 0)
       ⊎ ((status ≡ 1)
-      × (HasRisen before.faults after.faults ⊎ IsOutOfMemoryTold err_before err_after))
+      × (HasRisen before.faults after.faults ⊎ ((now : Stream) × IsWritten err_before [] now
+      × IsWritten now (codes "Out of memory.\n") err_after)))

@@ -1,12 +1,12 @@
 //! The letters of `-C`.
-ghost use Rattle.std.specs.Prelude.{◌≡◌, ◌≤◌, ◌<◌, ◌+◌, true, IfErr, IfOk, IfSome, MatchOption, Ok};
-ghost use Rattle.std.specs.Prelude.{Err, Some, length, false, slice_index, take, MatchResult};
-ghost use Rattle.std.specs.{Char.is_ascii_digit, List.list_all, Str.Parse.digits_value};
+ghost use Rattle.std.specs.Prelude.{◌≡◌, ◌≤◌, ◌<◌, ℕ, true, false, length, slice_index, take};
+ghost use Rattle.std.specs.Prelude.{MatchOption, MatchResult};
+ghost use Rattle.std.specs.{Char.is_ascii_digit, List.list_all};
 ghost use Rattle.snmp_walk.specs.Walker.{IsMethod};
 ghost use Rattle.snmp_tools.specs.{private.Chosen.chosen, private.Planned.request_of};
-ghost use Rattle.snmp_tools.specs.private.Choosing.{after_part, repetitions_in};
-ghost use Rattle.snmp_tools.specs.Letters.{HaveChosen, IsFirstUnknown, method_of, mode_of};
-ghost use Rattle.snmp_tools.specs.Letters.{no_choices};
+ghost use Rattle.snmp_tools.specs.private.Choosing.{OneMore};
+ghost use Rattle.snmp_tools.specs.Letters.{AreRepetitions, HaveChosen, IsFirstUnknown, IsKnown};
+ghost use Rattle.snmp_tools.specs.Letters.{IsUnknown, method_of, mode_of, no_choices};
 ghost use Rattle.snmp_tools.specs.Question.{HasChosen, HasUnknown};
 
 use crate::choices::Choices;
@@ -60,8 +60,9 @@ impl Choices {
     fn after(self, letter: u8, digits: &[u8], bulk: bool) -> Result<Choices, u8>
         requires { list_all is_ascii_digit digits.now ≡ true }
         ensures { MatchResult result
-            (λ c. after_part bulk (letter, digits.now) (chosen self) ≡ Ok (chosen c))
-            (λ octet. after_part bulk (letter, digits.now) (chosen self) ≡ Err octet) }
+            (λ c. IsKnown bulk (letter, digits.now)
+            × OneMore (letter, digits.now) (chosen self) (chosen c))
+            (IsUnknown bulk (letter, digits.now)) }
     {
         let mut choices = self;
         match letter {
@@ -124,9 +125,8 @@ fn front_digits(text: &[u8]) -> usize
 // The number of repetitions that digits state.
 fn repetitions(digits: &[u8]) -> Option<u32>
     requires { list_all is_ascii_digit digits.now ≡ true }
-    ensures value { result ≡ repetitions_in digits.now }
-    ensures some { IfSome result (λ n. 1 ≤ n) }
-    ensures few { IfSome result (λ n. n ≤ 2147483647) }
+    ensures { MatchOption result ((n : ℕ) → AreRepetitions digits.now n → ⊥)
+        (AreRepetitions digits.now) }
 {
     let mut number = 0;
     'digits: for digit in digits {

@@ -1,8 +1,7 @@
--- What one letter of -C chooses, computed, for private clauses.
-use Rattle.std.specs.Prelude.{ℕ, Bool, true, not, ◌&&◌, ◌==◌, nat_le, if◌then◌else◌, List, [], ◌∷◌}
-use Rattle.std.specs.Prelude.{Option, Some, None, Result, Ok, Err}
-use Rattle.std.specs.{Char.is_ascii_digit, Str.Parse.digits_value}
-use Rattle.snmp_tools.specs.Letters.{Choices}
+-- The letters in a text, computed, and what one letter of -C chooses, for private clauses.
+use Rattle.std.specs.Prelude.{◌≡◌, ◌⊎◌, ℕ, false, ◌||◌, ◌==◌, if◌then◌else◌, List, [], ◌∷◌}
+use Rattle.std.specs.{Char.is_ascii_digit}
+use Rattle.snmp_tools.specs.Letters.{AreRepetitions, Choices}
 
 -- one more octet before the digits at the front and the letters after them
 abbrev pub put : ℕ → List ℕ × List (ℕ × List ℕ) → List ℕ × List (ℕ × List ℕ)
@@ -14,32 +13,10 @@ abbrev pub letter_parts : List ℕ → List ℕ × List (ℕ × List ℕ)
 letter_parts [] = ([], [])
 letter_parts (octet ∷ text) = put octet (letter_parts text)
 
--- a number of repetitions: 1 to 2147483647
-abbrev pub repetitions_in : List ℕ → Option ℕ
-repetitions_in digits =
-    if nat_le 1 (digits_value 10 digits) && nat_le (digits_value 10 digits) 2147483647
-    then Some (digits_value 10 digits) else None
-
--- the choices after a letter that has no number
-abbrev pub with_letter : Bool → ℕ → Choices → Option Choices
-with_letter bulk letter choices =
-    if letter == 105 then Some (record choices { includes_root = true })
-    else (if letter == 112 then Some (record choices { counts = true })
-    else (if not bulk && (letter == 73) then Some (record choices { leaves_last_get = true })
-    else None))
-
--- the choices, and the octet that has no meaning
-abbrev pub without_digits : ℕ → List ℕ → Option Choices → Result Choices ℕ
-without_digits letter digits None = Err letter
-without_digits letter [] (Some choices) = Ok choices
-without_digits letter (digit ∷ more) (Some choices) = Err digit
-
-abbrev pub with_number : ℕ → Choices → Option ℕ → Result Choices ℕ
-with_number letter choices None = Err letter
-with_number letter choices (Some n) = Ok (record choices { repetitions = n })
-
--- the choices after a letter with its digits, or the octet that has no meaning
-abbrev pub after_part : Bool → ℕ × List ℕ → Choices → Result Choices ℕ
-after_part bulk (letter, digits) choices =
-    if bulk && (letter == 114) then with_number letter choices (repetitions_in digits)
-    else without_digits letter digits (with_letter bulk letter choices)
+-- what is chosen with one letter more
+pub record OneMore (part : ℕ × List ℕ) (old new : Choices) : Type 0 where
+  pub includes_root : new.includes_root ≡ ((part.0 == 105) || old.includes_root)
+  pub counts : new.counts ≡ ((part.0 == 112) || old.counts)
+  pub leaves_last_get : new.leaves_last_get ≡ ((part.0 == 73) || old.leaves_last_get)
+  pub repetitions : ((part.0 ≡ 114) × AreRepetitions part.1 new.repetitions)
+      ⊎ (((part.0 == 114) ≡ false) × (new.repetitions ≡ old.repetitions))

@@ -1,5 +1,5 @@
 use Rattle.snmp_tools.specs.private.Resolved.{names_in}
-use Rattle.snmp_tools.proofs.{BareNames.bare_mib, InNumbers.asked_in_numbers}
+use Rattle.snmp_tools.proofs.{BareNames.bare_mib, TableWalks.asked_in_numbers}
 use Rattle.snmp_tools.proofs.laws.served_walks_in_numbers.Goals as goal
 
 pub returns : goal.returns

@@ -12,6 +12,7 @@ returns-clause-stated c = λ path root.
     subst (λ (words : List (List ℕ)). StateJob words (snmpwalk (numeric_walk path root))) (sym (words_are path root)) (c.walks_are_taken.ensures.joined_job path _)
 
 pub returns-clause-printed : goal.returns-clause-printed
-returns-clause-printed c = prints_rows c.bare_tree.ensures c.numbers_are_read.ensures (c.names_are_meant.ensures bare_mib.naming) c.instances_below.ensures.below c.instances_below.ensures.ordered
-    c.one_answer.ensures.get c.short_rows_have_room.ensures (c.table_of_lines.ensures (names_in bare_mib.naming))
-    (c.unmarked_table.ensures.table (names_in bare_mib.naming))
+returns-clause-printed c =
+    prints_rows c.bare_tree.ensures c.numbers_are_read.ensures (c.names_are_meant.ensures bare_mib.naming) c.instances_below.ensures.below
+    c.instances_below.ensures.ordered c.one_answer.ensures.get (c.table_of_lines.ensures (names_in bare_mib.naming))
+    (c.unmarked_table.ensures.table (names_in bare_mib.naming)) c.short_rows_have_room.ensures

@@ -15,7 +15,7 @@ parts-preserved c =
       within = grind (arith, common_steps, c.front_digits-digits.ensures.within);
       read = goes_on c.args.bulk text c.parts.at c.front_digits-digits.result (chosen c.parts.choices)
           (take (length text - (c.parts.at + 1)) (drop (c.parts.at + 1) text)) c.parts-test.true refl digits.within digits.digits digits.maximal
-          c.parts.invariant.read (chosen c.in_ok-choices.choices) c.in_ok-choices.ensures;
+          c.parts.invariant.read (chosen c.in_ok-choices.choices) c.in_ok-choices.ensures.0 c.in_ok-choices.ensures.1;
     }
 
 pub returns-in_err-choices : goal.returns-in_err-choices
