@@ -83,11 +83,15 @@ def libraries():
 
 def statements_of(path):
     """What a file says, in whichever lines it says it: without blank ones, comments and lists of the files beside it,
-    each imported name by itself, in one order, and as if the definitions in `private` stood with the others."""
+    imported names and definitions of `specs` each by itself, in one order, and those of `private` as if they stood with
+    the others."""
     marks = NO_STATEMENTS.get(os.path.splitext(path)[1], ())
     with open(path, "rb") as file:
-        lines = (line.strip() for line in file)
-        said = b" ".join(line for line in lines if line and not line.startswith(marks))
+        text = file.read()
+    parts = ([line.strip() for line in part.split(b"\n")]
+             for part in (text.split(b"\n\n") if "/specs/" in path else [text]))
+    said = (b" ".join(line for line in part if line and not line.startswith(marks)) for part in parts)
+    said = b" ".join(sorted(filter(None, said)))
     names = (use[1] + name.strip() + use[3]
              for use in IMPORT.finditer(said) for name in use[2].split(b",") if name.strip())
     said = b"\n".join([*names, IMPORT.sub(b"", said).strip()])

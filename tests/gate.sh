@@ -382,12 +382,13 @@ same 'edits that were refused' '0 2 passed, 0 failed, 0 skipped' "$? $(tail -n 1
 stale 'edits that were tried' 0 '2 crates are as their edits were tried'
 printf '\n-- a comment\n' >>"$tree/crates/low/specs/Low.antt"
 stale 'a comment in a definition below' 0 '2 crates are as their edits were tried'
-echo 'use Rattle.low.specs.Low.{a, b}' >"$tree/crates/low/specs/High.antt"
+printf '%s\n\n' 'use Rattle.low.specs.Low.{a, b}' 'one : A' 'two : B' >"$tree/crates/low/specs/High.antt"
 in_tree tests/edits.py >"$got/out"
 mkdir "$tree/crates/low/specs/private"
 mv "$tree/crates/low/specs/Low.antt" "$tree/crates/low/specs/private/Low.antt"
 printf 'use Rattle.low.specs.%s}\n' '{private.Low.b' 'private.Low.{a' >"$tree/crates/low/specs/High.antt"
-stale 'definitions that move to private, and an import of two lines in another order' 0 '2 crates are as their edits were tried'
+printf '\n%s\n' 'two : B' '-- a comment' 'one : A' >>"$tree/crates/low/specs/High.antt"
+stale 'definitions that move, and an import of two lines in another order' 0 '2 crates are as their edits were tried'
 cp "$tree/crates/low/specs/High.antt" "$tree/crates/low/specs/Low.antt"
 same 'two files of definitions of one name, one in private' \
     '1 edits.py: crates/low/specs/Low.antt is there twice, once in private' \

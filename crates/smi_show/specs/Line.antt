@@ -12,10 +12,6 @@ abbrev pub AreNamesBy : Naming → Letters → (names : List ℕ → List ℕ) �
 AreNamesBy naming letters names =
     (o : List ℕ) → IsName naming letters.names letters.numeric_index o (names o)
 
--- computed, for private clauses
-abbrev pub names_by : Naming → Letters → List ℕ → List ℕ
-names_by naming letters o = name_text naming letters.names letters.numeric_index o
-
 -- what stands between name and value: a blank if q is given
 abbrev pub separator : TypeForm → List ℕ
 separator Typed = codes " = "
@@ -41,3 +37,8 @@ pub record IsLine (naming : Naming) (letters : Letters) (syntax : Option ObjectS
   pub shown : List ℕ
   pub is_value : IsValueText naming letters syntax value shown
   pub whole : text ≡ front_text letters shown_name ++ shown ++ codes "\n"
+
+-- ---- for private functions
+
+abbrev pub names_by : Naming → Letters → List ℕ → List ℕ
+names_by naming letters o = name_text naming letters.names letters.numeric_index o

@@ -12,6 +12,8 @@ bare = record {
   indexes = None ∷ (None ∷ (None ∷ []));
 }
 
--- the root of the first number of o, for private clauses
+-- ---- for private functions
+
+-- the root of the first number of o
 abbrev pub IsRootOf : List ℕ → List ℕ → Type 0
 IsRootOf o root = (n : ℕ) × (rest : List ℕ) × (n < 3) × (root ≡ n ∷ []) × (o ≡ n ∷ rest)

@@ -15,10 +15,6 @@ abbrev pub home_from : List Module → Source → Option Module
 home_from ms (S.Root n) = None
 home_from ms (S.Definition i k) = slice_get ms i
 
-abbrev pub definition_from : List Module → Source → Option Def
-definition_from ms (S.Root n) = None
-definition_from ms (S.Definition i k) = def_of_module (slice_get ms i) k
-
 abbrev pub label_in : Option Def → List ℕ
 label_in None = []
 label_in (Some d) = d.label.octets
@@ -51,12 +47,6 @@ Others = IndexMap (ℕ × ℕ) ℕ NameHash
 abbrev pub same_key : ℕ × ℕ → ℕ × ℕ → Bool
 same_key a b = (a.0 == b.0) && (a.1 == b.1)
 
--- the key of a source: none if it is the first one of its label, or of no module
-abbrev pub key_of : List Module → Places → Source → ℕ → ℕ → Option (ℕ × ℕ)
-key_of ms homes s first place = if first == place then None else
-    option_and_then (λ m. option_map (λ p. (p, first)) (kept_place homes m.name.octets))
-    (home_from ms s)
-
 -- for each label whose first source is of another module than `home`, the map has the label's first
 -- source in `home`, among those in front
 abbrev pub AreOthers : List Module → List Source → Others → List Source → Type 0
@@ -64,3 +54,15 @@ AreOthers ms ss others front = (home x : List ℕ) (p f : ℕ) (s : Source)
     → module_place ms home ≡ Some p → position_from (has_label ms x) 0 ss ≡ Some f
     → slice_get ss f ≡ Some s → is_named home (home_from ms s) ≡ false
     → get same_key others (p, f) ≡ position_from (is_of ms home x) 0 front
+
+-- ---- for private functions
+
+abbrev pub definition_from : List Module → Source → Option Def
+definition_from ms (S.Root n) = None
+definition_from ms (S.Definition i k) = def_of_module (slice_get ms i) k
+
+-- the key of a source: none if it is the first one of its label, or of no module
+abbrev pub key_of : List Module → Places → Source → ℕ → ℕ → Option (ℕ × ℕ)
+key_of ms homes s first place = if first == place then None else
+    option_and_then (λ m. option_map (λ p. (p, first)) (kept_place homes m.name.octets))
+    (home_from ms s)

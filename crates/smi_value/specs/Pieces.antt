@@ -97,7 +97,7 @@ pub record IsBitsText (letters : Letters) (names : List NamedNumber) (octets tex
   pub whole : text ≡ type_word letters (codes "BITS: ") ++ hexadecimal_text octets
       ++ flat_map (set_bit_text letters names) bits
 
--- ---- computed, for private clauses
+-- ---- for private functions
 
 -- printable, and neither a quote nor a backslash: shown between quotes as it is
 abbrev pub is_plain : ℕ → Bool

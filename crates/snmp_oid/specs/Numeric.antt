@@ -60,16 +60,6 @@ pub record IsPartRead (text : List ℕ) (number : Option ℕ) (after : Option (L
   pub parts : MatchOption after (text ≡ part) (λ rest. text ≡ part ++ dot ∷ rest)
   pub read : MatchOption number ((n : ℕ) → IsNumeral part n → ⊥) (IsNumeral part)
 
--- the text begins with `count` parts of one digit each, with a dot after each, and `rest` follows;
--- their numbers were appended to `before`, which had room for them
-pub record AreDigitsRead (count : ℕ) (text rest before after : List ℕ) : Type 0 where
-  pub digits : List ℕ
-  pub size : length digits ≡ count
-  pub are : All (λ digit. is_ascii_digit digit ≡ true) digits
-  pub parts : text ≡ flat_map (λ digit. digit ∷ dot ∷ []) digits ++ rest
-  pub room : length before + count ≤ 128
-  pub numbers : after ≡ before ++ map (λ digit. digit - 48) digits
-
 -- the text names a list of more numbers than an identifier holds
 abbrev pub IsTooLong : List ℕ → Type 0
 IsTooLong text = (o : List ℕ) × IsNumericName text o × (128 < length o)
@@ -84,3 +74,15 @@ numeric_text (n ∷ more) = flat_map (λ m. dot ∷ decimal m) (n ∷ more)
 pub record IsWrittenTo (out before text : List ℕ) (written : ℕ) : Type 0 where
   pub size : written ≡ length text
   pub octets : out ≡ text ++ drop written before
+
+-- ---- for private functions
+
+-- the text begins with `count` parts of one digit each, with a dot after each, and `rest` follows;
+-- their numbers were appended to `before`, which had room for them
+pub record AreDigitsRead (count : ℕ) (text rest before after : List ℕ) : Type 0 where
+  pub digits : List ℕ
+  pub size : length digits ≡ count
+  pub are : All (λ digit. is_ascii_digit digit ≡ true) digits
+  pub parts : text ≡ flat_map (λ digit. digit ∷ dot ∷ []) digits ++ rest
+  pub room : length before + count ≤ 128
+  pub numbers : after ≡ before ++ map (λ digit. digit - 48) digits

@@ -76,12 +76,6 @@ IsOwnEnd (ending.Done count) = Unit {0}
 IsOwnEnd (ending.Sink fault) = Unit {0}
 IsOwnEnd _ = ⊥
 
--- How a run over a link in memory ended, computed, for private clauses. Such a link fails only
--- where memory runs out.
-abbrev pub end_in_memory : WalkEnd → WalkEnd
-end_in_memory ending.Link = ending.Sink sink.Memory
-end_in_memory end = end
-
 -- where it is done, the number of bindings that its end states
 abbrev pub Counts : WalkEnd → ℕ → Type 0
 Counts (ending.Done count) n = count ≡ n
@@ -128,3 +122,10 @@ pub record HasFacts {W : Type 0} (Opens : W → Type 0) (facts : LinkFacts W) (t
   pub opened : Opens link
   pub fresh : (facts.traffic link).sent ≡ []
   pub run : IsAskedOver facts link after tries plan plan.question given refused end
+
+-- ---- for private functions
+
+-- How a run over a link in memory ended, computed. Such a link fails only where memory runs out.
+abbrev pub end_in_memory : WalkEnd → WalkEnd
+end_in_memory ending.Link = ending.Sink sink.Memory
+end_in_memory end = end

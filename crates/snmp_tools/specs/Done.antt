@@ -32,7 +32,9 @@ IsJobDone {N} {V} {D} net wire Loads (snmpbulkwalk words) before after status =
 IsJobDone {N} {V} {D} net wire Loads (snmpd words) before after status =
     IsServeRun net Loads words before after status
 
--- what it did, and why not all of it was done, before that is reported, for private clauses
+-- ---- for private functions
+
+-- what it did, and why not all of it was done, before that is reported
 abbrev pub IsJobOutcome : {N V D : Type 0} → Network N V D → LinkFacts V → LoadFacts → Stated
     → (before after : Seen N) → Option Fault → Type 0
 IsJobOutcome {N} {V} {D} net wire Loads (snmptranslate words) before after fault =

@@ -91,7 +91,9 @@ mode_of choices = if choices.includes_root then mode.Include
 abbrev pub method_of : Bool → Choices → Method
 method_of bulk choices = if bulk then method.Bulk (pos choices.repetitions) else method.Next
 
--- a fact of a method has one proof at most, for private clauses
+-- ---- for private functions
+
+-- a fact of a method has one proof at most
 pub IsMethod-prop : (m : Method) → IsProp (IsMethod m)
 IsMethod-prop method.Next = hlevel
 IsMethod-prop (method.Bulk repetitions) = hlevel props

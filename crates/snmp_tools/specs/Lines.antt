@@ -22,21 +22,6 @@ AreLines mib letters (binding ∷ more) text =
     (line : List ℕ) × (rest : List ℕ) × IsLineOf mib letters binding line
     × AreLines mib letters more rest × (text ≡ line ++ rest)
 
--- What the output took of a text, for private clauses: the whole, a front where the output failed,
--- and nothing where memory for the text ran out.
-abbrev pub TakesText : Stream → List ℕ → Result (Unit {0}) SinkFault → Stream → Type 0
-TakesText before text (Ok _) after = after ≡ extended before text
-TakesText before text (Err fault.Output) after = FailsWithin before text after
-TakesText before text (Err fault.Memory) after = after ≡ before
-
--- what it took of the line of a binding, for private clauses; where memory for the line ran out,
--- nothing
-abbrev pub TakesLine : Mib → Letters → Stream → VarBind → Result (Unit {0}) SinkFault → Stream
-    → Type 0
-TakesLine mib letters before binding (Err fault.Memory) after = after ≡ before
-TakesLine mib letters before binding result after =
-    (line : List ℕ) × IsLineOf mib letters binding line × TakesText before line result after
-
 -- The lines of the rows were written, whole, and where the output ended the walk a front of the
 -- line of the row that it refused.
 abbrev pub IsPrintedUpTo : Mib → Letters → Stream → (rows refused : List VarBind) → WalkEnd
@@ -46,15 +31,6 @@ IsPrintedUpTo mib letters before rows refused (ending.Sink fault.Output) after =
     × AreLines mib letters refused line × FailsWithin (extended before text) line after
 IsPrintedUpTo mib letters before rows refused _ after =
     (text : List ℕ) × AreLines mib letters rows text × (after ≡ extended before text)
-
--- rows of which these facts hold were given, and their lines printed, until it ended in this way,
--- for private clauses
-pub record ArePrinted (mib : Mib) (letters : Letters) (before after : Stream) (end : WalkEnd)
-    (Facts : (rows refused : List VarBind) → Type 0) : Type 0 where
-  pub rows : List VarBind
-  pub refused : List VarBind
-  pub lines : IsPrintedUpTo mib letters before rows refused end after
-  pub facts : Facts rows refused
 
 -- a text isn't printed, or only a front of it: memory for it ran out, or the output failed
 abbrev pub StopsAtText : (before : Stream) → (text : List ℕ) → (after : Stream) → Option Fault
@@ -76,3 +52,27 @@ count_line count = codes "Variables found: " ++ decimal count ++ codes "\n"
 -- the line of -Cp, where it is asked for
 abbrev pub count_text : Bool → ℕ → List ℕ
 count_text counts count = if counts then count_line count else []
+
+-- ---- for private functions
+
+-- What the output took of a text: the whole, a front where the output failed, and nothing where
+-- memory for the text ran out.
+abbrev pub TakesText : Stream → List ℕ → Result (Unit {0}) SinkFault → Stream → Type 0
+TakesText before text (Ok _) after = after ≡ extended before text
+TakesText before text (Err fault.Output) after = FailsWithin before text after
+TakesText before text (Err fault.Memory) after = after ≡ before
+
+-- what it took of the line of a binding; where memory for the line ran out, nothing
+abbrev pub TakesLine : Mib → Letters → Stream → VarBind → Result (Unit {0}) SinkFault → Stream
+    → Type 0
+TakesLine mib letters before binding (Err fault.Memory) after = after ≡ before
+TakesLine mib letters before binding result after =
+    (line : List ℕ) × IsLineOf mib letters binding line × TakesText before line result after
+
+-- rows of which these facts hold were given, and their lines printed, until it ended in this way
+pub record ArePrinted (mib : Mib) (letters : Letters) (before after : Stream) (end : WalkEnd)
+    (Facts : (rows refused : List VarBind) → Type 0) : Type 0 where
+  pub rows : List VarBind
+  pub refused : List VarBind
+  pub lines : IsPrintedUpTo mib letters before rows refused end after
+  pub facts : Facts rows refused

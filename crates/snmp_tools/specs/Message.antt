@@ -47,15 +47,10 @@ fault_of (failure.Ended agent why) = ended agent.now why
 fault_of failure.Output = no_output
 fault_of failure.Memory = out_of_memory
 
--- why module files can't be had, for private clauses
+-- why module files can't be had
 abbrev pub modules_fault : Refusal → Fault
 modules_fault files.no_memory = out_of_memory
 modules_fault why = bad_modules why
-
--- the fault of what was tried, if it failed, for private clauses
-abbrev pub outcome_of : {T : Type 0} → Result T Failure → Option Fault
-outcome_of (Ok _) = None
-outcome_of (Err failure) = Some (fault_of failure)
 
 -- the exit status: 2 where an agent replied with an error status
 abbrev pub status_of : Fault → ℕ
@@ -128,3 +123,10 @@ fault_message (outside_root text) = codes "Not below the root: " ++ text
 fault_message (ended agent why) = end_message agent why
 fault_message no_output = codes "The output failed."
 fault_message out_of_memory = codes "Out of memory."
+
+-- ---- for private functions
+
+-- the fault of what was tried, if it failed
+abbrev pub outcome_of : {T : Type 0} → Result T Failure → Option Fault
+outcome_of (Ok _) = None
+outcome_of (Err failure) = Some (fault_of failure)

@@ -45,35 +45,11 @@ MeansToGet names m (Err end) =
     ((m.a ≢ pos 0) × (end ≡ ending.Fault m.a m.b))
     ⊎ ((m.a ≡ pos 0) × (AreFor names m.bindings → ⊥) × (end ≡ ending.BadReply))
 
--- What `MeansToGet` says, computed, for private clauses: whether bindings are for the names,
-abbrev pub are_for : List (List ℕ) → List VarBind → Bool
-are_for [] [] = true
-are_for [] (p ∷ more) = false
-are_for (o ∷ names) [] = false
-are_for (o ∷ names) (p ∷ more) = (pointwise nat_eq p.name (wire o) && not
-    (is_end p.value)) && are_for names more
-
--- and what a reply brings
-abbrev pub answers_of : List (List ℕ) → Message → Result (List VarBind) WalkEnd
-answers_of names m =
-    if int_eq m.a (pos 0)
-    then (if are_for names m.bindings then Ok m.bindings else Err ending.BadReply)
-    else Err (ending.Fault m.a m.b)
-
--- a Get of these names that waits for its reply, for private clauses
+-- a Get of these names that waits for its reply
 pub record WaitingGet : Type 0 where
   pub names : List (List ℕ)
   pub community : List ℕ
   pub id : ℕ
-
--- what a reply means to a Get: all its bindings and the end, or the end without them, for private
--- clauses
-abbrev pub step_of : ℕ → Result (List VarBind) WalkEnd → Step
-step_of count (Ok rows) = step.Last rows (ending.Done count)
-step_of count (Err end) = step.Last [] end
-
-abbrev pub got_step : List (List ℕ) → Message → Step
-got_step names m = step_of (length names) (answers_of names m)
 
 -- What came of the Get's request, `Tried`, is this reply to it: a Response of its community and id,
 -- and over an honest link the Response of one of the agents to it.
@@ -195,3 +171,28 @@ pub record GetFacts (agents : Agents) (tries : ℕ) (old : Traffic) (request : M
   -- unless the link or the sink stops it.
   pub done_unless_stopped : HasRoomForGet agents request names → old.ahead ≡ []
       → IsDoneOrStopped end
+
+-- ---- for private functions
+
+-- whether bindings are for the names, computed
+abbrev pub are_for : List (List ℕ) → List VarBind → Bool
+are_for [] [] = true
+are_for [] (p ∷ more) = false
+are_for (o ∷ names) [] = false
+are_for (o ∷ names) (p ∷ more) = (pointwise nat_eq p.name (wire o) && not
+    (is_end p.value)) && are_for names more
+
+-- what a reply brings, computed
+abbrev pub answers_of : List (List ℕ) → Message → Result (List VarBind) WalkEnd
+answers_of names m =
+    if int_eq m.a (pos 0)
+    then (if are_for names m.bindings then Ok m.bindings else Err ending.BadReply)
+    else Err (ending.Fault m.a m.b)
+
+-- what a reply means to a Get: all its bindings and the end, or the end without them
+abbrev pub step_of : ℕ → Result (List VarBind) WalkEnd → Step
+step_of count (Ok rows) = step.Last rows (ending.Done count)
+step_of count (Err end) = step.Last [] end
+
+abbrev pub got_step : List (List ℕ) → Message → Step
+got_step names m = step_of (length names) (answers_of names m)

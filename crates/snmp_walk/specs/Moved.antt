@@ -16,14 +16,6 @@ abbrev pub AreFew : {W : Type 0} → LinkFacts W → W → (receives : ℕ) → 
 AreFew {W} facts old receives new = facts.keeps old
     → receives + 64 * length (facts.traffic old).sent ≤ 64 * length (facts.traffic new).sent
 
--- 1 to `tries` tries of this datagram moved the link so, for private clauses
-abbrev pub IsMovedByTries : {W : Type 0} → LinkFacts W → W → List ℕ → (tries : ℕ)
-    → (failed : Type 0) → W → Type 0
-IsMovedByTries {W} facts old datagram tries failed new =
-    (times : ℕ) × (times ≤ tries) × (0 < times) × (receives : ℕ)
-    × IsMoved facts old (replicate times datagram) receives failed new
-    × AreFew facts old receives new
-
 -- requests of the walk that began as `first` and gave these rows moved the link so: their ids rise
 -- by one, and each was tried 1 to `tries` times
 pub record IsMovedByRequests {W : Type 0} (facts : LinkFacts W) (tries : ℕ) (first : Walker)
@@ -34,3 +26,13 @@ pub record IsMovedByRequests {W : Type 0} (facts : LinkFacts W) (tries : ℕ) (f
   pub receives : ℕ
   pub moved : IsMoved facts old (sent_by requests) receives failed new
   pub few : AreFew facts old receives new
+
+-- ---- for private functions
+
+-- 1 to `tries` tries of this datagram moved the link so
+abbrev pub IsMovedByTries : {W : Type 0} → LinkFacts W → W → List ℕ → (tries : ℕ)
+    → (failed : Type 0) → W → Type 0
+IsMovedByTries {W} facts old datagram tries failed new =
+    (times : ℕ) × (times ≤ tries) × (0 < times) × (receives : ℕ)
+    × IsMoved facts old (replicate times datagram) receives failed new
+    × AreFew facts old receives new

@@ -1,6 +1,5 @@
 -- Tests of names in a walk: which are below its root, and which come after another (RFC 3416,
--- section 4.2.2). By these two `Walk` picks rows of a table, as its laws say in words of names; the
--- others, of values, are for private clauses.
+-- section 4.2.2). By these two `Walk` picks rows of a table, as its laws say in words of names.
 use Rattle.std.specs.Prelude.{ℕ, Bool, true, false, ◌&&◌, not, nat_lt, List, length}
 use Rattle.std.specs.{List.starts_with, Bool.nat_eq, Ordering.nat_cmp, Ordering.is_lt}
 use Rattle.std.specs.Cmp.Lexicographic.{slice_cmp}
@@ -14,6 +13,8 @@ is_below name root = starts_with nat_eq name root && nat_lt (length root) (lengt
 -- the second name comes after the first
 abbrev pub comes_after : List ℕ → List ℕ → Bool
 comes_after o p = is_lt (slice_cmp nat_cmp o p)
+
+-- ---- for private functions
 
 -- endOfMibView, in place of a value
 abbrev pub is_end : Datum → Bool

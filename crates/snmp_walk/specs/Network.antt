@@ -91,6 +91,8 @@ event_of_got (Ok (Some n)) buffer = came tt (take n buffer)
 event_of_got (Ok None) buffer = silence
 event_of_got (Err _) buffer = receive_failed
 
+-- ---- for private functions
+
 -- An agent served some turns, and then this happened at the walk's end: together they led from one
 -- state of the network to the other. `carries` says what may happen between two of its states.
 abbrev pub IsServedThen : {N Peer : Type 0} → (carries : N → Happening Peer → N → Type 0) → Agent

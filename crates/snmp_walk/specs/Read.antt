@@ -1,5 +1,4 @@
--- What comes of a reply that was waited for: it is read, and its bindings are given to a sink. All
--- but `rows_in` is for private clauses.
+-- What comes of a reply that was waited for: it is read, and its bindings are given to a sink.
 use Rattle.std.specs.Prelude.{◌≡◌, ℕ, true, List, [], ◌∷◌, ◌++◌, Result, Ok, Err, Option, Some}
 use Rattle.std.specs.Prelude.{None}
 use Rattle.snmp_wire.specs.{Message.VarBind, Message.Message, Spelling.Spells}
@@ -15,6 +14,8 @@ abbrev pub rows_in : Step → List VarBind
 rows_in step.Stray = []
 rows_in (step.Rows rows) = rows
 rows_in (step.Last rows why) = rows
+
+-- ---- for private functions
 
 -- whether a step ends the walk or the Get
 abbrev pub leads_to : Step → Heard

@@ -9,16 +9,6 @@ use Rattle.snmp_walk.specs.declared.phase.Phase.TheVariants as phase
 use Rattle.snmp_walk.specs.Request.{asked_for, request_of}
 use Rattle.std.specs.List.{list_any}
 
--- as many bindings as were asked for, or endOfMibView among them
-abbrev pub IsFull : Method → List VarBind → Type 0
-IsFull method bindings = (length bindings ≡ asked_for method)
-    ⊎ (list_any (λ p. is_end p.value) bindings ≡ true)
-
--- where the agents have room for all bindings that are asked for, a reply without an error has them
-abbrev pub IsFullReply : Agents → Walker → Message → Type 0
-IsFullReply agents w m = HasRoomForAll agents w → w.phase ≡ phase.Rows → m.a ≡ pos 0
-    → IsFull w.method m.bindings
-
 -- a request of the walk, and how often it was sent
 pub record Try : Type 0 where
   pub by : Walker
@@ -58,3 +48,15 @@ AreTries tries first rows id [] = Unit {0}
 AreTries tries first rows id (t ∷ more) =
     (t.by.id ≡ id) × (id < 2 ^ 31) × (t.times ≤ tries) × Asks first rows t.by
     × AreTries tries first rows (id + 1) more
+
+-- ---- for private functions
+
+-- as many bindings as were asked for, or endOfMibView among them
+abbrev pub IsFull : Method → List VarBind → Type 0
+IsFull method bindings = (length bindings ≡ asked_for method)
+    ⊎ (list_any (λ p. is_end p.value) bindings ≡ true)
+
+-- where the agents have room for all bindings that are asked for, a reply without an error has them
+abbrev pub IsFullReply : Agents → Walker → Message → Type 0
+IsFullReply agents w m = HasRoomForAll agents w → w.phase ≡ phase.Rows → m.a ≡ pos 0
+    → IsFull w.method m.bindings

@@ -15,42 +15,9 @@ use Rattle.snmp_walk.specs.declared.phase.Phase.TheVariants as phase
 use Rattle.snmp_walk.specs.declared.end.WalkEnd.TheVariants as ending
 use Rattle.snmp_walk.specs.declared.rows.Step.TheVariants as step
 
--- each binding is one that a GetNext of the name before it gives
-abbrev pub IsChain : (List ℕ → VarBind → Type 0) → List ℕ → List VarBind → Type 0
-IsChain Next o [] = Unit {0}
-IsChain Next o (p ∷ more) = Next o p × IsChain Next p.name more
-
 -- there is no room for one of the bindings that agents may give for the name
 abbrev pub IsLarge : (List ℕ → VarBind → Type 0) → (VarBind → Type 0) → List ℕ → Type 0
 IsLarge Answer Large o = (p : VarBind) × Answer o p × Large p
-
--- an honest reply has the bindings asked for, or tooBig where they have no room, for private
--- clauses
-abbrev pub IsGetContent : (List ℕ → VarBind → Type 0) → (VarBind → Type 0) → List ℕ → Message
-    → Type 0
-IsGetContent Got Large o m =
-    ((m.a ≡ pos 0) × ((p : VarBind) × Got o p × (m.bindings ≡ p ∷ [])))
-    ⊎ ((m.a ≡ pos 1) × (m.b ≡ pos 0) × IsLarge Got Large o)
-
-abbrev pub IsNextContent : (List ℕ → VarBind → Type 0) → (VarBind → Type 0) → Walker → Message
-    → Type 0
-IsNextContent Next Large w m =
-    ((m.a ≡ pos 0) × IsChain Next w.asked m.bindings × (length m.bindings ≤ asked_for w.method)
-    × (m.bindings ≡ [] → IsLarge Next Large w.asked))
-    ⊎ ((m.a ≡ pos 1) × (m.b ≡ pos 0) × IsLarge Next Large w.asked)
-
-abbrev pub IsReplyContent : (Next Got : List ℕ → VarBind → Type 0) → (ℕ → VarBind → Type 0)
-    → Phase → Walker → Message → Type 0
-IsReplyContent Next Got Large phase.First w m = IsGetContent Got (Large w.id) w.asked m
-IsReplyContent Next Got Large phase.Rows w m = IsNextContent Next (Large w.id) w m
-IsReplyContent Next Got Large phase.Last w m = IsGetContent Got (Large w.id) w.asked m
-IsReplyContent Next Got Large phase.Over w m = ⊥
-
--- the message is an honest reply to the waiting request, for private clauses
-pub record IsReplyTo (Next Got : List ℕ → VarBind → Type 0) (Large : ℕ → VarBind → Type 0)
-    (w : Walker) (m : Message) : Type 0 where
-  pub response : IsResponseTo w.community w.id m
-  pub content : IsReplyContent Next Got Large w.phase w m
 
 -- these are the binding alone, where it has a value, and else none
 abbrev pub IsGivenIfPresent : VarBind → List VarBind → Type 0
@@ -161,15 +128,6 @@ Ends Next Got Large first w given (ending.NoProgress o) = (w.phase ≡ phase.Row
 Ends Next Got Large first w given ending.TooManyRequests = 2147483647 ≤ w.id
 Ends Next Got Large first w given _ = ⊥
 
--- a step of the walk w, for private clauses
-abbrev pub Advances : (Next Got : List ℕ → VarBind → Type 0) → (ℕ → VarBind → Type 0) → Walker
-    → Walker → List VarBind → Step → Walker → Type 0
-Advances Next Got Large first old given step.Stray w = ⊥
-Advances Next Got Large first old given (step.Rows more) w = Reaches Next Got first w
-    (given ++ more)
-Advances Next Got Large first old given (step.Last more why) w = IsPartOfWalk Next Got first
-    (given ++ more) × Ends Next Got Large first old (given ++ more) why
-
 -- What holds of any replies, honest or not: a name that is given for an instance comes after the
 -- one before it, and what is given for the root has its name.
 abbrev pub Rises : List ℕ → VarBind → Type 0
@@ -191,8 +149,51 @@ abbrev pub CountsAll : WalkEnd → List VarBind → Type 0
 CountsAll (ending.Done n) given = n ≡ length given
 CountsAll _ given = Unit {0}
 
+-- ---- for private functions
+
+-- each binding is one that a GetNext of the name before it gives
+abbrev pub IsChain : (List ℕ → VarBind → Type 0) → List ℕ → List VarBind → Type 0
+IsChain Next o [] = Unit {0}
+IsChain Next o (p ∷ more) = Next o p × IsChain Next p.name more
+
+-- an honest reply has the bindings asked for, or tooBig where they have no room
+abbrev pub IsGetContent : (List ℕ → VarBind → Type 0) → (VarBind → Type 0) → List ℕ → Message
+    → Type 0
+IsGetContent Got Large o m =
+    ((m.a ≡ pos 0) × ((p : VarBind) × Got o p × (m.bindings ≡ p ∷ [])))
+    ⊎ ((m.a ≡ pos 1) × (m.b ≡ pos 0) × IsLarge Got Large o)
+
+abbrev pub IsNextContent : (List ℕ → VarBind → Type 0) → (VarBind → Type 0) → Walker → Message
+    → Type 0
+IsNextContent Next Large w m =
+    ((m.a ≡ pos 0) × IsChain Next w.asked m.bindings × (length m.bindings ≤ asked_for w.method)
+    × (m.bindings ≡ [] → IsLarge Next Large w.asked))
+    ⊎ ((m.a ≡ pos 1) × (m.b ≡ pos 0) × IsLarge Next Large w.asked)
+
+abbrev pub IsReplyContent : (Next Got : List ℕ → VarBind → Type 0) → (ℕ → VarBind → Type 0)
+    → Phase → Walker → Message → Type 0
+IsReplyContent Next Got Large phase.First w m = IsGetContent Got (Large w.id) w.asked m
+IsReplyContent Next Got Large phase.Rows w m = IsNextContent Next (Large w.id) w m
+IsReplyContent Next Got Large phase.Last w m = IsGetContent Got (Large w.id) w.asked m
+IsReplyContent Next Got Large phase.Over w m = ⊥
+
+-- the message is an honest reply to the waiting request
+pub record IsReplyTo (Next Got : List ℕ → VarBind → Type 0) (Large : ℕ → VarBind → Type 0)
+    (w : Walker) (m : Message) : Type 0 where
+  pub response : IsResponseTo w.community w.id m
+  pub content : IsReplyContent Next Got Large w.phase w m
+
+-- a step of the walk w
+abbrev pub Advances : (Next Got : List ℕ → VarBind → Type 0) → (ℕ → VarBind → Type 0) → Walker
+    → Walker → List VarBind → Step → Walker → Type 0
+Advances Next Got Large first old given step.Stray w = ⊥
+Advances Next Got Large first old given (step.Rows more) w = Reaches Next Got first w
+    (given ++ more)
+Advances Next Got Large first old given (step.Last more why) w = IsPartOfWalk Next Got first
+    (given ++ more) × Ends Next Got Large first old (given ++ more) why
+
 -- Whatever the reply that was waited for is: a next request has the next id, what was given rises,
--- and a walk that is done has counted it. For private clauses.
+-- and a walk that is done has counted it.
 abbrev pub AdvancesAnyhow : Walker → Walker → List VarBind → Step → Walker → Type 0
 AdvancesAnyhow first old given step.Stray w = ⊥
 AdvancesAnyhow first old given (step.Rows more) w = (w.id ≡ old.id + 1) × (w.id < 2 ^ 31)

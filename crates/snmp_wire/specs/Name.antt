@@ -43,6 +43,8 @@ pub record EncodedNames : Type 0 where
   pub octets_order : (text other : List ℕ) (n m : ℕ) → AreOctets text → AreOctets other
       → IsSubidentifier text n → IsSubidentifier other m → (n < m) ↔ ComesFirst text other
 
+-- ---- for private functions
+
 -- The subidentifier that has the octet at `at` has its last octet at `end`. Private functions and
 -- proofs alone cite this and the next, and no public clause does.
 pub record EndsAt (content : List ℕ) (at end : ℕ) : Type 0 where

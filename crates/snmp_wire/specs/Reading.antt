@@ -23,10 +23,6 @@ pub record Fields : Type 0 where
 abbrev pub fields : Lent.Fields → Fields
 fields f = record { name = f.name.now; tag = f.tag; content = f.content.now }
 
--- the fault of a binding with octets left over after its value: the value's own, if it has one
-abbrev pub left_over_after : ℕ → List ℕ → BerError
-left_over_after tag content = fault_or (typed_value tag content) error.Content
-
 unfoldable pub fields_of : List ℕ → Result Fields BerError
 fields_of content = do
   name ← inner_at 0x06 content
@@ -71,7 +67,11 @@ bindings_of octets = bindings_within (length octets) octets
 abbrev pub bindings_in : List ℕ → List VarBind
 bindings_in octets = result_unwrap_or (bindings_of octets) []
 
--- ---- messages
+-- ---- for private functions
+
+-- the fault of a binding with octets left over after its value: the value's own, if it has one
+abbrev pub left_over_after : ℕ → List ℕ → BerError
+left_over_after tag content = fault_or (typed_value tag content) error.Content
 
 unfoldable pub kind_of : ℕ → Result Kind BerError
 kind_of tag =

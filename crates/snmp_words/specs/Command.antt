@@ -91,14 +91,6 @@ names_rule = repeated (required (one_text (codes "names")))
 
 -- ---- the commands
 
--- the argument has this rule, and is of its command alone
-abbrev pub IsArg : Arg → Rule → Type 0
-IsArg arg rule = (rule_of arg ≡ rule) × (arg.global ≡ false)
-
--- what was made, if memory sufficed, has these rules
-abbrev pub IsMade : {E : Type 0} → Result Command E → App → Type 0
-IsMade made app = IfOk made (λ c. app_of c ≡ app)
-
 abbrev pub with_rules : App → List Rule → App
 with_rules app [] = app
 with_rules app (rule ∷ rules) = with_rules (with_rule app rule) rules
@@ -181,3 +173,13 @@ is_taken words = takes snmp_app words
 -- the kinds of mistake that the words have, or that they ask for help
 abbrev pub faults_of : List Text → Kinds
 faults_of words = fault_of snmp_app words
+
+-- ---- for private functions
+
+-- the argument has this rule, and is of its command alone
+abbrev pub IsArg : Arg → Rule → Type 0
+IsArg arg rule = (rule_of arg ≡ rule) × (arg.global ≡ false)
+
+-- what was made, if memory sufficed, has these rules
+abbrev pub IsMade : {E : Type 0} → Result Command E → App → Type 0
+IsMade made app = IfOk made (λ c. app_of c ≡ app)

@@ -101,17 +101,6 @@ abbrev pub AreNumbersOf : List Row → Numbers → Type 0
 AreNumbersOf rows numbers = (id : Text) (default low high : ℕ)
     → IsNumberOf id default low high rows (numbers id default low high)
 
--- the number that a text of decimal digits states, where it is in the range
-abbrev pub number_in : (low high : ℕ) → Text → Option ℕ
-number_in low high text =
-    if is_unsigned_in low high text then Some (digits_value 10
-    (without_leading_plus text)) else None
-
--- the numbers of options, computed, for private clauses
-abbrev pub numbers_in : List Row → Numbers
-numbers_in rows id default low high =
-    unwrap_or (option_and_then (number_in low high) (first_of id rows)) default
-
 -- the greatest number of 64 bits
 abbrev pub most_turns : ℕ
 most_turns = 18446744073709551615
@@ -182,13 +171,6 @@ pub record StateJob (words : List Text) (job : Stated) : Type 0 where
   pub are_numbers : AreNumbersOf rows numbers
   pub stated : stated_among (readings numbers) (command, rows) ≡ Some job
 
--- the job that the words state, computed, for private clauses
-abbrev pub stated_by : Text × List Row → Option Stated
-stated_by p = stated_among (readings (numbers_in p.1)) p
-
-abbrev pub stated_in : Option (Text × List Row) → Option Stated
-stated_in = option_and_then stated_by
-
 -- ---- what a job holds
 
 -- the texts behind references
@@ -257,11 +239,6 @@ abbrev pub asks_help : ErrorKind → Bool
 asks_help kind.DisplayHelp = true
 asks_help kind.DisplayVersion = true
 asks_help _ = false
-
--- the error stands for a parse that failed in this way; memory for its text may have run out
-abbrev pub StandsFor : UsageError → ErrorKind → Type 0
-StandsFor Memory k = ⊤
-StandsFor (Parse text help) k = help ≡ asks_help k
 
 -- the error says that memory ran out, or stands for one of the faults
 abbrev pub HasFaultOf : UsageError → Kinds → Type 0
@@ -378,3 +355,28 @@ words_of_get modules host first second = record {
   };
   names = (codes "." ++ first) ∷ (codes "." ++ second) ∷ [];
 }
+
+-- ---- for private functions
+
+-- the number that a text of decimal digits states, where it is in the range
+abbrev pub number_in : (low high : ℕ) → Text → Option ℕ
+number_in low high text =
+    if is_unsigned_in low high text then Some (digits_value 10
+    (without_leading_plus text)) else None
+
+-- the numbers of options, computed
+abbrev pub numbers_in : List Row → Numbers
+numbers_in rows id default low high =
+    unwrap_or (option_and_then (number_in low high) (first_of id rows)) default
+
+-- the job that the words state, computed
+abbrev pub stated_by : Text × List Row → Option Stated
+stated_by p = stated_among (readings (numbers_in p.1)) p
+
+abbrev pub stated_in : Option (Text × List Row) → Option Stated
+stated_in = option_and_then stated_by
+
+-- the error stands for a parse that failed in this way; memory for its text may have run out
+abbrev pub StandsFor : UsageError → ErrorKind → Type 0
+StandsFor Memory k = ⊤
+StandsFor (Parse text help) k = help ≡ asks_help k

@@ -5,6 +5,11 @@ use Rattle.smi_names.specs.chains.Chain.{Origin, numbers, after, nowhere}
 use Rattle.smi_names.specs.declared.chains.resolution.Resolution.{Resolution}
 use Rattle.smi_names.specs.declared.chains.resolution.Resolution.TheVariants as R
 
+abbrev pub resolution_at : List Resolution → ℕ → Resolution
+resolution_at rs p = slice_index_or rs p R.Unresolved
+
+-- ---- for private functions
+
 -- the numbers after an identifier, if there are at most 128 together
 abbrev pub lengthened : List ℕ → List ℕ → Resolution
 lengthened o ns = if nat_le (length o + length ns) 128 then R.Numbers (o ++ ns) else R.TooLong
@@ -14,9 +19,6 @@ followed_by (R.Numbers o) ns = lengthened o ns
 followed_by R.Cycle ns = R.Cycle
 followed_by R.Unresolved ns = R.Unresolved
 followed_by R.TooLong ns = R.TooLong
-
-abbrev pub resolution_at : List Resolution → ℕ → Resolution
-resolution_at rs p = slice_index_or rs p R.Unresolved
 
 -- what the name at the place led to resolves to; unresolved where none is led to
 abbrev pub far_at : List Resolution → Option ℕ → Resolution

@@ -12,12 +12,14 @@ shared list places = map (λ k. resolution_at list k) places
 abbrev pub AreWithin : List Resolution → List ℕ → Type 0
 AreWithin list places = All (λ k. k < length list) places
 
--- the list begins with the reasons for having no identifier, for private clauses
+-- ---- for private functions
+
+-- the list begins with the reasons for having no identifier
 abbrev pub HasReasons : List Resolution → Type 0
 HasReasons list =
     (more : List Resolution) × (list ≡ (R.Unresolved ∷ R.Cycle ∷ R.TooLong ∷ []) ++ more)
 
--- the list has grown, and has this resolution at this place, for private clauses
+-- the list has grown, and has this resolution at this place
 pub record GrowsTo (old new : List Resolution) (at : ℕ) (r : Resolution) : Type 0 where
   pub added : List Resolution
   pub grown : new ≡ old ++ added

@@ -76,7 +76,7 @@ leads_nowhere d = None
 abbrev pub stands_at : ℕ × ℕ → Def → Option (ℕ × ℕ) → Option (ℕ × ℕ)
 stands_at at d far = Some at
 
--- ---- how it is found, for private clauses
+-- ---- for private functions
 
 -- the names at a place lead to that at another
 abbrev pub IsNext : KnownNames → (Def → Option (List ℕ)) → ℕ → Option ℕ → Type 0

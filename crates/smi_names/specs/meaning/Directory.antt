@@ -19,29 +19,28 @@ abbrev pub next_place : Directory → (Def → Option (List ℕ)) → Entry → 
 next_place d leads e = option_map (place_by d)
     (next_by leads (qualified (content_of e)) (Some (content_of e).decided))
 
--- where parents are kept, an import has the place of the same name in the module after FROM, for
--- private clauses
+-- ---- for private functions
+
+-- where parents are kept, an import has the place of the same name in the module after FROM
 abbrev pub KeepsImports : Directory → Type 0
 KeepsImports d =
     (p : ℕ) (e : Entry) (i : Import) (to : Option ℕ) → slice_get d.entries.items p ≡ Some e
     → decision_of e.decider ≡ imported i → slice_get d.parents.items p ≡ Some to
     → to ≡ Some (place_by d (record { home = i.source.octets; name = e.name.now }))
 
--- the place of a name in the module at `at`, or the one past the last if there is none, for private
--- clauses
+-- the place of a name in the module at `at`, or the one past the last if there is none
 abbrev pub place_of_scope : Directory → Option ℕ → List ℕ → ℕ
 place_of_scope d at x =
     unwrap_or (option_and_then (λ i. option_and_then (λ scope. place_in scope x)
     (slice_get d.scopes.items i)) at) (length d.entries.items)
 
--- the name that was looked up last, if any, is kept with the places of its module and of itself,
--- for private clauses
+-- the name that was looked up last, if any, is kept with the places of its module and of itself
 abbrev pub IsFound : Directory → Option Found → Type 0
 IsFound d None = ⊤
 IsFound d (Some f) = (f.at ≡ place_in d.homes f.home.now)
     × (f.place ≡ place_by d (record { home = f.home.now; name = f.name.now }))
 
--- the entry is that of a name of the module at a place, for private clauses
+-- the entry is that of a name of the module at a place
 abbrev pub is_entry_of : Option Entry → ℕ → List ℕ → Bool
 is_entry_of None i x = false
 is_entry_of (Some e) i x = (e.source.0 == i) && same_text e.name.now x

@@ -14,13 +14,15 @@ use Rattle.smi_names.specs.meaning.Known.{KnownNames, content_named}
 abbrev pub parent_of : Def → Option (List ℕ)
 parent_of d = option_map (λ a. a.name) (next_of (origin_of_value [] (identifier_value_of d.kind)))
 
--- where a name's numbers come from, by what its place has
-abbrev pub origin_here : Option Content → Origin QualifiedName
-origin_here None = nowhere
-origin_here (Some c) = origin_by (qualified c) (Some c.decided)
-
 -- a list has at the place of each name what the name resolves to
 pub record AreResolved (k : KnownNames) (rs : List Resolution) : Type 0 where
   pub long : length rs ≡ length k.names
   pub each : (p : ℕ) (a : QualifiedName) → slice_get k.names p ≡ content_named k.modules a
       → ComesTo (origin k.modules) a (resolution_at rs p)
+
+-- ---- for private functions
+
+-- where a name's numbers come from, by what its place has
+abbrev pub origin_here : Option Content → Origin QualifiedName
+origin_here None = nowhere
+origin_here (Some c) = origin_by (qualified c) (Some c.decided)

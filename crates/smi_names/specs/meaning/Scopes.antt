@@ -53,15 +53,17 @@ abbrev pub IsDefinedAt : Entry → Type 0
 IsDefinedAt e = (d : Def) → decision_of e.decider ≡ defined d
     → slice_get e.«module».now.defs e.source.1 ≡ Some d
 
--- an entry is one of the module at a place, for private clauses
-abbrev pub IsEntryOf : Module → ℕ → Entry → Type 0
-IsEntryOf m i e = (e.«module».now ≡ m) × (e.source.0 ≡ i) × IsDefinedAt e
-
 -- what an entry says is what decides its name in its module
 abbrev pub IsDecided : Entry → Type 0
 IsDecided e = decision e.«module».now e.name.now ≡ Some (decision_of e.decider)
 
--- the scope knows more: where it knew nothing, it has what `more` decides; for private clauses
+-- ---- for private functions
+
+-- an entry is one of the module at a place
+abbrev pub IsEntryOf : Module → ℕ → Entry → Type 0
+IsEntryOf m i e = (e.«module».now ≡ m) × (e.source.0 ≡ i) × IsDefinedAt e
+
+-- the scope knows more: where it knew nothing, it has what `more` decides
 pub record KnowsMore (old : List Entry) (before : NamePlaces) (new : List Entry)
     (scope : NamePlaces) (m : Module) (i : ℕ) (more : List ℕ
     → Option Decision) : Type 0 where

@@ -32,6 +32,15 @@ nodes_of ms [] os = []
 nodes_of ms (s ∷ ss) [] = []
 nodes_of ms (s ∷ ss) (o ∷ os) = node_from ms s o ∷ nodes_of ms ss os
 
+-- what is gathered is what modules bring, after the roots
+pub record AreGathered (ms : List Module) (g : Gathered) (before : List Module) : Type 0 where
+  pub ns : List Node
+  pub long : length g.sources.items ≡ length g.oids.items
+  pub nodes : nodes_of ms g.sources.items g.oids.items ≡ roots ++ ns
+  pub loads : Loads ms before ns g.warnings.items
+
+-- ---- for private functions
+
 abbrev pub sources_by : Source → Resolution → List Source
 sources_by s (R.Numbers o) = s ∷ []
 sources_by s R.Cycle = []
@@ -86,10 +95,3 @@ pub record AddsModule (ms : List Module) (old new : Gathered) (before : List Mod
   pub ws : List Warning
   pub brings : Brings ms before m ns ws
   pub adds : AddsNodes ms old new ns ws
-
--- what is gathered is what modules bring, after the roots
-pub record AreGathered (ms : List Module) (g : Gathered) (before : List Module) : Type 0 where
-  pub ns : List Node
-  pub long : length g.sources.items ≡ length g.oids.items
-  pub nodes : nodes_of ms g.sources.items g.oids.items ≡ roots ++ ns
-  pub loads : Loads ms before ns g.warnings.items

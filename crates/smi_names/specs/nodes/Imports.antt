@@ -14,12 +14,6 @@ use Rattle.smi_names.specs.declared.nodes.warning.Warning.TheVariants as W
 abbrev pub needs_no_definition : List ℕ → Bool
 needs_no_definition x = is_macro x || is_some (base_named x)
 
--- a definition or an import of the module decides, and not the list of roots
-abbrev pub is_stated : Decision → Bool
-is_stated (defined d) = true
-is_stated (imported i) = true
-is_stated (root n) = false
-
 -- the module, if it is loaded, defines or imports the name
 abbrev pub defines_or_imports : Option Module → List ℕ → Bool
 defines_or_imports None x = false
@@ -45,3 +39,11 @@ clause_warnings ms home i = clause_warnings_by (module_named ms i.source.octets)
 -- the warnings that the imports of a module give, in order of the text
 abbrev pub import_warnings : List Module → Module → List Warning
 import_warnings ms m = flat_map (clause_warnings ms m.name.octets) (import_clauses m)
+
+-- ---- for private functions
+
+-- a definition or an import of the module decides, and not the list of roots
+abbrev pub is_stated : Decision → Bool
+is_stated (defined d) = true
+is_stated (imported i) = true
+is_stated (root n) = false

@@ -34,7 +34,8 @@ pub record IsDetail (naming : Naming) (definition : Option Def) (form : NameForm
   pub whole : text ≡ name ++ codes "\n" ++ node_detail (naming.deepest o) definition
       ++ identifier_text naming o
 
--- computed, for private clauses
+-- ---- for private functions
+
 abbrev pub detail_text : Naming → Option Def → NameForm → Bool → List ℕ → List ℕ
 detail_text naming definition form numeric_index o =
     name_text naming form numeric_index o ++ codes "\n"

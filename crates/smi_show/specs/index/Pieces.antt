@@ -77,17 +77,6 @@ value_pieces part value =
     if is_text part value then as_text (extent_of part) value ∷ []
     else as_numbers (value_numbers part value)
 
--- a part whose values are never shown as texts, for private clauses
-abbrev pub is_plain : IndexPart → Bool
-is_plain (Text extent) = false
-is_plain _ = true
-
--- whether one of the values is shown as a text, for private clauses
-abbrev pub is_text_among : List IndexPart → List (List ℕ) → Bool
-is_text_among [] values = false
-is_text_among (part ∷ parts) [] = false
-is_text_among (part ∷ parts) (value ∷ values) = is_text part value || is_text_among parts values
-
 abbrev pub index_pieces : List IndexPart → List (List ℕ) → List Piece
 index_pieces [] values = []
 index_pieces (part ∷ parts) [] = []
@@ -102,3 +91,16 @@ AreInstancePieces (Some parts) numbers pieces =
     × (pieces ≡ index_pieces parts values))
     ⊎ (((values : List (List ℕ)) → ReadValues parts numbers values → ⊥)
     × (pieces ≡ as_numbers numbers))
+
+-- ---- for private functions
+
+-- a part whose values are never shown as texts
+abbrev pub is_plain : IndexPart → Bool
+is_plain (Text extent) = false
+is_plain _ = true
+
+-- whether one of the values is shown as a text
+abbrev pub is_text_among : List IndexPart → List (List ℕ) → Bool
+is_text_among [] values = false
+is_text_among (part ∷ parts) [] = false
+is_text_among (part ∷ parts) (value ∷ values) = is_text part value || is_text_among parts values

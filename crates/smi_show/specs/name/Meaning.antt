@@ -40,9 +40,6 @@ parts_meaning naming look_up so_far [] = Ok so_far
 parts_meaning naming look_up so_far (part ∷ parts) =
     and_then (part_meaning look_up so_far part) (λ o. parts_meaning naming (naming.child o) o parts)
 
-abbrev pub further_meaning : Naming → List ℕ → List (List ℕ) → Result (List ℕ) NameError
-further_meaning naming so_far parts = parts_meaning naming (naming.child so_far) so_far parts
-
 -- what parts mean in a scope whose module, if it names one, is loaded
 abbrev pub meaning_in : Naming → Scope → List (List ℕ) → Result (List ℕ) NameError
 meaning_in naming scope parts = parts_meaning naming (found_in naming scope) [] parts
@@ -71,3 +68,8 @@ meaning naming (octet ∷ []) =
     else scoped_meaning naming (octet ∷ []) (module_after None (octet ∷ []))
 meaning naming (octet ∷ next ∷ more) =
     scoped_meaning naming (octet ∷ next ∷ more) (module_after None (octet ∷ next ∷ more))
+
+-- ---- for private functions
+
+abbrev pub further_meaning : Naming → List ℕ → List (List ℕ) → Result (List ℕ) NameError
+further_meaning naming so_far parts = parts_meaning naming (naming.child so_far) so_far parts

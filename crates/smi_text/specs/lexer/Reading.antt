@@ -87,12 +87,6 @@ literal_part cs =
     if is_literal_rest is_ascii_hexdigit is_hex_letter cs then Some (lexeme K.Hex)
     else then_some (is_literal_rest is_binary_digit is_binary_letter cs) (lexeme K.Binary)
 
--- the kind of literal that these digits and this letter make, if they make one
-abbrev pub literal_of : List ℕ → ℕ → Option Part
-literal_of digits letter =
-    if list_all is_ascii_hexdigit digits && is_hex_letter letter then Some (lexeme K.Hex)
-    else then_some (list_all is_binary_digit digits && is_binary_letter letter) (lexeme K.Binary)
-
 abbrev pub hyphen_part : List ℕ → Option Part
 hyphen_part [] = None
 hyphen_part (c ∷ cs) = if is_hyphen c then then_some (is_comment_rest cs) gap else then_some
@@ -132,32 +126,6 @@ abbrev pub longest_front : ℕ → List ℕ → Option (Part × ℕ)
 longest_front zero text = None
 longest_front (suc n) text = part_or_shorter (suc n) (part_of (take (suc n) text))
     (longest_front n text)
-
--- the front of n octets passes the test, and no front with more octets does
-pub record IsLongestPassing (test : List ℕ → Bool) (text : List ℕ) (n : ℕ) : Type 0 where
-  pub within : n ≤ length text
-  pub passes : test (take n text) ≡ true
-  pub longest : (m : ℕ) → n < m → m ≤ length text → test (take m text) ≡ false
-
--- the front of n octets reads as this part, and no front with more octets reads as a part
-pub record IsPartFront (reading : List ℕ
-    → Option Part) (text : List ℕ) (part : Part) (n : ℕ) : Type 0 where
-  pub within : n ≤ length text
-  pub reads : reading (take n text) ≡ Some part
-  pub longest : (m : ℕ) → n < m → m ≤ length text → reading (take m text) ≡ None
-
--- no front reads as a lexeme; no front is a gap
-abbrev pub HasNoLexeme : (List ℕ → Option Part) → List ℕ → Type 0
-HasNoLexeme reading text = (kind : TokenKind) (m : ℕ)
-    → reading (take m text) ≡ Some (lexeme kind) → ⊥
-
-abbrev pub HasNoGap : List ℕ → Type 0
-HasNoGap text = (m : ℕ) → part_of (take m text) ≡ Some gap → ⊥
-
--- the kind and length of the lexeme that the longest front is, or None if no front is a lexeme
-abbrev pub IsLexemeFront : (List ℕ → Option Part) → List ℕ → Option (TokenKind × ℕ) → Type 0
-IsLexemeFront reading text None = HasNoLexeme reading text
-IsLexemeFront reading text (Some front) = IsPartFront reading text (lexeme front.0) front.1
 
 -- ---- the items
 
@@ -200,6 +168,40 @@ items_at zero at lines (c ∷ cs) =
     front_items at lines (c ∷ cs) (longest_front (length (c ∷ cs)) (c ∷ cs))
     (items_at (front_rest (longest_front (length (c ∷ cs)) (c ∷ cs))) (at + 1) (lines + newlines
     (c ∷ [])) cs)
+
+-- ---- for private functions
+
+-- the kind of literal that these digits and this letter make, if they make one
+abbrev pub literal_of : List ℕ → ℕ → Option Part
+literal_of digits letter =
+    if list_all is_ascii_hexdigit digits && is_hex_letter letter then Some (lexeme K.Hex)
+    else then_some (list_all is_binary_digit digits && is_binary_letter letter) (lexeme K.Binary)
+
+-- the front of n octets passes the test, and no front with more octets does
+pub record IsLongestPassing (test : List ℕ → Bool) (text : List ℕ) (n : ℕ) : Type 0 where
+  pub within : n ≤ length text
+  pub passes : test (take n text) ≡ true
+  pub longest : (m : ℕ) → n < m → m ≤ length text → test (take m text) ≡ false
+
+-- the front of n octets reads as this part, and no front with more octets reads as a part
+pub record IsPartFront (reading : List ℕ
+    → Option Part) (text : List ℕ) (part : Part) (n : ℕ) : Type 0 where
+  pub within : n ≤ length text
+  pub reads : reading (take n text) ≡ Some part
+  pub longest : (m : ℕ) → n < m → m ≤ length text → reading (take m text) ≡ None
+
+-- no front reads as a lexeme; no front is a gap
+abbrev pub HasNoLexeme : (List ℕ → Option Part) → List ℕ → Type 0
+HasNoLexeme reading text = (kind : TokenKind) (m : ℕ)
+    → reading (take m text) ≡ Some (lexeme kind) → ⊥
+
+abbrev pub HasNoGap : List ℕ → Type 0
+HasNoGap text = (m : ℕ) → part_of (take m text) ≡ Some gap → ⊥
+
+-- the kind and length of the lexeme that the longest front is, or None if no front is a lexeme
+abbrev pub IsLexemeFront : (List ℕ → Option Part) → List ℕ → Option (TokenKind × ℕ) → Type 0
+IsLexemeFront reading text None = HasNoLexeme reading text
+IsLexemeFront reading text (Some front) = IsPartFront reading text (lexeme front.0) front.1
 
 -- the first n octets, in which this many lines end, give no item
 abbrev pub Skips : List ℕ → ℕ → ℕ → Type 0

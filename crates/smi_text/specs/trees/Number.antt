@@ -60,10 +60,6 @@ bound_value K.Hex x = pos (number_value 16 (literal_digits x))
 bound_value K.Binary x = pos (number_value 2 (literal_digits x))
 bound_value _ x = signed_value x
 
--- the number, if it is no greater than this
-abbrev pub up_to : ℕ → ℕ → Option ℕ
-up_to most n = then_some (nat_le n most) n
-
 -- the value that a text states, if it is in its range: as a number of an identifier, as any other
 -- number, or as an end of a range
 abbrev pub arc_in : List ℕ → Option ℕ
@@ -86,3 +82,9 @@ is_macro x = list_any (same_text x) macros
 -- what can be imported: a name, or the name of a macro
 unfoldable pub is_symbol : TokenKind → List ℕ → Bool
 is_symbol k x = same_kind k K.Lower || (same_kind k K.Upper && (not (is_reserved x) || is_macro x))
+
+-- ---- for private functions
+
+-- the number, if it is no greater than this
+abbrev pub up_to : ℕ → ℕ → Option ℕ
+up_to most n = then_some (nat_le n most) n

@@ -43,8 +43,10 @@ pub record AreBranches (known oids : List (List ℕ)) (bs : List Branch) : Type 
 abbrev pub AreBranchesOf : List (List ℕ) → List Branch → Type 0
 AreBranchesOf oids bs = AreBranches oids oids bs
 
+-- ---- for private functions
+
 -- branch `at` leads by the number n to a branch that was there or is added, and nothing else is
--- changed, for private clauses
+-- changed
 pub data GrowsBranch (old new : List Branch) (at n : ℕ) : ℕ → Type 0 where
   there : {b : ℕ} → new ≡ old → follower old at n ≡ Some b → GrowsBranch old new at n b
   made : {b : ℕ} → b ≡ length old → length new ≡ length old + 1 → follower old at n ≡ None
@@ -54,7 +56,7 @@ pub data GrowsBranch (old new : List Branch) (at n : ℕ) : ℕ → Type 0 where
       → GrowsBranch old new at n b
 
 -- the place that stands at a branch, as the deepest one; the deepest before it, if none stands
--- there; for private clauses
+-- there
 abbrev pub deeper_of : Option ℕ → (branch depth : ℕ) → Option Deepest → Option Deepest
 deeper_of None branch depth before = before
 deeper_of (Some place) branch depth before =
@@ -68,13 +70,13 @@ SoFar oids o i (Some d) =
     × ((j : ℕ) → d.depth < j → j ≤ i → place_of oids (take j o) ≡ None)
 
 -- the first `depth` numbers of o lead to a branch, and `deepest` is the longest beginning in the
--- list among them, for private clauses
+-- list among them
 pub record IsUnderWay (oids : List (List ℕ)) (bs : List Branch) (o : List ℕ) (depth branch : ℕ)
     (deepest : Option Deepest) : Type 0 where
   pub within : depth ≤ length o
   pub here : branch_of bs (take depth o) ≡ Some branch
   pub so_far : SoFar oids o depth deepest
 
--- the branches of the beginnings of o, by how many numbers each has, for private clauses
+-- the branches of the beginnings of o, by how many numbers each has
 pub record IsWay (bs : List Branch) (o way : List ℕ) : Type 0 where
   pub each : (j : ℕ) → j ≤ length o → branch_of bs (take j o) ≡ Some (slice_index_or way j 0)

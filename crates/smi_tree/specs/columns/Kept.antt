@@ -1,5 +1,4 @@
 -- What is kept: the parts of each INDEX clause, and for each node which of them identify its row.
--- The relations here are for private clauses.
 use Rattle.std.specs.Prelude.{◌≡◌, ℕ, List, Bool, Option, Some, None, option_map, map, Vec, ⊤}
 use Rattle.std.specs.{List.slice_get, Option.option_and_then, Global.Global}
 use Rattle.smi_show.specs.declared.index.part.IndexPart.{IndexPart}
@@ -10,6 +9,28 @@ use Rattle.smi_tree.specs.{Pairwise.ArePairwise, branches.Standing.place_of}
 use Rattle.smi_tree.specs.declared.columns.rows.LastRow.{LastRow}
 use Rattle.smi_tree.specs.columns.Index.{IsIndexPart, AreParts, IsIndexed, IsColumnOf, UsesIndexOf}
 use Rattle.smi_tree.specs.columns.Index.{clause_of}
+
+-- the parts that are kept for a definition
+abbrev pub KeptParts : Type 0
+KeptParts = Option (Vec IndexPart Global)
+
+abbrev pub KeptOfModule : Type 0
+KeptOfModule = Vec KeptParts Global
+
+abbrev pub items_of : KeptParts → Option (List IndexPart)
+items_of kept = option_map (λ v. v.items) kept
+
+-- the parts that are kept for a definition of a module, each by its place
+abbrev pub parts_at : List KeptOfModule → ℕ → ℕ → Option (List IndexPart)
+parts_at kept i k =
+    option_and_then items_of (option_and_then (λ own. slice_get own.items k) (slice_get kept i))
+
+-- the index of each node, by what is kept
+abbrev pub indexes_of : List KeptOfModule → List (Option (ℕ × ℕ))
+    → List (Option (List IndexPart))
+indexes_of kept rows = map (λ at. option_and_then (λ p. parts_at kept p.0 p.1) at) rows
+
+-- ---- for private functions
 
 -- the object of a name has no part
 abbrev pub HasNoPart : List Module → Module → List ℕ → Bool → Type 0
@@ -25,16 +46,6 @@ abbrev pub IsOwn : List Module → Module → Def → Option (List IndexPart) �
 IsOwn ms m d None = (parts : List IndexPart) → IsIndexed ms m d parts → ⊥
 IsOwn ms m d (Some parts) = IsIndexed ms m d parts
 
--- the parts that are kept for a definition
-abbrev pub KeptParts : Type 0
-KeptParts = Option (Vec IndexPart Global)
-
-abbrev pub KeptOfModule : Type 0
-KeptOfModule = Vec KeptParts Global
-
-abbrev pub items_of : KeptParts → Option (List IndexPart)
-items_of kept = option_map (λ v. v.items) kept
-
 -- the parts of the own INDEX clause of each definition of a module
 abbrev pub AreOwn : List Module → Module → List (KeptParts) → Type 0
 AreOwn ms m kept = ArePairwise (λ k d own. IsOwn ms m d (items_of own)) m.defs kept
@@ -42,11 +53,6 @@ AreOwn ms m kept = ArePairwise (λ k d own. IsOwn ms m d (items_of own)) m.defs 
 -- the parts of the own INDEX clause of each definition of each module
 abbrev pub AreOwnOfAll : List Module → List KeptOfModule → Type 0
 AreOwnOfAll ms kept = ArePairwise (λ i m own. AreOwn ms m own.items) ms kept
-
--- the parts that are kept for a definition of a module, each by its place
-abbrev pub parts_at : List KeptOfModule → ℕ → ℕ → Option (List IndexPart)
-parts_at kept i k =
-    option_and_then items_of (option_and_then (λ own. slice_get own.items k) (slice_get kept i))
 
 -- the row uses the INDEX clause of this definition of this module, each by its place
 pub record UsesAt (ms : List Module) (row : Node) (i k : ℕ) : Type 0 where
@@ -90,8 +96,3 @@ AreRows ms nodes rows = ArePairwise (λ k node at. HasRowOrNone ms nodes node at
 abbrev pub IsLastRow : List (List ℕ) → Option LastRow → Type 0
 IsLastRow oids None = ⊤
 IsLastRow oids (Some row) = row.place ≡ place_of oids row.numbers.now
-
--- the index of each node, by what is kept
-abbrev pub indexes_of : List KeptOfModule → List (Option (ℕ × ℕ))
-    → List (Option (List IndexPart))
-indexes_of kept rows = map (λ at. option_and_then (λ p. parts_at kept p.0 p.1) at) rows

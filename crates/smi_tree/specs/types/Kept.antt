@@ -62,7 +62,7 @@ IsSyntax ms o facts = MatchOption facts (HasNoSyntax ms o) (λ f. HasSyntax ms o
 abbrev pub AreTypesOf : List Module → Types → Type 0
 AreTypesOf ms t = (i k : ℕ) → IsSyntax ms (object_origin ms i k) (kept_syntax ms t i k)
 
--- ---- how it is found, for private clauses
+-- ---- for private functions
 
 abbrev pub IsKept : List Module → TypeOrigin QualifiedName → Option KeptSyntax → Type 0
 IsKept ms o kept = IsSyntax ms o (option_map (facts_at ms) kept)

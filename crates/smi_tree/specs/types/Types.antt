@@ -44,14 +44,6 @@ base_in B.ObjectIdentifier = Some T.ObjectIdentifier
 base_in B.Bits = Some T.Bits
 base_in (B.Named x) = base_named x.octets
 
--- the name of the type that a type refines, if that is no base type
-abbrev pub name_in_base : Base → Option TypeBase → Option (List ℕ)
-name_in_base (B.Named x) None = Some x.octets
-name_in_base _ _ = None
-
-abbrev pub name_in : Base → Option (List ℕ)
-name_in base = name_in_base base (base_in base)
-
 -- a base type, or another type by its name in a module
 abbrev pub origin_of_base : List ℕ → Layer → Base → Option TypeBase → TypeOrigin QualifiedName
 origin_of_base home l base (Some b) = at_base l b
@@ -150,3 +142,13 @@ pub record HasSyntax (ms : List Module) (origin : TypeOrigin QualifiedName) (fac
 -- no chain of types leads from here to a base type
 abbrev pub HasNoSyntax : List Module → TypeOrigin QualifiedName → Type 0
 HasNoSyntax ms origin = (facts : Facts) → HasSyntax ms origin facts → ⊥
+
+-- ---- for private functions
+
+-- the name of the type that a type refines, if that is no base type
+abbrev pub name_in_base : Base → Option TypeBase → Option (List ℕ)
+name_in_base (B.Named x) None = Some x.octets
+name_in_base _ _ = None
+
+abbrev pub name_in : Base → Option (List ℕ)
+name_in base = name_in_base base (base_in base)

@@ -12,11 +12,6 @@ front_digits text = take_while is_ascii_digit text
 abbrev pub after_digits : List ℕ → List ℕ
 after_digits text = drop (length (front_digits text)) text
 
--- a digit at the front
-abbrev pub begins_with_digit : List ℕ → Bool
-begins_with_digit [] = false
-begins_with_digit (octet ∷ _) = is_ascii_digit octet
-
 -- one or more digits at the front have this value; leading zeros are read
 pub record StartsWithNumber (text : List ℕ) (number : ℕ) (rest : List ℕ) : Type 0 where
   pub some : front_digits text ≢ []
@@ -56,3 +51,10 @@ magnitude_text form.Binary n = digits 2 false n
 abbrev pub number_text : NumberForm → ℤ → List ℕ
 number_text form (pos n) = magnitude_text form n
 number_text form (negsuc n) = 45 ∷ magnitude_text form (suc n)
+
+-- ---- for private functions
+
+-- a digit at the front
+abbrev pub begins_with_digit : List ℕ → Bool
+begins_with_digit [] = false
+begins_with_digit (octet ∷ _) = is_ascii_digit octet

@@ -85,7 +85,7 @@ pub record ShowsOctets (hint octets text : List ℕ) : Type 0 where
   pub is_hint : IsOctetHint hint specs
   pub are_groups : AreGroups specs groups octets text
 
--- ---- computed, for private clauses
+-- ---- for private functions
 
 -- the spec has no star, and takes one octet each time
 abbrev pub is_single : Spec → Bool

@@ -59,7 +59,9 @@ pub record AreLetters (text : List ℕ) (letters : Letters) : Type 0 where
   pub b : letters.numeric_index ≡ has_letter 98 text
   pub U : letters.no_units ≡ has_letter 85 text
 
--- the options with one more letter, for private clauses
+-- ---- for private functions
+
+-- the options with one more letter
 pub record IsWith (old : Letters) (octet : ℕ) (new : Letters) : Type 0 where
   pub n_f_s_S : new.names
       ≡ (if is_one_of (codes "nfsS") octet then name_form (Some octet) else old.names)

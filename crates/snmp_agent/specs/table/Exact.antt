@@ -10,6 +10,8 @@ abbrev pub IsOnly : {X : Type 0} → (X → Type 0) → Option X → Type 0
 IsOnly {X} P None = (x : X) → P x → ⊥
 IsOnly {X} P (Some x) = P x × ((y : X) → P y → y ≡ x)
 
+-- ---- for private functions
+
 -- `IsOnly` of the value that was put in a place where one was found, and of nothing where none was
 abbrev pub IsOnlyThere : {X : Type 0} → (X → Type 0) → (found : Bool) → X → Type 0
 IsOnlyThere P true x = IsOnly P (Some x)

@@ -5,17 +5,6 @@ use Rattle.snmp_agent.specs.table.Table.{IsInstanceName}
 use Rattle.snmp_agent.specs.table.Format.{Format, EndsAtBar, IsNameIn, bar}
 use Rattle.snmp_agent.specs.table.Text.{IsBlank, IsPrefixLine, IsRowLine, IsValueText}
 
--- what a line states: nothing, an object prefix, or an instance with its value
-pub data Statement : Type 0 where
-  nothing : Statement
-  object_prefix : List ℕ → Statement
-  instance : VarBind → Statement
-
-abbrev pub States : Format → List ℕ → Statement → Type 0
-States format line nothing = IsBlank line
-States format line (object_prefix object) = IsPrefixLine format line object
-States format line (instance row) = IsRowLine format line row
-
 -- ---- forms
 
 abbrev pub IsTag : List ℕ → Type 0
@@ -60,3 +49,16 @@ IsBadValue format line =
     (name : List ℕ) × (tag : List ℕ) × (text : List ℕ) × IsRowForm format line name tag text
     × ((o : List ℕ) × IsInstanceText format name o) × ((value : Datum) → IsValueText format tag
     text value → ⊥)
+
+-- ---- for private functions
+
+-- what a line states: nothing, an object prefix, or an instance with its value
+pub data Statement : Type 0 where
+  nothing : Statement
+  object_prefix : List ℕ → Statement
+  instance : VarBind → Statement
+
+abbrev pub States : Format → List ℕ → Statement → Type 0
+States format line nothing = IsBlank line
+States format line (object_prefix object) = IsPrefixLine format line object
+States format line (instance row) = IsRowLine format line row

@@ -48,10 +48,6 @@ abbrev pub EndsAtBar : Format → (name : List ℕ) → Type 0
 EndsAtBar first_format name = All (λ octet. octet ≢ bar) name
 EndsAtBar (second_format names) name = IsClosed name × HasNoneOutside bar name
 
--- no bar ends a name
-abbrev pub HasNoEnd : Format → (line : List ℕ) → Type 0
-HasNoEnd format line = (name rest : List ℕ) → line ≡ name ++ bar ∷ rest → EndsAtBar format name → ⊥
-
 -- what a reader of names finds in a text: the name that stands before the first bar outside quotes,
 -- or is the whole text, and its length; or that there is none
 pub record IsFrontRead (names : Names) (text : List ℕ) (found : Option (List ℕ × ℕ)) : Type 0 where
@@ -59,3 +55,9 @@ pub record IsFrontRead (names : Names) (text : List ℕ) (found : Option (List �
   pub place : IsFrontOf bar text front
   pub named : IsOnly (Means names front) (option_map (λ f. f.0) found)
   pub size : IfSome found (λ f. f.1 ≡ length front)
+
+-- ---- for private functions
+
+-- no bar ends a name
+abbrev pub HasNoEnd : Format → (line : List ℕ) → Type 0
+HasNoEnd format line = (name rest : List ℕ) → line ≡ name ++ bar ∷ rest → EndsAtBar format name → ⊥

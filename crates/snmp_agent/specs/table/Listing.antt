@@ -1,5 +1,4 @@
--- The list of a view's variables, by rising names, and what a Get gives: with these private clauses
--- and proofs calculate.
+-- The list of a view's variables, by rising names, and what a Get gives.
 use Rattle.std.specs.Prelude.{ℕ, zero, suc, Bool, ◌||◌, cond, List, [], ◌∷◌, length, map, take}
 use Rattle.std.specs.Prelude.{unwrap_or}
 use Rattle.std.specs.{FinMap.entries, FinMap.get, FinSet.contains}
@@ -10,6 +9,8 @@ use Rattle.snmp_agent.specs.table.Table.{MibView}
 -- the variables by rising names
 abbrev pub variables : MibView → List VarBind
 variables view = map (λ e. record { name = e.0; value = e.1 }) (entries view.rows)
+
+-- ---- for private functions
 
 -- the first binding, else the name with endOfMibView
 abbrev pub first_or_end : List ℕ → List VarBind → VarBind

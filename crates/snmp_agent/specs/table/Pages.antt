@@ -21,13 +21,27 @@ entries_in (page ∷ pages) = entries_of page.rows.items ++ entries_in pages
 abbrev pub IsSorted : List (List ℕ × Datum) → Type 0
 IsSorted es = T (is_sorted (slice_cmp nat_cmp) es)
 
--- the names of the rows rise
-abbrev pub IsRising : List VarBind → Type 0
-IsRising rows = IsSorted (entries_of rows)
-
 -- the names of the rows rise over all pages
 abbrev pub ArePages : List Page → Type 0
 ArePages pages = IsSorted (entries_in pages)
+
+-- the entries of the map in two parts: those up to the name, and those after it
+pub record StandsApart (rows : FinMap (slice_cmp nat_cmp) Datum) (o : List ℕ) (front back : List
+    (List ℕ × Datum)) : Type 0 where
+  pub found : (q : List ℕ) → get rows q ≡ find (slice_cmp nat_cmp) q (front ++ back)
+  pub rising : IsSorted (front ++ back)
+  pub passed : IsBeforeNone o front
+  pub ahead : IsBeforeAll o back
+
+-- these are the variables of the view after the name
+abbrev pub AreBehind : MibView → List ℕ → List (List ℕ × Datum) → Type 0
+AreBehind view o back = (front : List (List ℕ × Datum)) × StandsApart view.rows o front back
+
+-- ---- for private functions
+
+-- the names of the rows rise
+abbrev pub IsRising : List VarBind → Type 0
+IsRising rows = IsSorted (entries_of rows)
 
 -- whether the row has the name or one before it
 abbrev pub is_up_to : List ℕ → VarBind → Bool
@@ -92,18 +106,6 @@ abbrev pub IsWithoutRow : List Page → ℕ → ℕ → List (List ℕ × Datum)
 IsWithoutRow pages place row es = (page : Page) → slice_get pages place ≡ Some page
     → es ≡ entries_in (take place pages) ++ (entries_of (remove_at page.rows.items row)
     ++ entries_in (drop (suc place) pages))
-
--- the entries of the map in two parts: those up to the name, and those after it
-pub record StandsApart (rows : FinMap (slice_cmp nat_cmp) Datum) (o : List ℕ) (front back : List
-    (List ℕ × Datum)) : Type 0 where
-  pub found : (q : List ℕ) → get rows q ≡ find (slice_cmp nat_cmp) q (front ++ back)
-  pub rising : IsSorted (front ++ back)
-  pub passed : IsBeforeNone o front
-  pub ahead : IsBeforeAll o back
-
--- these are the variables of the view after the name
-abbrev pub AreBehind : MibView → List ℕ → List (List ℕ × Datum) → Type 0
-AreBehind view o back = (front : List (List ℕ × Datum)) × StandsApart view.rows o front back
 
 -- of entries by rising names, those after the name
 abbrev pub entries_after : List ℕ → List (List ℕ × Datum) → List (List ℕ × Datum)

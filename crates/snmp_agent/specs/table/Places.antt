@@ -1,6 +1,4 @@
--- The order of entries, which are names of instances with their values. Clauses of public functions
--- cite `view_of`, `entry_of` and `last_name`; the others are what private functions over sorted
--- lists are proved to find.
+-- The order of entries, which are names of instances with their values.
 use Rattle.std.specs.Prelude.{◌≡◌, ℕ, true, not, List, [], ◌∷◌, ◌++◌}
 use Rattle.std.specs.{Ordering.nat_cmp, Ordering.eq_by_cmp, Cmp.Lexicographic.slice_cmp}
 use Rattle.std.specs.{FinMap.FinMap, FinMap.Entries.where_key, FinSet.from_list}
@@ -21,13 +19,6 @@ IsBeforeAll o es = AllByRecursion (λ (e : List ℕ × Datum). slice_cmp nat_cmp
 abbrev pub IsBeforeNone : List ℕ → List (List ℕ × Datum) → Type 0
 IsBeforeNone o es = AllByRecursion (λ (e : List ℕ × Datum). slice_cmp nat_cmp o e.0 ≡ Less → ⊥) es
 
--- the name comes after each of the list
-abbrev pub IsAfterAll : List ℕ → List (List ℕ × Datum) → Type 0
-IsAfterAll o es = AllByRecursion (λ (e : List ℕ × Datum). slice_cmp nat_cmp o e.0 ≡ Greater) es
-
-abbrev pub var_of : List ℕ × Datum → VarBind
-var_of e = record { name = e.0; value = e.1 }
-
 abbrev pub entry_of : VarBind → List ℕ × Datum
 entry_of p = (p.name, p.value)
 
@@ -35,6 +26,15 @@ entry_of p = (p.name, p.value)
 abbrev pub last_name : List ℕ → List (List ℕ × Datum) → List ℕ
 last_name o [] = o
 last_name o (e ∷ es) = last_name e.0 es
+
+-- ---- for private functions
+
+-- the name comes after each of the list
+abbrev pub IsAfterAll : List ℕ → List (List ℕ × Datum) → Type 0
+IsAfterAll o es = AllByRecursion (λ (e : List ℕ × Datum). slice_cmp nat_cmp o e.0 ≡ Greater) es
+
+abbrev pub var_of : List ℕ × Datum → VarBind
+var_of e = record { name = e.0; value = e.1 }
 
 -- the name equals one of the object prefixes or begins with it
 abbrev pub HasBeginning : List (List ℕ) → List ℕ → Type 0

@@ -20,12 +20,6 @@ StopsAtName mib style before name after why =
     ⊎ ((why ≡ no_output)
     × ((text : List ℕ) × IsTextOf mib style name text × FailsWithin before text after)))
 
--- the name is printed, for private clauses
-abbrev pub IsNamePrinted : DetailMib → Style → (before : Stream) → (name : List ℕ)
-    → (after : Stream) → Type 0
-IsNamePrinted mib style before name after =
-    (text : List ℕ) × IsTextOf mib style name text × (after ≡ extended before text)
-
 -- the names up to this one were printed, and there it stopped
 pub record StopsWithin (mib : DetailMib) (style : Style) (names : List (List ℕ))
     (before after : Stream) (why : Fault) : Type 0 where
@@ -61,3 +55,11 @@ pub data IsTranslateOutcome (Loads : LoadFacts) (words : TranslateWords) (files 
       → Loads words.mibs err_before err_after
       → IsPrinting (detail_mib_of tree) style words.names before after fault
       → IsTranslateOutcome Loads words files before after err_before err_after fault
+
+-- ---- for private functions
+
+-- the name is printed
+abbrev pub IsNamePrinted : DetailMib → Style → (before : Stream) → (name : List ℕ)
+    → (after : Stream) → Type 0
+IsNamePrinted mib style before name after =
+    (text : List ℕ) × IsTextOf mib style name text × (after ≡ extended before text)

@@ -28,12 +28,6 @@ octets count n = digits 256 count n
 unfoldable pub number_size : ℕ → ℕ
 number_size n = digit_count 256 128 8 n
 
--- a whole number, or for one below zero its complement: two's complement takes as many octets for
--- either
-abbrev pub magnitude_of : ℤ → ℕ
-magnitude_of (pos n) = n
-magnitude_of (negsuc n) = n
-
 -- a whole number in the fewest octets of two's complement (X.690, 8.3)
 unfoldable pub canon_number : ℤ → List ℕ
 canon_number (pos n) = octets (number_size n) n
@@ -59,26 +53,6 @@ septets count n = map (λ digit. 128 + digit) (digits 128 count n)
 -- a subidentifier in the fewest octets (X.690, 8.19.2)
 unfoldable pub canon_subidentifier : ℕ → List ℕ
 canon_subidentifier n = septets (subidentifier_size n - 1) (n / 128) ++ (n % 128) ∷ []
-
--- The eight numbers from a place on have one octet each. Private functions and proofs alone cite
--- this, and no public clause does: it is a step of a loop.
-pub record AreShort (numbers : List ℕ) (from : ℕ) : Type 0 where
-  pub first : get_or numbers from 0 < 128
-  pub second : get_or numbers (from + 1) 0 < 128
-  pub third : get_or numbers (from + 2) 0 < 128
-  pub fourth : get_or numbers (from + 3) 0 < 128
-  pub fifth : get_or numbers (from + 4) 0 < 128
-  pub sixth : get_or numbers (from + 5) 0 < 128
-  pub seventh : get_or numbers (from + 6) 0 < 128
-  pub eighth : get_or numbers (from + 7) 0 < 128
-
--- The eight numbers from a place on, for private functions and proofs alone.
-abbrev pub eight_from : List ℕ → ℕ → List ℕ
-eight_from numbers from =
-    get_or numbers from 0 ∷ get_or numbers (from + 1) 0
-    ∷ get_or numbers (from + 2) 0 ∷ get_or numbers (from + 3) 0
-    ∷ get_or numbers (from + 4) 0 ∷ get_or numbers (from + 5) 0
-    ∷ get_or numbers (from + 6) 0 ∷ get_or numbers (from + 7) 0 ∷ []
 
 -- the tag and the length before a content of `size` octets
 unfoldable pub canon_header : ℕ → ℕ → List ℕ
@@ -111,3 +85,30 @@ IsEncodableValue (octet_string text) = length text ≤ 65535
 IsEncodableValue (object_id name) = IsWire name
 IsEncodableValue (opaque_octets text) = length text ≤ 65535
 IsEncodableValue value = Unit {0}
+
+-- ---- for private functions
+
+-- a whole number, or for one below zero its complement: two's complement takes as many octets for
+-- either
+abbrev pub magnitude_of : ℤ → ℕ
+magnitude_of (pos n) = n
+magnitude_of (negsuc n) = n
+
+-- The eight numbers from a place on have one octet each.
+pub record AreShort (numbers : List ℕ) (from : ℕ) : Type 0 where
+  pub first : get_or numbers from 0 < 128
+  pub second : get_or numbers (from + 1) 0 < 128
+  pub third : get_or numbers (from + 2) 0 < 128
+  pub fourth : get_or numbers (from + 3) 0 < 128
+  pub fifth : get_or numbers (from + 4) 0 < 128
+  pub sixth : get_or numbers (from + 5) 0 < 128
+  pub seventh : get_or numbers (from + 6) 0 < 128
+  pub eighth : get_or numbers (from + 7) 0 < 128
+
+-- The eight numbers from a place on.
+abbrev pub eight_from : List ℕ → ℕ → List ℕ
+eight_from numbers from =
+    get_or numbers from 0 ∷ get_or numbers (from + 1) 0
+    ∷ get_or numbers (from + 2) 0 ∷ get_or numbers (from + 3) 0
+    ∷ get_or numbers (from + 4) 0 ∷ get_or numbers (from + 5) 0
+    ∷ get_or numbers (from + 6) 0 ∷ get_or numbers (from + 7) 0 ∷ []

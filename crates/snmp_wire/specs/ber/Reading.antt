@@ -17,24 +17,10 @@ abbrev pub ◌>>=◌ : {A B : Type 0} → Result A BerError → (A → Result B 
 (Ok x) >>= f = f x
 (Err e) >>= f = Err e
 
--- What a function returned, seen by view, is what reading gives.
-abbrev pub AgreesBy : {X Y : Type 0} → (X → Y) → Result X BerError → Result Y BerError → Type 0
-AgreesBy view (Ok x) read = read ≡ Ok (view x)
-AgreesBy view (Err e) read = read ≡ Err e
-
--- whether something was read, and not what
-abbrev pub checked : {A : Type 0} → Result A BerError → Result (Unit {0}) BerError
-checked read = read >>= λ _. Ok tt
-
 -- the fault of a reading, or another where it has none
 abbrev pub fault_or : {A : Type 0} → Result A BerError → BerError → BerError
 fault_or (Ok x) e = e
 fault_or (Err d) e = d
-
--- whether content is allowed
-abbrev pub allowed : Bool → Result (Unit {0}) BerError
-allowed true = Ok tt
-allowed false = Err error.Content
 
 -- ---- lengths and elements; `cut` is the fault where the octets end too early
 
@@ -76,16 +62,6 @@ integer_of content =
     if nat_lt 0 (length content) && nat_lt (length content) 5
     then Ok (twos_complement content)
     else Err error.Content
-
-unfoldable pub integer_at : List ℕ → Result (ℤ × List ℕ) BerError
-integer_at octets = do
-  element ← inner_at 0x02 octets
-  z ← integer_of element.0
-  Ok (z, element.1)
-
--- the octet that two's complement may have in front of this one
-abbrev pub sign_of : ℕ → ℕ
-sign_of octet = if nat_lt octet 128 then 0 else 255
 
 abbrev pub has_width : ℕ → List ℕ → Bool
 has_width width [] = false
@@ -130,16 +106,6 @@ numbers_of (suc room) (octet ∷ rest) = do
   more ← numbers_of room n.1
   Ok (n.0 ∷ more)
 
--- the numbers that the octets are, where they are 126 at most
-abbrev pub numbers_in : List ℕ → List ℕ
-numbers_in octets = result_unwrap_or (numbers_of 126 octets) []
-
--- The octets begin with `count` numbers that have an octet each. Private functions and proofs alone
--- cite this, and no public clause does: it is a step of a loop.
-abbrev pub IsPlainFront : ℕ → List ℕ → List ℕ → List ℕ → Type 0
-IsPlainFront count numbers rest octets =
-    (octets ≡ numbers ++ rest) × (length numbers ≡ count) × All (λ n. n < 128) numbers
-
 abbrev pub first_number : ℕ → ℕ
 first_number n = if nat_lt n 80 then n / 40 else 2
 
@@ -176,3 +142,38 @@ typed_value tag content =
     else (if tag == 0x81 then empty_of no_such_instance content
     else (if tag == 0x82 then empty_of end_of_mib_view content
     else Err error.Tag))))))))))))
+
+-- ---- for private functions
+
+-- What a function returned, seen by view, is what reading gives.
+abbrev pub AgreesBy : {X Y : Type 0} → (X → Y) → Result X BerError → Result Y BerError → Type 0
+AgreesBy view (Ok x) read = read ≡ Ok (view x)
+AgreesBy view (Err e) read = read ≡ Err e
+
+-- whether something was read, and not what
+abbrev pub checked : {A : Type 0} → Result A BerError → Result (Unit {0}) BerError
+checked read = read >>= λ _. Ok tt
+
+-- whether content is allowed
+abbrev pub allowed : Bool → Result (Unit {0}) BerError
+allowed true = Ok tt
+allowed false = Err error.Content
+
+unfoldable pub integer_at : List ℕ → Result (ℤ × List ℕ) BerError
+integer_at octets = do
+  element ← inner_at 0x02 octets
+  z ← integer_of element.0
+  Ok (z, element.1)
+
+-- the octet that two's complement may have in front of this one
+abbrev pub sign_of : ℕ → ℕ
+sign_of octet = if nat_lt octet 128 then 0 else 255
+
+-- the numbers that the octets are, where they are 126 at most
+abbrev pub numbers_in : List ℕ → List ℕ
+numbers_in octets = result_unwrap_or (numbers_of 126 octets) []
+
+-- The octets begin with `count` numbers that have an octet each.
+abbrev pub IsPlainFront : ℕ → List ℕ → List ℕ → List ℕ → Type 0
+IsPlainFront count numbers rest octets =
+    (octets ≡ numbers ++ rest) × (length numbers ≡ count) × All (λ n. n < 128) numbers
