@@ -1,7 +1,6 @@
 pub mod ServerTurns
 pub mod Splitting
 pub mod Standing
-pub mod Answers
 pub mod Encodings
 pub mod OneReply
 pub mod ShortestReply

@@ -8,10 +8,34 @@ use Rattle.snmp_agent.specs.{table.Table.MibView, table.Table.IsGet, table.Table
 use Rattle.snmp_agent.specs.declared.config.Why.TheVariants as why
 use Rattle.snmp_agent.specs.Reply.{Agent, response, AreAnswers, no_error, IsWhole, Fits, or_zero}
 use Rattle.snmp_agent.specs.Reply.{AreRounds, IsBulk, IsLongestFront, IsResponse, whole, shortened, bulk, IsReply, IsDropped}
-use Rattle.snmp_agent.proofs.{Answers.HasGets, Answers.HasNexts, Answers.HasNextsAfter, Answers.same_answers, Lists.same_front}
+use Rattle.snmp_agent.specs.table.Exact.{HasOne}
+use Rattle.snmp_agent.proofs.Lists.{same_front}
 
 abbrev OneSpelling : Type 0
 OneSpelling = (m n : Message) (b c rest more : List ℕ) → Spells m b → Spells n c → b ++ rest ≡ c ++ more → (m ≡ n) × (b ≡ c)
+
+-- ---- answers
+
+-- the laws of a table: of each name it has one answer
+abbrev pub HasGets : Type 0
+HasGets = (view : MibView) (o : List ℕ) → HasOne (IsGet view o)
+
+abbrev pub HasNexts : Type 0
+HasNexts = (view : MibView) (o : List ℕ) → HasOne (IsNext view o)
+
+abbrev pub HasNextsAfter : Type 0
+HasNextsAfter = (view : MibView) (rounds : ℕ) (o : List ℕ) → HasOne (IsNextAfter view rounds o)
+
+pub same_answers : (R : VarBind → VarBind → Type 0) → ((asked : VarBind) → HasOne (R asked)) → (asked given other : List VarBind)
+    → AreAnswers R asked given → AreAnswers R asked other → given ≡ other
+same_answers R one [] [] [] h k = refl
+same_answers R one (a ∷ more) (p ∷ ps) (q ∷ qs) h k =
+    let first : p ≡ q = (one a).2 p h.0 ∙ sym ((one a).2 q k.0) in
+    let rest : ps ≡ qs = same_answers R one more ps qs h.1 k.1 in
+    λ i. first i ∷ rest i
+same_answers R one [] [] _ h k = absurd k
+same_answers R one (a ∷ more) (p ∷ ps) [] h k = absurd k
+same_answers R one _ _ other h k = absurd h
 
 -- ---- fronts
 

@@ -9,7 +9,7 @@ use Rattle.std.proofs.lemmas.List.Elements.{Contains-append_left, Contains-appen
 use Rattle.std.proofs.lemmas.Option.{get_or_from_slice_get, slice_get_read, slice_get_within}
 use Rattle.std.proofs.lemmas.List.{append-nil, drop-set-lt, drop_all, length-take-le, length_push, take_at, take_more_set}
 use Rattle.snmp_wire.specs.Message.{Datum, VarBind}
-use Rattle.snmp_agent.specs.{declared.table.page.Page.Page, private.table.Halving.StandsBetween}
+use Rattle.snmp_agent.specs.{declared.table.page.Page.Page, declared.table.page.TheConstants.PAGE_ROWS, private.table.Halving.StandsBetween}
 use Rattle.snmp_agent.specs.table.Places.{IsAfterAll, IsBeforeAll, IsBeforeNone, without_name, entry_of}
 use Rattle.snmp_agent.specs.table.Pages.{ArePages, IsPageOf, IsPageWithRoom, IsPlaceAfter, IsRising, IsSorted, StandsApart, begins_up_to, entries_in}
 use Rattle.snmp_agent.specs.table.Pages.{entries_of, has_name}
@@ -107,7 +107,7 @@ seam_at [] ys y = refl
 seam_at (x ∷ xs) ys y = seam_at xs ys y
 
 page_between : (o : List ℕ) (xs ys : List Page) (page : Page) (place : ℕ) → length xs ≡ place → IsAfterAll o (entries_in xs) → IsBeforeAll o (entries_in ys)
-    → length page.rows.items < 128 → IsPageWithRoom o (xs ++ page ∷ ys) place
+    → length page.rows.items < PAGE_ROWS → IsPageWithRoom o (xs ++ page ∷ ys) place
 page_between o xs ys page place there passed ahead room = subst (λ (k : ℕ). IsPageWithRoom o (xs ++ page ∷ ys) k) there record {
   page_of = record {
     bound = omega (arith, length-append xs (page ∷ ys));
@@ -151,7 +151,7 @@ module _ (pages : List Page) (place : ℕ) (found first second : Page) (low : pl
     pub room_before : begins_up_to o second.rows.items ≡ false → IsPageWithRoom o (divided pages place first second) place
     room_before begins =
         let ahead = rows_ahead o second.rows.items (back pages place) (rising_rest (entries_of first.rows.items) _ rising_halves) begins in
-        let room : length first.rows.items < 128 = omega (arith, found.most, second.some, ap length same, length-append first.rows.items second.rows.items) in
+        let room : length first.rows.items < PAGE_ROWS = omega (arith, found.most, second.some, ap length same, length-append first.rows.items second.rows.items) in
         rw as_list (page_between o (take place pages) (second ∷ drop (suc place) pages) first place long h.passed ahead room)
 
     pub room_behind : begins_up_to o second.rows.items ≡ true → IsPageWithRoom o (divided pages place first second) (place + 1)
@@ -160,7 +160,7 @@ module _ (pages : List Page) (place : ℕ) (found first second : Page) (low : pl
         let behind = rows_passed o (entries_of first.rows.items) second.rows.items (back pages place) second.some rising_halves begins in
         let passed : IsAfterAll o (entries_in early) = subst (IsAfterAll o) (sym (pages-append (take place pages) (first ∷ [])))
         (all_both _ (front pages place) _ h.passed (all_both _ (entries_of first.rows.items) [] behind tt)) in
-        let room : length second.rows.items < 128 = omega (arith, found.most, first.some, ap length same, length-append first.rows.items second.rows.items) in
+        let room : length second.rows.items < PAGE_ROWS = omega (arith, found.most, first.some, ap length same, length-append first.rows.items second.rows.items) in
         rw (as_list, ← append_assoc (take place pages) (first ∷ []) (second ∷ drop (suc place) pages))
         (page_between o early (drop (suc place) pages) second (place + 1) (length_push (take place pages) first ∙ ap (λ k. k + 1) long) passed h.ahead room)
 
@@ -259,8 +259,8 @@ module _ (o : List ℕ) (pages : List Page) (place : ℕ) (w : IsPageWithRoom o 
   pub rising_found : ArePages pages → IsRising found.rows.items
   rising_found rising = subst (λ (p : Page). IsRising p.rows.items) (sym is_page) (page_rising pages place w.page w.at rising)
 
-  pub room_found : length found.rows.items < 128
-  room_found = subst (λ (p : Page). length p.rows.items < 128) (sym is_page) w.room
+  pub room_found : length found.rows.items < PAGE_ROWS
+  room_found = subst (λ (p : Page). length p.rows.items < PAGE_ROWS) (sym is_page) w.room
 
   pub put_found : (v : Datum) (new : Page) → entries_of new.rows.items ≡ put (slice_cmp nat_cmp) o v (entries_of found.rows.items)
       → entries_in (slice_set pages place new) ≡ put (slice_cmp nat_cmp) o v (entries_in pages)

@@ -7,9 +7,9 @@ ghost use Rattle.snmp_agent.specs.Reply.{IsServed, response, failed_place};
 ghost use Rattle.snmp_agent.specs.private.Answering.{AreWritable, IsAnswered, IsWritten};
 ghost use Rattle.snmp_agent.specs.private.Answering.{whole_index, whole_status};
 
-use crate::bulk::append_bulk;
+use crate::answers::append_answers;
+use crate::bulk::{append_bulk, room_for_bindings};
 use crate::config::{Config, Outcome, Why};
-use crate::draft::{append_answers, room_for_bindings};
 use crate::room::ReplyBindings;
 use crate::table::{Guesses, Hint, Last, Table};
 use snmp_oid::order;

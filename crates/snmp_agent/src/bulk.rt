@@ -2,21 +2,39 @@
 //!
 //! They are written to the front of the output, as those of other replies are, and end before the
 //! first for which there is no room.
-ghost use Rattle.std.specs.Prelude.{◌≡◌, ◌≢◌, ◌⊎◌, [], ◌∷◌, ◌++◌, true, false, take, drop, map};
-ghost use Rattle.std.specs.List.{list_all};
+ghost use Rattle.std.specs.Prelude.{◌≡◌, ◌≢◌, ◌⊎◌, ◌≤◌, [], ◌∷◌, ◌++◌, true, false, take, drop};
+ghost use Rattle.std.specs.{Prelude.map, Prelude.length, List.list_all};
+ghost use Rattle.snmp_wire.specs.Parts.{parts_message};
 ghost use Rattle.snmp_agent.specs.Reply.{joined, or_zero};
-ghost use Rattle.snmp_agent.specs.private.Answering.{bulk_of, fill, held, rounds_from};
+ghost use Rattle.snmp_agent.specs.private.Answering.{IsRoom, bulk_of, fill, held, rounds_from};
 ghost use Rattle.snmp_agent.specs.private.Standing.{given_in, is_over, next_at, passed, places_of};
 
-use crate::draft::append_next;
+use crate::answers::append_next;
 use crate::place::Place;
 use crate::room::ReplyBindings;
 use crate::table::{Guesses, Table};
 use arrayvec::ArrayVec;
-use snmp_wire::{BindingRef, Bindings, MAX_DATAGRAM, MessageRef};
+use snmp_wire::{BindingRef, Bindings, MAX_DATAGRAM, MessageRef, Parts, head_size, message_sizes};
 
 /// The most names that keep their places from one round to the next.
 const MAX_PLACES: usize = 64;
+
+/// The most octets that the bindings of a message of these parts may take if it is to have at most
+/// `max_size`, or 0 where it has more even without bindings.
+pub fn room_for_bindings(parts: &Parts<'_>, max_size: usize) -> usize
+    requires community { length parts.now.community.now ≤ 255 }
+    requires datagram { max_size ≤ 65507 }
+    ensures { IsRoom (parts_message parts.now) max_size result }
+{
+    message_sizes();
+    // No head is longer than this one, so the search begins at the room or below it.
+    let longest = head_size(parts, max_size as u64) as usize;
+    let mut room = max_size.saturating_sub(longest);
+    'octets: while head_size(parts, room as u64 + 1) as usize + room < max_size {
+        room += 1;
+    }
+    room
+}
 
 /// Appends the bindings of the reply to a GetBulk, as many as fit.
 pub fn append_bulk<'a>(

@@ -24,9 +24,9 @@
 #![tactic(auto)]
 
 mod agent;
+mod answers;
 mod bulk;
 mod config;
-mod draft;
 mod endpoint;
 mod laws;
 mod place;

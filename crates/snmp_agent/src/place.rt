@@ -5,9 +5,9 @@ ghost use Rattle.snmp_wire.specs.Message.{end_of_mib_view};
 ghost use Rattle.snmp_agent.specs.private.Answering.{add, held};
 ghost use Rattle.snmp_agent.specs.private.Standing.{name_of};
 
-use crate::room::{ReplyBindings, blank};
+use crate::room::ReplyBindings;
 use crate::table::{Guesses, Successors, Table};
-use snmp_wire::{EncodedBinding, EncodedName, MAX_DATAGRAM, Oid, ValueRef};
+use snmp_wire::{Binding, EncodedBinding, EncodedName, MAX_DATAGRAM, Oid, ValueRef};
 use std::marker::Model;
 
 /// What a repeating name of a GetBulk was given in the round before.
@@ -162,7 +162,7 @@ pub fn append_end(
     ensures { held result out.new ≡ add (held reply out.old)
         (record { name = name_of given.now; value = end_of_mib_view }) }
 {
-    let mut binding = blank();
+    let mut binding = Binding::empty();
     given.read_name(&mut binding.name);
     binding.value = ValueRef::EndOfMibView;
     reply.append(out, &binding)

@@ -1,10 +1,7 @@
 //! The bindings of a reply while they are written, and the room that is left for more.
-ghost use Rattle.std.specs.Prelude.{◌≡◌, ◌+◌, ◌≤◌, []};
-ghost use Rattle.snmp_wire.specs.Message.{var_bind, null_value};
+ghost use Rattle.std.specs.Prelude.{◌+◌, ◌≤◌};
 
-use snmp_wire::{
-    Binding, EncodedBinding, MAX_DATAGRAM, Oid, ValueRef, element_sizes, encode_binding,
-};
+use snmp_wire::{Binding, EncodedBinding, MAX_DATAGRAM, ValueRef, element_sizes, encode_binding};
 
 /// The bindings of a reply that is being written, in the front of an output. After a binding for
 /// which there is no room, there is none for any other.
@@ -106,16 +103,5 @@ impl ReplyBindings {
             ValueRef::Octets(text) | ValueRef::Opaque(text) => text.len() <= 65535,
             _ => true,
         }
-    }
-}
-
-/// A binding for others to be read into.
-#[inline]
-pub fn blank<'a>() -> Binding<'a>
-    ensures { var_bind result ≡ record { name = []; value = null_value } }
-{
-    Binding {
-        name: Oid::new(),
-        value: ValueRef::Null,
     }
 }

@@ -1,4 +1,4 @@
--- What a line states, by its form, and what is wrong with a line by itself.
+-- The forms of a line, and what is wrong with a line by itself.
 use Rattle.std.specs.Prelude.{◌≡◌, ◌≢◌, ◌⊎◌, List, [], ◌∷◌, ◌++◌, ℕ, codes, All, Contains}
 use Rattle.snmp_wire.specs.Message.{Datum, VarBind}
 use Rattle.snmp_agent.specs.table.Table.{IsInstanceName}

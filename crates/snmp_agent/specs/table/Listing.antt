@@ -1,4 +1,4 @@
--- The list of a view's variables, by rising names, and what a Get gives.
+-- The list of a view's variables, by rising names.
 use Rattle.std.specs.Prelude.{ℕ, zero, suc, Bool, ◌||◌, cond, List, [], ◌∷◌, length, map, take}
 use Rattle.std.specs.Prelude.{unwrap_or}
 use Rattle.std.specs.{FinMap.entries, FinMap.get, FinSet.contains}

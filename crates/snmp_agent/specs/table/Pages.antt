@@ -1,5 +1,4 @@
--- How a table keeps its rows: in pages, by rising names over all of them. Of these definitions,
--- clauses of public functions cite `AreBehind` alone.
+-- How a table keeps its rows: in pages, by rising names over all of them.
 use Rattle.std.specs.Prelude.{◌≡◌, ℕ, suc, Some, ◌≤◌, ◌<◌, T, Bool, true, is_some, List, [], ◌∷◌}
 use Rattle.std.specs.Prelude.{◌++◌, map, length, take, drop, cond}
 use Rattle.std.specs.{Ordering.nat_cmp, Ordering.is_le, Cmp.Lexicographic.slice_cmp}
@@ -7,6 +6,7 @@ use Rattle.std.specs.List.{slice_get, remove as remove_at}
 use Rattle.std.specs.FinMap.{FinMap, find, get, is_sorted}
 use Rattle.snmp_wire.specs.Message.{Datum, VarBind}
 use Rattle.snmp_agent.specs.{declared.table.page.Page.Page, table.Table.MibView}
+use Rattle.snmp_agent.specs.declared.table.page.TheConstants.{PAGE_ROWS}
 use Rattle.snmp_agent.specs.table.Places.{IsBeforeAll, IsBeforeNone, IsAfterAll, entry_of}
 
 -- the rows as entries
@@ -94,7 +94,7 @@ pub record IsPageWithRoom (o : List ℕ) (pages : List Page) (place : ℕ) : Typ
   pub page_of : IsPageOf o pages place
   pub page : Page
   pub at : slice_get pages place ≡ Some page
-  pub room : length page.rows.items < 128
+  pub room : length page.rows.items < PAGE_ROWS
 
 -- the page at this place has a row at that one
 abbrev pub IsRowIn : List Page → ℕ → ℕ → Type 0

@@ -64,8 +64,8 @@ HasObject view o = (object : List ℕ) × (rest : List ℕ) × (contains view.ob
     × (o ≡ object ++ rest)
 
 -- what a Get of the name o gives (RFC 3416, section 4.2.1): the variable of that name; else
--- noSuchObject where no object of the view has that name's beginning, and noSuchInstance where one
--- has
+-- noSuchInstance where an object prefix of the view equals the name or begins it, and else
+-- noSuchObject
 pub data IsGet (view : MibView) (o : List ℕ) (p : VarBind) : Type 0 where
   variable : p.name ≡ o → IsRow view p → IsGet view o p
   unknown_object : get view.rows o ≡ None → (HasObject view o → ⊥)

@@ -77,7 +77,7 @@ pub record IsRowLine (format : Format) (line : List ℕ) (row : VarBind) : Type 
   pub instance_name : IsInstanceName row.name
   pub valued : IsValueText format tag text row.value
 
--- a line of one of the four forms
+-- a blank line, or that of an object prefix or of a row
 pub data IsGoodLine (format : Format) (line : List ℕ) : Type 0 where
   a_blank : IsBlank line → IsGoodLine format line
   a_prefix : (object : List ℕ) → IsPrefixLine format line object → IsGoodLine format line

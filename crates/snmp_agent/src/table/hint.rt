@@ -1,10 +1,14 @@
 //! Where names stood among the rows of a table, as guesses for later requests.
 
+use crate::table::page::PAGE_ROWS;
 use snmp_wire::EncodedName;
 use std::fmt;
 
 /// How many pairs of names a hint keeps: one for each value of the high nine bits of a hash.
 const PAIRS: usize = 512;
+
+// A count of a page's rows fits in the 8 bits that are kept of it.
+const _: () = prove!(PAGE_ROWS < 256);
 
 /// Where names stood that an agent was asked for, as guesses for later requests: these mostly ask
 /// from the row that was given last, or for the same names again.

@@ -1,6 +1,7 @@
 //! One page of a table's rows.
 ghost use Rattle.std.specs.Prelude.{◌≡◌, ◌≤◌, length, IfOk, IfErr};
 ghost use Rattle.std.specs.List.{insert};
+ghost use Rattle.snmp_agent.specs.declared.table.page.TheConstants.{PAGE_ROWS};
 
 use crate::table::search::{Placed, find_row};
 use snmp_wire::{EncodedBinding, EncodedName};
@@ -21,7 +22,7 @@ pub struct Page {
     /// The rows, of which there is one at least.
     pub rows: Vec<EncodedBinding>,
     ghost some: { 1 ≤ length rows.items },
-    ghost most: { length rows.items ≤ 128 },
+    ghost most: { length rows.items ≤ PAGE_ROWS },
 }
 
 impl Page {
@@ -45,7 +46,7 @@ impl Page {
 
     /// Appends a row.
     pub fn push(&mut self, row: EncodedBinding) -> Result<(), AllocError>
-        requires { length self.old.rows.items < 128 }
+        requires { length self.old.rows.items < PAGE_ROWS }
         ensures pushed { IfOk result (λ _. self.new.rows.items ≡ self.old.rows.items ++ row ∷ []) }
         ensures unchanged_on_error { IfErr result (λ _. self.new.rows.items
             ≡ self.old.rows.items) }
@@ -60,7 +61,7 @@ impl Page {
     /// returns whether there was one.
     pub fn put(&mut self, row: EncodedBinding) -> Result<bool, AllocError>
         requires rising { IsRising self.old.rows.items }
-        requires room { length self.old.rows.items < 128 }
+        requires room { length self.old.rows.items < PAGE_ROWS }
         ensures put { IfOk result (λ _. entries_of self.new.rows.items
             ≡ put (slice_cmp nat_cmp) row.name row.value (entries_of self.old.rows.items)) }
         ensures replaced { IfOk result (λ replaced. replaced

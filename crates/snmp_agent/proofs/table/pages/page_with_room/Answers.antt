@@ -1,5 +1,5 @@
 use Rattle.std.proofs.{Common.◌<◌, Common.List, Common.length, Common.subst, Common.refl, Common.rules, lemmas.Option.slice_get_read}
-use Rattle.snmp_agent.specs.{declared.table.page.Page.Page, table.Pages.IsPageOf}
+use Rattle.snmp_agent.specs.{declared.table.page.Page.Page, declared.table.page.TheConstants.PAGE_ROWS, table.Pages.IsPageOf}
 use Rattle.snmp_agent.proofs.table.pages.page_with_room.Goals as goal
 
 pub returns-then-len-lt-PAGE_ROWS-clause-place : goal.returns-then-len-lt-PAGE_ROWS-clause-place
@@ -9,7 +9,7 @@ returns-then-len-lt-PAGE_ROWS-clause-place c =
     let found = c.index.result.now in
     let here : IsPageOf c.args.name.now pages place = subst (λ (ps : List Page). IsPageOf c.args.name.now ps place) c.as_slice.ensures.value
     c.page_of-place.ensures in
-    let room : length found.rows.items < 128 = search rules in
+    let room : length found.rows.items < PAGE_ROWS = search rules in
     record {
       page_of = here;
       page = found;

@@ -1,6 +1,6 @@
 use Rattle.std.proofs.Common.{◌≡◌, length}
 use Rattle.snmp_agent.specs.private.Answering.{AreWritable, answers_to, fill, held}
-use Rattle.snmp_agent.proofs.draft.append_answers.Given as goal
+use Rattle.snmp_agent.proofs.answers.append_answers.Given as goal
 
 -- what is still to be answered, added now, is all, added at the beginning
 abbrev pub invariant-bindings : goal.invariant-bindings

@@ -2,7 +2,7 @@ use Rattle.std.proofs.Common.{◌∙◌, [], ◌∷◌, List, ℕ, ap, subst}
 use Rattle.snmp_wire.specs.Message.Datum.{end_of_mib_view}
 use Rattle.snmp_agent.specs.{private.Answering.add, private.Answering.held, table.Pages.AreBehind, table.Places.entry_of, table.Table.MibView}
 use Rattle.snmp_agent.proofs.Standing.{first_there}
-use Rattle.snmp_agent.proofs.draft.append_next.Goals as goal
+use Rattle.snmp_agent.proofs.answers.append_next.Goals as goal
 
 pub returns-in-Some : goal.returns-in-Some
 returns-in-Some c =

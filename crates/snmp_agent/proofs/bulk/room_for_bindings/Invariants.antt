@@ -1,7 +1,7 @@
 use Rattle.std.proofs.Common.{◌≢◌, ◌≤◌, ◌-◌}
 use Rattle.snmp_wire.specs.Parts.{parts_message}
 use Rattle.snmp_agent.specs.private.Answering.{whole_size}
-use Rattle.snmp_agent.proofs.draft.room_for_bindings.Given as goal
+use Rattle.snmp_agent.proofs.bulk.room_for_bindings.Given as goal
 
 -- the message with so many octets keeps to the limit
 abbrev pub invariant-octets : goal.invariant-octets

@@ -3,17 +3,16 @@
 //! They are written to the front of the output, one after the other. Once all are there, they are
 //! moved to make room for the head.
 ghost use Rattle.std.specs.{Prelude.◌≡◌, Prelude.◌≤◌, Prelude.length, FinMap.get};
-ghost use Rattle.snmp_wire.specs.Parts.{parts_message};
-ghost use Rattle.snmp_agent.specs.private.Answering.{AreWritable, IsRoom, IsWritable, add};
+ghost use Rattle.snmp_agent.specs.private.Answering.{AreWritable, IsWritable, add};
 ghost use Rattle.snmp_agent.specs.private.Answering.{answer_to, answers_to, fill, held};
 ghost use Rattle.snmp_agent.specs.private.Standing.{next_at, place_of};
 ghost use Rattle.snmp_agent.specs.table.Listing.{got_at};
 
 use crate::place::{Given, append_end};
-use crate::room::{ReplyBindings, blank};
+use crate::room::ReplyBindings;
 use crate::table::{Guesses, Table};
 use snmp_oid::order;
-use snmp_wire::{BindingRef, Bindings, Kind, MAX_DATAGRAM, Parts, head_size, message_sizes};
+use snmp_wire::{Binding, BindingRef, Bindings, Kind, MAX_DATAGRAM};
 
 /// Appends the bindings of the reply to a request, until there is no room.
 pub fn append_answers<'a>(
@@ -88,7 +87,7 @@ fn append_exception(
     requires { get table.now.rows asked.now.name ≡ None }
     ensures { held result out.new ≡ add (held reply out.old) (got_at table.now asked.now.name) }
 {
-    let mut binding = blank();
+    let mut binding = Binding::empty();
     let name = asked.name();
     // This call states that the name has an encoding.
     let _content = name.content();
@@ -131,24 +130,7 @@ fn append_same(
     requires { IsWritable asked.now }
     ensures { held result out.new ≡ add (held reply out.old) asked.now }
 {
-    let mut binding = blank();
+    let mut binding = Binding::empty();
     asked.read_into(&mut binding);
     reply.append(out, &binding)
-}
-
-/// For a GetBulk: the most octets that the bindings of a message of these parts may take if it is
-/// to have at most `max_size`, or 0 where it has more even without bindings.
-pub fn room_for_bindings(parts: &Parts<'_>, max_size: usize) -> usize
-    requires community { length parts.now.community.now ≤ 255 }
-    requires datagram { max_size ≤ 65507 }
-    ensures { IsRoom (parts_message parts.now) max_size result }
-{
-    message_sizes();
-    // No head is longer than this one, so the search begins at the room or below it.
-    let longest = head_size(parts, max_size as u64) as usize;
-    let mut room = max_size.saturating_sub(longest);
-    'octets: while head_size(parts, room as u64 + 1) as usize + room < max_size {
-        room += 1;
-    }
-    room
 }

@@ -1,5 +1,5 @@
 use Rattle.std.proofs.{Common.arith, Common.unwrap_or, lemmas.Grind.common_steps}
-use Rattle.snmp_agent.proofs.draft.append_get.Goals as goal
+use Rattle.snmp_agent.proofs.answers.append_get.Goals as goal
 
 pub returns-in-Some : goal.returns-in-Some
 returns-in-Some c = grind (arith, common_steps, unwrap_or)

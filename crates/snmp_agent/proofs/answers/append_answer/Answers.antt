@@ -2,7 +2,7 @@ use Rattle.std.proofs.{Common.arith, Common.◌≡◌, lemmas.Grind.common_steps
 use Rattle.snmp_wire.specs.{declared.kind.Kind.Kind, Message.VarBind}
 use Rattle.snmp_wire.specs.declared.kind.Kind.TheVariants as kind
 use Rattle.snmp_agent.specs.{private.Answering.answer_to, table.Table.MibView}
-use Rattle.snmp_agent.proofs.draft.append_answer.Goals as goal
+use Rattle.snmp_agent.proofs.answers.append_answer.Goals as goal
 
 -- the answer to another request than a Get or a GetNext
 same : (view : MibView) (k : Kind) (asked : VarBind) → (k ≡ kind.GetRequest → ⊥) → (k ≡ kind.GetNextRequest → ⊥) → asked ≡ answer_to view k asked

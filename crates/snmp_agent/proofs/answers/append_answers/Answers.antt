@@ -1,7 +1,7 @@
 use Rattle.std.proofs.{Common.arith, Common.◌≡◌, Common.refl, Common.sym, Common.subst, Common.◌∙◌, lemmas.Grind.common_steps}
 use Rattle.snmp_agent.specs.private.Answering.{AreWritable, answers_to, fill, held}
-use Rattle.snmp_agent.proofs.{Fronts.fill_full, draft.append_answers.Goals.After-append_answer-reply}
-use Rattle.snmp_agent.proofs.draft.append_answers.Goals as goal
+use Rattle.snmp_agent.proofs.{Fronts.fill_full, answers.append_answers.Goals.After-append_answer-reply}
+use Rattle.snmp_agent.proofs.answers.append_answers.Goals as goal
 
 pub bindings-init : goal.bindings-init
 bindings-init c = record { others = refl; writable = c.requires }
