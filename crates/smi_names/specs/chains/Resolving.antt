@@ -1,10 +1,11 @@
--- What one step of a chain resolves to.
+-- What a list has for a place, and, for private functions, what one step of a chain resolves to.
 use Rattle.std.specs.Prelude.{ℕ, nat_le, List, [], ◌++◌, ◌+◌, length, slice_index_or}
 use Rattle.std.specs.Prelude.{if◌then◌else◌, Option, Some, None}
 use Rattle.smi_names.specs.chains.Chain.{Origin, numbers, after, nowhere}
 use Rattle.smi_names.specs.declared.chains.resolution.Resolution.{Resolution}
 use Rattle.smi_names.specs.declared.chains.resolution.Resolution.TheVariants as R
 
+-- the resolution at a place of a list; unresolved beyond its end
 abbrev pub resolution_at : List Resolution → ℕ → Resolution
 resolution_at rs p = slice_index_or rs p R.Unresolved
 

@@ -67,7 +67,7 @@ impl Meaning for (usize, usize) {
 }
 
 /// What a list has at the place to which something leads, if it leads to one.
-fn led<T: Copy>(found: &[Option<T>], to: Option<usize>) -> Option<T>
+fn far_meaning<T: Copy>(found: &[Option<T>], to: Option<usize>) -> Option<T>
     ensures { result ≡ option_and_then (λ p. at_place found.now p) to }
 {
     let Some(place) = to else {
@@ -91,7 +91,7 @@ impl<'s, 'a> Entries<'s, 'a> {
         let mut found = vec![in alloc; None; next.len()]?;
         'places: for place in &order {
             let place = *place;
-            found[place] = self.meant::<M>(place, led(&found, next[place]));
+            found[place] = self.meant::<M>(place, far_meaning(&found, next[place]));
         }
         Ok(found)
     }

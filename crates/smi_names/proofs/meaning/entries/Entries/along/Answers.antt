@@ -34,7 +34,7 @@ places-preserved g c =
     let i_in = rw list at c.places-test.true in
     let inside = All-get_or (λ p. p < length c.in_ok-next.next.items) order i 0 i_in inside_all in
     let fills = rw list at c.places.invariant.1 in
-    let far = rw (c.deref-in-places.ensures.value) at c.led.ensures in
+    let far = rw (c.deref-in-places.ensures.value) at c.far_meaning.ensures in
     let to : c.index.result.now ≡ next_at c.in_ok-next.next.items (get_or c.in_ok-order.order.items c.places.place-index 0) =
     rw list at c.index.ensures ∙ get_or_default next (get_or order i 0) c.index.result.now None inside in
     let is = rw (list, far, to) at c.meant.ensures in
