@@ -8,7 +8,7 @@ use Rattle.snmp_wire.specs.{Message.VarBind, Message.Message, Message.null_value
 use Rattle.snmp_walk.specs.{private.Codec.Codec, declared.mode.Method.Method, declared.phase.Phase.Phase, Walker.Walker, Walker.HasRange}
 use Rattle.snmp_walk.specs.{Walker.IsMethod, Walker.IsWalker, Request.request_of, Request.request_kind, Request.request_repetitions}
 use Rattle.snmp_walk.specs.{Request.asked_for, private.Taken.is_over, Judged.IsResponseTo, Standing.IsChain, Standing.IsGetContent, Standing.IsLarge}
-use Rattle.snmp_walk.specs.{Standing.IsReplyContent, Standing.IsReplyTo, Room.full_response, Names.is_end, Run.IsFull, Run.IsFullReply}
+use Rattle.snmp_walk.specs.{Standing.IsReplyContent, Standing.IsReplyTo, Names.is_end, Run.IsFull, Run.IsFullReply}
 use Rattle.snmp_walk.specs.{private.Heard.IsAsked, private.Heard.IsEarlier, Tries.IsNotAwaited, Tries.IsTried, declared.link.Link.Ghosts as LinkFacts}
 use Rattle.snmp_agent.specs.{table.Table.MibView, table.Table.IsMibView, table.Table.IsGet, table.Table.IsNext, declared.config.Why.Why}
 use Rattle.snmp_agent.specs.declared.config.Why.TheVariants as why
@@ -16,7 +16,7 @@ use Rattle.snmp_agent.specs.Reply.{Agent, IsDropped, IsServed, response, AreAnsw
 use Rattle.snmp_agent.specs.Reply.{IsResponse, whole, shortened, bulk, no_error}
 use Rattle.snmp_walk.specs.declared.mode.Method.TheVariants as method
 use Rattle.snmp_walk.specs.declared.phase.Phase.TheVariants as phase
-use Rattle.snmp_walk.specs.Link.{Agents, OneOf, agent_in, single_response, AreLawful, IsNextFrom, IsGotFrom, IsTooLarge, IsReplyFrom}
+use Rattle.snmp_walk.specs.Link.{Agents, OneOf, agent_in, full_response, AreLawful, IsNextFrom, IsGotFrom, IsTooLarge, IsReplyFrom}
 use Rattle.snmp_walk.proofs.{RequestLemmas.name_short, RowLemmas.view_of, RoomLemmas.longer_full, LostLemmas.reply_of}
 use Rattle.snmp_walk.proofs.BulkLemmas.{IsOneBulk, one_bulk, chain_front, chain_by}
 use Rattle.snmp_walk.specs.Link as outcome
@@ -139,7 +139,7 @@ module _ (codec : Codec) (agents : Agents) (w : Walker) (good : IsWalker w) (vie
     -- what is too large for the agent is too large
     large : (p : VarBind) → (Fits agents.max_size (response (request_of w) no_error (pos 0) (p ∷ [])) → ⊥) → IsTooLarge agents w.id p
     large p no_fit =
-        let more : agents.max_size < length (canon (single_response w.community w.id p)) = omega (arith, no_fit) in (good.id, rw community at more)
+        let more : agents.max_size < length (canon (full_response w.community w.id (p ∷ []))) = omega (arith, no_fit) in (good.id, rw community at more)
 
     -- where no binding came, the first has no room
     first_large : (all bindings : List VarBind) → bindings ≡ [] → IsChain (IsNext view) w.asked all → all ≢ []

@@ -1,12 +1,12 @@
--- How long a single_response of one binding is: no longer with an exception in place of the value, nor with a lesser id.
+-- How long a response of one binding is: no longer with an exception in place of the value, nor with a lesser id.
 use Rattle.std.proofs.lemmas.Grind.{common_steps}
 use Rattle.std.proofs.Common.{◌≡◌, ℕ, ◌^◌, ◌<◌, ◌≤◌, List, [], ◌∷◌, length, arith, length-append, pos}
 use Rattle.snmp_wire.specs.Message.{Datum, VarBind, Message, integer_value, no_such_object, no_such_instance, end_of_mib_view}
 use Rattle.snmp_wire.specs.Spelling.{value_tag}
 use Rattle.snmp_wire.specs.Canon.{number_size, canon_element, canon_content, canon_value, canon_binding, canon_bindings, canon_opening, canon_fields}
 use Rattle.snmp_wire.specs.Canon.{canon}
-use Rattle.snmp_walk.specs.{Link.Agents, Link.single_response, Link.IsTooLarge, private.Codec.Codec}
-use Rattle.snmp_walk.specs.Room.{HasRoom, full_response, IsException}
+use Rattle.snmp_walk.specs.{Link.Agents, Link.full_response, Link.IsTooLarge, private.Codec.Codec}
+use Rattle.snmp_walk.specs.Room.{HasRoom, IsException}
 
 module _ (codec : Codec) where
   -- an element with more content is no shorter, whatever the tags
@@ -49,10 +49,10 @@ module _ (codec : Codec) where
   longer_message m n opening fields bindings = grind (arith, common_steps, longer_element, length-append)
 
   pub longer_response : (community : List ℕ) (id last : ℕ) (p q : VarBind) → id ≤ last → length (canon_binding p) ≤ length (canon_binding q)
-      → length (canon (single_response community id p)) ≤ length (canon (single_response community last q))
+      → length (canon (full_response community id (p ∷ []))) ≤ length (canon (full_response community last (q ∷ [])))
   longer_response community id last p q h k =
-      let m : Message = single_response community id p in
-      let n : Message = single_response community last q in
+      let m : Message = full_response community id (p ∷ []) in
+      let n : Message = full_response community last (q ∷ []) in
       longer_message m n (omega (arith, codec.sizes.opening m, codec.sizes.opening n))
       (omega (arith, codec.sizes.fields m, codec.sizes.fields n, longer_integer id last h)) (omega (arith, k, one_binding p, one_binding q))
 
@@ -67,7 +67,7 @@ module _ (codec : Codec) where
 
   -- what there is room for fits with each id
   pub room_fits : (agents : Agents) (p : VarBind) (id : ℕ) → id < 2 ^ 31 → HasRoom agents p
-      → length (canon (single_response agents.community id p)) ≤ agents.max_size
+      → length (canon (full_response agents.community id (p ∷ []))) ≤ agents.max_size
   room_fits agents p id low room = grind (arith, common_steps, longer_response)
 
   pub room_small : (agents : Agents) (id : ℕ) (p : VarBind) → HasRoom agents p → IsTooLarge agents id p → ⊥

@@ -1,10 +1,10 @@
 -- Where a table has no long strings, messages of 1472 octets have room for each of its rows.
-use Rattle.std.proofs.{lemmas.Grind.common_steps, Common.◌≡◌, Common.◌≤◌, Common.length, Common.arith, Common.pos}
+use Rattle.std.proofs.{lemmas.Grind.common_steps, Common.◌≡◌, Common.◌≤◌, Common.length, Common.arith, Common.pos, Common.◌∷◌, Common.[]}
 use Rattle.snmp_wire.specs.Message.{Datum, VarBind, integer_value, octet_string, null_value, object_id, ip_address, counter32, gauge32, time_ticks}
 use Rattle.snmp_wire.specs.Message.{opaque_octets, counter64, no_such_object, no_such_instance, end_of_mib_view}
 use Rattle.snmp_wire.specs.{Identifier.subidentifiers, Canon.canon_content}
 use Rattle.snmp_agent.specs.table.Table.{IsInstanceValue, IsMibView, IsRow, MibView}
-use Rattle.snmp_walk.specs.{Link.Agents, Link.single_response, Room.HasRoom, Room.HasRoomForEach, Room.IsException, Room.IsShort, Walker.Walker}
+use Rattle.snmp_walk.specs.{Link.Agents, Link.full_response, Room.HasRoom, Room.HasRoomForEach, Room.IsException, Room.IsShort, Walker.Walker}
 use Rattle.snmp_walk.proofs.RequestLemmas.{each_bound, message_bound, number_bound, one_bound, parts_bound}
 
 short_content : (v : Datum) → IsInstanceValue v → IsShort v → length (canon_content v) ≤ 700
@@ -33,7 +33,7 @@ exception_content other is = absurd is
 has_room : (agents : Agents) (p : VarBind) → length agents.community ≤ 30 → 1472 ≤ agents.max_size → length p.name ≤ 128
     → length (canon_content p.value) ≤ 700 → HasRoom agents p
 has_room agents p community size name content =
-    omega (arith, one_bound p.name p.value, message_bound (single_response agents.community 2147483647 p))
+    omega (arith, one_bound p.name p.value, message_bound (full_response agents.community 2147483647 (p ∷ [])))
 
 pub rows_have_room : (agents : Agents) (view : MibView) (first : Walker) → first.community ≡ agents.community → length agents.community ≤ 30
     → 1472 ≤ agents.max_size → length first.asked ≤ 128 → IsMibView view → ((p : VarBind) → IsRow view p → IsShort p.value)

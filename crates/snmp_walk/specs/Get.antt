@@ -5,7 +5,7 @@ use Rattle.std.specs.Prelude.{Result, Ok, Err}
 use Rattle.std.specs.{Bool.nat_eq, Ordering.int_eq, Cmp.Lexicographic.pointwise}
 use Rattle.snmp_oid.specs.Identifier.{wire}
 use Rattle.snmp_wire.specs.declared.kind.Kind.TheVariants as kind
-use Rattle.snmp_wire.specs.{ber.Value.null_value, Canon.canon, Spelling.Spells}
+use Rattle.snmp_wire.specs.{Name.asking, Canon.canon, Spelling.Spells}
 use Rattle.snmp_wire.specs.Message.{VarBind, Message, end_of_mib_view}
 use Rattle.snmp_agent.specs.Reply.{AreAnswers, IsResponse, Fits, response}
 use Rattle.snmp_walk.specs.{declared.end.WalkEnd.WalkEnd, declared.rows.Step.Step, Names.is_end}
@@ -18,7 +18,7 @@ use Rattle.snmp_agent.specs.table.Table.{MibView, IsGet}
 
 -- each name as it is sent, with the value Null
 abbrev pub asked_names : List (List ℕ) → List VarBind
-asked_names names = map (λ o. record { name = wire o; value = null_value }) names
+asked_names names = map (λ o. asking (wire o)) names
 
 -- the Get of these names, in one message of this community and id
 abbrev pub get_request : List ℕ → ℕ → List (List ℕ) → Message

@@ -12,16 +12,16 @@ pub record Agents : Type 0 where
   pub community : List ℕ
   pub max_size : ℕ
 
--- the response of one binding
-abbrev pub single_response : List ℕ → ℕ → VarBind → Message
-single_response community id p = record {
+-- the response of these bindings
+abbrev pub full_response : List ℕ → ℕ → List VarBind → Message
+full_response community id bindings = record {
   version = pos 1;
   community = community;
   kind = kind.Response;
   id = pos id;
   a = pos 0;
   b = pos 0;
-  bindings = p ∷ [];
+  bindings = bindings;
 }
 
 -- the element is one of the list
@@ -41,7 +41,7 @@ IsGotFrom agents o p = (view : MibView) × OneOf agents.tables view × IsGet vie
 -- be.
 abbrev pub IsTooLarge : Agents → ℕ → VarBind → Type 0
 IsTooLarge agents id p = (id < 2 ^ 31)
-    × (agents.max_size < length (canon (single_response agents.community id p)))
+    × (agents.max_size < length (canon (full_response agents.community id (p ∷ []))))
 
 -- the agent that serves this table
 abbrev pub agent_in : Agents → MibView → Agent

@@ -1,7 +1,7 @@
 -- Where a walk begins, and which request it sends (RFC 3416, section 4.2).
 use Rattle.std.specs.Prelude.{ℕ, ℤ, pos, unsigned_abs, List, [], ◌∷◌}
 use Rattle.snmp_oid.specs.Identifier.{wire}
-use Rattle.snmp_wire.specs.{declared.kind.Kind.Kind, Message.Message, Message.null_value}
+use Rattle.snmp_wire.specs.{declared.kind.Kind.Kind, Message.Message, Name.asking}
 use Rattle.snmp_wire.specs.declared.kind.Kind.TheVariants as kind
 use Rattle.snmp_walk.specs.{declared.mode.Mode.Mode, declared.phase.Phase.Phase, Walker.Walker}
 use Rattle.snmp_walk.specs.declared.mode.Mode.TheVariants as mode
@@ -72,5 +72,5 @@ request_of w = record {
   id = pos w.id;
   a = pos 0;
   b = request_repetitions w.phase w.method;
-  bindings = record { name = w.asked; value = null_value } ∷ [];
+  bindings = asking w.asked ∷ [];
 }

@@ -1,19 +1,18 @@
 -- What a walk over one table needs so that it can be done: room for each single binding, and enough
 -- ids.
-use Rattle.std.specs.Prelude.{◌≡◌, ℕ, pos, ◌+◌, ◌≤◌, List, length}
-use Rattle.snmp_wire.specs.declared.kind.Kind.TheVariants as kind
-use Rattle.snmp_wire.specs.Message.{Datum, VarBind, Message, octet_string, opaque_octets}
+use Rattle.std.specs.Prelude.{◌≡◌, ℕ, ◌+◌, ◌≤◌, List, [], ◌∷◌, length}
+use Rattle.snmp_wire.specs.Message.{Datum, VarBind, octet_string, opaque_octets}
 use Rattle.snmp_wire.specs.Message.{no_such_object, no_such_instance, end_of_mib_view}
 use Rattle.snmp_wire.specs.Canon.{canon}
 use Rattle.snmp_agent.specs.table.Table.{MibView, IsRow}
 use Rattle.snmp_agent.specs.{table.Listing.variables, Reply.IsBulk}
 use Rattle.snmp_walk.specs.{Walk.rest_of, Walker.Walker, Request.request_of}
-use Rattle.snmp_walk.specs.Link.{Agents, OneOf, single_response}
+use Rattle.snmp_walk.specs.Link.{Agents, OneOf, full_response}
 
 -- The agents' messages have room for the binding: the Response with this binding alone and the
 -- greatest request-id is no longer than their greatest size.
 abbrev pub HasRoom : Agents → VarBind → Type 0
-HasRoom agents p = length (canon (single_response agents.community 2147483647 p)) ≤ agents.max_size
+HasRoom agents p = length (canon (full_response agents.community 2147483647 (p ∷ []))) ≤ agents.max_size
 
 -- the value is no string of more than 700 octets, so that with any name its row fits a message of
 -- 1472 octets
@@ -21,18 +20,6 @@ abbrev pub IsShort : Datum → Type 0
 IsShort (octet_string octets) = length octets ≤ 700
 IsShort (opaque_octets octets) = length octets ≤ 700
 IsShort _ = Unit {0}
-
--- the response of these bindings
-abbrev pub full_response : List ℕ → ℕ → List VarBind → Message
-full_response community id bindings = record {
-  version = pos 1;
-  community = community;
-  kind = kind.Response;
-  id = pos id;
-  a = pos 0;
-  b = pos 0;
-  bindings = bindings;
-}
 
 -- Whichever table replies, the agents' messages have room for all bindings that the GetBulk of w
 -- asks for: the Response with them and the greatest request-id is no longer than their greatest

@@ -1,4 +1,4 @@
--- The requests of a walk, and how often each is sent. What a full reply is is for proofs.
+-- The requests of a walk, and how often each is sent.
 use Rattle.std.specs.Prelude.{◌≡◌, ℕ, ◌+◌, ◌^◌, ◌<◌, ◌≤◌, ◌⊎◌, true, List, [], ◌∷◌, ◌++◌, length}
 use Rattle.std.specs.Prelude.{pos, replicate}
 use Rattle.snmp_wire.specs.{Message.VarBind, Message.Message, Canon.canon}

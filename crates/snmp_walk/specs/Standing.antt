@@ -113,7 +113,7 @@ IsReplyTooLarge Next Got Large phase.Rows o = IsLarge Next Large o
 IsReplyTooLarge Next Got Large phase.Last o = IsLarge Got Large o
 IsReplyTooLarge Next Got Large phase.Over o = ⊥
 
--- the walk may end in this way after these bindings, w being its state that waited for the reply
+-- The walk may end in this way after these bindings, w being its state that waited for the reply.
 -- An error status is tooBig with index 0, and an error status or no progress comes only where a
 -- binding has no room. There are too many requests only after the last id. A reply out of place
 -- never ends it.

@@ -1,7 +1,7 @@
 //! Where the bindings of a walk go.
 
 use crate::{Rows, SinkFault};
-use snmp_wire::{Binding, Oid, ValueRef};
+use snmp_wire::Binding;
 
 /// What takes the bindings of a walk, one by one.
 pub trait Sink {
@@ -26,10 +26,7 @@ pub trait Sink {
             × (back : List VarBind) × (rows.entry ≡ front ++ p ∷ back) × (between : Self)
             × Given takes self.old front between × takes between p (Err fault) self.new) }
     {
-        let mut binding = Binding {
-            name: Oid::new(),
-            value: ValueRef::Null,
-        };
+        let mut binding = Binding::empty();
         'rows: while rows.read_next(&mut binding) {
             self.row(&binding)?;
         }
