@@ -1,7 +1,7 @@
 -- The tree of no modules: what is found among the three roots.
 use Rattle.std.proofs.{lemmas.Grind.common_steps, lemmas.Bool.ne_eqb, Math.Bool.and-false}
 use Rattle.std.proofs.Common.{◌≡◌, ◌≢◌, ℕ, zero, suc, ◌<◌, ◌≤◌, List, [], ◌∷◌, ◌++◌, length, take, get_or, slice_index_or, Option, Some, None}
-use Rattle.std.proofs.Common.{MatchOption, IfSome, refl, sym, ap, arith, nat_eq}
+use Rattle.std.proofs.Common.{MatchOption, IfSome, refl, ap, arith, nat_eq}
 use Rattle.snmp_oid.specs.Identifier.{IsBelow}
 use Rattle.std.specs.{List.slice_get, Option.option_and_then}
 use Rattle.smi_tree.specs.branches.Standing.{place_of, IsDeepestAt, HasNoBeginning}
@@ -12,7 +12,7 @@ use Rattle.smi_tree.specs.{Tree.IsTree, Bare.bare, Bare.IsRootOf, types.Chain.no
 use Rattle.smi_tree.specs.Nodes.{oids_of, place_anywhere, child_of, if_labelled, nothing, of_lowest}
 use Rattle.smi_tree.specs.Naming.{home_name, standing_of_longest, oid_of, naming_of, nearest_definition, nearest_syntax}
 use Rattle.smi_tree.proofs.{Childhood.child-is, Reaching.longest-some, Reaching.longest-none, Following.no_syntax}
-use Rattle.smi_tree.proofs.Sounding.{stands, root-case, root-word, leads-alike}
+use Rattle.smi_tree.proofs.Sounding.{root-case, root-word, sound-from}
 
 -- the roots have no syntax and no index
 none-at : {A : Type 0} (k : ℕ) → slice_index_or {A = Option A} (None ∷ (None ∷ (None ∷ []))) k None ≡ None
@@ -111,14 +111,7 @@ root-leads-to : (k : ℕ) (n : Node) → slice_get roots k ≡ Some n → LabelL
 root-leads-to = root-case (λ n. LabelLeadsTo (naming_of bare) (home_name n.home) n.label n.oid) refl refl refl
 
 pub sound-bare : IsSound (naming_of bare)
-sound-bare = record {
-  within = λ o node e. (stands bare o node e).depth;
-  words = λ o node e. let s = stands bare o node e in rw s.label (root-word s.place s.n s.there);
-  leads = λ o node e.
-      let s = stands bare o node e in
-      leads-alike (naming_of bare) (home_name s.n.home) node.home s.n.label node.label s.n.oid (take node.depth o) (sym s.home) (sym s.label) s.oid
-      (root-leads-to s.place s.n s.there);
-}
+sound-bare = sound-from bare (λ k n e. (root-word k n e, root-leads-to k n e))
 
 -- all identifiers below a root have it as their longest beginning
 pub holds_below_root : {X : Type 0} (value : X → List ℕ) (r : Option X) (o : List ℕ) → IfSome r (λ root. IsRootOf o (value root))

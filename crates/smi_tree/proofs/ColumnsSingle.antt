@@ -23,11 +23,8 @@ extent_once sizes implied (Fixed n) (Fixed m) a b = ap (λ k. Fixed k) (fixed_on
 extent_once sizes implied (Fixed n) Counted a b = absurd (b.0 a.0 a.1)
 extent_once sizes implied (Fixed n) Implied a b = absurd (b.0 a.0 a.1)
 extent_once sizes implied Counted (Fixed m) a b = absurd (a.0 b.0 b.1)
-extent_once sizes implied Counted Counted a b = refl
-extent_once sizes implied Counted Implied a b = let no = a.1 in let yes = b.1 in absurd (cc)
 extent_once sizes implied Implied (Fixed m) a b = absurd (a.0 b.0 b.1)
-extent_once sizes implied Implied Counted a b = let yes = a.1 in let no = b.1 in absurd (cc)
-extent_once sizes implied Implied Implied a b = refl
+extent_once sizes implied e f a b = grind (arith, common_steps)
 
 part_once : (base : TypeBase) (sizes : Option (List Range)) (implied : Bool) (p q : IndexPart) → IsPartOf base sizes implied p → IsPartOf base sizes implied q
     → p ≡ q
@@ -41,7 +38,7 @@ module _ (ms : List Module) where
   same_part : (m : Module) (x : List ℕ) (implied : Bool) (p q : IndexPart) → IsIndexPart ms m x implied p → IsIndexPart ms m x implied q → p ≡ q
   same_part m x implied p q a b =
       let same = defined_once a.named b.named in
-      let syntax : HasSyntax ms (origin_of_object b.home.name.octets b.object) a.facts = rw (same.home, same.definition) at a.syntax in
+      let syntax : HasSyntax ms (origin_of_object b.home.name.octets b.object) a.facts = rw (same.0, same.1) at a.syntax in
       let facts = one_syntax ms (origin_of_object b.home.name.octets b.object) a.facts b.facts syntax b.syntax in
       part_once b.facts.base b.facts.sizes implied p q (rw facts at a.reads) b.reads
 

@@ -1,6 +1,6 @@
 -- Chains of types are chains of names.
-use Rattle.std.proofs.lemmas.Grind.{common_steps}
-use Rattle.std.proofs.Common.{◌≡◌, ℕ, zero, suc, ◌≤◌, List, [], ◌∷◌, length, Option, Some, None, refl, sym, ap, ◌∙◌, arith}
+use Rattle.std.proofs.{lemmas.Grind.common_steps, lemmas.Option.slice_get_cases}
+use Rattle.std.proofs.Common.{◌≡◌, ℕ, ◌≤◌, List, length, Option, Some, None, refl, sym, ap, ◌∙◌, arith}
 use Rattle.std.specs.{List.slice_get, Option.option_and_then, Option.option_map}
 use Rattle.smi_names.specs.{chains.Chain.HasEnd, chains.Chain.ends, chains.Chain.leads_on, declared.meaning.base.TypeBase.TypeBase}
 use Rattle.smi_text.specs.{declared.trees.tree.Module.Module, declared.trees.tree.SimpleType.SimpleType, declared.trees.tree.Base.Base}
@@ -13,9 +13,7 @@ use Rattle.smi_tree.specs.types.Types.{type_origin, type_origin_by, HasNoSyntax}
 use Rattle.smi_tree.specs.types.Kept.{refines}
 
 pub past_get : {X : Type 0} (xs : List X) (i : ℕ) → slice_get xs i ≡ None → length xs ≤ i
-past_get [] i e = omega arith
-past_get (x ∷ xs) zero e = absurd (cc)
-past_get (x ∷ xs) (suc i) e = omega (arith, past_get xs i e)
+past_get xs i e = grind (arith, slice_get_cases xs i)
 
 -- what no chain begins with has no syntax
 pub no_syntax : (ms : List Module) (o : TypeOrigin QualifiedName) → o ≡ no_type → HasNoSyntax ms o

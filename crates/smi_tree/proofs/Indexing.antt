@@ -1,6 +1,7 @@
 -- The index of each node, by its row and by the parts of the INDEX clause that the row uses.
-use Rattle.std.proofs.{lemmas.Grind.common_steps, lemmas.List.same_from_push}
-use Rattle.std.proofs.Common.{◌≡◌, ℕ, zero, suc, List, [], ◌∷◌, length, Option, Some, None, refl, sym, ap, ◌∙◌, arith}
+use Rattle.std.proofs.{lemmas.Grind.common_steps, lemmas.List.same_from_push, lemmas.List.length-map, lemmas.Option.slice_get-map}
+use Rattle.std.proofs.lemmas.Option.{get_or_from_slice_get}
+use Rattle.std.proofs.Common.{◌≡◌, ℕ, List, Option, Some, None, refl, sym, ◌∙◌, arith}
 use Rattle.std.specs.{List.slice_get, Option.option_and_then}
 use Rattle.smi_show.specs.declared.index.part.IndexPart.{IndexPart}
 use Rattle.smi_text.specs.{declared.trees.tree.Module.Module, declared.trees.tree.Def.Def, declared.trees.tree.Index.Index}
@@ -8,7 +9,7 @@ use Rattle.smi_text.specs.declared.trees.tree.Index.TheVariants.{Own, Augments}
 use Rattle.smi_names.specs.nodes.Nodes.{Node}
 use Rattle.smi_tree.specs.columns.Index.{IsColumnOf, StandsAt, IsIndexOf, IsIndex, AreIndexesOf, IsIndexed, UsesIndexOf, clause_of, index_at}
 use Rattle.smi_tree.specs.columns.Kept.{KeptOfModule, IsOwn, AreOwnOfAll, AreRows, HasRowAt, HasRowOrNone, indexes_of, parts_at, items_of}
-use Rattle.smi_tree.proofs.{Pairing.pair_at, Parting.Same, Parting.same_own, Parting.defined_once}
+use Rattle.smi_tree.proofs.{Pairing.pair_at, Parting.defined_once}
 
 -- ---- a column has one row, and a row uses one clause
 
@@ -19,9 +20,9 @@ pub column_once : (nodes : List Node) (column a b : Node) → IsColumnOf nodes c
 column_once nodes column a b c d = grind (arith, common_steps, same_from_push, stands_once)
 
 pub uses_once : (ms : List Module) (m : Module) (d : Def) (clause : Option Index) (n k : Module) (e f : Def)
-    → UsesIndexOf ms m d clause n e → UsesIndexOf ms m d clause k f → Same n k e f
+    → UsesIndexOf ms m d clause n e → UsesIndexOf ms m d clause k f → (n ≡ k) × (e ≡ f)
 uses_once ms m d None n k e f a b = absurd a
-uses_once ms m d (Some (Own clause)) n k e f a b = same_own n k e f (a.0 ∙ sym b.0) (a.1 ∙ sym b.1)
+uses_once ms m d (Some (Own clause)) n k e f a b = (a.0 ∙ sym b.0, a.1 ∙ sym b.1)
 uses_once ms m d (Some (Augments name)) n k e f a b = defined_once a b
 
 -- the definition whose clause a column uses
@@ -34,16 +35,9 @@ index_once ms nodes column row m d n e parts of_row home defined uses is = grind
 
 pub index-at : (kept : List KeptOfModule) (rows : List (Option (ℕ × ℕ))) (k : ℕ) (at : Option (ℕ × ℕ)) → slice_get rows k ≡ Some at
     → index_at (indexes_of kept rows) k ≡ option_and_then (λ p. parts_at kept p.0 p.1) at
-index-at kept [] k at e = absurd (cc)
-index-at kept (x ∷ rows) zero at e = ap (λ y. option_and_then (λ p. parts_at kept p.0 p.1) y) (same_some x at e)
-  where
-    same_some : (x y : Option (ℕ × ℕ)) → Some x ≡ Some y → x ≡ y
-    same_some x y e = cc
-index-at kept (x ∷ rows) (suc k) at e = index-at kept rows k at e
-
-indexes-length : (kept : List KeptOfModule) (rows : List (Option (ℕ × ℕ))) → length (indexes_of kept rows) ≡ length rows
-indexes-length kept [] = refl
-indexes-length kept (x ∷ rows) = let rest = indexes-length kept rows in omega arith
+index-at kept rows k at e =
+    let f : Option (ℕ × ℕ) → Option (List IndexPart) = λ at. option_and_then (λ p. parts_at kept p.0 p.1) at in
+    get_or_from_slice_get (indexes_of kept rows) k (f at) None (slice_get-map f rows k ∙ rw e refl)
 
 module _ (ms : List Module) (nodes : List Node) (kept : List KeptOfModule) (own : AreOwnOfAll ms kept) where
   is_index_by : (node : Node) (i k : ℕ) (h : HasRowAt ms nodes node i k) (parts : Option (List IndexPart))
@@ -75,6 +69,6 @@ module _ (ms : List Module) (nodes : List Node) (kept : List KeptOfModule) (own 
 
   pub are_indexes : (rows : List (Option (ℕ × ℕ))) → AreRows ms nodes rows → AreIndexesOf ms nodes (indexes_of kept rows)
   are_indexes rows are = record {
-    long = indexes-length kept rows ∙ are.long;
+    long = length-map rows (λ at. option_and_then (λ p. parts_at kept p.0 p.1) at) ∙ are.long;
     each = λ k node there. let r = pair_at _ nodes rows are k node there in rw (index-at kept rows k r.0 r.1) (is_index node r.0 r.2);
   }

@@ -1,18 +1,15 @@
 -- Elements of lists by their places.
-use Rattle.std.proofs.Common.{◌≡◌, ℕ, zero, suc, ◌<◌, List, [], ◌∷◌, ◌++◌, length, Some, refl, arith, ◌⊎◌, inl, inr}
+use Rattle.std.proofs.Common.{◌≡◌, ℕ, suc, ◌<◌, List, [], ◌∷◌, ◌++◌, length, Some, refl, arith, ◌⊎◌, inl, inr}
 use Rattle.std.specs.List.{slice_get}
+use Rattle.std.proofs.{lemmas.Grind.common_steps, lemmas.Option.slice_get_cases}
 
 pub get_within : {A : Type 0} (xs : List A) (j : ℕ) → j < length xs → (x : A) × (slice_get xs j ≡ Some x)
-get_within [] j l = absurd (omega arith)
-get_within (x ∷ xs) zero l = (x, refl)
-get_within (x ∷ xs) (suc j) l = get_within xs j (omega arith)
+get_within xs j l = elim ((slice_get_cases xs j).1) [ inl r ↦ (r.0, r.2) | inr p ↦ absurd (omega (arith, p.0)) ]
 
 pub get_push : {A : Type 0} (xs : List A) (y : A) (j : ℕ) (x : A) → slice_get (xs ++ y ∷ []) j ≡ Some x
     → ((j < length xs) × (slice_get xs j ≡ Some x)) ⊎ ((j ≡ length xs) × (y ≡ x))
-get_push [] y zero x e = inr (refl, cc)
-get_push [] y (suc j) x e = absurd (cc)
-get_push (z ∷ xs) y zero x e = inl (omega arith, e)
-get_push (z ∷ xs) y (suc j) x e = elim (get_push xs y j x e) [ inl h ↦ inl (omega (arith, h.0), h.1) | inr h ↦ inr (omega (arith, h.0), h.1) ]
+get_push [] y j x e = grind (arith, common_steps)
+get_push (z ∷ xs) y j x e = grind (arith, common_steps, get_push xs y)
 
 pub get_at_push : {A : Type 0} (xs : List A) (y : A) → slice_get (xs ++ y ∷ []) (length xs) ≡ Some y
 get_at_push [] y = refl

@@ -12,26 +12,10 @@ use Rattle.smi_tree.specs.private.columns.Named.{IsFoundAt}
 
 -- ---- a name leads to one definition
 
-pub record Same (m n : Module) (d e : Def) : Type 0 where
-  pub home : m ≡ n
-  pub definition : d ≡ e
-
-pub same_own : (m n : Module) (d e : Def) → m ≡ n → d ≡ e → Same m n d e
-same_own m n d e f g = record { home = f; definition = g }
-
-pub defined_once : {ms : List Module} {p : QualifiedName} {m n : Module} {d e : Def} → IsDefinedBy ms p m d → IsDefinedBy ms p n e → Same m n d e
-defined_once (own {m = m} {d = d} home by) (own {m = n} {d = e} other also) =
-    let same : m ≡ n = cc in
-    let is = rw same at by in
-    same_own m n d e same (cc)
-defined_once (own {m = m} {d = d} home by) (through {m = n} {i = i} other also rest) =
-    let same : m ≡ n = cc in
-    let is = rw same at by in
-    absurd (cc)
-defined_once (through {m = m} {i = i} home by rest) (own {m = n} {d = e} other also) =
-    let same : m ≡ n = cc in
-    let is = rw same at by in
-    absurd (cc)
+pub defined_once : {ms : List Module} {p : QualifiedName} {m n : Module} {d e : Def} → IsDefinedBy ms p m d → IsDefinedBy ms p n e → (m ≡ n) × (d ≡ e)
+defined_once (own home by) (own other also) = grind (arith, common_steps)
+defined_once (own home by) (through other also rest) = grind (arith)
+defined_once (through home by rest) (own other also) = grind (arith)
 defined_once (through {p = p} {m = m} {i = i} home by rest) (through {m = n} {i = j} other also more) =
     let same : m ≡ n = cc in
     let is = rw same at by in

@@ -1,6 +1,6 @@
 -- The longest beginning of an identifier for which a node stands.
 use Rattle.std.proofs.{lemmas.Grind.common_steps, lemmas.Bool.cases_eq}
-use Rattle.std.proofs.Common.{◌≡◌, ◌≢◌, ℕ, zero, suc, ◌≤◌, ◌⊎◌, inl, inr, List, length, take, Option, Some, None, refl, sym, arith}
+use Rattle.std.proofs.Common.{◌≡◌, ℕ, zero, suc, ◌≤◌, inl, inr, List, length, take, Option, Some, None, refl, arith}
 use Rattle.std.specs.Prelude.{MatchOption, ◌<◌, option_map}
 use Rattle.smi_tree.specs.branches.Standing.{place_of, IsDeepestAt, HasNoBeginning}
 use Rattle.smi_names.specs.meaning.Meaning.{or_else}
@@ -10,17 +10,12 @@ up_to-some : (oids : List (List ℕ)) (o : List ℕ) (p d j : ℕ) → IsDeepest
     → longest_up_to oids o j ≡ Some (record { place = p; depth = d })
 unfolding longest_up_to
 up_to-some oids o p d zero at below within = grind (arith, common_steps)
-up_to-some oids o p d (suc j) at below within = by (cases_eq d (suc j)) (λ l. up_to-some oids o p d j at l (omega arith))
-  where
-    by : (d ≡ suc j) ⊎ (d ≢ suc j) → (d ≤ j → longest_up_to oids o j ≡ Some (record { place = p; depth = d }))
-        → or_else (at_depth (suc j) (place_of oids (take (suc j) o))) (longest_up_to oids o j) ≡ Some (record { place = p; depth = d })
-    by (inl same) rest = let here = rw same at at.here in rw (here, same) refl
-    by (inr other) rest = rw (at.none_longer (suc j) (omega arith) within) (rest (omega arith))
+up_to-some oids o p d (suc j) at below within = grind (arith, cases_eq d (suc j), up_to-some oids o p d j at, at.here, at.none_longer (suc j))
 
 up_to-none : (oids : List (List ℕ)) (o : List ℕ) (j : ℕ) → HasNoBeginning oids o → j ≤ length o → longest_up_to oids o j ≡ None
 unfolding longest_up_to
-up_to-none oids o zero h within = rw (h 0 within) refl
-up_to-none oids o (suc j) h within = rw (h (suc j) within, up_to-none oids o j h (omega arith)) refl
+up_to-none oids o zero h within = grind (arith, h 0)
+up_to-none oids o (suc j) h within = grind (arith, h (suc j), up_to-none oids o j h)
 
 pub longest-some : (oids : List (List ℕ)) (o : List ℕ) (p d : ℕ) → IsDeepestAt oids o p d
     → longest_up_to oids o (length o) ≡ Some (record { place = p; depth = d })
@@ -48,8 +43,7 @@ up_to oids o (suc j) within above = by (place_of oids (take (suc j) o)) refl (up
 -- what is found is the longest
 pub longest-found : {D : Type 0} (of : D → Longest) (oids : List (List ℕ)) (o : List ℕ) (r : Option D)
     → MatchOption r (HasNoBeginning oids o) (λ d. IsDeepestAt oids o (of d).place (of d).depth) → option_map of r ≡ longest_up_to oids o (length o)
-longest-found of oids o None h = sym (longest-none oids o h)
-longest-found of oids o (Some d) at = sym (longest-some oids o (of d).place (of d).depth at)
+longest-found of oids o r h = grind (arith, common_steps, longest-none, longest-some)
 
 pub longest-is : (oids : List (List ℕ)) (o : List ℕ)
     → MatchOption (longest_up_to oids o (length o)) (HasNoBeginning oids o) (λ at. IsDeepestAt oids o at.place at.depth)

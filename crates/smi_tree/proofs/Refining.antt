@@ -1,6 +1,6 @@
 -- What a type states is nearer than what the type states that it refines.
 use Rattle.std.proofs.Common.{◌≡◌, ℕ, inl, inr, cond, is_some, List, [], ◌∷◌, Option, Some, None, MatchOption, Vec, refl, ap, ◌∙◌, arith}
-use Rattle.std.proofs.{lemmas.List.get_or_past, lemmas.Option.slice_get_within, lemmas.Option.get_or_from_slice_get}
+use Rattle.std.proofs.{lemmas.Grind.common_steps, lemmas.List.get_or_past, lemmas.Option.slice_get_within, lemmas.Option.get_or_from_slice_get}
 use Rattle.std.specs.{Global.Global, Borrow.Bor, List.slice_get, Option.option_and_then, Option.option_copied, Option.option_map}
 use Rattle.smi_text.specs.{declared.trees.tree.Module.Module, declared.trees.tree.Def.Def, declared.trees.tree.DefKind.DefKind}
 use Rattle.smi_text.specs.{declared.trees.tree.SimpleType.SimpleType, declared.trees.tree.Base.Base}
@@ -18,8 +18,7 @@ use Rattle.smi_tree.specs.{declared.types.syntax.TypeSyntax.TypeSyntax, declared
 use Rattle.smi_tree.proofs.{Pairing.pair_at, Following.by_decision, Following.has_end, Following.no_syntax, Following.past_get}
 
 pub is_some-copied : {X : Type 0} (r : Option (Bor X)) → is_some r ≡ is_some (option_copied r)
-is_some-copied None = refl
-is_some-copied (Some x) = refl
+is_some-copied r = grind (arith, common_steps, is_some)
 
 -- a definition of an object states its type and no hint
 pub object_states : (kind : DefKind) (s : SimpleType) → option_and_then simple_in (object_syntax kind) ≡ Some s
@@ -87,8 +86,7 @@ module _ (ms : List Module) (at : ℕ × ℕ) (d : Def) (there : def_at ms at.0 
 
 -- a result by its facts
 pub by_facts : (N : Type 0) (P : Facts → Type 0) (r : Option TypeSyntax) → MatchOption (option_map facts_of r) N P → MatchOption r N (λ s. P (facts_of s))
-by_facts N P None h = h
-by_facts N P (Some s) h = h
+by_facts N P r h = grind (arith, common_steps)
 
 -- what is kept for each definition is its syntax as an object
 pub are_types : (ms : List Module) (os : List (Vec (Option KeptSyntax) Global)) → AreKeptOfAll ms os → (i j : ℕ)

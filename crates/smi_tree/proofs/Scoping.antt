@@ -1,7 +1,8 @@
 -- Labels that several modules share: the first source of each module.
-use Rattle.std.proofs.Common.{◌≡◌, ℕ, ◌+◌, ◌<◌, ◌==◌, ◌&&◌, Bool, true, false, cond, List, length, take, get_or, Option, Some, None, unwrap_or}
-use Rattle.std.proofs.Common.{option_map, refl, sym, ap, ◌∙◌, eq-eqb}
-use Rattle.std.proofs.{lemmas.Bool.eqb-true, Math.Bool.and-false, lemmas.Option.slice_get-get_or, lemmas.Option.slice_get_within}
+use Rattle.std.proofs.Common.{◌≡◌, ℕ, ◌+◌, ◌<◌, ◌==◌, ◌&&◌, Bool, true, false, cond, List, length, take, get_or, Option, Some, None, unwrap_or, arith}
+use Rattle.std.proofs.Common.{option_map, refl, sym, ◌∙◌}
+use Rattle.std.proofs.{lemmas.Grind.common_steps, lemmas.Bool.eqb-true, Math.Bool.and-false}
+use Rattle.std.proofs.lemmas.Option.{slice_get-get_or, slice_get_within}
 use Rattle.std.specs.{List.slice_get, List.position_from, Option.option_and_then}
 use Rattle.indexmap.specs.IndexMap.{get}
 use Rattle.smi_text.specs.{trees.Mark.same_text, declared.trees.tree.Module.Module}
@@ -11,29 +12,18 @@ use Rattle.smi_tree.specs.Nodes.{is_named}
 use Rattle.smi_tree.specs.Places.{Places, Others, kept_place, home_from, label_from, has_label, is_of, same_key, key_of, AreOthers}
 use Rattle.smi_tree.proofs.{First.IsFirst, First.first, First.none_first, First.more, First.of_front, Listing.same, Listing.same_itself}
 
+-- the first place of a name is that of a thing of this name
+named : {A : Type 0} (name : A → List ℕ) (xs : List A) (a : List ℕ) (j : ℕ) → position_from (λ x. same_text (name x) a) 0 xs ≡ Some j
+    → (x : A) × (slice_get xs j ≡ Some x) × (name x ≡ a)
+named name xs a j e =
+    let f : IsFirst (λ x. same_text (name x) a) xs j = rw e at (first (λ x. same_text (name x) a) xs) in (f.x, f.at, same (name f.x) a f.passes)
+
 -- names are the same where their first places are
 places_decide : {A : Type 0} (name : A → List ℕ) (xs : List A) (a b : List ℕ) (j k : ℕ) → position_from (λ x. same_text (name x) a) 0 xs ≡ Some j
     → position_from (λ x. same_text (name x) b) 0 xs ≡ Some k → (j == k) ≡ same_text a b
-places_decide name xs a b j k e f = by (j == k) (same_text a b) refl refl
-  where
-    named : (c : List ℕ) (i : ℕ) → position_from (λ x. same_text (name x) c) 0 xs ≡ Some i → IsFirst (λ x. same_text (name x) c) xs i
-    named c i h = rw h at (first (λ x. same_text (name x) c) xs)
-
-    by : (v w : Bool) → (j == k) ≡ v → same_text a b ≡ w → v ≡ w
-    by true true p q = refl
-    by false false p q = refl
-    by false true p q =
-        let is : a ≡ b = same a b q in
-        let one : j ≡ k = let g = rw is at e in cc in
-        let yes = eq-eqb j k one in cc
-    by true false p q =
-        let is : j ≡ k = eqb-true j k p in
-        let g = named a j e in
-        let h = named b j (rw (← is) at f) in
-        let one : g.x ≡ h.x = let there = g.at in let at = h.at in cc in
-        let alike : a ≡ b = sym (same (name g.x) a g.passes) ∙ ap name one ∙ same (name h.x) b h.passes in
-        let yes = same_itself b in
-        let no = rw alike at q in cc
+places_decide name xs a b j k e f =
+    let g = named name xs a j e in let h = named name xs b k f in
+    grind (arith, common_steps, same a b, same_itself b, g.1, g.2, h.1, h.2)
 
 -- it is this key
 abbrev pub fits : Option (ℕ × ℕ) → ℕ × ℕ → Bool
@@ -52,28 +42,22 @@ module _ (ms : List Module) (homes : Places) (ss : List Source) (old new : Other
       s : Source
       s = get_or ss k d
 
-      itself : (v : Bool) → (f == g) ≡ v → f ≡ k → false ≡ (is_named home (home_from ms s) && v)
-      itself false e is = sym (and-false (is_named home (home_from ms s)))
-      itself true e is =
-          let here : f ≡ g = eqb-true f g e in
-          let there = slice_get-get_or ss k d inside in
-          let one : o ≡ s = let read = rw (← here, is) at at in cc in
-          rw (← one, other) refl
+      there : slice_get ss k ≡ Some s
+      there = slice_get-get_or ss k d inside
 
-      named : (m : Module) (r : Option ℕ) → module_place ms m.name.octets ≡ r
+      itself : f ≡ k → false ≡ (is_named home (home_from ms s) && (f == g))
+      itself is = grind (arith, common_steps, and-false (is_named home (home_from ms s)), there, at, other)
+
+      named_by : (m : Module) (r : Option ℕ) → module_place ms m.name.octets ≡ r
           → fits (option_map (λ h. (h, f)) r) (p, g) ≡ (same_text m.name.octets home && (f == g))
-      named m None e = by (same_text m.name.octets home) refl
-        where
-          by : (v : Bool) → same_text m.name.octets home ≡ v → false ≡ (v && (f == g))
-          by false q = refl
-          by true q = let is = rw (same m.name.octets home q) at e in cc
-      named m (Some h) e = rw (← places_decide (λ (n : Module). n.name.octets) ms m.name.octets home h p e place) refl
+      named_by m None e = grind (arith, common_steps, same m.name.octets home)
+      named_by m (Some h) e = rw (← places_decide (λ (n : Module). n.name.octets) ms m.name.octets home h p e place) refl
 
       by : (v : Bool) → (f == k) ≡ v → (m : Option Module) → home_from ms s ≡ m
           → fits (cond v None (option_and_then (λ m. option_map (λ h. (h, f)) (kept_place homes m.name.octets)) m)) (p, g) ≡ (is_named home m && (f == g))
-      by true e m h = rw (← h) (itself (f == g) refl (eqb-true f k e))
+      by true e m h = rw (← h) (itself (eqb-true f k e))
       by false e None h = refl
-      by false e (Some m) h = rw (placed m.name.octets) (named m (module_place ms m.name.octets) refl)
+      by false e (Some m) h = rw (placed m.name.octets) (named_by m (module_place ms m.name.octets) refl)
 
       key : fits (key_of ms homes s f k) (p, g) ≡ is_of ms home x s
       key = rw (← places_decide (label_from ms) ss (label_from ms s) x f g labelled begins) (by (f == k) refl (home_from ms s) refl)
@@ -82,27 +66,13 @@ module _ (ms : List Module) (homes : Places) (ss : List Source) (old new : Other
 pub first_is : (ms : List Module) (labels : Places) (ss : List Source) (k f : ℕ) (d : Source) → k < length ss
     → ((x : List ℕ) → kept_place labels x ≡ position_from (has_label ms x) 0 (take k ss))
     → f ≡ unwrap_or (kept_place labels (label_from ms (get_or ss k d))) k → position_from (has_label ms (label_from ms (get_or ss k d))) 0 ss ≡ Some f
-first_is ms labels ss k f d inside are is =
-    of_front (has_label ms x) ss (k + 1) f (more (has_label ms x) ss k d inside
-    ∙ rw (same_itself x, ← are x, is) (by (kept_place labels x)))
-  where
-    x : List ℕ
-    x = label_from ms (get_or ss k d)
-
-    by : (r : Option ℕ) → or_else r (Some k) ≡ Some (unwrap_or r k)
-    by None = refl
-    by (Some j) = refl
+first_is ms labels ss k f d inside are is = let x = label_from ms (get_or ss k d) in
+    grind (arith, common_steps, of_front (has_label ms x) ss (k + 1) f, more (has_label ms x) ss k d inside, same_itself x, are x)
 
 -- no source is of a module that isn't there
 pub no_module : (ms : List Module) (ss : List Source) (home x : List ℕ) → module_place ms home ≡ None → position_from (is_of ms home x) 0 ss ≡ None
-no_module ms ss home x e = none_first (is_of ms home x) ss (λ i s l at. rw (named s) refl)
+no_module ms ss home x e = none_first (is_of ms home x) ss (λ i s l at. rw (none s) refl)
   where
-    of : (i : ℕ) (m : Option Module) → slice_get ms i ≡ m → is_named home m ≡ false
-    of i None h = refl
-    of i (Some m) h =
-        let none = rw e at (first (λ (n : Module). same_text n.name.octets home) ms) in
-        none i m (slice_get_within ms i m h) h
-
-    named : (s : Source) → is_named home (home_from ms s) ≡ false
-    named (S.Root n) = refl
-    named (S.Definition i k) = of i (slice_get ms i) refl
+    none : (s : Source) → is_named home (home_from ms s) ≡ false
+    none (S.Root n) = refl
+    none (S.Definition i k) = grind (arith, common_steps, first (λ (n : Module). same_text n.name.octets home) ms, slice_get_within)

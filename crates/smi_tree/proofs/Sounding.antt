@@ -1,6 +1,6 @@
 -- Names of nodes are sound: labels are words, and lead to the nodes that they are shown for.
 use Rattle.std.proofs.{lemmas.Grind.common_steps, lemmas.List.length-map, lemmas.Option.slice_get-map, lemmas.Option.get_or_from_slice_get}
-use Rattle.std.proofs.Common.{◌≡◌, ℕ, zero, suc, ◌≤◌, ◌⊎◌, inl, inr, Bool, true, false, ◌&&◌, List, [], ◌++◌, length, take, Option, Some, None, refl}
+use Rattle.std.proofs.Common.{◌≡◌, ℕ, zero, suc, ◌≤◌, ◌⊎◌, inl, inr, Bool, true, ◌&&◌, List, [], ◌++◌, length, take, Option, Some, None, refl}
 use Rattle.std.proofs.Common.{sym, ap, subst, ◌∙◌, arith}
 use Rattle.std.specs.{Prelude.slice_index_or, List.slice_get, Option.option_and_then}
 use Rattle.smi_text.specs.{trees.Mark.same_text, trees.Word.is_word, declared.trees.tree.Module.Module}
@@ -79,8 +79,7 @@ abbrev pub OneMeaning : Type 0
 OneMeaning = (modules : List Module) (a : QualifiedName) (o p : List ℕ) → Means modules a o → Means modules a p → o ≡ p
 
 both-true : (a b : Bool) → (a && b) ≡ true → (a ≡ true) × (b ≡ true)
-both-true true b e = (refl, e)
-both-true false b e = cc
+both-true a b e = grind (arith, common_steps)
 
 in-its-module : (ms : List Module) (ns : List Node) (ws : List Warning) → OneMeaning → Loads ms ms ns ws → (k : ℕ) (n : Node)
     → slice_get (roots ++ ns) k ≡ Some n → (f : IsOfModule ms n)
@@ -110,24 +109,29 @@ leads-by : (t : Contents) (ns : List Node) (ws : List Warning) → OneMeaning �
 leads-by t ns ws law nodes l k n there (inl r) = rw (root-home r.0 n r.1, nodes) (root-leads ns r.0 n r.1)
 leads-by t ns ws law nodes l k n there (inr f) = grind (arith, common_steps, in-its-module)
 
-pub leads-alike : (naming : Naming) (h i : Option (List ℕ)) (x y o p : List ℕ) → h ≡ i → x ≡ y → o ≡ p → LabelLeadsTo naming h x o → LabelLeadsTo naming i y p
-leads-alike naming h i x y o p e f g leads = rw (sym e, sym f, sym g) leads
-
 word-by : (t : Contents) (n : Node) → ((j : ℕ) × (slice_get roots j ≡ Some n)) ⊎ IsOfModule t.modules n → is_word n.label ≡ true
 word-by t n (inl r) = root-word r.0 n r.1
 word-by t n (inr f) = rw f.is f.definition.label.lexical
 
-pub sound-by : (t : Contents) (ns : List Node) (ws : List Warning) → OneMeaning → t.nodes ≡ roots ++ ns → Loads t.modules t.modules ns ws
+leads-alike : (naming : Naming) (h i : Option (List ℕ)) (x y o p : List ℕ) → h ≡ i → x ≡ y → o ≡ p → LabelLeadsTo naming h x o → LabelLeadsTo naming i y p
+leads-alike naming h i x y o p e f g leads = rw (sym e, sym f, sym g) leads
+
+-- the names are sound if each node's label is a word that leads to it
+pub sound-from : (t : Contents)
+    → ((k : ℕ) (n : Node) → slice_get t.nodes k ≡ Some n → (is_word n.label ≡ true) × LabelLeadsTo (naming_of t) (home_name n.home) n.label n.oid)
     → IsSound (naming_of t)
-sound-by t ns ws law nodes l = record {
+sound-from t each = record {
   within = λ o node e. (stands t o node e).depth;
-  words = λ o node e.
-      let s = stands t o node e in
-      let there = subst (λ (ns : List Node). slice_get ns s.place ≡ Some s.n) nodes s.there in
-      rw s.label (word-by t s.n (root-or-module t.modules ns ws s.place s.n l there));
+  words = λ o node e. let s = stands t o node e in rw s.label (each s.place s.n s.there).0;
   leads = λ o node e.
       let s = stands t o node e in
-      let there = subst (λ (ns : List Node). slice_get ns s.place ≡ Some s.n) nodes s.there in
       leads-alike (naming_of t) (home_name s.n.home) node.home s.n.label node.label s.n.oid (take node.depth o) (sym s.home) (sym s.label) s.oid
-      (leads-by t ns ws law nodes l s.place s.n there (root-or-module t.modules ns ws s.place s.n l there));
+      (each s.place s.n s.there).1;
 }
+
+pub sound-by : (t : Contents) (ns : List Node) (ws : List Warning) → OneMeaning → t.nodes ≡ roots ++ ns → Loads t.modules t.modules ns ws
+    → IsSound (naming_of t)
+sound-by t ns ws law nodes l = sound-from t (λ k n e.
+    let there = subst (λ (ns : List Node). slice_get ns k ≡ Some n) nodes e in
+    let r = root-or-module t.modules ns ws k n l there in
+    (word-by t n r, leads-by t ns ws law nodes l k n there r))

@@ -1,5 +1,5 @@
 -- Nodes of modules have words as labels, which lead to them.
-use Rattle.std.proofs.Common.{arith, ◌≡◌, ℕ, zero, suc, ◌⊎◌, inl, inr, true, List, [], ◌∷◌, ◌++◌, Option, Some, None, is_some, refl, subst}
+use Rattle.std.proofs.Common.{arith, ◌≡◌, ℕ, ◌⊎◌, inl, inr, true, List, [], ◌∷◌, ◌++◌, Option, Some, None, is_some, refl, subst}
 use Rattle.std.proofs.lemmas.Grind.{common_steps}
 use Rattle.std.specs.List.{slice_get}
 use Rattle.smi_names.specs.declared.chains.resolution.Resolution.TheVariants as R
@@ -20,31 +20,25 @@ pub record IsOfModule (ms : List Module) (n : Node) : Type 0 where
 
 in-either : {A : Type 0} (xs ys : List A) (k : ℕ) (x : A) → slice_get (xs ++ ys) k ≡ Some x → (slice_get xs k ≡ Some x) ⊎ ((j : ℕ) × (slice_get ys j ≡ Some x))
 in-either [] ys k x e = inr (k, e)
-in-either (y ∷ xs) ys zero x e = inl e
-in-either (y ∷ xs) ys (suc k) x e = in-either xs ys k x e
+in-either (y ∷ xs) ys k x e = grind (arith, common_steps, in-either xs ys)
 
 given : (ms : List Module) (m : Module) (d : Def) (v : Option (List Part)) (ns : List Node) (ws : List Warning) (k : ℕ) (n : Node)
     → is_loaded ms m.name.octets ≡ true → GivesNodesBy ms m d v ns ws → slice_get ns k ≡ Some n → IsOfModule ms n
 given ms m d None ns ws k n l g e = let at : slice_get [] k ≡ Some n = rw g.0 at e in cc
-given ms m d (Some v) ns ws k n l (R.Numbers o, comes, is, w) e = one k (rw is at e)
-  where
-    one : (k : ℕ) → slice_get (node_of m d o ∷ []) k ≡ Some n → IsOfModule ms n
-    one zero f =
-        let here : node_of m d o ≡ n = cc in
-        let P : Node → Type 0 = λ n. IsOfModule ms n in
-        subst P here (record { home = m; definition = d; is = refl; loaded = l; means = comes.0 })
-    one (suc k) f = cc
+given ms m d (Some v) ns ws k n l (R.Numbers o, comes, is, w) e =
+    let one = rw is at e in
+    let here : node_of m d o ≡ n = grind (arith, common_steps) in
+    let P : Node → Type 0 = λ n. IsOfModule ms n in
+    subst P here (record { home = m; definition = d; is = refl; loaded = l; means = comes.0 })
 given ms m d (Some v) ns ws k n l (_, comes, is, w) e = let at : slice_get [] k ≡ Some n = rw is at e in cc
 
 gathered : (ms : List Module) (m : Module) (ds : List Def) (ns : List Node) (ws : List Warning) (k : ℕ) (n : Node) → is_loaded ms m.name.octets ≡ true
     → Gathers ms m ds ns ws → slice_get ns k ≡ Some n → IsOfModule ms n
 gathered ms m _ _ _ k n l none e = cc
-gathered ms m _ _ _ k n l (more ds d ns more_nodes ws more_warnings g gives) e =
-    by (in-either ns more_nodes k n e) (gathered ms m ds ns ws k n l g)
-  where
-    by : (slice_get ns k ≡ Some n) ⊎ ((j : ℕ) × (slice_get more_nodes j ≡ Some n)) → (slice_get ns k ≡ Some n → IsOfModule ms n) → IsOfModule ms n
-    by (inl f) rest = rest f
-    by (inr f) rest = given ms m d (identifier_value_of d.kind) more_nodes more_warnings f.0 n l gives f.1
+gathered ms m _ _ _ k n l (more ds d ns more_nodes ws more_warnings g gives) e = elim (in-either ns more_nodes k n e) [
+  | inl f ↦ gathered ms m ds ns ws k n l g f
+  | inr f ↦ given ms m d (identifier_value_of d.kind) more_nodes more_warnings f.0 n l gives f.1
+]
 
 -- a module more
 loaded-more : (ms : List Module) (m : Module) (x : List ℕ) → is_loaded ms x ≡ true → is_loaded (ms ++ m ∷ []) x ≡ true
@@ -63,12 +57,10 @@ brought ms before m _ _ k n l (loaded ns ws first g) e = gathered ms m m.defs ns
 each-loaded : (ms before : List Module) (ns : List Node) (ws : List Warning) (k : ℕ) (n : Node)
     → ((x : List ℕ) → is_loaded before x ≡ true → is_loaded ms x ≡ true) → Loads ms before ns ws → slice_get ns k ≡ Some n → IsOfModule ms n
 each-loaded ms _ _ _ k n h none_yet e = cc
-each-loaded ms _ _ _ k n h (then_module before m ns more_nodes ws more_warnings l b) e =
-    by (in-either ns more_nodes k n e) (each-loaded ms before ns ws k n (λ x f. h x (loaded-more before m x f)) l)
-  where
-    by : (slice_get ns k ≡ Some n) ⊎ ((j : ℕ) × (slice_get more_nodes j ≡ Some n)) → (slice_get ns k ≡ Some n → IsOfModule ms n) → IsOfModule ms n
-    by (inl f) rest = rest f
-    by (inr f) rest = brought ms before m more_nodes more_warnings f.0 n (h m.name.octets (loaded-last before m)) b f.1
+each-loaded ms _ _ _ k n h (then_module before m ns more_nodes ws more_warnings l b) e = elim (in-either ns more_nodes k n e) [
+  | inl f ↦ each-loaded ms before ns ws k n (λ x g. h x (loaded-more before m x g)) l f
+  | inr f ↦ brought ms before m more_nodes more_warnings f.0 n (h m.name.octets (loaded-last before m)) b f.1
+]
 
 -- a node of a tree is a root, or of a module
 pub root-or-module : (ms : List Module) (ns : List Node) (ws : List Warning) (k : ℕ) (n : Node) → Loads ms ms ns ws

@@ -1,6 +1,6 @@
 -- What is kept for the sources of nodes is their syntax.
-use Rattle.std.proofs.lemmas.Grind.{common_steps}
-use Rattle.std.proofs.Common.{◌≡◌, ℕ, zero, suc, List, [], ◌∷◌, Option, Some, None, slice_index_or, length, refl, sym, ap, arith}
+use Rattle.std.proofs.{lemmas.Grind.common_steps, lemmas.List.length-map, lemmas.List.get_or_past}
+use Rattle.std.proofs.Common.{◌≡◌, ℕ, zero, suc, List, ◌∷◌, Option, Some, None, slice_index_or, length, refl, sym, ◌∙◌, arith}
 use Rattle.std.specs.List.{slice_get}
 use Rattle.smi_text.specs.declared.trees.tree.Module.{Module}
 use Rattle.smi_names.specs.{nodes.Nodes.Node, declared.nodes.gather.Gathered.Gathered, declared.nodes.source.Source.Source}
@@ -11,7 +11,7 @@ use Rattle.smi_tree.specs.{types.Chain.no_type, types.Types.object_in, types.Typ
 use Rattle.smi_tree.specs.{declared.types.types.Types.Types, columns.Index.AreIndexesOf, Tree.IsTree, Kept.contents}
 use Rattle.smi_tree.specs.Shown.{IsSyntaxOf, AreSyntaxesOf, syntax_from, syntaxes_from}
 use Rattle.smi_show.specs.declared.index.part.IndexPart.{IndexPart}
-use Rattle.smi_tree.proofs.{Bridging.parts, Following.no_syntax}
+use Rattle.smi_tree.proofs.{Bridging.parts, Bridging.length-nodes, Following.no_syntax, Following.past_get}
 
 same_object : (ms : List Module) (i k : ℕ) → object_in (slice_get ms i) (gathered.def_of_module (slice_get ms i) k) ≡ object_origin ms i k
 same_object ms i k = grind (arith, common_steps)
@@ -27,18 +27,11 @@ module _ (ms : List Module) (t : Types) (right : AreTypesOf ms t) where
   each_right (s ∷ ss) (o ∷ os) (suc k) n e = each_right ss os k n e
   each_right _ _ k n e = absurd (cc)
 
-  as_many : (ss : List Source) (os : List (List ℕ)) → length ss ≡ length os → length (syntaxes_from ms t ss) ≡ length (nodes_of ms ss os)
-  as_many [] os l = refl
-  as_many (s ∷ ss) [] l = absurd (omega arith)
-  as_many (s ∷ ss) (o ∷ os) l = ap (λ n. suc n) (as_many ss os (omega arith))
-
   pub syntaxes_right : (ss : List Source) (os : List (List ℕ)) → length ss ≡ length os → AreSyntaxesOf ms (nodes_of ms ss os) (syntaxes_from ms t ss)
-  syntaxes_right ss os l = record { long = as_many ss os l; each = each_right ss os }
+  syntaxes_right ss os l = record { long = length-map ss (syntax_from ms t) ∙ sym (length-nodes ms ss os l); each = each_right ss os }
 
 pub kept-none : (ms : List Module) (t : Types) (ss : List Source) (k : ℕ) → slice_get ss k ≡ None → slice_index_or (syntaxes_from ms t ss) k None ≡ None
-kept-none ms t [] k e = refl
-kept-none ms t (s ∷ ss) zero e = absurd (cc)
-kept-none ms t (s ∷ ss) (suc k) e = kept-none ms t ss k e
+kept-none ms t ss k e = get_or_past (syntaxes_from ms t ss) k None (rw (length-map ss (syntax_from ms t)) (past_get ss k e))
 
 -- what is gathered, with the types and indexes of the modules, is a tree: each of its clauses is one of
 -- these premises, said of the nodes that the sources and identifiers make

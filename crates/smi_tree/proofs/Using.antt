@@ -1,6 +1,7 @@
 -- The rows of columns, and the INDEX clauses that they use.
-use Rattle.std.proofs.{lemmas.Grind.common_steps, lemmas.List.same_from_push, lemmas.Option.slice_get_within, lemmas.Option.get_or_from_slice_get}
-use Rattle.std.proofs.Common.{◌≡◌, ℕ, ◌≤◌, List, [], ◌∷◌, ◌++◌, length, MatchOption, Option, Some, None, refl, sym, ap, ◌∙◌, arith}
+use Rattle.std.proofs.{lemmas.Grind.common_steps, lemmas.List.same_from_push}
+use Rattle.std.proofs.lemmas.Option.{slice_get_within, slice_get-get_or, slice_get_read}
+use Rattle.std.proofs.Common.{◌≡◌, ℕ, ◌<◌, ◌≤◌, List, [], ◌∷◌, ◌++◌, length, get_or, MatchOption, Option, Some, None, refl, sym, ap, ◌∙◌, arith}
 use Rattle.std.specs.List.{slice_get}
 use Rattle.smi_tree.specs.{branches.Standing.place_of, branches.Standing.oid_at, columns.Definitions.qualified_name}
 use Rattle.smi_text.specs.{declared.trees.tree.Module.Module, declared.trees.tree.Def.Def, declared.trees.tree.Index.TheVariants.Own}
@@ -11,13 +12,20 @@ use Rattle.smi_names.specs.declared.nodes.source.Source.TheVariants as S
 use Rattle.smi_tree.specs.columns.Index.{IsObjectType, IsColumnOf, StandsAt, clause_of}
 use Rattle.smi_tree.specs.private.columns.Named.{IsFoundAt, IsUndefined}
 use Rattle.smi_tree.specs.columns.Kept.{UsesAt, UsesNone, HasNoRow, HasRowOrNone}
-use Rattle.smi_tree.proofs.{Lists.get_within, Bridging.parts, Bridging.length-nodes, Bridging.oids-nodes, Bridging.nodes-get, Bridging.node-at}
+use Rattle.smi_tree.proofs.Bridging.{parts, length-nodes, oids-nodes, node-at}
 
 -- ---- the clause that a row uses
 
-module _ (ms : List Module) (i k : ℕ) (m : Module) (d : Def) (at : slice_get ms i ≡ Some m) (there : slice_get m.defs k ≡ Some d) where
+module _ (ms : List Module) (i k : ℕ) (m : Module) (d : Def) (in_ms : i < length ms) (m_is : m ≡ get_or ms i m)
+    (in_defs : k < length m.defs) (d_is : d ≡ get_or m.defs k d) where
+  at_module : slice_get ms i ≡ Some m
+  at_module = slice_get_read ms (length ms) i m refl in_ms m_is
+
+  at_def : slice_get m.defs k ≡ Some d
+  at_def = slice_get_read m.defs (length m.defs) k d refl in_defs d_is
+
   node_here : (o : List ℕ) → node_from ms (S.Definition i k) o ≡ node_of m d o
-  node_here o = rw (at, there) refl
+  node_here o = rw (at_module, at_def) refl
 
   pub uses_own : (clause : IndexParts) → clause_of d.kind ≡ Some (Own clause) → (o : List ℕ) → UsesAt ms (node_from ms (S.Definition i k) o) i k
   uses_own clause is o = rw (node_here o) (record {
@@ -26,9 +34,9 @@ module _ (ms : List Module) (i k : ℕ) (m : Module) (d : Def) (at : slice_get m
     row_definition = d;
     defined = refl;
     index_module = m;
-    at_module = at;
+    at_module = at_module;
     index_definition = d;
-    there = there;
+    there = at_def;
     uses = rw is (refl, refl);
   })
 
@@ -52,92 +60,67 @@ module _ (ms : List Module) (i k : ℕ) (m : Module) (d : Def) (at : slice_get m
 -- ---- the row of a column
 
 module _ (ms : List Module) (ss : List Source) (os : List (List ℕ)) (long : length ss ≡ length os) where
-  -- the node that stands for an identifier, by its place
-  pub stands : (oid : List ℕ) (k : ℕ) (s : Source) (o : List ℕ) → place_of os oid ≡ Some k → slice_get ss k ≡ Some s → slice_get os k ≡ Some o
-      → StandsAt (nodes_of ms ss os) oid (node_from ms s o)
-  stands oid k s o first at there = record { place = k; first = rw (oids-nodes ms ss os long) first; there = node-at ms ss os k s o at there }
+  abbrev nodes : List Node
+  nodes = nodes_of ms ss os
 
-  pub stands_at : (oid : List ℕ) (row : Node) (st : StandsAt (nodes_of ms ss os) oid row) → place_of os oid ≡ Some st.place
+  stands_at : (oid : List ℕ) (row : Node) (st : StandsAt nodes oid row) → place_of os oid ≡ Some st.place
   stands_at oid row st = rw (oids-nodes ms ss os long) at st.first
 
-  pub place_is : (oid : List ℕ) (row : Node) (k : ℕ) (s : Source) → place_of os oid ≡ Some k → slice_get ss k ≡ Some s
-      → StandsAt (nodes_of ms ss os) oid row → (o : List ℕ) × (row ≡ node_from ms s o)
-  place_is oid row k s first at st =
-      let other = stands_at oid row st in
-      let same : st.place ≡ k = cc in
-      let there = rw same at st.there in
-      let got = nodes-get ms ss os k row there in
-      let read = got.2 in
-      let one : got.0 ≡ s = cc in
-      (got.1, got.4 ∙ rw one refl)
+  module _ (k : ℕ) (within : k < length ss) where
+    abbrev source : Source
+    source = get_or ss k (S.Root 0)
 
-  module _ (k : ℕ) (node : Node) (s : Source) (there : slice_get (nodes_of ms ss os) k ≡ Some node) (at : slice_get ss k ≡ Some s) where
-    -- the node of a source
-    node_is : (o : List ℕ) × (slice_get os k ≡ Some o) × (node ≡ node_from ms s o)
-    node_is =
-        let got = nodes-get ms ss os k node there in
-        let read = got.2 in
-        let one : got.0 ≡ s = cc in
-        (got.1, got.3, got.4 ∙ rw one refl)
+    node_is : (node : Node) → slice_get nodes k ≡ Some node → node ≡ node_from ms source (oid_at os k)
+    node_is node there = let is = node-at ms ss os long k source (slice_get-get_or ss k (S.Root 0) within) in cc
 
-    definition_is : node.definition ≡ (node_from ms s node_is.0).definition
-    definition_is = ap (λ (n : Node). n.definition) node_is.2
+    definition_is : (node : Node) → slice_get nodes k ≡ Some node → node.definition ≡ (node_from ms source (oid_at os k)).definition
+    definition_is node there = ap (λ (n : Node). n.definition) (node_is node there)
 
-    oid_is : oid_at os k ≡ node.oid
-    oid_is =
-        let here : node.oid ≡ node_is.0 = ap (λ (n : Node). n.oid) node_is.2 ∙ ap (λ (n : Node). n.oid) (parts ms s node_is.0) in
-        get_or_from_slice_get os k node_is.0 [] node_is.1 ∙ sym here
+    oid_is : (node : Node) → slice_get nodes k ≡ Some node → node.oid ≡ oid_at os k
+    oid_is node there = ap (λ (n : Node). n.oid) (node_is node there ∙ parts ms source (oid_at os k))
 
-    pub no_row_undefined : ((o : List ℕ) → None ≡ (node_from ms s o).definition) → HasNoRow ms (nodes_of ms ss os) node
-    no_row_undefined none = λ row column m d n e home defined uses.
-        let some = column.object.2 in
-        let is = definition_is in
-        let other = none node_is.0 in
-        absurd (cc)
+    pub no_row_undefined : ((o : List ℕ) → None ≡ (node_from ms source o).definition) → (node : Node) → slice_get nodes k ≡ Some node
+        → HasNoRow ms nodes node
+    no_row_undefined none node there row column =
+        let some = column.object.2 in let is = definition_is node there in let other = none (oid_at os k) in absurd (cc)
 
-    pub no_row_other : (d : Def) → ((o : List ℕ) → Some d ≡ (node_from ms s o).definition) → (IsObjectType (Some d) → ⊥)
-        → HasNoRow ms (nodes_of ms ss os) node
-    no_row_other d is other = λ row column m x n e home defined uses.
-        let same : node.definition ≡ Some d = definition_is ∙ sym (is node_is.0) in
-        other (rw same at column.object)
+    pub no_row_other : (d : Def) → ((o : List ℕ) → Some d ≡ (node_from ms source o).definition) → (IsObjectType (Some d) → ⊥)
+        → (node : Node) → slice_get nodes k ≡ Some node → HasNoRow ms nodes node
+    no_row_other d is other node there row column = absurd (other (rw (definition_is node there ∙ sym (is (oid_at os k))) at column.object))
 
     pub no_row_place : ((front : List ℕ) (last row : ℕ) → oid_at os k ≡ front ++ last ∷ [] → place_of os front ≡ Some row → ⊥)
-        → HasNoRow ms (nodes_of ms ss os) node
-    no_row_place none = λ row column m d n e home defined uses.
-        none column.front column.last column.stands.place (oid_is ∙ column.below) (stands_at column.front row column.stands)
+        → (node : Node) → slice_get nodes k ≡ Some node → HasNoRow ms nodes node
+    no_row_place none node there row column =
+        absurd (none column.front column.last column.stands.place (sym (oid_is node there) ∙ column.below) (stands_at column.front row column.stands))
 
     module _ (front : List ℕ) (last r : ℕ) (below : oid_at os k ≡ front ++ last ∷ []) (first : place_of os front ≡ Some r) where
-      front_is : (row : Node) (column : IsColumnOf (nodes_of ms ss os) node row) → column.front ≡ front
-      front_is row column = (same_from_push column.front front column.last last (sym column.below ∙ sym oid_is ∙ below)).0
-
-      pub no_row_source : length ss ≤ r → HasNoRow ms (nodes_of ms ss os) node
-      no_row_source past = λ row column m d n e home defined uses.
-          let found = rw (front_is row column) at (stands_at column.front row column.stands) in
+      -- the row stands at the place that was found
+      row_at : (node : Node) → slice_get nodes k ≡ Some node → (row : Node) → IsColumnOf nodes node row → slice_get nodes r ≡ Some row
+      row_at node there row column =
+          let front_is = (same_from_push column.front front column.last last (sym column.below ∙ oid_is node there ∙ below)).0 in
+          let found = rw front_is at (stands_at column.front row column.stands) in
           let same : column.stands.place ≡ r = cc in
-          let inside = slice_get_within (nodes_of ms ss os) column.stands.place row column.stands.there in
-          absurd (omega (arith, length-nodes ms ss os long))
+          rw same at column.stands.there
 
-      pub row_is : (d : Def) (rs : Source) (at : Option (ℕ × ℕ)) → ((o : List ℕ) → Some d ≡ (node_from ms s o).definition) → IsObjectType (Some d)
+      pub no_row_source : length ss ≤ r → (node : Node) → slice_get nodes k ≡ Some node → HasNoRow ms nodes node
+      no_row_source past node there row column =
+          let inside = slice_get_within nodes r row (row_at node there row column) in absurd (omega (arith, length-nodes ms ss os long))
+
+      pub row_is : (d : Def) (rs : Source) (at : Option (ℕ × ℕ)) → ((o : List ℕ) → Some d ≡ (node_from ms source o).definition) → IsObjectType (Some d)
           → slice_get ss r ≡ Some rs
           → MatchOption at ((o : List ℕ) → UsesNone ms (node_from ms rs o)) (λ p. (o : List ℕ) → UsesAt ms (node_from ms rs o) p.0 p.1)
-          → HasRowOrNone ms (nodes_of ms ss os) node at
-      row_is d rs None is object read none = λ row column m x n e home defined uses.
-          let stands = rw (front_is row column) at column.stands in
-          let here = place_is front row r rs first read stands in
-          let unused : UsesNone ms row = rw here.1 (none here.0) in
-          unused m x n e home defined uses
-      row_is d rs (Some p) is object read uses =
-          let inside = slice_get_within ss r rs read in
-          let oid = get_within os r (omega (arith, long)) in
-          let same : node.definition ≡ Some d = definition_is ∙ sym (is node_is.0) in
-          record {
-            row = node_from ms rs oid.0;
-            of_row = record {
-              object = rw same object;
-              front = front;
-              last = last;
-              below = sym oid_is ∙ below;
-              stands = stands front r rs oid.0 first read oid.1;
-            };
-            used = uses oid.0;
-          }
+          → (node : Node) → slice_get nodes k ≡ Some node → HasRowOrNone ms nodes node at
+      row_is d rs None is object read none node there = λ row column.
+          let here = node-at ms ss os long r rs read in let got = row_at node there row column in
+          let same : row ≡ node_from ms rs (oid_at os r) = cc in rw same (none (oid_at os r))
+      row_is d rs (Some p) is object read uses node there = record {
+        row = node_from ms rs (oid_at os r);
+        of_row = record {
+          object = rw (definition_is node there ∙ sym (is (oid_at os k))) object;
+          front = front;
+          last = last;
+          below = oid_is node there ∙ below;
+          stands = record { place = r; first = rw (oids-nodes ms ss os long) first; there = node-at ms ss os long r rs read };
+        };
+        used = uses (oid_at os r);
+      }

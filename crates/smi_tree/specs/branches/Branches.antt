@@ -1,5 +1,5 @@
 -- What follows each beginning of an identifier of a list.
-use Rattle.std.specs.Prelude.{◌≡◌, ◌≢◌, ℕ, ◌+◌, ◌<◌, ◌≤◌, List, [], ◌∷◌, ◌++◌, length, take}
+use Rattle.std.specs.Prelude.{◌≡◌, ◌≢◌, ℕ, ◌+◌, ◌<◌, ◌≤◌, ◌⊎◌, List, [], ◌∷◌, ◌++◌, length, take}
 use Rattle.std.specs.Prelude.{slice_index_or, Option, Some, None}
 use Rattle.std.specs.{List.slice_get, Option.option_and_then, Ordering.nat_cmp, BTreeMap.get}
 use Rattle.smi_tree.specs.branches.Standing.{place_of, oid_at}
@@ -45,15 +45,20 @@ AreBranchesOf oids bs = AreBranches oids oids bs
 
 -- ---- for private functions
 
--- branch `at` leads by the number n to a branch that was there or is added, and nothing else is
--- changed
-pub data GrowsBranch (old new : List Branch) (at n : ℕ) : ℕ → Type 0 where
-  there : {b : ℕ} → new ≡ old → follower old at n ≡ Some b → GrowsBranch old new at n b
-  made : {b : ℕ} → b ≡ length old → length new ≡ length old + 1 → follower old at n ≡ None
-      → follower new at n ≡ Some b
-      → ((c m : ℕ) → (c ≡ at → m ≡ n → ⊥) → follower new c m ≡ follower old c m)
-      → ((c : ℕ) → standing_at new c ≡ standing_at old c)
-      → GrowsBranch old new at n b
+-- a number leads from branch `at` to b, which was added, and nothing else is changed
+pub record AddsBranch (old new : List Branch) (at n b : ℕ) : Type 0 where
+  pub is : b ≡ length old
+  pub long : length new ≡ b + 1
+  pub none : follower old at n ≡ None
+  pub back : (c m d : ℕ) → follower new c m ≡ Some d
+      → (follower old c m ≡ Some d) ⊎ ((c ≡ at) × (m ≡ n) × (d ≡ b))
+  pub standing : (c : ℕ) → standing_at new c ≡ standing_at old c
+
+-- branch `at` leads by the number n to a branch that was there or is added
+pub record GrowsBranch (old new : List Branch) (at n b : ℕ) : Type 0 where
+  pub leads : follower new at n ≡ Some b
+  pub kept : (c m d : ℕ) → follower old c m ≡ Some d → follower new c m ≡ Some d
+  pub adds : (new ≡ old) ⊎ AddsBranch old new at n b
 
 -- the place that stands at a branch, as the deepest one; the deepest before it, if none stands
 -- there

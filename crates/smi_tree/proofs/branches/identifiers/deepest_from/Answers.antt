@@ -17,20 +17,10 @@ ended oids bs are o i at r l here far none = grind (arith, common_steps, none_be
 
 pub numbers-preserved : goal.numbers-preserved
 numbers-preserved c =
-    let oids = c.args.oids.now in
-    let bs = c.args.branches.now in
-    let o = c.as_slice-numbers.result.now in
-    let leads : follower bs c.numbers.at (get_or o c.numbers.i 0) ≡ Some c.in-Some.longer = search rules in
-    let is : c.deeper-deepest.result ≡ deeper_of (standing_at bs c.in-Some.longer) c.in-Some.longer (c.numbers.i + 1) c.numbers.deepest = search rules in
-    preserved oids bs c.requires.branches o c.numbers.i c.numbers.at c.in-Some.longer
-    c.numbers.deepest c.deeper-deepest.result (search rules) c.numbers.invariant.0 c.numbers.invariant.1 leads is
+    preserved c.args.oids.now c.args.branches.now c.requires.branches c.as_slice-numbers.result.now c.numbers.i c.numbers.at c.in-Some.longer
+    c.numbers.deepest c.deeper-deepest.result (search rules) c.numbers.invariant.0 c.numbers.invariant.1 (search rules) (search rules)
 
 pub returns-in_default : goal.returns-in_default
-returns-in_default c =
-    let oids = c.args.oids.now in
-    let bs = c.args.branches.now in
-    let o = c.as_slice-numbers.result.now in
-    let none : follower bs c.numbers.at (get_or o c.numbers.i 0) ≡ None = search rules in
-    let far = ended oids bs c.requires.branches o c.numbers.i c.numbers.at
-    c.numbers.deepest (search rules) c.numbers.invariant.0 c.numbers.invariant.1 none in
-    rw (sym c.as_slice-numbers.ensures.value) (SoFar-whole oids o c.numbers.deepest far)
+returns-in_default c = rw (sym c.as_slice-numbers.ensures.value) (SoFar-whole c.args.oids.now c.as_slice-numbers.result.now c.numbers.deepest
+    (ended c.args.oids.now c.args.branches.now c.requires.branches c.as_slice-numbers.result.now c.numbers.i c.numbers.at c.numbers.deepest (search rules)
+    c.numbers.invariant.0 c.numbers.invariant.1 (search rules)))
