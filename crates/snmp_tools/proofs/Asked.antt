@@ -1,23 +1,27 @@
--- What a run over the agent in memory gave.
-use Rattle.std.proofs.lemmas.Grind.{common_steps}
-use Rattle.std.proofs.Common.{◌≡◌, ◌⊎◌, inl, inr, ◌++◌, ◌<◌, ℕ, true, List, [], ◌∷◌, All, length, Option, Some, None, refl, sym, ◌∙◌, ap, subst}
-use Rattle.std.proofs.Common.{arith}
-use Rattle.snmp_oid.specs.Identifier.{IsWire, wire}
+-- What a run gave of one table, and how one over the agent in memory ended.
+use Rattle.std.proofs.{lemmas.List.Elements.All-contains, lemmas.List.Elements.filter_passes}
+use Rattle.std.proofs.Common.{◌≡◌, ◌⊎◌, inl, inr, ◌++◌, ◌<◌, ◌≤◌, ℕ, zero, suc, Bool, true, List, [], ◌∷◌, length, Option, Some, None, refl, sym, ◌∙◌}
+use Rattle.std.proofs.Common.{ap, arith, subst}
+use Rattle.std.specs.Prelude.{filter}
+use Rattle.snmp_oid.specs.Identifier.{IsBelow, Precedes, wire}
 use Rattle.smi_value.specs.declared.letters.letters.Letters.{Letters}
 use Rattle.snmp_io.specs.Output.{Stream}
 use Rattle.snmp_wire.specs.{Canon.canon, Message.VarBind}
-use Rattle.snmp_agent.specs.{table.Exact.HasOne, table.Listing.variables, table.Table.MibView, table.Table.IsMibView, table.Table.IsGet}
-use Rattle.snmp_walk.specs.{Facts.WalkFacts, Facts.IsLawfulEnd, Facts.HasNone, Facts.IsDone, Facts.IsDoneOrStopped, Get.GetFacts, Get.IsEndOfGet}
-use Rattle.snmp_walk.specs.{Get.IsLostGet, Get.IsTooBig, Link.Agents, Link.IsUnanswered, Ran.IsFreshAndHonest, Room.HasRoomForEach, Room.HasIds}
-use Rattle.snmp_walk.specs.{Traffic.Lost, Traffic.Traffic, Walker.Walker, declared.end.WalkEnd.WalkEnd, declared.link.Link.Ghosts as LinkFacts}
+use Rattle.snmp_agent.specs.{table.Exact.HasOne, table.Listing.variables}
+use Rattle.snmp_agent.specs.table.Table.{MibView, IsMibView, IsGet, IsRow}
+use Rattle.snmp_walk.specs.Facts.{GivenFacts, HasNone, IsDone, IsDoneOrStopped, IsLawfulEnd, WalkFacts, walk_at}
+use Rattle.snmp_walk.specs.Get.{GetFacts, IsEndOfGet, IsLostGet, IsTooBig}
+use Rattle.snmp_walk.specs.{Link.Agents, Link.IsUnanswered, Link.OneOf, Names.comes_after, Ran.IsFreshAndHonest, Traffic.Lost, Traffic.Traffic}
+use Rattle.snmp_walk.specs.{Walker.Walker, declared.end.WalkEnd.WalkEnd, declared.link.Link.Ghosts as LinkFacts, declared.mode.Mode.Mode}
+use Rattle.snmp_walk.specs.Walk.{or_only, rest_of, rows_below, rows_named, walk_from, walk_of}
 use Rattle.snmp_walk.specs.declared.end.SinkFault.TheVariants as sink
 use Rattle.snmp_walk.specs.declared.end.WalkEnd.TheVariants as ending
-use Rattle.snmp_tools.specs.Answer.{AreRowsAfter, CanBeSent, Counts, HasReason, IsAsked, IsAskedOver, IsOwnEnd, agent_over, end_in_memory}
+use Rattle.snmp_walk.specs.declared.mode.Mode.TheVariants as mode
+use Rattle.snmp_tools.specs.Answer.{AreRowsAfter, AreRowsOf, Counts, HasReason, IsAsked, IsAskedOver, IsOwnEnd, agent_over, end_in_memory}
 use Rattle.snmp_tools.specs.Answer.{first_after, first_of, request_for}
-use Rattle.snmp_tools.specs.{Lines.IsPrintedUpTo, Mib.Mib, declared.start.Begun.Begun}
+use Rattle.snmp_tools.specs.{Lines.IsPrintedUpTo, Mib.Mib}
 use Rattle.snmp_tools.specs.Question.{Plan, Question, Walk, counts_in, names, subtree}
-use Rattle.snmp_tools.specs.private.Start.{CanRun, IsBegun, IsRunOver, IsStartOf, rows_given}
-use Rattle.snmp_tools.specs.declared.start.Begun.TheVariants as begun
+use Rattle.snmp_tools.proofs.TableWalks.{BelowAreRows, one_is_contained}
 
 own_end : (end : WalkEnd) → IsDoneOrStopped end → IsOwnEnd (end_in_memory end)
 own_end (ending.Done n) s = tt
@@ -58,105 +62,136 @@ pub counted : (question : Question) (plan : Plan) (view : MibView) (given : List
 counted (names os) plan view given end reason e = let no : ⊥ = cc in absurd no
 counted (subtree w) plan view given end reason e = reason.1
 
--- the rows of a walk, with the answer to a Get of the name that it begins from
-pub begun_rows : (after : Option (List ℕ)) (community : List ℕ) (w : Walk) (view : MibView) (rows : List VarBind) (asked : List ℕ) → AreRowsAfter after w view rows
-    → asked ≡ (first_after after community w).asked → HasOne (IsGet view asked)
-    → (got : VarBind) × IsGet view asked got × (rows ≡ rows_given after w got (variables view))
-begun_rows None community w view rows asked are e one = (are.0, subst (λ (o : List ℕ). IsGet view o are.0) (sym e) are.1, are.2)
-begun_rows (Some after) community w view rows asked are e one = (one.0, one.1, are)
+all_pass : (test : VarBind → Bool) (rows : List VarBind) → ((row : VarBind) → OneOf rows row → test row ≡ true) → filter test rows ≡ rows
+all_pass test [] each = refl
+all_pass test (row ∷ more) each =
+    rw (each row (inl refl)) (ap (λ (s : List VarBind). row ∷ s) (all_pass test more (λ other one. each other (inr one))))
 
-module _ (plan : Plan) (view : MibView) (tries : ℕ) (old new : Traffic) (rows refused : List VarBind) (end : WalkEnd) (none : old.ahead ≡ []) where
-  module _ (some : 0 < tries) (os : List (List ℕ))
-      (facts : GetFacts (agent_over plan view) tries old (request_for plan os) os rows refused end new) where
-    abbrev Unanswered : Type 0
-    Unanswered = IsUnanswered (agent_over plan view) (canon (request_for plan os))
+-- an instance below the root comes after the root as it is sent
+after_wire : (root o : List ℕ) → 3 ≤ length o → IsBelow o root → Precedes (wire root) o
+after_wire (a ∷ b ∷ root) o long below = inl below
+after_wire [] o long ([], some, e) = absurd (some refl)
+after_wire [] o long (x ∷ [], some, e) = let short : length o ≡ 1 = ap length e in absurd (omega (arith, long, short))
+after_wire [] o long (x ∷ y ∷ [], some, e) = let short : length o ≡ 2 = ap length e in absurd (omega (arith, long, short))
+after_wire [] o long (zero ∷ zero ∷ z ∷ rest, some, e) = inl (z ∷ rest, λ h. cc, e)
+after_wire [] o long (zero ∷ suc k ∷ z ∷ rest, some, e) =
+    inr record { front = 0 ∷ []; smaller = 0; larger = suc k; after = []; behind = z ∷ rest; this = refl; that = e; is_smaller = omega arith }
+after_wire [] o long (suc k ∷ y ∷ z ∷ rest, some, e) =
+    inr record { front = []; smaller = 0; larger = suc k; after = 0 ∷ []; behind = y ∷ z ∷ rest; this = refl; that = e; is_smaller = omega arith }
+after_wire (a ∷ []) o long ([], some, e) = absurd (some refl)
+after_wire (a ∷ []) o long (y ∷ [], some, e) = let short : length o ≡ 2 = ap length e in absurd (omega (arith, long, short))
+after_wire (a ∷ []) o long (zero ∷ z ∷ rest, some, e) = inl (z ∷ rest, λ h. cc, e)
+after_wire (a ∷ []) o long (suc k ∷ z ∷ rest, some, e) =
+    inr record { front = a ∷ []; smaller = 0; larger = suc k; after = []; behind = z ∷ rest; this = refl; that = e; is_smaller = omega arith }
 
-    abbrev Loses : List (Option ℕ) → Type 0
-    Loses used = Lost (agent_over plan view) (old.sent ++ canon (request_for plan os) ∷ []) (canon (request_for plan os)) used tries 0
+-- which rows are left below the root after a name
+abbrev pub LeftAreRows : Type 0
+LeftAreRows = (view : MibView) (root o : List ℕ) (p : VarBind) → IsMibView view
+    → (OneOf (rest_of root o (variables view)) p → IsRow view p × IsBelow p.name root × Precedes o p.name)
+    × (IsRow view p × IsBelow p.name root × Precedes o p.name → OneOf (rest_of root o (variables view)) p)
 
-    unanswered : IsLostGet (agent_over plan view) tries old (canon (request_for plan os)) new → Unanswered
-    unanswered lost = by_cause lost.lost
-      where
-        by_cause : Unanswered ⊎ ((used : List (Option ℕ)) × (old.ahead ≡ used ++ new.ahead) × Loses used) → Unanswered
-        by_cause (inl u) = u
-        by_cause (inr h) =
-            let lost_none : Loses [] = subst Loses (none_used h.0 new.ahead old.ahead h.1 none) h.2 in
-            absurd (omega (arith, some, lost_none))
+-- the rows given are a front of those that a question asks for, and all of them where that is done
+pub record GivesRows (question : Question) (view : MibView) (given refused : List VarBind) (end : WalkEnd) : Type 0 where
+  pub front : (rows : List VarBind) → AreRowsOf question view rows → (more : List VarBind) × (rows ≡ (given ++ refused) ++ more)
+  pub whole : (rows : List VarBind) → AreRowsOf question view rows → IsDone end → given ≡ rows
 
-    ends_in : (why : WalkEnd) → end ≡ why
-        → IsEndOfGet (IsTooBig (agent_over plan view) (request_for plan os) os) ⊥ (Unit {0}) (request_for plan os) os why
-        → HasReason (names os) plan view rows (end_in_memory why)
-    ends_in (ending.NoProgress asked) e h = absurd h
-    ends_in ending.BadReply e h = absurd h
-    ends_in (ending.NotIncreasing last next) e h = absurd h
-    ends_in ending.TooManyRequests e h = absurd h
-    ends_in ending.NoResponse e h = unanswered (facts.lost_without_response e)
-    ends_in why e h = h
+module _ (below : BelowAreRows) (left : LeftAreRows) (one_get : (view : MibView) (o : List ℕ) → HasOne (IsGet view o)) (view : MibView)
+    (good : IsMibView view) where
+  is_after : (root : List ℕ) (p : VarBind) → OneOf (rows_below root (variables view)) p → comes_after (wire root) p.name ≡ true
+  is_after root p one =
+      let is = (below view root p good).0 one in
+      let behind : Precedes (wire root) p.name = after_wire root p.name (good.names p is.0).long is.1 in
+      let after : VarBind → Bool = λ row. comes_after (wire root) row.name in
+      All-contains (λ row. after row ≡ true) (rest_of root (wire root) (variables view)) p (filter_passes after (rows_below root (variables view)))
+      (one_is_contained (rest_of root (wire root) (variables view)) p ((left view root (wire root) p good).1 (is.0, is.1, behind)))
 
-    is_got : IsAsked plan (names os) view rows refused (end_in_memory end)
-    is_got = record {
-      front = λ all are. facts.given.beginning view all refl are;
-      whole = λ all are done. facts.given.all_at_done view all refl are (done_in end done);
-      linked = no_link end;
-      reason = ends_in end refl facts.given.ends;
-      complete = λ room. own_end end (facts.done_unless_stopped room none);
-    }
+  rest_is : (root : List ℕ) → rest_of root (wire root) (variables view) ≡ rows_below root (variables view)
+  rest_is root = all_pass (λ row. comes_after (wire root) row.name) (rows_below root (variables view)) (is_after root)
 
-  module _ (good : IsMibView view) (one : (o : List ℕ) → HasOne (IsGet view o)) (w : Walk) (core : Walker) (from : IsStartOf core plan.community w)
-      (facts : WalkFacts (agent_over plan view) tries old core rows refused end new) where
-    lawful : IsLawfulEnd (agent_over plan view) (HasNone (agent_over plan view)) (first_of plan.community w) rows (end_in_memory end)
-    lawful = subst (λ (c : Walker). IsLawfulEnd (agent_over plan view) (HasNone (agent_over plan view)) c rows (end_in_memory end)) from.is
-        (in_memory (IsLawfulEnd (agent_over plan view) (HasNone (agent_over plan view)) core rows) (λ h. h) end (facts.replied none))
+  from_root : (m : Mode) (root : List ℕ) (got : VarBind) → walk_from m root (wire root) got (variables view) ≡ walk_of m root got (variables view)
+  from_root mode.Plain root got = ap (or_only got) (rest_is root)
+  from_root mode.Include root got = ap (λ (s : List VarBind). rows_named (wire root) (variables view) ++ s) (rest_is root)
+  from_root mode.NoLast root got = rest_is root
 
-    begins : (whole : List VarBind) → AreRowsAfter w.after w view whole
-        → (got : VarBind) × IsGet view core.asked got × (whole ≡ rows_given w.after w got (variables view))
-    begins whole are =
-        begun_rows w.after plan.community w view whole core.asked are (ap (λ (c : Walker). c.asked) from.is) (one core.asked)
+  -- what a walk gives of the table, with the answer to a Get of the name that it begins from
+  begun_rows : (after : Option (List ℕ)) (community : List ℕ) (w : Walk) (rows : List VarBind) → AreRowsAfter after w view rows
+      → (got : VarBind) × IsGet view (first_after after community w).asked got × (rows ≡ walk_at (first_after after community w) view got)
+  begun_rows None community w rows are = (are.0, are.1, are.2 ∙ sym (from_root w.mode w.root are.0))
+  begun_rows (Some after) community w rows are = let one = one_get view (wire after) in (one.0, one.1, are)
 
-    is_walked : IsAsked plan (subtree w) view rows refused (end_in_memory end)
-    is_walked = record {
-      front = λ whole are.
-          let b = begins whole are in
-          let left = facts.given.beginning view b.0 refl b.1 in
-          (left.0, b.2 ∙ sym (from.gives view b.0 good) ∙ left.1);
-      whole = λ whole are done.
-          let b = begins whole are in
-          facts.given.all_at_done view b.0 refl b.1 (done_in end done) ∙ from.gives view b.0 good ∙ sym b.2;
-      linked = no_link end;
-      reason = (lawful, counts_rows plan view (first_of plan.community w) rows (end_in_memory end) lawful);
-      complete = λ room.
-          own_end end (facts.done_unless_stopped view refl
-          (subst (λ (c : Walker). HasRoomForEach (agent_over plan view) view c) (sym from.is) room.0)
-          (subst (λ (c : Walker). HasIds c view) (sym from.is) room.1) none);
-    }
+  -- what agents of the table gave to a walk
+  pub walk_rows : (agents : Agents) → agents.tables ≡ view ∷ [] → (Silent : Walker → Type 0) (community : List ℕ) (w : Walk) (given refused : List VarBind)
+      (end : WalkEnd) → GivenFacts agents Silent (first_of community w) given refused end → GivesRows (subtree w) view given refused end
+  walk_rows agents single Silent community w given refused end facts = record {
+    front = λ rows are.
+        let b = begun_rows w.after community w rows are in
+        let rest = facts.beginning view b.0 single b.1 in
+        (rest.0, b.2 ∙ rest.1);
+    whole = λ rows are done. let b = begun_rows w.after community w rows are in facts.all_at_done view b.0 single b.1 done ∙ sym b.2;
+  }
 
--- the run of a question over a link in memory
-module _ {W : Type 0} (facts : LinkFacts W) (link after : W) (tries : ℕ) (some : 0 < tries) (plan : Plan) (view : MibView) (good : IsMibView view)
-    (one : (o : List ℕ) → HasOne (IsGet view o)) (honest : IsFreshAndHonest facts link) (agents : facts.agents link ≡ agent_over plan view)
-    (none : (facts.traffic link).ahead ≡ []) (given refused : List VarBind) (end : WalkEnd) where
-  pub is_asked : (question : Question) (begun : Begun) → IsBegun plan.community question begun
-      → IsRunOver facts link after tries plan.community begun given refused end → IsAsked plan question view given refused (end_in_memory end)
-  is_asked (names os) (begun.Get sent) same run =
-      let P : Agents → List (List ℕ) → Type 0 = λ a ns. GetFacts a tries (facts.traffic link) (request_for plan ns) ns given refused end (facts.traffic after) in
-      is_got plan view tries (facts.traffic link) (facts.traffic after) given refused end none some os
-      (subst (λ (a : Agents). P a os) agents (subst (P (facts.agents link)) same (run.judged honest)))
-  is_asked (subtree w) (begun.Walk core) is run =
-      is_walked plan view tries (facts.traffic link) (facts.traffic after) given refused end none good one w core is
-      (subst (λ (a : Agents). WalkFacts a tries (facts.traffic link) core given refused end (facts.traffic after)) agents (run.judged honest))
-  is_asked question begun is run = absurd is
+  module _ (plan : Plan) (tries : ℕ) (old new : Traffic) (rows refused : List VarBind) (end : WalkEnd) (none : old.ahead ≡ []) where
+    module _ (some : 0 < tries) (os : List (List ℕ))
+        (facts : GetFacts (agent_over plan view) tries old (request_for plan os) os rows refused end new) where
+      abbrev Unanswered : Type 0
+      Unanswered = IsUnanswered (agent_over plan view) (canon (request_for plan os))
 
--- the same of the run of a question over any link
-pub asked_over : {W : Type 0} (facts : LinkFacts W) (link after : W) (tries : ℕ) (plan : Plan) (question : Question) (begun : Begun)
-    → IsBegun plan.community question begun → (given refused : List VarBind) (end : WalkEnd)
-    → IsRunOver facts link after tries plan.community begun given refused end → IsAskedOver facts link after tries plan question given refused end
-asked_over {W} facts link after tries plan (names os) (begun.Get sent) same given refused end run = grind (arith, common_steps)
-asked_over {W} facts link after tries plan (subtree w) (begun.Walk core) is given refused end run =
-    let P : Walker → Type 0 = λ c. IsRunOver facts link after tries plan.community (begun.Walk c) given refused end in
-    subst P is.is run
-asked_over {W} facts link after tries plan question begun is given refused end run = absurd is
+      abbrev Loses : List (Option ℕ) → Type 0
+      Loses used = Lost (agent_over plan view) (old.sent ++ canon (request_for plan os) ∷ []) (canon (request_for plan os)) used tries 0
 
--- what a run of it needs
-pub can_run : (community : List ℕ) (question : Question) (begun : Begun) → IsBegun community question begun → CanBeSent question → CanRun begun
-can_run community (names os) (begun.Get sent) is sendable = subst (All (λ o. IsWire (wire o))) (sym is) sendable
-can_run community (subtree w) (begun.Walk core) is sendable = is.fresh
-can_run community question begun is sendable = absurd is
+      unanswered : IsLostGet (agent_over plan view) tries old (canon (request_for plan os)) new → Unanswered
+      unanswered lost = by_cause lost.lost
+        where
+          by_cause : Unanswered ⊎ ((used : List (Option ℕ)) × (old.ahead ≡ used ++ new.ahead) × Loses used) → Unanswered
+          by_cause (inl u) = u
+          by_cause (inr h) =
+              let lost_none : Loses [] = subst Loses (none_used h.0 new.ahead old.ahead h.1 none) h.2 in
+              absurd (omega (arith, some, lost_none))
+
+      ends_in : (why : WalkEnd) → end ≡ why
+          → IsEndOfGet (IsTooBig (agent_over plan view) (request_for plan os) os) ⊥ (Unit {0}) (request_for plan os) os why
+          → HasReason (names os) plan view rows (end_in_memory why)
+      ends_in (ending.NoProgress asked) e h = absurd h
+      ends_in ending.BadReply e h = absurd h
+      ends_in (ending.NotIncreasing last next) e h = absurd h
+      ends_in ending.TooManyRequests e h = absurd h
+      ends_in ending.NoResponse e h = unanswered (facts.lost_without_response e)
+      ends_in why e h = h
+
+      is_got : IsAsked plan (names os) view rows refused (end_in_memory end)
+      is_got = record {
+        front = λ all are. facts.given.beginning view all refl are;
+        whole = λ all are done. facts.given.all_at_done view all refl are (done_in end done);
+        linked = no_link end;
+        reason = ends_in end refl facts.given.ends;
+        complete = λ room. own_end end (facts.done_unless_stopped room none);
+      }
+
+    module _ (w : Walk) (facts : WalkFacts (agent_over plan view) tries old (first_of plan.community w) rows refused end new) where
+      lawful : IsLawfulEnd (agent_over plan view) (HasNone (agent_over plan view)) (first_of plan.community w) rows (end_in_memory end)
+      lawful = in_memory (IsLawfulEnd (agent_over plan view) (HasNone (agent_over plan view)) (first_of plan.community w) rows) (λ h. h) end (facts.replied none)
+
+      gave_walk : GivesRows (subtree w) view rows refused end
+      gave_walk = walk_rows (agent_over plan view) refl _ plan.community w rows refused end facts.given
+
+      is_walked : IsAsked plan (subtree w) view rows refused (end_in_memory end)
+      is_walked = record {
+        front = gave_walk.front;
+        whole = λ all are done. gave_walk.whole all are (done_in end done);
+        linked = no_link end;
+        reason = (lawful, counts_rows plan view (first_of plan.community w) rows (end_in_memory end) lawful);
+        complete = λ room. own_end end (facts.done_unless_stopped view refl room.0 room.1 none);
+      }
+
+  -- the run of a question over a link in memory
+  module _ {W : Type 0} (facts : LinkFacts W) (link after : W) (tries : ℕ) (some : 0 < tries) (plan : Plan) (honest : IsFreshAndHonest facts link)
+      (agents : facts.agents link ≡ agent_over plan view) (none : (facts.traffic link).ahead ≡ []) (given refused : List VarBind) (end : WalkEnd) where
+    pub is_asked : (question : Question) → IsAskedOver facts link after tries plan question given refused end
+        → IsAsked plan question view given refused (end_in_memory end)
+    is_asked (names os) run =
+        is_got plan tries (facts.traffic link) (facts.traffic after) given refused end none some os
+        (subst (λ (a : Agents). GetFacts a tries (facts.traffic link) (request_for plan os) os given refused end (facts.traffic after)) agents (run.judged honest))
+    is_asked (subtree w) run =
+        is_walked plan tries (facts.traffic link) (facts.traffic after) given refused end none w
+        (subst (λ (a : Agents). WalkFacts a tries (facts.traffic link) (first_of plan.community w) given refused end (facts.traffic after)) agents
+        (run.judged honest))

@@ -1,37 +1,32 @@
 -- What is printed of a table file that snmpd serves, where the network between makes nothing up.
-use Rattle.std.proofs.{lemmas.Grind.common_steps, lemmas.List.Elements.All-contains, lemmas.List.Elements.filter_passes}
-use Rattle.std.proofs.Common.{◌≡◌, ◌≢◌, ◌⊎◌, inl, inr, ◌++◌, ◌+◌, ◌≤◌, ℕ, zero, suc, Bool, true, false, List, [], ◌∷◌, length, Option, Some}
-use Rattle.std.proofs.Common.{None, refl, sym, ◌∙◌, ap, subst, arith, append-nil}
-use Rattle.std.specs.{Prelude.MatchOption, Prelude.drop, Prelude.filter, Prelude.if◌then◌else◌, Str.Lines.lines}
+use Rattle.std.proofs.lemmas.Grind.{common_steps}
+use Rattle.std.proofs.Common.{◌≡◌, ◌≢◌, ◌⊎◌, inl, inr, ◌+◌, ◌≤◌, ℕ, Bool, true, false, List, [], ◌∷◌, length, Option, Some, None, refl, sym, ◌∙◌, ap}
+use Rattle.std.proofs.Common.{subst, arith, append-nil}
+use Rattle.std.specs.{Prelude.MatchOption, Prelude.drop, Prelude.if◌then◌else◌, Str.Lines.lines}
 use Rattle.smi_names.specs.declared.nodes.warning.Warning.{Warning}
 use Rattle.smi_show.specs.name.Naming.{Naming}
 use Rattle.smi_tree.specs.{Naming.naming_of, Tree.Contents}
-use Rattle.snmp_agent.specs.{Event.Event, Event.InTurn, Serving.AreTurns, table.Exact.HasOne, table.Format.Names, table.Listing.variables}
-use Rattle.snmp_agent.specs.table.Stated.{AreTableBy, IsTableOf}
-use Rattle.snmp_agent.specs.table.Table.{IsGet, IsMibView, IsRow, MibView}
+use Rattle.snmp_agent.specs.{Event.Event, Event.InTurn, Serving.AreTurns, table.Exact.HasOne, table.Format.Names, table.Stated.AreTableBy}
+use Rattle.snmp_agent.specs.{table.Stated.IsTableOf, table.Table.IsGet, table.Table.IsMibView, table.Table.MibView}
 use Rattle.snmp_io.specs.{Files.Holdings, Files.Holds, Files.MayHold, Output.TakesFront, Output.extended, Streams.nothing_taken}
 use Rattle.snmp_net.specs.{Address.table, Address.udp, declared.links.Links.Ghosts as Network}
-use Rattle.snmp_oid.specs.Identifier.{IsBelow, Precedes, wire}
-use Rattle.snmp_walk.specs.{Facts.IsDone, Facts.walk_at, Link.Agents, Link.AreLawful, Link.OneOf, Names.comes_after, Standing.CountsAll}
-use Rattle.snmp_walk.specs.{Tries.Happens, declared.end.WalkEnd.WalkEnd, declared.link.Link.Ghosts as LinkFacts, declared.mode.Mode.Mode}
+use Rattle.snmp_walk.specs.{Link.Agents, Link.AreLawful, Standing.CountsAll, Tries.Happens, declared.end.WalkEnd.WalkEnd}
+use Rattle.snmp_walk.specs.declared.link.Link.{Ghosts as LinkFacts}
 use Rattle.snmp_walk.specs.Network.{AreReplies, AreServed, Happening, IsFaithful, of_agents, of_walk}
-use Rattle.snmp_walk.specs.Walk.{or_only, rest_of, rows_below, rows_named, walk_from, walk_of}
 use Rattle.snmp_walk.specs.declared.end.WalkEnd.TheVariants as ending
-use Rattle.snmp_walk.specs.declared.mode.Mode.TheVariants as mode
 use Rattle.snmp_wire.specs.Message.{VarBind}
 use Rattle.snmp_words.specs.Words.{ServeWords, StateJob, Stated, StatesNumber, readings, snmpd, stated_among}
 use Rattle.snmp_tools.specs.agent.Outcome as serve
-use Rattle.snmp_tools.specs.agent.Outcome.{IsServedBy, IsServeOutcome, listening_line}
-use Rattle.snmp_tools.specs.{agent.Service.IsPlaced, agent.Service.served_agent, agent.TableFile.HasTable, loading.Loaded.LoadFacts}
-use Rattle.snmp_tools.specs.{Headline.IsWholeText, Message.Fault, Mib.AreLoaded, Mib.Mib, Mib.mib_of, Outcome.IsOutcome, Outcome.IsOutcomeBy}
-use Rattle.snmp_tools.specs.{Outcome.IsRun, Outcome.IsShown, Seen.Seen, Serving.IsServeRun, private.Start.rows_given}
-use Rattle.snmp_tools.specs.Answer.{AreRowsOf, Counts, HasFacts, IsAskedOver, first_after, first_of as first_of_walk}
+use Rattle.snmp_tools.specs.{agent.Outcome.IsServedBy, agent.Outcome.IsServeOutcome, agent.Outcome.listening_line, agent.Service.IsPlaced}
+use Rattle.snmp_tools.specs.{agent.Service.served_agent, agent.TableFile.HasTable, loading.Loaded.LoadFacts, Headline.IsWholeText, Message.Fault}
+use Rattle.snmp_tools.specs.{Mib.AreLoaded, Mib.Mib, Mib.mib_of, Seen.Seen, Serving.IsServeRun, Outcome.IsOutcome, Outcome.IsOutcomeBy, Outcome.IsRun}
+use Rattle.snmp_tools.specs.{Outcome.IsShown, Answer.AreRowsOf, Answer.Counts, Answer.HasFacts, Answer.IsAskedOver}
 use Rattle.snmp_tools.specs.BothEnds as ends
 use Rattle.snmp_tools.specs.BothEnds.{AreEndsOfOneRun, IsAskOfServer, IsAtAsker, IsAtServer, PrintsServed, ServesInTurn, events_of}
 use Rattle.snmp_tools.specs.Outcome as outcome
-use Rattle.snmp_tools.specs.Question.{AskFor, AskWords, IsPlanFor, Plan, Question, Walk, counts_in, names, subtree}
-use Rattle.snmp_tools.proofs.{Asked.begun_rows, TableNames.OneMeaning, TableNames.one_look_up, TableWalks.BelowAreRows, TableWalks.one_is_contained}
-use Rattle.snmp_tools.proofs.Outcomes.{IsFrontOf, finished, no_fault_at_0}
+use Rattle.snmp_tools.specs.Question.{AskFor, AskWords, IsPlanFor, Plan, Question, counts_in, names, subtree}
+use Rattle.snmp_tools.proofs.{Asked.GivesRows, Asked.LeftAreRows, Asked.walk_rows, TableNames.OneMeaning, TableNames.one_look_up}
+use Rattle.snmp_tools.proofs.{TableWalks.BelowAreRows, Outcomes.IsFrontOf, Outcomes.finished, Outcomes.no_fault_at_0}
 use Rattle.snmp_tools.proofs.Plans.{OneList, OneTree, held_is, one_load, one_plan}
 
 -- ---- the greatest size that a command line states
@@ -55,40 +50,7 @@ module _ (words : ServeWords) (line : List (List ℕ)) (s : StateJob line (snmpd
   size_fits : words.max_size ≤ 65507
   size_fits = grind (arith, common_steps, picked, number_fits)
 
--- ---- a walk that begins at its root
-
-all_pass : (test : VarBind → Bool) (rows : List VarBind) → ((row : VarBind) → OneOf rows row → test row ≡ true) → filter test rows ≡ rows
-all_pass test [] each = refl
-all_pass test (row ∷ more) each =
-    rw (each row (inl refl)) (ap (λ (s : List VarBind). row ∷ s) (all_pass test more (λ other one. each other (inr one))))
-
--- an instance below the root comes after the root as it is sent
-after_wire : (root o : List ℕ) → 3 ≤ length o → IsBelow o root → Precedes (wire root) o
-after_wire (a ∷ b ∷ root) o long below = inl below
-after_wire [] o long ([], some, e) = absurd (some refl)
-after_wire [] o long (x ∷ [], some, e) = let short : length o ≡ 1 = ap length e in absurd (omega (arith, long, short))
-after_wire [] o long (x ∷ y ∷ [], some, e) = let short : length o ≡ 2 = ap length e in absurd (omega (arith, long, short))
-after_wire [] o long (zero ∷ zero ∷ z ∷ rest, some, e) = inl (z ∷ rest, λ h. cc, e)
-after_wire [] o long (zero ∷ suc k ∷ z ∷ rest, some, e) =
-    inr record { front = 0 ∷ []; smaller = 0; larger = suc k; after = []; behind = z ∷ rest; this = refl; that = e; is_smaller = omega arith }
-after_wire [] o long (suc k ∷ y ∷ z ∷ rest, some, e) =
-    inr record { front = []; smaller = 0; larger = suc k; after = 0 ∷ []; behind = y ∷ z ∷ rest; this = refl; that = e; is_smaller = omega arith }
-after_wire (a ∷ []) o long ([], some, e) = absurd (some refl)
-after_wire (a ∷ []) o long (y ∷ [], some, e) = let short : length o ≡ 2 = ap length e in absurd (omega (arith, long, short))
-after_wire (a ∷ []) o long (zero ∷ z ∷ rest, some, e) = inl (z ∷ rest, λ h. cc, e)
-after_wire (a ∷ []) o long (suc k ∷ z ∷ rest, some, e) =
-    inr record { front = a ∷ []; smaller = 0; larger = suc k; after = []; behind = z ∷ rest; this = refl; that = e; is_smaller = omega arith }
-
--- which rows are left below the root after a name
-abbrev pub LeftAreRows : Type 0
-LeftAreRows = (view : MibView) (root o : List ℕ) (p : VarBind) → IsMibView view
-    → (OneOf (rest_of root o (variables view)) p → IsRow view p × IsBelow p.name root × Precedes o p.name)
-    × (IsRow view p × IsBelow p.name root × Precedes o p.name → OneOf (rest_of root o (variables view)) p)
-
--- the rows given are a front of those that a question asks for, and all of them where that is done
-record GivesRows (question : Question) (view : MibView) (given refused : List VarBind) (end : WalkEnd) : Type 0 where
-  front : (rows : List VarBind) → AreRowsOf question view rows → (more : List VarBind) × (rows ≡ (given ++ refused) ++ more)
-  whole : (rows : List VarBind) → AreRowsOf question view rows → IsDone end → given ≡ rows
+-- ---- what a walk or a Get heard
 
 -- what happened at a link, and what was given where replies of the agent of one table are all that came
 record Heard {W : Type 0} (facts : LinkFacts W) (link later : W) (question : Question) (view : MibView) (given refused : List VarBind) (end : WalkEnd)
@@ -102,55 +64,22 @@ count_is (ending.Done n) given e = e
 count_is end given e = tt
 
 module _ (below : BelowAreRows) (left : LeftAreRows) (one_get : (view : MibView) (o : List ℕ) → HasOne (IsGet view o)) (view : MibView)
-    (good : IsMibView view) where
-  is_after : (root : List ℕ) (p : VarBind) → OneOf (rows_below root (variables view)) p → comes_after (wire root) p.name ≡ true
-  is_after root p one =
-      let is = (below view root p good).0 one in
-      let behind : Precedes (wire root) p.name = after_wire root p.name (good.names p is.0).long is.1 in
-      let after : VarBind → Bool = λ row. comes_after (wire root) row.name in
-      All-contains (λ row. after row ≡ true) (rest_of root (wire root) (variables view)) p (filter_passes after (rows_below root (variables view)))
-      (one_is_contained (rest_of root (wire root) (variables view)) p ((left view root (wire root) p good).1 (is.0, is.1, behind)))
-
-  rest_is : (root : List ℕ) → rest_of root (wire root) (variables view) ≡ rows_below root (variables view)
-  rest_is root = all_pass (λ row. comes_after (wire root) row.name) (rows_below root (variables view)) (is_after root)
-
-  from_root : (m : Mode) (root : List ℕ) (got : VarBind) → walk_from m root (wire root) got (variables view) ≡ walk_of m root got (variables view)
-  from_root mode.Plain root got = ap (or_only got) (rest_is root)
-  from_root mode.Include root got = ap (λ (s : List VarBind). rows_named (wire root) (variables view) ++ s) (rest_is root)
-  from_root mode.NoLast root got = rest_is root
-
-  -- what the walk of a question gives of the table
-  gives : (after : Option (List ℕ)) (community : List ℕ) (w : Walk) (got : VarBind)
-      → walk_at (first_after after community w) view got ≡ rows_given after w got (variables view)
-  gives None community w got = from_root w.mode w.root got
-  gives (Some after) community w got = refl
-
-  module _ {W : Type 0} (facts : LinkFacts W) (link later : W) (tries : ℕ) (plan : Plan) (given refused : List VarBind) (end : WalkEnd) where
-    heard : (question : Question) (run : IsAskedOver facts link later tries plan question given refused end)
-        → Heard facts link later question view given refused end (events_of facts link later tries plan question given refused end run)
-    heard (names os) run = record {
-      in_turn = run.happened.in_turn;
-      counted = λ e. let no : ⊥ = cc in absurd no;
-      replied = λ agents single lawful replies.
-          let got = run.happened.replied agents lawful replies in
-          record { front = λ rows are. got.beginning view rows single are; whole = λ rows are done. got.all_at_done view rows single are done };
-    }
-    heard (subtree w) run = record {
-      in_turn = run.happened.in_turn;
-      counted = λ e. count_is end given run.ends.counted;
-      replied = λ agents single lawful replies.
-          let walked = run.happened.replied agents lawful replies in
-          let asked : List ℕ = (first_of_walk plan.community w).asked in
-          record {
-            front = λ rows are.
-                let b = begun_rows w.after plan.community w view rows asked are refl (one_get view asked) in
-                let rest = walked.beginning view b.0 single b.1 in
-                (rest.0, b.2 ∙ sym (gives w.after plan.community w b.0) ∙ rest.1);
-            whole = λ rows are done.
-                let b = begun_rows w.after plan.community w view rows asked are refl (one_get view asked) in
-                walked.all_at_done view b.0 single b.1 done ∙ gives w.after plan.community w b.0 ∙ sym b.2;
-          };
-    }
+    (good : IsMibView view) {W : Type 0} (facts : LinkFacts W) (link later : W) (tries : ℕ) (plan : Plan) (given refused : List VarBind) (end : WalkEnd) where
+  heard : (question : Question) (run : IsAskedOver facts link later tries plan question given refused end)
+      → Heard facts link later question view given refused end (events_of facts link later tries plan question given refused end run)
+  heard (names os) run = record {
+    in_turn = run.happened.in_turn;
+    counted = λ e. let no : ⊥ = cc in absurd no;
+    replied = λ agents single lawful replies.
+        let got = run.happened.replied agents lawful replies in
+        record { front = λ rows are. got.beginning view rows single are; whole = λ rows are done. got.all_at_done view rows single are done };
+  }
+  heard (subtree w) run = record {
+    in_turn = run.happened.in_turn;
+    counted = λ e. count_is end given run.ends.counted;
+    replied = λ agents single lawful replies.
+        walk_rows below left one_get view good agents single (λ v. Unit {0}) plan.community w given refused end (run.happened.replied agents lawful replies);
+  }
 
 -- ---- the table that is served
 

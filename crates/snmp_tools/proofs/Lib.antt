@@ -1,6 +1,7 @@
 pub mod Asked
 pub mod Headlines
 pub mod BareNames
+pub mod ModuleLists
 pub mod RowLines
 pub mod TableNames
 pub mod TableWalks
@@ -17,6 +18,5 @@ pub mod Printing
 pub mod Replies
 pub mod Refusals
 pub mod Serving
-pub mod Reading
 pub mod Jobs
 pub mod BothEnds

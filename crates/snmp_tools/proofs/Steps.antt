@@ -227,21 +227,23 @@ module _ (words : AskWords) (files : Holdings) (why : Fault) where
           (subst (λ (t : List ℕ). ResumeFails w.root f.1.0 t why) are.1 f.1.2))
       at_sent request choices question q are f = absurd q
 
-      module _ (plan : Plan) (asked : AskFor words mib (plan_of plan)) where
+      module _ (plan : Plan) (asked : AskFor words mib (plan_of plan)) (only : HasAgent words.asking.agent (plan_of plan).agent) (agent : Address)
+          (over : address_of plan.orders.agent ≡ agent) where
+        only_agent : HasAgent words.asking.agent agent
+        only_agent = subst (HasAgent words.asking.agent) over only
+
         -- the agent isn't reached
-        pub unreached : (agent : Address) → HasAgent words.asking.agent agent → (why ≡ out_of_memory) ⊎ ReachFails files mib agent why
-            → IsLateRefusal words files mib why
-        unreached agent only (inl e) = loaded (inl e)
-        unreached agent only (inr f) =
+        pub unreached : (why ≡ out_of_memory) ⊎ ReachFails files mib agent why → IsLateRefusal words files mib why
+        unreached (inl e) = loaded (inl e)
+        unreached (inr f) =
             loaded (inr (after_all DoneBy FailsLater why (name_steps words.request) (reach_step ∷ [])
-            (names_done words.request asked.choices (question_of plan.question) asked.question) (first DoneBy FailsLater why reach_step [] (agent, only, f))))
+            (names_done words.request asked.choices (question_of plan.question) asked.question) (first DoneBy FailsLater why reach_step [] (agent, only_agent, f))))
 
         -- a name can't be sent, or the walk can't go on after it
-        pub unsent : HasTextsOf words.request plan.question → (agent : Address) → HasAgent words.asking.agent agent → IsReached files mib agent
-            → BeginFails plan.question why → IsLastRefusal words files mib why
-        unsent are agent only reached f = record {
+        pub unsent : HasTextsOf words.request plan.question → IsReached files mib agent → BeginFails plan.question why → IsLastRefusal words files mib why
+        unsent are reached f = record {
           loaded = loading_done;
           named = names_done words.request asked.choices (question_of plan.question) asked.question;
-          reached = (agent, only, reached);
+          reached = (agent, only_agent, reached);
           fails = at_sent words.request asked.choices plan.question asked.question are f;
         }

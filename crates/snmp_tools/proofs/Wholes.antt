@@ -1,16 +1,14 @@
 -- What a job that asks an agent was told, and what it wrote.
-use Rattle.std.proofs.Common.{arith, ◌≡◌, ◌⊎◌, inl, inr, refl, ap, ℕ, Bool, List, Bor, Option, Some, Result, Ok, Err, subst, sym}
+use Rattle.std.proofs.Common.{arith, ◌≡◌, ◌⊎◌, inl, inr, refl, ap, ℕ, List, Bor, Option, Some, Result, Ok, Err, subst, sym}
 use Rattle.std.proofs.lemmas.Grind.{common_steps}
 use Rattle.std.specs.{Prelude.IfErr, Result.IsErrAnd}
 use Rattle.smi_text.specs.{declared.trees.tree.Def.Def, declared.trees.tree.Module.Module}
 use Rattle.smi_show.specs.name.Naming.{Naming}
-use Rattle.smi_value.specs.{Syntax.ObjectSyntax, declared.letters.letters.Letters.Letters}
+use Rattle.smi_value.specs.Syntax.{ObjectSyntax}
 use Rattle.snmp_io.specs.{Files.Holdings, Files.Holds, Files.MayHold, Output.Stream}
-use Rattle.snmp_wire.specs.Message.{VarBind}
-use Rattle.snmp_walk.specs.declared.end.WalkEnd.{WalkEnd}
 use Rattle.snmp_tools.specs.loading.Files.{AreModulesOf, IsFilesRefusal, Refusal, no_memory, texts}
 use Rattle.snmp_tools.specs.loading.Loaded.{AreLoadedAs, LoadFacts}
-use Rattle.snmp_tools.specs.{Asking.MibsFail, Mib.AreLoaded, Mib.Mib, Outcome.IsPrinted, private.Planned.mib_in, declared.failure.Failure.Failure}
+use Rattle.snmp_tools.specs.{Asking.MibsFail, Mib.AreLoaded, private.Planned.mib_in, declared.failure.Failure.Failure}
 use Rattle.snmp_tools.specs.Message.{Fault, bad_modules, fault_of, modules_fault, out_of_memory, outcome_of}
 
 -- what the exit of a `?` returns
@@ -59,9 +57,3 @@ pub are_loaded : (files : Holdings) (paths : List (List ℕ)) (naming : Naming) 
     (is : AreLoadedAs (MayHold files) paths naming definition_at syntax_at before after)
     → AreLoaded (MayHold files) paths (mib_in naming syntax_at) is.loaded.warnings
 are_loaded files paths naming definition_at syntax_at before after is = grind (arith, common_steps)
-
--- other facts that follow: all else that is said of what was printed stays
-pub with_facts : (F G : List VarBind → List VarBind → WalkEnd → Type 0) (mib : Mib) (letters : Letters) (counts : Bool) (agent : List ℕ)
-    (before after : Stream) (fault : Option Fault) → ((given refused : List VarBind) (end : WalkEnd) → F given refused end → G given refused end)
-    → IsPrinted F mib letters counts agent before after fault → IsPrinted G mib letters counts agent before after fault
-with_facts F G mib letters counts agent before after fault follows p = grind (arith, common_steps)

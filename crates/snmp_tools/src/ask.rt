@@ -1,13 +1,11 @@
 //! A job that asks an agent: its words are judged, its names looked up, its agent reached, and its
 //! lines printed.
-ghost use Rattle.std.specs.Prelude.{◌≡◌, ◌+◌};
+ghost use Rattle.std.specs.Prelude.{◌≡◌};
 ghost use Rattle.snmp_io.specs.{Files.MayHold, Output.Stream};
-ghost use Rattle.snmp_tools.specs.Answer.{CanBeSent, IsAsked, IsAskedOver, end_in_memory};
-ghost use Rattle.snmp_tools.specs.{Message.outcome_of, Mib.IsMibOf, Seen.seen};
-ghost use Rattle.snmp_tools.specs.Outcome.{IsFinished, IsOutcome, IsOutcomeBy, IsShown};
+ghost use Rattle.snmp_tools.specs.{Answer.end_in_memory, Message.outcome_of, Mib.IsMibOf};
+ghost use Rattle.snmp_tools.specs.{Question.counts_in, Seen.seen};
+ghost use Rattle.snmp_tools.specs.Outcome.{IsFinished, IsOutcome, IsOutcomeBy};
 ghost use Rattle.snmp_tools.specs.private.Planned.{AreOrdersOf, ask_words, mib_in, plan_of};
-ghost use Rattle.snmp_tools.specs.private.Planned.{question_of};
-ghost use Rattle.snmp_tools.specs.private.Start.{IsBegun};
 
 use crate::error_output::ErrorOutput;
 use crate::failure::Failure;
@@ -15,14 +13,12 @@ use crate::lines::{print_count, print_lines};
 use crate::loading::ModuleFiles;
 use crate::plan::{Orders, Plan};
 use crate::request::AskJob;
-use crate::start::{Begun, begin};
 use crate::table_names::table_at;
 use smi_show::ShowTree;
-use snmp_agent::{Config, Table, one_answer};
+use snmp_agent::{Config, one_answer};
 use snmp_io::{Files, Output};
 use snmp_net::{AgentAddress, Links};
-use snmp_walk::{Link, MemoryLink, SinkFault, WalkEnd};
-use snmp_words::Asking;
+use snmp_walk::{MemoryLink, SinkFault, WalkEnd, instances_below};
 use std::alloc::Global;
 
 /// Asks an agent and prints the lines of its answer, after the warnings of the modules on `err`.
@@ -64,87 +60,31 @@ fn ask_by<'a, T: ShowTree, F: Files, L: Links, O: Output>(
 {
     let asking = job.asking;
     let plan = Plan::read(alloc, job, orders, tree)?;
+    let retries = asking.retries as u32;
+    let mut text = Vec::new(alloc);
     match plan.orders.agent {
         AgentAddress::Table(path) => {
             let table = table_at(alloc, tree, files, path)?;
-            let begun = begin(&plan)?;
-            print_in_memory(alloc, &plan, begun, tree, &table, asking, out)
+            let config = Config {
+                community: plan.orders.community,
+                max_size: plan.orders.max_size,
+            };
+            table.is_mib_view();
+            one_answer();
+            instances_below();
+            let mut link = MemoryLink::new(alloc, &table, config, &[]);
+            let end = print_lines(&mut link, &plan, retries, tree, &mut text, out)?;
+            finish(end_in_memory(end), &plan, asking.agent, &mut text, out)
         }
         AgentAddress::Udp(at) => {
             let mut link = match links.open(at.host, at.port, asking.seconds) {
                 Ok(link) => link,
                 Err(_) => return Err(Failure::Ended(asking.agent, WalkEnd::Link)),
             };
-            let begun = begin(&plan)?;
-            print_over(alloc, &plan, begun, tree, &mut link, asking, out)
+            let end = print_lines(&mut link, &plan, retries, tree, &mut text, out)?;
+            finish(end, &plan, asking.agent, &mut text, out)
         }
     }
-}
-
-// Asks over a link and prints the lines of the answer, and after them, if the words ask for it, the
-// number of bindings.
-fn print_over<'a, T: ShowTree, L: Link, O: Output>(
-    alloc: Global,
-    plan: &Plan<'_, 'a>,
-    begun: Begun<'_>,
-    tree: &T,
-    link: &mut L,
-    asking: &Asking<'a>,
-    out: &mut O,
-) -> Result<(), Failure<'a>>
-    requires begun { IsBegun plan.now.orders.community.now (question_of plan.now.question) begun }
-    requires sendable { CanBeSent (question_of plan.now.question) }
-    ensures { IsShown (IsAskedOver L.Link link.old link.new (asking.now.retries + 1)
-        (plan_of plan.now) (plan_of plan.now).question)
-        (mib_in (T.naming tree.now) (T.syntax_at tree.now)) (plan_of plan.now)
-        asking.now.agent.now (O.stream out.old) (O.stream out.new) (outcome_of result) }
-{
-    let retries = asking.retries as u32;
-    let (community, letters) = (plan.orders.community, plan.orders.letters);
-    let mut text = Vec::new(alloc);
-    let end = print_lines(
-        link, begun, community, retries, tree, letters, &mut text, out,
-    );
-    finish(end, plan.question.counts(), asking.agent, &mut text, out)
-}
-
-// Asks the agent that serves a table in memory and prints the lines of its answer, and after them,
-// if the words ask for it, the number of bindings.
-fn print_in_memory<'a, T: ShowTree, O: Output>(
-    alloc: Global,
-    plan: &Plan<'_, 'a>,
-    begun: Begun<'_>,
-    tree: &T,
-    table: &Table,
-    asking: &Asking<'a>,
-    out: &mut O,
-) -> Result<(), Failure<'a>>
-    requires begun { IsBegun plan.now.orders.community.now (question_of plan.now.question) begun }
-    requires sendable { CanBeSent (question_of plan.now.question) }
-    ensures { IsShown (IsAsked (plan_of plan.now) (plan_of plan.now).question table.now)
-        (mib_in (T.naming tree.now) (T.syntax_at tree.now)) (plan_of plan.now)
-        asking.now.agent.now (O.stream out.old) (O.stream out.new) (outcome_of result) }
-{
-    let config = Config {
-        community: plan.orders.community,
-        max_size: plan.orders.max_size,
-    };
-    table.is_mib_view();
-    one_answer();
-    let mut link = MemoryLink::new(alloc, table, config, &[]);
-    let retries = asking.retries as u32;
-    let (community, letters) = (plan.orders.community, plan.orders.letters);
-    let mut text = Vec::new(alloc);
-    let end = print_lines(
-        &mut link, begun, community, retries, tree, letters, &mut text, out,
-    );
-    finish(
-        end_in_memory(end),
-        plan.question.counts(),
-        asking.agent,
-        &mut text,
-        out,
-    )
 }
 
 // How a run over a link in memory ended: such a link fails only where memory runs out.
@@ -157,17 +97,19 @@ fn end_in_memory(end: WalkEnd) -> WalkEnd
     }
 }
 
-// Prints what follows the lines of a run, or returns why it ended early.
+// Prints what follows the lines of a run, which is the number of bindings if the words ask for it,
+// or returns why it ended early.
 fn finish<'a, O: Output>(
     end: WalkEnd,
-    counts: bool,
+    plan: &Plan<'_, 'a>,
     agent: &'a str,
     text: &mut Vec<u8>,
     out: &mut O,
 ) -> Result<(), Failure<'a>>
-    ensures { IsFinished agent.now end counts (O.stream out.old) (O.stream out.new)
-        (outcome_of result) }
+    ensures { IsFinished agent.now end (counts_in (plan_of plan.now).question)
+        (O.stream out.old) (O.stream out.new) (outcome_of result) }
 {
+    let counts = plan.question.counts();
     match end {
         WalkEnd::Done(count) if counts => print_count(count, text, out),
         WalkEnd::Done(_) => Ok(()),

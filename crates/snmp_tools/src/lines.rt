@@ -1,17 +1,19 @@
 //! Lines on an output: one for each binding of a walk or a Get, as its reply comes, and the count
 //! after them.
-ghost use Rattle.std.specs.Prelude.{◌≡◌, ◌≤◌, ◌+◌, ◌++◌, IfErr, OnOk, length};
+ghost use Rattle.std.specs.Prelude.{◌≡◌, ◌+◌, ◌++◌, IfErr, IfOk, OnOk};
 ghost use Rattle.snmp_io.specs.Output.{FailsWithin, extended};
 ghost use Rattle.snmp_tools.specs.Lines.{ArePrinted, IsTextPrinted, count_line, TakesLine};
-ghost use Rattle.snmp_tools.specs.{Message.outcome_of, private.Planned.mib_in};
-ghost use Rattle.snmp_tools.specs.private.Start.{CanRun, IsRunOver};
+ghost use Rattle.snmp_tools.specs.{Answer.CanBeSent, Answer.IsAskedOver, Message.fault_of};
+ghost use Rattle.snmp_tools.specs.{Message.outcome_of, private.Start.BeginFails};
+ghost use Rattle.snmp_tools.specs.private.Planned.{mib_in, plan_of, question_of};
 
 use crate::failure::Failure;
-use crate::start::{Begun, FIRST_ID};
+use crate::plan::Plan;
+use crate::start::run_plan;
 use smi_show::{Letters, LineWriter, ShowTree};
 use snmp_io::{Draft, Output, OutputFault, write_all};
 use snmp_oid::Oid;
-use snmp_walk::{Link, Rows, Sink, SinkFault, WalkEnd, run_get, run_walk};
+use snmp_walk::{Link, Rows, Sink, SinkFault, WalkEnd};
 use snmp_wire::{Binding, ValueRef};
 use std::alloc::AllocError;
 
@@ -45,8 +47,8 @@ impl<T: ShowTree, O: Output> Sink for Printer<'_, T, O> {
         write_lines(self.out, self.text.as_slice())
     }
 
-    // All lines of a reply are written at once. Their buffer may grow no larger than that of a
-    // single line: a reply may consist of one long binding.
+    // All lines of a reply are written at once. Their buffer needs no more room than a single line
+    // may: a reply may be one long binding.
     fn rows(&mut self, mut rows: Rows<'_>) -> Result<(), SinkFault> {
         let mut binding = Binding {
             name: Oid::new(),
@@ -77,65 +79,40 @@ impl<T: ShowTree, O: Output> Sink for Printer<'_, T, O> {
     }
 }
 
-impl<T: ShowTree, O: Output> Printer<'_, T, O> {
-    // Asks a question, whose bindings become lines. Where it has no names, nothing is asked.
-    fn print<L: Link>(
-        &mut self,
-        link: &mut L,
-        begun: Begun<'_>,
-        community: &[u8],
-        retries: u32,
-    ) -> WalkEnd
-        requires sendable { CanRun begun }
-        requires community { length community.now ≤ 255 }
-        ensures same_output { self.new.out.ghost_name ≡ self.old.out.ghost_name }
-        ensures printed { ArePrinted
-            (mib_in (T.naming self.old.writer) (T.syntax_at self.old.writer)) self.old.letters
-            (O.stream self.old.out.now) (O.stream self.new.out.now) result
-            (λ given refused. IsRunOver L.Link link.old link.new (retries + 1)
-            community.now begun.entry given refused result) }
-    {
-        match begun {
-            Begun::Get(names) => run_get(link, names, community, FIRST_ID, retries, self),
-            Begun::Walk(core) => run_walk(link, core, retries, self),
-        }
-    }
-}
-
-/// Asks a question, whose bindings become lines on the output. `text` is the memory for a line.
-/// Where it has no names, nothing is asked.
-pub(crate) fn print_lines<T: ShowTree, L: Link, O: Output>(
+/// Asks the question of a plan over a link, whose bindings become lines on the output. `text` is the
+/// memory for a line.
+pub(crate) fn print_lines<'a, T: ShowTree, L: Link, O: Output>(
     link: &mut L,
-    begun: Begun<'_>,
-    community: &[u8],
+    plan: &Plan<'_, 'a>,
     retries: u32,
     tree: &T,
-    letters: Letters,
     text: &mut Vec<u8>,
     out: &mut O,
-) -> WalkEnd
-    requires sendable { CanRun begun }
-    requires community { length community.now ≤ 255 }
-    ensures printed { ArePrinted (mib_in (T.naming tree.now) (T.syntax_at tree.now)) letters
-        (O.stream out.old) (O.stream out.new) result
-        (λ given refused. IsRunOver L.Link link.old link.new (retries + 1)
-        community.now begun.entry given refused result) }
+) -> Result<WalkEnd, Failure<'a>>
+    ensures sendable { OnOk result (CanBeSent (question_of plan.now.question)) }
+    ensures printed { IfOk result (λ end. ArePrinted
+        (mib_in (T.naming tree.now) (T.syntax_at tree.now)) plan.now.orders.letters
+        (O.stream out.old) (O.stream out.new) end
+        (λ given refused. IsAskedOver L.Link link.old link.new (retries + 1)
+        (plan_of plan.now) (question_of plan.now.question) given refused end)) }
+    ensures refused { IfErr result (λ e. BeginFails plan.now.question (fault_of e)
+        × (O.stream out.new ≡ O.stream out.old)) }
 {
-    let writer = LineWriter::new(tree);
     let mut printer = Printer {
-        writer,
-        letters,
+        writer: LineWriter::new(tree),
+        letters: plan.orders.letters,
         text,
         out,
     };
-    let end = printer.print(link, begun, community, retries);
+    let done = run_plan(link, plan, retries, &mut printer);
     let Printer {
         writer: _writer,
         letters: _letters,
         text: _text,
         out: _out,
     } = printer;
-    end
+    let end = done?;
+    Ok(end)
 }
 
 /// Prints the number of bindings that were found. `text` is the memory for the line.

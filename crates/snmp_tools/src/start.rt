@@ -1,50 +1,53 @@
-//! How a question begins: its names must have an encoding.
-ghost use Rattle.std.specs.Prelude.{◌≡◌, ◌≤◌, IfErr, IfOk, OnOk, length};
+//! How the question of a plan is asked: its names must have an encoding.
+ghost use Rattle.std.specs.Prelude.{◌≡◌, ◌≤◌, ◌+◌, IfErr, IfOk, OnOk, length};
 ghost use Rattle.snmp_oid.specs.Identifier.{IsWire, wire};
-ghost use Rattle.snmp_walk.specs.Ordered.{IsUnsendable};
-ghost use Rattle.snmp_tools.specs.{Answer.CanBeSent, Message.fault_of, Question.subtree};
-ghost use Rattle.snmp_tools.specs.private.Planned.{question_of, walk_of};
-ghost use Rattle.snmp_tools.specs.private.Start.{BeginFails, IsBegun, IsStartOf, StartFails};
+ghost use Rattle.snmp_walk.specs.{Facts.IsFresh, Ordered.IsUnsendable, Ran.IsRun};
+ghost use Rattle.snmp_tools.specs.Answer.{CanBeSent, IsAskedOver, first_of};
+ghost use Rattle.snmp_tools.specs.{Message.fault_of, Question.subtree};
+ghost use Rattle.snmp_tools.specs.private.Planned.{plan_of, question_of, walk_of};
+ghost use Rattle.snmp_tools.specs.private.Start.{BeginFails, StartFails};
 
 use crate::failure::Failure;
 use crate::names::check_names;
 use crate::plan::{Plan, Question, Walk};
-use snmp_oid::Oid;
-use snmp_walk::{StartError, WalkCore};
+use snmp_walk::{Link, Sink, StartError, WalkCore, WalkEnd, run_get, run_walk};
 
-/// The id of the first request.
-pub(crate) const FIRST_ID: u32 = 1;
+// The id of the first request.
+const FIRST_ID: u32 = 1;
 
-/// A question before its first request. Its names can be sent.
-#[derive(Drop)]
-pub(crate) enum Begun<'p> {
-    /// The names of a Get.
-    Get(&'p [Oid]),
-    /// A walk.
-    Walk(WalkCore),
-}
-
-/// The question of a plan before its first request. A failure has the text of the first name that
-/// can't be asked for.
-pub(crate) fn begin<'p, 'a>(plan: &'p Plan<'_, 'a>) -> Result<Begun<'p>, Failure<'a>>
-    ensures ok { IfOk result
-        (IsBegun plan.now.orders.community.now (question_of plan.now.question)) }
+/// Asks the question of a plan over a link, whose bindings are given to a sink. Where it has no
+/// names, nothing is asked. A failure has the text of the first name that can't be asked for.
+pub(crate) fn run_plan<'a, L: Link, S: Sink>(
+    link: &mut L,
+    plan: &Plan<'_, 'a>,
+    retries: u32,
+    sink: &mut S,
+) -> Result<WalkEnd, Failure<'a>>
     ensures sendable { OnOk result (CanBeSent (question_of plan.now.question)) }
-    ensures err { IfErr result (λ e. BeginFails plan.now.question (fault_of e)) }
+    ensures run { IfOk result (λ end. IsRun S.takes sink.old end sink.new (λ given refused.
+        IsAskedOver L.Link link.old link.new (retries + 1) (plan_of plan.now)
+        (question_of plan.now.question) given refused end)) }
+    ensures refused { IfErr result (λ e. BeginFails plan.now.question (fault_of e)
+        × (sink.new ≡ sink.old)) }
 {
+    let community = plan.orders.community;
     match &plan.question {
         Question::Get(names) => {
             check_names(names.texts, &names.oids)?;
-            Ok(Begun::Get(&names.oids))
+            Ok(run_get(link, &names.oids, community, FIRST_ID, retries, sink))
         }
-        Question::Walk(walk) => Ok(Begun::Walk(start(walk, plan.orders.community)?)),
+        Question::Walk(walk) => {
+            let core = start(walk, community)?;
+            Ok(run_walk(link, core, retries, sink))
+        }
     }
 }
 
 // A walk before its first request.
 fn start<'a>(walk: &Walk<'a>, community: &[u8]) -> Result<WalkCore, Failure<'a>>
     requires { length community.now ≤ 255 }
-    ensures ok { IfOk result (λ core. IsStartOf core community.now (walk_of walk.now)) }
+    ensures ok { IfOk result (λ core. core ≡ first_of community.now (walk_of walk.now)) }
+    ensures fresh { IfOk result IsFresh }
     ensures sendable { OnOk result (CanBeSent (subtree (walk_of walk.now))) }
     ensures err { IfErr result (λ e. StartFails walk.now (fault_of e)) }
 {

@@ -1,4 +1,4 @@
-use Rattle.snmp_tools.proofs.Reading.{one_list}
+use Rattle.snmp_tools.proofs.ModuleLists.{one_list}
 use Rattle.snmp_tools.proofs.loading.read.one_list_of_modules.Goals as goal
 
 pub returns : goal.returns

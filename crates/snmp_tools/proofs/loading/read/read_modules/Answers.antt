@@ -1,7 +1,7 @@
 use Rattle.std.proofs.{Common.◌++◌, Common.subst, Common.sym, Common.ℕ, Common.List, lemmas.Result.err_from_is_err_and}
 use Rattle.snmp_io.specs.Files.{MayHold}
 use Rattle.snmp_tools.specs.loading.Files.{AreModulesOf}
-use Rattle.snmp_tools.proofs.{Reading.AreModulesOf-more, Reading.held_among, Reading.refused_at, Texts.texts-more}
+use Rattle.snmp_tools.proofs.{ModuleLists.AreModulesOf-more, ModuleLists.held_among, ModuleLists.refused_at, Texts.texts-more}
 use Rattle.snmp_tools.proofs.loading.read.read_modules.Goals as goal
 
 pub returns-in_err-found-clause-refused : goal.returns-in_err-found-clause-refused
