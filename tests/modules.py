@@ -382,6 +382,13 @@ def chosen():
                   kept("marked-out.txt", *letters, "--mib", f"{folder}/marked.txt", "VENDOR-MIB") and
                   run("snmptranslate", "--mib", f"{folder}/marked-out.txt", "-On", "vendorCount"),
                   (0, ".1.3.6.1.4.1.32473.7.1.1\n", ""))
+        with open(f"{folder}/lines.txt", "w", encoding="ascii") as file:
+            file.write(VENDOR.replace("VENDOR-MIB", "VENDOR_A-MIB").replace("vendorCount", "vendor_count_"))
+        for letters in [], ["--terse"]:
+            check(f"a low line in names, {letters}",
+                  kept("lines-out.txt", *letters, "--mib", f"{folder}/lines.txt", "VENDOR_A-MIB") and
+                  run("snmptranslate", "--mib", f"{folder}/lines-out.txt", "-On", "VENDOR_A-MIB::vendor_count_"),
+                  (0, ".1.3.6.1.4.1.32473.7.1.1\n", ""))
     check("no module of that name", join("IF-MIB", "NO-MIB"), (1, "", "join-modules: no module NO-MIB\n"))
     check("no such file", join("--mib", "no.txt", "IF-MIB"),
           (1, "", "join-modules: no.txt: No such file or directory\n"))
