@@ -140,9 +140,9 @@ tree
 touch "$got/usr"
 same 'a prefix that is no folder' "snmp: $got/usr: cannot be made: File exists" "$(install_with usr)"
 same 'no prefix' 'snmp: usage: ./snmp --install PREFIX [--with-names DIR] [--force], or ./snmp --uninstall PREFIX' "$(install_with)"
-same 'two prefixes' 'snmp: --install takes one folder, and b is a second' "$(install_with a b)"
+same 'two prefixes' 'snmp: one folder is taken, and b is a second' "$(install_with a b)"
 same 'no names' 'snmp: --with-names needs a folder' "$(install_with a --with-names)"
-same 'another option' 'snmp: --install has no option --prefix' "$(install_with --prefix a)"
+same 'another option' 'snmp: there is no option --prefix' "$(install_with --prefix a)"
 # A move that fails: the fifth, over an install of before and without one.
 mkdir "$got/bin"
 cat >"$got/bin/mv" <<'STAND_IN'
