@@ -22,5 +22,5 @@ done
 python3 - "$program" <<'MEMORY'
 import resource, subprocess, sys
 subprocess.run([sys.argv[1], "snmpwalk", "-On", "table:table.tab", ".2.5"], stdout=subprocess.DEVNULL, check=True)
-print(f"at the peak: {resource.getrusage(resource.RUSAGE_CHILDREN).ru_maxrss / 1000:.1f} MB")
+print(f"at the peak: {resource.getrusage(resource.RUSAGE_CHILDREN).ru_maxrss / 1024:.1f} MiB")
 MEMORY
