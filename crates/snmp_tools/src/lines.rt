@@ -79,8 +79,8 @@ impl<T: ShowTree, O: Output> Sink for Printer<'_, T, O> {
     }
 }
 
-/// Asks the question of a plan over a link, whose bindings become lines on the output. `text` is the
-/// memory for a line.
+/// Asks the question of a plan over a link, whose bindings become lines on the output. `text` is
+/// the memory for a line.
 pub(crate) fn print_lines<'a, T: ShowTree, L: Link, O: Output>(
     link: &mut L,
     plan: &Plan<'_, 'a>,

@@ -12,7 +12,8 @@ use Rattle.snmp_walk.specs.Link.{Agents, OneOf, full_response}
 -- The agents' messages have room for the binding: the Response with this binding alone and the
 -- greatest request-id is no longer than their greatest size.
 abbrev pub HasRoom : Agents → VarBind → Type 0
-HasRoom agents p = length (canon (full_response agents.community 2147483647 (p ∷ []))) ≤ agents.max_size
+HasRoom agents p =
+    length (canon (full_response agents.community 2147483647 (p ∷ []))) ≤ agents.max_size
 
 -- the value is no string of more than 700 octets, so that with any name its row fits a message of
 -- 1472 octets

@@ -22,7 +22,8 @@ use std::cmp::Ordering;
 use std::marker::Model;
 use std::mem;
 
-/// Rows by rising names, in pages of 1 to `PAGE_ROWS`, so that a change moves no more rows than a page has.
+/// Rows by rising names, in pages of 1 to `PAGE_ROWS`, so that a change moves no more rows than a
+/// page has.
 #[derive(Drop)]
 pub struct Pages {
     list: Vec<Page>,
