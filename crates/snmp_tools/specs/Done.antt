@@ -13,8 +13,8 @@ use Rattle.snmp_tools.specs.translation.Outcome.{IsTranslateOutcome}
 pub record IsAskDone {N V D : Type 0} (net : Network N V D) (wire : LinkFacts V)
     (Loads : LoadFacts) (words : AskWords) (before after : Seen N) (status : ℕ) : Type 0 where
   pub outcome_reported : IsRun net wire Loads words before after status
-  pub rows_written :
-      WritesRowsOf words before.files before.out after.out before.err after.err status
+  pub rows_written : WritesRowsOf words before.files before.out after.out before.err after.err
+      status
 
 -- The job that was stated so was done: its status is this, and the world outside went from one
 -- state to the other. `net` is what is known of the network, `wire` of its links, and `Loads` of
