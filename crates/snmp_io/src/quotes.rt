@@ -59,7 +59,7 @@ pub fn open_after(before: Option<u8>, octet: u8) -> Option<u8>
     ensures { result ≡ open_after before octet }
 {
     match before {
-        None if octet == b'"' || octet == b'\'' => Some(octet),
+        None if is_quote(octet) => Some(octet),
         None => None,
         Some(quote) if octet == quote => None,
         Some(quote) => Some(quote),

@@ -45,8 +45,7 @@ pub record EncodedNames : Type 0 where
 
 -- ---- for private functions
 
--- The subidentifier that has the octet at `at` has its last octet at `end`. Private functions and
--- proofs alone cite this and the next, and no public clause does.
+-- the subidentifier that has the octet at `at` has its last octet at `end`
 pub record EndsAt (content : List ℕ) (at end : ℕ) : Type 0 where
   pub behind : at ≤ end
   pub within : end < length content

@@ -1,5 +1,4 @@
--- What has an encoding by the standard: numbers of their types' ranges, octets, and identifiers
--- with a form on the wire (RFC 2578, section 7.1).
+-- Which bindings and messages have an encoding by the standard, by the ranges of their parts.
 use Rattle.std.specs.{Prelude.◌≤◌, Prelude.length, List.AllByRecursion}
 use Rattle.snmp_wire.specs.{Canon.canon_bindings, Message.VarBind, Message.Message}
 use Rattle.snmp_wire.specs.ber.Value.{integer_value, octet_string, object_id}

@@ -1,5 +1,5 @@
--- Reading from the front, with the first fault that is met: what private functions are proved to
--- compute. Public clauses cite what octets spell.
+-- Reading from the front, with the first fault that is met. What lies in a datagram is seen by it;
+-- that it agrees with what octets spell is proved.
 use Rattle.std.specs.Prelude.{ℕ, zero, suc, ℤ, ◌==◌, if◌then◌else◌, List, [], ◌∷◌, length, Result}
 use Rattle.std.specs.Prelude.{Ok, Err}
 use Rattle.std.specs.Result.{result_unwrap_or}
@@ -10,8 +10,6 @@ use Rattle.snmp_wire.specs.declared.kind.Kind.TheVariants as kind
 use Rattle.snmp_wire.specs.declared.binding.Fields as Lent
 use Rattle.snmp_wire.specs.ber.Reading.{fault_or, content_at, element_at, identifier_of, inner_at}
 use Rattle.snmp_wire.specs.ber.Reading.{integer_at, typed_value, ◌>>=◌}
-
--- ---- bindings
 
 -- where a binding's name and value lie
 pub record Fields : Type 0 where

@@ -10,8 +10,8 @@ use smi_text::{DefKind, ObjectType, Status, Text};
 use snmp_io::Draft;
 
 /// Appends those of SYNTAX, UNITS, MAX-ACCESS, STATUS and DESCRIPTION that a definition has (RFC
-/// 2578, sections 5 to 8), one per line. A type has none, nor has a definition whose clauses are
-/// kept as tokens.
+/// 2578, sections 5 to 8; RFC 2580, sections 3 and 4), one per line. Of a type it appends none, nor
+/// of a definition whose clauses are kept as tokens.
 pub fn definition_text(kind: &DefKind, draft: &mut Draft)
     ensures { Adds draft.old (definition_text kind.now) draft.new }
 {

@@ -1,6 +1,5 @@
 -- The tokens of a text, computed in the plain, slow way: every front of what is left is tried, the
--- longest first. The law that this agrees with `Lexes` is in proofs/; only private clauses use this
--- file.
+-- longest first. A `Lexer` is seen as these. The law that this agrees with `Lexes` is in proofs/.
 use Rattle.std.specs.Prelude.{◌≡◌, ℕ, zero, suc, pred, ◌+◌, ◌<◌, ◌≤◌, ◌⊎◌, not, get_or, Bool, true}
 use Rattle.std.specs.Prelude.{false, if◌then◌else◌, ◌&&◌, ◌||◌, ◌==◌, Option, Some, None, Ok, Err}
 use Rattle.std.specs.Prelude.{List, [], ◌∷◌, length, take, drop, count_by}

@@ -60,8 +60,7 @@ bound_value K.Hex x = pos (number_value 16 (literal_digits x))
 bound_value K.Binary x = pos (number_value 2 (literal_digits x))
 bound_value _ x = signed_value x
 
--- the value that a text states, if it is in its range: as a number of an identifier, as any other
--- number, or as an end of a range
+-- the number of an identifier that the token writes, None where it is none
 abbrev pub arc_in : List ℕ → Option ℕ
 arc_in x = then_some (is_arc x) (magnitude x)
 
