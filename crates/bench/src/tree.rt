@@ -90,7 +90,8 @@ pub extern "C" fn tree_identifiers_in(alloc: Global, text: &[u8], times: usize) 
     count
 }
 
-/// How often the syntax of the first node is found in the tree of a text, looked up so many times.
+/// How often the syntax of the first node after the roots is found in the tree of a text, looked up
+/// so many times.
 #[unsafe(no_mangle)]
 pub extern "C" fn tree_syntaxes_in(alloc: Global, text: &[u8], times: usize) -> usize {
     let Some(tree) = tree_in(alloc, text) else {

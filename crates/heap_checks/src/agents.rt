@@ -134,8 +134,8 @@ fn remove_rows(table: &mut Table, each: u32, last: u32) -> Result<(), Fault> {
 }
 
 /// `Table::remove` of 20,000 rows, but for each whose number is a multiple of `each`: the reply to
-/// a request then, and once the text is read again. What is held at most says what the rows that
-/// stay take.
+/// a request then. Meanwhile the text is read again and its table kept, so that what is held at
+/// most says what the rows that stay take.
 pub fn removed(
     alloc: Global,
     text: &[u8],

@@ -159,12 +159,16 @@ pub fn parse_modules(alloc: Global, text: &[u8]) -> Result<Vec<Module>, ParseErr
 }
 
 /// Tokens are the spelling of at most one list of modules.
+///
+/// A law: the call does nothing, and its caller may use what it ensures.
 pub fn one_module_list()
     ensures { (ms ns : List Tree) (tokens : List Lexeme) → Stands (spelling ms) tokens []
         → Stands (spelling ns) tokens [] → ms ≡ ns }
 {}
 
 /// Kinds and texts of tokens are the spelling of at most one list of modules, apart from its lines.
+///
+/// A law: the call does nothing, and its caller may use what it ensures.
 pub fn one_module_list_without_lines()
     ensures { (ms ns : List Tree) (tokens : List Lexeme)
         → Stands (map plain (spelling ms)) tokens [] → Stands (map plain (spelling ns)) tokens [] →
@@ -173,6 +177,8 @@ pub fn one_module_list_without_lines()
 
 /// Tokens between braces have a spelling exactly where each brace that opens among them is followed
 /// by the one that closes it, and no other brace closes among them.
+///
+/// A law: the call does nothing, and its caller may use what it ensures.
 pub fn balanced_braces()
     ensures { (xs : List TokenText) → has_balanced_braces xs ≡ true ↔ IsBalanced xs }
 {}

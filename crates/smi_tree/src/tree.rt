@@ -244,7 +244,7 @@ impl Tree {
         }
     }
 
-    /// What a tree holds is what its modules bring.
+    /// What a tree holds is what its modules bring: a law, which does nothing when it runs.
     pub(crate) fn is_tree(&self)
         ensures { (warnings : List Warning) × IsTree self.now.modules self.now warnings }
     {

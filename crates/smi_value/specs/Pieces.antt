@@ -29,7 +29,7 @@ units_text letters (Some units) = if letters.no_units then [] else 32 ∷ units
 abbrev pub dotted : ℕ → ℕ
 dotted octet = if is_printable octet then octet else 46
 
--- octets between quotes
+-- octets between double quotes, as characters
 abbrev pub quoted : List ℕ → List ℕ
 quoted octets = codes "\"" ++ flat_map (λ octet. escaped (dotted octet)) octets ++ codes "\""
 
@@ -99,7 +99,7 @@ pub record IsBitsText (letters : Letters) (names : List NamedNumber) (octets tex
 
 -- ---- for private functions
 
--- printable, and neither a quote nor a backslash: shown between quotes as it is
+-- printable, and neither a double quote nor a backslash: shown between quotes as it is
 abbrev pub is_plain : ℕ → Bool
 is_plain octet = is_printable octet && not ((octet == 34) || (octet == 92))
 

@@ -10,7 +10,7 @@ use Rattle.snmp_io.specs.draft.Draft.{hexadecimal_octet}
 abbrev pub is_printable : ℕ → Bool
 is_printable octet = nat_le 32 octet && nat_le octet 126
 
--- a backslash before each quote and each backslash
+-- a backslash before each double quote and each backslash
 abbrev pub escaped : ℕ → List ℕ
 escaped octet = if (octet == 34) || (octet == 92) then 92 ∷ octet ∷ [] else octet ∷ []
 

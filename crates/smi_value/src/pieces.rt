@@ -103,7 +103,7 @@ fn append_between_quotes(draft: &mut Draft, octets: &[u8])
     draft.octet(b'"');
 }
 
-/// Appends octets between quotes.
+/// Appends octets between quotes, each as [`append_character`] shows it.
 fn append_quoted(draft: &mut Draft, octets: &[u8])
     ensures { Adds draft.old (quoted octets.now) draft.new }
 {
@@ -112,7 +112,7 @@ fn append_quoted(draft: &mut Draft, octets: &[u8])
     draft.octet(b'"');
 }
 
-/// Appends octets as characters, a dot for each one that isn't printable.
+/// Appends octets as characters, each as [`append_character`] shows it.
 fn append_escaped(draft: &mut Draft, octets: &[u8])
     ensures { Adds draft.old (flat_map (λ octet. escaped (dotted octet)) octets.now) draft.new }
 {
@@ -121,7 +121,8 @@ fn append_escaped(draft: &mut Draft, octets: &[u8])
     }
 }
 
-/// Appends an octet as a character, with a backslash before a quote or a backslash.
+/// Appends an octet as a character, with a backslash before a double quote or a backslash; a dot
+/// for one that isn't printable.
 fn append_character(draft: &mut Draft, octet: u8)
     ensures { Adds draft.old (escaped (dotted octet)) draft.new }
 {

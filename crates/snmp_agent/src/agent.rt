@@ -159,8 +159,8 @@ fn bulk_reply<'a>(
     sealed(&parts, bindings.total, config, out)
 }
 
-/// Writes the reply to another request, as [`reply`] does: with one binding for each of the
-/// request's, or an error where they don't fit.
+/// Writes the reply to a Get, a GetNext or a Set, as [`reply`] does: with one binding for each of
+/// the request's, or the error tooBig where they don't fit.
 fn paired_reply(
     table: &Table,
     config: &Config<'_>,

@@ -101,7 +101,7 @@ impl<R: rt::Files> Files for MachineFiles<R> {
 pub enum ReadError {
     /// It has more than 268435456 octets left.
     TooLong,
-    /// A read failed, or memory for its octets ran out.
+    /// Opening or reading it failed, or memory for its octets ran out.
     Failed(io::Error),
 }
 

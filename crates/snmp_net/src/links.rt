@@ -36,7 +36,7 @@ pub trait Links {
     ghost fault_count: { Self → ℕ };
 
     /// Opens a link to the agent at a UDP port of a host. A receive over it waits this many
-    /// seconds. A fault is counted.
+    /// seconds, at least one. A fault is counted.
     fn open(&mut self, host: &str, port: u16, seconds: u64) -> Result<Self::Wire, LinkFault>
         // A receive waits at least a second.
         requires { 0 < seconds }

@@ -11,10 +11,13 @@ use std::alloc::Global;
 /// An agent in memory, and the host and port at which it is reached.
 #[derive(Clone, Copy)]
 pub struct MemoryAgent<'a> {
+    /// The host.
     pub host: &'a str,
+    /// The port.
     pub port: u16,
     /// The table that it serves.
     pub table: &'a Table,
+    /// Its community, and the greatest size of its messages.
     pub config: Config<'a>,
     /// What each receive from it brings, as [`MemoryLink::new`] has them.
     pub deliveries: &'a [Option<usize>],

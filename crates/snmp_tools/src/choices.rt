@@ -10,7 +10,7 @@ pub(crate) struct Choices {
     pub(crate) leaves_last_get: bool,
     /// The number of bindings is printed after their lines.
     pub(crate) counts: bool,
-    /// How many instances one request asks for.
+    /// How many instances one request asks for, 1 to 2147483647.
     pub(crate) repetitions: u32,
     ghost some_repetitions: { 1 ≤ repetitions },
     ghost few_repetitions: { repetitions ≤ 2147483647 },

@@ -26,7 +26,7 @@ pub enum Failure<'a> {
     Letter(u8),
     /// The community has more than 255 octets.
     Community,
-    /// The word for the agent is no address.
+    /// The word for the agent, or that for the place where requests are received, is no address.
     Agent(&'a str),
     /// The text is no name, for this reason.
     Name(&'a str, NameError),

@@ -1,4 +1,4 @@
-//! How a walk ends, and what a link or a sink refuses.
+//! Why a walk can't begin, how it ends, and the faults of links and sinks.
 
 use snmp_wire::Oid;
 use thiserror::Error;

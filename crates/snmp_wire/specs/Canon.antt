@@ -1,5 +1,5 @@
--- The shortest encoding: each length in the shortest form, each whole number in the fewest octets
--- (X.690, 8.1.3, 8.3 and 8.19; RFC 3417, section 8).
+-- The shortest encoding of bindings and messages, made of that of values (ber/Canon.antt): each
+-- length is in the shortest form (X.690, 8.1.3; RFC 3417, section 8).
 use Rattle.std.specs.Prelude.{ℕ, ◌+◌, List, ◌++◌, length}
 use Rattle.std.specs.List.{flat_map}
 use Rattle.snmp_oid.specs.Identifier.{IsWire}

@@ -1,5 +1,5 @@
--- Reading from the front, with the first fault that is met. What lies in a datagram is seen by it;
--- that it agrees with what octets spell is proved.
+-- Bindings and messages read from the front, with the first fault that is met. What lies in a
+-- datagram is seen by this; that it agrees with what octets spell is proved.
 use Rattle.std.specs.Prelude.{ℕ, zero, suc, ℤ, ◌==◌, if◌then◌else◌, List, [], ◌∷◌, length, Result}
 use Rattle.std.specs.Prelude.{Ok, Err}
 use Rattle.std.specs.Result.{result_unwrap_or}

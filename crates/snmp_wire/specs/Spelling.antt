@@ -60,7 +60,7 @@ pub record SpellsMessage (form : Form) (message : Message) (octets : List ℕ) :
   pub element : IsElement sequence_tag (version ++ community ++ pdu) octets
   pub are_octets : AreOctets octets
 
--- the octets encode the message, in a form that is read.
+-- the octets encode the message, in a form that is read
 abbrev pub Spells : Message → List ℕ → Type 0
 Spells message octets = SpellsMessage lenient message octets
 

@@ -368,7 +368,7 @@ pub fn encode_binding(binding: &Binding<'_>, out: &mut [u8]) -> Option<usize>
 }
 
 /// Writes a binding before `end`, and returns where it begins.
-// Hot, and called once: the loop that writes bindings.
+// Hot: each binding that is written.
 #[inline(always)]
 pub(crate) fn put_binding(out: &mut [u8], end: usize, binding: &Binding<'_>) -> usize
     requires encodable { IsEncodable (var_bind binding.now) }

@@ -72,9 +72,9 @@ pub struct WalkJob<'a> {
     /// The letters of `-C`: what the walk includes, and what is counted. Those of several `-C` are
     /// joined in order.
     pub letters: String,
-    /// The name after which the walk goes on, of `--after`.
+    /// The name after which the walk goes on, of `--after`, if one is given.
     pub after: Option<&'a str>,
-    /// The name of the walk's root.
+    /// The name of the walk's root, if one is given.
     pub name: Option<&'a str>,
 }
 

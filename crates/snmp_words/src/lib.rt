@@ -77,8 +77,10 @@ pub fn read_words<'a>(alloc: Global, words: &'a [&'a str]) -> Result<Job<'a>, Us
     }
 }
 
-/// The words of a walk of any table file from any numeric name, in both spellings of the option,
-/// are taken and state that walk.
+/// The words of a walk of any table file from any numeric name, with `-On` or with `-O n`, are
+/// taken and state that walk.
+///
+/// A law: the call does nothing, and its caller may use what it ensures.
 pub fn walks_are_taken()
     ensures joined { (path numbers : List ℕ) →
         is_taken (walk_line (codes "-On" ∷ []) path numbers) ≡ true }
@@ -94,6 +96,8 @@ pub fn walks_are_taken()
 
 /// The words of a bulk walk of an agent on any host, from any numeric name, are taken, and state
 /// that walk.
+///
+/// A law: the call does nothing, and its caller may use what it ensures.
 pub fn bulk_walks_are_taken()
     ensures taken { (host numbers : List ℕ) → is_taken (bulk_walk_line host numbers) ≡ true }
     ensures job { (host numbers : List ℕ) →
@@ -101,6 +105,8 @@ pub fn bulk_walks_are_taken()
 {}
 
 /// The words of an agent that serves any table file at any place are taken, and state that.
+///
+/// A law: the call does nothing, and its caller may use what it ensures.
 pub fn servers_are_taken()
     ensures taken { (path place : List ℕ) → is_taken (serve_line path place) ≡ true }
     ensures job { (path place : List ℕ) →
@@ -109,6 +115,8 @@ pub fn servers_are_taken()
 
 /// The details of any numeric name, with any two files of modules, are asked for by words that are
 /// taken and state that translation: the files in their order.
+///
+/// A law: the call does nothing, and its caller may use what it ensures.
 pub fn translations_are_taken()
     ensures taken { (first second name : List ℕ) →
         is_taken (translate_line first second name) ≡ true }
@@ -119,6 +127,8 @@ pub fn translations_are_taken()
 
 /// The instances of any two numeric names, of an agent on any host, with any file of modules, are
 /// asked for by words that are taken and state that get: the names in their order.
+///
+/// A law: the call does nothing, and its caller may use what it ensures.
 pub fn gets_are_taken()
     ensures taken { (modules host first second : List ℕ) →
         is_taken (get_line modules host first second) ≡ true }

@@ -1,4 +1,5 @@
-//! Laws of meanings, for any modules.
+//! Laws of meanings, for any modules. Each is a call that does nothing, and its caller may use what
+//! it ensures.
 ghost use Rattle.std.specs.Prelude.{◌≡◌, ℕ, List};
 ghost use Rattle.smi_names.specs.chains.Resolution.{ComesTo};
 ghost use Rattle.smi_names.specs.declared.chains.resolution.Resolution.{Resolution};

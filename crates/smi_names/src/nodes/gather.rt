@@ -15,7 +15,7 @@ use smi_text::{Def, Module, Text};
 use snmp_oid::Oid;
 use std::alloc::{AllocError, Global};
 
-/// The nodes of modules, and the warnings for definitions without an identifier.
+/// The nodes of modules, and the warnings that the modules give.
 #[derive(Drop)]
 pub struct Gathered {
     /// Where each node comes from, in order of loading: the roots first.
@@ -226,7 +226,7 @@ pub fn gather_nodes<'a>(
     requires { names.now ≡ modules.now }
     ensures { IfOk result (λ gathered. AreGathered modules.now gathered modules.now) }
 {
-    // Most nodes have an identifier that no other has.
+    // There is room for a node for each resolution: most of these are of nodes.
     let mut gathered = Gathered::roots(alloc, names.identifiers())?;
     'modules: for (i, module) in modules.iter().enumerate() {
         gathered.add_module(alloc, names, module, i)?;

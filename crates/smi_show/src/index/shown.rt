@@ -196,8 +196,8 @@ fn number_text(number: u64, draft: &mut Draft)
     draft.number(number);
 }
 
-/// Puts the numbers at the front into the room, four at a time, as long as they have one digit, and
-/// returns how many these are. Most names begin with such numbers.
+/// Puts the numbers at the front into the room, four at a time and 60 at most, as long as they have
+/// one digit, and returns how many these are. Most names begin with such numbers.
 #[inline(always)]
 fn put_front(room: &mut [u8; ROOM], numbers: &[u32]) -> usize
     ensures front { result ≤ length numbers.now }

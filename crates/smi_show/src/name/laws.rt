@@ -1,4 +1,5 @@
-//! What holds of the meanings of names, for proofs.
+//! Laws of the meanings of names. Each is a call that does nothing, and its caller may use what it
+//! ensures.
 ghost use Rattle.std.specs.Prelude.{◌≡◌, ℕ, List, Ok, Result};
 ghost use Rattle.snmp_oid.specs.{Identifier.IsIdentifier, Numeric.numeric_text};
 ghost use Rattle.smi_show.specs.{name.Meaning.meaning, name.Meant.TextMeans, name.Naming.Naming};

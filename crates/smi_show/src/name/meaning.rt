@@ -23,9 +23,9 @@ use snmp_oid::{Oid, front_number, names, read_numeric};
 
 /// The identifier that a name means, or the first fault from the left. Does not allocate.
 ///
-/// The name is `.`, or parts after dots: an optional `MODULE::` or `.`, a first part, and further
-/// parts. A number is itself, `"text"` its length and octets, `'text'` its octets alone; a label is
-/// found in the module named, anywhere, or after a leading dot among the roots, and a label as a
+/// The name is `.`, or parts with dots between them, after `MODULE::`, a dot or neither. A number
+/// is itself, `"text"` its length and octets, `'text'` its octets alone; a label as the first part
+/// is found in the module named, anywhere, or after a leading dot among the roots, and one as a
 /// later part is that of a child. What [`crate::name::name_text`] shows by module and label, or in
 /// numbers, is read back.
 pub fn resolve<T: NameTree>(tree: &T, text: &[u8]) -> Result<Oid, NameError>

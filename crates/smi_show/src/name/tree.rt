@@ -58,6 +58,8 @@ pub trait NameTree {
     }
 
     /// Labels are words, and lead to the nodes that they are shown for.
+    ///
+    /// A law: the call does nothing, and its caller may use what it ensures.
     fn sound(&self)
         ensures { IsSound (naming self.now) };
 }

@@ -1,4 +1,4 @@
--- Balanced braces, as X.680 and RFC 2578 mean them where a value or a type stands between braces.
+-- Balanced braces, as X.208 and RFC 2578 mean them where a value or a type stands between braces.
 use Rattle.std.specs.Prelude.{◌≡◌, ◌≢◌, List, [], ◌∷◌, ◌++◌}
 use Rattle.smi_text.specs.declared.lexer.token.TokenKind.TheVariants.{OpenBrace, CloseBrace}
 use Rattle.smi_text.specs.declared.trees.tree.TokenText.{TokenText}

@@ -1,4 +1,5 @@
--- Balanced braces, where a value or a type stands between braces and is kept as tokens.
+-- Balanced braces told by counting, where a value or a type stands between braces and is kept as
+-- tokens. The law `balanced_braces` says that these are those of Braces.antt.
 use Rattle.std.specs.Prelude.{ℕ, ◌==◌, Bool, ◌&&◌, nat_le, List, [], ◌∷◌, map, count_by}
 use Rattle.std.specs.List.{list_all}
 use Rattle.smi_text.specs.declared.lexer.token.TokenKind.TheVariants.{OpenBrace, CloseBrace}

@@ -1,6 +1,6 @@
 -- The spelling of a list of module trees: one case for each production of the grammar, with the
--- marks of its tokens in order. In the comments a word stands for itself, and UPPER, LOWER, NUM and
--- STR for a token of that kind (RFC 2578, sections 3 to 8; RFC 2579; RFC 2580).
+-- marks of its tokens in order. In the comments a word stands for itself, and UPPER, LOWER, NUM,
+-- HEX, BIN and STR for a token of that kind (RFC 2578, sections 3 to 8; RFC 2579; RFC 2580).
 use Rattle.std.specs.Prelude.{ℕ, Bool, true, false, ◌&&◌, not, List, [], ◌∷◌, ◌++◌, Option, Some}
 use Rattle.std.specs.Prelude.{None, codes, map, if◌then◌else◌}
 use Rattle.std.specs.List.{flat_map}

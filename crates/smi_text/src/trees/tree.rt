@@ -237,13 +237,18 @@ pub struct SimpleType {
     pub refinement: Option<Refinement>,
 }
 
-/// What a type is made of.
+/// The type that a type refines (RFC 2578, section 7.1).
 #[derive(Debug, Drop)]
 pub enum Base {
+    /// INTEGER.
     Integer,
+    /// OCTET STRING.
     OctetString,
+    /// OBJECT IDENTIFIER.
     ObjectIdentifier,
+    /// BITS.
     Bits,
+    /// Any other type, by its name: `Counter32` too, as modules import it.
     Named(Name),
 }
 

@@ -62,7 +62,7 @@ pub(crate) fn first(alloc: Global) -> Result<Vec<Branch>, AllocError>
 }
 
 /// The branches of the beginnings of the identifier that was added last, by how many numbers each
-/// has.
+/// has, 0 to 128.
 pub(crate) type Way = [usize; 129];
 
 /// How many numbers at the front two lists have in common.

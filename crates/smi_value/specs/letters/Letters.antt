@@ -61,7 +61,7 @@ pub record AreLetters (text : List ℕ) (letters : Letters) : Type 0 where
 
 -- ---- for private functions
 
--- the options with one more letter
+-- what the letters and one more say
 pub record IsWith (old : Letters) (octet : ℕ) (new : Letters) : Type 0 where
   pub n_f_s_S : new.names
       ≡ (if is_one_of (codes "nfsS") octet then name_form (Some octet) else old.names)

@@ -26,6 +26,8 @@ pub fn write_hint(
 }
 
 /// A hint shows a value in one way.
+///
+/// A law: the call does nothing, and its caller may use what it ensures.
 pub fn one_text()
     ensures { (hint : List ℕ) (value : HintValue) (first second : List ℕ)
         → Shows hint value first → Shows hint value second → first ≡ second }

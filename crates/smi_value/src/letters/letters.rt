@@ -63,7 +63,7 @@ impl Letters {
     ghost use Rattle.smi_value.specs.letters.Letters.{AreLetters, IsWith, first_other, is_one_of};
     ghost use Rattle.smi_value.specs.letters.Letters.{all_letters};
 
-    /// The options without any letters.
+    /// What holds where no letters are given.
     pub fn new() -> Letters
         ensures { AreLetters [] result }
     {
@@ -95,7 +95,7 @@ impl Letters {
         Ok(letters)
     }
 
-    /// The options with one more letter, or None if the octet is not one of the letters.
+    /// What these letters and one more say, or None if the octet is not one of the letters.
     fn with(self, octet: u8) -> Option<Letters>
         ensures with { IfSome result (IsWith self octet) }
         ensures letter { IfSome result (λ _. is_one_of all_letters octet ≡ true) }

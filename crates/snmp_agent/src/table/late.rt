@@ -225,9 +225,9 @@ fn sort_key(content: &[u8], alike: usize) -> u128 {
     long_key(octets)
 }
 
-/// [`sort_key`] where there may be such a subidentifier. The longer of two is the greater, so the
-/// size comes first: an octet of at least 0x80 after one of 0xff, than which no shorter one begins
-/// with more.
+/// [`sort_key`] where there may be such a subidentifier. Of two the longer is the greater, so its
+/// size comes first, as 0xff and then an octet from 0x80 on. One of two octets, which may begin
+/// with 0xff too, goes on below 0x80.
 #[inline(never)]
 fn long_key(octets: &[u8]) -> u128 {
     let mut key = [0; KEY_SIZE];

@@ -274,6 +274,7 @@ impl Pages {
             → IsPermutation (entries self.old ++ entries_of rows.old.items) (entries self.new)) }
     {
         sort_falling(rows);
+        // A search for each of few rows takes less than a pass over all that are there.
         if rows.len() < self.most_rows() / 8 {
             self.put_all(alloc, rows)
         } else {

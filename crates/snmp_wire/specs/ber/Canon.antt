@@ -1,5 +1,5 @@
--- The shortest encoding: each length in the shortest form, each whole number in the fewest octets
--- (X.690, 8.1.3, 8.3 and 8.19; RFC 3417, section 8).
+-- The shortest encoding of values: each length in the shortest form, each whole number and each
+-- subidentifier in the fewest octets (X.690, 8.1.3, 8.3 and 8.19; RFC 3417, section 8).
 use Rattle.std.specs.Prelude.{ℕ, ℤ, pos, negsuc, ◌+◌, ◌-◌, ◌*◌, ◌/◌, ◌%◌, ◌^◌, ◌<◌, ◌≤◌, suc, zero}
 use Rattle.std.specs.Prelude.{List, [], ◌∷◌, ◌++◌, length, get_or, map, nat_lt, if◌then◌else◌}
 use Rattle.std.specs.List.{flat_map}

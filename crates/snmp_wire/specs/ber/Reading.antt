@@ -1,6 +1,6 @@
--- Reading from the front, with the first fault that is met: what the readers are proved to compute,
--- those too that messages are read by. What octets encode is said in Spelling.antt; that both agree
--- is proved (`value_gives` and `value_again`).
+-- Lengths, numbers, identifiers and values read from the front, with the first fault that is met:
+-- what the readers are proved to compute, those too that messages are read by. What octets encode
+-- is said in Spelling.antt; that both agree is proved (`value_gives` and `value_again`).
 use Rattle.std.specs.Prelude.{◌≡◌, ℕ, zero, suc, ℤ, ◌+◌, ◌-◌, ◌*◌, ◌/◌, ◌%◌, ◌^◌, ◌<◌, ◌++◌, All}
 use Rattle.std.specs.Prelude.{Bool, true, false, ◌&&◌, ◌||◌, ◌==◌, nat_lt, nat_le, if◌then◌else◌}
 use Rattle.std.specs.Prelude.{List, [], ◌∷◌, length, take, drop, Result, Ok, Err}

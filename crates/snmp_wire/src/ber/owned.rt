@@ -1,4 +1,4 @@
-//! Values that own their octets, as a table keeps them.
+//! Values that own their octets.
 ghost use Rattle.std.specs.Prelude.{◌≡◌, IfOk, IsOk};
 ghost use Rattle.snmp_wire.specs.{ber.Value.datum, ber.Owned.HasNoString, ber.Owned.owned};
 
