@@ -1,6 +1,6 @@
 -- What `snmpwalk -On table:PATH ROOT` prints, where no module files are given and the root is in
--- numbers: the rows of the table file that are below the root, in the order of their names. This is
--- the page to begin at.
+-- numbers: the rows of the table file that are below the root, in the order of their names, or what
+-- a Get of the root gives where there are none. This is the page to begin at.
 --
 -- `table.Text` (snmp_agent) says what the lines of the file state, `RowText` which line a row has,
 -- and `Output` (snmp_io) what an output took.

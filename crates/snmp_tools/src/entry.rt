@@ -28,8 +28,8 @@ pub fn tool<F: ModuleFiles<E>, L: Links, O: Output, E: ErrorOutput>(
     out: &mut O,
     err: &mut E,
 ) -> u8
-    // A walk of a table file in numbers prints the lines of its rows below the root, and no
-    // others.
+    // A walk of a table file in numbers prints the lines of its rows below the root, or where none
+    // is below, that of what a Get of the root gives, and no others.
     ensures rows_printed { (path root text : List ℕ)
         → texts_at words.now ≡ table_walk path root
         → HoldsTableFile (F.text_at files.now) path root text

@@ -4,10 +4,11 @@ use Rattle.std.proofs.Common.{◌≡◌, ◌≢◌, ◌⊎◌, inl, inr, ℕ, �
 use Rattle.std.proofs.Common.{append-nil, Option}
 use Rattle.std.specs.Prelude.{Result, Ok, Err, replicate, Some, None}
 use Rattle.snmp_walk.specs.{declared.end.LinkFault.LinkFault, private.Codec.Codec, declared.end.SinkFault.SinkFault, declared.end.WalkEnd.WalkEnd}
-use Rattle.snmp_walk.specs.{declared.tries.Course.Course, Link.Agents, Link.OneOf, Link.AreLawful, Link.IsReplyFrom, Link.agent_in, Link.Outcome}
-use Rattle.snmp_walk.specs.{Traffic.Traffic, Traffic.Lost, Facts.IsDone, Facts.IsDoneOrCutOff, Facts.IsDoneOrStopped, private.Course.Heard}
-use Rattle.snmp_walk.specs.{private.Course.heard_of, Read.IsReadAs, Read.Tells, Moved.IsMoved, Judged.IsResponseTo, Network.AreReplies}
-use Rattle.snmp_walk.specs.{Tries.AreTried, Tries.Happens, Tries.InTurn, Tries.IsNotAwaited, declared.link.Link.Ghosts as LinkFacts}
+use Rattle.snmp_walk.specs.{declared.tries.Course.Course, Traffic.Traffic, Traffic.Lost, Facts.IsDone, Facts.IsDoneOrCutOff, Facts.IsDoneOrStopped}
+use Rattle.snmp_walk.specs.{private.Course.Heard, private.Course.heard_of, Read.IsReadAs, Read.Tells, Moved.IsMoved, Judged.IsResponseTo}
+use Rattle.snmp_walk.specs.{Network.AreReplies, declared.link.Link.Ghosts as LinkFacts, Responses.IsResponseFrom, Responses.MayRespond}
+use Rattle.snmp_walk.specs.Link.{Agents, OneOf, AreLawful, IsReplyFrom, agent_in, Outcome}
+use Rattle.snmp_walk.specs.Tries.{AreTried, Happens, InTurn, IsNotAwaited}
 use Rattle.snmp_wire.specs.{Message.VarBind, Message.Message, Spelling.Spells, Canon.canon, Range.IsMessageInRange}
 use Rattle.snmp_agent.specs.{Event.Event, table.Table.MibView, table.Table.IsMibView}
 use Rattle.snmp_agent.specs.Reply.{response, got, got_next, unwritten, Fits, IsWhole, IsResponse, whole, shortened, bulk}
@@ -16,12 +17,14 @@ use Rattle.snmp_walk.specs.declared.tries.Course.TheVariants as course
 use Rattle.snmp_walk.specs.private.Course as heard
 use Rattle.snmp_walk.specs.Get.{get_request, got_step, AreFor, AreGot, MeansToGet, IsBrought, IsReasonOfGet, HasRoomForGet, IsEndOfGet, IsLostGet}
 use Rattle.snmp_walk.specs.Get.{IsTooBig, GetFacts, GotFacts}
-use Rattle.snmp_walk.proofs.{NameLemmas.no_end, JoinLemmas.get_one, NetworkLemmas.all_tries, NetworkLemmas.answered_tries, HonestLemmas.no_drop}
-use Rattle.snmp_walk.proofs.{HonestLemmas.own as spelt_own, RowLemmas.view_of, RowLemmas.only_one, RowLemmas.get_name, RowLemmas.get_value}
+use Rattle.snmp_walk.proofs.{NameLemmas.no_end, JoinLemmas.get_one, NetworkLemmas.all_tries, NetworkLemmas.answered_tries}
+use Rattle.snmp_walk.proofs.HonestLemmas.{no_drop, may_be, of_community, own as spelt_own}
+use Rattle.snmp_walk.proofs.RowLemmas.{view_of, only_one, get_name, get_value}
 use Rattle.snmp_walk.proofs.GetEndLemmas.{brought, lost_get, no_set, response_of, IsByReply, IsFrontOfReply, IsGot, MayEnd, by_reply, for_more}
 use Rattle.snmp_walk.proofs.GetEndLemmas.{for_names, for_none, for_nothing, front_of_reply}
 use Rattle.snmp_walk.proofs.MoveLemmas.{Suits, agrees, moved_of, sent_of, tries_as, moves_as, moves_none, nil_front}
 use Rattle.snmp_walk.specs.Link as outcome
+use Rattle.snmp_walk.specs.Responses as sending
 use Rattle.snmp_walk.specs.Ran.{HasHappened, IsFreshAndHonest, IsGetTried, IsGotOver, IsRun}
 
 -- Gets of the names give one list
@@ -39,6 +42,23 @@ for_got view good names bindings h = absurd h
 unless_silent : (end : WalkEnd) → (end ≡ ending.NoResponse → ⊥) → IsDoneOrCutOff end → IsDoneOrStopped end
 unless_silent ending.NoResponse other h = absurd (other refl)
 unless_silent _ other h = h
+
+-- What came of the Get's request is this reply to it, and over an honest link a Response that one of the agents may send.
+abbrev MayBeBrought : (Tried : Outcome → Type 0) → Agents → (honest : Type 0) → List ℕ → ℕ → List (List ℕ) → Message → Type 0
+MayBeBrought Tried agents honest community id names m = IsResponseTo community id m
+    × (honest → (view : MibView) × OneOf agents.tables view × (community ≡ agents.community)
+    × MayRespond view agents.max_size (get_request community id names) m) × ((datagram : List ℕ) × Tried (outcome.answered datagram) × Spells m datagram)
+
+-- an end's reason tells no more of a reply than this
+module _ (Tried : Outcome → Type 0) (From Other : Message → Type 0) (by : (m : Message) → From m → Other m) (names : List (List ℕ))
+    (rows refused : List VarBind) where
+  reason_by : (end : WalkEnd) → IsReasonOfGet Tried From names rows refused end → IsReasonOfGet Tried Other names rows refused end
+  reason_by (ending.Done count) r = (r.0, by r.0 r.1, r.2, r.3)
+  reason_by (ending.Sink fault) r = (r.0, r.1, r.2, by r.0 r.3, r.4, r.5)
+  reason_by ending.NoResponse r = r
+  reason_by ending.RequestTooLong r = r
+  reason_by ending.Link r = r
+  reason_by end r = (r.0, by r.0 r.1, r.2, r.3)
 
 module _ (agents : Agents) (lawful : AreLawful agents) (community : List ℕ) (id : ℕ) (names : List (List ℕ)) where
   abbrev Request : Message
@@ -61,24 +81,32 @@ module _ (agents : Agents) (lawful : AreLawful agents) (community : List ℕ) (i
   IsBigReply view m = (m ≡ response Request (pos 1) (pos 0) []) × ((all : List VarBind) × AreGot view names all
       × (Fits agents.max_size (response Request (pos 0) (pos 0) all) → ⊥))
 
-  from_response : (view : MibView) (m : Message) → IsResponse view agents.max_size Request m
-      → (GivesAll view m × Fits agents.max_size m) ⊎ IsBigReply view m
-  from_response view m (whole is fits) = inl (from_whole view m is, fits)
-  from_response view m (shortened large is no_fit e) = grind (arith, common_steps, from_whole)
-  from_response view m (bulk all bindings k asked longest e) = let no : ⊥ = cc in absurd no
+  from_response : (view : MibView) (m : Message) → MayRespond view agents.max_size Request m → GivesAll view m ⊎ IsBigReply view m
+  from_response view m (sending.whole is) = inl (from_whole view m is)
+  from_response view m (sending.shortened large is no_fit e) = grind (arith, common_steps, from_whole)
+  from_response view m (sending.bulk asked bindings k singles one chain few none e) = let no : ⊥ = cc in absurd no
+
+  -- our agents' Responses are among those that agents may send
+  may_respond : (view : MibView) (m : Message) → IsResponse view agents.max_size Request m → MayRespond view agents.max_size Request m
+  may_respond view m (whole is fits) = sending.whole is
+  may_respond view m (shortened large is no_fit e) = sending.shortened large is no_fit e
+  may_respond view m (bulk all bindings k asked longest e) = let no : ⊥ = cc in absurd no
 
   -- a reply without an error brings what Gets of the names give, and one with an error is tooBig
-  brought_all : (view : MibView) (m : Message) → IsResponse view agents.max_size Request m → m.a ≡ pos 0 → AreGot view names m.bindings
+  brought_all : (view : MibView) (m : Message) → MayRespond view agents.max_size Request m → m.a ≡ pos 0 → AreGot view names m.bindings
   brought_all view m is status = grind (arith, common_steps, from_response)
 
-  brought_end : (view : MibView) → OneOf agents.tables view → (m : Message) → IsResponse view agents.max_size Request m → (end : WalkEnd)
+  brought_end : (view : MibView) → OneOf agents.tables view → (m : Message) → MayRespond view agents.max_size Request m → (end : WalkEnd)
       → MeansToGet names m (Err end) → (end ≡ ending.Fault (pos 1) (pos 0)) × IsBigReply view m
   brought_end view one m is end means = grind (arith, common_steps, from_response, for_got, good_view)
 
   response_fits : HasRoomForGet agents Request names → (view : MibView) → OneOf agents.tables view → (m : Message)
       → IsResponse view agents.max_size Request m → Fits agents.max_size m
-  response_fits room view one m is =
-      elim (from_response view m is) [ inl h ↦ h.1 | inr h ↦ absurd (h.1.2 (room.response_fits view h.1.0 one h.1.1)) ]
+  response_fits room view one m (whole is fits) = fits
+  response_fits room view one m (shortened large is no_fit e) =
+      let all = from_whole view large is in
+      absurd (no_fit (subst (Fits agents.max_size) (sym all.2) (room.response_fits view all.0 one all.1)))
+  response_fits room view one m (bulk all bindings k asked longest e) = let no : ⊥ = cc in absurd no
 
   -- what is true of the one table
   module _ (view : MibView) (all : List VarBind) (one_view : agents.tables ≡ view ∷ []) (are : AreGot view names all) where
@@ -92,7 +120,7 @@ module _ (agents : Agents) (lawful : AreLawful agents) (community : List ℕ) (i
   -- the facts, by how the Get ended
   module _ (honest : Type 0) (is_honest : honest) (Tried : Outcome → Type 0) (rows refused : List VarBind) (end : WalkEnd) where
     abbrev Brought : Message → Type 0
-    Brought m = IsBrought Tried agents honest community id names m
+    Brought = MayBeBrought Tried agents honest community id names
 
     abbrev HasLawfulEnd : WalkEnd → Type 0
     HasLawfulEnd why = IsEndOfGet (IsTooBig agents Request names) ⊥ (Unit {0}) Request names why
@@ -149,7 +177,9 @@ module _ (agents : Agents) (lawful : AreLawful agents) (community : List ℕ) (i
         → IsReasonOfGet Tried (IsBrought Tried agents honest community id names) names rows refused end → MayEnd Request names end
         → GetFacts agents tries old Request names rows refused end new
     get_facts honest is_honest Tried rows refused end lost r may =
-        let given = got_facts honest is_honest Tried rows refused end r may in record {
+        let sent = reason_by Tried (IsBrought Tried agents honest community id names) (MayBeBrought Tried agents honest community id names)
+        (λ m b. (b.0, λ h. let from = b.1 h in (from.0, from.1, from.2, may_respond from.0 m from.3), b.2)) names rows refused end r in
+        let given = got_facts honest is_honest Tried rows refused end sent may in record {
           given = given;
           lost_without_response = lost;
           done_unless_stopped = λ room ahead. unless_silent end (λ silent. never_lost room ahead (lost silent)) (given.done_unless_lost room);
@@ -171,15 +201,28 @@ module _ {W : Type 0} (codec : Codec) (facts : LinkFacts W) (link after : W) (tr
   -- the one datagram that was sent is the request
   module _ (agents : Agents) (good : AreLawful agents) where
     abbrev IsFromThese : Message → Type 0
-    IsFromThese m = IsBrought Was agents (Unit {0}) community id names m
+    IsFromThese m = MayBeBrought Was agents (Unit {0}) community id names m
 
     from_agents : (m : Message) (d : List ℕ) → IsResponseTo community id m → Spells m d → (h : Was (outcome.answered d))
         → AreReplies agents (tried_events (outcome.answered d) h).0 → IsFromThese m
     from_agents m d response spelt h replies =
         let a = answered_tries facts q (IsNotAwaited community id) tries link after d h in
         let sent_it = replies a.1.0 [] tt d refl m spelt in
-        let reply = subst (λ (x : List ℕ). IsReplyFrom agents x d) (a.1.2 sent_it.0 sent_it.1) sent_it.2 in
-        (response, (λ _. response_of codec community id names ranged agents good m d spelt reply), (d, h, spelt))
+        let reply = subst (λ (x : List ℕ). IsReplyFrom agents x d ⊎ IsResponseFrom agents x m) (a.1.2 sent_it.0 sent_it.1) sent_it.2 in (
+          response,
+          (λ _. elim reply [
+            | inl own ↦
+                let from = response_of codec community id names ranged agents good m d spelt own in
+                (from.0, from.1, from.2, may_respond agents good community id names from.0 m from.3)
+            | inr other ↦ (
+              other.view,
+              other.one,
+              of_community codec (get_request community id names) ranged no_set agents m other,
+              may_be codec (get_request community id names) ranged no_set agents m other,
+            )
+          ]),
+          (d, h, spelt),
+        )
 
   module _ (rows refused : List VarBind) where
     abbrev Known : WalkEnd → Type 0

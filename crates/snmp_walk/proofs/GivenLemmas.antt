@@ -1,25 +1,24 @@
 -- What a walk gives where all that comes are replies of its agents.
-use Rattle.std.proofs.Common.{◌≡◌, ◌≢◌, false, inl, inr, ℕ, ◌<◌, List, [], ◌∷◌, ◌++◌, refl, sym, ◌∙◌, ap, subst, arith, append_assoc, append-nil}
+use Rattle.std.proofs.Common.{◌≡◌, ◌≢◌, ◌⊎◌, false, pos, inl, inr, ℕ, ◌<◌, List, [], ◌∷◌, ◌++◌, refl, sym, ◌∙◌, ap, subst, arith, append_assoc}
+use Rattle.std.proofs.Common.{append-nil}
 use Rattle.std.proofs.lemmas.Bool.{and_from}
 use Rattle.std.specs.Prelude.{not, Result}
 use Rattle.snmp_agent.specs.Event.{Event, came}
 use Rattle.snmp_wire.specs.{Canon.canon, Message.VarBind, Message.Message, Spelling.Spells}
 use Rattle.snmp_walk.specs.{private.Codec.Codec, private.Heard.IsEarlier, Judged.IsResponseTo, Judged.MeansBy, Network.AreReplies, Network.tried}
-use Rattle.snmp_walk.specs.{Ran.HasHappened, Read.rows_in, Request.request_of, Sink.Took, private.Taken.take_of, private.Taken.awaits}
-use Rattle.snmp_walk.specs.{private.Taken.is_over, Walker.Walker, Walker.IsWalker, declared.end.SinkFault.SinkFault, declared.end.WalkEnd.WalkEnd}
-use Rattle.snmp_walk.specs.{declared.link.Link.Ghosts as LinkFacts, declared.rows.Step.Step}
+use Rattle.snmp_walk.specs.{Ran.HasHappened, Read.rows_in, Request.request_of, Sink.Took, private.Taken.awaits, private.Taken.is_over, Walker.Walker}
+use Rattle.snmp_walk.specs.{Walker.IsWalker, declared.end.SinkFault.SinkFault, declared.end.WalkEnd.WalkEnd, declared.link.Link.Ghosts as LinkFacts}
+use Rattle.snmp_walk.specs.{declared.rows.Step.Step, Responses.IsResponseFrom, Tries.InTurn, Tries.Happens, Tries.IsTried, Tries.IsNotAwaited}
 use Rattle.snmp_walk.specs.Facts.{IsFresh, IsLawfulEnd, GivenFacts, Reading, rows_read, AreRead, IsAskedLast, IsReadSo, IsEndOfRun}
 use Rattle.snmp_walk.specs.Link.{Agents, AreLawful, OneOf, IsReplyFrom, IsNextFrom, IsGotFrom, IsTooLarge, Outcome}
 use Rattle.snmp_walk.specs.Link as outcome
 use Rattle.snmp_walk.specs.Standing.{Reaches, Advances, AdvancesAnyhow, IsPartOfWalk, Rises, Named}
-use Rattle.snmp_walk.specs.Tries.{InTurn, Happens, IsTried, IsNotAwaited}
 use Rattle.snmp_walk.specs.declared.end.WalkEnd.TheVariants as ending
 use Rattle.snmp_walk.specs.declared.rows.Step.TheVariants as step
 use Rattle.snmp_walk.proofs.StandingLemmas.{Small, taken_any, rising_answers, taken, part_of_stage, part_of_step, waiting}
 use Rattle.snmp_walk.proofs.{CaseLemmas.EndsEmpty, CaseLemmas.ends_empty, FactLemmas.given_facts, FreshLemmas.fresh_stands, FreshLemmas.lawful_reply}
 use Rattle.snmp_walk.proofs.{JoinLemmas.after_precedes, JudgedLemmas.only, JudgedLemmas.response_to_decided, MemberLemmas.one_append}
-use Rattle.snmp_walk.proofs.{PartLemmas.part_front, SendLemmas.before_more, RowLemmas.views_answer}
-use Rattle.snmp_walk.proofs.HonestLemmas.{honest_reply, asked_of, one_spelt}
+use Rattle.snmp_walk.proofs.{PartLemmas.part_front, SendLemmas.before_more, RowLemmas.views_answer, HonestLemmas.any_reply}
 use Rattle.snmp_walk.proofs.NetworkLemmas.{tried-append, in_turn-append, all_tries, answered_tries}
 
 module _ {L : Type 0} (codec : Codec) (facts : LinkFacts L) (tries : ℕ) (first : Walker) (fresh : IsFresh first) (link after : L) where
@@ -68,7 +67,8 @@ module _ {L : Type 0} (codec : Codec) (facts : LinkFacts L) (tries : ℕ) (first
     -- the reply that was read is one to the waiting request
     read_is : (w : Walker) (l new : L) (given : List VarBind) (s : Stands w given) → IsWalker w → (r : List ℕ) (m : Message) → Spells m r
         → IsResponseTo w.community w.id m → (h : Tried w l (outcome.answered r) new) → (rest : List (Event (Unit {0})))
-        → all ≡ s.events ++ ((tried_events w l new (outcome.answered r) h).0 ++ rest) → IsReplyFrom agents (canon (request_of w)) r
+        → all ≡ s.events ++ ((tried_events w l new (outcome.answered r) h).0 ++ rest)
+        → IsReplyFrom agents (canon (request_of w)) r ⊎ IsResponseFrom agents (canon (request_of w)) m
     read_is w l new given s walker r m spelt response h rest is =
         let a = answered_tries facts (canon (request_of w)) (IsNotAwaited w.community w.id) tries l new r h in
         let cut : all ≡ (s.events ++ a.1.0) ++ came tt r ∷ rest =
@@ -79,10 +79,14 @@ module _ {L : Type 0} (codec : Codec) (facts : LinkFacts L) (tries : ℕ) (first
           | inl o ↦ s.earlier d o
           | inr o ↦ inl (a.1.2 d o)
         ] in
-        let asked = asked_of codec agents (tried (s.events ++ a.1.0)) w good walker (waits w given s) sooner in
-        elim (asked.others sent_it.0 sent_it.1) [
-          | inl same ↦ subst (λ (d : List ℕ). IsReplyFrom agents d r) same sent_it.2
-          | inr other ↦ absurd (other r sent_it.2 m spelt response)
+        elim (sooner sent_it.0 sent_it.1) [
+          | inl same ↦ subst (λ (d : List ℕ). IsReplyFrom agents d r ⊎ IsResponseFrom agents d m) same sent_it.2
+          | inr v ↦
+              let other = subst (λ (d : List ℕ). IsReplyFrom agents d r ⊎ IsResponseFrom agents d m) v.4 sent_it.2 in
+              let same : pos v.0.id ≡ pos w.id =
+              sym (any_reply codec agents good v.0 v.1 v.2 r m spelt other).response.id_is ∙ response.id_is in
+              let equal : v.0.id ≡ w.id = cc in
+              absurd (omega (arith, equal, v.3))
         ]
 
     -- what a reply that was read did, given a step that is no stray
@@ -99,11 +103,9 @@ module _ {L : Type 0} (codec : Codec) (facts : LinkFacts L) (tries : ℕ) (first
     reads w l new given s walker r st u gives (inl (m, spelt, inl (awaited, means))) h rest is =
         let one = only codec.less st u w m (inl (awaited, means)) in
         let reply = read_is w l new given s walker r m spelt awaited.response h rest is in
-        let honest = honest_reply codec agents good w walker (waits w given s) r reply in
-        let same = one_spelt codec honest.0 m r honest.1 spelt in
-        let step_of = taken Next Got (IsTooLarge agents) (views_answer agents good.views) first given w honest.0 s.honestly honest.2 in
+        let lawful = any_reply codec agents good w walker (waits w given s) r m spelt reply in
         rw (one.0, one.1) (record {
-          honestly = subst (λ (n : Message). Advances Next Got (IsTooLarge agents) first w given (take_of w n).0 (take_of w n).1) same step_of;
+          honestly = taken Next Got (IsTooLarge agents) (views_answer agents good.views) first given w m s.honestly lawful;
           anyhow = taken_any first w given (after_precedes codec) m (and_from (not (is_over w.phase)) (awaits w.community w.id m)
               (ap not (waits w given s)) ((response_to_decided w.community w.id m).1 awaited.response)) s.anyhow;
           empty = ends_empty w m;

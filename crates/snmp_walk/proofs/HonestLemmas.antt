@@ -1,15 +1,16 @@
 -- An agent's reply to the waiting request is an honest one.
-use Rattle.std.proofs.{lemmas.Grind.common_steps, lemmas.List.nil_from_length}
+use Rattle.std.proofs.{lemmas.Grind.common_steps, lemmas.Int.ints, lemmas.List.nil_from_length}
 use Rattle.std.proofs.Common.{◌≡◌, ◌≢◌, ◌≤ℤ◌, ◌⊎◌, inl, inr, ℕ, ◌^◌, ◌<◌, ◌≤◌, List, [], ◌∷◌, ◌++◌, length, refl, sym, ◌∙◌, ap, subst, arith, ℤ, pos}
-use Rattle.std.proofs.Common.{length-append, append-nil, true, false}
+use Rattle.std.proofs.Common.{negsuc, length-append, append-nil, true, false}
 use Rattle.std.specs.{Prelude.FitsSigned, Prelude.unsigned_abs, Int.w32, List.list_any}
 use Rattle.snmp_wire.specs.declared.kind.Kind.TheVariants as kind
-use Rattle.snmp_wire.specs.{Message.VarBind, Message.Message, Message.null_value, Spelling.Spells, Canon.canon, Range.IsMessageInRange}
-use Rattle.snmp_walk.specs.{private.Codec.Codec, declared.mode.Method.Method, declared.phase.Phase.Phase, Walker.Walker, Walker.HasRange}
-use Rattle.snmp_walk.specs.{Walker.IsMethod, Walker.IsWalker, Request.request_of, Request.request_kind, Request.request_repetitions}
-use Rattle.snmp_walk.specs.{Request.asked_for, private.Taken.is_over, Judged.IsResponseTo, Standing.IsChain, Standing.IsGetContent, Standing.IsLarge}
-use Rattle.snmp_walk.specs.{Standing.IsReplyContent, Standing.IsReplyTo, Names.is_end, Run.IsFull, Run.IsFullReply}
-use Rattle.snmp_walk.specs.{private.Heard.IsAsked, private.Heard.IsEarlier, Tries.IsNotAwaited, Tries.IsTried, declared.link.Link.Ghosts as LinkFacts}
+use Rattle.snmp_wire.specs.{Message.VarBind, Message.Message, Message.null_value, Name.asking, Spelling.Spells, Canon.canon, Range.IsMessageInRange}
+use Rattle.snmp_walk.specs.{private.Codec.Codec, declared.mode.Method.Method, declared.phase.Phase.Phase, private.Taken.is_over, Judged.IsResponseTo}
+use Rattle.snmp_walk.specs.{Names.is_end, Run.IsFull, Run.IsFullReply, private.Heard.IsAsked, private.Heard.IsEarlier, Tries.IsNotAwaited}
+use Rattle.snmp_walk.specs.{Tries.IsTried, declared.link.Link.Ghosts as LinkFacts, Responses.IsResponseFrom, Responses.MayRespond}
+use Rattle.snmp_walk.specs.Walker.{Walker, HasRange, IsMethod, IsWalker}
+use Rattle.snmp_walk.specs.Request.{request_of, request_kind, request_repetitions, asked_for}
+use Rattle.snmp_walk.specs.Standing.{IsChain, IsGetContent, IsLarge, IsReplyContent, IsReplyTo}
 use Rattle.snmp_agent.specs.{table.Table.MibView, table.Table.IsMibView, table.Table.IsGet, table.Table.IsNext, declared.config.Why.Why}
 use Rattle.snmp_agent.specs.declared.config.Why.TheVariants as why
 use Rattle.snmp_agent.specs.Reply.{Agent, IsDropped, IsServed, response, AreAnswers, got, got_next, unwritten, Fits, IsBulk, IsLongestFront}
@@ -20,10 +21,19 @@ use Rattle.snmp_walk.specs.Link.{Agents, OneOf, agent_in, full_response, AreLawf
 use Rattle.snmp_walk.proofs.{RequestLemmas.name_short, RowLemmas.view_of, RoomLemmas.longer_full, LostLemmas.reply_of}
 use Rattle.snmp_walk.proofs.BulkLemmas.{IsOneBulk, one_bulk, chain_front, chain_by}
 use Rattle.snmp_walk.specs.Link as outcome
+use Rattle.snmp_walk.specs.Responses as sending
 
 -- numbers from 0 below 2^31
 pub fits_from : (n : ℕ) → n < 2 ^ 31 → FitsSigned w32 (pos n)
 fits_from n h = omega arith
+
+few_by : (n : ℕ) (z : ℤ) → pos n ≤ℤ z → n ≤ unsigned_abs z
+few_by n (pos k) h = omega (arith, ints, h)
+few_by n (negsuc k) h = omega (arith, ints, h)
+
+few_of : (n : ℕ) (z : ℤ) → pos 1 ≤ℤ z → n ≤ unsigned_abs z → pos n ≤ℤ z
+few_of n (pos k) some h = omega (arith, ints, h)
+few_of n (negsuc k) some h = absurd (omega (arith, ints, some))
 
 repetitions_fit : (p : Phase) (m : Method) → HasRange m → FitsSigned w32 (request_repetitions p m)
 repetitions_fit phase.Rows (method.Bulk r) h = h
@@ -128,36 +138,91 @@ module _ (codec : Codec) (agents : Agents) (w : Walker) (good : IsWalker w) (vie
     abbrev IsContent : Phase → Message → Type 0
     IsContent p m = IsReplyContent (IsNextFrom agents) (IsGotFrom agents) (IsTooLarge agents) p w m
 
-    abbrev IsHonest : Message → Type 0
-    IsHonest m = IsContent w.phase m × IsFullReply agents w m
-
-    of_get : (m : Message) → (w.phase ≡ phase.First) ⊎ (w.phase ≡ phase.Last) → IsGetContent (IsGotFrom agents) (IsTooLarge agents w.id) w.asked m
-        → IsHonest m
-    of_get m (inl e) c = (subst (λ (p : Phase). IsContent p m) (sym e) c, λ room rows. let no : ⊥ = cc in absurd no)
-    of_get m (inr e) c = (subst (λ (p : Phase). IsContent p m) (sym e) c, λ room rows. let no : ⊥ = cc in absurd no)
+    get_content : (m : Message) → (w.phase ≡ phase.First) ⊎ (w.phase ≡ phase.Last) → IsGetContent (IsGotFrom agents) (IsTooLarge agents w.id) w.asked m
+        → IsContent w.phase m
+    get_content m (inl e) c = subst (λ (p : Phase). IsContent p m) (sym e) c
+    get_content m (inr e) c = subst (λ (p : Phase). IsContent p m) (sym e) c
 
     -- what is too large for the agent is too large
     large : (p : VarBind) → (Fits agents.max_size (response (request_of w) no_error (pos 0) (p ∷ [])) → ⊥) → IsTooLarge agents w.id p
     large p no_fit =
         let more : agents.max_size < length (canon (full_response w.community w.id (p ∷ []))) = omega (arith, no_fit) in (good.id, rw community at more)
 
-    -- where no binding came, the first has no room
-    first_large : (all bindings : List VarBind) → bindings ≡ [] → IsChain (IsNext view) w.asked all → all ≢ []
-        → IsLongestFront agents.max_size (request_of w) all bindings
-        → IsLarge (IsNextFrom agents) (IsTooLarge agents w.id) w.asked
-    first_large [] bindings none chain some longest = absurd (some refl)
-    first_large (p ∷ later) bindings none chain some longest = (
-      p,
-      (view, one, chain.0),
-      large p (λ fit.
-          let short : length (p ∷ []) ≤ length bindings = longest.longest (p ∷ []) later refl fit in
-          absurd (omega (arith, short, ap length none))),
-    )
-
     too_large : (m : Message) (bindings : List VarBind) (p : VarBind) → bindings ≡ p ∷ [] → m ≡ response (request_of w) no_error (pos 0) bindings
         → (Fits agents.max_size m → ⊥) → IsTooLarge agents w.id p
     too_large m bindings p only e no_fit =
         large p (λ fit. no_fit (subst (Fits agents.max_size) (sym (e ∙ ap (response (request_of w) no_error (pos 0)) only)) fit))
+
+    -- it has bindings that were asked for, or tooBig where they have no room
+    content_of : (r : Message) → MayRespond view agents.max_size (request_of w) r → IsContent w.phase r
+    content_of r (sending.whole (got bindings k answers e)) =
+        let p = one_answer (λ asked given. IsGet view asked.name given) w.asked bindings answers in
+        subst (IsContent w.phase) (sym e) (get_content (response (request_of w) (pos 0) (pos 0) bindings) (get_phase w.phase w.method waits k)
+        (inl (refl, (p.0, (view, one, p.2), p.1))))
+    content_of r (sending.whole (got_next bindings k answers e)) =
+        let p = one_answer (λ asked given. IsNext view asked.name given) w.asked bindings answers in
+        let at = next_phase w.phase w.method k in
+        let chain : IsChain (IsNextFrom agents) w.asked bindings = subst (IsChain (IsNextFrom agents) w.asked) (sym p.1) ((view, one, p.2), tt) in
+        let count : length bindings ≡ asked_for w.method = ap length p.1 ∙ sym (ap asked_for at.1) in
+        let some : bindings ≡ [] → IsLarge (IsNextFrom agents) (IsTooLarge agents w.id) w.asked =
+        λ none. let both = p.1 in let never : ⊥ = cc in absurd never in
+        subst (IsContent w.phase) (sym e) (subst (λ (q : Phase). IsContent q (response (request_of w) (pos 0) (pos 0) bindings)) (sym at.0)
+        (inl (refl, chain, omega (arith, count), some)))
+    content_of r (sending.whole (unwritten k e)) = absurd (set_phase w.phase w.method k)
+    content_of r (sending.shortened m (got bindings k answers e) no_fit is) =
+        let p = one_answer (λ asked given. IsGet view asked.name given) w.asked bindings answers in
+        subst (IsContent w.phase) (sym is) (get_content (response (request_of w) (pos 1) (pos 0) []) (get_phase w.phase w.method waits k)
+        (inr (refl, refl, (p.0, (view, one, p.2), too_large m bindings p.0 p.1 e no_fit))))
+    content_of r (sending.shortened m (got_next bindings k answers e) no_fit is) =
+        let p = one_answer (λ asked given. IsNext view asked.name given) w.asked bindings answers in
+        subst (IsContent w.phase) (sym is) (subst (λ (q : Phase). IsContent q (response (request_of w) (pos 1) (pos 0) []))
+        (sym (next_phase w.phase w.method k).0) (inr (refl, refl, (p.0, (view, one, p.2), too_large m bindings p.0 p.1 e no_fit))))
+    content_of r (sending.shortened m (unwritten k e) no_fit is) = absurd (set_phase w.phase w.method k)
+    content_of r (sending.bulk asked bindings k singles names chain few none e) =
+        let at = bulk_phase w.phase w.method k in
+        let repetitions : request_repetitions w.phase w.method ≡ at.1 = ap (λ (q : Phase). request_repetitions q w.method) at.0
+        ∙ ap (request_repetitions phase.Rows) at.2 in
+        let count : unsigned_abs (request_repetitions w.phase w.method) ≡ asked_for w.method =
+        ap unsigned_abs repetitions ∙ sym (ap asked_for at.2) in
+        let name : asked.name ≡ w.asked = cc in
+        let chained : IsChain (IsNext view) w.asked bindings = subst (λ (o : List ℕ). IsChain (IsNext view) o bindings) name chain in
+        let chain_from = chain_by (IsNext view) (IsNextFrom agents) (λ o p n. (view, one, n)) w.asked bindings chained in
+        subst (IsContent w.phase) (sym e) (subst (λ (q : Phase). IsContent q (response (request_of w) (pos 0) (pos 0) bindings)) (sym at.0) (inl (
+          refl,
+          chain_from,
+          omega (arith, few_by (length bindings) (request_repetitions w.phase w.method) few, count),
+          λ empty. let p = none empty in (p.0, (view, one, subst (λ (o : List ℕ). IsNext view o p.0) name p.1), large p.0 p.2),
+        )))
+
+    -- where no binding came, the first has no room
+    first_large : (all bindings : List VarBind) → bindings ≡ [] → IsChain (IsNext view) w.asked all → all ≢ []
+        → IsLongestFront agents.max_size (request_of w) all bindings
+        → (p : VarBind) × IsNext view w.asked p × (Fits agents.max_size (response (request_of w) no_error (pos 0) (p ∷ [])) → ⊥)
+    first_large [] bindings none chain some longest = absurd (some refl)
+    first_large (p ∷ later) bindings none chain some longest = (
+      p,
+      chain.0,
+      λ fit.
+          let short : length (p ∷ []) ≤ length bindings = longest.longest (p ∷ []) later refl fit in
+          absurd (omega (arith, short, ap length none)),
+    )
+
+    positive : request_kind w.phase w.method ≡ kind.GetBulkRequest → pos 1 ≤ℤ request_repetitions w.phase w.method
+    positive k =
+        let at = bulk_phase w.phase w.method k in
+        rw (at.0, at.2) (subst IsMethod at.2 good.method)
+
+    -- our agents' Responses are among those that agents may send
+    may_respond : (r : Message) → IsResponse view agents.max_size (request_of w) r → MayRespond view agents.max_size (request_of w) r
+    may_respond r (whole is fits) = sending.whole is
+    may_respond r (shortened m is no_fit e) = sending.shortened m is no_fit e
+    may_respond r (bulk all bindings k asked longest e) =
+        let one_name = bulk_of all asked in
+        let few : length bindings ≤ unsigned_abs (request_repetitions w.phase w.method) =
+        omega (arith, ap length longest.front, length-append bindings longest.more, one_name.few) in
+        sending.bulk (asking w.asked) bindings k refl refl (front_chain all bindings asked longest)
+        (few_of (length bindings) (request_repetitions w.phase w.method) (positive k) few)
+        (λ none. first_large all bindings none one_name.chain (one_name.some (positive k)) longest) e
 
     -- all bindings fit
     all_fit : (all : List VarBind) → length (canon (full_response agents.community 2147483647 all)) ≤ agents.max_size
@@ -173,57 +238,24 @@ module _ (codec : Codec) (agents : Agents) (w : Walker) (good : IsWalker w) (vie
         let none = nil_from_length more (omega (arith, long, ap length front, length-append bindings more)) in
         front ∙ ap (λ (s : List VarBind). bindings ++ s) none ∙ append-nil bindings
 
-    -- it has the bindings that were asked for, all of them where they have room, or tooBig
-    honest_of : (r : Message) → IsResponse view agents.max_size (request_of w) r → IsHonest r
-    honest_of r (whole (got bindings k answers e) fits) =
-        let p = one_answer (λ asked given. IsGet view asked.name given) w.asked bindings answers in
-        subst IsHonest (sym e) (of_get (response (request_of w) (pos 0) (pos 0) bindings) (get_phase w.phase w.method waits k)
-        (inl (refl, (p.0, (view, one, p.2), p.1))))
-    honest_of r (whole (got_next bindings k answers e) fits) =
+    -- they have all bindings where these have room
+    full_of : (r : Message) → IsResponse view agents.max_size (request_of w) r → IsFullReply agents w r
+    full_of r (whole (got bindings k answers e) fits) room rows status = elim (get_phase w.phase w.method waits k) [
+      | inl first ↦ let no : ⊥ = cc in absurd no
+      | inr last ↦ let no : ⊥ = cc in absurd no
+    ]
+    full_of r (whole (got_next bindings k answers e) fits) room rows status =
         let p = one_answer (λ asked given. IsNext view asked.name given) w.asked bindings answers in
-        let at = next_phase w.phase w.method k in
-        let chain : IsChain (IsNextFrom agents) w.asked bindings = subst (IsChain (IsNextFrom agents) w.asked) (sym p.1) ((view, one, p.2), tt) in
-        let count : length bindings ≡ asked_for w.method = ap length p.1 ∙ sym (ap asked_for at.1) in
-        let some : bindings ≡ [] → IsLarge (IsNextFrom agents) (IsTooLarge agents w.id) w.asked =
-        λ none. let both = p.1 in let never : ⊥ = cc in absurd never in
-        subst IsHonest (sym e) (
-          subst (λ (q : Phase). IsContent q (response (request_of w) (pos 0) (pos 0) bindings)) (sym at.0)
-              (inl (refl, chain, omega (arith, count), some)),
-          λ room rows status. inl count,
-        )
-    honest_of r (whole (unwritten k e) fits) = absurd (set_phase w.phase w.method k)
-    honest_of r (shortened m (got bindings k answers e) no_fit is) =
-        let p = one_answer (λ asked given. IsGet view asked.name given) w.asked bindings answers in
-        subst IsHonest (sym is) (of_get (response (request_of w) (pos 1) (pos 0) []) (get_phase w.phase w.method waits k)
-        (inr (refl, refl, (p.0, (view, one, p.2), too_large m bindings p.0 p.1 e no_fit))))
-    honest_of r (shortened m (got_next bindings k answers e) no_fit is) =
-        let p = one_answer (λ asked given. IsNext view asked.name given) w.asked bindings answers in
-        subst IsHonest (sym is) (
-          subst (λ (q : Phase). IsContent q (response (request_of w) (pos 1) (pos 0) [])) (sym (next_phase w.phase w.method k).0)
-              (inr (refl, refl, (p.0, (view, one, p.2), too_large m bindings p.0 p.1 e no_fit))),
-          λ room rows status. let never : ⊥ = cc in absurd never,
-        )
-    honest_of r (shortened m (unwritten k e) no_fit is) = absurd (set_phase w.phase w.method k)
-    honest_of r (bulk all bindings k asked longest e) =
+        inl (ap (λ (m : Message). length m.bindings) e ∙ ap length p.1 ∙ sym (ap asked_for (next_phase w.phase w.method k).1))
+    full_of r (whole (unwritten k e) fits) room rows status = absurd (set_phase w.phase w.method k)
+    full_of r (shortened m is no_fit e) room rows status = let never : ⊥ = cc in absurd never
+    full_of r (bulk all bindings k asked longest e) room rows status =
         let at = bulk_phase w.phase w.method k in
-        let repetitions : request_repetitions w.phase w.method ≡ at.1 = ap (λ (q : Phase). request_repetitions q w.method) at.0
-        ∙ ap (request_repetitions phase.Rows) at.2 in
-        let count : unsigned_abs (request_repetitions w.phase w.method) ≡ asked_for w.method =
-        ap unsigned_abs repetitions ∙ sym (ap asked_for at.2) in
-        let positive : pos 1 ≤ℤ request_repetitions w.phase w.method = subst (λ (z : ℤ). pos 1 ≤ℤ z) (sym repetitions) (subst IsMethod at.2 good.method) in
-        let one_name = bulk_of all asked in
-        let chain : IsChain (IsNextFrom agents) w.asked bindings =
-        chain_by (IsNext view) (IsNextFrom agents) (λ o p n. (view, one, n)) w.asked bindings (front_chain all bindings asked longest) in
-        let few : length bindings ≤ asked_for w.method =
-        omega (arith, ap length longest.front, length-append bindings longest.more, one_name.few, count) in
-        subst IsHonest (sym e) (
-          subst (λ (q : Phase). IsContent q (response (request_of w) (pos 0) (pos 0) bindings)) (sym at.0)
-              (inl (refl, chain, few, λ none. first_large all bindings none one_name.chain (one_name.some positive) longest)),
-          λ room rows status.
-              let long : length all ≤ length bindings = longest.longest all [] (sym (append-nil all)) (all_fit all (room view one all asked)) in
-              subst (IsFull w.method) (whole_front all bindings longest.more longest.front long)
-              (subst (λ (n : ℕ). (length all ≡ n) ⊎ (list_any (λ p. is_end p.value) all ≡ true)) count (one_name.full positive)),
-        )
+        let count : unsigned_abs (request_repetitions w.phase w.method) ≡ asked_for w.method = rw (at.0, at.2) refl in
+        let long : length all ≤ length bindings = longest.longest all [] (sym (append-nil all)) (all_fit all (room view one all asked)) in
+        let is : all ≡ r.bindings = whole_front all bindings longest.more longest.front long ∙ sym (ap (λ (m : Message). m.bindings) e) in
+        subst (IsFull w.method) is
+        (subst (λ (n : ℕ). (length all ≡ n) ⊎ (list_any (λ p. is_end p.value) all ≡ true)) count ((bulk_of all asked).full (positive k)))
 
 -- the reply of one of the agents to the waiting request
 pub honest_reply : Codec → (agents : Agents) → AreLawful agents → (w : Walker) → IsWalker w → is_over w.phase ≡ false → (reply : List ℕ)
@@ -231,15 +263,57 @@ pub honest_reply : Codec → (agents : Agents) → AreLawful agents → (w : Wal
     → (m : Message) × Spells m reply × IsReplyTo (IsNextFrom agents) (IsGotFrom agents) (IsTooLarge agents) w m × IsFullReply agents w m
 honest_reply codec agents lawful w good waits reply h =
     let a = answered_by codec (request_of w) (request_in_range w good) (set_phase w.phase w.method) agents lawful reply h in
-    let honest = honest_of codec agents w good a.view (view_of agents.tables lawful.views a.view a.one) waits a.one a.named a.message a.is_response in (
+    let view_good = view_of agents.tables lawful.views a.view a.one in
+    let sent = may_respond codec agents w good a.view view_good waits a.one a.named a.message a.is_response in (
       a.message,
       a.spelt,
       record {
         response = subst (IsResponseTo w.community w.id) (sym a.is) (record { version = refl; community_is = refl; kind = refl; id_is = refl });
-        content = honest.0;
+        content = content_of codec agents w good a.view view_good waits a.one a.named a.message sent;
       },
-      honest.1,
+      full_of codec agents w good a.view view_good waits a.one a.named a.message a.is_response,
     )
+
+-- a Response that one of the agents may send to a request that isn't a Set
+module _ (codec : Codec) (q : Message) (ranged : IsMessageInRange q) (no_set : q.kind ≡ kind.SetRequest → ⊥) (agents : Agents) (m : Message)
+    (h : IsResponseFrom agents (canon q) m) where
+  same_request : h.request ≡ q
+  same_request = (codec.one h.request q (canon q) (canon q) [] [] h.is_request.spelt (own codec q ranged no_set) refl).0
+
+  pub may_be : MayRespond h.view agents.max_size q m
+  may_be = subst (λ (x : Message). MayRespond h.view agents.max_size x m) same_request h.may
+
+  pub of_community : q.community ≡ agents.community
+  of_community = ap (λ (x : Message). x.community) (sym same_request) ∙ h.is_request.named
+
+  form : MayRespond h.view agents.max_size q m → (status index : ℤ) × (bindings : List VarBind) × (m ≡ response q status index bindings)
+  form (sending.whole (got bindings k answers e)) = (pos 0, pos 0, bindings, e)
+  form (sending.whole (got_next bindings k answers e)) = (pos 0, pos 0, bindings, e)
+  form (sending.whole (unwritten k e)) = absurd (no_set k)
+  form (sending.shortened large is no_fit e) = (pos 1, pos 0, [], e)
+  form (sending.bulk asked bindings k singles names chain few none e) = (pos 0, pos 0, bindings, e)
+
+  pub responds : (id : ℕ) → q.version ≡ pos 1 → q.id ≡ pos id → IsResponseTo q.community id m
+  responds id version is_id =
+      let is = form may_be in
+      subst (IsResponseTo q.community id) (sym is.3) (record { version = version; community_is = refl; kind = refl; id_is = is_id })
+
+-- the reply of one of the agents, or another Response that it may send, to the waiting request
+pub any_reply : Codec → (agents : Agents) → AreLawful agents → (w : Walker) → IsWalker w → is_over w.phase ≡ false → (reply : List ℕ) (m : Message)
+    → Spells m reply → IsReplyFrom agents (canon (request_of w)) reply ⊎ IsResponseFrom agents (canon (request_of w)) m
+    → IsReplyTo (IsNextFrom agents) (IsGotFrom agents) (IsTooLarge agents) w m
+any_reply codec agents lawful w good waits reply m spelt (inl h) =
+    let honest = honest_reply codec agents lawful w good waits reply h in
+    subst (IsReplyTo (IsNextFrom agents) (IsGotFrom agents) (IsTooLarge agents) w)
+    (codec.one honest.0 m reply reply [] [] honest.1 spelt refl).0 honest.2
+any_reply codec agents lawful w good waits reply m spelt (inr h) =
+    let ranged = request_in_range w good in
+    let no_set = set_phase w.phase w.method in
+    record {
+      response = responds codec (request_of w) ranged no_set agents m h w.id refl refl;
+      content = content_of codec agents w good h.view (view_of agents.tables lawful.views h.view h.one) waits h.one
+          (of_community codec (request_of w) ranged no_set agents m h) m (may_be codec (request_of w) ranged no_set agents m h);
+    }
 
 -- ---- what an honest reply is to the walk that waits for it
 

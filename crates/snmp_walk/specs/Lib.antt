@@ -8,6 +8,7 @@ pub mod Request
 pub mod Judged
 pub mod Standing
 pub mod Link
+pub mod Responses
 pub mod Traffic
 pub mod Moves
 pub mod Moved

@@ -8,6 +8,7 @@ use Rattle.snmp_agent.specs.declared.server.Served.{Served}
 use Rattle.snmp_walk.specs.declared.end.LinkFault.{LinkFault}
 use Rattle.snmp_wire.specs.{Message.Message, Spelling.Spells}
 use Rattle.snmp_walk.specs.Link.{Agents, OneOf, IsReplyFrom, agent_in}
+use Rattle.snmp_walk.specs.Responses.{IsResponseFrom}
 
 -- What happens at one end of the network: at that of the walk, which has one peer, or at that of
 -- the agents.
@@ -35,12 +36,13 @@ tried (send_failed peer d ∷ more) = d ∷ tried more
 tried (_ ∷ more) = tried more
 
 -- Each datagram that came to the walk, and encodes a message, is the reply of one of the agents to
--- a datagram that the walk had tried to send before.
+-- a datagram that the walk had tried to send before, or encodes another Response that it may send.
 abbrev pub AreReplies : Agents → List (Event (Unit {0})) → Type 0
 AreReplies agents events =
     (before after : List (Event (Unit {0}))) (peer : Unit {0}) (r : List ℕ)
     → events ≡ before ++ came peer r ∷ after → (m : Message) → Spells m r
-    → (d : List ℕ) × OneOf (tried before) d × IsReplyFrom agents d r
+    → (d : List ℕ) × OneOf (tried before) d
+    × (IsReplyFrom agents d r ⊎ IsResponseFrom agents d m)
 
 -- the agents sent the datagram to the peer, or tried to
 abbrev pub IsTriedTo : {Peer : Type 0} → Peer → List (Happening Peer) → List ℕ → Type 0

@@ -29,8 +29,8 @@ abbrev pub IsFreshAndHonest : {W : Type 0} → LinkFacts W → W → Type 0
 IsFreshAndHonest {W} facts link = facts.honest link × ((facts.traffic link).sent ≡ [])
 
 -- What happened at a link took it, in turn, from one state to the other. Where each message that
--- came is the reply of one of these agents to a datagram that was sent before, `Given` holds of
--- them.
+-- came is the reply of one of these agents, or another Response that it may send, to a datagram
+-- that was sent before, `Given` holds of them.
 pub record HasHappened {W : Type 0} (facts : LinkFacts W) (link after : W)
     (Given : Agents → Type 0) : Type 0 where
   pub events : List (Event (Unit {0}))

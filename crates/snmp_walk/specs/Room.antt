@@ -1,6 +1,6 @@
 -- What a walk over one table needs so that it can be done: room for each single binding, and enough
 -- ids.
-use Rattle.std.specs.Prelude.{◌≡◌, ℕ, ◌+◌, ◌≤◌, List, [], ◌∷◌, length}
+use Rattle.std.specs.Prelude.{◌≡◌, ◌+◌, ◌≤◌, List, [], ◌∷◌, length}
 use Rattle.snmp_wire.specs.Message.{Datum, VarBind, octet_string, opaque_octets}
 use Rattle.snmp_wire.specs.Message.{no_such_object, no_such_instance, end_of_mib_view}
 use Rattle.snmp_wire.specs.Canon.{canon}

@@ -149,12 +149,12 @@ abbrev pub CountsAll : WalkEnd → List VarBind → Type 0
 CountsAll (ending.Done n) given = n ≡ length given
 CountsAll _ given = Unit {0}
 
--- ---- for private functions
-
 -- each binding is one that a GetNext of the name before it gives
 abbrev pub IsChain : (List ℕ → VarBind → Type 0) → List ℕ → List VarBind → Type 0
 IsChain Next o [] = Unit {0}
 IsChain Next o (p ∷ more) = Next o p × IsChain Next p.name more
+
+-- ---- for private functions
 
 -- an honest reply has the bindings asked for, or tooBig where they have no room
 abbrev pub IsGetContent : (List ℕ → VarBind → Type 0) → (VarBind → Type 0) → List ℕ → Message

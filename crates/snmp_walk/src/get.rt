@@ -25,9 +25,10 @@ use std::marker::Model;
 /// octets, and the id is at most 2147483647. Where there are no names, nothing is sent.
 /// `RequestTooLong` where the request has more than 65507 octets.
 ///
-/// Over any link: where each message that came is the reply of one of these agents to a datagram
-/// that was sent before, as over a network that alters nothing (`honest_networks`), what is given
-/// is a beginning of what Gets of the names give, and all of it where the Get is done.
+/// Over any link: where each message that came is the reply of one of these agents, or another
+/// Response that RFC 3416 lets it send, to a datagram that was sent before, as over a network that
+/// alters nothing (`honest_networks`), what is given is a beginning of what Gets of the names give,
+/// and all of it where the Get is done.
 // Not inlined: its buffer is on the stack, and a caller with several such calls would have room for
 // each of them.
 #[inline(never)]

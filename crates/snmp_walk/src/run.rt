@@ -18,9 +18,9 @@ use crate::{Link, Sink, WalkCore, WalkEnd};
 /// octets each, doesn't stop it.
 ///
 /// Over any link, also one that knows nothing of its agents: where each message that came is the
-/// reply of one of these agents to a datagram that was sent before, as over a network that alters
-/// nothing (`honest_networks`), what is given is a beginning of the walk, and all of it where the
-/// walk is done.
+/// reply of one of these agents, or another Response that RFC 3416 lets it send, to a datagram that
+/// was sent before, as over a network that alters nothing (`honest_networks`), what is given is a
+/// beginning of the walk, and all of it where the walk is done.
 // Not inlined: its buffers are on the stack, and a caller with several such calls would have room
 // for each of them.
 #[inline(never)]
