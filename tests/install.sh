@@ -183,7 +183,7 @@ wanted=$({
 } | sort)
 same 'DESTDIR holds all files' "$wanted" "$(cd "$got" && find stage -type f | sort)"
 same 'scripts name what is below the prefix' "exec '/usr/bin/snmp' snmpget \"\$@\"" "$(tail -n 1 "$got/stage/opt/names/snmpget")"
-same 'the list names what is below the prefix' '' "$(grep -v ' /usr/\| /opt/' "$got/stage/usr/share/snmp/installed")"
+same 'the list names what is below the prefix' '' "$(grep -v '  /usr\|  /opt' "$got/stage/usr/share/snmp/installed")"
 
 uninstall_of() { (cd "$got" && tree/tools/install --uninstall "$@" 2>&1); }
 tree
@@ -193,6 +193,12 @@ install_with usr --with-names names >"$got/out"
 same 'an uninstall is silent' '' "$(uninstall_of usr)"
 same 'an uninstall leaves what it did not put' 'usr/bin/other' "$(there)"
 same 'an uninstall takes its folders' 'usr usr/bin usr/bin/other' "$(cd "$got" && find usr | sort | xargs)"
+tree
+mkdir -p "$got/usr/bin" "$got/usr/share/doc"
+install_with usr >"$got/out"
+install_with usr --with-names new/names >"$got/out"
+same 'an uninstall leaves empty folders that it did not make' 'usr usr/bin usr/share usr/share/doc' \
+    "$(uninstall_of usr; cd "$got" && find usr new 2>/dev/null | sort | xargs)"
 tree
 install_with usr >"$got/out"
 echo changed >>"$got/usr/share/snmp/examples/three.tab"

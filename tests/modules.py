@@ -390,8 +390,12 @@ def chosen():
                   run("snmptranslate", "--mib", f"{folder}/lines-out.txt", "-On", "VENDOR_A-MIB::vendor_count_"),
                   (0, ".1.3.6.1.4.1.32473.7.1.1\n", ""))
     check("no module of that name", join("IF-MIB", "NO-MIB"), (1, "", "join-modules: no module NO-MIB\n"))
-    check("no such file", join("--mib", "no.txt", "IF-MIB"),
-          (1, "", "join-modules: no.txt: No such file or directory\n"))
+    for words in ["--mib", "no.txt"], ["--mib=no.txt"]:
+        check(f"no such file, {words}", join(*words, "IF-MIB"),
+              (1, "", "join-modules: no.txt: No such file or directory\n"))
+    with open("/dev/full", "wb") as full:
+        ran = programs.ran(["tools/join-modules", "IF-MIB"], cwd=TOP, stdout=full)
+        check("a full disk", (ran.status, ran.messages), (1, "join-modules: No space left on device\n"))
     check("the help of join-modules", join("--help")[1].startswith("Joins modules to one file, for --mib:\n"), True)
 
 

@@ -291,6 +291,8 @@ for what, bindings in {"another name": [row(1)], "endOfMibView": [(R, END)], "no
           asked=get(R))
 walks("the rest of a reply after endOfMibView isn't printed", f"snmpbulkwalk -On AGENT {ROOT}",
       saying([row(1), (R + (1, 0), END), row(2)]), line(1), asked=bulks(10, R))
+walks("endOfMibView comes for each repetition that is left", f"snmpbulkwalk -On AGENT {ROOT}",
+      saying([row(1)] + [(R + (1, 0), END)] * 9), line(1), asked=bulks(10, R))
 
 # Gets of several names.
 walks("a get asks once for all names", f"snmpget -On AGENT {ROOT}.10.0 {ROOT}.1.0 .1", serving(ROWS),

@@ -361,9 +361,12 @@ input:5: no value of its type: .1.3.6.5 = INTEGER: 0.05" \
 turned 'names that no table has' '' "input:2: no name that a table holds: .1.3 = INTEGER: 1
 input:3: no name that a table holds: .1.3.4294967296 = INTEGER: 1
 input:4: no name that a table holds: .3.1.1 = INTEGER: 1
+input:6: no name that a table holds: .1.3..6.1 = INTEGER: 1
+input:7: no name that a table holds: .1.3.6.1 = OID: .
 input:5: no line of a walk: .1.3.6.1 \"t\"
-input:1: no name in numbers: walk without --mib: IF-MIB::ifIndex.1 = INTEGER: 1" \
-    $'IF-MIB::ifIndex.1 = INTEGER: 1\n.1.3 = INTEGER: 1\n.1.3.4294967296 = INTEGER: 1\n.3.1.1 = INTEGER: 1\n.1.3.6.1 "t"\n'
+input:1: no name in numbers, nor in 1 more line: walk without --mib: IF-MIB::ifIndex.1 = INTEGER: 1" \
+    $'IF-MIB::ifIndex.1 = INTEGER: 1\n.1.3 = INTEGER: 1\n.1.3.4294967296 = INTEGER: 1\n.3.1.1 = INTEGER: 1\n.1.3.6.1 "t"
+.1.3..6.1 = INTEGER: 1\n.1.3.6.1 = OID: .\n.1.3.6.1 = OID: ifIndex\n'
 # A walk by modules: its texts may go on in further lines, and one line tells of all.
 turned 'a walk with names' '1.3.6.1|2|1' 'input:1: no name in numbers, nor in 3 more lines: walk without --mib: SNMPv2-MIB::sysDescr.0 = STRING: one' \
     $'SNMPv2-MIB::sysDescr.0 = STRING: one\ntwo\n\nthree\nSNMPv2-MIB::sysObjectID.0 = OID: NET-SNMP-TC::linux
