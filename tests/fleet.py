@@ -37,8 +37,6 @@ ROWS_OF_INTERFACES = (1, 3, 6, 1, 2, 1, 2, 2, 1)
 NAMES_OF_INTERFACES = ROWS_OF_INTERFACES + (2,)
 RECEIVED = ROWS_OF_INTERFACES + (10,)
 SERVED = 50
-# A shell that got this unquoted would make several words and another command of it.
-COMMUNITY = "to read; $it"
 # No block of the page takes so long, in seconds; nor is a server sent so many datagrams.
 LONG = 600
 
@@ -102,7 +100,7 @@ def fleet(stack):
     with; and those that break off, with what they hold."""
     rows, ends, breaking = {}, {}, {}
     for device in range(SERVED):
-        server = Server("-c", COMMUNITY, table=table(interfaces(device)), datagrams=10 * LONG)
+        server = Server(table=table(interfaces(device)), datagrams=10 * LONG)
         rows[stack.enter_context(server).place] = interfaces(device)
     closed = f"127.0.0.1:{stack.enter_context(closed_port())}"
     other = stack.enter_context(Server("-c", "other", table=table(interfaces(0)), datagrams=10 * LONG)).place
@@ -135,7 +133,7 @@ class Folder:
     def __init__(self, path, fleet):
         self.path, self.fleet, self.said = path, fleet, ""
         self.environment = {**os.environ, "PATH": f"{path}/bin:{os.environ['PATH']}", "HOME": path, "LC_ALL": "C",
-                            "COMMUNITY": COMMUNITY}
+                            "COMMUNITY": "public"}
         os.mkdir(f"{path}/bin")
         shutil.copy(PROGRAM, f"{path}/bin/snmp")
 
