@@ -92,6 +92,7 @@ impl Link for UdpLink {
             Ok(_) => Ok(Some(0)),
             Err(error) => match error.kind() {
                 ErrorKind::WouldBlock | ErrorKind::TimedOut => Ok(None),
+                // A signal: read as a datagram that is no reply, so the try goes on.
                 ErrorKind::Interrupted => Ok(Some(0)),
                 _ => Err(self.fault()),
             },

@@ -40,7 +40,7 @@ pub(crate) fn ask<'a, F: ModuleFiles<E>, L: Links, O: Output, E: ErrorOutput>(
     ask_by(alloc, job, orders, &tree, files, links, out)
 }
 
-// Asks an agent and prints the lines of its answer, by the names and types of a tree.
+/// Asks an agent and prints the lines of its answer, by the names and types of a tree.
 fn ask_by<'a, T: ShowTree, F: Files, L: Links, O: Output>(
     alloc: Global,
     job: AskJob<'_, 'a>,
@@ -87,7 +87,7 @@ fn ask_by<'a, T: ShowTree, F: Files, L: Links, O: Output>(
     }
 }
 
-// How a run over a link in memory ended: such a link fails only where memory runs out.
+/// How a run over a link in memory ended: such a link fails only where memory runs out.
 fn end_in_memory(end: WalkEnd) -> WalkEnd
     ensures { result ≡ end_in_memory end }
 {
@@ -97,8 +97,8 @@ fn end_in_memory(end: WalkEnd) -> WalkEnd
     }
 }
 
-// Prints what follows the lines of a run, which is the number of bindings if the words ask for it,
-// or returns why it ended early.
+/// Prints what follows the lines of a run, which is the number of bindings if the words ask for it,
+/// or returns why it ended early.
 fn finish<'a, O: Output>(
     end: WalkEnd,
     plan: &Plan<'_, 'a>,

@@ -63,7 +63,7 @@ pub fn tool<F: ModuleFiles<E>, L: Links, O: Output, E: ErrorOutput>(
     }
 }
 
-// Prints the help that was asked for, and returns the status.
+/// Prints the help that was asked for, and returns the status.
 fn print_help<O: Output, E: ErrorOutput>(text: &str, out: &mut O, err: &mut E) -> u8
     ensures { PrintsHelp text.now (O.stream out.old) (O.stream out.new)
         (E.stream err.old) (E.stream err.new) result }

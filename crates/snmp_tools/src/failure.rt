@@ -111,7 +111,7 @@ impl From<AllocError> for Failure<'_> {
     }
 }
 
-// Appends two texts, one after the other.
+/// Appends two texts, one after the other.
 fn two_texts(out: &mut Draft, first: &[u8], second: &[u8])
     ensures { Adds out.old (first.now ++ second.now) out.new }
 {
@@ -119,14 +119,14 @@ fn two_texts(out: &mut Draft, first: &[u8], second: &[u8])
     out.octets(second);
 }
 
-// Appends a text, and a word after it.
+/// Appends a text, and a word after it.
 fn text_and_word(out: &mut Draft, text: &[u8], word: &str)
     ensures { Adds out.old (text.now ++ word.now) out.new }
 {
     two_texts(out, text, word.as_bytes());
 }
 
-// What is wrong with the text of a name.
+/// What is wrong with the text of a name.
 fn name_fault<'a>(error: &NameError) -> &'a [u8]
     ensures { result.now ≡ name_fault error.now }
 {
@@ -138,7 +138,7 @@ fn name_fault<'a>(error: &NameError) -> &'a [u8]
     }
 }
 
-// Appends the path of a table file, the line, and what is wrong there.
+/// Appends the path of a table file, the line, and what is wrong there.
 fn table_message(fault: &TableError, path: &str, out: &mut Draft)
     ensures { Adds out.old (table_message path.now fault.now) out.new }
 {
@@ -151,7 +151,7 @@ fn table_message(fault: &TableError, path: &str, out: &mut Draft)
     }
 }
 
-// Appends the message for a walk or a Get that ended early.
+/// Appends the message for a walk or a Get that ended early.
 fn end_message(end: &WalkEnd, agent: &str, out: &mut Draft)
     ensures { Adds out.old (end_message agent.now end.now) out.new }
 {
@@ -170,7 +170,7 @@ fn end_message(end: &WalkEnd, agent: &str, out: &mut Draft)
     }
 }
 
-// Appends the message for a name that isn't above the last one.
+/// Appends the message for a name that isn't above the last one.
 fn falling_message(out: &mut Draft, last: &Oid, got: &Oid)
     ensures { Adds out.old (codes "Error: OID not increasing: " ++ numeric_text last.now
         ++ codes " >= " ++ numeric_text got.now) out.new }
@@ -179,7 +179,7 @@ fn falling_message(out: &mut Draft, last: &Oid, got: &Oid)
     text_and_name(out, b" >= ", got);
 }
 
-// Appends an error status by its name and number, and the error index.
+/// Appends an error status by its name and number, and the error index.
 fn fault_message(out: &mut Draft, status: &i32, index: &i32)
     ensures { Adds out.old (error_status_text status.now index.now) out.new }
 {
@@ -188,7 +188,7 @@ fn fault_message(out: &mut Draft, status: &i32, index: &i32)
     text_and_integer(out, b"), index ", index);
 }
 
-// Appends a text, and a signed number after it.
+/// Appends a text, and a signed number after it.
 fn text_and_integer(out: &mut Draft, text: &[u8], n: &i32)
     ensures { Adds out.old (text.now ++ signed_decimal n.now) out.new }
 {
@@ -196,7 +196,7 @@ fn text_and_integer(out: &mut Draft, text: &[u8], n: &i32)
     out.integer(i64::from(*n));
 }
 
-// The name of an error status (RFC 3416, section 3).
+/// The name of an error status (RFC 3416, section 3).
 fn status_name<'a>(status: i32) -> &'a [u8]
     ensures { result.now ≡ status_name status }
 {
@@ -224,7 +224,7 @@ fn status_name<'a>(status: i32) -> &'a [u8]
     }
 }
 
-// Appends a text, and a name in numbers after it.
+/// Appends a text, and a name in numbers after it.
 fn text_and_name(out: &mut Draft, text: &[u8], name: &Oid)
     ensures { Adds out.old (text.now ++ numeric_text name.now) out.new }
 {
@@ -236,7 +236,7 @@ fn text_and_name(out: &mut Draft, text: &[u8], name: &Oid)
     }
 }
 
-// Appends a text, the agent as given, and a full stop.
+/// Appends a text, the agent as given, and a full stop.
 fn agent_message(out: &mut Draft, text: &[u8], agent: &str)
     ensures { Adds out.old (text.now ++ agent.now ++ codes ".") out.new }
 {

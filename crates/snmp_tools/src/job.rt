@@ -46,7 +46,7 @@ pub fn run_job<F: ModuleFiles<E>, L: Links, O: Output, E: ErrorOutput>(
     report(alloc, done, err)
 }
 
-// Does a job, and returns why not all of it was done, if it wasn't.
+/// Does a job, and returns why not all of it was done, if it wasn't.
 fn try_job<'a, F: ModuleFiles<E>, L: Links, O: Output, E: ErrorOutput>(
     alloc: Global,
     job: &Job<'a>,
@@ -69,8 +69,8 @@ fn try_job<'a, F: ModuleFiles<E>, L: Links, O: Output, E: ErrorOutput>(
     }
 }
 
-// Reports on `err` why a job wasn't done, if it wasn't, and returns the exit status. Where memory
-// for the message runs out, that is reported.
+/// Reports on `err` why a job wasn't done, if it wasn't, and returns the exit status. Where memory
+/// for the message runs out, that is reported.
 fn report<E: ErrorOutput>(alloc: Global, done: Result<(), Failure<'_>>, err: &mut E) -> u8
     ensures { IsReported (outcome_of done.entry) (E.stream err.old) (E.stream err.new) result }
 {
@@ -85,7 +85,7 @@ fn report<E: ErrorOutput>(alloc: Global, done: Result<(), Failure<'_>>, err: &mu
     failure.status()
 }
 
-// The message of a failure, with its newline.
+/// The message of a failure, with its newline.
 fn message_line(alloc: Global, failure: &Failure<'_>) -> Result<Vec<u8>, AllocError>
     ensures { IfOk result (λ text.
         text.items ≡ fault_message (fault_of failure.now) ++ codes "\n") }

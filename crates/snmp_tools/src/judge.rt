@@ -121,7 +121,7 @@ impl<'j, 'a> Question<'j, 'a> {
     }
 }
 
-// The root of a walk where no name is given: `mib-2` (RFC 1213).
+/// The root of a walk where no name is given: `mib-2` (RFC 1213).
 const MIB_2: &str = "1.3.6.1.2.1";
 
 /// What the version and the letters of `-O` say: how lines are shown.
@@ -154,7 +154,7 @@ pub(crate) fn read_agent<'a>(asking: &Asking<'a>) -> Result<AgentAddress<'a>, Fa
     }
 }
 
-// Whether the word is that of version 2c of SNMP (RFC 1901).
+/// Whether the word is that of version 2c of SNMP (RFC 1901).
 fn is_2c(word: &str) -> bool
     ensures { IsTrue result ↔ word.now ≡ codes "2c" }
 {

@@ -107,7 +107,7 @@ impl Choices {
     }
 }
 
-// How many digits are at the front of a text.
+/// How many digits are at the front of a text.
 fn front_digits(text: &[u8]) -> usize
     ensures within { result ≤ length text.now }
     ensures digits { list_all is_ascii_digit (take result text.now) ≡ true }
@@ -122,7 +122,7 @@ fn front_digits(text: &[u8]) -> usize
     text.len()
 }
 
-// The number of repetitions that digits state.
+/// The number of repetitions that digits state.
 fn repetitions(digits: &[u8]) -> Option<u32>
     requires { list_all is_ascii_digit digits.now ≡ true }
     ensures { MatchOption result ((n : ℕ) → AreRepetitions digits.now n → ⊥)

@@ -139,7 +139,7 @@ pub(crate) fn print_text<'a, O: Output>(text: &[u8], out: &mut O) -> Result<(), 
     }
 }
 
-// Writes lines, or a front of them where the output fails.
+/// Writes lines, or a front of them where the output fails.
 fn write_lines<O: Output>(out: &mut O, lines: &[u8]) -> Result<(), SinkFault>
     ensures whole_at_ok { OnOk result (O.stream out.new ≡ extended (O.stream out.old) lines.now) }
     ensures front_at_fault { IfErr result (λ fault. (fault ≡ SinkFault.Output)
@@ -151,7 +151,7 @@ fn write_lines<O: Output>(out: &mut O, lines: &[u8]) -> Result<(), SinkFault>
     }
 }
 
-// Appends the line that says how many bindings were found.
+/// Appends the line that says how many bindings were found.
 fn count_line(count: u64, out: &mut Vec<u8>) -> Result<(), AllocError>
     ensures { OnOk result (out.new.items ≡ out.old.items ++ count_line count) }
 {

@@ -12,7 +12,7 @@ use crate::names::check_names;
 use crate::plan::{Plan, Question, Walk};
 use snmp_walk::{Link, Sink, StartError, WalkCore, WalkEnd, run_get, run_walk};
 
-// The id of the first request.
+/// The id of the first request.
 const FIRST_ID: u32 = 1;
 
 /// Asks the question of a plan over a link, whose bindings are given to a sink. Where it has no
@@ -43,7 +43,7 @@ pub(crate) fn run_plan<'a, L: Link, S: Sink>(
     }
 }
 
-// A walk before its first request.
+/// A walk before its first request.
 fn start<'a>(walk: &Walk<'a>, community: &[u8]) -> Result<WalkCore, Failure<'a>>
     requires { length community.now ≤ 255 }
     ensures ok { IfOk result (λ core. core ≡ first_of community.now (walk_of walk.now)) }
@@ -65,8 +65,8 @@ fn start<'a>(walk: &Walk<'a>, community: &[u8]) -> Result<WalkCore, Failure<'a>>
     }
 }
 
-// The text of the first name of a walk that can't be sent: the root's, else that after which it
-// goes on.
+/// The text of the first name of a walk that can't be sent: the root's, else that after which it
+/// goes on.
 fn unsendable_text<'a>(walk: &Walk<'a>) -> &'a str
     ensures root { IsUnsendable walk.now.root → result ≡ walk.now.root_text }
     ensures after { IsWire (wire walk.now.root) → result ≡ walk.now.after_text }

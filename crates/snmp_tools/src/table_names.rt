@@ -37,7 +37,7 @@ pub(crate) fn table_at<'a, T: NameTree, F: Files>(
     }
 }
 
-// The names that texts have by a tree.
+/// The names that texts have by a tree.
 #[derive(Drop)]
 struct TreeNames<'a, T: NameTree> {
     tree: &'a T,

@@ -1,14 +1,14 @@
 -- What a Get gives over an honest link, and when it is done.
 use Rattle.std.proofs.{lemmas.Grind.common_steps, lemmas.List.length-take}
-use Rattle.std.proofs.Common.{◌≡◌, ◌≢◌, ◌⊎◌, inl, inr, ℕ, ◌<◌, ◌≤◌, List, [], ◌∷◌, ◌++◌, length, take, refl, sym, ◌∙◌, ap, subst, arith, pos}
+use Rattle.std.proofs.Common.{◌≡◌, ◌≢◌, ◌⊎◌, inl, inr, ℕ, ℤ, ◌<◌, ◌≤◌, List, [], ◌∷◌, ◌++◌, length, take, refl, sym, ◌∙◌, ap, subst, arith, pos}
 use Rattle.std.proofs.Common.{append-nil, Option}
 use Rattle.std.specs.Prelude.{Result, Ok, Err, replicate, Some, None}
 use Rattle.snmp_walk.specs.{declared.end.LinkFault.LinkFault, private.Codec.Codec, declared.end.SinkFault.SinkFault, declared.end.WalkEnd.WalkEnd}
 use Rattle.snmp_walk.specs.{declared.tries.Course.Course, Traffic.Traffic, Traffic.Lost, Facts.IsDone, Facts.IsDoneOrCutOff, Facts.IsDoneOrStopped}
 use Rattle.snmp_walk.specs.{private.Course.Heard, private.Course.heard_of, Read.IsReadAs, Read.Tells, Moved.IsMoved, Judged.IsResponseTo}
-use Rattle.snmp_walk.specs.{Network.AreReplies, declared.link.Link.Ghosts as LinkFacts, Responses.IsResponseFrom, Responses.MayRespond}
-use Rattle.snmp_walk.specs.Link.{Agents, OneOf, AreLawful, IsReplyFrom, agent_in, Outcome}
-use Rattle.snmp_walk.specs.Tries.{AreTried, Happens, InTurn, IsNotAwaited}
+use Rattle.snmp_walk.specs.{Network.AreRepliesOf, declared.link.Link.Ghosts as LinkFacts, Responses.IsResponseFrom, Responses.MayRespond, Link.Agents}
+use Rattle.snmp_walk.specs.{Link.OneOf, Link.AreLawful, Link.IsReplyFrom, Link.agent_in, Link.Outcome, Tries.AreTried, Tries.Happens, Tries.InTurn}
+use Rattle.snmp_walk.specs.{Tries.IsNotAwaited, Ran.HasHappened, Ran.but_for_errors, Ran.IsFreshAndHonest, Ran.IsGetTried, Ran.IsGotOver, Ran.IsRun}
 use Rattle.snmp_wire.specs.{Message.VarBind, Message.Message, Spelling.Spells, Canon.canon, Range.IsMessageInRange}
 use Rattle.snmp_agent.specs.{Event.Event, table.Table.MibView, table.Table.IsMibView}
 use Rattle.snmp_agent.specs.Reply.{response, got, got_next, unwritten, Fits, IsWhole, IsResponse, whole, shortened, bulk}
@@ -18,14 +18,13 @@ use Rattle.snmp_walk.specs.private.Course as heard
 use Rattle.snmp_walk.specs.Get.{get_request, got_step, AreFor, AreGot, MeansToGet, IsBrought, IsReasonOfGet, HasRoomForGet, IsEndOfGet, IsLostGet}
 use Rattle.snmp_walk.specs.Get.{IsTooBig, GetFacts, GotFacts}
 use Rattle.snmp_walk.proofs.{NameLemmas.no_end, JoinLemmas.get_one, NetworkLemmas.all_tries, NetworkLemmas.answered_tries}
-use Rattle.snmp_walk.proofs.HonestLemmas.{no_drop, may_be, of_community, own as spelt_own}
+use Rattle.snmp_walk.proofs.HonestLemmas.{no_drop, error_or_none, may_be, of_community, own as spelt_own}
 use Rattle.snmp_walk.proofs.RowLemmas.{view_of, only_one, get_name, get_value}
 use Rattle.snmp_walk.proofs.GetEndLemmas.{brought, lost_get, no_set, response_of, IsByReply, IsFrontOfReply, IsGot, MayEnd, by_reply, for_more}
 use Rattle.snmp_walk.proofs.GetEndLemmas.{for_names, for_none, for_nothing, front_of_reply}
 use Rattle.snmp_walk.proofs.MoveLemmas.{Suits, agrees, moved_of, sent_of, tries_as, moves_as, moves_none, nil_front}
 use Rattle.snmp_walk.specs.Link as outcome
 use Rattle.snmp_walk.specs.Responses as sending
-use Rattle.snmp_walk.specs.Ran.{HasHappened, IsFreshAndHonest, IsGetTried, IsGotOver, IsRun}
 
 -- Gets of the names give one list
 one_got : (view : MibView) → IsMibView view → (names : List (List ℕ)) (a b : List VarBind) → AreGot view names a → AreGot view names b → a ≡ b
@@ -203,11 +202,11 @@ module _ {W : Type 0} (codec : Codec) (facts : LinkFacts W) (link after : W) (tr
     abbrev IsFromThese : Message → Type 0
     IsFromThese m = MayBeBrought Was agents (Unit {0}) community id names m
 
-    from_agents : (m : Message) (d : List ℕ) → IsResponseTo community id m → Spells m d → (h : Was (outcome.answered d))
-        → AreReplies agents (tried_events (outcome.answered d) h).0 → IsFromThese m
-    from_agents m d response spelt h replies =
+    from_agents : (Sort : Message → Type 0) (m : Message) (d : List ℕ) → IsResponseTo community id m → Spells m d → (h : Was (outcome.answered d))
+        → AreRepliesOf Sort agents (tried_events (outcome.answered d) h).0 → Sort m → IsFromThese m
+    from_agents Sort m d response spelt h replies sorted =
         let a = answered_tries facts q (IsNotAwaited community id) tries link after d h in
-        let sent_it = replies a.1.0 [] tt d refl m spelt in
+        let sent_it = replies a.1.0 [] tt d refl m spelt sorted in
         let reply = subst (λ (x : List ℕ). IsReplyFrom agents x d ⊎ IsResponseFrom agents x m) (a.1.2 sent_it.0 sent_it.1) sent_it.2 in (
           response,
           (λ _. elim reply [
@@ -226,18 +225,44 @@ module _ {W : Type 0} (codec : Codec) (facts : LinkFacts W) (link after : W) (tr
 
   module _ (rows refused : List VarBind) where
     abbrev Known : WalkEnd → Type 0
-    Known end = HasHappened facts link after (λ agents. GotFacts agents (get_request community id names) names rows refused end)
+    Known end = HasHappened facts link after end (λ agents why. GotFacts agents (get_request community id names) names rows refused why)
 
-    known : (end : WalkEnd) (what : Outcome) (h : Was what) → MayEnd (get_request community id names) names end
-        → ((agents : Agents) (good : AreLawful agents) → AreReplies agents (tried_events what h).0
-        → IsReasonOfGet Was (IsFromThese agents good) names rows refused end) → Known end
+    -- by an error nothing was given
+    abbrev IsFailed : WalkEnd → Type 0
+    IsFailed end = (rows ++ refused ≡ []) × ((status index : ℤ) × (end ≡ ending.Fault status index))
+
+    abbrev HasReason : List (Event (Unit {0})) → WalkEnd → Type 1
+    HasReason all end = (agents : Agents) (good : AreLawful agents) (Sort : Message → Type 0) (Errors : Type 0)
+        → ((m : Message) → Sort m ⊎ (Errors × (m.a ≢ pos 0))) → AreRepliesOf Sort agents all
+        → IsReasonOfGet Was (IsFromThese agents good) names rows refused end ⊎ (Errors × IsFailed end)
+
+    known : (end : WalkEnd) (what : Outcome) (h : Was what) → MayEnd (get_request community id names) names end → HasReason (tried_events what h).0 end
+        → Known end
     known end what h may reason =
         let e = tried_events what h in
         record {
           events = e.0;
           in_turn = e.1;
-          replied = λ agents good replies. got_facts agents good community id names (Unit {0}) tt Was rows refused end (reason agents good replies) may;
+          replied = λ agents good replies. elim (reason agents good (λ m. Unit {0}) ⊥ (λ m. inl tt) replies) [
+            | inl why ↦ got_facts agents good community id names (Unit {0}) tt Was rows refused end why may
+            | inr none ↦ absurd none.0
+          ];
+          replied_or_failed = λ agents good replies. elim (reason agents good (λ m. m.a ≡ pos 0) (Unit {0}) error_or_none replies) [
+            | inl why ↦ got_but agents end (got_facts agents good community id names (Unit {0}) tt Was rows refused end why may)
+            | inr failed ↦ subst (λ (x : WalkEnd). GotFacts agents (get_request community id names) names rows refused (but_for_errors x)) (sym failed.1.1.2)
+                (got_facts agents good community id names (Unit {0}) tt (λ what. Unit {0}) rows refused ending.Link (tt, failed.1.0) tt)
+          ];
         }
+      where
+        got_but : (agents : Agents) (end : WalkEnd) → GotFacts agents (get_request community id names) names rows refused end
+            → GotFacts agents (get_request community id names) names rows refused (but_for_errors end)
+        got_but agents (ending.Fault status index) g = record {
+          beginning = g.beginning;
+          all_at_done = λ view all one are done. absurd done;
+          ends = tt;
+          done_unless_lost = λ room. tt;
+        }
+        got_but agents end g = g
 
     module _ (other : Agents) (honest : Type 0) where
       pub happened_by : (end : WalkEnd) → IsReasonOfGet Was (IsBrought Was other honest community id names) names rows refused end → MayEnd (get_request community id names) names end
@@ -245,14 +270,30 @@ module _ {W : Type 0} (codec : Codec) (facts : LinkFacts W) (link after : W) (tr
       happened_by (ending.Sink fault) r may short =
           let from = r.3 in
           known (ending.Sink fault) (outcome.answered from.2.0) from.2.1 may
-          (λ agents good replies. (r.0, r.1, r.2, from_agents agents good r.0 from.2.0 from.0 from.2.2 from.2.1 replies, r.4, r.5))
-      happened_by ending.NoResponse r may short = known ending.NoResponse outcome.missed r.0 may (λ agents good replies. r)
-      happened_by ending.Link r may short = known ending.Link outcome.cut_off r.0 may (λ agents good replies. r)
+          (λ agents good Sort Errors sort replies. elim (sort r.0) [
+            | inl sorted ↦ inl (r.0, r.1, r.2, from_agents agents good Sort r.0 from.2.0 from.0 from.2.2 from.2.1 replies sorted, r.4, r.5)
+            | inr error ↦ absurd (error.1 r.4.0)
+          ])
+      happened_by (ending.Done count) r may short =
+          let from = r.1 in
+          known (ending.Done count) (outcome.answered from.2.0) from.2.1 may
+          (λ agents good Sort Errors sort replies. elim (sort r.0) [
+            | inl sorted ↦ inl (r.0, from_agents agents good Sort r.0 from.2.0 from.0 from.2.2 from.2.1 replies sorted, r.2, r.3)
+            | inr error ↦ absurd (error.1 r.2.0)
+          ])
+      happened_by ending.NoResponse r may short = known ending.NoResponse outcome.missed r.0 may (λ agents good Sort Errors sort replies. inl r)
+      happened_by ending.Link r may short = known ending.Link outcome.cut_off r.0 may (λ agents good Sort Errors sort replies. inl r)
       happened_by ending.RequestTooLong none may short = absurd (short refl)
       happened_by end r may short =
           let from = r.1 in
           known end (outcome.answered from.2.0) from.2.1 may
-          (λ agents good replies. (r.0, from_agents agents good r.0 from.2.0 from.0 from.2.2 from.2.1 replies, r.2, r.3))
+          (λ agents good Sort Errors sort replies. elim (sort r.0) [
+            | inl sorted ↦ inl (r.0, from_agents agents good Sort r.0 from.2.0 from.0 from.2.2 from.2.1 replies sorted, r.2, r.3)
+            | inr error ↦ elim r.2 [
+              | inl fault ↦ inr (error.0, (r.3, (r.0.a, r.0.b, fault.1)))
+              | inr bad ↦ absurd (error.1 bad.0)
+            ]
+          ])
 
 -- ---- a Get over a link
 
@@ -322,13 +363,18 @@ module _ {W S : Type 0} (facts : LinkFacts W) (link : W) (tries : ℕ) (communit
         done_unless_stopped = λ room ahead. tt;
       };
       moved = moved_none (ending.Done 0) (λ e. cc) (λ some. absurd (some none));
-      happened = record { events = []; in_turn = refl; replied = λ agents good replies. nothing_got agents none };
+      happened = record {
+        events = [];
+        in_turn = refl;
+        replied = λ agents good replies. nothing_got agents none;
+        replied_or_failed = λ agents good replies. nothing_got agents none;
+      };
     };
   }
 
   module _ (codec : Codec) (lawful : facts.honest link → AreLawful (facts.agents link)) (some : 0 < tries) (named : names ≢ []) where
     got_over : (length (canon Asked) ≤ 65507 → Spells Asked (canon Asked)) → (after : W) (sunk : S) (end : WalkEnd) → (g : IsGotSo after sunk end)
-        → HasHappened facts link after (λ agents. GotFacts agents Asked names g.rows g.refused end)
+        → HasHappened facts link after end (λ agents why. GotFacts agents Asked names g.rows g.refused why)
         → (end ≡ ending.NoResponse → IsFreshAndHonest facts link → IsLostGet (facts.agents link) tries (facts.traffic link) (canon Asked) (facts.traffic after))
         → (65507 < length (canon Asked) → end ≡ ending.RequestTooLong) → (end ≡ ending.RequestTooLong → after ≡ link) → Sent after end
         → HasMoved after end → IsOver after sunk end
@@ -357,11 +403,15 @@ module _ {W S : Type 0} (facts : LinkFacts W) (link : W) (tries : ℕ) (communit
         (record {
           events = [];
           in_turn = refl;
-          replied = λ agents good replies. got_facts agents good community id names (Unit {0}) tt (Tried link) [] [] ending.RequestTooLong refl long;
+          replied = λ agents good replies. too_long agents good;
+          replied_or_failed = λ agents good replies. too_long agents good;
         })
         (λ silent. let no : ⊥ = cc in absurd no) (λ _. refl)
         (λ _. refl) (sent_none ending.RequestTooLong (λ silent. cc) (λ _ fits. fits refl))
         (moved_none ending.RequestTooLong (λ e. cc) (λ _ fits. fits refl))
+      where
+        too_long : (agents : Agents) → AreLawful agents → GotFacts agents Asked names [] [] ending.RequestTooLong
+        too_long agents good = got_facts agents good community id names (Unit {0}) tt (Tried link) [] [] ending.RequestTooLong refl long
 
     -- by an exchange of the request that was written
     module _ (keeping : (l : W) → facts.honest l → facts.keeps l) (ranged : IsMessageInRange Asked) (n : ℕ) (octets : List ℕ) (few : n ≤ 65507)

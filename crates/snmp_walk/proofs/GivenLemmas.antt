@@ -1,14 +1,15 @@
 -- What a walk gives where all that comes are replies of its agents.
-use Rattle.std.proofs.Common.{◌≡◌, ◌≢◌, ◌⊎◌, false, pos, inl, inr, ℕ, ◌<◌, List, [], ◌∷◌, ◌++◌, refl, sym, ◌∙◌, ap, subst, arith, append_assoc}
+use Rattle.std.proofs.Common.{◌≡◌, ◌≢◌, ◌⊎◌, false, pos, inl, inr, ℕ, ℤ, ◌<◌, List, [], ◌∷◌, ◌++◌, refl, sym, ◌∙◌, ap, subst, arith, append_assoc}
 use Rattle.std.proofs.Common.{append-nil}
 use Rattle.std.proofs.lemmas.Bool.{and_from}
 use Rattle.std.specs.Prelude.{not, Result}
 use Rattle.snmp_agent.specs.Event.{Event, came}
 use Rattle.snmp_wire.specs.{Canon.canon, Message.VarBind, Message.Message, Spelling.Spells}
-use Rattle.snmp_walk.specs.{private.Codec.Codec, private.Heard.IsEarlier, Judged.IsResponseTo, Judged.MeansBy, Network.AreReplies, Network.tried}
-use Rattle.snmp_walk.specs.{Ran.HasHappened, Read.rows_in, Request.request_of, Sink.Took, private.Taken.awaits, private.Taken.is_over, Walker.Walker}
-use Rattle.snmp_walk.specs.{Walker.IsWalker, declared.end.SinkFault.SinkFault, declared.end.WalkEnd.WalkEnd, declared.link.Link.Ghosts as LinkFacts}
-use Rattle.snmp_walk.specs.{declared.rows.Step.Step, Responses.IsResponseFrom, Tries.InTurn, Tries.Happens, Tries.IsTried, Tries.IsNotAwaited}
+use Rattle.snmp_walk.specs.{private.Codec.Codec, private.Heard.IsEarlier, Judged.IsResponseTo, Judged.MeansBy, Judged.MeansReply}
+use Rattle.snmp_walk.specs.{Network.AreRepliesOf, Network.tried, Ran.HasHappened, Ran.but_for_errors, Read.rows_in, Request.request_of, Sink.Took}
+use Rattle.snmp_walk.specs.{private.Taken.awaits, private.Taken.is_over, Walker.Walker, Walker.IsWalker, declared.end.SinkFault.SinkFault}
+use Rattle.snmp_walk.specs.{declared.end.WalkEnd.WalkEnd, declared.link.Link.Ghosts as LinkFacts, declared.rows.Step.Step, Responses.IsResponseFrom}
+use Rattle.snmp_walk.specs.Tries.{InTurn, Happens, IsTried, IsNotAwaited}
 use Rattle.snmp_walk.specs.Facts.{IsFresh, IsLawfulEnd, GivenFacts, Reading, rows_read, AreRead, IsAskedLast, IsReadSo, IsEndOfRun}
 use Rattle.snmp_walk.specs.Link.{Agents, AreLawful, OneOf, IsReplyFrom, IsNextFrom, IsGotFrom, IsTooLarge, Outcome}
 use Rattle.snmp_walk.specs.Link as outcome
@@ -17,8 +18,9 @@ use Rattle.snmp_walk.specs.declared.end.WalkEnd.TheVariants as ending
 use Rattle.snmp_walk.specs.declared.rows.Step.TheVariants as step
 use Rattle.snmp_walk.proofs.StandingLemmas.{Small, taken_any, rising_answers, taken, part_of_stage, part_of_step, waiting}
 use Rattle.snmp_walk.proofs.{CaseLemmas.EndsEmpty, CaseLemmas.ends_empty, FactLemmas.given_facts, FreshLemmas.fresh_stands, FreshLemmas.lawful_reply}
-use Rattle.snmp_walk.proofs.{JoinLemmas.after_precedes, JudgedLemmas.only, JudgedLemmas.response_to_decided, MemberLemmas.one_append}
-use Rattle.snmp_walk.proofs.{PartLemmas.part_front, SendLemmas.before_more, RowLemmas.views_answer, HonestLemmas.any_reply}
+use Rattle.snmp_walk.proofs.{JoinLemmas.after_precedes, MemberLemmas.one_append, PartLemmas.part_front, SendLemmas.before_more}
+use Rattle.snmp_walk.proofs.{RowLemmas.views_answer, HonestLemmas.any_reply, HonestLemmas.error_or_none}
+use Rattle.snmp_walk.proofs.JudgedLemmas.{only, response_to_decided}
 use Rattle.snmp_walk.proofs.NetworkLemmas.{tried-append, in_turn-append, all_tries, answered_tries}
 
 module _ {L : Type 0} (codec : Codec) (facts : LinkFacts L) (tries : ℕ) (first : Walker) (fresh : IsFresh first) (link after : L) where
@@ -47,7 +49,17 @@ module _ {L : Type 0} (codec : Codec) (facts : LinkFacts L) (tries : ℕ) (first
       let c = tried_events w a.now after o a.tried in
       (b.0 ++ c.0, in_turn-append (Happens facts) b.0 c.0 link a.now after b.1 c.1)
 
-  module _ (agents : Agents) (good : AreLawful agents) (all : List (Event (Unit {0}))) (replies : AreReplies agents all) where
+  -- How a run ended, after these rows and the one refused: as where replies of the agents are all that came, or by an error, where errors may come too.
+  abbrev IsHonestEnd : Agents → (rows refused : List VarBind) → WalkEnd → Type 0
+  IsHonestEnd agents rows refused end =
+      IsPartOfWalk (IsNextFrom agents) (IsGotFrom agents) first (rows ++ refused) × IsLawfulEnd agents (λ w. Unit {0}) first rows end
+
+  abbrev IsEnd : (Errors : Type 0) → Agents → (rows refused : List VarBind) → WalkEnd → Type 0
+  IsEnd Errors agents rows refused end = IsHonestEnd agents rows refused end
+      ⊎ (Errors × IsHonestEnd agents rows refused ending.Link × ((status index : ℤ) × (end ≡ ending.Fault status index)))
+
+  module _ (agents : Agents) (good : AreLawful agents) (all : List (Event (Unit {0}))) (Sort : Message → Type 0) (Errors : Type 0)
+      (sort : (m : Message) → Sort m ⊎ (Errors × (m.a ≢ pos 0))) (replies : AreRepliesOf Sort agents all) where
     abbrev Next : List ℕ → VarBind → Type 0
     Next = IsNextFrom agents
 
@@ -65,15 +77,15 @@ module _ {L : Type 0} (codec : Codec) (facts : LinkFacts L) (tries : ℕ) (first
     waits w given s = waiting Rises Named Small rising_answers first given w.asked w.phase s.anyhow.stage
 
     -- the reply that was read is one to the waiting request
-    read_is : (w : Walker) (l new : L) (given : List VarBind) (s : Stands w given) → IsWalker w → (r : List ℕ) (m : Message) → Spells m r
+    read_is : (w : Walker) (l new : L) (given : List VarBind) (s : Stands w given) → IsWalker w → (r : List ℕ) (m : Message) → Spells m r → Sort m
         → IsResponseTo w.community w.id m → (h : Tried w l (outcome.answered r) new) → (rest : List (Event (Unit {0})))
         → all ≡ s.events ++ ((tried_events w l new (outcome.answered r) h).0 ++ rest)
         → IsReplyFrom agents (canon (request_of w)) r ⊎ IsResponseFrom agents (canon (request_of w)) m
-    read_is w l new given s walker r m spelt response h rest is =
+    read_is w l new given s walker r m spelt sorted response h rest is =
         let a = answered_tries facts (canon (request_of w)) (IsNotAwaited w.community w.id) tries l new r h in
         let cut : all ≡ (s.events ++ a.1.0) ++ came tt r ∷ rest =
         is ∙ ap (λ (es : List (Event (Unit {0}))). s.events ++ es) (append_assoc a.1.0 (came tt r ∷ []) rest) ∙ sym (append_assoc s.events a.1.0 (came tt r ∷ rest)) in
-        let sent_it = replies (s.events ++ a.1.0) rest tt r cut m spelt in
+        let sent_it = replies (s.events ++ a.1.0) rest tt r cut m spelt sorted in
         let sooner : IsEarlier (tried (s.events ++ a.1.0)) w =
         λ d one. elim (one_append (tried s.events) (tried a.1.0) d (subst (λ (ds : List (List ℕ)). OneOf ds d) (tried-append s.events a.1.0) one)) [
           | inl o ↦ s.earlier d o
@@ -89,27 +101,38 @@ module _ {L : Type 0} (codec : Codec) (facts : LinkFacts L) (tries : ℕ) (first
               absurd (omega (arith, equal, v.3))
         ]
 
-    -- what a reply that was read did, given a step that is no stray
+    -- what a reply that was read did, given a step that is no stray: it ended the walk where it said an error
     record Steps (w : Walker) (given : List VarBind) (st : Step) (u : Walker) : Type 0 where
       honestly : Advances Next Got (IsTooLarge agents) first w given st u
       anyhow : AdvancesAnyhow first w given st u
       empty : EndsEmpty st
 
+    abbrev IsFailed : Step → Type 0
+    IsFailed st = Errors × ((status index : ℤ) × (st ≡ step.Last [] (ending.Fault status index)))
+
+    failed : (w : Walker) (m : Message) (st : Step) (u : Walker) → Errors × (m.a ≢ pos 0) → MeansReply w m st u → IsFailed st
+    failed w m st u errors (inl (none, _)) = absurd (errors.1 none)
+    failed w m st u errors (inr (_, ends)) = (errors.0, (m.a, m.b, ends.0))
+
     reads : (w : Walker) (l new : L) (given : List VarBind) (s : Stands w given) → IsWalker w → (r : List ℕ) (st : Step) (u : Walker)
         → (st ≡ step.Stray → ⊥) → MeansBy w r st u → (h : Tried w l (outcome.answered r) new) → (rest : List (Event (Unit {0})))
-        → all ≡ s.events ++ ((tried_events w l new (outcome.answered r) h).0 ++ rest) → Steps w given st u
+        → all ≡ s.events ++ ((tried_events w l new (outcome.answered r) h).0 ++ rest) → Steps w given st u ⊎ IsFailed st
     reads w l new given s walker r st u gives (inr (none, stray)) h rest is = absurd (gives stray.0)
     reads w l new given s walker r st u gives (inl (m, spelt, inr (unawaited, stray))) h rest is = absurd (gives stray.0)
     reads w l new given s walker r st u gives (inl (m, spelt, inl (awaited, means))) h rest is =
-        let one = only codec.less st u w m (inl (awaited, means)) in
-        let reply = read_is w l new given s walker r m spelt awaited.response h rest is in
-        let lawful = any_reply codec agents good w walker (waits w given s) r m spelt reply in
-        rw (one.0, one.1) (record {
-          honestly = taken Next Got (IsTooLarge agents) (views_answer agents good.views) first given w m s.honestly lawful;
-          anyhow = taken_any first w given (after_precedes codec) m (and_from (not (is_over w.phase)) (awaits w.community w.id m)
-              (ap not (waits w given s)) ((response_to_decided w.community w.id m).1 awaited.response)) s.anyhow;
-          empty = ends_empty w m;
-        })
+        elim (sort m) [
+          | inr errors ↦ inr (failed w m st u errors means)
+          | inl sorted ↦
+              let one = only codec.less st u w m (inl (awaited, means)) in
+              let reply = read_is w l new given s walker r m spelt sorted awaited.response h rest is in
+              let lawful = any_reply codec agents good w walker (waits w given s) r m spelt reply in
+              inl (rw (one.0, one.1) (record {
+                honestly = taken Next Got (IsTooLarge agents) (views_answer agents good.views) first given w m s.honestly lawful;
+                anyhow = taken_any first w given (after_precedes codec) m (and_from (not (is_over w.phase)) (awaits w.community w.id m)
+                    (ap not (waits w given s)) ((response_to_decided w.community w.id m).1 awaited.response)) s.anyhow;
+                empty = ends_empty w m;
+              }))
+        ]
 
     abbrev stands_first : Stands first []
     stands_first = record {
@@ -135,7 +158,10 @@ module _ {L : Type 0} (codec : Codec) (facts : LinkFacts L) (tries : ℕ) (first
         → MeansBy w r (step.Rows rows) u → (h : Tried w l (outcome.answered r) new) → (rest : List (Event (Unit {0})))
         → all ≡ s.events ++ ((tried_events w l new (outcome.answered r) h).0 ++ rest) → StandsBefore u (given ++ rows) rest
     stands_on w u l new given rows s walker r means h rest is =
-        let on = reads w l new given s walker r (step.Rows rows) u (λ e. let no : ⊥ = cc in no) means h rest is in
+        let on : Steps w given (step.Rows rows) u = elim (reads w l new given s walker r (step.Rows rows) u (λ e. let no : ⊥ = cc in no) means h rest is) [
+          | inl steps ↦ steps
+          | inr f ↦ let ended = f.1.2 in let no : ⊥ = cc in absurd no
+        ] in
         let a = answered_tries facts (canon (request_of w)) (IsNotAwaited w.community w.id) tries l new r h in
         let less : w.id < u.id = omega (arith, on.anyhow.0) in (
           record {
@@ -164,9 +190,6 @@ module _ {L : Type 0} (codec : Codec) (facts : LinkFacts L) (tries : ℕ) (first
         (stands_on v h.1 old h.2 given r.rows s.0 h.0 r.datagram h.4 h.3 (later ++ rest)
         (s.1 ∙ ap (λ (es : List (Event (Unit {0}))). s.0.events ++ es) (append_assoc mine later rest))))
 
-    abbrev Silent : Walker → Type 0
-    Silent w = Unit {0}
-
     stands_last : (Sent : Walker → Type 0) (rows : List VarBind) (o : Outcome) (w : Walker) (more : List VarBind) → (a : Asked Sent rows o w more)
         → all ≡ (asked_events Sent rows o w more a).0 → StandsBefore w a.given ((tried_events w a.now after o a.tried).0 ++ [])
     stands_last Sent rows o w more a is =
@@ -175,27 +198,41 @@ module _ {L : Type 0} (codec : Codec) (facts : LinkFacts L) (tries : ℕ) (first
         (stands_all a.read.readings first w link a.now [] (late ++ []) a.read.are_read
         (stands_first, is ∙ ap (λ (es : List (Event (Unit {0}))). (read_events a.read.readings first w link a.now a.read.are_read).0 ++ es) (sym (append-nil late))))
 
-    abbrev IsHonestEnd : (rows refused : List VarBind) → WalkEnd → Type 0
-    IsHonestEnd rows refused end = IsPartOfWalk Next Got first (rows ++ refused) × IsLawfulEnd agents Silent first rows end
+    -- what was given is a part of a walk
+    part_at : (w : Walker) (rows given more : List VarBind) → rows ≡ given ++ more → more ≡ [] → Reaches Next Got first w given
+        → IsPartOfWalk Next Got first (rows ++ [])
+    part_at w rows given more parts none reaches =
+        let same : rows ++ [] ≡ given = append-nil rows ∙ parts ∙ ap (λ (g : List VarBind). given ++ g) none ∙ append-nil given in
+        subst (IsPartOfWalk Next Got first) (sym same)
+        (part_of_stage Next Got (IsTooLarge agents) (views_answer agents good.views) first given w.asked w.phase reaches.stage)
 
     end_read : (Sent : Walker → Type 0) (rows : List VarBind) (end : WalkEnd) (datagram : List ℕ) (w : Walker) (more : List VarBind)
         → (a : Asked Sent rows (outcome.answered datagram) w more) → (over : Walker) → MeansBy w datagram (step.Last more end) over
-        → all ≡ (asked_events Sent rows (outcome.answered datagram) w more a).0 → IsHonestEnd rows [] end
+        → all ≡ (asked_events Sent rows (outcome.answered datagram) w more a).0 → IsEnd Errors agents rows [] end
     end_read Sent rows end datagram w more a over means is =
         let s = stands_last Sent rows (outcome.answered datagram) w more a is in
-        let st = reads w a.now after a.given s.0 a.walker datagram (step.Last more end) over (λ e. let no : ⊥ = cc in no) means a.tried [] s.1 in
-        rw (append-nil, a.parts) (
-          st.honestly.0,
-          lawful_reply agents Silent first w a.given more end st.empty s.0.honestly st.honestly.1,
-        )
+        elim (reads w a.now after a.given s.0 a.walker datagram (step.Last more end) over (λ e. let no : ⊥ = cc in no) means a.tried [] s.1) [
+          | inl st ↦ inl (rw (append-nil, a.parts) (
+            st.honestly.0,
+            lawful_reply agents (λ w. Unit {0}) first w a.given more end st.empty s.0.honestly st.honestly.1,
+          ))
+          | inr f ↦
+              let ended = f.1.2 in
+              let none : more ≡ [] = cc in
+              let by : end ≡ ending.Fault f.1.0 f.1.1 = cc in
+              inr (f.0, (part_at w rows a.given more a.parts none s.0.honestly, tt), (f.1.0, f.1.1, by))
+        ]
 
     end_refused : (Sent : Walker → Type 0) (rows refused : List VarBind) (fault : SinkFault) → refused ≢ [] → (datagram : List ℕ) (w : Walker) (more : List VarBind)
         → (a : Asked Sent rows (outcome.answered datagram) w more) → (st : Step) (over : Walker) (left : List VarBind) → MeansBy w datagram st over
         → rows_in st ≡ more ++ (refused ++ left) → all ≡ (asked_events Sent rows (outcome.answered datagram) w more a).0
-        → IsHonestEnd rows refused (ending.Sink fault)
+        → IsHonestEnd agents rows refused (ending.Sink fault)
     end_refused Sent rows refused fault some datagram w more a st over left means cut is =
         let s = stands_last Sent rows (outcome.answered datagram) w more a is in
-        let h = reads w a.now after a.given s.0 a.walker datagram st over (λ e. some (no_rows e)) means a.tried [] s.1 in
+        let h : Steps w a.given st over = elim (reads w a.now after a.given s.0 a.walker datagram st over (λ e. some (no_rows (ap rows_in e))) means a.tried [] s.1) [
+          | inl steps ↦ steps
+          | inr f ↦ absurd (some (no_rows (ap rows_in f.1.2)))
+        ] in
         let whole_rows : a.given ++ rows_in st ≡ (rows ++ refused) ++ left =
         ap (λ (g : List VarBind). a.given ++ g) cut ∙ sym (append_assoc a.given more (refused ++ left)) ∙ ap (λ (g : List VarBind). g ++ (refused ++ left)) (sym a.parts)
         ∙ sym (append_assoc rows refused left) in (
@@ -204,8 +241,8 @@ module _ {L : Type 0} (codec : Codec) (facts : LinkFacts L) (tries : ℕ) (first
           tt,
         )
       where
-        no_rows : st ≡ step.Stray → refused ≡ []
-        no_rows e = nil_middle more refused left (sym cut ∙ ap rows_in e)
+        no_rows : rows_in st ≡ [] → refused ≡ []
+        no_rows e = nil_middle more refused left (sym cut ∙ e)
           where
             nil_middle : (a b c : List VarBind) → a ++ (b ++ c) ≡ [] → b ≡ []
             nil_middle [] [] c e = refl
@@ -213,39 +250,59 @@ module _ {L : Type 0} (codec : Codec) (facts : LinkFacts L) (tries : ℕ) (first
             nil_middle (x ∷ a) b c e = let no : ⊥ = cc in absurd no
 
     end_none : (Sent : Walker → Type 0) (rows : List VarBind) (o : Outcome) (w : Walker) (end : WalkEnd) → (a : Asked Sent rows o w [])
-        → all ≡ (asked_events Sent rows o w [] a).0 → (Reaches Next Got first w rows → IsLawfulEnd agents Silent first rows end) → IsHonestEnd rows [] end
+        → all ≡ (asked_events Sent rows o w [] a).0 → (Reaches Next Got first w rows → IsLawfulEnd agents (λ w. Unit {0}) first rows end) → IsHonestEnd agents rows [] end
     end_none Sent rows o w end a is lawful =
+        let reaches = (stands_last Sent rows o w [] a is).0.honestly in
         let all_given : a.given ≡ rows = sym (append-nil a.given) ∙ sym a.parts in
-        let h = subst (Reaches Next Got first w) all_given (stands_last Sent rows o w [] a is).0.honestly in
-        (rw append-nil (part_of_stage Next Got (IsTooLarge agents) (views_answer agents good.views) first rows w.asked w.phase h.stage), lawful h)
+        (part_at w rows a.given [] a.parts refl reaches, lawful (subst (Reaches Next Got first w) all_given reaches))
 
   -- what happened, and what follows where that are replies
   abbrev Known : (rows refused : List VarBind) → WalkEnd → Type 0
-  Known rows refused end = HasHappened facts link after (λ agents. GivenFacts agents (λ w. Unit {0}) first rows refused end)
+  Known rows refused end = HasHappened facts link after end (λ agents why. GivenFacts agents (λ w. Unit {0}) first rows refused why)
+
+  -- what is lawful is so but for errors too
+  lawful_but : (agents : Agents) (rows : List VarBind) (end : WalkEnd) → IsLawfulEnd agents (λ w. Unit {0}) first rows end
+      → IsLawfulEnd agents (λ w. Unit {0}) first rows (but_for_errors end)
+  lawful_but agents rows (ending.Fault status index) h = tt
+  lawful_but agents rows end h = h
+
+  end_but : (agents : Agents) (rows refused : List VarBind) (end : WalkEnd) → IsEnd (Unit {0}) agents rows refused end
+      → IsHonestEnd agents rows refused (but_for_errors end)
+  end_but agents rows refused end (inl h) = (h.0, lawful_but agents rows end h.1)
+  end_but agents rows refused end (inr (_, h, by)) = subst (λ (e : WalkEnd). IsHonestEnd agents rows refused (but_for_errors e)) (sym by.2) h
+
+  abbrev IsEndBy : List (Event (Unit {0})) → (rows refused : List VarBind) → WalkEnd → Type 1
+  IsEndBy all rows refused end = (agents : Agents) → AreLawful agents → (Sort : Message → Type 0) (Errors : Type 0)
+      → ((m : Message) → Sort m ⊎ (Errors × (m.a ≢ pos 0))) → AreRepliesOf Sort agents all → IsEnd Errors agents rows refused end
 
   known_by : (Sent : Walker → Type 0) (rows refused : List VarBind) (end : WalkEnd) (o : Outcome) (w : Walker) (more : List VarBind)
-      → (a : Asked Sent rows o w more)
-      → ((agents : Agents) (good : AreLawful agents) → (replies : AreReplies agents (asked_events Sent rows o w more a).0)
-      → IsHonestEnd agents good (asked_events Sent rows o w more a).0 replies rows refused end) → Known rows refused end
+      → (a : Asked Sent rows o w more) → IsEndBy (asked_events Sent rows o w more a).0 rows refused end → Known rows refused end
   known_by Sent rows refused end o w more a honestly =
       let e = asked_events Sent rows o w more a in
       record {
         events = e.0;
         in_turn = e.1;
         replied = λ agents good replies.
-            let h = honestly agents good replies in
+            let h : IsHonestEnd agents rows refused end = elim (honestly agents good (λ m. Unit {0}) ⊥ (λ m. inl tt) replies) [
+              | inl honest ↦ honest
+              | inr none ↦ absurd none.0
+            ] in
             given_facts codec agents (λ w. Unit {0}) first rows refused end fresh good.views h.0 h.1;
+        replied_or_failed = λ agents good replies.
+            let h = end_but agents rows refused end (honestly agents good (λ m. m.a ≡ pos 0) (Unit {0}) error_or_none replies) in
+            given_facts codec agents (λ w. Unit {0}) first rows refused (but_for_errors end) fresh good.views h.0 h.1;
       }
 
   known_read : (Sent : Walker → Type 0) (rows : List VarBind) (end : WalkEnd) → IsReadSo (Asked Sent rows) end → Known rows [] end
   known_read Sent rows end (datagram, w, more, a, over, means) =
       known_by Sent rows [] end (outcome.answered datagram) w more a
-      (λ agents good replies. end_read agents good _ replies Sent rows end datagram w more a over means refl)
+      (λ agents good Sort Errors sort replies. end_read agents good _ Sort Errors sort replies Sent rows end datagram w more a over means refl)
 
   known_none : (Sent : Walker → Type 0) (rows : List VarBind) (o : Outcome) (w : Walker) (end : WalkEnd) → (a : Asked Sent rows o w [])
       → ((agents : Agents) → Reaches (IsNextFrom agents) (IsGotFrom agents) first w rows → IsLawfulEnd agents (λ w. Unit {0}) first rows end) → Known rows [] end
   known_none Sent rows o w end a lawful =
-      known_by Sent rows [] end o w [] a (λ agents good replies. end_none agents good _ replies Sent rows o w end a refl (lawful agents))
+      known_by Sent rows [] end o w [] a
+      (λ agents good Sort Errors sort replies. inl (end_none agents good _ Sort Errors sort replies Sent rows o w end a refl (lawful agents)))
 
   pub given_by : (Sent : Walker → Type 0) (rows refused : List VarBind) (end : WalkEnd) → {S : Type 0} (takes : S → VarBind → Result (Unit {0}) SinkFault → S → Type 0)
       (before now : S) → Took takes before rows refused end now → IsEndOfRun (Asked Sent rows) refused end → Known rows refused end
@@ -255,6 +312,6 @@ module _ {L : Type 0} (codec : Codec) (facts : LinkFacts L) (tries : ℕ) (first
   given_by Sent rows refused ending.Link takes before now took h = rw took.1 (known_none Sent rows outcome.cut_off h.0 ending.Link h.1 (λ agents reaches. tt))
   given_by Sent rows refused (ending.Sink fault) takes before now took (datagram, w, more, a, st, over, left, means, cut) =
       known_by Sent rows refused (ending.Sink fault) (outcome.answered datagram) w more a
-      (λ agents good replies. end_refused agents good _ replies Sent rows refused fault (λ none. let r = took.2 in let no : ⊥ = cc in no) datagram w more a
-      st over left means cut refl)
+      (λ agents good Sort Errors sort replies. inl (end_refused agents good _ Sort Errors sort replies Sent rows refused fault
+      (λ none. let r = took.2 in let no : ⊥ = cc in no) datagram w more a st over left means cut refl))
   given_by Sent rows refused end takes before now took h = rw took.1 (known_read Sent rows end h)

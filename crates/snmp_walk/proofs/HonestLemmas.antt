@@ -1,16 +1,15 @@
 -- An agent's reply to the waiting request is an honest one.
 use Rattle.std.proofs.{lemmas.Grind.common_steps, lemmas.Int.ints, lemmas.List.nil_from_length}
-use Rattle.std.proofs.Common.{◌≡◌, ◌≢◌, ◌≤ℤ◌, ◌⊎◌, inl, inr, ℕ, ◌^◌, ◌<◌, ◌≤◌, List, [], ◌∷◌, ◌++◌, length, refl, sym, ◌∙◌, ap, subst, arith, ℤ, pos}
-use Rattle.std.proofs.Common.{negsuc, length-append, append-nil, true, false}
+use Rattle.std.proofs.Common.{◌≡◌, ◌≢◌, ◌≤ℤ◌, ◌⊎◌, inl, inr, ℕ, zero, ◌^◌, ◌<◌, ◌≤◌, List, [], ◌∷◌, ◌++◌, length, refl, sym, ◌∙◌, ap, subst, arith, ℤ}
+use Rattle.std.proofs.Common.{pos, negsuc, length-append, append-nil, true, false}
 use Rattle.std.specs.{Prelude.FitsSigned, Prelude.unsigned_abs, Int.w32, List.list_any}
 use Rattle.snmp_wire.specs.declared.kind.Kind.TheVariants as kind
 use Rattle.snmp_wire.specs.{Message.VarBind, Message.Message, Message.null_value, Name.asking, Spelling.Spells, Canon.canon, Range.IsMessageInRange}
 use Rattle.snmp_walk.specs.{private.Codec.Codec, declared.mode.Method.Method, declared.phase.Phase.Phase, private.Taken.is_over, Judged.IsResponseTo}
 use Rattle.snmp_walk.specs.{Names.is_end, Run.IsFull, Run.IsFullReply, private.Heard.IsAsked, private.Heard.IsEarlier, Tries.IsNotAwaited}
-use Rattle.snmp_walk.specs.{Tries.IsTried, declared.link.Link.Ghosts as LinkFacts, Responses.IsResponseFrom, Responses.MayRespond}
-use Rattle.snmp_walk.specs.Walker.{Walker, HasRange, IsMethod, IsWalker}
-use Rattle.snmp_walk.specs.Request.{request_of, request_kind, request_repetitions, asked_for}
-use Rattle.snmp_walk.specs.Standing.{IsChain, IsGetContent, IsLarge, IsReplyContent, IsReplyTo}
+use Rattle.snmp_walk.specs.{Tries.IsTried, declared.link.Link.Ghosts as LinkFacts, Responses.IsResponseFrom, Responses.MayRespond, Walker.Walker}
+use Rattle.snmp_walk.specs.{Walker.HasRange, Walker.IsMethod, Walker.IsWalker, Request.request_of, Request.request_kind, Request.request_repetitions}
+use Rattle.snmp_walk.specs.{Request.asked_for, Standing.IsChain, Standing.IsGetContent, Standing.IsLarge, Standing.IsReplyContent, Standing.IsReplyTo}
 use Rattle.snmp_agent.specs.{table.Table.MibView, table.Table.IsMibView, table.Table.IsGet, table.Table.IsNext, declared.config.Why.Why}
 use Rattle.snmp_agent.specs.declared.config.Why.TheVariants as why
 use Rattle.snmp_agent.specs.Reply.{Agent, IsDropped, IsServed, response, AreAnswers, got, got_next, unwritten, Fits, IsBulk, IsLongestFront}
@@ -41,6 +40,14 @@ repetitions_fit p m h = fits_from 0 (omega arith)
 
 pub request_in_range : (w : Walker) → IsWalker w → IsMessageInRange (request_of w)
 request_in_range w good = grind (arith, common_steps, fits_from, repetitions_fit, name_short)
+
+-- a message has an error status or none
+error_of : (z : ℤ) → (z ≡ pos 0) ⊎ (Unit {0} × (z ≢ pos 0))
+error_of (pos zero) = inl refl
+error_of z = inr (tt, λ e. let no : ⊥ = cc in no)
+
+pub error_or_none : (m : Message) → (m.a ≡ pos 0) ⊎ (Unit {0} × (m.a ≢ pos 0))
+error_or_none m = error_of m.a
 
 -- a request that isn't a Set, and the Responses to it
 module _ (codec : Codec) (q : Message) (ranged : IsMessageInRange q) (no_set : q.kind ≡ kind.SetRequest → ⊥) where

@@ -152,7 +152,7 @@ walk_place (at_walk f ∷ run) (x ∷ xs) ys e is =
 
 pub replies_over : {Peer : Type 0} (agents : Agents) (walker : Peer) (run : List (Happening Peer)) → IsFaithful walker run → AreServed agents run
     → AreReplies agents (of_walk run)
-replies_over agents walker run faithful served before after peer r is m spelt =
+replies_over agents walker run faithful served before after peer r is m spelt _ =
     let w = walk_place run before after (came peer r) is in
     let c = carried agents walker run faithful served w.0 w.1 peer r w.2 m spelt in
     (c.0, subst (λ (es : List (Event (Unit {0}))). OneOf (tried es) c.0) w.3 c.1, inl c.2)

@@ -1,7 +1,7 @@
 -- A network between a walk and the agents that reply to it (RFC 3417, section 3), and what happens
 -- at its two ends.
-use Rattle.std.specs.Prelude.{◌≡◌, ◌⊎◌, ℕ, List, [], ◌∷◌, ◌++◌, flat_map, map, take, Option, Some}
-use Rattle.std.specs.Prelude.{None, Result, Ok, Err}
+use Rattle.std.specs.Prelude.{pos, ◌≡◌, ◌⊎◌, ℕ, List, [], ◌∷◌, ◌++◌, flat_map, map, take, Option}
+use Rattle.std.specs.Prelude.{Some, None, Result, Ok, Err}
 use Rattle.snmp_agent.specs.Event.{Event, InTurn, came, silence, receive_failed, sent, send_failed}
 use Rattle.snmp_agent.specs.{Reply.Agent, Serving.AreTurns, table.Table.MibView}
 use Rattle.snmp_agent.specs.declared.server.Served.{Served}
@@ -35,14 +35,23 @@ tried (sent peer d ∷ more) = d ∷ tried more
 tried (send_failed peer d ∷ more) = d ∷ tried more
 tried (_ ∷ more) = tried more
 
--- Each datagram that came to the walk, and encodes a message, is the reply of one of the agents to
--- a datagram that the walk had tried to send before, or encodes another Response that it may send.
-abbrev pub AreReplies : Agents → List (Event (Unit {0})) → Type 0
-AreReplies agents events =
+-- Each datagram that came to the walk, and encodes a message of this sort, is the reply of one of
+-- the agents to a datagram that the walk had tried to send before, or encodes another Response that
+-- it may send.
+abbrev pub AreRepliesOf : (Message → Type 0) → Agents → List (Event (Unit {0})) → Type 0
+AreRepliesOf Sort agents events =
     (before after : List (Event (Unit {0}))) (peer : Unit {0}) (r : List ℕ)
-    → events ≡ before ++ came peer r ∷ after → (m : Message) → Spells m r
+    → events ≡ before ++ came peer r ∷ after → (m : Message) → Spells m r → Sort m
     → (d : List ℕ) × OneOf (tried before) d
     × (IsReplyFrom agents d r ⊎ IsResponseFrom agents d m)
+
+-- all that came are replies of the agents,
+abbrev pub AreReplies : Agents → List (Event (Unit {0})) → Type 0
+AreReplies agents events = AreRepliesOf (λ m. Unit {0}) agents events
+
+-- or all but those with an error status, such as genErr, of which any may come
+abbrev pub AreRepliesOrErrors : Agents → List (Event (Unit {0})) → Type 0
+AreRepliesOrErrors agents events = AreRepliesOf (λ m. m.a ≡ pos 0) agents events
 
 -- the agents sent the datagram to the peer, or tried to
 abbrev pub IsTriedTo : {Peer : Type 0} → Peer → List (Happening Peer) → List ℕ → Type 0

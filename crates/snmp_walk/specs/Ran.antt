@@ -4,7 +4,8 @@ use Rattle.snmp_agent.specs.Event.{Event}
 use Rattle.snmp_wire.specs.{Canon.canon, Message.VarBind}
 use Rattle.snmp_walk.specs.{declared.end.SinkFault.SinkFault, declared.end.WalkEnd.WalkEnd}
 use Rattle.snmp_walk.specs.{Link.Agents, Link.AreLawful, Link.Outcome, Moved.IsMoved}
-use Rattle.snmp_walk.specs.{Moved.IsMovedByRequests, Network.AreReplies, Sink.Took, Walker.Walker}
+use Rattle.snmp_walk.specs.{Moved.IsMovedByRequests, Network.AreReplies}
+use Rattle.snmp_walk.specs.{Network.AreRepliesOrErrors, Sink.Took, Walker.Walker}
 use Rattle.snmp_walk.specs.declared.end.WalkEnd.TheVariants as ending
 use Rattle.snmp_walk.specs.declared.link.Link.{Ghosts as LinkFacts}
 use Rattle.snmp_walk.specs.Facts.{EndFacts, GivenFacts, IsLastSent, ReadyFacts, SendFacts}
@@ -28,14 +29,22 @@ pub record IsRun {S : Type 0} (takes : S → VarBind → Result (Unit {0}) SinkF
 abbrev pub IsFreshAndHonest : {W : Type 0} → LinkFacts W → W → Type 0
 IsFreshAndHonest {W} facts link = facts.honest link × ((facts.traffic link).sent ≡ [])
 
+-- how a run ended, an error being no more to it than a link that failed
+abbrev pub but_for_errors : WalkEnd → WalkEnd
+but_for_errors (ending.Fault status index) = ending.Link
+but_for_errors end = end
+
 -- What happened at a link took it, in turn, from one state to the other. Where each message that
 -- came is the reply of one of these agents, or another Response that it may send, to a datagram
--- that was sent before, `Given` holds of them.
-pub record HasHappened {W : Type 0} (facts : LinkFacts W) (link after : W)
-    (Given : Agents → Type 0) : Type 0 where
+-- that was sent before, `Given` holds of them and of the end. Where errors may have come too, such
+-- as genErr, it holds all the same, but for the reason of an end by an error.
+pub record HasHappened {W : Type 0} (facts : LinkFacts W) (link after : W) (end : WalkEnd)
+    (Given : Agents → WalkEnd → Type 0) : Type 0 where
   pub events : List (Event (Unit {0}))
   pub in_turn : InTurn (Happens facts) link events after
-  pub replied : (agents : Agents) → AreLawful agents → AreReplies agents events → Given agents
+  pub replied : (agents : Agents) → AreLawful agents → AreReplies agents events → Given agents end
+  pub replied_or_failed : (agents : Agents) → AreLawful agents → AreRepliesOrErrors agents events
+      → Given agents (but_for_errors end)
 
 -- What is known of a walk over a link, which was `link` before the walk and is `after` then.
 pub record IsWalkedOver {W : Type 0} (facts : LinkFacts W) (link after : W) (tries : ℕ)
@@ -60,8 +69,8 @@ pub record IsWalkedOver {W : Type 0} (facts : LinkFacts W) (link after : W) (tri
   -- its requests moved the link, which failed where the walk ends because of it
   pub moved : IsMovedByRequests facts tries first given link (end ≡ ending.Link) after
   -- what happened over any link, and what it gave where replies of agents are all that came
-  pub happened : HasHappened facts link after
-      (λ agents. GivenFacts agents (λ w. Unit {0}) first given refused end)
+  pub happened : HasHappened facts link after end
+      (λ agents why. GivenFacts agents (λ w. Unit {0}) first given refused why)
 
 -- what came of the request of a Get of these names, which took the link from one state to the other
 abbrev pub IsGetTried : {W : Type 0} → LinkFacts W → (link after : W) → (tries : ℕ)
@@ -100,5 +109,5 @@ pub record IsGotOver {W : Type 0} (facts : LinkFacts W) (link after : W) (tries 
       × IsMoved facts link (replicate times (canon (get_request community id names))) receives
       (end ≡ ending.Link) after
   -- what happened over any link, and what it gave where replies of agents are all that came
-  pub happened : HasHappened facts link after
-      (λ agents. GotFacts agents (get_request community id names) names given refused end)
+  pub happened : HasHappened facts link after end
+      (λ agents why. GotFacts agents (get_request community id names) names given refused why)

@@ -1,7 +1,7 @@
 //! A Get over a link: one request for all its names (RFC 3416, section 4.2.1).
 ghost use Rattle.std.specs.Prelude.{◌≡◌, ◌≤◌, ◌<◌, ◌^◌, ◌+◌, ◌++◌, ◌≢◌, replicate, ℕ, List, []};
 ghost use Rattle.std.specs.Prelude.{All, length, take, IfSome, IfNone, IsSome, ◌↔◌, ◌&&◌, not};
-ghost use Rattle.snmp_oid.specs.Identifier.{IsWire, wire};
+ghost use Rattle.snmp_oid.specs.Identifier.{IsIdentifier, IsWire, wire};
 ghost use Rattle.snmp_wire.specs.Canon.{canon, canon_binding, canon_bindings, IsEncodable};
 ghost use Rattle.std.specs.{Bool.nat_eq, Cmp.Lexicographic.pointwise, List.AllByRecursion};
 ghost use Rattle.snmp_wire.specs.{ber.Value.null_value, Message.Message, Message.VarBind};
@@ -11,10 +11,10 @@ ghost use Rattle.snmp_walk.specs.Get.{asked_names, get_request, are_for as are_t
 
 use crate::laws::codec;
 use crate::tries::{Course, Judgement, Waiter, exchange, is_awaited};
-use crate::walker::copy_of;
 use crate::{Link, Rows, Sink, WalkEnd};
 use snmp_wire::{
-    Binding, Bindings, Kind, MessageRef, Oid, Parts, ValueRef, encode_binding, pieces, seal,
+    Binding, Bindings, Kind, MAX_DATAGRAM, MessageRef, Oid, Parts, ValueRef, encode_binding,
+    pieces, seal,
 };
 use std::marker::Model;
 
@@ -28,7 +28,7 @@ use std::marker::Model;
 /// Over any link: where each message that came is the reply of one of these agents, or another
 /// Response that RFC 3416 lets it send, to a datagram that was sent before, as over a network that
 /// alters nothing (`honest_networks`), what is given is a beginning of what Gets of the names give,
-/// and all of it where the Get is done.
+/// and all of it where the Get is done; also where errors came, such as genErr.
 // Not inlined: its buffer is on the stack, and a caller with several such calls would have room for
 // each of them.
 #[inline(never)]
@@ -51,7 +51,7 @@ pub fn run_get<L: Link, S: Sink>(
     if names.is_empty() {
         return WalkEnd::Done(0);
     }
-    let mut buffer = [0; 65507];
+    let mut buffer = [0; MAX_DATAGRAM];
     let Some(size) = write_request(names, community, id, &mut buffer) else {
         return WalkEnd::RequestTooLong;
     };
@@ -64,7 +64,7 @@ pub fn run_get<L: Link, S: Sink>(
     if size <= 2048 {
         ask::<2048, L, S>(link, &mut get, retries, size, &mut buffer, sink)
     } else {
-        ask::<65507, L, S>(link, &mut get, retries, size, &mut buffer, sink)
+        ask::<MAX_DATAGRAM, L, S>(link, &mut get, retries, size, &mut buffer, sink)
     }
 }
 
@@ -77,7 +77,7 @@ fn ask<const N: usize, L: Link, S: Sink>(
     get: &mut Get<'_>,
     retries: u32,
     size: usize,
-    buffer: &mut [u8; 65507],
+    buffer: &mut [u8; MAX_DATAGRAM],
     sink: &mut S,
 ) -> WalkEnd
     requires some { get.old.names ≢ [] }
@@ -167,7 +167,12 @@ fn read_message<'a>(names: &[Oid], message: &MessageRef<'a>) -> Result<Rows<'a>,
 
 /// Writes the request for these names to the front of `out`, and returns its length, or None where
 /// that is more than 65507 octets.
-fn write_request(names: &[Oid], community: &[u8], id: u32, out: &mut [u8; 65507]) -> Option<usize>
+fn write_request(
+    names: &[Oid],
+    community: &[u8],
+    id: u32,
+    out: &mut [u8; MAX_DATAGRAM],
+) -> Option<usize>
     requires wire { All (λ o. IsWire (wire o)) names.now }
     requires community { length community.now ≤ 255 }
     requires id { id < 2 ^ 31 }
@@ -177,10 +182,7 @@ fn write_request(names: &[Oid], community: &[u8], id: u32, out: &mut [u8; 65507]
     ensures range { IfSome result (λ _. IsMessageInRange (get_request community.now id names.now)) }
 {
     pieces();
-    let total = match write_names(names, out) {
-        Some(total) => total,
-        None => return None,
-    };
+    let total = write_names(names, out)?;
     let parts = Parts {
         version: 1,
         community,
@@ -213,7 +215,7 @@ fn append(binding: &Binding<'_>, total: usize, out: &mut [u8]) -> Option<usize>
 
 /// Writes the bindings that ask for these names to the front of `out`, and returns how many octets
 /// they take. None where that is more than 65507.
-fn write_names(names: &[Oid], out: &mut [u8; 65507]) -> Option<usize>
+fn write_names(names: &[Oid], out: &mut [u8; MAX_DATAGRAM]) -> Option<usize>
     requires { All (λ o. IsWire (wire o)) names.now }
     ensures some { IfSome result (λ n. (n ≤ 65507)
         × (n ≡ length (canon_bindings (asked_names names.now)))
@@ -239,12 +241,22 @@ fn asked<'a>(name: &Oid) -> Binding<'a>
     ensures range { IsBindingInRange (record { name = wire name.now; value = null_value }) }
 {
     match name.to_wire() {
-        Ok(sent) => Binding {
-            name: copy_of(&sent),
-            value: ValueRef::Null,
-        },
+        Ok(sent) => {
+            is_identifier(&sent);
+            Binding {
+                name: sent,
+                value: ValueRef::Null,
+            }
+        }
         Err(_) => unreachable!(),
     }
+}
+
+/// A law: an `Oid` has at most 128 numbers, each below 2^32.
+fn is_identifier(oid: &Oid)
+    ensures { IsIdentifier oid.now }
+{
+    oid.as_slice();
 }
 
 /// Whether the bindings have just these names, in order, and none has endOfMibView.

@@ -6,7 +6,7 @@
 //!
 //! # Examples
 //!
-//! A subtree is walked by GetBulk, over an agent in memory, into a sink that counts:
+//! A subtree is walked by GetBulk, over an agent in memory, into `Count`, a sink of the caller's:
 //!
 //! ```
 //! let table = Table::read(alloc, b"1.3.6.1.2.1.1.3.0|67|42\n1.3.6.1.2.1.1.5.0|4|wes\n")?;

@@ -5,6 +5,7 @@ ghost use Rattle.snmp_walk.specs.Traffic.{datagram_at, received, Gives};
 use crate::arena::Arena;
 use crate::{Link, LinkFault};
 use snmp_agent::{Config, Hint, Outcome, Table, answer_near};
+use snmp_wire::MAX_DATAGRAM;
 use std::alloc::{AllocError, Global};
 
 /// A link to an agent in memory, over one table, or over several that each reply to some of the
@@ -153,7 +154,7 @@ impl<'a> MemoryLink<'a> {
 
     /// Writes the agent's reply to the datagram of this number, and returns its length, if there is
     /// one. Of the link only the hint changes.
-    fn reply_to(&mut self, number: usize, out: &mut [u8; 65507]) -> Option<usize>
+    fn reply_to(&mut self, number: usize, out: &mut [u8; MAX_DATAGRAM]) -> Option<usize>
         ensures length { IfSome result (λ n. n ≤ 65507) }
         ensures room { length out.new ≡ 65507 }
         ensures reply { Gives (agents_of self.old) (datagram_at self.old.arena.datagrams number)
@@ -246,7 +247,7 @@ impl<'a> Link for MemoryLink<'a> {
             (λ link sends octets. (65507 ≤ length buffer.old) × IsReadyFor link sends octets)
             self.old [] 1 (IsErr result) self.new }
     {
-        let Some(out) = buffer.first_chunk_mut::<65507>() else {
+        let Some(out) = buffer.first_chunk_mut::<MAX_DATAGRAM>() else {
             self.fault_count = self.fault_count.saturating_add(1);
             return Err(LinkFault);
         };

@@ -5,6 +5,7 @@ ghost use Rattle.snmp_walk.specs.{Facts.IsFresh, Ran.IsRun, Ran.IsWalkedOver};
 use crate::laws::codec;
 use crate::tries::{Course, exchange};
 use crate::{Link, Sink, WalkCore, WalkEnd};
+use snmp_wire::MAX_DATAGRAM;
 
 /// Walks over the link with a core that has taken no reply yet: each request is sent at most
 /// `retries + 1` times, and each binding of the walk is given to the sink as it comes.
@@ -20,7 +21,8 @@ use crate::{Link, Sink, WalkCore, WalkEnd};
 /// Over any link, also one that knows nothing of its agents: where each message that came is the
 /// reply of one of these agents, or another Response that RFC 3416 lets it send, to a datagram that
 /// was sent before, as over a network that alters nothing (`honest_networks`), what is given is a
-/// beginning of the walk, and all of it where the walk is done.
+/// beginning of the walk, and all of it where the walk is done; also where errors came, such as
+/// genErr.
 // Not inlined: its buffers are on the stack, and a caller with several such calls would have room
 // for each of them.
 #[inline(never)]
@@ -38,7 +40,7 @@ pub fn run_walk<L: Link, S: Sink>(
     let mut core = core;
     // A request of a walk has one name, and at most 1,000 octets: no more than it needs is cleared.
     let mut request = [0; 1024];
-    let mut buffer = [0; 65507];
+    let mut buffer = [0; MAX_DATAGRAM];
     let mut end = WalkEnd::NoResponse;
     'turns: loop {
         let length = core.request_in(&mut request[..]);

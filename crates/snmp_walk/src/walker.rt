@@ -13,8 +13,8 @@ use crate::{Method, Mode, Phase, Rows, StartError, Step, WalkEnd};
 use arrayvec::ArrayVec;
 use snmp_oid::order;
 use snmp_wire::{
-    BindingRef, Bindings, EncodedName, Kind, MAX_CONTENT, MessageRef, NameBuffer, Oid, OidError,
-    Parts, asking_size, decode, encode_asking, encode_head, pieces, tag,
+    BindingRef, Bindings, EncodedName, Kind, MAX_CONTENT, MAX_DATAGRAM, MessageRef, NameBuffer,
+    Oid, OidError, Parts, asking_size, decode, encode_asking, encode_head, pieces, tag,
 };
 use std::cmp::Ordering;
 use std::marker::Model;
@@ -177,7 +177,7 @@ impl WalkCore {
 
     /// The octets of the waiting request (RFC 3416, section 3), at the front of `out`, and how many
     /// there are; 0 after the end of the walk.
-    pub fn request(&self, out: &mut [u8; 65507]) -> usize
+    pub fn request(&self, out: &mut [u8; MAX_DATAGRAM]) -> usize
         ensures waiting { self.now.phase ≢ Phase.Over
             → (result ≡ length (canon (request_of self.now)))
             × (take result out.new ≡ canon (request_of self.now)) }
@@ -591,17 +591,6 @@ fn owned(community: &[u8]) -> ArrayVec<u8, 255>
 {
     match ArrayVec::try_from(community) {
         Ok(owned) => owned,
-        Err(_) => unreachable!(),
-    }
-}
-
-/// A copy of the identifier.
-pub(crate) fn copy_of(oid: &Oid) -> Oid
-    ensures value { result ≡ oid.now }
-    ensures identifier { IsIdentifier oid.now }
-{
-    match Oid::from_slice(oid.as_slice()) {
-        Ok(copy) => copy,
         Err(_) => unreachable!(),
     }
 }
